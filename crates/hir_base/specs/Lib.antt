@@ -1,0 +1,15 @@
+pub mod formers
+pub mod Abi
+pub mod Arena
+pub mod Exact
+pub mod Hygiene
+pub mod Keys
+pub mod Laws
+pub mod Maps
+pub mod ModPath
+pub mod Places
+pub mod Precedence
+pub mod RawWords
+pub mod Seq
+pub mod Table
+pub mod Variants

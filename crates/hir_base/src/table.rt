@@ -1,0 +1,114 @@
+//! Maps under keys of ours, which may be any: hash tables with a fixed seed.
+//! They take memory for their entries alone, whatever the keys are.
+ghost use Rattle.std.specs.Prelude.{◌≡◌, List, ℕ, OnOk, OnErr, IfErr, IfOk};
+ghost use Rattle.std.specs.Bool.{Decides};
+ghost use Rattle.std.specs.Option.{option_copied};
+ghost use Rattle.std.specs.List.Sorted.{IsPermutation};
+ghost use Rattle.std.specs.Cmp.Lexicographic.{nat_list_cmp_total};
+ghost use Rattle.std.specs.FinMap as map;
+ghost use Rattle.hir_base.specs.Maps.{same_maps, same_maps_per, same_maps_equiv, same_maps_decides};
+ghost use Rattle.hir_base.specs.Table.{by_code, by_code-IsAntisymmetric, coded};
+
+use crate::table_iter::TableIter;
+use crate::{ExactEq, TryClone};
+use std::alloc::{AllocError, AllocFailed, Global};
+use std::collections::HashMap;
+use std::hash::Hash;
+use std::marker::Model;
+
+/// Keys that a list of numbers tells apart: equal keys have one code, and no others do.
+pub trait Keyed: Eq + Hash {
+    ghost code: { Self → List ℕ };
+
+    ghost code_tells: { (x y : Self) → Decides (Self.eq x y) (code x ≡ code y) };
+}
+
+/// A hash table with a fixed seed, seen as the finite map from the codes of its keys to their values.
+#[derive(Drop)]
+pub struct Table<K: Keyed, V> {
+    entries: HashMap<K, V>,
+}
+
+impl<K: Keyed, V> Model for Table<K, V> {
+    ghost use Rattle.std.specs.Coded.{coded_ℕ, coded_list};
+    ghost use Rattle.std.specs.FinMap as map;
+    ghost use Rattle.hir_base.specs.Table.{by_code, table_of};
+
+    ghost Value = { map.FinMap by_code V };
+
+    ghost coded = { map.code (coded_list coded_ℕ) V.code };
+
+    ghost view = { λ t. table_of K.code t.entries.entries };
+}
+
+impl<K: Keyed, V> Table<K, V> {
+    /// A table with no entries, which takes its memory from `alloc`, and none now.
+    pub fn new(alloc: Global) -> Table<K, V>
+        ensures { result ≡ map.empty }
+    {
+        Table {
+            entries: HashMap::new(alloc),
+        }
+    }
+
+    /// The value of this key, if it has one.
+    pub fn get(&self, key: &K) -> Option<&V>
+        ensures { option_copied result ≡ map.get self.now (K.code key.now) }
+    {
+        self.entries.get(key)
+    }
+
+    /// The entries, each once, in an order that nobody may rely on.
+    pub fn iter(&self) -> TableIter<'_, K, V>
+        ensures { IsPermutation (coded K.code result) (map.entries self.now) }
+    {
+        let entries = self.entries.iter();
+        TableIter::new(entries)
+    }
+}
+
+impl<K: Keyed + Drop, V: Drop> Table<K, V> {
+    /// Gives the key this value, and answers the one that it had.
+    ///
+    /// Answers an error where room for one more entry was refused: key and value are handed back and the table is unchanged.
+    pub fn insert(&mut self, key: K, value: V) -> Result<Option<V>, AllocFailed<(K, V)>>
+        ensures ok { OnOk result (self.new ≡ map.insert self.old (K.code key) value) }
+        ensures old { IfOk result (λ old. old ≡ map.get self.old (K.code key)) }
+        ensures err { OnErr result (self.new ≡ self.old) }
+        ensures value_returned { IfErr result (λ failed. failed.value ≡ (key, value)) }
+    {
+        self.entries.insert(key, value)
+    }
+}
+
+impl<K: Keyed, V: ExactEq> PartialEq for Table<K, V> {
+    ghost eq = { same_maps by_code V.eq };
+
+    ghost laws = { same_maps_per nat_list_cmp_total V.eq V.PartialEq.laws };
+
+    fn eq(&self, other: &Table<K, V>) -> bool {
+        self.entries == other.entries
+    }
+}
+
+impl<K: Keyed, V: ExactEq> Eq for Table<K, V> {
+    ghost laws = { same_maps_equiv nat_list_cmp_total V.eq V.Eq.laws };
+}
+
+impl<K: Keyed, V: ExactEq> ExactEq for Table<K, V> {
+    ghost eq_decides = { same_maps_decides nat_list_cmp_total V.eq by_code-IsAntisymmetric V.eq_decides };
+}
+
+impl<K: Keyed + TryClone, V: TryClone> Clone for Table<K, V> {
+    ghost is_clone = { λ table copy. copy ≡ table };
+
+    fn clone(&self) -> Result<Table<K, V>, AllocError> {
+        Ok(Table {
+            entries: self.entries.clone()?,
+        })
+    }
+}
+
+impl<K: Keyed + TryClone, V: TryClone> TryClone for Table<K, V> {
+    ghost clone_is_same = { λ table copy same. same };
+}

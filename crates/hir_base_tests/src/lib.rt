@@ -1,0 +1,13 @@
+//! Tests of hir_base through its public surface, as a user would call it.
+#![tactic(auto)]
+
+#[cfg(test)]
+mod again;
+#[cfg(test)]
+mod arenas;
+#[cfg(test)]
+mod lists;
+#[cfg(test)]
+mod maps;
+#[cfg(test)]
+mod words;
