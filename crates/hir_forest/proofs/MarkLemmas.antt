@@ -1,0 +1,188 @@
+-- Tables of marks, one step of the walk, and the list of roots as far as it has been read.
+use Rattle.std.proofs.Common.{◌≡◌, ℕ, suc, ◌+◌, ◌<◌, ◌≤◌, ◌⊎◌, ◌↔◌, Bool, true, false, not, cond, List, [], ◌∷◌, ◌++◌, length, get_or, set, take, inl, inr, ⊎_elim, refl, ap, sym, ◌∙◌, subst, arith, add-one, Contains}
+use Rattle.std.proofs.lemmas.List.{take_more, get_or_default, get_or-set_same, get_or-set_other, length-set, length_push, length-map, take-map, get_or-map}
+use Rattle.std.proofs.lemmas.List.Elements.{Contains-push, Contains-push_cases, Contains-append_left}
+use Rattle.std.proofs.lemmas.Bool.{cases_eq, false≢true}
+use Rattle.std.proofs.lemmas.List.Sums.{sum_by-set}
+use Rattle.hir_forest.specs.declared.roots.Root.{Root}
+use Rattle.hir_forest.specs.declared.roots.Ends.{Ends}
+use Rattle.hir_forest.specs.Faults.{root_nodes, ends_before, no_ends, EndsFit}
+use Rattle.hir_forest.specs.Forest.{Marks, MarksAll}
+use Rattle.hir_forest.specs.Walk.{MarksRoots, Reach, Meets}
+
+-- a table with one more mark
+pub Marks-set : (table : List Bool) (k c : ℕ) → k < length table → Marks (set table k true) c → Marks table c ⊎ (k ≡ c)
+Marks-set table k c h m =
+    elim (cases_eq c k) [
+      | inl e ↦ inr (sym e)
+      | inr ne ↦ inl (rw get_or-set_other at m)
+    ]
+
+pub Marks-kept : (table : List Bool) (k c : ℕ) → k < length table → Marks table c → Marks (set table k true) c
+Marks-kept table k c h m =
+    elim (cases_eq c k) [
+      | inl e ↦ subst (λ (n : ℕ). get_or (set table k true) n false ≡ true) (sym e) (get_or-set_same table k true false h)
+      | inr ne ↦ get_or-set_other table k c true false ne ∙ m
+    ]
+
+pub Marks-here : (table : List Bool) (k : ℕ) → k < length table → Marks (set table k true) k
+Marks-here table k h = get_or-set_same table k true false h
+
+pub MarksAll-more : (table : List Bool) (xs : List ℕ) (i : ℕ) → i < length xs → get_or xs i 0 < length table → MarksAll table (take i xs) → MarksAll (set table (get_or xs i 0) true) (take (i + 1) xs)
+MarksAll-more table xs i h k m =
+    rw (take_more xs i 0 h) (λ c. (
+      λ n. ⊎_elim (λ a. Contains-append_left (take i xs) _ c ((m c).0 a)) (λ e. subst (Contains (take i xs ++ get_or xs i 0 ∷ [])) e (Contains-push (take i xs) (get_or xs i 0))) (Marks-set table (get_or xs i 0) c k n),
+      λ n. ⊎_elim (λ a. Marks-kept table (get_or xs i 0) c k ((m c).1 a)) (λ e. subst (Marks (set table (get_or xs i 0) true)) e (Marks-here table (get_or xs i 0) k)) (Contains-push_cases (take i xs) (get_or xs i 0) c n),
+    ))
+
+not_both : (table : List Bool) (c k : ℕ) → Marks table c → get_or table k false ≡ false → c ≡ k → ⊥
+not_both table c k m n e = false≢true (sym n ∙ subst (Marks table) e m)
+
+contains_more : (xs : List ℕ) (i c : ℕ) → i < length xs → Contains (take (i + 1) xs) c → Contains (take i xs) c ⊎ (get_or xs i 0 ≡ c)
+contains_more xs i c h m = Contains-push_cases (take i xs) (get_or xs i 0) c (rw (take_more xs i 0 h) at m)
+
+contains_earlier : (xs : List ℕ) (i c : ℕ) → i < length xs → Contains (take i xs) c → Contains (take (i + 1) xs) c
+contains_earlier xs i c h m = rw (take_more xs i 0 h) (Contains-append_left (take i xs) _ c m)
+
+contains_last : (xs : List ℕ) (i c : ℕ) → i < length xs → get_or xs i 0 ≡ c → Contains (take (i + 1) xs) c
+contains_last xs i c h e = rw (take_more xs i 0 h) (subst (Contains (take i xs ++ get_or xs i 0 ∷ [])) e (Contains-push (take i xs) (get_or xs i 0)))
+
+module _ (row : List ℕ) (i : ℕ) (in' : i < length row) (b : Bool) (old now : Reach) (s : Meets (take i row) b old now) where
+  -- the kid was met before
+  pub Meets-known : Marks now.met (get_or row i 0) → Meets (take (i + 1) row) b old now
+  Meets-known known = record {
+    met_length = s.met_length;
+    under_length = s.under_length;
+    stays_met = s.stays_met;
+    stays_under = s.stays_under;
+    kids_met = λ c h. ⊎_elim (s.kids_met c) (λ e. subst (Marks now.met) e known) (contains_more row i c in' h);
+    fresh = λ c m. ⊎_elim inl (λ f. inr (contains_earlier row i c in' f.0, f.1, f.2)) (s.fresh c m);
+    stays_waiting = s.stays_waiting;
+    waiting_met = λ c w. ⊎_elim inl (λ f. inr (contains_earlier row i c in' f)) (s.waiting_met c w);
+    falls = s.falls;
+  }
+
+  -- the kid is met now
+  pub Meets-new : (k : ℕ) → k ≡ get_or row i 0 → k < length now.met → length now.under ≡ length now.met → get_or now.met k false ≡ false → Meets (take (i + 1) row) b old record { met = set now.met k true; under = set now.under k b; waiting = now.waiting ++ k ∷ [] }
+  Meets-new k is h same unmet_ =
+      let high : k < length now.under = omega arith in
+      record {
+        met_length = length-set now.met k true ∙ s.met_length;
+        under_length = length-set now.under k b ∙ s.under_length;
+        stays_met = λ c m. Marks-kept now.met k c h (s.stays_met c m);
+        stays_under = λ c m. get_or-set_other now.under k c b false (not_both now.met c k (s.stays_met c m) unmet_) ∙ s.stays_under c m;
+        kids_met = λ c g. ⊎_elim (λ f. Marks-kept now.met k c h (s.kids_met c f)) (λ e. subst (Marks (set now.met k true)) (is ∙ e) (Marks-here now.met k h)) (contains_more row i c in' g);
+        fresh = λ c m. ⊎_elim
+            (λ n. ⊎_elim inl (λ f. inr (contains_earlier row i c in' f.0, Contains-append_left now.waiting _ c f.1, get_or-set_other now.under k c b false (not_both now.met c k n unmet_) ∙ f.2)) (s.fresh c n))
+            (λ e. inr (contains_last row i c in' (sym is ∙ e), subst (Contains (now.waiting ++ k ∷ [])) e (Contains-push now.waiting k), subst (λ (n : ℕ). get_or (set now.under k b) n false ≡ b) e (get_or-set_same now.under k b false high)))
+            (Marks-set now.met k c h m);
+        stays_waiting = λ c w. Contains-append_left now.waiting _ c (s.stays_waiting c w);
+        waiting_met = λ c w. ⊎_elim
+            (λ f. ⊎_elim inl (λ g. inr (contains_earlier row i c in' g)) (s.waiting_met c f))
+            (λ e. inr (contains_last row i c in' (sym is ∙ e)))
+            (Contains-push_cases now.waiting k c w);
+        falls =
+            let fell = sum_by-set (λ (x : Bool). cond {A = ℕ} (not x) 1 0) now.met k true false h in
+            let one : ◌≡◌ {A = ℕ} (cond {A = ℕ} (not (get_or now.met k false)) 1 0) 1 = ap (λ (x : Bool). cond {A = ℕ} (not x) 1 0) unmet_ in
+            let before = s.falls in
+            omega (arith, length_push now.waiting k);
+      }
+
+pub Meets-none : (b : Bool) (s : Reach) → Meets [] b s s
+Meets-none b s = record {
+  met_length = refl;
+  under_length = refl;
+  stays_met = λ c m. m;
+  stays_under = λ c m. refl;
+  kids_met = λ c h. absurd (omega (arith, h.1));
+  fresh = λ c m. inl m;
+  stays_waiting = λ c w. w;
+  waiting_met = λ c w. inl w;
+  falls = refl;
+}
+
+-- the roots that may be one, as far as the list has been read
+module _ (table : List Bool) (roots : List Root) (i limit : ℕ) (r : Root) (in' : i < length roots) (m : (c : ℕ) → Marks table c ↔ (Contains (root_nodes (take i roots)) c × (c < limit))) where
+  node_is : get_or (root_nodes roots) i 0 ≡ (get_or roots i r).node
+  node_is = get_or-map (λ (x : Root). x.node) roots i r 0 in'
+
+  nodes_taken : (n : ℕ) → root_nodes (take n roots) ≡ take n (root_nodes roots)
+  nodes_taken n = sym (take-map (λ (x : Root). x.node) n roots)
+
+  nodes_in : i < length (root_nodes roots)
+  nodes_in = omega (arith, length-map roots (λ (x : Root). x.node))
+
+  pub roots_more : (get_or roots i r).node < limit → limit ≤ length table → (c : ℕ) → Marks (set table (get_or roots i r).node true) c ↔ (Contains (root_nodes (take (i + 1) roots)) c × (c < limit))
+  roots_more low fits c = (
+    λ n. ⊎_elim
+        (λ a. let b = (m c).0 a in (rw (nodes_taken (i + 1)) (contains_earlier (root_nodes roots) i c nodes_in (rw (nodes_taken i) at b.0)), b.1))
+        (λ e. (rw (nodes_taken (i + 1)) (contains_last (root_nodes roots) i c nodes_in (node_is ∙ e)), subst (λ (x : ℕ). x < limit) e low))
+        (Marks-set table (get_or roots i r).node c (omega arith) n),
+    λ p. ⊎_elim
+        (λ a. Marks-kept table (get_or roots i r).node c (omega arith) ((m c).1 (rw (nodes_taken i) a, p.1)))
+        (λ e. subst (Marks (set table (get_or roots i r).node true)) (sym node_is ∙ e) (Marks-here table (get_or roots i r).node (omega arith)))
+        (contains_more (root_nodes roots) i c nodes_in (rw (nodes_taken (i + 1)) at p.0)),
+  )
+
+  pub roots_same : limit ≤ (get_or roots i r).node → (c : ℕ) → Marks table c ↔ (Contains (root_nodes (take (i + 1) roots)) c × (c < limit))
+  roots_same high c = (
+    λ n. let b = (m c).0 n in (rw (nodes_taken (i + 1)) (contains_earlier (root_nodes roots) i c nodes_in (rw (nodes_taken i) at b.0)), b.1),
+    λ p. ⊎_elim
+        (λ a. (m c).1 (rw (nodes_taken i) a, p.1))
+        (λ e. let f = node_is in let g = p.1 in absurd (omega arith))
+        (contains_more (root_nodes roots) i c nodes_in (rw (nodes_taken (i + 1)) at p.0)),
+  )
+
+-- one more root is read
+pub root_node_is : (roots : List Root) (i : ℕ) (r : Root) → i < length roots → get_or (root_nodes roots) i 0 ≡ (get_or roots i r).node
+root_node_is roots i r h = get_or-map (λ (x : Root). x.node) roots i r 0 h
+
+-- the table marks the listed roots below limit that are none of the first i
+abbrev pub MarksToCome : List Bool → ℕ → List ℕ → ℕ → Type 0
+MarksToCome table limit roots i = (c : ℕ) → Marks table c ↔ (Contains roots c × (c < limit) × (Contains (take i roots) c → ⊥))
+
+pub to_come-start : (table : List Bool) (limit : ℕ) (roots : List ℕ) → MarksRoots table limit roots → MarksToCome table limit roots 0
+to_come-start table limit roots m c = (λ a. let k = (m c).0 a in (k.0, k.1, λ h. omega (arith, h.1)), λ a. (m c).1 (a.0, a.1))
+
+-- a table with one mark less
+Marks-cleared : (table : List Bool) (k c : ℕ) → k < length table → Marks (set table k false) c → Marks table c × (k ≡ c → ⊥)
+Marks-cleared table k c h m =
+    elim (cases_eq c k) [
+      | inl e ↦ absurd (false≢true (sym (get_or-set_same table k false false h) ∙ subst (λ (n : ℕ). get_or (set table k false) n false ≡ true) e m))
+      | inr ne ↦ (rw get_or-set_other at m, λ e. ne (sym e))
+    ]
+
+Marks-left : (table : List Bool) (k c : ℕ) → (k ≡ c → ⊥) → Marks table c → Marks (set table k false) c
+Marks-left table k c ne m = get_or-set_other table k c false false (λ e. ne (sym e)) ∙ m
+
+module _ (table : List Bool) (limit : ℕ) (roots : List Root) (i : ℕ) (r : Root) (in' : i < length roots) (low : (get_or roots i r).node < limit) (m : MarksToCome table limit (root_nodes roots) i) where
+  listed_in : i < length (root_nodes roots)
+  listed_in = omega (arith, length-map roots (λ (x : Root). x.node))
+
+  listed_is : get_or (root_nodes roots) i 0 ≡ (get_or roots i r).node
+  listed_is = root_node_is roots i r in'
+
+  -- the root that has come is marked where it was not listed before, and only there
+  pub come_once : Marks table (get_or roots i r).node → Contains (take i (root_nodes roots)) (get_or (root_nodes roots) i 0) → ⊥
+  come_once h again = ((m (get_or roots i r).node).0 h).2 (subst (Contains (take i (root_nodes roots))) listed_is again)
+
+  pub come_again : get_or table (get_or roots i r).node false ≡ false → (Contains (take i (root_nodes roots)) (get_or (root_nodes roots) i 0) → ⊥) → ⊥
+  come_again h new =
+      let here : Contains (root_nodes roots) (get_or roots i r).node = (i, listed_in, get_or_default (root_nodes roots) i (get_or roots i r).node 0 listed_in ∙ listed_is) in
+      false≢true (sym h ∙ (m (get_or roots i r).node).1 (here, low, λ again. new (subst (Contains (take i (root_nodes roots))) (sym listed_is) again)))
+
+  pub to_come-less : (get_or roots i r).node < length table → MarksToCome (set table (get_or roots i r).node false) limit (root_nodes roots) (i + 1)
+  to_come-less fits c = (
+    λ n. let d = Marks-cleared table (get_or roots i r).node c fits n in let k = (m c).0 d.0 in
+        (k.0, k.1, λ again. ⊎_elim k.2 (λ e. d.1 (sym listed_is ∙ e)) (contains_more (root_nodes roots) i c listed_in again)),
+    λ p. Marks-left table (get_or roots i r).node c (λ e. p.2 (contains_last (root_nodes roots) i c listed_in (listed_is ∙ e)))
+        ((m c).1 (p.0, p.1, λ h. p.2 (contains_earlier (root_nodes roots) i c listed_in h))),
+  )
+
+pub ends_more : (roots : List Root) (i : ℕ) (r : Root) → i < length roots → (get_or roots i r).ends ≡ ends_before roots (i + 1)
+ends_more roots i r h = rw add-one (sym (get_or-map (λ (x : Root). x.ends) roots i r no_ends h))
+
+pub fits_at : (lengths earlier : Ends) (roots : List Root) (i : ℕ) (r : Root) → i < length roots → earlier ≡ ends_before roots i → EndsFit lengths earlier (get_or roots i r).ends → EndsFit lengths (ends_before roots i) (ends_before roots (suc i))
+fits_at lengths earlier roots i r h e f =
+    let here : (get_or roots i r).ends ≡ ends_before roots (suc i) = sym (get_or-map (λ (x : Root). x.ends) roots i r no_ends h) in
+    subst (λ (x : Ends). EndsFit lengths x (ends_before roots (suc i))) e (subst (λ (x : Ends). EndsFit lengths earlier x) here f)

@@ -1,0 +1,56 @@
+-- A graph of nodes numbered from 0, told by the list of each node's kids, and when it is a forest.
+-- An edge leads from a node to one of its kids; edges go in order by parent, and then by place among its kids.
+use Rattle.std.specs.Prelude.{◌≡◌, ℕ, zero, suc, ◌<◌, ◌↔◌, Bool, true, false, List, [], length, take, slice_index, slice_index_or, Contains}
+use Rattle.std.specs.List.{concat}
+
+-- c is a kid of p
+abbrev pub IsKid : List (List ℕ) → ℕ → ℕ → Type 0
+IsKid g p c = Contains (slice_index_or g p []) c
+
+-- k steps, each from a node to a parent, lead from c to p
+abbrev pub Climbs : List (List ℕ) → ℕ → ℕ → ℕ → Type 0
+Climbs g zero c p = c ≡ p
+Climbs g (suc k) c p = (q : ℕ) × IsKid g q c × Climbs g k q p
+
+-- p has no parent
+abbrev pub IsTop : List (List ℕ) → ℕ → Type 0
+IsTop g p = (q : ℕ) → IsKid g q p → ⊥
+
+-- some number of steps leads from c to a node without a parent
+abbrev pub ChainEnds : List (List ℕ) → ℕ → Type 0
+ChainEnds g c = (k : ℕ) × (p : ℕ) × Climbs g k c p × IsTop g p
+
+-- c lies properly under r
+abbrev pub LiesUnder : List (List ℕ) → ℕ → ℕ → Type 0
+LiesUnder g c r = (k : ℕ) × Climbs g (suc k) c r
+
+-- each node has one parent at most
+abbrev pub HasOneParent : List (List ℕ) → Type 0
+HasOneParent g = (p q c : ℕ) → IsKid g p c → IsKid g q c → p ≡ q
+
+-- no child stands twice among the children of all edges
+abbrev pub HasEachOnce : List (List ℕ) → Type 0
+HasEachOnce g = (e : ℕ) → e < length (concat g) → Contains (take e (concat g)) (slice_index (concat g) e) → ⊥
+
+-- each kid is a node
+abbrev pub HasKidsWithin : List (List ℕ) → Type 0
+HasKidsWithin g = (p c : ℕ) → IsKid g p c → c < length g
+
+-- each node has one parent at most and is its kid once, and its chain of parents ends
+pub record IsForest (g : List (List ℕ)) : Type 0 where
+  pub one_parent : HasOneParent g
+  pub each_once : HasEachOnce g
+  pub kids_within : HasKidsWithin g
+  pub chains_end : (n : ℕ) → n < length g → ChainEnds g n
+
+-- the table marks c
+abbrev pub Marks : List Bool → ℕ → Type 0
+Marks table c = slice_index_or table c false ≡ true
+
+-- the table marks exactly the members of the list
+abbrev pub MarksAll : List Bool → List ℕ → Type 0
+MarksAll table xs = (c : ℕ) → Marks table c ↔ Contains xs c
+
+-- c lies properly under a node that the table marks
+abbrev pub LiesUnderMarked : List (List ℕ) → List Bool → ℕ → Type 0
+LiesUnderMarked g marked c = (r : ℕ) × Marks marked r × LiesUnder g c r

@@ -1,0 +1,57 @@
+//! What is true of every graph, its faults and its roots, as contracts of functions that do nothing.
+//! A crate above cites a law by its definition's name and needs nothing of the insides.
+
+ghost use Rattle.std.specs.Prelude.{◌≡◌, ℕ, ◌<◌, ◌≤◌, List, [], ◌∷◌, ◌++◌, Option, None, Some, All, length};
+ghost use Rattle.std.specs.List.{concat};
+ghost use Rattle.hir_forest.specs.declared.roots.Ends.{Ends};
+ghost use Rattle.hir_forest.specs.declared.roots.Root.{Root};
+ghost use Rattle.hir_forest.specs.declared.roots.ForestFault.{ForestFault};
+ghost use Rattle.hir_forest.specs.Rows.{with_kids};
+ghost use Rattle.hir_forest.specs.Forest.{IsKid, Climbs, IsForest};
+ghost use Rattle.hir_forest.specs.Faults.{IsWithin, forest_fault};
+ghost use Rattle.hir_forest.specs.Height.{height};
+
+/// A graph with its roots has one first fault at most.
+pub fn fault_is_one()
+    ensures { (g : List (List ℕ)) (lengths : Ends) (roots : List Root) (a b : Option ForestFault)
+        → forest_fault g lengths roots a → forest_fault g lengths roots b → a ≡ b }
+{}
+
+/// A fault names a node of the graph or a listed root.
+pub fn fault_is_within()
+    ensures { (g : List (List ℕ)) (lengths : Ends) (roots : List Root) (fault : ForestFault)
+        → All (λ c. c < length g) (concat g) → forest_fault g lengths roots (Some fault)
+        → IsWithin (length g) (length roots) fault }
+{}
+
+/// A graph without a fault is a forest: each node has one parent at most and is its kid once,
+/// and each chain of parents ends.
+pub fn faultless_is_forest()
+    ensures { (g : List (List ℕ)) (lengths : Ends) (roots : List Root)
+        → All (λ c. c < length g) (concat g) → forest_fault g lengths roots None → IsForest g }
+{}
+
+/// In a forest the height falls from each node to its kids.
+pub fn kids_are_lower()
+    ensures { (g : List (List ℕ)) → IsForest g → (p c : ℕ) → IsKid g p c → height g c < height g p }
+{}
+
+/// No node is higher than there are nodes.
+pub fn heights_are_bounded()
+    ensures { (g : List (List ℕ)) (n : ℕ) → height g n ≤ length g }
+{}
+
+/// In a forest no way up has as many steps as there are nodes.
+pub fn ways_are_short()
+    ensures { (g : List (List ℕ)) → IsForest g
+        → (k c p : ℕ) → c < length g → Climbs g k c p → k < length g }
+{}
+
+/// Kids that are added to the last row in parts are added in one, a new row takes them all, and no row is made.
+pub fn kid_rows_add_up()
+    ensures more { (rows : List (List ℕ)) (some more : List ℕ)
+        → with_kids (with_kids rows some) more ≡ with_kids rows (some ++ more) }
+    ensures fresh { (rows : List (List ℕ)) (kids : List ℕ)
+        → with_kids (rows ++ [] ∷ []) kids ≡ rows ++ kids ∷ [] }
+    ensures length { (rows : List (List ℕ)) (kids : List ℕ) → length (with_kids rows kids) ≡ length rows }
+{}

@@ -1,0 +1,18 @@
+//! The first fault of a graph of numbered nodes and its roots, in time linear in nodes, edges and roots and without recursion;
+//! the laws of a graph that has none, a forest; and the table of what lies under marked nodes. It knows nothing of what the nodes are.
+#![tactic(auto)]
+
+mod faults;
+mod laws;
+mod roots;
+mod rows;
+mod walk;
+
+pub use faults::first_fault;
+pub use laws::{
+    fault_is_one, fault_is_within, faultless_is_forest, heights_are_bounded, kid_rows_add_up,
+    kids_are_lower, ways_are_short,
+};
+pub use roots::{Ends, ForestFault, Root};
+pub use rows::Rows;
+pub use walk::nodes_under;
