@@ -1,0 +1,4 @@
+pub mod Told
+pub mod Ranges
+pub mod Held
+pub mod Asking

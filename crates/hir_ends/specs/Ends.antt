@@ -1,0 +1,18 @@
+-- What calls of a source or a sink do to the bytes that it tells.
+use Rattle.std.specs.Prelude.{◌≡◌, ℕ, List, ◌++◌, Option, None, Some}
+use Rattle.std.specs.Io.KnownBytes.{Appends}
+
+-- what a failed call leaves: the told bytes as they were, or told no more
+abbrev pub IsKeptOrUntold : Option (List ℕ) → Option (List ℕ) → Type 0
+IsKeptOrUntold old None = Unit {0}
+IsKeptOrUntold old (Some bytes) = old ≡ Some bytes
+
+-- told bytes grew by some front of these bytes, or are told no more
+abbrev pub GrowsByFront : Option (List ℕ) → Option (List ℕ) → List ℕ → Type 0
+GrowsByFront None new bytes = Unit {0}
+GrowsByFront (Some xs) None bytes = Unit {0}
+GrowsByFront (Some xs) (Some ys) bytes = (done missing : List ℕ) × (bytes ≡ done ++ missing) × (ys ≡ xs ++ done)
+
+-- of these bytes all but the rest were written
+abbrev pub IsWrittenUpTo : Option (List ℕ) → Option (List ℕ) → List ℕ → List ℕ → Type 0
+IsWrittenUpTo old new bytes rest = (done : List ℕ) × (bytes ≡ done ++ rest) × Appends old new done

@@ -1,0 +1,15 @@
+//! Where the program's bytes come from and where they go: sources and sinks, the lines of a source, output that waits, and
+//! asking for the next line.
+#![tactic(auto)]
+
+mod ends;
+mod lines;
+mod next;
+mod output;
+mod std_end;
+
+pub use ends::{EndFailed, Sink, Source, write_all};
+pub use lines::{FillFault, LineReader, Taken};
+pub use next::{LineFault, next_line};
+pub use output::OutputBuffer;
+pub use std_end::{Attempt, StdEnd, read_attempt, write_attempt};
