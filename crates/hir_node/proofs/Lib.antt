@@ -1,0 +1,4 @@
+pub mod ArgsCalls
+pub mod ChildPats
+pub mod PathLemmas
+pub mod SegmentLemmas

@@ -1,0 +1,95 @@
+//! Bindings: the variables that patterns bring into scope; and labels of blocks and loops.
+ghost use Rattle.std.specs.Prelude.{◌≡◌};
+ghost use Rattle.hir_base.specs.Exact.{exact};
+
+use hir_base::{ExactEq, HygieneId, Name, TryClone};
+
+/// A label of a block or a loop.
+#[derive(Debug, Drop, Clone, PartialEq, Eq)]
+pub struct Label {
+    pub name: Name,
+}
+
+impl ExactEq for Label {
+    ghost eq_decides = { Prim.search exact };
+}
+
+impl TryClone for Label {
+    ghost clone_is_same = { Prim.search exact };
+}
+
+/// The words before the name of a binding.
+#[derive(Clone, Copy, Debug, PartialEq, Eq)]
+pub enum BindingAnnotation {
+    /// None.
+    Unannotated,
+    /// `mut`
+    Mutable,
+    /// `ref`
+    Ref,
+    /// `ref mut`
+    RefMut,
+}
+
+impl BindingAnnotation {
+    ghost use Rattle.hir_node.specs.Annotations.{annotation};
+
+    /// The words that say whether the binding is mutable and whether it is a reference.
+    pub fn new(is_mutable: bool, is_ref: bool) -> BindingAnnotation
+        ensures { result ≡ annotation is_mutable is_ref }
+    {
+        match (is_mutable, is_ref) {
+            (true, true) => BindingAnnotation::RefMut,
+            (false, true) => BindingAnnotation::Ref,
+            (true, false) => BindingAnnotation::Mutable,
+            (false, false) => BindingAnnotation::Unannotated,
+        }
+    }
+}
+
+impl ExactEq for BindingAnnotation {
+    ghost eq_decides = { Prim.search exact };
+}
+
+impl TryClone for BindingAnnotation {
+    ghost clone_is_same = { Prim.search exact };
+}
+
+/// What is wrong with a binding of a pattern.
+#[derive(Debug, Drop, Clone, PartialEq, Eq)]
+pub enum BindingProblems {
+    /// Its pattern binds the name more than once.
+    BoundMoreThanOnce,
+    /// The sides of an or-pattern bind it by different words.
+    BoundInconsistently,
+    /// Not all sides of an or-pattern bind it.
+    NotBoundAcrossAll,
+}
+
+impl ExactEq for BindingProblems {
+    ghost eq_decides = { Prim.search exact };
+}
+
+impl TryClone for BindingProblems {
+    ghost clone_is_same = { Prim.search exact };
+}
+
+/// A variable that a pattern brings into scope.
+#[derive(Debug, Drop, Clone, PartialEq, Eq)]
+pub struct Binding {
+    pub name: Name,
+    pub mode: BindingAnnotation,
+    pub problems: Option<BindingProblems>,
+    /// Which macro expansion, if any, its name was written by.
+    pub hygiene: HygieneId,
+}
+
+impl ExactEq for Binding {
+    ghost use Rattle.hir_node.specs.SameStructs.{bindings_decide};
+
+    ghost eq_decides = { bindings_decide };
+}
+
+impl TryClone for Binding {
+    ghost clone_is_same = { Prim.search exact };
+}

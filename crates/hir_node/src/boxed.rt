@@ -1,0 +1,110 @@
+//! Values on the heap: a `Box` that contracts see as the value in it.
+//! A `Box` itself also has an allocator, so two of the same value may differ to a contract; two `Boxed`s may not.
+ghost use Rattle.std.specs.Prelude.{◌≡◌, IfOk, IfErr};
+
+use hir_base::{ExactEq, TryClone};
+use std::alloc::{AllocError, AllocFailed, Global};
+use std::hash::{Hash, Hasher};
+use std::marker::Model;
+
+/// A `Box` that contracts see as its value.
+///
+/// It is made from the `Box` and gives it back without memory.
+#[derive(Debug, Drop)]
+pub struct Boxed<T> {
+    inner: Box<T>,
+}
+
+impl<T> Model for Boxed<T> {
+    ghost Value = { T };
+
+    ghost coded = { T.code };
+
+    ghost view = { λ b. b.inner.value };
+}
+
+impl<T> Boxed<T> {
+    /// The value, put on the heap.
+    ///
+    /// Answers an error where memory for it was refused, and hands the value back.
+    pub fn new(alloc: Global, value: T) -> Result<Boxed<T>, AllocFailed<T>>
+        ensures ok { IfOk result (λ b. b ≡ value) }
+        ensures value_returned { IfErr result (λ failed. failed.value ≡ value) }
+    {
+        match Box::new(alloc, value) {
+            Ok(inner) => Ok(Boxed { inner }),
+            Err(failed) => Err(failed),
+        }
+    }
+
+    /// The value of this box, which takes no memory.
+    pub fn from_box(inner: Box<T>) -> Boxed<T>
+        ensures { result ≡ inner.value }
+    {
+        Boxed { inner }
+    }
+
+    /// The box that holds the value.
+    pub fn into_box(self) -> Box<T>
+        ensures { result.value ≡ self }
+    {
+        let Boxed { inner } = self;
+        inner
+    }
+
+    /// The value, to be read.
+    pub fn get(&self) -> &T
+        ensures { result.now ≡ self.now }
+    {
+        &self.inner
+    }
+
+    /// The value, taken off the heap.
+    pub fn into_inner(self) -> T
+        ensures { result ≡ self }
+    {
+        let Boxed { inner } = self;
+        Box::into_inner(inner)
+    }
+}
+
+impl<T: PartialEq> PartialEq for Boxed<T> {
+    ghost eq = { T.eq };
+
+    ghost laws = { T.PartialEq.laws };
+
+    fn eq(&self, other: &Boxed<T>) -> bool {
+        *self.get() == *other.get()
+    }
+}
+
+impl<T: Eq> Eq for Boxed<T> {
+    ghost laws = { T.Eq.laws };
+}
+
+impl<T: Hash> Hash for Boxed<T> {
+    ghost hash_input = { T.hash_input };
+
+    ghost respects_eq = { T.respects_eq };
+
+    fn hash<H: Hasher>(&self, state: &mut H) {
+        self.get().hash(state);
+    }
+}
+
+impl<T: Clone> Clone for Boxed<T> {
+    ghost is_clone = { T.is_clone };
+
+    fn clone(&self) -> Result<Boxed<T>, AllocError> {
+        let value = self.get().clone()?;
+        Ok(Boxed::new(*Box::allocator(&self.inner), value)?)
+    }
+}
+
+impl<T: ExactEq> ExactEq for Boxed<T> {
+    ghost eq_decides = { T.eq_decides };
+}
+
+impl<T: TryClone> TryClone for Boxed<T> {
+    ghost clone_is_same = { T.clone_is_same };
+}

@@ -1,0 +1,364 @@
+//! Expressions.
+ghost use Rattle.std.specs.Prelude.{◌≡◌};
+ghost use Rattle.hir_node.specs.Precedence.{of_operator, of_arith};
+
+use crate::boxed::Boxed;
+use crate::ids::{ExprId, LabelId, PatId, TypeRefId};
+use crate::literal::Literal;
+use crate::parts::{
+    Array, CaptureBy, ClosureKind, LoopSource, MatchArm, OffsetOf, RecordLitField, RecordSpread,
+    Statement, Unsafe,
+};
+use crate::path::{GenericArgs, Path};
+use crate::type_ref::{Mutability, Rawness};
+use hir_base::{
+    ArithOp, BinaryOp, BlockId, ExactEq, ExprPrecedence, LogicOp, Name, Seq, TryClone, UnaryOp,
+};
+use std::alloc::AllocError;
+
+/// An expression.
+#[derive(Debug, Drop, PartialEq, Eq)]
+pub enum Expr {
+    /// Nothing was there.
+    Missing,
+    /// `_`, on the left of an assignment.
+    Underscore,
+    /// `include_bytes!`, whose file is not read.
+    IncludeBytes,
+    Path(Path),
+    Literal(Literal),
+    Array(Array),
+    OffsetOf(OffsetOf),
+    /// `const {}`, whose body is a constant: it sees no local variables.
+    Const(ExprId),
+    If {
+        condition: ExprId,
+        then_branch: ExprId,
+        else_branch: Option<ExprId>,
+    },
+    /// `let` in a condition.
+    Let {
+        pat: PatId,
+        expr: ExprId,
+    },
+    Block {
+        id: Option<BlockId>,
+        statements: Seq<Statement>,
+        tail: Option<ExprId>,
+        label: Option<LabelId>,
+        unsafe_: Unsafe,
+    },
+    Loop {
+        body: ExprId,
+        label: Option<LabelId>,
+        source: LoopSource,
+    },
+    Call {
+        callee: ExprId,
+        args: Seq<ExprId>,
+    },
+    MethodCall {
+        receiver: ExprId,
+        method_name: Name,
+        args: Seq<ExprId>,
+        generic_args: Option<Boxed<GenericArgs>>,
+    },
+    Match {
+        expr: ExprId,
+        arms: Seq<MatchArm>,
+    },
+    Continue {
+        label: Option<LabelId>,
+    },
+    Break {
+        expr: Option<ExprId>,
+        label: Option<LabelId>,
+    },
+    Return {
+        expr: Option<ExprId>,
+    },
+    Yield {
+        expr: Option<ExprId>,
+    },
+    /// `do yeet`
+    Yeet {
+        expr: Option<ExprId>,
+    },
+    Become {
+        expr: ExprId,
+    },
+    Await {
+        expr: ExprId,
+    },
+    RecordLit {
+        path: Path,
+        fields: Seq<RecordLitField>,
+        spread: RecordSpread,
+    },
+    Field {
+        expr: ExprId,
+        name: Name,
+    },
+    Cast {
+        expr: ExprId,
+        type_ref: TypeRefId,
+    },
+    Ref {
+        expr: ExprId,
+        rawness: Rawness,
+        mutability: Mutability,
+    },
+    UnaryOp {
+        expr: ExprId,
+        op: UnaryOp,
+    },
+    /// `op` is `None` where the operator is missing. A plain `=` is an `Assignment`.
+    BinaryOp {
+        lhs: ExprId,
+        rhs: ExprId,
+        op: Option<BinaryOp>,
+    },
+    /// `=`. Its left side is a pattern, whose paths and expressions are those that are written.
+    Assignment {
+        target: PatId,
+        value: ExprId,
+    },
+    Index {
+        base: ExprId,
+        index: ExprId,
+    },
+    Closure {
+        args: Seq<PatId>,
+        arg_types: Seq<Option<TypeRefId>>,
+        ret_type: Option<TypeRefId>,
+        body: ExprId,
+        closure_kind: ClosureKind,
+        capture_by: CaptureBy,
+    },
+    Tuple {
+        exprs: Seq<ExprId>,
+    },
+}
+
+impl Expr {
+    ghost use Rattle.hir_node.specs.Precedence.{precedence};
+
+    /// How tightly the expression binds, by the Rust Reference, "Expression precedence", and for what it doesn't list by the table
+    /// `precedence` of the specs.
+    pub fn precedence(&self) -> ExprPrecedence
+        ensures { result ≡ precedence self.now }
+    {
+        match self {
+            Expr::Array(_)
+            | Expr::Block { .. }
+            | Expr::Const(_)
+            | Expr::If { .. }
+            | Expr::Literal(_)
+            | Expr::Loop { .. }
+            | Expr::Match { .. }
+            | Expr::Missing
+            | Expr::Path(_)
+            | Expr::RecordLit { .. }
+            | Expr::Tuple { .. }
+            | Expr::OffsetOf(_)
+            | Expr::Underscore
+            | Expr::IncludeBytes
+            | Expr::Continue { .. } => ExprPrecedence::Unambiguous,
+            Expr::Await { .. }
+            | Expr::Call { .. }
+            | Expr::Field { .. }
+            | Expr::Index { .. }
+            | Expr::MethodCall { .. } => ExprPrecedence::Postfix,
+            Expr::Let { .. } | Expr::UnaryOp { .. } | Expr::Ref { .. } => ExprPrecedence::Prefix,
+            Expr::Cast { .. } => ExprPrecedence::Cast,
+            Expr::BinaryOp { op, .. } => binary_precedence(*op),
+            Expr::Assignment { .. } => ExprPrecedence::Assign,
+            Expr::Become { .. }
+            | Expr::Break { .. }
+            | Expr::Closure { .. }
+            | Expr::Return { .. }
+            | Expr::Yeet { .. }
+            | Expr::Yield { .. } => ExprPrecedence::Jump,
+        }
+    }
+}
+
+/// That of an expression with this operator between its two sides.
+fn binary_precedence(op: Option<BinaryOp>) -> ExprPrecedence
+    ensures { result ≡ of_operator op }
+{
+    match op {
+        None => ExprPrecedence::Unambiguous,
+        Some(BinaryOp::LogicOp(LogicOp::Or)) => ExprPrecedence::LOr,
+        Some(BinaryOp::LogicOp(LogicOp::And)) => ExprPrecedence::LAnd,
+        Some(BinaryOp::CmpOp(_)) => ExprPrecedence::Compare,
+        Some(BinaryOp::Assignment { .. }) => ExprPrecedence::Assign,
+        Some(BinaryOp::ArithOp(op)) => arith_precedence(op),
+    }
+}
+
+/// That of an expression with this operator on numbers or bits.
+fn arith_precedence(op: ArithOp) -> ExprPrecedence
+    ensures { result ≡ of_arith op }
+{
+    match op {
+        ArithOp::Add | ArithOp::Sub => ExprPrecedence::Sum,
+        ArithOp::Mul | ArithOp::Div | ArithOp::Rem => ExprPrecedence::Product,
+        ArithOp::Shl | ArithOp::Shr => ExprPrecedence::Shift,
+        ArithOp::BitXor => ExprPrecedence::BitXor,
+        ArithOp::BitOr => ExprPrecedence::BitOr,
+        ArithOp::BitAnd => ExprPrecedence::BitAnd,
+    }
+}
+
+impl Clone for Expr {
+    ghost is_clone = { λ x y. y ≡ x };
+
+    fn clone(&self) -> Result<Expr, AllocError> {
+        match self {
+            Expr::Missing => Ok(Expr::Missing),
+            Expr::Underscore => Ok(Expr::Underscore),
+            Expr::IncludeBytes => Ok(Expr::IncludeBytes),
+            Expr::Path(value) => Ok(Expr::Path(value.try_clone()?)),
+            Expr::Literal(value) => Ok(Expr::Literal(value.try_clone()?)),
+            Expr::Array(value) => Ok(Expr::Array(value.try_clone()?)),
+            Expr::OffsetOf(value) => Ok(Expr::OffsetOf(value.try_clone()?)),
+            Expr::Const(value) => Ok(Expr::Const(*value)),
+            Expr::If {
+                condition,
+                then_branch,
+                else_branch,
+            } => Ok(Expr::If {
+                condition: *condition,
+                then_branch: *then_branch,
+                else_branch: *else_branch,
+            }),
+            Expr::Let { pat, expr } => Ok(Expr::Let {
+                pat: *pat,
+                expr: *expr,
+            }),
+            Expr::Block {
+                id,
+                statements,
+                tail,
+                label,
+                unsafe_,
+            } => Ok(Expr::Block {
+                id: *id,
+                statements: statements.try_clone()?,
+                tail: *tail,
+                label: *label,
+                unsafe_: *unsafe_,
+            }),
+            Expr::Loop {
+                body,
+                label,
+                source,
+            } => Ok(Expr::Loop {
+                body: *body,
+                label: *label,
+                source: *source,
+            }),
+            Expr::Call { callee, args } => Ok(Expr::Call {
+                callee: *callee,
+                args: args.try_clone()?,
+            }),
+            Expr::MethodCall {
+                receiver,
+                method_name,
+                args,
+                generic_args,
+            } => Ok(Expr::MethodCall {
+                receiver: *receiver,
+                method_name: method_name.try_clone()?,
+                args: args.try_clone()?,
+                generic_args: generic_args.try_clone()?,
+            }),
+            Expr::Match { expr, arms } => Ok(Expr::Match {
+                expr: *expr,
+                arms: arms.try_clone()?,
+            }),
+            Expr::Continue { label } => Ok(Expr::Continue { label: *label }),
+            Expr::Break { expr, label } => Ok(Expr::Break {
+                expr: *expr,
+                label: *label,
+            }),
+            Expr::Return { expr } => Ok(Expr::Return { expr: *expr }),
+            Expr::Yield { expr } => Ok(Expr::Yield { expr: *expr }),
+            Expr::Yeet { expr } => Ok(Expr::Yeet { expr: *expr }),
+            Expr::Become { expr } => Ok(Expr::Become { expr: *expr }),
+            Expr::Await { expr } => Ok(Expr::Await { expr: *expr }),
+            Expr::RecordLit {
+                path,
+                fields,
+                spread,
+            } => Ok(Expr::RecordLit {
+                path: path.try_clone()?,
+                fields: fields.try_clone()?,
+                spread: *spread,
+            }),
+            Expr::Field { expr, name } => Ok(Expr::Field {
+                expr: *expr,
+                name: name.try_clone()?,
+            }),
+            Expr::Cast { expr, type_ref } => Ok(Expr::Cast {
+                expr: *expr,
+                type_ref: *type_ref,
+            }),
+            Expr::Ref {
+                expr,
+                rawness,
+                mutability,
+            } => Ok(Expr::Ref {
+                expr: *expr,
+                rawness: *rawness,
+                mutability: *mutability,
+            }),
+            Expr::UnaryOp { expr, op } => Ok(Expr::UnaryOp {
+                expr: *expr,
+                op: *op,
+            }),
+            Expr::BinaryOp { lhs, rhs, op } => Ok(Expr::BinaryOp {
+                lhs: *lhs,
+                rhs: *rhs,
+                op: *op,
+            }),
+            Expr::Assignment { target, value } => Ok(Expr::Assignment {
+                target: *target,
+                value: *value,
+            }),
+            Expr::Index { base, index } => Ok(Expr::Index {
+                base: *base,
+                index: *index,
+            }),
+            Expr::Closure {
+                args,
+                arg_types,
+                ret_type,
+                body,
+                closure_kind,
+                capture_by,
+            } => Ok(Expr::Closure {
+                args: args.try_clone()?,
+                arg_types: arg_types.try_clone()?,
+                ret_type: *ret_type,
+                body: *body,
+                closure_kind: *closure_kind,
+                capture_by: *capture_by,
+            }),
+            Expr::Tuple { exprs } => Ok(Expr::Tuple {
+                exprs: exprs.try_clone()?,
+            }),
+        }
+    }
+}
+
+impl ExactEq for Expr {
+    ghost use Rattle.hir_node.specs.SameExprs.{exprs_decide};
+
+    ghost eq_decides = { exprs_decide };
+}
+
+impl TryClone for Expr {
+    ghost clone_is_same = { λ x y h. h };
+}

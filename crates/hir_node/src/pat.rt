@@ -1,0 +1,238 @@
+//! Patterns.
+ghost use Rattle.std.specs.Prelude.{◌≡◌, map};
+ghost use Rattle.std.specs.List.{FoldsTo};
+ghost use Rattle.std.specs.Option.{option_to_list};
+ghost use Rattle.hir_base.specs.Exact.{exact};
+
+use crate::ids::{BindingId, ExprId, PatId};
+use crate::path::Path;
+use crate::type_ref::Mutability;
+use hir_base::{ExactEq, Name, RangeOp, Seq, TryClone};
+use std::alloc::AllocError;
+
+/// A field of a record pattern: its name, and the pattern that its value matches.
+#[derive(Debug, Drop, Clone, PartialEq, Eq)]
+pub struct RecordFieldPat {
+    pub name: Name,
+    pub pat: PatId,
+}
+
+impl ExactEq for RecordFieldPat {
+    ghost eq_decides = { Prim.search exact };
+}
+
+impl TryClone for RecordFieldPat {
+    ghost clone_is_same = { Prim.search exact };
+}
+
+/// A pattern.
+#[derive(Debug, Drop, PartialEq, Eq)]
+pub enum Pat {
+    /// Nothing was there.
+    Missing,
+    /// `..`
+    Rest,
+    /// `_`
+    Wild,
+    /// `!null`
+    NotNull,
+    Tuple {
+        args: Seq<PatId>,
+        /// The place of `..` among the arguments, where it stands.
+        ellipsis: Option<u32>,
+    },
+    Or(Seq<PatId>),
+    Record {
+        path: Path,
+        args: Seq<RecordFieldPat>,
+        /// Whether `..` stands last.
+        ellipsis: bool,
+    },
+    Range {
+        start: Option<ExprId>,
+        end: Option<ExprId>,
+        range_type: RangeOp,
+    },
+    Slice {
+        prefix: Seq<PatId>,
+        /// What stands between the first items and the last.
+        slice: Option<PatId>,
+        suffix: Seq<PatId>,
+    },
+    Path(Path),
+    Lit(ExprId),
+    Expr(ExprId),
+    Bind {
+        id: BindingId,
+        /// The pattern after `@`.
+        subpat: Option<PatId>,
+    },
+    TupleStruct {
+        path: Path,
+        args: Seq<PatId>,
+        /// The place of `..` among the arguments, where it stands.
+        ellipsis: Option<u32>,
+    },
+    Ref {
+        pat: PatId,
+        mutability: Mutability,
+    },
+    Box {
+        inner: PatId,
+    },
+    Deref {
+        inner: PatId,
+    },
+}
+
+impl Pat {
+    ghost use Rattle.hir_node.specs.ChildCalls.{child_pats};
+
+    /// Runs the closure on each pattern that this one names, in the order of the child calls.
+    pub fn walk_child_pats<F: FnMut(PatId)>(&self, f: &mut F)
+        requires { F.IsAlwaysCallable f.old }
+        ensures { FoldsTo (λ p x q. F.step p x tt q) f.old (child_pats self.now) f.new }
+    {
+        match self {
+            Pat::Missing
+            | Pat::Rest
+            | Pat::Wild
+            | Pat::NotNull
+            | Pat::Range { .. }
+            | Pat::Lit(_)
+            | Pat::Expr(_) => {}
+            Pat::Path(_) => {}
+            Pat::Tuple { args, .. } => walk_ids(args.as_slice(), f),
+            Pat::Or(args) => walk_ids(args.as_slice(), f),
+            Pat::TupleStruct { args, .. } => walk_ids(args.as_slice(), f),
+            Pat::Record { args, .. } => walk_fields(args.as_slice(), f),
+            Pat::Slice {
+                prefix,
+                slice,
+                suffix,
+            } => {
+                walk_ids(prefix.as_slice(), f);
+                walk_optional(*slice, f);
+                walk_ids(suffix.as_slice(), f);
+            }
+            Pat::Bind { subpat, .. } => walk_optional(*subpat, f),
+            Pat::Ref { pat, .. } => f(*pat),
+            Pat::Box { inner } => f(*inner),
+            Pat::Deref { inner } => f(*inner),
+        }
+    }
+}
+
+/// Runs the closure on each id, in order.
+fn walk_ids<F: FnMut(PatId)>(ids: &[PatId], f: &mut F)
+    requires { F.IsAlwaysCallable f.old }
+    ensures callable { F.IsAlwaysCallable f.new }
+    ensures runs { FoldsTo (λ p x q. F.step p x tt q) f.old ids.now f.new }
+{
+    let mut rest = ids;
+    while let Some((id, others)) = rest.split_first() {
+        f(*id);
+        rest = others;
+    }
+}
+
+/// Runs the closure on the id, where there is one.
+fn walk_optional<F: FnMut(PatId)>(id: Option<PatId>, f: &mut F)
+    requires { F.IsAlwaysCallable f.old }
+    ensures callable { F.IsAlwaysCallable f.new }
+    ensures runs { FoldsTo (λ p x q. F.step p x tt q) f.old (option_to_list id) f.new }
+{
+    if let Some(id) = id {
+        f(id);
+    }
+}
+
+/// Runs the closure on the pattern of each field, in order.
+fn walk_fields<F: FnMut(PatId)>(fields: &[RecordFieldPat], f: &mut F)
+    requires { F.IsAlwaysCallable f.old }
+    ensures callable { F.IsAlwaysCallable f.new }
+    ensures runs { FoldsTo (λ p x q. F.step p x tt q) f.old (map (λ field. field.pat) fields.now) f.new }
+{
+    let mut rest = fields;
+    while let Some((field, others)) = rest.split_first() {
+        f(field.pat);
+        rest = others;
+    }
+}
+
+impl Clone for Pat {
+    ghost is_clone = { λ x y. y ≡ x };
+
+    fn clone(&self) -> Result<Pat, AllocError> {
+        match self {
+            Pat::Missing => Ok(Pat::Missing),
+            Pat::Rest => Ok(Pat::Rest),
+            Pat::Wild => Ok(Pat::Wild),
+            Pat::NotNull => Ok(Pat::NotNull),
+            Pat::Tuple { args, ellipsis } => Ok(Pat::Tuple {
+                args: args.try_clone()?,
+                ellipsis: *ellipsis,
+            }),
+            Pat::Or(args) => Ok(Pat::Or(args.try_clone()?)),
+            Pat::Record {
+                path,
+                args,
+                ellipsis,
+            } => Ok(Pat::Record {
+                path: path.try_clone()?,
+                args: args.try_clone()?,
+                ellipsis: *ellipsis,
+            }),
+            Pat::Range {
+                start,
+                end,
+                range_type,
+            } => Ok(Pat::Range {
+                start: *start,
+                end: *end,
+                range_type: *range_type,
+            }),
+            Pat::Slice {
+                prefix,
+                slice,
+                suffix,
+            } => Ok(Pat::Slice {
+                prefix: prefix.try_clone()?,
+                slice: *slice,
+                suffix: suffix.try_clone()?,
+            }),
+            Pat::Path(path) => Ok(Pat::Path(path.try_clone()?)),
+            Pat::Lit(expr) => Ok(Pat::Lit(*expr)),
+            Pat::Expr(expr) => Ok(Pat::Expr(*expr)),
+            Pat::Bind { id, subpat } => Ok(Pat::Bind {
+                id: *id,
+                subpat: *subpat,
+            }),
+            Pat::TupleStruct {
+                path,
+                args,
+                ellipsis,
+            } => Ok(Pat::TupleStruct {
+                path: path.try_clone()?,
+                args: args.try_clone()?,
+                ellipsis: *ellipsis,
+            }),
+            Pat::Ref { pat, mutability } => Ok(Pat::Ref {
+                pat: *pat,
+                mutability: *mutability,
+            }),
+            Pat::Box { inner } => Ok(Pat::Box { inner: *inner }),
+            Pat::Deref { inner } => Ok(Pat::Deref { inner: *inner }),
+        }
+    }
+}
+
+impl ExactEq for Pat {
+    ghost use Rattle.hir_node.specs.SamePats.{pats_decide};
+
+    ghost eq_decides = { pats_decide };
+}
+
+impl TryClone for Pat {
+    ghost clone_is_same = { λ x y h. h };
+}
