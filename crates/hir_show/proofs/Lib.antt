@@ -1,0 +1,16 @@
+pub mod NodeLemmas
+pub mod FinishLemmas
+pub mod Numerals
+pub mod Splits
+pub mod Lines
+pub mod Names
+pub mod GrammarLaws
+pub mod Making
+pub mod Failing
+pub mod Answering
+pub mod Sections
+pub mod Ending
+pub mod Asked
+pub mod Meanings
+pub mod Writing
+pub mod Children

@@ -1,0 +1,9 @@
+pub mod small
+pub mod Numeral
+pub mod Words
+pub mod Line
+pub mod Grammar
+pub mod Answer
+pub mod Program
+pub mod Run
+pub mod Stages

@@ -1,0 +1,113 @@
+//! The answers to questions, written to the output.
+
+ghost use Rattle.std.specs.Prelude.{◌≡◌, ◌<◌, ◌||◌, ◌++◌, ◌∷◌, [], true, false, Result, Ok, Err, OnOk, OnErr, length, is_err, slice_get, slice_index_or};
+ghost use Rattle.std.specs.Fmt.{decimal};
+ghost use Rattle.hir_ends.specs.Ends.{GrowsByFront, IsWrittenUpTo};
+ghost use Rattle.hir_show.specs.small.Nodes.{graph};
+ghost use Rattle.hir_show.specs.Answer.{answer_to, children_line, children_text, spaced, FailsNext, Writes, WritesNext};
+
+use super::line::Question;
+use super::small::{ExprId, ExpressionStore};
+use hir_ends::{EndFailed, OutputBuffer, Sink};
+
+/// Writes a number after a space.
+fn write_spaced<W: Sink>(
+    id: ExprId,
+    output: &mut OutputBuffer,
+    writer: &mut W,
+) -> Result<(), EndFailed>
+    ensures writes { Writes (W.contents writer.old) output.old (W.contents writer.new) output.new (32 ∷ decimal id) result }
+    ensures failure { W.failed writer.new ≡ (is_err result || W.failed writer.old) }
+{
+    output.write(b" ", writer)?;
+    output.write_number(id.into_raw(), writer)
+}
+
+/// Writes the children of an expression, each after a space.
+fn write_children<W: Sink>(
+    store: &ExpressionStore,
+    id: ExprId,
+    output: &mut OutputBuffer,
+    writer: &mut W,
+) -> Result<(), EndFailed>
+    requires { id < length store.now.exprs }
+    ensures writes { Writes (W.contents writer.old) output.old (W.contents writer.new) output.new (spaced (slice_index_or (graph store.now.exprs) id [])) result }
+    ensures failure { W.failed writer.new ≡ (is_err result || W.failed writer.old) }
+{
+    let mut outcome = Ok(());
+    store.walk_child_exprs(
+        id,
+        &mut |child: ExprId| -> ()
+            ensures writes { WritesNext outcome.entry (W.contents writer.entry.now) output.entry.now (W.contents writer.exit.now) output.exit.now (32 ∷ decimal child) outcome.exit }
+            ensures failure { FailsNext outcome.entry (W.failed writer.entry.now) (W.failed writer.exit.now) outcome.exit }
+        {
+            if outcome.is_ok() {
+                outcome = write_spaced(child, output, writer);
+            }
+        },
+    );
+    outcome
+}
+
+/// Writes what is known of an expression: its children, or that it isn't there.
+fn write_found<W: Sink>(
+    store: &ExpressionStore,
+    id: ExprId,
+    output: &mut OutputBuffer,
+    writer: &mut W,
+) -> Result<(), EndFailed>
+    ensures writes { Writes (W.contents writer.old) output.old (W.contents writer.new) output.new (children_text (slice_get store.now.exprs id)) result }
+    ensures failure { W.failed writer.new ≡ (is_err result || W.failed writer.old) }
+{
+    if !store.has_expr(id) {
+        return output.write(b" unknown", writer);
+    }
+    output.write(b" =", writer)?;
+    write_children(store, id, output, writer)
+}
+
+/// Writes the number of an expression, and what is known of it.
+fn write_known<W: Sink>(
+    store: &ExpressionStore,
+    id: ExprId,
+    output: &mut OutputBuffer,
+    writer: &mut W,
+) -> Result<(), EndFailed>
+    ensures writes { Writes (W.contents writer.old) output.old (W.contents writer.new) output.new (decimal id ++ children_text (slice_get store.now.exprs id)) result }
+    ensures failure { W.failed writer.new ≡ (is_err result || W.failed writer.old) }
+{
+    output.write_number(id.into_raw(), writer)?;
+    write_found(store, id, output, writer)
+}
+
+/// Answers with the children of an expression.
+fn answer_children<W: Sink>(
+    store: &ExpressionStore,
+    id: ExprId,
+    output: &mut OutputBuffer,
+    writer: &mut W,
+) -> Result<(), EndFailed>
+    ensures writes { Writes (W.contents writer.old) output.old (W.contents writer.new) output.new (children_line store.now.exprs id) result }
+    ensures failure { W.failed writer.new ≡ (is_err result || W.failed writer.old) }
+{
+    output.write(b"children ", writer)?;
+    write_known(store, id, output, writer)?;
+    output.write(b"\n", writer)
+}
+
+/// Answers a question by one line.
+///
+/// After an `Err` a front of what waited and of the answer was written.
+pub fn answer<W: Sink>(
+    store: &ExpressionStore,
+    question: Question,
+    output: &mut OutputBuffer,
+    writer: &mut W,
+) -> Result<(), EndFailed>
+    ensures writes { Writes (W.contents writer.old) output.old (W.contents writer.new) output.new (answer_to store.now.exprs question) result }
+    ensures failure { W.failed writer.new ≡ (is_err result || W.failed writer.old) }
+{
+    match question {
+        Question::Children(id) => answer_children(store, id, output, writer),
+    }
+}

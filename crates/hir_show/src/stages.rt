@@ -1,0 +1,180 @@
+//! The two stages of a run: lines that make something, then questions.
+
+ghost use Rattle.std.specs.Prelude.{◌≡◌, ◌+◌, ◌<◌, ◌^◌, ◌||◌, [], false, Ok, Err, length, OnOk, OnErr, is_err};
+ghost use Rattle.hir_ends.specs.NextLine.{untaken};
+ghost use Rattle.hir_show.specs.small.Contents.{nothing_built};
+ghost use Rattle.hir_show.specs.Answer.{answer_to};
+ghost use Rattle.hir_show.specs.Program.{with_line};
+ghost use Rattle.hir_show.specs.Run.{is_input_failed, is_output_failed};
+ghost use Rattle.hir_show.specs.Stages.{Accepts, Answers, AnswersLine, AnswersOne, AnswersSome, Builds, Closes};
+
+use super::answer::answer;
+use super::fault::RunFault;
+use super::line::{Line, Maker, Question};
+use super::parse::parse;
+use super::small::{ExpressionStore, ExpressionStoreBuilder};
+use hir_ends::{LineReader, OutputBuffer, Sink, Source, next_line};
+use std::alloc::Global;
+
+/// Adds what a line makes.
+fn make(builder: &mut ExpressionStoreBuilder, maker: Maker) -> Result<(), RunFault>
+    ensures ok { OnOk result (builder.new ≡ with_line builder.old maker) }
+    ensures err { OnErr result ((builder.new ≡ builder.old) × (result ≡ Err RunFault.OutOfMemory)) }
+{
+    match maker {
+        Maker::Expr(expr) => match builder.alloc_expr(expr) {
+            Ok(_) => Ok(()),
+            Err(_) => Err(RunFault::OutOfMemory),
+        },
+        Maker::Roots => {
+            builder.begin_roots();
+            Ok(())
+        }
+        Maker::Root(id) => match builder.push_root(id) {
+            Ok(()) => Ok(()),
+            Err(_) => Err(RunFault::OutOfMemory),
+        },
+    }
+}
+
+/// Builds by the lines before the first question, and gives that question, if there is one.
+pub fn build<R: Source, W: Sink>(
+    alloc: Global,
+    lines: &mut LineReader,
+    reader: &mut R,
+    output: &mut OutputBuffer,
+    writer: &mut W,
+    builder: &mut ExpressionStoreBuilder,
+) -> Result<Option<Question>, RunFault>
+    requires fits { length lines.old.pending + R.allowance reader.old < 2 ^ 64 }
+    requires fresh { (lines.old.count ≡ 0) × (lines.old.at_end ≡ false) × (builder.old ≡ nothing_built) }
+    requires quiet { output.old ≡ [] }
+    ensures builds { Builds (untaken lines.old.pending lines.old.at_end (R.remaining reader.old)) (untaken lines.new.pending lines.new.at_end (R.remaining reader.new))
+        (R.remaining reader.new) lines.new builder.new result }
+    ensures still_quiet { (output.new ≡ []) × (writer.new ≡ writer.old) }
+    ensures failure { R.failed reader.new ≡ (is_input_failed result || R.failed reader.old) }
+    ensures still_fits { OnOk result (lines.new.count + length lines.new.pending + R.allowance reader.new < 2 ^ 64) }
+{
+    while next_line(lines, reader, output, writer)? {
+        match parse(alloc, lines.line()) {
+            Ok(Line::Blank) => {}
+            Ok(Line::Make(maker)) => make(builder, maker)?,
+            Ok(Line::Ask(question)) => return Ok(Some(question)),
+            Ok(Line::Bad) => return Err(RunFault::BadLine(lines.count())),
+            Err(_) => return Err(RunFault::OutOfMemory),
+        }
+    }
+    Ok(None)
+}
+
+/// Answers a question.
+fn answer_one<W: Sink>(
+    store: &ExpressionStore,
+    question: Question,
+    output: &mut OutputBuffer,
+    writer: &mut W,
+) -> Result<(), RunFault>
+    ensures answers { AnswersOne (W.contents writer.old) output.old (W.contents writer.new) output.new (answer_to store.now.exprs question) result }
+    ensures failure { W.failed writer.new ≡ (is_output_failed result || W.failed writer.old) }
+{
+    match answer(store, question, output, writer) {
+        Ok(()) => Ok(()),
+        Err(_) => Err(RunFault::OutputFailed),
+    }
+}
+
+/// Answers a line behind the first question.
+fn answer_line<W: Sink>(
+    alloc: Global,
+    store: &ExpressionStore,
+    lines: &LineReader,
+    output: &mut OutputBuffer,
+    writer: &mut W,
+) -> Result<(), RunFault>
+    ensures answers { AnswersLine (W.contents writer.old) output.old (W.contents writer.new) output.new store.now.exprs lines.now result }
+    ensures failure { W.failed writer.new ≡ (is_output_failed result || W.failed writer.old) }
+{
+    match parse(alloc, lines.line()) {
+        Ok(Line::Blank) => Ok(()),
+        Ok(Line::Ask(question)) => answer_one(store, question, output, writer),
+        Ok(Line::Make(_maker)) => Err(RunFault::BadLine(lines.count())),
+        Ok(Line::Bad) => Err(RunFault::BadLine(lines.count())),
+        Err(_) => Err(RunFault::OutOfMemory),
+    }
+}
+
+/// Answers the first question and those after it. Some of the answers may still wait.
+fn answer_lines<R: Source, W: Sink>(
+    alloc: Global,
+    store: &ExpressionStore,
+    first: Question,
+    lines: &mut LineReader,
+    reader: &mut R,
+    output: &mut OutputBuffer,
+    writer: &mut W,
+) -> Result<(), RunFault>
+    requires fits { lines.old.count + length lines.old.pending + R.allowance reader.old < 2 ^ 64 }
+    requires quiet { output.old ≡ [] }
+    ensures answers { AnswersSome (untaken lines.old.pending lines.old.at_end (R.remaining reader.old)) (R.remaining reader.new) lines.old lines.new
+        (W.contents writer.old) (W.contents writer.new) output.new store.now.exprs first result }
+    ensures read_failure { R.failed reader.new ≡ (is_input_failed result || R.failed reader.old) }
+    ensures write_failure { W.failed writer.new ≡ (is_output_failed result || W.failed writer.old) }
+{
+    answer_one(store, first, output, writer)?;
+    while next_line(lines, reader, output, writer)? {
+        answer_line(alloc, store, lines, output, writer)?;
+    }
+    Ok(())
+}
+
+/// Writes what waits, before the outcome is told.
+fn close<W: Sink>(
+    outcome: Result<(), RunFault>,
+    output: &mut OutputBuffer,
+    writer: &mut W,
+) -> Result<(), RunFault>
+    ensures closes { Closes (W.contents writer.old) (W.contents writer.new) output.old outcome result }
+    ensures failure { W.failed writer.old ≡ is_output_failed outcome → W.failed writer.new ≡ is_output_failed result }
+{
+    match output.flush(writer) {
+        Ok(()) => outcome,
+        Err(_) => Err(RunFault::OutputFailed),
+    }
+}
+
+/// Answers the first question and those after it, to the end of the input or the first fault.
+pub fn answer_all<R: Source, W: Sink>(
+    alloc: Global,
+    store: &ExpressionStore,
+    first: Question,
+    lines: &mut LineReader,
+    reader: &mut R,
+    output: &mut OutputBuffer,
+    writer: &mut W,
+) -> Result<(), RunFault>
+    requires fits { lines.old.count + length lines.old.pending + R.allowance reader.old < 2 ^ 64 }
+    requires quiet { output.old ≡ [] }
+    requires unfailed { W.failed writer.old ≡ false }
+    ensures answers { Answers (untaken lines.old.pending lines.old.at_end (R.remaining reader.old)) (R.remaining reader.new) lines.old lines.new
+        (W.contents writer.old) (W.contents writer.new) store.now.exprs first result }
+    ensures read_failure { R.failed reader.new ≡ (is_input_failed result || R.failed reader.old) }
+    ensures write_failure { W.failed writer.new ≡ is_output_failed result }
+{
+    let outcome = answer_lines(alloc, store, first, lines, reader, output, writer);
+    close(outcome, output, writer)
+}
+
+/// Writes that the store is accepted.
+pub fn accept<W: Sink>(output: &mut OutputBuffer, writer: &mut W) -> Result<(), RunFault>
+    requires { output.old ≡ [] }
+    ensures accepts { Accepts (W.contents writer.old) (W.contents writer.new) result }
+    ensures failure { W.failed writer.new ≡ (is_output_failed result || W.failed writer.old) }
+{
+    let Ok(()) = output.write(b"accepted\n", writer) else {
+        return Err(RunFault::OutputFailed);
+    };
+    match output.flush(writer) {
+        Ok(()) => Ok(()),
+        Err(_) => Err(RunFault::OutputFailed),
+    }
+}
