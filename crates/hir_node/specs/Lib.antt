@@ -10,6 +10,7 @@ pub mod OtherIds
 pub mod Parts
 pub mod Paths
 pub mod Precedence
+pub mod Runs
 pub mod SameArgs
 pub mod SameExprs
 pub mod SameLiterals

@@ -4,16 +4,19 @@
 
 mod binding;
 mod boxed;
+mod children;
 mod expr;
 mod ids;
 pub mod laws;
 mod literal;
+mod part;
 mod parts;
 mod pat;
 mod path;
 mod segments;
 mod segments_iter;
 mod type_ref;
+mod visitor;
 
 pub use binding::{Binding, BindingAnnotation, BindingProblems, Label};
 pub use boxed::Boxed;
@@ -37,3 +40,4 @@ pub use type_ref::{
     ArrayType, ConstRef, FnType, LifetimeRef, Mutability, PathId, Rawness, RefType,
     TraitBoundModifier, TraitRef, TypeBound, TypeRef, UseArgRef,
 };
+pub use visitor::{StoreVisitor, StoreVisitorExt, visit_generic_args};

@@ -64,10 +64,10 @@ impl Path {
     }
 
     /// The path without arguments. It takes no memory.
-    pub fn from_known_path_with_no_generic(path: ModPath) -> Path
-        ensures { result ≡ Path.BarePath path }
+    pub fn from_known_path_with_no_generic(mod_path: ModPath) -> Path
+        ensures { result ≡ Path.BarePath mod_path }
     {
-        Path::BarePath(path)
+        Path::BarePath(mod_path)
     }
 
     /// The plain path of one name.

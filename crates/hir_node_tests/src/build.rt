@@ -1,0 +1,132 @@
+//! Lists, paths and generic arguments for the tests.
+use crate::again;
+use hir_base::{FunctionId, Idx, LangItemTarget, ModPath, PathKind, Seq};
+use hir_node::{
+    AssociatedTypeBinding, GenericArg, GenericArgs, GenericArgsParentheses, NormalPath, Path,
+    TypeBound, TypeRefId,
+};
+use std::alloc::{AllocError, Global};
+
+/// A list of one item.
+pub fn one<T: Drop>(alloc: Global, item: T) -> Result<Seq<T>, AllocError> {
+    let mut list = Seq::new(alloc);
+    again::push(&mut list, item)?;
+    Ok(list)
+}
+
+/// A list of two items.
+pub fn two<T: Drop>(alloc: Global, first: T, second: T) -> Result<Seq<T>, AllocError> {
+    let mut list = one(alloc, first)?;
+    again::push(&mut list, second)?;
+    Ok(list)
+}
+
+/// The plain path of these names.
+pub fn plain(alloc: Global, texts: &[&str]) -> Result<ModPath, AllocError> {
+    let mut names = Seq::new(alloc);
+    for text in texts {
+        again::push(&mut names, again::name(alloc, text)?)?;
+    }
+    Ok(ModPath::from_segments(PathKind::Plain, names))
+}
+
+/// The plain path of these names, without arguments.
+pub fn bare(alloc: Global, texts: &[&str]) -> Result<Path, AllocError> {
+    Ok(Path::BarePath(plain(alloc, texts)?))
+}
+
+/// For each name a place without arguments.
+pub fn places(alloc: Global, texts: &[&str]) -> Result<Seq<Option<GenericArgs>>, AllocError> {
+    let mut places = Seq::new(alloc);
+    for _text in texts {
+        again::push(&mut places, None)?;
+    }
+    Ok(places)
+}
+
+/// Type 7, the anchor of the tests.
+pub fn anchor() -> TypeRefId {
+    Idx::from_raw(7)
+}
+
+/// These names behind the anchor, with a place without arguments for each.
+pub fn anchored(alloc: Global, texts: &[&str]) -> Result<Path, AllocError> {
+    let path = NormalPath {
+        generic_args: places(alloc, texts)?,
+        type_anchor: Some(anchor()),
+        mod_path: plain(alloc, texts)?,
+    };
+    Ok(Path::Normal(again::boxed(alloc, path)?))
+}
+
+/// One type as argument, and these bindings.
+pub fn type_args(
+    alloc: Global,
+    ty: u32,
+    bindings: Seq<AssociatedTypeBinding>,
+) -> Result<GenericArgs, AllocError> {
+    Ok(GenericArgs {
+        args: one(alloc, GenericArg::Ty(Idx::from_raw(ty)))?,
+        has_self_type: false,
+        bindings,
+        parenthesized: GenericArgsParentheses::No,
+    })
+}
+
+/// For each name a place, the first with type 3 as its argument.
+pub fn lists_first(alloc: Global, texts: &[&str]) -> Result<Seq<Option<GenericArgs>>, AllocError> {
+    let mut lists = one(alloc, Some(type_args(alloc, 3, Seq::new(alloc))?))?;
+    for _text in texts.iter().skip(1) {
+        again::push(&mut lists, None)?;
+    }
+    Ok(lists)
+}
+
+/// The plain path of these names, the first with type 3 as its argument.
+pub fn with_args_first(alloc: Global, texts: &[&str]) -> Result<Path, AllocError> {
+    with_lists(alloc, lists_first(alloc, texts)?, texts)
+}
+
+/// The path `a::b`, the second name with type 3 as its argument.
+pub fn with_args_last(alloc: Global) -> Result<Path, AllocError> {
+    let args = type_args(alloc, 3, Seq::new(alloc))?;
+    with_lists(alloc, two(alloc, None, Some(args))?, &["a", "b"])
+}
+
+fn with_lists(
+    alloc: Global,
+    generic_args: Seq<Option<GenericArgs>>,
+    texts: &[&str],
+) -> Result<Path, AllocError> {
+    let path = NormalPath {
+        generic_args,
+        type_anchor: None,
+        mod_path: plain(alloc, texts)?,
+    };
+    Ok(Path::Normal(again::boxed(alloc, path)?))
+}
+
+/// Function 4, as an item of the language.
+pub fn item() -> LangItemTarget {
+    LangItemTarget::FunctionId(FunctionId::from_raw(4))
+}
+
+/// `<1, B<2, C = 3>: '5 = 4>`: the binding `B` has arguments of its own, a type and a bound.
+pub fn nested(alloc: Global) -> Result<GenericArgs, AllocError> {
+    let outer = AssociatedTypeBinding {
+        name: again::name(alloc, "B")?,
+        args: Some(type_args(alloc, 2, one(alloc, inner(alloc)?)?)?),
+        type_ref: Some(Idx::from_raw(4)),
+        bounds: one(alloc, TypeBound::Lifetime(Idx::from_raw(5)))?,
+    };
+    type_args(alloc, 1, one(alloc, outer)?)
+}
+
+fn inner(alloc: Global) -> Result<AssociatedTypeBinding, AllocError> {
+    Ok(AssociatedTypeBinding {
+        name: again::name(alloc, "C")?,
+        args: None,
+        type_ref: Some(Idx::from_raw(3)),
+        bounds: Seq::new(alloc),
+    })
+}
