@@ -5,7 +5,7 @@ ghost use Rattle.std.specs.Prelude.{◌↔◌, IsTrue};
 ghost use Rattle.hir_forest.specs.Faults.{EndsFit};
 
 /// How many expressions, patterns and bindings there are, or were when a root was listed.
-#[derive(Clone, Copy, PartialEq, Eq, Debug, Drop)]
+#[derive(Clone, Copy, Default, PartialEq, Eq, Debug, Drop)]
 pub struct Ends {
     pub exprs: u32,
     pub pats: u32,
@@ -27,7 +27,7 @@ impl Ends {
 }
 
 /// A listed root: the number of a node, and the lengths of the arenas when it was listed.
-#[derive(Clone, Copy, PartialEq, Eq, Debug, Drop)]
+#[derive(Clone, Copy, Default, PartialEq, Eq, Debug, Drop)]
 pub struct Root {
     pub node: u32,
     pub ends: Ends,

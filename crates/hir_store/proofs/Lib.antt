@@ -1,0 +1,9 @@
+pub mod HeldLemmas
+pub mod RangeLemmas
+pub mod RowLemmas
+pub mod FinishLemmas
+pub mod SoundLemmas
+pub mod DownLemmas
+pub mod PatLemmas
+pub mod WalkLemmas
+pub mod PathFits

@@ -1,0 +1,5 @@
+use Rattle.hir_store.proofs.FinishLemmas.{finish_fault-one}
+use Rattle.hir_store.proofs.laws.first_fault_is_one.Goals as goal
+
+pub returns : goal.returns
+returns c = finish_fault-one

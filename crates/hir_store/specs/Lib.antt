@@ -1,0 +1,17 @@
+pub mod Sizes
+pub mod Parts
+pub mod HeldParts
+pub mod Nodes
+pub mod Contents
+pub mod Ranges
+pub mod Pushes
+pub mod PathSound
+pub mod StoreParts
+pub mod SameRoots
+pub mod SameStores
+pub mod Down
+pub mod PatLists
+pub mod Sound
+pub mod ChildPats
+pub mod RootSearch
+pub mod Bounds

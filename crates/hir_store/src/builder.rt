@@ -1,0 +1,186 @@
+//! Building a store: nodes and roots are added, and `finish` tests them once.
+
+ghost use Rattle.std.specs.Prelude.{◌≡◌, ◌≤◌, [], ◌∷◌, ◌++◌, length, Err, None, IfOk, IfErr, OnOk, OnErr};
+ghost use Rattle.hir_store.specs.Contents.{nodes_of, building_of, ends_of, and_root, some_roots};
+ghost use Rattle.hir_store.specs.Nodes.{sizes_of};
+ghost use Rattle.hir_store.specs.Sizes.{Few};
+
+use crate::fault::FinishFault;
+use crate::root_list::RootList;
+use crate::sizes::Sizes;
+use hir_base::{Arena, ArenaFault};
+use hir_forest::{Ends, Root};
+use hir_node::{
+    Binding, BindingId, BindingKind, Expr, ExprId, ExprKind, Label, LabelId, LabelKind,
+    LifetimeRef, LifetimeRefId, LifetimeRefKind, Pat, PatId, PatKind, TypeRef, TypeRefId,
+    TypeRefKind,
+};
+use std::alloc::{AllocFailed, Global};
+
+/// Nodes and roots that are not tested yet.
+#[derive(Debug, Drop, PartialEq, Eq)]
+pub struct ExpressionStoreBuilder {
+    pub exprs: Arena<ExprKind, Expr>,
+    pub pats: Arena<PatKind, Pat>,
+    pub bindings: Arena<BindingKind, Binding>,
+    pub labels: Arena<LabelKind, Label>,
+    pub lifetimes: Arena<LifetimeRefKind, LifetimeRef>,
+    pub types: Arena<TypeRefKind, TypeRef>,
+    pub(crate) roots: Option<RootList>,
+    pub(crate) alloc: Global,
+}
+
+/// A builder that was refused, as it was, with its first fault.
+#[derive(Debug, Drop, PartialEq, Eq)]
+pub struct Refused {
+    pub fault: FinishFault,
+    pub builder: ExpressionStoreBuilder,
+}
+
+impl ExpressionStoreBuilder {
+    /// A builder of nothing, which takes its memory from `alloc`, and none now.
+    pub fn new(alloc: Global) -> ExpressionStoreBuilder
+        ensures { result ≡ record { exprs = []; pats = []; bindings = []; labels = []; lifetimes = []; types = []; roots = None; alloc = alloc } }
+    {
+        ExpressionStoreBuilder {
+            exprs: Arena::new(alloc),
+            pats: Arena::new(alloc),
+            bindings: Arena::new(alloc),
+            labels: Arena::new(alloc),
+            lifetimes: Arena::new(alloc),
+            types: Arena::new(alloc),
+            roots: None,
+            alloc,
+        }
+    }
+
+    /// Adds an expression and answers its id, the number of expressions before it.
+    ///
+    /// Answers `Memory` where room for it was refused, and `Full` exactly where there are 4,294,967,295. Either hands the expression
+    /// back, and the builder is as it was. So do the other calls that add something.
+    pub fn alloc_expr(&mut self, expr: Expr) -> Result<ExprId, (ArenaFault, Expr)>
+        ensures ok { IfOk result (λ id. (id ≡ length self.old.exprs) × (self.new ≡ record self.old { exprs = self.old.exprs ++ expr ∷ [] })) }
+        ensures err { IfErr result (λ refused. (refused.1 ≡ expr) × (self.new ≡ self.old)) }
+        ensures full { IfErr result (λ refused. refused.0 ≡ ArenaFault.Full → length self.old.exprs ≡ 4294967295) }
+        ensures full_only { length self.old.exprs ≡ 4294967295 → result ≡ Err (ArenaFault.Full, expr) }
+    {
+        self.exprs.alloc(expr)
+    }
+
+    /// Adds a pattern and answers its id, the number of patterns before it.
+    pub fn alloc_pat(&mut self, pat: Pat) -> Result<PatId, (ArenaFault, Pat)>
+        ensures ok { IfOk result (λ id. (id ≡ length self.old.pats) × (self.new ≡ record self.old { pats = self.old.pats ++ pat ∷ [] })) }
+        ensures err { IfErr result (λ refused. (refused.1 ≡ pat) × (self.new ≡ self.old)) }
+        ensures full { IfErr result (λ refused. refused.0 ≡ ArenaFault.Full → length self.old.pats ≡ 4294967295) }
+        ensures full_only { length self.old.pats ≡ 4294967295 → result ≡ Err (ArenaFault.Full, pat) }
+    {
+        self.pats.alloc(pat)
+    }
+
+    /// Adds a binding and answers its id, the number of bindings before it.
+    pub fn alloc_binding(&mut self, binding: Binding) -> Result<BindingId, (ArenaFault, Binding)>
+        ensures ok { IfOk result (λ id. (id ≡ length self.old.bindings) × (self.new ≡ record self.old { bindings = self.old.bindings ++ binding ∷ [] })) }
+        ensures err { IfErr result (λ refused. (refused.1 ≡ binding) × (self.new ≡ self.old)) }
+        ensures full { IfErr result (λ refused. refused.0 ≡ ArenaFault.Full → length self.old.bindings ≡ 4294967295) }
+        ensures full_only { length self.old.bindings ≡ 4294967295 → result ≡ Err (ArenaFault.Full, binding) }
+    {
+        self.bindings.alloc(binding)
+    }
+
+    /// Adds a label and answers its id, the number of labels before it.
+    pub fn alloc_label(&mut self, label: Label) -> Result<LabelId, (ArenaFault, Label)>
+        ensures ok { IfOk result (λ id. (id ≡ length self.old.labels) × (self.new ≡ record self.old { labels = self.old.labels ++ label ∷ [] })) }
+        ensures err { IfErr result (λ refused. (refused.1 ≡ label) × (self.new ≡ self.old)) }
+        ensures full { IfErr result (λ refused. refused.0 ≡ ArenaFault.Full → length self.old.labels ≡ 4294967295) }
+        ensures full_only { length self.old.labels ≡ 4294967295 → result ≡ Err (ArenaFault.Full, label) }
+    {
+        self.labels.alloc(label)
+    }
+
+    /// Adds a type and answers its id, the number of types before it.
+    pub fn alloc_type(&mut self, type_ref: TypeRef) -> Result<TypeRefId, (ArenaFault, TypeRef)>
+        ensures ok { IfOk result (λ id. (id ≡ length self.old.types) × (self.new ≡ record self.old { types = self.old.types ++ type_ref ∷ [] })) }
+        ensures err { IfErr result (λ refused. (refused.1 ≡ type_ref) × (self.new ≡ self.old)) }
+        ensures full { IfErr result (λ refused. refused.0 ≡ ArenaFault.Full → length self.old.types ≡ 4294967295) }
+        ensures full_only { length self.old.types ≡ 4294967295 → result ≡ Err (ArenaFault.Full, type_ref) }
+    {
+        self.types.alloc(type_ref)
+    }
+
+    /// Adds a lifetime and answers its id, the number of lifetimes before it.
+    pub fn alloc_lifetime(
+        &mut self,
+        lifetime: LifetimeRef,
+    ) -> Result<LifetimeRefId, (ArenaFault, LifetimeRef)>
+        ensures ok { IfOk result (λ id. (id ≡ length self.old.lifetimes) × (self.new ≡ record self.old { lifetimes = self.old.lifetimes ++ lifetime ∷ [] })) }
+        ensures err { IfErr result (λ refused. (refused.1 ≡ lifetime) × (self.new ≡ self.old)) }
+        ensures full { IfErr result (λ refused. refused.0 ≡ ArenaFault.Full → length self.old.lifetimes ≡ 4294967295) }
+        ensures full_only { length self.old.lifetimes ≡ 4294967295 → result ≡ Err (ArenaFault.Full, lifetime) }
+    {
+        self.lifetimes.alloc(lifetime)
+    }
+
+    /// Begins an empty list of roots where there is none.
+    pub fn begin_roots(&mut self)
+        ensures { self.new ≡ record self.old { roots = some_roots self.old.roots } }
+    {
+        if self.roots.is_none() {
+            self.roots = Some(RootList::new(self.alloc));
+        }
+    }
+
+    /// Lists a root, with the lengths of the arenas of expressions, patterns and bindings at this moment as its ends; a list is begun
+    /// where there is none. After a refusal the builder is as it was, and the id is handed back.
+    pub fn push_root(&mut self, expr: ExprId) -> Result<(), AllocFailed<ExprId>>
+        ensures ok { OnOk result (self.new ≡ record self.old { roots = and_root (building_of self.old) expr }) }
+        ensures err { OnErr result (self.new ≡ self.old) }
+        ensures value_returned { IfErr result (λ failed. failed.value ≡ expr) }
+    {
+        let root = Root {
+            node: expr.into_raw(),
+            ends: self.ends(),
+        };
+        match &mut self.roots {
+            Some(roots) => match roots.push(root) {
+                Ok(()) => Ok(()),
+                Err(_) => Err(AllocFailed { value: expr }),
+            },
+            None => {
+                let mut roots = RootList::new(self.alloc);
+                match roots.push(root) {
+                    Ok(()) => {
+                        self.roots = Some(roots);
+                        Ok(())
+                    }
+                    Err(_) => Err(AllocFailed { value: expr }),
+                }
+            }
+        }
+    }
+
+    /// How many expressions, patterns and bindings there are.
+    pub(crate) fn ends(&self) -> Ends
+        ensures { result ≡ ends_of (nodes_of self.now) }
+    {
+        Ends {
+            exprs: self.exprs.len() as u32,
+            pats: self.pats.len() as u32,
+            bindings: self.bindings.len() as u32,
+        }
+    }
+
+    /// How many of each there are.
+    pub(crate) fn sizes(&self) -> Sizes
+        ensures sizes { result ≡ sizes_of (nodes_of self.now) }
+        ensures few { Few result }
+    {
+        Sizes {
+            exprs: self.exprs.len(),
+            pats: self.pats.len(),
+            types: self.types.len(),
+            bindings: self.bindings.len(),
+            labels: self.labels.len(),
+            lifetimes: self.lifetimes.len(),
+        }
+    }
+}

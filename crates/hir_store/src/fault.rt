@@ -1,0 +1,69 @@
+//! Why a builder is refused.
+
+use hir_node::{ExprId, PatId, TypeRefId};
+use std::fmt;
+use thiserror::Error;
+
+/// The node that a fault names: an expression, a pattern or a type. Its text is the kind of id and the number, as `ExprId(3)`.
+#[derive(Clone, Copy, Debug, Drop, PartialEq, Eq)]
+pub enum NodeId {
+    Expr(ExprId),
+    Pat(PatId),
+    TypeRef(TypeRefId),
+}
+
+impl fmt::Display for NodeId {
+    fn fmt<W: fmt::Write>(&self, f: &mut fmt::Formatter<W>) -> fmt::Result {
+        match self {
+            NodeId::Expr(id) => write!(f, "ExprId({})", id.into_raw()),
+            NodeId::Pat(id) => write!(f, "PatId({})", id.into_raw()),
+            NodeId::TypeRef(id) => write!(f, "TypeRefId({})", id.into_raw()),
+        }
+    }
+}
+
+/// Why a builder is refused: the first of its faults, in this order. Nodes are ordered as expressions, patterns, types, each by id;
+/// the faults from `IdOutOfRange` to `ArgumentLists` are those of the first node that has one, and then the first in this order. A
+/// root is named by its index in the list of roots. The text is the name and, after a space, the node or the index.
+#[derive(Clone, Copy, Debug, Drop, PartialEq, Eq, Error)]
+pub enum FinishFault {
+    /// An expression, a pattern, a binding or a label exists, and no list of roots was begun.
+    #[error("NoRoots")]
+    NoRoots,
+    /// The node names an expression, a pattern, a binding, a label, a type or a lifetime that isn't there.
+    #[error("IdOutOfRange {0}")]
+    IdOutOfRange(NodeId),
+    /// A bound in the node names as a path a type that is none.
+    #[error("NotAPath {0}")]
+    NotAPath(NodeId),
+    /// The node is a function type with an empty list: it lacks the return type.
+    #[error("NoReturnType {0}")]
+    NoReturnType(NodeId),
+    /// Generic arguments in the node are said to begin with a self type, and are empty.
+    #[error("NoSelfArgument {0}")]
+    NoSelfArgument(NodeId),
+    /// A `Normal` path in the node hasn't one list of arguments for each segment.
+    #[error("ArgumentLists {0}")]
+    ArgumentLists(NodeId),
+    /// The first edge whose child is the child of an earlier edge leads to this node.
+    #[error("SharedChild {0}")]
+    SharedChild(NodeId),
+    /// The least node whose chain of parents doesn't end: it lies on a cycle, or hangs on one.
+    #[error("Cycle {0}")]
+    Cycle(NodeId),
+    /// The root is no expression of the arena.
+    #[error("RootOutOfRange {0}")]
+    RootOutOfRange(usize),
+    /// An earlier root is the same.
+    #[error("RootRepeated {0}")]
+    RootRepeated(usize),
+    /// The root lies properly under another listed root.
+    #[error("RootUnderRoot {0}")]
+    RootUnderRoot(usize),
+    /// An end of the root is past its arena, or less than that of the root before.
+    #[error("RootEnds {0}")]
+    RootEnds(usize),
+    /// Memory for the test was refused. It may come in place of any answer.
+    #[error("Memory")]
+    Memory,
+}

@@ -1,0 +1,16 @@
+//! The tests of `hir_store` through its public surface, as a user would call it: builders that are refused and what is handed back,
+//! accepted stores, their walks and root searches. Every call that takes memory is made again where it was refused.
+#![tactic(auto)]
+
+#[cfg(test)]
+mod accepted;
+#[cfg(test)]
+mod again;
+#[cfg(test)]
+mod build;
+#[cfg(test)]
+mod refused;
+#[cfg(test)]
+mod searches;
+#[cfg(test)]
+mod walks;
