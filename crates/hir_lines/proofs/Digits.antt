@@ -1,0 +1,109 @@
+-- What digits stand for, digit by digit.
+use Rattle.std.proofs.Common.{Option, ◌≡◌, ◌≢◌, ◌+◌, ◌-◌, ◌*◌, ◌<◌, ◌≤◌, ◌^◌, ℕ, Some, None, List, [], ◌∷◌, take, drop, length, get_or, sym, ap, ◌∙◌, arith, take-append-drop, fold, Bool, true, false, refl, inl, inr, length-take, get_or-take, take_all}
+use Rattle.std.specs.Prelude.{if◌then◌else◌}
+use Rattle.std.specs.List.{list_all}
+use Rattle.std.proofs.lemmas.Grind.{common_steps, fold-append}
+use Rattle.std.proofs.lemmas.Bool.Decides.{nat_tests}
+use Rattle.std.proofs.lemmas.Bool.{cases_lt, false≢true}
+use Rattle.std.proofs.lemmas.List.Sums.{AllPass-from_list_all, list_all-from_AllPass, prefix_len_is, prefix_len_stops, prefix_len_passes}
+use Rattle.hir_lines.specs.Numerals.{value, if_below, is_digit, digits_len, number_of, has_needless_zero, is_numeral}
+
+grows : (bs : List ℕ) (n : ℕ) → n ≤ fold (λ n b. 10 * n + (b - 48)) n bs
+grows [] n = omega arith
+grows (b ∷ bs) n = omega (arith, grows bs (10 * n + (b - 48)))
+
+pub value-front : (bs : List ℕ) (i : ℕ) → value (take i bs) ≤ value bs
+value-front bs i =
+    let front = value (take i bs) in
+    let all : value bs ≡ fold (λ n b. 10 * n + (b - 48)) front (drop i bs) =
+    ap value (sym (take-append-drop i bs)) ∙ fold-append (λ n b. 10 * n + (b - 48)) 0 (take i bs) (drop i bs) in
+    omega (arith, all, grows (drop i bs) front)
+
+pub value-next : (bs : List ℕ) (i : ℕ) → i < length bs → value (take (i + 1) bs) ≡ 10 * value (take i bs) + (get_or bs i 0 - 48)
+value-next bs i h = grind (arith, common_steps)
+
+if_below-large : (n : ℕ) → 2 ^ 32 ≤ n → if_below (2 ^ 32) n ≡ None
+if_below-large n h = grind (arith, nat_tests)
+
+pub if_below-below : (n : ℕ) → n < 2 ^ 32 → if_below (2 ^ 32) n ≡ Some n
+if_below-below n h = grind (arith, nat_tests)
+
+-- what is too large at some digit stays so
+pub too_large : (bs : List ℕ) (i : ℕ) → i < length bs → 2 ^ 32 ≤ 10 * value (take i bs) + (get_or bs i 0 - 48) → if_below (2 ^ 32) (value bs) ≡ None
+too_large bs i h large = if_below-large (value bs) (omega (arith, value-front bs (i + 1), value-next bs i h))
+
+chosen_none : (b : Bool) (o : Option ℕ) → o ≡ None → (if b then o else None) ≡ None
+chosen_none true o e = e
+chosen_none false o e = refl
+
+false_unless : (b : Bool) → (b ≡ true → ⊥) → b ≡ false
+false_unless true h = absurd (h refl)
+false_unless false h = refl
+
+digit_of_front : (xs : List ℕ) (i k : ℕ) → i ≤ length xs → list_all is_digit (take i xs) ≡ true → k < i → is_digit (get_or xs k 0) ≡ true
+digit_of_front xs i k h all below =
+    let within : k < length (take i xs) = omega (arith, length-take i xs) in
+    rw (get_or-take i xs k 0 below) at (AllPass-from_list_all is_digit (take i xs) all k 0 within)
+
+-- digits with no digit behind them are the digits in front
+pub digits_in_front : (xs : List ℕ) (i : ℕ) → i ≤ length xs → list_all is_digit (take i xs) ≡ true → (i < length xs → is_digit (get_or xs i 0) ≡ false) → digits_len xs ≡ i
+digits_in_front xs i h all stops = prefix_len_is is_digit xs i 0 h (λ k below. digit_of_front xs i k h all below) stops
+
+further : (xs : List ℕ) (i : ℕ) → i < length xs → list_all is_digit (take i xs) ≡ true → is_digit (get_or xs i 0) ≡ true → i < digits_len xs
+further xs i h all digit =
+    elim (cases_lt i (digits_len xs)) [
+      | inl fine ↦ fine
+      | inr short ↦
+          let stop : is_digit (get_or xs (digits_len xs) 0) ≡ false = prefix_len_stops is_digit xs 0 (omega arith) in
+          elim (cases_lt (digits_len xs) i) [
+            | inl before ↦ absurd (false≢true (sym stop ∙ digit_of_front xs i (digits_len xs) (omega arith) all before))
+            | inr past ↦
+                let same : digits_len xs ≡ i = omega arith in
+                absurd (false≢true (sym stop ∙ rw same digit))
+          ]
+    ]
+
+-- what is too large at some digit stays so up to the last of them
+pub too_large_front : (xs : List ℕ) (i : ℕ) → i < length xs → list_all is_digit (take i xs) ≡ true → is_digit (get_or xs i 0) ≡ true → 2 ^ 32 ≤ 10 * value (take i xs) + (get_or xs i 0 - 48) → if_below (2 ^ 32) (value (take (digits_len xs) xs)) ≡ None
+too_large_front xs i h all digit large =
+    let more = further xs i h all digit in
+    let front = value-front (take (digits_len xs) xs) (i + 1) in
+    let same : take (i + 1) (take (digits_len xs) xs) ≡ take (i + 1) xs = grind (arith, common_steps) in
+    let front' : value (take (i + 1) xs) ≤ value (take (digits_len xs) xs) = rw same at front in
+    if_below-large (value (take (digits_len xs) xs)) (omega (arith, front', value-next xs i h))
+
+pub all_digits : (xs : List ℕ) → list_all is_digit (take (digits_len xs) xs) ≡ true
+all_digits xs = list_all-from_AllPass is_digit (take (digits_len xs) xs) (λ k d within.
+    let below : k < digits_len xs = omega (arith, length-take (digits_len xs) xs) in
+    rw (get_or-take {A = ℕ} (digits_len xs) xs k d below) (prefix_len_passes is_digit xs k d below))
+
+-- a text in which something is no digit is no number
+pub no_number : (xs : List ℕ) (i : ℕ) → i < length xs → is_digit (get_or xs i 0) ≡ false → number_of xs ≡ None
+unfolding number_of
+no_number xs i h other =
+    let none : list_all is_digit xs ≡ false = false_unless _ (λ all. false≢true (sym other ∙ AllPass-from_list_all is_digit xs all i 0 h)) in
+    grind (arith, common_steps)
+
+pub no_number-empty : (xs : List ℕ) → length xs ≡ 0 → number_of xs ≡ None
+unfolding number_of
+no_number-empty xs e = grind (arith, common_steps)
+
+pub no_number-needless : (xs : List ℕ) → has_needless_zero xs ≡ true → number_of xs ≡ None
+unfolding number_of
+no_number-needless xs e = grind (arith, common_steps)
+
+pub no_number-large : (xs : List ℕ) → if_below (2 ^ 32) (value xs) ≡ None → number_of xs ≡ None
+unfolding number_of
+no_number-large xs e = chosen_none (is_numeral xs) (if_below (2 ^ 32) (value xs)) e
+
+pub number_is : (xs : List ℕ) → length xs ≢ 0 → has_needless_zero xs ≡ false → list_all is_digit xs ≡ true → number_of xs ≡ if_below (2 ^ 32) (value xs)
+unfolding number_of
+number_is xs some plain all = grind (arith, common_steps)
+
+-- no number in front: no number
+pub front_lacks : (xs : List ℕ) → number_of (take (digits_len xs) xs) ≡ None → number_of xs ≡ None
+front_lacks xs e =
+    elim (cases_lt (digits_len xs) (length xs)) [
+      | inl within ↦ no_number xs (digits_len xs) within (prefix_len_stops is_digit xs 0 within)
+      | inr whole ↦ rw (take_all (digits_len xs) xs whole) at e
+    ]

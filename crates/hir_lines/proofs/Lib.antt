@@ -1,0 +1,17 @@
+pub mod Ascii
+pub mod Colons
+pub mod Decimals
+pub mod Digits
+pub mod Expressions
+pub mod Forms
+pub mod Fronts
+pub mod Integers
+pub mod Patterns
+pub mod Separators
+pub mod Signs
+pub mod Spaces
+pub mod Spellings
+pub mod Splits
+pub mod Takes
+pub mod TypeRefs
+pub mod Written

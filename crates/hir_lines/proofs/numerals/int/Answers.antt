@@ -1,0 +1,22 @@
+use Rattle.std.proofs.Common.{◌≡◌, true, sym, ◌∙◌, ap, arith}
+use Rattle.std.proofs.lemmas.Str.{IsUtf8-from_ascii}
+use Rattle.std.proofs.lemmas.Grind.{common_steps}
+use Rattle.hir_lines.specs.Numerals.{int_of, is_numeral, without_minus}
+use Rattle.hir_lines.proofs.Integers.{IsAscii-int, int_parses}
+use Rattle.hir_lines.proofs.numerals.int.Goals as goal
+
+pub returns-then-not-is_numeral : goal.returns-then-not-is_numeral
+unfolding int_of
+returns-then-not-is_numeral c = grind (arith, common_steps)
+
+pub from_utf8_unchecked-text-requires : goal.from_utf8_unchecked-text-requires
+from_utf8_unchecked-text-requires c =
+    let text = c.args.text.now in
+    let numeral : is_numeral (without_minus text) ≡ true = ap is_numeral (sym c.without_minus.ensures) ∙ sym c.is_numeral.ensures ∙ c.if-not-is_numeral.false in
+    IsUtf8-from_ascii text (IsAscii-int text numeral)
+
+pub returns : goal.returns
+returns c =
+    let text = c.args.text.now in
+    let numeral : is_numeral (without_minus text) ≡ true = ap is_numeral (sym c.without_minus.ensures) ∙ sym c.is_numeral.ensures ∙ c.if-not-is_numeral.false in
+    c.ok.ensures.value ∙ int_parses text c.parse.result (rw c.from_utf8_unchecked-text.ensures at c.parse.ensures.value.0) numeral

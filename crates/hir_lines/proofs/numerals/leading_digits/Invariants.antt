@@ -1,0 +1,15 @@
+use Rattle.std.proofs.Common.{◌≡◌, ◌<◌, ◌≤◌, ◌^◌, ◌-◌, take, true, length}
+use Rattle.std.specs.List.{list_all}
+use Rattle.hir_lines.specs.Numerals.{is_digit, value}
+use Rattle.hir_lines.proofs.numerals.leading_digits.Given as goal
+
+abbrev pub invariant-loop-end : goal.invariant-loop-end
+invariant-loop-end l = record {
+  within : l.end ≤ length l.text;
+  all : list_all is_digit (take l.end l.text) ≡ true;
+  value_is : l.value ≡ value (take l.end l.text);
+  small : l.value < 2 ^ 32;
+}
+
+abbrev pub decreases-loop-end : goal.decreases-loop-end
+decreases-loop-end l = length l.text - l.end

@@ -1,0 +1,40 @@
+-- The lines as they are written.
+use Rattle.std.specs.Prelude.{◌≡◌, ℕ, List, [], ◌∷◌, codes, ⊤}
+use Rattle.hir_node.specs.declared.expr.Expr.{Expr}
+use Rattle.hir_node.specs.declared.pat.Pat.{Pat}
+use Rattle.hir_node.specs.declared.type_ref.TypeRef.{TypeRef}
+use Rattle.hir_lines.specs.declared.line.Line.{Line}
+use Rattle.hir_lines.specs.declared.line.Line.TheVariants.{Blank, Make, Ask, Bad}
+use Rattle.hir_lines.specs.declared.line.Maker.{Maker}
+use Rattle.hir_lines.specs.declared.line.Maker.TheVariants.{Binding, Pat as MakePat, «Type» as MakeType, Expr as MakeExpr, SelfParam, Param, FnName, Roots, Root}
+use Rattle.hir_lines.specs.declared.line.Question.{Question}
+use Rattle.hir_lines.specs.declared.line.Question.TheVariants.{Children, RootOf}
+use Rattle.hir_lines.specs.Line.{plain_binding}
+use Rattle.hir_lines.specs.Tokens.{Token, Word, Name, Number, IsText}
+use Rattle.hir_lines.specs.PatGrammar.{IsPat}
+use Rattle.hir_lines.specs.TypeGrammar.{IsType}
+use Rattle.hir_lines.specs.ExprGrammar.{IsExpr}
+
+-- the words of a line that makes something
+pub data IsMaker : Maker → List Token → Type 0 where
+  bind : {name : List ℕ} → IsMaker (Binding (plain_binding name)) (Word (codes "bind") ∷ Name name ∷ [])
+  pat : {p : Pat} {tokens : List Token} → IsPat p tokens → IsMaker (MakePat p) (Word (codes "pat") ∷ tokens)
+  type_ref : {t : TypeRef} {tokens : List Token} → IsType t tokens → IsMaker (MakeType t) (Word (codes "type") ∷ tokens)
+  expr : {e : Expr} {tokens : List Token} → IsExpr e tokens → IsMaker (MakeExpr e) (Word (codes "expr") ∷ tokens)
+  self_param : {binding : ℕ} → IsMaker (SelfParam binding) (Word (codes "self") ∷ Number binding ∷ [])
+  param : {pat : ℕ} → IsMaker (Param pat) (Word (codes "param") ∷ Number pat ∷ [])
+  fn_name : {name : List ℕ} → IsMaker (FnName name) (Word (codes "fn") ∷ Name name ∷ [])
+  roots : IsMaker Roots (Word (codes "roots") ∷ [])
+  root : {expr : ℕ} → IsMaker (Root expr) (Word (codes "root") ∷ Number expr ∷ [])
+
+-- the words of a question
+pub data IsQuestion : Question → List Token → Type 0 where
+  children : {expr : ℕ} → IsQuestion (Children expr) (Word (codes "children") ∷ Number expr ∷ [])
+  root_of : {expr : ℕ} → IsQuestion (RootOf expr) (Word (codes "root-of") ∷ Number expr ∷ [])
+
+-- how each line is written; a bad line is any text
+abbrev pub IsLine : Line → List ℕ → Type 0
+IsLine Blank text = text ≡ []
+IsLine (Make maker) text = (tokens : List Token) × IsMaker maker tokens × IsText tokens text
+IsLine (Ask question) text = (tokens : List Token) × IsQuestion question tokens × IsText tokens text
+IsLine Bad text = ⊤

@@ -1,0 +1,15 @@
+pub mod ExprGrammar
+pub mod Exprs
+pub mod Grammar
+pub mod Line
+pub mod Names
+pub mod Numerals
+pub mod Operators
+pub mod Parts
+pub mod PatGrammar
+pub mod Pats
+pub mod Readings
+pub mod Tokens
+pub mod TypeGrammar
+pub mod Types
+pub mod Words

@@ -1,0 +1,98 @@
+-- What a line says, by its words.
+use Rattle.std.specs.Prelude.{ℕ, List, [], ◌∷◌, Option, None, Some, codes}
+use Rattle.hir_base.specs.declared.edition.Edition.TheVariants.{Edition2015}
+use Rattle.hir_base.specs.declared.hygiene.SyntaxContext.TheVariants.{Root as OfSource}
+use Rattle.hir_node.specs.declared.binding.Binding.{Binding}
+use Rattle.hir_node.specs.declared.binding.BindingAnnotation.TheVariants.{Unannotated}
+use Rattle.hir_lines.specs.declared.line.Line.{Line}
+use Rattle.hir_lines.specs.declared.line.Line.TheVariants.{Blank, Make, Ask, Bad}
+use Rattle.hir_lines.specs.declared.line.Maker.TheVariants.{Binding as MakeBinding, Pat as MakePat, «Type» as MakeType, Expr as MakeExpr, SelfParam, Param, FnName, Roots, Root}
+use Rattle.hir_lines.specs.declared.line.Question.TheVariants.{Children, RootOf}
+use Rattle.hir_lines.specs.Readings.{Reading, ◌>>=◌, gives, whole, parts_of}
+use Rattle.hir_lines.specs.Words.{number, name, one_of}
+use Rattle.hir_lines.specs.Pats.{pat}
+use Rattle.hir_lines.specs.Types.{type_ref}
+use Rattle.hir_lines.specs.Exprs.{expr}
+
+-- a binding of source text, with no word before its name
+abbrev pub plain_binding : List ℕ → Binding
+plain_binding text = record { name = text; mode = Unannotated; problems = None; hygiene = OfSource Edition2015 }
+
+abbrev pub bind_line : Reading Line
+bind_line = do
+  text ← name
+  gives (Make (MakeBinding (plain_binding text)))
+
+abbrev pub pat_line : Reading Line
+pat_line = do
+  made ← pat
+  gives (Make (MakePat made))
+
+abbrev pub type_line : Reading Line
+type_line = do
+  made ← type_ref
+  gives (Make (MakeType made))
+
+abbrev pub expr_line : Reading Line
+expr_line = do
+  made ← expr
+  gives (Make (MakeExpr made))
+
+abbrev pub self_line : Reading Line
+self_line = do
+  id ← number
+  gives (Make (SelfParam id))
+
+abbrev pub param_line : Reading Line
+param_line = do
+  id ← number
+  gives (Make (Param id))
+
+abbrev pub fn_line : Reading Line
+fn_line = do
+  text ← name
+  gives (Make (FnName text))
+
+abbrev pub root_line : Reading Line
+root_line = do
+  id ← number
+  gives (Make (Root id))
+
+abbrev pub children_line : Reading Line
+children_line = do
+  id ← number
+  gives (Ask (Children id))
+
+abbrev pub root_of_line : Reading Line
+root_of_line = do
+  id ← number
+  gives (Ask (RootOf id))
+
+abbrev pub line_forms : List (List ℕ × Reading Line)
+line_forms =
+    (codes "bind", bind_line)
+    ∷ (codes "pat", pat_line)
+    ∷ (codes "type", type_line)
+    ∷ (codes "expr", expr_line)
+    ∷ (codes "self", self_line)
+    ∷ (codes "param", param_line)
+    ∷ (codes "fn", fn_line)
+    ∷ (codes "roots", gives (Make Roots))
+    ∷ (codes "root", root_line)
+    ∷ (codes "children", children_line)
+    ∷ (codes "root-of", root_of_line)
+    ∷ []
+
+-- the words of a line that isn't empty
+unfoldable pub command : Reading Line
+command words = one_of line_forms words
+
+-- what was read, or a bad line
+abbrev pub or_bad : Option Line → Line
+or_bad None = Bad
+or_bad (Some line) = line
+
+-- what a line says; its words are parted by one space each
+unfoldable pub line_of : List ℕ → Line
+line_of [] = Blank
+line_of (b ∷ bs) = or_bad (whole command (parts_of 32 (b ∷ bs)))

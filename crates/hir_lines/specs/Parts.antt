@@ -1,0 +1,55 @@
+-- The arms of a match and the statements of a block. Each is one word, whose parts are parted by colons.
+use Rattle.std.specs.Prelude.{ℕ, true, false, List, [], ◌∷◌, Option, codes}
+use Rattle.hir_node.specs.declared.parts.MatchArm.{MatchArm}
+use Rattle.hir_node.specs.declared.parts.Statement.{Statement}
+use Rattle.hir_node.specs.declared.parts.Statement.TheVariants.{Let, Expr as ExprStatement, Item as ItemStatement}
+use Rattle.hir_node.specs.declared.parts.Item.TheVariants.{MacroDef, Other}
+use Rattle.hir_lines.specs.Readings.{Reading, ◌>>=◌, gives, whole, parts_of}
+use Rattle.hir_lines.specs.Words.{number, optional, one_of}
+
+-- pattern, guard, body
+abbrev pub arm : Reading MatchArm
+arm = do
+  pat ← number
+  guard ← optional
+  body ← number
+  gives (record { pat = pat; guard = guard; expr = body })
+
+-- pattern, type, initializer, else
+abbrev pub let_statement : Reading Statement
+let_statement = do
+  pat ← number
+  type_ref ← optional
+  initializer ← optional
+  else_branch ← optional
+  gives (Let pat type_ref initializer else_branch)
+
+abbrev pub semi_statement : Reading Statement
+semi_statement = do
+  expr ← number
+  gives (ExprStatement expr true)
+
+abbrev pub expr_statement : Reading Statement
+expr_statement = do
+  expr ← number
+  gives (ExprStatement expr false)
+
+abbrev pub macro_statement : Reading Statement
+macro_statement = do
+  definition ← number
+  gives (ItemStatement (MacroDef definition))
+
+abbrev pub statement_forms : List (List ℕ × Reading Statement)
+statement_forms =
+    (codes "let", let_statement)
+    ∷ (codes "semi", semi_statement)
+    ∷ (codes "expr", expr_statement)
+    ∷ (codes "macro", macro_statement)
+    ∷ (codes "item", gives (ItemStatement Other))
+    ∷ []
+
+unfoldable pub arm_of : List ℕ → Option MatchArm
+arm_of word = whole arm (parts_of 58 word)
+
+unfoldable pub statement_of : List ℕ → Option Statement
+statement_of word = whole (one_of statement_forms) (parts_of 58 word)

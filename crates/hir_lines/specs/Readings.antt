@@ -1,0 +1,67 @@
+-- Reading words from the front. A reading gives what the first words say and the words behind them, or nothing where they don't fit.
+use Rattle.std.specs.Prelude.{◌≡◌, ℕ, Bool, eqb, if◌then◌else◌, List, [], ◌∷◌, Option, None, Some, Result, MatchResult}
+use Rattle.std.specs.List.{slice_split}
+use Rattle.std.specs.Option.{option_map, option_and_then}
+use Rattle.std.specs.Str.{bytes_eq}
+use Rattle.std.specs.Borrow.{Bor}
+use Rattle.hir_lines.specs.declared.stop.Stop.{Stop}
+use Rattle.hir_lines.specs.declared.stop.Stop.TheVariants.{Bad}
+
+abbrev pub is_byte : ℕ → ℕ → Bool
+is_byte c b = eqb b c
+
+-- the parts of a text, parted by one separator each
+abbrev pub parts_of : ℕ → List ℕ → List (List ℕ)
+parts_of separator text = slice_split (is_byte separator) text
+
+-- the parts of what is left behind a separator, where there is one
+abbrev pub parts_left : ℕ → Option (Bor (List ℕ)) → List (List ℕ)
+parts_left separator None = []
+parts_left separator (Some text) = parts_of separator text.now
+
+abbrev pub Reading : Type 0 → Type 0
+Reading X = List (List ℕ) → Option (X × List (List ℕ))
+
+infixl 20 ◌>>=◌
+-- one reading, and then another of the words behind it
+abbrev pub ◌>>=◌ : {X Y : Type 0} → Reading X → (X → Reading Y) → Reading Y
+◌>>=◌ first next words = option_and_then (λ found. next found.0 found.1) (first words)
+
+-- no word is read
+abbrev pub gives : {X : Type 0} → X → Reading X
+gives x words = Some (x, words)
+
+-- the first word is read
+abbrev pub first_word : {X : Type 0} → (List ℕ → Option X) → Reading X
+first_word read [] = None
+first_word read (word ∷ words) = option_map (λ x. (x, words)) (read word)
+
+-- what stands beside the word, in a table of words
+abbrev pub look_up : {X : Type 0} → List (List ℕ × X) → List ℕ → Option X
+look_up [] word = None
+look_up (entry ∷ entries) word = if bytes_eq word entry.0 then Some entry.1 else look_up entries word
+
+-- what these words say, if each says something
+abbrev pub all_of : {X : Type 0} → (List ℕ → Option X) → List (List ℕ) → Option (List X)
+all_of read [] = Some []
+all_of read (word ∷ words) = option_and_then (λ x. option_map (λ xs. x ∷ xs) (all_of read words)) (read word)
+
+-- all words are read
+abbrev pub each : {X : Type 0} → (List ℕ → Option X) → Reading (List X)
+each read words = option_map (λ xs. (xs, [])) (all_of read words)
+
+abbrev pub alone : {X : Type 0} → X → List (List ℕ) → Option X
+alone x [] = Some x
+alone x (word ∷ words) = None
+
+-- what the words say, if no word is left
+abbrev pub whole : {X : Type 0} → Reading X → List (List ℕ) → Option X
+whole reading words = option_and_then (λ found. alone found.0 found.1) (reading words)
+
+-- what was found, or that there is nothing to find
+abbrev pub Found : {X : Type 0} → Option X → Result X Stop → Type 0
+Found found result = MatchResult result (λ x. found ≡ Some x) (λ stop. stop ≡ Bad → found ≡ None)
+
+-- what a reading of these words finds, and the words that it leaves; or that the words don't fit
+abbrev pub Reads : {X : Type 0} → Reading X → List (List ℕ) → Result X Stop → List (List ℕ) → Type 0
+Reads reading old result new = MatchResult result (λ x. reading old ≡ Some (x, new)) (λ stop. stop ≡ Bad → reading old ≡ None)

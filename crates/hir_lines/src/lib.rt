@@ -1,0 +1,19 @@
+//! The lines that the program knows: how each is written, and what it says.
+//! Lines are words parted by one space; what a form of words makes is one short function of takes from the words.
+#![tactic(auto)]
+
+mod exprs;
+pub mod laws;
+mod line;
+mod names;
+mod numerals;
+mod operators;
+mod parts;
+mod pats;
+mod reading;
+mod stop;
+mod types;
+mod words;
+
+pub use line::{Line, Maker, Question};
+pub use reading::parse;

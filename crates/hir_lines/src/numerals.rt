@@ -1,0 +1,107 @@
+//! Numbers as they stand in a line.
+
+ghost use Rattle.std.specs.Prelude.{None, Some, ◌≡◌, ◌^◌, IfSome, IfNone, MatchOption, take, false};
+ghost use Rattle.std.specs.List.{list_all};
+ghost use Rattle.hir_lines.specs.Numerals.{number_of, int_of, has_minus, without_minus, has_needless_zero, if_below, value, is_digit, digits_len, is_numeral};
+ghost use Rattle.hir_lines.specs.Readings.{parts_of, parts_left};
+ghost use Rattle.hir_lines.specs.Words.{number};
+
+/// What the digits in front stand for, if it is below 2 ^ 32, and how many they are.
+fn leading_digits(text: &[u8]) -> Option<(u32, usize)>
+    ensures some { IfSome result (λ found. (found.1 ≡ digits_len text.now) × (if_below (2 ^ 32) (value (take found.1 text.now)) ≡ Some found.0)) }
+    ensures none { IfNone result (if_below (2 ^ 32) (value (take (digits_len text.now) text.now)) ≡ None) }
+{
+    let mut value: u32 = 0;
+    let mut end = 0;
+    while end < text.len() && text[end].is_ascii_digit() {
+        let digit = u32::from(text[end] - b'0');
+        value = value.checked_mul(10)?.checked_add(digit)?;
+        end += 1;
+    }
+    Some((value, end))
+}
+
+/// Whether a zero stands before another byte.
+fn has_needless_zero(text: &[u8]) -> bool
+    ensures { result ≡ has_needless_zero text.now }
+{
+    text.len() > 1 && text[0] == b'0'
+}
+
+fn are_digits(text: &[u8]) -> bool
+    ensures { result ≡ list_all is_digit text.now }
+{
+    text.iter().all(|b| b.is_ascii_digit())
+}
+
+/// Whether the text is one digit or more, without a needless zero.
+fn is_numeral(text: &[u8]) -> bool
+    ensures { result ≡ is_numeral text.now }
+{
+    !text.is_empty() && !has_needless_zero(text) && are_digits(text)
+}
+
+/// The number that the digits in front are, and how many they are.
+fn leading_number(text: &[u8]) -> Option<(u32, usize)>
+    ensures some { IfSome result (λ found. (found.1 ≡ digits_len text.now) × (number_of (take found.1 text.now) ≡ Some found.0)) }
+    ensures none { IfNone result (number_of (take (digits_len text.now) text.now) ≡ None) }
+{
+    let (value, end) = leading_digits(text)?;
+    if end == 0 || has_needless_zero(&text[..end]) {
+        return None;
+    }
+    Some((value, end))
+}
+
+/// The number that the text is, if it is one.
+pub fn number(text: &[u8]) -> Option<u32>
+    ensures { result ≡ number_of text.now }
+{
+    let (number, end) = leading_number(text)?;
+    if end == text.len() {
+        Some(number)
+    } else {
+        None
+    }
+}
+
+fn has_minus(text: &[u8]) -> bool
+    ensures { result ≡ has_minus text.now }
+{
+    !text.is_empty() && text[0] == b'-'
+}
+
+/// What stands behind a minus, where there is one.
+fn without_minus(text: &[u8]) -> &[u8]
+    ensures { result.now ≡ without_minus text.now }
+{
+    if has_minus(text) { &text[1..] } else { text }
+}
+
+/// The integer that the text is, if it is one.
+pub fn int(text: &[u8]) -> Option<i128>
+    ensures { result ≡ int_of text.now }
+{
+    if !is_numeral(without_minus(text)) {
+        return None;
+    }
+    // A minus and digits are ASCII, so they are UTF-8.
+    let text = unsafe { str::from_utf8_unchecked(text) };
+    text.parse().ok()
+}
+
+/// The number before the first separator, and what is left behind it.
+pub fn first_number(text: &[u8], separator: u8) -> Option<(u32, Option<&[u8]>)>
+    requires { is_digit separator ≡ false }
+    ensures some { IfSome result (λ found. number (parts_of separator text.now) ≡ Some (found.0, parts_left separator found.1)) }
+    ensures none { IfNone result (number (parts_of separator text.now) ≡ None) }
+{
+    let (number, end) = leading_number(text)?;
+    if end == text.len() {
+        return Some((number, None));
+    }
+    if text[end] != separator {
+        return None;
+    }
+    Some((number, Some(&text[end + 1..])))
+}

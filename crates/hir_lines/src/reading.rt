@@ -1,0 +1,85 @@
+//! Reading a line: by its first word, and then by the words that its form has.
+
+ghost use Rattle.std.specs.Prelude.{◌≡◌, ◌≢◌, IfOk};
+ghost use Rattle.hir_lines.specs.Grammar.{IsLine};
+ghost use Rattle.hir_lines.specs.Line.{line_of, plain_binding, command};
+ghost use Rattle.hir_lines.specs.Readings.{Reads, Found, parts_of, whole};
+
+use crate::exprs::expr;
+use crate::line::{Line, Maker, Question};
+use crate::pats::pat;
+use crate::stop::Stop;
+use crate::types::type_ref;
+use crate::words::Words;
+use hir_base::{HygieneId, Name};
+use hir_node::{Binding, BindingAnnotation};
+use std::alloc::{AllocError, Global};
+
+/// A binding of source text, with no word before its name.
+fn plain_binding(name: Name) -> Binding
+    ensures { result ≡ plain_binding name }
+{
+    Binding {
+        name,
+        mode: BindingAnnotation::Unannotated,
+        problems: None,
+        hygiene: HygieneId::ROOT,
+    }
+}
+
+/// What the words of a line say.
+#[tactic(auto, unfolding(crate::specs::Line::command))]
+fn command(alloc: Global, words: &mut Words<'_>) -> Result<Line, Stop>
+    ensures { Reads command words.old result words.new }
+{
+    match words.keyword()? {
+        "bind" => Ok(Line::Make(Maker::Binding(plain_binding(words.name(alloc)?)))),
+        "pat" => Ok(Line::Make(Maker::Pat(pat(alloc, words)?))),
+        "type" => Ok(Line::Make(Maker::Type(type_ref(alloc, words)?))),
+        "expr" => Ok(Line::Make(Maker::Expr(expr(alloc, words)?))),
+        "self" => Ok(Line::Make(Maker::SelfParam(words.id()?))),
+        "param" => Ok(Line::Make(Maker::Param(words.id()?))),
+        "fn" => Ok(Line::Make(Maker::FnName(words.name(alloc)?))),
+        "roots" => Ok(Line::Make(Maker::Roots)),
+        "root" => Ok(Line::Make(Maker::Root(words.id()?))),
+        "children" => Ok(Line::Ask(Question::Children(words.id()?))),
+        "root-of" => Ok(Line::Ask(Question::RootOf(words.id()?))),
+        _ => Err(Stop::Bad),
+    }
+}
+
+/// What the words of a line say, if they are all read.
+fn whole_command(alloc: Global, text: &[u8]) -> Result<Line, Stop>
+    ensures { Found (whole command (parts_of 32 text.now)) result }
+{
+    let mut words = Words::new(text, b' ');
+    let line = command(alloc, &mut words)?;
+    words.alone(line)
+}
+
+#[tactic(auto, unfolding(crate::specs::Line::line_of))]
+fn line(alloc: Global, text: &[u8]) -> Result<Line, AllocError>
+    ensures { IfOk result (λ line. line ≡ line_of text.now) }
+{
+    if text.is_empty() {
+        return Ok(Line::Blank);
+    }
+    match whole_command(alloc, text) {
+        Ok(line) => Ok(line),
+        Err(Stop::Bad) => Ok(Line::Bad),
+        Err(Stop::Memory(error)) => Err(error),
+    }
+}
+
+/// What a line says.
+///
+/// Answers an error where memory was refused.
+pub fn parse(alloc: Global, text: &[u8]) -> Result<Line, AllocError>
+    ensures value { IfOk result (λ line. line ≡ line_of text.now) }
+    // What is accepted is written as the grammar has it.
+    ensures accepted { IfOk result (λ line. IsLine line text.now) }
+    // All that the grammar has is accepted.
+    ensures whole { IfOk result (λ line. (other : Line) → other ≢ Line.Bad → IsLine other text.now → line ≡ other) }
+{
+    line(alloc, text)
+}

@@ -1,0 +1,27 @@
+//! The types that lines make.
+
+ghost use Rattle.hir_lines.specs.Readings.{Reads};
+ghost use Rattle.hir_lines.specs.Types.{type_ref};
+
+use crate::stop::Stop;
+use crate::words::Words;
+use hir_node::{ArrayType, ConstRef, TypeRef};
+use std::alloc::Global;
+
+/// The type that the words behind `type` make.
+#[tactic(auto, unfolding(crate::specs::Types::type_ref))]
+pub fn type_ref(alloc: Global, words: &mut Words<'_>) -> Result<TypeRef, Stop>
+    ensures { Reads type_ref words.old result words.new }
+{
+    match words.keyword()? {
+        "path" => Ok(TypeRef::Path(words.path(alloc)?)),
+        "tuple" => Ok(TypeRef::Tuple(words.list(alloc)?)),
+        "array" => Ok(TypeRef::Array(ArrayType {
+            ty: words.id()?,
+            len: ConstRef { expr: words.id()? },
+        })),
+        "pattern" => Ok(TypeRef::PatternType(words.id()?, words.id()?)),
+        "never" => Ok(TypeRef::Never),
+        _ => Err(Stop::Bad),
+    }
+}

@@ -1,0 +1,241 @@
+//! The words of a line, or the parts of a word, taken one by one.
+
+ghost use Rattle.std.specs.Prelude.{None, Some, ◌≡◌, ◌∷◌, [], MatchResult, IsTrue, ◌↔◌, position, false};
+ghost use Rattle.hir_lines.specs.Numerals.{is_digit};
+ghost use Rattle.hir_lines.specs.Readings.{parts_of, parts_left, is_byte, alone, Found, Reads, first_word, each};
+ghost use Rattle.hir_lines.specs.Words.{number, optional, list, keyword, name, path, int, op};
+
+use crate::names::{ascii as ascii_text, name as name_text};
+use crate::numerals::{first_number, int as int_text, number as number_text};
+use crate::operators::op as op_text;
+use crate::stop::Stop;
+use hir_base::{BinaryOp, Idx, Name, Seq};
+use hir_node::Path;
+use std::alloc::Global;
+use std::marker::Model;
+
+/// The parts of a text that are left, parted by one byte.
+#[derive(Drop)]
+pub struct Words<'a> {
+    rest: Option<&'a [u8]>,
+    separator: u8,
+}
+
+impl<'a> Model for Words<'a> {
+    ghost use Rattle.std.specs.Prelude.{List, ℕ, ◌≡◌, false};
+    ghost use Rattle.hir_lines.specs.Numerals.{is_digit};
+    ghost use Rattle.hir_lines.specs.Readings.{parts_left};
+
+    ghost Value = { List (List ℕ) };
+
+    ghost view = { λ w. parts_left w.separator w.rest };
+
+    ghost invariant = { λ w. is_digit w.separator ≡ false };
+}
+
+impl<'a> Words<'a> {
+    /// The parts of a text, parted by one separator each.
+    pub fn new(text: &'a [u8], separator: u8) -> Words<'a>
+        requires { is_digit separator ≡ false }
+        ensures { result ≡ parts_of separator text.now }
+    {
+        Words {
+            rest: Some(text),
+            separator,
+        }
+    }
+
+    /// Takes the next word.
+    pub fn word(&mut self) -> Result<&'a [u8], Stop>
+        ensures { MatchResult result (λ word. self.old ≡ word.now ∷ self.new) (λ _. self.old ≡ []) }
+    {
+        match self.rest {
+            Some(text) => {
+                let (word, rest) = cut(text, self.separator);
+                self.rest = rest;
+                Ok(word)
+            }
+            None => Err(Stop::Bad),
+        }
+    }
+
+    /// Takes the next word, if it is a number.
+    pub fn number(&mut self) -> Result<u32, Stop>
+        ensures { Reads number self.old result self.new }
+    {
+        let Some(text) = self.rest else {
+            return Err(Stop::Bad);
+        };
+        match first_number(text, self.separator) {
+            Some((number, rest)) => {
+                self.rest = rest;
+                Ok(number)
+            }
+            None => Err(Stop::Bad),
+        }
+    }
+
+    /// Takes the next word, if it is the number of something.
+    pub fn id<K>(&mut self) -> Result<Idx<K>, Stop>
+        ensures { Reads number self.old result self.new }
+    {
+        Ok(Idx::from_raw(self.number()?))
+    }
+
+    /// Takes the next word, if it is a number or a dash.
+    #[tactic(auto, unfolding(crate::specs::Words::optional_of))]
+    pub fn optional(&mut self) -> Result<Option<u32>, Stop>
+        ensures { Reads optional self.old result self.new }
+    {
+        let word = self.word()?;
+        if word == b"-".as_slice() {
+            return Ok(None);
+        }
+        match number_text(word) {
+            Some(number) => Ok(Some(number)),
+            None => Err(Stop::Bad),
+        }
+    }
+
+    /// Takes the next word, if it is the number of something or a dash.
+    pub fn optional_id<K>(&mut self) -> Result<Option<Idx<K>>, Stop>
+        ensures { Reads optional self.old result self.new }
+    {
+        match self.optional()? {
+            Some(number) => Ok(Some(Idx::from_raw(number))),
+            None => Ok(None),
+        }
+    }
+
+    /// Takes the next word, if it is a list of numbers.
+    #[tactic(auto, unfolding(crate::specs::Words::list_of))]
+    pub fn list<K>(&mut self, alloc: Global) -> Result<Seq<Idx<K>>, Stop>
+        ensures { Reads list self.old result self.new }
+    {
+        let word = self.word()?;
+        if word == b"-".as_slice() {
+            return Ok(Seq::new(alloc));
+        }
+        each(alloc, &mut Words::new(word, b','))
+    }
+
+    /// Takes the next word, if it is one in ASCII.
+    pub fn keyword(&mut self) -> Result<&'a str, Stop>
+        ensures { MatchResult result (λ text. keyword self.old ≡ Some (text.now, self.new)) (λ stop. stop ≡ Stop.Bad → keyword self.old ≡ None) }
+    {
+        let word = self.word()?;
+        match ascii_text(word) {
+            Some(text) => Ok(text),
+            None => Err(Stop::Bad),
+        }
+    }
+
+    /// Takes the next word, if it is a name.
+    pub fn name(&mut self, alloc: Global) -> Result<Name, Stop>
+        ensures { Reads name self.old result self.new }
+    {
+        let word = self.word()?;
+        match name_text(word) {
+            Some(text) => Ok(Name::new(alloc, text)?),
+            None => Err(Stop::Bad),
+        }
+    }
+
+    /// Takes the next word, if it is a name: the plain path of that name.
+    pub fn path(&mut self, alloc: Global) -> Result<Path, Stop>
+        ensures { Reads path self.old result self.new }
+    {
+        Ok(Path::from_name(alloc, self.name(alloc)?)?)
+    }
+
+    /// Takes the next word, if it is an integer.
+    pub fn int(&mut self) -> Result<i128, Stop>
+        ensures { Reads int self.old result self.new }
+    {
+        let word = self.word()?;
+        match int_text(word) {
+            Some(n) => Ok(n),
+            None => Err(Stop::Bad),
+        }
+    }
+
+    /// Takes the next word, if it is an operator.
+    pub fn op(&mut self) -> Result<BinaryOp, Stop>
+        ensures { Reads op self.old result self.new }
+    {
+        let word = self.word()?;
+        match op_text(word) {
+            Some(op) => Ok(op),
+            None => Err(Stop::Bad),
+        }
+    }
+
+    /// The value, if no word is left.
+    pub fn alone<T: Drop>(&self, value: T) -> Result<T, Stop>
+        ensures { Found (alone value self.now) result }
+    {
+        match self.rest {
+            Some(_) => Err(Stop::Bad),
+            None => Ok(value),
+        }
+    }
+
+    /// Whether no word is left.
+    pub fn is_empty(&self) -> bool
+        ensures { IsTrue result ↔ (self.now ≡ []) }
+    {
+        match self.rest {
+            Some(_) => false,
+            None => true,
+        }
+    }
+}
+
+/// What a single word says.
+pub trait Word: Sized {
+    ghost use Rattle.std.specs.Prelude.{List, ℕ, Option};
+
+    ghost said: { List ℕ → Option Self };
+
+    /// Takes the next word, if it says such a thing.
+    fn take(words: &mut Words<'_>) -> Result<Self, Stop>
+        ensures { Reads (first_word said) words.old result words.new };
+}
+
+impl<K> Word for Idx<K> {
+    ghost use Rattle.hir_lines.specs.Numerals.{number_of};
+
+    ghost said = { number_of };
+
+    fn take(words: &mut Words<'_>) -> Result<Idx<K>, Stop> {
+        words.id()
+    }
+}
+
+/// Takes all the words that are left, if each says such a thing.
+pub fn each<T: Word + Drop>(alloc: Global, words: &mut Words<'_>) -> Result<Seq<T>, Stop>
+    ensures { Reads (each T.said) words.old result words.new }
+{
+    let mut items = Seq::new(alloc);
+    while !words.is_empty() {
+        items.push(T::take(words)?)?;
+    }
+    Ok(items)
+}
+
+/// The first place of a byte.
+fn find(text: &[u8], byte: u8) -> Option<usize>
+    ensures { result ≡ position (is_byte byte) text.now }
+{
+    text.iter().position(|b| *b == byte)
+}
+
+/// The text before the first separator, and the text after it, where there is one.
+fn cut(text: &[u8], separator: u8) -> (&[u8], Option<&[u8]>)
+    ensures { parts_of separator text.now ≡ result.0.now ∷ parts_left separator result.1 }
+{
+    match find(text, separator) {
+        Some(i) => (&text[..i], Some(&text[i + 1..])),
+        None => (text, None),
+    }
+}
