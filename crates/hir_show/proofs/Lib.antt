@@ -1,10 +1,4 @@
-pub mod NodeLemmas
-pub mod FinishLemmas
-pub mod Numerals
-pub mod Splits
-pub mod Lines
-pub mod Names
-pub mod GrammarLaws
+pub mod Scripts
 pub mod Making
 pub mod Failing
 pub mod Answering

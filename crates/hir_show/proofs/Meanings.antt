@@ -2,11 +2,11 @@
 use Rattle.std.proofs.Common.{◌≡◌, ◌+◌, ℕ, List, [], ◌∷◌, Option, Result, Ok, length, sym, ap, ◌∙◌}
 use Rattle.std.specs.Prelude.{codes}
 use Rattle.hir_show.specs.declared.fault.RunFault.{RunFault}
-use Rattle.hir_show.specs.declared.line.Line.{Line}
-use Rattle.hir_show.specs.declared.small.fault.FinishFault.{FinishFault}
-use Rattle.hir_show.specs.small.Contents.{finish_fault}
+use Rattle.hir_lines.specs.declared.line.Line.{Line}
+use Rattle.hir_store.specs.declared.fault.FinishFault.{FinishFault}
+use Rattle.hir_store.specs.Contents.{finish_fault}
 use Rattle.hir_show.specs.Program.{unless_refused, refused_or, ending, Means, IsMeaning, made, making, answers, asking, left_over}
-use Rattle.hir_show.proofs.FinishLemmas.{finish_fault-one}
+use Rattle.hir_store.proofs.FinishLemmas.{finish_fault-one}
 
 Means-one : (verdict : Option FinishFault → Type 0) → ((f g : Option FinishFault) → verdict f → verdict g → f ≡ g) → (good : ℕ) (answers : List ℕ) (asked rest : List Line) (text more : List ℕ) (outcome other : Result (Unit {0}) RunFault) →
     Means verdict good answers asked rest text outcome → Means verdict good answers asked rest more other → (text ≡ more) × (outcome ≡ other)
@@ -21,4 +21,4 @@ Means-one verdict one good answers (question ∷ questions) rest text more outco
 pub IsMeaning-one : (script : List Line) (text more : List ℕ) (outcome other : Result (Unit {0}) RunFault) → IsMeaning script text outcome → IsMeaning script more other → (text ≡ more) × (outcome ≡ other)
 unfolding IsMeaning
 IsMeaning-one script text more outcome other m n =
-    Means-one (finish_fault (made script)) (finish_fault-one (made script)) (length (making script)) (answers script) (asking script) (left_over script) text more outcome other m n
+    Means-one (finish_fault (made script).built) (finish_fault-one (made script).built) (length (making script)) (answers script) (asking script) (left_over script) text more outcome other m n

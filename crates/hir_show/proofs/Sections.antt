@@ -1,9 +1,9 @@
 -- The sections of a script.
 use Rattle.std.proofs.Common.{◌≡◌, Bool, true, false, List, [], ◌∷◌, ◌++◌, ◌&&◌, refl, sym, ap, ◌∙◌, append-nil}
 use Rattle.std.specs.List.{list_all}
-use Rattle.hir_show.specs.declared.line.Line.{Line}
-use Rattle.hir_show.specs.declared.line.Line.TheVariants.{Ask, Bad}
-use Rattle.hir_show.specs.declared.line.Question.{Question}
+use Rattle.hir_lines.specs.declared.line.Line.{Line}
+use Rattle.hir_lines.specs.declared.line.Line.TheVariants.{Ask, Bad}
+use Rattle.hir_lines.specs.declared.line.Question.{Question}
 use Rattle.hir_show.specs.Program.{makes, asks, front, behind, making, asking, left_over}
 
 and_left : (a b : Bool) → (a && b) ≡ true → a ≡ true

@@ -1,8 +1,4 @@
-pub mod small
-pub mod Numeral
-pub mod Words
-pub mod Line
-pub mod Grammar
+pub mod Made
 pub mod Answer
 pub mod Program
 pub mod Run

@@ -1,16 +1,16 @@
 -- What the program writes and how it ends, for the lines that it is given.
-use Rattle.std.specs.Prelude.{◌≡◌, ◌⊎◌, ℕ, ◌+◌, Bool, true, false, if◌then◌else◌, List, [], ◌∷◌, length, Option, None, Some, Result, Ok, Err, filter_map, flat_map, fold, map, codes}
+use Rattle.std.specs.Prelude.{◌≡◌, ◌⊎◌, ℕ, ◌+◌, Bool, true, false, ◌&&◌, ◌||◌, if◌then◌else◌, List, [], ◌∷◌, length, Option, None, Some, Result, Ok, Err, filter_map, flat_map, fold, map, codes}
 use Rattle.hir_ends.specs.Text.{lines}
-use Rattle.hir_show.specs.declared.line.Line.{Line}
-use Rattle.hir_show.specs.declared.line.Line.TheVariants.{Blank, Make, Ask, Bad}
-use Rattle.hir_show.specs.declared.line.Maker.{Maker}
-use Rattle.hir_show.specs.declared.line.Maker.TheVariants.{Expr as MakeExpr, Roots, Root}
+use Rattle.hir_lines.specs.declared.line.Line.{Line}
+use Rattle.hir_lines.specs.declared.line.Line.TheVariants.{Blank, Make, Ask, Bad}
+use Rattle.hir_lines.specs.declared.line.Maker.{Maker}
+use Rattle.hir_lines.specs.declared.line.Maker.TheVariants as make
 use Rattle.hir_show.specs.declared.fault.RunFault.{RunFault}
 use Rattle.hir_show.specs.declared.fault.RunFault.TheVariants.{BadLine, Refused}
-use Rattle.hir_show.specs.declared.small.node.Expr.{Expr}
-use Rattle.hir_show.specs.declared.small.fault.FinishFault.{FinishFault}
-use Rattle.hir_show.specs.small.Contents.{Building, nothing_built, with_expr, with_root_list, with_root, finish_fault}
-use Rattle.hir_show.specs.Line.{line_of}
+use Rattle.hir_store.specs.declared.fault.FinishFault.{FinishFault}
+use Rattle.hir_store.specs.Contents.{Contents, contents_of, finish_fault}
+use Rattle.hir_lines.specs.Line.{line_of}
+use Rattle.hir_show.specs.Made.{Made, nothing_made, with_line}
 use Rattle.hir_show.specs.Answer.{answer_to}
 
 -- whether a line may stand before the first question
@@ -46,12 +46,6 @@ asking script = front asks (behind makes script)
 unfoldable pub left_over : List Line → List Line
 left_over script = behind asks (behind makes script)
 
--- a builder with what a line makes
-abbrev pub with_line : Building → Maker → Building
-with_line b (MakeExpr expr) = with_expr b expr
-with_line b Roots = with_root_list b
-with_line b (Root e) = with_root b e
-
 abbrev pub maker_of : Line → Option Maker
 maker_of Blank = None
 maker_of (Make maker) = Some maker
@@ -59,22 +53,22 @@ maker_of (Ask question) = None
 maker_of Bad = None
 
 -- what these lines make, one after the other
-unfoldable pub built_by : List Line → Building
-built_by script = fold with_line nothing_built (filter_map maker_of script)
+unfoldable pub built_by : List Line → Made
+built_by script = fold with_line nothing_made (filter_map maker_of script)
 
 -- what the lines before the first question make
-abbrev pub made : List Line → Building
+abbrev pub made : List Line → Made
 made script = built_by (making script)
 
-abbrev pub answer : List Expr → Line → List ℕ
-answer exprs Blank = []
-answer exprs (Make maker) = []
-answer exprs (Ask question) = answer_to exprs question
-answer exprs Bad = []
+abbrev pub answer : Contents → Line → List ℕ
+answer store Blank = []
+answer store (Make maker) = []
+answer store (Ask question) = answer_to store question
+answer store Bad = []
 
 -- the answers, in the order of the questions
 abbrev pub answers : List Line → List ℕ
-answers script = flat_map (answer (made script).exprs) (asking script)
+answers script = flat_map (answer (contents_of (made script).built)) (asking script)
 
 -- nothing is written for a builder that is refused
 abbrev pub unless_refused : Option FinishFault → List ℕ → List ℕ
@@ -102,12 +96,64 @@ Means verdict good answers (question ∷ questions) rest text outcome =
 
 -- the text that a script has written, and its outcome
 unfoldable pub IsMeaning : List Line → List ℕ → Result (Unit {0}) RunFault → Type 0
-IsMeaning script text outcome = Means (finish_fault (made script)) (length (making script)) (answers script) (asking script) (left_over script) text outcome
+IsMeaning script text outcome = Means (finish_fault (made script).built) (length (making script)) (answers script) (asking script) (left_over script) text outcome
 
--- the lines that a text spells
+-- whether a line gives the self parameter; the name
+abbrev pub maker_gives_self : Maker → Bool
+maker_gives_self (make.SelfParam id) = true
+maker_gives_self (make.Binding binding) = false
+maker_gives_self (make.Pat pat) = false
+maker_gives_self (make.Type type_ref) = false
+maker_gives_self (make.Expr expr) = false
+maker_gives_self (make.Param id) = false
+maker_gives_self (make.FnName name) = false
+maker_gives_self make.Roots = false
+maker_gives_self (make.Root id) = false
+
+abbrev pub maker_gives_name : Maker → Bool
+maker_gives_name (make.FnName name) = true
+maker_gives_name (make.Binding binding) = false
+maker_gives_name (make.Pat pat) = false
+maker_gives_name (make.Type type_ref) = false
+maker_gives_name (make.Expr expr) = false
+maker_gives_name (make.SelfParam id) = false
+maker_gives_name (make.Param id) = false
+maker_gives_name make.Roots = false
+maker_gives_name (make.Root id) = false
+
+abbrev pub gives_self : Line → Bool
+gives_self Blank = false
+gives_self (Make maker) = maker_gives_self maker
+gives_self (Ask question) = false
+gives_self Bad = false
+
+abbrev pub gives_name : Line → Bool
+gives_name Blank = false
+gives_name (Make maker) = maker_gives_name maker
+gives_name (Ask question) = false
+gives_name Bad = false
+
+-- a line, where a self parameter was given before or wasn't, and a name: a second one is bad
+abbrev pub unless_second : Bool → Bool → Line → Line
+unless_second has_self has_name line = if (has_self && gives_self line) || (has_name && gives_name line) then Bad else line
+
+-- the lines, where a second self parameter and a second name are bad
+abbrev pub once_each : Bool → Bool → List Line → List Line
+once_each has_self has_name [] = []
+once_each has_self has_name (line ∷ rest) =
+    unless_second has_self has_name line ∷ once_each (has_self || gives_self line) (has_name || gives_name line) rest
+
+-- what texts say, each for itself; and as a script, one after another
+abbrev pub says : List (List ℕ) → List Line
+says texts = map line_of texts
+
+abbrev pub script : List (List ℕ) → List Line
+script texts = once_each false false (says texts)
+
+-- the lines that an input spells
 abbrev pub script_of : List ℕ → List Line
-script_of input = map line_of (lines input)
+script_of input = script (lines input)
 
 -- no fault comes in these lines: none is bad, and what was made has none where there is a question
 abbrev pub IsSound : List Line → Type 0
-IsSound script = (left_over script ≡ []) × ((asking script ≡ []) ⊎ finish_fault (made script) None)
+IsSound script = (left_over script ≡ []) × ((asking script ≡ []) ⊎ finish_fault (made script).built None)

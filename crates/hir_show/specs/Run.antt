@@ -1,13 +1,12 @@
 -- How a run of the program ends, with the bytes that it leaves unread and those that it has written.
-use Rattle.std.specs.Prelude.{◌≡◌, ℕ, Bool, true, false, List, ◌++◌, Option, None, Some, Result, Ok, Err, map, IfSome, ⊤}
+use Rattle.std.specs.Prelude.{◌≡◌, ℕ, Bool, true, false, List, ◌++◌, Option, None, Some, Result, Ok, Err, IfSome, ⊤}
 use Rattle.hir_ends.specs.Text.{lines, IsCutShort}
 use Rattle.hir_ends.specs.declared.next.LineFault.{LineFault}
 use Rattle.hir_ends.specs.declared.next.LineFault.TheVariants as line
 use Rattle.hir_show.specs.declared.fault.RunFault.{RunFault}
 use Rattle.hir_show.specs.declared.fault.RunFault.TheVariants.{BadLine, Refused, InputFailed, OutputFailed, OutOfMemory}
-use Rattle.hir_show.specs.small.Contents.{Building, Contents, contents_of, finish_fault}
-use Rattle.hir_show.specs.Line.{line_of}
-use Rattle.hir_show.specs.Program.{answers, script_of, IsMeaning, IsSound}
+use Rattle.hir_store.specs.Contents.{Building, Contents, contents_of, finish_fault}
+use Rattle.hir_show.specs.Program.{answers, script, script_of, IsMeaning, IsSound}
 
 -- a line that can't be had, told of the run
 abbrev pub told_of_line : LineFault → RunFault
@@ -24,7 +23,7 @@ IsComplete input before contents result =
 abbrev pub IsInputCutShort : List ℕ → List ℕ → Option (List ℕ) → Option (List ℕ) → Type 0
 IsInputCutShort input before remaining contents =
     (texts : List (List ℕ)) × (begun unread : List ℕ) × IsCutShort input texts begun unread × IfSome remaining (λ rest. rest ≡ unread)
-    × IsSound (map line_of texts) × (contents ≡ Some (before ++ answers (map line_of texts)))
+    × IsSound (script texts) × (contents ≡ Some (before ++ answers (script texts)))
 
 -- a write failed: what is written, where it is told, is a front of the program's output
 abbrev pub IsOutputCutShort : List ℕ → List ℕ → Option (List ℕ) → Type 0
@@ -34,7 +33,7 @@ IsOutputCutShort input before contents =
 -- memory was refused at some line: the answers of the lines before it are written, and no fault comes in these
 abbrev pub IsWithoutMemory : List ℕ → List ℕ → Option (List ℕ) → Type 0
 IsWithoutMemory input before contents =
-    (texts more : List (List ℕ)) × (lines input ≡ texts ++ more) × IsSound (map line_of texts) × (contents ≡ Some (before ++ answers (map line_of texts)))
+    (texts more : List (List ℕ)) × (lines input ≡ texts ++ more) × IsSound (script texts) × (contents ≡ Some (before ++ answers (script texts)))
 
 abbrev pub EndsWith : List ℕ → List ℕ → Option (List ℕ) → Option (List ℕ) → Result (Unit {0}) RunFault → Type 0
 EndsWith input before remaining contents (Ok done) = IsComplete input before contents (Ok done)

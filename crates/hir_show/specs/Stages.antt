@@ -1,44 +1,45 @@
 -- What the two stages of a run do, over the bytes that are told: lines that make something, then questions.
-use Rattle.std.specs.Prelude.{◌≡◌, ◌⊎◌, ℕ, ◌+◌, true, false, List, [], ◌∷◌, ◌++◌, length, Option, None, Some, Result, Ok, Err, map, flat_map, codes}
-use Rattle.std.specs.List.{list_all}
+use Rattle.std.specs.Prelude.{◌≡◌, ◌⊎◌, ℕ, ◌+◌, true, false, List, [], ◌∷◌, ◌++◌, length, Option, None, Some, Result, Ok, Err, flat_map, codes}
+use Rattle.std.specs.List.{list_all, list_any}
 use Rattle.std.specs.Io.KnownBytes.{Appends}
 use Rattle.hir_ends.specs.Ends.{GrowsByFront, IsWrittenUpTo}
 use Rattle.hir_ends.specs.LineState.{LineState}
 use Rattle.hir_ends.specs.Reads.{Reads, ReadsAll, ReadsFront, ReadsUntilFailure}
-use Rattle.hir_show.specs.declared.line.Line.{Line}
-use Rattle.hir_show.specs.declared.line.Line.TheVariants.{Ask, Bad}
-use Rattle.hir_show.specs.declared.line.Question.{Question}
+use Rattle.hir_lines.specs.declared.line.Line.{Line}
+use Rattle.hir_lines.specs.declared.line.Line.TheVariants.{Ask, Bad}
+use Rattle.hir_lines.specs.declared.line.Question.{Question}
 use Rattle.hir_show.specs.declared.fault.RunFault.{RunFault}
 use Rattle.hir_show.specs.declared.fault.RunFault.TheVariants.{BadLine, Refused, InputFailed, OutputFailed, OutOfMemory}
-use Rattle.hir_show.specs.declared.small.node.Expr.{Expr}
-use Rattle.hir_show.specs.small.Contents.{Building}
-use Rattle.hir_show.specs.Line.{line_of}
+use Rattle.hir_store.specs.Contents.{Contents}
+use Rattle.hir_show.specs.Made.{Made}
+use Rattle.hir_lines.specs.Line.{line_of}
 use Rattle.hir_show.specs.Answer.{answer_to}
-use Rattle.hir_show.specs.Program.{makes, asks, built_by, answer}
-
-abbrev pub script : List (List ℕ) → List Line
-script texts = map line_of texts
+use Rattle.hir_show.specs.Program.{makes, asks, gives_self, gives_name, unless_second, says, script, built_by, answer}
 
 -- each of these lines may stand before the first question
 abbrev pub AllMake : List (List ℕ) → Type 0
 AllMake texts = list_all makes (script texts) ≡ true
 
 -- each of them may, and this is what they make
-abbrev pub Makes : List (List ℕ) → Building → Type 0
+abbrev pub Makes : List (List ℕ) → Made → Type 0
 Makes texts built = AllMake texts × (built ≡ built_by (script texts))
+
+-- what a text says behind these
+abbrev pub line_behind : List (List ℕ) → List ℕ → Line
+line_behind texts text = unless_second (list_any gives_self (says texts)) (list_any gives_name (says texts)) (line_of text)
 
 -- memory was refused at the line behind these: it is being read, or it was the last that was taken
 abbrev pub IsNextLine : ℕ → List (List ℕ) → ℕ → Type 0
 IsNextLine before texts count = (count ≡ before + length texts) ⊎ (count ≡ before + length texts + 1)
 
 -- the first stage: from the told bytes to those still to be taken and those that the source has left, with the lines and what was built
-abbrev pub Builds : Option (List ℕ) → Option (List ℕ) → Option (List ℕ) → LineState → Building → Result (Option Question) RunFault → Type 0
+abbrev pub Builds : Option (List ℕ) → Option (List ℕ) → Option (List ℕ) → LineState → Made → Result (Option Question) RunFault → Type 0
 Builds known rest remaining lines built (Ok None) =
     (texts : List (List ℕ)) × Makes texts built × ReadsAll known texts
 Builds known rest remaining lines built (Ok (Some question)) =
     (texts : List (List ℕ)) × (text : List ℕ) × Makes texts built × (line_of text ≡ Ask question) × Reads known (texts ++ text ∷ []) rest lines.at_end × (lines.count ≡ length texts + 1)
 Builds known rest remaining lines built (Err (BadLine number)) =
-    (texts : List (List ℕ)) × (text : List ℕ) × AllMake texts × (line_of text ≡ Bad) × ReadsFront known (texts ++ text ∷ []) × (number ≡ length texts + 1)
+    (texts : List (List ℕ)) × (text : List ℕ) × AllMake texts × (line_behind texts text ≡ Bad) × ReadsFront known (texts ++ text ∷ []) × (number ≡ length texts + 1)
 Builds known rest remaining lines built (Err InputFailed) =
     (texts : List (List ℕ)) × AllMake texts × ReadsUntilFailure known texts lines.pending remaining
 Builds known rest remaining lines built (Err OutOfMemory) =
@@ -48,11 +49,11 @@ Builds known rest remaining lines built (Err OutputFailed) = ⊥
 
 -- these lines may stand after a question
 abbrev pub AllAsk : List (List ℕ) → Type 0
-AllAsk texts = list_all asks (script texts) ≡ true
+AllAsk texts = list_all asks (says texts) ≡ true
 
 -- the answers to a question and the lines after it
-abbrev pub answers_from : List Expr → Question → List (List ℕ) → List ℕ
-answers_from exprs question texts = answer_to exprs question ++ flat_map (answer exprs) (script texts)
+abbrev pub answers_from : Contents → Question → List (List ℕ) → List ℕ
+answers_from store question texts = answer_to store question ++ flat_map (answer store) (says texts)
 
 -- one answer was written behind what waited, or a front of these
 abbrev pub AnswersOne : Option (List ℕ) → List ℕ → Option (List ℕ) → List ℕ → List ℕ → Result (Unit {0}) RunFault → Type 0
@@ -64,49 +65,49 @@ AnswersOne old waiting new waiting' text (Err (BadLine number)) = ⊥
 AnswersOne old waiting new waiting' text (Err (Refused fault)) = ⊥
 
 -- what the line that was taken last does behind the first question
-abbrev pub AnswersLine : Option (List ℕ) → List ℕ → Option (List ℕ) → List ℕ → List Expr → LineState → Result (Unit {0}) RunFault → Type 0
-AnswersLine old waiting new waiting' exprs lines (Ok done) = (asks (line_of lines.line) ≡ true) × IsWrittenUpTo old new (waiting ++ answer exprs (line_of lines.line)) waiting'
-AnswersLine old waiting new waiting' exprs lines (Err (BadLine number)) = (asks (line_of lines.line) ≡ false) × (number ≡ lines.count) × (new ≡ old) × (waiting' ≡ waiting)
-AnswersLine old waiting new waiting' exprs lines (Err OutputFailed) = (asks (line_of lines.line) ≡ true) × GrowsByFront old new (waiting ++ answer exprs (line_of lines.line)) × (waiting' ≡ [])
-AnswersLine old waiting new waiting' exprs lines (Err OutOfMemory) = (new ≡ old) × (waiting' ≡ waiting)
-AnswersLine old waiting new waiting' exprs lines (Err InputFailed) = ⊥
-AnswersLine old waiting new waiting' exprs lines (Err (Refused fault)) = ⊥
+abbrev pub AnswersLine : Option (List ℕ) → List ℕ → Option (List ℕ) → List ℕ → Contents → LineState → Result (Unit {0}) RunFault → Type 0
+AnswersLine old waiting new waiting' store lines (Ok done) = (asks (line_of lines.line) ≡ true) × IsWrittenUpTo old new (waiting ++ answer store (line_of lines.line)) waiting'
+AnswersLine old waiting new waiting' store lines (Err (BadLine number)) = (asks (line_of lines.line) ≡ false) × (number ≡ lines.count) × (new ≡ old) × (waiting' ≡ waiting)
+AnswersLine old waiting new waiting' store lines (Err OutputFailed) = (asks (line_of lines.line) ≡ true) × GrowsByFront old new (waiting ++ answer store (line_of lines.line)) × (waiting' ≡ [])
+AnswersLine old waiting new waiting' store lines (Err OutOfMemory) = (new ≡ old) × (waiting' ≡ waiting)
+AnswersLine old waiting new waiting' store lines (Err InputFailed) = ⊥
+AnswersLine old waiting new waiting' store lines (Err (Refused fault)) = ⊥
 
 -- these lines behind the first question were answered, all but what waits
-abbrev pub AnsweredUpTo : Option (List ℕ) → Option (List ℕ) → List ℕ → List Expr → Question → List (List ℕ) → Type 0
-AnsweredUpTo old new waiting exprs question texts = AllAsk texts × IsWrittenUpTo old new (answers_from exprs question texts) waiting
+abbrev pub AnsweredUpTo : Option (List ℕ) → Option (List ℕ) → List ℕ → Contents → Question → List (List ℕ) → Type 0
+AnsweredUpTo old new waiting store question texts = AllAsk texts × IsWrittenUpTo old new (answers_from store question texts) waiting
 
 -- the second stage, where some answers may wait
-abbrev pub AnswersSome : Option (List ℕ) → Option (List ℕ) → LineState → LineState → Option (List ℕ) → Option (List ℕ) → List ℕ → List Expr → Question → Result (Unit {0}) RunFault → Type 0
-AnswersSome known remaining lines lines' old new waiting exprs question (Ok done) =
-    (texts : List (List ℕ)) × AnsweredUpTo old new waiting exprs question texts × ReadsAll known texts
-AnswersSome known remaining lines lines' old new waiting exprs question (Err (BadLine number)) =
-    (texts : List (List ℕ)) × (text : List ℕ) × AnsweredUpTo old new waiting exprs question texts × (asks (line_of text) ≡ false) × ReadsFront known (texts ++ text ∷ []) × (number ≡ lines.count + length texts + 1)
-AnswersSome known remaining lines lines' old new waiting exprs question (Err InputFailed) =
-    (texts : List (List ℕ)) × AnsweredUpTo old new waiting exprs question texts × (waiting ≡ []) × (lines.at_end ≡ false) × ReadsUntilFailure known texts lines'.pending remaining
-AnswersSome known remaining lines lines' old new waiting exprs question (Err OutputFailed) =
-    (texts : List (List ℕ)) × AllAsk texts × ReadsFront known texts × GrowsByFront old new (answers_from exprs question texts) × (waiting ≡ [])
-AnswersSome known remaining lines lines' old new waiting exprs question (Err OutOfMemory) =
-    (texts : List (List ℕ)) × AnsweredUpTo old new waiting exprs question texts × ReadsFront known texts × IsNextLine lines.count texts lines'.count
-AnswersSome known remaining lines lines' old new waiting exprs question (Err (Refused fault)) = ⊥
+abbrev pub AnswersSome : Option (List ℕ) → Option (List ℕ) → LineState → LineState → Option (List ℕ) → Option (List ℕ) → List ℕ → Contents → Question → Result (Unit {0}) RunFault → Type 0
+AnswersSome known remaining lines lines' old new waiting store question (Ok done) =
+    (texts : List (List ℕ)) × AnsweredUpTo old new waiting store question texts × ReadsAll known texts
+AnswersSome known remaining lines lines' old new waiting store question (Err (BadLine number)) =
+    (texts : List (List ℕ)) × (text : List ℕ) × AnsweredUpTo old new waiting store question texts × (asks (line_of text) ≡ false) × ReadsFront known (texts ++ text ∷ []) × (number ≡ lines.count + length texts + 1)
+AnswersSome known remaining lines lines' old new waiting store question (Err InputFailed) =
+    (texts : List (List ℕ)) × AnsweredUpTo old new waiting store question texts × (waiting ≡ []) × (lines.at_end ≡ false) × ReadsUntilFailure known texts lines'.pending remaining
+AnswersSome known remaining lines lines' old new waiting store question (Err OutputFailed) =
+    (texts : List (List ℕ)) × AllAsk texts × ReadsFront known texts × GrowsByFront old new (answers_from store question texts) × (waiting ≡ [])
+AnswersSome known remaining lines lines' old new waiting store question (Err OutOfMemory) =
+    (texts : List (List ℕ)) × AnsweredUpTo old new waiting store question texts × ReadsFront known texts × IsNextLine lines.count texts lines'.count
+AnswersSome known remaining lines lines' old new waiting store question (Err (Refused fault)) = ⊥
 
 -- these lines behind the first question were answered
-abbrev pub Answered : Option (List ℕ) → Option (List ℕ) → List Expr → Question → List (List ℕ) → Type 0
-Answered old new exprs question texts = AllAsk texts × Appends old new (answers_from exprs question texts)
+abbrev pub Answered : Option (List ℕ) → Option (List ℕ) → Contents → Question → List (List ℕ) → Type 0
+Answered old new store question texts = AllAsk texts × Appends old new (answers_from store question texts)
 
 -- the second stage: from the told bytes behind the first question, with every answer written
-abbrev pub Answers : Option (List ℕ) → Option (List ℕ) → LineState → LineState → Option (List ℕ) → Option (List ℕ) → List Expr → Question → Result (Unit {0}) RunFault → Type 0
-Answers known remaining lines lines' old new exprs question (Ok done) =
-    (texts : List (List ℕ)) × Answered old new exprs question texts × ReadsAll known texts
-Answers known remaining lines lines' old new exprs question (Err (BadLine number)) =
-    (texts : List (List ℕ)) × (text : List ℕ) × Answered old new exprs question texts × (asks (line_of text) ≡ false) × ReadsFront known (texts ++ text ∷ []) × (number ≡ lines.count + length texts + 1)
-Answers known remaining lines lines' old new exprs question (Err InputFailed) =
-    (texts : List (List ℕ)) × Answered old new exprs question texts × (lines.at_end ≡ false) × ReadsUntilFailure known texts lines'.pending remaining
-Answers known remaining lines lines' old new exprs question (Err OutputFailed) =
-    (texts : List (List ℕ)) × AllAsk texts × ReadsFront known texts × GrowsByFront old new (answers_from exprs question texts)
-Answers known remaining lines lines' old new exprs question (Err OutOfMemory) =
-    (texts : List (List ℕ)) × Answered old new exprs question texts × ReadsFront known texts × IsNextLine lines.count texts lines'.count
-Answers known remaining lines lines' old new exprs question (Err (Refused fault)) = ⊥
+abbrev pub Answers : Option (List ℕ) → Option (List ℕ) → LineState → LineState → Option (List ℕ) → Option (List ℕ) → Contents → Question → Result (Unit {0}) RunFault → Type 0
+Answers known remaining lines lines' old new store question (Ok done) =
+    (texts : List (List ℕ)) × Answered old new store question texts × ReadsAll known texts
+Answers known remaining lines lines' old new store question (Err (BadLine number)) =
+    (texts : List (List ℕ)) × (text : List ℕ) × Answered old new store question texts × (asks (line_of text) ≡ false) × ReadsFront known (texts ++ text ∷ []) × (number ≡ lines.count + length texts + 1)
+Answers known remaining lines lines' old new store question (Err InputFailed) =
+    (texts : List (List ℕ)) × Answered old new store question texts × (lines.at_end ≡ false) × ReadsUntilFailure known texts lines'.pending remaining
+Answers known remaining lines lines' old new store question (Err OutputFailed) =
+    (texts : List (List ℕ)) × AllAsk texts × ReadsFront known texts × GrowsByFront old new (answers_from store question texts)
+Answers known remaining lines lines' old new store question (Err OutOfMemory) =
+    (texts : List (List ℕ)) × Answered old new store question texts × ReadsFront known texts × IsNextLine lines.count texts lines'.count
+Answers known remaining lines lines' old new store question (Err (Refused fault)) = ⊥
 
 -- what waited was written and the outcome stays, or a write of something failed
 abbrev pub Closes : Option (List ℕ) → Option (List ℕ) → List ℕ → Result (Unit {0}) RunFault → Result (Unit {0}) RunFault → Type 0

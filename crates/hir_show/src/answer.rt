@@ -1,14 +1,15 @@
 //! The answers to questions, written to the output.
 
-ghost use Rattle.std.specs.Prelude.{◌≡◌, ◌<◌, ◌||◌, ◌++◌, ◌∷◌, [], true, false, Result, Ok, Err, OnOk, OnErr, length, is_err, slice_get, slice_index_or};
+ghost use Rattle.std.specs.Prelude.{◌≡◌, ◌<◌, ◌||◌, ◌++◌, ◌∷◌, [], true, false, Result, Ok, Err, OnOk, OnErr, length, is_err};
 ghost use Rattle.std.specs.Fmt.{decimal};
 ghost use Rattle.hir_ends.specs.Ends.{GrowsByFront, IsWrittenUpTo};
-ghost use Rattle.hir_show.specs.small.Nodes.{graph};
-ghost use Rattle.hir_show.specs.Answer.{answer_to, children_line, children_text, spaced, FailsNext, Writes, WritesNext};
+ghost use Rattle.hir_store.specs.PatLists.{children};
+ghost use Rattle.hir_show.specs.Answer.{answer_to, children_line, children_text, root_line, root_text, spaced, FailsNext, Writes, WritesNext};
 
-use super::line::Question;
-use super::small::{ExprId, ExpressionStore};
 use hir_ends::{EndFailed, OutputBuffer, Sink};
+use hir_lines::Question;
+use hir_node::ExprId;
+use hir_store::ExpressionStore;
 
 /// Writes a number after a space.
 fn write_spaced<W: Sink>(
@@ -30,8 +31,8 @@ fn write_children<W: Sink>(
     output: &mut OutputBuffer,
     writer: &mut W,
 ) -> Result<(), EndFailed>
-    requires { id < length store.now.exprs }
-    ensures writes { Writes (W.contents writer.old) output.old (W.contents writer.new) output.new (spaced (slice_index_or (graph store.now.exprs) id [])) result }
+    requires { id < length store.now.nodes.exprs }
+    ensures writes { Writes (W.contents writer.old) output.old (W.contents writer.new) output.new (spaced (children store.now.nodes id)) result }
     ensures failure { W.failed writer.new ≡ (is_err result || W.failed writer.old) }
 {
     let mut outcome = Ok(());
@@ -56,7 +57,7 @@ fn write_found<W: Sink>(
     output: &mut OutputBuffer,
     writer: &mut W,
 ) -> Result<(), EndFailed>
-    ensures writes { Writes (W.contents writer.old) output.old (W.contents writer.new) output.new (children_text (slice_get store.now.exprs id)) result }
+    ensures writes { Writes (W.contents writer.old) output.old (W.contents writer.new) output.new (children_text store.now.nodes id) result }
     ensures failure { W.failed writer.new ≡ (is_err result || W.failed writer.old) }
 {
     if !store.has_expr(id) {
@@ -73,7 +74,7 @@ fn write_known<W: Sink>(
     output: &mut OutputBuffer,
     writer: &mut W,
 ) -> Result<(), EndFailed>
-    ensures writes { Writes (W.contents writer.old) output.old (W.contents writer.new) output.new (decimal id ++ children_text (slice_get store.now.exprs id)) result }
+    ensures writes { Writes (W.contents writer.old) output.old (W.contents writer.new) output.new (decimal id ++ children_text store.now.nodes id) result }
     ensures failure { W.failed writer.new ≡ (is_err result || W.failed writer.old) }
 {
     output.write_number(id.into_raw(), writer)?;
@@ -87,11 +88,58 @@ fn answer_children<W: Sink>(
     output: &mut OutputBuffer,
     writer: &mut W,
 ) -> Result<(), EndFailed>
-    ensures writes { Writes (W.contents writer.old) output.old (W.contents writer.new) output.new (children_line store.now.exprs id) result }
+    ensures writes { Writes (W.contents writer.old) output.old (W.contents writer.new) output.new (children_line store.now.nodes id) result }
     ensures failure { W.failed writer.new ≡ (is_err result || W.failed writer.old) }
 {
     output.write(b"children ", writer)?;
     write_known(store, id, output, writer)?;
+    output.write(b"\n", writer)
+}
+
+/// Writes the root that an expression belongs to, or that there is none.
+fn write_root<W: Sink>(
+    store: &ExpressionStore,
+    id: ExprId,
+    output: &mut OutputBuffer,
+    writer: &mut W,
+) -> Result<(), EndFailed>
+    ensures writes { Writes (W.contents writer.old) output.old (W.contents writer.new) output.new (root_text store.now.roots id) result }
+    ensures failure { W.failed writer.new ≡ (is_err result || W.failed writer.old) }
+{
+    if !store.covers_expr(id) {
+        return output.write(b" none", writer);
+    }
+    let root = store.find_root_for_expr(id);
+    output.write(b" = ", writer)?;
+    output.write_number(root.into_raw(), writer)
+}
+
+/// Writes the number of an expression, and its root.
+fn write_with_root<W: Sink>(
+    store: &ExpressionStore,
+    id: ExprId,
+    output: &mut OutputBuffer,
+    writer: &mut W,
+) -> Result<(), EndFailed>
+    ensures writes { Writes (W.contents writer.old) output.old (W.contents writer.new) output.new (decimal id ++ root_text store.now.roots id) result }
+    ensures failure { W.failed writer.new ≡ (is_err result || W.failed writer.old) }
+{
+    output.write_number(id.into_raw(), writer)?;
+    write_root(store, id, output, writer)
+}
+
+/// Answers with the root that an expression belongs to.
+fn answer_root<W: Sink>(
+    store: &ExpressionStore,
+    id: ExprId,
+    output: &mut OutputBuffer,
+    writer: &mut W,
+) -> Result<(), EndFailed>
+    ensures writes { Writes (W.contents writer.old) output.old (W.contents writer.new) output.new (root_line store.now.roots id) result }
+    ensures failure { W.failed writer.new ≡ (is_err result || W.failed writer.old) }
+{
+    output.write(b"root-of ", writer)?;
+    write_with_root(store, id, output, writer)?;
     output.write(b"\n", writer)
 }
 
@@ -104,10 +152,11 @@ pub fn answer<W: Sink>(
     output: &mut OutputBuffer,
     writer: &mut W,
 ) -> Result<(), EndFailed>
-    ensures writes { Writes (W.contents writer.old) output.old (W.contents writer.new) output.new (answer_to store.now.exprs question) result }
+    ensures writes { Writes (W.contents writer.old) output.old (W.contents writer.new) output.new (answer_to store.now question) result }
     ensures failure { W.failed writer.new ≡ (is_err result || W.failed writer.old) }
 {
     match question {
         Question::Children(id) => answer_children(store, id, output, writer),
+        Question::RootOf(id) => answer_root(store, id, output, writer),
     }
 }

@@ -2,8 +2,8 @@
 
 ghost use Rattle.std.specs.Prelude.{◌≡◌};
 
-use super::small::FinishFault;
 use hir_ends::LineFault;
+use hir_store::FinishFault;
 use thiserror::Error;
 
 /// How the program fails. The text is what `main` writes to standard error.

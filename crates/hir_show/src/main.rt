@@ -4,15 +4,12 @@
 mod answer;
 mod fault;
 mod laws;
-mod line;
-mod parse;
+mod made;
 mod report;
 mod run;
-mod small;
 mod stages;
 #[cfg(test)]
 mod tests;
-mod words;
 
 use hir_ends::StdEnd;
 use report::report as report_outcome;

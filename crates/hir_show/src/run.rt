@@ -1,20 +1,22 @@
 //! The program: lines in, answers out.
 
 ghost use Rattle.std.specs.Prelude.{◌≡◌, false};
+ghost use Rattle.hir_store.specs.Contents.{building_of};
 ghost use Rattle.hir_show.specs.Run.{Runs, IsFinished, is_input_failed, is_output_failed};
 
 use super::fault::RunFault;
-use super::small::{ExpressionStore, ExpressionStoreBuilder, FinishFault};
+use super::made::Made;
 use super::stages::{accept, answer_all, build};
 use hir_ends::{LineReader, OutputBuffer, Sink, Source};
+use hir_store::{ExpressionStore, ExpressionStoreBuilder, FinishFault};
 use std::alloc::Global;
 
 /// The store of what was built, or why there is none.
 fn finished(builder: ExpressionStoreBuilder) -> Result<ExpressionStore, RunFault>
-    ensures { IsFinished builder result }
+    ensures { IsFinished (building_of builder) result }
 {
     match builder.finish() {
-        Ok(store) => Ok(store),
+        Ok((store, _source_map)) => Ok(store),
         Err(refused) => {
             if refused.fault == FinishFault::Memory {
                 return Err(RunFault::OutOfMemory);
@@ -48,9 +50,9 @@ pub fn run<R: Source, W: Sink>(
     let Ok(mut output) = OutputBuffer::new(alloc) else {
         return Err(RunFault::OutOfMemory);
     };
-    let mut builder = ExpressionStoreBuilder::new(alloc);
-    let first = build(alloc, &mut lines, reader, &mut output, writer, &mut builder)?;
-    let store = finished(builder)?;
+    let mut made = Made::new(alloc);
+    let first = build(alloc, &mut lines, reader, &mut output, writer, &mut made)?;
+    let store = finished(made.builder)?;
     match first {
         Some(question) => answer_all(
             alloc,

@@ -2,40 +2,18 @@
 
 ghost use Rattle.std.specs.Prelude.{◌≡◌, ◌+◌, ◌<◌, ◌^◌, ◌||◌, [], false, Ok, Err, length, OnOk, OnErr, is_err};
 ghost use Rattle.hir_ends.specs.NextLine.{untaken};
-ghost use Rattle.hir_show.specs.small.Contents.{nothing_built};
+ghost use Rattle.hir_show.specs.Made.{made_of, nothing_made};
 ghost use Rattle.hir_show.specs.Answer.{answer_to};
-ghost use Rattle.hir_show.specs.Program.{with_line};
 ghost use Rattle.hir_show.specs.Run.{is_input_failed, is_output_failed};
 ghost use Rattle.hir_show.specs.Stages.{Accepts, Answers, AnswersLine, AnswersOne, AnswersSome, Builds, Closes};
 
 use super::answer::answer;
 use super::fault::RunFault;
-use super::line::{Line, Maker, Question};
-use super::parse::parse;
-use super::small::{ExpressionStore, ExpressionStoreBuilder};
+use super::made::Made;
 use hir_ends::{LineReader, OutputBuffer, Sink, Source, next_line};
+use hir_lines::{Line, Question, parse};
+use hir_store::ExpressionStore;
 use std::alloc::Global;
-
-/// Adds what a line makes.
-fn make(builder: &mut ExpressionStoreBuilder, maker: Maker) -> Result<(), RunFault>
-    ensures ok { OnOk result (builder.new ≡ with_line builder.old maker) }
-    ensures err { OnErr result ((builder.new ≡ builder.old) × (result ≡ Err RunFault.OutOfMemory)) }
-{
-    match maker {
-        Maker::Expr(expr) => match builder.alloc_expr(expr) {
-            Ok(_) => Ok(()),
-            Err(_) => Err(RunFault::OutOfMemory),
-        },
-        Maker::Roots => {
-            builder.begin_roots();
-            Ok(())
-        }
-        Maker::Root(id) => match builder.push_root(id) {
-            Ok(()) => Ok(()),
-            Err(_) => Err(RunFault::OutOfMemory),
-        },
-    }
-}
 
 /// Builds by the lines before the first question, and gives that question, if there is one.
 pub fn build<R: Source, W: Sink>(
@@ -44,13 +22,13 @@ pub fn build<R: Source, W: Sink>(
     reader: &mut R,
     output: &mut OutputBuffer,
     writer: &mut W,
-    builder: &mut ExpressionStoreBuilder,
+    made: &mut Made,
 ) -> Result<Option<Question>, RunFault>
     requires fits { length lines.old.pending + R.allowance reader.old < 2 ^ 64 }
-    requires fresh { (lines.old.count ≡ 0) × (lines.old.at_end ≡ false) × (builder.old ≡ nothing_built) }
+    requires fresh { (lines.old.count ≡ 0) × (lines.old.at_end ≡ false) × (made_of made.old ≡ nothing_made) }
     requires quiet { output.old ≡ [] }
     ensures builds { Builds (untaken lines.old.pending lines.old.at_end (R.remaining reader.old)) (untaken lines.new.pending lines.new.at_end (R.remaining reader.new))
-        (R.remaining reader.new) lines.new builder.new result }
+        (R.remaining reader.new) lines.new (made_of made.new) result }
     ensures still_quiet { (output.new ≡ []) × (writer.new ≡ writer.old) }
     ensures failure { R.failed reader.new ≡ (is_input_failed result || R.failed reader.old) }
     ensures still_fits { OnOk result (lines.new.count + length lines.new.pending + R.allowance reader.new < 2 ^ 64) }
@@ -58,7 +36,12 @@ pub fn build<R: Source, W: Sink>(
     while next_line(lines, reader, output, writer)? {
         match parse(alloc, lines.line()) {
             Ok(Line::Blank) => {}
-            Ok(Line::Make(maker)) => make(builder, maker)?,
+            Ok(Line::Make(maker)) => {
+                if made.is_second(&maker) {
+                    return Err(RunFault::BadLine(lines.count()));
+                }
+                made.make(maker)?;
+            }
             Ok(Line::Ask(question)) => return Ok(Some(question)),
             Ok(Line::Bad) => return Err(RunFault::BadLine(lines.count())),
             Err(_) => return Err(RunFault::OutOfMemory),
@@ -74,7 +57,7 @@ fn answer_one<W: Sink>(
     output: &mut OutputBuffer,
     writer: &mut W,
 ) -> Result<(), RunFault>
-    ensures answers { AnswersOne (W.contents writer.old) output.old (W.contents writer.new) output.new (answer_to store.now.exprs question) result }
+    ensures answers { AnswersOne (W.contents writer.old) output.old (W.contents writer.new) output.new (answer_to store.now question) result }
     ensures failure { W.failed writer.new ≡ (is_output_failed result || W.failed writer.old) }
 {
     match answer(store, question, output, writer) {
@@ -91,7 +74,7 @@ fn answer_line<W: Sink>(
     output: &mut OutputBuffer,
     writer: &mut W,
 ) -> Result<(), RunFault>
-    ensures answers { AnswersLine (W.contents writer.old) output.old (W.contents writer.new) output.new store.now.exprs lines.now result }
+    ensures answers { AnswersLine (W.contents writer.old) output.old (W.contents writer.new) output.new store.now lines.now result }
     ensures failure { W.failed writer.new ≡ (is_output_failed result || W.failed writer.old) }
 {
     match parse(alloc, lines.line()) {
@@ -116,7 +99,7 @@ fn answer_lines<R: Source, W: Sink>(
     requires fits { lines.old.count + length lines.old.pending + R.allowance reader.old < 2 ^ 64 }
     requires quiet { output.old ≡ [] }
     ensures answers { AnswersSome (untaken lines.old.pending lines.old.at_end (R.remaining reader.old)) (R.remaining reader.new) lines.old lines.new
-        (W.contents writer.old) (W.contents writer.new) output.new store.now.exprs first result }
+        (W.contents writer.old) (W.contents writer.new) output.new store.now first result }
     ensures read_failure { R.failed reader.new ≡ (is_input_failed result || R.failed reader.old) }
     ensures write_failure { W.failed writer.new ≡ (is_output_failed result || W.failed writer.old) }
 {
@@ -156,7 +139,7 @@ pub fn answer_all<R: Source, W: Sink>(
     requires quiet { output.old ≡ [] }
     requires unfailed { W.failed writer.old ≡ false }
     ensures answers { Answers (untaken lines.old.pending lines.old.at_end (R.remaining reader.old)) (R.remaining reader.new) lines.old lines.new
-        (W.contents writer.old) (W.contents writer.new) store.now.exprs first result }
+        (W.contents writer.old) (W.contents writer.new) store.now first result }
     ensures read_failure { R.failed reader.new ≡ (is_input_failed result || R.failed reader.old) }
     ensures write_failure { W.failed writer.new ≡ is_output_failed result }
 {

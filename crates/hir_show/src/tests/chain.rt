@@ -1,10 +1,11 @@
 //! A long chain of nested tuples: it is accepted, or refused for a cycle or a shared child at its end, like a short one.
 
 use super::super::fault::RunFault;
-use super::super::small::{ExprId, FinishFault, NodeId};
 use super::again::{by, run_again};
 use super::fakes::Kept;
 use hir_ends::OutputBuffer;
+use hir_node::ExprId;
+use hir_store::{FinishFault, NodeId};
 use std::alloc::Global;
 use std::test::Fail;
 

@@ -97,7 +97,7 @@ const WORDS: [Row; 30] = [
     },
     Row {
         name: "unknown_expression",
-        input: b"expr if 0 0\n",
+        input: b"expr unless 0 0\n",
         output: b"",
         said: b"bad line 1\n",
         status: 1,

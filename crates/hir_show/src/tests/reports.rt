@@ -2,8 +2,9 @@
 
 use super::super::fault::RunFault;
 use super::super::report::report;
-use super::super::small::{ExprId, FinishFault, NodeId};
 use super::fakes::Kept;
+use hir_node::ExprId;
+use hir_store::{FinishFault, NodeId};
 
 #[test]
 fn reports_each_outcome(rt: HostRuntime) {

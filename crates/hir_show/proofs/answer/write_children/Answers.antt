@@ -1,16 +1,15 @@
-use Rattle.std.proofs.Common.{◌≡◌, [], Result, refl, sym, ◌∙◌}
-use Rattle.std.specs.Prelude.{slice_index_or}
+use Rattle.std.proofs.Common.{◌≡◌, Result, refl, sym, ◌∙◌}
 use Rattle.std.proofs.lemmas.Fn.{chained_keeps}
 use Rattle.hir_ends.specs.declared.ends.EndFailed.{EndFailed}
 use Rattle.hir_ends.specs.declared.output.OutputBuffer.{OutputBuffer}
-use Rattle.hir_show.specs.small.Nodes.{graph}
+use Rattle.hir_store.specs.PatLists.{children}
 use Rattle.hir_show.proofs.Writing.{SoFar, SoFar-none, SoFar-more}
 use Rattle.hir_show.proofs.answer.write_children.Goals as goal
 use Rattle.hir_show.proofs.answer.write_children.Given as given
 
 -- the closure was called at each child, so all of them were written
 all_written : (g : given.Over) (c : goal.After-writer-1 g) →
-    SoFar g.W.Sink.contents g.W.Sink.failed (g.W.Sink.contents c.args.writer.now) c.args.output.now (g.W.Sink.failed c.args.writer.now) (slice_index_or (graph c.args.store.now.exprs) c.args.id []) c.outcome-2-1.given.0 c.output-1.given.0 c.writer-1.given.0
+    SoFar g.W.Sink.contents g.W.Sink.failed (g.W.Sink.contents c.args.writer.now) c.args.output.now (g.W.Sink.failed c.args.writer.now) (children c.args.store.now.nodes c.args.id) c.outcome-2-1.given.0 c.output-1.given.0 c.writer-1.given.0
 all_written g c =
     let State : Type 0 = denote.MutBor.MutBor (Result (Unit {0}) EndFailed) × denote.MutBor.MutBor OutputBuffer × denote.MutBor.MutBor g.row.W.Denot in
     let kept = chained_keeps {P = State} _ (λ numbers st. (st.0.ghost_name ≡ c.outcome-1.given.0) × (st.1.ghost_name ≡ c.walk_child_exprs-arg-1.given) × (st.2.ghost_name ≡ c.walk_child_exprs-arg-2-1.given)
@@ -18,7 +17,7 @@ all_written g c =
     (λ numbers old n new so_far called.
     let step = called.met in
     (step.1.0.0 ∙ so_far.0, step.1.0.1 ∙ so_far.1, step.1.0.2 ∙ so_far.2, SoFar-more _ _ _ _ _ numbers n _ _ _ _ _ _ so_far.3 step.1.1.0 step.1.1.1))
-    _ _ _ (refl, refl, refl, SoFar-none _ _ _ _) c.walk_child_exprs.ensures in
+    _ _ _ (refl, refl, refl, SoFar-none _ _ _ _) c.walk_child_exprs.ensures.runs in
     rw (c.outcome-2-1.given.1 (sym kept.0), c.output-1.given.1 (sym kept.1), c.writer-1.given.1 (sym kept.2)) kept.3
 
 pub returns-clause-writes : goal.returns-clause-writes

@@ -10,7 +10,7 @@ invariant-loop-lines g l = record {
   same_write_mark : g.W.Sink.failed l.writer ≡ g.W.Sink.failed l.fn.writer;
   falls : length l.lines.pending + g.R.Source.allowance l.reader + l.lines.count ≤ length l.fn.lines.pending + g.R.Source.allowance l.fn.reader + l.fn.lines.count;
   stays_ended : l.lines.at_end ≡ false → l.fn.lines.at_end ≡ false;
-  so_far : (texts : List (List ℕ)) × AnsweredUpTo (g.W.Sink.contents l.fn.writer) (g.W.Sink.contents l.writer) l.output l.store.exprs l.fn.first texts
+  so_far : (texts : List (List ℕ)) × AnsweredUpTo (g.W.Sink.contents l.fn.writer) (g.W.Sink.contents l.writer) l.output l.store l.fn.first texts
       × Reads (untaken l.fn.lines.pending l.fn.lines.at_end (g.R.Source.remaining l.fn.reader)) texts (untaken l.lines.pending l.lines.at_end (g.R.Source.remaining l.reader)) l.lines.at_end
       × (l.lines.count ≡ l.fn.lines.count + length texts);
 }

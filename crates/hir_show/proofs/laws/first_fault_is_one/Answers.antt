@@ -1,5 +1,0 @@
-use Rattle.hir_show.proofs.FinishLemmas.{finish_fault-one}
-use Rattle.hir_show.proofs.laws.first_fault_is_one.Goals as goal
-
-pub returns : goal.returns
-returns c = finish_fault-one
