@@ -13,12 +13,10 @@ fn arm(word: &[u8]) -> Result<MatchArm, Stop>
     ensures { Found (arm_of word.now) result }
 {
     let mut parts = Words::new(word, b':');
-    let arm = MatchArm {
-        pat: parts.id()?,
-        guard: parts.optional_id()?,
-        expr: parts.id()?,
-    };
-    parts.alone(arm)
+    let pat = parts.id()?;
+    let guard = parts.optional_id()?;
+    let expr = parts.id()?;
+    parts.alone(MatchArm { pat, guard, expr })
 }
 
 #[tactic(auto, unfolding(crate::specs::Parts::statement_of))]
