@@ -9,6 +9,7 @@ pub mod Parts
 pub mod PatGrammar
 pub mod Pats
 pub mod Readings
+pub mod SameLines
 pub mod Tokens
 pub mod TypeGrammar
 pub mod Types

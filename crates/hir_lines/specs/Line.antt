@@ -8,7 +8,7 @@ use Rattle.hir_lines.specs.declared.line.Line.{Line}
 use Rattle.hir_lines.specs.declared.line.Line.TheVariants.{Blank, Make, Ask, Bad}
 use Rattle.hir_lines.specs.declared.line.Maker.TheVariants.{Binding as MakeBinding, Pat as MakePat, «Type» as MakeType, Expr as MakeExpr, SelfParam, Param, FnName, Roots, Root}
 use Rattle.hir_lines.specs.declared.line.Question.TheVariants.{Children, RootOf}
-use Rattle.hir_lines.specs.Readings.{Reading, ◌>>=◌, gives, whole, parts_of}
+use Rattle.hir_lines.specs.Readings.{Reading, ◌>>=◌, gives, whole, parts_of, space}
 use Rattle.hir_lines.specs.Words.{number, name, one_of}
 use Rattle.hir_lines.specs.Pats.{pat}
 use Rattle.hir_lines.specs.Types.{type_ref}
@@ -95,4 +95,4 @@ or_bad (Some line) = line
 -- what a line says; its words are parted by one space each
 unfoldable pub line_of : List ℕ → Line
 line_of [] = Blank
-line_of (b ∷ bs) = or_bad (whole command (parts_of 32 (b ∷ bs)))
+line_of (b ∷ bs) = or_bad (whole command (parts_of space (b ∷ bs)))

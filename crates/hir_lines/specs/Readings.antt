@@ -7,6 +7,16 @@ use Rattle.std.specs.Borrow.{Bor}
 use Rattle.hir_lines.specs.declared.stop.Stop.{Stop}
 use Rattle.hir_lines.specs.declared.stop.Stop.TheVariants.{Bad}
 
+-- what parts the words of a line, the parts of an arm or a statement, and the numbers of a list
+abbrev pub space : ℕ
+space = 32
+
+abbrev pub colon : ℕ
+colon = 58
+
+abbrev pub comma : ℕ
+comma = 44
+
 abbrev pub is_byte : ℕ → ℕ → Bool
 is_byte c b = eqb b c
 

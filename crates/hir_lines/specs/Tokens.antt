@@ -10,6 +10,7 @@ use Rattle.hir_node.specs.declared.parts.Statement.TheVariants.{Let, Expr, Item}
 use Rattle.hir_node.specs.declared.parts.Item.TheVariants.{MacroDef, Other}
 use Rattle.hir_lines.specs.Names.{is_name}
 use Rattle.hir_lines.specs.Operators.{op_text}
+use Rattle.hir_lines.specs.Readings.{space, colon, comma}
 
 -- what a word says
 pub data Token : Type 0 where
@@ -35,7 +36,7 @@ IsOptional (Some n) word = IsNumber n word
 -- numbers parted by commas, or a dash for none
 abbrev pub IsNumbers : List ℕ → List ℕ → Type 0
 IsNumbers [] word = word ≡ codes "-"
-IsNumbers (n ∷ ns) word = (words : List (List ℕ)) × AllZip IsNumber (n ∷ ns) words × (word ≡ join_with_byte 44 words)
+IsNumbers (n ∷ ns) word = (words : List (List ℕ)) × AllZip IsNumber (n ∷ ns) words × (word ≡ join_with_byte comma words)
 
 -- an integer of 128 bits in decimal; the zero may have a minus
 abbrev pub IsInteger : ℤ → List ℕ → Type 0
@@ -43,7 +44,7 @@ IsInteger z word = FitsSigned w128 z × ((word ≡ signed_decimal z) ⊎ ((z ≡
 
 -- the parts of an arm or a statement, parted by colons
 abbrev pub colons : List (List ℕ) → List ℕ
-colons parts = join_with_byte 58 parts
+colons parts = join_with_byte colon parts
 
 -- pattern, guard, body
 abbrev pub IsArm : MatchArm → List ℕ → Type 0
@@ -72,4 +73,4 @@ IsWord (Stmt statement) word = IsStatement statement word
 
 -- the text of words that say this, parted by one space each
 abbrev pub IsText : List Token → List ℕ → Type 0
-IsText tokens text = (words : List (List ℕ)) × AllZip IsWord tokens words × (text ≡ join_with_byte 32 words)
+IsText tokens text = (words : List (List ℕ)) × AllZip IsWord tokens words × (text ≡ join_with_byte space words)

@@ -9,7 +9,7 @@ use Rattle.hir_node.specs.declared.path.Path.TheVariants.{BarePath}
 use Rattle.hir_lines.specs.Numerals.{number_of, int_of}
 use Rattle.hir_lines.specs.Names.{name_of, ascii_of}
 use Rattle.hir_lines.specs.Operators.{op_of}
-use Rattle.hir_lines.specs.Readings.{Reading, ◌>>=◌, gives, first_word, look_up, all_of, parts_of}
+use Rattle.hir_lines.specs.Readings.{Reading, ◌>>=◌, gives, first_word, look_up, all_of, parts_of, comma}
 
 -- a number, or a dash for none
 unfoldable pub optional_of : List ℕ → Option (Option ℕ)
@@ -17,7 +17,7 @@ optional_of word = if bytes_eq word (codes "-") then Some None else option_map (
 
 -- numbers parted by commas, or a dash for none
 unfoldable pub list_of : List ℕ → Option (List ℕ)
-list_of word = if bytes_eq word (codes "-") then Some [] else all_of number_of (parts_of 44 word)
+list_of word = if bytes_eq word (codes "-") then Some [] else all_of number_of (parts_of comma word)
 
 abbrev pub number : Reading ℕ
 number = first_word number_of

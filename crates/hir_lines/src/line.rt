@@ -1,10 +1,11 @@
 //! What a line says.
+ghost use Rattle.hir_base.specs.Exact.{exact};
 
-use hir_base::Name;
+use hir_base::{ExactEq, Name};
 use hir_node::{Binding, BindingId, Expr, ExprId, Pat, PatId, TypeRef};
 
 /// A line that makes something.
-#[derive(Debug, Drop)]
+#[derive(Debug, Drop, PartialEq, Eq)]
 pub enum Maker {
     /// `bind ..`: the binding.
     Binding(Binding),
@@ -26,8 +27,14 @@ pub enum Maker {
     Root(ExprId),
 }
 
+impl ExactEq for Maker {
+    ghost use Rattle.hir_lines.specs.SameLines.{makers_decide};
+
+    ghost eq_decides = { makers_decide };
+}
+
 /// A line that asks something.
-#[derive(Clone, Copy, Debug)]
+#[derive(Clone, Copy, Debug, PartialEq, Eq)]
 pub enum Question {
     /// `children E`: the child expressions.
     Children(ExprId),
@@ -35,8 +42,12 @@ pub enum Question {
     RootOf(ExprId),
 }
 
+impl ExactEq for Question {
+    ghost eq_decides = { Prim.search exact };
+}
+
 /// What a line says.
-#[derive(Debug, Drop)]
+#[derive(Debug, Drop, PartialEq, Eq)]
 pub enum Line {
     /// An empty line.
     Blank,
@@ -44,4 +55,10 @@ pub enum Line {
     Ask(Question),
     /// Any other text.
     Bad,
+}
+
+impl ExactEq for Line {
+    ghost use Rattle.hir_lines.specs.SameLines.{lines_decide};
+
+    ghost eq_decides = { lines_decide };
 }

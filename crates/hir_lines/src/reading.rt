@@ -3,7 +3,7 @@
 ghost use Rattle.std.specs.Prelude.{◌≡◌, ◌≢◌, IfOk};
 ghost use Rattle.hir_lines.specs.Grammar.{IsLine};
 ghost use Rattle.hir_lines.specs.Line.{line_of, plain_binding, command};
-ghost use Rattle.hir_lines.specs.Readings.{Reads, Found, parts_of, whole};
+ghost use Rattle.hir_lines.specs.Readings.{Reads, Found, parts_of, space, whole};
 
 use crate::exprs::expr;
 use crate::line::{Line, Maker, Question};
@@ -50,7 +50,7 @@ fn command(alloc: Global, words: &mut Words<'_>) -> Result<Line, Stop>
 
 /// What the words of a line say, if they are all read.
 fn whole_command(alloc: Global, text: &[u8]) -> Result<Line, Stop>
-    ensures { Found (whole command (parts_of 32 text.now)) result }
+    ensures { Found (whole command (parts_of space text.now)) result }
 {
     let mut words = Words::new(text, b' ');
     let line = command(alloc, &mut words)?;

@@ -1,0 +1,41 @@
+-- That `==` of lines decides whether they are the same, variant by variant.
+use Rattle.std.specs.Prelude.{◌≡◌}
+use Rattle.std.specs.Bool.{Decides}
+use Rattle.hir_base.specs.Exact.{exact}
+use Rattle.hir_base.specs.Variants.{values_decide, then, last}
+use Rattle.hir_node.specs.SameExprs.{exprs_decide}
+use Rattle.hir_node.specs.SamePats.{pats_decide}
+use Rattle.hir_node.specs.SameStructs.{bindings_decide}
+use Rattle.hir_node.specs.SameTypes.{types_decide}
+use Rattle.hir_lines.specs.declared.line.Line.{Line}
+use Rattle.hir_lines.specs.declared.line.Maker.{Maker}
+use Rattle.hir_lines.specs.declared.line.Question.{Question}
+use Rattle.hir_lines.specs.contracts.line.Line as lines
+use Rattle.hir_lines.specs.contracts.line.LinePartialEq.TheImpl as line
+use Rattle.hir_lines.specs.contracts.line.Maker.{enum}
+use Rattle.hir_lines.specs.contracts.line.QuestionPartialEq.TheImpl as question
+use Rattle.hir_lines.specs.contracts.line.MakerPartialEq.TheImpl as maker
+
+pub makers_decide : (x y : Maker) → Decides (maker.ghosts.eq x y) (x ≡ y)
+makers_decide x y = values_decide enum x y (
+    (then _ _ (last _ bindings_decide)
+    (then _ _ (last _ pats_decide)
+    (then _ _ (last _ types_decide)
+    (then _ _ (last _ exprs_decide)
+    (then _ _ (λ a b. search exact)
+    (then _ _ (λ a b. search exact)
+    (then _ _ (λ a b. search exact)
+    (then _ _ (λ a b. search exact)
+    (then _ _ (λ a b. search exact)
+    (λ c d. absurd c)))))))))) _ _)
+
+pub questions_decide : (x y : Question) → Decides (question.ghosts.eq x y) (x ≡ y)
+questions_decide x y = search exact
+
+pub lines_decide : (x y : Line) → Decides (line.ghosts.eq x y) (x ≡ y)
+lines_decide x y = values_decide lines.enum x y (
+    (then _ _ (λ a b. search exact)
+    (then _ _ (last _ makers_decide)
+    (then _ _ (last _ questions_decide)
+    (then _ _ (λ a b. search exact)
+    (λ c d. absurd c))))) _ _)
