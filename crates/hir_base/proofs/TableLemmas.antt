@@ -1,6 +1,7 @@
 -- A `HashMap` as a finite map: what a look-up, an insertion, an iteration and a comparison mean.
-use Rattle.std.proofs.Common.{◌≡◌, ℕ, List, [], ◌∷◌, Bool, true, false, cond, length, ◌⊎◌, refl, ap, sym, ◌∙◌, subst, inl, inr, ⊎_elim, Decides, arith}
-use Rattle.std.specs.Prelude.{Option, Some, None}
+use Rattle.std.proofs.Common.{◌≡◌, ℕ, List, [], ◌∷◌, Bool, true, false, cond, length, ◌⊎◌, refl, ap, sym, ◌∙◌, subst, inl, inr, ⊎_elim, Decides, arith, rules}
+use Rattle.std.specs.Cmp.{unsigned_Decides}
+use Rattle.std.specs.Prelude.{◌==◌, Option, Some, None, IsSome, OnSome, option_map}
 use Rattle.std.specs.Bool.{one_answer}
 use Rattle.std.specs.declared.cmp.Ordering.TheVariants.{Less, Equal, Greater}
 use Rattle.std.specs.Ordering.{eq_by_cmp, is_eq}
@@ -32,6 +33,11 @@ put_new c v (e ∷ es) h =
           IsPermutation-trans _ _ _ (IsPermutation-swap ((c, v) ∷ e ∷ es) (e ∷ (c, v) ∷ es) 0 1 (omega arith) (omega arith) refl) (IsPermutation-cons e _ _ (put_new c v es later))
     ] refl
 
+-- what follows where a value is found, of an answer that lends it
+pub when_some : {A B P : Type 0} (f : A → B) (r : Option A) (o : Option B) → option_map f r ≡ o → (IsSome o → P) → OnSome r P
+when_some f None o e h = search rules
+when_some f (Some x) o e h = h (subst IsSome e (search rules))
+
 same_test : {K : Type 0} (code : K → List ℕ) (E : K → K → Bool) → ((x y : K) → Decides (E x y) (code x ≡ code y)) → (k q : K) → E k q ≡ eq_by_cmp by_code (code k) (code q)
 same_test code E tells k q = one_answer (E k q) _ (tells k q) (by_code_decides (code k) (code q))
 
@@ -40,6 +46,16 @@ pub table_of-clone : {K V : Type 0} (code : K → List ℕ) (C : K → K → Typ
     → (es fs : List (K × V)) → AllZip (λ p q. C p.0 q.0 × D p.1 q.1) es fs → table_of code fs ≡ table_of code es
 table_of-clone code C D key value es fs clones =
     ap (table_of code) (same_from_all_zip (λ p q. C p.0 q.0 × D p.1 q.1) es fs clones (λ p q same i. (key p.0 q.0 same.0 i, value p.1 q.1 same.1 i)))
+
+-- a map of no entries is the empty one
+pub empty_by_len : {V : Type 0} (m : map.FinMap by_code V) → Decides (map.len m == 0) (m ≡ map.empty)
+empty_by_len {V = V} m = (
+  λ h.
+      let none : map.entries m ≡ [] = nothing _ (sym (map.len-entries m) ∙ (unsigned_Decides _ _).0 h) in
+      let none' : map.entries (map.empty {X = V} {R = by_code}) ≡ [] = nothing _ (sym (map.len-entries map.empty) ∙ map.len-empty by_code V) in
+      map.same_entries_map m map.empty (none ∙ sym none'),
+  λ e. (unsigned_Decides _ _).1 (ap map.len e ∙ map.len-empty by_code V),
+)
 
 module _ {K V : Type 0} (code : K → List ℕ) where
   -- a key with the code c, or none of the entries has it
@@ -77,6 +93,20 @@ module _ {K V : Type 0} (code : K → List ℕ) where
       λ h. alike es fs (d.0 h),
       λ e. d.1 (λ q. sym (get-table_of q es) ∙ ap (λ m. map.get m (code q)) e ∙ get-table_of q fs),
     )
+
+    -- a table with no entries
+    pub none_left : (es : List (K × V)) → length es ≡ 0 → table_of code es ≡ map.empty
+    none_left [] h = map.same_map nat_list_cmp_total by_code-IsAntisymmetric _ _ (λ c. map.get-from_entries nat_list_cmp_total [] c ∙ sym (map.get-empty by_code c))
+    none_left (e ∷ es) h = absurd (omega arith)
+
+    pub none_there : (es : List (K × V)) → table_of code es ≡ map.empty → length es ≡ 0
+    none_there [] h = refl
+    none_there (e ∷ es) h =
+        let here : E e.0 e.0 ≡ true = (tells e.0 e.0).1 refl in
+        let found : Some e.1 ≡ None =
+        sym (ap (λ b. cond b (Some e.1) (lookup (E e.0) es)) here) ∙ sym (get-table_of e.0 (e ∷ es)) ∙ ap (λ m. map.get m (code e.0)) h ∙ map.get-empty by_code (code e.0)
+        in
+        absurd (cc)
 
     absent : (k : K) (es : List (K × V)) → AllByRecursion (λ y. E k y ≡ false) (keys_of es) → lookup (E k) es ≡ None
     absent k [] h = refl

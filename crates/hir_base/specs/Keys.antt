@@ -48,7 +48,7 @@ unfolding node_back
 node_tells = read_back_tells node_code node_back (λ x. refl)
 
 -- an id after a number for its kind
-abbrev read_id : {X : Type 0} → List (ℕ → X) → List ℕ → Option X
+abbrev pub read_id : {X : Type 0} → List (ℕ → X) → List ℕ → Option X
 read_id makers (kind ∷ id ∷ []) = option_map (λ make. make id) (slice_get makers kind)
 read_id makers code = None
 

@@ -12,4 +12,5 @@ pub mod Precedence
 pub mod RawWords
 pub mod Seq
 pub mod Table
+pub mod TableLends
 pub mod Variants

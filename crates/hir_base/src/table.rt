@@ -1,8 +1,9 @@
 //! Maps under keys of ours, which may be any: hash tables with a fixed seed.
 //! They take memory for their entries alone, whatever the keys are.
-ghost use Rattle.std.specs.Prelude.{◌≡◌, List, ℕ, OnOk, OnErr, IfErr, IfOk};
+ghost use Rattle.std.specs.Prelude.{◌≡◌, ◌↔◌, ◌==◌, List, ℕ, IsTrue, OnOk, OnErr, IfErr, IfOk};
 ghost use Rattle.std.specs.Bool.{Decides};
-ghost use Rattle.std.specs.Option.{option_copied};
+ghost use Rattle.std.specs.Option.{option_copied, option_copied_mut};
+ghost use Rattle.std.specs.Borrow.{sem};
 ghost use Rattle.std.specs.List.Sorted.{IsPermutation};
 ghost use Rattle.std.specs.Cmp.Lexicographic.{nat_list_cmp_total};
 ghost use Rattle.std.specs.FinMap as map;
@@ -25,6 +26,7 @@ pub trait Keyed: Eq + Hash {
 
 /// A hash table with a fixed seed, seen as the finite map from the codes of its keys to their values.
 #[derive(Drop)]
+#[derive_where(Debug; K, V)]
 pub struct Table<K: Keyed, V> {
     entries: HashMap<K, V>,
 }
@@ -58,12 +60,32 @@ impl<K: Keyed, V> Table<K, V> {
         self.entries.get(key)
     }
 
+    /// Whether there are no entries.
+    pub fn is_empty(&self) -> bool
+        ensures none { IsTrue result ↔ (self.now ≡ map.empty) }
+        ensures len { result ≡ (map.len self.now == 0) }
+    {
+        self.entries.is_empty()
+    }
+
     /// The entries, each once, in an order that nobody may rely on.
     pub fn iter(&self) -> TableIter<'_, K, V>
         ensures { IsPermutation (coded K.code result) (map.entries self.now) }
     {
         let entries = self.entries.iter();
         TableIter::new(entries)
+    }
+}
+
+impl<K: Keyed, V> Table<K, V> {
+    ghost use Rattle.hir_base.specs.TableLends.{lends_value};
+
+    /// The value of this key, to be written, if it has one: no other entry changes.
+    pub fn get_mut(&mut self, key: &K) -> Option<&mut V>
+        ensures* writes_back { sem 𝓛 (lends_value K.row V.row K.Keyed self.entry (K.code key.now) result) }
+        ensures value { option_copied_mut result ≡ map.get self.old (K.code key.now) }
+    {
+        self.entries.get_mut(key)
     }
 }
 

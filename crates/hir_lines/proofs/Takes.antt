@@ -3,7 +3,7 @@ use Rattle.std.proofs.Common.{◌≡◌, ℕ, List, [], ◌∷◌, Option, None,
 use Rattle.std.specs.Prelude.{ℤ}
 use Rattle.std.specs.Option.{option_map, option_and_then}
 use Rattle.hir_base.specs.declared.operators.BinaryOp.{BinaryOp}
-use Rattle.hir_node.specs.declared.path.Path.{Path}
+use Rattle.hir_path.specs.declared.path.Path.{Path}
 use Rattle.hir_lines.specs.Numerals.{number_of, int_of}
 use Rattle.hir_lines.specs.Names.{name_of}
 use Rattle.hir_lines.specs.Operators.{op_of}

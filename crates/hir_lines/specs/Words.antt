@@ -4,8 +4,8 @@ use Rattle.std.specs.Option.{option_map}
 use Rattle.std.specs.Str.{bytes_eq}
 use Rattle.hir_base.specs.declared.operators.BinaryOp.{BinaryOp}
 use Rattle.hir_base.specs.declared.mod_path.PathKind.TheVariants.{Plain}
-use Rattle.hir_node.specs.declared.path.Path.{Path}
-use Rattle.hir_node.specs.declared.path.Path.TheVariants.{BarePath}
+use Rattle.hir_path.specs.declared.path.Path.{Path}
+use Rattle.hir_path.specs.declared.path.Path.TheVariants.{BarePath}
 use Rattle.hir_lines.specs.Numerals.{number_of, int_of}
 use Rattle.hir_lines.specs.Names.{name_of, ascii_of}
 use Rattle.hir_lines.specs.Operators.{op_of}

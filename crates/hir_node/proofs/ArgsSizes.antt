@@ -2,9 +2,9 @@
 use Rattle.std.proofs.Common.{◌≡◌, ℕ, ◌+◌, ◌<◌, List, [], ◌∷◌, Option, Some, None, length, get_or, map, refl, ap, ◌∙◌, arith}
 use Rattle.std.specs.List.{sum_by}
 use Rattle.std.proofs.lemmas.List.Sums.{get_or-le-sum_by, sum_by-cons}
-use Rattle.hir_node.specs.declared.path.GenericArgs.{GenericArgs, GenericArgs-F, fold-GenericArgs, out-GenericArgs, fold_out-GenericArgs}
-use Rattle.hir_node.specs.declared.path.AssociatedTypeBinding.{AssociatedTypeBinding, AssociatedTypeBinding-F, fold-AssociatedTypeBinding, out-AssociatedTypeBinding, fold_out-AssociatedTypeBinding}
-use Rattle.hir_node.specs.declared.path.AssociatedTypeBinding.TheShapes.{former-AssociatedTypeBinding-args}
+use Rattle.hir_path.specs.declared.path.GenericArgs.{GenericArgs, GenericArgs-F, fold-GenericArgs, out-GenericArgs, fold_out-GenericArgs}
+use Rattle.hir_path.specs.declared.path.AssociatedTypeBinding.{AssociatedTypeBinding, AssociatedTypeBinding-F, fold-AssociatedTypeBinding, out-AssociatedTypeBinding, fold_out-AssociatedTypeBinding}
+use Rattle.hir_path.specs.declared.path.AssociatedTypeBinding.TheShapes.{former-AssociatedTypeBinding-args}
 
 -- of arguments that may be absent, where their size stands in their place
 abbrev option_size : Option ℕ → ℕ

@@ -3,17 +3,17 @@ use Rattle.std.proofs.Common.{◌≡◌, ℕ, List, [], ◌∷◌, ◌++◌, Opt
 use Rattle.std.specs.List.{flat_map, FoldsTo}
 use Rattle.std.specs.Option.{option_to_list}
 use Rattle.std.proofs.lemmas.List.Concat.{flat_map-append}
-use Rattle.hir_node.specs.declared.type_ref.TypeBound.{TypeBound}
-use Rattle.hir_node.specs.declared.type_ref.TypeBound.TheVariants as bound
-use Rattle.hir_node.specs.declared.type_ref.UseArgRef.{UseArgRef}
-use Rattle.hir_node.specs.declared.type_ref.UseArgRef.TheVariants as use_arg
-use Rattle.hir_node.specs.declared.path.GenericArg.{GenericArg}
-use Rattle.hir_node.specs.declared.path.GenericArg.TheVariants as arg
-use Rattle.hir_node.specs.declared.path.GenericArgs.{GenericArgs, GenericArgs-F, out-GenericArgs, roll-GenericArgs, out-roll-GenericArgs, ind-GenericArgs}
-use Rattle.hir_node.specs.declared.path.AssociatedTypeBinding.{AssociatedTypeBinding, AssociatedTypeBinding-F, out-AssociatedTypeBinding, roll-AssociatedTypeBinding, out-roll-AssociatedTypeBinding}
-use Rattle.hir_node.specs.declared.path.AssociatedTypeBinding.TheShapes.{former-AssociatedTypeBinding-args}
-use Rattle.hir_node.specs.declared.path.Path.{Path}
-use Rattle.hir_node.specs.declared.path.Path.TheVariants as path
+use Rattle.hir_path.specs.declared.bound.TypeBound.{TypeBound}
+use Rattle.hir_path.specs.declared.bound.TypeBound.TheVariants as bound
+use Rattle.hir_path.specs.declared.bound.UseArgRef.{UseArgRef}
+use Rattle.hir_path.specs.declared.bound.UseArgRef.TheVariants as use_arg
+use Rattle.hir_path.specs.declared.path.GenericArg.{GenericArg}
+use Rattle.hir_path.specs.declared.path.GenericArg.TheVariants as arg
+use Rattle.hir_path.specs.declared.path.GenericArgs.{GenericArgs, GenericArgs-F, out-GenericArgs, roll-GenericArgs, out-roll-GenericArgs, ind-GenericArgs}
+use Rattle.hir_path.specs.declared.path.AssociatedTypeBinding.{AssociatedTypeBinding, AssociatedTypeBinding-F, out-AssociatedTypeBinding, roll-AssociatedTypeBinding, out-roll-AssociatedTypeBinding}
+use Rattle.hir_path.specs.declared.path.AssociatedTypeBinding.TheShapes.{former-AssociatedTypeBinding-args}
+use Rattle.hir_path.specs.declared.path.Path.{Path}
+use Rattle.hir_path.specs.declared.path.Path.TheVariants as path
 use Rattle.hir_node.specs.declared.pat.RecordFieldPat.{RecordFieldPat}
 use Rattle.hir_node.specs.ChildCalls.{Call, p, t, opt, use_calls, bound_calls, arg_calls, args_calls, binding_calls, path_calls, pat_of_call, child_pats}
 use Rattle.hir_node.specs.declared.pat.Pat.TheVariants as pat

@@ -2,19 +2,19 @@
 -- From them come the kids of a node, and beside them stand the other ids that a node names.
 use Rattle.std.specs.Prelude.{ℕ, List, [], ◌∷◌, ◌++◌, Option, Some, None}
 use Rattle.std.specs.List.{flat_map}
-use Rattle.hir_node.specs.declared.type_ref.TypeBound.{TypeBound}
-use Rattle.hir_node.specs.declared.type_ref.TypeBound.TheVariants as bound
-use Rattle.hir_node.specs.declared.type_ref.UseArgRef.{UseArgRef}
-use Rattle.hir_node.specs.declared.type_ref.UseArgRef.TheVariants as use_arg
+use Rattle.hir_path.specs.declared.bound.TypeBound.{TypeBound}
+use Rattle.hir_path.specs.declared.bound.TypeBound.TheVariants as bound
+use Rattle.hir_path.specs.declared.bound.UseArgRef.{UseArgRef}
+use Rattle.hir_path.specs.declared.bound.UseArgRef.TheVariants as use_arg
 use Rattle.hir_node.specs.declared.type_ref.TypeRef.{TypeRef}
 use Rattle.hir_node.specs.declared.type_ref.TypeRef.TheVariants as type
-use Rattle.hir_node.specs.declared.path.GenericArg.{GenericArg}
-use Rattle.hir_node.specs.declared.path.GenericArg.TheVariants as arg
-use Rattle.hir_node.specs.declared.path.GenericArgs.{GenericArgs, GenericArgs-F, fold-GenericArgs}
-use Rattle.hir_node.specs.declared.path.AssociatedTypeBinding.{AssociatedTypeBinding, AssociatedTypeBinding-F, fold-AssociatedTypeBinding}
-use Rattle.hir_node.specs.declared.path.NormalPath.{NormalPath}
-use Rattle.hir_node.specs.declared.path.Path.{Path}
-use Rattle.hir_node.specs.declared.path.Path.TheVariants as path
+use Rattle.hir_path.specs.declared.path.GenericArg.{GenericArg}
+use Rattle.hir_path.specs.declared.path.GenericArg.TheVariants as arg
+use Rattle.hir_path.specs.declared.path.GenericArgs.{GenericArgs, GenericArgs-F, fold-GenericArgs}
+use Rattle.hir_path.specs.declared.path.AssociatedTypeBinding.{AssociatedTypeBinding, AssociatedTypeBinding-F, fold-AssociatedTypeBinding}
+use Rattle.hir_path.specs.declared.path.NormalPath.{NormalPath}
+use Rattle.hir_path.specs.declared.path.Path.{Path}
+use Rattle.hir_path.specs.declared.path.Path.TheVariants as path
 use Rattle.hir_node.specs.declared.pat.Pat.{Pat}
 use Rattle.hir_node.specs.declared.pat.Pat.TheVariants as pat
 use Rattle.hir_node.specs.declared.parts.RecordSpread.{RecordSpread}

@@ -1,29 +1,23 @@
--- That `==` of the parts of paths, literals, bindings and function types decides whether they are the same.
+-- That `==` of the parts of literals, bindings and function types decides whether they are the same.
 use Rattle.std.specs.Prelude.{◌≡◌, ℕ, List, Option}
 use Rattle.std.specs.Bool.{Decides}
 use Rattle.std.specs.Option.{option_eq}
 use Rattle.std.specs.Cmp.Lexicographic.{pointwise, pointwise_decides}
-use Rattle.hir_base.specs.Exact.{exact, options_decide}
-use Rattle.hir_base.specs.ModPath.{ModPath}
+use Rattle.hir_base.specs.Exact.{options_decide}
+use Rattle.hir_base.specs.contracts.name.NamePartialEq.TheImpl as names
+use Rattle.hir_path.specs.Leaves.{names_decide}
+use Rattle.hir_path.specs.Leaves as paths
 use Rattle.hir_base.specs.declared.hygiene.SyntaxContext.{SyntaxContext}
 use Rattle.hir_base.specs.declared.abi.ExternAbi.{ExternAbi}
-use Rattle.hir_base.specs.declared.defs.LangItemTarget.{LangItemTarget}
 use Rattle.hir_node.specs.declared.binding.BindingAnnotation.{BindingAnnotation}
 use Rattle.hir_base.specs.declared.builtin_type.BuiltinInt.{BuiltinInt}
 use Rattle.hir_base.specs.declared.builtin_type.BuiltinUint.{BuiltinUint}
 use Rattle.hir_base.specs.declared.builtin_type.BuiltinFloat.{BuiltinFloat}
 use Rattle.hir_node.specs.declared.binding.BindingProblems.{BindingProblems}
-use Rattle.hir_node.specs.declared.path.GenericArgs.{GenericArgs}
-use Rattle.hir_base.specs.contracts.mod_path.ModPathPartialEq.TheImpl as mod_paths
-use Rattle.hir_base.specs.contracts.mod_path.ModPathExactEq.TheImpl.Laws as mod_paths_law
-use Rattle.hir_base.specs.contracts.name.NamePartialEq.TheImpl as names
-use Rattle.hir_base.specs.contracts.name.NameExactEq.TheImpl.Laws as names_law
 use Rattle.hir_base.specs.contracts.abi.ExternAbiPartialEq.TheImpl as abis
 use Rattle.hir_base.specs.contracts.abi.ExternAbiExactEq.TheImpl.Laws as abis_law
 use Rattle.hir_base.specs.contracts.hygiene.HygieneIdPartialEq.TheImpl as hygienes
 use Rattle.hir_base.specs.contracts.hygiene.HygieneIdExactEq.TheImpl.Laws as hygienes_law
-use Rattle.hir_base.specs.contracts.defs.LangItemTargetPartialEq.TheImpl as targets
-use Rattle.hir_base.specs.contracts.defs.LangItemTargetExactEq.TheImpl.Laws as targets_law
 use Rattle.hir_node.specs.contracts.binding.BindingAnnotationPartialEq.TheImpl as annotations
 use Rattle.hir_node.specs.contracts.binding.BindingAnnotationExactEq.TheImpl.Laws as annotations_law
 use Rattle.hir_node.specs.contracts.literal.FloatTypeWrapperPartialEq.TheImpl as floats
@@ -36,23 +30,12 @@ use Rattle.hir_base.specs.contracts.builtin_type.BuiltinFloatPartialEq.TheImpl a
 use Rattle.hir_base.specs.contracts.builtin_type.BuiltinFloatExactEq.TheImpl.Laws as suffixes_of_floats_law
 use Rattle.hir_node.specs.contracts.binding.BindingProblemsPartialEq.TheImpl as problems
 use Rattle.hir_node.specs.contracts.binding.BindingProblemsExactEq.TheImpl.Laws as problems_law
-use Rattle.hir_node.specs.contracts.path.GenericArgsPartialEq.TheImpl as given
-use Rattle.hir_node.specs.contracts.path.GenericArgsExactEq.TheImpl.Laws as given_law
-
-pub mod_paths_decide : (x y : ModPath) → Decides (mod_paths.ghosts.eq x y) (x ≡ y)
-mod_paths_decide = mod_paths_law.lawful.eq_decides
-
-pub names_decide : (x y : List ℕ) → Decides (names.ghosts.eq x y) (x ≡ y)
-names_decide = names_law.lawful.eq_decides
 
 pub abis_decide : (x y : ExternAbi) → Decides (abis.ghosts.eq x y) (x ≡ y)
 abis_decide = abis_law.lawful.eq_decides
 
 pub hygienes_decide : (x y : SyntaxContext) → Decides (hygienes.ghosts.eq x y) (x ≡ y)
 hygienes_decide = hygienes_law.lawful.eq_decides
-
-pub targets_decide : (x y : LangItemTarget) → Decides (targets.ghosts.eq x y) (x ≡ y)
-targets_decide = targets_law.lawful.eq_decides
 
 pub annotations_decide : (x y : BindingAnnotation) → Decides (annotations.ghosts.eq x y) (x ≡ y)
 annotations_decide = annotations_law.lawful.eq_decides
@@ -72,19 +55,10 @@ suffixes_of_floats_decide = options_decide suffixes_of_floats_law.lawful.eq_deci
 pub problems_decide : (x y : Option BindingProblems) → Decides (option_eq problems.ghosts.eq x y) (x ≡ y)
 problems_decide = options_decide problems_law.lawful.eq_decides
 
-pub given_decide : (x y : Option GenericArgs) → Decides (option_eq given.ghosts.eq x y) (x ≡ y)
-given_decide = options_decide given_law.lawful.eq_decides
-
-pub given_lists_decide : (xs ys : List (Option GenericArgs)) → Decides (pointwise (option_eq given.ghosts.eq) xs ys) (xs ≡ ys)
-given_lists_decide = pointwise_decides given_decide
-
-pub optional_names_decide : (x y : Option (List ℕ)) → Decides (option_eq names.ghosts.eq x y) (x ≡ y)
-optional_names_decide = options_decide names_decide
-
 pub name_lists_decide : (xs ys : List (List ℕ)) → Decides (pointwise names.ghosts.eq xs ys) (xs ≡ ys)
 name_lists_decide = pointwise_decides names_decide
 
 pub optional_name_lists_decide : (x y : Option (List (List ℕ))) → Decides (option_eq (pointwise names.ghosts.eq) x y) (x ≡ y)
 optional_name_lists_decide = options_decide name_lists_decide
 
-pub ruleset leaves = (exact, mod_paths_decide, names_decide, abis_decide, hygienes_decide, targets_decide, annotations_decide, floats_decide, suffixes_of_ints_decide, suffixes_of_uints_decide, suffixes_of_floats_decide, problems_decide, given_decide, given_lists_decide, optional_names_decide, name_lists_decide, optional_name_lists_decide)
+pub ruleset leaves = (paths.leaves, abis_decide, hygienes_decide, annotations_decide, floats_decide, suffixes_of_ints_decide, suffixes_of_uints_decide, suffixes_of_floats_decide, problems_decide, name_lists_decide, optional_name_lists_decide)

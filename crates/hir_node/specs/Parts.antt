@@ -5,9 +5,9 @@ use Rattle.std.specs.Option.{option_eq}
 use Rattle.std.specs.Cmp.Lexicographic.{pointwise, pointwise_decides}
 use Rattle.hir_base.specs.Exact.{exact, options_decide}
 use Rattle.hir_base.specs.declared.params.TypeOrConstParamId.{TypeOrConstParamId}
-use Rattle.hir_node.specs.declared.path.Path.{Path}
-use Rattle.hir_node.specs.contracts.path.PathPartialEq.TheImpl as paths
-use Rattle.hir_node.specs.contracts.path.PathExactEq.TheImpl.Laws as paths_law
+use Rattle.hir_path.specs.declared.path.Path.{Path}
+use Rattle.hir_path.specs.contracts.path.PathPartialEq.TheImpl as paths
+use Rattle.hir_path.specs.contracts.path.PathExactEq.TheImpl.Laws as paths_law
 use Rattle.hir_node.specs.declared.literal.Literal.{Literal}
 use Rattle.hir_node.specs.contracts.literal.LiteralPartialEq.TheImpl as literals
 use Rattle.hir_node.specs.contracts.literal.LiteralExactEq.TheImpl.Laws as literals_law
@@ -67,15 +67,15 @@ use Rattle.hir_node.specs.contracts.parts.RecordLitFieldExactEq.TheImpl.Laws as 
 use Rattle.hir_node.specs.declared.pat.RecordFieldPat.{RecordFieldPat}
 use Rattle.hir_node.specs.contracts.pat.RecordFieldPatPartialEq.TheImpl as field_pats
 use Rattle.hir_node.specs.contracts.pat.RecordFieldPatExactEq.TheImpl.Laws as field_pats_law
-use Rattle.hir_node.specs.declared.type_ref.TypeBound.{TypeBound}
-use Rattle.hir_node.specs.contracts.type_ref.TypeBoundPartialEq.TheImpl as bounds
-use Rattle.hir_node.specs.contracts.type_ref.TypeBoundExactEq.TheImpl.Laws as bounds_law
+use Rattle.hir_path.specs.declared.bound.TypeBound.{TypeBound}
+use Rattle.hir_path.specs.contracts.bound.TypeBoundPartialEq.TheImpl as bounds
+use Rattle.hir_path.specs.contracts.bound.TypeBoundExactEq.TheImpl.Laws as bounds_law
 use Rattle.hir_base.specs.declared.operators.BinaryOp.{BinaryOp}
 use Rattle.hir_base.specs.contracts.operators.BinaryOpPartialEq.TheImpl as operators
 use Rattle.hir_base.specs.contracts.operators.BinaryOpExactEq.TheImpl.Laws as operators_law
-use Rattle.hir_node.specs.declared.path.GenericArgs.{GenericArgs}
-use Rattle.hir_node.specs.contracts.path.GenericArgsPartialEq.TheImpl as given_args
-use Rattle.hir_node.specs.contracts.path.GenericArgsExactEq.TheImpl.Laws as given_args_law
+use Rattle.hir_path.specs.declared.path.GenericArgs.{GenericArgs}
+use Rattle.hir_path.specs.contracts.path.GenericArgsPartialEq.TheImpl as given_args
+use Rattle.hir_path.specs.contracts.path.GenericArgsExactEq.TheImpl.Laws as given_args_law
 
 pub paths_decide : (x y : Path) → Decides (paths.ghosts.eq x y) (x ≡ y)
 paths_decide = paths_law.lawful.eq_decides

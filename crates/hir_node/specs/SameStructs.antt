@@ -1,27 +1,19 @@
--- That `==` of paths with arguments, of bindings and of function types decides whether they are the same, field by field.
+-- That `==` of bindings and of function types decides whether they are the same, field by field.
 use Rattle.std.specs.Prelude.{◌≡◌, ◌&&◌, ℕ, List, Option, Bool, eqb}
 use Rattle.std.specs.Bool.{Decides}
 use Rattle.std.specs.Option.{option_eq}
 use Rattle.std.specs.Cmp.{unsigned_Decides}
 use Rattle.std.specs.Cmp.Lexicographic.{pointwise_decides}
 use Rattle.std.specs.contracts.prelude.BoolPartialEq.TheImpl as flag
-use Rattle.hir_base.specs.Exact.{exact, optional_numbers_decide}
+use Rattle.hir_base.specs.Exact.{exact}
 use Rattle.hir_base.specs.contracts.name.NamePartialEq.TheImpl as name
-use Rattle.hir_node.specs.Fields.{and_decides, both}
-use Rattle.hir_node.specs.Leaves.{names_decide, mod_paths_decide, abis_decide, hygienes_decide, annotations_decide, problems_decide, given_lists_decide, optional_names_decide, optional_name_lists_decide}
-use Rattle.hir_node.specs.declared.path.NormalPath.{NormalPath}
+use Rattle.hir_path.specs.Fields.{and_decides, both}
+use Rattle.hir_path.specs.Leaves.{names_decide, optional_names_decide}
+use Rattle.hir_node.specs.Leaves.{abis_decide, hygienes_decide, annotations_decide, problems_decide, optional_name_lists_decide}
 use Rattle.hir_node.specs.declared.binding.Binding.{Binding}
 use Rattle.hir_node.specs.declared.type_ref.FnType.{FnType}
-use Rattle.hir_node.specs.contracts.path.NormalPathPartialEq.TheImpl as normal
 use Rattle.hir_node.specs.contracts.binding.BindingPartialEq.TheImpl as binding
 use Rattle.hir_node.specs.contracts.type_ref.FnTypePartialEq.TheImpl as function
-
-pub normals_decide : (x y : NormalPath) → Decides (normal.ghosts.eq x y) (x ≡ y)
-normals_decide x y =
-    and_decides _ _ (given_lists_decide x.generic_args y.generic_args)
-    (both _ _ (optional_numbers_decide x.type_anchor y.type_anchor) (mod_paths_decide x.mod_path y.mod_path))
-    (λ g r i. record { generic_args = g i; type_anchor = r.0 i; mod_path = r.1 i })
-    (λ e i. (e i).generic_args) (λ e. (λ i. (e i).type_anchor, λ i. (e i).mod_path))
 
 pub bindings_decide : (x y : Binding) → Decides (binding.ghosts.eq x y) (x ≡ y)
 bindings_decide x y =

@@ -4,13 +4,13 @@
 ghost use Rattle.hir_node.specs.ChildCalls.{expr_calls, pat_calls, type_calls, spread_calls, array_calls};
 ghost use Rattle.hir_node.specs.Runs.{Runs, MayRun};
 
-use crate::boxed::Boxed;
 use crate::expr::Expr;
 use crate::part::visit_each;
 use crate::parts::{Array, RecordSpread};
 use crate::pat::Pat;
 use crate::type_ref::TypeRef;
 use crate::visitor::{StoreVisitor, StoreVisitorExt};
+use hir_path::Boxed;
 
 impl Expr {
     /// Calls the visitor with each child, in the order of the child calls.

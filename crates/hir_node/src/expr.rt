@@ -2,18 +2,16 @@
 ghost use Rattle.std.specs.Prelude.{◌≡◌};
 ghost use Rattle.hir_node.specs.Precedence.{of_operator, of_arith};
 
-use crate::boxed::Boxed;
-use crate::ids::{ExprId, LabelId, PatId, TypeRefId};
 use crate::literal::Literal;
 use crate::parts::{
     Array, CaptureBy, ClosureKind, LoopSource, MatchArm, OffsetOf, RecordLitField, RecordSpread,
     Statement, Unsafe,
 };
-use crate::path::{GenericArgs, Path};
 use crate::type_ref::{Mutability, Rawness};
 use hir_base::{
     ArithOp, BinaryOp, BlockId, ExactEq, ExprPrecedence, LogicOp, Name, Seq, TryClone, UnaryOp,
 };
+use hir_path::{Boxed, ExprId, GenericArgs, LabelId, PatId, Path, TypeRefId};
 use std::alloc::AllocError;
 
 /// An expression.

@@ -2,8 +2,8 @@
 ghost use Rattle.std.specs.Prelude.{◌≡◌, Some};
 ghost use Rattle.hir_base.specs.Exact.{exact};
 
-use crate::ids::PatId;
 use hir_base::{BuiltinFloat, BuiltinInt, BuiltinUint, ExactEq, Seq, Text, TryClone};
+use hir_path::PatId;
 use std::fmt;
 use std::marker::Model;
 

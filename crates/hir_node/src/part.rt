@@ -6,15 +6,13 @@ ghost use Rattle.std.specs.List.{flat_map};
 ghost use Rattle.hir_node.specs.ChildCalls.{Call, arm_calls};
 ghost use Rattle.hir_node.specs.Runs.{Runs, MayRun};
 
-use crate::ids::{ExprId, PatId, TypeRefId};
 use crate::parts::{MatchArm, RecordLitField, Statement};
 use crate::pat::RecordFieldPat;
-use crate::path::{GenericArg, GenericArgs};
-use crate::type_ref::{TypeBound, UseArgRef};
 use crate::visitor::{
     StoreVisitor, StoreVisitorExt, visit_args_opt, visit_generic_arg, visit_use_arg,
 };
 use hir_base::Name;
+use hir_path::{ExprId, GenericArg, GenericArgs, PatId, TypeBound, TypeRefId, UseArgRef};
 
 /// A part of a node that gives calls.
 pub(crate) trait Part {

@@ -2,8 +2,8 @@
 ghost use Rattle.std.specs.Prelude.{◌≡◌};
 ghost use Rattle.hir_base.specs.Exact.{exact};
 
-use crate::ids::{ExprId, PatId, TypeRefId};
 use hir_base::{ExactEq, MacroDefId, Name, Seq, TryClone};
+use hir_path::{ExprId, PatId, TypeRefId};
 
 /// What stands after the fields of a record literal.
 #[derive(Clone, Copy, Debug, PartialEq, Eq)]

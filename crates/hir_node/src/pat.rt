@@ -4,10 +4,9 @@ ghost use Rattle.std.specs.List.{FoldsTo};
 ghost use Rattle.std.specs.Option.{option_to_list};
 ghost use Rattle.hir_base.specs.Exact.{exact};
 
-use crate::ids::{BindingId, ExprId, PatId};
-use crate::path::Path;
 use crate::type_ref::Mutability;
 use hir_base::{ExactEq, Name, RangeOp, Seq, TryClone};
+use hir_path::{BindingId, ExprId, PatId, Path};
 use std::alloc::AllocError;
 
 /// A field of a record pattern: its name, and the pattern that its value matches.

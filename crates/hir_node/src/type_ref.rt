@@ -1,15 +1,12 @@
 //! Types, lifetimes and bounds as they are written: their paths are not resolved.
 ghost use Rattle.std.specs.Prelude.{◌≡◌, ◌≢◌, IsTrue, ◌↔◌, [], Some};
 ghost use Rattle.std.specs.Option.{option_map};
-ghost use Rattle.hir_node.specs.Lists.{all_but, last_of};
+ghost use Rattle.hir_path.specs.Lists.{all_but, last_of};
 ghost use Rattle.hir_base.specs.Exact.{exact};
 
-use crate::boxed::Boxed;
-use crate::ids::{ExprId, LifetimeRefId, PatId, TypeRefId};
-use crate::path::Path;
 use hir_base::{ExactEq, ExternAbi, LifetimeParamId, Name, Seq, TryClone, TypeParamId};
+use hir_path::{Boxed, ConstRef, LifetimeRefId, PatId, Path, PathId, TypeBound, TypeRefId};
 use std::alloc::AllocError;
-use std::marker::Model;
 
 /// Whether what is behind a reference or a pointer may be written.
 #[derive(Clone, Copy, Debug, PartialEq, Eq, Hash)]
@@ -123,44 +120,6 @@ impl TryClone for Rawness {
     ghost clone_is_same = { Prim.search exact };
 }
 
-/// The id of a type that is a path, seen as the number of that type. Nothing here checks that it is one.
-#[derive(Clone, Copy, Debug, PartialEq, Eq, Hash)]
-pub struct PathId(TypeRefId);
-
-impl Model for PathId {
-    ghost use Rattle.std.specs.Prelude.{ℕ};
-
-    ghost Value = { ℕ };
-
-    ghost view = { λ id. id.0 };
-
-    ghost inverse = { λ n. record { 0 = n } };
-}
-
-impl PathId {
-    /// This type, which the caller knows to be a path: nothing checks it.
-    pub fn from_type_ref_unchecked(type_ref: TypeRefId) -> PathId
-        ensures { result ≡ type_ref }
-    {
-        PathId(type_ref)
-    }
-
-    /// The type that is the path.
-    pub fn type_ref(self) -> TypeRefId
-        ensures { result ≡ self }
-    {
-        self.0
-    }
-}
-
-impl ExactEq for PathId {
-    ghost eq_decides = { Prim.search exact };
-}
-
-impl TryClone for PathId {
-    ghost clone_is_same = { Prim.search exact };
-}
-
 /// A trait, named by its path.
 #[derive(Clone, Copy, Debug, PartialEq, Eq, Hash)]
 pub struct TraitRef {
@@ -172,20 +131,6 @@ impl ExactEq for TraitRef {
 }
 
 impl TryClone for TraitRef {
-    ghost clone_is_same = { Prim.search exact };
-}
-
-/// A constant in a type or an argument list: an expression that sees no local variables.
-#[derive(Clone, Copy, Debug, PartialEq, Eq, Hash)]
-pub struct ConstRef {
-    pub expr: ExprId,
-}
-
-impl ExactEq for ConstRef {
-    ghost eq_decides = { Prim.search exact };
-}
-
-impl TryClone for ConstRef {
     ghost clone_is_same = { Prim.search exact };
 }
 
@@ -281,60 +226,6 @@ impl ExactEq for LifetimeRef {
 }
 
 impl TryClone for LifetimeRef {
-    ghost clone_is_same = { Prim.search exact };
-}
-
-/// A bound: what a type has to be or to outlive.
-#[derive(Debug, Drop, Clone, PartialEq, Eq, Hash)]
-pub enum TypeBound {
-    /// A trait, perhaps after `?`.
-    Path(PathId, TraitBoundModifier),
-    /// A trait after `for<..>` with these lifetimes.
-    ForLifetime(Seq<Name>, PathId),
-    Lifetime(LifetimeRefId),
-    /// What `use<..>` lists.
-    Use(Seq<UseArgRef>),
-    /// What could not be lowered.
-    Error,
-}
-
-impl ExactEq for TypeBound {
-    ghost eq_decides = { Prim.search exact };
-}
-
-impl TryClone for TypeBound {
-    ghost clone_is_same = { Prim.search exact };
-}
-
-/// What a bound `use<..>` lists.
-#[derive(Debug, Drop, Clone, PartialEq, Eq, Hash)]
-pub enum UseArgRef {
-    /// A type or constant parameter, by its name.
-    Name(Name),
-    Lifetime(LifetimeRefId),
-}
-
-impl ExactEq for UseArgRef {
-    ghost eq_decides = { Prim.search exact };
-}
-
-impl TryClone for UseArgRef {
-    ghost clone_is_same = { Prim.search exact };
-}
-
-/// What stands before the trait of a bound.
-#[derive(Clone, Copy, Debug, PartialEq, Eq, Hash)]
-pub enum TraitBoundModifier {
-    None,
-    /// `?`
-    Maybe,
-}
-
-impl ExactEq for TraitBoundModifier {
-    ghost eq_decides = { Prim.search exact };
-}
-
-impl TryClone for TraitBoundModifier {
     ghost clone_is_same = { Prim.search exact };
 }
 

@@ -6,10 +6,11 @@ ghost use Rattle.std.specs.List.{flat_map};
 ghost use Rattle.hir_node.specs.ChildCalls.{Call, OnExpr, OnAnonConst, OnPat, OnType, OnLifetime, e, p, t, l, opt, use_calls, bound_calls, arg_calls, args_calls, binding_calls, path_calls, normal_path_calls};
 ghost use Rattle.hir_node.specs.Runs.{Runs, MayRun};
 
-use crate::ids::{ExprId, LifetimeRefId, PatId, TypeRefId};
 use crate::part::visit_each;
-use crate::path::{AssociatedTypeBinding, GenericArg, GenericArgs, NormalPath, Path};
-use crate::type_ref::{TypeBound, UseArgRef};
+use hir_path::{
+    AssociatedTypeBinding, ExprId, GenericArg, GenericArgs, LifetimeRefId, NormalPath, PatId, Path,
+    TypeBound, TypeRefId, UseArgRef,
+};
 
 /// What is called at the children of a node.
 ///

@@ -1,7 +1,7 @@
 //! The segments of a path and their cuts.
 use crate::{again, build};
 use hir_base::Name;
-use hir_node::{Path, PathSegment, PathSegments, laws};
+use hir_path::{Path, PathSegment, PathSegments, laws};
 use std::test::Fail;
 
 // Whether these are the names of the segments.

@@ -119,7 +119,8 @@ fn close<W: Sink>(
     ensures closes { Closes (W.contents writer.old) (W.contents writer.new) output.old outcome result }
     ensures failure { W.failed writer.old ≡ is_output_failed outcome → W.failed writer.new ≡ is_output_failed result }
 {
-    match output.flush(writer) {
+    let flushed = output.flush(writer);
+    match flushed {
         Ok(()) => outcome,
         Err(_) => Err(RunFault::OutputFailed),
     }

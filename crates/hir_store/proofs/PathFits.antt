@@ -4,7 +4,7 @@ use Rattle.std.specs.Bool.{IsTrue}
 use Rattle.std.specs.List.{list_all, flat_map}
 use Rattle.std.specs.Cmp.{first_so, second_so}
 use Rattle.std.proofs.lemmas.List.Folds.{list_all-append}
-use Rattle.hir_node.specs.declared.path.Path.{Path}
+use Rattle.hir_path.specs.declared.path.Path.{Path}
 use Rattle.hir_node.specs.declared.expr.Expr.TheVariants as expr
 use Rattle.hir_node.specs.declared.pat.Pat.TheVariants as pat
 use Rattle.hir_node.specs.declared.pat.RecordFieldPat.{RecordFieldPat}

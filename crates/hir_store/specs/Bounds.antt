@@ -1,11 +1,11 @@
 -- The path of a bound in a store, with what stands before it.
 use Rattle.std.specs.Prelude.{Option, None, option_map, IsTrue}
 use Rattle.std.specs.List.{list_all}
-use Rattle.hir_node.specs.declared.path.Path.{Path}
-use Rattle.hir_node.specs.declared.type_ref.TypeBound.{TypeBound}
-use Rattle.hir_node.specs.declared.type_ref.TypeBound.TheVariants as bound
-use Rattle.hir_node.specs.declared.type_ref.TraitBoundModifier.{TraitBoundModifier}
-use Rattle.hir_node.specs.declared.type_ref.TraitBoundModifier.TheVariants as modifier
+use Rattle.hir_path.specs.declared.path.Path.{Path}
+use Rattle.hir_path.specs.declared.bound.TypeBound.{TypeBound}
+use Rattle.hir_path.specs.declared.bound.TypeBound.TheVariants as bound
+use Rattle.hir_path.specs.declared.bound.TraitBoundModifier.{TraitBoundModifier}
+use Rattle.hir_path.specs.declared.bound.TraitBoundModifier.TheVariants as modifier
 use Rattle.hir_store.specs.Parts.{path_at, is_path_at, bound_paths}
 use Rattle.hir_store.specs.Nodes.{Nodes}
 

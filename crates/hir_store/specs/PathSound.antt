@@ -1,7 +1,7 @@
 -- When a path fits a store.
 use Rattle.std.specs.Prelude.{Bool, ◌&&◌}
 use Rattle.std.specs.List.{list_all}
-use Rattle.hir_node.specs.declared.path.Path.{Path}
+use Rattle.hir_path.specs.declared.path.Path.{Path}
 use Rattle.hir_node.specs.ChildCalls.{path_calls}
 use Rattle.hir_store.specs.Sizes.{is_there}
 use Rattle.hir_store.specs.Parts.{is_path_at, path_paths, path_gives_self, one_list_each}

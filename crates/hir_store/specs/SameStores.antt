@@ -2,7 +2,7 @@
 use Rattle.std.specs.Prelude.{◌≡◌}
 use Rattle.std.specs.Bool.{Decides}
 use Rattle.std.specs.Cmp.Lexicographic.{pointwise_decides}
-use Rattle.hir_node.specs.Fields.{and_decides, both}
+use Rattle.hir_path.specs.Fields.{and_decides, both}
 use Rattle.hir_node.specs.SameExprs.{exprs_decide}
 use Rattle.hir_node.specs.SamePats.{pats_decide}
 use Rattle.hir_node.specs.SameTypes.{types_decide}

@@ -1,8 +1,8 @@
 //! The path of a bound, which the store holds.
 
 ghost use Rattle.std.specs.Prelude.{◌≡◌, Option, option_map};
-ghost use Rattle.hir_node.specs.declared.path.Path.{Path};
-ghost use Rattle.hir_node.specs.declared.type_ref.TraitBoundModifier.{TraitBoundModifier};
+ghost use Rattle.hir_path.specs.declared.path.Path.{Path};
+ghost use Rattle.hir_path.specs.declared.bound.TraitBoundModifier.{TraitBoundModifier};
 ghost use Rattle.hir_store.specs.Nodes.{Nodes};
 
 use crate::store::ExpressionStore;

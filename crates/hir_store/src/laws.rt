@@ -5,7 +5,7 @@ ghost use Rattle.std.specs.Prelude.{◌≡◌, ◌≤◌, ◌<◌, ◌+◌, ◌+
 ghost use Rattle.std.specs.List.{flat_map};
 ghost use Rattle.hir_forest.specs.Forest.{IsForest};
 ghost use Rattle.hir_node.specs.ChildCalls.{Node, OfPat};
-ghost use Rattle.hir_node.specs.declared.path.Path.{Path};
+ghost use Rattle.hir_path.specs.declared.path.Path.{Path};
 ghost use Rattle.hir_node.specs.declared.parts.RecordLitField.{RecordLitField};
 ghost use Rattle.hir_node.specs.declared.parts.RecordSpread.{RecordSpread};
 ghost use Rattle.hir_node.specs.declared.expr.Expr.{Expr};

@@ -42,7 +42,7 @@ impl Model for ExpressionStore {
     ghost Value = { Contents };
 
     ghost use Rattle.std.specs.Coded.{codes};
-    ghost use Rattle.hir_node.specs.contracts.path.GenericArgs as args;
+    ghost use Rattle.hir_path.specs.contracts.path.GenericArgs as args;
 
     ghost coded = { Prim.hlevel (codes, args.the_row.coded) };
 

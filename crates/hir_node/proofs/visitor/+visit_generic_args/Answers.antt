@@ -3,8 +3,8 @@ use Rattle.std.specs.List.{flat_map}
 use Rattle.hir_node.specs.ChildCalls
 use Rattle.hir_node.specs.ChildCalls.{opt, bound_calls, arg_calls, args_calls, binding_calls}
 use Rattle.hir_node.specs.Runs.{no_call}
-use Rattle.hir_node.specs.declared.path.GenericArgs.{out-GenericArgs}
-use Rattle.hir_node.specs.declared.path.AssociatedTypeBinding.{out-AssociatedTypeBinding}
+use Rattle.hir_path.specs.declared.path.GenericArgs.{out-GenericArgs}
+use Rattle.hir_path.specs.declared.path.AssociatedTypeBinding.{out-AssociatedTypeBinding}
 use Rattle.hir_node.proofs.ArgsCalls.{args_calls_is, binding_calls_is}
 use Rattle.hir_node.proofs.ArgsSizes.{bindings_smaller, binding_smaller, opt_size, args_smaller}
 use Rattle.hir_node.proofs.RunLemmas.{may_item, going_item, going_over, may_first, may_after, runs_append}

@@ -1,0 +1,2 @@
+mod FirstOfName
+mod GenericLists

@@ -1,0 +1,3 @@
+pub mod FirstOfName
+pub mod Generics
+pub mod SameGenerics

@@ -1,0 +1,138 @@
+//! Generic parameters and predicates, one of each kind, for the tests.
+use crate::again;
+use hir_base::{Arena, Idx, LifetimeParamKind, Name, Seq, TypeOrConstParamKind};
+use hir_defs::GenericParams;
+use hir_generics::{
+    ConstParamData, LifetimeBoundType, LifetimeParamData, TypeOrConstParamData, TypeParamData,
+    TypeParamProvenance, WherePredicate,
+};
+use hir_node::{PathId, TraitBoundModifier, TypeBound};
+use std::alloc::{AllocError, Global};
+use std::test::Fail;
+
+/// A type parameter of this name that comes from there, without a default.
+pub fn type_from(
+    alloc: Global,
+    text: &str,
+    provenance: TypeParamProvenance,
+) -> Result<TypeParamData, AllocError> {
+    Ok(TypeParamData {
+        name: Some(again::name(alloc, text)?),
+        default: None,
+        provenance,
+    })
+}
+
+/// A type parameter of this name, written in a list.
+pub fn listed(alloc: Global, text: &str) -> Result<TypeParamData, AllocError> {
+    type_from(alloc, text, TypeParamProvenance::TypeParamList)
+}
+
+/// A constant parameter of this name, of type 4 and without a default.
+pub fn constant(alloc: Global, text: &str) -> Result<ConstParamData, AllocError> {
+    Ok(ConstParamData {
+        name: again::name(alloc, text)?,
+        ty: Idx::from_raw(4),
+        default: None,
+    })
+}
+
+/// A lifetime parameter of this name.
+pub fn lifetime(name: Name, bound_type: LifetimeBoundType) -> LifetimeParamData {
+    LifetimeParamData { name, bound_type }
+}
+
+/// Type 0 meets the bound of the path that type 1 is, after `for<'a>`.
+pub fn meets(alloc: Global) -> Result<WherePredicate, AllocError> {
+    let mut lifetimes = Seq::new(alloc);
+    again::push(&mut lifetimes, again::name(alloc, "'a")?)?;
+    let path = PathId::from_type_ref_unchecked(Idx::from_raw(1));
+    Ok(WherePredicate::TypeBound {
+        lifetimes: Some(lifetimes),
+        target: Idx::from_raw(0),
+        bound: TypeBound::Path(path, TraitBoundModifier::None),
+    })
+}
+
+/// Lifetime 0 outlives lifetime 1.
+pub fn outlives() -> WherePredicate {
+    WherePredicate::Lifetime {
+        target: Idx::from_raw(0),
+        bound: Idx::from_raw(1),
+    }
+}
+
+/// Parameters that are these types and constants alone.
+pub fn only(
+    alloc: Global,
+    params: Arena<TypeOrConstParamKind, TypeOrConstParamData>,
+) -> GenericParams {
+    GenericParams::new(params, Arena::new(alloc), Seq::new(alloc))
+}
+
+fn add_lifetime(
+    alloc: Global,
+    lifetimes: &mut Arena<LifetimeParamKind, LifetimeParamData>,
+    text: &str,
+    bound_type: LifetimeBoundType,
+) -> Result<(), Fail> {
+    let name = again::name(alloc, text)?;
+    again::alloc(lifetimes, lifetime(name, bound_type))?;
+    Ok(())
+}
+
+/// The lifetimes `'a`, `'b`, `'c` and `'d`: early bound, late bound, early bound, late bound.
+pub fn four_lifetimes(alloc: Global) -> Result<Arena<LifetimeParamKind, LifetimeParamData>, Fail> {
+    let mut lifetimes = Arena::new(alloc);
+    add_lifetime(alloc, &mut lifetimes, "'a", LifetimeBoundType::EarlyBound)?;
+    add_lifetime(alloc, &mut lifetimes, "'b", LifetimeBoundType::LateBound)?;
+    add_lifetime(alloc, &mut lifetimes, "'c", LifetimeBoundType::EarlyBound)?;
+    add_lifetime(alloc, &mut lifetimes, "'d", LifetimeBoundType::LateBound)?;
+    Ok(lifetimes)
+}
+
+/// An arena of this type.
+pub fn one_type(
+    alloc: Global,
+    first: TypeParamData,
+) -> Result<Arena<TypeOrConstParamKind, TypeOrConstParamData>, Fail> {
+    let mut params = Arena::new(alloc);
+    again::alloc(&mut params, TypeOrConstParamData::from(first))?;
+    Ok(params)
+}
+
+/// An arena of this constant.
+pub fn one_constant(
+    alloc: Global,
+    first: ConstParamData,
+) -> Result<Arena<TypeOrConstParamKind, TypeOrConstParamData>, Fail> {
+    let mut params = Arena::new(alloc);
+    again::alloc(&mut params, TypeOrConstParamData::from(first))?;
+    Ok(params)
+}
+
+/// The `Self` of a trait, the type `T` and the constant `N`.
+fn three_params(alloc: Global) -> Result<Arena<TypeOrConstParamKind, TypeOrConstParamData>, Fail> {
+    let own = type_from(alloc, "Self", TypeParamProvenance::TraitSelf)?;
+    let mut params = one_type(alloc, own)?;
+    let second = listed(alloc, "T")?;
+    again::alloc(&mut params, TypeOrConstParamData::from(second))?;
+    let third = constant(alloc, "N")?;
+    again::alloc(&mut params, TypeOrConstParamData::from(third))?;
+    Ok(params)
+}
+
+fn two_predicates(alloc: Global) -> Result<Seq<WherePredicate>, AllocError> {
+    let mut predicates = Seq::new(alloc);
+    again::push(&mut predicates, meets(alloc)?)?;
+    again::push(&mut predicates, outlives())?;
+    Ok(predicates)
+}
+
+/// The types `Self` of a trait and `T`, the constant `N`, the four lifetimes, and two predicates.
+pub fn all_kinds(alloc: Global) -> Result<GenericParams, Fail> {
+    let params = three_params(alloc)?;
+    let lifetimes = four_lifetimes(alloc)?;
+    let predicates = two_predicates(alloc)?;
+    Ok(GenericParams::new(params, lifetimes, predicates))
+}

@@ -1,0 +1,3 @@
+pub mod Params
+pub mod Same
+pub mod SameParams

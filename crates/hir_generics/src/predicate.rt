@@ -1,0 +1,33 @@
+//! What a `where` clause asks.
+ghost use Rattle.std.specs.Prelude.{◌≡◌};
+ghost use Rattle.hir_base.specs.Exact.{exact};
+
+use hir_base::{ExactEq, Name, Seq, TryClone};
+use hir_path::{LifetimeRefId, TypeBound, TypeRefId};
+
+/// One thing that a `where` clause asks. `where T: Foo + Bar` asks two.
+#[derive(Debug, Drop, Clone, PartialEq, Eq, Hash)]
+pub enum WherePredicate {
+    /// A type meets a bound.
+    TypeBound {
+        /// The lifetimes of a `for<..>` before it, where one is written.
+        lifetimes: Option<Seq<Name>>,
+        target: TypeRefId,
+        bound: TypeBound,
+    },
+    /// A lifetime outlives another.
+    Lifetime {
+        target: LifetimeRefId,
+        bound: LifetimeRefId,
+    },
+}
+
+impl ExactEq for WherePredicate {
+    ghost use Rattle.hir_generics.specs.Same.{predicates_decide};
+
+    ghost eq_decides = { predicates_decide };
+}
+
+impl TryClone for WherePredicate {
+    ghost clone_is_same = { Prim.search exact };
+}

@@ -1,5 +1,0 @@
-use Rattle.hir_node.proofs.SegmentLemmas.{first_then_skip}
-use Rattle.hir_node.proofs.laws.take_then_skip_is_all.Goals as goal
-
-pub returns : goal.returns
-returns c = first_then_skip

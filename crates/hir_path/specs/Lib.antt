@@ -1,0 +1,9 @@
+pub mod Fields
+pub mod Ids
+pub mod Keys
+pub mod Leaves
+pub mod Lists
+pub mod Paths
+pub mod SameArgs
+pub mod SamePaths
+pub mod Segments

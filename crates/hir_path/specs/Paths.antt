@@ -1,0 +1,77 @@
+-- What a path is made of, the path that it is qualified by, and when it is `Self`.
+use Rattle.std.specs.Prelude.{◌≡◌, ℕ, Bool, true, false, cond, IsTrue, List, [], ◌∷◌, codes, Option, Some, None}
+use Rattle.std.specs.Option.{option_to_list}
+use Rattle.hir_base.specs.ModPath.{ModPath, ident_of}
+use Rattle.hir_base.specs.declared.mod_path.PathKind.{PathKind}
+use Rattle.hir_base.specs.declared.mod_path.PathKind.TheVariants.{Abs}
+use Rattle.hir_path.specs.declared.path.GenericArgs.{GenericArgs}
+use Rattle.hir_path.specs.declared.path.Path.{Path}
+use Rattle.hir_path.specs.declared.path.Path.TheVariants.{BarePath, Normal, LangItem}
+use Rattle.hir_path.specs.Segments.{Segments}
+use Rattle.hir_path.specs.Lists.{all_but}
+
+-- where a path begins
+abbrev pub kind_of : Path → PathKind
+kind_of (BarePath path) = path.kind
+kind_of (Normal normal) = normal.mod_path.kind
+kind_of (LangItem target name) = Abs
+
+-- the type that it begins at
+abbrev pub anchor_of : Path → Option ℕ
+anchor_of (BarePath path) = None
+anchor_of (Normal normal) = normal.type_anchor
+anchor_of (LangItem target name) = None
+
+-- the arguments of its segments
+abbrev pub lists_of : Path → Option (List (Option GenericArgs))
+lists_of (BarePath path) = None
+lists_of (Normal normal) = Some normal.generic_args
+lists_of (LangItem target name) = None
+
+-- its names
+abbrev pub names_of : Path → List (List ℕ)
+names_of (BarePath path) = path.segments
+names_of (Normal normal) = normal.mod_path.segments
+names_of (LangItem target name) = option_to_list name
+
+-- the path without anchor and arguments
+abbrev pub mod_path_of : Path → Option ModPath
+mod_path_of (BarePath path) = Some path
+mod_path_of (Normal normal) = Some normal.mod_path
+mod_path_of (LangItem target name) = None
+
+abbrev pub segments_of : Path → Segments
+segments_of path = record { names = names_of path; lists = lists_of path }
+
+-- no place has arguments
+abbrev pub no_args : List (Option GenericArgs) → Bool
+no_args [] = true
+no_args (None ∷ lists) = no_args lists
+no_args (Some args ∷ lists) = false
+
+-- the path with this anchor and these arguments: a bare one, where it has none of them
+abbrev pub path_with : Option ℕ → ModPath → List (Option GenericArgs) → Path
+path_with None path lists = cond (no_args lists) (BarePath path) (Normal (record { generic_args = lists; type_anchor = None; mod_path = path }))
+path_with (Some anchor) path lists = Normal (record { generic_args = lists; type_anchor = Some anchor; mod_path = path })
+
+-- without its last segment and the last of its lists
+abbrev pub shorter : Option ℕ → ModPath → List (Option GenericArgs) → Path
+shorter anchor path lists = path_with anchor (record { kind = path.kind; segments = all_but 1 path.segments }) (all_but 1 lists)
+
+-- nothing for an ident and where there are no segments, else the shorter path
+abbrev pub qualified : Option (List ℕ) → List (List ℕ) → Path → Option Path
+qualified (Some name) names path = None
+qualified None [] path = None
+qualified None (name ∷ names) path = Some path
+
+-- what stands before the last segment
+abbrev pub qualifier : Path → Option Path
+qualifier (BarePath path) = qualified (ident_of path) path.segments (shorter None path [])
+qualifier (Normal normal) = qualified (ident_of normal.mod_path) normal.mod_path.segments (shorter normal.type_anchor normal.mod_path normal.generic_args)
+qualifier (LangItem target name) = None
+
+-- the identifier `Self`, with no anchor and no arguments
+abbrev pub IsSelfType : Path → Type 0
+IsSelfType (BarePath path) = ident_of path ≡ Some (codes "Self")
+IsSelfType (Normal normal) = (normal.type_anchor ≡ None) × (ident_of normal.mod_path ≡ Some (codes "Self")) × IsTrue (no_args normal.generic_args)
+IsSelfType (LangItem target name) = ⊥

@@ -1,0 +1,17 @@
+-- That `==` of paths decides whether they are the same.
+use Rattle.std.specs.Prelude.{◌≡◌}
+use Rattle.std.specs.Bool.{Decides}
+use Rattle.hir_base.specs.Exact.{optional_numbers_decide}
+use Rattle.hir_path.specs.Fields.{and_decides, both}
+use Rattle.hir_path.specs.Leaves.{leaves, mod_paths_decide, given_lists_decide}
+use Rattle.hir_path.specs.declared.path.NormalPath.{NormalPath}
+use Rattle.hir_path.specs.contracts.path.NormalPathPartialEq.TheImpl as normal
+
+pub normals_decide : (x y : NormalPath) → Decides (normal.ghosts.eq x y) (x ≡ y)
+normals_decide x y =
+    and_decides _ _ (given_lists_decide x.generic_args y.generic_args)
+    (both _ _ (optional_numbers_decide x.type_anchor y.type_anchor) (mod_paths_decide x.mod_path y.mod_path))
+    (λ g r i. record { generic_args = g i; type_anchor = r.0 i; mod_path = r.1 i })
+    (λ e i. (e i).generic_args) (λ e. (λ i. (e i).type_anchor, λ i. (e i).mod_path))
+
+pub ruleset of_paths = (leaves, normals_decide)

@@ -1,0 +1,72 @@
+-- The segments of a path, seen as two lists: the names, and perhaps a list of their arguments. And the cuts of such a view.
+use Rattle.std.specs.Prelude.{◌≡◌, ⊤, ℕ, nat_le, List, [], ◌∷◌, length, take, drop, Option, Some, None, cond}
+use Rattle.std.specs.Option.{option_map, option_copied}
+use Rattle.hir_path.specs.declared.path.GenericArgs.{GenericArgs}
+use Rattle.hir_path.specs.declared.segments.PathSegment.{PathSegment}
+use Rattle.hir_path.specs.declared.segments.PathSegments.{PathSegments}
+use Rattle.hir_path.specs.declared.segments_iter.PathSegmentsIter.{PathSegmentsIter}
+use Rattle.hir_path.specs.Lists.{all_but}
+
+pub record Segments : Type 0 where
+  pub names : List (List ℕ)
+  pub lists : Option (List (Option GenericArgs))
+
+-- one segment: its name, and its arguments where it has some
+pub record Segment : Type 0 where
+  pub name : List ℕ
+  pub args : Option GenericArgs
+
+-- what a segment that the code hands out is
+abbrev pub segment_of : PathSegment → Segment
+segment_of s = record { name = s.name.now; args = option_copied s.args_and_bindings }
+
+-- what a view that the code hands out is
+abbrev pub seen : PathSegments → Segments
+seen s = record { names = s.segments.now; lists = option_copied s.generic_args }
+
+-- no names and no lists
+abbrev pub empty : Segments
+empty = record { names = []; lists = None }
+
+-- each name with the arguments in its place, and with none where there is no such place
+abbrev pub zipped : List (List ℕ) → List (Option GenericArgs) → List Segment
+zipped [] lists = []
+zipped (name ∷ names) [] = record { name = name; args = None } ∷ zipped names []
+zipped (name ∷ names) (args ∷ lists) = record { name = name; args = args } ∷ zipped names lists
+
+-- missing lists read as no lists
+abbrev pub or_none : Option (List (Option GenericArgs)) → List (Option GenericArgs)
+or_none None = []
+or_none (Some lists) = lists
+
+abbrev pub items : Segments → List Segment
+items s = zipped s.names (or_none s.lists)
+
+-- the members from the n-th on, where the list has so many
+abbrev pub past : {X : Type 0} → ℕ → Option (List X) → Option (List X)
+past n None = None
+past n (Some xs) = cond (nat_le n (length xs)) (Some (drop n xs)) None
+
+-- what an iterator over segments has left
+abbrev pub left : PathSegmentsIter → List Segment
+left it = zipped it.names.now it.lists.now
+
+-- without the first n: past the end there are no names and no lists
+abbrev pub skip : ℕ → Segments → Segments
+skip n s = record { names = drop n s.names; lists = past n s.lists }
+
+-- the first n: past the end all
+abbrev pub first : ℕ → Segments → Segments
+first n s = record { names = take n s.names; lists = option_map (take n) s.lists }
+
+-- without the last n, of the names and of the lists, each by its own length
+abbrev pub strip : ℕ → Segments → Segments
+strip n s = record { names = all_but n s.names; lists = option_map (all_but n) s.lists }
+
+-- there are no lists, or one for each name
+abbrev pub one_each : List (List ℕ) → Option (List (Option GenericArgs)) → Type 0
+one_each names None = ⊤
+one_each names (Some lists) = length lists ≡ length names
+
+abbrev pub OneListEach : Segments → Type 0
+OneListEach s = one_each s.names s.lists

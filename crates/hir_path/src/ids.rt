@@ -1,0 +1,122 @@
+//! The ids of what a store holds: expressions, patterns, bindings, labels, types and lifetimes.
+//! Each is a number of an arena; ids of two kinds can't be mixed up.
+ghost use Rattle.std.specs.Prelude.{◌≡◌, Some, None, IsTrue, IsSome, ◌↔◌};
+ghost use Rattle.hir_base.specs.Exact.{exact};
+ghost use Rattle.hir_path.specs.Ids.{expr_of, pat_of};
+
+use hir_base::{ExactEq, Idx, TryClone};
+
+/// The kind of expressions. It is a marker: no value of it exists.
+pub enum ExprKind {}
+
+/// The kind of patterns. It is a marker: no value of it exists.
+pub enum PatKind {}
+
+/// The kind of bindings. It is a marker: no value of it exists.
+pub enum BindingKind {}
+
+/// The kind of labels. It is a marker: no value of it exists.
+pub enum LabelKind {}
+
+/// The kind of references to types. It is a marker: no value of it exists.
+pub enum TypeRefKind {}
+
+/// The kind of references to lifetimes. It is a marker: no value of it exists.
+pub enum LifetimeRefKind {}
+
+/// The number of an expression.
+pub type ExprId = Idx<ExprKind>;
+
+/// The number of a pattern.
+pub type PatId = Idx<PatKind>;
+
+/// The number of a binding.
+pub type BindingId = Idx<BindingKind>;
+
+/// The number of a label.
+pub type LabelId = Idx<LabelKind>;
+
+/// The number of a reference to a type.
+pub type TypeRefId = Idx<TypeRefKind>;
+
+/// The number of a reference to a lifetime.
+pub type LifetimeRefId = Idx<LifetimeRefKind>;
+
+/// The number of an expression or of a pattern.
+#[derive(Clone, Copy, Debug, PartialEq, Eq, Hash)]
+pub enum ExprOrPatId {
+    ExprId(ExprId),
+    PatId(PatId),
+}
+
+impl ExprOrPatId {
+    /// The id of an expression, where it is one.
+    pub fn as_expr(self) -> Option<ExprId>
+        ensures { result ≡ expr_of self }
+    {
+        match self {
+            ExprOrPatId::ExprId(id) => Some(id),
+            ExprOrPatId::PatId(_) => None,
+        }
+    }
+
+    /// Whether it is that of an expression.
+    pub fn is_expr(&self) -> bool
+        ensures { IsTrue result ↔ IsSome (expr_of self.now) }
+    {
+        match self {
+            ExprOrPatId::ExprId(_) => true,
+            ExprOrPatId::PatId(_) => false,
+        }
+    }
+
+    /// The id of a pattern, where it is one.
+    pub fn as_pat(self) -> Option<PatId>
+        ensures { result ≡ pat_of self }
+    {
+        match self {
+            ExprOrPatId::ExprId(_) => None,
+            ExprOrPatId::PatId(id) => Some(id),
+        }
+    }
+
+    /// Whether it is that of a pattern.
+    pub fn is_pat(&self) -> bool
+        ensures { IsTrue result ↔ IsSome (pat_of self.now) }
+    {
+        match self {
+            ExprOrPatId::ExprId(_) => false,
+            ExprOrPatId::PatId(_) => true,
+        }
+    }
+}
+
+/// The id of an expression.
+impl From<ExprId> for ExprOrPatId {
+    ghost use Rattle.hir_path.specs.declared.ids.ExprOrPatId.TheVariants.{ExprId as of_expr};
+
+    ghost from_gives = { λ id either. either ≡ of_expr id };
+
+    fn from(id: ExprId) -> ExprOrPatId {
+        ExprOrPatId::ExprId(id)
+    }
+}
+
+/// The id of a pattern.
+impl From<PatId> for ExprOrPatId {
+    ghost use Rattle.hir_path.specs.declared.ids.ExprOrPatId.TheVariants.{PatId as of_pat};
+
+    ghost from_gives = { λ id either. either ≡ of_pat id };
+
+    fn from(id: PatId) -> ExprOrPatId {
+        ExprOrPatId::PatId(id)
+    }
+}
+
+impl ExactEq for ExprOrPatId {
+    ghost eq_decides = { Prim.search exact };
+}
+
+impl TryClone for ExprOrPatId {
+    ghost clone_is_same = { Prim.search exact };
+}

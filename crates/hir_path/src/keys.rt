@@ -1,0 +1,12 @@
+//! The ids of expressions and of patterns as keys of a `Table`.
+ghost use Rattle.hir_base.specs.Exact.{exact};
+ghost use Rattle.hir_path.specs.Keys.{expr_or_pat_code, expr_or_pat_tells};
+
+use crate::ids::ExprOrPatId;
+use hir_base::Keyed;
+
+impl Keyed for ExprOrPatId {
+    ghost code = { expr_or_pat_code };
+
+    ghost code_tells = { λ x y. expr_or_pat_tells _ x y (Prim.search exact) };
+}

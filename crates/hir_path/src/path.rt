@@ -1,0 +1,393 @@
+//! Paths with their generic arguments, as `crate::foo` or `<Type as Trait>::bar::<u8>`.
+//! The views of a path's segments stand in `segments`.
+ghost use Rattle.std.specs.Prelude.{◌≡◌, ◌↔◌, IfOk, IfErr, IsTrue, length, [], ◌∷◌, None};
+ghost use Rattle.std.specs.Option.{option_copied};
+ghost use Rattle.hir_base.specs.Exact.{exact};
+ghost use Rattle.hir_path.specs.Paths.{no_args};
+ghost use Rattle.hir_path.specs.Lists.{all_but};
+
+use crate::bound::{ConstRef, TypeBound};
+use crate::boxed::Boxed;
+use crate::ids::{LifetimeRefId, TypeRefId};
+use crate::segments::PathSegments;
+use hir_base::{ExactEq, LangItemTarget, ModPath, Name, PathKind, Seq, TryClone};
+use std::alloc::{AllocError, AllocFailed, Global};
+
+/// A path.
+#[derive(Debug, Drop, Clone, PartialEq, Eq, Hash)]
+pub enum Path {
+    /// A path with neither generic arguments nor a type anchor, as most are.
+    BarePath(ModPath),
+    /// A path with generic arguments or a type anchor.
+    Normal(Boxed<NormalPath>),
+    /// An item of the language, by what it is, and perhaps one name in it. Lowering makes these, where the path to the item might be
+    /// private.
+    LangItem(LangItemTarget, Option<Name>),
+}
+
+impl ExactEq for Path {
+    ghost use Rattle.hir_path.specs.SamePaths.{of_paths};
+
+    ghost eq_decides = { Prim.search of_paths };
+}
+
+impl TryClone for Path {
+    ghost clone_is_same = { Prim.search exact };
+}
+
+impl Path {
+    ghost use Rattle.hir_base.specs.ModPath.{ModPath};
+    ghost use Rattle.hir_path.specs.Paths.{kind_of, anchor_of, lists_of, mod_path_of, segments_of, path_with, qualifier, IsSelfType};
+    ghost use Rattle.hir_path.specs.Segments.{OneListEach, seen};
+
+    /// The path with these arguments for its segments, of which there has to be one list for each: a `BarePath` where no segment
+    /// has arguments.
+    ///
+    /// Answers an error where memory was refused: the parts are handed back.
+    pub fn from_known_path(
+        alloc: Global,
+        path: ModPath,
+        generic_args: Seq<Option<GenericArgs>>,
+    ) -> Result<Path, AllocFailed<NormalPath>>
+        requires one_list_each { length generic_args ≡ length path.segments }
+        ensures ok { IfOk result (λ made. made ≡ path_with None path generic_args) }
+        ensures value_returned { IfErr result (λ failed. failed.value ≡ record { generic_args = generic_args; type_anchor = None; mod_path = path }) }
+    {
+        Path::with(
+            alloc,
+            NormalPath {
+                generic_args,
+                type_anchor: None,
+                mod_path: path,
+            },
+        )
+    }
+
+    /// The path without arguments. It takes no memory.
+    pub fn from_known_path_with_no_generic(mod_path: ModPath) -> Path
+        ensures { result ≡ Path.BarePath mod_path }
+    {
+        Path::BarePath(mod_path)
+    }
+
+    /// The plain path of one name.
+    ///
+    /// Answers an error where memory was refused: the name is handed back.
+    pub fn from_name(alloc: Global, name: Name) -> Result<Path, AllocFailed<Name>>
+        ensures ok { IfOk result (λ made. made ≡ Path.BarePath (record { kind = PathKind.Plain; segments = name ∷ [] })) }
+        ensures value_returned { IfErr result (λ failed. failed.value ≡ name) }
+    {
+        let mut names = Seq::new(alloc);
+        names.push(name)?;
+        Ok(Path::BarePath(ModPath::from_segments(PathKind::Plain, names)))
+    }
+
+    /// Where the path begins: at `Abs` for an item of the language.
+    pub fn kind(&self) -> PathKind
+        ensures { result ≡ kind_of self.now }
+    {
+        match self {
+            Path::BarePath(path) => path.kind(),
+            Path::Normal(path) => path.get().mod_path.kind(),
+            Path::LangItem(_, _) => PathKind::Abs,
+        }
+    }
+
+    /// The type that the path begins at, where it has one.
+    pub fn type_anchor(&self) -> Option<TypeRefId>
+        ensures { result ≡ anchor_of self.now }
+    {
+        match self {
+            Path::Normal(path) => path.get().type_anchor,
+            Path::BarePath(_) | Path::LangItem(_, _) => None,
+        }
+    }
+
+    /// The arguments of the segments, where the path is `Normal`.
+    pub fn generic_args(&self) -> Option<&[Option<GenericArgs>]>
+        ensures { option_copied result ≡ lists_of self.now }
+    {
+        match self {
+            Path::Normal(path) => Some(path.get().generic_args.as_slice()),
+            Path::BarePath(_) | Path::LangItem(_, _) => None,
+        }
+    }
+
+    /// The segments: of an item of the language its name, where it has one.
+    pub fn segments(&self) -> PathSegments<'_>
+        ensures { seen result ≡ segments_of self.now }
+    {
+        match self {
+            Path::BarePath(path) => PathSegments::new(path.segments(), None),
+            Path::Normal(path) => PathSegments::new(
+                path.get().mod_path.segments(),
+                Some(path.get().generic_args.as_slice()),
+            ),
+            Path::LangItem(_, name) => PathSegments::new(name.as_slice(), None),
+        }
+    }
+
+    /// The path without anchor and arguments. An item of the language has none.
+    pub fn mod_path(&self) -> Option<&ModPath>
+        ensures { option_copied result ≡ mod_path_of self.now }
+    {
+        match self {
+            Path::BarePath(path) => Some(path),
+            Path::Normal(path) => Some(&path.get().mod_path),
+            Path::LangItem(_, _) => None,
+        }
+    }
+
+    /// What stands before the last segment: the path without that segment and its arguments, a `BarePath` where no anchor and no
+    /// arguments are left. `None` for an item of the language, for an identifier, behind an anchor too, and where there are no
+    /// segments. A `Normal` path has to have one list of arguments for each segment.
+    ///
+    /// Answers an error where memory was refused.
+    pub fn qualifier(&self, alloc: Global) -> Result<Option<Path>, AllocError>
+        requires one_list_each { OneListEach (segments_of self.now) }
+        ensures { IfOk result (λ found. found ≡ qualifier self.now) }
+    {
+        match self {
+            Path::BarePath(path) => {
+                if path.is_ident() || path.segments().is_empty() {
+                    return Ok(None);
+                }
+                Ok(Some(Path::BarePath(without_last(alloc, path)?)))
+            }
+            Path::Normal(path) => {
+                let path = path.get();
+                if path.mod_path.is_ident() || path.mod_path.segments().is_empty() {
+                    return Ok(None);
+                }
+                let shorter = NormalPath {
+                    generic_args: all_but_last(alloc, path.generic_args.as_slice())?,
+                    type_anchor: path.type_anchor,
+                    mod_path: without_last(alloc, &path.mod_path)?,
+                };
+                Ok(Some(Path::with(alloc, shorter)?))
+            }
+            Path::LangItem(_, _) => Ok(None),
+        }
+    }
+
+    /// Whether the path is `Self`, with no anchor and no arguments.
+    pub fn is_self_type(&self) -> bool
+        ensures { IsTrue result ↔ IsSelfType self.now }
+    {
+        match self {
+            Path::BarePath(path) => path.is_Self(),
+            Path::Normal(path) => {
+                let path = path.get();
+                path.type_anchor.is_none()
+                    && path.mod_path.is_Self()
+                    && has_no_args(path.generic_args.as_slice())
+            }
+            Path::LangItem(_, _) => false,
+        }
+    }
+
+    /// The path with these parts: a `BarePath` where it has neither an anchor nor arguments.
+    fn with(alloc: Global, path: NormalPath) -> Result<Path, AllocFailed<NormalPath>>
+        ensures ok { IfOk result (λ made. made ≡ path_with path.type_anchor path.mod_path path.generic_args) }
+        ensures value_returned { IfErr result (λ failed. failed.value ≡ path) }
+    {
+        if path.type_anchor.is_none() && has_no_args(path.generic_args.as_slice()) {
+            return Ok(Path::BarePath(path.mod_path));
+        }
+        Ok(Path::Normal(Boxed::new(alloc, path)?))
+    }
+}
+
+/// Whether no place has arguments.
+fn has_no_args(lists: &[Option<GenericArgs>]) -> bool
+    ensures { result ≡ no_args lists.now }
+{
+    let mut rest = lists;
+    while let Some((args, others)) = rest.split_first() {
+        if args.is_some() {
+            return false;
+        }
+        rest = others;
+    }
+    true
+}
+
+/// The path without its last segment.
+fn without_last(alloc: Global, path: &ModPath) -> Result<ModPath, AllocError>
+    ensures { IfOk result (λ made. made ≡ record { kind = path.now.kind; segments = all_but 1 path.now.segments }) }
+{
+    Ok(ModPath::from_segments(path.kind(), all_but_last(alloc, path.segments())?))
+}
+
+/// Copies of the items but the last.
+fn all_but_last<T: TryClone + Drop>(alloc: Global, items: &[T]) -> Result<Seq<T>, AllocError>
+    ensures { IfOk result (λ made. made ≡ all_but 1 items.now) }
+{
+    let kept = &items[..items.len().saturating_sub(1)];
+    let mut copies = Seq::with_capacity(alloc, kept.len())?;
+    for item in kept {
+        copies.push(item.try_clone()?)?;
+    }
+    Ok(copies)
+}
+
+/// A path with generic arguments or a type anchor.
+#[derive(Debug, Drop, Clone, PartialEq, Eq, Hash)]
+pub struct NormalPath {
+    /// For each segment its arguments, where it has some.
+    pub generic_args: Seq<Option<GenericArgs>>,
+    /// The type that the path begins at, as the `T` of `<T>::f`.
+    pub type_anchor: Option<TypeRefId>,
+    /// The path without its arguments.
+    pub mod_path: ModPath,
+}
+
+impl ExactEq for NormalPath {
+    ghost use Rattle.hir_path.specs.SamePaths.{normals_decide};
+
+    ghost eq_decides = { normals_decide };
+}
+
+impl TryClone for NormalPath {
+    ghost clone_is_same = { Prim.search exact };
+}
+
+/// How generic arguments were written.
+#[derive(Clone, Copy, Debug, PartialEq, Eq, Hash)]
+pub enum GenericArgsParentheses {
+    /// Without parentheses.
+    No,
+    /// As `(..)`, which names the type that a function returns.
+    ReturnTypeNotation,
+    /// As the arguments and the result of `Fn(A, B) -> C`: one argument, a tuple, and a binding of `Output`.
+    ParenSugar,
+}
+
+impl ExactEq for GenericArgsParentheses {
+    ghost eq_decides = { Prim.search exact };
+}
+
+impl TryClone for GenericArgsParentheses {
+    ghost clone_is_same = { Prim.search exact };
+}
+
+/// The generic arguments of one segment, as the `<u8, Item = T>` of `Iter<u8, Item = T>`.
+#[cycle(generic_args)]
+#[derive(Debug, Drop, PartialEq, Eq, Hash)]
+pub struct GenericArgs {
+    pub args: Seq<GenericArg>,
+    /// Whether the first argument is the type that a trait is asked of, as the `T` of `<T as Trait>`.
+    pub has_self_type: bool,
+    /// What is said of associated types.
+    pub bindings: Seq<AssociatedTypeBinding>,
+    pub parenthesized: GenericArgsParentheses,
+}
+
+/// What is said of one associated type, as `Item = T` or `Item: Bound`.
+#[cycle(generic_args)]
+#[derive(Debug, Drop, PartialEq, Eq, Hash)]
+pub struct AssociatedTypeBinding {
+    pub name: Name,
+    /// The arguments of the associated type itself.
+    pub args: Option<GenericArgs>,
+    /// The type that it is.
+    pub type_ref: Option<TypeRefId>,
+    /// The bounds that it has.
+    pub bounds: Seq<TypeBound>,
+}
+
+/// One generic argument.
+#[derive(Clone, Copy, Debug, PartialEq, Eq, Hash)]
+pub enum GenericArg {
+    Ty(TypeRefId),
+    Lifetime(LifetimeRefId),
+    Const(ConstRef),
+}
+
+impl ExactEq for GenericArg {
+    ghost eq_decides = { Prim.search exact };
+}
+
+impl TryClone for GenericArg {
+    ghost clone_is_same = { Prim.search exact };
+}
+
+impl ExactEq for GenericArgs {
+    ghost use Rattle.hir_path.specs.SameArgs.{args_decides};
+
+    ghost eq_decides = { args_decides };
+}
+
+impl ExactEq for AssociatedTypeBinding {
+    ghost use Rattle.hir_path.specs.SameArgs.{binding_decides};
+
+    ghost eq_decides = { binding_decides };
+}
+
+#[cycle(clone_args)]
+fn clone_args(args: &GenericArgs) -> Result<GenericArgs, AllocError>
+    ensures { IfOk result (λ copy. copy ≡ args.now) }
+{
+    let items = args.args.try_clone()?.into_vec();
+    let bindings = clone_bindings(*items.allocator(), args.bindings.as_slice())?;
+    Ok(GenericArgs {
+        args: Seq::from_vec(items),
+        has_self_type: args.has_self_type,
+        bindings,
+        parenthesized: args.parenthesized,
+    })
+}
+
+#[cycle(clone_args)]
+fn clone_bindings(
+    alloc: Global,
+    bindings: &[AssociatedTypeBinding],
+) -> Result<Seq<AssociatedTypeBinding>, AllocError>
+    ensures { IfOk result (λ copy. copy ≡ bindings.now) }
+{
+    let mut copy = Seq::with_capacity(alloc, bindings.len())?;
+    for binding in bindings {
+        copy.push(clone_binding(binding)?)?;
+    }
+    Ok(copy)
+}
+
+#[cycle(clone_args)]
+fn clone_binding(binding: &AssociatedTypeBinding) -> Result<AssociatedTypeBinding, AllocError>
+    ensures { IfOk result (λ copy. copy ≡ binding.now) }
+{
+    let args = match &binding.args {
+        None => None,
+        Some(args) => Some(clone_args(args)?),
+    };
+    Ok(AssociatedTypeBinding {
+        name: binding.name.try_clone()?,
+        args,
+        type_ref: binding.type_ref,
+        bounds: binding.bounds.try_clone()?,
+    })
+}
+
+impl Clone for GenericArgs {
+    ghost is_clone = { λ x y. y ≡ x };
+
+    fn clone(&self) -> Result<GenericArgs, AllocError> {
+        clone_args(self)
+    }
+}
+
+impl Clone for AssociatedTypeBinding {
+    ghost is_clone = { λ x y. y ≡ x };
+
+    fn clone(&self) -> Result<AssociatedTypeBinding, AllocError> {
+        clone_binding(self)
+    }
+}
+
+impl TryClone for GenericArgs {
+    ghost clone_is_same = { λ x y h. h };
+}
+
+impl TryClone for AssociatedTypeBinding {
+    ghost clone_is_same = { λ x y h. h };
+}

@@ -1,0 +1,183 @@
+//! The segments of a path: views that can be cut, which borrow from the path and copy nothing.
+//! A view is seen as its names and perhaps a list of their arguments; a cut acts on each of the two lists by its own length.
+ghost use Rattle.std.specs.Prelude.{◌≡◌, IsTrue, ◌↔◌, [], length, slice_get, get_or, None};
+ghost use Rattle.std.specs.Option.{option_map, option_copied};
+ghost use Rattle.hir_path.specs.Segments.{segment_of, seen, left, empty, items, or_none, skip, first, strip};
+ghost use Rattle.hir_path.specs.Lists.{last_of, all_but};
+
+use crate::path::GenericArgs;
+use crate::segments_iter::PathSegmentsIter;
+use hir_base::Name;
+
+/// One segment of a path: its name, and its arguments where it has some.
+#[derive(Clone, Copy, Debug, PartialEq, Eq, Hash)]
+pub struct PathSegment<'a> {
+    pub name: &'a Name,
+    pub args_and_bindings: Option<&'a GenericArgs>,
+}
+
+impl<'a> PathSegment<'a> {
+    /// A segment with this name and no arguments. Where a segment is missing, the name is `Name::missing()`.
+    pub fn missing(name: &'a Name) -> PathSegment<'a>
+        ensures { segment_of result ≡ record { name = name.now; args = None } }
+    {
+        PathSegment {
+            name,
+            args_and_bindings: None,
+        }
+    }
+}
+
+/// Some segments of a path, seen as their names and perhaps a list of their arguments.
+#[derive(Clone, Copy, Debug)]
+pub struct PathSegments<'a> {
+    segments: &'a [Name],
+    generic_args: Option<&'a [Option<GenericArgs>]>,
+}
+
+impl<'a> PathSegments<'a> {
+    /// These names, and perhaps a list of their arguments.
+    pub(crate) fn new(
+        segments: &'a [Name],
+        generic_args: Option<&'a [Option<GenericArgs>]>,
+    ) -> PathSegments<'a>
+        ensures { seen result ≡ record { names = segments.now; lists = option_copied generic_args.entry } }
+    {
+        PathSegments {
+            segments,
+            generic_args,
+        }
+    }
+
+    /// No segments.
+    pub fn empty() -> PathSegments<'a>
+        ensures { seen result ≡ empty }
+    {
+        PathSegments {
+            segments: &[],
+            generic_args: None,
+        }
+    }
+
+    /// Whether there are no segments.
+    #[tactic(auto, using(crate::proofs::SegmentLemmas::segments))]
+    pub fn is_empty(&self) -> bool
+        ensures { IsTrue result ↔ (items (seen self.now) ≡ []) }
+    {
+        self.segments.is_empty()
+    }
+
+    /// The number of segments.
+    #[tactic(auto, using(crate::proofs::SegmentLemmas::segments))]
+    pub fn len(&self) -> usize
+        ensures { result ≡ length (items (seen self.now)) }
+    {
+        self.segments.len()
+    }
+
+    /// The first segment, where there is one.
+    pub fn first(&self) -> Option<PathSegment<'a>>
+        ensures { option_map segment_of result ≡ slice_get (items (seen self.now)) 0 }
+    {
+        self.get(0)
+    }
+
+    /// The last segment, where there is one.
+    pub fn last(&self) -> Option<PathSegment<'a>>
+        ensures { option_map segment_of result ≡ last_of (items (seen self.now)) }
+    {
+        let count = self.segments.len();
+        if count == 0 {
+            return None;
+        }
+        self.get(count - 1)
+    }
+
+    /// The segment in this place from 0, where there is one.
+    pub fn get(&self, idx: usize) -> Option<PathSegment<'a>>
+        ensures { option_map segment_of result ≡ slice_get (items (seen self.now)) idx }
+    {
+        match self.segments.get(idx) {
+            None => None,
+            Some(name) => Some(PathSegment {
+                name,
+                args_and_bindings: args_at(self.generic_args, idx),
+            }),
+        }
+    }
+
+    /// The segments in their order.
+    pub fn iter(&self) -> PathSegmentsIter<'a>
+        ensures { left result ≡ items (seen self.now) }
+    {
+        PathSegmentsIter::new(self.segments, self.generic_args.unwrap_or(&[]))
+    }
+
+    /// The segments without the first `len`. Where there are fewer names, no names are left; where there are fewer lists of
+    /// arguments, or none, no lists are left, not even an empty list of them.
+    pub fn skip(&self, len: usize) -> PathSegments<'a>
+        ensures { seen result ≡ skip len (seen self.now) }
+    {
+        PathSegments {
+            segments: self.segments.get(len..).unwrap_or(&[]),
+            generic_args: match self.generic_args {
+                None => None,
+                Some(lists) => lists.get(len..),
+            },
+        }
+    }
+
+    /// The first `len` segments, or all where there are fewer.
+    pub fn take(&self, len: usize) -> PathSegments<'a>
+        ensures { seen result ≡ first len (seen self.now) }
+    {
+        PathSegments {
+            segments: self.segments.get(..len).unwrap_or(self.segments),
+            generic_args: match self.generic_args {
+                None => None,
+                Some(lists) => Some(lists.get(..len).unwrap_or(lists)),
+            },
+        }
+    }
+
+    /// The segments without the last name and the last list of arguments.
+    pub fn strip_last(&self) -> PathSegments<'a>
+        ensures { seen result ≡ strip 1 (seen self.now) }
+    {
+        self.strip(1)
+    }
+
+    /// The segments without the last two names and the last two lists of arguments.
+    pub fn strip_last_two(&self) -> PathSegments<'a>
+        ensures { seen result ≡ strip 2 (seen self.now) }
+    {
+        self.strip(2)
+    }
+
+    /// The segments without the last `count` names and the last `count` lists of arguments.
+    fn strip(&self, count: usize) -> PathSegments<'a>
+        ensures { seen result ≡ strip count (seen self.now) }
+    {
+        PathSegments {
+            segments: all_but(self.segments, count),
+            generic_args: match self.generic_args {
+                None => None,
+                Some(lists) => Some(all_but(lists, count)),
+            },
+        }
+    }
+}
+
+/// The arguments in a place, where there are lists, and this many of them, and it has some.
+fn args_at<'a>(lists: Option<&'a [Option<GenericArgs>]>, idx: usize) -> Option<&'a GenericArgs>
+    ensures { option_copied result ≡ get_or (or_none (option_copied lists.entry)) idx None }
+{
+    lists?.get(idx)?.as_ref()
+}
+
+/// The items without the last `count` of them.
+fn all_but<T>(items: &[T], count: usize) -> &[T]
+    ensures { result.now ≡ all_but count items.now }
+{
+    &items[..items.len().saturating_sub(count)]
+}

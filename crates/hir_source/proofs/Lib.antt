@@ -1,0 +1,3 @@
+pub mod DefinitionLemmas
+pub mod NoEntries
+pub mod ComparedLemmas

@@ -1,0 +1,71 @@
+//! The patterns that define a binding: a `SmallVec` with four places inline, since most bindings have one definition.
+ghost use Rattle.std.specs.Prelude.{◌≡◌, [], ◌∷◌, ◌++◌, OnOk, OnErr, IfErr};
+ghost use Rattle.std.specs.Cmp.Lexicographic.{pointwise, bytes_decides};
+ghost use Rattle.std.specs.Bool.{nat_eq};
+ghost use Rattle.std.specs.Cmp.Rules.{comparing};
+ghost use Rattle.std.proofs.Common.{rules};
+
+use hir_base::ExactEq;
+use hir_path::PatId;
+use smallvec::SmallVec;
+use std::alloc::{AllocFailed, Global};
+use std::marker::Model;
+
+/// Patterns in order, of which the first four take no memory, seen as the list of them.
+#[derive(Debug, Drop)]
+pub(crate) struct Definitions {
+    list: SmallVec<PatId, 4>,
+}
+
+impl Model for Definitions {
+    ghost use Rattle.std.specs.Prelude.{List, ℕ};
+
+    ghost Value = { List ℕ };
+
+    ghost view = { λ definitions. definitions.list.items };
+}
+
+impl PartialEq for Definitions {
+    ghost eq = { pointwise nat_eq };
+
+    ghost laws = { Prim.search (comparing, rules) };
+
+    fn eq(&self, other: &Definitions) -> bool {
+        self.as_slice() == other.as_slice()
+    }
+}
+
+impl Eq for Definitions {
+    ghost laws = { Prim.search (comparing, rules) };
+}
+
+impl ExactEq for Definitions {
+    ghost eq_decides = { bytes_decides };
+}
+
+impl Definitions {
+    /// No patterns.
+    pub(crate) fn new(alloc: Global) -> Definitions
+        ensures { result ≡ [] }
+    {
+        Definitions {
+            list: SmallVec::new(alloc),
+        }
+    }
+
+    /// The patterns as a slice.
+    pub(crate) fn as_slice(&self) -> &[PatId]
+        ensures { result.now ≡ self.now }
+    {
+        self.list.as_slice()
+    }
+
+    /// Puts the pattern last. After a refusal the list is unchanged, and the pattern is handed back.
+    pub(crate) fn push(&mut self, pat: PatId) -> Result<(), AllocFailed<PatId>>
+        ensures ok { OnOk result (self.new ≡ self.old ++ pat ∷ []) }
+        ensures err { OnErr result (self.new ≡ self.old) }
+        ensures value_returned { IfErr result (λ failed. failed.value ≡ pat) }
+    {
+        self.list.push(pat)
+    }
+}

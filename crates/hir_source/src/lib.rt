@@ -1,0 +1,16 @@
+//! Where the nodes of a store come from: from a pointer into source to a node and back, the patterns of a binding, what macro calls
+//! expanded to, and what lowering complained about. The maps are filled while a store is built, and read from then on.
+#![tactic(auto)]
+
+mod definitions;
+mod diagnostics;
+mod iters;
+pub mod laws;
+mod part;
+mod source_map;
+mod source_map_builder;
+
+pub use diagnostics::{ExpressionStoreDiagnostics, MissingBodyItemKind};
+pub use iters::{Expansions, MacroCalls};
+pub use source_map::ExpressionStoreSourceMap;
+pub use source_map_builder::SourceMapBuilder;

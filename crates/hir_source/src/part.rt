@@ -1,0 +1,85 @@
+//! The two parts of a source map: the maps of expressions with all that belongs to them, and the maps of types and lifetimes.
+
+ghost use Rattle.std.specs.Prelude.{◌≡◌};
+
+use crate::definitions::Definitions;
+use crate::diagnostics::ExpressionStoreDiagnostics;
+use hir_base::{
+    ExprOrPatSource, ExprSource, FieldSource, InFile, LabelSource, LifetimeSource, MacroCallId,
+    MacroCallPtr, PatFieldSource, PatSource, Seq, Table, TypeSource,
+};
+use hir_path::{BindingId, ExprId, ExprOrPatId, LabelId, LifetimeRefId, PatId, TypeRefId};
+use std::alloc::Global;
+
+/// Where expressions, patterns, labels and bindings come from, what macro calls expanded to, and the diagnostics.
+#[derive(Debug, Drop, PartialEq, Eq)]
+pub(crate) struct ExprSources {
+    /// An expression in source can become a pattern, where it is assigned to.
+    pub(crate) expr_map: Table<ExprSource, ExprOrPatId>,
+    pub(crate) expr_map_back: Table<ExprId, ExprOrPatSource>,
+    pub(crate) pat_map: Table<PatSource, ExprOrPatId>,
+    pub(crate) pat_map_back: Table<PatId, ExprOrPatSource>,
+    pub(crate) label_map: Table<LabelSource, LabelId>,
+    pub(crate) label_map_back: Table<LabelId, LabelSource>,
+    pub(crate) definitions: Table<BindingId, Definitions>,
+    /// The field of a struct expression goes by the expression that is its value.
+    pub(crate) field_map_back: Table<ExprId, FieldSource>,
+    pub(crate) pat_field_map_back: Table<PatId, PatFieldSource>,
+    pub(crate) expansions: Table<InFile<MacroCallPtr>, MacroCallId>,
+    pub(crate) diagnostics: Seq<ExpressionStoreDiagnostics>,
+}
+
+/// Where types and lifetimes come from.
+#[derive(Debug, Drop, PartialEq, Eq)]
+pub(crate) struct TypeSources {
+    pub(crate) type_map: Table<TypeSource, TypeRefId>,
+    pub(crate) type_map_back: Table<TypeRefId, TypeSource>,
+    pub(crate) lifetime_map: Table<LifetimeSource, LifetimeRefId>,
+    pub(crate) lifetime_map_back: Table<LifetimeRefId, LifetimeSource>,
+}
+
+impl ExprSources {
+    ghost use Rattle.hir_source.specs.Parts.{no_expr_sources, has_news};
+
+    /// Maps without entries.
+    pub(crate) fn new(alloc: Global) -> ExprSources
+        ensures { result ≡ no_expr_sources }
+    {
+        ExprSources {
+            expr_map: Table::new(alloc),
+            expr_map_back: Table::new(alloc),
+            pat_map: Table::new(alloc),
+            pat_map_back: Table::new(alloc),
+            label_map: Table::new(alloc),
+            label_map_back: Table::new(alloc),
+            definitions: Table::new(alloc),
+            field_map_back: Table::new(alloc),
+            pat_field_map_back: Table::new(alloc),
+            expansions: Table::new(alloc),
+            diagnostics: Seq::new(alloc),
+        }
+    }
+
+    /// Whether there is an expansion or a diagnostic.
+    pub(crate) fn has_news(&self) -> bool
+        ensures { result ≡ has_news self.now }
+    {
+        !self.expansions.is_empty() || !self.diagnostics.is_empty()
+    }
+}
+
+impl TypeSources {
+    ghost use Rattle.hir_source.specs.Parts.{no_type_sources};
+
+    /// Maps without entries.
+    pub(crate) fn new(alloc: Global) -> TypeSources
+        ensures { result ≡ no_type_sources }
+    {
+        TypeSources {
+            type_map: Table::new(alloc),
+            type_map_back: Table::new(alloc),
+            lifetime_map: Table::new(alloc),
+            lifetime_map_back: Table::new(alloc),
+        }
+    }
+}

@@ -1,0 +1,291 @@
+//! The maps of a finished store, which are read: from nodes to their sources and back, expansions and diagnostics.
+
+ghost use Rattle.std.specs.Prelude.{◌≡◌, ◌↔◌, IsTrue, IsSome, Some};
+ghost use Rattle.std.specs.List.Sorted.{IsPermutation};
+ghost use Rattle.std.specs.FinMap as map;
+ghost use Rattle.hir_base.specs.Exact.{exact};
+ghost use Rattle.hir_base.specs.Table.{coded};
+ghost use Rattle.hir_source.specs.Parts.{source_key};
+ghost use Rattle.hir_source.specs.Compared.{same_part};
+ghost use Rattle.hir_source.specs.SameDiagnostics.{diagnostics_decide};
+
+use crate::diagnostics::ExpressionStoreDiagnostics;
+use crate::iters::{Expansions, MacroCalls};
+use crate::part::{ExprSources, TypeSources};
+use hir_base::{
+    AstPtr, ExprOrPatSource, ExprPtr, ExprSource, FieldSource, InFile, LabelSource, MacroCallId,
+    MacroCallPtr, PatFieldSource, PatPtr, SyntheticSyntax, TypePtr, TypeSource, ast,
+};
+use hir_path::{BindingId, ExprId, ExprOrPatId, LabelId, PatId, TypeRefId};
+
+/// Where the nodes of a store come from. `finish` of a builder makes it.
+///
+/// Its expression part, which is all but the maps of types and lifetimes, may be left out: then it has no entries.
+#[derive(Debug, Drop)]
+pub struct ExpressionStoreSourceMap {
+    pub(crate) exprs: Option<ExprSources>,
+    pub(crate) types: TypeSources,
+}
+
+impl ExpressionStoreSourceMap {
+    ghost use Rattle.hir_source.specs.Lookups.{expr_at, pat_at, label_at, type_at, expansion_at, expr_source, pat_source, expr_or_pat_source, label_source, type_source, field_source, pat_field_source, or_synthetic, patterns_for, expansions_of, diagnostics_of};
+
+    /// Where the expression or the pattern came from. A node that lowering made up has no source.
+    pub fn expr_or_pat_syntax(&self, id: ExprOrPatId) -> Result<ExprOrPatSource, SyntheticSyntax>
+        ensures { result ≡ or_synthetic (expr_or_pat_source self.now id) }
+    {
+        match id {
+            ExprOrPatId::ExprId(id) => self.expr_syntax(id),
+            ExprOrPatId::PatId(id) => self.pat_syntax(id),
+        }
+    }
+
+    /// Where the expression came from.
+    pub fn expr_syntax(&self, expr: ExprId) -> Result<ExprOrPatSource, SyntheticSyntax>
+        ensures { result ≡ or_synthetic (expr_source self.now expr) }
+    {
+        let part = match &self.exprs {
+            Some(part) => part,
+            None => return Err(SyntheticSyntax),
+        };
+        match part.expr_map_back.get(&expr) {
+            Some(source) => Ok(*source),
+            None => Err(SyntheticSyntax),
+        }
+    }
+
+    /// Where the pattern came from.
+    pub fn pat_syntax(&self, pat: PatId) -> Result<ExprOrPatSource, SyntheticSyntax>
+        ensures { result ≡ or_synthetic (pat_source self.now pat) }
+    {
+        let part = match &self.exprs {
+            Some(part) => part,
+            None => return Err(SyntheticSyntax),
+        };
+        match part.pat_map_back.get(&pat) {
+            Some(source) => Ok(*source),
+            None => Err(SyntheticSyntax),
+        }
+    }
+
+    /// Where the type came from.
+    pub fn type_syntax(&self, type_ref: TypeRefId) -> Result<TypeSource, SyntheticSyntax>
+        ensures { result ≡ or_synthetic (type_source self.now type_ref) }
+    {
+        match self.types.type_map_back.get(&type_ref) {
+            Some(source) => Ok(*source),
+            None => Err(SyntheticSyntax),
+        }
+    }
+
+    /// What the expression in source became: an expression, or a pattern where it is assigned to.
+    pub fn node_expr(&self, node: InFile<ExprPtr>) -> Option<ExprOrPatId>
+        ensures { result ≡ expr_at self.now node }
+    {
+        self.exprs.as_ref()?.expr_map.get(&node).copied()
+    }
+
+    /// What the pattern in source became.
+    pub fn node_pat(&self, node: InFile<PatPtr>) -> Option<ExprOrPatId>
+        ensures { result ≡ pat_at self.now node }
+    {
+        self.exprs.as_ref()?.pat_map.get(&node).copied()
+    }
+
+    /// What the type in source became.
+    pub fn node_type(&self, node: InFile<TypePtr>) -> Option<TypeRefId>
+        ensures { result ≡ type_at self.now node }
+    {
+        self.types.type_map.get(&node).copied()
+    }
+
+    /// What the label in source became.
+    pub fn node_label(&self, node: InFile<AstPtr<ast::Label>>) -> Option<LabelId>
+        ensures { result ≡ label_at self.now node }
+    {
+        let source: LabelSource = InFile {
+            file_id: node.file_id,
+            value: node.value.wrap_left(),
+        };
+        self.exprs.as_ref()?.label_map.get(&source).copied()
+    }
+
+    /// What the macro call that stands as an expression became.
+    pub fn macro_expansion_expr(&self, node: InFile<AstPtr<ast::MacroExpr>>) -> Option<ExprOrPatId>
+        ensures { result ≡ expr_at self.now node }
+    {
+        let source: ExprSource = InFile {
+            file_id: node.file_id,
+            value: node.value.upcast(),
+        };
+        self.exprs.as_ref()?.expr_map.get(&source).copied()
+    }
+
+    /// What the macro call expanded to.
+    pub fn node_macro_file(&self, node: InFile<MacroCallPtr>) -> Option<MacroCallId>
+        ensures { result ≡ expansion_at self.now node }
+    {
+        self.exprs.as_ref()?.expansions.get(&node).copied()
+    }
+
+    /// What the macro call expanded to, as `node_macro_file`.
+    pub fn expansion(&self, node: InFile<MacroCallPtr>) -> Option<MacroCallId>
+        ensures { result ≡ expansion_at self.now node }
+    {
+        self.node_macro_file(node)
+    }
+
+    /// All macro calls with what they expanded to, in an order that nobody may rely on.
+    pub fn macro_calls(&self) -> MacroCalls<'_>
+        ensures { IsPermutation (coded source_key result) (map.entries (expansions_of self.now)) }
+    {
+        MacroCalls::new(self.expansions())
+    }
+
+    /// All macro calls with what they expanded to, as references, in an order that nobody may rely on.
+    pub fn expansions(&self) -> Expansions<'_>
+        ensures { IsPermutation (coded source_key result) (map.entries (expansions_of self.now)) }
+    {
+        match &self.exprs {
+            Some(part) => Expansions::new(Some(part.expansions.iter())),
+            None => Expansions::new(None),
+        }
+    }
+
+    /// Whether there is a source of the label.
+    pub fn has_label_syntax(&self, label: LabelId) -> bool
+        ensures { IsTrue result ↔ IsSome (label_source self.now label) }
+    {
+        match &self.exprs {
+            Some(part) => part.label_map_back.get(&label).is_some(),
+            None => false,
+        }
+    }
+
+    /// A source of the label, which has to be there: `has_label_syntax` tests it.
+    pub fn label_syntax(&self, label: LabelId) -> LabelSource
+        requires { IsSome (label_source self.now label) }
+        ensures { Some result ≡ label_source self.now label }
+    {
+        let part = match &self.exprs {
+            Some(part) => part,
+            None => unreachable!(),
+        };
+        match part.label_map_back.get(&label) {
+            Some(source) => *source,
+            None => unreachable!(),
+        }
+    }
+
+    /// Whether there is a source of the field of which the expression is the value.
+    pub fn has_field_syntax(&self, expr: ExprId) -> bool
+        ensures { IsTrue result ↔ IsSome (field_source self.now expr) }
+    {
+        match &self.exprs {
+            Some(part) => part.field_map_back.get(&expr).is_some(),
+            None => false,
+        }
+    }
+
+    /// A source of the field of which the expression is the value, which has to be there: `has_field_syntax` tests it.
+    pub fn field_syntax(&self, expr: ExprId) -> FieldSource
+        requires { IsSome (field_source self.now expr) }
+        ensures { Some result ≡ field_source self.now expr }
+    {
+        let part = match &self.exprs {
+            Some(part) => part,
+            None => unreachable!(),
+        };
+        match part.field_map_back.get(&expr) {
+            Some(source) => *source,
+            None => unreachable!(),
+        }
+    }
+
+    /// Whether there is a source of the field that holds the pattern.
+    pub fn has_pat_field_syntax(&self, pat: PatId) -> bool
+        ensures { IsTrue result ↔ IsSome (pat_field_source self.now pat) }
+    {
+        match &self.exprs {
+            Some(part) => part.pat_field_map_back.get(&pat).is_some(),
+            None => false,
+        }
+    }
+
+    /// A source of the field that holds the pattern, which has to be there: `has_pat_field_syntax` tests it.
+    pub fn pat_field_syntax(&self, pat: PatId) -> PatFieldSource
+        requires { IsSome (pat_field_source self.now pat) }
+        ensures { Some result ≡ pat_field_source self.now pat }
+    {
+        let part = match &self.exprs {
+            Some(part) => part,
+            None => unreachable!(),
+        };
+        match part.pat_field_map_back.get(&pat) {
+            Some(source) => *source,
+            None => unreachable!(),
+        }
+    }
+
+    /// The patterns that define the binding, in the order in which they were added. There are none where the expression part isn't kept.
+    pub fn patterns_for_binding(&self, binding: BindingId) -> &[PatId]
+        ensures { result.now ≡ patterns_for self.now binding }
+    {
+        let part = match &self.exprs {
+            Some(part) => part,
+            None => return &[],
+        };
+        match part.definitions.get(&binding) {
+            Some(patterns) => patterns.as_slice(),
+            None => &[],
+        }
+    }
+
+    /// The diagnostics, in the order in which they were pushed.
+    pub fn diagnostics(&self) -> &[ExpressionStoreDiagnostics]
+        ensures { result.now ≡ diagnostics_of self.now }
+    {
+        match &self.exprs {
+            Some(part) => part.diagnostics.as_slice(),
+            None => &[],
+        }
+    }
+}
+
+/// Whether what is compared of two expression parts is equal.
+fn same_part(x: &ExprSources, y: &ExprSources) -> bool
+    ensures { result ≡ same_part ⟦<ExprOrPatSource as PartialEq>⟧.eq ⟦<MacroCallId as PartialEq>⟧.eq ⟦<ExpressionStoreDiagnostics as PartialEq>⟧.eq x.now y.now }
+{
+    x.expr_map_back == y.expr_map_back
+        && x.pat_map_back == y.pat_map_back
+        && x.label_map_back == y.label_map_back
+        && x.expansions == y.expansions
+        && x.diagnostics == y.diagnostics
+}
+
+/// Source maps are equal where their compared parts are: whether the expression part is kept, where expressions, patterns, labels, types
+/// and lifetimes came from, the expansions and the diagnostics. The maps from sources to nodes follow from these, and may differ.
+impl PartialEq for ExpressionStoreSourceMap {
+    ghost use Rattle.hir_source.specs.Compared.{same_compared};
+    ghost use Rattle.hir_source.specs.SameCompared.{compared_per};
+
+    ghost eq = { same_compared ⟦<ExprOrPatSource as PartialEq>⟧.eq ⟦<MacroCallId as PartialEq>⟧.eq ⟦<ExpressionStoreDiagnostics as PartialEq>⟧.eq };
+
+    ghost laws = { compared_per (Prim.search exact) (Prim.search exact) diagnostics_decide };
+
+    fn eq(&self, other: &ExpressionStoreSourceMap) -> bool {
+        let same = match (&self.exprs, &other.exprs) {
+            (Some(mine), Some(theirs)) => same_part(mine, theirs),
+            (None, None) => true,
+            _ => false,
+        };
+        same && self.types.type_map_back == other.types.type_map_back
+            && self.types.lifetime_map_back == other.types.lifetime_map_back
+    }
+}
+
+impl Eq for ExpressionStoreSourceMap {
+    ghost use Rattle.hir_source.specs.SameCompared.{compared_equiv};
+
+    ghost laws = { compared_equiv (Prim.search exact) (Prim.search exact) diagnostics_decide };
+}
