@@ -1,3 +1,2 @@
-pub mod FirstOfName
-pub mod Generics
-pub mod SameGenerics
+pub mod Lookups
+pub mod Tables

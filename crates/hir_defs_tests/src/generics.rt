@@ -5,10 +5,9 @@ use crate::params::{
     outlives, type_from,
 };
 use hir_base::{Arena, ExactEq, FunctionId, GenericDefId, Idx, Name, Seq};
-use hir_defs::{GenericParams, generic_laws};
-use hir_generics::{
-    GenericParamData, GenericParamDataRef, LifetimeBoundType, TypeOrConstParamData,
-    TypeParamProvenance,
+use hir_defs::{
+    GenericParamData, GenericParamDataRef, GenericParams, LifetimeBoundType, TypeOrConstParamData,
+    TypeParamProvenance, generic_laws,
 };
 use hir_node::ConstRef;
 use std::alloc::Global;
@@ -262,6 +261,13 @@ fn a_type(rt: HostRuntime) -> Result<(), Fail> {
     assert!(rt; !ty.has_default());
     assert!(rt; !ty.is_trait_self());
     assert!(rt; again::copies(&ty)?);
+    Ok(())
+}
+
+#[test]
+fn a_constant_is_copied(rt: HostRuntime) -> Result<(), Fail> {
+    let made = constant(rt.alloc(), "N")?;
+    assert!(rt; again::copies(&made)?);
     Ok(())
 }
 

@@ -7,3 +7,5 @@ mod again;
 mod generics;
 #[cfg(test)]
 mod params;
+#[cfg(test)]
+mod texts;

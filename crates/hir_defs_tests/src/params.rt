@@ -1,10 +1,9 @@
 //! Generic parameters and predicates, one of each kind, for the tests.
 use crate::again;
 use hir_base::{Arena, Idx, LifetimeParamKind, Name, Seq, TypeOrConstParamKind};
-use hir_defs::GenericParams;
-use hir_generics::{
-    ConstParamData, LifetimeBoundType, LifetimeParamData, TypeOrConstParamData, TypeParamData,
-    TypeParamProvenance, WherePredicate,
+use hir_defs::{
+    ConstParamData, GenericParams, LifetimeBoundType, LifetimeParamData, TypeOrConstParamData,
+    TypeParamData, TypeParamProvenance, WherePredicate,
 };
 use hir_node::{PathId, TraitBoundModifier, TypeBound};
 use std::alloc::{AllocError, Global};

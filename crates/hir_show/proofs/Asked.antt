@@ -11,7 +11,7 @@ use Rattle.hir_lines.specs.declared.line.Line.TheVariants.{Ask}
 use Rattle.hir_lines.specs.declared.line.Question.{Question}
 use Rattle.hir_show.specs.declared.fault.RunFault.{RunFault}
 use Rattle.hir_show.specs.declared.fault.RunFault.TheVariants.{BadLine, Refused, InputFailed, OutputFailed, OutOfMemory}
-use Rattle.hir_store.specs.Contents.{contents_of, finish_fault}
+use Rattle.hir_store.specs.Building.{contents_of, finish_fault}
 use Rattle.hir_show.specs.Made.{Made}
 use Rattle.hir_lines.specs.Line.{line_of}
 use Rattle.hir_show.specs.Answer.{answer_to}

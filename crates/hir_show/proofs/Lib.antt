@@ -1,6 +1,7 @@
 pub mod Scripts
 pub mod Making
 pub mod Failing
+pub mod Failures
 pub mod Answering
 pub mod Sections
 pub mod Ending

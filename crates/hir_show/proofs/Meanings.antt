@@ -3,10 +3,10 @@ use Rattle.std.proofs.Common.{◌≡◌, ◌+◌, ℕ, List, [], ◌∷◌, Opti
 use Rattle.std.specs.Prelude.{codes}
 use Rattle.hir_show.specs.declared.fault.RunFault.{RunFault}
 use Rattle.hir_lines.specs.declared.line.Line.{Line}
-use Rattle.hir_store.specs.declared.fault.FinishFault.{FinishFault}
-use Rattle.hir_store.specs.Contents.{finish_fault}
+use Rattle.hir_faults.specs.declared.fault.FinishFault.{FinishFault}
+use Rattle.hir_store.specs.Building.{finish_fault}
 use Rattle.hir_show.specs.Program.{unless_refused, refused_or, ending, Means, IsMeaning, made, making, answers, asking, left_over}
-use Rattle.hir_store.proofs.FinishLemmas.{finish_fault-one}
+use Rattle.hir_store.proofs.BuildingLemmas.{finish_fault-one}
 
 Means-one : (verdict : Option FinishFault → Type 0) → ((f g : Option FinishFault) → verdict f → verdict g → f ≡ g) → (good : ℕ) (answers : List ℕ) (asked rest : List Line) (text more : List ℕ) (outcome other : Result (Unit {0}) RunFault) →
     Means verdict good answers asked rest text outcome → Means verdict good answers asked rest more other → (text ≡ more) × (outcome ≡ other)

@@ -2,8 +2,9 @@
 use Rattle.std.specs.Prelude.{ℕ, List, [], ◌∷◌, ◌++◌, Bool, false, Option, None, Some, is_some}
 use Rattle.hir_lines.specs.declared.line.Maker.{Maker}
 use Rattle.hir_lines.specs.declared.line.Maker.TheVariants as make
-use Rattle.hir_store.specs.Nodes.{Nodes}
-use Rattle.hir_store.specs.Contents.{Building, building_of, and_root, some_roots}
+use Rattle.hir_faults.specs.Nodes.{Nodes}
+use Rattle.hir_store.specs.Building.{Building, building_of, and_root, some_roots}
+use Rattle.hir_accepted.specs.Marks.{no_marks}
 use Rattle.hir_show.specs.declared.made.Made as code
 
 -- what is built, the self parameter, the other parameters and the name of the function
@@ -17,7 +18,7 @@ abbrev pub no_nodes : Nodes
 no_nodes = record { exprs = []; pats = []; types = []; bindings = []; labels = []; lifetimes = [] }
 
 abbrev pub nothing_made : Made
-nothing_made = record { built = record { nodes = no_nodes; roots = None }; self_param = None; params = []; name = None }
+nothing_made = record { built = record { nodes = no_nodes; roots = None; marks = no_marks }; self_param = None; params = []; name = None }
 
 -- what the code holds
 abbrev pub made_of : code.Made → Made
@@ -25,7 +26,7 @@ made_of m = record { built = building_of m.builder; self_param = m.self_param; p
 
 -- the same with other nodes; with other roots
 abbrev pub with_nodes : Made → Nodes → Made
-with_nodes m nodes = record m { built = record { nodes = nodes; roots = m.built.roots } }
+with_nodes m nodes = record m { built = record m.built { nodes = nodes } }
 
 -- what is made with one more line
 abbrev pub with_line : Made → Maker → Made
@@ -36,8 +37,8 @@ with_line m (make.Expr expr) = with_nodes m (record m.built.nodes { exprs = m.bu
 with_line m (make.SelfParam id) = record m { self_param = Some id }
 with_line m (make.Param id) = record m { params = m.params ++ id ∷ [] }
 with_line m (make.FnName name) = record m { name = Some name }
-with_line m make.Roots = record m { built = record { nodes = m.built.nodes; roots = some_roots m.built.roots } }
-with_line m (make.Root id) = record m { built = record { nodes = m.built.nodes; roots = and_root m.built id } }
+with_line m make.Roots = record m { built = record m.built { roots = some_roots m.built.roots } }
+with_line m (make.Root id) = record m { built = record m.built { roots = and_root m.built id } }
 
 -- whether the line gives a second self parameter or a second name
 abbrev pub is_second : Made → Maker → Bool

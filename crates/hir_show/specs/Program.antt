@@ -7,8 +7,9 @@ use Rattle.hir_lines.specs.declared.line.Maker.{Maker}
 use Rattle.hir_lines.specs.declared.line.Maker.TheVariants as make
 use Rattle.hir_show.specs.declared.fault.RunFault.{RunFault}
 use Rattle.hir_show.specs.declared.fault.RunFault.TheVariants.{BadLine, Refused}
-use Rattle.hir_store.specs.declared.fault.FinishFault.{FinishFault}
-use Rattle.hir_store.specs.Contents.{Contents, contents_of, finish_fault}
+use Rattle.hir_faults.specs.declared.fault.FinishFault.{FinishFault}
+use Rattle.hir_accepted.specs.Contents.{Contents}
+use Rattle.hir_store.specs.Building.{contents_of, finish_fault}
 use Rattle.hir_lines.specs.Line.{line_of}
 use Rattle.hir_show.specs.Made.{Made, nothing_made, with_line}
 use Rattle.hir_show.specs.Answer.{answer_to}

@@ -5,7 +5,8 @@ use Rattle.hir_ends.specs.declared.next.LineFault.{LineFault}
 use Rattle.hir_ends.specs.declared.next.LineFault.TheVariants as line
 use Rattle.hir_show.specs.declared.fault.RunFault.{RunFault}
 use Rattle.hir_show.specs.declared.fault.RunFault.TheVariants.{BadLine, Refused, InputFailed, OutputFailed, OutOfMemory}
-use Rattle.hir_store.specs.Contents.{Building, Contents, contents_of, finish_fault}
+use Rattle.hir_store.specs.Building.{Building, contents_of, finish_fault}
+use Rattle.hir_accepted.specs.Contents.{Contents}
 use Rattle.hir_show.specs.Program.{answers, script, script_of, IsMeaning, IsSound}
 
 -- a line that can't be had, told of the run
@@ -64,6 +65,11 @@ is_output_failed (Err (Refused fault)) = false
 is_output_failed (Err InputFailed) = false
 is_output_failed (Err OutputFailed) = true
 is_output_failed (Err OutOfMemory) = false
+
+-- a store, without what stands beside it
+abbrev pub store_of : {Beside : Type 0} → Result (Contents × Beside) RunFault → Result Contents RunFault
+store_of (Ok stored) = Ok stored.0
+store_of (Err fault) = Err fault
 
 -- what was built has no fault and is the store, or this is its first fault
 abbrev pub IsFinished : Building → Result Contents RunFault → Type 0

@@ -1,22 +1,25 @@
 //! The program: lines in, answers out.
 
 ghost use Rattle.std.specs.Prelude.{◌≡◌, false};
-ghost use Rattle.hir_store.specs.Contents.{building_of};
-ghost use Rattle.hir_show.specs.Run.{Runs, IsFinished, is_input_failed, is_output_failed};
+ghost use Rattle.hir_store.specs.Building.{building_of};
+ghost use Rattle.hir_show.specs.Run.{Runs, IsFinished, store_of, is_input_failed, is_output_failed};
 
 use super::fault::RunFault;
 use super::made::Made;
 use super::stages::{accept, answer_all, build};
 use hir_ends::{LineReader, OutputBuffer, Sink, Source};
-use hir_store::{ExpressionStore, ExpressionStoreBuilder, FinishFault};
+use hir_store::{ExpressionStore, ExpressionStoreBuilder, ExpressionStoreSourceMap, FinishFault};
 use std::alloc::Global;
+use std::mem::forget;
 
-/// The store of what was built, or why there is none.
-fn finished(builder: ExpressionStoreBuilder) -> Result<ExpressionStore, RunFault>
-    ensures { IsFinished (building_of builder) result }
+/// The store of what was built, with its source map, or why there is none.
+fn finished(
+    builder: ExpressionStoreBuilder,
+) -> Result<(ExpressionStore, ExpressionStoreSourceMap), RunFault>
+    ensures { IsFinished (building_of builder) (store_of result) }
 {
     match builder.finish() {
-        Ok((store, _source_map)) => Ok(store),
+        Ok(stored) => Ok(stored),
         Err(refused) => {
             if refused.fault == FinishFault::Memory {
                 return Err(RunFault::OutOfMemory);
@@ -52,17 +55,25 @@ pub fn run<R: Source, W: Sink>(
     };
     let mut made = Made::new(alloc);
     let first = build(alloc, &mut lines, reader, &mut output, writer, &mut made)?;
-    let store = finished(made.builder)?;
+    // The store is never dropped: the process ends behind a run, and the system takes back all memory at once.
+    let stored = finished(made.builder)?;
     match first {
-        Some(question) => answer_all(
-            alloc,
-            &store,
-            question,
-            &mut lines,
-            reader,
-            &mut output,
-            writer,
-        ),
-        None => accept(&mut output, writer),
+        Some(question) => {
+            let outcome = answer_all(
+                alloc,
+                &stored.0,
+                question,
+                &mut lines,
+                reader,
+                &mut output,
+                writer,
+            );
+            forget(stored);
+            outcome
+        }
+        None => {
+            forget(stored);
+            accept(&mut output, writer)
+        }
     }
 }

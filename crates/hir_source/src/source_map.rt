@@ -277,7 +277,7 @@ impl PartialEq for ExpressionStoreSourceMap {
         let same = match (&self.exprs, &other.exprs) {
             (Some(mine), Some(theirs)) => same_part(mine, theirs),
             (None, None) => true,
-            _ => false,
+            (Some(_), None) | (None, Some(_)) => false,
         };
         same && self.types.type_map_back == other.types.type_map_back
             && self.types.lifetime_map_back == other.types.lifetime_map_back

@@ -1,9 +1,1 @@
-pub mod HeldLemmas
-pub mod RangeLemmas
-pub mod RowLemmas
-pub mod FinishLemmas
-pub mod SoundLemmas
-pub mod DownLemmas
-pub mod PatLemmas
-pub mod WalkLemmas
-pub mod PathFits
+pub mod BuildingLemmas

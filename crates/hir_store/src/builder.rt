@@ -1,20 +1,24 @@
 //! Building a store: nodes and roots are added, and `finish` tests them once.
 
 ghost use Rattle.std.specs.Prelude.{◌≡◌, ◌≤◌, [], ◌∷◌, ◌++◌, length, Err, None, IfOk, IfErr, OnOk, OnErr};
-ghost use Rattle.hir_store.specs.Contents.{nodes_of, building_of, ends_of, and_root, some_roots};
-ghost use Rattle.hir_store.specs.Nodes.{sizes_of};
-ghost use Rattle.hir_store.specs.Sizes.{Few};
+ghost use Rattle.std.specs.FinMap as map;
+ghost use Rattle.hir_path.specs.Keys.{expr_or_pat_code};
+ghost use Rattle.hir_source.specs.Additions.{no_sources};
+ghost use Rattle.hir_store.specs.Building.{nodes_of, building_of, and_root, some_roots};
+ghost use Rattle.hir_faults.specs.Faults.{nodes_in};
+ghost use Rattle.hir_faults.specs.Nodes.{sizes_of};
+ghost use Rattle.hir_faults.specs.Sizes.{Few};
 
-use crate::fault::FinishFault;
-use crate::root_list::RootList;
-use crate::sizes::Sizes;
-use hir_base::{Arena, ArenaFault};
-use hir_forest::{Ends, Root};
+use hir_accepted::RootList;
+use hir_base::{Arena, ArenaFault, BlockId, HygieneId, Seq, Table};
+use hir_faults::{FinishFault, NodeSlices};
+use hir_forest::Root;
 use hir_node::{
-    Binding, BindingId, BindingKind, Expr, ExprId, ExprKind, Label, LabelId, LabelKind,
-    LifetimeRef, LifetimeRefId, LifetimeRefKind, Pat, PatId, PatKind, TypeRef, TypeRefId,
-    TypeRefKind,
+    Binding, BindingId, BindingKind, Expr, ExprId, ExprKind, ExprOrPatId, Label, LabelId,
+    LabelKind, LifetimeRef, LifetimeRefId, LifetimeRefKind, Pat, PatId, PatKind, TypeRef,
+    TypeRefId, TypeRefKind,
 };
+use hir_source::SourceMapBuilder;
 use std::alloc::{AllocFailed, Global};
 
 /// Nodes and roots that are not tested yet.
@@ -26,6 +30,11 @@ pub struct ExpressionStoreBuilder {
     pub labels: Arena<LabelKind, Label>,
     pub lifetimes: Arena<LifetimeRefKind, LifetimeRef>,
     pub types: Arena<TypeRefKind, TypeRef>,
+    /// The closure, coroutine or anonymous constant that owns a binding. A binding that the body itself owns has no entry.
+    pub binding_owners: Table<BindingId, ExprId>,
+    pub(crate) hygiene: Table<ExprOrPatId, HygieneId>,
+    pub(crate) block_scopes: Seq<BlockId>,
+    pub(crate) source_map: SourceMapBuilder,
     pub(crate) roots: Option<RootList>,
     pub(crate) alloc: Global,
 }
@@ -40,7 +49,7 @@ pub struct Refused {
 impl ExpressionStoreBuilder {
     /// A builder of nothing, which takes its memory from `alloc`, and none now.
     pub fn new(alloc: Global) -> ExpressionStoreBuilder
-        ensures { result ≡ record { exprs = []; pats = []; bindings = []; labels = []; lifetimes = []; types = []; roots = None; alloc = alloc } }
+        ensures { result ≡ record { exprs = []; pats = []; bindings = []; labels = []; lifetimes = []; types = []; binding_owners = map.empty; hygiene = map.empty; block_scopes = []; source_map = no_sources alloc; roots = None; alloc = alloc } }
     {
         ExpressionStoreBuilder {
             exprs: Arena::new(alloc),
@@ -49,6 +58,10 @@ impl ExpressionStoreBuilder {
             labels: Arena::new(alloc),
             lifetimes: Arena::new(alloc),
             types: Arena::new(alloc),
+            binding_owners: Table::new(alloc),
+            hygiene: Table::new(alloc),
+            block_scopes: Seq::new(alloc),
+            source_map: SourceMapBuilder::new(alloc),
             roots: None,
             alloc,
         }
@@ -138,7 +151,7 @@ impl ExpressionStoreBuilder {
     {
         let root = Root {
             node: expr.into_raw(),
-            ends: self.ends(),
+            ends: self.nodes().ends(),
         };
         match &mut self.roots {
             Some(roots) => match roots.push(root) {
@@ -158,29 +171,45 @@ impl ExpressionStoreBuilder {
         }
     }
 
-    /// How many expressions, patterns and bindings there are.
-    pub(crate) fn ends(&self) -> Ends
-        ensures { result ≡ ends_of (nodes_of self.now) }
+    /// The path that the expression or the pattern is was written with this hygiene. It takes the place of what was said before.
+    ///
+    /// Where room for one more entry was refused, id and hygiene are handed back and the builder is as it was.
+    pub fn set_hygiene(
+        &mut self,
+        id: ExprOrPatId,
+        hygiene: HygieneId,
+    ) -> Result<(), AllocFailed<(ExprOrPatId, HygieneId)>>
+        ensures ok { OnOk result (self.new ≡ record self.old { hygiene = map.insert self.old.hygiene (expr_or_pat_code id) hygiene }) }
+        ensures err { OnErr result (self.new ≡ self.old) }
+        ensures value_returned { IfErr result (λ failed. failed.value ≡ (id, hygiene)) }
     {
-        Ends {
-            exprs: self.exprs.len() as u32,
-            pats: self.pats.len() as u32,
-            bindings: self.bindings.len() as u32,
+        match self.hygiene.insert(id, hygiene) {
+            Ok(_) => Ok(()),
+            Err(failed) => Err(failed),
         }
     }
 
-    /// How many of each there are.
-    pub(crate) fn sizes(&self) -> Sizes
-        ensures sizes { result ≡ sizes_of (nodes_of self.now) }
-        ensures few { Few result }
+    /// Lists a block that may hold items, behind the others. After a refusal the builder is as it was, and the block is handed back.
+    pub fn add_block_scope(&mut self, block: BlockId) -> Result<(), AllocFailed<BlockId>>
+        ensures ok { OnOk result (self.new ≡ record self.old { block_scopes = self.old.block_scopes ++ block ∷ [] }) }
+        ensures err { OnErr result (self.new ≡ self.old) }
+        ensures value_returned { IfErr result (λ failed. failed.value ≡ block) }
     {
-        Sizes {
-            exprs: self.exprs.len(),
-            pats: self.pats.len(),
-            types: self.types.len(),
-            bindings: self.bindings.len(),
-            labels: self.labels.len(),
-            lifetimes: self.lifetimes.len(),
+        self.block_scopes.push(block)
+    }
+
+    /// The nodes, borrowed.
+    pub(crate) fn nodes(&self) -> NodeSlices<'_>
+        ensures nodes { nodes_in result ≡ nodes_of self.now }
+        ensures few { Few (sizes_of (nodes_in result)) }
+    {
+        NodeSlices {
+            exprs: self.exprs.as_slice(),
+            pats: self.pats.as_slice(),
+            types: self.types.as_slice(),
+            bindings: self.bindings.as_slice(),
+            labels: self.labels.as_slice(),
+            lifetimes: self.lifetimes.as_slice(),
         }
     }
 }

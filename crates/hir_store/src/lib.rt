@@ -2,32 +2,14 @@
 //! and from then on an `ExpressionStore` is a well-formed forest.
 #![tactic(auto)]
 
-mod bounds;
 mod builder;
-mod child_pats;
-mod fault;
+mod builder_sources;
 mod finish;
-mod held;
 pub mod laws;
-mod missing;
-mod node;
-mod own_exprs;
-mod range;
-mod root_list;
-mod roots;
-mod rows;
-mod sizes;
-mod source_map;
-mod store;
-mod store_iter;
-mod visits;
-mod walks;
 
-pub use bounds::TypeBoundExt;
 pub use builder::{ExpressionStoreBuilder, Refused};
-pub use fault::{FinishFault, NodeId};
+pub use hir_accepted::{Blocks, ExprRoots, ExpressionStore, Missing, NodeSet, TypeBoundExt};
+pub use hir_base::SyntheticSyntax;
+pub use hir_faults::{FinishFault, NodeId};
 pub use hir_node::{StoreVisitor, StoreVisitorExt, visit_generic_args};
-pub use missing::Missing;
-pub use source_map::ExpressionStoreSourceMap;
-pub use store::ExpressionStore;
-pub use store_iter::ExprRoots;
+pub use hir_source::{ExpressionStoreDiagnostics, ExpressionStoreSourceMap, MissingBodyItemKind};

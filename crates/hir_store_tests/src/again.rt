@@ -5,7 +5,9 @@ use hir_node::{
     Binding, BindingId, Boxed, Expr, ExprId, Label, LabelId, LifetimeRef, LifetimeRefId, Pat,
     PatId, TypeRef, TypeRefId,
 };
-use hir_store::{ExpressionStore, ExpressionStoreBuilder, FinishFault, Refused};
+use hir_store::{
+    ExpressionStore, ExpressionStoreBuilder, ExpressionStoreSourceMap, FinishFault, Refused,
+};
 use std::alloc::{AllocError, Global};
 
 pub fn name(alloc: Global, text: &str) -> Result<Name, AllocError> {
@@ -96,14 +98,20 @@ pub fn root(builder: &mut ExpressionStoreBuilder, root: ExprId) -> Result<(), Al
 }
 
 pub fn finish(builder: ExpressionStoreBuilder) -> Result<ExpressionStore, Refused> {
+    let (store, _source_map) = finish_both(builder)?;
+    Ok(store)
+}
+
+pub fn finish_both(
+    builder: ExpressionStoreBuilder,
+) -> Result<(ExpressionStore, ExpressionStoreSourceMap), Refused> {
     match builder.finish() {
-        Ok((store, _source_map)) => Ok(store),
+        Ok(made) => Ok(made),
         Err(refused) => {
             if refused.fault != FinishFault::Memory {
                 return Err(refused);
             }
-            let (store, _source_map) = refused.builder.finish()?;
-            Ok(store)
+            refused.builder.finish()
         }
     }
 }

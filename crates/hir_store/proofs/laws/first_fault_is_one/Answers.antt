@@ -1,4 +1,4 @@
-use Rattle.hir_store.proofs.FinishLemmas.{finish_fault-one}
+use Rattle.hir_store.proofs.BuildingLemmas.{finish_fault-one}
 use Rattle.hir_store.proofs.laws.first_fault_is_one.Goals as goal
 
 pub returns : goal.returns

@@ -1,6 +1,6 @@
-use Rattle.hir_store.specs.Contents.{finish_fault}
+use Rattle.hir_store.specs.Building.{finish_fault}
 use Rattle.hir_store.proofs.builder.ExpressionStoreBuilder.accepted.Goals as goal
 
-pub new-requires : goal.new-requires
+pub new-store-requires : goal.new-store-requires
 unfolding finish_fault
-new-requires c = rw (c.roots_or_empty.ensures) (c.requires.1)
+new-store-requires c = rw c.roots_or_empty.ensures (c.requires.1)

@@ -1,2 +1,0 @@
-mod FirstOfName
-mod GenericLists

@@ -1,0 +1,38 @@
+//! What has no generic parameters, kept so that a reference to them can be lent.
+
+ghost use Rattle.std.specs.Prelude.{◌≡◌};
+ghost use Rattle.hir_items.specs.Generics.{empty};
+
+use hir_items::GenericParams;
+use std::alloc::Global;
+use std::marker::Model;
+
+/// Generic parameters of which there are none.
+#[derive(Drop)]
+pub(crate) struct NoGenerics {
+    none: GenericParams,
+}
+
+impl Model for NoGenerics {
+    ghost Value = { Unit {0} };
+
+    ghost view = { λ _. tt };
+
+    ghost invariant = { λ n. n.none ≡ empty };
+}
+
+impl NoGenerics {
+    /// It takes no memory.
+    pub(crate) fn new(alloc: Global) -> NoGenerics {
+        NoGenerics {
+            none: GenericParams::empty(alloc),
+        }
+    }
+
+    /// No parameters.
+    pub(crate) fn params(&self) -> &GenericParams
+        ensures { result.now ≡ empty }
+    {
+        &self.none
+    }
+}

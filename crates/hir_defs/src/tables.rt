@@ -1,0 +1,444 @@
+//! What is known of definitions outside of a store, as one finite map for each kind.
+
+ghost use Rattle.std.specs.Prelude.{◌≡◌, ◌∷◌, [], None, Some, IfOk, IfErr, OnOk, OnErr};
+ghost use Rattle.std.specs.Option.{option_map, option_copied};
+ghost use Rattle.std.specs.FinMap as map;
+ghost use Rattle.hir_base.specs.Exact.{exact};
+ghost use Rattle.hir_base.specs.Keys.{named_code, fields_code, body_code};
+ghost use Rattle.hir_base.specs.RawWords.{no_words, words_of, with_words};
+ghost use Rattle.hir_base.specs.declared.defs.GenericDefId.TheVariants as generic;
+ghost use Rattle.hir_base.specs.declared.defs.AdtId.TheVariants as adt;
+ghost use Rattle.hir_accepted.specs.declared.missing.Missing.TheVariants as missing;
+ghost use Rattle.hir_items.specs.Generics.{empty};
+ghost use Rattle.hir_defs.specs.Tables.{plain_code, plain_tells, generic_def};
+
+use crate::no_generics::NoGenerics;
+use hir_accepted::Missing;
+use hir_base::{
+    AdtId, ConstId, CrateId, DefWithBodyId, Edition, EnumId, EnumVariantId, ExactEq, FunctionId,
+    GenericDefId, ImplId, Keyed, NamedDef, RawWords, Seq, StaticId, StructId, Table, Text, TraitId,
+    TryClone, TypeAliasId, UnionId, VariantId,
+};
+use hir_items::{
+    Body, BodySourceMap, FunctionSignature, GenericParams, PlainSignature, StructSignature,
+    VariantFields,
+};
+use hir_source::ExpressionStoreSourceMap;
+use std::alloc::{AllocFailed, Global};
+
+/// A definition of which a signature keeps the generic parameters alone.
+#[derive(Clone, Copy, Debug, PartialEq, Eq, Hash)]
+pub enum PlainDef {
+    Enum(EnumId),
+    Union(UnionId),
+    Const(ConstId),
+    Static(StaticId),
+    Impl(ImplId),
+    Trait(TraitId),
+    TypeAlias(TypeAliasId),
+}
+
+impl PlainDef {
+    /// The same definition, as one that may have generic parameters.
+    pub fn generic_def(self) -> GenericDefId
+        ensures { result ≡ generic_def self }
+    {
+        match self {
+            PlainDef::Enum(id) => GenericDefId::AdtId(AdtId::EnumId(id)),
+            PlainDef::Union(id) => GenericDefId::AdtId(AdtId::UnionId(id)),
+            PlainDef::Const(id) => GenericDefId::ConstId(id),
+            PlainDef::Static(id) => GenericDefId::StaticId(id),
+            PlainDef::Impl(id) => GenericDefId::ImplId(id),
+            PlainDef::Trait(id) => GenericDefId::TraitId(id),
+            PlainDef::TypeAlias(id) => GenericDefId::TypeAliasId(id),
+        }
+    }
+}
+
+impl ExactEq for PlainDef {
+    ghost eq_decides = { Prim.search exact };
+}
+
+impl TryClone for PlainDef {
+    ghost clone_is_same = { Prim.search exact };
+}
+
+impl Keyed for PlainDef {
+    ghost code = { plain_code };
+
+    ghost code_tells = { λ x y. plain_tells _ x y (Prim.search exact) };
+}
+
+/// How a struct lies in memory: what `#[repr(..)]` says.
+#[derive(Clone, Copy, Debug, PartialEq, Eq)]
+pub struct Repr {
+    /// Whether it is `repr(C)`.
+    pub c: bool,
+    /// The bytes of `align`, where it is written.
+    pub align: Option<u64>,
+    /// The bytes of `packed`, where it is written.
+    pub pack: Option<u64>,
+}
+
+impl ExactEq for Repr {
+    ghost eq_decides = { Prim.search exact };
+}
+
+impl TryClone for Repr {
+    ghost clone_is_same = { Prim.search exact };
+}
+
+/// What is known of the definitions outside. A later entry replaces an earlier one.
+#[derive(Drop)]
+pub struct Tables {
+    names: Table<NamedDef, Option<Text>>,
+    variant_parents: Table<EnumVariantId, EnumId>,
+    functions: Table<FunctionId, (FunctionSignature, ExpressionStoreSourceMap)>,
+    structs: Table<StructId, (StructSignature, ExpressionStoreSourceMap)>,
+    plains: Table<PlainDef, (PlainSignature, ExpressionStoreSourceMap)>,
+    fields: Table<VariantId, (VariantFields, ExpressionStoreSourceMap)>,
+    bodies: Table<DefWithBodyId, (Body, BodySourceMap)>,
+    crate_names: Table<CrateId, Option<Text>>,
+    reprs: Table<StructId, Repr>,
+    words: RawWords,
+    no_generics: NoGenerics,
+}
+
+/// Gives the key this value, in the place of the one that it had.
+fn put<K: Keyed + Drop, V: Drop>(
+    table: &mut Table<K, V>,
+    key: K,
+    value: V,
+) -> Result<(), AllocFailed<(K, V)>>
+    ensures ok { OnOk result (table.new ≡ map.insert table.old (K.code key) value) }
+    ensures err { OnErr result (table.new ≡ table.old) }
+    ensures value_returned { IfErr result (λ failed. failed.value ≡ (key, value)) }
+{
+    table.insert(key, value)?;
+    Ok(())
+}
+
+impl Tables {
+    /// Tables without an entry. It takes no memory.
+    pub fn new(alloc: Global) -> Tables
+        ensures { result ≡ record { names = map.empty; variant_parents = map.empty; functions = map.empty; structs = map.empty; plains = map.empty; fields = map.empty; bodies = map.empty; crate_names = map.empty; reprs = map.empty; words = no_words; no_generics = tt } }
+    {
+        Tables {
+            names: Table::new(alloc),
+            variant_parents: Table::new(alloc),
+            functions: Table::new(alloc),
+            structs: Table::new(alloc),
+            plains: Table::new(alloc),
+            fields: Table::new(alloc),
+            bodies: Table::new(alloc),
+            crate_names: Table::new(alloc),
+            reprs: Table::new(alloc),
+            words: RawWords::new(alloc),
+            no_generics: NoGenerics::new(alloc),
+        }
+    }
+
+    /// Gives the definition this name, or says that it has none.
+    ///
+    /// Where memory for the entry is refused, it is handed back and nothing has changed.
+    pub fn add_name(
+        &mut self,
+        def: NamedDef,
+        name: Option<Text>,
+    ) -> Result<(), AllocFailed<(NamedDef, Option<Text>)>>
+        ensures ok { OnOk result (self.new ≡ record self.old { names = map.insert self.old.names (named_code def) name }) }
+        ensures err { OnErr result (self.new ≡ self.old) }
+        ensures value_returned { IfErr result (λ failed. failed.value ≡ (def, name)) }
+    {
+        put(&mut self.names, def, name)
+    }
+
+    /// Says of which enum the variant is.
+    ///
+    /// Where memory for the entry is refused, it is handed back and nothing has changed.
+    pub fn add_variant_parent(
+        &mut self,
+        variant: EnumVariantId,
+        parent: EnumId,
+    ) -> Result<(), AllocFailed<(EnumVariantId, EnumId)>>
+        ensures ok { OnOk result (self.new ≡ record self.old { variant_parents = map.insert self.old.variant_parents (variant ∷ []) parent }) }
+        ensures err { OnErr result (self.new ≡ self.old) }
+        ensures value_returned { IfErr result (λ failed. failed.value ≡ (variant, parent)) }
+    {
+        put(&mut self.variant_parents, variant, parent)
+    }
+
+    /// Gives the crate this name, or says that it has none.
+    ///
+    /// Where memory for the entry is refused, it is handed back and nothing has changed.
+    pub fn add_crate_name(
+        &mut self,
+        id: CrateId,
+        name: Option<Text>,
+    ) -> Result<(), AllocFailed<(CrateId, Option<Text>)>>
+        ensures ok { OnOk result (self.new ≡ record self.old { crate_names = map.insert self.old.crate_names (id ∷ []) name }) }
+        ensures err { OnErr result (self.new ≡ self.old) }
+        ensures value_returned { IfErr result (λ failed. failed.value ≡ (id, name)) }
+    {
+        put(&mut self.crate_names, id, name)
+    }
+
+    /// Says how the struct lies in memory.
+    ///
+    /// Where memory for the entry is refused, it is handed back and nothing has changed.
+    pub fn add_repr(
+        &mut self,
+        id: StructId,
+        repr: Repr,
+    ) -> Result<(), AllocFailed<(StructId, Repr)>>
+        ensures ok { OnOk result (self.new ≡ record self.old { reprs = map.insert self.old.reprs (id ∷ []) repr }) }
+        ensures err { OnErr result (self.new ≡ self.old) }
+        ensures value_returned { IfErr result (λ failed. failed.value ≡ (id, repr)) }
+    {
+        put(&mut self.reprs, id, repr)
+    }
+
+    /// Gives the function this signature.
+    ///
+    /// Where memory for the entry is refused, it is handed back and nothing has changed.
+    pub fn add_function(
+        &mut self,
+        id: FunctionId,
+        signature: FunctionSignature,
+        source_map: ExpressionStoreSourceMap,
+    ) -> Result<(), AllocFailed<(FunctionId, (FunctionSignature, ExpressionStoreSourceMap))>>
+        ensures ok { OnOk result (self.new ≡ record self.old { functions = map.insert self.old.functions (id ∷ []) (signature, source_map) }) }
+        ensures err { OnErr result (self.new ≡ self.old) }
+        ensures value_returned { IfErr result (λ failed. failed.value ≡ (id, (signature, source_map))) }
+    {
+        put(&mut self.functions, id, (signature, source_map))
+    }
+
+    /// Gives the struct this signature.
+    ///
+    /// Where memory for the entry is refused, it is handed back and nothing has changed.
+    pub fn add_struct(
+        &mut self,
+        id: StructId,
+        signature: StructSignature,
+        source_map: ExpressionStoreSourceMap,
+    ) -> Result<(), AllocFailed<(StructId, (StructSignature, ExpressionStoreSourceMap))>>
+        ensures ok { OnOk result (self.new ≡ record self.old { structs = map.insert self.old.structs (id ∷ []) (signature, source_map) }) }
+        ensures err { OnErr result (self.new ≡ self.old) }
+        ensures value_returned { IfErr result (λ failed. failed.value ≡ (id, (signature, source_map))) }
+    {
+        put(&mut self.structs, id, (signature, source_map))
+    }
+
+    /// Gives the definition this signature.
+    ///
+    /// Where memory for the entry is refused, it is handed back and nothing has changed.
+    pub fn add_plain(
+        &mut self,
+        def: PlainDef,
+        signature: PlainSignature,
+        source_map: ExpressionStoreSourceMap,
+    ) -> Result<(), AllocFailed<(PlainDef, (PlainSignature, ExpressionStoreSourceMap))>>
+        ensures ok { OnOk result (self.new ≡ record self.old { plains = map.insert self.old.plains (plain_code def) (signature, source_map) }) }
+        ensures err { OnErr result (self.new ≡ self.old) }
+        ensures value_returned { IfErr result (λ failed. failed.value ≡ (def, (signature, source_map))) }
+    {
+        put(&mut self.plains, def, (signature, source_map))
+    }
+
+    /// Gives the struct, the union or the variant these fields.
+    ///
+    /// Where memory for the entry is refused, it is handed back and nothing has changed.
+    pub fn add_fields(
+        &mut self,
+        variant: VariantId,
+        fields: VariantFields,
+        source_map: ExpressionStoreSourceMap,
+    ) -> Result<(), AllocFailed<(VariantId, (VariantFields, ExpressionStoreSourceMap))>>
+        ensures ok { OnOk result (self.new ≡ record self.old { fields = map.insert self.old.fields (fields_code variant) (fields, source_map) }) }
+        ensures err { OnErr result (self.new ≡ self.old) }
+        ensures value_returned { IfErr result (λ failed. failed.value ≡ (variant, (fields, source_map))) }
+    {
+        put(&mut self.fields, variant, (fields, source_map))
+    }
+
+    /// Gives the definition this body.
+    ///
+    /// Where memory for the entry is refused, it is handed back and nothing has changed.
+    pub fn add_body(
+        &mut self,
+        def: DefWithBodyId,
+        body: Body,
+        source_map: BodySourceMap,
+    ) -> Result<(), AllocFailed<(DefWithBodyId, (Body, BodySourceMap))>>
+        ensures ok { OnOk result (self.new ≡ record self.old { bodies = map.insert self.old.bodies (body_code def) (body, source_map) }) }
+        ensures err { OnErr result (self.new ≡ self.old) }
+        ensures value_returned { IfErr result (λ failed. failed.value ≡ (def, (body, source_map))) }
+    {
+        put(&mut self.bodies, def, (body, source_map))
+    }
+
+    /// Gives the edition these words that are written with `r#`, in place of the ones that it had.
+    pub fn set_raw_words(&mut self, edition: Edition, words: Seq<Text>)
+        ensures { self.new ≡ record self.old { words = with_words self.old.words edition words } }
+    {
+        self.words.set_words(edition, words);
+    }
+
+    /// The words of this edition that are written with `r#`: none where none were given.
+    pub fn raw_words(&self, edition: Edition) -> &[Text]
+        ensures { result.now ≡ words_of self.now.words edition }
+    {
+        self.words.words(edition)
+    }
+
+    /// How the struct lies in memory, where that was said.
+    pub fn repr(&self, id: StructId) -> Option<Repr>
+        ensures { result ≡ map.get self.now.reprs (id ∷ []) }
+    {
+        self.reprs.get(&id).copied()
+    }
+
+    /// What the definition is called; None where it has no name.
+    pub fn name(&self, def: NamedDef) -> Result<Option<&Text>, Missing>
+        ensures found { IfOk result (λ found. map.get self.now.names (named_code def) ≡ Some (option_copied found)) }
+        ensures absent { IfErr result (λ absent. (absent ≡ missing.Name def) × (map.get self.now.names (named_code def) ≡ None)) }
+    {
+        match self.names.get(&def) {
+            Some(entry) => Ok(entry.as_ref()),
+            None => Err(Missing::Name(def)),
+        }
+    }
+
+    /// The enum that the variant is of.
+    pub fn variant_parent(&self, variant: EnumVariantId) -> Result<EnumId, Missing>
+        ensures found { IfOk result (λ found. map.get self.now.variant_parents (variant ∷ []) ≡ Some (found)) }
+        ensures absent { IfErr result (λ absent. (absent ≡ missing.Variant variant) × (map.get self.now.variant_parents (variant ∷ []) ≡ None)) }
+    {
+        match self.variant_parents.get(&variant) {
+            Some(entry) => Ok(*entry),
+            None => Err(Missing::Variant(variant)),
+        }
+    }
+
+    /// What the crate is called; None where it has no name.
+    pub fn crate_name(&self, id: CrateId) -> Result<Option<&Text>, Missing>
+        ensures found { IfOk result (λ found. map.get self.now.crate_names (id ∷ []) ≡ Some (option_copied found)) }
+        ensures absent { IfErr result (λ absent. (absent ≡ missing.Crate id) × (map.get self.now.crate_names (id ∷ []) ≡ None)) }
+    {
+        match self.crate_names.get(&id) {
+            Some(entry) => Ok(entry.as_ref()),
+            None => Err(Missing::Crate(id)),
+        }
+    }
+
+    /// The signature of the function, with its source map.
+    pub(crate) fn function_entry(
+        &self,
+        id: FunctionId,
+    ) -> Result<&(FunctionSignature, ExpressionStoreSourceMap), Missing>
+        ensures found { IfOk result (λ found. map.get self.now.functions (id ∷ []) ≡ Some found.now) }
+        ensures absent { IfErr result (λ absent. (absent ≡ missing.Signature (generic.FunctionId id)) × (map.get self.now.functions (id ∷ []) ≡ None)) }
+    {
+        match self.functions.get(&id) {
+            Some(entry) => Ok(entry),
+            None => Err(Missing::Signature(GenericDefId::FunctionId(id))),
+        }
+    }
+
+    /// The signature of the function.
+    pub fn function_signature(&self, id: FunctionId) -> Result<&FunctionSignature, Missing>
+        ensures found { IfOk result (λ found. option_map (λ entry. entry.0) (map.get self.now.functions (id ∷ [])) ≡ Some found.now) }
+        ensures absent { IfErr result (λ absent. (absent ≡ missing.Signature (generic.FunctionId id)) × (map.get self.now.functions (id ∷ []) ≡ None)) }
+    {
+        let (found, _) = self.function_entry(id)?;
+        Ok(found)
+    }
+
+    /// The signature of the struct, with its source map.
+    pub(crate) fn struct_entry(
+        &self,
+        id: StructId,
+    ) -> Result<&(StructSignature, ExpressionStoreSourceMap), Missing>
+        ensures found { IfOk result (λ found. map.get self.now.structs (id ∷ []) ≡ Some found.now) }
+        ensures absent { IfErr result (λ absent. (absent ≡ missing.Signature (generic.AdtId (adt.StructId id))) × (map.get self.now.structs (id ∷ []) ≡ None)) }
+    {
+        match self.structs.get(&id) {
+            Some(entry) => Ok(entry),
+            None => Err(Missing::Signature(GenericDefId::AdtId(AdtId::StructId(id)))),
+        }
+    }
+
+    /// The signature of the struct.
+    pub fn struct_signature(&self, id: StructId) -> Result<&StructSignature, Missing>
+        ensures found { IfOk result (λ found. option_map (λ entry. entry.0) (map.get self.now.structs (id ∷ [])) ≡ Some found.now) }
+        ensures absent { IfErr result (λ absent. (absent ≡ missing.Signature (generic.AdtId (adt.StructId id))) × (map.get self.now.structs (id ∷ []) ≡ None)) }
+    {
+        let (found, _) = self.struct_entry(id)?;
+        Ok(found)
+    }
+
+    /// The signature of the definition, with its source map.
+    pub(crate) fn plain_entry(
+        &self,
+        def: PlainDef,
+    ) -> Result<&(PlainSignature, ExpressionStoreSourceMap), Missing>
+        ensures found { IfOk result (λ found. map.get self.now.plains (plain_code def) ≡ Some found.now) }
+        ensures absent { IfErr result (λ absent. (absent ≡ missing.Signature (generic_def def)) × (map.get self.now.plains (plain_code def) ≡ None)) }
+    {
+        match self.plains.get(&def) {
+            Some(entry) => Ok(entry),
+            None => Err(Missing::Signature(def.generic_def())),
+        }
+    }
+
+    /// The signature of the definition.
+    pub fn plain_signature(&self, def: PlainDef) -> Result<&PlainSignature, Missing>
+        ensures found { IfOk result (λ found. option_map (λ entry. entry.0) (map.get self.now.plains (plain_code def)) ≡ Some found.now) }
+        ensures absent { IfErr result (λ absent. (absent ≡ missing.Signature (generic_def def)) × (map.get self.now.plains (plain_code def) ≡ None)) }
+    {
+        let (found, _) = self.plain_entry(def)?;
+        Ok(found)
+    }
+
+    /// The fields of the struct, the union or the variant, with its source map.
+    pub(crate) fn fields_entry(
+        &self,
+        variant: VariantId,
+    ) -> Result<&(VariantFields, ExpressionStoreSourceMap), Missing>
+        ensures found { IfOk result (λ found. map.get self.now.fields (fields_code variant) ≡ Some found.now) }
+        ensures absent { IfErr result (λ absent. (absent ≡ missing.Fields variant) × (map.get self.now.fields (fields_code variant) ≡ None)) }
+    {
+        match self.fields.get(&variant) {
+            Some(entry) => Ok(entry),
+            None => Err(Missing::Fields(variant)),
+        }
+    }
+
+    /// The fields of the struct, the union or the variant.
+    pub fn variant_fields(&self, variant: VariantId) -> Result<&VariantFields, Missing>
+        ensures found { IfOk result (λ found. option_map (λ entry. entry.0) (map.get self.now.fields (fields_code variant)) ≡ Some found.now) }
+        ensures absent { IfErr result (λ absent. (absent ≡ missing.Fields variant) × (map.get self.now.fields (fields_code variant) ≡ None)) }
+    {
+        let (found, _) = self.fields_entry(variant)?;
+        Ok(found)
+    }
+
+    /// No generic parameters, to lend.
+    pub(crate) fn no_generics(&self) -> &GenericParams
+        ensures { result.now ≡ empty }
+    {
+        self.no_generics.params()
+    }
+
+    /// The body of the definition, with its source map.
+    pub(crate) fn body_entry(&self, def: DefWithBodyId) -> Result<&(Body, BodySourceMap), Missing>
+        ensures found { IfOk result (λ found. map.get self.now.bodies (body_code def) ≡ Some found.now) }
+        ensures absent { IfErr result (λ absent. (absent ≡ missing.Body def) × (map.get self.now.bodies (body_code def) ≡ None)) }
+    {
+        match self.bodies.get(&def) {
+            Some(entry) => Ok(entry),
+            None => Err(Missing::Body(def)),
+        }
+    }
+}

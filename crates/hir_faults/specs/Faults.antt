@@ -1,0 +1,71 @@
+-- The first fault of nodes with their roots.
+use Rattle.std.specs.Prelude.{◌≡◌, ℕ, List, [], Option, None, IsTrue, true, length, map, slice_index_or}
+use Rattle.hir_node.specs.declared.type_ref.TypeRef.{TypeRef}
+use Rattle.hir_forest.specs.declared.roots.Ends.{Ends}
+use Rattle.hir_forest.specs.declared.roots.Root.{Root}
+use Rattle.hir_forest.specs.declared.roots.ForestFault.{ForestFault}
+use Rattle.hir_forest.specs.declared.roots.ForestFault.TheVariants as forest
+use Rattle.hir_forest.specs.Verdict.{◌unless◌, ◌before◌, first_below, in_words}
+use Rattle.hir_forest.specs.Faults.{forest_fault}
+use Rattle.hir_faults.specs.declared.sizes.Sizes.{Sizes}
+use Rattle.hir_faults.specs.declared.nodes.NodeSlices.{NodeSlices}
+use Rattle.hir_faults.specs.declared.fault.NodeId.{NodeId}
+use Rattle.hir_faults.specs.declared.fault.NodeId.TheVariants as named
+use Rattle.hir_faults.specs.declared.fault.FinishFault.{FinishFault}
+use Rattle.hir_faults.specs.declared.fault.FinishFault.TheVariants.{IdOutOfRange, NotAPath, NoReturnType, NoSelfArgument, ArgumentLists, SharedChild, Cycle, RootOutOfRange, RootRepeated, RootUnderRoot, RootEnds}
+use Rattle.hir_faults.specs.Sizes.{node_at}
+use Rattle.hir_faults.specs.Parts.{Parts, expr_parts, pat_parts, type_parts, names_there, names_paths, gives_self, lists_fit}
+use Rattle.hir_faults.specs.Nodes.{Nodes, sizes_of, graph}
+
+-- the nodes that are borrowed
+abbrev pub nodes_in : NodeSlices → Nodes
+nodes_in n = record { exprs = n.exprs.now; pats = n.pats.now; types = n.types.now; bindings = n.bindings.now; labels = n.labels.now; lifetimes = n.lifetimes.now }
+
+-- nodes with their roots
+pub record Rooted : Type 0 where
+  pub nodes : Nodes
+  pub roots : List Root
+
+-- how many expressions, patterns and bindings there are
+abbrev pub ends_of : Nodes → Ends
+ends_of s = record { exprs = length s.exprs; pats = length s.pats; bindings = length s.bindings }
+
+-- a fault of one node: ids out of range, then what isn't a path, then a missing return type, then a missing self argument, then lists that don't fit
+unfoldable pub node_fault : Sizes → List TypeRef → NodeId → Parts → Option FinishFault → Type 0
+node_fault sizes types id x =
+    (IdOutOfRange id unless IsTrue (names_there sizes x))
+    before (NotAPath id unless IsTrue (names_paths types x.held))
+    before (NoReturnType id unless IsTrue x.returns)
+    before (NoSelfArgument id unless IsTrue (gives_self x.held))
+    before (ArgumentLists id unless IsTrue (lists_fit x.held))
+
+abbrev pub no_parts : Parts
+no_parts = record { calls = []; bindings = []; labels = []; held = record { path = None; args = None; bounds = [] }; returns = true }
+
+-- the first fault of one node, of nodes of one sort
+abbrev pub first_of : Sizes → List TypeRef → (ℕ → NodeId) → List Parts → Option FinishFault → Type 0
+first_of sizes types name parts = first_below (length parts) (λ n. node_fault sizes types (name n) (slice_index_or parts n no_parts))
+
+-- the first fault of one node: of an expression, then of a pattern, then of a type
+unfoldable pub first_bad_node : Nodes → Option FinishFault → Type 0
+first_bad_node s =
+    first_of (sizes_of s) s.types named.Expr (map expr_parts s.exprs)
+    before first_of (sizes_of s) s.types named.Pat (map pat_parts s.pats)
+    before first_of (sizes_of s) s.types named.TypeRef (map type_parts s.types)
+
+-- a fault of the graph, told of the nodes
+abbrev pub told : Sizes → ForestFault → FinishFault
+told sizes (forest.SharedChild n) = SharedChild (node_at sizes n)
+told sizes (forest.Cycle n) = Cycle (node_at sizes n)
+told sizes (forest.RootOutOfRange i) = RootOutOfRange i
+told sizes (forest.RootRepeated i) = RootRepeated i
+told sizes (forest.RootUnderRoot i) = RootUnderRoot i
+told sizes (forest.RootEnds i) = RootEnds i
+
+-- the first fault of the graph and the roots
+unfoldable pub graph_fault : Rooted → Option FinishFault → Type 0
+graph_fault c = in_words (told (sizes_of c.nodes)) (forest_fault (graph c.nodes) (ends_of c.nodes) c.roots)
+
+-- the first fault of nodes with their roots
+unfoldable pub rooted_fault : Rooted → Option FinishFault → Type 0
+rooted_fault c = first_bad_node c.nodes before graph_fault c

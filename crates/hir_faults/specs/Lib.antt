@@ -1,0 +1,10 @@
+pub mod Sizes
+pub mod Parts
+pub mod HeldParts
+pub mod Nodes
+pub mod Faults
+pub mod Ranges
+pub mod Pushes
+pub mod PathSound
+pub mod Down
+pub mod Sound

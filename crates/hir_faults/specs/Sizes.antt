@@ -1,0 +1,44 @@
+-- How many of each there are, which calls name what is there, and the places of nodes in one row: expressions, then patterns, then types.
+use Rattle.std.specs.Prelude.{ℕ, Bool, ◌+◌, ◌-◌, ◌<◌, ◌≤◌, List, map, nat_lt, cond}
+use Rattle.hir_node.specs.ChildCalls.{Call, OnExpr, OnAnonConst, OnPat, OnType, OnLifetime, Node, OfExpr, OfPat, OfType, kids}
+use Rattle.hir_faults.specs.declared.sizes.Sizes.{Sizes}
+use Rattle.hir_faults.specs.declared.fault.NodeId.{NodeId}
+use Rattle.hir_faults.specs.declared.fault.NodeId.TheVariants as named
+
+-- the call is made with an id that is there
+abbrev pub is_there : Sizes → Call → Bool
+is_there sizes (OnExpr id) = nat_lt id sizes.exprs
+is_there sizes (OnAnonConst id) = nat_lt id sizes.exprs
+is_there sizes (OnPat id) = nat_lt id sizes.pats
+is_there sizes (OnType id) = nat_lt id sizes.types
+is_there sizes (OnLifetime id) = nat_lt id sizes.lifetimes
+
+-- the node is there
+abbrev pub HasNode : Sizes → Node → Type 0
+HasNode sizes (OfExpr id) = id < sizes.exprs
+HasNode sizes (OfPat id) = id < sizes.pats
+HasNode sizes (OfType id) = id < sizes.types
+
+-- the place of a node in the row
+abbrev pub place : Sizes → Node → ℕ
+place sizes (OfExpr id) = id
+place sizes (OfPat id) = sizes.exprs + id
+place sizes (OfType id) = sizes.exprs + sizes.pats + id
+
+-- the node at a place of the row
+abbrev pub node_at : Sizes → ℕ → NodeId
+node_at sizes n =
+    cond (nat_lt n sizes.exprs) (named.Expr n)
+    (cond (nat_lt n (sizes.exprs + sizes.pats)) (named.Pat (n - sizes.exprs))
+    (named.TypeRef (n - (sizes.exprs + sizes.pats))))
+
+-- the places of the kids among calls
+abbrev pub places : Sizes → List Call → List ℕ
+places sizes calls = map (place sizes) (kids calls)
+
+-- each arena has at most as many items as ids can name
+pub record Few (sizes : Sizes) : Type 0 where
+  pub exprs : sizes.exprs ≤ 4294967295
+  pub pats : sizes.pats ≤ 4294967295
+  pub types : sizes.types ≤ 4294967295
+  pub bindings : sizes.bindings ≤ 4294967295

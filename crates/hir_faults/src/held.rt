@@ -1,0 +1,282 @@
+//! What a node holds that has to be right in itself: a path, generic arguments, bounds.
+//! The tests of generic arguments call themselves, on the arguments of an associated type binding: as deep as these are nested.
+
+ghost use Rattle.std.specs.Prelude.{◌≡◌, flat_map};
+ghost use Rattle.std.specs.Option.{option_copied};
+ghost use Rattle.std.specs.List.{list_all};
+ghost use Rattle.hir_faults.specs.Parts.{path_of, is_path_at, bound_paths, args_paths, binding_paths, args_give_self, binding_gives_self, self_given, all_of, option_all, path_paths, path_gives_self, one_list_each, nothing, a_path, some_bounds, names_paths, gives_self, lists_fit};
+ghost use Rattle.hir_faults.specs.HeldParts.{held_of};
+
+use hir_node::{AssociatedTypeBinding, GenericArg, GenericArgs, Path, PathId, TypeBound, TypeRef};
+
+/// The path that a type is. `None` for a type that is none.
+pub fn as_path(type_ref: &TypeRef) -> Option<&Path>
+    ensures { option_copied result ≡ path_of type_ref.now }
+{
+    match type_ref {
+        TypeRef::Path(path) => Some(path),
+        TypeRef::Never
+        | TypeRef::Placeholder
+        | TypeRef::Error
+        | TypeRef::Tuple(_)
+        | TypeRef::RawPtr(_, _)
+        | TypeRef::Reference(_)
+        | TypeRef::Array(_)
+        | TypeRef::Slice(_)
+        | TypeRef::Fn(_)
+        | TypeRef::ImplTrait(_)
+        | TypeRef::DynTrait(_)
+        | TypeRef::TypeParam(_)
+        | TypeRef::PatternType(_, _) => None,
+    }
+}
+
+/// Whether the type of this id is there and is a path.
+pub(crate) fn is_path(types: &[TypeRef], id: PathId) -> bool
+    ensures { result ≡ is_path_at types.now id }
+{
+    match types.get(id.type_ref().into_raw() as usize) {
+        Some(type_ref) => as_path(type_ref).is_some(),
+        None => false,
+    }
+}
+
+/// Whether what a bound names as a path is one.
+pub(crate) fn bound_names_path(types: &[TypeRef], bound: &TypeBound) -> bool
+    ensures { result ≡ list_all (is_path_at types.now) (bound_paths bound.now) }
+{
+    match bound {
+        TypeBound::Path(id, _) => is_path(types, *id),
+        TypeBound::ForLifetime(_, id) => is_path(types, *id),
+        TypeBound::Lifetime(_) | TypeBound::Use(_) | TypeBound::Error => true,
+    }
+}
+
+/// Whether what bounds name as paths are paths.
+pub(crate) fn bounds_name_paths(types: &[TypeRef], bounds: &[TypeBound]) -> bool
+    ensures { result ≡ list_all (is_path_at types.now) (flat_map bound_paths bounds.now) }
+{
+    for bound in bounds {
+        if !bound_names_path(types, bound) {
+            return false;
+        }
+    }
+    true
+}
+
+/// Whether what generic arguments name as paths are paths.
+#[cycle(args_name_paths)]
+pub(crate) fn args_name_paths(types: &[TypeRef], args: &GenericArgs) -> bool
+    ensures { result ≡ list_all (is_path_at types.now) (args_paths args.now) }
+{
+    for binding in args.bindings.as_slice() {
+        if !binding_names_paths(types, binding) {
+            return false;
+        }
+    }
+    true
+}
+
+#[cycle(args_name_paths)]
+fn binding_names_paths(types: &[TypeRef], binding: &AssociatedTypeBinding) -> bool
+    ensures { result ≡ list_all (is_path_at types.now) (binding_paths binding.now) }
+{
+    if let Some(args) = &binding.args {
+        if !args_name_paths(types, args) {
+            return false;
+        }
+    }
+    bounds_name_paths(types, binding.bounds.as_slice())
+}
+
+/// Whether the arguments begin with a self type where they are said to.
+fn gives_self(has_self_type: bool, args: &[GenericArg]) -> bool
+    ensures { result ≡ self_given has_self_type args.now }
+{
+    !has_self_type || !args.is_empty()
+}
+
+/// Whether each list of arguments that is said to begin with a self type isn't empty.
+#[cycle(args_give_self)]
+pub(crate) fn args_give_self(args: &GenericArgs) -> bool
+    ensures { result ≡ args_give_self args.now }
+{
+    if !gives_self(args.has_self_type, args.args.as_slice()) {
+        return false;
+    }
+    for binding in args.bindings.as_slice() {
+        if !binding_gives_self(binding) {
+            return false;
+        }
+    }
+    true
+}
+
+#[cycle(args_give_self)]
+fn binding_gives_self(binding: &AssociatedTypeBinding) -> bool
+    ensures { result ≡ binding_gives_self binding.now }
+{
+    match &binding.args {
+        Some(args) => args_give_self(args),
+        None => true,
+    }
+}
+
+/// What a node holds: a path, generic arguments that aren't in a path, bounds.
+#[derive(Clone, Copy)]
+pub(crate) struct Holds<'a> {
+    pub(crate) path: Option<&'a Path>,
+    pub(crate) args: Option<&'a GenericArgs>,
+    pub(crate) bounds: &'a [TypeBound],
+}
+
+/// Whether what the arguments of one segment name as paths are paths.
+fn segment_names_paths(types: &[TypeRef], args: &Option<GenericArgs>) -> bool
+    ensures { result ≡ list_all (is_path_at types.now) (all_of args_paths args.now) }
+{
+    match args {
+        Some(args) => args_name_paths(types, args),
+        None => true,
+    }
+}
+
+/// Whether what the arguments of segments name as paths are paths.
+fn segments_name_paths(types: &[TypeRef], lists: &[Option<GenericArgs>]) -> bool
+    ensures { result ≡ list_all (is_path_at types.now) (flat_map (all_of args_paths) lists.now) }
+{
+    for args in lists {
+        if !segment_names_paths(types, args) {
+            return false;
+        }
+    }
+    true
+}
+
+/// Whether what a path names as paths are paths.
+pub(crate) fn path_names_paths(types: &[TypeRef], path: &Path) -> bool
+    ensures { result ≡ list_all (is_path_at types.now) (path_paths path.now) }
+{
+    match path {
+        Path::Normal(normal) => segments_name_paths(types, normal.get().generic_args.as_slice()),
+        Path::BarePath(_) | Path::LangItem(_, _) => true,
+    }
+}
+
+/// Whether the arguments of one segment are right where they are said to begin with a self type.
+fn segment_gives_self(args: &Option<GenericArgs>) -> bool
+    ensures { result ≡ option_all args_give_self args.now }
+{
+    match args {
+        Some(args) => args_give_self(args),
+        None => true,
+    }
+}
+
+fn segments_give_self(lists: &[Option<GenericArgs>]) -> bool
+    ensures { result ≡ list_all (option_all args_give_self) lists.now }
+{
+    for args in lists {
+        if !segment_gives_self(args) {
+            return false;
+        }
+    }
+    true
+}
+
+pub(crate) fn path_gives_self(path: &Path) -> bool
+    ensures { result ≡ path_gives_self path.now }
+{
+    match path {
+        Path::Normal(normal) => segments_give_self(normal.get().generic_args.as_slice()),
+        Path::BarePath(_) | Path::LangItem(_, _) => true,
+    }
+}
+
+/// Whether a path has no lists, or one for each segment.
+pub(crate) fn one_list_each(path: &Path) -> bool
+    ensures { result ≡ one_list_each path.now }
+{
+    match path {
+        Path::Normal(normal) => {
+            normal.get().generic_args.len() == normal.get().mod_path.segments().len()
+        }
+        Path::BarePath(_) | Path::LangItem(_, _) => true,
+    }
+}
+
+impl<'a> Holds<'a> {
+    /// Nothing.
+    pub(crate) fn nothing() -> Holds<'a>
+        ensures { held_of result ≡ nothing }
+    {
+        Holds {
+            path: None,
+            args: None,
+            bounds: &[],
+        }
+    }
+
+    /// A path.
+    pub(crate) fn path(path: &'a Path) -> Holds<'a>
+        ensures { held_of result ≡ a_path path.now }
+    {
+        Holds {
+            path: Some(path),
+            args: None,
+            bounds: &[],
+        }
+    }
+
+    /// Bounds.
+    pub(crate) fn bounds(bounds: &'a [TypeBound]) -> Holds<'a>
+        ensures { held_of result ≡ some_bounds bounds.now }
+    {
+        Holds {
+            path: None,
+            args: None,
+            bounds,
+        }
+    }
+
+    /// Whether each type that is named as a path is one.
+    pub(crate) fn names_paths(&self, types: &[TypeRef]) -> bool
+        ensures { result ≡ names_paths types.now (held_of self.now) }
+    {
+        if let Some(path) = self.path {
+            if !path_names_paths(types, path) {
+                return false;
+            }
+        }
+        if let Some(args) = self.args {
+            if !args_name_paths(types, args) {
+                return false;
+            }
+        }
+        bounds_name_paths(types, self.bounds)
+    }
+
+    /// Whether each list that is said to begin with a self type isn't empty.
+    pub(crate) fn gives_self(&self) -> bool
+        ensures { result ≡ gives_self (held_of self.now) }
+    {
+        if let Some(path) = self.path {
+            if !path_gives_self(path) {
+                return false;
+            }
+        }
+        match self.args {
+            Some(args) => args_give_self(args),
+            None => true,
+        }
+    }
+
+    /// Whether the path has no lists, or one for each segment.
+    pub(crate) fn lists_fit(&self) -> bool
+        ensures { result ≡ lists_fit (held_of self.now) }
+    {
+        match self.path {
+            Some(path) => one_list_each(path),
+            None => true,
+        }
+    }
+}

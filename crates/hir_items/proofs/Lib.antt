@@ -1,0 +1,5 @@
+mod BodyLemmas
+mod BodySound
+mod FirstOfName
+mod GenericLists
+mod SignatureLemmas

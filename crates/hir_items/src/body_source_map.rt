@@ -1,0 +1,42 @@
+//! Where a body comes from.
+
+ghost use Rattle.std.specs.Prelude.{◌≡◌};
+
+use hir_base::{InFile, SelfParamPtr};
+use hir_source::ExpressionStoreSourceMap;
+
+/// Where a body comes from: the source map of its store, and the source of its `self`.
+#[derive(Debug, Drop, PartialEq, Eq)]
+pub struct BodySourceMap {
+    store: ExpressionStoreSourceMap,
+    self_param_syntax: Option<InFile<SelfParamPtr>>,
+}
+
+impl BodySourceMap {
+    /// The source map of a body whose store has this one, and whose `self` stands there.
+    pub fn new(
+        store: ExpressionStoreSourceMap,
+        self_param_syntax: Option<InFile<SelfParamPtr>>,
+    ) -> BodySourceMap
+        ensures { result ≡ record { store = store; self_param_syntax = self_param_syntax } }
+    {
+        BodySourceMap {
+            store,
+            self_param_syntax,
+        }
+    }
+
+    /// The source map of the store.
+    pub fn store(&self) -> &ExpressionStoreSourceMap
+        ensures { result.now ≡ self.now.store }
+    {
+        &self.store
+    }
+
+    /// Where `self` stands, where there is one.
+    pub fn self_param_syntax(&self) -> Option<InFile<SelfParamPtr>>
+        ensures { result ≡ self.now.self_param_syntax }
+    {
+        self.self_param_syntax
+    }
+}

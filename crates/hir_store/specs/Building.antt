@@ -1,0 +1,60 @@
+-- What a builder holds, what its store holds, and its first fault.
+use Rattle.std.specs.Prelude.{◌≡◌, ◌⊎◌, ℕ, List, [], ◌∷◌, ◌++◌, Bool, not, ◌||◌, cond, nat_eq, length, Option, Some, None, IsSome}
+use Rattle.hir_forest.specs.declared.roots.Root.{Root}
+use Rattle.hir_forest.specs.Verdict.{◌unless◌, ◌before◌}
+use Rattle.hir_faults.specs.declared.fault.FinishFault.{FinishFault}
+use Rattle.hir_faults.specs.declared.fault.FinishFault.TheVariants.{NoRoots}
+use Rattle.hir_faults.specs.Nodes.{Nodes}
+use Rattle.hir_faults.specs.Faults.{ends_of}
+use Rattle.hir_accepted.specs.declared.marks.Marks.{Marks}
+use Rattle.hir_accepted.specs.Marks.{no_marks}
+use Rattle.hir_accepted.specs.Contents.{Contents, contents_fault}
+use Rattle.hir_store.specs.declared.builder.ExpressionStoreBuilder.{ExpressionStoreBuilder}
+
+-- the nodes and what they name, the roots where a list of them was begun, and what was said besides
+pub record Building : Type 0 where
+  pub nodes : Nodes
+  pub roots : Option (List Root)
+  pub marks : Marks
+
+-- what a builder has
+abbrev pub nodes_of : ExpressionStoreBuilder → Nodes
+nodes_of b = record { exprs = b.exprs; pats = b.pats; types = b.types; bindings = b.bindings; labels = b.labels; lifetimes = b.lifetimes }
+
+abbrev pub marks_of : ExpressionStoreBuilder → Marks
+marks_of b = record { owners = b.binding_owners; hygiene = b.hygiene; blocks = b.block_scopes }
+
+abbrev pub building_of : ExpressionStoreBuilder → Building
+building_of b = record { nodes = nodes_of b; roots = b.roots; marks = marks_of b }
+
+abbrev pub roots_or_none : Option (List Root) → List Root
+roots_or_none None = []
+roots_or_none (Some roots) = roots
+
+-- an expression, a label, a pattern or a binding exists: the expression part is kept
+abbrev pub has_exprs : Nodes → Bool
+has_exprs s = not (nat_eq (length s.exprs) 0) || not (nat_eq (length s.labels) 0) || not (nat_eq (length s.pats) 0) || not (nat_eq (length s.bindings) 0)
+
+-- the marks where the expression part is kept, and else none
+abbrev pub kept_marks : Bool → Marks → Marks
+kept_marks kept marks = cond kept marks no_marks
+
+-- what the store of a builder holds
+abbrev pub contents_of : Building → Contents
+contents_of b = record { nodes = b.nodes; roots = roots_or_none b.roots; marks = kept_marks (has_exprs b.nodes) b.marks }
+
+-- the roots and one more, whose ends are the lengths of the arenas at that moment
+abbrev pub and_root : Building → ℕ → Option (List Root)
+and_root b id = Some (roots_or_none b.roots ++ record { node = id; ends = ends_of b.nodes } ∷ [])
+
+-- the roots, an empty list of them where there was none
+abbrev pub some_roots : Option (List Root) → Option (List Root)
+some_roots roots = Some (roots_or_none roots)
+
+-- a list of roots was begun, or there is nothing that needs one
+abbrev pub HasRoots : Building → Type 0
+HasRoots b = IsSome b.roots ⊎ ((b.nodes.exprs ≡ []) × (b.nodes.pats ≡ []) × (b.nodes.bindings ≡ []) × (b.nodes.labels ≡ []))
+
+-- the first fault of a builder
+unfoldable pub finish_fault : Building → Option FinishFault → Type 0
+finish_fault b = (NoRoots unless HasRoots b) before contents_fault (contents_of b)

@@ -1,0 +1,212 @@
+//! What a builder is told of where its nodes come from: each call adds one entry to one map of its source map.
+
+ghost use Rattle.std.specs.Prelude.{◌≡◌, OnOk, OnErr, IfErr};
+ghost use Rattle.hir_source.specs.Additions.{with_expr, with_expr_back, with_pat, with_pat_back, with_label, with_label_back, with_type, with_type_back, with_lifetime, with_lifetime_back, with_field_back, with_pat_field_back, with_expansion, with_definition, with_diagnostic};
+
+use crate::builder::ExpressionStoreBuilder;
+use hir_base::{
+    ExprOrPatSource, ExprSource, FieldSource, InFile, LabelSource, LifetimeSource, MacroCallId,
+    MacroCallPtr, PatFieldSource, PatSource, TypeSource,
+};
+use hir_node::{BindingId, ExprId, ExprOrPatId, LabelId, LifetimeRefId, PatId, TypeRefId};
+use hir_source::ExpressionStoreDiagnostics;
+use std::alloc::AllocFailed;
+
+impl ExpressionStoreBuilder {
+    /// This source became this expression, or this pattern where it is assigned to.
+    ///
+    /// It takes the place of what was said of the same key before. Where room for one more entry was refused, key and value are handed back
+    /// and the builder is as it was. So it is with the other calls that add to the source map.
+    pub fn map_expr(
+        &mut self,
+        source: ExprSource,
+        expr: ExprOrPatId,
+    ) -> Result<(), AllocFailed<(ExprSource, ExprOrPatId)>>
+        ensures ok { OnOk result (self.new ≡ record self.old { source_map = with_expr self.old.source_map source expr }) }
+        ensures err { OnErr result (self.new ≡ self.old) }
+        ensures value_returned { IfErr result (λ failed. failed.value ≡ (source, expr)) }
+    {
+        self.source_map.map_expr(source, expr)
+    }
+
+    /// The expression came from this source.
+    pub fn map_expr_back(
+        &mut self,
+        expr: ExprId,
+        source: ExprOrPatSource,
+    ) -> Result<(), AllocFailed<(ExprId, ExprOrPatSource)>>
+        ensures ok { OnOk result (self.new ≡ record self.old { source_map = with_expr_back self.old.source_map expr source }) }
+        ensures err { OnErr result (self.new ≡ self.old) }
+        ensures value_returned { IfErr result (λ failed. failed.value ≡ (expr, source)) }
+    {
+        self.source_map.map_expr_back(expr, source)
+    }
+
+    /// This source became this pattern, or this expression.
+    pub fn map_pat(
+        &mut self,
+        source: PatSource,
+        pat: ExprOrPatId,
+    ) -> Result<(), AllocFailed<(PatSource, ExprOrPatId)>>
+        ensures ok { OnOk result (self.new ≡ record self.old { source_map = with_pat self.old.source_map source pat }) }
+        ensures err { OnErr result (self.new ≡ self.old) }
+        ensures value_returned { IfErr result (λ failed. failed.value ≡ (source, pat)) }
+    {
+        self.source_map.map_pat(source, pat)
+    }
+
+    /// The pattern came from this source.
+    pub fn map_pat_back(
+        &mut self,
+        pat: PatId,
+        source: ExprOrPatSource,
+    ) -> Result<(), AllocFailed<(PatId, ExprOrPatSource)>>
+        ensures ok { OnOk result (self.new ≡ record self.old { source_map = with_pat_back self.old.source_map pat source }) }
+        ensures err { OnErr result (self.new ≡ self.old) }
+        ensures value_returned { IfErr result (λ failed. failed.value ≡ (pat, source)) }
+    {
+        self.source_map.map_pat_back(pat, source)
+    }
+
+    /// This source became this label.
+    pub fn map_label(
+        &mut self,
+        source: LabelSource,
+        label: LabelId,
+    ) -> Result<(), AllocFailed<(LabelSource, LabelId)>>
+        ensures ok { OnOk result (self.new ≡ record self.old { source_map = with_label self.old.source_map source label }) }
+        ensures err { OnErr result (self.new ≡ self.old) }
+        ensures value_returned { IfErr result (λ failed. failed.value ≡ (source, label)) }
+    {
+        self.source_map.map_label(source, label)
+    }
+
+    /// The label came from this source.
+    pub fn map_label_back(
+        &mut self,
+        label: LabelId,
+        source: LabelSource,
+    ) -> Result<(), AllocFailed<(LabelId, LabelSource)>>
+        ensures ok { OnOk result (self.new ≡ record self.old { source_map = with_label_back self.old.source_map label source }) }
+        ensures err { OnErr result (self.new ≡ self.old) }
+        ensures value_returned { IfErr result (λ failed. failed.value ≡ (label, source)) }
+    {
+        self.source_map.map_label_back(label, source)
+    }
+
+    /// This source became this type.
+    pub fn map_type(
+        &mut self,
+        source: TypeSource,
+        type_ref: TypeRefId,
+    ) -> Result<(), AllocFailed<(TypeSource, TypeRefId)>>
+        ensures ok { OnOk result (self.new ≡ record self.old { source_map = with_type self.old.source_map source type_ref }) }
+        ensures err { OnErr result (self.new ≡ self.old) }
+        ensures value_returned { IfErr result (λ failed. failed.value ≡ (source, type_ref)) }
+    {
+        self.source_map.map_type(source, type_ref)
+    }
+
+    /// The type came from this source.
+    pub fn map_type_back(
+        &mut self,
+        type_ref: TypeRefId,
+        source: TypeSource,
+    ) -> Result<(), AllocFailed<(TypeRefId, TypeSource)>>
+        ensures ok { OnOk result (self.new ≡ record self.old { source_map = with_type_back self.old.source_map type_ref source }) }
+        ensures err { OnErr result (self.new ≡ self.old) }
+        ensures value_returned { IfErr result (λ failed. failed.value ≡ (type_ref, source)) }
+    {
+        self.source_map.map_type_back(type_ref, source)
+    }
+
+    /// This source became this lifetime.
+    pub fn map_lifetime(
+        &mut self,
+        source: LifetimeSource,
+        lifetime: LifetimeRefId,
+    ) -> Result<(), AllocFailed<(LifetimeSource, LifetimeRefId)>>
+        ensures ok { OnOk result (self.new ≡ record self.old { source_map = with_lifetime self.old.source_map source lifetime }) }
+        ensures err { OnErr result (self.new ≡ self.old) }
+        ensures value_returned { IfErr result (λ failed. failed.value ≡ (source, lifetime)) }
+    {
+        self.source_map.map_lifetime(source, lifetime)
+    }
+
+    /// The lifetime came from this source.
+    pub fn map_lifetime_back(
+        &mut self,
+        lifetime: LifetimeRefId,
+        source: LifetimeSource,
+    ) -> Result<(), AllocFailed<(LifetimeRefId, LifetimeSource)>>
+        ensures ok { OnOk result (self.new ≡ record self.old { source_map = with_lifetime_back self.old.source_map lifetime source }) }
+        ensures err { OnErr result (self.new ≡ self.old) }
+        ensures value_returned { IfErr result (λ failed. failed.value ≡ (lifetime, source)) }
+    {
+        self.source_map.map_lifetime_back(lifetime, source)
+    }
+
+    /// The field of which the expression is the value came from this source.
+    pub fn map_field_back(
+        &mut self,
+        expr: ExprId,
+        source: FieldSource,
+    ) -> Result<(), AllocFailed<(ExprId, FieldSource)>>
+        ensures ok { OnOk result (self.new ≡ record self.old { source_map = with_field_back self.old.source_map expr source }) }
+        ensures err { OnErr result (self.new ≡ self.old) }
+        ensures value_returned { IfErr result (λ failed. failed.value ≡ (expr, source)) }
+    {
+        self.source_map.map_field_back(expr, source)
+    }
+
+    /// The field that holds the pattern came from this source.
+    pub fn map_pat_field_back(
+        &mut self,
+        pat: PatId,
+        source: PatFieldSource,
+    ) -> Result<(), AllocFailed<(PatId, PatFieldSource)>>
+        ensures ok { OnOk result (self.new ≡ record self.old { source_map = with_pat_field_back self.old.source_map pat source }) }
+        ensures err { OnErr result (self.new ≡ self.old) }
+        ensures value_returned { IfErr result (λ failed. failed.value ≡ (pat, source)) }
+    {
+        self.source_map.map_pat_field_back(pat, source)
+    }
+
+    /// The macro call has this expansion.
+    pub fn add_expansion(
+        &mut self,
+        call: InFile<MacroCallPtr>,
+        expansion: MacroCallId,
+    ) -> Result<(), AllocFailed<(InFile<MacroCallPtr>, MacroCallId)>>
+        ensures ok { OnOk result (self.new ≡ record self.old { source_map = with_expansion self.old.source_map call expansion }) }
+        ensures err { OnErr result (self.new ≡ self.old) }
+        ensures value_returned { IfErr result (λ failed. failed.value ≡ (call, expansion)) }
+    {
+        self.source_map.add_expansion(call, expansion)
+    }
+
+    /// The pattern defines the binding, beside the patterns that were said to before.
+    pub fn add_definition(
+        &mut self,
+        binding: BindingId,
+        pat: PatId,
+    ) -> Result<(), AllocFailed<(BindingId, PatId)>>
+        ensures ok { OnOk result (self.new ≡ record self.old { source_map = with_definition self.old.source_map binding pat }) }
+        ensures err { OnErr result (self.new ≡ self.old) }
+        ensures value_returned { IfErr result (λ failed. failed.value ≡ (binding, pat)) }
+    {
+        self.source_map.add_definition(binding, pat)
+    }
+
+    /// Adds a diagnostic behind the others.
+    pub fn push_diagnostic(
+        &mut self,
+        diagnostic: ExpressionStoreDiagnostics,
+    ) -> Result<(), AllocFailed<ExpressionStoreDiagnostics>>
+        ensures ok { OnOk result (self.new ≡ record self.old { source_map = with_diagnostic self.old.source_map diagnostic }) }
+        ensures err { OnErr result (self.new ≡ self.old) }
+        ensures value_returned { IfErr result (λ failed. failed.value ≡ diagnostic) }
+    {
+        self.source_map.push_diagnostic(diagnostic)
+    }
+}
