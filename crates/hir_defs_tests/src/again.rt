@@ -1,7 +1,7 @@
 //! Calls that take memory, made again where it is refused once.
 //! So each test passes with ample memory, and whichever one growth is refused.
 use hir_base::{Arena, ArenaFault, ExactEq, Idx, Name, Seq, TryClone};
-use std::alloc::{AllocError, Global};
+use std::alloc::{AllocError, AllocFailed, Global};
 
 pub fn name(alloc: Global, text: &str) -> Result<Name, AllocError> {
     match Name::new(alloc, text) {
@@ -30,7 +30,7 @@ pub fn push<T: Drop>(seq: &mut Seq<T>, item: T) -> Result<(), AllocError> {
 }
 
 /// The answer of the second call, where the first was refused: without the value that it hands back.
-fn told<I: Drop, T: Drop>(outcome: Result<I, (ArenaFault, T)>) -> Result<I, ArenaFault> {
+pub fn told<I: Drop, T: Drop>(outcome: Result<I, (ArenaFault, T)>) -> Result<I, ArenaFault> {
     match outcome {
         Ok(id) => Ok(id),
         Err((fault, _)) => Err(fault),
@@ -41,5 +41,13 @@ pub fn alloc<K, T: Drop>(arena: &mut Arena<K, T>, item: T) -> Result<Idx<K>, Are
     match arena.alloc(item) {
         Ok(id) => Ok(id),
         Err((_, item)) => told(arena.alloc(item)),
+    }
+}
+
+/// Whether the value was taken: without the value, where it is handed back.
+pub fn taken<T: Drop>(outcome: Result<(), AllocFailed<T>>) -> Result<(), AllocError> {
+    match outcome {
+        Ok(()) => Ok(()),
+        Err(failed) => Err(AllocError::from(failed)),
     }
 }

@@ -4,8 +4,22 @@
 #[cfg(test)]
 mod again;
 #[cfg(test)]
+mod bodies;
+#[cfg(test)]
 mod generics;
+#[cfg(test)]
+mod lookups;
+#[cfg(test)]
+mod made;
+#[cfg(test)]
+mod names;
 #[cfg(test)]
 mod params;
 #[cfg(test)]
+mod tables;
+#[cfg(test)]
 mod texts;
+#[cfg(test)]
+mod trees;
+#[cfg(test)]
+mod with;

@@ -1,5 +1,6 @@
 -- What the lines make, line by line.
-use Rattle.std.proofs.Common.{◌≡◌, true, List, [], ◌∷◌, ◌++◌, Option, None, Some, refl, sym, ap, ◌∙◌, ℕ, fold}
+use Rattle.std.proofs.Common.{◌≡◌, ◌+◌, true, false, List, [], ◌∷◌, ◌++◌, Option, None, Some, is_some, Ok, inl, inr, if◌then◌else◌, refl, sym, ap, ◌∙◌, ℕ, fold, length}
+use Rattle.std.proofs.lemmas.Bool.{false≢true}
 use Rattle.std.specs.Prelude.{filter_map}
 use Rattle.std.proofs.lemmas.List.Folds.{list_all-append}
 use Rattle.std.proofs.lemmas.List.Elements.{filter_map-append}
@@ -8,9 +9,12 @@ use Rattle.hir_lines.specs.declared.line.Line.{Line}
 use Rattle.hir_lines.specs.declared.line.Line.TheVariants.{Blank, Make, Ask, Bad}
 use Rattle.hir_lines.specs.declared.line.Maker.{Maker}
 use Rattle.hir_show.specs.Made.{Made, nothing_made, with_line}
-use Rattle.hir_show.specs.Program.{makes, maker_of, built_by, script}
-use Rattle.hir_show.specs.Stages.{AllMake, Makes, line_behind}
-use Rattle.hir_show.proofs.Scripts.{script-push}
+use Rattle.hir_lines.specs.declared.line.Question.{Question}
+use Rattle.hir_ends.specs.LineState.{LineState}
+use Rattle.hir_ends.specs.Reads.{Reads}
+use Rattle.hir_show.specs.Program.{makes, asks, maker_of, built_by, script}
+use Rattle.hir_show.specs.Stages.{AllMake, Makes, Builds, BuildsLine, line_behind}
+use Rattle.hir_show.proofs.Scripts.{Tells, script-push, behind_is, behind_make, tells_blank, tells_more}
 
 pub Makes-none : Makes [] nothing_made
 unfolding built_by
@@ -44,3 +48,18 @@ pub Makes-more : (texts : List (List ℕ)) (text : List ℕ) (old new : Made) (m
 unfolding with_option
 Makes-more texts text old new maker m e made =
     (makes-push texts text (Make maker) e m.0 refl, made ∙ ap (λ b. with_line b maker) m.1 ∙ sym (ap built_by (script-push texts text) ∙ built_by-push (script texts) (line_behind texts text) ∙ ap (λ line. with_option (built_by (script texts)) (maker_of line)) e))
+
+-- the line that was taken last is no question: it makes what it says, or is empty
+pub makes_line : (lines : LineState) (old new : Made) (texts : List (List ℕ)) (question : Option Question) →
+    Makes texts old → Tells old texts → is_some question ≡ false → BuildsLine lines old new (Ok question) → Makes (texts ++ lines.line ∷ []) new × Tells new (texts ++ lines.line ∷ [])
+makes_line lines old new texts (Some question) m t h does = absurd (false≢true (sym h))
+makes_line lines old new texts None m t h (inl (blank, same)) =
+    rw same (Makes-blank texts lines.line old m (behind_is texts lines.line (ap asks blank) ∙ blank), tells_blank old texts lines.line blank t)
+makes_line lines old new texts None m t h (inr (maker, says, first, made)) =
+    (Makes-more texts lines.line old new maker m (behind_make old texts lines.line maker t says ∙ ap (λ b. if b then Bad else Make maker) first) made, rw made (tells_more old maker texts lines.line says t))
+
+-- it is one
+pub asks_line : (known rest remaining : Option (List ℕ)) (lines : LineState) (old new : Made) (texts : List (List ℕ)) (question : Option Question) →
+    Makes texts old → Reads known (texts ++ lines.line ∷ []) rest lines.at_end → lines.count ≡ length texts + 1 → is_some question ≡ true → BuildsLine lines old new (Ok question) → Builds known rest remaining lines new (Ok question)
+asks_line known rest remaining lines old new texts None m read count h does = absurd (false≢true h)
+asks_line known rest remaining lines old new texts (Some question) m read count h (says, same) = (texts, lines.line, rw same m, says, read, count)

@@ -1,10 +1,12 @@
 -- What lines have made so far: what is built, and what a body of it will have besides.
-use Rattle.std.specs.Prelude.{ℕ, List, [], ◌∷◌, ◌++◌, Bool, false, Option, None, Some, is_some}
+use Rattle.std.specs.Prelude.{ℕ, List, [], ◌∷◌, ◌++◌, Bool, true, false, Option, None, Some, is_some}
 use Rattle.hir_lines.specs.declared.line.Maker.{Maker}
 use Rattle.hir_lines.specs.declared.line.Maker.TheVariants as make
 use Rattle.hir_faults.specs.Nodes.{Nodes}
 use Rattle.hir_store.specs.Building.{Building, building_of, and_root, some_roots}
 use Rattle.hir_accepted.specs.Marks.{no_marks}
+use Rattle.hir_show.specs.declared.fault.RunFault.{RunFault}
+use Rattle.hir_show.specs.declared.fault.RunFault.TheVariants.{BadLine, OutOfMemory}
 use Rattle.hir_show.specs.declared.made.Made as code
 
 -- what is built, the self parameter, the other parameters and the name of the function
@@ -51,3 +53,8 @@ is_second m (make.Expr expr) = false
 is_second m (make.Param id) = false
 is_second m make.Roots = false
 is_second m (make.Root id) = false
+
+-- why the line of this number makes nothing: it gives a second one, or memory was refused
+abbrev pub not_made : Bool → ℕ → RunFault
+not_made true line = BadLine line
+not_made false line = OutOfMemory

@@ -6,12 +6,13 @@ use Rattle.hir_ends.specs.Ends.{GrowsByFront, IsWrittenUpTo}
 use Rattle.hir_ends.specs.LineState.{LineState}
 use Rattle.hir_ends.specs.Reads.{Reads, ReadsAll, ReadsFront, ReadsUntilFailure}
 use Rattle.hir_lines.specs.declared.line.Line.{Line}
-use Rattle.hir_lines.specs.declared.line.Line.TheVariants.{Ask, Bad}
+use Rattle.hir_lines.specs.declared.line.Line.TheVariants.{Blank, Make, Ask, Bad}
+use Rattle.hir_lines.specs.declared.line.Maker.{Maker}
 use Rattle.hir_lines.specs.declared.line.Question.{Question}
 use Rattle.hir_show.specs.declared.fault.RunFault.{RunFault}
 use Rattle.hir_show.specs.declared.fault.RunFault.TheVariants.{BadLine, Refused, InputFailed, OutputFailed, OutOfMemory}
 use Rattle.hir_accepted.specs.Contents.{Contents}
-use Rattle.hir_show.specs.Made.{Made}
+use Rattle.hir_show.specs.Made.{Made, is_second, with_line}
 use Rattle.hir_lines.specs.Line.{line_of}
 use Rattle.hir_show.specs.Answer.{answer_to}
 use Rattle.hir_show.specs.Program.{makes, asks, gives_self, gives_name, unless_second, says, script, built_by, answer}
@@ -46,6 +47,18 @@ Builds known rest remaining lines built (Err OutOfMemory) =
     (texts : List (List ℕ)) × AllMake texts × ReadsFront known texts × IsNextLine 0 texts lines.count
 Builds known rest remaining lines built (Err (Refused fault)) = ⊥
 Builds known rest remaining lines built (Err OutputFailed) = ⊥
+
+-- what the line that was taken last does in the first stage, to what was made before it
+abbrev pub BuildsLine : LineState → Made → Made → Result (Option Question) RunFault → Type 0
+BuildsLine lines old new (Ok None) =
+    ((line_of lines.line ≡ Blank) × (new ≡ old)) ⊎ ((maker : Maker) × (line_of lines.line ≡ Make maker) × (is_second old maker ≡ false) × (new ≡ with_line old maker))
+BuildsLine lines old new (Ok (Some question)) = (line_of lines.line ≡ Ask question) × (new ≡ old)
+BuildsLine lines old new (Err (BadLine number)) =
+    ((line_of lines.line ≡ Bad) ⊎ ((maker : Maker) × (line_of lines.line ≡ Make maker) × (is_second old maker ≡ true))) × (new ≡ old) × (number ≡ lines.count)
+BuildsLine lines old new (Err OutOfMemory) = new ≡ old
+BuildsLine lines old new (Err InputFailed) = ⊥
+BuildsLine lines old new (Err OutputFailed) = ⊥
+BuildsLine lines old new (Err (Refused fault)) = ⊥
 
 -- these lines may stand after a question
 abbrev pub AllAsk : List (List ℕ) → Type 0

@@ -1,7 +1,7 @@
 //! What the making lines have made so far: a builder, and what a body of it will have besides.
 
-ghost use Rattle.std.specs.Prelude.{◌≡◌, Ok, Err, OnOk, OnErr};
-ghost use Rattle.hir_show.specs.Made.{made_of, nothing_made, with_line, is_second};
+ghost use Rattle.std.specs.Prelude.{◌≡◌, false, Ok, Err, OnOk, OnErr};
+ghost use Rattle.hir_show.specs.Made.{made_of, nothing_made, with_line, is_second, not_made};
 
 use super::fault::RunFault;
 use hir_base::{Name, Seq};
@@ -32,27 +32,10 @@ impl Made {
         }
     }
 
-    /// Whether the line gives a second self parameter or a second name.
-    pub fn is_second(&self, maker: &Maker) -> bool
-        ensures { result ≡ is_second (made_of self.now) maker.now }
-    {
-        match maker {
-            Maker::SelfParam(_) => self.self_param.is_some(),
-            Maker::FnName(_) => self.name.is_some(),
-            Maker::Binding(_)
-            | Maker::Pat(_)
-            | Maker::Type(_)
-            | Maker::Expr(_)
-            | Maker::Param(_)
-            | Maker::Roots
-            | Maker::Root(_) => false,
-        }
-    }
-
-    /// Adds what a line makes. After a refusal all is as it was.
-    pub fn make(&mut self, maker: Maker) -> Result<(), RunFault>
-        ensures ok { OnOk result (made_of self.new ≡ with_line (made_of self.old) maker) }
-        ensures err { OnErr result ((self.new ≡ self.old) × (result ≡ Err RunFault.OutOfMemory)) }
+    /// Adds what the line of this number makes. A second self parameter or a second name is a bad line. After a refusal all is as it was.
+    pub fn make(&mut self, maker: Maker, line: u64) -> Result<(), RunFault>
+        ensures ok { OnOk result ((is_second (made_of self.old) maker ≡ false) × (made_of self.new ≡ with_line (made_of self.old) maker)) }
+        ensures err { OnErr result ((self.new ≡ self.old) × (result ≡ Err (not_made (is_second (made_of self.old) maker) line))) }
     {
         match maker {
             Maker::Binding(binding) => or_memory(self.builder.alloc_binding(binding)),
@@ -60,11 +43,17 @@ impl Made {
             Maker::Type(type_ref) => or_memory(self.builder.alloc_type(type_ref)),
             Maker::Expr(expr) => or_memory(self.builder.alloc_expr(expr)),
             Maker::SelfParam(id) => {
+                if self.self_param.is_some() {
+                    return Err(RunFault::BadLine(line));
+                }
                 self.self_param = Some(id);
                 Ok(())
             }
             Maker::Param(id) => or_memory(self.params.push(id)),
             Maker::FnName(name) => {
+                if self.name.is_some() {
+                    return Err(RunFault::BadLine(line));
+                }
                 self.name = Some(name);
                 Ok(())
             }

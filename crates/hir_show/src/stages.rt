@@ -5,7 +5,7 @@ ghost use Rattle.hir_ends.specs.NextLine.{untaken};
 ghost use Rattle.hir_show.specs.Made.{made_of, nothing_made};
 ghost use Rattle.hir_show.specs.Answer.{answer_to};
 ghost use Rattle.hir_show.specs.Run.{is_input_failed, is_output_failed};
-ghost use Rattle.hir_show.specs.Stages.{Accepts, Answers, AnswersLine, AnswersOne, AnswersSome, Builds, Closes};
+ghost use Rattle.hir_show.specs.Stages.{Accepts, Answers, AnswersLine, AnswersOne, AnswersSome, Builds, BuildsLine, Closes};
 
 use super::answer::answer;
 use super::fault::RunFault;
@@ -14,6 +14,26 @@ use hir_ends::{LineReader, OutputBuffer, Sink, Source, next_line};
 use hir_lines::{Line, Question, parse};
 use hir_store::ExpressionStore;
 use std::alloc::Global;
+
+/// Makes what the line that was taken last makes, or gives its question.
+fn build_line(
+    alloc: Global,
+    lines: &LineReader,
+    made: &mut Made,
+) -> Result<Option<Question>, RunFault>
+    ensures { BuildsLine lines.now (made_of made.old) (made_of made.new) result }
+{
+    match parse(alloc, lines.line()) {
+        Ok(Line::Blank) => Ok(None),
+        Ok(Line::Make(maker)) => {
+            made.make(maker, lines.count())?;
+            Ok(None)
+        }
+        Ok(Line::Ask(question)) => Ok(Some(question)),
+        Ok(Line::Bad) => Err(RunFault::BadLine(lines.count())),
+        Err(_) => Err(RunFault::OutOfMemory),
+    }
+}
 
 /// Builds by the lines before the first question, and gives that question, if there is one.
 pub fn build<R: Source, W: Sink>(
@@ -34,17 +54,9 @@ pub fn build<R: Source, W: Sink>(
     ensures still_fits { OnOk result (lines.new.count + length lines.new.pending + R.allowance reader.new < 2 ^ 64) }
 {
     while next_line(lines, reader, output, writer)? {
-        match parse(alloc, lines.line()) {
-            Ok(Line::Blank) => {}
-            Ok(Line::Make(maker)) => {
-                if made.is_second(&maker) {
-                    return Err(RunFault::BadLine(lines.count()));
-                }
-                made.make(maker)?;
-            }
-            Ok(Line::Ask(question)) => return Ok(Some(question)),
-            Ok(Line::Bad) => return Err(RunFault::BadLine(lines.count())),
-            Err(_) => return Err(RunFault::OutOfMemory),
+        let question = build_line(alloc, lines, made)?;
+        if question.is_some() {
+            return Ok(question);
         }
     }
     Ok(None)

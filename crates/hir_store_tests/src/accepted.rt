@@ -1,9 +1,9 @@
 //! What is accepted though it may look wrong, and what an accepted store has.
-use crate::{again, build};
+use crate::{again, build, made};
 use hir_base::{Idx, Seq, TryClone};
 use hir_node::{Expr, ExprId, Label, LifetimeRef, LoopSource, Mutability, RefType, TypeRef};
 use hir_store::{ExpressionStore, ExpressionStoreBuilder};
-use std::alloc::Global;
+use std::alloc::{AllocError, Global};
 use std::test::Fail;
 
 /// A reference type of a type of its own, with lifetime 0.
@@ -18,108 +18,188 @@ fn add_reference(builder: &mut ExpressionStoreBuilder, alloc: Global) -> Result<
     Ok(())
 }
 
+/// Adds two reference types with the same lifetime.
+fn add_two_references(builder: &mut ExpressionStoreBuilder, alloc: Global) -> Result<(), Fail> {
+    again::lifetime(builder, LifetimeRef::Static)?;
+    add_reference(builder, alloc)?;
+    add_reference(builder, alloc)
+}
+
 #[test]
 fn a_lifetime_named_twice(rt: HostRuntime) -> Result<(), Fail> {
     let a = rt.alloc();
-    let mut builder = ExpressionStoreBuilder::new(a);
-    again::lifetime(&mut builder, LifetimeRef::Static)?;
-    add_reference(&mut builder, a)?;
-    add_reference(&mut builder, a)?;
-    assert!(&rt; again::finish(builder).is_ok());
+    let holds = made::stored(a, |builder| add_two_references(builder, a), |_| true)?;
+    assert!(&rt; holds);
+    Ok(())
+}
+
+/// Adds a loop that is left at once, by its label.
+fn add_loop(builder: &mut ExpressionStoreBuilder, alloc: Global) -> Result<(), Fail> {
+    builder.begin_roots();
+    let name = again::name(alloc, "l")?;
+    let label = Some(again::label(builder, Label { name })?);
+    let body = again::expr(builder, Expr::Break { expr: None, label })?;
+    let source = LoopSource::Loop;
+    again::expr(
+        builder,
+        Expr::Loop {
+            body,
+            label,
+            source,
+        },
+    )?;
     Ok(())
 }
 
 #[test]
 fn a_label_named_twice(rt: HostRuntime) -> Result<(), Fail> {
     let a = rt.alloc();
-    let mut builder = ExpressionStoreBuilder::new(a);
+    let holds = made::stored(a, |builder| add_loop(builder, a), |_| true)?;
+    assert!(&rt; holds);
+    Ok(())
+}
+
+/// Adds a path, and so many expressions each of which holds the one before.
+fn add_chain(builder: &mut ExpressionStoreBuilder, alloc: Global, length: u32) -> Result<(), Fail> {
     builder.begin_roots();
-    let name = again::name(a, "l")?;
-    let label = again::label(&mut builder, Label { name })?;
-    let body = again::expr(
-        &mut builder,
-        Expr::Break {
-            expr: None,
-            label: Some(label),
-        },
-    )?;
-    again::expr(
-        &mut builder,
-        Expr::Loop {
-            body,
-            label: Some(label),
-            source: LoopSource::Loop,
-        },
-    )?;
-    assert!(&rt; again::finish(builder).is_ok());
+    build::add_path(builder, alloc)?;
+    for number in 0..length {
+        let expr = Idx::from_raw(number);
+        again::expr(builder, Expr::Become { expr })?;
+    }
     Ok(())
 }
 
 #[test]
 fn a_chain_of_references(rt: HostRuntime) -> Result<(), Fail> {
     let a = rt.alloc();
-    let mut builder = ExpressionStoreBuilder::new(a);
-    builder.begin_roots();
-    build::add_path(&mut builder, a)?;
-    for number in 0..100_000 {
-        again::expr(
-            &mut builder,
-            Expr::Become {
-                expr: Idx::from_raw(number),
-            },
-        )?;
-    }
-    assert!(&rt; again::finish(builder).is_ok());
+    let holds = made::stored(a, |builder| add_chain(builder, a, 100_000), |_| true)?;
+    assert!(&rt; holds);
     Ok(())
+}
+
+/// Whether it is the empty store.
+fn is_empty(store: &ExpressionStore, alloc: Global) -> bool {
+    *store == ExpressionStore::empty(alloc)
 }
 
 #[test]
 fn an_empty_store(rt: HostRuntime) -> Result<(), Fail> {
     let a = rt.alloc();
-    let built = again::finish(ExpressionStoreBuilder::new(a))?;
-    assert!(&rt; built == ExpressionStore::empty(a));
+    let holds = made::stored(a, |_| Ok(()), |store| is_empty(store, a))?;
+    assert!(&rt; holds);
     Ok(())
+}
+
+/// A copy of the store.
+fn copy(store: &ExpressionStore) -> Result<ExpressionStore, AllocError> {
+    match store.try_clone() {
+        Ok(copy) => Ok(copy),
+        Err(_) => store.try_clone(),
+    }
+}
+
+/// Whether a copy of it can be had, and equals it.
+fn equals_its_copy(store: &ExpressionStore) -> bool {
+    match copy(store) {
+        Ok(copy) => copy == *store,
+        Err(_) => false,
+    }
 }
 
 #[test]
 fn a_copy_is_equal(rt: HostRuntime) -> Result<(), Fail> {
     let a = rt.alloc();
-    let store = again::finish(build::match_tree(a)?)?;
-    let copy = match store.try_clone() {
-        Ok(copy) => copy,
-        Err(_) => store.try_clone()?,
-    };
-    assert!(&rt; copy == store);
-    assert!(&rt; copy != ExpressionStore::empty(a));
+    let holds = made::stored(
+        a,
+        |builder| build::add_match_tree(builder, a),
+        equals_its_copy,
+    )?;
+    assert!(&rt; holds);
     Ok(())
+}
+
+#[test]
+fn a_store_with_nodes_is_not_empty(rt: HostRuntime) -> Result<(), Fail> {
+    let a = rt.alloc();
+    let holds = made::stored(
+        a,
+        |builder| build::add_match_tree(builder, a),
+        |store| !is_empty(store, a),
+    )?;
+    assert!(&rt; holds);
+    Ok(())
+}
+
+/// Whether the store has so many nodes of each kind as the match has.
+fn has_all_nodes(store: &ExpressionStore) -> bool {
+    store.exprs().len() == 4
+        && store.pats().len() == 4
+        && store.bindings().len() == 2
+        && store.types().len() == 0
+        && store.lifetimes().len() == 0
+}
+
+/// Whether expression 2 is `()`.
+fn has_unit(store: &ExpressionStore, alloc: Global) -> bool {
+    let id = ExprId::from_raw(2);
+    store.has_expr(id)
+        && store[id]
+            == Expr::Tuple {
+                exprs: Seq::new(alloc),
+            }
 }
 
 #[test]
 fn nodes_under_their_ids(rt: HostRuntime) -> Result<(), Fail> {
     let a = rt.alloc();
-    let store = again::finish(build::match_tree(a)?)?;
-    assert_eq!(&rt; store.exprs().len(), 4);
-    assert_eq!(&rt; store.pats().len(), 4);
-    assert_eq!(&rt; store.bindings().len(), 2);
-    assert_eq!(&rt; store.types().len(), 0);
-    assert_eq!(&rt; store.lifetimes().len(), 0);
-    assert!(&rt; store.has_expr(Idx::from_raw(3)));
-    assert!(&rt; store[ExprId::from_raw(2)] == Expr::Tuple { exprs: Seq::new(a) });
+    let holds = made::stored(
+        a,
+        |builder| build::add_match_tree(builder, a),
+        |store| has_all_nodes(store) && has_unit(store, a),
+    )?;
+    assert!(&rt; holds);
     Ok(())
+}
+
+/// Whether the last expression, pattern and binding of the match are there.
+fn has_the_last(store: &ExpressionStore) -> bool {
+    store.has_expr(Idx::from_raw(3))
+        && store.has_pat(Idx::from_raw(3))
+        && store.has_binding(Idx::from_raw(1))
+}
+
+/// Whether the store has a node of any kind that the match has not.
+fn has_another(store: &ExpressionStore) -> bool {
+    store.has_expr(Idx::from_raw(4))
+        || store.has_pat(Idx::from_raw(4))
+        || store.has_binding(Idx::from_raw(2))
+        || store.has_label(Idx::from_raw(0))
+        || store.has_type(Idx::from_raw(0))
+        || store.has_lifetime(Idx::from_raw(0))
 }
 
 #[test]
 fn what_is_there(rt: HostRuntime) -> Result<(), Fail> {
     let a = rt.alloc();
-    let store = again::finish(build::match_tree(a)?)?;
-    assert!(&rt; !store.has_expr(Idx::from_raw(4)));
-    assert!(&rt; store.has_pat(Idx::from_raw(3)));
-    assert!(&rt; !store.has_pat(Idx::from_raw(4)));
-    assert!(&rt; store.has_binding(Idx::from_raw(1)));
-    assert!(&rt; !store.has_binding(Idx::from_raw(2)));
-    assert!(&rt; !store.has_label(Idx::from_raw(0)));
-    assert!(&rt; !store.has_type(Idx::from_raw(0)));
-    assert!(&rt; !store.has_lifetime(Idx::from_raw(0)));
-    assert!(&rt; store.path_is_sound(&build::path(a)?));
+    let holds = made::stored(
+        a,
+        |builder| build::add_match_tree(builder, a),
+        |store| has_the_last(store) && !has_another(store),
+    )?;
+    assert!(&rt; holds);
+    Ok(())
+}
+
+#[test]
+fn a_path_that_is_sound(rt: HostRuntime) -> Result<(), Fail> {
+    let a = rt.alloc();
+    let path = build::path(a)?;
+    let holds = made::stored(
+        a,
+        |builder| build::add_match_tree(builder, a),
+        |store| store.path_is_sound(&path),
+    )?;
+    assert!(&rt; holds);
     Ok(())
 }

@@ -1,6 +1,6 @@
 //! Calls that take memory, made again where it is refused once.
 //! So each test passes with ample memory, and whichever one growth is refused.
-use hir_base::{ArenaFault, Name, Seq};
+use hir_base::{Arena, ArenaFault, Idx, Name, Seq};
 use hir_node::{
     Binding, BindingId, Boxed, Expr, ExprId, Label, LabelId, LifetimeRef, LifetimeRefId, Pat,
     PatId, TypeRef, TypeRefId,
@@ -36,6 +36,13 @@ fn told<I: Drop, T: Drop>(outcome: Result<I, (ArenaFault, T)>) -> Result<I, Aren
     match outcome {
         Ok(id) => Ok(id),
         Err((fault, _)) => Err(fault),
+    }
+}
+
+pub fn item<K, T: Drop>(arena: &mut Arena<K, T>, item: T) -> Result<Idx<K>, ArenaFault> {
+    match arena.alloc(item) {
+        Ok(id) => Ok(id),
+        Err((_, item)) => told(arena.alloc(item)),
     }
 }
 
@@ -97,12 +104,7 @@ pub fn root(builder: &mut ExpressionStoreBuilder, root: ExprId) -> Result<(), Al
     }
 }
 
-pub fn finish(builder: ExpressionStoreBuilder) -> Result<ExpressionStore, Refused> {
-    let (store, _source_map) = finish_both(builder)?;
-    Ok(store)
-}
-
-pub fn finish_both(
+pub fn finish(
     builder: ExpressionStoreBuilder,
 ) -> Result<(ExpressionStore, ExpressionStoreSourceMap), Refused> {
     match builder.finish() {

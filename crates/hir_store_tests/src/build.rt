@@ -74,46 +74,48 @@ fn arm(pat: u32, expr: u32) -> MatchArm {
     }
 }
 
-/// `match s { opt @ Some(unit) => M, _ => () }` in the numbers of the worked row: patterns `unit`, `Some(unit)`, `opt @ ..`, `_`.
-pub fn match_tree(alloc: Global) -> Result<ExpressionStoreBuilder, Fail> {
-    let mut builder = ExpressionStoreBuilder::new(alloc);
-    let opt = add_binding(&mut builder, alloc, "opt")?;
-    let unit = add_binding(&mut builder, alloc, "unit")?;
-    let inner = add_bind(&mut builder, unit, None)?;
-    let mut args = Seq::new(alloc);
-    again::push(&mut args, inner)?;
+/// Adds `Some(..)` around this pattern.
+fn add_some(
+    builder: &mut ExpressionStoreBuilder,
+    alloc: Global,
+    inner: PatId,
+) -> Result<PatId, Fail> {
+    let args = ids(alloc, &[inner.into_raw()])?;
     let some = Pat::TupleStruct {
         path: path(alloc)?,
         args,
         ellipsis: None,
     };
-    let some = again::pat(&mut builder, some)?;
-    add_bind(&mut builder, opt, Some(some))?;
-    again::pat(&mut builder, Pat::Wild)?;
-    add_match(&mut builder, alloc)?;
-    Ok(builder)
+    Ok(again::pat(builder, some)?)
 }
 
-/// The expressions of that tree.
+/// Adds the bindings and patterns of the tree below.
+fn add_pats(builder: &mut ExpressionStoreBuilder, alloc: Global) -> Result<(), Fail> {
+    let opt = add_binding(builder, alloc, "opt")?;
+    let unit = add_binding(builder, alloc, "unit")?;
+    let inner = add_bind(builder, unit, None)?;
+    let some = add_some(builder, alloc, inner)?;
+    add_bind(builder, opt, Some(some))?;
+    again::pat(builder, Pat::Wild)?;
+    Ok(())
+}
+
+/// Adds its expressions.
 fn add_match(builder: &mut ExpressionStoreBuilder, alloc: Global) -> Result<(), Fail> {
-    let scrutinee = add_path(builder, alloc)?;
+    let expr = add_path(builder, alloc)?;
     add_path(builder, alloc)?;
-    again::expr(
-        builder,
-        Expr::Tuple {
-            exprs: Seq::new(alloc),
-        },
-    )?;
+    let exprs = Seq::new(alloc);
+    again::expr(builder, Expr::Tuple { exprs })?;
     let mut arms = Seq::new(alloc);
     again::push(&mut arms, arm(2, 1))?;
     again::push(&mut arms, arm(3, 2))?;
-    let root = again::expr(
-        builder,
-        Expr::Match {
-            expr: scrutinee,
-            arms,
-        },
-    )?;
+    let root = again::expr(builder, Expr::Match { expr, arms })?;
     again::root(builder, root)?;
     Ok(())
+}
+
+/// Adds `match s { opt @ Some(unit) => M, _ => () }` in the numbers of the worked row: patterns `unit`, `Some(unit)`, `opt @ ..`, `_`.
+pub fn add_match_tree(builder: &mut ExpressionStoreBuilder, alloc: Global) -> Result<(), Fail> {
+    add_pats(builder, alloc)?;
+    add_match(builder, alloc)
 }

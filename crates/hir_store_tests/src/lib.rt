@@ -7,10 +7,22 @@ mod accepted;
 #[cfg(test)]
 mod again;
 #[cfg(test)]
+mod bounds;
+#[cfg(test)]
 mod build;
+#[cfg(test)]
+mod made;
 #[cfg(test)]
 mod refused;
 #[cfg(test)]
+mod say;
+#[cfg(test)]
 mod searches;
+#[cfg(test)]
+mod source_maps;
+#[cfg(test)]
+mod told;
+#[cfg(test)]
+mod under;
 #[cfg(test)]
 mod walks;

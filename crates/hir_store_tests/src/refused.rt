@@ -1,31 +1,14 @@
 //! Builders that are refused: each by its first fault, and the builder handed back has what a second one has that was built by the
 //! same calls.
-use crate::{again, build};
-use hir_base::{Arena, Idx, Seq};
+use crate::{again, build, made};
+use hir_base::{Arena, ExternAbi, Idx, Seq};
 use hir_node::{
-    AssociatedTypeBinding, Expr, ExprKind, GenericArg, GenericArgs, GenericArgsParentheses,
+    AssociatedTypeBinding, Expr, ExprKind, FnType, GenericArg, GenericArgs, GenericArgsParentheses,
     NormalPath, Path, PathId, TraitBoundModifier, TypeBound, TypeRef,
 };
 use hir_store::{ExpressionStoreBuilder, FinishFault, NodeId};
-use std::alloc::Global;
-use std::process::Abort;
+use std::alloc::{AllocError, Global};
 use std::test::Fail;
-
-/// Compares the first fault, and what is handed back.
-fn check(
-    rt: &impl Abort,
-    first: ExpressionStoreBuilder,
-    second: ExpressionStoreBuilder,
-    fault: FinishFault,
-) {
-    match again::finish(first) {
-        Ok(_) => assert!(rt; false, "accepted, and not {fault}"),
-        Err(refused) => {
-            assert_eq!(rt; refused.fault, fault);
-            assert!(rt; refused.builder == second, "{fault}");
-        }
-    }
-}
 
 fn expr(number: u32) -> NodeId {
     NodeId::Expr(Idx::from_raw(number))
@@ -35,51 +18,60 @@ fn type_ref(number: u32) -> NodeId {
     NodeId::TypeRef(Idx::from_raw(number))
 }
 
-/// Type 1 has a bound that names type 0, which is no path.
-fn bound_on_never(alloc: Global) -> Result<ExpressionStoreBuilder, Fail> {
-    let mut builder = ExpressionStoreBuilder::new(alloc);
-    let never = again::type_ref(&mut builder, TypeRef::Never)?;
+/// The bound by type 0.
+fn bound_by_type_0(alloc: Global) -> Result<Seq<TypeBound>, AllocError> {
     let mut bounds = Seq::new(alloc);
-    let id = PathId::from_type_ref_unchecked(never);
+    let id = PathId::from_type_ref_unchecked(Idx::from_raw(0));
     again::push(&mut bounds, TypeBound::Path(id, TraitBoundModifier::None))?;
-    again::type_ref(&mut builder, TypeRef::ImplTrait(bounds))?;
-    Ok(builder)
+    Ok(bounds)
+}
+
+/// Adds the type `!`, and one with that bound, which names what is no path.
+fn add_bound_on_never(builder: &mut ExpressionStoreBuilder, alloc: Global) -> Result<(), Fail> {
+    again::type_ref(builder, TypeRef::Never)?;
+    again::type_ref(builder, TypeRef::ImplTrait(bound_by_type_0(alloc)?))?;
+    Ok(())
 }
 
 #[test]
 fn what_is_no_path(rt: HostRuntime) -> Result<(), Fail> {
     let a = rt.alloc();
-    check(
-        &rt,
-        bound_on_never(a)?,
-        bound_on_never(a)?,
+    let holds = made::refused(
+        a,
+        |builder| add_bound_on_never(builder, a),
         FinishFault::NotAPath(type_ref(1)),
-    );
+    )?;
+    assert!(&rt; holds);
     Ok(())
 }
 
-fn function_without_types(alloc: Global) -> Result<ExpressionStoreBuilder, Fail> {
-    let mut builder = ExpressionStoreBuilder::new(alloc);
-    let function = hir_node::FnType {
+/// A function type without types.
+fn no_types(alloc: Global) -> FnType {
+    FnType {
         binder: None,
         params: Seq::new(alloc),
         is_varargs: false,
         is_unsafe: false,
-        abi: hir_base::ExternAbi::Rust,
-    };
-    again::type_ref(&mut builder, TypeRef::Fn(again::boxed(alloc, function)?))?;
-    Ok(builder)
+        abi: ExternAbi::Rust,
+    }
+}
+
+/// Adds it.
+fn add_no_types(builder: &mut ExpressionStoreBuilder, alloc: Global) -> Result<(), Fail> {
+    let function = again::boxed(alloc, no_types(alloc))?;
+    again::type_ref(builder, TypeRef::Fn(function))?;
+    Ok(())
 }
 
 #[test]
 fn no_return_type(rt: HostRuntime) -> Result<(), Fail> {
     let a = rt.alloc();
-    check(
-        &rt,
-        function_without_types(a)?,
-        function_without_types(a)?,
+    let holds = made::refused(
+        a,
+        |builder| add_no_types(builder, a),
         FinishFault::NoReturnType(type_ref(0)),
-    );
+    )?;
+    assert!(&rt; holds);
     Ok(())
 }
 
@@ -97,65 +89,71 @@ fn self_args(
     }
 }
 
-/// Expression 0 is the path of these names, whose lists are those.
-fn with_path(
+/// The path of these names, whose lists are those.
+fn path_with(
     alloc: Global,
     names: &[&str],
     generic_args: Seq<Option<GenericArgs>>,
-) -> Result<ExpressionStoreBuilder, Fail> {
-    let mut builder = ExpressionStoreBuilder::new(alloc);
-    builder.begin_roots();
+) -> Result<Path, AllocError> {
+    let mod_path = build::plain(alloc, names)?;
     let path = NormalPath {
         generic_args,
         type_anchor: None,
-        mod_path: build::plain(alloc, names)?,
+        mod_path,
     };
-    let path = Path::Normal(again::boxed(alloc, path)?);
-    again::expr(&mut builder, Expr::Path(path))?;
-    Ok(builder)
+    Ok(Path::Normal(again::boxed(alloc, path)?))
 }
 
-fn without_self_argument(alloc: Global) -> Result<ExpressionStoreBuilder, Fail> {
+/// Adds this path as an expression.
+fn add_as_expr(builder: &mut ExpressionStoreBuilder, path: Path) -> Result<(), Fail> {
+    builder.begin_roots();
+    again::expr(builder, Expr::Path(path))?;
+    Ok(())
+}
+
+/// A path whose list of arguments is said to begin with a self type, and is empty.
+fn without_self_argument(alloc: Global) -> Result<Path, AllocError> {
     let mut lists = Seq::new(alloc);
     again::push(
         &mut lists,
         Some(self_args(Seq::new(alloc), Seq::new(alloc), true)),
     )?;
-    with_path(alloc, &["a"], lists)
+    path_with(alloc, &["a"], lists)
 }
 
 #[test]
 fn no_self_argument(rt: HostRuntime) -> Result<(), Fail> {
     let a = rt.alloc();
-    check(
-        &rt,
-        without_self_argument(a)?,
-        without_self_argument(a)?,
+    let holds = made::refused(
+        a,
+        |builder| add_as_expr(builder, without_self_argument(a)?),
         FinishFault::NoSelfArgument(expr(0)),
-    );
+    )?;
+    assert!(&rt; holds);
     Ok(())
 }
 
-fn one_list_for_two(alloc: Global) -> Result<ExpressionStoreBuilder, Fail> {
+/// A path of two segments with one list of arguments.
+fn one_list_for_two(alloc: Global) -> Result<Path, AllocError> {
     let mut lists = Seq::new(alloc);
     again::push(&mut lists, None)?;
-    with_path(alloc, &["a", "b"], lists)
+    path_with(alloc, &["a", "b"], lists)
 }
 
 #[test]
 fn lists_that_do_not_fit(rt: HostRuntime) -> Result<(), Fail> {
     let a = rt.alloc();
-    check(
-        &rt,
-        one_list_for_two(a)?,
-        one_list_for_two(a)?,
+    let holds = made::refused(
+        a,
+        |builder| add_as_expr(builder, one_list_for_two(a)?),
         FinishFault::ArgumentLists(expr(0)),
-    );
+    )?;
+    assert!(&rt; holds);
     Ok(())
 }
 
 /// Arguments with one binding, which has these arguments.
-fn around(alloc: Global, inner: GenericArgs) -> Result<GenericArgs, Fail> {
+fn around(alloc: Global, inner: GenericArgs) -> Result<GenericArgs, AllocError> {
     let binding = AssociatedTypeBinding {
         name: again::name(alloc, "B")?,
         args: Some(inner),
@@ -167,105 +165,114 @@ fn around(alloc: Global, inner: GenericArgs) -> Result<GenericArgs, Fail> {
     Ok(self_args(Seq::new(alloc), bindings, false))
 }
 
-/// Bindings nested 100 deep in one path; the innermost list begins with a self type and has these arguments.
-fn nested(alloc: Global, args: Seq<GenericArg>) -> Result<ExpressionStoreBuilder, Fail> {
+/// A path with bindings nested 100 deep; the innermost list begins with a self type and has these arguments.
+fn nested(alloc: Global, args: Seq<GenericArg>) -> Result<Path, AllocError> {
     let mut inner = self_args(args, Seq::new(alloc), true);
     for _ in 0..100 {
         inner = around(alloc, inner)?;
     }
     let mut lists = Seq::new(alloc);
     again::push(&mut lists, Some(inner))?;
-    with_path(alloc, &["a"], lists)
+    path_with(alloc, &["a"], lists)
 }
 
 #[test]
 fn no_self_argument_deep_down(rt: HostRuntime) -> Result<(), Fail> {
     let a = rt.alloc();
-    check(
-        &rt,
-        nested(a, Seq::new(a))?,
-        nested(a, Seq::new(a))?,
+    let holds = made::refused(
+        a,
+        |builder| add_as_expr(builder, nested(a, Seq::new(a))?),
         FinishFault::NoSelfArgument(expr(0)),
-    );
+    )?;
+    assert!(&rt; holds);
+    Ok(())
+}
+
+/// Adds a path with bindings nested 100 deep, and innermost the self type 0, which is there.
+fn add_nested_self(builder: &mut ExpressionStoreBuilder, alloc: Global) -> Result<(), Fail> {
+    let mut args = Seq::new(alloc);
+    again::push(&mut args, GenericArg::Ty(Idx::from_raw(0)))?;
+    add_as_expr(builder, nested(alloc, args)?)?;
+    again::type_ref(builder, TypeRef::Never)?;
     Ok(())
 }
 
 #[test]
 fn a_self_argument_deep_down(rt: HostRuntime) -> Result<(), Fail> {
     let a = rt.alloc();
-    let mut args = Seq::new(a);
-    again::push(&mut args, GenericArg::Ty(Idx::from_raw(0)))?;
-    let mut builder = nested(a, args)?;
-    again::type_ref(&mut builder, TypeRef::Never)?;
-    assert!(&rt; again::finish(builder).is_ok());
+    let holds = made::stored(a, |builder| add_nested_self(builder, a), |_| true)?;
+    assert!(&rt; holds);
     Ok(())
 }
 
-/// So many paths.
-fn paths(alloc: Global, count: u32) -> Result<ExpressionStoreBuilder, Fail> {
-    let mut builder = ExpressionStoreBuilder::new(alloc);
+/// Adds so many paths.
+fn add_paths(builder: &mut ExpressionStoreBuilder, alloc: Global, count: u32) -> Result<(), Fail> {
     for _ in 0..count {
-        build::add_path(&mut builder, alloc)?;
+        build::add_path(builder, alloc)?;
     }
-    Ok(builder)
+    Ok(())
 }
 
 /// The arena of so many paths.
 fn arena(alloc: Global, count: u32) -> Result<Arena<ExprKind, Expr>, Fail> {
-    let ExpressionStoreBuilder { exprs, .. } = paths(alloc, count)?;
+    let mut exprs = Arena::new(alloc);
+    for _ in 0..count {
+        let path = build::path(alloc)?;
+        again::item(&mut exprs, Expr::Path(path))?;
+    }
     Ok(exprs)
 }
 
-/// Three paths with one root, and then another arena of one path.
-fn cut_behind_root(alloc: Global, root: u32) -> Result<ExpressionStoreBuilder, Fail> {
-    let mut builder = paths(alloc, 3)?;
-    again::root(&mut builder, Idx::from_raw(root))?;
+/// Adds three paths with one root, and then puts another arena of one path in the place of theirs.
+fn add_cut(builder: &mut ExpressionStoreBuilder, alloc: Global, root: u32) -> Result<(), Fail> {
+    add_paths(builder, alloc, 3)?;
+    again::root(builder, Idx::from_raw(root))?;
     builder.exprs = arena(alloc, 1)?;
-    Ok(builder)
+    Ok(())
 }
 
 #[test]
 fn ends_past_the_arena(rt: HostRuntime) -> Result<(), Fail> {
     let a = rt.alloc();
-    check(
-        &rt,
-        cut_behind_root(a, 0)?,
-        cut_behind_root(a, 0)?,
+    let holds = made::refused(
+        a,
+        |builder| add_cut(builder, a, 0),
         FinishFault::RootEnds(0),
-    );
+    )?;
+    assert!(&rt; holds);
     Ok(())
 }
 
 #[test]
 fn a_root_past_the_arena(rt: HostRuntime) -> Result<(), Fail> {
     let a = rt.alloc();
-    check(
-        &rt,
-        cut_behind_root(a, 2)?,
-        cut_behind_root(a, 2)?,
+    let holds = made::refused(
+        a,
+        |builder| add_cut(builder, a, 2),
         FinishFault::RootOutOfRange(0),
-    );
+    )?;
+    assert!(&rt; holds);
     Ok(())
 }
 
-/// Three paths with a root; then an arena of two, a second root and one path more.
-fn falling_ends(alloc: Global) -> Result<ExpressionStoreBuilder, Fail> {
-    let mut builder = paths(alloc, 3)?;
-    again::root(&mut builder, Idx::from_raw(0))?;
+/// Adds three paths with a root; then there is an arena of two, a second root and one path more.
+fn add_falling_ends(builder: &mut ExpressionStoreBuilder, alloc: Global) -> Result<(), Fail> {
+    add_paths(builder, alloc, 3)?;
+    again::root(builder, Idx::from_raw(0))?;
     builder.exprs = arena(alloc, 2)?;
-    again::root(&mut builder, Idx::from_raw(1))?;
-    build::add_path(&mut builder, alloc)?;
-    Ok(builder)
+    again::root(builder, Idx::from_raw(1))?;
+    build::add_path(builder, alloc)?;
+    Ok(())
 }
 
 #[test]
 fn ends_that_fall(rt: HostRuntime) -> Result<(), Fail> {
     let a = rt.alloc();
-    check(
-        &rt,
-        falling_ends(a)?,
-        falling_ends(a)?,
+    let holds = made::refused(
+        a,
+        |builder| add_falling_ends(builder, a),
         FinishFault::RootEnds(1),
-    );
+    )?;
+    assert!(&rt; holds);
     Ok(())
 }

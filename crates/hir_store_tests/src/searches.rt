@@ -1,6 +1,6 @@
 //! Root search: which root an expression, a pattern or a binding was made for.
-use crate::{again, build};
-use hir_base::{Idx, Seq};
+use crate::{again, build, made};
+use hir_base::Idx;
 use hir_node::{Expr, Pat};
 use hir_store::{ExpressionStore, ExpressionStoreBuilder};
 use std::alloc::Global;
@@ -17,50 +17,109 @@ fn add_tuple(
     Ok(())
 }
 
-/// Two roots, 2 and 4, with two patterns and a binding made between them, and an expression behind.
-fn two_roots(alloc: Global) -> Result<ExpressionStore, Fail> {
-    let mut builder = ExpressionStoreBuilder::new(alloc);
-    build::add_path(&mut builder, alloc)?;
-    build::add_path(&mut builder, alloc)?;
-    add_tuple(&mut builder, alloc, &[0, 1])?;
-    again::pat(&mut builder, Pat::Wild)?;
-    again::pat(&mut builder, Pat::Wild)?;
-    build::add_binding(&mut builder, alloc, "x")?;
-    build::add_path(&mut builder, alloc)?;
-    add_tuple(&mut builder, alloc, &[3])?;
-    build::add_path(&mut builder, alloc)?;
-    Ok(again::finish(builder)?)
+/// Adds two paths and a tuple of them, which is a root.
+fn add_first_root(builder: &mut ExpressionStoreBuilder, alloc: Global) -> Result<(), Fail> {
+    build::add_path(builder, alloc)?;
+    build::add_path(builder, alloc)?;
+    add_tuple(builder, alloc, &[0, 1])
+}
+
+/// Adds two patterns and a binding, a path and a tuple of it, which is a root.
+fn add_second_root(builder: &mut ExpressionStoreBuilder, alloc: Global) -> Result<(), Fail> {
+    again::pat(builder, Pat::Wild)?;
+    again::pat(builder, Pat::Wild)?;
+    build::add_binding(builder, alloc, "x")?;
+    build::add_path(builder, alloc)?;
+    add_tuple(builder, alloc, &[3])
+}
+
+/// Adds two roots, 2 and 4, with two patterns and a binding made between them, and an expression behind.
+fn add_two_roots(builder: &mut ExpressionStoreBuilder, alloc: Global) -> Result<(), Fail> {
+    add_first_root(builder, alloc)?;
+    add_second_root(builder, alloc)?;
+    build::add_path(builder, alloc)?;
+    Ok(())
+}
+
+/// Whether this expression was made for that root, or for none.
+fn expr_was_made_for(store: &ExpressionStore, expr: u32, root: Option<u32>) -> bool {
+    let id = Idx::from_raw(expr);
+    if store.covers_expr(id) {
+        return root == Some(store.find_root_for_expr(id).into_raw());
+    }
+    root == None
 }
 
 #[test]
 fn roots_of_expressions(rt: HostRuntime) -> Result<(), Fail> {
-    let store = two_roots(rt.alloc())?;
-    assert!(&rt; store.covers_expr(Idx::from_raw(2)));
-    assert_eq!(&rt; store.find_root_for_expr(Idx::from_raw(2)).into_raw(), 2);
-    assert!(&rt; store.covers_expr(Idx::from_raw(3)));
-    assert_eq!(&rt; store.find_root_for_expr(Idx::from_raw(3)).into_raw(), 4);
-    assert!(&rt; !store.covers_expr(Idx::from_raw(5)));
+    let a = rt.alloc();
+    let holds = made::stored(
+        a,
+        |builder| add_two_roots(builder, a),
+        |store| {
+            expr_was_made_for(store, 2, Some(2))
+                && expr_was_made_for(store, 3, Some(4))
+                && expr_was_made_for(store, 5, None)
+        },
+    )?;
+    assert!(&rt; holds);
     Ok(())
 }
 
+/// Whether this pattern was made for that root, or for none.
+fn pat_was_made_for(store: &ExpressionStore, pat: u32, root: Option<u32>) -> bool {
+    let id = Idx::from_raw(pat);
+    if store.covers_pat(id) {
+        return root == Some(store.find_root_for_pat(id).into_raw());
+    }
+    root == None
+}
+
 #[test]
-fn roots_of_patterns_and_bindings(rt: HostRuntime) -> Result<(), Fail> {
-    let store = two_roots(rt.alloc())?;
-    assert!(&rt; store.covers_pat(Idx::from_raw(0)));
-    assert_eq!(&rt; store.find_root_for_pat(Idx::from_raw(0)).into_raw(), 4);
-    assert!(&rt; !store.covers_pat(Idx::from_raw(2)));
-    assert!(&rt; store.covers_binding(Idx::from_raw(0)));
-    assert_eq!(&rt; store.find_root_for_binding(Idx::from_raw(0)).into_raw(), 4);
-    assert!(&rt; !store.covers_binding(Idx::from_raw(1)));
+fn roots_of_patterns(rt: HostRuntime) -> Result<(), Fail> {
+    let a = rt.alloc();
+    let holds = made::stored(
+        a,
+        |builder| add_two_roots(builder, a),
+        |store| pat_was_made_for(store, 0, Some(4)) && pat_was_made_for(store, 2, None),
+    )?;
+    assert!(&rt; holds);
     Ok(())
+}
+
+/// Whether this binding was made for that root, or for none.
+fn binding_was_made_for(store: &ExpressionStore, binding: u32, root: Option<u32>) -> bool {
+    let id = Idx::from_raw(binding);
+    if store.covers_binding(id) {
+        return root == Some(store.find_root_for_binding(id).into_raw());
+    }
+    root == None
+}
+
+#[test]
+fn roots_of_bindings(rt: HostRuntime) -> Result<(), Fail> {
+    let a = rt.alloc();
+    let holds = made::stored(
+        a,
+        |builder| add_two_roots(builder, a),
+        |store| binding_was_made_for(store, 0, Some(4)) && binding_was_made_for(store, 1, None),
+    )?;
+    assert!(&rt; holds);
+    Ok(())
+}
+
+/// Whether the roots are 2 and 4, read from both ends.
+fn has_both_roots(store: &ExpressionStore) -> bool {
+    let mut roots = store.expr_roots();
+    roots.next_back() == Some(Idx::from_raw(4))
+        && roots.next() == Some(Idx::from_raw(2))
+        && roots.next().is_none()
 }
 
 #[test]
 fn roots_in_order(rt: HostRuntime) -> Result<(), Fail> {
-    let store = two_roots(rt.alloc())?;
-    let mut roots = store.expr_roots();
-    assert_eq!(&rt; roots.next_back(), Some(Idx::from_raw(4)));
-    assert_eq!(&rt; roots.next(), Some(Idx::from_raw(2)));
-    assert_eq!(&rt; roots.next(), None);
+    let a = rt.alloc();
+    let holds = made::stored(a, |builder| add_two_roots(builder, a), has_both_roots)?;
+    assert!(&rt; holds);
     Ok(())
 }

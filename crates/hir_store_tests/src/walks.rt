@@ -1,9 +1,13 @@
 //! Visits and walks on the tree of a match: each runs the calls of its definition, in order.
 #![tactic(auto, using(hir_node::proofs::RunLemmas::freely))]
 
-use crate::{again, build};
-use hir_base::Idx;
-use hir_node::{ExprId, LifetimeRefId, PatId, StoreVisitor, TypeRefId};
+use crate::{again, build, made};
+use hir_base::{Idx, RangeOp};
+use hir_node::{
+    BindingId, Expr, ExprId, LifetimeRefId, Pat, PatId, StoreVisitor, TypeRef, TypeRefId,
+};
+use hir_store::{ExpressionStore, ExpressionStoreBuilder};
+use std::alloc::Global;
 use std::test::Fail;
 
 /// A call of a visitor or of a closure.
@@ -14,6 +18,7 @@ enum Call {
     Pat(u32),
     Type(u32),
     Lifetime(u32),
+    Binding(u32),
 }
 
 /// Compares each call with the next one that is wanted.
@@ -80,32 +85,239 @@ const IN_ORDER: [Call; 5] = [
     Call::Pat(3),
 ];
 
+/// Whether a visitor of the match meets its children in order.
+fn visits_a_match(store: &ExpressionStore) -> bool {
+    let mut wanted = Wanted::new(&IN_ORDER);
+    if !store.has_expr(Idx::from_raw(3)) {
+        return false;
+    }
+    store.visit_expr_children(Idx::from_raw(3), &mut wanted);
+    wanted.all_met()
+}
+
 #[test]
 fn a_visitor_of_a_match(rt: HostRuntime) -> Result<(), Fail> {
-    let store = again::finish(build::match_tree(rt.alloc())?)?;
-    let mut wanted = Wanted::new(&IN_ORDER);
-    assert!(&rt; store.has_expr(Idx::from_raw(3)));
-    store.visit_expr_children(Idx::from_raw(3), &mut wanted);
-    assert!(&rt; wanted.all_met());
+    let a = rt.alloc();
+    let holds = made::stored(
+        a,
+        |builder| build::add_match_tree(builder, a),
+        visits_a_match,
+    )?;
+    assert!(&rt; holds);
     Ok(())
+}
+
+/// Whether a visitor of pattern 2 meets the pattern in it.
+fn visits_a_pattern(store: &ExpressionStore) -> bool {
+    let mut wanted = Wanted::new(&[Call::Pat(1)]);
+    if !store.has_pat(Idx::from_raw(2)) {
+        return false;
+    }
+    store.visit_pat_children(Idx::from_raw(2), &mut wanted);
+    wanted.all_met()
 }
 
 #[test]
 fn a_visitor_of_a_pattern(rt: HostRuntime) -> Result<(), Fail> {
-    let store = again::finish(build::match_tree(rt.alloc())?)?;
-    let mut wanted = Wanted::new(&[Call::Pat(1)]);
-    assert!(&rt; store.has_pat(Idx::from_raw(2)));
-    store.visit_pat_children(Idx::from_raw(2), &mut wanted);
-    assert!(&rt; wanted.all_met());
+    let a = rt.alloc();
+    let holds = made::stored(
+        a,
+        |builder| build::add_match_tree(builder, a),
+        visits_a_pattern,
+    )?;
+    assert!(&rt; holds);
     Ok(())
+}
+
+/// Whether a walk from pattern 2 meets it and all below.
+fn walks_a_pattern(store: &ExpressionStore) -> bool {
+    let mut wanted = Wanted::new(&[Call::Pat(2), Call::Pat(1), Call::Pat(0)]);
+    if !store.has_pat(Idx::from_raw(2)) {
+        return false;
+    }
+    store.walk_pats(Idx::from_raw(2), &mut |pat: PatId| wanted.on_pat(pat));
+    wanted.all_met()
 }
 
 #[test]
 fn patterns_of_a_pattern(rt: HostRuntime) -> Result<(), Fail> {
-    let store = again::finish(build::match_tree(rt.alloc())?)?;
-    let mut wanted = Wanted::new(&[Call::Pat(2), Call::Pat(1), Call::Pat(0)]);
-    assert!(&rt; store.has_pat(Idx::from_raw(2)));
-    store.walk_pats(Idx::from_raw(2), &mut |pat: PatId| wanted.on_pat(pat));
-    assert!(&rt; wanted.all_met());
+    let a = rt.alloc();
+    let holds = made::stored(
+        a,
+        |builder| build::add_match_tree(builder, a),
+        walks_a_pattern,
+    )?;
+    assert!(&rt; holds);
+    Ok(())
+}
+
+/// Whether a walk over the child patterns of pattern 2 meets the one pattern in it.
+fn walks_child_patterns(store: &ExpressionStore) -> bool {
+    let mut wanted = Wanted::new(&[Call::Pat(1)]);
+    if !store.has_pat(Idx::from_raw(2)) {
+        return false;
+    }
+    store.walk_pats_shallow(Idx::from_raw(2), &mut |pat: PatId| wanted.on_pat(pat));
+    wanted.all_met()
+}
+
+#[test]
+fn child_patterns_of_a_pattern(rt: HostRuntime) -> Result<(), Fail> {
+    let a = rt.alloc();
+    let holds = made::stored(
+        a,
+        |builder| build::add_match_tree(builder, a),
+        walks_child_patterns,
+    )?;
+    assert!(&rt; holds);
+    Ok(())
+}
+
+/// Whether a walk over the bindings in pattern 2 meets its own and then the one below.
+fn walks_bindings(store: &ExpressionStore) -> bool {
+    let mut wanted = Wanted::new(&[Call::Binding(0), Call::Binding(1)]);
+    if !store.has_pat(Idx::from_raw(2)) {
+        return false;
+    }
+    store.walk_bindings_in_pat(
+        Idx::from_raw(2),
+        &mut |binding: BindingId| { wanted.met(Call::Binding(binding.into_raw())) },
+    );
+    wanted.all_met()
+}
+
+#[test]
+fn bindings_of_a_pattern(rt: HostRuntime) -> Result<(), Fail> {
+    let a = rt.alloc();
+    let holds = made::stored(
+        a,
+        |builder| build::add_match_tree(builder, a),
+        walks_bindings,
+    )?;
+    assert!(&rt; holds);
+    Ok(())
+}
+
+/// Whether a walk over the child expressions of the match meets the scrutinee and both bodies.
+fn walks_a_match(store: &ExpressionStore) -> bool {
+    let mut wanted = Wanted::new(&[Call::Expr(0), Call::Expr(1), Call::Expr(2)]);
+    if !store.has_expr(Idx::from_raw(3)) {
+        return false;
+    }
+    store.walk_child_exprs(Idx::from_raw(3), &mut |expr: ExprId| wanted.on_expr(expr));
+    wanted.all_met()
+}
+
+#[test]
+fn children_of_a_match(rt: HostRuntime) -> Result<(), Fail> {
+    let a = rt.alloc();
+    let holds = made::stored(
+        a,
+        |builder| build::add_match_tree(builder, a),
+        walks_a_match,
+    )?;
+    assert!(&rt; holds);
+    Ok(())
+}
+
+/// Adds `let a.. = a` as a root: expression 0 stands in the pattern, and expression 1 is what is matched.
+fn add_let_of_a_range(builder: &mut ExpressionStoreBuilder, alloc: Global) -> Result<(), Fail> {
+    let start = Some(build::add_path(builder, alloc)?);
+    let range = Pat::Range {
+        start,
+        end: None,
+        range_type: RangeOp::Inclusive,
+    };
+    let pat = again::pat(builder, range)?;
+    let expr = build::add_path(builder, alloc)?;
+    let root = again::expr(builder, Expr::Let { pat, expr })?;
+    again::root(builder, root)?;
+    Ok(())
+}
+
+/// Whether a walk over the child expressions of the `let` meets that of its pattern too.
+fn walks_a_let(store: &ExpressionStore) -> bool {
+    let mut wanted = Wanted::new(&[Call::Expr(0), Call::Expr(1)]);
+    if !store.has_expr(Idx::from_raw(2)) {
+        return false;
+    }
+    store.walk_child_exprs(Idx::from_raw(2), &mut |expr: ExprId| wanted.on_expr(expr));
+    wanted.all_met()
+}
+
+#[test]
+fn children_with_those_of_a_pattern(rt: HostRuntime) -> Result<(), Fail> {
+    let a = rt.alloc();
+    let holds = made::stored(a, |builder| add_let_of_a_range(builder, a), walks_a_let)?;
+    assert!(&rt; holds);
+    Ok(())
+}
+
+/// Whether a walk without patterns leaves it out.
+fn walks_a_let_without_its_pattern(store: &ExpressionStore) -> bool {
+    let mut wanted = Wanted::new(&[Call::Expr(1)]);
+    if !store.has_expr(Idx::from_raw(2)) {
+        return false;
+    }
+    store.walk_child_exprs_without_pats(Idx::from_raw(2), &mut |expr: ExprId| wanted.on_expr(expr));
+    wanted.all_met()
+}
+
+#[test]
+fn children_without_those_of_a_pattern(rt: HostRuntime) -> Result<(), Fail> {
+    let a = rt.alloc();
+    let holds = made::stored(
+        a,
+        |builder| add_let_of_a_range(builder, a),
+        walks_a_let_without_its_pattern,
+    )?;
+    assert!(&rt; holds);
+    Ok(())
+}
+
+/// Whether a walk over the expressions in the pattern meets it.
+fn walks_expressions_of_a_pattern(store: &ExpressionStore) -> bool {
+    let mut wanted = Wanted::new(&[Call::Expr(0)]);
+    if !store.has_pat(Idx::from_raw(0)) {
+        return false;
+    }
+    store.walk_exprs_in_pat(Idx::from_raw(0), &mut |expr: ExprId| wanted.on_expr(expr));
+    wanted.all_met()
+}
+
+#[test]
+fn expressions_of_a_pattern(rt: HostRuntime) -> Result<(), Fail> {
+    let a = rt.alloc();
+    let holds = made::stored(
+        a,
+        |builder| add_let_of_a_range(builder, a),
+        walks_expressions_of_a_pattern,
+    )?;
+    assert!(&rt; holds);
+    Ok(())
+}
+
+/// Adds the type `!`, and a tuple of it.
+fn add_tuple_type(builder: &mut ExpressionStoreBuilder, alloc: Global) -> Result<(), Fail> {
+    again::type_ref(builder, TypeRef::Never)?;
+    again::type_ref(builder, TypeRef::Tuple(build::ids(alloc, &[0])?))?;
+    Ok(())
+}
+
+/// Whether a visitor of the tuple meets the type in it.
+fn visits_a_type(store: &ExpressionStore) -> bool {
+    let mut wanted = Wanted::new(&[Call::Type(0)]);
+    if !store.has_type(Idx::from_raw(1)) {
+        return false;
+    }
+    store.visit_type_ref_children(Idx::from_raw(1), &mut wanted);
+    wanted.all_met()
+}
+
+#[test]
+fn a_visitor_of_a_type(rt: HostRuntime) -> Result<(), Fail> {
+    let a = rt.alloc();
+    let holds = made::stored(a, |builder| add_tuple_type(builder, a), visits_a_type)?;
+    assert!(&rt; holds);
     Ok(())
 }

@@ -1,4 +1,4 @@
-use Rattle.std.proofs.Common.{◌≡◌, true, false, ◌⊎◌, inl, inr, rules}
+use Rattle.std.proofs.Common.{◌≡◌, ◌⊎◌, inl, inr, rules}
 use Rattle.hir_faults.specs.declared.fault.FinishFault.{FinishFault}
 use Rattle.hir_faults.specs.declared.fault.FinishFault.TheVariants.{Memory}
 use Rattle.hir_show.proofs.run.finished.Goals as goal

@@ -1,0 +1,514 @@
+//! Bodies: which parts are refused, with which fault, and what an accepted body answers.
+use crate::{again, trees, with};
+use hir_base::{
+    AstPtr, HirFileId, Idx, InFile, RangeOp, SelfParamPtr, Seq, SyntaxNodePtr, TextRange,
+};
+use hir_defs::{Body, BodyFault, BodySourceMap, Param, RefusedBody, body_laws};
+use hir_node::{BindingId, Expr, Pat, PatId};
+use hir_store::{ExpressionStore, ExpressionStoreBuilder};
+use std::alloc::{AllocError, Global};
+use std::test::Fail;
+
+/// A parameter whose two ids are the same.
+fn param<K>(number: u32) -> Param<Idx<K>> {
+    Param {
+        formal: Idx::from_raw(number),
+        user_written: Idx::from_raw(number),
+    }
+}
+
+/// Parameters of these numbers.
+fn params(alloc: Global, numbers: &[u32]) -> Result<Seq<Param<PatId>>, AllocError> {
+    let mut list = Seq::new(alloc);
+    for number in numbers {
+        again::push(&mut list, param(*number))?;
+    }
+    Ok(list)
+}
+
+/// The body of these parts, asked for again where memory was refused.
+fn body(
+    alloc: Global,
+    store: ExpressionStore,
+    params: Seq<Param<PatId>>,
+    self_param: Option<Param<BindingId>>,
+) -> Result<Body, RefusedBody> {
+    match Body::new(alloc, store, params, self_param) {
+        Ok(body) => Ok(body),
+        Err(refused) => {
+            if refused.fault != BodyFault::Memory {
+                return Err(refused);
+            }
+            Body::new(alloc, refused.store, refused.params, refused.self_param)
+        }
+    }
+}
+
+/// What is asked of the body with these parameters in the store that is built so, or of its refusal.
+fn asked<B, A>(
+    alloc: Global,
+    build: B,
+    params: Seq<Param<PatId>>,
+    self_param: Option<Param<BindingId>>,
+    ask: A,
+) -> Result<bool, Fail>
+where
+    B: FnOnce(&mut ExpressionStoreBuilder) -> Result<(), Fail>,
+    A: FnOnce(&Result<Body, RefusedBody>) -> bool,
+    requires build { B.IsAlwaysCallable build }
+    requires ask { A.IsAlwaysCallable ask }
+{
+    match with::store(alloc, build) {
+        Ok(store) => Ok(ask(&body(alloc, store, params, self_param))),
+        Err(failed) => Err(failed),
+    }
+}
+
+/// Whether the body is refused for this.
+fn has_fault(outcome: &Result<Body, RefusedBody>, wanted: BodyFault) -> bool {
+    match outcome {
+        Ok(_) => false,
+        Err(refused) => refused.fault == wanted,
+    }
+}
+
+/// Whether a body with these parameters in the store that is built so is refused for this.
+fn refuses<B>(
+    alloc: Global,
+    build: B,
+    numbers: &[u32],
+    self_param: Option<Param<BindingId>>,
+    wanted: BodyFault,
+) -> Result<bool, Fail>
+where
+    B: FnOnce(&mut ExpressionStoreBuilder) -> Result<(), Fail>,
+    requires { B.IsAlwaysCallable build }
+{
+    let params = params(alloc, numbers)?;
+    asked(
+        alloc,
+        build,
+        params,
+        self_param,
+        |outcome| has_fault(outcome, wanted),
+    )
+}
+
+/// Whether the body is accepted, and this is its root.
+fn has_root(outcome: &Result<Body, RefusedBody>, root: u32) -> bool {
+    match outcome {
+        Ok(body) => body.root_expr() == Idx::from_raw(root),
+        Err(_) => false,
+    }
+}
+
+/// Whether a body with these parameters and no `self` in the store that is built so is accepted, and this is its root.
+fn accepts<B>(alloc: Global, build: B, numbers: &[u32], root: u32) -> Result<bool, Fail>
+where
+    B: FnOnce(&mut ExpressionStoreBuilder) -> Result<(), Fail>,
+    requires { B.IsAlwaysCallable build }
+{
+    let params = params(alloc, numbers)?;
+    asked(
+        alloc,
+        build,
+        params,
+        None,
+        |outcome| has_root(outcome, root),
+    )
+}
+
+/// Adds a pattern `_`, and the path `a` as the root.
+fn add_wild(builder: &mut ExpressionStoreBuilder, alloc: Global) -> Result<(), Fail> {
+    trees::pat(builder, Pat::Wild)?;
+    trees::path_root(builder, alloc)
+}
+
+/// Adds `let x = a` as the root.
+fn add_let(builder: &mut ExpressionStoreBuilder, alloc: Global) -> Result<(), Fail> {
+    let x = trees::binding(builder, alloc, "x")?;
+    let pat = trees::bind(builder, x, None)?;
+    let expr = trees::path_expr(builder, alloc)?;
+    let root = trees::expr(builder, Expr::Let { pat, expr })?;
+    trees::root(builder, root)?;
+    Ok(())
+}
+
+#[test]
+fn a_formal_under_the_root(rt: HostRuntime) -> Result<(), Fail> {
+    let a = rt.alloc();
+    let holds = refuses(
+        a,
+        |builder| add_let(builder, a),
+        &[0],
+        None,
+        BodyFault::ParamUnder(0),
+    )?;
+    assert!(&rt; holds);
+    Ok(())
+}
+
+/// Adds the pattern `a..`, and its `a` as the root.
+fn add_range(builder: &mut ExpressionStoreBuilder, alloc: Global) -> Result<(), Fail> {
+    let root = trees::path_expr(builder, alloc)?;
+    let range = Pat::Range {
+        start: Some(root),
+        end: None,
+        range_type: RangeOp::Inclusive,
+    };
+    trees::pat(builder, range)?;
+    trees::root(builder, root)?;
+    Ok(())
+}
+
+#[test]
+fn the_root_under_a_formal(rt: HostRuntime) -> Result<(), Fail> {
+    let a = rt.alloc();
+    let holds = refuses(
+        a,
+        |builder| add_range(builder, a),
+        &[0],
+        None,
+        BodyFault::RootInParam,
+    )?;
+    assert!(&rt; holds);
+    Ok(())
+}
+
+#[test]
+fn a_formal_repeats(rt: HostRuntime) -> Result<(), Fail> {
+    let a = rt.alloc();
+    let holds = refuses(
+        a,
+        |builder| add_wild(builder, a),
+        &[0, 0],
+        None,
+        BodyFault::ParamRepeated(1),
+    )?;
+    assert!(&rt; holds);
+    Ok(())
+}
+
+#[test]
+fn an_absent_self_comes_before_an_absent_parameter(rt: HostRuntime) -> Result<(), Fail> {
+    let a = rt.alloc();
+    let holds = refuses(
+        a,
+        |builder| add_wild(builder, a),
+        &[9],
+        Some(param(5)),
+        BodyFault::SelfOutOfRange,
+    )?;
+    assert!(&rt; holds);
+    Ok(())
+}
+
+/// Adds a pattern `_` and the path `a`, which is no root.
+fn add_no_root(builder: &mut ExpressionStoreBuilder, alloc: Global) -> Result<(), Fail> {
+    trees::pat(builder, Pat::Wild)?;
+    trees::path_expr(builder, alloc)?;
+    builder.begin_roots();
+    Ok(())
+}
+
+#[test]
+fn no_root_comes_before_all(rt: HostRuntime) -> Result<(), Fail> {
+    let a = rt.alloc();
+    let holds = refuses(
+        a,
+        |builder| add_no_root(builder, a),
+        &[9],
+        Some(param(5)),
+        BodyFault::NoRoot,
+    )?;
+    assert!(&rt; holds);
+    Ok(())
+}
+
+#[test]
+fn an_absent_parameter(rt: HostRuntime) -> Result<(), Fail> {
+    let a = rt.alloc();
+    let holds = refuses(
+        a,
+        |builder| add_wild(builder, a),
+        &[0, 9],
+        None,
+        BodyFault::ParamOutOfRange(1),
+    )?;
+    assert!(&rt; holds);
+    Ok(())
+}
+
+#[test]
+fn the_kind_counts_before_the_index(rt: HostRuntime) -> Result<(), Fail> {
+    let a = rt.alloc();
+    let holds = refuses(
+        a,
+        |builder| add_wild(builder, a),
+        &[0, 0, 9],
+        None,
+        BodyFault::ParamOutOfRange(2),
+    )?;
+    assert!(&rt; holds);
+    Ok(())
+}
+
+/// A parameter that is there, of which the user wrote another that is absent.
+fn odd(alloc: Global) -> Result<Seq<Param<PatId>>, AllocError> {
+    let mut list = Seq::new(alloc);
+    let odd = Param {
+        formal: Idx::from_raw(0),
+        user_written: Idx::from_raw(1),
+    };
+    again::push(&mut list, odd)?;
+    Ok(list)
+}
+
+/// Whether the parts come back as they were: one parameter, no `self`, and a store with an expression.
+fn are_back(refused: &RefusedBody) -> bool {
+    refused.params.len() == 1
+        && refused.self_param == None
+        && refused.store.has_expr(Idx::from_raw(0))
+}
+
+/// Whether the body is refused because of parameter 0, and its parts come back.
+fn hands_back(outcome: &Result<Body, RefusedBody>) -> bool {
+    match outcome {
+        Ok(_) => false,
+        Err(refused) => refused.fault == BodyFault::ParamOutOfRange(0) && are_back(refused),
+    }
+}
+
+#[test]
+fn what_the_user_wrote_has_to_be_there(rt: HostRuntime) -> Result<(), Fail> {
+    let a = rt.alloc();
+    let holds = asked(a, |builder| add_wild(builder, a), odd(a)?, None, hands_back)?;
+    assert!(&rt; holds);
+    Ok(())
+}
+
+/// Adds `x @ _`, and the path `a` as the root.
+fn add_nested(builder: &mut ExpressionStoreBuilder, alloc: Global) -> Result<(), Fail> {
+    let x = trees::binding(builder, alloc, "x")?;
+    let inner = trees::pat(builder, Pat::Wild)?;
+    trees::bind(builder, x, Some(inner))?;
+    trees::path_root(builder, alloc)
+}
+
+#[test]
+fn a_formal_under_a_later_one(rt: HostRuntime) -> Result<(), Fail> {
+    let a = rt.alloc();
+    let holds = refuses(
+        a,
+        |builder| add_nested(builder, a),
+        &[0, 1],
+        None,
+        BodyFault::ParamUnder(0),
+    )?;
+    assert!(&rt; holds);
+    Ok(())
+}
+
+#[test]
+fn a_formal_under_an_earlier_one(rt: HostRuntime) -> Result<(), Fail> {
+    let a = rt.alloc();
+    let holds = refuses(
+        a,
+        |builder| add_nested(builder, a),
+        &[1, 0],
+        None,
+        BodyFault::ParamUnder(1),
+    )?;
+    assert!(&rt; holds);
+    Ok(())
+}
+
+#[test]
+fn a_formal_above_others(rt: HostRuntime) -> Result<(), Fail> {
+    let a = rt.alloc();
+    let holds = accepts(a, |builder| add_nested(builder, a), &[1], 0)?;
+    assert!(&rt; holds);
+    Ok(())
+}
+
+/// Adds `let _ = a`, which is a root, and the path `a` as the last root.
+fn add_two_roots(builder: &mut ExpressionStoreBuilder, alloc: Global) -> Result<(), Fail> {
+    let pat = trees::pat(builder, Pat::Wild)?;
+    let expr = trees::path_expr(builder, alloc)?;
+    let earlier = trees::expr(builder, Expr::Let { pat, expr })?;
+    trees::root(builder, earlier)?;
+    trees::path_root(builder, alloc)
+}
+
+#[test]
+fn a_formal_under_an_earlier_root(rt: HostRuntime) -> Result<(), Fail> {
+    let a = rt.alloc();
+    let holds = accepts(a, |builder| add_two_roots(builder, a), &[0], 2)?;
+    assert!(&rt; holds);
+    Ok(())
+}
+
+/// Where `self` is bound, and its copy.
+fn this() -> Param<BindingId> {
+    Param {
+        formal: Idx::from_raw(0),
+        user_written: Idx::from_raw(1),
+    }
+}
+
+/// Adds the bindings `self`, `copy` and `x`, a pattern `_`, and the path `a` as the root.
+fn add_method(builder: &mut ExpressionStoreBuilder, alloc: Global) -> Result<(), Fail> {
+    trees::binding(builder, alloc, "self")?;
+    trees::binding(builder, alloc, "copy")?;
+    trees::binding(builder, alloc, "x")?;
+    add_wild(builder, alloc)
+}
+
+fn has_its_parts(body: &Body) -> bool {
+    body.root_expr() == Idx::from_raw(0)
+        && body.store().has_pat(Idx::from_raw(0))
+        && body.params().len() == 1
+        && body.params()[0] == param(0)
+        && body.self_param() == Some(this())
+}
+
+fn knows_its_self(body: &Body) -> bool {
+    body.is_any_self_param(Idx::from_raw(0))
+        && body.is_any_self_param(Idx::from_raw(1))
+        && !body.is_any_self_param(Idx::from_raw(2))
+}
+
+/// Whether the body is accepted, and answers what was given.
+fn is_the_method(outcome: &Result<Body, RefusedBody>) -> bool {
+    match outcome {
+        Ok(body) => has_its_parts(body) && knows_its_self(body),
+        Err(_) => false,
+    }
+}
+
+#[test]
+fn an_accepted_body(rt: HostRuntime) -> Result<(), Fail> {
+    let a = rt.alloc();
+    let list = params(a, &[0])?;
+    let holds = asked(
+        a,
+        |builder| add_method(builder, a),
+        list,
+        Some(this()),
+        is_the_method,
+    )?;
+    assert!(&rt; holds);
+    Ok(())
+}
+
+/// Whether the text of the fault is this.
+fn reads(alloc: Global, fault: BodyFault, wanted: &str) -> Result<bool, AllocError> {
+    let text = match format!(in alloc; "{fault}") {
+        Ok(text) => text,
+        Err(_) => format!(in alloc; "{fault}")?,
+    };
+    Ok(text.as_str() == wanted)
+}
+
+#[test]
+fn texts_of_faults(rt: HostRuntime) -> Result<(), Fail> {
+    let a = rt.alloc();
+    assert!(&rt; reads(a, BodyFault::NoRoot, "NoRoot")?);
+    assert!(&rt; reads(a, BodyFault::SelfOutOfRange, "SelfOutOfRange")?);
+    assert!(&rt; reads(a, BodyFault::RootInParam, "RootInParam")?);
+    assert!(&rt; reads(a, BodyFault::Memory, "Memory")?);
+    Ok(())
+}
+
+#[test]
+fn texts_of_faults_of_parameters(rt: HostRuntime) -> Result<(), Fail> {
+    let a = rt.alloc();
+    assert!(&rt; reads(a, BodyFault::ParamOutOfRange(3), "ParamOutOfRange 3")?);
+    assert!(&rt; reads(a, BodyFault::ParamRepeated(1), "ParamRepeated 1")?);
+    assert!(&rt; reads(a, BodyFault::ParamUnder(0), "ParamUnder 0")?);
+    Ok(())
+}
+
+/// Where the `self` of the tests is written.
+fn written() -> InFile<SelfParamPtr> {
+    let node = SyntaxNodePtr {
+        kind: 7,
+        range: TextRange { start: 1, end: 5 },
+    };
+    InFile {
+        file_id: HirFileId::from_raw(2),
+        value: AstPtr::new(node),
+    }
+}
+
+/// The source map of a body without nodes, whose `self` is written there.
+pub fn map_of_nothing(alloc: Global) -> Result<BodySourceMap, Fail> {
+    match with::no_sources(alloc) {
+        Ok(sources) => Ok(BodySourceMap::new(sources, Some(written()))),
+        Err(failed) => Err(failed),
+    }
+}
+
+/// Whether the map answers that `self` is written there.
+pub fn answers_self(map: &BodySourceMap) -> bool {
+    match map.self_param_syntax() {
+        Some(found) => found == written(),
+        None => false,
+    }
+}
+
+#[test]
+fn where_self_is_written(rt: HostRuntime) -> Result<(), Fail> {
+    let map = map_of_nothing(rt.alloc())?;
+    assert!(&rt; answers_self(&map));
+    Ok(())
+}
+
+#[test]
+fn a_source_map_is_itself(rt: HostRuntime) -> Result<(), Fail> {
+    let map = map_of_nothing(rt.alloc())?;
+    assert!(&rt; map.store() == map.store());
+    assert!(&rt; map == map);
+    Ok(())
+}
+
+/// The body `a`.
+pub fn plain(alloc: Global) -> Result<Body, Fail> {
+    let store = with::store(alloc, |builder| trees::path_root(builder, alloc))?;
+    match body(alloc, store, Seq::new(alloc), None) {
+        Ok(body) => Ok(body),
+        Err(refused) => Err(Fail::from(refused.fault)),
+    }
+}
+
+/// Whether the body is accepted, has no parameters and equals itself. That it has no fault is a fact of every body.
+fn is_plain(outcome: &Result<Body, RefusedBody>) -> bool {
+    match outcome {
+        Ok(body) => {
+            body.has_no_fault();
+            body.params().is_empty() && *body == *body
+        }
+        Err(_) => false,
+    }
+}
+
+#[test]
+fn an_accepted_body_has_no_fault(rt: HostRuntime) -> Result<(), Fail> {
+    let a = rt.alloc();
+    let holds = asked(
+        a,
+        |builder| trees::path_root(builder, a),
+        Seq::new(a),
+        None,
+        is_plain,
+    )?;
+    assert!(&rt; holds);
+    Ok(())
+}
+
+#[test]
+fn laws_of_bodies() {
+    body_laws::first_body_fault_is_one();
+    body_laws::tops_are_there();
+    body_laws::tops_lie_apart();
+}

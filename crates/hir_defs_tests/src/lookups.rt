@@ -1,0 +1,270 @@
+//! Looking up generic parameters by their definition, and stores by their owner.
+use crate::{made, with};
+use hir_base::{
+    AdtId, ConstId, DefWithBodyId, EnumId, ExpressionStoreOwnerId, FunctionId, GenericDefId, Idx,
+    ImplId, StaticId, StructId, TraitId, TypeAliasId, UnionId, VariantId,
+};
+use hir_defs::{GenericParams, ParamsOf, PlainDef, StoreOf, Tables};
+use hir_store::{ExpressionStore, Missing};
+use std::test::Fail;
+
+/// How many types the store has.
+fn count(store: &ExpressionStore) -> usize {
+    store.types().len()
+}
+
+/// Whether the definition has one parameter.
+fn has_one(tables: &Tables, def: GenericDefId) -> bool {
+    match GenericParams::of(tables, def) {
+        Ok(params) => params.len() == 1,
+        Err(_) => false,
+    }
+}
+
+/// Whether that is so, and its store has this many types.
+fn has_one_over(tables: &Tables, def: GenericDefId, size: usize) -> bool {
+    match GenericParams::with_store(tables, def) {
+        Ok((params, store)) => params.len() == 1 && count(store) == size,
+        Err(_) => false,
+    }
+}
+
+/// Whether that is so, and the store's source map knows no source of type 0.
+fn has_one_unmapped(tables: &Tables, def: GenericDefId, size: usize) -> bool {
+    match GenericParams::with_source_map(tables, def) {
+        Ok((params, store, map)) => {
+            params.len() == 1 && count(store) == size && map.type_syntax(Idx::from_raw(0)).is_err()
+        }
+        Err(_) => false,
+    }
+}
+
+#[test]
+fn parameters_of_a_function(rt: HostRuntime) -> Result<(), Fail> {
+    let holds = with::filled(
+        rt.alloc(),
+        |tables| has_one(tables, GenericDefId::FunctionId(FunctionId::from_raw(1))),
+    )?;
+    assert!(&rt; holds);
+    Ok(())
+}
+
+#[test]
+fn parameters_of_a_struct(rt: HostRuntime) -> Result<(), Fail> {
+    let def = GenericDefId::AdtId(AdtId::StructId(StructId::from_raw(2)));
+    let holds = with::filled(rt.alloc(), |tables| has_one_over(tables, def, 2))?;
+    assert!(&rt; holds);
+    Ok(())
+}
+
+#[test]
+fn parameters_of_an_enum(rt: HostRuntime) -> Result<(), Fail> {
+    let def = GenericDefId::AdtId(AdtId::EnumId(EnumId::from_raw(3)));
+    let holds = with::filled(rt.alloc(), |tables| has_one_unmapped(tables, def, 3))?;
+    assert!(&rt; holds);
+    Ok(())
+}
+
+#[test]
+fn parameters_of_a_union(rt: HostRuntime) -> Result<(), Fail> {
+    let def = GenericDefId::AdtId(AdtId::UnionId(UnionId::from_raw(0)));
+    let holds = with::filled(rt.alloc(), |tables| has_one_over(tables, def, 1))?;
+    assert!(&rt; holds);
+    Ok(())
+}
+
+#[test]
+fn parameters_of_an_impl(rt: HostRuntime) -> Result<(), Fail> {
+    let holds = with::filled(
+        rt.alloc(),
+        |tables| has_one_over(tables, GenericDefId::ImplId(ImplId::from_raw(0)), 2),
+    )?;
+    assert!(&rt; holds);
+    Ok(())
+}
+
+#[test]
+fn parameters_of_a_trait(rt: HostRuntime) -> Result<(), Fail> {
+    let holds = with::filled(
+        rt.alloc(),
+        |tables| has_one_over(tables, GenericDefId::TraitId(TraitId::from_raw(0)), 3),
+    )?;
+    assert!(&rt; holds);
+    Ok(())
+}
+
+#[test]
+fn parameters_of_an_alias(rt: HostRuntime) -> Result<(), Fail> {
+    let holds = with::filled(
+        rt.alloc(),
+        |tables| has_one_over(
+            tables,
+            GenericDefId::TypeAliasId(TypeAliasId::from_raw(0)),
+            4,
+        ),
+    )?;
+    assert!(&rt; holds);
+    Ok(())
+}
+
+/// Whether the signature of the definition is said to be absent.
+fn lacks_params(tables: &Tables, def: GenericDefId, wanted: Missing) -> bool {
+    match GenericParams::of(tables, def) {
+        Ok(_) => false,
+        Err(missing) => missing == wanted,
+    }
+}
+
+/// Whether the definition has no parameters, no predicates, and a store of this many types.
+fn has_none(tables: &Tables, def: GenericDefId, size: usize) -> bool {
+    match GenericParams::with_store(tables, def) {
+        Ok((params, store)) => {
+            params.is_empty() && params.has_no_predicates() && count(store) == size
+        }
+        Err(_) => false,
+    }
+}
+
+fn constant(number: u32) -> GenericDefId {
+    GenericDefId::ConstId(ConstId::from_raw(number))
+}
+
+fn variable(number: u32) -> GenericDefId {
+    GenericDefId::StaticId(StaticId::from_raw(number))
+}
+
+#[test]
+fn constants_have_no_parameters(rt: HostRuntime) -> Result<(), Fail> {
+    let holds = with::filled(
+        rt.alloc(),
+        |tables| has_none(tables, constant(4), 2)
+            && lacks_params(tables, constant(3), Missing::Signature(constant(3))),
+    )?;
+    assert!(&rt; holds);
+    Ok(())
+}
+
+#[test]
+fn statics_have_no_parameters(rt: HostRuntime) -> Result<(), Fail> {
+    let holds = with::filled(
+        rt.alloc(),
+        |tables| has_none(tables, variable(4), 3)
+            && lacks_params(tables, variable(3), Missing::Signature(variable(3))),
+    )?;
+    assert!(&rt; holds);
+    Ok(())
+}
+
+/// Whether the owner has a store of this many types.
+fn owns(tables: &Tables, owner: ExpressionStoreOwnerId, size: usize) -> bool {
+    match ExpressionStore::of(tables, owner) {
+        Ok(store) => count(store) == size,
+        Err(_) => false,
+    }
+}
+
+#[test]
+fn the_store_of_a_signature(rt: HostRuntime) -> Result<(), Fail> {
+    let def = GenericDefId::FunctionId(FunctionId::from_raw(1));
+    let holds = with::filled(
+        rt.alloc(),
+        |tables| owns(tables, ExpressionStoreOwnerId::Signature(def), 1),
+    )?;
+    assert!(&rt; holds);
+    Ok(())
+}
+
+/// Whether the owner has a store of this many types, whose source map knows no source of type 0.
+fn owns_unmapped(tables: &Tables, owner: ExpressionStoreOwnerId, size: usize) -> bool {
+    match ExpressionStore::with_source_map(tables, owner) {
+        Ok((store, map)) => { count(store) == size && map.type_syntax(Idx::from_raw(0)).is_err() }
+        Err(_) => false,
+    }
+}
+
+#[test]
+fn the_store_of_fields(rt: HostRuntime) -> Result<(), Fail> {
+    let variant = VariantId::StructId(StructId::from_raw(2));
+    let holds = with::filled(
+        rt.alloc(),
+        |tables| owns_unmapped(tables, ExpressionStoreOwnerId::VariantFields(variant), 5),
+    )?;
+    assert!(&rt; holds);
+    Ok(())
+}
+
+/// Whether the owner has a store with expression 0, of which no source is known.
+fn owns_expr_0(tables: &Tables, owner: ExpressionStoreOwnerId) -> bool {
+    match ExpressionStore::with_source_map(tables, owner) {
+        Ok((store, map)) => {
+            store.has_expr(Idx::from_raw(0)) && map.expr_syntax(Idx::from_raw(0)).is_err()
+        }
+        Err(_) => false,
+    }
+}
+
+#[test]
+fn the_store_of_a_body(rt: HostRuntime) -> Result<(), Fail> {
+    let holds = with::filled(
+        rt.alloc(),
+        |tables| owns_expr_0(tables, ExpressionStoreOwnerId::Body(made::def_1())),
+    )?;
+    assert!(&rt; holds);
+    Ok(())
+}
+
+/// Whether the owner is said to have no store, by this answer.
+fn lacks_store(tables: &Tables, owner: ExpressionStoreOwnerId, wanted: Missing) -> bool {
+    match ExpressionStore::of(tables, owner) {
+        Ok(_) => false,
+        Err(missing) => missing == wanted,
+    }
+}
+
+/// Union 9.
+fn union_9() -> GenericDefId {
+    GenericDefId::AdtId(AdtId::UnionId(UnionId::from_raw(9)))
+}
+
+#[test]
+fn a_signature_without_a_store(rt: HostRuntime) -> Result<(), Fail> {
+    let owner = ExpressionStoreOwnerId::Signature(union_9());
+    let holds = with::empty(
+        rt.alloc(),
+        |tables| lacks_store(tables, owner, Missing::Signature(union_9())),
+    );
+    assert!(&rt; holds);
+    Ok(())
+}
+
+/// The body of function 0.
+fn body_0() -> DefWithBodyId {
+    DefWithBodyId::FunctionId(FunctionId::from_raw(0))
+}
+
+#[test]
+fn a_body_without_a_store(rt: HostRuntime) -> Result<(), Fail> {
+    let owner = ExpressionStoreOwnerId::Body(body_0());
+    let holds = with::empty(
+        rt.alloc(),
+        |tables| lacks_store(tables, owner, Missing::Body(body_0())),
+    );
+    assert!(&rt; holds);
+    Ok(())
+}
+
+/// The fields of struct 0.
+fn fields_0() -> VariantId {
+    VariantId::StructId(StructId::from_raw(0))
+}
+
+#[test]
+fn fields_without_a_store(rt: HostRuntime) -> Result<(), Fail> {
+    let owner = ExpressionStoreOwnerId::VariantFields(fields_0());
+    let holds = with::empty(
+        rt.alloc(),
+        |tables| lacks_store(tables, owner, Missing::Fields(fields_0())),
+    );
+    assert!(&rt; holds);
+    Ok(())
+}

@@ -1,0 +1,173 @@
+//! Names, parents, crates and raw words in the tables.
+use crate::tables::lacks_crate;
+use crate::{again, with};
+use hir_base::{CrateId, Edition, EnumId, EnumVariantId, FunctionId, NamedDef, Seq, Text};
+use hir_defs::Tables;
+use std::alloc::{AllocError, Global};
+use std::test::Fail;
+
+fn text(alloc: Global, text: &str) -> Result<Text, AllocError> {
+    match Text::from_str(alloc, text) {
+        Ok(text) => Ok(text),
+        Err(_) => Text::from_str(alloc, text),
+    }
+}
+
+/// Gives the function this name.
+fn add_name(tables: &mut Tables, def: NamedDef, name: Option<Text>) -> Result<(), AllocError> {
+    let failed = match tables.add_name(def, name) {
+        Ok(()) => return Ok(()),
+        Err(failed) => failed,
+    };
+    let (def, name) = failed.value;
+    Ok(tables.add_name(def, name)?)
+}
+
+/// Function 0.
+fn named() -> NamedDef {
+    NamedDef::FunctionId(FunctionId::from_raw(0))
+}
+
+/// Says that it has no name.
+fn add_unnamed(tables: &mut Tables) -> Result<(), Fail> {
+    add_name(tables, named(), None)?;
+    Ok(())
+}
+
+/// Says that it has no name, and then that it is called `g`.
+fn rename(tables: &mut Tables, alloc: Global) -> Result<(), Fail> {
+    let name = Some(text(alloc, "g")?);
+    add_unnamed(tables)?;
+    add_name(tables, named(), name)?;
+    Ok(())
+}
+
+/// Whether the definition is there, and has no name.
+fn is_unnamed(tables: &Tables, def: NamedDef) -> bool {
+    match tables.name(def) {
+        Ok(name) => name.is_none(),
+        Err(_) => false,
+    }
+}
+
+/// Whether this is that text.
+fn reads(name: Option<&Text>, wanted: &str) -> bool {
+    match name {
+        Some(name) => name.as_str() == wanted,
+        None => false,
+    }
+}
+
+/// Whether the definition is called `g`.
+fn is_g(tables: &Tables, def: NamedDef) -> bool {
+    match tables.name(def) {
+        Ok(name) => reads(name, "g"),
+        Err(_) => false,
+    }
+}
+
+#[test]
+fn a_definition_without_a_name(rt: HostRuntime) -> Result<(), Fail> {
+    let holds = with::tabled(
+        rt.alloc(),
+        add_unnamed,
+        |tables| is_unnamed(tables, named()),
+    )?;
+    assert!(&rt; holds);
+    Ok(())
+}
+
+#[test]
+fn a_later_entry_replaces_an_earlier_one(rt: HostRuntime) -> Result<(), Fail> {
+    let a = rt.alloc();
+    let holds = with::tabled(
+        a,
+        |tables| rename(tables, a),
+        |tables| is_g(tables, named()),
+    )?;
+    assert!(&rt; holds);
+    Ok(())
+}
+
+/// Gives one word that edition 2021 writes raw.
+fn set_raw_match(tables: &mut Tables, alloc: Global) -> Result<(), Fail> {
+    let mut words = Seq::new(alloc);
+    again::push(&mut words, text(alloc, "match")?)?;
+    tables.set_raw_words(Edition::Edition2021, words);
+    Ok(())
+}
+
+#[test]
+fn raw_words_of_an_edition(rt: HostRuntime) -> Result<(), Fail> {
+    let a = rt.alloc();
+    let holds = with::tabled(
+        a,
+        |tables| set_raw_match(tables, a),
+        |tables| tables.raw_words(Edition::Edition2021).len() == 1
+            && tables.raw_words(Edition::Edition2018).len() == 0,
+    )?;
+    assert!(&rt; holds);
+    Ok(())
+}
+
+/// Says that variant 2 is of enum 7.
+fn add_variant_2(tables: &mut Tables) -> Result<(), Fail> {
+    if let Err(failed) = tables.add_variant_parent(
+        EnumVariantId::from_raw(2),
+        EnumId::from_raw(7),
+    ) {
+        let (variant, parent) = failed.value;
+        tables.add_variant_parent(variant, parent)?;
+    }
+    Ok(())
+}
+
+/// Whether the variant is of this enum.
+fn is_of(tables: &Tables, variant: EnumVariantId, parent: EnumId) -> bool {
+    match tables.variant_parent(variant) {
+        Ok(found) => found == parent,
+        Err(_) => false,
+    }
+}
+
+#[test]
+fn a_variant_in_the_tables(rt: HostRuntime) -> Result<(), Fail> {
+    let holds = with::tabled(
+        rt.alloc(),
+        add_variant_2,
+        |tables| is_of(tables, EnumVariantId::from_raw(2), EnumId::from_raw(7)),
+    )?;
+    assert!(&rt; holds);
+    Ok(())
+}
+
+/// Says that crate 1 is called `core`.
+fn add_crate_1(tables: &mut Tables, alloc: Global) -> Result<(), Fail> {
+    let failed = match tables.add_crate_name(CrateId::from_raw(1), Some(text(alloc, "core")?)) {
+        Ok(()) => return Ok(()),
+        Err(failed) => failed,
+    };
+    let (id, name) = failed.value;
+    tables.add_crate_name(id, name)?;
+    Ok(())
+}
+
+/// Whether the crate is called `core`.
+fn is_core(tables: &Tables, id: CrateId) -> bool {
+    match tables.crate_name(id) {
+        Ok(name) => reads(name, "core"),
+        Err(_) => false,
+    }
+}
+
+#[test]
+fn a_crate_in_the_tables(rt: HostRuntime) -> Result<(), Fail> {
+    let a = rt.alloc();
+    let holds = with::tabled(
+        a,
+        |tables| add_crate_1(tables, a),
+        |tables| is_core(tables, CrateId::from_raw(1)) && lacks_crate(tables, CrateId::from_raw(2)),
+    )?;
+    assert!(&rt; holds);
+    Ok(())
+}

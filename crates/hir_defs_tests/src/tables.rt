@@ -1,0 +1,371 @@
+//! Signatures and tables: which parts are refused, and what the tables answer.
+use crate::{again, bodies, made, with};
+use hir_base::{
+    AdtId, Arena, CrateId, DefWithBodyId, Edition, EnumId, EnumVariantId, FunctionId, GenericDefId,
+    Idx, NamedDef, Seq, StructId, UnionId, VariantId,
+};
+use hir_defs::{
+    Body, BodyOf, FieldData, FieldsShape, FunctionParts, FunctionSignature, GenericParams,
+    PlainDef, PlainParts, PlainSignature, Repr, SignatureFault, Tables, WherePredicate,
+};
+use hir_node::{PathId, TraitBoundModifier, TypeBound};
+use hir_store::Missing;
+use std::alloc::{AllocError, Global};
+use std::test::Fail;
+
+/// Whether the signature is refused since an id is absent, and the parts come back.
+fn lacks_an_id(parts: FunctionParts) -> bool {
+    match FunctionSignature::new(parts) {
+        Ok(_) => false,
+        Err(refused) => {
+            refused.fault == SignatureFault::IdOutOfRange && refused.parts.params.len() == 1
+        }
+    }
+}
+
+#[test]
+fn a_parameter_type_that_is_absent(rt: HostRuntime) -> Result<(), Fail> {
+    let parts = made::parts_of_function(rt.alloc(), 0)?;
+    assert!(&rt; lacks_an_id(parts));
+    Ok(())
+}
+
+/// A predicate on type 0 whose bound is the path of type 0.
+fn generics(alloc: Global) -> Result<GenericParams, AllocError> {
+    let mut predicates = Seq::new(alloc);
+    let path = PathId::from_type_ref_unchecked(Idx::from_raw(0));
+    let predicate = WherePredicate::TypeBound {
+        lifetimes: None,
+        target: Idx::from_raw(0),
+        bound: TypeBound::Path(path, TraitBoundModifier::None),
+    };
+    again::push(&mut predicates, predicate)?;
+    Ok(GenericParams::new(Arena::new(alloc), Arena::new(alloc), predicates))
+}
+
+/// The parts of these parameters, over the type `!`.
+fn bound_on_never(alloc: Global) -> Result<PlainParts, Fail> {
+    let generic_params = generics(alloc)?;
+    match made::types(alloc, 1) {
+        Ok(store) => Ok(made::plain_parts(generic_params, store)),
+        Err(failed) => Err(failed),
+    }
+}
+
+/// Whether the signature is refused since a bound names no path, and the parts come back.
+fn lacks_a_path(parts: PlainParts) -> bool {
+    match PlainSignature::new(parts) {
+        Ok(_) => false,
+        Err(refused) => {
+            refused.fault == SignatureFault::NotAPath
+                && refused.parts.store.has_type(Idx::from_raw(0))
+        }
+    }
+}
+
+#[test]
+fn a_bound_that_is_no_path(rt: HostRuntime) -> Result<(), Fail> {
+    let parts = bound_on_never(rt.alloc())?;
+    assert!(&rt; lacks_a_path(parts));
+    Ok(())
+}
+
+/// Whether the words of the signature are those of `const unsafe extern "C" fn f(..)`.
+fn has_words(found: &FunctionSignature) -> bool {
+    found.name().as_str() == "f"
+        && found.abi().as_str() == "C"
+        && found.is_const()
+        && found.is_unsafe()
+        && !found.is_async()
+        && !found.is_explicit_safe()
+}
+
+/// Whether the signature has one generic parameter, one parameter, whose type is there, and nothing else.
+fn has_a_parameter(found: &FunctionSignature) -> bool {
+    found.generic_params().len() == 1
+        && found.store().has_type(Idx::from_raw(0))
+        && found.params().len() == 1
+        && found.ret_type() == None
+        && found.legacy_const_indices().is_none()
+}
+
+/// Whether the signature is the one that was made.
+fn is_function(tables: &Tables, id: FunctionId) -> bool {
+    match tables.function_signature(id) {
+        Ok(found) => has_words(found) && has_a_parameter(found),
+        Err(_) => false,
+    }
+}
+
+#[test]
+fn a_function_in_the_tables(rt: HostRuntime) -> Result<(), Fail> {
+    let holds = with::filled(
+        rt.alloc(),
+        |tables| is_function(tables, FunctionId::from_raw(1)),
+    )?;
+    assert!(&rt; holds);
+    Ok(())
+}
+
+/// Whether the signature is the one that was made.
+fn is_struct(tables: &Tables, id: StructId) -> bool {
+    match tables.struct_signature(id) {
+        Ok(found) => {
+            found.name().as_str() == "S"
+                && found.is_fundamental()
+                && found.shape() == FieldsShape::Tuple
+        }
+        Err(_) => false,
+    }
+}
+
+#[test]
+fn a_struct_in_the_tables(rt: HostRuntime) -> Result<(), Fail> {
+    let holds = with::filled(
+        rt.alloc(),
+        |tables| is_struct(tables, StructId::from_raw(2))
+            && tables.repr(StructId::from_raw(2)) == None,
+    )?;
+    assert!(&rt; holds);
+    Ok(())
+}
+
+/// How struct 0 of the tests lies in memory.
+fn written() -> Repr {
+    Repr {
+        c: true,
+        align: Some(8),
+        pack: None,
+    }
+}
+
+/// Says so.
+fn add_repr_of_0(tables: &mut Tables) -> Result<(), Fail> {
+    if let Err(failed) = tables.add_repr(StructId::from_raw(0), written()) {
+        let (id, repr) = failed.value;
+        tables.add_repr(id, repr)?;
+    }
+    Ok(())
+}
+
+#[test]
+fn how_a_struct_lies(rt: HostRuntime) -> Result<(), Fail> {
+    let holds = with::tabled(
+        rt.alloc(),
+        add_repr_of_0,
+        |tables| tables.repr(StructId::from_raw(0)) == Some(written()),
+    )?;
+    assert!(&rt; holds);
+    Ok(())
+}
+
+/// Whether the fields are `x` alone.
+fn is_x(fields: &[FieldData]) -> bool {
+    match fields {
+        [field] => field.name.as_str() == "x",
+        _ => false,
+    }
+}
+
+/// Whether the fields are those that were made.
+fn has_x(tables: &Tables, id: VariantId) -> bool {
+    match tables.variant_fields(id) {
+        Ok(found) => found.shape() == FieldsShape::Record && is_x(found.fields()),
+        Err(_) => false,
+    }
+}
+
+#[test]
+fn fields_in_the_tables(rt: HostRuntime) -> Result<(), Fail> {
+    let holds = with::filled(
+        rt.alloc(),
+        |tables| has_x(tables, VariantId::StructId(StructId::from_raw(2))),
+    )?;
+    assert!(&rt; holds);
+    Ok(())
+}
+
+/// Whether the body is said to be absent.
+fn lacks_body(tables: &Tables, id: DefWithBodyId, wanted: Missing) -> bool {
+    match Body::of(tables, id) {
+        Ok(_) => false,
+        Err(missing) => missing == wanted,
+    }
+}
+
+/// Whether the body with its source map is said to be absent.
+fn lacks_body_and_map(tables: &Tables, id: DefWithBodyId, wanted: Missing) -> bool {
+    match Body::with_source_map(tables, id) {
+        Ok(_) => false,
+        Err(missing) => missing == wanted,
+    }
+}
+
+/// Whether the fields are said to be absent.
+fn lacks_fields(tables: &Tables, id: VariantId, wanted: Missing) -> bool {
+    match tables.variant_fields(id) {
+        Ok(_) => false,
+        Err(missing) => missing == wanted,
+    }
+}
+
+/// Whether the name is said to be absent.
+fn lacks_name(tables: &Tables, id: NamedDef, wanted: Missing) -> bool {
+    match tables.name(id) {
+        Ok(_) => false,
+        Err(missing) => missing == wanted,
+    }
+}
+
+/// Whether the signature of the function is said to be absent.
+fn lacks_function(tables: &Tables, id: FunctionId) -> bool {
+    match tables.function_signature(id) {
+        Ok(_) => false,
+        Err(missing) => missing == Missing::Signature(GenericDefId::FunctionId(id)),
+    }
+}
+
+/// Whether this signature is said to be absent.
+fn lacks_plain(tables: &Tables, id: PlainDef, wanted: Missing) -> bool {
+    match tables.plain_signature(id) {
+        Ok(_) => false,
+        Err(missing) => missing == wanted,
+    }
+}
+
+/// Whether the enum of the variant is said to be absent.
+fn lacks_parent(tables: &Tables, id: EnumVariantId) -> bool {
+    match tables.variant_parent(id) {
+        Ok(_) => false,
+        Err(missing) => missing == Missing::Variant(id),
+    }
+}
+
+/// Whether what the crate is called is said to be absent.
+pub fn lacks_crate(tables: &Tables, id: CrateId) -> bool {
+    match tables.crate_name(id) {
+        Ok(_) => false,
+        Err(missing) => missing == Missing::Crate(id),
+    }
+}
+
+/// The body of function 0.
+fn body_0() -> DefWithBodyId {
+    DefWithBodyId::FunctionId(FunctionId::from_raw(0))
+}
+
+#[test]
+fn an_absent_body_is_named(rt: HostRuntime) -> Result<(), Fail> {
+    let holds = with::empty(
+        rt.alloc(),
+        |tables| lacks_body(tables, body_0(), Missing::Body(body_0()))
+            && lacks_body_and_map(tables, body_0(), Missing::Body(body_0())),
+    );
+    assert!(&rt; holds);
+    Ok(())
+}
+
+/// The fields of struct 0.
+fn fields_0() -> VariantId {
+    VariantId::StructId(StructId::from_raw(0))
+}
+
+#[test]
+fn absent_fields_are_named(rt: HostRuntime) -> Result<(), Fail> {
+    let holds = with::empty(
+        rt.alloc(),
+        |tables| lacks_fields(tables, fields_0(), Missing::Fields(fields_0())),
+    );
+    assert!(&rt; holds);
+    Ok(())
+}
+
+/// The name of function 0.
+fn name_0() -> NamedDef {
+    NamedDef::FunctionId(FunctionId::from_raw(0))
+}
+
+#[test]
+fn an_absent_name_is_named(rt: HostRuntime) -> Result<(), Fail> {
+    let holds = with::empty(
+        rt.alloc(),
+        |tables| lacks_name(tables, name_0(), Missing::Name(name_0()))
+            && lacks_parent(tables, EnumVariantId::from_raw(2)),
+    );
+    assert!(&rt; holds);
+    Ok(())
+}
+
+/// That the signature of this enum is missing.
+fn no_enum(id: EnumId) -> Missing {
+    Missing::Signature(GenericDefId::AdtId(AdtId::EnumId(id)))
+}
+
+#[test]
+fn absent_signatures_are_named(rt: HostRuntime) -> Result<(), Fail> {
+    let id = EnumId::from_raw(5);
+    let holds = with::empty(
+        rt.alloc(),
+        |tables| lacks_function(tables, FunctionId::from_raw(0))
+            && lacks_plain(tables, PlainDef::Enum(id), no_enum(id)),
+    );
+    assert!(&rt; holds);
+    Ok(())
+}
+
+#[test]
+fn no_raw_words_were_given(rt: HostRuntime) -> Result<(), Fail> {
+    let holds = with::empty(
+        rt.alloc(),
+        |tables| tables.raw_words(Edition::Edition2021).len() == 0,
+    );
+    assert!(&rt; holds);
+    Ok(())
+}
+
+/// Whether the signature is the one that was made.
+fn is_plain(tables: &Tables, def: PlainDef) -> bool {
+    match tables.plain_signature(def) {
+        Ok(found) => {
+            found.generic_params().len() == 1 && found.store().has_type(Idx::from_raw(1))
+        }
+        Err(_) => false,
+    }
+}
+
+#[test]
+fn an_enum_in_the_tables(rt: HostRuntime) -> Result<(), Fail> {
+    let holds = with::filled(
+        rt.alloc(),
+        |tables| is_plain(tables, PlainDef::Enum(EnumId::from_raw(3)))
+            && !is_plain(tables, PlainDef::Union(UnionId::from_raw(5))),
+    )?;
+    assert!(&rt; holds);
+    Ok(())
+}
+
+/// Whether the body's root is expression 0.
+fn has_root_0(tables: &Tables, def: DefWithBodyId) -> bool {
+    match Body::of(tables, def) {
+        Ok(found) => found.root_expr() == Idx::from_raw(0),
+        Err(_) => false,
+    }
+}
+
+/// Whether that is so with its source map, which knows where `self` is written.
+fn has_root_and_self(tables: &Tables, def: DefWithBodyId) -> bool {
+    match Body::with_source_map(tables, def) {
+        Ok((found, map)) => { found.root_expr() == Idx::from_raw(0) && bodies::answers_self(map) }
+        Err(_) => false,
+    }
+}
+
+#[test]
+fn a_body_in_the_tables(rt: HostRuntime) -> Result<(), Fail> {
+    let holds = with::filled(
+        rt.alloc(),
+        |tables| has_root_0(tables, made::def_1()) && has_root_and_self(tables, made::def_1()),
+    )?;
+    assert!(&rt; holds);
+    Ok(())
+}

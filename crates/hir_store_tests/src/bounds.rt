@@ -1,0 +1,76 @@
+//! What a bound names.
+use crate::{again, build, made};
+use hir_base::Idx;
+use hir_node::{PathId, TraitBoundModifier, TypeBound, TypeRef};
+use hir_store::{ExpressionStore, ExpressionStoreBuilder, TypeBoundExt};
+use std::alloc::Global;
+use std::test::Fail;
+
+/// Adds the types `a` and `!`.
+fn add_path_and_never(builder: &mut ExpressionStoreBuilder, alloc: Global) -> Result<(), Fail> {
+    build::add_path_type(builder, alloc)?;
+    again::type_ref(builder, TypeRef::Never)?;
+    Ok(())
+}
+
+/// The type of this number, named as a path.
+fn named(number: u32) -> PathId {
+    PathId::from_type_ref_unchecked(Idx::from_raw(number))
+}
+
+/// The bound by that path.
+fn bound(number: u32) -> TypeBound {
+    TypeBound::Path(named(number), TraitBoundModifier::Maybe)
+}
+
+#[test]
+fn bounds_name_types_that_are_there(rt: HostRuntime) -> Result<(), Fail> {
+    let a = rt.alloc();
+    let holds = made::stored(
+        a,
+        |builder| add_path_and_never(builder, a),
+        |store| store.has_bound(&bound(1)) && !store.has_bound(&bound(2)),
+    )?;
+    assert!(&rt; holds);
+    Ok(())
+}
+
+#[test]
+fn bounds_name_paths(rt: HostRuntime) -> Result<(), Fail> {
+    let a = rt.alloc();
+    let holds = made::stored(
+        a,
+        |builder| add_path_and_never(builder, a),
+        |store| store.bound_names_path(&bound(0)) && !store.bound_names_path(&bound(1)),
+    )?;
+    assert!(&rt; holds);
+    Ok(())
+}
+
+/// Whether the bound by this path is the path that the store has there, and may be absent.
+fn is_its_path(store: &ExpressionStore, id: PathId) -> bool {
+    if !store.has_path(id) {
+        return false;
+    }
+    let bound = TypeBound::Path(id, TraitBoundModifier::Maybe);
+    match bound.as_path(store) {
+        Some((path, modifier)) => modifier == TraitBoundModifier::Maybe && *path == store[id],
+        None => false,
+    }
+}
+
+#[test]
+fn the_path_of_a_bound(rt: HostRuntime) -> Result<(), Fail> {
+    let a = rt.alloc();
+    let holds = made::stored(
+        a,
+        |builder| add_path_and_never(builder, a),
+        |store| {
+            is_its_path(store, named(0))
+                && !is_its_path(store, named(1))
+                && TypeBound::Error.as_path(store).is_none()
+        },
+    )?;
+    assert!(&rt; holds);
+    Ok(())
+}
