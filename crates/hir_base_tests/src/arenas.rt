@@ -2,6 +2,7 @@
 //! Where memory is refused, what was handed back and what was left are compared, and the call is made again.
 use crate::again;
 use hir_base::{Arena, ArenaFault, ExactEq, Idx, laws};
+use std::alloc::{AllocError, Global};
 use std::cmp::Ordering;
 use std::iter::ExactSizeIterator;
 use std::process::Abort;
@@ -9,99 +10,158 @@ use std::test::Fail;
 
 enum Kind {}
 
+// Whether memory was refused, and this item handed back.
+fn is_back(fault: ArenaFault, back: u32, item: u32) -> bool {
+    fault == ArenaFault::Memory && back == item
+}
+
+fn alloc_again(arena: &mut Arena<Kind, u32>, item: u32) -> Result<Idx<Kind>, ArenaFault> {
+    match arena.alloc(item) {
+        Ok(id) => Ok(id),
+        Err((fault, _)) => Err(fault),
+    }
+}
+
 fn alloc_twice(
     rt: &impl Abort,
     arena: &mut Arena<Kind, u32>,
     item: u32,
-) -> Result<Idx<Kind>, Fail> {
+) -> Result<Idx<Kind>, ArenaFault> {
     let before = arena.len();
     match arena.alloc(item) {
         Ok(id) => Ok(id),
         Err((fault, back)) => {
-            assert_eq!(rt; fault, ArenaFault::Memory);
-            assert_eq!(rt; back, item);
-            assert_eq!(rt; arena.len(), before);
-            match arena.alloc(back) {
-                Ok(id) => Ok(id),
-                Err((fault, _)) => Err(fault)?,
-            }
+            assert!(rt; is_back(fault, back, item));
+            assert!(rt; arena.len() == before);
+            alloc_again(arena, back)
         }
     }
+}
+
+// An arena of the numbers below 20, each of which is its own id.
+fn twenty(rt: &impl Abort, alloc: Global) -> Result<Arena<Kind, u32>, ArenaFault> {
+    let mut arena = Arena::new(alloc);
+    for item in 0..20u32 {
+        let id = alloc_twice(rt, &mut arena, item)?;
+        assert!(rt; id.into_raw() == item);
+    }
+    Ok(arena)
+}
+
+fn has_twenty(arena: &Arena<Kind, u32>) -> bool {
+    !arena.is_empty()
+        && arena.as_slice().len() == 20
+        && arena.has(Idx::from_raw(3))
+        && !arena.has(Idx::from_raw(20))
 }
 
 #[test]
 fn items_are_numbered(rt: HostRuntime) -> Result<(), Fail> {
-    let mut arena = Arena::new(rt.alloc());
-    assert!(rt; arena.is_empty());
-    for item in 0..20u32 {
-        let id = alloc_twice(&rt, &mut arena, item)?;
-        assert_eq!(rt; id.into_raw(), item);
-    }
-    assert!(rt; !arena.is_empty());
-    assert_eq!(rt; arena.as_slice().len(), 20);
-    let copy = again::copy(&arena)?;
-    assert!(rt; copy.is_same(&arena));
-
-    let third = Idx::from_raw(3);
-    assert!(rt; arena.has(third));
-    assert!(rt; !arena.has(Idx::from_raw(20)));
-    if arena.has(third) {
-        assert_eq!(rt; arena[third], 3);
-        arena[third] = 300;
-        assert_eq!(rt; arena[third], 300);
-    }
-    assert!(rt; !copy.is_same(&arena));
-    assert!(rt; copy != arena);
+    let arena = twenty(&rt, rt.alloc())?;
+    assert!(rt; has_twenty(&arena));
     Ok(())
+}
+
+#[test]
+fn a_new_arena_has_no_items(rt: HostRuntime) {
+    let arena: Arena<Kind, u32> = Arena::new(rt.alloc());
+    assert!(rt; arena.is_empty());
+}
+
+// Whether item 3 is 3, and then 300, which is written there.
+fn changes(arena: &mut Arena<Kind, u32>) -> bool {
+    let third = Idx::from_raw(3);
+    if !arena.has(third) || arena[third] != 3 {
+        return false;
+    }
+    arena[third] = 300;
+    arena[third] == 300
+}
+
+// Whether a copy is the same, until an item of the arena changes.
+fn leaves_its_copy(arena: &mut Arena<Kind, u32>) -> Result<bool, AllocError> {
+    let copy = again::copy(arena)?;
+    let was_same = copy.is_same(arena);
+    let changed = changes(arena);
+    Ok(was_same && changed && !copy.is_same(arena) && copy != *arena)
+}
+
+#[test]
+fn a_change_is_not_that_of_the_copy(rt: HostRuntime) -> Result<(), Fail> {
+    let mut arena = twenty(&rt, rt.alloc())?;
+    let holds = leaves_its_copy(&mut arena)?;
+    assert!(rt; holds);
+    Ok(())
+}
+
+// Whether the id and the item are this number.
+fn is_numbered(id: Idx<Kind>, item: u32, number: u32) -> bool {
+    id.into_raw() == number && item == number
+}
+
+// Whether the ids and the items come in turn from the front and from the back, and ten from each.
+fn meet(arena: &Arena<Kind, u32>) -> bool {
+    let mut items = arena.iter();
+    let mut holds = items.len() == 20;
+    let mut front = 0u32;
+    let mut back = 20u32;
+    while let Some((id, item)) = items.next() {
+        holds = holds && is_numbered(id, *item, front);
+        front = front.wrapping_add(1);
+        if let Some((id, item)) = items.next_back() {
+            back = back.wrapping_sub(1);
+            holds = holds && is_numbered(id, *item, back);
+        }
+    }
+    holds && front == 10 && back == 10 && items.size_hint() == (0, Some(0))
 }
 
 #[test]
 fn ids_and_items_come_from_both_ends(rt: HostRuntime) -> Result<(), Fail> {
-    let mut arena = Arena::new(rt.alloc());
-    for item in 0..20u32 {
-        alloc_twice(&rt, &mut arena, item)?;
-    }
-    let mut items = arena.iter();
-    assert_eq!(rt; items.len(), 20);
-    let mut front = 0u32;
-    let mut back = 20u32;
-    while let Some((id, item)) = items.next() {
-        assert_eq!(rt; (id.into_raw(), *item), (front, front));
-        front = front.wrapping_add(1);
-        if let Some((id, item)) = items.next_back() {
-            back = back.wrapping_sub(1);
-            assert_eq!(rt; (id.into_raw(), *item), (back, back));
-        }
-    }
-    assert_eq!(rt; (front, back), (10, 10));
-    assert_eq!(rt; items.size_hint(), (0, Some(0)));
+    let arena = twenty(&rt, rt.alloc())?;
+    assert!(rt; meet(&arena));
     Ok(())
+}
+
+fn is_before(small: Idx<Kind>, large: Idx<Kind>) -> bool {
+    small.cmp(&large) == Ordering::Less
+        && large.partial_cmp(&small) == Some(Ordering::Greater)
+        && small != large
+}
+
+#[test]
+fn ids_are_ordered_as_their_numbers(rt: HostRuntime) {
+    laws::idx_order_is_that_of_numbers::<Kind>();
+    laws::idx_order_agrees_with_eq_and_hash::<Kind>();
+    assert!(rt; is_before(Idx::from_raw(1), Idx::from_raw(4294967295)));
 }
 
 #[test]
 fn ids_are_their_numbers(rt: HostRuntime) -> Result<(), Fail> {
-    laws::idx_order_is_that_of_numbers::<Kind>();
-    laws::idx_order_agrees_with_eq_and_hash::<Kind>();
     let small: Idx<Kind> = Idx::from_raw(1);
+    let holds = again::copies(&small)?;
+    assert!(rt; holds);
     let large: Idx<Kind> = Idx::from_raw(4294967295);
-    assert_eq!(rt; small.cmp(&large), Ordering::Less);
-    assert_eq!(rt; large.partial_cmp(&small), Some(Ordering::Greater));
-    assert!(rt; small.is_same(&again::copy(&small)?));
-    assert!(rt; small != large);
-    assert_eq!(rt; large.into_raw(), 4294967295);
+    assert!(rt; large.into_raw() == 4294967295);
     let first: Idx<Kind> = Default::default();
-    assert_eq!(rt; first.into_raw(), 0);
+    assert!(rt; first.into_raw() == 0);
     Ok(())
+}
+
+// Whether this is the text of the fault.
+fn is_named(alloc: Global, fault: ArenaFault, text: &str) -> Result<bool, AllocError> {
+    let shown = match format!(in alloc; "{fault}") {
+        Ok(shown) => shown,
+        Err(_) => format!(in alloc; "{fault}")?,
+    };
+    Ok(shown.as_str() == text)
 }
 
 #[test]
 fn faults_are_named(rt: HostRuntime) -> Result<(), Fail> {
     for (fault, text) in [(ArenaFault::Memory, "Memory"), (ArenaFault::Full, "Full")] {
-        let shown = match format!(in rt.alloc(); "{fault}") {
-            Ok(shown) => shown,
-            Err(_) => format!(in rt.alloc(); "{fault}")?,
-        };
-        assert_eq!(rt; shown.as_str(), text);
+        let holds = is_named(rt.alloc(), fault, text)?;
+        assert!(rt; holds);
     }
     Ok(())
 }

@@ -2,69 +2,135 @@
 //! Where memory is refused, what was handed back and what was left are compared, and the call is made again.
 use crate::again;
 use hir_base::{ExactEq, Name, Seq, Text};
+use std::alloc::{AllocError, Global};
 use std::process::Abort;
 use std::test::Fail;
 
-fn push_twice(rt: &impl Abort, seq: &mut Seq<u32>, item: u32) -> Result<(), Fail> {
+fn push_twice(rt: &impl Abort, seq: &mut Seq<u32>, item: u32) -> Result<(), AllocError> {
     let before = seq.len();
-    if let Err(failed) = seq.push(item) {
-        assert_eq!(rt; failed.value, item);
-        assert_eq!(rt; seq.len(), before);
-        if let Err(failed) = seq.push(failed.value) {
-            Err(failed)?;
+    match seq.push(item) {
+        Ok(()) => Ok(()),
+        Err(failed) => {
+            assert!(rt; failed.value == item);
+            assert!(rt; seq.len() == before);
+            Ok(seq.push(failed.value)?)
         }
     }
-    Ok(())
+}
+
+fn with_room(alloc: Global) -> Result<Seq<u32>, AllocError> {
+    match Seq::with_capacity(alloc, 2) {
+        Ok(seq) => Ok(seq),
+        Err(_) => Seq::with_capacity(alloc, 2),
+    }
+}
+
+// The list 7, 8, 9, which was empty first.
+fn three(rt: &impl Abort, alloc: Global) -> Result<Seq<u32>, AllocError> {
+    let mut seq = with_room(alloc)?;
+    assert!(rt; seq.is_empty());
+    for item in [7, 8, 9] {
+        push_twice(rt, &mut seq, item)?;
+    }
+    Ok(seq)
+}
+
+fn has_three(seq: &Seq<u32>) -> bool {
+    seq.as_slice() == [7, 8, 9].as_slice()
+        && seq.get(1).copied() == Some(8)
+        && seq.get(3).copied() == None
+        && seq.iter().rev().next().copied() == Some(9)
 }
 
 #[test]
 fn a_list_keeps_its_items(rt: HostRuntime) -> Result<(), Fail> {
-    let mut seq = match Seq::with_capacity(rt.alloc(), 2) {
-        Ok(seq) => seq,
-        Err(_) => Seq::with_capacity(rt.alloc(), 2)?,
-    };
-    assert!(rt; seq.is_empty());
-    for item in [7, 8, 9] {
-        push_twice(&rt, &mut seq, item)?;
-    }
-    assert_eq!(rt; seq.as_slice(), [7, 8, 9].as_slice());
-    assert_eq!(rt; seq.get(1).copied(), Some(8));
-    assert_eq!(rt; seq.get(3).copied(), None);
-    assert_eq!(rt; seq.iter().rev().next().copied(), Some(9));
-    let copy = again::copy(&seq)?;
-    assert!(rt; copy.is_same(&seq));
-    if seq.len() == 3 {
-        seq[1] = 80;
-        assert_eq!(rt; seq[1], 80);
-    }
-    assert!(rt; !copy.is_same(&seq));
-
-    let items = seq.into_vec();
-    assert_eq!(rt; items.as_slice(), [7, 80, 9].as_slice());
-    let seq = Seq::from_vec(items);
-    assert_eq!(rt; seq.len(), 3);
-    let none: Seq<Name> = Seq::new(rt.alloc());
-    assert_eq!(rt; none.len(), 0);
+    let seq = three(&rt, rt.alloc())?;
+    assert!(rt; has_three(&seq));
     Ok(())
+}
+
+#[test]
+fn a_new_list_has_no_items(rt: HostRuntime) {
+    let none: Seq<Name> = Seq::new(rt.alloc());
+    assert!(rt; none.len() == 0);
+}
+
+// Whether the second of three items is 80, which is written there.
+fn changes(seq: &mut Seq<u32>) -> bool {
+    if seq.len() != 3 {
+        return false;
+    }
+    seq[1] = 80;
+    seq[1] == 80
+}
+
+// Whether a copy is the same, until an item of the list changes.
+fn leaves_its_copy(seq: &mut Seq<u32>) -> Result<bool, AllocError> {
+    let copy = again::copy(seq)?;
+    let was_same = copy.is_same(seq);
+    let changed = changes(seq);
+    Ok(was_same && changed && !copy.is_same(seq))
+}
+
+// Whether the list's vector has the items 7, 80 and 9, and a list of that vector is as long.
+fn comes_back(seq: Seq<u32>) -> bool {
+    let items = seq.into_vec();
+    let holds = items.as_slice() == [7, 80, 9].as_slice();
+    let seq = Seq::from_vec(items);
+    holds && seq.len() == 3
+}
+
+#[test]
+fn a_list_is_changed_and_taken_apart(rt: HostRuntime) -> Result<(), Fail> {
+    let mut seq = three(&rt, rt.alloc())?;
+    let holds = leaves_its_copy(&mut seq)?;
+    assert!(rt; holds);
+    assert!(rt; comes_back(seq));
+    Ok(())
+}
+
+fn missing(alloc: Global) -> Result<Name, AllocError> {
+    match Name::missing(alloc) {
+        Ok(name) => Ok(name),
+        Err(_) => Name::missing(alloc),
+    }
 }
 
 #[test]
 fn a_name_is_its_text(rt: HostRuntime) -> Result<(), Fail> {
     let name = again::name(rt.alloc(), "größe")?;
-    assert_eq!(rt; name.as_str(), "größe");
-    let copy = again::copy(&name)?;
-    assert!(rt; copy.is_same(&name));
-    let missing = match Name::missing(rt.alloc()) {
-        Ok(name) => name,
-        Err(_) => Name::missing(rt.alloc())?,
-    };
-    assert_eq!(rt; missing.as_str(), "[missing name]");
-    assert!(rt; !missing.is_same(&name));
+    assert!(rt; name.as_str() == "größe");
+    let holds = again::copies(&name)?;
+    assert!(rt; holds);
+    Ok(())
+}
 
-    let text = again::text(rt.alloc(), "größe")?;
-    assert_eq!(rt; text.as_str(), "größe");
+// Whether the name is that of what is missing, and not the other one.
+fn is_missing(name: &Name, other: &Name) -> bool {
+    name.as_str() == "[missing name]" && !name.is_same(other)
+}
+
+#[test]
+fn a_missing_name_has_a_text(rt: HostRuntime) -> Result<(), Fail> {
+    let missing = missing(rt.alloc())?;
+    let other = again::name(rt.alloc(), "größe")?;
+    assert!(rt; is_missing(&missing, &other));
+    Ok(())
+}
+
+// Whether the text is that of the name, also where it is made again of its string, and makes the name.
+fn becomes(text: Text, wanted: &Name) -> bool {
+    let reads = text.as_str() == wanted.as_str();
     let text = Text::from_string(text.into_string());
-    assert_eq!(rt; text.as_str(), "größe");
-    assert!(rt; Name::from_text(text) == name);
+    let reads_again = text.as_str() == wanted.as_str();
+    let name = Name::from_text(text);
+    reads && reads_again && name == *wanted
+}
+
+#[test]
+fn a_text_becomes_a_name(rt: HostRuntime) -> Result<(), Fail> {
+    let name = again::name(rt.alloc(), "größe")?;
+    let text = again::text(rt.alloc(), "größe")?;
+    assert!(rt; becomes(text, &name));
     Ok(())
 }

@@ -5,35 +5,45 @@ use hir_base::{
     ArenaMap, AstPtr, DefWithBodyId, ExactEq, ExprSource, FunctionId, HirFileId, Idx, InFile,
     Keyed, NamedDef, StaticId, StructId, SyntaxNodePtr, Table, TextRange, UnionId, VariantId,
 };
-use std::alloc::Global;
+use std::alloc::{AllocError, Global};
 use std::process::Abort;
 use std::test::Fail;
 
 enum Kind {}
+
+fn value_at(map: &ArenaMap<Kind, u32>, id: u32) -> Option<u32> {
+    map.get(Idx::from_raw(id)).copied()
+}
 
 fn insert_twice(
     rt: &impl Abort,
     map: &mut ArenaMap<Kind, u32>,
     id: u32,
     value: u32,
-) -> Result<Option<u32>, Fail> {
-    let id = Idx::from_raw(id);
-    match map.insert(id, value) {
+) -> Result<Option<u32>, AllocError> {
+    match map.insert(Idx::from_raw(id), value) {
         Ok(old) => Ok(old),
         Err(failed) => {
-            assert_eq!(rt; failed.value, value);
-            assert_eq!(rt; map.get(id).copied(), None);
-            Ok(map.insert(id, failed.value)?)
+            assert!(rt; failed.value == value);
+            assert!(rt; value_at(map, id) == None);
+            Ok(map.insert(Idx::from_raw(id), failed.value)?)
         }
     }
 }
 
+// A map that was given values at 7, 2, 7 again and 0.
+fn given(rt: &impl Abort, alloc: Global) -> Result<ArenaMap<Kind, u32>, AllocError> {
+    let mut map = ArenaMap::new(alloc);
+    for (id, value, wanted) in [(7, 1, None), (2, 2, None), (7, 3, Some(1)), (0, 4, None)] {
+        let old = insert_twice(rt, &mut map, id, value)?;
+        assert!(rt; old == wanted, "at {id}");
+    }
+    Ok(map)
+}
+
 #[test]
 fn a_map_keeps_the_last_value(rt: HostRuntime) -> Result<(), Fail> {
-    let mut map = ArenaMap::new(rt.alloc());
-    for (id, value, old) in [(7, 1, None), (2, 2, None), (7, 3, Some(1)), (0, 4, None)] {
-        assert_eq!(rt; insert_twice(&rt, &mut map, id, value)?, old);
-    }
+    let map = given(&rt, rt.alloc())?;
     for (id, value) in [
         (0, Some(4)),
         (1, None),
@@ -41,36 +51,72 @@ fn a_map_keeps_the_last_value(rt: HostRuntime) -> Result<(), Fail> {
         (7, Some(3)),
         (8, None),
     ] {
-        assert_eq!(rt; map.get(Idx::from_raw(id)).copied(), value, "at {id}");
+        assert!(rt; value_at(&map, id) == value, "at {id}");
     }
-    let wanted = [(0, 4), (2, 2), (7, 3)];
+    Ok(())
+}
+
+// Whether these are the entries of the map, in their order.
+fn has_entries(map: &ArenaMap<Kind, u32>, wanted: &[(u32, u32)]) -> bool {
+    let mut holds = true;
     let mut count = 0usize;
     for (id, value) in map.iter() {
-        assert_eq!(rt; wanted.get(count).copied(), Some((id.into_raw(), *value)));
+        holds = holds && wanted.get(count).copied() == Some((id.into_raw(), *value));
         count = count.wrapping_add(1);
     }
-    assert_eq!(rt; count, 3);
+    holds && count == wanted.len()
+}
+
+#[test]
+fn the_entries_of_a_map_rise(rt: HostRuntime) -> Result<(), Fail> {
+    let map = given(&rt, rt.alloc())?;
+    assert!(rt; has_entries(&map, &[(0, 4), (2, 2), (7, 3)]));
+    Ok(())
+}
+
+fn with_room(alloc: Global) -> Result<ArenaMap<Kind, u32>, AllocError> {
+    match ArenaMap::with_capacity(alloc, 8) {
+        Ok(map) => Ok(map),
+        Err(_) => ArenaMap::with_capacity(alloc, 8),
+    }
+}
+
+// The map of 1 and 5 to themselves.
+fn one_and_five(rt: &impl Abort, alloc: Global) -> Result<ArenaMap<Kind, u32>, AllocError> {
+    let mut map = with_room(alloc)?;
+    for id in [1, 5] {
+        insert_twice(rt, &mut map, id, id)?;
+    }
+    Ok(map)
+}
+
+// Gives the map 5 and 1, and leaves it the same as the other, which it was not before.
+fn becomes(
+    rt: &impl Abort,
+    map: &mut ArenaMap<Kind, u32>,
+    other: &ArenaMap<Kind, u32>,
+) -> Result<(), AllocError> {
+    for id in [5, 1] {
+        assert!(rt; !map.is_same(other));
+        insert_twice(rt, map, id, id)?;
+    }
+    assert!(rt; map.is_same(other));
     Ok(())
 }
 
 #[test]
 fn maps_are_equal_as_maps(rt: HostRuntime) -> Result<(), Fail> {
-    let mut made: ArenaMap<Kind, u32> = match ArenaMap::with_capacity(rt.alloc(), 8) {
-        Ok(map) => map,
-        Err(_) => ArenaMap::with_capacity(rt.alloc(), 8)?,
-    };
+    let made = one_and_five(&rt, rt.alloc())?;
     let mut other = ArenaMap::new(rt.alloc());
-    for id in [1, 5] {
-        insert_twice(&rt, &mut made, id, id)?;
-    }
-    for id in [5, 1] {
-        assert!(rt; !other.is_same(&made));
-        insert_twice(&rt, &mut other, id, id)?;
-    }
-    assert!(rt; other.is_same(&made));
+    becomes(&rt, &mut other, &made)?;
     insert_twice(&rt, &mut other, 5, 6)?;
     assert!(rt; other != made);
     Ok(())
+}
+
+// Whether the key and the value were handed back, and the table has no value for the key.
+fn is_back(back: (NamedDef, u32), key: NamedDef, value: u32, table: &Table<NamedDef, u32>) -> bool {
+    back == (key, value) && table.get(&key).copied() == None
 }
 
 fn put_twice(
@@ -78,70 +124,107 @@ fn put_twice(
     table: &mut Table<NamedDef, u32>,
     key: NamedDef,
     value: u32,
-) -> Result<Option<u32>, Fail> {
+) -> Result<Option<u32>, AllocError> {
     match table.insert(key, value) {
         Ok(old) => Ok(old),
         Err(failed) => {
-            assert_eq!(rt; failed.value, (key, value));
-            assert_eq!(rt; table.get(&key).copied(), None);
+            assert!(rt; is_back(failed.value, key, value, table));
             Ok(table.insert(key, value)?)
         }
     }
 }
 
-#[test]
-fn a_table_tells_its_keys_apart(rt: HostRuntime) -> Result<(), Fail> {
-    let function = NamedDef::FunctionId(FunctionId::from_raw(4000000000));
-    let structure = NamedDef::StructId(StructId::from_raw(4000000000));
-    let mut table = Table::new(rt.alloc());
-    let mut other = Table::new(rt.alloc());
-    for (key, value, old) in [
-        (function, 1, None),
-        (structure, 2, None),
-        (function, 3, Some(1)),
+fn function() -> NamedDef {
+    NamedDef::FunctionId(FunctionId::from_raw(4000000000))
+}
+
+fn structure() -> NamedDef {
+    NamedDef::StructId(StructId::from_raw(4000000000))
+}
+
+// A table of the two, in which the function's value was 1 before.
+fn both(rt: &impl Abort, alloc: Global) -> Result<Table<NamedDef, u32>, AllocError> {
+    let mut table = Table::new(alloc);
+    for (key, value, wanted) in [
+        (function(), 1, None),
+        (structure(), 2, None),
+        (function(), 3, Some(1)),
     ] {
-        assert_eq!(rt; put_twice(&rt, &mut table, key, value)?, old);
+        let old = put_twice(rt, &mut table, key, value)?;
+        assert!(rt; old == wanted);
     }
-    assert_eq!(rt; table.get(&function).copied(), Some(3));
-    assert_eq!(rt; table.get(&structure).copied(), Some(2));
-    assert_eq!(rt;
-        table
-            .get(&NamedDef::StructId(StructId::from_raw(0)))
-            .copied(),
-        None
-    );
+    Ok(table)
+}
+
+fn has_both(table: &Table<NamedDef, u32>) -> bool {
+    let neither = NamedDef::StructId(StructId::from_raw(0));
+    table.get(&function()).copied() == Some(3)
+        && table.get(&structure()).copied() == Some(2)
+        && table.get(&neither).copied() == None
+}
+
+// Whether the entries are those of the two, with 5 as the sum of their values.
+fn lists_both(table: &Table<NamedDef, u32>) -> bool {
+    let mut holds = true;
     let mut sum = 0u32;
     for (key, value) in table.iter() {
-        assert!(rt; *key == function || *key == structure);
+        holds = holds && (*key == function() || *key == structure());
         sum = sum.wrapping_add(*value);
     }
-    assert_eq!(rt; sum, 5);
+    holds && sum == 5
+}
 
-    for (key, value) in [(structure, 2), (function, 3)] {
-        assert!(rt; !other.is_same(&table));
-        put_twice(&rt, &mut other, key, value)?;
-    }
-    assert!(rt; other == table);
-    assert!(rt; again::copy(&table)?.is_same(&table));
+#[test]
+fn a_table_tells_its_keys_apart(rt: HostRuntime) -> Result<(), Fail> {
+    let table = both(&rt, rt.alloc())?;
+    assert!(rt; has_both(&table));
+    assert!(rt; lists_both(&table));
     Ok(())
 }
 
-// A table that has one key and not another.
-fn only<K: Keyed + Drop>(
+// Gives the table both keys, and leaves it the same as the other, which it was not before.
+fn fills(
     rt: &impl Abort,
+    table: &mut Table<NamedDef, u32>,
+    other: &Table<NamedDef, u32>,
+) -> Result<(), AllocError> {
+    for (key, value) in [(structure(), 2), (function(), 3)] {
+        assert!(rt; !table.is_same(other));
+        put_twice(rt, table, key, value)?;
+    }
+    assert!(rt; *table == *other);
+    Ok(())
+}
+
+#[test]
+fn tables_are_equal_as_maps(rt: HostRuntime) -> Result<(), Fail> {
+    let table = both(&rt, rt.alloc())?;
+    let mut other = Table::new(rt.alloc());
+    fills(&rt, &mut other, &table)?;
+    Ok(())
+}
+
+#[test]
+fn a_copy_of_a_table_is_the_same(rt: HostRuntime) -> Result<(), Fail> {
+    let table = both(&rt, rt.alloc())?;
+    let holds = again::copies(&table)?;
+    assert!(rt; holds);
+    Ok(())
+}
+
+// Whether a table that is given this key, with the value true, has it and not the other key.
+fn has_only<K: Keyed + Drop>(
     alloc: Global,
     key: K,
     same: &K,
     other: &K,
-) -> Result<(), Fail> {
+) -> Result<bool, AllocError> {
     let mut table = Table::new(alloc);
     if let Err(failed) = table.insert(key, true) {
         let (key, value) = failed.value;
         table.insert(key, value)?;
     }
-    assert_eq!(rt; table.get(same).copied(), Some(true));
-    assert_eq!(rt; table.get(other).copied(), None);
-    Ok(())
+    Ok(table.get(same).copied() == Some(true) && table.get(other).copied() == None)
 }
 
 fn source(file: u32) -> ExprSource {
@@ -156,25 +239,16 @@ fn source(file: u32) -> ExprSource {
 fn every_key_of_ours_serves(rt: HostRuntime) -> Result<(), Fail> {
     let alloc = rt.alloc();
     let id: Idx<Kind> = Idx::from_raw(3);
-    only(&rt, alloc, id, &id, &Idx::from_raw(4))?;
+    let ids = has_only(alloc, id, &id, &Idx::from_raw(4))?;
     let function = FunctionId::from_raw(3);
-    only(&rt, alloc, function, &function, &FunctionId::from_raw(4))?;
-    only(&rt, alloc, source(1), &source(1), &source(2))?;
+    let functions = has_only(alloc, function, &function, &FunctionId::from_raw(4))?;
+    let sources = has_only(alloc, source(1), &source(1), &source(2))?;
     let body = DefWithBodyId::FunctionId(function);
-    only(
-        &rt,
-        alloc,
-        body,
-        &body,
-        &DefWithBodyId::StaticId(StaticId::from_raw(3)),
-    )?;
-    let fields = VariantId::StructId(StructId::from_raw(3));
-    only(
-        &rt,
-        alloc,
-        fields,
-        &fields,
-        &VariantId::UnionId(UnionId::from_raw(3)),
-    )?;
+    let constant = DefWithBodyId::StaticId(StaticId::from_raw(3));
+    let bodies = has_only(alloc, body, &body, &constant)?;
+    let structure = VariantId::StructId(StructId::from_raw(3));
+    let union = VariantId::UnionId(UnionId::from_raw(3));
+    let fields = has_only(alloc, structure, &structure, &union)?;
+    assert!(rt; ids && functions && sources && bodies && fields);
     Ok(())
 }

@@ -8,7 +8,7 @@ use hir_base::{
     LabelPtr, ModPath, Name, PathKind, RawWords, Seq, StructId, SyntaxContext, SyntaxNodePtr, Text,
     TextRange, TryClone, TypeOrConstParamId, TypeParamId, VariantId, ast, laws,
 };
-use std::alloc::Global;
+use std::alloc::{AllocError, Global};
 use std::cmp::Ordering;
 use std::test::Fail;
 
@@ -29,26 +29,37 @@ fn parentheses_go_by_precedence(rt: HostRuntime) {
             false,
         ),
     ] {
-        assert_eq!(rt;
-            child.needs_parentheses_in(parent),
-            answer,
+        assert!(rt;
+            child.needs_parentheses_in(parent) == answer,
             "{child:?} in {parent:?}"
         );
     }
 }
 
+// Whether the hygiene is that of source text, of whatever edition.
+fn is_that_of_source(hygiene: HygieneId) -> bool {
+    hygiene == HygieneId::ROOT
+        && hygiene.is_root()
+        && hygiene.syntax_context() == SyntaxContext::Root(Edition::Edition2015)
+}
+
 #[test]
 fn all_source_text_has_one_hygiene(rt: HostRuntime) {
     let source = HygieneId::new(SyntaxContext::Root(Edition::Edition2021));
-    assert_eq!(rt; source, HygieneId::ROOT);
-    assert!(rt; source.is_root());
-    assert_eq!(rt;
-        source.syntax_context(),
-        SyntaxContext::Root(Edition::Edition2015)
-    );
+    assert!(rt; is_that_of_source(source));
+}
+
+#[test]
+fn an_expansion_has_its_own_hygiene(rt: HostRuntime) {
     let expansion = HygieneId::new(SyntaxContext::Expansion(7));
     assert!(rt; !expansion.is_root());
-    assert_eq!(rt; expansion.syntax_context(), SyntaxContext::Expansion(7));
+    assert!(rt; expansion.syntax_context() == SyntaxContext::Expansion(7));
+}
+
+// Whether the calling convention and its copy have this text.
+fn is_written(abi: &ExternAbi, text: &str) -> Result<bool, AllocError> {
+    let copies = again::copies(abi)?;
+    Ok(copies && abi.as_str() == text)
 }
 
 #[test]
@@ -59,93 +70,130 @@ fn calling_conventions_have_texts(rt: HostRuntime) -> Result<(), Fail> {
         (ExternAbi::CUnwind, "C-unwind"),
         (ExternAbi::System, "system"),
         (ExternAbi::SystemUnwind, "system-unwind"),
-        (
-            ExternAbi::Named(again::text(rt.alloc(), "efiapi")?),
-            "efiapi",
-        ),
     ] {
-        assert_eq!(rt; abi.as_str(), text);
-        assert!(rt; again::copy(&abi)?.is_same(&abi));
+        let holds = is_written(&abi, text)?;
+        assert!(rt; holds, "{text}");
     }
     Ok(())
 }
 
-fn path(alloc: Global, kind: PathKind, names: &[&str]) -> Result<ModPath, Fail> {
+#[test]
+fn other_calling_conventions_have_their_names(rt: HostRuntime) -> Result<(), Fail> {
+    let abi = ExternAbi::Named(again::text(rt.alloc(), "efiapi")?);
+    let holds = is_written(&abi, "efiapi")?;
+    assert!(rt; holds);
+    Ok(())
+}
+
+fn add_name(list: &mut Seq<Name>, alloc: Global, text: &str) -> Result<(), AllocError> {
+    let name = again::name(alloc, text)?;
+    again::push(list, name)
+}
+
+fn path(alloc: Global, kind: PathKind, names: &[&str]) -> Result<ModPath, AllocError> {
     let mut segments = Seq::new(alloc);
     for name in names {
-        again::push(&mut segments, again::name(alloc, name)?)?;
+        add_name(&mut segments, alloc, name)?;
     }
     Ok(ModPath::from_segments(kind, segments))
 }
 
+// Whether the path is an ident or not, and `Self` or not, and a copy is the same.
+fn is_known(made: &ModPath, ident: bool, is_self: bool) -> Result<bool, AllocError> {
+    let copies = again::copies(made)?;
+    Ok(
+        copies
+            && made.is_ident() == ident
+            && made.as_ident().is_some() == ident
+            && made.is_Self() == is_self,
+    )
+}
+
 #[test]
 fn one_plain_name_is_an_ident(rt: HostRuntime) -> Result<(), Fail> {
-    let alloc = rt.alloc();
-    assert_eq!(rt; PathKind::SELF, PathKind::Super(0));
-    for (made, ident, is_self) in [
-        (path(alloc, PathKind::Plain, &["x"])?, true, false),
-        (path(alloc, PathKind::Plain, &["Self"])?, true, true),
-        (path(alloc, PathKind::Crate, &["Self"])?, false, false),
-        (
-            path(alloc, PathKind::Plain, &["Self", "Self"])?,
-            false,
-            false,
-        ),
-        (path(alloc, PathKind::SELF, &[])?, false, false),
+    for (kind, names, ident, is_self) in [
+        (PathKind::Plain, ["x"].as_slice(), true, false),
+        (PathKind::Plain, ["Self"].as_slice(), true, true),
+        (PathKind::Crate, ["Self"].as_slice(), false, false),
+        (PathKind::Plain, ["Self", "Self"].as_slice(), false, false),
+        (PathKind::SELF, [].as_slice(), false, false),
     ] {
-        assert_eq!(rt; made.is_ident(), ident);
-        assert_eq!(rt; made.as_ident().is_some(), ident);
-        assert_eq!(rt; made.is_Self(), is_self);
-        assert!(rt; again::copy(&made)?.is_same(&made));
+        let made = path(rt.alloc(), kind, names)?;
+        let holds = is_known(&made, ident, is_self)?;
+        assert!(rt; holds, "{names:?}");
     }
-    let made = path(alloc, PathKind::Abs, &["a", "b"])?;
-    assert_eq!(rt; made.kind(), PathKind::Abs);
-    assert_eq!(rt; made.segments().len(), 2);
     Ok(())
 }
 
 #[test]
-fn ids_name_their_owners(rt: HostRuntime) -> Result<(), Fail> {
-    let structure = StructId::from_raw(3);
-    let parent = GenericDefId::AdtId(AdtId::StructId(structure));
-    let body = DefWithBodyId::FunctionId(FunctionId::from_raw(4));
-    let fields = VariantId::EnumVariantId(EnumVariantId::from_raw(5));
-    assert_eq!(rt;
-        ExpressionStoreOwnerId::from(parent),
-        ExpressionStoreOwnerId::Signature(parent)
-    );
-    assert_eq!(rt;
-        ExpressionStoreOwnerId::from(body),
-        ExpressionStoreOwnerId::Body(body)
-    );
-    assert_eq!(rt;
-        ExpressionStoreOwnerId::from(fields),
-        ExpressionStoreOwnerId::VariantFields(fields)
-    );
-    let param = TypeOrConstParamId {
-        parent,
-        local_id: Idx::from_raw(6),
-    };
-    let (as_type, as_const) = (
-        TypeParamId::from_unchecked(param),
-        ConstParamId::from_unchecked(param),
-    );
-    assert_eq!(rt;
-        (as_type.parent(), as_type.local_id()),
-        (parent, param.local_id)
-    );
-    assert_eq!(rt;
-        (as_const.parent(), as_const.local_id()),
-        (parent, param.local_id)
-    );
+fn a_path_has_its_kind_and_names(rt: HostRuntime) -> Result<(), Fail> {
+    assert!(rt; PathKind::SELF == PathKind::Super(0));
+    let made = path(rt.alloc(), PathKind::Abs, &["a", "b"])?;
+    assert!(rt; made.kind() == PathKind::Abs);
+    assert!(rt; made.segments().len() == 2);
+    Ok(())
+}
 
+fn parent() -> GenericDefId {
+    GenericDefId::AdtId(AdtId::StructId(StructId::from_raw(3)))
+}
+
+fn body() -> DefWithBodyId {
+    DefWithBodyId::FunctionId(FunctionId::from_raw(4))
+}
+
+fn fields() -> VariantId {
+    VariantId::EnumVariantId(EnumVariantId::from_raw(5))
+}
+
+#[test]
+fn ids_name_their_owners(rt: HostRuntime) {
+    assert!(rt;
+        ExpressionStoreOwnerId::from(parent()) == ExpressionStoreOwnerId::Signature(parent())
+    );
+    assert!(rt; ExpressionStoreOwnerId::from(body()) == ExpressionStoreOwnerId::Body(body()));
+    assert!(rt;
+        ExpressionStoreOwnerId::from(fields()) == ExpressionStoreOwnerId::VariantFields(fields())
+    );
+}
+
+fn param() -> TypeOrConstParamId {
+    TypeOrConstParamId {
+        parent: parent(),
+        local_id: Idx::from_raw(6),
+    }
+}
+
+// Whether the parameter's id keeps its parts as the id of a type's parameter.
+fn keeps_as_type(param: TypeOrConstParamId) -> bool {
+    let id = TypeParamId::from_unchecked(param);
+    id.parent() == param.parent && id.local_id() == param.local_id
+}
+
+fn keeps_as_const(param: TypeOrConstParamId) -> bool {
+    let id = ConstParamId::from_unchecked(param);
+    id.parent() == param.parent && id.local_id() == param.local_id
+}
+
+#[test]
+fn ids_of_parameters_keep_their_parts(rt: HostRuntime) {
+    assert!(rt; keeps_as_type(param()));
+    assert!(rt; keeps_as_const(param()));
+}
+
+fn is_before(first: BlockId, second: BlockId) -> bool {
+    first.cmp(&second) == Ordering::Less
+        && second.partial_cmp(&first) == Some(Ordering::Greater)
+        && second.into_raw() == 2
+}
+
+#[test]
+fn blocks_are_ordered_as_their_numbers(rt: HostRuntime) -> Result<(), Fail> {
     laws::block_order_is_that_of_numbers();
     laws::block_order_agrees_with_eq_and_hash();
-    let (first, second) = (BlockId::from_raw(1), BlockId::from_raw(2));
-    assert_eq!(rt; first.cmp(&second), Ordering::Less);
-    assert_eq!(rt; second.partial_cmp(&first), Some(Ordering::Greater));
-    assert_eq!(rt; second.into_raw(), 2);
-    assert!(rt; second.is_same(&again::copy(&second)?));
+    assert!(rt; is_before(BlockId::from_raw(1), BlockId::from_raw(2)));
+    let holds = again::copies(&BlockId::from_raw(2))?;
+    assert!(rt; holds);
     Ok(())
 }
 
@@ -155,29 +203,45 @@ fn pointers_keep_their_node(rt: HostRuntime) {
     let node = SyntaxNodePtr { kind: 17, range };
     let expansion: AstPtr<ast::MacroExpr> = AstPtr::new(node);
     let expr: AstPtr<ast::Expr> = expansion.upcast();
-    assert_eq!(rt; expr.syntax_node_ptr(), node);
+    assert!(rt; expr.syntax_node_ptr() == node);
     let label: AstPtr<ast::Label> = AstPtr::new(node);
     let wrapped: LabelPtr = label.wrap_left();
-    assert_eq!(rt; wrapped.syntax_node_ptr(), node);
+    assert!(rt; wrapped.syntax_node_ptr() == node);
     let same: AstPtr<Either<ast::Label, ast::BlockExpr>> = AstPtr::new(node);
     assert!(rt; wrapped.is_same(&same));
 }
 
 #[test]
-fn each_edition_has_its_words(rt: HostRuntime) -> Result<(), Fail> {
-    let mut words = RawWords::new(rt.alloc());
+fn new_editions_have_no_words(rt: HostRuntime) {
+    let words = RawWords::new(rt.alloc());
     for edition in [
         Edition::Edition2015,
         Edition::Edition2018,
         Edition::Edition2024,
     ] {
-        assert!(rt; words.words(edition).is_empty());
+        assert!(rt; words.words(edition).is_empty(), "{edition:?}");
     }
-    let mut given = Seq::new(rt.alloc());
-    again::push(&mut given, again::text(rt.alloc(), "match")?)?;
+}
+
+// The list of the word `match`.
+fn given(alloc: Global) -> Result<Seq<Text>, AllocError> {
+    let mut list = Seq::new(alloc);
+    let text = again::text(alloc, "match")?;
+    again::push(&mut list, text)?;
+    Ok(list)
+}
+
+// Whether the edition 2021 has the word `match` alone, and the one before it has none.
+fn has_match(words: &RawWords) -> bool {
+    let given = words.words(Edition::Edition2021);
+    given.len() == 1 && given[0].as_str() == "match" && words.words(Edition::Edition2018).is_empty()
+}
+
+#[test]
+fn each_edition_has_its_words(rt: HostRuntime) -> Result<(), Fail> {
+    let given = given(rt.alloc())?;
+    let mut words = RawWords::new(rt.alloc());
     words.set_words(Edition::Edition2021, given);
-    assert_eq!(rt; words.words(Edition::Edition2021).len(), 1);
-    assert_eq!(rt; words.words(Edition::Edition2021)[0].as_str(), "match");
-    assert!(rt; words.words(Edition::Edition2018).is_empty());
+    assert!(rt; has_match(&words));
     Ok(())
 }

@@ -29,6 +29,13 @@ pub fn push<T: Drop>(seq: &mut Seq<T>, item: T) -> Result<(), AllocError> {
     }
 }
 
+pub fn in_a_box<T: Drop>(alloc: Global, value: T) -> Result<Box<T>, AllocError> {
+    match Box::new(alloc, value) {
+        Ok(made) => Ok(made),
+        Err(failed) => Ok(Box::new(alloc, failed.value)?),
+    }
+}
+
 /// The answer of the second call, where the first was refused: without the value that it hands back.
 pub fn told<I: Drop, T: Drop>(outcome: Result<I, (ArenaFault, T)>) -> Result<I, ArenaFault> {
     match outcome {

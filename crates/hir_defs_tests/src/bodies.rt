@@ -44,22 +44,15 @@ fn body(
     }
 }
 
-/// What is asked of the body with these parameters in the store that is built so, or of its refusal.
-fn asked<B, A>(
+/// The body with these parameters in the store of the builder, or its refusal.
+fn asked(
     alloc: Global,
-    build: B,
+    builder: Box<ExpressionStoreBuilder>,
     params: Seq<Param<PatId>>,
     self_param: Option<Param<BindingId>>,
-    ask: A,
-) -> Result<bool, Fail>
-where
-    B: FnOnce(&mut ExpressionStoreBuilder) -> Result<(), Fail>,
-    A: FnOnce(&Result<Body, RefusedBody>) -> bool,
-    requires build { B.IsAlwaysCallable build }
-    requires ask { A.IsAlwaysCallable ask }
-{
-    match with::store(alloc, build) {
-        Ok(store) => Ok(ask(&body(alloc, store, params, self_param))),
+) -> Result<Box<Result<Body, RefusedBody>>, Fail> {
+    match with::store(builder) {
+        Ok(store) => Ok(again::in_a_box(alloc, body(alloc, store, params, self_param))?),
         Err(failed) => Err(failed),
     }
 }
@@ -72,26 +65,16 @@ fn has_fault(outcome: &Result<Body, RefusedBody>, wanted: BodyFault) -> bool {
     }
 }
 
-/// Whether a body with these parameters in the store that is built so is refused for this.
-fn refuses<B>(
+/// Whether a body with these parameters in the store of the builder is refused for this.
+fn refuses(
     alloc: Global,
-    build: B,
+    builder: Box<ExpressionStoreBuilder>,
     numbers: &[u32],
     self_param: Option<Param<BindingId>>,
     wanted: BodyFault,
-) -> Result<bool, Fail>
-where
-    B: FnOnce(&mut ExpressionStoreBuilder) -> Result<(), Fail>,
-    requires { B.IsAlwaysCallable build }
-{
-    let params = params(alloc, numbers)?;
-    asked(
-        alloc,
-        build,
-        params,
-        self_param,
-        |outcome| has_fault(outcome, wanted),
-    )
+) -> Result<bool, Fail> {
+    let outcome = asked(alloc, builder, params(alloc, numbers)?, self_param)?;
+    Ok(has_fault(&outcome, wanted))
 }
 
 /// Whether the body is accepted, and this is its root.
@@ -102,20 +85,15 @@ fn has_root(outcome: &Result<Body, RefusedBody>, root: u32) -> bool {
     }
 }
 
-/// Whether a body with these parameters and no `self` in the store that is built so is accepted, and this is its root.
-fn accepts<B>(alloc: Global, build: B, numbers: &[u32], root: u32) -> Result<bool, Fail>
-where
-    B: FnOnce(&mut ExpressionStoreBuilder) -> Result<(), Fail>,
-    requires { B.IsAlwaysCallable build }
-{
-    let params = params(alloc, numbers)?;
-    asked(
-        alloc,
-        build,
-        params,
-        None,
-        |outcome| has_root(outcome, root),
-    )
+/// Whether a body with these parameters and no `self` in the store of the builder is accepted, and this is its root.
+fn accepts(
+    alloc: Global,
+    builder: Box<ExpressionStoreBuilder>,
+    numbers: &[u32],
+    root: u32,
+) -> Result<bool, Fail> {
+    let outcome = asked(alloc, builder, params(alloc, numbers)?, None)?;
+    Ok(has_root(&outcome, root))
 }
 
 /// Adds a pattern `_`, and the path `a` as the root.
@@ -137,13 +115,9 @@ fn add_let(builder: &mut ExpressionStoreBuilder, alloc: Global) -> Result<(), Fa
 #[test]
 fn a_formal_under_the_root(rt: HostRuntime) -> Result<(), Fail> {
     let a = rt.alloc();
-    let holds = refuses(
-        a,
-        |builder| add_let(builder, a),
-        &[0],
-        None,
-        BodyFault::ParamUnder(0),
-    )?;
+    let mut builder = with::builder(a)?;
+    add_let(&mut builder, a)?;
+    let holds = refuses(a, builder, &[0], None, BodyFault::ParamUnder(0))?;
     assert!(&rt; holds);
     Ok(())
 }
@@ -164,13 +138,9 @@ fn add_range(builder: &mut ExpressionStoreBuilder, alloc: Global) -> Result<(), 
 #[test]
 fn the_root_under_a_formal(rt: HostRuntime) -> Result<(), Fail> {
     let a = rt.alloc();
-    let holds = refuses(
-        a,
-        |builder| add_range(builder, a),
-        &[0],
-        None,
-        BodyFault::RootInParam,
-    )?;
+    let mut builder = with::builder(a)?;
+    add_range(&mut builder, a)?;
+    let holds = refuses(a, builder, &[0], None, BodyFault::RootInParam)?;
     assert!(&rt; holds);
     Ok(())
 }
@@ -178,13 +148,9 @@ fn the_root_under_a_formal(rt: HostRuntime) -> Result<(), Fail> {
 #[test]
 fn a_formal_repeats(rt: HostRuntime) -> Result<(), Fail> {
     let a = rt.alloc();
-    let holds = refuses(
-        a,
-        |builder| add_wild(builder, a),
-        &[0, 0],
-        None,
-        BodyFault::ParamRepeated(1),
-    )?;
+    let mut builder = with::builder(a)?;
+    add_wild(&mut builder, a)?;
+    let holds = refuses(a, builder, &[0, 0], None, BodyFault::ParamRepeated(1))?;
     assert!(&rt; holds);
     Ok(())
 }
@@ -192,13 +158,9 @@ fn a_formal_repeats(rt: HostRuntime) -> Result<(), Fail> {
 #[test]
 fn an_absent_self_comes_before_an_absent_parameter(rt: HostRuntime) -> Result<(), Fail> {
     let a = rt.alloc();
-    let holds = refuses(
-        a,
-        |builder| add_wild(builder, a),
-        &[9],
-        Some(param(5)),
-        BodyFault::SelfOutOfRange,
-    )?;
+    let mut builder = with::builder(a)?;
+    add_wild(&mut builder, a)?;
+    let holds = refuses(a, builder, &[9], Some(param(5)), BodyFault::SelfOutOfRange)?;
     assert!(&rt; holds);
     Ok(())
 }
@@ -214,13 +176,9 @@ fn add_no_root(builder: &mut ExpressionStoreBuilder, alloc: Global) -> Result<()
 #[test]
 fn no_root_comes_before_all(rt: HostRuntime) -> Result<(), Fail> {
     let a = rt.alloc();
-    let holds = refuses(
-        a,
-        |builder| add_no_root(builder, a),
-        &[9],
-        Some(param(5)),
-        BodyFault::NoRoot,
-    )?;
+    let mut builder = with::builder(a)?;
+    add_no_root(&mut builder, a)?;
+    let holds = refuses(a, builder, &[9], Some(param(5)), BodyFault::NoRoot)?;
     assert!(&rt; holds);
     Ok(())
 }
@@ -228,13 +186,9 @@ fn no_root_comes_before_all(rt: HostRuntime) -> Result<(), Fail> {
 #[test]
 fn an_absent_parameter(rt: HostRuntime) -> Result<(), Fail> {
     let a = rt.alloc();
-    let holds = refuses(
-        a,
-        |builder| add_wild(builder, a),
-        &[0, 9],
-        None,
-        BodyFault::ParamOutOfRange(1),
-    )?;
+    let mut builder = with::builder(a)?;
+    add_wild(&mut builder, a)?;
+    let holds = refuses(a, builder, &[0, 9], None, BodyFault::ParamOutOfRange(1))?;
     assert!(&rt; holds);
     Ok(())
 }
@@ -242,13 +196,9 @@ fn an_absent_parameter(rt: HostRuntime) -> Result<(), Fail> {
 #[test]
 fn the_kind_counts_before_the_index(rt: HostRuntime) -> Result<(), Fail> {
     let a = rt.alloc();
-    let holds = refuses(
-        a,
-        |builder| add_wild(builder, a),
-        &[0, 0, 9],
-        None,
-        BodyFault::ParamOutOfRange(2),
-    )?;
+    let mut builder = with::builder(a)?;
+    add_wild(&mut builder, a)?;
+    let holds = refuses(a, builder, &[0, 0, 9], None, BodyFault::ParamOutOfRange(2))?;
     assert!(&rt; holds);
     Ok(())
 }
@@ -282,8 +232,10 @@ fn hands_back(outcome: &Result<Body, RefusedBody>) -> bool {
 #[test]
 fn what_the_user_wrote_has_to_be_there(rt: HostRuntime) -> Result<(), Fail> {
     let a = rt.alloc();
-    let holds = asked(a, |builder| add_wild(builder, a), odd(a)?, None, hands_back)?;
-    assert!(&rt; holds);
+    let mut builder = with::builder(a)?;
+    add_wild(&mut builder, a)?;
+    let outcome = asked(a, builder, odd(a)?, None)?;
+    assert!(&rt; hands_back(&outcome));
     Ok(())
 }
 
@@ -298,13 +250,9 @@ fn add_nested(builder: &mut ExpressionStoreBuilder, alloc: Global) -> Result<(),
 #[test]
 fn a_formal_under_a_later_one(rt: HostRuntime) -> Result<(), Fail> {
     let a = rt.alloc();
-    let holds = refuses(
-        a,
-        |builder| add_nested(builder, a),
-        &[0, 1],
-        None,
-        BodyFault::ParamUnder(0),
-    )?;
+    let mut builder = with::builder(a)?;
+    add_nested(&mut builder, a)?;
+    let holds = refuses(a, builder, &[0, 1], None, BodyFault::ParamUnder(0))?;
     assert!(&rt; holds);
     Ok(())
 }
@@ -312,13 +260,9 @@ fn a_formal_under_a_later_one(rt: HostRuntime) -> Result<(), Fail> {
 #[test]
 fn a_formal_under_an_earlier_one(rt: HostRuntime) -> Result<(), Fail> {
     let a = rt.alloc();
-    let holds = refuses(
-        a,
-        |builder| add_nested(builder, a),
-        &[1, 0],
-        None,
-        BodyFault::ParamUnder(1),
-    )?;
+    let mut builder = with::builder(a)?;
+    add_nested(&mut builder, a)?;
+    let holds = refuses(a, builder, &[1, 0], None, BodyFault::ParamUnder(1))?;
     assert!(&rt; holds);
     Ok(())
 }
@@ -326,7 +270,9 @@ fn a_formal_under_an_earlier_one(rt: HostRuntime) -> Result<(), Fail> {
 #[test]
 fn a_formal_above_others(rt: HostRuntime) -> Result<(), Fail> {
     let a = rt.alloc();
-    let holds = accepts(a, |builder| add_nested(builder, a), &[1], 0)?;
+    let mut builder = with::builder(a)?;
+    add_nested(&mut builder, a)?;
+    let holds = accepts(a, builder, &[1], 0)?;
     assert!(&rt; holds);
     Ok(())
 }
@@ -343,7 +289,9 @@ fn add_two_roots(builder: &mut ExpressionStoreBuilder, alloc: Global) -> Result<
 #[test]
 fn a_formal_under_an_earlier_root(rt: HostRuntime) -> Result<(), Fail> {
     let a = rt.alloc();
-    let holds = accepts(a, |builder| add_two_roots(builder, a), &[0], 2)?;
+    let mut builder = with::builder(a)?;
+    add_two_roots(&mut builder, a)?;
+    let holds = accepts(a, builder, &[0], 2)?;
     assert!(&rt; holds);
     Ok(())
 }
@@ -390,14 +338,10 @@ fn is_the_method(outcome: &Result<Body, RefusedBody>) -> bool {
 fn an_accepted_body(rt: HostRuntime) -> Result<(), Fail> {
     let a = rt.alloc();
     let list = params(a, &[0])?;
-    let holds = asked(
-        a,
-        |builder| add_method(builder, a),
-        list,
-        Some(this()),
-        is_the_method,
-    )?;
-    assert!(&rt; holds);
+    let mut builder = with::builder(a)?;
+    add_method(&mut builder, a)?;
+    let outcome = asked(a, builder, list, Some(this()))?;
+    assert!(&rt; is_the_method(&outcome));
     Ok(())
 }
 
@@ -474,7 +418,9 @@ fn a_source_map_is_itself(rt: HostRuntime) -> Result<(), Fail> {
 
 /// The body `a`.
 pub fn plain(alloc: Global) -> Result<Body, Fail> {
-    let store = with::store(alloc, |builder| trees::path_root(builder, alloc))?;
+    let mut builder = with::builder(alloc)?;
+    trees::path_root(&mut builder, alloc)?;
+    let store = with::store(builder)?;
     match body(alloc, store, Seq::new(alloc), None) {
         Ok(body) => Ok(body),
         Err(refused) => Err(Fail::from(refused.fault)),
@@ -495,14 +441,10 @@ fn is_plain(outcome: &Result<Body, RefusedBody>) -> bool {
 #[test]
 fn an_accepted_body_has_no_fault(rt: HostRuntime) -> Result<(), Fail> {
     let a = rt.alloc();
-    let holds = asked(
-        a,
-        |builder| trees::path_root(builder, a),
-        Seq::new(a),
-        None,
-        is_plain,
-    )?;
-    assert!(&rt; holds);
+    let mut builder = with::builder(a)?;
+    trees::path_root(&mut builder, a)?;
+    let outcome = asked(a, builder, Seq::new(a), None)?;
+    assert!(&rt; is_plain(&outcome));
     Ok(())
 }
 

@@ -41,69 +41,59 @@ fn has_one_unmapped(tables: &Tables, def: GenericDefId, size: usize) -> bool {
 
 #[test]
 fn parameters_of_a_function(rt: HostRuntime) -> Result<(), Fail> {
-    let holds = with::filled(
-        rt.alloc(),
-        |tables| has_one(tables, GenericDefId::FunctionId(FunctionId::from_raw(1))),
-    )?;
-    assert!(&rt; holds);
+    let tables = with::filled(rt.alloc())?;
+    assert!(&rt; has_one(&tables, GenericDefId::FunctionId(FunctionId::from_raw(1))));
     Ok(())
 }
 
 #[test]
 fn parameters_of_a_struct(rt: HostRuntime) -> Result<(), Fail> {
     let def = GenericDefId::AdtId(AdtId::StructId(StructId::from_raw(2)));
-    let holds = with::filled(rt.alloc(), |tables| has_one_over(tables, def, 2))?;
-    assert!(&rt; holds);
+    let tables = with::filled(rt.alloc())?;
+    assert!(&rt; has_one_over(&tables, def, 2));
     Ok(())
 }
 
 #[test]
 fn parameters_of_an_enum(rt: HostRuntime) -> Result<(), Fail> {
     let def = GenericDefId::AdtId(AdtId::EnumId(EnumId::from_raw(3)));
-    let holds = with::filled(rt.alloc(), |tables| has_one_unmapped(tables, def, 3))?;
-    assert!(&rt; holds);
+    let tables = with::filled(rt.alloc())?;
+    assert!(&rt; has_one_unmapped(&tables, def, 3));
     Ok(())
 }
 
 #[test]
 fn parameters_of_a_union(rt: HostRuntime) -> Result<(), Fail> {
     let def = GenericDefId::AdtId(AdtId::UnionId(UnionId::from_raw(0)));
-    let holds = with::filled(rt.alloc(), |tables| has_one_over(tables, def, 1))?;
-    assert!(&rt; holds);
+    let tables = with::filled(rt.alloc())?;
+    assert!(&rt; has_one_over(&tables, def, 1));
     Ok(())
 }
 
 #[test]
 fn parameters_of_an_impl(rt: HostRuntime) -> Result<(), Fail> {
-    let holds = with::filled(
-        rt.alloc(),
-        |tables| has_one_over(tables, GenericDefId::ImplId(ImplId::from_raw(0)), 2),
-    )?;
-    assert!(&rt; holds);
+    let tables = with::filled(rt.alloc())?;
+    assert!(&rt; has_one_over(&tables, GenericDefId::ImplId(ImplId::from_raw(0)), 2));
     Ok(())
 }
 
 #[test]
 fn parameters_of_a_trait(rt: HostRuntime) -> Result<(), Fail> {
-    let holds = with::filled(
-        rt.alloc(),
-        |tables| has_one_over(tables, GenericDefId::TraitId(TraitId::from_raw(0)), 3),
-    )?;
-    assert!(&rt; holds);
+    let tables = with::filled(rt.alloc())?;
+    assert!(&rt; has_one_over(&tables, GenericDefId::TraitId(TraitId::from_raw(0)), 3));
     Ok(())
 }
 
 #[test]
 fn parameters_of_an_alias(rt: HostRuntime) -> Result<(), Fail> {
-    let holds = with::filled(
-        rt.alloc(),
-        |tables| has_one_over(
-            tables,
+    let tables = with::filled(rt.alloc())?;
+    assert!(&rt;
+        has_one_over(
+            &tables,
             GenericDefId::TypeAliasId(TypeAliasId::from_raw(0)),
             4,
-        ),
-    )?;
-    assert!(&rt; holds);
+        )
+    );
     Ok(())
 }
 
@@ -135,23 +125,21 @@ fn variable(number: u32) -> GenericDefId {
 
 #[test]
 fn constants_have_no_parameters(rt: HostRuntime) -> Result<(), Fail> {
-    let holds = with::filled(
-        rt.alloc(),
-        |tables| has_none(tables, constant(4), 2)
-            && lacks_params(tables, constant(3), Missing::Signature(constant(3))),
-    )?;
-    assert!(&rt; holds);
+    let tables = with::filled(rt.alloc())?;
+    assert!(&rt;
+        has_none(&tables, constant(4), 2)
+            && lacks_params(&tables, constant(3), Missing::Signature(constant(3)))
+    );
     Ok(())
 }
 
 #[test]
 fn statics_have_no_parameters(rt: HostRuntime) -> Result<(), Fail> {
-    let holds = with::filled(
-        rt.alloc(),
-        |tables| has_none(tables, variable(4), 3)
-            && lacks_params(tables, variable(3), Missing::Signature(variable(3))),
-    )?;
-    assert!(&rt; holds);
+    let tables = with::filled(rt.alloc())?;
+    assert!(&rt;
+        has_none(&tables, variable(4), 3)
+            && lacks_params(&tables, variable(3), Missing::Signature(variable(3)))
+    );
     Ok(())
 }
 
@@ -166,11 +154,8 @@ fn owns(tables: &Tables, owner: ExpressionStoreOwnerId, size: usize) -> bool {
 #[test]
 fn the_store_of_a_signature(rt: HostRuntime) -> Result<(), Fail> {
     let def = GenericDefId::FunctionId(FunctionId::from_raw(1));
-    let holds = with::filled(
-        rt.alloc(),
-        |tables| owns(tables, ExpressionStoreOwnerId::Signature(def), 1),
-    )?;
-    assert!(&rt; holds);
+    let tables = with::filled(rt.alloc())?;
+    assert!(&rt; owns(&tables, ExpressionStoreOwnerId::Signature(def), 1));
     Ok(())
 }
 
@@ -185,11 +170,8 @@ fn owns_unmapped(tables: &Tables, owner: ExpressionStoreOwnerId, size: usize) ->
 #[test]
 fn the_store_of_fields(rt: HostRuntime) -> Result<(), Fail> {
     let variant = VariantId::StructId(StructId::from_raw(2));
-    let holds = with::filled(
-        rt.alloc(),
-        |tables| owns_unmapped(tables, ExpressionStoreOwnerId::VariantFields(variant), 5),
-    )?;
-    assert!(&rt; holds);
+    let tables = with::filled(rt.alloc())?;
+    assert!(&rt; owns_unmapped(&tables, ExpressionStoreOwnerId::VariantFields(variant), 5));
     Ok(())
 }
 
@@ -205,11 +187,8 @@ fn owns_expr_0(tables: &Tables, owner: ExpressionStoreOwnerId) -> bool {
 
 #[test]
 fn the_store_of_a_body(rt: HostRuntime) -> Result<(), Fail> {
-    let holds = with::filled(
-        rt.alloc(),
-        |tables| owns_expr_0(tables, ExpressionStoreOwnerId::Body(made::def_1())),
-    )?;
-    assert!(&rt; holds);
+    let tables = with::filled(rt.alloc())?;
+    assert!(&rt; owns_expr_0(&tables, ExpressionStoreOwnerId::Body(made::def_1())));
     Ok(())
 }
 
@@ -229,11 +208,8 @@ fn union_9() -> GenericDefId {
 #[test]
 fn a_signature_without_a_store(rt: HostRuntime) -> Result<(), Fail> {
     let owner = ExpressionStoreOwnerId::Signature(union_9());
-    let holds = with::empty(
-        rt.alloc(),
-        |tables| lacks_store(tables, owner, Missing::Signature(union_9())),
-    );
-    assert!(&rt; holds);
+    let tables = with::tables(rt.alloc())?;
+    assert!(&rt; lacks_store(&tables, owner, Missing::Signature(union_9())));
     Ok(())
 }
 
@@ -245,11 +221,8 @@ fn body_0() -> DefWithBodyId {
 #[test]
 fn a_body_without_a_store(rt: HostRuntime) -> Result<(), Fail> {
     let owner = ExpressionStoreOwnerId::Body(body_0());
-    let holds = with::empty(
-        rt.alloc(),
-        |tables| lacks_store(tables, owner, Missing::Body(body_0())),
-    );
-    assert!(&rt; holds);
+    let tables = with::tables(rt.alloc())?;
+    assert!(&rt; lacks_store(&tables, owner, Missing::Body(body_0())));
     Ok(())
 }
 
@@ -261,10 +234,7 @@ fn fields_0() -> VariantId {
 #[test]
 fn fields_without_a_store(rt: HostRuntime) -> Result<(), Fail> {
     let owner = ExpressionStoreOwnerId::VariantFields(fields_0());
-    let holds = with::empty(
-        rt.alloc(),
-        |tables| lacks_store(tables, owner, Missing::Fields(fields_0())),
-    );
-    assert!(&rt; holds);
+    let tables = with::tables(rt.alloc())?;
+    assert!(&rt; lacks_store(&tables, owner, Missing::Fields(fields_0())));
     Ok(())
 }

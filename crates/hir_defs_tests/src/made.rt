@@ -24,7 +24,9 @@ fn add_types(builder: &mut ExpressionStoreBuilder, count: u32) -> Result<(), Fai
 
 /// A store of this many types `!`.
 pub fn types(alloc: Global, count: u32) -> Result<ExpressionStore, Fail> {
-    with::store(alloc, |builder| add_types(builder, count))
+    let mut builder = with::builder(alloc)?;
+    add_types(&mut builder, count)?;
+    with::store(builder)
 }
 
 /// One type parameter `T`.

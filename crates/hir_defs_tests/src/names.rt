@@ -68,24 +68,18 @@ fn is_g(tables: &Tables, def: NamedDef) -> bool {
 
 #[test]
 fn a_definition_without_a_name(rt: HostRuntime) -> Result<(), Fail> {
-    let holds = with::tabled(
-        rt.alloc(),
-        add_unnamed,
-        |tables| is_unnamed(tables, named()),
-    )?;
-    assert!(&rt; holds);
+    let mut tables = with::tables(rt.alloc())?;
+    add_unnamed(&mut tables)?;
+    assert!(&rt; is_unnamed(&tables, named()));
     Ok(())
 }
 
 #[test]
 fn a_later_entry_replaces_an_earlier_one(rt: HostRuntime) -> Result<(), Fail> {
     let a = rt.alloc();
-    let holds = with::tabled(
-        a,
-        |tables| rename(tables, a),
-        |tables| is_g(tables, named()),
-    )?;
-    assert!(&rt; holds);
+    let mut tables = with::tables(a)?;
+    rename(&mut tables, a)?;
+    assert!(&rt; is_g(&tables, named()));
     Ok(())
 }
 
@@ -100,13 +94,12 @@ fn set_raw_match(tables: &mut Tables, alloc: Global) -> Result<(), Fail> {
 #[test]
 fn raw_words_of_an_edition(rt: HostRuntime) -> Result<(), Fail> {
     let a = rt.alloc();
-    let holds = with::tabled(
-        a,
-        |tables| set_raw_match(tables, a),
-        |tables| tables.raw_words(Edition::Edition2021).len() == 1
-            && tables.raw_words(Edition::Edition2018).len() == 0,
-    )?;
-    assert!(&rt; holds);
+    let mut tables = with::tables(a)?;
+    set_raw_match(&mut tables, a)?;
+    assert!(&rt;
+        tables.raw_words(Edition::Edition2021).len() == 1
+            && tables.raw_words(Edition::Edition2018).len() == 0
+    );
     Ok(())
 }
 
@@ -132,12 +125,9 @@ fn is_of(tables: &Tables, variant: EnumVariantId, parent: EnumId) -> bool {
 
 #[test]
 fn a_variant_in_the_tables(rt: HostRuntime) -> Result<(), Fail> {
-    let holds = with::tabled(
-        rt.alloc(),
-        add_variant_2,
-        |tables| is_of(tables, EnumVariantId::from_raw(2), EnumId::from_raw(7)),
-    )?;
-    assert!(&rt; holds);
+    let mut tables = with::tables(rt.alloc())?;
+    add_variant_2(&mut tables)?;
+    assert!(&rt; is_of(&tables, EnumVariantId::from_raw(2), EnumId::from_raw(7)));
     Ok(())
 }
 
@@ -163,11 +153,10 @@ fn is_core(tables: &Tables, id: CrateId) -> bool {
 #[test]
 fn a_crate_in_the_tables(rt: HostRuntime) -> Result<(), Fail> {
     let a = rt.alloc();
-    let holds = with::tabled(
-        a,
-        |tables| add_crate_1(tables, a),
-        |tables| is_core(tables, CrateId::from_raw(1)) && lacks_crate(tables, CrateId::from_raw(2)),
-    )?;
-    assert!(&rt; holds);
+    let mut tables = with::tables(a)?;
+    add_crate_1(&mut tables, a)?;
+    assert!(&rt;
+        is_core(&tables, CrateId::from_raw(1)) && lacks_crate(&tables, CrateId::from_raw(2))
+    );
     Ok(())
 }

@@ -99,11 +99,8 @@ fn is_function(tables: &Tables, id: FunctionId) -> bool {
 
 #[test]
 fn a_function_in_the_tables(rt: HostRuntime) -> Result<(), Fail> {
-    let holds = with::filled(
-        rt.alloc(),
-        |tables| is_function(tables, FunctionId::from_raw(1)),
-    )?;
-    assert!(&rt; holds);
+    let tables = with::filled(rt.alloc())?;
+    assert!(&rt; is_function(&tables, FunctionId::from_raw(1)));
     Ok(())
 }
 
@@ -121,12 +118,10 @@ fn is_struct(tables: &Tables, id: StructId) -> bool {
 
 #[test]
 fn a_struct_in_the_tables(rt: HostRuntime) -> Result<(), Fail> {
-    let holds = with::filled(
-        rt.alloc(),
-        |tables| is_struct(tables, StructId::from_raw(2))
-            && tables.repr(StructId::from_raw(2)) == None,
-    )?;
-    assert!(&rt; holds);
+    let tables = with::filled(rt.alloc())?;
+    assert!(&rt;
+        is_struct(&tables, StructId::from_raw(2)) && tables.repr(StructId::from_raw(2)) == None
+    );
     Ok(())
 }
 
@@ -150,12 +145,9 @@ fn add_repr_of_0(tables: &mut Tables) -> Result<(), Fail> {
 
 #[test]
 fn how_a_struct_lies(rt: HostRuntime) -> Result<(), Fail> {
-    let holds = with::tabled(
-        rt.alloc(),
-        add_repr_of_0,
-        |tables| tables.repr(StructId::from_raw(0)) == Some(written()),
-    )?;
-    assert!(&rt; holds);
+    let mut tables = with::tables(rt.alloc())?;
+    add_repr_of_0(&mut tables)?;
+    assert!(&rt; tables.repr(StructId::from_raw(0)) == Some(written()));
     Ok(())
 }
 
@@ -177,11 +169,8 @@ fn has_x(tables: &Tables, id: VariantId) -> bool {
 
 #[test]
 fn fields_in_the_tables(rt: HostRuntime) -> Result<(), Fail> {
-    let holds = with::filled(
-        rt.alloc(),
-        |tables| has_x(tables, VariantId::StructId(StructId::from_raw(2))),
-    )?;
-    assert!(&rt; holds);
+    let tables = with::filled(rt.alloc())?;
+    assert!(&rt; has_x(&tables, VariantId::StructId(StructId::from_raw(2))));
     Ok(())
 }
 
@@ -256,12 +245,11 @@ fn body_0() -> DefWithBodyId {
 
 #[test]
 fn an_absent_body_is_named(rt: HostRuntime) -> Result<(), Fail> {
-    let holds = with::empty(
-        rt.alloc(),
-        |tables| lacks_body(tables, body_0(), Missing::Body(body_0()))
-            && lacks_body_and_map(tables, body_0(), Missing::Body(body_0())),
+    let tables = with::tables(rt.alloc())?;
+    assert!(&rt;
+        lacks_body(&tables, body_0(), Missing::Body(body_0()))
+            && lacks_body_and_map(&tables, body_0(), Missing::Body(body_0()))
     );
-    assert!(&rt; holds);
     Ok(())
 }
 
@@ -272,11 +260,8 @@ fn fields_0() -> VariantId {
 
 #[test]
 fn absent_fields_are_named(rt: HostRuntime) -> Result<(), Fail> {
-    let holds = with::empty(
-        rt.alloc(),
-        |tables| lacks_fields(tables, fields_0(), Missing::Fields(fields_0())),
-    );
-    assert!(&rt; holds);
+    let tables = with::tables(rt.alloc())?;
+    assert!(&rt; lacks_fields(&tables, fields_0(), Missing::Fields(fields_0())));
     Ok(())
 }
 
@@ -287,12 +272,11 @@ fn name_0() -> NamedDef {
 
 #[test]
 fn an_absent_name_is_named(rt: HostRuntime) -> Result<(), Fail> {
-    let holds = with::empty(
-        rt.alloc(),
-        |tables| lacks_name(tables, name_0(), Missing::Name(name_0()))
-            && lacks_parent(tables, EnumVariantId::from_raw(2)),
+    let tables = with::tables(rt.alloc())?;
+    assert!(&rt;
+        lacks_name(&tables, name_0(), Missing::Name(name_0()))
+            && lacks_parent(&tables, EnumVariantId::from_raw(2))
     );
-    assert!(&rt; holds);
     Ok(())
 }
 
@@ -304,22 +288,18 @@ fn no_enum(id: EnumId) -> Missing {
 #[test]
 fn absent_signatures_are_named(rt: HostRuntime) -> Result<(), Fail> {
     let id = EnumId::from_raw(5);
-    let holds = with::empty(
-        rt.alloc(),
-        |tables| lacks_function(tables, FunctionId::from_raw(0))
-            && lacks_plain(tables, PlainDef::Enum(id), no_enum(id)),
+    let tables = with::tables(rt.alloc())?;
+    assert!(&rt;
+        lacks_function(&tables, FunctionId::from_raw(0))
+            && lacks_plain(&tables, PlainDef::Enum(id), no_enum(id))
     );
-    assert!(&rt; holds);
     Ok(())
 }
 
 #[test]
 fn no_raw_words_were_given(rt: HostRuntime) -> Result<(), Fail> {
-    let holds = with::empty(
-        rt.alloc(),
-        |tables| tables.raw_words(Edition::Edition2021).len() == 0,
-    );
-    assert!(&rt; holds);
+    let tables = with::tables(rt.alloc())?;
+    assert!(&rt; tables.raw_words(Edition::Edition2021).len() == 0);
     Ok(())
 }
 
@@ -335,12 +315,11 @@ fn is_plain(tables: &Tables, def: PlainDef) -> bool {
 
 #[test]
 fn an_enum_in_the_tables(rt: HostRuntime) -> Result<(), Fail> {
-    let holds = with::filled(
-        rt.alloc(),
-        |tables| is_plain(tables, PlainDef::Enum(EnumId::from_raw(3)))
-            && !is_plain(tables, PlainDef::Union(UnionId::from_raw(5))),
-    )?;
-    assert!(&rt; holds);
+    let tables = with::filled(rt.alloc())?;
+    assert!(&rt;
+        is_plain(&tables, PlainDef::Enum(EnumId::from_raw(3)))
+            && !is_plain(&tables, PlainDef::Union(UnionId::from_raw(5)))
+    );
     Ok(())
 }
 
@@ -362,10 +341,7 @@ fn has_root_and_self(tables: &Tables, def: DefWithBodyId) -> bool {
 
 #[test]
 fn a_body_in_the_tables(rt: HostRuntime) -> Result<(), Fail> {
-    let holds = with::filled(
-        rt.alloc(),
-        |tables| has_root_0(tables, made::def_1()) && has_root_and_self(tables, made::def_1()),
-    )?;
-    assert!(&rt; holds);
+    let tables = with::filled(rt.alloc())?;
+    assert!(&rt; has_root_0(&tables, made::def_1()) && has_root_and_self(&tables, made::def_1()));
     Ok(())
 }

@@ -28,8 +28,9 @@ fn add_two_references(builder: &mut ExpressionStoreBuilder, alloc: Global) -> Re
 #[test]
 fn a_lifetime_named_twice(rt: HostRuntime) -> Result<(), Fail> {
     let a = rt.alloc();
-    let holds = made::stored(a, |builder| add_two_references(builder, a), |_| true)?;
-    assert!(&rt; holds);
+    let mut builder = made::builder(a)?;
+    add_two_references(&mut builder, a)?;
+    let _ = made::finished(a, builder)?;
     Ok(())
 }
 
@@ -54,8 +55,9 @@ fn add_loop(builder: &mut ExpressionStoreBuilder, alloc: Global) -> Result<(), F
 #[test]
 fn a_label_named_twice(rt: HostRuntime) -> Result<(), Fail> {
     let a = rt.alloc();
-    let holds = made::stored(a, |builder| add_loop(builder, a), |_| true)?;
-    assert!(&rt; holds);
+    let mut builder = made::builder(a)?;
+    add_loop(&mut builder, a)?;
+    let _ = made::finished(a, builder)?;
     Ok(())
 }
 
@@ -73,8 +75,9 @@ fn add_chain(builder: &mut ExpressionStoreBuilder, alloc: Global, length: u32) -
 #[test]
 fn a_chain_of_references(rt: HostRuntime) -> Result<(), Fail> {
     let a = rt.alloc();
-    let holds = made::stored(a, |builder| add_chain(builder, a, 100_000), |_| true)?;
-    assert!(&rt; holds);
+    let mut builder = made::builder(a)?;
+    add_chain(&mut builder, a, 100_000)?;
+    let _ = made::finished(a, builder)?;
     Ok(())
 }
 
@@ -86,8 +89,10 @@ fn is_empty(store: &ExpressionStore, alloc: Global) -> bool {
 #[test]
 fn an_empty_store(rt: HostRuntime) -> Result<(), Fail> {
     let a = rt.alloc();
-    let holds = made::stored(a, |_| Ok(()), |store| is_empty(store, a))?;
-    assert!(&rt; holds);
+    let builder = made::builder(a)?;
+    let made = made::finished(a, builder)?;
+    let store = &made.0;
+    assert!(&rt; is_empty(store, a));
     Ok(())
 }
 
@@ -110,24 +115,22 @@ fn equals_its_copy(store: &ExpressionStore) -> bool {
 #[test]
 fn a_copy_is_equal(rt: HostRuntime) -> Result<(), Fail> {
     let a = rt.alloc();
-    let holds = made::stored(
-        a,
-        |builder| build::add_match_tree(builder, a),
-        equals_its_copy,
-    )?;
-    assert!(&rt; holds);
+    let mut builder = made::builder(a)?;
+    build::add_match_tree(&mut builder, a)?;
+    let made = made::finished(a, builder)?;
+    let store = &made.0;
+    assert!(&rt; equals_its_copy(store));
     Ok(())
 }
 
 #[test]
 fn a_store_with_nodes_is_not_empty(rt: HostRuntime) -> Result<(), Fail> {
     let a = rt.alloc();
-    let holds = made::stored(
-        a,
-        |builder| build::add_match_tree(builder, a),
-        |store| !is_empty(store, a),
-    )?;
-    assert!(&rt; holds);
+    let mut builder = made::builder(a)?;
+    build::add_match_tree(&mut builder, a)?;
+    let made = made::finished(a, builder)?;
+    let store = &made.0;
+    assert!(&rt; !is_empty(store, a));
     Ok(())
 }
 
@@ -153,12 +156,11 @@ fn has_unit(store: &ExpressionStore, alloc: Global) -> bool {
 #[test]
 fn nodes_under_their_ids(rt: HostRuntime) -> Result<(), Fail> {
     let a = rt.alloc();
-    let holds = made::stored(
-        a,
-        |builder| build::add_match_tree(builder, a),
-        |store| has_all_nodes(store) && has_unit(store, a),
-    )?;
-    assert!(&rt; holds);
+    let mut builder = made::builder(a)?;
+    build::add_match_tree(&mut builder, a)?;
+    let made = made::finished(a, builder)?;
+    let store = &made.0;
+    assert!(&rt; has_all_nodes(store) && has_unit(store, a));
     Ok(())
 }
 
@@ -182,12 +184,11 @@ fn has_another(store: &ExpressionStore) -> bool {
 #[test]
 fn what_is_there(rt: HostRuntime) -> Result<(), Fail> {
     let a = rt.alloc();
-    let holds = made::stored(
-        a,
-        |builder| build::add_match_tree(builder, a),
-        |store| has_the_last(store) && !has_another(store),
-    )?;
-    assert!(&rt; holds);
+    let mut builder = made::builder(a)?;
+    build::add_match_tree(&mut builder, a)?;
+    let made = made::finished(a, builder)?;
+    let store = &made.0;
+    assert!(&rt; has_the_last(store) && !has_another(store));
     Ok(())
 }
 
@@ -195,11 +196,10 @@ fn what_is_there(rt: HostRuntime) -> Result<(), Fail> {
 fn a_path_that_is_sound(rt: HostRuntime) -> Result<(), Fail> {
     let a = rt.alloc();
     let path = build::path(a)?;
-    let holds = made::stored(
-        a,
-        |builder| build::add_match_tree(builder, a),
-        |store| store.path_is_sound(&path),
-    )?;
-    assert!(&rt; holds);
+    let mut builder = made::builder(a)?;
+    build::add_match_tree(&mut builder, a)?;
+    let made = made::finished(a, builder)?;
+    let store = &made.0;
+    assert!(&rt; store.path_is_sound(&path));
     Ok(())
 }

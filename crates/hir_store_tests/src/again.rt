@@ -31,6 +31,13 @@ pub fn boxed<T: Drop>(alloc: Global, value: T) -> Result<Boxed<T>, AllocError> {
     }
 }
 
+pub fn in_a_box<T: Drop>(alloc: Global, value: T) -> Result<Box<T>, AllocError> {
+    match Box::new(alloc, value) {
+        Ok(made) => Ok(made),
+        Err(failed) => Ok(Box::new(alloc, failed.value)?),
+    }
+}
+
 /// The answer of the second call, where the first was refused: without the value that it hands back.
 fn told<I: Drop, T: Drop>(outcome: Result<I, (ArenaFault, T)>) -> Result<I, ArenaFault> {
     match outcome {

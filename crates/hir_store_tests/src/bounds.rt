@@ -26,24 +26,22 @@ fn bound(number: u32) -> TypeBound {
 #[test]
 fn bounds_name_types_that_are_there(rt: HostRuntime) -> Result<(), Fail> {
     let a = rt.alloc();
-    let holds = made::stored(
-        a,
-        |builder| add_path_and_never(builder, a),
-        |store| store.has_bound(&bound(1)) && !store.has_bound(&bound(2)),
-    )?;
-    assert!(&rt; holds);
+    let mut builder = made::builder(a)?;
+    add_path_and_never(&mut builder, a)?;
+    let made = made::finished(a, builder)?;
+    let store = &made.0;
+    assert!(&rt; store.has_bound(&bound(1)) && !store.has_bound(&bound(2)));
     Ok(())
 }
 
 #[test]
 fn bounds_name_paths(rt: HostRuntime) -> Result<(), Fail> {
     let a = rt.alloc();
-    let holds = made::stored(
-        a,
-        |builder| add_path_and_never(builder, a),
-        |store| store.bound_names_path(&bound(0)) && !store.bound_names_path(&bound(1)),
-    )?;
-    assert!(&rt; holds);
+    let mut builder = made::builder(a)?;
+    add_path_and_never(&mut builder, a)?;
+    let made = made::finished(a, builder)?;
+    let store = &made.0;
+    assert!(&rt; store.bound_names_path(&bound(0)) && !store.bound_names_path(&bound(1)));
     Ok(())
 }
 
@@ -62,15 +60,14 @@ fn is_its_path(store: &ExpressionStore, id: PathId) -> bool {
 #[test]
 fn the_path_of_a_bound(rt: HostRuntime) -> Result<(), Fail> {
     let a = rt.alloc();
-    let holds = made::stored(
-        a,
-        |builder| add_path_and_never(builder, a),
-        |store| {
-            is_its_path(store, named(0))
-                && !is_its_path(store, named(1))
-                && TypeBound::Error.as_path(store).is_none()
-        },
-    )?;
-    assert!(&rt; holds);
+    let mut builder = made::builder(a)?;
+    add_path_and_never(&mut builder, a)?;
+    let made = made::finished(a, builder)?;
+    let store = &made.0;
+    assert!(&rt;
+        is_its_path(store, named(0))
+            && !is_its_path(store, named(1))
+            && TypeBound::Error.as_path(store).is_none()
+    );
     Ok(())
 }

@@ -36,11 +36,11 @@ fn add_bound_on_never(builder: &mut ExpressionStoreBuilder, alloc: Global) -> Re
 #[test]
 fn what_is_no_path(rt: HostRuntime) -> Result<(), Fail> {
     let a = rt.alloc();
-    let holds = made::refused(
-        a,
-        |builder| add_bound_on_never(builder, a),
-        FinishFault::NotAPath(type_ref(1)),
-    )?;
+    let mut builder = made::builder(a)?;
+    add_bound_on_never(&mut builder, a)?;
+    let mut again = made::builder(a)?;
+    add_bound_on_never(&mut again, a)?;
+    let holds = made::is_refused(a, builder, &again, FinishFault::NotAPath(type_ref(1)))?;
     assert!(&rt; holds);
     Ok(())
 }
@@ -66,11 +66,11 @@ fn add_no_types(builder: &mut ExpressionStoreBuilder, alloc: Global) -> Result<(
 #[test]
 fn no_return_type(rt: HostRuntime) -> Result<(), Fail> {
     let a = rt.alloc();
-    let holds = made::refused(
-        a,
-        |builder| add_no_types(builder, a),
-        FinishFault::NoReturnType(type_ref(0)),
-    )?;
+    let mut builder = made::builder(a)?;
+    add_no_types(&mut builder, a)?;
+    let mut again = made::builder(a)?;
+    add_no_types(&mut again, a)?;
+    let holds = made::is_refused(a, builder, &again, FinishFault::NoReturnType(type_ref(0)))?;
     assert!(&rt; holds);
     Ok(())
 }
@@ -124,11 +124,11 @@ fn without_self_argument(alloc: Global) -> Result<Path, AllocError> {
 #[test]
 fn no_self_argument(rt: HostRuntime) -> Result<(), Fail> {
     let a = rt.alloc();
-    let holds = made::refused(
-        a,
-        |builder| add_as_expr(builder, without_self_argument(a)?),
-        FinishFault::NoSelfArgument(expr(0)),
-    )?;
+    let mut builder = made::builder(a)?;
+    add_as_expr(&mut builder, without_self_argument(a)?)?;
+    let mut again = made::builder(a)?;
+    add_as_expr(&mut again, without_self_argument(a)?)?;
+    let holds = made::is_refused(a, builder, &again, FinishFault::NoSelfArgument(expr(0)))?;
     assert!(&rt; holds);
     Ok(())
 }
@@ -143,11 +143,11 @@ fn one_list_for_two(alloc: Global) -> Result<Path, AllocError> {
 #[test]
 fn lists_that_do_not_fit(rt: HostRuntime) -> Result<(), Fail> {
     let a = rt.alloc();
-    let holds = made::refused(
-        a,
-        |builder| add_as_expr(builder, one_list_for_two(a)?),
-        FinishFault::ArgumentLists(expr(0)),
-    )?;
+    let mut builder = made::builder(a)?;
+    add_as_expr(&mut builder, one_list_for_two(a)?)?;
+    let mut again = made::builder(a)?;
+    add_as_expr(&mut again, one_list_for_two(a)?)?;
+    let holds = made::is_refused(a, builder, &again, FinishFault::ArgumentLists(expr(0)))?;
     assert!(&rt; holds);
     Ok(())
 }
@@ -179,11 +179,11 @@ fn nested(alloc: Global, args: Seq<GenericArg>) -> Result<Path, AllocError> {
 #[test]
 fn no_self_argument_deep_down(rt: HostRuntime) -> Result<(), Fail> {
     let a = rt.alloc();
-    let holds = made::refused(
-        a,
-        |builder| add_as_expr(builder, nested(a, Seq::new(a))?),
-        FinishFault::NoSelfArgument(expr(0)),
-    )?;
+    let mut builder = made::builder(a)?;
+    add_as_expr(&mut builder, nested(a, Seq::new(a))?)?;
+    let mut again = made::builder(a)?;
+    add_as_expr(&mut again, nested(a, Seq::new(a))?)?;
+    let holds = made::is_refused(a, builder, &again, FinishFault::NoSelfArgument(expr(0)))?;
     assert!(&rt; holds);
     Ok(())
 }
@@ -200,8 +200,9 @@ fn add_nested_self(builder: &mut ExpressionStoreBuilder, alloc: Global) -> Resul
 #[test]
 fn a_self_argument_deep_down(rt: HostRuntime) -> Result<(), Fail> {
     let a = rt.alloc();
-    let holds = made::stored(a, |builder| add_nested_self(builder, a), |_| true)?;
-    assert!(&rt; holds);
+    let mut builder = made::builder(a)?;
+    add_nested_self(&mut builder, a)?;
+    let _ = made::finished(a, builder)?;
     Ok(())
 }
 
@@ -234,11 +235,11 @@ fn add_cut(builder: &mut ExpressionStoreBuilder, alloc: Global, root: u32) -> Re
 #[test]
 fn ends_past_the_arena(rt: HostRuntime) -> Result<(), Fail> {
     let a = rt.alloc();
-    let holds = made::refused(
-        a,
-        |builder| add_cut(builder, a, 0),
-        FinishFault::RootEnds(0),
-    )?;
+    let mut builder = made::builder(a)?;
+    add_cut(&mut builder, a, 0)?;
+    let mut again = made::builder(a)?;
+    add_cut(&mut again, a, 0)?;
+    let holds = made::is_refused(a, builder, &again, FinishFault::RootEnds(0))?;
     assert!(&rt; holds);
     Ok(())
 }
@@ -246,11 +247,11 @@ fn ends_past_the_arena(rt: HostRuntime) -> Result<(), Fail> {
 #[test]
 fn a_root_past_the_arena(rt: HostRuntime) -> Result<(), Fail> {
     let a = rt.alloc();
-    let holds = made::refused(
-        a,
-        |builder| add_cut(builder, a, 2),
-        FinishFault::RootOutOfRange(0),
-    )?;
+    let mut builder = made::builder(a)?;
+    add_cut(&mut builder, a, 2)?;
+    let mut again = made::builder(a)?;
+    add_cut(&mut again, a, 2)?;
+    let holds = made::is_refused(a, builder, &again, FinishFault::RootOutOfRange(0))?;
     assert!(&rt; holds);
     Ok(())
 }
@@ -268,11 +269,11 @@ fn add_falling_ends(builder: &mut ExpressionStoreBuilder, alloc: Global) -> Resu
 #[test]
 fn ends_that_fall(rt: HostRuntime) -> Result<(), Fail> {
     let a = rt.alloc();
-    let holds = made::refused(
-        a,
-        |builder| add_falling_ends(builder, a),
-        FinishFault::RootEnds(1),
-    )?;
+    let mut builder = made::builder(a)?;
+    add_falling_ends(&mut builder, a)?;
+    let mut again = made::builder(a)?;
+    add_falling_ends(&mut again, a)?;
+    let holds = made::is_refused(a, builder, &again, FinishFault::RootEnds(1))?;
     assert!(&rt; holds);
     Ok(())
 }

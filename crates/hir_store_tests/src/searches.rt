@@ -53,16 +53,15 @@ fn expr_was_made_for(store: &ExpressionStore, expr: u32, root: Option<u32>) -> b
 #[test]
 fn roots_of_expressions(rt: HostRuntime) -> Result<(), Fail> {
     let a = rt.alloc();
-    let holds = made::stored(
-        a,
-        |builder| add_two_roots(builder, a),
-        |store| {
-            expr_was_made_for(store, 2, Some(2))
-                && expr_was_made_for(store, 3, Some(4))
-                && expr_was_made_for(store, 5, None)
-        },
-    )?;
-    assert!(&rt; holds);
+    let mut builder = made::builder(a)?;
+    add_two_roots(&mut builder, a)?;
+    let made = made::finished(a, builder)?;
+    let store = &made.0;
+    assert!(&rt;
+        expr_was_made_for(store, 2, Some(2))
+            && expr_was_made_for(store, 3, Some(4))
+            && expr_was_made_for(store, 5, None)
+    );
     Ok(())
 }
 
@@ -78,12 +77,11 @@ fn pat_was_made_for(store: &ExpressionStore, pat: u32, root: Option<u32>) -> boo
 #[test]
 fn roots_of_patterns(rt: HostRuntime) -> Result<(), Fail> {
     let a = rt.alloc();
-    let holds = made::stored(
-        a,
-        |builder| add_two_roots(builder, a),
-        |store| pat_was_made_for(store, 0, Some(4)) && pat_was_made_for(store, 2, None),
-    )?;
-    assert!(&rt; holds);
+    let mut builder = made::builder(a)?;
+    add_two_roots(&mut builder, a)?;
+    let made = made::finished(a, builder)?;
+    let store = &made.0;
+    assert!(&rt; pat_was_made_for(store, 0, Some(4)) && pat_was_made_for(store, 2, None));
     Ok(())
 }
 
@@ -99,12 +97,11 @@ fn binding_was_made_for(store: &ExpressionStore, binding: u32, root: Option<u32>
 #[test]
 fn roots_of_bindings(rt: HostRuntime) -> Result<(), Fail> {
     let a = rt.alloc();
-    let holds = made::stored(
-        a,
-        |builder| add_two_roots(builder, a),
-        |store| binding_was_made_for(store, 0, Some(4)) && binding_was_made_for(store, 1, None),
-    )?;
-    assert!(&rt; holds);
+    let mut builder = made::builder(a)?;
+    add_two_roots(&mut builder, a)?;
+    let made = made::finished(a, builder)?;
+    let store = &made.0;
+    assert!(&rt; binding_was_made_for(store, 0, Some(4)) && binding_was_made_for(store, 1, None));
     Ok(())
 }
 
@@ -119,7 +116,10 @@ fn has_both_roots(store: &ExpressionStore) -> bool {
 #[test]
 fn roots_in_order(rt: HostRuntime) -> Result<(), Fail> {
     let a = rt.alloc();
-    let holds = made::stored(a, |builder| add_two_roots(builder, a), has_both_roots)?;
-    assert!(&rt; holds);
+    let mut builder = made::builder(a)?;
+    add_two_roots(&mut builder, a)?;
+    let made = made::finished(a, builder)?;
+    let store = &made.0;
+    assert!(&rt; has_both_roots(store));
     Ok(())
 }

@@ -50,12 +50,11 @@ fn say_twice(builder: &mut ExpressionStoreBuilder, alloc: Global) -> Result<(), 
 #[test]
 fn a_source_mapped_twice(rt: HostRuntime) -> Result<(), Fail> {
     let a = rt.alloc();
-    let holds = made::mapped(
-        a,
-        |builder| say_twice(builder, a),
-        |map| expr_became(map, 5, Some(expr(1))) && expr_became(map, 6, None),
-    )?;
-    assert!(&rt; holds);
+    let mut builder = made::builder(a)?;
+    say_twice(&mut builder, a)?;
+    let made = made::finished(a, builder)?;
+    let map = &made.1;
+    assert!(&rt; expr_became(map, 5, Some(expr(1))) && expr_became(map, 6, None));
     Ok(())
 }
 
@@ -69,23 +68,22 @@ fn say_expr(builder: &mut ExpressionStoreBuilder, alloc: Global, number: u32) ->
 #[test]
 fn a_source_mapped_once(rt: HostRuntime) -> Result<(), Fail> {
     let a = rt.alloc();
-    let holds = made::mapped(
-        a,
-        |builder| say_expr(builder, a, 0),
-        |map| expr_became(map, 5, Some(expr(0))),
-    )?;
-    assert!(&rt; holds);
+    let mut builder = made::builder(a)?;
+    say_expr(&mut builder, a, 0)?;
+    let made = made::finished(a, builder)?;
+    let map = &made.1;
+    assert!(&rt; expr_became(map, 5, Some(expr(0))));
     Ok(())
 }
 
 #[test]
 fn forward_maps_are_not_compared(rt: HostRuntime) -> Result<(), Fail> {
     let a = rt.alloc();
-    let equal = made::are_equal(
-        a,
-        |builder| say_expr(builder, a, 0),
-        |builder| add_two(builder, a),
-    )?;
+    let mut first = made::builder(a)?;
+    say_expr(&mut first, a, 0)?;
+    let mut second = made::builder(a)?;
+    add_two(&mut second, a)?;
+    let equal = made::are_equal(a, first, second)?;
     assert!(&rt; equal);
     Ok(())
 }
@@ -100,11 +98,11 @@ fn say_expr_back(builder: &mut ExpressionStoreBuilder, alloc: Global) -> Result<
 #[test]
 fn back_maps_are_compared(rt: HostRuntime) -> Result<(), Fail> {
     let a = rt.alloc();
-    let equal = made::are_equal(
-        a,
-        |builder| say_expr_back(builder, a),
-        |builder| add_two(builder, a),
-    )?;
+    let mut first = made::builder(a)?;
+    say_expr_back(&mut first, a)?;
+    let mut second = made::builder(a)?;
+    add_two(&mut second, a)?;
+    let equal = made::are_equal(a, first, second)?;
     assert!(&rt; !equal);
     Ok(())
 }
@@ -131,16 +129,15 @@ fn expr_has_no_source(map: &ExpressionStoreSourceMap, id: ExprId) -> bool {
 #[test]
 fn sources_of_expressions(rt: HostRuntime) -> Result<(), Fail> {
     let a = rt.alloc();
-    let holds = made::mapped(
-        a,
-        |builder| say_expr_back(builder, a),
-        |map| {
-            expr_came_from(map, zero(), 5)
-                && expr_has_no_source(map, Idx::from_raw(1))
-                && came_from(map, expr(0), 5)
-        },
-    )?;
-    assert!(&rt; holds);
+    let mut builder = made::builder(a)?;
+    say_expr_back(&mut builder, a)?;
+    let made = made::finished(a, builder)?;
+    let map = &made.1;
+    assert!(&rt;
+        expr_came_from(map, zero(), 5)
+            && expr_has_no_source(map, Idx::from_raw(1))
+            && came_from(map, expr(0), 5)
+    );
     Ok(())
 }
 
@@ -152,18 +149,22 @@ fn say_without_nodes(builder: &mut ExpressionStoreBuilder) -> Result<(), Fail> {
 
 #[test]
 fn a_source_without_nodes(rt: HostRuntime) -> Result<(), Fail> {
-    let holds = made::mapped(
-        rt.alloc(),
-        say_without_nodes,
-        |map| expr_became(map, 5, None),
-    )?;
-    assert!(&rt; holds);
+    let a = rt.alloc();
+    let mut builder = made::builder(a)?;
+    say_without_nodes(&mut builder)?;
+    let made = made::finished(a, builder)?;
+    let map = &made.1;
+    assert!(&rt; expr_became(map, 5, None));
     Ok(())
 }
 
 #[test]
 fn sources_without_nodes_are_dropped(rt: HostRuntime) -> Result<(), Fail> {
-    let equal = made::are_equal(rt.alloc(), say_without_nodes, |_| Ok(()))?;
+    let a = rt.alloc();
+    let mut first = made::builder(a)?;
+    say_without_nodes(&mut first)?;
+    let second = made::builder(a)?;
+    let equal = made::are_equal(a, first, second)?;
     assert!(&rt; equal);
     Ok(())
 }
@@ -185,12 +186,11 @@ fn pat_became(map: &ExpressionStoreSourceMap, start: u32, wanted: Option<ExprOrP
 #[test]
 fn patterns_of_sources(rt: HostRuntime) -> Result<(), Fail> {
     let a = rt.alloc();
-    let holds = made::mapped(
-        a,
-        |builder| say_pat(builder, a),
-        |map| pat_became(map, 6, Some(pat(3))) && pat_became(map, 5, None),
-    )?;
-    assert!(&rt; holds);
+    let mut builder = made::builder(a)?;
+    say_pat(&mut builder, a)?;
+    let made = made::finished(a, builder)?;
+    let map = &made.1;
+    assert!(&rt; pat_became(map, 6, Some(pat(3))) && pat_became(map, 5, None));
     Ok(())
 }
 
@@ -211,12 +211,11 @@ fn pat_came_from(map: &ExpressionStoreSourceMap, id: PatId, start: u32) -> bool
 #[test]
 fn sources_of_patterns(rt: HostRuntime) -> Result<(), Fail> {
     let a = rt.alloc();
-    let holds = made::mapped(
-        a,
-        |builder| say_pat_back(builder, a),
-        |map| pat_came_from(map, Idx::from_raw(3), 6) && came_from(map, pat(3), 6),
-    )?;
-    assert!(&rt; holds);
+    let mut builder = made::builder(a)?;
+    say_pat_back(&mut builder, a)?;
+    let made = made::finished(a, builder)?;
+    let map = &made.1;
+    assert!(&rt; pat_came_from(map, Idx::from_raw(3), 6) && came_from(map, pat(3), 6));
     Ok(())
 }
 
@@ -237,12 +236,11 @@ fn label_became(map: &ExpressionStoreSourceMap, start: u32, id: LabelId) -> bool
 #[test]
 fn labels_of_sources(rt: HostRuntime) -> Result<(), Fail> {
     let a = rt.alloc();
-    let holds = made::mapped(
-        a,
-        |builder| say_label(builder, a),
-        |map| label_became(map, 5, Idx::from_raw(2)),
-    )?;
-    assert!(&rt; holds);
+    let mut builder = made::builder(a)?;
+    say_label(&mut builder, a)?;
+    let made = made::finished(a, builder)?;
+    let map = &made.1;
+    assert!(&rt; label_became(map, 5, Idx::from_raw(2)));
     Ok(())
 }
 
@@ -261,15 +259,14 @@ fn label_came_from(map: &ExpressionStoreSourceMap, id: LabelId, source: LabelSou
 #[test]
 fn sources_of_labels(rt: HostRuntime) -> Result<(), Fail> {
     let a = rt.alloc();
-    let holds = made::mapped(
-        a,
-        |builder| say_label_back(builder, a),
-        |map| {
-            label_came_from(map, Idx::from_raw(2), say::source(5))
-                && !map.has_label_syntax(Idx::from_raw(0))
-        },
-    )?;
-    assert!(&rt; holds);
+    let mut builder = made::builder(a)?;
+    say_label_back(&mut builder, a)?;
+    let made = made::finished(a, builder)?;
+    let map = &made.1;
+    assert!(&rt;
+        label_came_from(map, Idx::from_raw(2), say::source(5))
+            && !map.has_label_syntax(Idx::from_raw(0))
+    );
     Ok(())
 }
 
@@ -288,14 +285,13 @@ fn field_came_from(map: &ExpressionStoreSourceMap, id: ExprId, source: FieldSour
 #[test]
 fn sources_of_fields(rt: HostRuntime) -> Result<(), Fail> {
     let a = rt.alloc();
-    let holds = made::mapped(
-        a,
-        |builder| say_field_back(builder, a),
-        |map| {
-            field_came_from(map, zero(), say::source(6)) && !map.has_field_syntax(Idx::from_raw(1))
-        },
-    )?;
-    assert!(&rt; holds);
+    let mut builder = made::builder(a)?;
+    say_field_back(&mut builder, a)?;
+    let made = made::finished(a, builder)?;
+    let map = &made.1;
+    assert!(&rt;
+        field_came_from(map, zero(), say::source(6)) && !map.has_field_syntax(Idx::from_raw(1))
+    );
     Ok(())
 }
 
@@ -314,15 +310,14 @@ fn pat_field_came_from(map: &ExpressionStoreSourceMap, id: PatId, source: PatFie
 #[test]
 fn sources_of_fields_of_patterns(rt: HostRuntime) -> Result<(), Fail> {
     let a = rt.alloc();
-    let holds = made::mapped(
-        a,
-        |builder| say_pat_field_back(builder, a),
-        |map| {
-            pat_field_came_from(map, Idx::from_raw(4), say::source(7))
-                && !map.has_pat_field_syntax(Idx::from_raw(0))
-        },
-    )?;
-    assert!(&rt; holds);
+    let mut builder = made::builder(a)?;
+    say_pat_field_back(&mut builder, a)?;
+    let made = made::finished(a, builder)?;
+    let map = &made.1;
+    assert!(&rt;
+        pat_field_came_from(map, Idx::from_raw(4), say::source(7))
+            && !map.has_pat_field_syntax(Idx::from_raw(0))
+    );
     Ok(())
 }
 
@@ -351,16 +346,15 @@ fn type_has_no_source(map: &ExpressionStoreSourceMap, id: TypeRefId) -> bool {
 #[test]
 fn types_and_their_sources(rt: HostRuntime) -> Result<(), Fail> {
     let a = rt.alloc();
-    let holds = made::mapped(
-        a,
-        |builder| say_type(builder),
-        |map| {
-            type_became(map, say::source(5), Idx::from_raw(2))
-                && type_came_from(map, Idx::from_raw(2), say::source(5))
-                && type_has_no_source(map, Idx::from_raw(0))
-        },
-    )?;
-    assert!(&rt; holds);
+    let mut builder = made::builder(a)?;
+    say_type(&mut builder)?;
+    let made = made::finished(a, builder)?;
+    let map = &made.1;
+    assert!(&rt;
+        type_became(map, say::source(5), Idx::from_raw(2))
+            && type_came_from(map, Idx::from_raw(2), say::source(5))
+            && type_has_no_source(map, Idx::from_raw(0))
+    );
     Ok(())
 }
 
@@ -372,7 +366,11 @@ fn say_lifetime_back(builder: &mut ExpressionStoreBuilder) -> Result<(), Fail> {
 
 #[test]
 fn sources_of_lifetimes_are_compared(rt: HostRuntime) -> Result<(), Fail> {
-    let equal = made::are_equal(rt.alloc(), say_lifetime_back, |_| Ok(()))?;
+    let a = rt.alloc();
+    let mut first = made::builder(a)?;
+    say_lifetime_back(&mut first)?;
+    let second = made::builder(a)?;
+    let equal = made::are_equal(a, first, second)?;
     assert!(&rt; !equal);
     Ok(())
 }
@@ -385,7 +383,11 @@ fn say_lifetime(builder: &mut ExpressionStoreBuilder) -> Result<(), Fail> {
 
 #[test]
 fn lifetimes_of_sources_are_not_compared(rt: HostRuntime) -> Result<(), Fail> {
-    let equal = made::are_equal(rt.alloc(), say_lifetime, |_| Ok(()))?;
+    let a = rt.alloc();
+    let mut first = made::builder(a)?;
+    say_lifetime(&mut first)?;
+    let second = made::builder(a)?;
+    let equal = made::are_equal(a, first, second)?;
     assert!(&rt; equal);
     Ok(())
 }
@@ -400,12 +402,11 @@ fn macro_became(map: &ExpressionStoreSourceMap, start: u32, wanted: ExprOrPatId)
 #[test]
 fn a_macro_call_as_an_expression(rt: HostRuntime) -> Result<(), Fail> {
     let a = rt.alloc();
-    let holds = made::mapped(
-        a,
-        |builder| say_expr(builder, a, 1),
-        |map| macro_became(map, 5, expr(1)),
-    )?;
-    assert!(&rt; holds);
+    let mut builder = made::builder(a)?;
+    say_expr(&mut builder, a, 1)?;
+    let made = made::finished(a, builder)?;
+    let map = &made.1;
+    assert!(&rt; macro_became(map, 5, expr(1)));
     Ok(())
 }
 

@@ -49,12 +49,11 @@ fn lacks_map(store: &ExpressionStore, maps: &BTreeMap<BlockId, u32>, block: Bloc
 fn a_block_without_a_map(rt: HostRuntime) -> Result<(), Fail> {
     let a = rt.alloc();
     let maps = one_map(a)?;
-    let holds = made::stored(
-        a,
-        |builder| say_two_blocks(builder, a),
-        |store| lacks_map(store, &maps, BlockId::from_raw(1)),
-    )?;
-    assert!(&rt; holds);
+    let mut builder = made::builder(a)?;
+    say_two_blocks(&mut builder, a)?;
+    let made = made::finished(a, builder)?;
+    let store = &made.0;
+    assert!(&rt; lacks_map(store, &maps, BlockId::from_raw(1)));
     Ok(())
 }
 
@@ -80,12 +79,11 @@ fn are_both_blocks<'a>(store: &'a ExpressionStore, maps: &'a BTreeMap<BlockId, u
 fn blocks_with_their_maps(rt: HostRuntime) -> Result<(), Fail> {
     let a = rt.alloc();
     let maps = two_maps(a)?;
-    let holds = made::stored(
-        a,
-        |builder| say_two_blocks(builder, a),
-        |store| are_both_blocks(store, &maps),
-    )?;
-    assert!(&rt; holds);
+    let mut builder = made::builder(a)?;
+    say_two_blocks(&mut builder, a)?;
+    let made = made::finished(a, builder)?;
+    let store = &made.0;
+    assert!(&rt; are_both_blocks(store, &maps));
     Ok(())
 }
 
@@ -118,12 +116,15 @@ fn is_empty(store: &ExpressionStore, alloc: Global) -> bool {
 fn blocks_without_nodes_are_dropped(rt: HostRuntime) -> Result<(), Fail> {
     let a = rt.alloc();
     let maps: BTreeMap<BlockId, u32> = BTreeMap::new(a);
-    let holds = made::stored(a, say_without_nodes, |store| {
+    let mut builder = made::builder(a)?;
+    say_without_nodes(&mut builder)?;
+    let made = made::finished(a, builder)?;
+    let store = &made.0;
+    assert!(&rt;
         lacks_no_map(store, &maps)
             && is_owned_by(store, Idx::from_raw(0), None)
             && is_empty(store, a)
-    })?;
-    assert!(&rt; holds);
+    );
     Ok(())
 }
 
@@ -137,15 +138,14 @@ fn say_owner(builder: &mut ExpressionStoreBuilder, alloc: Global) -> Result<(), 
 #[test]
 fn owners_of_bindings(rt: HostRuntime) -> Result<(), Fail> {
     let a = rt.alloc();
-    let holds = made::stored(
-        a,
-        |builder| say_owner(builder, a),
-        |store| {
-            is_owned_by(store, Idx::from_raw(7), Some(Idx::from_raw(1)))
-                && is_owned_by(store, Idx::from_raw(0), None)
-        },
-    )?;
-    assert!(&rt; holds);
+    let mut builder = made::builder(a)?;
+    say_owner(&mut builder, a)?;
+    let made = made::finished(a, builder)?;
+    let store = &made.0;
+    assert!(&rt;
+        is_owned_by(store, Idx::from_raw(7), Some(Idx::from_raw(1)))
+            && is_owned_by(store, Idx::from_raw(0), None)
+    );
     Ok(())
 }
 
@@ -186,15 +186,14 @@ fn is_defined_by(
 #[test]
 fn definitions_in_order(rt: HostRuntime) -> Result<(), Fail> {
     let a = rt.alloc();
-    let holds = made::mapped(
-        a,
-        |builder| say_two_definitions(builder, a),
-        |map| {
-            is_defined_by(map, Idx::from_raw(0), Idx::from_raw(2), Idx::from_raw(0))
-                && map.patterns_for_binding(Idx::from_raw(1)).is_empty()
-        },
-    )?;
-    assert!(&rt; holds);
+    let mut builder = made::builder(a)?;
+    say_two_definitions(&mut builder, a)?;
+    let made = made::finished(a, builder)?;
+    let map = &made.1;
+    assert!(&rt;
+        is_defined_by(map, Idx::from_raw(0), Idx::from_raw(2), Idx::from_raw(0))
+            && map.patterns_for_binding(Idx::from_raw(1)).is_empty()
+    );
     Ok(())
 }
 
@@ -215,12 +214,11 @@ fn say_nine_definitions(
 fn many_definitions(rt: HostRuntime) -> Result<(), Fail> {
     let a = rt.alloc();
     let binding = Idx::from_raw(4_000_000_000);
-    let holds = made::mapped(
-        a,
-        |builder| say_nine_definitions(builder, a, binding),
-        |map| map.patterns_for_binding(binding).len() == 9,
-    )?;
-    assert!(&rt; holds);
+    let mut builder = made::builder(a)?;
+    say_nine_definitions(&mut builder, a, binding)?;
+    let made = made::finished(a, builder)?;
+    let map = &made.1;
+    assert!(&rt; map.patterns_for_binding(binding).len() == 9);
     Ok(())
 }
 
@@ -243,31 +241,29 @@ fn say_hygiene(
 #[test]
 fn hygiene_of_expressions(rt: HostRuntime) -> Result<(), Fail> {
     let a = rt.alloc();
-    let holds = made::stored(
-        a,
-        |builder| say_hygiene(builder, a, expr(1)),
-        |store| {
-            store.expr_path_hygiene(zero()) == HygieneId::ROOT
-                && store.expr_path_hygiene(Idx::from_raw(1)) == expanded()
-                && store.expr_or_pat_path_hygiene(expr(1)) == expanded()
-        },
-    )?;
-    assert!(&rt; holds);
+    let mut builder = made::builder(a)?;
+    say_hygiene(&mut builder, a, expr(1))?;
+    let made = made::finished(a, builder)?;
+    let store = &made.0;
+    assert!(&rt;
+        store.expr_path_hygiene(zero()) == HygieneId::ROOT
+            && store.expr_path_hygiene(Idx::from_raw(1)) == expanded()
+            && store.expr_or_pat_path_hygiene(expr(1)) == expanded()
+    );
     Ok(())
 }
 
 #[test]
 fn hygiene_of_patterns(rt: HostRuntime) -> Result<(), Fail> {
     let a = rt.alloc();
-    let holds = made::stored(
-        a,
-        |builder| say_hygiene(builder, a, pat(0)),
-        |store| {
-            store.pat_path_hygiene(Idx::from_raw(0)) == expanded()
-                && store.pat_path_hygiene(Idx::from_raw(1)) == HygieneId::ROOT
-        },
-    )?;
-    assert!(&rt; holds);
+    let mut builder = made::builder(a)?;
+    say_hygiene(&mut builder, a, pat(0))?;
+    let made = made::finished(a, builder)?;
+    let store = &made.0;
+    assert!(&rt;
+        store.pat_path_hygiene(Idx::from_raw(0)) == expanded()
+            && store.pat_path_hygiene(Idx::from_raw(1)) == HygieneId::ROOT
+    );
     Ok(())
 }
 
@@ -295,16 +291,15 @@ fn has_macro_file(map: &ExpressionStoreSourceMap, start: u32, wanted: MacroCallI
 fn an_expansion_without_nodes(rt: HostRuntime) -> Result<(), Fail> {
     let a = rt.alloc();
     let call = MacroCallId::from_raw(3);
-    let holds = made::mapped(
-        a,
-        |builder| say_call(builder, call),
-        |map| {
-            is_expanded_to(map, 5, Some(call))
-                && has_macro_file(map, 5, call)
-                && is_expanded_to(map, 6, None)
-        },
-    )?;
-    assert!(&rt; holds);
+    let mut builder = made::builder(a)?;
+    say_call(&mut builder, call)?;
+    let made = made::finished(a, builder)?;
+    let map = &made.1;
+    assert!(&rt;
+        is_expanded_to(map, 5, Some(call))
+            && has_macro_file(map, 5, call)
+            && is_expanded_to(map, 6, None)
+    );
     Ok(())
 }
 
@@ -312,12 +307,11 @@ fn an_expansion_without_nodes(rt: HostRuntime) -> Result<(), Fail> {
 fn an_expansion_is_nothing_to_the_store(rt: HostRuntime) -> Result<(), Fail> {
     let a = rt.alloc();
     let call = MacroCallId::from_raw(3);
-    let holds = made::stored(
-        a,
-        |builder| say_call(builder, call),
-        |store| is_empty(store, a),
-    )?;
-    assert!(&rt; holds);
+    let mut builder = made::builder(a)?;
+    say_call(&mut builder, call)?;
+    let made = made::finished(a, builder)?;
+    let store = &made.0;
+    assert!(&rt; is_empty(store, a));
     Ok(())
 }
 
@@ -339,12 +333,11 @@ fn is_only_call(map: &ExpressionStoreSourceMap, call: u32) -> bool {
 fn all_macro_calls(rt: HostRuntime) -> Result<(), Fail> {
     let a = rt.alloc();
     let call = MacroCallId::from_raw(8);
-    let holds = made::mapped(
-        a,
-        |builder| say_call(builder, call),
-        |map| is_only_call(map, 8),
-    )?;
-    assert!(&rt; holds);
+    let mut builder = made::builder(a)?;
+    say_call(&mut builder, call)?;
+    let made = made::finished(a, builder)?;
+    let map = &made.1;
+    assert!(&rt; is_only_call(map, 8));
     Ok(())
 }
 
@@ -366,12 +359,11 @@ fn is_only_expansion(map: &ExpressionStoreSourceMap, call: u32) -> bool {
 fn all_expansions(rt: HostRuntime) -> Result<(), Fail> {
     let a = rt.alloc();
     let call = MacroCallId::from_raw(8);
-    let holds = made::mapped(
-        a,
-        |builder| say_call(builder, call),
-        |map| is_only_expansion(map, 8),
-    )?;
-    assert!(&rt; holds);
+    let mut builder = made::builder(a)?;
+    say_call(&mut builder, call)?;
+    let made = made::finished(a, builder)?;
+    let map = &made.1;
+    assert!(&rt; is_only_expansion(map, 8));
     Ok(())
 }
 
@@ -402,10 +394,12 @@ fn are_both_diagnostics(found: &[ExpressionStoreDiagnostics]) -> bool {
 
 #[test]
 fn diagnostics_in_order(rt: HostRuntime) -> Result<(), Fail> {
-    let holds = made::mapped(rt.alloc(), say_two_diagnostics, |map| {
-        are_both_diagnostics(map.diagnostics())
-    })?;
-    assert!(&rt; holds);
+    let a = rt.alloc();
+    let mut builder = made::builder(a)?;
+    say_two_diagnostics(&mut builder)?;
+    let made = made::finished(a, builder)?;
+    let map = &made.1;
+    assert!(&rt; are_both_diagnostics(map.diagnostics()));
     Ok(())
 }
 
@@ -422,11 +416,10 @@ fn say_undeclared_label(builder: &mut ExpressionStoreBuilder, alloc: Global) -> 
 #[test]
 fn a_diagnostic_with_a_name(rt: HostRuntime) -> Result<(), Fail> {
     let a = rt.alloc();
-    let holds = made::mapped(
-        a,
-        |builder| say_undeclared_label(builder, a),
-        |map| map.diagnostics().len() == 1,
-    )?;
-    assert!(&rt; holds);
+    let mut builder = made::builder(a)?;
+    say_undeclared_label(&mut builder, a)?;
+    let made = made::finished(a, builder)?;
+    let map = &made.1;
+    assert!(&rt; map.diagnostics().len() == 1);
     Ok(())
 }

@@ -97,12 +97,11 @@ fn none_has_none(alloc: Global, store: &ExpressionStore) -> bool {
 #[test]
 fn a_set_of_no_nodes(rt: HostRuntime) -> Result<(), Fail> {
     let a = rt.alloc();
-    let holds = made::stored(
-        a,
-        |builder| add_let_in_tuple(builder, a),
-        |store| none_has_none(a, store),
-    )?;
-    assert!(&rt; holds);
+    let mut builder = made::builder(a)?;
+    add_let_in_tuple(&mut builder, a)?;
+    let made = made::finished(a, builder)?;
+    let store = &made.0;
+    assert!(&rt; none_has_none(a, store));
     Ok(())
 }
 
@@ -117,12 +116,11 @@ fn marked_has_both(alloc: Global, store: &ExpressionStore) -> bool {
 #[test]
 fn a_set_has_what_was_added(rt: HostRuntime) -> Result<(), Fail> {
     let a = rt.alloc();
-    let holds = made::stored(
-        a,
-        |builder| add_let_in_tuple(builder, a),
-        |store| marked_has_both(a, store),
-    )?;
-    assert!(&rt; holds);
+    let mut builder = made::builder(a)?;
+    add_let_in_tuple(&mut builder, a)?;
+    let made = made::finished(a, builder)?;
+    let store = &made.0;
+    assert!(&rt; marked_has_both(a, store));
     Ok(())
 }
 
@@ -151,12 +149,11 @@ fn finds_what_is_under(alloc: Global, store: &ExpressionStore) -> bool {
 #[test]
 fn what_lies_under_marked_nodes(rt: HostRuntime) -> Result<(), Fail> {
     let a = rt.alloc();
-    let holds = made::stored(
-        a,
-        |builder| add_let_in_tuple(builder, a),
-        |store| finds_what_is_under(a, store),
-    )?;
-    assert!(&rt; holds);
+    let mut builder = made::builder(a)?;
+    add_let_in_tuple(&mut builder, a)?;
+    let made = made::finished(a, builder)?;
+    let store = &made.0;
+    assert!(&rt; finds_what_is_under(a, store));
     Ok(())
 }
 

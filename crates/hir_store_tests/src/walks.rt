@@ -98,12 +98,11 @@ fn visits_a_match(store: &ExpressionStore) -> bool {
 #[test]
 fn a_visitor_of_a_match(rt: HostRuntime) -> Result<(), Fail> {
     let a = rt.alloc();
-    let holds = made::stored(
-        a,
-        |builder| build::add_match_tree(builder, a),
-        visits_a_match,
-    )?;
-    assert!(&rt; holds);
+    let mut builder = made::builder(a)?;
+    build::add_match_tree(&mut builder, a)?;
+    let made = made::finished(a, builder)?;
+    let store = &made.0;
+    assert!(&rt; visits_a_match(store));
     Ok(())
 }
 
@@ -120,12 +119,11 @@ fn visits_a_pattern(store: &ExpressionStore) -> bool {
 #[test]
 fn a_visitor_of_a_pattern(rt: HostRuntime) -> Result<(), Fail> {
     let a = rt.alloc();
-    let holds = made::stored(
-        a,
-        |builder| build::add_match_tree(builder, a),
-        visits_a_pattern,
-    )?;
-    assert!(&rt; holds);
+    let mut builder = made::builder(a)?;
+    build::add_match_tree(&mut builder, a)?;
+    let made = made::finished(a, builder)?;
+    let store = &made.0;
+    assert!(&rt; visits_a_pattern(store));
     Ok(())
 }
 
@@ -142,12 +140,11 @@ fn walks_a_pattern(store: &ExpressionStore) -> bool {
 #[test]
 fn patterns_of_a_pattern(rt: HostRuntime) -> Result<(), Fail> {
     let a = rt.alloc();
-    let holds = made::stored(
-        a,
-        |builder| build::add_match_tree(builder, a),
-        walks_a_pattern,
-    )?;
-    assert!(&rt; holds);
+    let mut builder = made::builder(a)?;
+    build::add_match_tree(&mut builder, a)?;
+    let made = made::finished(a, builder)?;
+    let store = &made.0;
+    assert!(&rt; walks_a_pattern(store));
     Ok(())
 }
 
@@ -164,12 +161,11 @@ fn walks_child_patterns(store: &ExpressionStore) -> bool {
 #[test]
 fn child_patterns_of_a_pattern(rt: HostRuntime) -> Result<(), Fail> {
     let a = rt.alloc();
-    let holds = made::stored(
-        a,
-        |builder| build::add_match_tree(builder, a),
-        walks_child_patterns,
-    )?;
-    assert!(&rt; holds);
+    let mut builder = made::builder(a)?;
+    build::add_match_tree(&mut builder, a)?;
+    let made = made::finished(a, builder)?;
+    let store = &made.0;
+    assert!(&rt; walks_child_patterns(store));
     Ok(())
 }
 
@@ -189,12 +185,11 @@ fn walks_bindings(store: &ExpressionStore) -> bool {
 #[test]
 fn bindings_of_a_pattern(rt: HostRuntime) -> Result<(), Fail> {
     let a = rt.alloc();
-    let holds = made::stored(
-        a,
-        |builder| build::add_match_tree(builder, a),
-        walks_bindings,
-    )?;
-    assert!(&rt; holds);
+    let mut builder = made::builder(a)?;
+    build::add_match_tree(&mut builder, a)?;
+    let made = made::finished(a, builder)?;
+    let store = &made.0;
+    assert!(&rt; walks_bindings(store));
     Ok(())
 }
 
@@ -211,12 +206,11 @@ fn walks_a_match(store: &ExpressionStore) -> bool {
 #[test]
 fn children_of_a_match(rt: HostRuntime) -> Result<(), Fail> {
     let a = rt.alloc();
-    let holds = made::stored(
-        a,
-        |builder| build::add_match_tree(builder, a),
-        walks_a_match,
-    )?;
-    assert!(&rt; holds);
+    let mut builder = made::builder(a)?;
+    build::add_match_tree(&mut builder, a)?;
+    let made = made::finished(a, builder)?;
+    let store = &made.0;
+    assert!(&rt; walks_a_match(store));
     Ok(())
 }
 
@@ -248,8 +242,11 @@ fn walks_a_let(store: &ExpressionStore) -> bool {
 #[test]
 fn children_with_those_of_a_pattern(rt: HostRuntime) -> Result<(), Fail> {
     let a = rt.alloc();
-    let holds = made::stored(a, |builder| add_let_of_a_range(builder, a), walks_a_let)?;
-    assert!(&rt; holds);
+    let mut builder = made::builder(a)?;
+    add_let_of_a_range(&mut builder, a)?;
+    let made = made::finished(a, builder)?;
+    let store = &made.0;
+    assert!(&rt; walks_a_let(store));
     Ok(())
 }
 
@@ -266,12 +263,11 @@ fn walks_a_let_without_its_pattern(store: &ExpressionStore) -> bool {
 #[test]
 fn children_without_those_of_a_pattern(rt: HostRuntime) -> Result<(), Fail> {
     let a = rt.alloc();
-    let holds = made::stored(
-        a,
-        |builder| add_let_of_a_range(builder, a),
-        walks_a_let_without_its_pattern,
-    )?;
-    assert!(&rt; holds);
+    let mut builder = made::builder(a)?;
+    add_let_of_a_range(&mut builder, a)?;
+    let made = made::finished(a, builder)?;
+    let store = &made.0;
+    assert!(&rt; walks_a_let_without_its_pattern(store));
     Ok(())
 }
 
@@ -288,12 +284,11 @@ fn walks_expressions_of_a_pattern(store: &ExpressionStore) -> bool {
 #[test]
 fn expressions_of_a_pattern(rt: HostRuntime) -> Result<(), Fail> {
     let a = rt.alloc();
-    let holds = made::stored(
-        a,
-        |builder| add_let_of_a_range(builder, a),
-        walks_expressions_of_a_pattern,
-    )?;
-    assert!(&rt; holds);
+    let mut builder = made::builder(a)?;
+    add_let_of_a_range(&mut builder, a)?;
+    let made = made::finished(a, builder)?;
+    let store = &made.0;
+    assert!(&rt; walks_expressions_of_a_pattern(store));
     Ok(())
 }
 
@@ -317,7 +312,10 @@ fn visits_a_type(store: &ExpressionStore) -> bool {
 #[test]
 fn a_visitor_of_a_type(rt: HostRuntime) -> Result<(), Fail> {
     let a = rt.alloc();
-    let holds = made::stored(a, |builder| add_tuple_type(builder, a), visits_a_type)?;
-    assert!(&rt; holds);
+    let mut builder = made::builder(a)?;
+    add_tuple_type(&mut builder, a)?;
+    let made = made::finished(a, builder)?;
+    let store = &made.0;
+    assert!(&rt; visits_a_type(store));
     Ok(())
 }
