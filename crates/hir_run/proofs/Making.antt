@@ -1,0 +1,65 @@
+-- What the lines make, line by line.
+use Rattle.std.proofs.Common.{◌≡◌, ◌+◌, true, false, List, [], ◌∷◌, ◌++◌, Option, None, Some, is_some, Ok, inl, inr, if◌then◌else◌, refl, sym, ap, ◌∙◌, ℕ, fold, length}
+use Rattle.std.proofs.lemmas.Bool.{false≢true}
+use Rattle.std.specs.Prelude.{filter_map}
+use Rattle.std.proofs.lemmas.List.Folds.{list_all-append}
+use Rattle.std.proofs.lemmas.List.Elements.{filter_map-append}
+use Rattle.std.proofs.lemmas.Grind.{fold-append}
+use Rattle.hir_lines.specs.declared.line.Line.{Line}
+use Rattle.hir_lines.specs.declared.line.Line.TheVariants.{Blank, Make, Ask, Bad}
+use Rattle.hir_lines.specs.declared.line.Maker.{Maker}
+use Rattle.hir_run.specs.Made.{Made, nothing_made, with_line}
+use Rattle.hir_lines.specs.declared.line.Question.{Question}
+use Rattle.hir_ends.specs.LineState.{LineState}
+use Rattle.hir_ends.specs.Reads.{Reads}
+use Rattle.hir_run.specs.Program.{makes, asks, maker_of, built_by, script}
+use Rattle.hir_run.specs.Stages.{AllMake, Makes, Builds, BuildsLine, line_behind}
+use Rattle.hir_run.proofs.Scripts.{Tells, script-push, behind_is, behind_make, tells_blank, tells_more}
+
+pub Makes-none : Makes [] nothing_made
+unfolding built_by
+Makes-none = (refl, refl)
+
+-- one line more
+with_option : Made → Option Maker → Made
+with_option b None = b
+with_option b (Some maker) = with_line b maker
+
+built_by-push : (ls : List Line) (line : Line) → built_by (ls ++ line ∷ []) ≡ with_option (built_by ls) (maker_of line)
+unfolding built_by with_option
+built_by-push ls line = ap (fold with_line nothing_made) (filter_map-append maker_of ls (line ∷ [])) ∙ fold-append with_line nothing_made (filter_map maker_of ls) (filter_map maker_of (line ∷ [])) ∙ one line
+  where
+    one : (line : Line) → fold with_line (fold with_line nothing_made (filter_map maker_of ls)) (filter_map maker_of (line ∷ [])) ≡ with_option (fold with_line nothing_made (filter_map maker_of ls)) (maker_of line)
+    one Blank = refl
+    one (Make maker) = refl
+    one (Ask question) = refl
+    one Bad = refl
+
+makes-push : (texts : List (List ℕ)) (text : List ℕ) (line : Line) → line_behind texts text ≡ line → AllMake texts → makes line ≡ true → AllMake (texts ++ text ∷ [])
+makes-push texts text line e all m =
+    rw (script-push texts text, list_all-append makes (script texts) (line_behind texts text ∷ []), all, e, m) refl
+
+pub Makes-blank : (texts : List (List ℕ)) (text : List ℕ) (built : Made) → Makes texts built → line_behind texts text ≡ Blank → Makes (texts ++ text ∷ []) built
+unfolding with_option
+Makes-blank texts text built m e =
+    (makes-push texts text Blank e m.0 refl, m.1 ∙ sym (ap built_by (script-push texts text) ∙ built_by-push (script texts) (line_behind texts text) ∙ ap (λ line. with_option (built_by (script texts)) (maker_of line)) e))
+
+pub Makes-more : (texts : List (List ℕ)) (text : List ℕ) (old new : Made) (maker : Maker) → Makes texts old → line_behind texts text ≡ Make maker → new ≡ with_line old maker → Makes (texts ++ text ∷ []) new
+unfolding with_option
+Makes-more texts text old new maker m e made =
+    (makes-push texts text (Make maker) e m.0 refl, made ∙ ap (λ b. with_line b maker) m.1 ∙ sym (ap built_by (script-push texts text) ∙ built_by-push (script texts) (line_behind texts text) ∙ ap (λ line. with_option (built_by (script texts)) (maker_of line)) e))
+
+-- the line that was taken last is no question: it makes what it says, or is empty
+pub makes_line : (lines : LineState) (old new : Made) (texts : List (List ℕ)) (question : Option Question) →
+    Makes texts old → Tells old texts → is_some question ≡ false → BuildsLine lines old new (Ok question) → Makes (texts ++ lines.line ∷ []) new × Tells new (texts ++ lines.line ∷ [])
+makes_line lines old new texts (Some question) m t h does = absurd (false≢true (sym h))
+makes_line lines old new texts None m t h (inl (blank, same)) =
+    rw same (Makes-blank texts lines.line old m (behind_is texts lines.line (ap asks blank) ∙ blank), tells_blank old texts lines.line blank t)
+makes_line lines old new texts None m t h (inr (maker, says, first, made)) =
+    (Makes-more texts lines.line old new maker m (behind_make old texts lines.line maker t says ∙ ap (λ b. if b then Bad else Make maker) first) made, rw made (tells_more old maker texts lines.line says t))
+
+-- it is one
+pub asks_line : (known rest remaining : Option (List ℕ)) (lines : LineState) (old new : Made) (texts : List (List ℕ)) (question : Option Question) →
+    Makes texts old → Reads known (texts ++ lines.line ∷ []) rest lines.at_end → lines.count ≡ length texts + 1 → is_some question ≡ true → BuildsLine lines old new (Ok question) → Builds known rest remaining lines new (Ok question)
+asks_line known rest remaining lines old new texts None m read count h does = absurd (false≢true h)
+asks_line known rest remaining lines old new texts (Some question) m read count h (says, same) = (texts, lines.line, rw same m, says, read, count)

@@ -1,0 +1,60 @@
+-- What lines have made so far: what is built, and what a body of it will have besides.
+use Rattle.std.specs.Prelude.{ℕ, List, [], ◌∷◌, ◌++◌, Bool, true, false, Option, None, Some, is_some}
+use Rattle.hir_lines.specs.declared.line.Maker.{Maker}
+use Rattle.hir_lines.specs.declared.line.Maker.TheVariants as make
+use Rattle.hir_faults.specs.Nodes.{Nodes}
+use Rattle.hir_store.specs.Building.{Building, building_of, and_root, some_roots}
+use Rattle.hir_accepted.specs.Marks.{no_marks}
+use Rattle.hir_run.specs.declared.fault.RunFault.{RunFault}
+use Rattle.hir_run.specs.declared.fault.RunFault.TheVariants.{BadLine, OutOfMemory}
+use Rattle.hir_run.specs.declared.made.Made as code
+
+-- what is built, the self parameter, the other parameters and the name of the function
+pub record Made : Type 0 where
+  pub built : Building
+  pub self_param : Option ℕ
+  pub params : List ℕ
+  pub name : Option (List ℕ)
+
+abbrev pub no_nodes : Nodes
+no_nodes = record { exprs = []; pats = []; types = []; bindings = []; labels = []; lifetimes = [] }
+
+abbrev pub nothing_made : Made
+nothing_made = record { built = record { nodes = no_nodes; roots = None; marks = no_marks }; self_param = None; params = []; name = None }
+
+-- what the code holds
+abbrev pub made_of : code.Made → Made
+made_of m = record { built = building_of m.builder; self_param = m.self_param; params = m.params; name = m.name }
+
+-- the same with other nodes; with other roots
+abbrev pub with_nodes : Made → Nodes → Made
+with_nodes m nodes = record m { built = record m.built { nodes = nodes } }
+
+-- what is made with one more line
+abbrev pub with_line : Made → Maker → Made
+with_line m (make.Binding binding) = with_nodes m (record m.built.nodes { bindings = m.built.nodes.bindings ++ binding ∷ [] })
+with_line m (make.Pat pat) = with_nodes m (record m.built.nodes { pats = m.built.nodes.pats ++ pat ∷ [] })
+with_line m (make.Type type_ref) = with_nodes m (record m.built.nodes { types = m.built.nodes.types ++ type_ref ∷ [] })
+with_line m (make.Expr expr) = with_nodes m (record m.built.nodes { exprs = m.built.nodes.exprs ++ expr ∷ [] })
+with_line m (make.SelfParam id) = record m { self_param = Some id }
+with_line m (make.Param id) = record m { params = m.params ++ id ∷ [] }
+with_line m (make.FnName name) = record m { name = Some name }
+with_line m make.Roots = record m { built = record m.built { roots = some_roots m.built.roots } }
+with_line m (make.Root id) = record m { built = record m.built { roots = and_root m.built id } }
+
+-- whether the line gives a second self parameter or a second name
+abbrev pub is_second : Made → Maker → Bool
+is_second m (make.SelfParam id) = is_some m.self_param
+is_second m (make.FnName name) = is_some m.name
+is_second m (make.Binding binding) = false
+is_second m (make.Pat pat) = false
+is_second m (make.Type type_ref) = false
+is_second m (make.Expr expr) = false
+is_second m (make.Param id) = false
+is_second m make.Roots = false
+is_second m (make.Root id) = false
+
+-- why the line of this number makes nothing: it gives a second one, or memory was refused
+abbrev pub not_made : Bool → ℕ → RunFault
+not_made true line = BadLine line
+not_made false line = OutOfMemory

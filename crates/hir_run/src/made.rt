@@ -1,0 +1,78 @@
+//! What the making lines have made so far: a builder, and what a body of it will have besides.
+
+ghost use Rattle.std.specs.Prelude.{◌≡◌, false, Ok, Err, OnOk, OnErr};
+ghost use Rattle.hir_run.specs.Made.{made_of, nothing_made, with_line, is_second, not_made};
+
+use super::fault::RunFault;
+use hir_base::{Name, Seq};
+use hir_lines::Maker;
+use hir_node::{BindingId, PatId};
+use hir_store::ExpressionStoreBuilder;
+use std::alloc::Global;
+
+/// A builder, and the parameters and the name of the function that its last root is the body of.
+#[derive(Drop)]
+pub(crate) struct Made {
+    pub(crate) builder: ExpressionStoreBuilder,
+    self_param: Option<BindingId>,
+    params: Seq<PatId>,
+    name: Option<Name>,
+}
+
+impl Made {
+    /// Nothing.
+    pub(crate) fn new(alloc: Global) -> Made
+        ensures { made_of result ≡ nothing_made }
+    {
+        Made {
+            builder: ExpressionStoreBuilder::new(alloc),
+            self_param: None,
+            params: Seq::new(alloc),
+            name: None,
+        }
+    }
+
+    /// Adds what the line of this number makes. A second self parameter or a second name is a bad line. After a refusal all is as it was.
+    pub(crate) fn make(&mut self, maker: Maker, line: u64) -> Result<(), RunFault>
+        ensures ok { OnOk result ((is_second (made_of self.old) maker ≡ false) × (made_of self.new ≡ with_line (made_of self.old) maker)) }
+        ensures err { OnErr result ((self.new ≡ self.old) × (result ≡ Err (not_made (is_second (made_of self.old) maker) line))) }
+    {
+        match maker {
+            Maker::Binding(binding) => or_memory(self.builder.alloc_binding(binding)),
+            Maker::Pat(pat) => or_memory(self.builder.alloc_pat(pat)),
+            Maker::Type(type_ref) => or_memory(self.builder.alloc_type(type_ref)),
+            Maker::Expr(expr) => or_memory(self.builder.alloc_expr(expr)),
+            Maker::SelfParam(id) => {
+                if self.self_param.is_some() {
+                    return Err(RunFault::BadLine(line));
+                }
+                self.self_param = Some(id);
+                Ok(())
+            }
+            Maker::Param(id) => or_memory(self.params.push(id)),
+            Maker::FnName(name) => {
+                if self.name.is_some() {
+                    return Err(RunFault::BadLine(line));
+                }
+                self.name = Some(name);
+                Ok(())
+            }
+            Maker::Roots => {
+                self.builder.begin_roots();
+                Ok(())
+            }
+            Maker::Root(id) => or_memory(self.builder.push_root(id)),
+        }
+    }
+}
+
+/// What was refused for want of memory, or because an arena is full, ends the run.
+fn or_memory<T: Drop, E: Drop>(outcome: Result<T, E>) -> Result<(), RunFault>
+    ensures ok { OnOk outcome (result ≡ Ok tt) }
+    ensures err { OnErr outcome (result ≡ Err RunFault.OutOfMemory) }
+{
+    match outcome {
+        Ok(_) => Ok(()),
+        Err(_) => Err(RunFault::OutOfMemory),
+    }
+}

@@ -1,0 +1,88 @@
+//! Whole runs in memory, told as the shell sees them: what is written, what is said of the end, and the exit status. A run that
+//! was refused memory is made again, so that each test passes with any one allocation refused too.
+
+use crate::fakes::{Given, Kept};
+use hir_run::{RunFault, report, run};
+use std::alloc::Global;
+use std::process::Abort;
+
+/// How many bytes a call moves at most, and the number of the call, from 0, from which on all fail.
+#[derive(Clone, Copy, Drop)]
+pub struct Calls {
+    pub step: usize,
+    pub fail_from: u64,
+}
+
+/// Calls that move so many bytes at most, and don't fail.
+pub fn by(step: usize) -> Calls {
+    Calls {
+        step,
+        fail_from: u64::MAX,
+    }
+}
+
+/// Calls that move so many bytes at most, and fail from this one on.
+pub fn until(step: usize, fail_from: usize) -> Calls {
+    Calls {
+        step,
+        fail_from: fail_from as u64,
+    }
+}
+
+/// What is seen of a run.
+#[derive(Drop)]
+pub struct Seen<'a> {
+    pub ended: Result<(), RunFault>,
+    pub reader: Given<'a>,
+    pub writer: Kept,
+}
+
+/// Runs the program once.
+pub fn run_once<'a>(alloc: Global, input: &'a [u8], reads: Calls, writes: Calls) -> Seen<'a> {
+    let mut reader = Given::new(input, reads.step, reads.fail_from);
+    let mut writer = Kept::new(alloc, writes.step, writes.fail_from);
+    let ended = run(alloc, &mut reader, &mut writer);
+    Seen {
+        ended,
+        reader,
+        writer,
+    }
+}
+
+/// Runs the program, and again where memory was refused.
+pub fn run_again<'a>(alloc: Global, input: &'a [u8], reads: Calls, writes: Calls) -> Seen<'a> {
+    let seen = run_once(alloc, input, reads, writes);
+    if seen.ended == Err(RunFault::OutOfMemory) {
+        return run_once(alloc, input, reads, writes);
+    }
+    seen
+}
+
+/// An input by name, and what the shell sees of the run on it.
+#[derive(Drop)]
+pub struct Row {
+    pub name: &'static str,
+    pub input: &'static [u8],
+    pub output: &'static [u8],
+    pub said: &'static [u8],
+    pub status: u8,
+}
+
+/// Compares the run on each row with what stands in it, by one byte a call, by some and by all.
+pub fn compare(rt: &impl Abort, alloc: Global, rows: &[Row]) {
+    for row in rows {
+        for step in [1, 3, 1_000_000] {
+            let seen = run_again(alloc, row.input, by(step), by(step));
+            let mut errors = Kept::new(alloc, step, u64::MAX);
+            let status = report(&seen.ended, &mut errors);
+            let name = row.name;
+            assert_eq!(rt;
+                seen.writer.bytes.as_slice(),
+                row.output,
+                "{name} by {step}"
+            );
+            assert_eq!(rt; errors.bytes.as_slice(), row.said, "{name} by {step}");
+            assert_eq!(rt; status, row.status, "{name} by {step}");
+        }
+    }
+}

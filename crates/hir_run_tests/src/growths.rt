@@ -1,0 +1,79 @@
+//! Refused growths. With ample memory each run is the whole one; with an allocation refused, what was answered is compared, and
+//! the call is made again. The loop over the allocations is `scripts/refused-growths`.
+
+use crate::again::{by, run_once};
+use hir_run::RunFault;
+use std::alloc::Global;
+use std::process::Abort;
+use std::test::Fail;
+
+static LONG: [u8; 200_000] = [b'x'; 200_000];
+
+/// Lines for which each buffer grows: a name, lists of arguments, the arena, the roots, the tables of `finish`.
+const MAKERS: &[u8] =
+    b"bind a_name_of_some_length\npat bind 0 -\npat tuple 0\nparam 1\nself 0\nfn a_name_of_some_length\ntype path T\ntype tuple 0\nexpr path a_name_of_some_length\nexpr path b\nexpr path c\nexpr call 0 1,2\nexpr missing\nexpr missing\nexpr missing\nexpr missing\nexpr missing\nexpr tuple 4,5,6,7,8\nroot 3\nroot 9\n";
+
+const QUESTIONS: &[u8] = b"children 3\nchildren 9\nchildren 10\n";
+
+const ANSWERS: &[u8] = b"children 3 = 0 1 2\nchildren 9 = 4 5 6 7 8\nchildren 10 unknown\n";
+
+/// The makers, the questions and what comes behind them.
+fn script(alloc: Global, behind: &[u8], refusals: &mut u32) -> Result<Vec<u8>, Fail> {
+    let size = MAKERS
+        .len()
+        .saturating_add(QUESTIONS.len())
+        .saturating_add(behind.len());
+    let mut text = match Vec::with_capacity(alloc, size) {
+        Ok(text) => text,
+        Err(_) => {
+            *refusals = refusals.saturating_add(1);
+            Vec::with_capacity(alloc, size)?
+        }
+    };
+    text.extend_from_slice(MAKERS)?;
+    text.extend_from_slice(QUESTIONS)?;
+    text.extend_from_slice(behind)?;
+    Ok(text)
+}
+
+/// A run of which a growth may be refused: then it wrote whole answers, and is made again.
+fn run_refused(
+    rt: &impl Abort,
+    alloc: Global,
+    behind: &[u8],
+    bad: u64,
+    refusals: &mut u32,
+) -> Result<(), Fail> {
+    let text = script(alloc, behind, refusals)?;
+    let mut seen = run_once(alloc, &text, by(1_000_000), by(1000));
+    *refusals = refusals.saturating_add(u32::from(seen.writer.was_refused));
+    if seen.ended == Err(RunFault::OutOfMemory) {
+        *refusals = refusals.saturating_add(1);
+        // No line before the questions is answered, and only the last line behind them wants memory.
+        let written = seen.writer.bytes.as_slice();
+        assert!(rt;
+            written == b"".as_slice() || written == ANSWERS,
+            "{written:?}"
+        );
+        seen = run_once(alloc, &text, by(1_000_000), by(1000));
+    }
+    assert_eq!(rt; seen.ended, Err(RunFault::BadLine(bad)));
+    assert_eq!(rt; seen.writer.bytes.as_slice(), ANSWERS);
+    Ok(())
+}
+
+/// Tells `scripts/refused-growths` that it isn't done.
+const REFUSED: &str = "a growth was refused";
+
+#[test]
+fn refused_growths_of_runs(rt: HostRuntime) -> Result<(), Fail> {
+    let alloc = rt.alloc();
+    let mut refusals = 0;
+    // A list wants memory while answers wait; a line of some blocks wants it when they are written.
+    run_refused(&rt, alloc, b"\nexpr call 0 1,2,3\n", 25, &mut refusals)?;
+    run_refused(&rt, alloc, &LONG, 24, &mut refusals)?;
+    if refusals > 0 {
+        eprintln!(rt; "{REFUSED}")?;
+    }
+    Ok(())
+}
