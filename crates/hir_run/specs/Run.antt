@@ -1,12 +1,10 @@
 -- How a run of the program ends, with the bytes that it leaves unread and those that it has written.
-use Rattle.std.specs.Prelude.{◌≡◌, ◌≢◌, ◌⊎◌, ℕ, Bool, true, false, List, ◌++◌, Option, None, Some, Result, Ok, Err, IfSome, ⊤}
+use Rattle.std.specs.Prelude.{◌≡◌, ℕ, Bool, true, false, List, ◌++◌, Option, None, Some, Result, Ok, Err, IfSome, ⊤}
 use Rattle.hir_ends.specs.Text.{lines, IsCutShort}
 use Rattle.hir_ends.specs.declared.next.LineFault.{LineFault}
 use Rattle.hir_ends.specs.declared.next.LineFault.TheVariants as line
 use Rattle.hir_run.specs.declared.fault.RunFault.{RunFault}
 use Rattle.hir_run.specs.declared.fault.RunFault.TheVariants.{BadLine, Refused, InputFailed, OutputFailed, OutOfMemory}
-use Rattle.hir_faults.specs.declared.fault.FinishFault.{FinishFault}
-use Rattle.hir_faults.specs.declared.fault.FinishFault.TheVariants.{Memory}
 use Rattle.hir_store.specs.Building.{Building, contents_of, finish_fault}
 use Rattle.hir_accepted.specs.Contents.{Contents}
 use Rattle.hir_run.specs.Program.{answers, script, script_of, IsMeaning, IsSound}
@@ -67,10 +65,6 @@ is_output_failed (Err (Refused fault)) = false
 is_output_failed (Err InputFailed) = false
 is_output_failed (Err OutputFailed) = true
 is_output_failed (Err OutOfMemory) = false
-
--- a builder that was refused for want of memory is told so, another with its fault
-abbrev pub IsToldOfFinish : FinishFault → RunFault → Type 0
-IsToldOfFinish fault told = ((fault ≡ Memory) × (told ≡ OutOfMemory)) ⊎ ((fault ≢ Memory) × (told ≡ Refused fault))
 
 -- a store, without what stands beside it
 abbrev pub store_of : {Beside : Type 0} → Result (Contents × Beside) RunFault → Result Contents RunFault

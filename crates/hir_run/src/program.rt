@@ -2,7 +2,7 @@
 
 ghost use Rattle.std.specs.Prelude.{◌≡◌, false};
 ghost use Rattle.hir_store.specs.Building.{building_of};
-ghost use Rattle.hir_run.specs.Run.{Runs, IsFinished, IsToldOfFinish, store_of, is_input_failed, is_output_failed};
+ghost use Rattle.hir_run.specs.Run.{Runs, IsFinished, store_of, is_input_failed, is_output_failed};
 
 use super::fault::RunFault;
 use super::made::Made;
@@ -12,16 +12,6 @@ use hir_store::{ExpressionStore, ExpressionStoreBuilder, ExpressionStoreSourceMa
 use std::alloc::Global;
 use std::mem::forget;
 
-/// What is told of a builder that was refused for this.
-fn told_of(fault: FinishFault) -> RunFault
-    ensures { IsToldOfFinish fault result }
-{
-    if fault == FinishFault::Memory {
-        return RunFault::OutOfMemory;
-    }
-    RunFault::Refused(fault)
-}
-
 /// The store of what was built, with its source map, or why there is none.
 fn finished(
     builder: ExpressionStoreBuilder,
@@ -30,7 +20,12 @@ fn finished(
 {
     match builder.finish() {
         Ok(stored) => Ok(stored),
-        Err(refused) => Err(told_of(refused.fault)),
+        Err(refused) => {
+            if refused.fault == FinishFault::Memory {
+                return Err(RunFault::OutOfMemory);
+            }
+            Err(RunFault::Refused(refused.fault))
+        }
     }
 }
 
