@@ -22,18 +22,29 @@ fn say_two_blocks(builder: &mut ExpressionStoreBuilder, alloc: Global) -> Result
     Ok(())
 }
 
+/// Gives the block this map, again where memory is refused once.
+fn add_map(maps: &mut BTreeMap<BlockId, u32>, block: u32, map: u32) -> Result<(), AllocError> {
+    match maps.insert(BlockId::from_raw(block), map) {
+        Ok(_) => Ok(()),
+        Err(_) => {
+            let _ = maps.insert(BlockId::from_raw(block), map)?;
+            Ok(())
+        }
+    }
+}
+
 /// The map of block 3.
 fn one_map(alloc: Global) -> Result<BTreeMap<BlockId, u32>, AllocError> {
     let mut maps = BTreeMap::new(alloc);
-    let _ = maps.insert(BlockId::from_raw(3), 30u32)?;
+    add_map(&mut maps, 3, 30)?;
     Ok(maps)
 }
 
 /// The maps of the blocks 1 and 3.
 fn two_maps(alloc: Global) -> Result<BTreeMap<BlockId, u32>, AllocError> {
     let mut maps = BTreeMap::new(alloc);
-    let _ = maps.insert(BlockId::from_raw(1), 10u32)?;
-    let _ = maps.insert(BlockId::from_raw(3), 30u32)?;
+    add_map(&mut maps, 1, 10)?;
+    add_map(&mut maps, 3, 30)?;
     Ok(maps)
 }
 
