@@ -39,61 +39,40 @@ fn has_one_unmapped(tables: &Tables, def: GenericDefId, size: usize) -> bool {
     }
 }
 
-#[test]
-fn parameters_of_a_function(rt: HostRuntime) -> Result<(), Fail> {
-    let tables = with::filled(rt.alloc())?;
-    assert!(&rt; has_one(&tables, GenericDefId::FunctionId(FunctionId::from_raw(1))));
-    Ok(())
-}
-
-#[test]
-fn parameters_of_a_struct(rt: HostRuntime) -> Result<(), Fail> {
-    let def = GenericDefId::AdtId(AdtId::StructId(StructId::from_raw(2)));
-    let tables = with::filled(rt.alloc())?;
-    assert!(&rt; has_one_over(&tables, def, 2));
-    Ok(())
-}
-
-#[test]
-fn parameters_of_an_enum(rt: HostRuntime) -> Result<(), Fail> {
-    let def = GenericDefId::AdtId(AdtId::EnumId(EnumId::from_raw(3)));
-    let tables = with::filled(rt.alloc())?;
-    assert!(&rt; has_one_unmapped(&tables, def, 3));
-    Ok(())
-}
-
-#[test]
-fn parameters_of_a_union(rt: HostRuntime) -> Result<(), Fail> {
-    let def = GenericDefId::AdtId(AdtId::UnionId(UnionId::from_raw(0)));
-    let tables = with::filled(rt.alloc())?;
-    assert!(&rt; has_one_over(&tables, def, 1));
-    Ok(())
-}
-
-#[test]
-fn parameters_of_an_impl(rt: HostRuntime) -> Result<(), Fail> {
-    let tables = with::filled(rt.alloc())?;
-    assert!(&rt; has_one_over(&tables, GenericDefId::ImplId(ImplId::from_raw(0)), 2));
-    Ok(())
-}
-
-#[test]
-fn parameters_of_a_trait(rt: HostRuntime) -> Result<(), Fail> {
-    let tables = with::filled(rt.alloc())?;
-    assert!(&rt; has_one_over(&tables, GenericDefId::TraitId(TraitId::from_raw(0)), 3));
-    Ok(())
-}
-
-#[test]
-fn parameters_of_an_alias(rt: HostRuntime) -> Result<(), Fail> {
-    let tables = with::filled(rt.alloc())?;
-    assert!(&rt;
-        has_one_over(
-            &tables,
+/// Whether a function, an impl, a trait and an alias have their parameters.
+fn items_have_params(tables: &Tables) -> bool {
+    has_one(tables, GenericDefId::FunctionId(FunctionId::from_raw(1)))
+        && has_one_over(tables, GenericDefId::ImplId(ImplId::from_raw(0)), 2)
+        && has_one_over(tables, GenericDefId::TraitId(TraitId::from_raw(0)), 3)
+        && has_one_over(
+            tables,
             GenericDefId::TypeAliasId(TypeAliasId::from_raw(0)),
             4,
         )
-    );
+}
+
+/// Whether a struct, an enum and a union have theirs.
+fn adts_have_params(tables: &Tables) -> bool {
+    has_one_over(
+        tables,
+        GenericDefId::AdtId(AdtId::StructId(StructId::from_raw(2))),
+        2,
+    ) && has_one_unmapped(
+        tables,
+        GenericDefId::AdtId(AdtId::EnumId(EnumId::from_raw(3))),
+        3,
+    ) && has_one_over(
+        tables,
+        GenericDefId::AdtId(AdtId::UnionId(UnionId::from_raw(0))),
+        1,
+    )
+}
+
+#[test]
+fn parameters_of_definitions(rt: HostRuntime) -> Result<(), Fail> {
+    let tables = with::filled(rt.alloc())?;
+    assert!(&rt; items_have_params(&tables));
+    assert!(&rt; adts_have_params(&tables));
     Ok(())
 }
 
@@ -123,23 +102,23 @@ fn variable(number: u32) -> GenericDefId {
     GenericDefId::StaticId(StaticId::from_raw(number))
 }
 
-#[test]
-fn constants_have_no_parameters(rt: HostRuntime) -> Result<(), Fail> {
-    let tables = with::filled(rt.alloc())?;
-    assert!(&rt;
-        has_none(&tables, constant(4), 2)
-            && lacks_params(&tables, constant(3), Missing::Signature(constant(3)))
-    );
-    Ok(())
+/// Whether the constant that is there has none, and the other is absent.
+fn constants_have_none(tables: &Tables) -> bool {
+    has_none(tables, constant(4), 2)
+        && lacks_params(tables, constant(3), Missing::Signature(constant(3)))
+}
+
+/// Whether so it is with statics.
+fn statics_have_none(tables: &Tables) -> bool {
+    has_none(tables, variable(4), 3)
+        && lacks_params(tables, variable(3), Missing::Signature(variable(3)))
 }
 
 #[test]
-fn statics_have_no_parameters(rt: HostRuntime) -> Result<(), Fail> {
+fn constants_and_statics_have_no_parameters(rt: HostRuntime) -> Result<(), Fail> {
     let tables = with::filled(rt.alloc())?;
-    assert!(&rt;
-        has_none(&tables, variable(4), 3)
-            && lacks_params(&tables, variable(3), Missing::Signature(variable(3)))
-    );
+    assert!(&rt; constants_have_none(&tables));
+    assert!(&rt; statics_have_none(&tables));
     Ok(())
 }
 
@@ -151,12 +130,9 @@ fn owns(tables: &Tables, owner: ExpressionStoreOwnerId, size: usize) -> bool {
     }
 }
 
-#[test]
-fn the_store_of_a_signature(rt: HostRuntime) -> Result<(), Fail> {
-    let def = GenericDefId::FunctionId(FunctionId::from_raw(1));
-    let tables = with::filled(rt.alloc())?;
-    assert!(&rt; owns(&tables, ExpressionStoreOwnerId::Signature(def), 1));
-    Ok(())
+/// The signature of function 1.
+fn signature_1() -> ExpressionStoreOwnerId {
+    ExpressionStoreOwnerId::Signature(GenericDefId::FunctionId(FunctionId::from_raw(1)))
 }
 
 /// Whether the owner has a store of this many types, whose source map knows no source of type 0.
@@ -167,12 +143,9 @@ fn owns_unmapped(tables: &Tables, owner: ExpressionStoreOwnerId, size: usize) ->
     }
 }
 
-#[test]
-fn the_store_of_fields(rt: HostRuntime) -> Result<(), Fail> {
-    let variant = VariantId::StructId(StructId::from_raw(2));
-    let tables = with::filled(rt.alloc())?;
-    assert!(&rt; owns_unmapped(&tables, ExpressionStoreOwnerId::VariantFields(variant), 5));
-    Ok(())
+/// The fields of this struct.
+fn fields_of(number: u32) -> VariantId {
+    VariantId::StructId(StructId::from_raw(number))
 }
 
 /// Whether the owner has a store with expression 0, of which no source is known.
@@ -186,8 +159,16 @@ fn owns_expr_0(tables: &Tables, owner: ExpressionStoreOwnerId) -> bool {
 }
 
 #[test]
-fn the_store_of_a_body(rt: HostRuntime) -> Result<(), Fail> {
+fn the_store_of_an_owner(rt: HostRuntime) -> Result<(), Fail> {
     let tables = with::filled(rt.alloc())?;
+    assert!(&rt; owns(&tables, signature_1(), 1));
+    assert!(&rt;
+        owns_unmapped(
+            &tables,
+            ExpressionStoreOwnerId::VariantFields(fields_of(2)),
+            5
+        )
+    );
     assert!(&rt; owns_expr_0(&tables, ExpressionStoreOwnerId::Body(made::def_1())));
     Ok(())
 }
@@ -205,36 +186,31 @@ fn union_9() -> GenericDefId {
     GenericDefId::AdtId(AdtId::UnionId(UnionId::from_raw(9)))
 }
 
-#[test]
-fn a_signature_without_a_store(rt: HostRuntime) -> Result<(), Fail> {
-    let owner = ExpressionStoreOwnerId::Signature(union_9());
-    let tables = with::tables(rt.alloc())?;
-    assert!(&rt; lacks_store(&tables, owner, Missing::Signature(union_9())));
-    Ok(())
-}
-
 /// The body of function 0.
 fn body_0() -> DefWithBodyId {
     DefWithBodyId::FunctionId(FunctionId::from_raw(0))
 }
 
-#[test]
-fn a_body_without_a_store(rt: HostRuntime) -> Result<(), Fail> {
-    let owner = ExpressionStoreOwnerId::Body(body_0());
-    let tables = with::tables(rt.alloc())?;
-    assert!(&rt; lacks_store(&tables, owner, Missing::Body(body_0())));
-    Ok(())
+/// Whether no owner of empty tables has a store.
+fn lack_stores(tables: &Tables) -> bool {
+    lacks_store(
+        tables,
+        ExpressionStoreOwnerId::Signature(union_9()),
+        Missing::Signature(union_9()),
+    ) && lacks_store(
+        tables,
+        ExpressionStoreOwnerId::Body(body_0()),
+        Missing::Body(body_0()),
+    ) && lacks_store(
+        tables,
+        ExpressionStoreOwnerId::VariantFields(fields_of(0)),
+        Missing::Fields(fields_of(0)),
+    )
 }
 
-/// The fields of struct 0.
-fn fields_0() -> VariantId {
-    VariantId::StructId(StructId::from_raw(0))
-}
-
 #[test]
-fn fields_without_a_store(rt: HostRuntime) -> Result<(), Fail> {
-    let owner = ExpressionStoreOwnerId::VariantFields(fields_0());
+fn an_owner_without_a_store(rt: HostRuntime) -> Result<(), Fail> {
     let tables = with::tables(rt.alloc())?;
-    assert!(&rt; lacks_store(&tables, owner, Missing::Fields(fields_0())));
+    assert!(&rt; lack_stores(&tables));
     Ok(())
 }

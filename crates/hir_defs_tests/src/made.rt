@@ -166,8 +166,9 @@ fn add_plain(tables: &mut Tables, alloc: Global, def: PlainDef, size: u32) -> Re
 
 /// One field `x`, of type 0.
 fn field_x(alloc: Global) -> Result<Seq<FieldData>, AllocError> {
+    let name = again::name(alloc, "x")?;
     let field = FieldData {
-        name: again::name(alloc, "x")?,
+        name,
         type_ref: Idx::from_raw(0),
         visibility: RawVisibility::Public,
         is_unsafe: false,

@@ -86,7 +86,8 @@ fn a_later_entry_replaces_an_earlier_one(rt: HostRuntime) -> Result<(), Fail> {
 /// Gives one word that edition 2021 writes raw.
 fn set_raw_match(tables: &mut Tables, alloc: Global) -> Result<(), Fail> {
     let mut words = Seq::new(alloc);
-    again::push(&mut words, text(alloc, "match")?)?;
+    let word = text(alloc, "match")?;
+    again::push(&mut words, word)?;
     tables.set_raw_words(Edition::Edition2021, words);
     Ok(())
 }

@@ -44,7 +44,8 @@ pub fn lifetime(name: Name, bound_type: LifetimeBoundType) -> LifetimeParamData 
 /// Type 0 meets the bound of the path that type 1 is, after `for<'a>`.
 pub fn meets(alloc: Global) -> Result<WherePredicate, AllocError> {
     let mut lifetimes = Seq::new(alloc);
-    again::push(&mut lifetimes, again::name(alloc, "'a")?)?;
+    let name = again::name(alloc, "'a")?;
+    again::push(&mut lifetimes, name)?;
     let path = PathId::from_type_ref_unchecked(Idx::from_raw(1));
     Ok(WherePredicate::TypeBound {
         lifetimes: Some(lifetimes),
@@ -96,7 +97,8 @@ pub fn one_type(
     first: TypeParamData,
 ) -> Result<Arena<TypeOrConstParamKind, TypeOrConstParamData>, Fail> {
     let mut params = Arena::new(alloc);
-    again::alloc(&mut params, TypeOrConstParamData::from(first))?;
+    let param = TypeOrConstParamData::from(first);
+    again::alloc(&mut params, param)?;
     Ok(params)
 }
 
@@ -106,7 +108,8 @@ pub fn one_constant(
     first: ConstParamData,
 ) -> Result<Arena<TypeOrConstParamKind, TypeOrConstParamData>, Fail> {
     let mut params = Arena::new(alloc);
-    again::alloc(&mut params, TypeOrConstParamData::from(first))?;
+    let param = TypeOrConstParamData::from(first);
+    again::alloc(&mut params, param)?;
     Ok(params)
 }
 
@@ -115,15 +118,18 @@ fn three_params(alloc: Global) -> Result<Arena<TypeOrConstParamKind, TypeOrConst
     let own = type_from(alloc, "Self", TypeParamProvenance::TraitSelf)?;
     let mut params = one_type(alloc, own)?;
     let second = listed(alloc, "T")?;
-    again::alloc(&mut params, TypeOrConstParamData::from(second))?;
+    let param = TypeOrConstParamData::from(second);
+    again::alloc(&mut params, param)?;
     let third = constant(alloc, "N")?;
-    again::alloc(&mut params, TypeOrConstParamData::from(third))?;
+    let param = TypeOrConstParamData::from(third);
+    again::alloc(&mut params, param)?;
     Ok(params)
 }
 
 fn two_predicates(alloc: Global) -> Result<Seq<WherePredicate>, AllocError> {
     let mut predicates = Seq::new(alloc);
-    again::push(&mut predicates, meets(alloc)?)?;
+    let first = meets(alloc)?;
+    again::push(&mut predicates, first)?;
     again::push(&mut predicates, outlives())?;
     Ok(predicates)
 }

@@ -6,16 +6,25 @@ use hir_base::{
 };
 use hir_defs::{
     Body, BodyOf, FieldData, FieldsShape, FunctionParts, FunctionSignature, GenericParams,
-    PlainDef, PlainParts, PlainSignature, Repr, SignatureFault, Tables, WherePredicate,
+    PlainDef, PlainParts, PlainSignature, RefusedSignature, Repr, SignatureFault, Tables,
+    WherePredicate,
 };
 use hir_node::{PathId, TraitBoundModifier, TypeBound};
 use hir_store::Missing;
 use std::alloc::{AllocError, Global};
 use std::test::Fail;
 
+/// What comes of a signature whose parameter has an absent type.
+fn over_no_types(
+    alloc: Global,
+) -> Result<Box<Result<FunctionSignature, RefusedSignature<FunctionParts>>>, Fail> {
+    let parts = made::parts_of_function(alloc, 0)?;
+    Ok(again::in_a_box(alloc, FunctionSignature::new(parts))?)
+}
+
 /// Whether the signature is refused since an id is absent, and the parts come back.
-fn lacks_an_id(parts: FunctionParts) -> bool {
-    match FunctionSignature::new(parts) {
+fn lacks_an_id(outcome: &Result<FunctionSignature, RefusedSignature<FunctionParts>>) -> bool {
+    match outcome {
         Ok(_) => false,
         Err(refused) => {
             refused.fault == SignatureFault::IdOutOfRange && refused.parts.params.len() == 1
@@ -25,8 +34,8 @@ fn lacks_an_id(parts: FunctionParts) -> bool {
 
 #[test]
 fn a_parameter_type_that_is_absent(rt: HostRuntime) -> Result<(), Fail> {
-    let parts = made::parts_of_function(rt.alloc(), 0)?;
-    assert!(&rt; lacks_an_id(parts));
+    let outcome = over_no_types(rt.alloc())?;
+    assert!(&rt; lacks_an_id(&outcome));
     Ok(())
 }
 
@@ -43,18 +52,23 @@ fn generics(alloc: Global) -> Result<GenericParams, AllocError> {
     Ok(GenericParams::new(Arena::new(alloc), Arena::new(alloc), predicates))
 }
 
-/// The parts of these parameters, over the type `!`.
-fn bound_on_never(alloc: Global) -> Result<PlainParts, Fail> {
+/// What comes of a signature with these parameters, over the type `!`.
+fn bound_on_never(
+    alloc: Global,
+) -> Result<Box<Result<PlainSignature, RefusedSignature<PlainParts>>>, Fail> {
     let generic_params = generics(alloc)?;
     match made::types(alloc, 1) {
-        Ok(store) => Ok(made::plain_parts(generic_params, store)),
+        Ok(store) => {
+            let parts = made::plain_parts(generic_params, store);
+            Ok(again::in_a_box(alloc, PlainSignature::new(parts))?)
+        }
         Err(failed) => Err(failed),
     }
 }
 
 /// Whether the signature is refused since a bound names no path, and the parts come back.
-fn lacks_a_path(parts: PlainParts) -> bool {
-    match PlainSignature::new(parts) {
+fn lacks_a_path(outcome: &Result<PlainSignature, RefusedSignature<PlainParts>>) -> bool {
+    match outcome {
         Ok(_) => false,
         Err(refused) => {
             refused.fault == SignatureFault::NotAPath
@@ -65,8 +79,8 @@ fn lacks_a_path(parts: PlainParts) -> bool {
 
 #[test]
 fn a_bound_that_is_no_path(rt: HostRuntime) -> Result<(), Fail> {
-    let parts = bound_on_never(rt.alloc())?;
-    assert!(&rt; lacks_a_path(parts));
+    let outcome = bound_on_never(rt.alloc())?;
+    assert!(&rt; lacks_a_path(&outcome));
     Ok(())
 }
 
@@ -97,13 +111,6 @@ fn is_function(tables: &Tables, id: FunctionId) -> bool {
     }
 }
 
-#[test]
-fn a_function_in_the_tables(rt: HostRuntime) -> Result<(), Fail> {
-    let tables = with::filled(rt.alloc())?;
-    assert!(&rt; is_function(&tables, FunctionId::from_raw(1)));
-    Ok(())
-}
-
 /// Whether the signature is the one that was made.
 fn is_struct(tables: &Tables, id: StructId) -> bool {
     match tables.struct_signature(id) {
@@ -114,15 +121,6 @@ fn is_struct(tables: &Tables, id: StructId) -> bool {
         }
         Err(_) => false,
     }
-}
-
-#[test]
-fn a_struct_in_the_tables(rt: HostRuntime) -> Result<(), Fail> {
-    let tables = with::filled(rt.alloc())?;
-    assert!(&rt;
-        is_struct(&tables, StructId::from_raw(2)) && tables.repr(StructId::from_raw(2)) == None
-    );
-    Ok(())
 }
 
 /// How struct 0 of the tests lies in memory.
@@ -165,13 +163,6 @@ fn has_x(tables: &Tables, id: VariantId) -> bool {
         Ok(found) => found.shape() == FieldsShape::Record && is_x(found.fields()),
         Err(_) => false,
     }
-}
-
-#[test]
-fn fields_in_the_tables(rt: HostRuntime) -> Result<(), Fail> {
-    let tables = with::filled(rt.alloc())?;
-    assert!(&rt; has_x(&tables, VariantId::StructId(StructId::from_raw(2))));
-    Ok(())
 }
 
 /// Whether the body is said to be absent.
@@ -243,14 +234,10 @@ fn body_0() -> DefWithBodyId {
     DefWithBodyId::FunctionId(FunctionId::from_raw(0))
 }
 
-#[test]
-fn an_absent_body_is_named(rt: HostRuntime) -> Result<(), Fail> {
-    let tables = with::tables(rt.alloc())?;
-    assert!(&rt;
-        lacks_body(&tables, body_0(), Missing::Body(body_0()))
-            && lacks_body_and_map(&tables, body_0(), Missing::Body(body_0()))
-    );
-    Ok(())
+/// Whether no body is there, with or without its source map.
+fn lacks_bodies(tables: &Tables) -> bool {
+    lacks_body(tables, body_0(), Missing::Body(body_0()))
+        && lacks_body_and_map(tables, body_0(), Missing::Body(body_0()))
 }
 
 /// The fields of struct 0.
@@ -258,26 +245,15 @@ fn fields_0() -> VariantId {
     VariantId::StructId(StructId::from_raw(0))
 }
 
-#[test]
-fn absent_fields_are_named(rt: HostRuntime) -> Result<(), Fail> {
-    let tables = with::tables(rt.alloc())?;
-    assert!(&rt; lacks_fields(&tables, fields_0(), Missing::Fields(fields_0())));
-    Ok(())
-}
-
 /// The name of function 0.
 fn name_0() -> NamedDef {
     NamedDef::FunctionId(FunctionId::from_raw(0))
 }
 
-#[test]
-fn an_absent_name_is_named(rt: HostRuntime) -> Result<(), Fail> {
-    let tables = with::tables(rt.alloc())?;
-    assert!(&rt;
-        lacks_name(&tables, name_0(), Missing::Name(name_0()))
-            && lacks_parent(&tables, EnumVariantId::from_raw(2))
-    );
-    Ok(())
+/// Whether neither a name nor a variant is there.
+fn lacks_names(tables: &Tables) -> bool {
+    lacks_name(tables, name_0(), Missing::Name(name_0()))
+        && lacks_parent(tables, EnumVariantId::from_raw(2))
 }
 
 /// That the signature of this enum is missing.
@@ -285,20 +261,19 @@ fn no_enum(id: EnumId) -> Missing {
     Missing::Signature(GenericDefId::AdtId(AdtId::EnumId(id)))
 }
 
-#[test]
-fn absent_signatures_are_named(rt: HostRuntime) -> Result<(), Fail> {
-    let id = EnumId::from_raw(5);
-    let tables = with::tables(rt.alloc())?;
-    assert!(&rt;
-        lacks_function(&tables, FunctionId::from_raw(0))
-            && lacks_plain(&tables, PlainDef::Enum(id), no_enum(id))
-    );
-    Ok(())
+/// Whether no signature is there.
+fn lacks_signatures(tables: &Tables, id: EnumId) -> bool {
+    lacks_function(tables, FunctionId::from_raw(0))
+        && lacks_plain(tables, PlainDef::Enum(id), no_enum(id))
 }
 
 #[test]
-fn no_raw_words_were_given(rt: HostRuntime) -> Result<(), Fail> {
+fn what_is_absent_is_named(rt: HostRuntime) -> Result<(), Fail> {
     let tables = with::tables(rt.alloc())?;
+    assert!(&rt; lacks_bodies(&tables));
+    assert!(&rt; lacks_fields(&tables, fields_0(), Missing::Fields(fields_0())));
+    assert!(&rt; lacks_names(&tables));
+    assert!(&rt; lacks_signatures(&tables, EnumId::from_raw(5)));
     assert!(&rt; tables.raw_words(Edition::Edition2021).len() == 0);
     Ok(())
 }
@@ -311,16 +286,6 @@ fn is_plain(tables: &Tables, def: PlainDef) -> bool {
         }
         Err(_) => false,
     }
-}
-
-#[test]
-fn an_enum_in_the_tables(rt: HostRuntime) -> Result<(), Fail> {
-    let tables = with::filled(rt.alloc())?;
-    assert!(&rt;
-        is_plain(&tables, PlainDef::Enum(EnumId::from_raw(3)))
-            && !is_plain(&tables, PlainDef::Union(UnionId::from_raw(5)))
-    );
-    Ok(())
 }
 
 /// Whether the body's root is expression 0.
@@ -339,9 +304,21 @@ fn has_root_and_self(tables: &Tables, def: DefWithBodyId) -> bool {
     }
 }
 
+/// Whether the signatures are there that were given.
+fn have_signatures(tables: &Tables) -> bool {
+    is_function(tables, FunctionId::from_raw(1))
+        && is_struct(tables, StructId::from_raw(2))
+        && is_plain(tables, PlainDef::Enum(EnumId::from_raw(3)))
+        && !is_plain(tables, PlainDef::Union(UnionId::from_raw(5)))
+}
+
 #[test]
-fn a_body_in_the_tables(rt: HostRuntime) -> Result<(), Fail> {
+fn what_is_in_the_tables(rt: HostRuntime) -> Result<(), Fail> {
     let tables = with::filled(rt.alloc())?;
-    assert!(&rt; has_root_0(&tables, made::def_1()) && has_root_and_self(&tables, made::def_1()));
+    assert!(&rt; have_signatures(&tables));
+    assert!(&rt; tables.repr(StructId::from_raw(2)) == None);
+    assert!(&rt; has_x(&tables, VariantId::StructId(StructId::from_raw(2))));
+    assert!(&rt; has_root_0(&tables, made::def_1()));
+    assert!(&rt; has_root_and_self(&tables, made::def_1()));
     Ok(())
 }

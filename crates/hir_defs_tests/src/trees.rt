@@ -85,7 +85,8 @@ pub fn bind(
 /// The path `a`.
 pub fn path(alloc: Global) -> Result<Path, AllocError> {
     let mut names = Seq::new(alloc);
-    again::push(&mut names, again::name(alloc, "a")?)?;
+    let name = again::name(alloc, "a")?;
+    again::push(&mut names, name)?;
     Ok(Path::BarePath(ModPath::from_segments(PathKind::Plain, names)))
 }
 
