@@ -1,6 +1,7 @@
 //! Calls that take memory, made again where it is refused once.
 //! So each test passes with ample memory, and whichever one growth is refused.
 use hir_base::{Arena, ArenaFault, ExactEq, Idx, Name, Seq, TryClone};
+use hir_store::Missing;
 use std::alloc::{AllocError, AllocFailed, Global};
 
 pub fn name(alloc: Global, text: &str) -> Result<Name, AllocError> {
@@ -56,5 +57,13 @@ pub fn taken<T: Drop>(outcome: Result<(), AllocFailed<T>>) -> Result<(), AllocEr
     match outcome {
         Ok(()) => Ok(()),
         Err(failed) => Err(AllocError::from(failed)),
+    }
+}
+
+/// Whether the answer is that this is missing.
+pub fn lacks<T: Drop>(answer: Result<T, Missing>, wanted: Missing) -> bool {
+    match &answer {
+        Ok(_) => false,
+        Err(missing) => *missing == wanted,
     }
 }

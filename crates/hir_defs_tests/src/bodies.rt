@@ -44,14 +44,56 @@ fn body(
     }
 }
 
-/// The body with these parameters in the store of the builder, or its refusal.
+/// What the store of a body holds.
+#[derive(Drop)]
+enum Tree {
+    /// The path `a` as the root.
+    Path,
+    /// A pattern `_`, and the path `a` as the root.
+    Wild,
+    /// A pattern `_` and the path `a`, which is no root.
+    NoRoot,
+    /// `let x = a` as the root.
+    Let,
+    /// The pattern `a..`, and its `a` as the root.
+    Range,
+    /// `x @ _`, and the path `a` as the root.
+    Nested,
+    /// `let _ = a`, which is a root, and the path `a` as the last root.
+    TwoRoots,
+    /// The bindings `self`, `copy` and `x`, a pattern `_`, and the path `a` as the root.
+    Method,
+}
+
+/// Adds the tree.
+fn add(builder: &mut ExpressionStoreBuilder, alloc: Global, tree: Tree) -> Result<(), Fail> {
+    match tree {
+        Tree::Path => trees::path_root(builder, alloc),
+        Tree::Wild => add_wild(builder, alloc),
+        Tree::NoRoot => add_no_root(builder, alloc),
+        Tree::Let => add_let(builder, alloc),
+        Tree::Range => add_range(builder, alloc),
+        Tree::Nested => add_nested(builder, alloc),
+        Tree::TwoRoots => add_two_roots(builder, alloc),
+        Tree::Method => add_method(builder, alloc),
+    }
+}
+
+/// The store of the tree.
+fn store_of(alloc: Global, tree: Tree) -> Result<ExpressionStore, Fail> {
+    let mut builder = with::builder(alloc)?;
+    add(&mut builder, alloc, tree)?;
+    with::store(builder)
+}
+
+/// The body with these parameters in the store of the tree, or its refusal.
 fn asked(
     alloc: Global,
-    builder: Box<ExpressionStoreBuilder>,
+    tree: Tree,
     params: Seq<Param<PatId>>,
     self_param: Option<Param<BindingId>>,
 ) -> Result<Box<Result<Body, RefusedBody>>, Fail> {
-    match with::store(builder) {
+    match store_of(alloc, tree) {
         Ok(store) => Ok(again::in_a_box(alloc, body(alloc, store, params, self_param))?),
         Err(failed) => Err(failed),
     }
@@ -65,15 +107,15 @@ fn has_fault(outcome: &Result<Body, RefusedBody>, wanted: BodyFault) -> bool {
     }
 }
 
-/// Whether a body with these parameters in the store of the builder is refused for this.
+/// Whether a body with these parameters in the store of the tree is refused for this.
 fn refuses(
     alloc: Global,
-    builder: Box<ExpressionStoreBuilder>,
+    tree: Tree,
     numbers: &[u32],
     self_param: Option<Param<BindingId>>,
     wanted: BodyFault,
 ) -> Result<bool, Fail> {
-    let outcome = asked(alloc, builder, params(alloc, numbers)?, self_param)?;
+    let outcome = asked(alloc, tree, params(alloc, numbers)?, self_param)?;
     Ok(has_fault(&outcome, wanted))
 }
 
@@ -85,24 +127,17 @@ fn has_root(outcome: &Result<Body, RefusedBody>, root: u32) -> bool {
     }
 }
 
-/// Whether a body with these parameters and no `self` in the store of the builder is accepted, and this is its root.
-fn accepts(
-    alloc: Global,
-    builder: Box<ExpressionStoreBuilder>,
-    numbers: &[u32],
-    root: u32,
-) -> Result<bool, Fail> {
-    let outcome = asked(alloc, builder, params(alloc, numbers)?, None)?;
+/// Whether a body with these parameters and no `self` in the store of the tree is accepted, and this is its root.
+fn accepts(alloc: Global, tree: Tree, numbers: &[u32], root: u32) -> Result<bool, Fail> {
+    let outcome = asked(alloc, tree, params(alloc, numbers)?, None)?;
     Ok(has_root(&outcome, root))
 }
 
-/// Adds a pattern `_`, and the path `a` as the root.
 fn add_wild(builder: &mut ExpressionStoreBuilder, alloc: Global) -> Result<(), Fail> {
     trees::pat(builder, Pat::Wild)?;
     trees::path_root(builder, alloc)
 }
 
-/// Adds `let x = a` as the root.
 fn add_let(builder: &mut ExpressionStoreBuilder, alloc: Global) -> Result<(), Fail> {
     let x = trees::binding(builder, alloc, "x")?;
     let pat = trees::bind(builder, x, None)?;
@@ -112,17 +147,6 @@ fn add_let(builder: &mut ExpressionStoreBuilder, alloc: Global) -> Result<(), Fa
     Ok(())
 }
 
-#[test]
-fn a_formal_under_the_root(rt: HostRuntime) -> Result<(), Fail> {
-    let a = rt.alloc();
-    let mut builder = with::builder(a)?;
-    add_let(&mut builder, a)?;
-    let holds = refuses(a, builder, &[0], None, BodyFault::ParamUnder(0))?;
-    assert!(&rt; holds);
-    Ok(())
-}
-
-/// Adds the pattern `a..`, and its `a` as the root.
 fn add_range(builder: &mut ExpressionStoreBuilder, alloc: Global) -> Result<(), Fail> {
     let root = trees::path_expr(builder, alloc)?;
     let range = Pat::Range {
@@ -135,71 +159,10 @@ fn add_range(builder: &mut ExpressionStoreBuilder, alloc: Global) -> Result<(), 
     Ok(())
 }
 
-#[test]
-fn the_root_under_a_formal(rt: HostRuntime) -> Result<(), Fail> {
-    let a = rt.alloc();
-    let mut builder = with::builder(a)?;
-    add_range(&mut builder, a)?;
-    let holds = refuses(a, builder, &[0], None, BodyFault::RootInParam)?;
-    assert!(&rt; holds);
-    Ok(())
-}
-
-#[test]
-fn a_formal_repeats(rt: HostRuntime) -> Result<(), Fail> {
-    let a = rt.alloc();
-    let mut builder = with::builder(a)?;
-    add_wild(&mut builder, a)?;
-    let holds = refuses(a, builder, &[0, 0], None, BodyFault::ParamRepeated(1))?;
-    assert!(&rt; holds);
-    Ok(())
-}
-
-#[test]
-fn an_absent_self_comes_before_an_absent_parameter(rt: HostRuntime) -> Result<(), Fail> {
-    let a = rt.alloc();
-    let mut builder = with::builder(a)?;
-    add_wild(&mut builder, a)?;
-    let holds = refuses(a, builder, &[9], Some(param(5)), BodyFault::SelfOutOfRange)?;
-    assert!(&rt; holds);
-    Ok(())
-}
-
-/// Adds a pattern `_` and the path `a`, which is no root.
 fn add_no_root(builder: &mut ExpressionStoreBuilder, alloc: Global) -> Result<(), Fail> {
     trees::pat(builder, Pat::Wild)?;
     trees::path_expr(builder, alloc)?;
     builder.begin_roots();
-    Ok(())
-}
-
-#[test]
-fn no_root_comes_before_all(rt: HostRuntime) -> Result<(), Fail> {
-    let a = rt.alloc();
-    let mut builder = with::builder(a)?;
-    add_no_root(&mut builder, a)?;
-    let holds = refuses(a, builder, &[9], Some(param(5)), BodyFault::NoRoot)?;
-    assert!(&rt; holds);
-    Ok(())
-}
-
-#[test]
-fn an_absent_parameter(rt: HostRuntime) -> Result<(), Fail> {
-    let a = rt.alloc();
-    let mut builder = with::builder(a)?;
-    add_wild(&mut builder, a)?;
-    let holds = refuses(a, builder, &[0, 9], None, BodyFault::ParamOutOfRange(1))?;
-    assert!(&rt; holds);
-    Ok(())
-}
-
-#[test]
-fn the_kind_counts_before_the_index(rt: HostRuntime) -> Result<(), Fail> {
-    let a = rt.alloc();
-    let mut builder = with::builder(a)?;
-    add_wild(&mut builder, a)?;
-    let holds = refuses(a, builder, &[0, 0, 9], None, BodyFault::ParamOutOfRange(2))?;
-    assert!(&rt; holds);
     Ok(())
 }
 
@@ -229,17 +192,6 @@ fn hands_back(outcome: &Result<Body, RefusedBody>) -> bool {
     }
 }
 
-#[test]
-fn what_the_user_wrote_has_to_be_there(rt: HostRuntime) -> Result<(), Fail> {
-    let a = rt.alloc();
-    let mut builder = with::builder(a)?;
-    add_wild(&mut builder, a)?;
-    let outcome = asked(a, builder, odd(a)?, None)?;
-    assert!(&rt; hands_back(&outcome));
-    Ok(())
-}
-
-/// Adds `x @ _`, and the path `a` as the root.
 fn add_nested(builder: &mut ExpressionStoreBuilder, alloc: Global) -> Result<(), Fail> {
     let x = trees::binding(builder, alloc, "x")?;
     let inner = trees::pat(builder, Pat::Wild)?;
@@ -247,53 +199,12 @@ fn add_nested(builder: &mut ExpressionStoreBuilder, alloc: Global) -> Result<(),
     trees::path_root(builder, alloc)
 }
 
-#[test]
-fn a_formal_under_a_later_one(rt: HostRuntime) -> Result<(), Fail> {
-    let a = rt.alloc();
-    let mut builder = with::builder(a)?;
-    add_nested(&mut builder, a)?;
-    let holds = refuses(a, builder, &[0, 1], None, BodyFault::ParamUnder(0))?;
-    assert!(&rt; holds);
-    Ok(())
-}
-
-#[test]
-fn a_formal_under_an_earlier_one(rt: HostRuntime) -> Result<(), Fail> {
-    let a = rt.alloc();
-    let mut builder = with::builder(a)?;
-    add_nested(&mut builder, a)?;
-    let holds = refuses(a, builder, &[1, 0], None, BodyFault::ParamUnder(1))?;
-    assert!(&rt; holds);
-    Ok(())
-}
-
-#[test]
-fn a_formal_above_others(rt: HostRuntime) -> Result<(), Fail> {
-    let a = rt.alloc();
-    let mut builder = with::builder(a)?;
-    add_nested(&mut builder, a)?;
-    let holds = accepts(a, builder, &[1], 0)?;
-    assert!(&rt; holds);
-    Ok(())
-}
-
-/// Adds `let _ = a`, which is a root, and the path `a` as the last root.
 fn add_two_roots(builder: &mut ExpressionStoreBuilder, alloc: Global) -> Result<(), Fail> {
     let pat = trees::pat(builder, Pat::Wild)?;
     let expr = trees::path_expr(builder, alloc)?;
     let earlier = trees::expr(builder, Expr::Let { pat, expr })?;
     trees::root(builder, earlier)?;
     trees::path_root(builder, alloc)
-}
-
-#[test]
-fn a_formal_under_an_earlier_root(rt: HostRuntime) -> Result<(), Fail> {
-    let a = rt.alloc();
-    let mut builder = with::builder(a)?;
-    add_two_roots(&mut builder, a)?;
-    let holds = accepts(a, builder, &[0], 2)?;
-    assert!(&rt; holds);
-    Ok(())
 }
 
 /// Where `self` is bound, and its copy.
@@ -304,7 +215,6 @@ fn this() -> Param<BindingId> {
     }
 }
 
-/// Adds the bindings `self`, `copy` and `x`, a pattern `_`, and the path `a` as the root.
 fn add_method(builder: &mut ExpressionStoreBuilder, alloc: Global) -> Result<(), Fail> {
     trees::binding(builder, alloc, "self")?;
     trees::binding(builder, alloc, "copy")?;
@@ -334,17 +244,6 @@ fn is_the_method(outcome: &Result<Body, RefusedBody>) -> bool {
     }
 }
 
-#[test]
-fn an_accepted_body(rt: HostRuntime) -> Result<(), Fail> {
-    let a = rt.alloc();
-    let list = params(a, &[0])?;
-    let mut builder = with::builder(a)?;
-    add_method(&mut builder, a)?;
-    let outcome = asked(a, builder, list, Some(this()))?;
-    assert!(&rt; is_the_method(&outcome));
-    Ok(())
-}
-
 /// Whether the text of the fault is this.
 fn reads(alloc: Global, fault: BodyFault, wanted: &str) -> Result<bool, AllocError> {
     let text = match format!(in alloc; "{fault}") {
@@ -352,25 +251,6 @@ fn reads(alloc: Global, fault: BodyFault, wanted: &str) -> Result<bool, AllocErr
         Err(_) => format!(in alloc; "{fault}")?,
     };
     Ok(text.as_str() == wanted)
-}
-
-#[test]
-fn texts_of_faults(rt: HostRuntime) -> Result<(), Fail> {
-    let a = rt.alloc();
-    assert!(&rt; reads(a, BodyFault::NoRoot, "NoRoot")?);
-    assert!(&rt; reads(a, BodyFault::SelfOutOfRange, "SelfOutOfRange")?);
-    assert!(&rt; reads(a, BodyFault::RootInParam, "RootInParam")?);
-    assert!(&rt; reads(a, BodyFault::Memory, "Memory")?);
-    Ok(())
-}
-
-#[test]
-fn texts_of_faults_of_parameters(rt: HostRuntime) -> Result<(), Fail> {
-    let a = rt.alloc();
-    assert!(&rt; reads(a, BodyFault::ParamOutOfRange(3), "ParamOutOfRange 3")?);
-    assert!(&rt; reads(a, BodyFault::ParamRepeated(1), "ParamRepeated 1")?);
-    assert!(&rt; reads(a, BodyFault::ParamUnder(0), "ParamUnder 0")?);
-    Ok(())
 }
 
 /// Where the `self` of the tests is written.
@@ -401,27 +281,9 @@ pub fn answers_self(map: &BodySourceMap) -> bool {
     }
 }
 
-#[test]
-fn where_self_is_written(rt: HostRuntime) -> Result<(), Fail> {
-    let map = map_of_nothing(rt.alloc())?;
-    assert!(&rt; answers_self(&map));
-    Ok(())
-}
-
-#[test]
-fn a_source_map_is_itself(rt: HostRuntime) -> Result<(), Fail> {
-    let map = map_of_nothing(rt.alloc())?;
-    assert!(&rt; map.store() == map.store());
-    assert!(&rt; map == map);
-    Ok(())
-}
-
 /// The body `a`.
 pub fn plain(alloc: Global) -> Result<Body, Fail> {
-    let mut builder = with::builder(alloc)?;
-    trees::path_root(&mut builder, alloc)?;
-    let store = with::store(builder)?;
-    match body(alloc, store, Seq::new(alloc), None) {
+    match body(alloc, store_of(alloc, Tree::Path)?, Seq::new(alloc), None) {
         Ok(body) => Ok(body),
         Err(refused) => Err(Fail::from(refused.fault)),
     }
@@ -439,12 +301,86 @@ fn is_plain(outcome: &Result<Body, RefusedBody>) -> bool {
 }
 
 #[test]
-fn an_accepted_body_has_no_fault(rt: HostRuntime) -> Result<(), Fail> {
+fn formals_and_the_root_lie_apart(rt: HostRuntime) -> Result<(), Fail> {
     let a = rt.alloc();
-    let mut builder = with::builder(a)?;
-    trees::path_root(&mut builder, a)?;
-    let outcome = asked(a, builder, Seq::new(a), None)?;
+    assert!(&rt; refuses(a, Tree::Let, &[0], None, BodyFault::ParamUnder(0))?);
+    assert!(&rt; refuses(a, Tree::Range, &[0], None, BodyFault::RootInParam)?);
+    assert!(&rt; refuses(a, Tree::Wild, &[0, 0], None, BodyFault::ParamRepeated(1))?);
+    // the inner pattern is 0, the outer one 1
+    assert!(&rt; refuses(a, Tree::Nested, &[0, 1], None, BodyFault::ParamUnder(0))?);
+    assert!(&rt; refuses(a, Tree::Nested, &[1, 0], None, BodyFault::ParamUnder(1))?);
+    Ok(())
+}
+
+#[test]
+fn formals_under_no_formal_and_not_under_the_last_root(rt: HostRuntime) -> Result<(), Fail> {
+    let a = rt.alloc();
+    assert!(&rt; accepts(a, Tree::Nested, &[1], 0)?);
+    // the formal is under the earlier root
+    assert!(&rt; accepts(a, Tree::TwoRoots, &[0], 2)?);
+    Ok(())
+}
+
+#[test]
+fn the_first_fault_by_kind_and_then_by_index(rt: HostRuntime) -> Result<(), Fail> {
+    let a = rt.alloc();
+    let absent = Some(param(5));
+    assert!(&rt; refuses(a, Tree::NoRoot, &[9], absent, BodyFault::NoRoot)?);
+    assert!(&rt; refuses(a, Tree::Wild, &[9], absent, BodyFault::SelfOutOfRange)?);
+    assert!(&rt; refuses(a, Tree::Wild, &[0, 9], None, BodyFault::ParamOutOfRange(1))?);
+    assert!(&rt;
+        refuses(
+            a,
+            Tree::Wild,
+            &[0, 0, 9],
+            None,
+            BodyFault::ParamOutOfRange(2)
+        )?
+    );
+    Ok(())
+}
+
+#[test]
+fn what_the_user_wrote_has_to_be_there(rt: HostRuntime) -> Result<(), Fail> {
+    let a = rt.alloc();
+    let outcome = asked(a, Tree::Wild, odd(a)?, None)?;
+    assert!(&rt; hands_back(&outcome));
+    Ok(())
+}
+
+#[test]
+fn an_accepted_body(rt: HostRuntime) -> Result<(), Fail> {
+    let a = rt.alloc();
+    let outcome = asked(a, Tree::Method, params(a, &[0])?, Some(this()))?;
+    assert!(&rt; is_the_method(&outcome));
+    let outcome = asked(a, Tree::Path, Seq::new(a), None)?;
     assert!(&rt; is_plain(&outcome));
+    Ok(())
+}
+
+#[test]
+fn texts_of_faults(rt: HostRuntime) -> Result<(), Fail> {
+    let a = rt.alloc();
+    assert!(&rt; reads(a, BodyFault::NoRoot, "NoRoot")?);
+    assert!(&rt; reads(a, BodyFault::SelfOutOfRange, "SelfOutOfRange")?);
+    assert!(&rt; reads(a, BodyFault::ParamOutOfRange(3), "ParamOutOfRange 3")?);
+    assert!(&rt; reads(a, BodyFault::ParamRepeated(1), "ParamRepeated 1")?);
+    assert!(&rt; reads(a, BodyFault::ParamUnder(0), "ParamUnder 0")?);
+    assert!(&rt; reads(a, BodyFault::RootInParam, "RootInParam")?);
+    assert!(&rt; reads(a, BodyFault::Memory, "Memory")?);
+    Ok(())
+}
+
+/// Whether the map and its part of the store equal themselves.
+fn is_itself(map: &BodySourceMap) -> bool {
+    map.store() == map.store() && map == map
+}
+
+#[test]
+fn where_self_is_written(rt: HostRuntime) -> Result<(), Fail> {
+    let map = again::in_a_box(rt.alloc(), map_of_nothing(rt.alloc())?)?;
+    assert!(&rt; answers_self(&map));
+    assert!(&rt; is_itself(&map));
     Ok(())
 }
 

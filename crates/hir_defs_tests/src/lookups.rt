@@ -1,4 +1,5 @@
 //! Looking up generic parameters by their definition, and stores by their owner.
+use crate::again::lacks;
 use crate::{made, with};
 use hir_base::{
     AdtId, ConstId, DefWithBodyId, EnumId, ExpressionStoreOwnerId, FunctionId, GenericDefId, Idx,
@@ -68,22 +69,6 @@ fn adts_have_params(tables: &Tables) -> bool {
     )
 }
 
-#[test]
-fn parameters_of_definitions(rt: HostRuntime) -> Result<(), Fail> {
-    let tables = with::filled(rt.alloc())?;
-    assert!(&rt; items_have_params(&tables));
-    assert!(&rt; adts_have_params(&tables));
-    Ok(())
-}
-
-/// Whether the signature of the definition is said to be absent.
-fn lacks_params(tables: &Tables, def: GenericDefId, wanted: Missing) -> bool {
-    match GenericParams::of(tables, def) {
-        Ok(_) => false,
-        Err(missing) => missing == wanted,
-    }
-}
-
 /// Whether the definition has no parameters, no predicates, and a store of this many types.
 fn has_none(tables: &Tables, def: GenericDefId, size: usize) -> bool {
     match GenericParams::with_store(tables, def) {
@@ -105,18 +90,26 @@ fn variable(number: u32) -> GenericDefId {
 /// Whether the constant that is there has none, and the other is absent.
 fn constants_have_none(tables: &Tables) -> bool {
     has_none(tables, constant(4), 2)
-        && lacks_params(tables, constant(3), Missing::Signature(constant(3)))
+        && lacks(
+            GenericParams::of(tables, constant(3)),
+            Missing::Signature(constant(3)),
+        )
 }
 
 /// Whether so it is with statics.
 fn statics_have_none(tables: &Tables) -> bool {
     has_none(tables, variable(4), 3)
-        && lacks_params(tables, variable(3), Missing::Signature(variable(3)))
+        && lacks(
+            GenericParams::of(tables, variable(3)),
+            Missing::Signature(variable(3)),
+        )
 }
 
 #[test]
-fn constants_and_statics_have_no_parameters(rt: HostRuntime) -> Result<(), Fail> {
+fn parameters_of_definitions(rt: HostRuntime) -> Result<(), Fail> {
     let tables = with::filled(rt.alloc())?;
+    assert!(&rt; items_have_params(&tables));
+    assert!(&rt; adts_have_params(&tables));
     assert!(&rt; constants_have_none(&tables));
     assert!(&rt; statics_have_none(&tables));
     Ok(())
@@ -173,14 +166,6 @@ fn the_store_of_an_owner(rt: HostRuntime) -> Result<(), Fail> {
     Ok(())
 }
 
-/// Whether the owner is said to have no store, by this answer.
-fn lacks_store(tables: &Tables, owner: ExpressionStoreOwnerId, wanted: Missing) -> bool {
-    match ExpressionStore::of(tables, owner) {
-        Ok(_) => false,
-        Err(missing) => missing == wanted,
-    }
-}
-
 /// Union 9.
 fn union_9() -> GenericDefId {
     GenericDefId::AdtId(AdtId::UnionId(UnionId::from_raw(9)))
@@ -193,17 +178,14 @@ fn body_0() -> DefWithBodyId {
 
 /// Whether no owner of empty tables has a store.
 fn lack_stores(tables: &Tables) -> bool {
-    lacks_store(
-        tables,
-        ExpressionStoreOwnerId::Signature(union_9()),
+    lacks(
+        ExpressionStore::of(tables, ExpressionStoreOwnerId::Signature(union_9())),
         Missing::Signature(union_9()),
-    ) && lacks_store(
-        tables,
-        ExpressionStoreOwnerId::Body(body_0()),
+    ) && lacks(
+        ExpressionStore::of(tables, ExpressionStoreOwnerId::Body(body_0())),
         Missing::Body(body_0()),
-    ) && lacks_store(
-        tables,
-        ExpressionStoreOwnerId::VariantFields(fields_of(0)),
+    ) && lacks(
+        ExpressionStore::of(tables, ExpressionStoreOwnerId::VariantFields(fields_of(0))),
         Missing::Fields(fields_of(0)),
     )
 }

@@ -32,7 +32,8 @@ pub fn types(alloc: Global, count: u32) -> Result<ExpressionStore, Fail> {
 /// One type parameter `T`.
 fn one(alloc: Global) -> Result<GenericParams, Fail> {
     let first = params::listed(alloc, "T")?;
-    Ok(params::only(alloc, params::one_type(alloc, first)?))
+    let params = params::only(alloc, params::one_type(alloc, first)?)?;
+    Ok(Box::into_inner(params))
 }
 
 /// The list of type 0.

@@ -1,8 +1,9 @@
 //! Names, parents, crates and raw words in the tables.
-use crate::tables::lacks_crate;
-use crate::{again, with};
+use crate::again::{self, lacks};
+use crate::with;
 use hir_base::{CrateId, Edition, EnumId, EnumVariantId, FunctionId, NamedDef, Seq, Text};
 use hir_defs::Tables;
+use hir_store::Missing;
 use std::alloc::{AllocError, Global};
 use std::test::Fail;
 
@@ -34,10 +35,9 @@ fn add_unnamed(tables: &mut Tables) -> Result<(), Fail> {
     Ok(())
 }
 
-/// Says that it has no name, and then that it is called `g`.
-fn rename(tables: &mut Tables, alloc: Global) -> Result<(), Fail> {
+/// Says that it is called `g`.
+fn add_g(tables: &mut Tables, alloc: Global) -> Result<(), Fail> {
     let name = Some(text(alloc, "g")?);
-    add_unnamed(tables)?;
     add_name(tables, named(), name)?;
     Ok(())
 }
@@ -66,41 +66,12 @@ fn is_g(tables: &Tables, def: NamedDef) -> bool {
     }
 }
 
-#[test]
-fn a_definition_without_a_name(rt: HostRuntime) -> Result<(), Fail> {
-    let mut tables = with::tables(rt.alloc())?;
-    add_unnamed(&mut tables)?;
-    assert!(&rt; is_unnamed(&tables, named()));
-    Ok(())
-}
-
-#[test]
-fn a_later_entry_replaces_an_earlier_one(rt: HostRuntime) -> Result<(), Fail> {
-    let a = rt.alloc();
-    let mut tables = with::tables(a)?;
-    rename(&mut tables, a)?;
-    assert!(&rt; is_g(&tables, named()));
-    Ok(())
-}
-
 /// Gives one word that edition 2021 writes raw.
 fn set_raw_match(tables: &mut Tables, alloc: Global) -> Result<(), Fail> {
     let mut words = Seq::new(alloc);
     let word = text(alloc, "match")?;
     again::push(&mut words, word)?;
     tables.set_raw_words(Edition::Edition2021, words);
-    Ok(())
-}
-
-#[test]
-fn raw_words_of_an_edition(rt: HostRuntime) -> Result<(), Fail> {
-    let a = rt.alloc();
-    let mut tables = with::tables(a)?;
-    set_raw_match(&mut tables, a)?;
-    assert!(&rt;
-        tables.raw_words(Edition::Edition2021).len() == 1
-            && tables.raw_words(Edition::Edition2018).len() == 0
-    );
     Ok(())
 }
 
@@ -124,14 +95,6 @@ fn is_of(tables: &Tables, variant: EnumVariantId, parent: EnumId) -> bool {
     }
 }
 
-#[test]
-fn a_variant_in_the_tables(rt: HostRuntime) -> Result<(), Fail> {
-    let mut tables = with::tables(rt.alloc())?;
-    add_variant_2(&mut tables)?;
-    assert!(&rt; is_of(&tables, EnumVariantId::from_raw(2), EnumId::from_raw(7)));
-    Ok(())
-}
-
 /// Says that crate 1 is called `core`.
 fn add_crate_1(tables: &mut Tables, alloc: Global) -> Result<(), Fail> {
     let failed = match tables.add_crate_name(CrateId::from_raw(1), Some(text(alloc, "core")?)) {
@@ -152,12 +115,37 @@ fn is_core(tables: &Tables, id: CrateId) -> bool {
 }
 
 #[test]
-fn a_crate_in_the_tables(rt: HostRuntime) -> Result<(), Fail> {
+fn a_later_name_replaces_an_earlier_one(rt: HostRuntime) -> Result<(), Fail> {
     let a = rt.alloc();
     let mut tables = with::tables(a)?;
+    add_unnamed(&mut tables)?;
+    assert!(&rt; is_unnamed(&tables, named()));
+    add_g(&mut tables, a)?;
+    assert!(&rt; is_g(&tables, named()));
+    Ok(())
+}
+
+/// Whether edition 2021 has one raw word, and edition 2018 none.
+fn has_raw_match(tables: &Tables) -> bool {
+    tables.raw_words(Edition::Edition2021).len() == 1
+        && tables.raw_words(Edition::Edition2018).len() == 0
+}
+
+#[test]
+fn words_variants_and_crates(rt: HostRuntime) -> Result<(), Fail> {
+    let a = rt.alloc();
+    let mut tables = with::tables(a)?;
+    set_raw_match(&mut tables, a)?;
+    assert!(&rt; has_raw_match(&tables));
+    add_variant_2(&mut tables)?;
+    assert!(&rt; is_of(&tables, EnumVariantId::from_raw(2), EnumId::from_raw(7)));
     add_crate_1(&mut tables, a)?;
+    assert!(&rt; is_core(&tables, CrateId::from_raw(1)));
     assert!(&rt;
-        is_core(&tables, CrateId::from_raw(1)) && lacks_crate(&tables, CrateId::from_raw(2))
+        lacks(
+            tables.crate_name(CrateId::from_raw(2)),
+            Missing::Crate(CrateId::from_raw(2))
+        )
     );
     Ok(())
 }

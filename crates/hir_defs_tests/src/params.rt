@@ -1,6 +1,6 @@
 //! Generic parameters and predicates, one of each kind, for the tests.
 use crate::again;
-use hir_base::{Arena, Idx, LifetimeParamKind, Name, Seq, TypeOrConstParamKind};
+use hir_base::{Arena, ArenaFault, Idx, LifetimeParamKind, Name, Seq, TypeOrConstParamKind};
 use hir_defs::{
     ConstParamData, GenericParams, LifetimeBoundType, LifetimeParamData, TypeOrConstParamData,
     TypeParamData, TypeParamProvenance, WherePredicate,
@@ -66,8 +66,9 @@ pub fn outlives() -> WherePredicate {
 pub fn only(
     alloc: Global,
     params: Arena<TypeOrConstParamKind, TypeOrConstParamData>,
-) -> GenericParams {
-    GenericParams::new(params, Arena::new(alloc), Seq::new(alloc))
+) -> Result<Box<GenericParams>, Fail> {
+    let params = GenericParams::new(params, Arena::new(alloc), Seq::new(alloc));
+    Ok(again::in_a_box(alloc, params)?)
 }
 
 fn add_lifetime(
@@ -91,14 +92,22 @@ pub fn four_lifetimes(alloc: Global) -> Result<Arena<LifetimeParamKind, Lifetime
     Ok(lifetimes)
 }
 
+/// Adds a type or a constant.
+fn add(
+    params: &mut Arena<TypeOrConstParamKind, TypeOrConstParamData>,
+    param: TypeOrConstParamData,
+) -> Result<(), ArenaFault> {
+    again::alloc(params, param)?;
+    Ok(())
+}
+
 /// An arena of this type.
 pub fn one_type(
     alloc: Global,
     first: TypeParamData,
 ) -> Result<Arena<TypeOrConstParamKind, TypeOrConstParamData>, Fail> {
     let mut params = Arena::new(alloc);
-    let param = TypeOrConstParamData::from(first);
-    again::alloc(&mut params, param)?;
+    add(&mut params, TypeOrConstParamData::from(first))?;
     Ok(params)
 }
 
@@ -108,36 +117,54 @@ pub fn one_constant(
     first: ConstParamData,
 ) -> Result<Arena<TypeOrConstParamKind, TypeOrConstParamData>, Fail> {
     let mut params = Arena::new(alloc);
-    let param = TypeOrConstParamData::from(first);
-    again::alloc(&mut params, param)?;
+    add(&mut params, TypeOrConstParamData::from(first))?;
     Ok(params)
+}
+
+/// Adds a type of this name, written in a list.
+pub fn then_type(
+    alloc: Global,
+    params: &mut Arena<TypeOrConstParamKind, TypeOrConstParamData>,
+    text: &str,
+) -> Result<(), Fail> {
+    let next = listed(alloc, text)?;
+    add(params, TypeOrConstParamData::from(next))?;
+    Ok(())
+}
+
+/// Adds a constant of this name.
+fn then_constant(
+    alloc: Global,
+    params: &mut Arena<TypeOrConstParamKind, TypeOrConstParamData>,
+    text: &str,
+) -> Result<(), Fail> {
+    let next = constant(alloc, text)?;
+    add(params, TypeOrConstParamData::from(next))?;
+    Ok(())
 }
 
 /// The `Self` of a trait, the type `T` and the constant `N`.
 fn three_params(alloc: Global) -> Result<Arena<TypeOrConstParamKind, TypeOrConstParamData>, Fail> {
     let own = type_from(alloc, "Self", TypeParamProvenance::TraitSelf)?;
     let mut params = one_type(alloc, own)?;
-    let second = listed(alloc, "T")?;
-    let param = TypeOrConstParamData::from(second);
-    again::alloc(&mut params, param)?;
-    let third = constant(alloc, "N")?;
-    let param = TypeOrConstParamData::from(third);
-    again::alloc(&mut params, param)?;
+    then_type(alloc, &mut params, "T")?;
+    then_constant(alloc, &mut params, "N")?;
     Ok(params)
 }
 
 fn two_predicates(alloc: Global) -> Result<Seq<WherePredicate>, AllocError> {
-    let mut predicates = Seq::new(alloc);
     let first = meets(alloc)?;
+    let mut predicates = Seq::new(alloc);
     again::push(&mut predicates, first)?;
     again::push(&mut predicates, outlives())?;
     Ok(predicates)
 }
 
 /// The types `Self` of a trait and `T`, the constant `N`, the four lifetimes, and two predicates.
-pub fn all_kinds(alloc: Global) -> Result<GenericParams, Fail> {
+pub fn all_kinds(alloc: Global) -> Result<Box<GenericParams>, Fail> {
     let params = three_params(alloc)?;
     let lifetimes = four_lifetimes(alloc)?;
     let predicates = two_predicates(alloc)?;
-    Ok(GenericParams::new(params, lifetimes, predicates))
+    let params = GenericParams::new(params, lifetimes, predicates);
+    Ok(again::in_a_box(alloc, params)?)
 }

@@ -1,8 +1,9 @@
 //! Signatures and tables: which parts are refused, and what the tables answer.
-use crate::{again, bodies, made, with};
+use crate::again::{self, lacks};
+use crate::{bodies, made, with};
 use hir_base::{
-    AdtId, Arena, CrateId, DefWithBodyId, Edition, EnumId, EnumVariantId, FunctionId, GenericDefId,
-    Idx, NamedDef, Seq, StructId, UnionId, VariantId,
+    AdtId, Arena, DefWithBodyId, Edition, EnumId, EnumVariantId, FunctionId, GenericDefId, Idx,
+    NamedDef, Seq, StructId, UnionId, VariantId,
 };
 use hir_defs::{
     Body, BodyOf, FieldData, FieldsShape, FunctionParts, FunctionSignature, GenericParams,
@@ -30,13 +31,6 @@ fn lacks_an_id(outcome: &Result<FunctionSignature, RefusedSignature<FunctionPart
             refused.fault == SignatureFault::IdOutOfRange && refused.parts.params.len() == 1
         }
     }
-}
-
-#[test]
-fn a_parameter_type_that_is_absent(rt: HostRuntime) -> Result<(), Fail> {
-    let outcome = over_no_types(rt.alloc())?;
-    assert!(&rt; lacks_an_id(&outcome));
-    Ok(())
 }
 
 /// A predicate on type 0 whose bound is the path of type 0.
@@ -78,7 +72,9 @@ fn lacks_a_path(outcome: &Result<PlainSignature, RefusedSignature<PlainParts>>) 
 }
 
 #[test]
-fn a_bound_that_is_no_path(rt: HostRuntime) -> Result<(), Fail> {
+fn parts_that_are_refused(rt: HostRuntime) -> Result<(), Fail> {
+    let outcome = over_no_types(rt.alloc())?;
+    assert!(&rt; lacks_an_id(&outcome));
     let outcome = bound_on_never(rt.alloc())?;
     assert!(&rt; lacks_a_path(&outcome));
     Ok(())
@@ -141,12 +137,10 @@ fn add_repr_of_0(tables: &mut Tables) -> Result<(), Fail> {
     Ok(())
 }
 
-#[test]
-fn how_a_struct_lies(rt: HostRuntime) -> Result<(), Fail> {
-    let mut tables = with::tables(rt.alloc())?;
-    add_repr_of_0(&mut tables)?;
-    assert!(&rt; tables.repr(StructId::from_raw(0)) == Some(written()));
-    Ok(())
+/// Whether that is known, and of struct 2 nothing is.
+fn has_repr_of_0(tables: &Tables) -> bool {
+    tables.repr(StructId::from_raw(0)) == Some(written())
+        && tables.repr(StructId::from_raw(2)) == None
 }
 
 /// Whether the fields are `x` alone.
@@ -165,79 +159,9 @@ fn has_x(tables: &Tables, id: VariantId) -> bool {
     }
 }
 
-/// Whether the body is said to be absent.
-fn lacks_body(tables: &Tables, id: DefWithBodyId, wanted: Missing) -> bool {
-    match Body::of(tables, id) {
-        Ok(_) => false,
-        Err(missing) => missing == wanted,
-    }
-}
-
-/// Whether the body with its source map is said to be absent.
-fn lacks_body_and_map(tables: &Tables, id: DefWithBodyId, wanted: Missing) -> bool {
-    match Body::with_source_map(tables, id) {
-        Ok(_) => false,
-        Err(missing) => missing == wanted,
-    }
-}
-
-/// Whether the fields are said to be absent.
-fn lacks_fields(tables: &Tables, id: VariantId, wanted: Missing) -> bool {
-    match tables.variant_fields(id) {
-        Ok(_) => false,
-        Err(missing) => missing == wanted,
-    }
-}
-
-/// Whether the name is said to be absent.
-fn lacks_name(tables: &Tables, id: NamedDef, wanted: Missing) -> bool {
-    match tables.name(id) {
-        Ok(_) => false,
-        Err(missing) => missing == wanted,
-    }
-}
-
-/// Whether the signature of the function is said to be absent.
-fn lacks_function(tables: &Tables, id: FunctionId) -> bool {
-    match tables.function_signature(id) {
-        Ok(_) => false,
-        Err(missing) => missing == Missing::Signature(GenericDefId::FunctionId(id)),
-    }
-}
-
-/// Whether this signature is said to be absent.
-fn lacks_plain(tables: &Tables, id: PlainDef, wanted: Missing) -> bool {
-    match tables.plain_signature(id) {
-        Ok(_) => false,
-        Err(missing) => missing == wanted,
-    }
-}
-
-/// Whether the enum of the variant is said to be absent.
-fn lacks_parent(tables: &Tables, id: EnumVariantId) -> bool {
-    match tables.variant_parent(id) {
-        Ok(_) => false,
-        Err(missing) => missing == Missing::Variant(id),
-    }
-}
-
-/// Whether what the crate is called is said to be absent.
-pub fn lacks_crate(tables: &Tables, id: CrateId) -> bool {
-    match tables.crate_name(id) {
-        Ok(_) => false,
-        Err(missing) => missing == Missing::Crate(id),
-    }
-}
-
 /// The body of function 0.
 fn body_0() -> DefWithBodyId {
     DefWithBodyId::FunctionId(FunctionId::from_raw(0))
-}
-
-/// Whether no body is there, with or without its source map.
-fn lacks_bodies(tables: &Tables) -> bool {
-    lacks_body(tables, body_0(), Missing::Body(body_0()))
-        && lacks_body_and_map(tables, body_0(), Missing::Body(body_0()))
 }
 
 /// The fields of struct 0.
@@ -250,30 +174,52 @@ fn name_0() -> NamedDef {
     NamedDef::FunctionId(FunctionId::from_raw(0))
 }
 
-/// Whether neither a name nor a variant is there.
-fn lacks_names(tables: &Tables) -> bool {
-    lacks_name(tables, name_0(), Missing::Name(name_0()))
-        && lacks_parent(tables, EnumVariantId::from_raw(2))
+/// The signature of function 0.
+fn function_0() -> GenericDefId {
+    GenericDefId::FunctionId(FunctionId::from_raw(0))
 }
 
-/// That the signature of this enum is missing.
-fn no_enum(id: EnumId) -> Missing {
-    Missing::Signature(GenericDefId::AdtId(AdtId::EnumId(id)))
+/// The signature of enum 5.
+fn enum_5() -> GenericDefId {
+    GenericDefId::AdtId(AdtId::EnumId(EnumId::from_raw(5)))
+}
+
+/// Whether no body is there, with or without its source map.
+fn lacks_bodies(tables: &Tables) -> bool {
+    lacks(Body::of(tables, body_0()), Missing::Body(body_0()))
+        && lacks(
+            Body::with_source_map(tables, body_0()),
+            Missing::Body(body_0()),
+        )
+}
+
+/// Whether no fields, name and variant are there.
+fn lacks_names(tables: &Tables) -> bool {
+    let variant = EnumVariantId::from_raw(2);
+    lacks(
+        tables.variant_fields(fields_0()),
+        Missing::Fields(fields_0()),
+    ) && lacks(tables.name(name_0()), Missing::Name(name_0()))
+        && lacks(tables.variant_parent(variant), Missing::Variant(variant))
 }
 
 /// Whether no signature is there.
-fn lacks_signatures(tables: &Tables, id: EnumId) -> bool {
-    lacks_function(tables, FunctionId::from_raw(0))
-        && lacks_plain(tables, PlainDef::Enum(id), no_enum(id))
+fn lacks_signatures(tables: &Tables) -> bool {
+    lacks(
+        tables.function_signature(FunctionId::from_raw(0)),
+        Missing::Signature(function_0()),
+    ) && lacks(
+        tables.plain_signature(PlainDef::Enum(EnumId::from_raw(5))),
+        Missing::Signature(enum_5()),
+    )
 }
 
 #[test]
 fn what_is_absent_is_named(rt: HostRuntime) -> Result<(), Fail> {
     let tables = with::tables(rt.alloc())?;
     assert!(&rt; lacks_bodies(&tables));
-    assert!(&rt; lacks_fields(&tables, fields_0(), Missing::Fields(fields_0())));
     assert!(&rt; lacks_names(&tables));
-    assert!(&rt; lacks_signatures(&tables, EnumId::from_raw(5)));
+    assert!(&rt; lacks_signatures(&tables));
     assert!(&rt; tables.raw_words(Edition::Edition2021).len() == 0);
     Ok(())
 }
@@ -314,9 +260,10 @@ fn have_signatures(tables: &Tables) -> bool {
 
 #[test]
 fn what_is_in_the_tables(rt: HostRuntime) -> Result<(), Fail> {
-    let tables = with::filled(rt.alloc())?;
+    let mut tables = with::filled(rt.alloc())?;
+    add_repr_of_0(&mut tables)?;
     assert!(&rt; have_signatures(&tables));
-    assert!(&rt; tables.repr(StructId::from_raw(2)) == None);
+    assert!(&rt; has_repr_of_0(&tables));
     assert!(&rt; has_x(&tables, VariantId::StructId(StructId::from_raw(2))));
     assert!(&rt; has_root_0(&tables, made::def_1()));
     assert!(&rt; has_root_and_self(&tables, made::def_1()));

@@ -14,10 +14,7 @@ pub fn builder(alloc: Global) -> Result<Box<ExpressionStoreBuilder>, Fail> {
 fn both(
     builder: Box<ExpressionStoreBuilder>,
 ) -> Result<(ExpressionStore, ExpressionStoreSourceMap), Fail> {
-    match trees::finish(Box::into_inner(builder)) {
-        Ok(made) => Ok(made),
-        Err(refused) => Err(Fail::from(refused)),
-    }
+    trees::finish(Box::into_inner(builder)).map_err(Fail::from)
 }
 
 fn first(made: (ExpressionStore, ExpressionStoreSourceMap)) -> ExpressionStore {
@@ -30,18 +27,12 @@ fn second(made: (ExpressionStore, ExpressionStoreSourceMap)) -> ExpressionStoreS
 
 /// The store that the builder makes.
 pub fn store(builder: Box<ExpressionStoreBuilder>) -> Result<ExpressionStore, Fail> {
-    match both(builder) {
-        Ok(made) => Ok(first(made)),
-        Err(failed) => Err(failed),
-    }
+    both(builder).map(first)
 }
 
 /// The source map of no nodes.
 pub fn no_sources(alloc: Global) -> Result<ExpressionStoreSourceMap, Fail> {
-    match both(builder(alloc)?) {
-        Ok(made) => Ok(second(made)),
-        Err(failed) => Err(failed),
-    }
+    both(builder(alloc)?).map(second)
 }
 
 /// Empty tables.

@@ -5,6 +5,8 @@ use Rattle.hir_ends.specs.declared.next.LineFault.{LineFault}
 use Rattle.hir_ends.specs.declared.next.LineFault.TheVariants as line
 use Rattle.hir_run.specs.declared.fault.RunFault.{RunFault}
 use Rattle.hir_run.specs.declared.fault.RunFault.TheVariants.{BadLine, Refused, InputFailed, OutputFailed, OutOfMemory}
+use Rattle.hir_faults.specs.declared.fault.FinishFault.{FinishFault}
+use Rattle.hir_faults.specs.declared.fault.FinishFault.TheVariants.{Memory}
 use Rattle.hir_store.specs.Building.{Building, contents_of, finish_fault}
 use Rattle.hir_accepted.specs.Contents.{Contents}
 use Rattle.hir_run.specs.Program.{answers, script, script_of, IsMeaning, IsSound}
@@ -70,6 +72,14 @@ is_output_failed (Err OutOfMemory) = false
 abbrev pub store_of : {Beside : Type 0} → Result (Contents × Beside) RunFault → Result Contents RunFault
 store_of (Ok stored) = Ok stored.0
 store_of (Err fault) = Err fault
+
+-- how the run tells this fault of a builder
+abbrev pub IsTold : FinishFault → RunFault → Type 0
+IsTold fault (Refused told) = (told ≡ fault) × (fault ≡ Memory → ⊥)
+IsTold fault OutOfMemory = fault ≡ Memory
+IsTold fault (BadLine number) = ⊥
+IsTold fault InputFailed = ⊥
+IsTold fault OutputFailed = ⊥
 
 -- what was built has no fault and is the store, or this is its first fault
 abbrev pub IsFinished : Building → Result Contents RunFault → Type 0

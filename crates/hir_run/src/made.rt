@@ -32,6 +32,13 @@ impl Made {
         }
     }
 
+    /// The builder alone.
+    pub(crate) fn into_builder(self) -> ExpressionStoreBuilder
+        ensures { result ≡ self.builder }
+    {
+        self.builder
+    }
+
     /// Adds what the line of this number makes. A second self parameter or a second name is a bad line. After a refusal all is as it was.
     pub(crate) fn make(&mut self, maker: Maker, line: u64) -> Result<(), RunFault>
         ensures ok { OnOk result ((is_second (made_of self.old) maker ≡ false) × (made_of self.new ≡ with_line (made_of self.old) maker)) }

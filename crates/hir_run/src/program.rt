@@ -2,31 +2,42 @@
 
 ghost use Rattle.std.specs.Prelude.{◌≡◌, false};
 ghost use Rattle.hir_store.specs.Building.{building_of};
-ghost use Rattle.hir_run.specs.Run.{Runs, IsFinished, store_of, is_input_failed, is_output_failed};
+ghost use Rattle.hir_run.specs.Run.{Runs, IsFinished, IsTold, store_of, is_input_failed, is_output_failed};
 
 use super::fault::RunFault;
 use super::made::Made;
 use super::stages::{accept, answer_all, build};
 use hir_ends::{LineReader, OutputBuffer, Sink, Source};
-use hir_store::{ExpressionStore, ExpressionStoreBuilder, ExpressionStoreSourceMap, FinishFault};
+use hir_store::{ExpressionStore, ExpressionStoreSourceMap, FinishFault, Refused};
 use std::alloc::Global;
-use std::mem::forget;
+use std::mem::{drop, forget};
+
+/// How the run tells this fault of a builder.
+fn told(fault: FinishFault) -> RunFault
+    ensures { IsTold fault result }
+{
+    if fault == FinishFault::Memory {
+        return RunFault::OutOfMemory;
+    }
+    RunFault::Refused(fault)
+}
+
+/// How the run tells why a builder is refused.
+fn refusal(refused: Refused) -> RunFault
+    ensures { IsTold refused.fault result }
+{
+    let fault = told(refused.fault);
+    drop(refused);
+    fault
+}
 
 /// The store of what was built, with its source map, or why there is none.
 fn finished(
-    builder: ExpressionStoreBuilder,
+    made: Made,
 ) -> Result<(ExpressionStore, ExpressionStoreSourceMap), RunFault>
-    ensures { IsFinished (building_of builder) (store_of result) }
+    ensures { IsFinished (building_of made.builder) (store_of result) }
 {
-    match builder.finish() {
-        Ok(stored) => Ok(stored),
-        Err(refused) => {
-            if refused.fault == FinishFault::Memory {
-                return Err(RunFault::OutOfMemory);
-            }
-            Err(RunFault::Refused(refused.fault))
-        }
-    }
+    made.into_builder().finish().map_err(refusal)
 }
 
 /// Runs the program on the lines that the source gives, and writes its answers to the sink.
@@ -54,9 +65,15 @@ pub fn run<R: Source, W: Sink>(
         return Err(RunFault::OutOfMemory);
     };
     let mut made = Made::new(alloc);
-    let first = build(alloc, &mut lines, reader, &mut output, writer, &mut made)?;
+    let first = match build(alloc, &mut lines, reader, &mut output, writer, &mut made) {
+        Ok(first) => first,
+        Err(fault) => {
+            drop(made);
+            return Err(fault);
+        }
+    };
     // The store is never dropped: the process ends behind a run, and the system takes back all memory at once.
-    let stored = finished(made.builder)?;
+    let stored = finished(made)?;
     match first {
         Some(question) => {
             let outcome = answer_all(

@@ -14,6 +14,7 @@ use hir_ends::{LineReader, OutputBuffer, Sink, Source, next_line};
 use hir_lines::{Line, Question, parse};
 use hir_store::ExpressionStore;
 use std::alloc::Global;
+use std::mem::drop;
 
 /// Makes what the line of this number makes, or gives its question.
 fn build_by(line: Line, number: u64, made: &mut Made) -> Result<Option<Question>, RunFault>
@@ -101,7 +102,10 @@ fn answer_by<W: Sink>(
     match line {
         Line::Blank => Ok(()),
         Line::Ask(question) => answer_one(store, question, output, writer),
-        Line::Make(_maker) => Err(RunFault::BadLine(number)),
+        Line::Make(maker) => {
+            drop(maker);
+            Err(RunFault::BadLine(number))
+        }
         Line::Bad => Err(RunFault::BadLine(number)),
     }
 }
