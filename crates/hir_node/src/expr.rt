@@ -1,5 +1,5 @@
 //! Expressions.
-ghost use Rattle.std.specs.Prelude.{◌≡◌};
+ghost use Rattle.std.specs.Prelude.{◌≡◌, IfOk};
 ghost use Rattle.hir_node.specs.Precedence.{of_operator, of_arith};
 
 use crate::literal::Literal;
@@ -266,12 +266,7 @@ impl Clone for Expr {
                 method_name,
                 args,
                 generic_args,
-            } => Ok(Expr::MethodCall {
-                receiver: *receiver,
-                method_name: method_name.try_clone()?,
-                args: args.try_clone()?,
-                generic_args: generic_args.try_clone()?,
-            }),
+            } => clone_method_call(*receiver, method_name, args, generic_args),
             Expr::Match { expr, arms } => Ok(Expr::Match {
                 expr: *expr,
                 arms: arms.try_clone()?,
@@ -290,11 +285,7 @@ impl Clone for Expr {
                 path,
                 fields,
                 spread,
-            } => Ok(Expr::RecordLit {
-                path: path.try_clone()?,
-                fields: fields.try_clone()?,
-                spread: *spread,
-            }),
+            } => clone_record_lit(path, fields, *spread),
             Expr::Field { expr, name } => Ok(Expr::Field {
                 expr: *expr,
                 name: name.try_clone()?,
@@ -336,19 +327,65 @@ impl Clone for Expr {
                 body,
                 closure_kind,
                 capture_by,
-            } => Ok(Expr::Closure {
-                args: args.try_clone()?,
-                arg_types: arg_types.try_clone()?,
-                ret_type: *ret_type,
-                body: *body,
-                closure_kind: *closure_kind,
-                capture_by: *capture_by,
-            }),
+            } => {
+                let (args, arg_types) = clone_params(args, arg_types)?;
+                Ok(Expr::Closure {
+                    args,
+                    arg_types,
+                    ret_type: *ret_type,
+                    body: *body,
+                    closure_kind: *closure_kind,
+                    capture_by: *capture_by,
+                })
+            }
             Expr::Tuple { exprs } => Ok(Expr::Tuple {
                 exprs: exprs.try_clone()?,
             }),
         }
     }
+}
+
+/// A second method call with these parts.
+fn clone_method_call(
+    receiver: ExprId,
+    method_name: &Name,
+    args: &Seq<ExprId>,
+    generic_args: &Option<Boxed<GenericArgs>>,
+) -> Result<Expr, AllocError>
+    ensures { IfOk result (λ copy. copy ≡ Expr.MethodCall receiver method_name.now args.now generic_args.now) }
+{
+    Ok(Expr::MethodCall {
+        receiver,
+        method_name: method_name.try_clone()?,
+        args: args.try_clone()?,
+        generic_args: generic_args.try_clone()?,
+    })
+}
+
+/// A second record literal with these parts.
+fn clone_record_lit(
+    path: &Path,
+    fields: &Seq<RecordLitField>,
+    spread: RecordSpread,
+) -> Result<Expr, AllocError>
+    ensures { IfOk result (λ copy. copy ≡ Expr.RecordLit path.now fields.now spread) }
+{
+    // The fields first: where the path can't be had, what is dropped isn't a path.
+    Ok(Expr::RecordLit {
+        fields: fields.try_clone()?,
+        path: path.try_clone()?,
+        spread,
+    })
+}
+
+/// Second lists of the parameters of a closure and of their types.
+fn clone_params(
+    args: &Seq<PatId>,
+    arg_types: &Seq<Option<TypeRefId>>,
+) -> Result<(Seq<PatId>, Seq<Option<TypeRefId>>), AllocError>
+    ensures { IfOk result (λ copy. (copy.0 ≡ args.now) × (copy.1 ≡ arg_types.now)) }
+{
+    Ok((args.try_clone()?, arg_types.try_clone()?))
 }
 
 impl ExactEq for Expr {

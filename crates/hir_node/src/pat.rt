@@ -1,5 +1,5 @@
 //! Patterns.
-ghost use Rattle.std.specs.Prelude.{◌≡◌, map};
+ghost use Rattle.std.specs.Prelude.{◌≡◌, map, IfOk};
 ghost use Rattle.std.specs.List.{FoldsTo};
 ghost use Rattle.std.specs.Option.{option_to_list};
 ghost use Rattle.hir_base.specs.Exact.{exact};
@@ -177,11 +177,7 @@ impl Clone for Pat {
                 path,
                 args,
                 ellipsis,
-            } => Ok(Pat::Record {
-                path: path.try_clone()?,
-                args: args.try_clone()?,
-                ellipsis: *ellipsis,
-            }),
+            } => clone_record(path, args, *ellipsis),
             Pat::Range {
                 start,
                 end,
@@ -211,11 +207,7 @@ impl Clone for Pat {
                 path,
                 args,
                 ellipsis,
-            } => Ok(Pat::TupleStruct {
-                path: path.try_clone()?,
-                args: args.try_clone()?,
-                ellipsis: *ellipsis,
-            }),
+            } => clone_tuple_struct(path, args, *ellipsis),
             Pat::Ref { pat, mutability } => Ok(Pat::Ref {
                 pat: *pat,
                 mutability: *mutability,
@@ -224,6 +216,34 @@ impl Clone for Pat {
             Pat::Deref { inner } => Ok(Pat::Deref { inner: *inner }),
         }
     }
+}
+
+/// A second record pattern with these parts.
+fn clone_record(path: &Path, args: &Seq<RecordFieldPat>, ellipsis: bool) -> Result<Pat, AllocError>
+    ensures { IfOk result (λ copy. copy ≡ Pat.Record path.now args.now ellipsis) }
+{
+    // The list first: where the path can't be had, what is dropped isn't a path.
+    Ok(Pat::Record {
+        args: args.try_clone()?,
+        path: path.try_clone()?,
+        ellipsis,
+    })
+}
+
+/// A second tuple struct pattern with these parts.
+fn clone_tuple_struct(
+    path: &Path,
+    args: &Seq<PatId>,
+    ellipsis: Option<u32>,
+) -> Result<Pat, AllocError>
+    ensures { IfOk result (λ copy. copy ≡ Pat.TupleStruct path.now args.now ellipsis) }
+{
+    // The list first: where the path can't be had, what is dropped isn't a path.
+    Ok(Pat::TupleStruct {
+        args: args.try_clone()?,
+        path: path.try_clone()?,
+        ellipsis,
+    })
 }
 
 impl ExactEq for Pat {
