@@ -32,9 +32,7 @@ fn refusal(refused: Refused) -> RunFault
 }
 
 /// The store of what was built, with its source map, or why there is none.
-fn finished(
-    made: Made,
-) -> Result<(ExpressionStore, ExpressionStoreSourceMap), RunFault>
+fn finished(made: Made) -> Result<(ExpressionStore, ExpressionStoreSourceMap), RunFault>
     ensures { IsFinished (building_of made.builder) (store_of result) }
 {
     made.into_builder().finish().map_err(refusal)
