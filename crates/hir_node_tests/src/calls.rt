@@ -12,7 +12,7 @@ use std::alloc::{AllocError, Global};
 use std::test::Fail;
 
 #[test]
-fn parts_that_are_there_give_a_call(rt: HostRuntime) {
+fn parts_and_lists_give_a_call_each(rt: HostRuntime) {
     let mut wanted = Wanted::new(&[
         Call::Expr(1),
         Call::Pat(2),
@@ -24,6 +24,11 @@ fn parts_that_are_there_give_a_call(rt: HostRuntime) {
     wanted.on_type_opt(Some(Idx::from_raw(3)));
     wanted.on_lifetime_opt(Some(Idx::from_raw(4)));
     assert!(rt; wanted.all_met());
+    let mut wanted = Wanted::new(&[Call::Expr(1), Call::Expr(2), Call::Pat(3), Call::Type(4)]);
+    wanted.on_exprs(&[Idx::from_raw(1), Idx::from_raw(2)]);
+    wanted.on_pats(&[Idx::from_raw(3)]);
+    wanted.on_types(&[Idx::from_raw(4)]);
+    assert!(rt; wanted.all_met());
 }
 
 #[test]
@@ -34,15 +39,6 @@ fn absent_parts_give_no_call(rt: HostRuntime) {
     wanted.on_type_opt(None);
     wanted.on_lifetime_opt(None);
     wanted.on_generic_args_opt(None);
-    assert!(rt; wanted.all_met());
-}
-
-#[test]
-fn lists_give_a_call_each(rt: HostRuntime) {
-    let mut wanted = Wanted::new(&[Call::Expr(1), Call::Expr(2), Call::Pat(3), Call::Type(4)]);
-    wanted.on_exprs(&[Idx::from_raw(1), Idx::from_raw(2)]);
-    wanted.on_pats(&[Idx::from_raw(3)]);
-    wanted.on_types(&[Idx::from_raw(4)]);
     assert!(rt; wanted.all_met());
 }
 
@@ -83,18 +79,12 @@ fn bindings_give_their_own_arguments_first(rt: HostRuntime) -> Result<(), Fail> 
     let mut wanted = Wanted::new(&NESTED);
     visit_generic_args(&mut wanted, &args);
     assert!(rt; wanted.all_met());
-    Ok(())
-}
-
-#[test]
-fn arguments_that_are_there_are_visited(rt: HostRuntime) -> Result<(), Fail> {
-    let args = build::nested(rt.alloc())?;
     let mut wanted = Wanted::new(&NESTED);
     wanted.on_generic_args(&args);
     assert!(rt; wanted.all_met());
-    let mut again = Wanted::new(&NESTED);
-    again.on_generic_args_opt(Some(&args));
-    assert!(rt; again.all_met());
+    let mut wanted = Wanted::new(&NESTED);
+    wanted.on_generic_args_opt(Some(&args));
+    assert!(rt; wanted.all_met());
     Ok(())
 }
 

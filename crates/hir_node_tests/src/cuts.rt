@@ -21,27 +21,17 @@ fn named(segments: PathSegments<'_>, names: &[&str]) -> bool {
 }
 
 #[test]
-fn the_last_segments_are_cut(rt: HostRuntime) -> Result<(), Fail> {
+fn segments_are_cut(rt: HostRuntime) -> Result<(), Fail> {
     let path = build::bare(rt.alloc(), &["a", "b", "c"])?;
-    assert!(rt; named(path.segments().strip_last_two(), &["a"]));
-    assert!(rt; named(path.segments().strip_last(), &["a", "b"]));
-    Ok(())
-}
-
-#[test]
-fn the_first_segments_are_cut(rt: HostRuntime) -> Result<(), Fail> {
-    let path = build::bare(rt.alloc(), &["a", "b", "c"])?;
-    assert!(rt; named(path.segments().take(2), &["a", "b"]));
-    assert!(rt; named(path.segments().skip(1), &["b", "c"]));
-    Ok(())
-}
-
-#[test]
-fn cuts_past_the_end(rt: HostRuntime) -> Result<(), Fail> {
-    let path = build::bare(rt.alloc(), &["a", "b", "c"])?;
-    assert!(rt; path.segments().skip(5).is_empty());
-    assert!(rt; named(path.segments().take(5), &["a", "b", "c"]));
-    assert!(rt; path.segments().take(1).strip_last_two().is_empty());
+    let segments = path.segments();
+    assert!(rt; named(segments.strip_last_two(), &["a"]));
+    assert!(rt; named(segments.strip_last(), &["a", "b"]));
+    assert!(rt; named(segments.take(2), &["a", "b"]));
+    assert!(rt; named(segments.skip(1), &["b", "c"]));
+    // past the end
+    assert!(rt; segments.skip(5).is_empty());
+    assert!(rt; named(segments.take(5), &["a", "b", "c"]));
+    assert!(rt; segments.take(1).strip_last_two().is_empty());
     Ok(())
 }
 

@@ -35,47 +35,26 @@ fn qualified(
 }
 
 #[test]
-fn crate_has_no_qualifier(rt: HostRuntime) -> Result<(), Fail> {
-    let path = Path::BarePath(ModPath::from_segments(PathKind::Crate, Seq::new(rt.alloc())));
-    assert!(rt; qualified(&rt, rt.alloc(), path, None)?);
+fn paths_without_a_qualifier(rt: HostRuntime) -> Result<(), Fail> {
+    let a = rt.alloc();
+    let krate = Path::BarePath(ModPath::from_segments(PathKind::Crate, Seq::new(a)));
+    assert!(&rt; qualified(&rt, a, krate, None)?);
+    assert!(&rt; qualified(&rt, a, build::anchored(a, &["f"])?, None)?);
+    assert!(&rt; qualified(&rt, a, Path::LangItem(build::item(), None), None)?);
     Ok(())
 }
 
 #[test]
-fn an_anchored_ident_has_no_qualifier(rt: HostRuntime) -> Result<(), Fail> {
-    let path = build::anchored(rt.alloc(), &["f"])?;
-    assert!(rt; qualified(&rt, rt.alloc(), path, None)?);
-    Ok(())
-}
-
-#[test]
-fn an_item_has_no_qualifier(rt: HostRuntime) -> Result<(), Fail> {
-    let path = Path::LangItem(build::item(), None);
-    assert!(rt; qualified(&rt, rt.alloc(), path, None)?);
-    Ok(())
-}
-
-#[test]
-fn three_names_are_qualified_by_two(rt: HostRuntime) -> Result<(), Fail> {
-    let wanted = Some(build::bare(rt.alloc(), &["a", "b"])?);
-    let path = build::bare(rt.alloc(), &["a", "b", "c"])?;
-    assert!(rt; qualified(&rt, rt.alloc(), path, wanted)?);
-    Ok(())
-}
-
-#[test]
-fn a_qualifier_keeps_the_anchor(rt: HostRuntime) -> Result<(), Fail> {
-    let wanted = Some(build::anchored(rt.alloc(), &["a"])?);
-    let path = build::anchored(rt.alloc(), &["a", "b"])?;
-    assert!(rt; qualified(&rt, rt.alloc(), path, wanted)?);
-    Ok(())
-}
-
-#[test]
-fn a_qualifier_without_arguments_is_bare(rt: HostRuntime) -> Result<(), Fail> {
-    let wanted = Some(build::bare(rt.alloc(), &["a"])?);
-    let path = build::with_args_last(rt.alloc())?;
-    assert!(rt; qualified(&rt, rt.alloc(), path, wanted)?);
+fn a_qualifier_is_all_but_the_last_name(rt: HostRuntime) -> Result<(), Fail> {
+    let a = rt.alloc();
+    let wanted = Some(build::bare(a, &["a", "b"])?);
+    assert!(&rt; qualified(&rt, a, build::bare(a, &["a", "b", "c"])?, wanted)?);
+    // It keeps the anchor.
+    let wanted = Some(build::anchored(a, &["a"])?);
+    assert!(&rt; qualified(&rt, a, build::anchored(a, &["a", "b"])?, wanted)?);
+    // Without arguments it is bare.
+    let wanted = Some(build::bare(a, &["a"])?);
+    assert!(&rt; qualified(&rt, a, build::with_args_last(a)?, wanted)?);
     Ok(())
 }
 
@@ -105,18 +84,12 @@ fn same(one: Path, other: Path) -> bool {
 }
 
 #[test]
-fn a_known_path_without_arguments_is_bare(rt: HostRuntime) -> Result<(), Fail> {
-    let lists = build::places(rt.alloc(), &["a", "b"])?;
-    let path = known(&rt, rt.alloc(), &["a", "b"], lists)?;
-    assert!(rt; same(path, build::bare(rt.alloc(), &["a", "b"])?));
-    Ok(())
-}
-
-#[test]
-fn a_known_path_keeps_its_arguments(rt: HostRuntime) -> Result<(), Fail> {
-    let lists = build::lists_first(rt.alloc(), &["a", "b"])?;
-    let path = known(&rt, rt.alloc(), &["a", "b"], lists)?;
-    assert!(rt; same(path, build::with_args_first(rt.alloc(), &["a", "b"])?));
+fn a_known_path_is_bare_without_arguments(rt: HostRuntime) -> Result<(), Fail> {
+    let a = rt.alloc();
+    let path = known(&rt, a, &["a", "b"], build::places(a, &["a", "b"])?)?;
+    assert!(&rt; same(path, build::bare(a, &["a", "b"])?));
+    let path = known(&rt, a, &["a", "b"], build::lists_first(a, &["a", "b"])?)?;
+    assert!(&rt; same(path, build::with_args_first(a, &["a", "b"])?));
     Ok(())
 }
 
@@ -130,15 +103,10 @@ fn made_of(path: &Path, anchor: Option<TypeRefId>, has_lists: bool) -> bool {
 }
 
 #[test]
-fn a_bare_path_has_no_lists(rt: HostRuntime) -> Result<(), Fail> {
+fn paths_have_their_parts(rt: HostRuntime) -> Result<(), Fail> {
     let names = build::plain(rt.alloc(), &["a", "b"])?;
     let path = Path::from_known_path_with_no_generic(names);
     assert!(rt; made_of(&path, None, false));
-    Ok(())
-}
-
-#[test]
-fn a_normal_path_has_its_parts(rt: HostRuntime) -> Result<(), Fail> {
     let path = build::anchored(rt.alloc(), &["a", "b"])?;
     assert!(rt; made_of(&path, Some(build::anchor()), true));
     Ok(())

@@ -5,6 +5,7 @@ use hir_node::{
     BindingAnnotation, Boxed, Expr, ExprId, ExprOrPatId, FloatTypeWrapper, FnType, Literal,
     Mutability, PatId, PathId, Rawness,
 };
+use std::mem::drop;
 use std::test::Fail;
 
 fn negates(literal: Literal, wanted: Option<Literal>) -> bool {
@@ -54,10 +55,6 @@ fn references_and_pointers_have_their_words(rt: HostRuntime) {
     assert_eq!(rt; mutable.as_keyword_for_ref(), "mut ");
     assert_eq!(rt; shared.as_keyword_for_ptr(), "const ");
     assert_eq!(rt; mutable.as_keyword_for_ptr(), "mut ");
-}
-
-#[test]
-fn what_is_mutable_is_not_shared(rt: HostRuntime) {
     assert!(rt; Mutability::Mut.is_mut() && !Mutability::Mut.is_shared());
     assert!(rt; Mutability::Shared.is_shared() && !Mutability::Shared.is_mut());
     assert!(rt; Rawness::from_raw(true).is_raw());
@@ -115,7 +112,9 @@ fn the_last_entry_is_the_return_type(rt: HostRuntime) -> Result<(), Fail> {
 }
 
 fn binds(expr: Expr, wanted: ExprPrecedence) -> bool {
-    expr.precedence() == wanted
+    let found = expr.precedence();
+    drop(expr);
+    found == wanted
 }
 
 #[test]
