@@ -116,11 +116,11 @@ const GRAPHS: [Case<'static>; 22] = [
 
 #[test]
 fn each_graph_has_its_fault(rt: HostRuntime) -> Result<(), Fail> {
-    for (name, kids, exprs, nodes, fault) in GRAPHS {
+    for (name, kids, exprs, nodes, fault) in &GRAPHS {
         let rows = rows_of(rt.alloc(), kids)?;
         let roots = roots_of(rt.alloc(), nodes)?;
-        let found = fault_of(rt.alloc(), &rows, ends(exprs, 0, 0), &roots)?;
-        assert_eq!(rt; found, fault, "at {name}");
+        let found = fault_of(rt.alloc(), &rows, ends(*exprs, 0, 0), &roots)?;
+        assert_eq!(rt; found, *fault, "at {name}");
     }
     Ok(())
 }
@@ -142,19 +142,19 @@ fn ends_rise_within_the_arenas(rt: HostRuntime) -> Result<(), Fail> {
     ];
     let rows = rows_of(rt.alloc(), &[&[], &[], &[]])?;
     let lengths = ends(3, 2, 1);
-    for (first, second, fault) in cases {
+    for (first, second, fault) in &cases {
         let roots = [
             Root {
                 node: 0,
-                ends: first,
+                ends: *first,
             },
             Root {
                 node: 1,
-                ends: second,
+                ends: *second,
             },
         ];
-        assert_eq!(rt; fault_of(rt.alloc(), &rows, lengths, &roots)?, fault);
-        let fit = first.fit(ends(0, 0, 0), lengths) && second.fit(first, lengths);
+        assert_eq!(rt; fault_of(rt.alloc(), &rows, lengths, &roots)?, *fault);
+        let fit = first.fit(ends(0, 0, 0), lengths) && second.fit(*first, lengths);
         assert_eq!(rt; fit, fault.is_none());
     }
     Ok(())
