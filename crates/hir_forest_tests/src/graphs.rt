@@ -2,28 +2,11 @@
 //! The ends of roots have a table of their own, and the last test has 1,000,000 nodes.
 
 use crate::again::{begin_row, ends, fault_of, push_kid, roots_of, rows_of};
+use hir_forest::ForestFault::{
+    Cycle, RootEnds, RootOutOfRange, RootRepeated, RootUnderRoot, SharedChild,
+};
 use hir_forest::{ForestFault, Root, Rows};
 use std::test::Fail;
-
-fn shared(node: usize) -> Option<ForestFault> {
-    Some(ForestFault::SharedChild(node))
-}
-
-fn cycle(node: usize) -> Option<ForestFault> {
-    Some(ForestFault::Cycle(node))
-}
-
-fn absent(root: usize) -> Option<ForestFault> {
-    Some(ForestFault::RootOutOfRange(root))
-}
-
-fn repeated(root: usize) -> Option<ForestFault> {
-    Some(ForestFault::RootRepeated(root))
-}
-
-fn under(root: usize) -> Option<ForestFault> {
-    Some(ForestFault::RootUnderRoot(root))
-}
 
 /// What a case has: a name, the kids of each node, how many nodes are expressions, the roots and the first fault.
 type Case<'a> = (
@@ -34,63 +17,118 @@ type Case<'a> = (
     Option<ForestFault>,
 );
 
+const GRAPHS: [Case<'static>; 22] = [
+    ("nothing", &[], 0, &[], None),
+    ("a tree", &[&[1, 2], &[], &[], &[0]], 4, &[3], None),
+    ("no roots", &[&[], &[]], 2, &[], None),
+    ("roots in any order", &[&[], &[0], &[]], 3, &[2, 1], None),
+    (
+        "a kid of two",
+        &[&[2], &[2], &[]],
+        3,
+        &[],
+        Some(SharedChild(2)),
+    ),
+    ("a kid twice", &[&[], &[0, 0]], 2, &[], Some(SharedChild(0))),
+    (
+        "first edge",
+        &[&[3, 4], &[4], &[3], &[], &[]],
+        5,
+        &[],
+        Some(SharedChild(4)),
+    ),
+    (
+        "shared before cycle",
+        &[&[0, 0]],
+        1,
+        &[],
+        Some(SharedChild(0)),
+    ),
+    ("its own kid", &[&[0]], 1, &[], Some(Cycle(0))),
+    ("a cycle of two", &[&[1], &[0]], 2, &[], Some(Cycle(0))),
+    (
+        "hanging on a cycle",
+        &[&[], &[0, 2], &[1]],
+        3,
+        &[],
+        Some(Cycle(0)),
+    ),
+    (
+        "two cycles",
+        &[&[], &[2], &[1], &[4], &[3]],
+        5,
+        &[],
+        Some(Cycle(1)),
+    ),
+    ("cycle before roots", &[&[0]], 1, &[9], Some(Cycle(0))),
+    (
+        "an absent root",
+        &[&[]],
+        1,
+        &[0, 1],
+        Some(RootOutOfRange(1)),
+    ),
+    (
+        "no expression",
+        &[&[], &[]],
+        1,
+        &[1],
+        Some(RootOutOfRange(0)),
+    ),
+    (
+        "absent covers nothing",
+        &[&[], &[0]],
+        1,
+        &[0, 1],
+        Some(RootOutOfRange(1)),
+    ),
+    ("listed twice", &[&[]], 1, &[0, 0], Some(RootRepeated(1))),
+    (
+        "under a later root",
+        &[&[], &[0]],
+        2,
+        &[0, 1],
+        Some(RootUnderRoot(0)),
+    ),
+    (
+        "under an earlier root",
+        &[&[], &[0]],
+        2,
+        &[1, 0],
+        Some(RootUnderRoot(1)),
+    ),
+    (
+        "far under a root",
+        &[&[], &[0], &[1]],
+        3,
+        &[2, 0],
+        Some(RootUnderRoot(1)),
+    ),
+    (
+        "under and twice",
+        &[&[], &[0]],
+        2,
+        &[0, 0, 1],
+        Some(RootUnderRoot(0)),
+    ),
+    ("under no expression", &[&[], &[0]], 1, &[0], None),
+];
+
 #[test]
 fn each_graph_has_its_fault(rt: HostRuntime) -> Result<(), Fail> {
-    let cases: [Case; 22] = [
-        ("nothing", &[], 0, &[], None),
-        ("a tree", &[&[1, 2], &[], &[], &[0]], 4, &[3], None),
-        ("no roots", &[&[], &[]], 2, &[], None),
-        ("roots in any order", &[&[], &[0], &[]], 3, &[2, 1], None),
-        ("a kid of two", &[&[2], &[2], &[]], 3, &[], shared(2)),
-        ("a kid twice", &[&[], &[0, 0]], 2, &[], shared(0)),
-        (
-            "first edge",
-            &[&[3, 4], &[4], &[3], &[], &[]],
-            5,
-            &[],
-            shared(4),
-        ),
-        ("shared before cycle", &[&[0, 0]], 1, &[], shared(0)),
-        ("its own kid", &[&[0]], 1, &[], cycle(0)),
-        ("a cycle of two", &[&[1], &[0]], 2, &[], cycle(0)),
-        (
-            "hanging on a cycle",
-            &[&[], &[0, 2], &[1]],
-            3,
-            &[],
-            cycle(0),
-        ),
-        (
-            "two cycles",
-            &[&[], &[2], &[1], &[4], &[3]],
-            5,
-            &[],
-            cycle(1),
-        ),
-        ("cycle before roots", &[&[0]], 1, &[9], cycle(0)),
-        ("an absent root", &[&[]], 1, &[0, 1], absent(1)),
-        ("no expression", &[&[], &[]], 1, &[1], absent(0)),
-        ("absent covers nothing", &[&[], &[0]], 1, &[0, 1], absent(1)),
-        ("listed twice", &[&[]], 1, &[0, 0], repeated(1)),
-        ("under a later root", &[&[], &[0]], 2, &[0, 1], under(0)),
-        ("under an earlier root", &[&[], &[0]], 2, &[1, 0], under(1)),
-        ("far under a root", &[&[], &[0], &[1]], 3, &[2, 0], under(1)),
-        ("under and twice", &[&[], &[0]], 2, &[0, 0, 1], under(0)),
-        ("under no expression", &[&[], &[0]], 1, &[0], None),
-    ];
-    for (name, kids, exprs, nodes, fault) in cases {
+    for (name, kids, exprs, nodes, fault) in &GRAPHS {
         let rows = rows_of(rt.alloc(), kids)?;
         let roots = roots_of(rt.alloc(), nodes)?;
-        let found = fault_of(rt.alloc(), &rows, ends(exprs, 0, 0), &roots)?;
-        assert_eq!(rt; found, fault, "at {name}");
+        let found = fault_of(rt.alloc(), &rows, ends(*exprs, 0, 0), &roots)?;
+        assert_eq!(rt; found, *fault, "at {name}");
     }
     Ok(())
 }
 
 #[test]
 fn ends_rise_within_the_arenas(rt: HostRuntime) -> Result<(), Fail> {
-    let past = Some(ForestFault::RootEnds(0));
-    let falls = Some(ForestFault::RootEnds(1));
+    let past = Some(RootEnds(0));
+    let falls = Some(RootEnds(1));
     let cases = [
         (ends(1, 0, 0), ends(3, 2, 1), None),
         (ends(2, 2, 1), ends(2, 2, 1), None),
@@ -104,19 +142,19 @@ fn ends_rise_within_the_arenas(rt: HostRuntime) -> Result<(), Fail> {
     ];
     let rows = rows_of(rt.alloc(), &[&[], &[], &[]])?;
     let lengths = ends(3, 2, 1);
-    for (first, second, fault) in cases {
+    for (first, second, fault) in &cases {
         let roots = [
             Root {
                 node: 0,
-                ends: first,
+                ends: *first,
             },
             Root {
                 node: 1,
-                ends: second,
+                ends: *second,
             },
         ];
-        assert_eq!(rt; fault_of(rt.alloc(), &rows, lengths, &roots)?, fault);
-        let fit = first.fit(ends(0, 0, 0), lengths) && second.fit(first, lengths);
+        assert_eq!(rt; fault_of(rt.alloc(), &rows, lengths, &roots)?, *fault);
+        let fit = first.fit(ends(0, 0, 0), lengths) && second.fit(*first, lengths);
         assert_eq!(rt; fit, fault.is_none());
     }
     Ok(())
@@ -133,10 +171,10 @@ fn a_million_nodes_in_a_chain(rt: HostRuntime) -> Result<(), Fail> {
     let lengths = ends(1_000_000, 0, 0);
     let roots = roots_of(rt.alloc(), &[999_999, 0])?;
     let found = fault_of(rt.alloc(), &rows, lengths, &roots)?;
-    assert_eq!(rt; found, under(1));
+    assert_eq!(rt; found, Some(RootUnderRoot(1)));
     begin_row(&mut rows)?;
     push_kid(&mut rows, 1_000_000)?;
     let found = fault_of(rt.alloc(), &rows, lengths, &roots)?;
-    assert_eq!(rt; found, cycle(1_000_000));
+    assert_eq!(rt; found, Some(Cycle(1_000_000)));
     Ok(())
 }

@@ -13,7 +13,8 @@ fn rows_are_read_back(rt: HostRuntime) -> Result<(), Fail> {
         Err(_) => Rows::with_capacity(rt.alloc(), 3, 3)?,
     };
     assert_eq!(rt; rows.len(), 0);
-    for row in [&[1, 2].as_slice(), &[].as_slice(), &[7].as_slice()] {
+    let lists: [&[usize]; 3] = [&[1, 2], &[], &[7]];
+    for row in &lists {
         begin_row(&mut rows)?;
         for kid in *row {
             push_kid(&mut rows, *kid)?;
@@ -53,7 +54,7 @@ fn nodes_lie_under_marked_ones(rt: HostRuntime) -> Result<(), Fail> {
         (&[0, 3, 5], &[]),
         (&[], &[]),
     ];
-    for (marks, nodes) in cases {
+    for (marks, nodes) in &cases {
         let mut marked = [false; 6];
         for (node, mark) in marked.iter_mut().enumerate() {
             *mark = marks.contains(&node);
