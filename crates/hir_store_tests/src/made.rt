@@ -22,15 +22,15 @@ pub fn finished(alloc: Global, builder: Box<ExpressionStoreBuilder>) -> Result<M
     }
 }
 
-/// Whether the source maps of what the builders make are equal.
-pub fn are_equal(
-    alloc: Global,
-    first: Box<ExpressionStoreBuilder>,
-    second: Box<ExpressionStoreBuilder>,
-) -> Result<bool, Fail> {
-    let first = finished(alloc, first)?;
-    let second = finished(alloc, second)?;
-    Ok(first.1 == second.1)
+/// Fails where the builder is refused.
+pub fn accept(alloc: Global, builder: Box<ExpressionStoreBuilder>) -> Result<(), Fail> {
+    std::mem::drop(finished(alloc, builder)?);
+    Ok(())
+}
+
+/// Whether it is the empty store.
+pub fn is_empty(store: &ExpressionStore, alloc: Global) -> bool {
+    *store == ExpressionStore::empty(alloc)
 }
 
 /// No refusal, since the builder was accepted.
