@@ -33,19 +33,14 @@ pub fn is_empty(store: &ExpressionStore, alloc: Global) -> bool {
     *store == ExpressionStore::empty(alloc)
 }
 
-/// No refusal, since the builder was accepted.
-fn accepted(_: (ExpressionStore, ExpressionStoreSourceMap)) -> Option<Box<Refused>> {
-    None
-}
-
 /// The refusal of the builder, where it is refused.
 fn refusal(
     alloc: Global,
     builder: Box<ExpressionStoreBuilder>,
 ) -> Result<Option<Box<Refused>>, Fail> {
-    match again::finish(Box::into_inner(builder)) {
-        Ok(made) => Ok(accepted(made)),
-        Err(refused) => Ok(Some(again::in_a_box(alloc, refused)?)),
+    match again::finish(Box::into_inner(builder)).err() {
+        None => Ok(None),
+        Some(refused) => Ok(Some(again::in_a_box(alloc, refused)?)),
     }
 }
 
