@@ -18,23 +18,14 @@ fn add_reference(builder: &mut ExpressionStoreBuilder, alloc: Global) -> Result<
     Ok(())
 }
 
-/// Adds two reference types with the same lifetime.
+/// Adds two reference types with the same lifetime, which is so named twice.
 fn add_two_references(builder: &mut ExpressionStoreBuilder, alloc: Global) -> Result<(), Fail> {
     again::lifetime(builder, LifetimeRef::Static)?;
     add_reference(builder, alloc)?;
     add_reference(builder, alloc)
 }
 
-#[test]
-fn a_lifetime_named_twice(rt: HostRuntime) -> Result<(), Fail> {
-    let a = rt.alloc();
-    let mut builder = made::builder(a)?;
-    add_two_references(&mut builder, a)?;
-    let _ = made::finished(a, builder)?;
-    Ok(())
-}
-
-/// Adds a loop that is left at once, by its label.
+/// Adds a loop that is left at once, by its label, which is so named twice.
 fn add_loop(builder: &mut ExpressionStoreBuilder, alloc: Global) -> Result<(), Fail> {
     builder.begin_roots();
     let name = again::name(alloc, "l")?;
@@ -52,15 +43,6 @@ fn add_loop(builder: &mut ExpressionStoreBuilder, alloc: Global) -> Result<(), F
     Ok(())
 }
 
-#[test]
-fn a_label_named_twice(rt: HostRuntime) -> Result<(), Fail> {
-    let a = rt.alloc();
-    let mut builder = made::builder(a)?;
-    add_loop(&mut builder, a)?;
-    let _ = made::finished(a, builder)?;
-    Ok(())
-}
-
 /// Adds a path, and so many expressions each of which holds the one before.
 fn add_chain(builder: &mut ExpressionStoreBuilder, alloc: Global, length: u32) -> Result<(), Fail> {
     builder.begin_roots();
@@ -73,26 +55,19 @@ fn add_chain(builder: &mut ExpressionStoreBuilder, alloc: Global, length: u32) -
 }
 
 #[test]
-fn a_chain_of_references(rt: HostRuntime) -> Result<(), Fail> {
+fn what_may_look_wrong(rt: HostRuntime) -> Result<(), Fail> {
     let a = rt.alloc();
     let mut builder = made::builder(a)?;
+    add_two_references(&mut builder, a)?;
+    made::accept(a, builder)?;
+    let mut builder = made::builder(a)?;
+    add_loop(&mut builder, a)?;
+    made::accept(a, builder)?;
+    let mut builder = made::builder(a)?;
     add_chain(&mut builder, a, 100_000)?;
-    let _ = made::finished(a, builder)?;
-    Ok(())
-}
-
-/// Whether it is the empty store.
-fn is_empty(store: &ExpressionStore, alloc: Global) -> bool {
-    *store == ExpressionStore::empty(alloc)
-}
-
-#[test]
-fn an_empty_store(rt: HostRuntime) -> Result<(), Fail> {
-    let a = rt.alloc();
-    let builder = made::builder(a)?;
-    let made = made::finished(a, builder)?;
-    let store = &made.0;
-    assert!(&rt; is_empty(store, a));
+    made::accept(a, builder)?;
+    let made = made::finished(a, made::builder(a)?)?;
+    assert!(&rt; made::is_empty(&made.0, a));
     Ok(())
 }
 
@@ -110,28 +85,6 @@ fn equals_its_copy(store: &ExpressionStore) -> bool {
         Ok(copy) => copy == *store,
         Err(_) => false,
     }
-}
-
-#[test]
-fn a_copy_is_equal(rt: HostRuntime) -> Result<(), Fail> {
-    let a = rt.alloc();
-    let mut builder = made::builder(a)?;
-    build::add_match_tree(&mut builder, a)?;
-    let made = made::finished(a, builder)?;
-    let store = &made.0;
-    assert!(&rt; equals_its_copy(store));
-    Ok(())
-}
-
-#[test]
-fn a_store_with_nodes_is_not_empty(rt: HostRuntime) -> Result<(), Fail> {
-    let a = rt.alloc();
-    let mut builder = made::builder(a)?;
-    build::add_match_tree(&mut builder, a)?;
-    let made = made::finished(a, builder)?;
-    let store = &made.0;
-    assert!(&rt; !is_empty(store, a));
-    Ok(())
 }
 
 /// Whether the store has so many nodes of each kind as the match has.
@@ -153,17 +106,6 @@ fn has_unit(store: &ExpressionStore, alloc: Global) -> bool {
             }
 }
 
-#[test]
-fn nodes_under_their_ids(rt: HostRuntime) -> Result<(), Fail> {
-    let a = rt.alloc();
-    let mut builder = made::builder(a)?;
-    build::add_match_tree(&mut builder, a)?;
-    let made = made::finished(a, builder)?;
-    let store = &made.0;
-    assert!(&rt; has_all_nodes(store) && has_unit(store, a));
-    Ok(())
-}
-
 /// Whether the last expression, pattern and binding of the match are there.
 fn has_the_last(store: &ExpressionStore) -> bool {
     store.has_expr(Idx::from_raw(3))
@@ -182,24 +124,17 @@ fn has_another(store: &ExpressionStore) -> bool {
 }
 
 #[test]
-fn what_is_there(rt: HostRuntime) -> Result<(), Fail> {
-    let a = rt.alloc();
-    let mut builder = made::builder(a)?;
-    build::add_match_tree(&mut builder, a)?;
-    let made = made::finished(a, builder)?;
-    let store = &made.0;
-    assert!(&rt; has_the_last(store) && !has_another(store));
-    Ok(())
-}
-
-#[test]
-fn a_path_that_is_sound(rt: HostRuntime) -> Result<(), Fail> {
+fn what_a_store_has(rt: HostRuntime) -> Result<(), Fail> {
     let a = rt.alloc();
     let path = build::path(a)?;
     let mut builder = made::builder(a)?;
     build::add_match_tree(&mut builder, a)?;
     let made = made::finished(a, builder)?;
     let store = &made.0;
+    assert!(&rt; equals_its_copy(store));
+    assert!(&rt; !made::is_empty(store, a));
+    assert!(&rt; has_all_nodes(store) && has_unit(store, a));
+    assert!(&rt; has_the_last(store) && !has_another(store));
     assert!(&rt; store.path_is_sound(&path));
     Ok(())
 }

@@ -111,16 +111,16 @@ pub fn root(builder: &mut ExpressionStoreBuilder, root: ExprId) -> Result<(), Al
     }
 }
 
+/// What a refused builder makes, where only memory was refused.
+fn finish_again(refused: Refused) -> Result<(ExpressionStore, ExpressionStoreSourceMap), Refused> {
+    if refused.fault != FinishFault::Memory {
+        return Err(refused);
+    }
+    refused.builder.finish()
+}
+
 pub fn finish(
     builder: ExpressionStoreBuilder,
 ) -> Result<(ExpressionStore, ExpressionStoreSourceMap), Refused> {
-    match builder.finish() {
-        Ok(made) => Ok(made),
-        Err(refused) => {
-            if refused.fault != FinishFault::Memory {
-                return Err(refused);
-            }
-            refused.builder.finish()
-        }
-    }
+    builder.finish().or_else(finish_again)
 }

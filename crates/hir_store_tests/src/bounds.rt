@@ -23,28 +23,6 @@ fn bound(number: u32) -> TypeBound {
     TypeBound::Path(named(number), TraitBoundModifier::Maybe)
 }
 
-#[test]
-fn bounds_name_types_that_are_there(rt: HostRuntime) -> Result<(), Fail> {
-    let a = rt.alloc();
-    let mut builder = made::builder(a)?;
-    add_path_and_never(&mut builder, a)?;
-    let made = made::finished(a, builder)?;
-    let store = &made.0;
-    assert!(&rt; store.has_bound(&bound(1)) && !store.has_bound(&bound(2)));
-    Ok(())
-}
-
-#[test]
-fn bounds_name_paths(rt: HostRuntime) -> Result<(), Fail> {
-    let a = rt.alloc();
-    let mut builder = made::builder(a)?;
-    add_path_and_never(&mut builder, a)?;
-    let made = made::finished(a, builder)?;
-    let store = &made.0;
-    assert!(&rt; store.bound_names_path(&bound(0)) && !store.bound_names_path(&bound(1)));
-    Ok(())
-}
-
 /// Whether the bound by this path is the path that the store has there, and may be absent.
 fn is_its_path(store: &ExpressionStore, id: PathId) -> bool {
     if !store.has_path(id) {
@@ -58,16 +36,15 @@ fn is_its_path(store: &ExpressionStore, id: PathId) -> bool {
 }
 
 #[test]
-fn the_path_of_a_bound(rt: HostRuntime) -> Result<(), Fail> {
+fn what_bounds_name(rt: HostRuntime) -> Result<(), Fail> {
     let a = rt.alloc();
     let mut builder = made::builder(a)?;
     add_path_and_never(&mut builder, a)?;
     let made = made::finished(a, builder)?;
     let store = &made.0;
-    assert!(&rt;
-        is_its_path(store, named(0))
-            && !is_its_path(store, named(1))
-            && TypeBound::Error.as_path(store).is_none()
-    );
+    assert!(&rt; store.has_bound(&bound(1)) && !store.has_bound(&bound(2)));
+    assert!(&rt; store.bound_names_path(&bound(0)) && !store.bound_names_path(&bound(1)));
+    assert!(&rt; is_its_path(store, named(0)) && !is_its_path(store, named(1)));
+    assert!(&rt; TypeBound::Error.as_path(store).is_none());
     Ok(())
 }

@@ -11,6 +11,8 @@ mod bounds;
 #[cfg(test)]
 mod build;
 #[cfg(test)]
+mod laws;
+#[cfg(test)]
 mod made;
 #[cfg(test)]
 mod refused;
@@ -26,3 +28,5 @@ mod told;
 mod under;
 #[cfg(test)]
 mod walks;
+#[cfg(test)]
+mod without_nodes;

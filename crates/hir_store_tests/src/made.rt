@@ -22,20 +22,15 @@ pub fn finished(alloc: Global, builder: Box<ExpressionStoreBuilder>) -> Result<M
     }
 }
 
-/// Whether the source maps of what the builders make are equal.
-pub fn are_equal(
-    alloc: Global,
-    first: Box<ExpressionStoreBuilder>,
-    second: Box<ExpressionStoreBuilder>,
-) -> Result<bool, Fail> {
-    let first = finished(alloc, first)?;
-    let second = finished(alloc, second)?;
-    Ok(first.1 == second.1)
+/// Fails where the builder is refused.
+pub fn accept(alloc: Global, builder: Box<ExpressionStoreBuilder>) -> Result<(), Fail> {
+    std::mem::drop(finished(alloc, builder)?);
+    Ok(())
 }
 
-/// No refusal, since the builder was accepted.
-fn accepted(_: (ExpressionStore, ExpressionStoreSourceMap)) -> Option<Box<Refused>> {
-    None
+/// Whether it is the empty store.
+pub fn is_empty(store: &ExpressionStore, alloc: Global) -> bool {
+    *store == ExpressionStore::empty(alloc)
 }
 
 /// The refusal of the builder, where it is refused.
@@ -43,9 +38,9 @@ fn refusal(
     alloc: Global,
     builder: Box<ExpressionStoreBuilder>,
 ) -> Result<Option<Box<Refused>>, Fail> {
-    match again::finish(Box::into_inner(builder)) {
-        Ok(made) => Ok(accepted(made)),
-        Err(refused) => Ok(Some(again::in_a_box(alloc, refused)?)),
+    match again::finish(Box::into_inner(builder)).err() {
+        None => Ok(None),
+        Some(refused) => Ok(Some(again::in_a_box(alloc, refused)?)),
     }
 }
 

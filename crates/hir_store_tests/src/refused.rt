@@ -33,18 +33,6 @@ fn add_bound_on_never(builder: &mut ExpressionStoreBuilder, alloc: Global) -> Re
     Ok(())
 }
 
-#[test]
-fn what_is_no_path(rt: HostRuntime) -> Result<(), Fail> {
-    let a = rt.alloc();
-    let mut builder = made::builder(a)?;
-    add_bound_on_never(&mut builder, a)?;
-    let mut again = made::builder(a)?;
-    add_bound_on_never(&mut again, a)?;
-    let holds = made::is_refused(a, builder, &again, FinishFault::NotAPath(type_ref(1)))?;
-    assert!(&rt; holds);
-    Ok(())
-}
-
 /// A function type without types.
 fn no_types(alloc: Global) -> FnType {
     FnType {
@@ -60,18 +48,6 @@ fn no_types(alloc: Global) -> FnType {
 fn add_no_types(builder: &mut ExpressionStoreBuilder, alloc: Global) -> Result<(), Fail> {
     let function = again::boxed(alloc, no_types(alloc))?;
     again::type_ref(builder, TypeRef::Fn(function))?;
-    Ok(())
-}
-
-#[test]
-fn no_return_type(rt: HostRuntime) -> Result<(), Fail> {
-    let a = rt.alloc();
-    let mut builder = made::builder(a)?;
-    add_no_types(&mut builder, a)?;
-    let mut again = made::builder(a)?;
-    add_no_types(&mut again, a)?;
-    let holds = made::is_refused(a, builder, &again, FinishFault::NoReturnType(type_ref(0)))?;
-    assert!(&rt; holds);
     Ok(())
 }
 
@@ -121,35 +97,11 @@ fn without_self_argument(alloc: Global) -> Result<Path, AllocError> {
     path_with(alloc, &["a"], lists)
 }
 
-#[test]
-fn no_self_argument(rt: HostRuntime) -> Result<(), Fail> {
-    let a = rt.alloc();
-    let mut builder = made::builder(a)?;
-    add_as_expr(&mut builder, without_self_argument(a)?)?;
-    let mut again = made::builder(a)?;
-    add_as_expr(&mut again, without_self_argument(a)?)?;
-    let holds = made::is_refused(a, builder, &again, FinishFault::NoSelfArgument(expr(0)))?;
-    assert!(&rt; holds);
-    Ok(())
-}
-
 /// A path of two segments with one list of arguments.
 fn one_list_for_two(alloc: Global) -> Result<Path, AllocError> {
     let mut lists = Seq::new(alloc);
     again::push(&mut lists, None)?;
     path_with(alloc, &["a", "b"], lists)
-}
-
-#[test]
-fn lists_that_do_not_fit(rt: HostRuntime) -> Result<(), Fail> {
-    let a = rt.alloc();
-    let mut builder = made::builder(a)?;
-    add_as_expr(&mut builder, one_list_for_two(a)?)?;
-    let mut again = made::builder(a)?;
-    add_as_expr(&mut again, one_list_for_two(a)?)?;
-    let holds = made::is_refused(a, builder, &again, FinishFault::ArgumentLists(expr(0)))?;
-    assert!(&rt; holds);
-    Ok(())
 }
 
 /// Arguments with one binding, which has these arguments.
@@ -176,33 +128,12 @@ fn nested(alloc: Global, args: Seq<GenericArg>) -> Result<Path, AllocError> {
     path_with(alloc, &["a"], lists)
 }
 
-#[test]
-fn no_self_argument_deep_down(rt: HostRuntime) -> Result<(), Fail> {
-    let a = rt.alloc();
-    let mut builder = made::builder(a)?;
-    add_as_expr(&mut builder, nested(a, Seq::new(a))?)?;
-    let mut again = made::builder(a)?;
-    add_as_expr(&mut again, nested(a, Seq::new(a))?)?;
-    let holds = made::is_refused(a, builder, &again, FinishFault::NoSelfArgument(expr(0)))?;
-    assert!(&rt; holds);
-    Ok(())
-}
-
 /// Adds a path with bindings nested 100 deep, and innermost the self type 0, which is there.
 fn add_nested_self(builder: &mut ExpressionStoreBuilder, alloc: Global) -> Result<(), Fail> {
     let mut args = Seq::new(alloc);
     again::push(&mut args, GenericArg::Ty(Idx::from_raw(0)))?;
     add_as_expr(builder, nested(alloc, args)?)?;
     again::type_ref(builder, TypeRef::Never)?;
-    Ok(())
-}
-
-#[test]
-fn a_self_argument_deep_down(rt: HostRuntime) -> Result<(), Fail> {
-    let a = rt.alloc();
-    let mut builder = made::builder(a)?;
-    add_nested_self(&mut builder, a)?;
-    let _ = made::finished(a, builder)?;
     Ok(())
 }
 
@@ -232,30 +163,6 @@ fn add_cut(builder: &mut ExpressionStoreBuilder, alloc: Global, root: u32) -> Re
     Ok(())
 }
 
-#[test]
-fn ends_past_the_arena(rt: HostRuntime) -> Result<(), Fail> {
-    let a = rt.alloc();
-    let mut builder = made::builder(a)?;
-    add_cut(&mut builder, a, 0)?;
-    let mut again = made::builder(a)?;
-    add_cut(&mut again, a, 0)?;
-    let holds = made::is_refused(a, builder, &again, FinishFault::RootEnds(0))?;
-    assert!(&rt; holds);
-    Ok(())
-}
-
-#[test]
-fn a_root_past_the_arena(rt: HostRuntime) -> Result<(), Fail> {
-    let a = rt.alloc();
-    let mut builder = made::builder(a)?;
-    add_cut(&mut builder, a, 2)?;
-    let mut again = made::builder(a)?;
-    add_cut(&mut again, a, 2)?;
-    let holds = made::is_refused(a, builder, &again, FinishFault::RootOutOfRange(0))?;
-    assert!(&rt; holds);
-    Ok(())
-}
-
 /// Adds three paths with a root; then there is an arena of two, a second root and one path more.
 fn add_falling_ends(builder: &mut ExpressionStoreBuilder, alloc: Global) -> Result<(), Fail> {
     add_paths(builder, alloc, 3)?;
@@ -266,14 +173,70 @@ fn add_falling_ends(builder: &mut ExpressionStoreBuilder, alloc: Global) -> Resu
     Ok(())
 }
 
+/// What is wrong with a builder.
+#[derive(Clone, Copy)]
+enum Case {
+    BoundOnNever,
+    NoReturnType,
+    NoSelfArgument,
+    OneListForTwo,
+    NoSelfArgumentDeepDown,
+    EndsPastTheArena,
+    RootPastTheArena,
+    EndsThatFall,
+}
+
+/// Adds what is wrong so.
+fn add(case: Case, builder: &mut ExpressionStoreBuilder, alloc: Global) -> Result<(), Fail> {
+    match case {
+        Case::BoundOnNever => add_bound_on_never(builder, alloc),
+        Case::NoReturnType => add_no_types(builder, alloc),
+        Case::NoSelfArgument => add_as_expr(builder, without_self_argument(alloc)?),
+        Case::OneListForTwo => add_as_expr(builder, one_list_for_two(alloc)?),
+        Case::NoSelfArgumentDeepDown => add_as_expr(builder, nested(alloc, Seq::new(alloc))?),
+        Case::EndsPastTheArena => add_cut(builder, alloc, 0),
+        Case::RootPastTheArena => add_cut(builder, alloc, 2),
+        Case::EndsThatFall => add_falling_ends(builder, alloc),
+    }
+}
+
+/// A builder that is wrong so.
+fn built(case: Case, alloc: Global) -> Result<Box<ExpressionStoreBuilder>, Fail> {
+    let mut builder = made::builder(alloc)?;
+    add(case, &mut builder, alloc)?;
+    Ok(builder)
+}
+
+/// Whether a builder that is wrong so is refused by this fault, and comes back as it was: as another that was built by the same calls.
+fn is_refused(alloc: Global, case: Case, fault: FinishFault) -> Result<bool, Fail> {
+    let builder = built(case, alloc)?;
+    let again = built(case, alloc)?;
+    made::is_refused(alloc, builder, &again, fault)
+}
+
 #[test]
-fn ends_that_fall(rt: HostRuntime) -> Result<(), Fail> {
+fn types_and_paths_that_are_refused(rt: HostRuntime) -> Result<(), Fail> {
     let a = rt.alloc();
+    let no_path = FinishFault::NotAPath(type_ref(1));
+    assert!(&rt; is_refused(a, Case::BoundOnNever, no_path)?);
+    let no_type = FinishFault::NoReturnType(type_ref(0));
+    assert!(&rt; is_refused(a, Case::NoReturnType, no_type)?);
+    let no_self = FinishFault::NoSelfArgument(expr(0));
+    assert!(&rt; is_refused(a, Case::NoSelfArgument, no_self)?);
+    assert!(&rt; is_refused(a, Case::OneListForTwo, FinishFault::ArgumentLists(expr(0)))?);
+    // The list that lacks its self type lies 100 bindings deep; with its self type it is accepted.
+    let no_self = FinishFault::NoSelfArgument(expr(0));
+    assert!(&rt; is_refused(a, Case::NoSelfArgumentDeepDown, no_self)?);
     let mut builder = made::builder(a)?;
-    add_falling_ends(&mut builder, a)?;
-    let mut again = made::builder(a)?;
-    add_falling_ends(&mut again, a)?;
-    let holds = made::is_refused(a, builder, &again, FinishFault::RootEnds(1))?;
-    assert!(&rt; holds);
+    add_nested_self(&mut builder, a)?;
+    made::accept(a, builder)
+}
+
+#[test]
+fn roots_that_are_refused(rt: HostRuntime) -> Result<(), Fail> {
+    let a = rt.alloc();
+    assert!(&rt; is_refused(a, Case::EndsPastTheArena, FinishFault::RootEnds(0))?);
+    assert!(&rt; is_refused(a, Case::RootPastTheArena, FinishFault::RootOutOfRange(0))?);
+    assert!(&rt; is_refused(a, Case::EndsThatFall, FinishFault::RootEnds(1))?);
     Ok(())
 }

@@ -50,21 +50,6 @@ fn expr_was_made_for(store: &ExpressionStore, expr: u32, root: Option<u32>) -> b
     root == None
 }
 
-#[test]
-fn roots_of_expressions(rt: HostRuntime) -> Result<(), Fail> {
-    let a = rt.alloc();
-    let mut builder = made::builder(a)?;
-    add_two_roots(&mut builder, a)?;
-    let made = made::finished(a, builder)?;
-    let store = &made.0;
-    assert!(&rt;
-        expr_was_made_for(store, 2, Some(2))
-            && expr_was_made_for(store, 3, Some(4))
-            && expr_was_made_for(store, 5, None)
-    );
-    Ok(())
-}
-
 /// Whether this pattern was made for that root, or for none.
 fn pat_was_made_for(store: &ExpressionStore, pat: u32, root: Option<u32>) -> bool {
     let id = Idx::from_raw(pat);
@@ -72,17 +57,6 @@ fn pat_was_made_for(store: &ExpressionStore, pat: u32, root: Option<u32>) -> boo
         return root == Some(store.find_root_for_pat(id).into_raw());
     }
     root == None
-}
-
-#[test]
-fn roots_of_patterns(rt: HostRuntime) -> Result<(), Fail> {
-    let a = rt.alloc();
-    let mut builder = made::builder(a)?;
-    add_two_roots(&mut builder, a)?;
-    let made = made::finished(a, builder)?;
-    let store = &made.0;
-    assert!(&rt; pat_was_made_for(store, 0, Some(4)) && pat_was_made_for(store, 2, None));
-    Ok(())
 }
 
 /// Whether this binding was made for that root, or for none.
@@ -94,17 +68,6 @@ fn binding_was_made_for(store: &ExpressionStore, binding: u32, root: Option<u32>
     root == None
 }
 
-#[test]
-fn roots_of_bindings(rt: HostRuntime) -> Result<(), Fail> {
-    let a = rt.alloc();
-    let mut builder = made::builder(a)?;
-    add_two_roots(&mut builder, a)?;
-    let made = made::finished(a, builder)?;
-    let store = &made.0;
-    assert!(&rt; binding_was_made_for(store, 0, Some(4)) && binding_was_made_for(store, 1, None));
-    Ok(())
-}
-
 /// Whether the roots are 2 and 4, read from both ends.
 fn has_both_roots(store: &ExpressionStore) -> bool {
     let mut roots = store.expr_roots();
@@ -114,12 +77,19 @@ fn has_both_roots(store: &ExpressionStore) -> bool {
 }
 
 #[test]
-fn roots_in_order(rt: HostRuntime) -> Result<(), Fail> {
+fn roots_that_nodes_were_made_for(rt: HostRuntime) -> Result<(), Fail> {
     let a = rt.alloc();
     let mut builder = made::builder(a)?;
     add_two_roots(&mut builder, a)?;
     let made = made::finished(a, builder)?;
     let store = &made.0;
+    assert!(&rt;
+        expr_was_made_for(store, 2, Some(2))
+            && expr_was_made_for(store, 3, Some(4))
+            && expr_was_made_for(store, 5, None)
+    );
+    assert!(&rt; pat_was_made_for(store, 0, Some(4)) && pat_was_made_for(store, 2, None));
+    assert!(&rt; binding_was_made_for(store, 0, Some(4)) && binding_was_made_for(store, 1, None));
     assert!(&rt; has_both_roots(store));
     Ok(())
 }

@@ -2,9 +2,8 @@
 ghost use Rattle.std.specs.Prelude.{◌<◌};
 
 use crate::{build, made, say};
-use hir_base::{FieldSource, Idx, LabelSource, PatFieldSource, TypeSource, ast};
-use hir_node::{ExprId, ExprOrPatId, LabelId, PatId, TypeRefId};
-use hir_source::laws;
+use hir_base::{FieldSource, Idx, LabelSource, PatFieldSource, ast};
+use hir_node::{ExprId, ExprOrPatId, LabelId, PatId};
 use hir_store::{ExpressionStoreBuilder, ExpressionStoreSourceMap, SyntheticSyntax};
 use std::alloc::Global;
 use std::test::Fail;
@@ -32,148 +31,31 @@ pub fn pat(number: u32) -> ExprOrPatId {
     ExprOrPatId::PatId(PatId::from_raw(number))
 }
 
+/// Says what sources became. The source at place 5 became an expression and a label: each kind of node has its own map.
+fn say_nodes(builder: &mut ExpressionStoreBuilder) -> Result<(), Fail> {
+    say::map_expr(builder, say::source(5), expr(0))?;
+    // What is said last counts.
+    say::map_expr(builder, say::source(5), expr(1))?;
+    say::map_pat(builder, say::source(6), pat(3))?;
+    say::map_label(builder, say::source(5), Idx::from_raw(2))?;
+    Ok(())
+}
+
+/// Says where nodes came from.
+fn say_sources(builder: &mut ExpressionStoreBuilder) -> Result<(), Fail> {
+    say::map_expr_back(builder, zero(), say::source(5))?;
+    say::map_pat_back(builder, Idx::from_raw(3), say::source(6))?;
+    say::map_label_back(builder, Idx::from_raw(2), say::source(5))?;
+    say::map_field_back(builder, zero(), say::source(6))?;
+    say::map_pat_field_back(builder, Idx::from_raw(4), say::source(7))?;
+    Ok(())
+}
+
 /// Whether the expression at this place became that.
-fn expr_became(map: &ExpressionStoreSourceMap, start: u32, wanted: Option<ExprOrPatId>) -> bool
+pub fn expr_became(map: &ExpressionStoreSourceMap, start: u32, wanted: Option<ExprOrPatId>) -> bool
     requires { start < 1000 }
 {
     map.node_expr(say::source(start)) == wanted
-}
-
-/// Says of a source that it became first expression 0 and then expression 1.
-fn say_twice(builder: &mut ExpressionStoreBuilder, alloc: Global) -> Result<(), Fail> {
-    add_two(builder, alloc)?;
-    say::map_expr(builder, say::source(5), expr(0))?;
-    say::map_expr(builder, say::source(5), expr(1))?;
-    Ok(())
-}
-
-#[test]
-fn a_source_mapped_twice(rt: HostRuntime) -> Result<(), Fail> {
-    let a = rt.alloc();
-    let mut builder = made::builder(a)?;
-    say_twice(&mut builder, a)?;
-    let made = made::finished(a, builder)?;
-    let map = &made.1;
-    assert!(&rt; expr_became(map, 5, Some(expr(1))) && expr_became(map, 6, None));
-    Ok(())
-}
-
-/// Says of a source that it became this expression.
-fn say_expr(builder: &mut ExpressionStoreBuilder, alloc: Global, number: u32) -> Result<(), Fail> {
-    add_two(builder, alloc)?;
-    say::map_expr(builder, say::source(5), expr(number))?;
-    Ok(())
-}
-
-#[test]
-fn a_source_mapped_once(rt: HostRuntime) -> Result<(), Fail> {
-    let a = rt.alloc();
-    let mut builder = made::builder(a)?;
-    say_expr(&mut builder, a, 0)?;
-    let made = made::finished(a, builder)?;
-    let map = &made.1;
-    assert!(&rt; expr_became(map, 5, Some(expr(0))));
-    Ok(())
-}
-
-#[test]
-fn forward_maps_are_not_compared(rt: HostRuntime) -> Result<(), Fail> {
-    let a = rt.alloc();
-    let mut first = made::builder(a)?;
-    say_expr(&mut first, a, 0)?;
-    let mut second = made::builder(a)?;
-    add_two(&mut second, a)?;
-    let equal = made::are_equal(a, first, second)?;
-    assert!(&rt; equal);
-    Ok(())
-}
-
-/// Says of expression 0 that it came from a source.
-fn say_expr_back(builder: &mut ExpressionStoreBuilder, alloc: Global) -> Result<(), Fail> {
-    add_two(builder, alloc)?;
-    say::map_expr_back(builder, zero(), say::source(5))?;
-    Ok(())
-}
-
-#[test]
-fn back_maps_are_compared(rt: HostRuntime) -> Result<(), Fail> {
-    let a = rt.alloc();
-    let mut first = made::builder(a)?;
-    say_expr_back(&mut first, a)?;
-    let mut second = made::builder(a)?;
-    add_two(&mut second, a)?;
-    let equal = made::are_equal(a, first, second)?;
-    assert!(&rt; !equal);
-    Ok(())
-}
-
-/// Whether the expression came from this place.
-fn expr_came_from(map: &ExpressionStoreSourceMap, id: ExprId, start: u32) -> bool
-    requires { start < 1000 }
-{
-    map.expr_syntax(id) == Ok(say::source(start))
-}
-
-/// Whether it came from this place.
-fn came_from(map: &ExpressionStoreSourceMap, id: ExprOrPatId, start: u32) -> bool
-    requires { start < 1000 }
-{
-    map.expr_or_pat_syntax(id) == Ok(say::source(start))
-}
-
-/// Whether no source of the expression is known.
-fn expr_has_no_source(map: &ExpressionStoreSourceMap, id: ExprId) -> bool {
-    map.expr_syntax(id) == Err(SyntheticSyntax)
-}
-
-#[test]
-fn sources_of_expressions(rt: HostRuntime) -> Result<(), Fail> {
-    let a = rt.alloc();
-    let mut builder = made::builder(a)?;
-    say_expr_back(&mut builder, a)?;
-    let made = made::finished(a, builder)?;
-    let map = &made.1;
-    assert!(&rt;
-        expr_came_from(map, zero(), 5)
-            && expr_has_no_source(map, Idx::from_raw(1))
-            && came_from(map, expr(0), 5)
-    );
-    Ok(())
-}
-
-/// Says of a source that it became an expression, which is not there.
-fn say_without_nodes(builder: &mut ExpressionStoreBuilder) -> Result<(), Fail> {
-    say::map_expr(builder, say::source(5), expr(0))?;
-    Ok(())
-}
-
-#[test]
-fn a_source_without_nodes(rt: HostRuntime) -> Result<(), Fail> {
-    let a = rt.alloc();
-    let mut builder = made::builder(a)?;
-    say_without_nodes(&mut builder)?;
-    let made = made::finished(a, builder)?;
-    let map = &made.1;
-    assert!(&rt; expr_became(map, 5, None));
-    Ok(())
-}
-
-#[test]
-fn sources_without_nodes_are_dropped(rt: HostRuntime) -> Result<(), Fail> {
-    let a = rt.alloc();
-    let mut first = made::builder(a)?;
-    say_without_nodes(&mut first)?;
-    let second = made::builder(a)?;
-    let equal = made::are_equal(a, first, second)?;
-    assert!(&rt; equal);
-    Ok(())
-}
-
-/// Says of a source that it became pattern 3.
-fn say_pat(builder: &mut ExpressionStoreBuilder, alloc: Global) -> Result<(), Fail> {
-    add_two(builder, alloc)?;
-    say::map_pat(builder, say::source(6), pat(3))?;
-    Ok(())
 }
 
 /// Whether the pattern at this place became that.
@@ -183,213 +65,11 @@ fn pat_became(map: &ExpressionStoreSourceMap, start: u32, wanted: Option<ExprOrP
     map.node_pat(say::source(start)) == wanted
 }
 
-#[test]
-fn patterns_of_sources(rt: HostRuntime) -> Result<(), Fail> {
-    let a = rt.alloc();
-    let mut builder = made::builder(a)?;
-    say_pat(&mut builder, a)?;
-    let made = made::finished(a, builder)?;
-    let map = &made.1;
-    assert!(&rt; pat_became(map, 6, Some(pat(3))) && pat_became(map, 5, None));
-    Ok(())
-}
-
-/// Says of pattern 3 that it came from a source.
-fn say_pat_back(builder: &mut ExpressionStoreBuilder, alloc: Global) -> Result<(), Fail> {
-    add_two(builder, alloc)?;
-    say::map_pat_back(builder, Idx::from_raw(3), say::source(6))?;
-    Ok(())
-}
-
-/// Whether the pattern came from this place.
-fn pat_came_from(map: &ExpressionStoreSourceMap, id: PatId, start: u32) -> bool
-    requires { start < 1000 }
-{
-    map.pat_syntax(id) == Ok(say::source(start))
-}
-
-#[test]
-fn sources_of_patterns(rt: HostRuntime) -> Result<(), Fail> {
-    let a = rt.alloc();
-    let mut builder = made::builder(a)?;
-    say_pat_back(&mut builder, a)?;
-    let made = made::finished(a, builder)?;
-    let map = &made.1;
-    assert!(&rt; pat_came_from(map, Idx::from_raw(3), 6) && came_from(map, pat(3), 6));
-    Ok(())
-}
-
-/// Says of a source that it became label 2.
-fn say_label(builder: &mut ExpressionStoreBuilder, alloc: Global) -> Result<(), Fail> {
-    add_two(builder, alloc)?;
-    say::map_label(builder, say::source(5), Idx::from_raw(2))?;
-    Ok(())
-}
-
 /// Whether the label at this place became that one.
 fn label_became(map: &ExpressionStoreSourceMap, start: u32, id: LabelId) -> bool
     requires { start < 1000 }
 {
     map.node_label(say::source::<ast::Label>(start)) == Some(id)
-}
-
-#[test]
-fn labels_of_sources(rt: HostRuntime) -> Result<(), Fail> {
-    let a = rt.alloc();
-    let mut builder = made::builder(a)?;
-    say_label(&mut builder, a)?;
-    let made = made::finished(a, builder)?;
-    let map = &made.1;
-    assert!(&rt; label_became(map, 5, Idx::from_raw(2)));
-    Ok(())
-}
-
-/// Says of label 2 that it came from a source.
-fn say_label_back(builder: &mut ExpressionStoreBuilder, alloc: Global) -> Result<(), Fail> {
-    add_two(builder, alloc)?;
-    say::map_label_back(builder, Idx::from_raw(2), say::source(5))?;
-    Ok(())
-}
-
-/// Whether it was said that the label came from there.
-fn label_came_from(map: &ExpressionStoreSourceMap, id: LabelId, source: LabelSource) -> bool {
-    map.has_label_syntax(id) && map.label_syntax(id) == source
-}
-
-#[test]
-fn sources_of_labels(rt: HostRuntime) -> Result<(), Fail> {
-    let a = rt.alloc();
-    let mut builder = made::builder(a)?;
-    say_label_back(&mut builder, a)?;
-    let made = made::finished(a, builder)?;
-    let map = &made.1;
-    assert!(&rt;
-        label_came_from(map, Idx::from_raw(2), say::source(5))
-            && !map.has_label_syntax(Idx::from_raw(0))
-    );
-    Ok(())
-}
-
-/// Says of the field whose value is expression 0 where it came from.
-fn say_field_back(builder: &mut ExpressionStoreBuilder, alloc: Global) -> Result<(), Fail> {
-    add_two(builder, alloc)?;
-    say::map_field_back(builder, zero(), say::source(6))?;
-    Ok(())
-}
-
-/// Whether it was said that the field of this value came from there.
-fn field_came_from(map: &ExpressionStoreSourceMap, id: ExprId, source: FieldSource) -> bool {
-    map.has_field_syntax(id) && map.field_syntax(id) == source
-}
-
-#[test]
-fn sources_of_fields(rt: HostRuntime) -> Result<(), Fail> {
-    let a = rt.alloc();
-    let mut builder = made::builder(a)?;
-    say_field_back(&mut builder, a)?;
-    let made = made::finished(a, builder)?;
-    let map = &made.1;
-    assert!(&rt;
-        field_came_from(map, zero(), say::source(6)) && !map.has_field_syntax(Idx::from_raw(1))
-    );
-    Ok(())
-}
-
-/// Says of the field that holds pattern 4 where it came from.
-fn say_pat_field_back(builder: &mut ExpressionStoreBuilder, alloc: Global) -> Result<(), Fail> {
-    add_two(builder, alloc)?;
-    say::map_pat_field_back(builder, Idx::from_raw(4), say::source(7))?;
-    Ok(())
-}
-
-/// Whether it was said that the field that holds this pattern came from there.
-fn pat_field_came_from(map: &ExpressionStoreSourceMap, id: PatId, source: PatFieldSource) -> bool {
-    map.has_pat_field_syntax(id) && map.pat_field_syntax(id) == source
-}
-
-#[test]
-fn sources_of_fields_of_patterns(rt: HostRuntime) -> Result<(), Fail> {
-    let a = rt.alloc();
-    let mut builder = made::builder(a)?;
-    say_pat_field_back(&mut builder, a)?;
-    let made = made::finished(a, builder)?;
-    let map = &made.1;
-    assert!(&rt;
-        pat_field_came_from(map, Idx::from_raw(4), say::source(7))
-            && !map.has_pat_field_syntax(Idx::from_raw(0))
-    );
-    Ok(())
-}
-
-/// Says of a source that it became type 2, and of type 2 that it came from there.
-fn say_type(builder: &mut ExpressionStoreBuilder) -> Result<(), Fail> {
-    say::map_type(builder, say::source(5), Idx::from_raw(2))?;
-    say::map_type_back(builder, Idx::from_raw(2), say::source(5))?;
-    Ok(())
-}
-
-/// Whether the type there became that one.
-fn type_became(map: &ExpressionStoreSourceMap, source: TypeSource, id: TypeRefId) -> bool {
-    map.node_type(source) == Some(id)
-}
-
-/// Whether the type came from there.
-fn type_came_from(map: &ExpressionStoreSourceMap, id: TypeRefId, source: TypeSource) -> bool {
-    map.type_syntax(id) == Ok(source)
-}
-
-/// Whether no source of the type is known.
-fn type_has_no_source(map: &ExpressionStoreSourceMap, id: TypeRefId) -> bool {
-    map.type_syntax(id) == Err(SyntheticSyntax)
-}
-
-#[test]
-fn types_and_their_sources(rt: HostRuntime) -> Result<(), Fail> {
-    let a = rt.alloc();
-    let mut builder = made::builder(a)?;
-    say_type(&mut builder)?;
-    let made = made::finished(a, builder)?;
-    let map = &made.1;
-    assert!(&rt;
-        type_became(map, say::source(5), Idx::from_raw(2))
-            && type_came_from(map, Idx::from_raw(2), say::source(5))
-            && type_has_no_source(map, Idx::from_raw(0))
-    );
-    Ok(())
-}
-
-/// Says of lifetime 2 that it came from a source.
-fn say_lifetime_back(builder: &mut ExpressionStoreBuilder) -> Result<(), Fail> {
-    say::map_lifetime_back(builder, Idx::from_raw(2), say::source(6))?;
-    Ok(())
-}
-
-#[test]
-fn sources_of_lifetimes_are_compared(rt: HostRuntime) -> Result<(), Fail> {
-    let a = rt.alloc();
-    let mut first = made::builder(a)?;
-    say_lifetime_back(&mut first)?;
-    let second = made::builder(a)?;
-    let equal = made::are_equal(a, first, second)?;
-    assert!(&rt; !equal);
-    Ok(())
-}
-
-/// Says of a source that it became lifetime 2.
-fn say_lifetime(builder: &mut ExpressionStoreBuilder) -> Result<(), Fail> {
-    say::map_lifetime(builder, say::source(6), Idx::from_raw(2))?;
-    Ok(())
-}
-
-#[test]
-fn lifetimes_of_sources_are_not_compared(rt: HostRuntime) -> Result<(), Fail> {
-    let a = rt.alloc();
-    let mut first = made::builder(a)?;
-    say_lifetime(&mut first)?;
-    let second = made::builder(a)?;
-    let equal = made::are_equal(a, first, second)?;
-    assert!(&rt; equal);
-    Ok(())
 }
 
 /// Whether the macro call that stands as an expression at this place became that.
@@ -400,19 +80,146 @@ fn macro_became(map: &ExpressionStoreSourceMap, start: u32, wanted: ExprOrPatId)
 }
 
 #[test]
-fn a_macro_call_as_an_expression(rt: HostRuntime) -> Result<(), Fail> {
+fn what_sources_became(rt: HostRuntime) -> Result<(), Fail> {
     let a = rt.alloc();
     let mut builder = made::builder(a)?;
-    say_expr(&mut builder, a, 1)?;
+    add_two(&mut builder, a)?;
+    say_nodes(&mut builder)?;
     let made = made::finished(a, builder)?;
     let map = &made.1;
+    assert!(&rt; expr_became(map, 5, Some(expr(1))) && expr_became(map, 6, None));
     assert!(&rt; macro_became(map, 5, expr(1)));
+    assert!(&rt; pat_became(map, 6, Some(pat(3))) && pat_became(map, 5, None));
+    assert!(&rt; label_became(map, 5, Idx::from_raw(2)));
     Ok(())
 }
 
+/// Whether the expression came from this place.
+fn expr_came_from(map: &ExpressionStoreSourceMap, id: ExprId, start: u32) -> bool
+    requires { start < 1000 }
+{
+    map.expr_syntax(id) == Ok(say::source(start))
+}
+
+/// Whether no source of the expression is known.
+fn expr_has_no_source(map: &ExpressionStoreSourceMap, id: ExprId) -> bool {
+    map.expr_syntax(id) == Err(SyntheticSyntax)
+}
+
+/// Whether the pattern came from this place.
+fn pat_came_from(map: &ExpressionStoreSourceMap, id: PatId, start: u32) -> bool
+    requires { start < 1000 }
+{
+    map.pat_syntax(id) == Ok(say::source(start))
+}
+
+/// Whether it came from this place.
+fn came_from(map: &ExpressionStoreSourceMap, id: ExprOrPatId, start: u32) -> bool
+    requires { start < 1000 }
+{
+    map.expr_or_pat_syntax(id) == Ok(say::source(start))
+}
+
+/// Whether it was said that the label came from there.
+fn label_came_from(map: &ExpressionStoreSourceMap, id: LabelId, source: LabelSource) -> bool {
+    map.has_label_syntax(id) && map.label_syntax(id) == source
+}
+
+/// Whether it was said that the field of this value came from there.
+fn field_came_from(map: &ExpressionStoreSourceMap, id: ExprId, source: FieldSource) -> bool {
+    map.has_field_syntax(id) && map.field_syntax(id) == source
+}
+
+/// Whether it was said that the field that holds this pattern came from there.
+fn pat_field_came_from(map: &ExpressionStoreSourceMap, id: PatId, source: PatFieldSource) -> bool {
+    map.has_pat_field_syntax(id) && map.pat_field_syntax(id) == source
+}
+
 #[test]
-fn laws_of_source_maps() {
-    laws::equality_is_of_the_compared_part();
-    laws::forward_maps_may_differ();
-    laws::equal_maps_know_the_same_sources();
+fn where_nodes_came_from(rt: HostRuntime) -> Result<(), Fail> {
+    let a = rt.alloc();
+    let mut builder = made::builder(a)?;
+    add_two(&mut builder, a)?;
+    say_sources(&mut builder)?;
+    let made = made::finished(a, builder)?;
+    let map = &made.1;
+    assert!(&rt; expr_came_from(map, zero(), 5) && came_from(map, expr(0), 5));
+    assert!(&rt; expr_has_no_source(map, Idx::from_raw(1)));
+    assert!(&rt; pat_came_from(map, Idx::from_raw(3), 6) && came_from(map, pat(3), 6));
+    assert!(&rt; label_came_from(map, Idx::from_raw(2), say::source(5)));
+    assert!(&rt; !map.has_label_syntax(Idx::from_raw(0)));
+    assert!(&rt; field_came_from(map, zero(), say::source(6)));
+    assert!(&rt; !map.has_field_syntax(Idx::from_raw(1)));
+    assert!(&rt; pat_field_came_from(map, Idx::from_raw(4), say::source(7)));
+    assert!(&rt; !map.has_pat_field_syntax(Idx::from_raw(0)));
+    Ok(())
+}
+
+/// What a builder has and is told.
+#[derive(Clone, Copy)]
+enum Told {
+    Nothing,
+    TwoNodes,
+    /// Two expressions, and that a source became expression 0.
+    ExprOfSource,
+    /// Two expressions, and that expression 0 came from a source.
+    SourceOfExpr,
+    /// That a source became an expression, which is not there.
+    ExprWithoutNodes,
+    /// That lifetime 2 came from a source.
+    SourceOfLifetime,
+    /// That a source became lifetime 2.
+    LifetimeOfSource,
+}
+
+/// Tells the builder so.
+fn tell(told: Told, builder: &mut ExpressionStoreBuilder, alloc: Global) -> Result<(), Fail> {
+    match told {
+        Told::Nothing => {}
+        Told::TwoNodes => add_two(builder, alloc)?,
+        Told::ExprOfSource => {
+            add_two(builder, alloc)?;
+            say::map_expr(builder, say::source(5), expr(0))?;
+        }
+        Told::SourceOfExpr => {
+            add_two(builder, alloc)?;
+            say::map_expr_back(builder, zero(), say::source(5))?;
+        }
+        Told::ExprWithoutNodes => say::map_expr(builder, say::source(5), expr(0))?,
+        Told::SourceOfLifetime => {
+            say::map_lifetime_back(builder, Idx::from_raw(2), say::source(6))?;
+        }
+        Told::LifetimeOfSource => say::map_lifetime(builder, say::source(6), Idx::from_raw(2))?,
+    }
+    Ok(())
+}
+
+/// What a builder makes that was told so.
+fn made_of(alloc: Global, told: Told) -> Result<made::Made, Fail> {
+    let mut builder = made::builder(alloc)?;
+    tell(told, &mut builder, alloc)?;
+    made::finished(alloc, builder)
+}
+
+/// Whether the source maps of builders that were told so are equal.
+fn are_equal(alloc: Global, first: Told, second: Told) -> Result<bool, Fail> {
+    let first = made_of(alloc, first)?;
+    let second = made_of(alloc, second)?;
+    Ok(first.1 == second.1)
+}
+
+#[test]
+fn what_is_compared(rt: HostRuntime) -> Result<(), Fail> {
+    let a = rt.alloc();
+    // The way from a source to its node isn't compared, though it is kept.
+    let made = made_of(a, Told::ExprOfSource)?;
+    assert!(&rt; expr_became(&made.1, 5, Some(expr(0))));
+    assert!(&rt; are_equal(a, Told::ExprOfSource, Told::TwoNodes)?);
+    assert!(&rt; are_equal(a, Told::LifetimeOfSource, Told::Nothing)?);
+    // The way back is.
+    assert!(&rt; !are_equal(a, Told::SourceOfExpr, Told::TwoNodes)?);
+    assert!(&rt; !are_equal(a, Told::SourceOfLifetime, Told::Nothing)?);
+    // What is said of expressions is dropped where there are none.
+    assert!(&rt; are_equal(a, Told::ExprWithoutNodes, Told::Nothing)?);
+    Ok(())
 }

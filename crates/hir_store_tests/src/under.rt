@@ -5,7 +5,7 @@ ghost use Rattle.hir_faults.specs.Nodes.{sizes_of};
 use crate::{again, build, made};
 use hir_base::Idx;
 use hir_node::{Expr, Pat};
-use hir_store::{ExpressionStore, ExpressionStoreBuilder, NodeSet, laws};
+use hir_store::{ExpressionStore, ExpressionStoreBuilder, NodeSet};
 use std::alloc::{AllocError, Global};
 use std::test::Fail;
 
@@ -94,34 +94,12 @@ fn none_has_none(alloc: Global, store: &ExpressionStore) -> bool {
     }
 }
 
-#[test]
-fn a_set_of_no_nodes(rt: HostRuntime) -> Result<(), Fail> {
-    let a = rt.alloc();
-    let mut builder = made::builder(a)?;
-    add_let_in_tuple(&mut builder, a)?;
-    let made = made::finished(a, builder)?;
-    let store = &made.0;
-    assert!(&rt; none_has_none(a, store));
-    Ok(())
-}
-
 /// Whether a set has what was added.
 fn marked_has_both(alloc: Global, store: &ExpressionStore) -> bool {
     match marked(alloc, store) {
         Ok(tops) => has_expr(store, &tops, 1) && has_pat(store, &tops, 1),
         Err(_) => false,
     }
-}
-
-#[test]
-fn a_set_has_what_was_added(rt: HostRuntime) -> Result<(), Fail> {
-    let a = rt.alloc();
-    let mut builder = made::builder(a)?;
-    add_let_in_tuple(&mut builder, a)?;
-    let made = made::finished(a, builder)?;
-    let store = &made.0;
-    assert!(&rt; marked_has_both(a, store));
-    Ok(())
 }
 
 /// What lies under the marked nodes.
@@ -153,12 +131,8 @@ fn what_lies_under_marked_nodes(rt: HostRuntime) -> Result<(), Fail> {
     add_let_in_tuple(&mut builder, a)?;
     let made = made::finished(a, builder)?;
     let store = &made.0;
+    assert!(&rt; none_has_none(a, store));
+    assert!(&rt; marked_has_both(a, store));
     assert!(&rt; finds_what_is_under(a, store));
     Ok(())
-}
-
-#[test]
-fn laws_of_what_lies_under() {
-    laws::under_two_is_under_one();
-    laws::what_is_under_is_there();
 }

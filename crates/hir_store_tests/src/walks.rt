@@ -95,17 +95,6 @@ fn visits_a_match(store: &ExpressionStore) -> bool {
     wanted.all_met()
 }
 
-#[test]
-fn a_visitor_of_a_match(rt: HostRuntime) -> Result<(), Fail> {
-    let a = rt.alloc();
-    let mut builder = made::builder(a)?;
-    build::add_match_tree(&mut builder, a)?;
-    let made = made::finished(a, builder)?;
-    let store = &made.0;
-    assert!(&rt; visits_a_match(store));
-    Ok(())
-}
-
 /// Whether a visitor of pattern 2 meets the pattern in it.
 fn visits_a_pattern(store: &ExpressionStore) -> bool {
     let mut wanted = Wanted::new(&[Call::Pat(1)]);
@@ -114,17 +103,6 @@ fn visits_a_pattern(store: &ExpressionStore) -> bool {
     }
     store.visit_pat_children(Idx::from_raw(2), &mut wanted);
     wanted.all_met()
-}
-
-#[test]
-fn a_visitor_of_a_pattern(rt: HostRuntime) -> Result<(), Fail> {
-    let a = rt.alloc();
-    let mut builder = made::builder(a)?;
-    build::add_match_tree(&mut builder, a)?;
-    let made = made::finished(a, builder)?;
-    let store = &made.0;
-    assert!(&rt; visits_a_pattern(store));
-    Ok(())
 }
 
 /// Whether a walk from pattern 2 meets it and all below.
@@ -137,17 +115,6 @@ fn walks_a_pattern(store: &ExpressionStore) -> bool {
     wanted.all_met()
 }
 
-#[test]
-fn patterns_of_a_pattern(rt: HostRuntime) -> Result<(), Fail> {
-    let a = rt.alloc();
-    let mut builder = made::builder(a)?;
-    build::add_match_tree(&mut builder, a)?;
-    let made = made::finished(a, builder)?;
-    let store = &made.0;
-    assert!(&rt; walks_a_pattern(store));
-    Ok(())
-}
-
 /// Whether a walk over the child patterns of pattern 2 meets the one pattern in it.
 fn walks_child_patterns(store: &ExpressionStore) -> bool {
     let mut wanted = Wanted::new(&[Call::Pat(1)]);
@@ -156,17 +123,6 @@ fn walks_child_patterns(store: &ExpressionStore) -> bool {
     }
     store.walk_pats_shallow(Idx::from_raw(2), &mut |pat: PatId| wanted.on_pat(pat));
     wanted.all_met()
-}
-
-#[test]
-fn child_patterns_of_a_pattern(rt: HostRuntime) -> Result<(), Fail> {
-    let a = rt.alloc();
-    let mut builder = made::builder(a)?;
-    build::add_match_tree(&mut builder, a)?;
-    let made = made::finished(a, builder)?;
-    let store = &made.0;
-    assert!(&rt; walks_child_patterns(store));
-    Ok(())
 }
 
 /// Whether a walk over the bindings in pattern 2 meets its own and then the one below.
@@ -182,17 +138,6 @@ fn walks_bindings(store: &ExpressionStore) -> bool {
     wanted.all_met()
 }
 
-#[test]
-fn bindings_of_a_pattern(rt: HostRuntime) -> Result<(), Fail> {
-    let a = rt.alloc();
-    let mut builder = made::builder(a)?;
-    build::add_match_tree(&mut builder, a)?;
-    let made = made::finished(a, builder)?;
-    let store = &made.0;
-    assert!(&rt; walks_bindings(store));
-    Ok(())
-}
-
 /// Whether a walk over the child expressions of the match meets the scrutinee and both bodies.
 fn walks_a_match(store: &ExpressionStore) -> bool {
     let mut wanted = Wanted::new(&[Call::Expr(0), Call::Expr(1), Call::Expr(2)]);
@@ -204,12 +149,17 @@ fn walks_a_match(store: &ExpressionStore) -> bool {
 }
 
 #[test]
-fn children_of_a_match(rt: HostRuntime) -> Result<(), Fail> {
+fn walks_of_a_match(rt: HostRuntime) -> Result<(), Fail> {
     let a = rt.alloc();
     let mut builder = made::builder(a)?;
     build::add_match_tree(&mut builder, a)?;
     let made = made::finished(a, builder)?;
     let store = &made.0;
+    assert!(&rt; visits_a_match(store));
+    assert!(&rt; visits_a_pattern(store));
+    assert!(&rt; walks_a_pattern(store));
+    assert!(&rt; walks_child_patterns(store));
+    assert!(&rt; walks_bindings(store));
     assert!(&rt; walks_a_match(store));
     Ok(())
 }
@@ -239,17 +189,6 @@ fn walks_a_let(store: &ExpressionStore) -> bool {
     wanted.all_met()
 }
 
-#[test]
-fn children_with_those_of_a_pattern(rt: HostRuntime) -> Result<(), Fail> {
-    let a = rt.alloc();
-    let mut builder = made::builder(a)?;
-    add_let_of_a_range(&mut builder, a)?;
-    let made = made::finished(a, builder)?;
-    let store = &made.0;
-    assert!(&rt; walks_a_let(store));
-    Ok(())
-}
-
 /// Whether a walk without patterns leaves it out.
 fn walks_a_let_without_its_pattern(store: &ExpressionStore) -> bool {
     let mut wanted = Wanted::new(&[Call::Expr(1)]);
@@ -260,17 +199,6 @@ fn walks_a_let_without_its_pattern(store: &ExpressionStore) -> bool {
     wanted.all_met()
 }
 
-#[test]
-fn children_without_those_of_a_pattern(rt: HostRuntime) -> Result<(), Fail> {
-    let a = rt.alloc();
-    let mut builder = made::builder(a)?;
-    add_let_of_a_range(&mut builder, a)?;
-    let made = made::finished(a, builder)?;
-    let store = &made.0;
-    assert!(&rt; walks_a_let_without_its_pattern(store));
-    Ok(())
-}
-
 /// Whether a walk over the expressions in the pattern meets it.
 fn walks_expressions_of_a_pattern(store: &ExpressionStore) -> bool {
     let mut wanted = Wanted::new(&[Call::Expr(0)]);
@@ -279,17 +207,6 @@ fn walks_expressions_of_a_pattern(store: &ExpressionStore) -> bool {
     }
     store.walk_exprs_in_pat(Idx::from_raw(0), &mut |expr: ExprId| wanted.on_expr(expr));
     wanted.all_met()
-}
-
-#[test]
-fn expressions_of_a_pattern(rt: HostRuntime) -> Result<(), Fail> {
-    let a = rt.alloc();
-    let mut builder = made::builder(a)?;
-    add_let_of_a_range(&mut builder, a)?;
-    let made = made::finished(a, builder)?;
-    let store = &made.0;
-    assert!(&rt; walks_expressions_of_a_pattern(store));
-    Ok(())
 }
 
 /// Adds the type `!`, and a tuple of it.
@@ -310,12 +227,16 @@ fn visits_a_type(store: &ExpressionStore) -> bool {
 }
 
 #[test]
-fn a_visitor_of_a_type(rt: HostRuntime) -> Result<(), Fail> {
+fn walks_of_a_let_and_a_type(rt: HostRuntime) -> Result<(), Fail> {
     let a = rt.alloc();
     let mut builder = made::builder(a)?;
+    add_let_of_a_range(&mut builder, a)?;
     add_tuple_type(&mut builder, a)?;
     let made = made::finished(a, builder)?;
     let store = &made.0;
+    assert!(&rt; walks_a_let(store));
+    assert!(&rt; walks_a_let_without_its_pattern(store));
+    assert!(&rt; walks_expressions_of_a_pattern(store));
     assert!(&rt; visits_a_type(store));
     Ok(())
 }
