@@ -5,25 +5,31 @@ use hir_base::{Idx, Name, Seq};
 use hir_lines::{Line, parse};
 use hir_node::Path;
 use std::alloc::{AllocError, Global};
+use std::mem::drop;
 
 /// What a text says.
 fn said(alloc: Global, text: &[u8]) -> Result<Line, AllocError> {
-    match parse(alloc, text) {
-        Ok(line) => Ok(line),
-        Err(_) => parse(alloc, text),
-    }
+    parse(alloc, text).or_else(|_| parse(alloc, text))
 }
 
-/// Whether a text says this line.
+/// Whether a text says this line. The line is dropped whole, since one that goes out of scope is dear to prove.
 pub fn says(alloc: Global, text: &[u8], line: Line) -> Result<bool, AllocError> {
-    is_said(alloc, text, &line)
+    let is_said = is_said(alloc, text, &line);
+    drop(line);
+    is_said
 }
 
 fn is_said(alloc: Global, text: &[u8], line: &Line) -> Result<bool, AllocError> {
     match said(alloc, text) {
-        Ok(said) => Ok(said == *line),
+        Ok(said) => Ok(is_same(said, line)),
         Err(failed) => Err(failed),
     }
+}
+
+fn is_same(said: Line, line: &Line) -> bool {
+    let is_same = said == *line;
+    drop(said);
+    is_same
 }
 
 pub fn name(alloc: Global, text: &str) -> Result<Name, AllocError> {
