@@ -58,19 +58,19 @@ const METHOD: &[Step] = &[
     Step::Root(0),
 ];
 
-/// A parameter whose two ids are the same.
-fn param<K>(number: u32) -> Param<Idx<K>> {
+/// The parameter of this number, of which the user wrote this one.
+fn param<K>(formal: u32, user_written: u32) -> Param<Idx<K>> {
     Param {
-        formal: Idx::from_raw(number),
-        user_written: Idx::from_raw(number),
+        formal: Idx::from_raw(formal),
+        user_written: Idx::from_raw(user_written),
     }
 }
 
-/// Parameters of these numbers.
-fn params(alloc: Global, numbers: &[u32]) -> Result<Seq<Param<PatId>>, AllocError> {
+/// The list of the parameters of these numbers.
+fn listed(alloc: Global, numbers: &[(u32, u32)]) -> Result<Seq<Param<PatId>>, AllocError> {
     let mut list = Seq::new(alloc);
-    for number in numbers {
-        again::push(&mut list, param(*number))?;
+    for (formal, user_written) in numbers {
+        again::push(&mut list, param(*formal, *user_written))?;
     }
     Ok(list)
 }
@@ -97,10 +97,12 @@ pub fn body(
 fn asked(
     alloc: Global,
     tree: &[Step],
-    params: Seq<Param<PatId>>,
+    params: &[(u32, u32)],
     self_param: Option<Param<BindingId>>,
 ) -> Result<Box<Result<Body, RefusedBody>>, Fail> {
-    let (store, map) = Box::into_inner(trees::made(alloc, tree)?);
+    let made = trees::made(alloc, tree)?;
+    let params = listed(alloc, params)?;
+    let (store, map) = Box::into_inner(made);
     std::mem::drop(map);
     Ok(again::in_a_box(alloc, body(alloc, store, params, self_param))?)
 }
@@ -109,25 +111,14 @@ fn asked(
 fn answer(
     alloc: Global,
     tree: &[Step],
-    numbers: &[u32],
+    params: &[(u32, u32)],
     self_param: Option<Param<BindingId>>,
 ) -> Result<Result<u32, BodyFault>, Fail> {
-    let outcome = asked(alloc, tree, params(alloc, numbers)?, self_param)?;
+    let outcome = asked(alloc, tree, params, self_param)?;
     match &*outcome {
         Ok(body) => Ok(Ok(body.root_expr().into_raw())),
         Err(refused) => Ok(Err(refused.fault)),
     }
-}
-
-/// A parameter that is there, of which the user wrote another that is absent.
-fn odd(alloc: Global) -> Result<Seq<Param<PatId>>, AllocError> {
-    let mut list = Seq::new(alloc);
-    let odd = Param {
-        formal: Idx::from_raw(0),
-        user_written: Idx::from_raw(1),
-    };
-    again::push(&mut list, odd)?;
-    Ok(list)
 }
 
 /// Whether the body is refused because of parameter 0, and its parts come back as they were: one parameter, no `self`, and a store
@@ -144,14 +135,6 @@ fn hands_back(outcome: &Result<Body, RefusedBody>) -> bool {
     }
 }
 
-/// Where `self` is bound, and its copy.
-fn this() -> Param<BindingId> {
-    Param {
-        formal: Idx::from_raw(0),
-        user_written: Idx::from_raw(1),
-    }
-}
-
 /// Whether the body is accepted, and answers what was given.
 fn is_the_method(outcome: &Result<Body, RefusedBody>) -> bool {
     match outcome {
@@ -159,8 +142,8 @@ fn is_the_method(outcome: &Result<Body, RefusedBody>) -> bool {
             body.root_expr() == Idx::from_raw(0)
                 && body.store().has_pat(Idx::from_raw(0))
                 && body.params().len() == 1
-                && body.params()[0] == param(0)
-                && body.self_param() == Some(this())
+                && body.params()[0] == param(0, 0)
+                && body.self_param() == Some(param(0, 1))
                 && body.is_any_self_param(Idx::from_raw(0))
                 && body.is_any_self_param(Idx::from_raw(1))
                 && !body.is_any_self_param(Idx::from_raw(2))
@@ -208,28 +191,46 @@ fn is_plain(outcome: &Result<Body, RefusedBody>) -> bool {
     }
 }
 
-#[test]
-fn formals_and_the_last_root_lie_apart(rt: HostRuntime) -> Result<(), Fail> {
-    let a = rt.alloc();
-    assert!(&rt; answer(a, LET, &[0], None)? == Err(BodyFault::ParamUnder(0)));
-    assert!(&rt; answer(a, RANGE, &[0], None)? == Err(BodyFault::RootInParam));
-    assert!(&rt; answer(a, WILD, &[0, 0], None)? == Err(BodyFault::ParamRepeated(1)));
-    assert!(&rt; answer(a, NESTED, &[0, 1], None)? == Err(BodyFault::ParamUnder(0)));
-    assert!(&rt; answer(a, NESTED, &[1, 0], None)? == Err(BodyFault::ParamUnder(1)));
-    assert!(&rt; answer(a, NESTED, &[1], None)? == Ok(0));
+/// A tree, the numbers of the parameters and of what the user wrote of them, and the root of the body or why it is refused.
+type Case = (
+    &'static [Step],
+    &'static [(u32, u32)],
+    Result<u32, BodyFault>,
+);
+
+/// Formals that lie under a formal or the last root, and such that don't.
+const APART: &[Case] = &[
+    (LET, &[(0, 0)], Err(BodyFault::ParamUnder(0))),
+    (RANGE, &[(0, 0)], Err(BodyFault::RootInParam)),
+    (WILD, &[(0, 0), (0, 0)], Err(BodyFault::ParamRepeated(1))),
+    (NESTED, &[(0, 0), (1, 1)], Err(BodyFault::ParamUnder(0))),
+    (NESTED, &[(1, 1), (0, 0)], Err(BodyFault::ParamUnder(1))),
+    (NESTED, &[(1, 1)], Ok(0)),
     // the formal is under the earlier root
-    assert!(&rt; answer(a, TWO_ROOTS, &[0], None)? == Ok(2));
-    Ok(())
-}
+    (TWO_ROOTS, &[(0, 0)], Ok(2)),
+    // the first fault by index
+    (WILD, &[(0, 0), (9, 9)], Err(BodyFault::ParamOutOfRange(1))),
+    (
+        WILD,
+        &[(0, 0), (0, 0), (9, 9)],
+        Err(BodyFault::ParamOutOfRange(2)),
+    ),
+];
+
+/// The first fault by kind, where there is no binding 5, and no pattern 9.
+const ABSENT: &[Case] = &[
+    (NO_ROOT, &[(9, 9)], Err(BodyFault::NoRoot)),
+    (WILD, &[(9, 9)], Err(BodyFault::SelfOutOfRange)),
+];
 
 #[test]
-fn the_first_fault_by_kind_and_then_by_index(rt: HostRuntime) -> Result<(), Fail> {
-    let a = rt.alloc();
-    let absent = Some(param(5));
-    assert!(&rt; answer(a, NO_ROOT, &[9], absent)? == Err(BodyFault::NoRoot));
-    assert!(&rt; answer(a, WILD, &[9], absent)? == Err(BodyFault::SelfOutOfRange));
-    assert!(&rt; answer(a, WILD, &[0, 9], None)? == Err(BodyFault::ParamOutOfRange(1)));
-    assert!(&rt; answer(a, WILD, &[0, 0, 9], None)? == Err(BodyFault::ParamOutOfRange(2)));
+fn formals_and_the_last_root_lie_apart(rt: HostRuntime) -> Result<(), Fail> {
+    for (tree, params, wanted) in APART {
+        assert!(&rt; answer(rt.alloc(), tree, params, None)? == *wanted);
+    }
+    for (tree, params, wanted) in ABSENT {
+        assert!(&rt; answer(rt.alloc(), tree, params, Some(param(5, 5)))? == *wanted);
+    }
     Ok(())
 }
 
@@ -237,11 +238,13 @@ fn the_first_fault_by_kind_and_then_by_index(rt: HostRuntime) -> Result<(), Fail
 fn parts_that_come_back_and_accepted_bodies(rt: HostRuntime) -> Result<(), Fail> {
     let a = rt.alloc();
     // what the user wrote has to be there
-    let outcome = asked(a, WILD, odd(a)?, None)?;
+    let outcome = asked(a, WILD, &[(0, 1)], None)?;
     assert!(&rt; hands_back(&outcome));
-    let outcome = asked(a, METHOD, params(a, &[0])?, Some(this()))?;
+    std::mem::drop(outcome);
+    let outcome = asked(a, METHOD, &[(0, 0)], Some(param(0, 1)))?;
     assert!(&rt; is_the_method(&outcome));
-    let outcome = asked(a, PATH, Seq::new(a), None)?;
+    std::mem::drop(outcome);
+    let outcome = asked(a, PATH, &[], None)?;
     assert!(&rt; is_plain(&outcome));
     Ok(())
 }
@@ -249,13 +252,17 @@ fn parts_that_come_back_and_accepted_bodies(rt: HostRuntime) -> Result<(), Fail>
 #[test]
 fn texts_of_faults(rt: HostRuntime) -> Result<(), Fail> {
     let a = rt.alloc();
-    assert!(&rt; reads(a, BodyFault::NoRoot, "NoRoot")?);
-    assert!(&rt; reads(a, BodyFault::SelfOutOfRange, "SelfOutOfRange")?);
-    assert!(&rt; reads(a, BodyFault::ParamOutOfRange(3), "ParamOutOfRange 3")?);
-    assert!(&rt; reads(a, BodyFault::ParamRepeated(1), "ParamRepeated 1")?);
-    assert!(&rt; reads(a, BodyFault::ParamUnder(0), "ParamUnder 0")?);
-    assert!(&rt; reads(a, BodyFault::RootInParam, "RootInParam")?);
-    assert!(&rt; reads(a, BodyFault::Memory, "Memory")?);
+    for (fault, wanted) in &[
+        (BodyFault::NoRoot, "NoRoot"),
+        (BodyFault::SelfOutOfRange, "SelfOutOfRange"),
+        (BodyFault::ParamOutOfRange(3), "ParamOutOfRange 3"),
+        (BodyFault::ParamRepeated(1), "ParamRepeated 1"),
+        (BodyFault::ParamUnder(0), "ParamUnder 0"),
+        (BodyFault::RootInParam, "RootInParam"),
+        (BodyFault::Memory, "Memory"),
+    ] {
+        assert!(&rt; reads(a, *fault, wanted)?);
+    }
     Ok(())
 }
 

@@ -54,7 +54,15 @@ fn lifetimes_are_numbered_by_the_way_that_they_are_bound(rt: HostRuntime) -> Res
         params.lifetime_param_idx(&Idx::from_raw(3)),
         Some((1, true))
     );
-    assert_eq!(&rt; params.lifetime_param_idx(&Idx::from_raw(4)), None);
+    for (id, wanted) in &[
+        (0u32, Some((0, false))),
+        (1, Some((0, true))),
+        (2, Some((1, false))),
+        (3, Some((1, true))),
+        (4, None),
+    ] {
+        assert_eq!(&rt; params.lifetime_param_idx(&Idx::from_raw(*id)), *wanted);
+    }
     Ok(())
 }
 
@@ -93,11 +101,14 @@ fn constant_and_type(alloc: Global) -> Result<Box<GenericParams>, Fail> {
 #[test]
 fn parameters_by_name(rt: HostRuntime) -> Result<(), Fail> {
     generic_laws::finds_answer_the_first();
-    let n = again::name(rt.alloc(), "N")?;
-    let c = again::name(rt.alloc(), "'c")?;
+    let n = again::in_a_box(rt.alloc(), again::name(rt.alloc(), "N")?)?;
     let params = constant_and_type(rt.alloc())?;
     assert!(&rt; is_const(params.find_const_by_name(&n, parent()), 0));
     assert!(&rt; is_type_param(params.find_type_by_name(&n, parent()), 1));
+    // what is dropped here isn't dropped again wherever a later call fails
+    std::mem::drop(n);
+    std::mem::drop(params);
+    let c = again::in_a_box(rt.alloc(), again::name(rt.alloc(), "'c")?)?;
     let params = all_kinds(rt.alloc())?;
     assert!(&rt; is_lifetime(params.find_lifetime_by_name(&c, parent()), 2));
     assert!(&rt; params.find_type_by_name(&c, parent()).is_none());
@@ -121,9 +132,11 @@ fn none(alloc: Global) -> Result<Box<GenericParams>, AllocError> {
 fn self_of_a_trait_is_parameter_0(rt: HostRuntime) -> Result<(), Fail> {
     let params = one_type(rt.alloc(), "Self", TypeParamProvenance::TraitSelf)?;
     assert_eq!(&rt; params.trait_self_param(), Some(Idx::from_raw(0)));
+    std::mem::drop(params);
     assert_eq!(&rt; GenericParams::self_param_id_in_self(), Idx::from_raw(0));
     let params = constant_alone(rt.alloc())?;
     assert_eq!(&rt; params.trait_self_param(), None);
+    std::mem::drop(params);
     let params = none(rt.alloc())?;
     assert_eq!(&rt; params.trait_self_param(), None);
     Ok(())
@@ -329,10 +342,13 @@ fn a_type_and_a_constant(rt: HostRuntime) -> Result<(), Fail> {
     let ty = again::in_a_box(a, TypeOrConstParamData::from(listed(a, "T")?))?;
     assert!(&rt; is_t(&ty));
     assert!(&rt; again::copies(&*ty)?);
+    std::mem::drop(ty);
     let with_default = again::in_a_box(a, constant_with_default(a)?)?;
     assert!(&rt; is_n(&with_default));
+    std::mem::drop(with_default);
     let made = again::in_a_box(a, constant(a, "N")?)?;
     assert!(&rt; again::copies(&*made)?);
+    std::mem::drop(made);
     let data = again::in_a_box(a, listed(a, "T")?)?;
     assert!(&rt; is_borrowed(&data));
     Ok(())
@@ -363,6 +379,8 @@ fn any_parameter(rt: HostRuntime) -> Result<(), Fail> {
     let constant = again::in_a_box(a, GenericParamData::from(constant(a, "N")?))?;
     assert!(&rt; is_any_n(&constant));
     assert!(&rt; *constant != *ty);
+    std::mem::drop(constant);
+    std::mem::drop(ty);
     let data = lifetime(again::name(a, "'a")?, LifetimeBoundType::LateBound);
     assert!(&rt; data.is_late_bound() && !data.is_early_bound());
     let any = again::in_a_box(a, GenericParamData::from(data))?;

@@ -9,33 +9,28 @@ use hir_defs::{GenericParams, ParamsOf, StoreOf};
 use hir_store::{ExpressionStore, ExpressionStoreSourceMap, Missing};
 use std::test::Fail;
 
+/// How many types the store has.
+fn count(store: &ExpressionStore) -> usize {
+    store.types().len()
+}
+
 /// How many parameters there are, whether there are no predicates, and how many types the store has.
-fn sizes(
-    found: Result<(&GenericParams, &ExpressionStore), Missing>,
-) -> Option<(usize, bool, usize)> {
+fn sizes(found: Option<(&GenericParams, &ExpressionStore)>) -> Option<(usize, bool, usize)> {
     match found {
-        Ok((params, store)) => {
-            Some((
-                params.len(),
-                params.has_no_predicates(),
-                store.types().len(),
-            ))
-        }
-        Err(_) => None,
+        Some((params, store)) => Some((params.len(), params.has_no_predicates(), count(store))),
+        None => None,
     }
 }
 
 /// Whether there is one parameter, and a store of three types of whose type 0 no source is known.
 fn is_one_over_three(
-    found: Result<(&GenericParams, &ExpressionStore, &ExpressionStoreSourceMap), Missing>,
+    found: Option<(&GenericParams, &ExpressionStore, &ExpressionStoreSourceMap)>,
 ) -> bool {
     match found {
-        Ok((params, store, map)) => {
-            params.len() == 1
-                && store.types().len() == 3
-                && map.type_syntax(Idx::from_raw(0)).is_err()
+        Some((params, store, map)) => {
+            params.len() == 1 && count(store) == 3 && map.type_syntax(Idx::from_raw(0)).is_err()
         }
-        Err(_) => false,
+        None => false,
     }
 }
 
@@ -78,23 +73,27 @@ fn wanted() -> [(GenericDefId, usize, usize); 7] {
     ]
 }
 
-/// How many types the store has.
-fn types(found: Result<&ExpressionStore, Missing>) -> Option<usize> {
+/// Whether the store has this many types.
+fn has_types(found: Option<&ExpressionStore>, wanted: usize) -> bool {
     match found {
-        Ok(store) => Some(store.types().len()),
-        Err(_) => None,
+        Some(store) => count(store) == wanted,
+        None => false,
     }
 }
 
-/// How many types the store has, and whether expression 0 is there; None where a source of type 0 or of expression 0 is known.
-fn unmapped(
-    found: Result<(&ExpressionStore, &ExpressionStoreSourceMap), Missing>,
-) -> Option<(usize, bool)> {
-    let (store, map) = found.ok()?;
-    if map.type_syntax(Idx::from_raw(0)).is_ok() || map.expr_syntax(Idx::from_raw(0)).is_ok() {
-        return None;
+/// How many types the store has, and whether expression 0 is there; and whether a source is known of type 0, and of expression 0.
+fn contents(
+    found: Option<(&ExpressionStore, &ExpressionStoreSourceMap)>,
+) -> Option<(usize, bool, bool, bool)> {
+    match found {
+        Some((store, map)) => Some((
+            count(store),
+            store.has_expr(Idx::from_raw(0)),
+            map.type_syntax(Idx::from_raw(0)).is_ok(),
+            map.expr_syntax(Idx::from_raw(0)).is_ok(),
+        )),
+        None => None,
     }
-    Some((store.types().len(), store.has_expr(Idx::from_raw(0))))
 }
 
 /// The signature of function 1.
@@ -112,24 +111,20 @@ fn parameters_of_definitions_and_stores_of_owners(rt: HostRuntime) -> Result<(),
     let tables = made::filled(rt.alloc())?;
     assert!(&rt; GenericParams::of(&tables, function_1()).map(GenericParams::len) == Ok(1));
     for (def, params, types) in &wanted() {
-        let found = sizes(GenericParams::with_store(&tables, *def));
+        let found = sizes(GenericParams::with_store(&tables, *def).ok());
         assert!(&rt; found == Some((*params, true, *types)));
     }
-    assert!(&rt; is_one_over_three(GenericParams::with_source_map(&tables, enum_3())));
-    for absent in [constant(3), variable(3)] {
-        assert!(&rt;
-            lacks(
-                GenericParams::of(&tables, absent),
-                Missing::Signature(absent)
-            )
-        );
-    }
+    assert!(&rt; is_one_over_three(GenericParams::with_source_map(&tables, enum_3()).ok()));
+    let found = GenericParams::of(&tables, constant(3));
+    assert!(&rt; lacks(found, Missing::Signature(constant(3))));
+    let found = GenericParams::of(&tables, variable(3));
+    assert!(&rt; lacks(found, Missing::Signature(variable(3))));
     let owner = ExpressionStoreOwnerId::Signature(function_1());
-    assert!(&rt; types(ExpressionStore::of(&tables, owner)) == Some(1));
-    let found = unmapped(ExpressionStore::with_source_map(&tables, fields_2()));
-    assert!(&rt; found == Some((5, false)));
+    assert!(&rt; has_types(ExpressionStore::of(&tables, owner).ok(), 1));
+    let found = contents(ExpressionStore::with_source_map(&tables, fields_2()).ok());
+    assert!(&rt; found == Some((5, false, false, false)));
     let owner = ExpressionStoreOwnerId::Body(made::def_1());
-    let found = unmapped(ExpressionStore::with_source_map(&tables, owner));
-    assert!(&rt; found == Some((0, true)));
+    let found = contents(ExpressionStore::with_source_map(&tables, owner).ok());
+    assert!(&rt; found == Some((0, true, false, false)));
     Ok(())
 }

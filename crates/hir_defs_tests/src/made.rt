@@ -38,11 +38,11 @@ pub fn function(
 ) -> Result<Outcome<FunctionSignature, FunctionParts>, Fail> {
     let generic_params = one(alloc)?;
     let made = trees::made(alloc, &[Step::Types(count)])?;
-    let name = again::name(alloc, "f")?;
+    let name = again::in_a_box(alloc, again::name(alloc, "f")?)?;
     let params = type_0(alloc)?;
     let (store, map) = Box::into_inner(made);
     let parts = FunctionParts {
-        name,
+        name: Box::into_inner(name),
         generic_params: Box::into_inner(generic_params),
         store,
         params,
@@ -205,8 +205,8 @@ pub fn tables(alloc: Global) -> Result<Box<Tables>, Fail> {
 
 /// Tables with an entry of each kind, all those above, and one word that edition 2021 writes raw.
 pub fn filled(alloc: Global) -> Result<Box<Tables>, Fail> {
-    let words = match_alone(alloc)?;
     let mut tables = tables(alloc)?;
+    let words = match_alone(alloc)?;
     tables.set_raw_words(Edition::Edition2021, words);
     add_function(&mut tables, alloc)?;
     add_struct(&mut tables, alloc)?;
