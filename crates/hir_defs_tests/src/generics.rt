@@ -38,22 +38,6 @@ fn lifetimes_alone(alloc: Global) -> Result<Box<GenericParams>, Fail> {
 fn lifetimes_are_numbered_by_the_way_that_they_are_bound(rt: HostRuntime) -> Result<(), Fail> {
     generic_laws::lifetimes_are_early_or_late();
     let params = lifetimes_alone(rt.alloc())?;
-    assert_eq!(&rt;
-        params.lifetime_param_idx(&Idx::from_raw(0)),
-        Some((0, false))
-    );
-    assert_eq!(&rt;
-        params.lifetime_param_idx(&Idx::from_raw(1)),
-        Some((0, true))
-    );
-    assert_eq!(&rt;
-        params.lifetime_param_idx(&Idx::from_raw(2)),
-        Some((1, false))
-    );
-    assert_eq!(&rt;
-        params.lifetime_param_idx(&Idx::from_raw(3)),
-        Some((1, true))
-    );
     for (id, wanted) in &[
         (0u32, Some((0, false))),
         (1, Some((0, true))),

@@ -152,13 +152,8 @@ fn signatures_bodies_and_fields(rt: HostRuntime) -> Result<(), Fail> {
                 .ok()
         )
     );
-    assert!(&rt;
-        !is_plain(
-            tables
-                .plain_signature(PlainDef::Union(UnionId::from_raw(5)))
-                .ok()
-        )
-    );
+    let found = tables.plain_signature(PlainDef::Union(UnionId::from_raw(5)));
+    assert!(&rt; lacks(found, Missing::Signature(union(5))));
     assert!(&rt;
         is_x(
             tables
@@ -211,9 +206,9 @@ fn enum_5() -> GenericDefId {
     GenericDefId::AdtId(AdtId::EnumId(EnumId::from_raw(5)))
 }
 
-/// Union 9.
-fn union_9() -> GenericDefId {
-    GenericDefId::AdtId(AdtId::UnionId(UnionId::from_raw(9)))
+/// The signature of this union.
+fn union(number: u32) -> GenericDefId {
+    GenericDefId::AdtId(AdtId::UnionId(UnionId::from_raw(number)))
 }
 
 #[test]
@@ -236,8 +231,8 @@ fn what_is_absent_is_named(rt: HostRuntime) -> Result<(), Fail> {
     let found = tables.plain_signature(PlainDef::Enum(EnumId::from_raw(5)));
     assert!(&rt; lacks(found, Missing::Signature(enum_5())));
     assert!(&rt; tables.raw_words(Edition::Edition2021).len() == 0);
-    let found = ExpressionStore::of(&tables, ExpressionStoreOwnerId::Signature(union_9()));
-    assert!(&rt; lacks(found, Missing::Signature(union_9())));
+    let found = ExpressionStore::of(&tables, ExpressionStoreOwnerId::Signature(union(9)));
+    assert!(&rt; lacks(found, Missing::Signature(union(9))));
     let found = ExpressionStore::of(&tables, ExpressionStoreOwnerId::Body(body_0()));
     assert!(&rt; lacks(found, Missing::Body(body_0())));
     let found = ExpressionStore::of(&tables, ExpressionStoreOwnerId::VariantFields(fields_0()));
@@ -266,6 +261,7 @@ fn is_unnamed(found: Option<Option<&Text>>) -> bool {
 #[test]
 fn a_later_name_replaces_an_earlier_one(rt: HostRuntime) -> Result<(), Fail> {
     let mut tables = made::tables(rt.alloc())?;
+    assert!(&rt; lacks(tables.name(name_0()), Missing::Name(name_0())));
     add_name(&mut tables, name_0(), None)?;
     assert!(&rt; is_unnamed(tables.name(name_0()).ok()));
     let name = again::text(rt.alloc(), "g")?;
