@@ -1,13 +1,23 @@
 //! Calls that take memory, made again where it is refused once.
 //! So each test passes with ample memory, and whichever one growth is refused.
-use hir_base::{Arena, ArenaFault, ExactEq, Idx, Name, Seq, TryClone};
+//! What moves a large value on a path that may fail stands here too: where its type is any type, it isn't laid out.
+use hir_base::{Arena, ArenaFault, ExactEq, Name, Seq, Text, TryClone};
 use hir_store::Missing;
 use std::alloc::{AllocError, AllocFailed, Global};
+use std::fmt::Debug;
+use std::test::Fail;
 
 pub fn name(alloc: Global, text: &str) -> Result<Name, AllocError> {
     match Name::new(alloc, text) {
         Ok(made) => Ok(made),
         Err(_) => Name::new(alloc, text),
+    }
+}
+
+pub fn text(alloc: Global, text: &str) -> Result<Text, AllocError> {
+    match Text::from_str(alloc, text) {
+        Ok(text) => Ok(text),
+        Err(_) => Text::from_str(alloc, text),
     }
 }
 
@@ -37,26 +47,45 @@ pub fn in_a_box<T: Drop>(alloc: Global, value: T) -> Result<Box<T>, AllocError> 
     }
 }
 
-/// The answer of the second call, where the first was refused: without the value that it hands back.
-pub fn told<I: Drop, T: Drop>(outcome: Result<I, (ArenaFault, T)>) -> Result<I, ArenaFault> {
+/// The value of the outcome in a box, where there is one.
+pub fn boxed<T: Drop>(alloc: Global, outcome: Result<T, Fail>) -> Result<Box<T>, Fail> {
     match outcome {
-        Ok(id) => Ok(id),
-        Err((fault, _)) => Err(fault),
+        Ok(value) => Ok(in_a_box(alloc, value)?),
+        Err(failed) => Err(failed),
     }
 }
 
-pub fn alloc<K, T: Drop>(arena: &mut Arena<K, T>, item: T) -> Result<Idx<K>, ArenaFault> {
+/// Whether the second call, where the first was refused, added the item: without the item, where it is handed back.
+pub fn told<I: Drop, T: Drop>(outcome: Result<I, (ArenaFault, T)>) -> Result<(), Fail> {
+    match outcome {
+        Ok(_) => Ok(()),
+        Err((fault, _)) => Err(Fail::from(fault)),
+    }
+}
+
+pub fn alloc<K, T: Drop>(arena: &mut Arena<K, T>, item: T) -> Result<(), Fail> {
     match arena.alloc(item) {
-        Ok(id) => Ok(id),
+        Ok(_) => Ok(()),
         Err((_, item)) => told(arena.alloc(item)),
     }
 }
 
 /// Whether the value was taken: without the value, where it is handed back.
-pub fn taken<T: Drop>(outcome: Result<(), AllocFailed<T>>) -> Result<(), AllocError> {
+pub fn taken<T: Drop>(outcome: Result<(), AllocFailed<T>>) -> Result<(), Fail> {
     match outcome {
         Ok(()) => Ok(()),
-        Err(failed) => Err(AllocError::from(failed)),
+        Err(failed) => Err(Fail::from(AllocError::from(failed))),
+    }
+}
+
+/// What was accepted, with its source map.
+pub fn with<T: Drop, E: Debug + Drop, M: Drop>(
+    outcome: Result<T, E>,
+    map: M,
+) -> Result<(T, M), Fail> {
+    match outcome {
+        Ok(accepted) => Ok((accepted, map)),
+        Err(refused) => Err(Fail::from(refused)),
     }
 }
 

@@ -1,33 +1,82 @@
 //! Bodies: which parts are refused, with which fault, and what an accepted body answers.
-use crate::{again, trees, with};
-use hir_base::{
-    AstPtr, HirFileId, Idx, InFile, RangeOp, SelfParamPtr, Seq, SyntaxNodePtr, TextRange,
-};
+use crate::again;
+use crate::trees::{self, Step};
+use hir_base::{AstPtr, HirFileId, Idx, InFile, SelfParamPtr, Seq, SyntaxNodePtr, TextRange};
 use hir_defs::{Body, BodyFault, BodySourceMap, Param, RefusedBody, body_laws};
-use hir_node::{BindingId, Expr, Pat, PatId};
-use hir_store::{ExpressionStore, ExpressionStoreBuilder};
+use hir_node::{BindingId, PatId};
+use hir_store::ExpressionStore;
 use std::alloc::{AllocError, Global};
 use std::test::Fail;
 
-/// A parameter whose two ids are the same.
-fn param<K>(number: u32) -> Param<Idx<K>> {
+/// The path `a` as the root.
+pub const PATH: &[Step] = &[Step::Path, Step::Root(0)];
+
+/// A pattern `_`, and the path `a` as the root.
+const WILD: &[Step] = &[Step::Wild, Step::Path, Step::Root(0)];
+
+/// A pattern `_` and the path `a`, which is no root.
+const NO_ROOT: &[Step] = &[Step::Wild, Step::Path, Step::NoRoot];
+
+/// `let x = a` as the root.
+const LET: &[Step] = &[
+    Step::Binding("x"),
+    Step::Bind(0),
+    Step::Path,
+    Step::Let(0, 0),
+    Step::Root(1),
+];
+
+/// The pattern `a..`, and its `a` as the root.
+const RANGE: &[Step] = &[Step::Path, Step::RangeFrom(0), Step::Root(0)];
+
+/// `x @ _`, where the inner pattern is 0 and the outer one 1, and the path `a` as the root.
+const NESTED: &[Step] = &[
+    Step::Binding("x"),
+    Step::Wild,
+    Step::At(0, 0),
+    Step::Path,
+    Step::Root(0),
+];
+
+/// `let _ = a`, which is a root, and the path `a` as the last root.
+const TWO_ROOTS: &[Step] = &[
+    Step::Wild,
+    Step::Path,
+    Step::Let(0, 0),
+    Step::Root(1),
+    Step::Path,
+    Step::Root(2),
+];
+
+/// The bindings `self`, `copy` and `x`, a pattern `_`, and the path `a` as the root.
+const METHOD: &[Step] = &[
+    Step::Binding("self"),
+    Step::Binding("copy"),
+    Step::Binding("x"),
+    Step::Wild,
+    Step::Path,
+    Step::Root(0),
+];
+
+/// The parameter of this number, of which the user wrote this one.
+fn param<K>(formal: u32, user_written: u32) -> Param<Idx<K>> {
     Param {
-        formal: Idx::from_raw(number),
-        user_written: Idx::from_raw(number),
+        formal: Idx::from_raw(formal),
+        user_written: Idx::from_raw(user_written),
     }
 }
 
-/// Parameters of these numbers.
-fn params(alloc: Global, numbers: &[u32]) -> Result<Seq<Param<PatId>>, AllocError> {
+/// The list of the parameters of these numbers.
+fn listed(alloc: Global, numbers: &[(u32, u32)]) -> Result<Seq<Param<PatId>>, AllocError> {
     let mut list = Seq::new(alloc);
-    for number in numbers {
-        again::push(&mut list, param(*number))?;
+    for (formal, user_written) in numbers {
+        again::push(&mut list, param(*formal, *user_written))?;
     }
     Ok(list)
 }
 
 /// The body of these parts, asked for again where memory was refused.
-fn body(
+pub fn body(
     alloc: Global,
     store: ExpressionStore,
     params: Seq<Param<PatId>>,
@@ -44,202 +93,61 @@ fn body(
     }
 }
 
-/// What the store of a body holds.
-#[derive(Drop)]
-enum Tree {
-    /// The path `a` as the root.
-    Path,
-    /// A pattern `_`, and the path `a` as the root.
-    Wild,
-    /// A pattern `_` and the path `a`, which is no root.
-    NoRoot,
-    /// `let x = a` as the root.
-    Let,
-    /// The pattern `a..`, and its `a` as the root.
-    Range,
-    /// `x @ _`, and the path `a` as the root.
-    Nested,
-    /// `let _ = a`, which is a root, and the path `a` as the last root.
-    TwoRoots,
-    /// The bindings `self`, `copy` and `x`, a pattern `_`, and the path `a` as the root.
-    Method,
-}
-
-/// Adds the tree.
-fn add(builder: &mut ExpressionStoreBuilder, alloc: Global, tree: Tree) -> Result<(), Fail> {
-    match tree {
-        Tree::Path => trees::path_root(builder, alloc),
-        Tree::Wild => add_wild(builder, alloc),
-        Tree::NoRoot => add_no_root(builder, alloc),
-        Tree::Let => add_let(builder, alloc),
-        Tree::Range => add_range(builder, alloc),
-        Tree::Nested => add_nested(builder, alloc),
-        Tree::TwoRoots => add_two_roots(builder, alloc),
-        Tree::Method => add_method(builder, alloc),
-    }
-}
-
-/// The store of the tree.
-fn store_of(alloc: Global, tree: Tree) -> Result<ExpressionStore, Fail> {
-    let mut builder = with::builder(alloc)?;
-    add(&mut builder, alloc, tree)?;
-    with::store(builder)
-}
-
 /// The body with these parameters in the store of the tree, or its refusal.
 fn asked(
     alloc: Global,
-    tree: Tree,
-    params: Seq<Param<PatId>>,
+    tree: &[Step],
+    params: &[(u32, u32)],
     self_param: Option<Param<BindingId>>,
 ) -> Result<Box<Result<Body, RefusedBody>>, Fail> {
-    match store_of(alloc, tree) {
-        Ok(store) => Ok(again::in_a_box(alloc, body(alloc, store, params, self_param))?),
-        Err(failed) => Err(failed),
-    }
+    let made = trees::made(alloc, tree)?;
+    let params = listed(alloc, params)?;
+    let (store, map) = Box::into_inner(made);
+    std::mem::drop(map);
+    Ok(again::in_a_box(alloc, body(alloc, store, params, self_param))?)
 }
 
-/// Whether the body is refused for this.
-fn has_fault(outcome: &Result<Body, RefusedBody>, wanted: BodyFault) -> bool {
-    match outcome {
-        Ok(_) => false,
-        Err(refused) => refused.fault == wanted,
-    }
-}
-
-/// Whether a body with these parameters in the store of the tree is refused for this.
-fn refuses(
+/// The root of the body with these parameters in the store of the tree, or why it is refused.
+fn answer(
     alloc: Global,
-    tree: Tree,
-    numbers: &[u32],
+    tree: &[Step],
+    params: &[(u32, u32)],
     self_param: Option<Param<BindingId>>,
-    wanted: BodyFault,
-) -> Result<bool, Fail> {
-    let outcome = asked(alloc, tree, params(alloc, numbers)?, self_param)?;
-    Ok(has_fault(&outcome, wanted))
-}
-
-/// Whether the body is accepted, and this is its root.
-fn has_root(outcome: &Result<Body, RefusedBody>, root: u32) -> bool {
-    match outcome {
-        Ok(body) => body.root_expr() == Idx::from_raw(root),
-        Err(_) => false,
+) -> Result<Result<u32, BodyFault>, Fail> {
+    let outcome = asked(alloc, tree, params, self_param)?;
+    match &*outcome {
+        Ok(body) => Ok(Ok(body.root_expr().into_raw())),
+        Err(refused) => Ok(Err(refused.fault)),
     }
 }
 
-/// Whether a body with these parameters and no `self` in the store of the tree is accepted, and this is its root.
-fn accepts(alloc: Global, tree: Tree, numbers: &[u32], root: u32) -> Result<bool, Fail> {
-    let outcome = asked(alloc, tree, params(alloc, numbers)?, None)?;
-    Ok(has_root(&outcome, root))
-}
-
-fn add_wild(builder: &mut ExpressionStoreBuilder, alloc: Global) -> Result<(), Fail> {
-    trees::pat(builder, Pat::Wild)?;
-    trees::path_root(builder, alloc)
-}
-
-fn add_let(builder: &mut ExpressionStoreBuilder, alloc: Global) -> Result<(), Fail> {
-    let x = trees::binding(builder, alloc, "x")?;
-    let pat = trees::bind(builder, x, None)?;
-    let expr = trees::path_expr(builder, alloc)?;
-    let root = trees::expr(builder, Expr::Let { pat, expr })?;
-    trees::root(builder, root)?;
-    Ok(())
-}
-
-fn add_range(builder: &mut ExpressionStoreBuilder, alloc: Global) -> Result<(), Fail> {
-    let root = trees::path_expr(builder, alloc)?;
-    let range = Pat::Range {
-        start: Some(root),
-        end: None,
-        range_type: RangeOp::Inclusive,
-    };
-    trees::pat(builder, range)?;
-    trees::root(builder, root)?;
-    Ok(())
-}
-
-fn add_no_root(builder: &mut ExpressionStoreBuilder, alloc: Global) -> Result<(), Fail> {
-    trees::pat(builder, Pat::Wild)?;
-    trees::path_expr(builder, alloc)?;
-    builder.begin_roots();
-    Ok(())
-}
-
-/// A parameter that is there, of which the user wrote another that is absent.
-fn odd(alloc: Global) -> Result<Seq<Param<PatId>>, AllocError> {
-    let mut list = Seq::new(alloc);
-    let odd = Param {
-        formal: Idx::from_raw(0),
-        user_written: Idx::from_raw(1),
-    };
-    again::push(&mut list, odd)?;
-    Ok(list)
-}
-
-/// Whether the parts come back as they were: one parameter, no `self`, and a store with an expression.
-fn are_back(refused: &RefusedBody) -> bool {
-    refused.params.len() == 1
-        && refused.self_param == None
-        && refused.store.has_expr(Idx::from_raw(0))
-}
-
-/// Whether the body is refused because of parameter 0, and its parts come back.
+/// Whether the body is refused because of parameter 0, and its parts come back as they were: one parameter, no `self`, and a store
+/// with an expression.
 fn hands_back(outcome: &Result<Body, RefusedBody>) -> bool {
     match outcome {
         Ok(_) => false,
-        Err(refused) => refused.fault == BodyFault::ParamOutOfRange(0) && are_back(refused),
+        Err(refused) => {
+            refused.fault == BodyFault::ParamOutOfRange(0)
+                && refused.params.len() == 1
+                && refused.self_param == None
+                && refused.store.has_expr(Idx::from_raw(0))
+        }
     }
-}
-
-fn add_nested(builder: &mut ExpressionStoreBuilder, alloc: Global) -> Result<(), Fail> {
-    let x = trees::binding(builder, alloc, "x")?;
-    let inner = trees::pat(builder, Pat::Wild)?;
-    trees::bind(builder, x, Some(inner))?;
-    trees::path_root(builder, alloc)
-}
-
-fn add_two_roots(builder: &mut ExpressionStoreBuilder, alloc: Global) -> Result<(), Fail> {
-    let pat = trees::pat(builder, Pat::Wild)?;
-    let expr = trees::path_expr(builder, alloc)?;
-    let earlier = trees::expr(builder, Expr::Let { pat, expr })?;
-    trees::root(builder, earlier)?;
-    trees::path_root(builder, alloc)
-}
-
-/// Where `self` is bound, and its copy.
-fn this() -> Param<BindingId> {
-    Param {
-        formal: Idx::from_raw(0),
-        user_written: Idx::from_raw(1),
-    }
-}
-
-fn add_method(builder: &mut ExpressionStoreBuilder, alloc: Global) -> Result<(), Fail> {
-    trees::binding(builder, alloc, "self")?;
-    trees::binding(builder, alloc, "copy")?;
-    trees::binding(builder, alloc, "x")?;
-    add_wild(builder, alloc)
-}
-
-fn has_its_parts(body: &Body) -> bool {
-    body.root_expr() == Idx::from_raw(0)
-        && body.store().has_pat(Idx::from_raw(0))
-        && body.params().len() == 1
-        && body.params()[0] == param(0)
-        && body.self_param() == Some(this())
-}
-
-fn knows_its_self(body: &Body) -> bool {
-    body.is_any_self_param(Idx::from_raw(0))
-        && body.is_any_self_param(Idx::from_raw(1))
-        && !body.is_any_self_param(Idx::from_raw(2))
 }
 
 /// Whether the body is accepted, and answers what was given.
 fn is_the_method(outcome: &Result<Body, RefusedBody>) -> bool {
     match outcome {
-        Ok(body) => has_its_parts(body) && knows_its_self(body),
+        Ok(body) => {
+            body.root_expr() == Idx::from_raw(0)
+                && body.store().has_pat(Idx::from_raw(0))
+                && body.params().len() == 1
+                && body.params()[0] == param(0, 0)
+                && body.self_param() == Some(param(0, 1))
+                && body.is_any_self_param(Idx::from_raw(0))
+                && body.is_any_self_param(Idx::from_raw(1))
+                && !body.is_any_self_param(Idx::from_raw(2))
+        }
         Err(_) => false,
     }
 }
@@ -254,7 +162,7 @@ fn reads(alloc: Global, fault: BodyFault, wanted: &str) -> Result<bool, AllocErr
 }
 
 /// Where the `self` of the tests is written.
-fn written() -> InFile<SelfParamPtr> {
+pub fn written() -> InFile<SelfParamPtr> {
     let node = SyntaxNodePtr {
         kind: 7,
         range: TextRange { start: 1, end: 5 },
@@ -266,27 +174,10 @@ fn written() -> InFile<SelfParamPtr> {
 }
 
 /// The source map of a body without nodes, whose `self` is written there.
-pub fn map_of_nothing(alloc: Global) -> Result<BodySourceMap, Fail> {
-    match with::no_sources(alloc) {
-        Ok(sources) => Ok(BodySourceMap::new(sources, Some(written()))),
-        Err(failed) => Err(failed),
-    }
-}
-
-/// Whether the map answers that `self` is written there.
-pub fn answers_self(map: &BodySourceMap) -> bool {
-    match map.self_param_syntax() {
-        Some(found) => found == written(),
-        None => false,
-    }
-}
-
-/// The body `a`.
-pub fn plain(alloc: Global) -> Result<Body, Fail> {
-    match body(alloc, store_of(alloc, Tree::Path)?, Seq::new(alloc), None) {
-        Ok(body) => Ok(body),
-        Err(refused) => Err(Fail::from(refused.fault)),
-    }
+fn map_of_nothing(alloc: Global) -> Result<Box<BodySourceMap>, Fail> {
+    let (store, map) = Box::into_inner(trees::made(alloc, &[])?);
+    std::mem::drop(store);
+    Ok(again::in_a_box(alloc, BodySourceMap::new(map, Some(written())))?)
 }
 
 /// Whether the body is accepted, has no parameters and equals itself. That it has no fault is a fact of every body.
@@ -300,60 +191,60 @@ fn is_plain(outcome: &Result<Body, RefusedBody>) -> bool {
     }
 }
 
-#[test]
-fn formals_and_the_root_lie_apart(rt: HostRuntime) -> Result<(), Fail> {
-    let a = rt.alloc();
-    assert!(&rt; refuses(a, Tree::Let, &[0], None, BodyFault::ParamUnder(0))?);
-    assert!(&rt; refuses(a, Tree::Range, &[0], None, BodyFault::RootInParam)?);
-    assert!(&rt; refuses(a, Tree::Wild, &[0, 0], None, BodyFault::ParamRepeated(1))?);
-    // the inner pattern is 0, the outer one 1
-    assert!(&rt; refuses(a, Tree::Nested, &[0, 1], None, BodyFault::ParamUnder(0))?);
-    assert!(&rt; refuses(a, Tree::Nested, &[1, 0], None, BodyFault::ParamUnder(1))?);
-    Ok(())
-}
+/// A tree, the numbers of the parameters and of what the user wrote of them, and the root of the body or why it is refused.
+type Case = (
+    &'static [Step],
+    &'static [(u32, u32)],
+    Result<u32, BodyFault>,
+);
 
-#[test]
-fn formals_under_no_formal_and_not_under_the_last_root(rt: HostRuntime) -> Result<(), Fail> {
-    let a = rt.alloc();
-    assert!(&rt; accepts(a, Tree::Nested, &[1], 0)?);
+/// Formals that lie under a formal or the last root, and such that don't.
+const APART: &[Case] = &[
+    (LET, &[(0, 0)], Err(BodyFault::ParamUnder(0))),
+    (RANGE, &[(0, 0)], Err(BodyFault::RootInParam)),
+    (WILD, &[(0, 0), (0, 0)], Err(BodyFault::ParamRepeated(1))),
+    (NESTED, &[(0, 0), (1, 1)], Err(BodyFault::ParamUnder(0))),
+    (NESTED, &[(1, 1), (0, 0)], Err(BodyFault::ParamUnder(1))),
+    (NESTED, &[(1, 1)], Ok(0)),
     // the formal is under the earlier root
-    assert!(&rt; accepts(a, Tree::TwoRoots, &[0], 2)?);
+    (TWO_ROOTS, &[(0, 0)], Ok(2)),
+    // the first fault by index
+    (WILD, &[(0, 0), (9, 9)], Err(BodyFault::ParamOutOfRange(1))),
+    (
+        WILD,
+        &[(0, 0), (0, 0), (9, 9)],
+        Err(BodyFault::ParamOutOfRange(2)),
+    ),
+];
+
+/// The first fault by kind, where there is no binding 5, and no pattern 9.
+const ABSENT: &[Case] = &[
+    (NO_ROOT, &[(9, 9)], Err(BodyFault::NoRoot)),
+    (WILD, &[(9, 9)], Err(BodyFault::SelfOutOfRange)),
+];
+
+#[test]
+fn formals_and_the_last_root_lie_apart(rt: HostRuntime) -> Result<(), Fail> {
+    for (tree, params, wanted) in APART {
+        assert!(&rt; answer(rt.alloc(), tree, params, None)? == *wanted);
+    }
+    for (tree, params, wanted) in ABSENT {
+        assert!(&rt; answer(rt.alloc(), tree, params, Some(param(5, 5)))? == *wanted);
+    }
     Ok(())
 }
 
 #[test]
-fn the_first_fault_by_kind_and_then_by_index(rt: HostRuntime) -> Result<(), Fail> {
+fn parts_that_come_back_and_accepted_bodies(rt: HostRuntime) -> Result<(), Fail> {
     let a = rt.alloc();
-    let absent = Some(param(5));
-    assert!(&rt; refuses(a, Tree::NoRoot, &[9], absent, BodyFault::NoRoot)?);
-    assert!(&rt; refuses(a, Tree::Wild, &[9], absent, BodyFault::SelfOutOfRange)?);
-    assert!(&rt; refuses(a, Tree::Wild, &[0, 9], None, BodyFault::ParamOutOfRange(1))?);
-    assert!(&rt;
-        refuses(
-            a,
-            Tree::Wild,
-            &[0, 0, 9],
-            None,
-            BodyFault::ParamOutOfRange(2)
-        )?
-    );
-    Ok(())
-}
-
-#[test]
-fn what_the_user_wrote_has_to_be_there(rt: HostRuntime) -> Result<(), Fail> {
-    let a = rt.alloc();
-    let outcome = asked(a, Tree::Wild, odd(a)?, None)?;
+    // what the user wrote has to be there
+    let outcome = asked(a, WILD, &[(0, 1)], None)?;
     assert!(&rt; hands_back(&outcome));
-    Ok(())
-}
-
-#[test]
-fn an_accepted_body(rt: HostRuntime) -> Result<(), Fail> {
-    let a = rt.alloc();
-    let outcome = asked(a, Tree::Method, params(a, &[0])?, Some(this()))?;
+    std::mem::drop(outcome);
+    let outcome = asked(a, METHOD, &[(0, 0)], Some(param(0, 1)))?;
     assert!(&rt; is_the_method(&outcome));
-    let outcome = asked(a, Tree::Path, Seq::new(a), None)?;
+    std::mem::drop(outcome);
+    let outcome = asked(a, PATH, &[], None)?;
     assert!(&rt; is_plain(&outcome));
     Ok(())
 }
@@ -361,26 +252,27 @@ fn an_accepted_body(rt: HostRuntime) -> Result<(), Fail> {
 #[test]
 fn texts_of_faults(rt: HostRuntime) -> Result<(), Fail> {
     let a = rt.alloc();
-    assert!(&rt; reads(a, BodyFault::NoRoot, "NoRoot")?);
-    assert!(&rt; reads(a, BodyFault::SelfOutOfRange, "SelfOutOfRange")?);
-    assert!(&rt; reads(a, BodyFault::ParamOutOfRange(3), "ParamOutOfRange 3")?);
-    assert!(&rt; reads(a, BodyFault::ParamRepeated(1), "ParamRepeated 1")?);
-    assert!(&rt; reads(a, BodyFault::ParamUnder(0), "ParamUnder 0")?);
-    assert!(&rt; reads(a, BodyFault::RootInParam, "RootInParam")?);
-    assert!(&rt; reads(a, BodyFault::Memory, "Memory")?);
+    for (fault, wanted) in &[
+        (BodyFault::NoRoot, "NoRoot"),
+        (BodyFault::SelfOutOfRange, "SelfOutOfRange"),
+        (BodyFault::ParamOutOfRange(3), "ParamOutOfRange 3"),
+        (BodyFault::ParamRepeated(1), "ParamRepeated 1"),
+        (BodyFault::ParamUnder(0), "ParamUnder 0"),
+        (BodyFault::RootInParam, "RootInParam"),
+        (BodyFault::Memory, "Memory"),
+    ] {
+        assert!(&rt; reads(a, *fault, wanted)?);
+    }
     Ok(())
-}
-
-/// Whether the map and its part of the store equal themselves.
-fn is_itself(map: &BodySourceMap) -> bool {
-    map.store() == map.store() && map == map
 }
 
 #[test]
 fn where_self_is_written(rt: HostRuntime) -> Result<(), Fail> {
-    let map = again::in_a_box(rt.alloc(), map_of_nothing(rt.alloc())?)?;
-    assert!(&rt; answers_self(&map));
-    assert!(&rt; is_itself(&map));
+    let map = map_of_nothing(rt.alloc())?;
+    assert!(&rt; map.self_param_syntax() == Some(written()));
+    // the map and its part of the store equal themselves
+    assert!(&rt; map.store() == map.store());
+    assert!(&rt; *map == *map);
     Ok(())
 }
 

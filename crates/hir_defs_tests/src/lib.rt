@@ -12,8 +12,6 @@ mod lookups;
 #[cfg(test)]
 mod made;
 #[cfg(test)]
-mod names;
-#[cfg(test)]
 mod params;
 #[cfg(test)]
 mod tables;
@@ -21,5 +19,3 @@ mod tables;
 mod texts;
 #[cfg(test)]
 mod trees;
-#[cfg(test)]
-mod with;

@@ -1,39 +1,27 @@
-//! Signatures, fields and bodies for the tests, and tables with one of them.
-use crate::{again, bodies, params, trees, with};
+//! Signatures, fields and bodies for the tests, and tables, empty and with an entry of each kind.
+//! Tables stand in a box, so that what a test drops is a pointer, and its proof is short.
+use crate::trees::{self, Step};
+use crate::{again, bodies, params};
 use hir_base::{
-    ConstId, DefWithBodyId, EnumId, ExternAbi, FunctionId, Idx, ImplId, Name, Seq, StaticId,
-    StructId, TraitId, TypeAliasId, UnionId, VariantId,
+    ConstId, CrateId, DefWithBodyId, Edition, EnumId, EnumVariantId, ExternAbi, FunctionId, Idx,
+    ImplId, Seq, StaticId, StructId, Text, TraitId, TypeAliasId, UnionId, VariantId,
 };
 use hir_defs::{
     BodySourceMap, FieldData, FieldsShape, FunctionParts, FunctionSignature, GenericParams,
-    PlainDef, PlainParts, PlainSignature, RawVisibility, StructParts, StructSignature, Tables,
-    VariantFields, VariantParts,
+    PlainDef, PlainParts, PlainSignature, RawVisibility, RefusedSignature, Repr, StructParts,
+    StructSignature, Tables, TypeParamProvenance, VariantFields, VariantParts,
 };
-use hir_node::{TypeRef, TypeRefId};
-use hir_store::{ExpressionStore, ExpressionStoreBuilder};
+use hir_node::TypeRefId;
+use hir_store::ExpressionStoreSourceMap;
 use std::alloc::{AllocError, Global};
 use std::test::Fail;
 
-/// Adds this many types `!`.
-fn add_types(builder: &mut ExpressionStoreBuilder, count: u32) -> Result<(), Fail> {
-    for _ in 0..count {
-        trees::type_ref(builder, TypeRef::Never)?;
-    }
-    Ok(())
-}
-
-/// A store of this many types `!`.
-pub fn types(alloc: Global, count: u32) -> Result<ExpressionStore, Fail> {
-    let mut builder = with::builder(alloc)?;
-    add_types(&mut builder, count)?;
-    with::store(builder)
-}
+/// What comes of the parts of a signature, and the source map of their store.
+pub type Outcome<S, P> = Box<(Result<S, RefusedSignature<P>>, ExpressionStoreSourceMap)>;
 
 /// One type parameter `T`.
-fn one(alloc: Global) -> Result<GenericParams, Fail> {
-    let first = params::listed(alloc, "T")?;
-    let params = params::only(alloc, params::one_type(alloc, first)?)?;
-    Ok(Box::into_inner(params))
+pub fn one(alloc: Global) -> Result<Box<GenericParams>, Fail> {
+    params::one_type(alloc, "T", TypeParamProvenance::TypeParamList)
 }
 
 /// The list of type 0.
@@ -43,16 +31,19 @@ fn type_0(alloc: Global) -> Result<Seq<TypeRefId>, AllocError> {
     Ok(list)
 }
 
-/// `const unsafe extern "C" fn` of this name with these parameters.
-fn function_parts(
-    name: Name,
-    generic_params: GenericParams,
-    params: Seq<TypeRefId>,
-    store: ExpressionStore,
-) -> FunctionParts {
-    FunctionParts {
-        name,
-        generic_params,
+/// The signature of `const unsafe extern "C" fn f<T>(..)` with one parameter of type 0, over this many types.
+pub fn function(
+    alloc: Global,
+    count: u32,
+) -> Result<Outcome<FunctionSignature, FunctionParts>, Fail> {
+    let generic_params = one(alloc)?;
+    let made = trees::made(alloc, &[Step::Types(count)])?;
+    let name = again::in_a_box(alloc, again::name(alloc, "f")?)?;
+    let params = type_0(alloc)?;
+    let (store, map) = Box::into_inner(made);
+    let parts = FunctionParts {
+        name: Box::into_inner(name),
+        generic_params: Box::into_inner(generic_params),
         store,
         params,
         ret_type: None,
@@ -62,107 +53,54 @@ fn function_parts(
         is_unsafe: true,
         is_explicit_safe: false,
         legacy_const_indices: None,
-    }
+    };
+    Ok(again::in_a_box(alloc, (FunctionSignature::new(parts), map))?)
 }
 
-/// The parts of `f<T>` with one parameter of type 0, over this many types.
-pub fn parts_of_function(alloc: Global, size: u32) -> Result<FunctionParts, Fail> {
-    let name = again::name(alloc, "f")?;
-    let params = type_0(alloc)?;
-    let generic_params = one(alloc)?;
-    match types(alloc, size) {
-        Ok(store) => Ok(function_parts(name, generic_params, params, store)),
-        Err(failed) => Err(failed),
-    }
-}
-
-/// The signature of it.
-fn function(alloc: Global) -> Result<FunctionSignature, Fail> {
-    match FunctionSignature::new(parts_of_function(alloc, 1)?) {
-        Ok(signature) => Ok(signature),
-        Err(refused) => Err(Fail::from(refused.fault)),
-    }
-}
-
-/// Gives function 1 a signature, over one type.
+/// Gives function 1 that signature, over one type.
 fn add_function(tables: &mut Tables, alloc: Global) -> Result<(), Fail> {
-    let map = with::no_sources(alloc)?;
-    match function(alloc) {
-        Ok(made) => Ok(again::taken(tables.add_function(FunctionId::from_raw(1), made, map))?),
-        Err(failed) => Err(failed),
-    }
+    let (outcome, map) = Box::into_inner(function(alloc, 1)?);
+    let (signature, map) = again::with(outcome, map)?;
+    again::taken(tables.add_function(FunctionId::from_raw(1), signature, map))
 }
 
-/// The parts of the fundamental `S<T>(..)`, over this store.
-fn struct_parts(name: Name, generic_params: GenericParams, store: ExpressionStore) -> StructParts {
-    StructParts {
+/// Gives struct 2 the signature of the fundamental `S<T>(..)`, over two types.
+fn add_struct(tables: &mut Tables, alloc: Global) -> Result<(), Fail> {
+    let generic_params = one(alloc)?;
+    let made = trees::made(alloc, &[Step::Types(2)])?;
+    let name = again::name(alloc, "S")?;
+    let (store, map) = Box::into_inner(made);
+    let parts = StructParts {
         name,
-        generic_params,
+        generic_params: Box::into_inner(generic_params),
         store,
         is_fundamental: true,
         shape: FieldsShape::Tuple,
-    }
+    };
+    let (signature, map) = again::with(StructSignature::new(parts), map)?;
+    again::taken(tables.add_struct(StructId::from_raw(2), signature, map))
 }
 
-/// Those over two types.
-fn parts_of_struct(alloc: Global) -> Result<StructParts, Fail> {
-    let name = again::name(alloc, "S")?;
-    let generic_params = one(alloc)?;
-    match types(alloc, 2) {
-        Ok(store) => Ok(struct_parts(name, generic_params, store)),
-        Err(failed) => Err(failed),
-    }
-}
-
-/// The signature of it.
-fn structure(alloc: Global) -> Result<StructSignature, Fail> {
-    match StructSignature::new(parts_of_struct(alloc)?) {
-        Ok(signature) => Ok(signature),
-        Err(refused) => Err(Fail::from(refused.fault)),
-    }
-}
-
-/// Gives struct 2 a signature, over two types.
-fn add_struct(tables: &mut Tables, alloc: Global) -> Result<(), Fail> {
-    let map = with::no_sources(alloc)?;
-    match structure(alloc) {
-        Ok(made) => Ok(again::taken(tables.add_struct(StructId::from_raw(2), made, map))?),
-        Err(failed) => Err(failed),
-    }
-}
-
-/// These parameters, over this store.
-pub fn plain_parts(generic_params: GenericParams, store: ExpressionStore) -> PlainParts {
-    PlainParts {
-        generic_params,
+/// The signature of these parameters alone, over this many types.
+pub fn plain(
+    alloc: Global,
+    generic_params: Box<GenericParams>,
+    count: u32,
+) -> Result<Outcome<PlainSignature, PlainParts>, Fail> {
+    let made = trees::made(alloc, &[Step::Types(count)])?;
+    let (store, map) = Box::into_inner(made);
+    let parts = PlainParts {
+        generic_params: Box::into_inner(generic_params),
         store,
-    }
+    };
+    Ok(again::in_a_box(alloc, (PlainSignature::new(parts), map))?)
 }
 
-/// One type parameter, over this many types.
-fn parts_of_plain(alloc: Global, size: u32) -> Result<PlainParts, Fail> {
-    let generic_params = one(alloc)?;
-    match types(alloc, size) {
-        Ok(store) => Ok(plain_parts(generic_params, store)),
-        Err(failed) => Err(failed),
-    }
-}
-
-/// The signature of it.
-fn plain(alloc: Global, size: u32) -> Result<PlainSignature, Fail> {
-    match PlainSignature::new(parts_of_plain(alloc, size)?) {
-        Ok(signature) => Ok(signature),
-        Err(refused) => Err(Fail::from(refused.fault)),
-    }
-}
-
-/// Gives the definition that signature, over this many types.
-fn add_plain(tables: &mut Tables, alloc: Global, def: PlainDef, size: u32) -> Result<(), Fail> {
-    let map = with::no_sources(alloc)?;
-    match plain(alloc, size) {
-        Ok(made) => Ok(again::taken(tables.add_plain(def, made, map))?),
-        Err(failed) => Err(failed),
-    }
+/// Gives the definition the signature of one type parameter, over this many types.
+fn add_plain(tables: &mut Tables, alloc: Global, def: PlainDef, count: u32) -> Result<(), Fail> {
+    let (outcome, map) = Box::into_inner(plain(alloc, one(alloc)?, count)?);
+    let (signature, map) = again::with(outcome, map)?;
+    again::taken(tables.add_plain(def, signature, map))
 }
 
 /// One field `x`, of type 0.
@@ -180,43 +118,19 @@ fn field_x(alloc: Global) -> Result<Seq<FieldData>, AllocError> {
     Ok(fields)
 }
 
-/// These fields in braces, over this store.
-fn record_parts(fields: Seq<FieldData>, store: ExpressionStore) -> VariantParts {
-    VariantParts {
+/// Gives struct 2 the fields `{ x }`, over five types.
+fn add_fields(tables: &mut Tables, alloc: Global) -> Result<(), Fail> {
+    let made = trees::made(alloc, &[Step::Types(5)])?;
+    let fields = field_x(alloc)?;
+    let (store, map) = Box::into_inner(made);
+    let parts = VariantParts {
         shape: FieldsShape::Record,
         fields,
         store,
-    }
-}
-
-/// The parts of the fields `{ x }`, over five types.
-fn parts_of_fields(alloc: Global) -> Result<VariantParts, Fail> {
-    let fields = field_x(alloc)?;
-    match types(alloc, 5) {
-        Ok(store) => Ok(record_parts(fields, store)),
-        Err(failed) => Err(failed),
-    }
-}
-
-/// These fields.
-fn fields(alloc: Global) -> Result<VariantFields, Fail> {
-    match VariantFields::new(parts_of_fields(alloc)?) {
-        Ok(fields) => Ok(fields),
-        Err(refused) => Err(Fail::from(refused.fault)),
-    }
-}
-
-/// Gives them to struct 2.
-fn add_fields(tables: &mut Tables, alloc: Global) -> Result<(), Fail> {
-    let map = with::no_sources(alloc)?;
-    match fields(alloc) {
-        Ok(made) => Ok(again::taken(tables.add_fields(
-            VariantId::StructId(StructId::from_raw(2)),
-            made,
-            map,
-        ))?),
-        Err(failed) => Err(failed),
-    }
+    };
+    let (fields, map) = again::with(VariantFields::new(parts), map)?;
+    let id = VariantId::StructId(StructId::from_raw(2));
+    again::taken(tables.add_fields(id, fields, map))
 }
 
 /// The body of function 1.
@@ -226,11 +140,49 @@ pub fn def_1() -> DefWithBodyId {
 
 /// Gives function 1 the body `a`, and a source map that knows where `self` is written.
 fn add_body(tables: &mut Tables, alloc: Global) -> Result<(), Fail> {
-    let map = bodies::map_of_nothing(alloc)?;
-    match bodies::plain(alloc) {
-        Ok(body) => Ok(again::taken(tables.add_body(def_1(), body, map))?),
-        Err(failed) => Err(failed),
+    let (store, map) = Box::into_inner(trees::made(alloc, bodies::PATH)?);
+    let outcome = bodies::body(alloc, store, Seq::new(alloc), None);
+    let (body, map) = again::with(outcome, map)?;
+    let map = BodySourceMap::new(map, Some(bodies::written()));
+    again::taken(tables.add_body(def_1(), body, map))
+}
+
+/// How struct 0 lies in memory.
+pub fn repr_0() -> Repr {
+    Repr {
+        c: true,
+        align: Some(8),
+        pack: None,
     }
+}
+
+/// Says that variant 2 is of enum 7, that crate 1 is called `core`, and how struct 0 lies in memory.
+fn add_small(tables: &mut Tables, alloc: Global) -> Result<(), Fail> {
+    let name = Some(again::text(alloc, "core")?);
+    if let Err(failed) = tables.add_crate_name(CrateId::from_raw(1), name) {
+        let (id, name) = failed.value;
+        tables.add_crate_name(id, name)?;
+    }
+    if let Err(failed) = tables.add_variant_parent(
+        EnumVariantId::from_raw(2),
+        EnumId::from_raw(7),
+    ) {
+        let (variant, parent) = failed.value;
+        tables.add_variant_parent(variant, parent)?;
+    }
+    if let Err(failed) = tables.add_repr(StructId::from_raw(0), repr_0()) {
+        let (id, repr) = failed.value;
+        tables.add_repr(id, repr)?;
+    }
+    Ok(())
+}
+
+/// The word `match`.
+fn match_alone(alloc: Global) -> Result<Seq<Text>, AllocError> {
+    let word = again::text(alloc, "match")?;
+    let mut words = Seq::new(alloc);
+    again::push(&mut words, word)?;
+    Ok(words)
 }
 
 /// The definitions of plain signatures, and over how many types they are.
@@ -246,19 +198,23 @@ fn plain_defs() -> [(PlainDef, u32); 7] {
     ]
 }
 
-/// Gives each of them its signature.
-fn add_all_plain(tables: &mut Tables, alloc: Global) -> Result<(), Fail> {
-    for (def, size) in &plain_defs() {
-        add_plain(tables, alloc, *def, *size)?;
-    }
-    Ok(())
+/// Empty tables.
+pub fn tables(alloc: Global) -> Result<Box<Tables>, Fail> {
+    Ok(again::in_a_box(alloc, Tables::new(alloc))?)
 }
 
-/// Gives an entry of each kind, all those above.
-pub fn fill(tables: &mut Tables, alloc: Global) -> Result<(), Fail> {
-    add_function(tables, alloc)?;
-    add_struct(tables, alloc)?;
-    add_fields(tables, alloc)?;
-    add_body(tables, alloc)?;
-    add_all_plain(tables, alloc)
+/// Tables with an entry of each kind, all those above, and one word that edition 2021 writes raw.
+pub fn filled(alloc: Global) -> Result<Box<Tables>, Fail> {
+    let mut tables = tables(alloc)?;
+    let words = match_alone(alloc)?;
+    tables.set_raw_words(Edition::Edition2021, words);
+    add_function(&mut tables, alloc)?;
+    add_struct(&mut tables, alloc)?;
+    add_fields(&mut tables, alloc)?;
+    add_body(&mut tables, alloc)?;
+    add_small(&mut tables, alloc)?;
+    for (def, count) in &plain_defs() {
+        add_plain(&mut tables, alloc, *def, *count)?;
+    }
+    Ok(tables)
 }

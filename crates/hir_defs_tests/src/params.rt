@@ -1,6 +1,7 @@
-//! Generic parameters and predicates, one of each kind, for the tests.
+//! Generic parameters and predicates, one of each kind, for the tests. Lists that are still growing stand in boxes, since they are
+//! dropped wherever a call fails.
 use crate::again;
-use hir_base::{Arena, ArenaFault, Idx, LifetimeParamKind, Name, Seq, TypeOrConstParamKind};
+use hir_base::{Arena, Idx, LifetimeParamKind, Name, Seq, TypeOrConstParamKind};
 use hir_defs::{
     ConstParamData, GenericParams, LifetimeBoundType, LifetimeParamData, TypeOrConstParamData,
     TypeParamData, TypeParamProvenance, WherePredicate,
@@ -9,22 +10,27 @@ use hir_node::{PathId, TraitBoundModifier, TypeBound};
 use std::alloc::{AllocError, Global};
 use std::test::Fail;
 
+/// Types and constants.
+pub type Types = Arena<TypeOrConstParamKind, TypeOrConstParamData>;
+
+/// Lifetimes.
+pub type Lifetimes = Arena<LifetimeParamKind, LifetimeParamData>;
+
 /// A type parameter of this name that comes from there, without a default.
-pub fn type_from(
-    alloc: Global,
-    text: &str,
-    provenance: TypeParamProvenance,
-) -> Result<TypeParamData, AllocError> {
-    Ok(TypeParamData {
-        name: Some(again::name(alloc, text)?),
+fn type_from(name: Name, provenance: TypeParamProvenance) -> TypeParamData {
+    TypeParamData {
+        name: Some(name),
         default: None,
         provenance,
-    })
+    }
 }
 
 /// A type parameter of this name, written in a list.
 pub fn listed(alloc: Global, text: &str) -> Result<TypeParamData, AllocError> {
-    type_from(alloc, text, TypeParamProvenance::TypeParamList)
+    Ok(type_from(
+        again::name(alloc, text)?,
+        TypeParamProvenance::TypeParamList,
+    ))
 }
 
 /// A constant parameter of this name, of type 4 and without a default.
@@ -41,17 +47,22 @@ pub fn lifetime(name: Name, bound_type: LifetimeBoundType) -> LifetimeParamData 
     LifetimeParamData { name, bound_type }
 }
 
-/// Type 0 meets the bound of the path that type 1 is, after `for<'a>`.
-pub fn meets(alloc: Global) -> Result<WherePredicate, AllocError> {
-    let mut lifetimes = Seq::new(alloc);
-    let name = again::name(alloc, "'a")?;
-    again::push(&mut lifetimes, name)?;
-    let path = PathId::from_type_ref_unchecked(Idx::from_raw(1));
-    Ok(WherePredicate::TypeBound {
-        lifetimes: Some(lifetimes),
+/// Type 0 meets the bound of the path that this type is, after `for<'a>` where lifetimes are given.
+pub fn meets(lifetimes: Option<Seq<Name>>, path: u32) -> WherePredicate {
+    let path = PathId::from_type_ref_unchecked(Idx::from_raw(path));
+    WherePredicate::TypeBound {
+        lifetimes,
         target: Idx::from_raw(0),
         bound: TypeBound::Path(path, TraitBoundModifier::None),
-    })
+    }
+}
+
+/// Type 0 meets the bound of the path that type 1 is, after `for<'a>`.
+pub fn meets_for_a(alloc: Global) -> Result<WherePredicate, AllocError> {
+    let name = again::name(alloc, "'a")?;
+    let mut lifetimes = Seq::new(alloc);
+    again::push(&mut lifetimes, name)?;
+    Ok(meets(Some(lifetimes), 1))
 }
 
 /// Lifetime 0 outlives lifetime 1.
@@ -62,29 +73,41 @@ pub fn outlives() -> WherePredicate {
     }
 }
 
-/// Parameters that are these types and constants alone.
-pub fn only(
+/// No types and constants so far.
+pub fn no_types(alloc: Global) -> Result<Box<Types>, AllocError> {
+    again::in_a_box(alloc, Arena::new(alloc))
+}
+
+/// Adds a type of this name that comes from there.
+pub fn add_type(
     alloc: Global,
-    params: Arena<TypeOrConstParamKind, TypeOrConstParamData>,
-) -> Result<Box<GenericParams>, Fail> {
-    let params = GenericParams::new(params, Arena::new(alloc), Seq::new(alloc));
-    Ok(again::in_a_box(alloc, params)?)
+    types: &mut Types,
+    text: &str,
+    provenance: TypeParamProvenance,
+) -> Result<(), Fail> {
+    let added = type_from(again::name(alloc, text)?, provenance);
+    again::alloc(types, TypeOrConstParamData::from(added))
+}
+
+/// Adds a constant of this name.
+pub fn add_constant(alloc: Global, types: &mut Types, text: &str) -> Result<(), Fail> {
+    let added = constant(alloc, text)?;
+    again::alloc(types, TypeOrConstParamData::from(added))
 }
 
 fn add_lifetime(
     alloc: Global,
-    lifetimes: &mut Arena<LifetimeParamKind, LifetimeParamData>,
+    lifetimes: &mut Lifetimes,
     text: &str,
     bound_type: LifetimeBoundType,
 ) -> Result<(), Fail> {
     let name = again::name(alloc, text)?;
-    again::alloc(lifetimes, lifetime(name, bound_type))?;
-    Ok(())
+    again::alloc(lifetimes, lifetime(name, bound_type))
 }
 
 /// The lifetimes `'a`, `'b`, `'c` and `'d`: early bound, late bound, early bound, late bound.
-pub fn four_lifetimes(alloc: Global) -> Result<Arena<LifetimeParamKind, LifetimeParamData>, Fail> {
-    let mut lifetimes = Arena::new(alloc);
+pub fn four_lifetimes(alloc: Global) -> Result<Box<Lifetimes>, Fail> {
+    let mut lifetimes = again::in_a_box(alloc, Arena::new(alloc))?;
     add_lifetime(alloc, &mut lifetimes, "'a", LifetimeBoundType::EarlyBound)?;
     add_lifetime(alloc, &mut lifetimes, "'b", LifetimeBoundType::LateBound)?;
     add_lifetime(alloc, &mut lifetimes, "'c", LifetimeBoundType::EarlyBound)?;
@@ -92,79 +115,64 @@ pub fn four_lifetimes(alloc: Global) -> Result<Arena<LifetimeParamKind, Lifetime
     Ok(lifetimes)
 }
 
-/// Adds a type or a constant.
-fn add(
-    params: &mut Arena<TypeOrConstParamKind, TypeOrConstParamData>,
-    param: TypeOrConstParamData,
-) -> Result<(), ArenaFault> {
-    again::alloc(params, param)?;
-    Ok(())
-}
-
-/// An arena of this type.
-pub fn one_type(
-    alloc: Global,
-    first: TypeParamData,
-) -> Result<Arena<TypeOrConstParamKind, TypeOrConstParamData>, Fail> {
-    let mut params = Arena::new(alloc);
-    add(&mut params, TypeOrConstParamData::from(first))?;
-    Ok(params)
-}
-
-/// An arena of this constant.
-pub fn one_constant(
-    alloc: Global,
-    first: ConstParamData,
-) -> Result<Arena<TypeOrConstParamKind, TypeOrConstParamData>, Fail> {
-    let mut params = Arena::new(alloc);
-    add(&mut params, TypeOrConstParamData::from(first))?;
-    Ok(params)
-}
-
-/// Adds a type of this name, written in a list.
-pub fn then_type(
-    alloc: Global,
-    params: &mut Arena<TypeOrConstParamKind, TypeOrConstParamData>,
-    text: &str,
-) -> Result<(), Fail> {
-    let next = listed(alloc, text)?;
-    add(params, TypeOrConstParamData::from(next))?;
-    Ok(())
-}
-
-/// Adds a constant of this name.
-fn then_constant(
-    alloc: Global,
-    params: &mut Arena<TypeOrConstParamKind, TypeOrConstParamData>,
-    text: &str,
-) -> Result<(), Fail> {
-    let next = constant(alloc, text)?;
-    add(params, TypeOrConstParamData::from(next))?;
-    Ok(())
-}
-
 /// The `Self` of a trait, the type `T` and the constant `N`.
-fn three_params(alloc: Global) -> Result<Arena<TypeOrConstParamKind, TypeOrConstParamData>, Fail> {
-    let own = type_from(alloc, "Self", TypeParamProvenance::TraitSelf)?;
-    let mut params = one_type(alloc, own)?;
-    then_type(alloc, &mut params, "T")?;
-    then_constant(alloc, &mut params, "N")?;
-    Ok(params)
+fn three_types(alloc: Global) -> Result<Box<Types>, Fail> {
+    let mut types = no_types(alloc)?;
+    add_type(alloc, &mut types, "Self", TypeParamProvenance::TraitSelf)?;
+    add_type(alloc, &mut types, "T", TypeParamProvenance::TypeParamList)?;
+    add_constant(alloc, &mut types, "N")?;
+    Ok(types)
 }
 
-fn two_predicates(alloc: Global) -> Result<Seq<WherePredicate>, AllocError> {
-    let first = meets(alloc)?;
-    let mut predicates = Seq::new(alloc);
+/// The two predicates of the tests.
+fn two_predicates(alloc: Global) -> Result<Box<Seq<WherePredicate>>, AllocError> {
+    let mut predicates = again::in_a_box(alloc, Seq::new(alloc))?;
+    let first = meets_for_a(alloc)?;
     again::push(&mut predicates, first)?;
     again::push(&mut predicates, outlives())?;
     Ok(predicates)
 }
 
+/// These parameters and predicates.
+pub fn boxed(
+    alloc: Global,
+    types: Types,
+    lifetimes: Lifetimes,
+    predicates: Seq<WherePredicate>,
+) -> Result<Box<GenericParams>, AllocError> {
+    again::in_a_box(alloc, GenericParams::new(types, lifetimes, predicates))
+}
+
+/// Parameters that are these types and constants alone.
+pub fn only(alloc: Global, types: Box<Types>) -> Result<Box<GenericParams>, Fail> {
+    Ok(boxed(
+        alloc,
+        Box::into_inner(types),
+        Arena::new(alloc),
+        Seq::new(alloc),
+    )?)
+}
+
+/// One type of this name that comes from there.
+pub fn one_type(
+    alloc: Global,
+    text: &str,
+    provenance: TypeParamProvenance,
+) -> Result<Box<GenericParams>, Fail> {
+    let mut types = no_types(alloc)?;
+    add_type(alloc, &mut types, text, provenance)?;
+    only(alloc, types)
+}
+
 /// The types `Self` of a trait and `T`, the constant `N`, the four lifetimes, and two predicates.
 pub fn all_kinds(alloc: Global) -> Result<Box<GenericParams>, Fail> {
-    let params = three_params(alloc)?;
+    let types = three_types(alloc)?;
     let lifetimes = four_lifetimes(alloc)?;
     let predicates = two_predicates(alloc)?;
-    let params = GenericParams::new(params, lifetimes, predicates);
-    Ok(again::in_a_box(alloc, params)?)
+    Ok(boxed(
+        alloc,
+        Box::into_inner(types),
+        Box::into_inner(lifetimes),
+        Box::into_inner(predicates),
+    )?)
 }

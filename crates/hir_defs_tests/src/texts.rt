@@ -21,9 +21,13 @@ fn fault_reads(alloc: Global, fault: SignatureFault, wanted: &str) -> Result<boo
 #[test]
 fn refused_signatures(rt: HostRuntime) -> Result<(), Fail> {
     let a = rt.alloc();
-    assert!(&rt; fault_reads(a, SignatureFault::IdOutOfRange, "IdOutOfRange")?);
-    assert!(&rt; fault_reads(a, SignatureFault::NotAPath, "NotAPath")?);
-    assert!(&rt; fault_reads(a, SignatureFault::Memory, "Memory")?);
+    for (fault, wanted) in &[
+        (SignatureFault::IdOutOfRange, "IdOutOfRange"),
+        (SignatureFault::NotAPath, "NotAPath"),
+        (SignatureFault::Memory, "Memory"),
+    ] {
+        assert!(&rt; fault_reads(a, *fault, wanted)?);
+    }
     Ok(())
 }
 
@@ -66,20 +70,18 @@ fn fields() -> VariantId {
 fn what_is_missing(rt: HostRuntime) -> Result<(), Fail> {
     let a = rt.alloc();
     let of_function = GenericDefId::FunctionId(function());
-    assert!(&rt; reads(a, Missing::Name(NamedDef::FunctionId(function())), "Name")?);
-    assert!(&rt; reads(a, Missing::Variant(EnumVariantId::from_raw(0)), "Variant")?);
-    assert!(&rt; reads(a, Missing::Crate(CrateId::from_raw(0)), "Crate")?);
-    assert!(&rt; reads(a, Missing::Signature(of_function), "Signature")?);
-    assert!(&rt;
-        reads(
-            a,
-            Missing::Body(DefWithBodyId::FunctionId(function())),
-            "Body"
-        )?
-    );
-    assert!(&rt; reads(a, Missing::Fields(fields()), "Fields")?);
-    assert!(&rt; reads(a, Missing::DefMap(BlockId::from_raw(0)), "DefMap")?);
-    assert!(&rt; reads(a, Missing::TypeParam(type_param()), "TypeParam")?);
-    assert!(&rt; reads(a, Missing::LifetimeParam(lifetime_param()), "LifetimeParam")?);
+    for (missing, wanted) in &[
+        (Missing::Name(NamedDef::FunctionId(function())), "Name"),
+        (Missing::Variant(EnumVariantId::from_raw(0)), "Variant"),
+        (Missing::Crate(CrateId::from_raw(0)), "Crate"),
+        (Missing::Signature(of_function), "Signature"),
+        (Missing::Body(DefWithBodyId::FunctionId(function())), "Body"),
+        (Missing::Fields(fields()), "Fields"),
+        (Missing::DefMap(BlockId::from_raw(0)), "DefMap"),
+        (Missing::TypeParam(type_param()), "TypeParam"),
+        (Missing::LifetimeParam(lifetime_param()), "LifetimeParam"),
+    ] {
+        assert!(&rt; reads(a, *missing, wanted)?);
+    }
     Ok(())
 }
