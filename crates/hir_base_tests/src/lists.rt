@@ -3,6 +3,7 @@
 use crate::again;
 use hir_base::{ExactEq, Name, Seq, Text};
 use std::alloc::{AllocError, Global};
+use std::mem::drop;
 use std::process::Abort;
 use std::test::Fail;
 
@@ -29,7 +30,7 @@ fn with_room(alloc: Global) -> Result<Seq<u32>, AllocError> {
 fn three(rt: &impl Abort, alloc: Global) -> Result<Seq<u32>, AllocError> {
     let mut seq = with_room(alloc)?;
     assert!(rt; seq.is_empty());
-    for item in [7, 8, 9] {
+    for item in 7..10 {
         push_twice(rt, &mut seq, item)?;
     }
     Ok(seq)
@@ -99,9 +100,11 @@ fn missing(alloc: Global) -> Result<Name, AllocError> {
 #[test]
 fn a_name_is_its_text(rt: HostRuntime) -> Result<(), Fail> {
     let name = again::name(rt.alloc(), "größe")?;
-    assert!(rt; name.as_str() == "größe");
-    let holds = again::copies(&name)?;
-    assert!(rt; holds);
+    let has_text = name.as_str() == "größe";
+    let answer = again::copies(&name);
+    drop(name);
+    let copies = answer?;
+    assert!(rt; has_text && copies);
     Ok(())
 }
 
@@ -114,7 +117,10 @@ fn is_missing(name: &Name, other: &Name) -> bool {
 fn a_missing_name_has_a_text(rt: HostRuntime) -> Result<(), Fail> {
     let missing = missing(rt.alloc())?;
     let other = again::name(rt.alloc(), "größe")?;
-    assert!(rt; is_missing(&missing, &other));
+    let holds = is_missing(&missing, &other);
+    drop(missing);
+    drop(other);
+    assert!(rt; holds);
     Ok(())
 }
 
@@ -131,6 +137,8 @@ fn becomes(text: Text, wanted: &Name) -> bool {
 fn a_text_becomes_a_name(rt: HostRuntime) -> Result<(), Fail> {
     let name = again::name(rt.alloc(), "größe")?;
     let text = again::text(rt.alloc(), "größe")?;
-    assert!(rt; becomes(text, &name));
+    let holds = becomes(text, &name);
+    drop(name);
+    assert!(rt; holds);
     Ok(())
 }

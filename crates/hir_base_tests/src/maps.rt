@@ -6,6 +6,7 @@ use hir_base::{
     Keyed, NamedDef, StaticId, StructId, SyntaxNodePtr, Table, TextRange, UnionId, VariantId,
 };
 use std::alloc::{AllocError, Global};
+use std::mem::drop;
 use std::process::Abort;
 use std::test::Fail;
 
@@ -31,27 +32,37 @@ fn insert_twice(
     }
 }
 
+// An id, the value that it is given, and the one that it had.
+const GIVEN: [(u32, u32, Option<u32>); 4] = [
+    (7, 1, None),
+    (2, 2, None),
+    (7, 3, Some(1)),
+    (0, 4, None),
+];
+
 // A map that was given values at 7, 2, 7 again and 0.
 fn given(rt: &impl Abort, alloc: Global) -> Result<ArenaMap<Kind, u32>, AllocError> {
     let mut map = ArenaMap::new(alloc);
-    for (id, value, wanted) in [(7, 1, None), (2, 2, None), (7, 3, Some(1)), (0, 4, None)] {
-        let old = insert_twice(rt, &mut map, id, value)?;
-        assert!(rt; old == wanted, "at {id}");
+    for (id, value, wanted) in &GIVEN {
+        let old = insert_twice(rt, &mut map, *id, *value)?;
+        assert!(rt; old == *wanted, "at {id}");
     }
     Ok(map)
 }
 
+const KEPT: [(u32, Option<u32>); 5] = [
+    (0, Some(4)),
+    (1, None),
+    (2, Some(2)),
+    (7, Some(3)),
+    (8, None),
+];
+
 #[test]
 fn a_map_keeps_the_last_value(rt: HostRuntime) -> Result<(), Fail> {
     let map = given(&rt, rt.alloc())?;
-    for (id, value) in [
-        (0, Some(4)),
-        (1, None),
-        (2, Some(2)),
-        (7, Some(3)),
-        (8, None),
-    ] {
-        assert!(rt; value_at(&map, id) == value, "at {id}");
+    for (id, value) in &KEPT {
+        assert!(rt; value_at(&map, *id) == *value, "at {id}");
     }
     Ok(())
 }
@@ -70,7 +81,9 @@ fn has_entries(map: &ArenaMap<Kind, u32>, wanted: &[(u32, u32)]) -> bool {
 #[test]
 fn the_entries_of_a_map_rise(rt: HostRuntime) -> Result<(), Fail> {
     let map = given(&rt, rt.alloc())?;
-    assert!(rt; has_entries(&map, &[(0, 4), (2, 2), (7, 3)]));
+    let holds = has_entries(&map, &[(0, 4), (2, 2), (7, 3)]);
+    drop(map);
+    assert!(rt; holds);
     Ok(())
 }
 
@@ -90,27 +103,39 @@ fn one_and_five(rt: &impl Abort, alloc: Global) -> Result<ArenaMap<Kind, u32>, A
     Ok(map)
 }
 
-// Gives the map 5 and 1, and leaves it the same as the other, which it was not before.
+// Gives the map 5 and 1, and says whether it is the same as the other then, and was not before.
 fn becomes(
     rt: &impl Abort,
     map: &mut ArenaMap<Kind, u32>,
     other: &ArenaMap<Kind, u32>,
-) -> Result<(), AllocError> {
-    for id in [5, 1] {
-        assert!(rt; !map.is_same(other));
-        insert_twice(rt, map, id, id)?;
+) -> Result<bool, AllocError> {
+    let mut was_same = false;
+    for id in &[5, 1] {
+        was_same = was_same || map.is_same(other);
+        insert_twice(rt, map, *id, *id)?;
     }
-    assert!(rt; map.is_same(other));
-    Ok(())
+    Ok(!was_same && map.is_same(other))
+}
+
+// Whether an empty map becomes this one, the map of 1 and 5 to themselves, and is another with a value of its own.
+fn another_becomes(
+    rt: &impl Abort,
+    alloc: Global,
+    made: &ArenaMap<Kind, u32>,
+) -> Result<bool, AllocError> {
+    let mut other = ArenaMap::new(alloc);
+    let became = becomes(rt, &mut other, made)?;
+    insert_twice(rt, &mut other, 5, 6)?;
+    Ok(became && other != *made)
 }
 
 #[test]
 fn maps_are_equal_as_maps(rt: HostRuntime) -> Result<(), Fail> {
     let made = one_and_five(&rt, rt.alloc())?;
-    let mut other = ArenaMap::new(rt.alloc());
-    becomes(&rt, &mut other, &made)?;
-    insert_twice(&rt, &mut other, 5, 6)?;
-    assert!(rt; other != made);
+    let answer = another_becomes(&rt, rt.alloc(), &made);
+    drop(made);
+    let holds = answer?;
+    assert!(rt; holds);
     Ok(())
 }
 
@@ -177,37 +202,42 @@ fn lists_both(table: &Table<NamedDef, u32>) -> bool {
 #[test]
 fn a_table_tells_its_keys_apart(rt: HostRuntime) -> Result<(), Fail> {
     let table = both(&rt, rt.alloc())?;
-    assert!(rt; has_both(&table));
-    assert!(rt; lists_both(&table));
+    let holds = has_both(&table) && lists_both(&table);
+    drop(table);
+    assert!(rt; holds);
     Ok(())
 }
 
-// Gives the table both keys, and leaves it the same as the other, which it was not before.
-fn fills(
+// Whether an empty table, given both keys, becomes the same as this one, and was not before.
+fn another_becomes_table(
     rt: &impl Abort,
-    table: &mut Table<NamedDef, u32>,
-    other: &Table<NamedDef, u32>,
-) -> Result<(), AllocError> {
-    for (key, value) in [(structure(), 2), (function(), 3)] {
-        assert!(rt; !table.is_same(other));
-        put_twice(rt, table, key, value)?;
-    }
-    assert!(rt; *table == *other);
-    Ok(())
+    alloc: Global,
+    made: &Table<NamedDef, u32>,
+) -> Result<bool, AllocError> {
+    let mut table = Table::new(alloc);
+    let mut was_same = table.is_same(made);
+    put_twice(rt, &mut table, structure(), 2)?;
+    was_same = was_same || table.is_same(made);
+    put_twice(rt, &mut table, function(), 3)?;
+    Ok(!was_same && table == *made)
 }
 
 #[test]
 fn tables_are_equal_as_maps(rt: HostRuntime) -> Result<(), Fail> {
     let table = both(&rt, rt.alloc())?;
-    let mut other = Table::new(rt.alloc());
-    fills(&rt, &mut other, &table)?;
+    let answer = another_becomes_table(&rt, rt.alloc(), &table);
+    drop(table);
+    let holds = answer?;
+    assert!(rt; holds);
     Ok(())
 }
 
 #[test]
 fn a_copy_of_a_table_is_the_same(rt: HostRuntime) -> Result<(), Fail> {
     let table = both(&rt, rt.alloc())?;
-    let holds = again::copies(&table)?;
+    let answer = again::copies(&table);
+    drop(table);
+    let holds = answer?;
     assert!(rt; holds);
     Ok(())
 }

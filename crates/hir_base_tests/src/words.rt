@@ -10,11 +10,12 @@ use hir_base::{
 };
 use std::alloc::{AllocError, Global};
 use std::cmp::Ordering;
+use std::mem::drop;
 use std::test::Fail;
 
 #[test]
 fn parentheses_go_by_precedence(rt: HostRuntime) {
-    for (child, parent, answer) in [
+    for (child, parent, answer) in &[
         (ExprPrecedence::Sum, ExprPrecedence::Product, true),
         (ExprPrecedence::Sum, ExprPrecedence::Sum, true),
         (ExprPrecedence::Product, ExprPrecedence::Sum, false),
@@ -30,7 +31,7 @@ fn parentheses_go_by_precedence(rt: HostRuntime) {
         ),
     ] {
         assert!(rt;
-            child.needs_parentheses_in(parent) == answer,
+            child.needs_parentheses_in(*parent) == *answer,
             "{child:?} in {parent:?}"
         );
     }
@@ -57,31 +58,37 @@ fn an_expansion_has_its_own_hygiene(rt: HostRuntime) {
 }
 
 // Whether the calling convention and its copy have this text.
-fn is_written(abi: &ExternAbi, text: &str) -> Result<bool, AllocError> {
-    let copies = again::copies(abi)?;
-    Ok(copies && abi.as_str() == text)
+fn is_written(abi: ExternAbi, text: &str) -> Result<bool, AllocError> {
+    let written = abi.as_str() == text;
+    let copies = again::copies(&abi);
+    drop(abi);
+    Ok(copies? && written)
+}
+
+// Whether the calling conventions that have texts of their own are written by them.
+fn are_written() -> Result<bool, AllocError> {
+    let plain = is_written(ExternAbi::Rust, "Rust")?
+        && is_written(ExternAbi::C, "C")?
+        && is_written(ExternAbi::System, "system")?;
+    let unwinding = is_written(ExternAbi::CUnwind, "C-unwind")?
+        && is_written(ExternAbi::SystemUnwind, "system-unwind")?;
+    Ok(plain && unwinding)
 }
 
 #[test]
 fn calling_conventions_have_texts(rt: HostRuntime) -> Result<(), Fail> {
-    for (abi, text) in [
-        (ExternAbi::Rust, "Rust"),
-        (ExternAbi::C, "C"),
-        (ExternAbi::CUnwind, "C-unwind"),
-        (ExternAbi::System, "system"),
-        (ExternAbi::SystemUnwind, "system-unwind"),
-    ] {
-        let holds = is_written(&abi, text)?;
-        assert!(rt; holds, "{text}");
-    }
+    assert!(rt; are_written()?);
     Ok(())
+}
+
+// Whether a calling convention of this name is written by it.
+fn is_written_by_its_name(alloc: Global, name: &str) -> Result<bool, AllocError> {
+    is_written(ExternAbi::Named(again::text(alloc, name)?), name)
 }
 
 #[test]
 fn other_calling_conventions_have_their_names(rt: HostRuntime) -> Result<(), Fail> {
-    let abi = ExternAbi::Named(again::text(rt.alloc(), "efiapi")?);
-    let holds = is_written(&abi, "efiapi")?;
-    assert!(rt; holds);
+    assert!(rt; is_written_by_its_name(rt.alloc(), "efiapi")?);
     Ok(())
 }
 
@@ -98,29 +105,33 @@ fn path(alloc: Global, kind: PathKind, names: &[&str]) -> Result<ModPath, AllocE
     Ok(ModPath::from_segments(kind, segments))
 }
 
-// Whether the path is an ident or not, and `Self` or not, and a copy is the same.
-fn is_known(made: &ModPath, ident: bool, is_self: bool) -> Result<bool, AllocError> {
-    let copies = again::copies(made)?;
-    Ok(
-        copies
-            && made.is_ident() == ident
-            && made.as_ident().is_some() == ident
-            && made.is_Self() == is_self,
-    )
+// Whether the path is an ident or not, and `Self` or not.
+fn is_known(made: &ModPath, ident: bool, is_self: bool) -> bool {
+    made.is_ident() == ident && made.as_ident().is_some() == ident && made.is_Self() == is_self
 }
+
+// Whether the path is known so, and a copy is the same.
+fn and_copies(made: ModPath, ident: bool, is_self: bool) -> Result<bool, AllocError> {
+    let known = is_known(&made, ident, is_self);
+    let copies = again::copies(&made);
+    drop(made);
+    Ok(copies? && known)
+}
+
+// Names behind a kind, and whether their path is an ident, and whether it is `Self`.
+const KNOWN: [(PathKind, &[&str], bool, bool); 5] = [
+    (PathKind::Plain, &["x"], true, false),
+    (PathKind::Plain, &["Self"], true, true),
+    (PathKind::Crate, &["Self"], false, false),
+    (PathKind::Plain, &["Self", "Self"], false, false),
+    (PathKind::SELF, &[], false, false),
+];
 
 #[test]
 fn one_plain_name_is_an_ident(rt: HostRuntime) -> Result<(), Fail> {
-    for (kind, names, ident, is_self) in [
-        (PathKind::Plain, ["x"].as_slice(), true, false),
-        (PathKind::Plain, ["Self"].as_slice(), true, true),
-        (PathKind::Crate, ["Self"].as_slice(), false, false),
-        (PathKind::Plain, ["Self", "Self"].as_slice(), false, false),
-        (PathKind::SELF, [].as_slice(), false, false),
-    ] {
-        let made = path(rt.alloc(), kind, names)?;
-        let holds = is_known(&made, ident, is_self)?;
-        assert!(rt; holds, "{names:?}");
+    for (kind, names, ident, is_self) in &KNOWN {
+        let made = path(rt.alloc(), *kind, names)?;
+        assert!(rt; and_copies(made, *ident, *is_self)?, "{names:?}");
     }
     Ok(())
 }
@@ -129,8 +140,9 @@ fn one_plain_name_is_an_ident(rt: HostRuntime) -> Result<(), Fail> {
 fn a_path_has_its_kind_and_names(rt: HostRuntime) -> Result<(), Fail> {
     assert!(rt; PathKind::SELF == PathKind::Super(0));
     let made = path(rt.alloc(), PathKind::Abs, &["a", "b"])?;
-    assert!(rt; made.kind() == PathKind::Abs);
-    assert!(rt; made.segments().len() == 2);
+    let holds = made.kind() == PathKind::Abs && made.segments().len() == 2;
+    drop(made);
+    assert!(rt; holds);
     Ok(())
 }
 
@@ -214,12 +226,12 @@ fn pointers_keep_their_node(rt: HostRuntime) {
 #[test]
 fn new_editions_have_no_words(rt: HostRuntime) {
     let words = RawWords::new(rt.alloc());
-    for edition in [
+    for edition in &[
         Edition::Edition2015,
         Edition::Edition2018,
         Edition::Edition2024,
     ] {
-        assert!(rt; words.words(edition).is_empty(), "{edition:?}");
+        assert!(rt; words.words(*edition).is_empty(), "{edition:?}");
     }
 }
 

@@ -1,21 +1,38 @@
-//! What definitions are, and the tables of outside definitions with what is looked up in them: all that the layers above need of bodies,
-//! signatures and generic parameters.
+//! What definitions are: bodies over accepted stores, generic parameters, and signatures; and the tables of outside definitions with what is
+//! looked up in them.
 #![tactic(auto)]
 
+mod body;
+mod body_fault;
+pub mod body_laws;
+mod body_source_map;
+mod formals;
+mod generic_bounds;
+mod generic_iters;
+pub mod generic_laws;
+mod generic_params;
 mod lookups;
+mod named_ids;
 mod no_generics;
+mod signature_fault;
+mod signatures;
 mod tables;
 
+pub use body::{Body, RefusedBody};
+pub use body_fault::BodyFault;
+pub use body_source_map::BodySourceMap;
+pub use formals::Param;
+pub use generic_iters::BoundLifetimes;
+pub use generic_params::GenericParams;
 pub use hir_base::{LocalLifetimeParamId, LocalTypeOrConstParamId};
 pub use hir_generics::{
     ConstParamData, GenericParamData, GenericParamDataRef, LifetimeBoundType, LifetimeParamData,
     TypeOrConstParamData, TypeParamData, TypeParamProvenance, WherePredicate,
 };
-pub use hir_items::{
-    Body, BodyFault, BodySourceMap, BoundLifetimes, FieldData, FieldsShape, FunctionParts,
-    FunctionSignature, GenericParams, Param, PlainParts, PlainSignature, RawVisibility,
-    RefusedBody, RefusedSignature, SignatureFault, StructParts, StructSignature, VariantFields,
-    VariantParts, body_laws, generic_laws,
+pub use lookups::StoreOf;
+pub use signature_fault::{RefusedSignature, SignatureFault};
+pub use signatures::{
+    FieldData, FieldsShape, FunctionParts, FunctionSignature, PlainParts, PlainSignature,
+    RawVisibility, StructParts, StructSignature, VariantFields, VariantParts,
 };
-pub use lookups::{BodyOf, ParamsOf, StoreOf};
 pub use tables::{PlainDef, Repr, Tables};

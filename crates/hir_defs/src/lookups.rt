@@ -1,4 +1,4 @@
-//! The generic parameters of a definition, and the store of an owner, looked up in the tables.
+//! The generic parameters of a definition, its body, and the store of an owner, looked up in the tables.
 
 ghost use Rattle.std.specs.Prelude.{◌≡◌, Option, None, Some, IfOk, IfErr};
 ghost use Rattle.std.specs.Option.{option_map};
@@ -7,19 +7,21 @@ ghost use Rattle.hir_base.specs.declared.defs.GenericDefId.{GenericDefId};
 ghost use Rattle.hir_base.specs.declared.defs.GenericDefId.TheVariants as generic;
 ghost use Rattle.hir_base.specs.declared.defs.DefWithBodyId.{DefWithBodyId};
 ghost use Rattle.hir_base.specs.declared.defs.ExpressionStoreOwnerId.{ExpressionStoreOwnerId};
-ghost use Rattle.hir_accepted.specs.Contents.{Contents};
-ghost use Rattle.hir_accepted.specs.declared.missing.Missing.TheVariants as missing;
+ghost use Rattle.hir_store.specs.Contents.{Contents};
+ghost use Rattle.hir_store.specs.declared.missing.Missing.TheVariants as missing;
 ghost use Rattle.hir_source.specs.declared.source_map.ExpressionStoreSourceMap.{ExpressionStoreSourceMap};
-ghost use Rattle.hir_items.specs.declared.body_source_map.BodySourceMap.{BodySourceMap};
+ghost use Rattle.hir_defs.specs.declared.body_source_map.BodySourceMap.{BodySourceMap};
 ghost use Rattle.hir_defs.specs.declared.tables.Tables.{Tables};
 ghost use Rattle.hir_defs.specs.Tables.{generic_def};
 ghost use Rattle.hir_defs.specs.Lookups.{of_function, of_struct, of_plain, of_value, of_adt, signed, without_source_map, embodied, owned, missing_owner};
 
+use crate::body::Body;
+use crate::body_source_map::BodySourceMap;
+use crate::generic_params::GenericParams;
 use crate::tables::{PlainDef, Tables};
-use hir_accepted::{ExpressionStore, Missing};
 use hir_base::{AdtId, DefWithBodyId, ExpressionStoreOwnerId, FunctionId, GenericDefId, StructId};
-use hir_items::{Body, BodySourceMap, GenericParams};
 use hir_source::ExpressionStoreSourceMap;
+use hir_store::{ExpressionStore, Missing};
 
 impl Tables {
     fn of_function(
@@ -83,49 +85,42 @@ impl Tables {
 }
 
 /// Looking up the generic parameters of a definition.
-pub trait ParamsOf {
-    // what the tables have for a definition: parameters, the store that they name, and where that comes from
-    ghost entry: { Tables → GenericDefId → Option (Self × Contents × ExpressionStoreSourceMap) };
-
+impl GenericParams {
     /// The parameters of the definition: none of a constant or a static that is there.
-    fn of(tables: &Tables, def: GenericDefId) -> Result<&Self, Missing>
-        ensures found { IfOk result (λ found. option_map (λ e. e.0) (entry tables.now def) ≡ Some found.now) }
-        ensures absent { IfErr result (λ absent. (absent ≡ missing.Signature def) × (entry tables.now def ≡ None)) };
-
-    /// The parameters of the definition, and the store that they name.
-    fn with_store(tables: &Tables, def: GenericDefId) -> Result<(&Self, &ExpressionStore), Missing>
-        ensures found { IfOk result (λ found. option_map without_source_map (entry tables.now def) ≡ Some (found.0.now, found.1.now)) }
-        ensures absent { IfErr result (λ absent. (absent ≡ missing.Signature def) × (entry tables.now def ≡ None)) };
-
-    /// The parameters of the definition, the store that they name, and where that comes from.
-    fn with_source_map(
-        tables: &Tables,
-        def: GenericDefId,
-    ) -> Result<(&Self, &ExpressionStore, &ExpressionStoreSourceMap), Missing>
-        ensures found { IfOk result (λ found. entry tables.now def ≡ Some (found.0.now, found.1.now, found.2.now)) }
-        ensures absent { IfErr result (λ absent. (absent ≡ missing.Signature def) × (entry tables.now def ≡ None)) };
-}
-
-impl ParamsOf for GenericParams {
-    ghost entry = { signed };
-
-    fn of(tables: &Tables, def: GenericDefId) -> Result<&GenericParams, Missing> {
+    ///
+    /// Errors: `Missing::Signature` where the tables have no signature of it.
+    pub fn of(tables: &Tables, def: GenericDefId) -> Result<&GenericParams, Missing>
+        ensures found { IfOk result (λ found. option_map (λ entry. entry.0) (signed tables.now def) ≡ Some found.now) }
+        ensures absent { IfErr result (λ absent. (absent ≡ missing.Signature def) × (signed tables.now def ≡ None)) }
+    {
         let (params, _, _) = GenericParams::with_source_map(tables, def)?;
         Ok(params)
     }
 
-    fn with_store(
+    /// The parameters of the definition, and the store that they name.
+    ///
+    /// Errors: `Missing::Signature` where the tables have no signature of it.
+    pub fn with_store(
         tables: &Tables,
         def: GenericDefId,
-    ) -> Result<(&GenericParams, &ExpressionStore), Missing> {
+    ) -> Result<(&GenericParams, &ExpressionStore), Missing>
+        ensures found { IfOk result (λ found. option_map without_source_map (signed tables.now def) ≡ Some (found.0.now, found.1.now)) }
+        ensures absent { IfErr result (λ absent. (absent ≡ missing.Signature def) × (signed tables.now def ≡ None)) }
+    {
         let (params, store, _) = GenericParams::with_source_map(tables, def)?;
         Ok((params, store))
     }
 
-    fn with_source_map(
+    /// The parameters of the definition, the store that they name, and where that comes from.
+    ///
+    /// Errors: `Missing::Signature` where the tables have no signature of it.
+    pub fn with_source_map(
         tables: &Tables,
         def: GenericDefId,
-    ) -> Result<(&GenericParams, &ExpressionStore, &ExpressionStoreSourceMap), Missing> {
+    ) -> Result<(&GenericParams, &ExpressionStore, &ExpressionStoreSourceMap), Missing>
+        ensures found { IfOk result (λ found. signed tables.now def ≡ Some (found.0.now, found.1.now, found.2.now)) }
+        ensures absent { IfErr result (λ absent. (absent ≡ missing.Signature def) × (signed tables.now def ≡ None)) }
+    {
         match def {
             GenericDefId::AdtId(id) => tables.of_adt(id),
             GenericDefId::ConstId(id) => tables.of_value(PlainDef::Const(id)),
@@ -139,36 +134,28 @@ impl ParamsOf for GenericParams {
 }
 
 /// Looking up the body of a definition.
-pub trait BodyOf {
-    // what the tables have for a definition
-    ghost entry: { Tables → DefWithBodyId → Option (Self × BodySourceMap) };
-
+impl Body {
     /// The body of the definition.
-    fn of(tables: &Tables, def: DefWithBodyId) -> Result<&Self, Missing>
-        ensures found { IfOk result (λ found. option_map (λ e. e.0) (entry tables.now def) ≡ Some found.now) }
-        ensures absent { IfErr result (λ absent. (absent ≡ missing.Body def) × (entry tables.now def ≡ None)) };
-
-    /// The body of the definition, and where it comes from.
-    fn with_source_map(
-        tables: &Tables,
-        def: DefWithBodyId,
-    ) -> Result<(&Self, &BodySourceMap), Missing>
-        ensures found { IfOk result (λ found. entry tables.now def ≡ Some (found.0.now, found.1.now)) }
-        ensures absent { IfErr result (λ absent. (absent ≡ missing.Body def) × (entry tables.now def ≡ None)) };
-}
-
-impl BodyOf for Body {
-    ghost entry = { embodied };
-
-    fn of(tables: &Tables, def: DefWithBodyId) -> Result<&Body, Missing> {
+    ///
+    /// Errors: `Missing::Body` where the tables have none of it.
+    pub fn of(tables: &Tables, def: DefWithBodyId) -> Result<&Body, Missing>
+        ensures found { IfOk result (λ found. option_map (λ entry. entry.0) (embodied tables.now def) ≡ Some found.now) }
+        ensures absent { IfErr result (λ absent. (absent ≡ missing.Body def) × (embodied tables.now def ≡ None)) }
+    {
         let (found, _) = tables.body_entry(def)?;
         Ok(found)
     }
 
-    fn with_source_map(
+    /// The body of the definition, and where it comes from.
+    ///
+    /// Errors: `Missing::Body` where the tables have none of it.
+    pub fn with_source_map(
         tables: &Tables,
         def: DefWithBodyId,
-    ) -> Result<(&Body, &BodySourceMap), Missing> {
+    ) -> Result<(&Body, &BodySourceMap), Missing>
+        ensures found { IfOk result (λ found. embodied tables.now def ≡ Some (found.0.now, found.1.now)) }
+        ensures absent { IfErr result (λ absent. (absent ≡ missing.Body def) × (embodied tables.now def ≡ None)) }
+    {
         let (found, source_map) = tables.body_entry(def)?;
         Ok((found, source_map))
     }

@@ -8,22 +8,22 @@ ghost use Rattle.hir_base.specs.Keys.{named_code, fields_code, body_code};
 ghost use Rattle.hir_base.specs.RawWords.{no_words, words_of, with_words};
 ghost use Rattle.hir_base.specs.declared.defs.GenericDefId.TheVariants as generic;
 ghost use Rattle.hir_base.specs.declared.defs.AdtId.TheVariants as adt;
-ghost use Rattle.hir_accepted.specs.declared.missing.Missing.TheVariants as missing;
-ghost use Rattle.hir_items.specs.Generics.{empty};
+ghost use Rattle.hir_store.specs.declared.missing.Missing.TheVariants as missing;
+ghost use Rattle.hir_defs.specs.Generics.{empty};
 ghost use Rattle.hir_defs.specs.Tables.{plain_code, plain_tells, generic_def};
 
+use crate::body::Body;
+use crate::body_source_map::BodySourceMap;
+use crate::generic_params::GenericParams;
 use crate::no_generics::NoGenerics;
-use hir_accepted::Missing;
+use crate::signatures::{FunctionSignature, PlainSignature, StructSignature, VariantFields};
 use hir_base::{
     AdtId, ConstId, CrateId, DefWithBodyId, Edition, EnumId, EnumVariantId, ExactEq, FunctionId,
     GenericDefId, ImplId, Keyed, NamedDef, RawWords, Seq, StaticId, StructId, Table, Text, TraitId,
     TryClone, TypeAliasId, UnionId, VariantId,
 };
-use hir_items::{
-    Body, BodySourceMap, FunctionSignature, GenericParams, PlainSignature, StructSignature,
-    VariantFields,
-};
 use hir_source::ExpressionStoreSourceMap;
+use hir_store::Missing;
 use std::alloc::{AllocFailed, Global};
 
 /// A definition of which a signature keeps the generic parameters alone.

@@ -239,13 +239,17 @@ fn parts_that_come_back_and_accepted_bodies(rt: HostRuntime) -> Result<(), Fail>
     let a = rt.alloc();
     // what the user wrote has to be there
     let outcome = asked(a, WILD, &[(0, 1)], None)?;
-    assert!(&rt; hands_back(&outcome));
+    let parts_come_back = hands_back(&outcome);
     std::mem::drop(outcome);
+    assert!(&rt; parts_come_back);
     let outcome = asked(a, METHOD, &[(0, 0)], Some(param(0, 1)))?;
-    assert!(&rt; is_the_method(&outcome));
+    let method_is_accepted = is_the_method(&outcome);
     std::mem::drop(outcome);
+    assert!(&rt; method_is_accepted);
     let outcome = asked(a, PATH, &[], None)?;
-    assert!(&rt; is_plain(&outcome));
+    let path_is_accepted = is_plain(&outcome);
+    std::mem::drop(outcome);
+    assert!(&rt; path_is_accepted);
     Ok(())
 }
 
@@ -269,10 +273,13 @@ fn texts_of_faults(rt: HostRuntime) -> Result<(), Fail> {
 #[test]
 fn where_self_is_written(rt: HostRuntime) -> Result<(), Fail> {
     let map = map_of_nothing(rt.alloc())?;
-    assert!(&rt; map.self_param_syntax() == Some(written()));
+    let knows_self = map.self_param_syntax() == Some(written());
     // the map and its part of the store equal themselves
-    assert!(&rt; map.store() == map.store());
-    assert!(&rt; *map == *map);
+    let store_equals_itself = map.store() == map.store();
+    let map_equals_itself = *map == *map;
+    std::mem::drop(map);
+    assert!(&rt; knows_self);
+    assert!(&rt; store_equals_itself && map_equals_itself);
     Ok(())
 }
 

@@ -34,10 +34,8 @@ fn lifetimes_alone(alloc: Global) -> Result<Box<GenericParams>, Fail> {
     )?)
 }
 
-#[test]
-fn lifetimes_are_numbered_by_the_way_that_they_are_bound(rt: HostRuntime) -> Result<(), Fail> {
-    generic_laws::lifetimes_are_early_or_late();
-    let params = lifetimes_alone(rt.alloc())?;
+/// Whether each lifetime has its number among those that are bound as it is, and there is no fifth one.
+fn are_numbered(params: &GenericParams) -> bool {
     for (id, wanted) in &[
         (0u32, Some((0, false))),
         (1, Some((0, true))),
@@ -45,8 +43,20 @@ fn lifetimes_are_numbered_by_the_way_that_they_are_bound(rt: HostRuntime) -> Res
         (3, Some((1, true))),
         (4, None),
     ] {
-        assert_eq!(&rt; params.lifetime_param_idx(&Idx::from_raw(*id)), *wanted);
+        if params.lifetime_param_idx(&Idx::from_raw(*id)) != *wanted {
+            return false;
+        }
     }
+    true
+}
+
+#[test]
+fn lifetimes_are_numbered_by_the_way_that_they_are_bound(rt: HostRuntime) -> Result<(), Fail> {
+    generic_laws::lifetimes_are_early_or_late();
+    let params = lifetimes_alone(rt.alloc())?;
+    let numbered = are_numbered(&params);
+    std::mem::drop(params);
+    assert!(&rt; numbered);
     Ok(())
 }
 
@@ -82,21 +92,34 @@ fn constant_and_type(alloc: Global) -> Result<Box<GenericParams>, Fail> {
     only(alloc, types)
 }
 
+/// Whether the constant `N` and the type `N` after it are found.
+fn finds_constant_and_type(alloc: Global) -> Result<bool, Fail> {
+    let params = constant_and_type(alloc)?;
+    let n = again::in_a_box(alloc, again::name(alloc, "N")?)?;
+    let constant_is_found = is_const(params.find_const_by_name(&n, parent()), 0);
+    let type_is_found = is_type_param(params.find_type_by_name(&n, parent()), 1);
+    std::mem::drop(n);
+    std::mem::drop(params);
+    Ok(constant_is_found && type_is_found)
+}
+
+/// Whether the lifetime `'c` is found, and no type or constant of this name.
+fn finds_a_lifetime_alone(alloc: Global) -> Result<bool, Fail> {
+    let params = all_kinds(alloc)?;
+    let c = again::in_a_box(alloc, again::name(alloc, "'c")?)?;
+    let lifetime_is_found = is_lifetime(params.find_lifetime_by_name(&c, parent()), 2);
+    let no_type = params.find_type_by_name(&c, parent()).is_none();
+    let no_constant = params.find_const_by_name(&c, parent()).is_none();
+    std::mem::drop(c);
+    std::mem::drop(params);
+    Ok(lifetime_is_found && no_type && no_constant)
+}
+
 #[test]
 fn parameters_by_name(rt: HostRuntime) -> Result<(), Fail> {
     generic_laws::finds_answer_the_first();
-    let n = again::in_a_box(rt.alloc(), again::name(rt.alloc(), "N")?)?;
-    let params = constant_and_type(rt.alloc())?;
-    assert!(&rt; is_const(params.find_const_by_name(&n, parent()), 0));
-    assert!(&rt; is_type_param(params.find_type_by_name(&n, parent()), 1));
-    // what is dropped here isn't dropped again wherever a later call fails
-    std::mem::drop(n);
-    std::mem::drop(params);
-    let c = again::in_a_box(rt.alloc(), again::name(rt.alloc(), "'c")?)?;
-    let params = all_kinds(rt.alloc())?;
-    assert!(&rt; is_lifetime(params.find_lifetime_by_name(&c, parent()), 2));
-    assert!(&rt; params.find_type_by_name(&c, parent()).is_none());
-    assert!(&rt; params.find_const_by_name(&c, parent()).is_none());
+    assert!(&rt; finds_constant_and_type(rt.alloc())?);
+    assert!(&rt; finds_a_lifetime_alone(rt.alloc())?);
     Ok(())
 }
 
@@ -115,14 +138,18 @@ fn none(alloc: Global) -> Result<Box<GenericParams>, AllocError> {
 #[test]
 fn self_of_a_trait_is_parameter_0(rt: HostRuntime) -> Result<(), Fail> {
     let params = one_type(rt.alloc(), "Self", TypeParamProvenance::TraitSelf)?;
-    assert_eq!(&rt; params.trait_self_param(), Some(Idx::from_raw(0)));
+    let trait_has_self = params.trait_self_param() == Some(Idx::from_raw(0));
     std::mem::drop(params);
-    assert_eq!(&rt; GenericParams::self_param_id_in_self(), Idx::from_raw(0));
+    assert!(&rt; trait_has_self);
+    assert!(&rt; GenericParams::self_param_id_in_self() == Idx::from_raw(0));
     let params = constant_alone(rt.alloc())?;
-    assert_eq!(&rt; params.trait_self_param(), None);
+    let constant_has_none = params.trait_self_param() == None;
     std::mem::drop(params);
+    assert!(&rt; constant_has_none);
     let params = none(rt.alloc())?;
-    assert_eq!(&rt; params.trait_self_param(), None);
+    let nothing_has_none = params.trait_self_param() == None;
+    std::mem::drop(params);
+    assert!(&rt; nothing_has_none);
     Ok(())
 }
 
@@ -235,18 +262,36 @@ fn are_two(predicates: &[WherePredicate], first: &WherePredicate, second: &Where
     }
 }
 
+/// Whether all iterators of the four kinds come in their order.
+fn come_in_order(params: &GenericParams) -> Result<bool, AllocError> {
+    let early_again = are_early_again(params.iter_early_bound_lt())?;
+    let types = are_three(params.iter_type_or_consts());
+    let lifetimes = are_four(params.iter_lt());
+    let early = are_early(params.iter_early_bound_lt());
+    let late = are_late(params.iter_late_bound_lt());
+    Ok(early_again && types && lifetimes && early && late)
+}
+
+/// Whether the two predicates are there, and a copy of the first one is the same as it.
+fn has_both_predicates(alloc: Global, params: &GenericParams) -> Result<bool, AllocError> {
+    let first = again::in_a_box(alloc, meets_for_a(alloc)?)?;
+    let two = are_two(params.where_predicates(), &first, &outlives());
+    let copied = again::copies(&*first);
+    std::mem::drop(first);
+    let copied = copied?;
+    Ok(two && copied)
+}
+
 #[test]
 fn counts_and_order(rt: HostRuntime) -> Result<(), Fail> {
     let params = all_kinds(rt.alloc())?;
-    assert!(&rt; counts_all(&params));
-    assert!(&rt; are_three(params.iter_type_or_consts()));
-    assert!(&rt; are_four(params.iter_lt()));
-    assert!(&rt; are_early(params.iter_early_bound_lt()));
-    assert!(&rt; are_early_again(params.iter_early_bound_lt())?);
-    assert!(&rt; are_late(params.iter_late_bound_lt()));
-    let first = again::in_a_box(rt.alloc(), meets_for_a(rt.alloc())?)?;
-    assert!(&rt; are_two(params.where_predicates(), &first, &outlives()));
-    assert!(&rt; again::copies(&*first)?);
+    let counted = counts_all(&params);
+    let ordered = come_in_order(&params);
+    let both = has_both_predicates(rt.alloc(), &params);
+    std::mem::drop(params);
+    assert!(&rt; counted);
+    assert!(&rt; ordered?);
+    assert!(&rt; both?);
     Ok(())
 }
 
@@ -264,10 +309,15 @@ fn parameters_compare_by_all_fields(rt: HostRuntime) -> Result<(), Fail> {
     let none = none(rt.alloc())?;
     let params = all_kinds(rt.alloc())?;
     let same = all_kinds(rt.alloc())?;
-    assert!(&rt; counts_none(&none));
-    assert!(&rt; params.is_same(&same));
-    assert!(&rt; *params == *same);
-    assert!(&rt; *params != *none);
+    let none_counts_none = counts_none(&none);
+    let is_same = params.is_same(&same);
+    let equals_same = *params == *same;
+    let differs_from_none = *params != *none;
+    std::mem::drop(same);
+    std::mem::drop(params);
+    std::mem::drop(none);
+    assert!(&rt; none_counts_none);
+    assert!(&rt; is_same && equals_same && differs_from_none);
     Ok(())
 }
 
@@ -324,17 +374,23 @@ fn is_borrowed(data: &TypeParamData) -> bool {
 fn a_type_and_a_constant(rt: HostRuntime) -> Result<(), Fail> {
     let a = rt.alloc();
     let ty = again::in_a_box(a, TypeOrConstParamData::from(listed(a, "T")?))?;
-    assert!(&rt; is_t(&ty));
-    assert!(&rt; again::copies(&*ty)?);
+    let is_type_t = is_t(&ty);
+    let copied = again::copies(&*ty);
     std::mem::drop(ty);
+    assert!(&rt; is_type_t);
+    assert!(&rt; copied?);
     let with_default = again::in_a_box(a, constant_with_default(a)?)?;
-    assert!(&rt; is_n(&with_default));
+    let is_constant_n = is_n(&with_default);
     std::mem::drop(with_default);
+    assert!(&rt; is_constant_n);
     let made = again::in_a_box(a, constant(a, "N")?)?;
-    assert!(&rt; again::copies(&*made)?);
+    let copied = again::copies(&*made);
     std::mem::drop(made);
+    assert!(&rt; copied?);
     let data = again::in_a_box(a, listed(a, "T")?)?;
-    assert!(&rt; is_borrowed(&data));
+    let is_type_borrowed = is_borrowed(&data);
+    std::mem::drop(data);
+    assert!(&rt; is_type_borrowed);
     Ok(())
 }
 
@@ -355,20 +411,29 @@ fn is_any_a(param: &GenericParamData) -> bool {
         && param.const_param().is_none()
 }
 
+/// Whether the type `T` and the constant `N` are such parameters, and differ.
+fn any_type_and_constant_differ(alloc: Global) -> Result<bool, AllocError> {
+    let ty = again::in_a_box(alloc, GenericParamData::from(listed(alloc, "T")?))?;
+    let constant = again::in_a_box(alloc, GenericParamData::from(constant(alloc, "N")?))?;
+    let is_type_t = is_any_t(&ty);
+    let is_constant_n = is_any_n(&constant);
+    let differ = *constant != *ty;
+    std::mem::drop(constant);
+    std::mem::drop(ty);
+    Ok(is_type_t && is_constant_n && differ)
+}
+
 #[test]
 fn any_parameter(rt: HostRuntime) -> Result<(), Fail> {
     let a = rt.alloc();
-    let ty = again::in_a_box(a, GenericParamData::from(listed(a, "T")?))?;
-    assert!(&rt; is_any_t(&ty));
-    let constant = again::in_a_box(a, GenericParamData::from(constant(a, "N")?))?;
-    assert!(&rt; is_any_n(&constant));
-    assert!(&rt; *constant != *ty);
-    std::mem::drop(constant);
-    std::mem::drop(ty);
+    assert!(&rt; any_type_and_constant_differ(a)?);
     let data = lifetime(again::name(a, "'a")?, LifetimeBoundType::LateBound);
-    assert!(&rt; data.is_late_bound() && !data.is_early_bound());
+    let is_late = data.is_late_bound() && !data.is_early_bound();
     let any = again::in_a_box(a, GenericParamData::from(data))?;
-    assert!(&rt; is_any_a(&any));
-    assert!(&rt; again::copies(&*any)?);
+    let is_lifetime_a = is_any_a(&any);
+    let copied = again::copies(&*any);
+    std::mem::drop(any);
+    assert!(&rt; is_late && is_lifetime_a);
+    assert!(&rt; copied?);
     Ok(())
 }

@@ -5,7 +5,7 @@ use hir_base::{
     AdtId, ConstId, EnumId, ExpressionStoreOwnerId, FunctionId, GenericDefId, Idx, ImplId,
     StaticId, StructId, TraitId, TypeAliasId, UnionId, VariantId,
 };
-use hir_defs::{GenericParams, ParamsOf, StoreOf};
+use hir_defs::{GenericParams, StoreOf};
 use hir_store::{ExpressionStore, ExpressionStoreSourceMap, Missing};
 use std::test::Fail;
 
@@ -109,22 +109,26 @@ fn fields_2() -> ExpressionStoreOwnerId {
 #[test]
 fn parameters_of_definitions_and_stores_of_owners(rt: HostRuntime) -> Result<(), Fail> {
     let tables = made::filled(rt.alloc())?;
-    assert!(&rt; GenericParams::of(&tables, function_1()).map(GenericParams::len) == Ok(1));
+    let of_function = GenericParams::of(&tables, function_1()).map(GenericParams::len);
+    let mut all_found = true;
     for (def, params, types) in &wanted() {
         let found = sizes(GenericParams::with_store(&tables, *def).ok());
-        assert!(&rt; found == Some((*params, true, *types)));
+        all_found = all_found && found == Some((*params, true, *types));
     }
-    assert!(&rt; is_one_over_three(GenericParams::with_source_map(&tables, enum_3()).ok()));
+    let of_enum = is_one_over_three(GenericParams::with_source_map(&tables, enum_3()).ok());
     let found = GenericParams::of(&tables, constant(3));
-    assert!(&rt; lacks(found, Missing::Signature(constant(3))));
+    let lacks_constant = lacks(found, Missing::Signature(constant(3)));
     let found = GenericParams::of(&tables, variable(3));
-    assert!(&rt; lacks(found, Missing::Signature(variable(3))));
+    let lacks_static = lacks(found, Missing::Signature(variable(3)));
     let owner = ExpressionStoreOwnerId::Signature(function_1());
-    assert!(&rt; has_types(ExpressionStore::of(&tables, owner).ok(), 1));
-    let found = contents(ExpressionStore::with_source_map(&tables, fields_2()).ok());
-    assert!(&rt; found == Some((5, false, false, false)));
+    let of_signature = has_types(ExpressionStore::of(&tables, owner).ok(), 1);
+    let of_fields = contents(ExpressionStore::with_source_map(&tables, fields_2()).ok());
     let owner = ExpressionStoreOwnerId::Body(made::def_1());
-    let found = contents(ExpressionStore::with_source_map(&tables, owner).ok());
-    assert!(&rt; found == Some((0, true, false, false)));
+    let of_body = contents(ExpressionStore::with_source_map(&tables, owner).ok());
+    std::mem::drop(tables);
+    assert!(&rt; of_function == Ok(1) && of_enum && all_found);
+    assert!(&rt; lacks_constant && lacks_static && of_signature);
+    assert!(&rt; of_fields == Some((5, false, false, false)));
+    assert!(&rt; of_body == Some((0, true, false, false)));
     Ok(())
 }

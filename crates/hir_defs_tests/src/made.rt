@@ -156,25 +156,38 @@ pub fn repr_0() -> Repr {
     }
 }
 
-/// Says that variant 2 is of enum 7, that crate 1 is called `core`, and how struct 0 lies in memory.
-fn add_small(tables: &mut Tables, alloc: Global) -> Result<(), Fail> {
-    let name = Some(again::text(alloc, "core")?);
-    if let Err(failed) = tables.add_crate_name(CrateId::from_raw(1), name) {
-        let (id, name) = failed.value;
-        tables.add_crate_name(id, name)?;
+/// Says that crate 1 is called `core`.
+fn add_crate_name(tables: &mut Tables, alloc: Global) -> Result<(), Fail> {
+    let name = again::text(alloc, "core")?;
+    match tables.add_crate_name(CrateId::from_raw(1), Some(name)) {
+        Ok(()) => Ok(()),
+        Err(failed) => {
+            let (id, name) = failed.value;
+            again::taken(tables.add_crate_name(id, name))
+        }
     }
-    if let Err(failed) = tables.add_variant_parent(
-        EnumVariantId::from_raw(2),
-        EnumId::from_raw(7),
-    ) {
-        let (variant, parent) = failed.value;
-        tables.add_variant_parent(variant, parent)?;
+}
+
+/// Says that variant 2 is of enum 7.
+fn add_variant_parent(tables: &mut Tables) -> Result<(), Fail> {
+    match tables.add_variant_parent(EnumVariantId::from_raw(2), EnumId::from_raw(7)) {
+        Ok(()) => Ok(()),
+        Err(failed) => {
+            let (variant, parent) = failed.value;
+            again::taken(tables.add_variant_parent(variant, parent))
+        }
     }
-    if let Err(failed) = tables.add_repr(StructId::from_raw(0), repr_0()) {
-        let (id, repr) = failed.value;
-        tables.add_repr(id, repr)?;
+}
+
+/// Says how struct 0 lies in memory.
+fn add_repr(tables: &mut Tables) -> Result<(), Fail> {
+    match tables.add_repr(StructId::from_raw(0), repr_0()) {
+        Ok(()) => Ok(()),
+        Err(failed) => {
+            let (id, repr) = failed.value;
+            again::taken(tables.add_repr(id, repr))
+        }
     }
-    Ok(())
 }
 
 /// The word `match`.
@@ -203,18 +216,26 @@ pub fn tables(alloc: Global) -> Result<Box<Tables>, Fail> {
     Ok(again::in_a_box(alloc, Tables::new(alloc))?)
 }
 
-/// Tables with an entry of each kind, all those above, and one word that edition 2021 writes raw.
-pub fn filled(alloc: Global) -> Result<Box<Tables>, Fail> {
-    let mut tables = tables(alloc)?;
+/// Adds an entry of each kind, all those above, and one word that edition 2021 writes raw.
+fn fill(tables: &mut Tables, alloc: Global) -> Result<(), Fail> {
     let words = match_alone(alloc)?;
     tables.set_raw_words(Edition::Edition2021, words);
-    add_function(&mut tables, alloc)?;
-    add_struct(&mut tables, alloc)?;
-    add_fields(&mut tables, alloc)?;
-    add_body(&mut tables, alloc)?;
-    add_small(&mut tables, alloc)?;
+    add_function(tables, alloc)?;
+    add_struct(tables, alloc)?;
+    add_fields(tables, alloc)?;
+    add_body(tables, alloc)?;
+    add_crate_name(tables, alloc)?;
+    add_variant_parent(tables)?;
+    add_repr(tables)?;
     for (def, count) in &plain_defs() {
-        add_plain(&mut tables, alloc, *def, *count)?;
+        add_plain(tables, alloc, *def, *count)?;
     }
+    Ok(())
+}
+
+/// Tables with all those entries.
+pub fn filled(alloc: Global) -> Result<Box<Tables>, Fail> {
+    let mut tables = tables(alloc)?;
+    fill(&mut tables, alloc)?;
     Ok(tables)
 }

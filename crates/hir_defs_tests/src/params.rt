@@ -105,22 +105,32 @@ fn add_lifetime(
     again::alloc(lifetimes, lifetime(name, bound_type))
 }
 
-/// The lifetimes `'a`, `'b`, `'c` and `'d`: early bound, late bound, early bound, late bound.
+/// Adds the lifetimes `'a`, `'b`, `'c` and `'d`: early bound, late bound, early bound, late bound.
+fn add_four(alloc: Global, lifetimes: &mut Lifetimes) -> Result<(), Fail> {
+    add_lifetime(alloc, lifetimes, "'a", LifetimeBoundType::EarlyBound)?;
+    add_lifetime(alloc, lifetimes, "'b", LifetimeBoundType::LateBound)?;
+    add_lifetime(alloc, lifetimes, "'c", LifetimeBoundType::EarlyBound)?;
+    add_lifetime(alloc, lifetimes, "'d", LifetimeBoundType::LateBound)
+}
+
+/// Those four lifetimes.
 pub fn four_lifetimes(alloc: Global) -> Result<Box<Lifetimes>, Fail> {
     let mut lifetimes = again::in_a_box(alloc, Arena::new(alloc))?;
-    add_lifetime(alloc, &mut lifetimes, "'a", LifetimeBoundType::EarlyBound)?;
-    add_lifetime(alloc, &mut lifetimes, "'b", LifetimeBoundType::LateBound)?;
-    add_lifetime(alloc, &mut lifetimes, "'c", LifetimeBoundType::EarlyBound)?;
-    add_lifetime(alloc, &mut lifetimes, "'d", LifetimeBoundType::LateBound)?;
+    add_four(alloc, &mut lifetimes)?;
     Ok(lifetimes)
 }
 
-/// The `Self` of a trait, the type `T` and the constant `N`.
+/// Adds the `Self` of a trait, the type `T` and the constant `N`.
+fn add_three(alloc: Global, types: &mut Types) -> Result<(), Fail> {
+    add_type(alloc, types, "Self", TypeParamProvenance::TraitSelf)?;
+    add_type(alloc, types, "T", TypeParamProvenance::TypeParamList)?;
+    add_constant(alloc, types, "N")
+}
+
+/// Those three.
 fn three_types(alloc: Global) -> Result<Box<Types>, Fail> {
     let mut types = no_types(alloc)?;
-    add_type(alloc, &mut types, "Self", TypeParamProvenance::TraitSelf)?;
-    add_type(alloc, &mut types, "T", TypeParamProvenance::TypeParamList)?;
-    add_constant(alloc, &mut types, "N")?;
+    add_three(alloc, &mut types)?;
     Ok(types)
 }
 

@@ -155,11 +155,21 @@ fn finish(
     }
 }
 
+/// Adds what all steps say.
+fn add_all(
+    builder: &mut ExpressionStoreBuilder,
+    alloc: Global,
+    steps: &[Step],
+) -> Result<(), Fail> {
+    for step in steps {
+        add(builder, alloc, *step)?;
+    }
+    Ok(())
+}
+
 /// The store that these steps build.
 pub fn made(alloc: Global, steps: &[Step]) -> Result<Made, Fail> {
     let mut builder = again::in_a_box(alloc, ExpressionStoreBuilder::new(alloc))?;
-    for step in steps {
-        add(&mut builder, alloc, *step)?;
-    }
+    add_all(&mut builder, alloc, steps)?;
     again::boxed(alloc, finish(Box::into_inner(builder)).map_err(Fail::from))
 }

@@ -60,14 +60,33 @@ fn make_ends(alloc: Global) -> Result<(LineReader, OutputBuffer), Fail>
     Ok((lines, output))
 }
 
-/// Echoes all lines of a source.
+/// How a run ended, and of the source and of the sink how many calls it took and whether one failed.
+#[derive(Clone, Copy)]
+struct Ran {
+    ended: Result<u64, LineFault>,
+    reads: u64,
+    read_failed: bool,
+    writes: u64,
+    write_failed: bool,
+}
+
+/// Echoes all lines of a source, and says how that ran and whether the sink has this echo.
 fn run(
     alloc: Global,
-    reader: &mut Given,
-    writer: &mut Kept,
-) -> Result<Result<u64, LineFault>, Fail> {
+    mut reader: Given,
+    mut writer: Kept,
+    echoed: &[u8],
+) -> Result<(Ran, bool), Fail> {
     let (mut lines, mut output) = make_ends(alloc)?;
-    Ok(echo(&mut lines, reader, &mut output, writer))
+    let ended = echo(&mut lines, &mut reader, &mut output, &mut writer);
+    let ran = Ran {
+        ended,
+        reads: reader.calls,
+        read_failed: reader.has_failed(),
+        writes: writer.calls,
+        write_failed: writer.has_failed(),
+    };
+    Ok((ran, writer.bytes() == echoed))
 }
 
 const TEXTS: [(&[u8], &[u8], u64); 8] = [
@@ -84,13 +103,11 @@ const TEXTS: [(&[u8], &[u8], u64); 8] = [
 #[test]
 fn takes_lines_across_reads(rt: HostRuntime) -> Result<(), Fail> {
     let alloc = rt.alloc();
-    for (text, echoed, count) in TEXTS {
-        for step in [1, 2, 3, 5, 100] {
-            let mut reader = Given::new(text, step, u64::MAX);
-            let mut writer = Kept::new(7, u64::MAX);
-            let ended = run(alloc, &mut reader, &mut writer)?;
-            assert_eq!(rt; ended, Ok(count), "{text:?} by {step}");
-            assert_eq!(rt; writer.bytes(), echoed, "{text:?} by {step}");
+    for (text, echoed, count) in &TEXTS {
+        for step in &[1, 2, 3, 5, 100] {
+            let reader = Given::new(text, *step, u64::MAX);
+            let (ran, is_echoed) = run(alloc, reader, Kept::new(7, u64::MAX), echoed)?;
+            assert!(rt; ran.ended == Ok(*count) && is_echoed, "{text:?} by {step}");
         }
     }
     Ok(())
@@ -116,63 +133,69 @@ fn stops_where_a_read_fails(rt: HostRuntime) -> Result<(), Fail> {
     let alloc = rt.alloc();
     // Each read gives one byte, and one more meets the end: what was read before the failed one is answered.
     for call in 0..TEXT.len() as u64 + 1 {
-        let mut reader = Given::new(TEXT, 1, call);
-        let mut writer = Kept::new(1000, u64::MAX);
-        let ended = run(alloc, &mut reader, &mut writer)?;
-        assert_eq!(rt; ended, Err(LineFault::InputFailed), "at {call}");
-        assert!(rt; reader.has_failed());
-        assert!(rt; !writer.has_failed());
-        assert_eq!(rt; reader.calls, call + 1);
         let answered = ECHO.get(..whole_lines(call)).unwrap_or(b"");
-        assert_eq!(rt; writer.bytes(), answered, "at {call}");
+        let reader = Given::new(TEXT, 1, call);
+        let (ran, is_echoed) = run(alloc, reader, Kept::new(1000, u64::MAX), answered)?;
+        assert!(rt;
+            ran.ended == Err(LineFault::InputFailed) && is_echoed,
+            "at {call}"
+        );
+        assert!(rt; ran.read_failed && !ran.write_failed && ran.reads == call + 1);
     }
     // The end is asked for once.
-    let mut reader = Given::new(TEXT, 1, TEXT.len() as u64 + 1);
-    let mut writer = Kept::new(1000, u64::MAX);
-    assert_eq!(rt; run(alloc, &mut reader, &mut writer)?, Ok(4));
-    assert_eq!(rt; writer.bytes(), ECHO);
+    let reader = Given::new(TEXT, 1, TEXT.len() as u64 + 1);
+    let (ran, is_echoed) = run(alloc, reader, Kept::new(1000, u64::MAX), ECHO)?;
+    assert!(rt; ran.ended == Ok(4) && is_echoed);
     Ok(())
 }
 
 #[test]
 fn stops_where_a_write_fails(rt: HostRuntime) -> Result<(), Fail> {
     let alloc = rt.alloc();
-    for step in [1, 4, 100] {
+    for step in &[1, 4, 100] {
         for call in 0..ECHO.len() as u64 {
-            let mut reader = Given::new(TEXT, step, u64::MAX);
-            let mut writer = Kept::new(1, call);
-            let ended = run(alloc, &mut reader, &mut writer)?;
-            assert_eq!(rt; ended, Err(LineFault::OutputFailed), "at {call}");
-            assert!(rt; writer.has_failed());
-            assert!(rt; !reader.has_failed());
-            assert_eq!(rt; writer.calls, call + 1);
-            assert_eq!(rt; writer.bytes(), &ECHO[..call as usize]);
+            let reader = Given::new(TEXT, *step, u64::MAX);
+            let written = &ECHO[..call as usize];
+            let (ran, is_echoed) = run(alloc, reader, Kept::new(1, call), written)?;
+            assert!(rt;
+                ran.ended == Err(LineFault::OutputFailed) && is_echoed,
+                "at {call}"
+            );
+            assert!(rt; ran.write_failed && !ran.read_failed && ran.writes == call + 1);
         }
     }
+    Ok(())
+}
+
+#[test]
+fn answers_a_block_before_the_next_read(rt: HostRuntime) -> Result<(), Fail> {
     // All answers of a block are written by one call, before the read that meets the end.
-    let mut reader = Given::new(TEXT, 100, 1);
-    let mut writer = Kept::new(1000, u64::MAX);
-    assert_eq!(rt;
-        run(alloc, &mut reader, &mut writer)?,
-        Err(LineFault::InputFailed)
-    );
-    assert_eq!(rt; writer.calls, 1);
-    assert_eq!(rt; writer.bytes(), b"one$$three$".as_slice());
+    let reader = Given::new(TEXT, 100, 1);
+    let (ran, is_echoed) = run(
+        rt.alloc(),
+        reader,
+        Kept::new(1000, u64::MAX),
+        b"one$$three$",
+    )?;
+    assert!(rt; ran.ended == Err(LineFault::InputFailed) && is_echoed && ran.writes == 1);
     Ok(())
 }
 
 static LONG: [u8; 400_000] = [b'x'; 400_000];
 
+/// Whether the long line is taken whole, where the source gives so many bytes at a time.
+fn takes_the_long_line(alloc: Global, step: usize) -> Result<bool, Fail> {
+    let (mut lines, mut output) = make_ends(alloc)?;
+    let mut reader = Given::new(&LONG, step, u64::MAX);
+    let mut writer = Kept::new(1, 0);
+    let taken = next_line_again(&mut lines, &mut reader, &mut output, &mut writer);
+    Ok(taken == Ok(true) && lines.count() == 1 && lines.line() == LONG.as_slice())
+}
+
 #[test]
 fn takes_a_line_of_many_blocks(rt: HostRuntime) -> Result<(), Fail> {
-    for step in [1000, 65_536, 1_000_000] {
-        let (mut lines, mut output) = make_ends(rt.alloc())?;
-        let mut reader = Given::new(&LONG, step, u64::MAX);
-        let mut writer = Kept::new(1, 0);
-        let taken = next_line_again(&mut lines, &mut reader, &mut output, &mut writer);
-        assert_eq!(rt; taken, Ok(true));
-        assert_eq!(rt; lines.count(), 1);
-        assert!(rt; lines.line() == LONG.as_slice());
+    for step in &[1000, 65_536, 1_000_000] {
+        assert!(rt; takes_the_long_line(rt.alloc(), *step)?, "by {step}");
     }
     Ok(())
 }

@@ -55,13 +55,18 @@ fn makes_interrupted_calls_again(rt: HostRuntime) {
     }
 }
 
-#[test]
-fn fails_at_once(rt: HostRuntime) {
+/// What a read and a write of a broken end answer, and how many calls of std they make.
+fn read_and_write_broken() -> (Result<usize, EndFailed>, Result<usize, EndFailed>, u64) {
     let mut room = [0; 8];
     let mut broken = Broken { calls: 0 };
-    assert_eq!(rt; StdEnd::new(&mut broken).read(&mut room), Err(EndFailed));
-    assert_eq!(rt; StdEnd::new(&mut broken).write(b"text"), Err(EndFailed));
-    assert_eq!(rt; broken.calls, 2);
+    let read = StdEnd::new(&mut broken).read(&mut room);
+    let written = StdEnd::new(&mut broken).write(b"text");
+    (read, written, broken.calls)
+}
+
+#[test]
+fn fails_at_once(rt: HostRuntime) {
+    assert!(rt; read_and_write_broken() == (Err(EndFailed), Err(EndFailed), 2));
     // A write that takes none of some bytes isn't made again; to read or write none is no failure.
     let full = (Err(EndFailed), Err(EndFailed), true, 2);
     assert!(rt; write_twice(Interrupted::new(0, 0), b"text") == full);
@@ -70,22 +75,47 @@ fn fails_at_once(rt: HostRuntime) {
     assert!(rt; read_twice(Interrupted::new(0, 0)) == none);
 }
 
+/// Bytes that a call of std took, the bytes it was asked for, and what that means for a read.
+const READS: [(usize, u64, Attempt); 3] = [
+    (0, 0, Attempt::Done(0)),
+    (7, 7, Attempt::Done(7)),
+    (8, 7, Attempt::Failed),
+];
+
+/// The same of a write.
+const WRITES: [(usize, usize, Attempt); 3] = [
+    (0, 0, Attempt::Done(0)),
+    (1, 7, Attempt::Done(1)),
+    (0, 7, Attempt::Failed),
+];
+
 #[test]
-fn weighs_one_answer(rt: HostRuntime) {
-    assert_eq!(rt; read_attempt(Ok(0), 0), Attempt::Done(0));
-    assert_eq!(rt; read_attempt(Ok(7), 7), Attempt::Done(7));
-    assert_eq!(rt; read_attempt(Ok(8), 7), Attempt::Failed);
-    assert_eq!(rt; write_attempt(Ok(0), 0), Attempt::Done(0));
-    assert_eq!(rt; write_attempt(Ok(1), 7), Attempt::Done(1));
-    assert_eq!(rt; write_attempt(Ok(0), 7), Attempt::Failed);
-    let cases = [
-        (ErrorKind::Interrupted, Attempt::Again),
-        (ErrorKind::WouldBlock, Attempt::Failed),
-        (ErrorKind::UnexpectedEof, Attempt::Failed),
-        (ErrorKind::WriteZero, Attempt::Failed),
-    ];
-    for (kind, attempt) in cases {
-        assert_eq!(rt; read_attempt(Err(Error::from(kind)), 7), attempt);
-        assert_eq!(rt; write_attempt(Err(Error::from(kind)), 7), attempt);
+fn weighs_what_a_call_took(rt: HostRuntime) {
+    for (count, left, attempt) in &READS {
+        assert!(rt;
+            read_attempt(Ok(*count), *left) == *attempt,
+            "{count} of {left}"
+        );
+    }
+    for (count, asked, attempt) in &WRITES {
+        assert!(rt;
+            write_attempt(Ok(*count), *asked) == *attempt,
+            "{count} of {asked}"
+        );
+    }
+}
+
+const ERRORS: [(ErrorKind, Attempt); 4] = [
+    (ErrorKind::Interrupted, Attempt::Again),
+    (ErrorKind::WouldBlock, Attempt::Failed),
+    (ErrorKind::UnexpectedEof, Attempt::Failed),
+    (ErrorKind::WriteZero, Attempt::Failed),
+];
+
+#[test]
+fn weighs_an_error(rt: HostRuntime) {
+    for (kind, attempt) in &ERRORS {
+        assert!(rt; read_attempt(Err(Error::from(*kind)), 7) == *attempt);
+        assert!(rt; write_attempt(Err(Error::from(*kind)), 7) == *attempt);
     }
 }

@@ -45,15 +45,21 @@ pub fn push_kid(rows: &mut Rows, kid: usize) -> Result<(), Fail>
     Ok(())
 }
 
+/// Adds a row for each list of kids.
+pub fn add_rows(rows: &mut Rows, kids: &[&[usize]]) -> Result<(), Fail> {
+    for row in kids {
+        begin_row(rows)?;
+        for kid in *row {
+            push_kid(rows, *kid)?;
+        }
+    }
+    Ok(())
+}
+
 /// A table of these rows.
 pub fn rows_of(alloc: Global, kids: &[&[usize]]) -> Result<Rows, Fail> {
     let mut rows = Rows::new(alloc);
-    for row in kids {
-        begin_row(&mut rows)?;
-        for kid in *row {
-            push_kid(&mut rows, *kid)?;
-        }
-    }
+    add_rows(&mut rows, kids)?;
     Ok(rows)
 }
 

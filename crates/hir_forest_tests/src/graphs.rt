@@ -5,7 +5,8 @@ use crate::again::{begin_row, ends, fault_of, push_kid, roots_of, rows_of};
 use hir_forest::ForestFault::{
     Cycle, RootEnds, RootOutOfRange, RootRepeated, RootUnderRoot, SharedChild,
 };
-use hir_forest::{ForestFault, Root, Rows};
+use hir_forest::{Ends, ForestFault, Root, Rows};
+use std::alloc::Global;
 use std::test::Fail;
 
 /// What a case has: a name, the kids of each node, how many nodes are expressions, the roots and the first fault.
@@ -114,16 +115,49 @@ const GRAPHS: [Case<'static>; 22] = [
     ("under no expression", &[&[], &[0]], 1, &[0], None),
 ];
 
+/// The first fault of a graph with this many expressions and these roots.
+fn fault_found(
+    alloc: Global,
+    kids: &[&[usize]],
+    exprs: u32,
+    nodes: &[u32],
+) -> Result<Option<ForestFault>, Fail> {
+    let rows = rows_of(alloc, kids)?;
+    let roots = roots_of(alloc, nodes)?;
+    fault_of(alloc, &rows, ends(exprs, 0, 0), &roots)
+}
+
 #[test]
 fn each_graph_has_its_fault(rt: HostRuntime) -> Result<(), Fail> {
     for (name, kids, exprs, nodes, fault) in &GRAPHS {
-        let rows = rows_of(rt.alloc(), kids)?;
-        let roots = roots_of(rt.alloc(), nodes)?;
-        let found = fault_of(rt.alloc(), &rows, ends(*exprs, 0, 0), &roots)?;
-        assert_eq!(rt; found, *fault, "at {name}");
+        let found = fault_found(rt.alloc(), kids, *exprs, nodes)?;
+        assert!(rt; found == *fault, "at {name}");
     }
     Ok(())
 }
+
+/// The first fault of three nodes of which the first two are roots with these ends.
+fn fault_of_ends(alloc: Global, first: Ends, second: Ends) -> Result<Option<ForestFault>, Fail> {
+    let rows = rows_of(alloc, &[&[], &[], &[]])?;
+    let roots = [
+        Root {
+            node: 0,
+            ends: first,
+        },
+        Root {
+            node: 1,
+            ends: second,
+        },
+    ];
+    fault_of(alloc, &rows, LENGTHS, &roots)
+}
+
+/// The lengths of the arenas.
+const LENGTHS: Ends = Ends {
+    exprs: 3,
+    pats: 2,
+    bindings: 1,
+};
 
 #[test]
 fn ends_rise_within_the_arenas(rt: HostRuntime) -> Result<(), Fail> {
@@ -140,41 +174,41 @@ fn ends_rise_within_the_arenas(rt: HostRuntime) -> Result<(), Fail> {
         (ends(2, 1, 1), ends(2, 0, 1), falls),
         (ends(2, 1, 1), ends(2, 1, 0), falls),
     ];
-    let rows = rows_of(rt.alloc(), &[&[], &[], &[]])?;
-    let lengths = ends(3, 2, 1);
     for (first, second, fault) in &cases {
-        let roots = [
-            Root {
-                node: 0,
-                ends: *first,
-            },
-            Root {
-                node: 1,
-                ends: *second,
-            },
-        ];
-        assert_eq!(rt; fault_of(rt.alloc(), &rows, lengths, &roots)?, *fault);
-        let fit = first.fit(ends(0, 0, 0), lengths) && second.fit(*first, lengths);
-        assert_eq!(rt; fit, fault.is_none());
+        let found = fault_of_ends(rt.alloc(), *first, *second)?;
+        let fit = first.fit(ends(0, 0, 0), LENGTHS) && second.fit(*first, LENGTHS);
+        assert!(rt; found == *fault && fit == fault.is_none());
     }
     Ok(())
 }
 
-#[test]
-fn a_million_nodes_in_a_chain(rt: HostRuntime) -> Result<(), Fail> {
-    let mut rows = Rows::new(rt.alloc());
+/// A table of a chain, in which each node is the only kid of the next.
+fn chain_of(alloc: Global, len: usize) -> Result<Rows, Fail> {
+    let mut rows = Rows::new(alloc);
     begin_row(&mut rows)?;
-    for node in 1..1_000_000usize {
+    for node in 1..len {
         begin_row(&mut rows)?;
         push_kid(&mut rows, node - 1)?;
     }
+    Ok(rows)
+}
+
+/// The first fault of a chain of 1,000,000 nodes whose ends are roots, and of the chain with one node more, which is its own
+/// kid.
+fn faults_of_the_chain(alloc: Global) -> Result<(Option<ForestFault>, Option<ForestFault>), Fail> {
     let lengths = ends(1_000_000, 0, 0);
-    let roots = roots_of(rt.alloc(), &[999_999, 0])?;
-    let found = fault_of(rt.alloc(), &rows, lengths, &roots)?;
-    assert_eq!(rt; found, Some(RootUnderRoot(1)));
+    let mut rows = chain_of(alloc, 1_000_000)?;
+    let roots = roots_of(alloc, &[999_999, 0])?;
+    let chain = fault_of(alloc, &rows, lengths, &roots)?;
     begin_row(&mut rows)?;
     push_kid(&mut rows, 1_000_000)?;
-    let found = fault_of(rt.alloc(), &rows, lengths, &roots)?;
-    assert_eq!(rt; found, Some(Cycle(1_000_000)));
+    let cycle = fault_of(alloc, &rows, lengths, &roots)?;
+    Ok((chain, cycle))
+}
+
+#[test]
+fn a_million_nodes_in_a_chain(rt: HostRuntime) -> Result<(), Fail> {
+    let found = faults_of_the_chain(rt.alloc())?;
+    assert!(rt; found == (Some(RootUnderRoot(1)), Some(Cycle(1_000_000))));
     Ok(())
 }

@@ -2,14 +2,19 @@
 //! growth refused.
 
 use hir_base::{Idx, Name, Seq};
-use hir_lines::{Line, parse};
-use hir_node::Path;
+use hir_lines::{Line, Maker, parse};
+use hir_node::{Expr, Pat, Path, TypeRef};
 use std::alloc::{AllocError, Global};
 use std::mem::drop;
+use std::process::Abort;
+use std::test::Fail;
 
 /// What a text says.
 fn said(alloc: Global, text: &[u8]) -> Result<Line, AllocError> {
-    parse(alloc, text).or_else(|_| parse(alloc, text))
+    match parse(alloc, text) {
+        Ok(said) => Ok(said),
+        Err(_) => parse(alloc, text),
+    }
 }
 
 /// Whether a text says this line. The line is dropped whole, since one that goes out of scope is dear to prove.
@@ -30,6 +35,30 @@ fn is_same(said: Line, line: &Line) -> bool {
     let is_same = said == *line;
     drop(said);
     is_same
+}
+
+/// Whether a text makes this expression.
+pub fn makes_expr(alloc: Global, text: &[u8], made: Expr) -> Result<bool, AllocError> {
+    says(alloc, text, Line::Make(Maker::Expr(made)))
+}
+
+/// Whether a text makes this pattern.
+pub fn makes_pat(alloc: Global, text: &[u8], made: Pat) -> Result<bool, AllocError> {
+    says(alloc, text, Line::Make(Maker::Pat(made)))
+}
+
+/// Whether a text makes this type.
+pub fn makes_type(alloc: Global, text: &[u8], made: TypeRef) -> Result<bool, AllocError> {
+    says(alloc, text, Line::Make(Maker::Type(made)))
+}
+
+/// Fails where one of some answers is no. A test asks all that it asks before this: a test with one way out is cheap to prove.
+pub fn all_hold(rt: &impl Abort, answers: &[Result<bool, AllocError>]) -> Result<(), Fail> {
+    for (at, answer) in answers.iter().enumerate() {
+        let holds = (*answer)?;
+        assert!(rt; holds, "at {at}");
+    }
+    Ok(())
 }
 
 pub fn name(alloc: Global, text: &str) -> Result<Name, AllocError> {

@@ -1,78 +1,58 @@
 //! The operators between two expressions, each by its text.
 
-use super::again::{id, says};
+use super::again::{all_hold, id, makes_expr};
 use hir_base::{ArithOp, BinaryOp, CmpOp, LogicOp, Ordering};
-use hir_lines::{Line, Maker};
 use hir_node::Expr;
-use std::alloc::Global;
+use std::alloc::{AllocError, Global};
 use std::process::Abort;
 use std::test::Fail;
 
-/// Compares what a line with an operator makes of the expressions 1 and 2.
-fn same(rt: &impl Abort, alloc: Global, text: &[u8], op: BinaryOp) -> Result<(), Fail> {
+/// Whether a line with an operator makes it of the expressions 1 and 2.
+fn makes_op(alloc: Global, text: &[u8], op: BinaryOp) -> Result<bool, AllocError> {
     let made = Expr::BinaryOp {
         lhs: id(1),
         rhs: id(2),
         op: Some(op),
     };
-    assert!(rt;
-        says(alloc, text, Line::Make(Maker::Expr(made)))?,
-        "{text:?}"
-    );
+    makes_expr(alloc, text, made)
+}
+
+/// Fails where a line doesn't make its operator.
+fn same(rt: &impl Abort, alloc: Global, text: &[u8], op: BinaryOp) -> Result<(), Fail> {
+    assert!(rt; makes_op(alloc, text, op)?, "{text:?}");
     Ok(())
 }
 
-fn order(ordering: Ordering, strict: bool) -> BinaryOp {
-    BinaryOp::CmpOp(CmpOp::Ord { ordering, strict })
+fn makes_eq(alloc: Global, text: &[u8], negated: bool) -> Result<bool, AllocError> {
+    makes_op(alloc, text, BinaryOp::CmpOp(CmpOp::Eq { negated }))
+}
+
+fn makes_order(
+    alloc: Global,
+    text: &[u8],
+    ordering: Ordering,
+    strict: bool,
+) -> Result<bool, AllocError> {
+    makes_op(
+        alloc,
+        text,
+        BinaryOp::CmpOp(CmpOp::Ord { ordering, strict }),
+    )
 }
 
 #[test]
 fn logic_and_comparisons(rt: HostRuntime) -> Result<(), Fail> {
     let alloc = rt.alloc();
-    same(
-        &rt,
-        alloc,
-        b"expr bin || 1 2",
-        BinaryOp::LogicOp(LogicOp::Or),
-    )?;
-    same(
-        &rt,
-        alloc,
-        b"expr bin && 1 2",
-        BinaryOp::LogicOp(LogicOp::And),
-    )?;
-    same(
-        &rt,
-        alloc,
-        b"expr bin == 1 2",
-        BinaryOp::CmpOp(CmpOp::Eq { negated: false }),
-    )?;
-    same(
-        &rt,
-        alloc,
-        b"expr bin != 1 2",
-        BinaryOp::CmpOp(CmpOp::Eq { negated: true }),
-    )?;
-    same(&rt, alloc, b"expr bin < 1 2", order(Ordering::Less, true))?;
-    same(&rt, alloc, b"expr bin <= 1 2", order(Ordering::Less, false))?;
-    same(
-        &rt,
-        alloc,
-        b"expr bin > 1 2",
-        order(Ordering::Greater, true),
-    )?;
-    same(
-        &rt,
-        alloc,
-        b"expr bin >= 1 2",
-        order(Ordering::Greater, false),
-    )?;
-    same(
-        &rt,
-        alloc,
-        b"expr bin = 1 2",
-        BinaryOp::Assignment { op: None },
-    )
+    let or = makes_op(alloc, b"expr bin || 1 2", BinaryOp::LogicOp(LogicOp::Or));
+    let and = makes_op(alloc, b"expr bin && 1 2", BinaryOp::LogicOp(LogicOp::And));
+    let eq = makes_eq(alloc, b"expr bin == 1 2", false);
+    let ne = makes_eq(alloc, b"expr bin != 1 2", true);
+    let lt = makes_order(alloc, b"expr bin < 1 2", Ordering::Less, true);
+    let le = makes_order(alloc, b"expr bin <= 1 2", Ordering::Less, false);
+    let gt = makes_order(alloc, b"expr bin > 1 2", Ordering::Greater, true);
+    let ge = makes_order(alloc, b"expr bin >= 1 2", Ordering::Greater, false);
+    let assignment = makes_op(alloc, b"expr bin = 1 2", BinaryOp::Assignment { op: None });
+    all_hold(&rt, &[or, and, eq, ne, lt, le, gt, ge, assignment])
 }
 
 const ARITHMETIC: [(&[u8], &[u8], ArithOp); 10] = [
@@ -91,6 +71,7 @@ const ARITHMETIC: [(&[u8], &[u8], ArithOp); 10] = [
 #[test]
 fn arithmetic_alone_and_before_an_equals_sign(rt: HostRuntime) -> Result<(), Fail> {
     let alloc = rt.alloc();
+    // By value: operators that are lent from a constant are dear to prove.
     for (plain, assigning, op) in ARITHMETIC {
         same(&rt, alloc, plain, BinaryOp::ArithOp(op))?;
         same(&rt, alloc, assigning, BinaryOp::Assignment { op: Some(op) })?;

@@ -25,7 +25,8 @@ pub fn two<T: Drop>(alloc: Global, first: T, second: T) -> Result<Seq<T>, AllocE
 pub fn plain(alloc: Global, texts: &[&str]) -> Result<ModPath, AllocError> {
     let mut names = Seq::new(alloc);
     for text in texts {
-        again::push(&mut names, again::name(alloc, text)?)?;
+        let name = again::name(alloc, text)?;
+        again::push(&mut names, name)?;
     }
     Ok(ModPath::from_segments(PathKind::Plain, names))
 }
@@ -51,12 +52,7 @@ pub fn anchor() -> TypeRefId {
 
 /// These names behind the anchor, with a place without arguments for each.
 pub fn anchored(alloc: Global, texts: &[&str]) -> Result<Path, AllocError> {
-    let path = NormalPath {
-        generic_args: places(alloc, texts)?,
-        type_anchor: Some(anchor()),
-        mod_path: plain(alloc, texts)?,
-    };
-    Ok(Path::Normal(again::boxed(alloc, path)?))
+    with_lists(alloc, places(alloc, texts)?, Some(anchor()), texts)
 }
 
 /// One type as argument, and these bindings.
@@ -75,8 +71,9 @@ pub fn type_args(
 
 /// For each name a place, the first with type 3 as its argument.
 pub fn lists_first(alloc: Global, texts: &[&str]) -> Result<Seq<Option<GenericArgs>>, AllocError> {
-    let mut lists = one(alloc, Some(type_args(alloc, 3, Seq::new(alloc))?))?;
-    for _text in texts.iter().skip(1) {
+    let args = type_args(alloc, 3, Seq::new(alloc))?;
+    let mut lists = one(alloc, Some(args))?;
+    for _place in 1..texts.len() {
         again::push(&mut lists, None)?;
     }
     Ok(lists)
@@ -84,23 +81,25 @@ pub fn lists_first(alloc: Global, texts: &[&str]) -> Result<Seq<Option<GenericAr
 
 /// The plain path of these names, the first with type 3 as its argument.
 pub fn with_args_first(alloc: Global, texts: &[&str]) -> Result<Path, AllocError> {
-    with_lists(alloc, lists_first(alloc, texts)?, texts)
+    with_lists(alloc, lists_first(alloc, texts)?, None, texts)
 }
 
 /// The path `a::b`, the second name with type 3 as its argument.
 pub fn with_args_last(alloc: Global) -> Result<Path, AllocError> {
     let args = type_args(alloc, 3, Seq::new(alloc))?;
-    with_lists(alloc, two(alloc, None, Some(args))?, &["a", "b"])
+    with_lists(alloc, two(alloc, None, Some(args))?, None, &["a", "b"])
 }
 
-fn with_lists(
+/// The names behind the anchor, with these lists.
+pub fn with_lists(
     alloc: Global,
     generic_args: Seq<Option<GenericArgs>>,
+    type_anchor: Option<TypeRefId>,
     texts: &[&str],
 ) -> Result<Path, AllocError> {
     let path = NormalPath {
         generic_args,
-        type_anchor: None,
+        type_anchor,
         mod_path: plain(alloc, texts)?,
     };
     Ok(Path::Normal(again::boxed(alloc, path)?))
@@ -113,20 +112,39 @@ pub fn item() -> LangItemTarget {
 
 /// `<1, B<2, C = 3>: '5 = 4>`: the binding `B` has arguments of its own, a type and a bound.
 pub fn nested(alloc: Global) -> Result<GenericArgs, AllocError> {
-    let outer = AssociatedTypeBinding {
-        name: again::name(alloc, "B")?,
-        args: Some(type_args(alloc, 2, one(alloc, inner(alloc)?)?)?),
-        type_ref: Some(Idx::from_raw(4)),
-        bounds: one(alloc, TypeBound::Lifetime(Idx::from_raw(5)))?,
-    };
-    type_args(alloc, 1, one(alloc, outer)?)
+    let bounds = one(alloc, TypeBound::Lifetime(Idx::from_raw(5)))?;
+    bound_args(alloc, 1, outer(alloc, bounds)?)
+}
+
+// This type as argument, and this binding.
+fn bound_args(
+    alloc: Global,
+    ty: u32,
+    binding: AssociatedTypeBinding,
+) -> Result<GenericArgs, AllocError> {
+    type_args(alloc, ty, one(alloc, binding)?)
+}
+
+fn outer(alloc: Global, bounds: Seq<TypeBound>) -> Result<AssociatedTypeBinding, AllocError> {
+    let args = bound_args(alloc, 2, inner(alloc)?)?;
+    binding(alloc, "B", Some(args), 4, bounds)
 }
 
 fn inner(alloc: Global) -> Result<AssociatedTypeBinding, AllocError> {
+    binding(alloc, "C", None, 3, Seq::new(alloc))
+}
+
+fn binding(
+    alloc: Global,
+    name: &str,
+    args: Option<GenericArgs>,
+    ty: u32,
+    bounds: Seq<TypeBound>,
+) -> Result<AssociatedTypeBinding, AllocError> {
     Ok(AssociatedTypeBinding {
-        name: again::name(alloc, "C")?,
-        args: None,
-        type_ref: Some(Idx::from_raw(3)),
-        bounds: Seq::new(alloc),
+        name: again::name(alloc, name)?,
+        args,
+        type_ref: Some(Idx::from_raw(ty)),
+        bounds,
     })
 }

@@ -5,30 +5,45 @@ use crate::build;
 use crate::wanted::{Call, Wanted};
 use hir_base::{Idx, Seq};
 use hir_node::{
-    AssociatedTypeBinding, GenericArgs, PathId, StoreVisitor, StoreVisitorExt, TraitBoundModifier,
-    TypeBound, laws, visit_generic_args,
+    AssociatedTypeBinding, GenericArgs, Path, PathId, StoreVisitor, StoreVisitorExt,
+    TraitBoundModifier, TypeBound, laws, visit_generic_args,
 };
 use std::alloc::{AllocError, Global};
+use std::mem::drop;
 use std::test::Fail;
 
-#[test]
-fn parts_and_lists_give_a_call_each(rt: HostRuntime) {
-    let mut wanted = Wanted::new(&[
-        Call::Expr(1),
-        Call::Pat(2),
-        Call::Type(3),
-        Call::Lifetime(4),
-    ]);
+// Whether one part of each kind, that is there, makes these calls.
+fn parts_give(calls: &[Call]) -> bool {
+    let mut wanted = Wanted::new(calls);
     wanted.on_expr_opt(Some(Idx::from_raw(1)));
     wanted.on_pat_opt(Some(Idx::from_raw(2)));
     wanted.on_type_opt(Some(Idx::from_raw(3)));
     wanted.on_lifetime_opt(Some(Idx::from_raw(4)));
-    assert!(rt; wanted.all_met());
-    let mut wanted = Wanted::new(&[Call::Expr(1), Call::Expr(2), Call::Pat(3), Call::Type(4)]);
+    wanted.all_met()
+}
+
+// Whether the lists of the expressions 1 and 2, of the pattern 3 and of the type 4 make these calls.
+fn lists_give(calls: &[Call]) -> bool {
+    let mut wanted = Wanted::new(calls);
     wanted.on_exprs(&[Idx::from_raw(1), Idx::from_raw(2)]);
     wanted.on_pats(&[Idx::from_raw(3)]);
     wanted.on_types(&[Idx::from_raw(4)]);
-    assert!(rt; wanted.all_met());
+    wanted.all_met()
+}
+
+const PARTS: [Call; 4] = [
+    Call::Expr(1),
+    Call::Pat(2),
+    Call::Type(3),
+    Call::Lifetime(4),
+];
+
+const LISTS: [Call; 4] = [Call::Expr(1), Call::Expr(2), Call::Pat(3), Call::Type(4)];
+
+#[test]
+fn parts_and_lists_give_a_call_each(rt: HostRuntime) {
+    assert!(rt; parts_give(&PARTS));
+    assert!(rt; lists_give(&LISTS));
 }
 
 #[test]
@@ -49,6 +64,15 @@ fn path_bound(ty: u32) -> TypeBound {
     )
 }
 
+// Whether the list of bounds, and behind it each of these, makes these calls.
+fn bounds_give(bounds: &[TypeBound], error: &TypeBound, path: &TypeBound, calls: &[Call]) -> bool {
+    let mut wanted = Wanted::new(calls);
+    wanted.on_type_bounds(bounds);
+    wanted.on_type_bound(error);
+    wanted.on_type_bound(path);
+    wanted.all_met()
+}
+
 #[test]
 fn a_bound_gives_its_type_or_lifetime(rt: HostRuntime) -> Result<(), Fail> {
     let bounds = build::two(
@@ -56,11 +80,9 @@ fn a_bound_gives_its_type_or_lifetime(rt: HostRuntime) -> Result<(), Fail> {
         path_bound(1),
         TypeBound::Lifetime(Idx::from_raw(2)),
     )?;
-    let mut wanted = Wanted::new(&[Call::Type(1), Call::Lifetime(2), Call::Type(3)]);
-    wanted.on_type_bounds(bounds.as_slice());
-    wanted.on_type_bound(&TypeBound::Error);
-    wanted.on_type_bound(&path_bound(3));
-    assert!(rt; wanted.all_met());
+    const CALLS: [Call; 3] = [Call::Type(1), Call::Lifetime(2), Call::Type(3)];
+    let holds = bounds_give(bounds.as_slice(), &TypeBound::Error, &path_bound(3), &CALLS);
+    assert!(rt; holds);
     Ok(())
 }
 
@@ -72,29 +94,46 @@ const NESTED: [Call; 5] = [
     Call::Lifetime(5),
 ];
 
+// Whether a visit of the arguments makes the calls `NESTED`.
+fn a_visit_gives_nested(args: &GenericArgs) -> bool {
+    laws::calls_of_generic_args(args);
+    let mut wanted = Wanted::new(&NESTED);
+    visit_generic_args(&mut wanted, args);
+    wanted.all_met()
+}
+
+// The same of the visitor's calls with the arguments.
+fn calls_give_nested(args: &GenericArgs) -> bool {
+    let mut wanted = Wanted::new(&NESTED);
+    wanted.on_generic_args(args);
+    let mut wanted_opt = Wanted::new(&NESTED);
+    wanted_opt.on_generic_args_opt(Some(args));
+    wanted.all_met() && wanted_opt.all_met()
+}
+
 #[test]
 fn bindings_give_their_own_arguments_first(rt: HostRuntime) -> Result<(), Fail> {
     let args = build::nested(rt.alloc())?;
-    laws::calls_of_generic_args(&args);
-    let mut wanted = Wanted::new(&NESTED);
-    visit_generic_args(&mut wanted, &args);
-    assert!(rt; wanted.all_met());
-    let mut wanted = Wanted::new(&NESTED);
-    wanted.on_generic_args(&args);
-    assert!(rt; wanted.all_met());
-    let mut wanted = Wanted::new(&NESTED);
-    wanted.on_generic_args_opt(Some(&args));
-    assert!(rt; wanted.all_met());
+    let holds = a_visit_gives_nested(&args) && calls_give_nested(&args);
+    drop(args);
+    assert!(rt; holds);
     Ok(())
+}
+
+// Whether a lent visitor is called with the path, and then with the expression 1, by these calls.
+fn lent_gives(path: &Path, calls: &[Call]) -> bool {
+    let mut wanted = Wanted::new(calls);
+    let mut lent = &mut wanted;
+    lent.on_path(path);
+    lent.on_expr(Idx::from_raw(1));
+    wanted.all_met()
 }
 
 #[test]
 fn a_visitor_can_be_lent(rt: HostRuntime) -> Result<(), Fail> {
     let path = build::with_args_first(rt.alloc(), &["a", "b"])?;
-    let mut wanted = Wanted::new(&[Call::Type(3), Call::Expr(1)]);
-    let mut lent = &mut wanted;
-    lent.on_path(&path);
-    lent.on_expr(Idx::from_raw(1));
-    assert!(rt; wanted.all_met());
+    let holds = lent_gives(&path, &[Call::Type(3), Call::Expr(1)]);
+    drop(path);
+    assert!(rt; holds);
     Ok(())
 }

@@ -5,8 +5,8 @@ use crate::wanted::{Call, Wanted};
 use crate::{again, build};
 use hir_base::{Idx, Seq};
 use hir_node::{
-    ArrayType, CaptureBy, ClosureKind, ConstRef, Expr, ExprId, Item, MatchArm, Mutability,
-    NormalPath, Pat, PatId, Path, RefType, Statement, TypeRef, Unsafe,
+    ArrayType, CaptureBy, ClosureKind, ConstRef, Expr, ExprId, Item, MatchArm, Mutability, Pat,
+    PatId, Path, RefType, Statement, TypeRef, TypeRefId, Unsafe,
 };
 use std::alloc::{AllocError, Global};
 use std::mem::drop;
@@ -106,15 +106,21 @@ fn a_let_gives_its_pattern_behind_its_expressions(rt: HostRuntime) -> Result<(),
     Ok(())
 }
 
-fn closure(alloc: Global) -> Result<Expr, AllocError> {
-    Ok(Expr::Closure {
-        args: build::two(alloc, Idx::from_raw(1), Idx::from_raw(2))?,
-        arg_types: build::two(alloc, None, Some(Idx::from_raw(3)))?,
+fn closure_of(args: Seq<PatId>, arg_types: Seq<Option<TypeRefId>>) -> Expr {
+    Expr::Closure {
+        args,
+        arg_types,
         ret_type: Some(Idx::from_raw(4)),
         body: Idx::from_raw(0),
         closure_kind: ClosureKind::Closure,
         capture_by: CaptureBy::Ref,
-    })
+    }
+}
+
+fn closure(alloc: Global) -> Result<Expr, AllocError> {
+    let args = build::two(alloc, Idx::from_raw(1), Idx::from_raw(2))?;
+    let arg_types = build::two(alloc, None, Some(Idx::from_raw(3)))?;
+    Ok(closure_of(args, arg_types))
 }
 
 #[test]
@@ -132,12 +138,9 @@ fn a_closure_gives_its_body_first(rt: HostRuntime) -> Result<(), Fail> {
 
 // The path whose second segment has nested arguments.
 fn nested_path(alloc: Global) -> Result<Path, AllocError> {
-    let path = NormalPath {
-        generic_args: build::two(alloc, None, Some(build::nested(alloc)?))?,
-        type_anchor: Some(build::anchor()),
-        mod_path: build::plain(alloc, &["a", "b"])?,
-    };
-    Ok(Path::Normal(again::boxed(alloc, path)?))
+    let args = build::nested(alloc)?;
+    let lists = build::two(alloc, None, Some(args))?;
+    build::with_lists(alloc, lists, Some(build::anchor()), &["a", "b"])
 }
 
 #[test]
@@ -154,38 +157,52 @@ fn a_path_gives_its_anchor_last(rt: HostRuntime) -> Result<(), Fail> {
     Ok(())
 }
 
-#[test]
-fn a_pattern_gives_its_path_last(rt: HostRuntime) -> Result<(), Fail> {
-    let pat = Pat::TupleStruct {
-        path: build::with_args_first(rt.alloc(), &["A"])?,
-        args: build::one(rt.alloc(), Idx::from_raw(1))?,
+fn tuple_struct(path: Path, args: Seq<PatId>) -> Pat {
+    Pat::TupleStruct {
+        path,
+        args,
         ellipsis: None,
-    };
-    assert!(rt; pat_gives(pat, &[Call::Pat(1), Call::Type(3)]));
-    Ok(())
+    }
 }
 
 #[test]
-fn types_give_their_parts_in_order(rt: HostRuntime) -> Result<(), Fail> {
-    let array = TypeRef::Array(ArrayType {
+fn a_pattern_gives_its_path_last(rt: HostRuntime) -> Result<(), Fail> {
+    let args = build::one(rt.alloc(), Idx::from_raw(1))?;
+    let path = build::with_args_first(rt.alloc(), &["A"])?;
+    assert!(rt; pat_gives(tuple_struct(path, args), &[Call::Pat(1), Call::Type(3)]));
+    Ok(())
+}
+
+// Type 1, expression 2 times.
+fn array() -> TypeRef {
+    TypeRef::Array(ArrayType {
         ty: Idx::from_raw(1),
         len: ConstRef {
             expr: Idx::from_raw(2),
         },
-    });
-    assert!(rt; type_gives(array, &[Call::Type(1), Call::AnonConst(2)]));
+    })
+}
+
+// A shared reference to type 1 with the lifetime 2.
+fn reference(alloc: Global) -> Result<TypeRef, AllocError> {
     let reference = RefType {
         ty: Idx::from_raw(1),
         lifetime: Some(Idx::from_raw(2)),
         mutability: Mutability::Shared,
     };
-    let reference = TypeRef::Reference(again::boxed(rt.alloc(), reference)?);
+    Ok(TypeRef::Reference(again::boxed(alloc, reference)?))
+}
+
+#[test]
+fn types_give_their_parts_in_order(rt: HostRuntime) -> Result<(), Fail> {
+    assert!(rt; type_gives(array(), &[Call::Type(1), Call::AnonConst(2)]));
+    let reference = reference(rt.alloc())?;
     assert!(rt; type_gives(reference, &[Call::Type(1), Call::Lifetime(2)]));
     Ok(())
 }
 
 // How many of the child patterns have the numbers 1, 2 and so on, and how many there are.
-fn counted(pat: Pat) -> (u32, u32) {
+fn counted(pat: &Pat) -> (u32, u32) {
     let mut in_order = 0u32;
     let mut all = 0u32;
     pat.walk_child_pats(&mut |id: PatId| {
@@ -197,22 +214,49 @@ fn counted(pat: Pat) -> (u32, u32) {
     (in_order, all)
 }
 
+// Whether the slice of pattern 2 between these has three child patterns, in order.
+fn slice_is_in_order(prefix: Seq<PatId>, suffix: Seq<PatId>) -> bool {
+    let pat = Pat::Slice {
+        prefix,
+        slice: Some(Idx::from_raw(2)),
+        suffix,
+    };
+    let found = counted(&pat);
+    drop(pat);
+    found == (3, 3)
+}
+
 #[test]
 fn child_patterns_are_walked_in_order(rt: HostRuntime) -> Result<(), Fail> {
-    let pat = Pat::Slice {
-        prefix: build::one(rt.alloc(), Idx::from_raw(1))?,
-        slice: Some(Idx::from_raw(2)),
-        suffix: build::one(rt.alloc(), Idx::from_raw(3))?,
-    };
-    assert_eq!(rt; counted(pat), (3, 3));
+    let prefix = build::one(rt.alloc(), Idx::from_raw(1))?;
+    let suffix = build::one(rt.alloc(), Idx::from_raw(3))?;
+    assert!(rt; slice_is_in_order(prefix, suffix));
     Ok(())
+}
+
+// Whether a copy is the same. One function for each kind of node, since a function that holds nodes of several kinds is dear to prove.
+fn closure_copies(alloc: Global) -> Result<bool, AllocError> {
+    again::copies(closure(alloc)?)
+}
+
+fn path_copies_in_expr(alloc: Global) -> Result<bool, AllocError> {
+    again::copies(Expr::Path(nested_path(alloc)?))
+}
+
+fn path_copies_in_pat(alloc: Global) -> Result<bool, AllocError> {
+    again::copies(Pat::Path(nested_path(alloc)?))
+}
+
+fn path_copies_in_type(alloc: Global) -> Result<bool, AllocError> {
+    again::copies(TypeRef::Path(nested_path(alloc)?))
 }
 
 #[test]
 fn copies_of_nodes_are_the_same(rt: HostRuntime) -> Result<(), Fail> {
-    assert!(rt; again::copies(closure(rt.alloc())?)?);
-    assert!(rt; again::copies(Expr::Path(nested_path(rt.alloc())?))?);
-    assert!(rt; again::copies(Pat::Path(nested_path(rt.alloc())?))?);
-    assert!(rt; again::copies(TypeRef::Path(nested_path(rt.alloc())?))?);
+    let alloc = rt.alloc();
+    assert!(rt; closure_copies(alloc)?);
+    assert!(rt; path_copies_in_expr(alloc)?);
+    assert!(rt; path_copies_in_pat(alloc)?);
+    assert!(rt; path_copies_in_type(alloc)?);
     Ok(())
 }

@@ -1,10 +1,11 @@
 //! The small calls: literals, ids, words before bindings and pointers, boxes, function types and precedence.
 use crate::{again, build};
-use hir_base::{ArithOp, BinaryOp, ExprPrecedence, ExternAbi, Idx, Text};
+use hir_base::{ArithOp, BinaryOp, ExprPrecedence, ExternAbi, Idx, Name, Seq, Text};
 use hir_node::{
     BindingAnnotation, Boxed, Expr, ExprId, ExprOrPatId, FloatTypeWrapper, FnType, Literal,
-    Mutability, PatId, PathId, Rawness,
+    Mutability, PatId, PathId, Rawness, TypeRefId,
 };
+use std::alloc::{AllocError, Global};
 use std::mem::drop;
 use std::test::Fail;
 
@@ -20,6 +21,14 @@ fn the_least_number_stays(rt: HostRuntime) {
     assert!(rt; negates(Literal::Uint(5, None), None));
 }
 
+fn is_of_expr(id: ExprOrPatId, expr: ExprId) -> bool {
+    id.is_expr() && !id.is_pat() && id.as_expr() == Some(expr) && id.as_pat().is_none()
+}
+
+fn is_of_pat(id: ExprOrPatId, pat: PatId) -> bool {
+    id.is_pat() && !id.is_expr() && id.as_pat() == Some(pat) && id.as_expr().is_none()
+}
+
 #[test]
 fn an_id_is_of_one_kind(rt: HostRuntime) {
     let expr: ExprId = Idx::from_raw(3);
@@ -27,87 +36,107 @@ fn an_id_is_of_one_kind(rt: HostRuntime) {
     let of_expr = ExprOrPatId::from(expr);
     let of_pat = ExprOrPatId::from(pat);
     assert!(rt; of_expr != of_pat);
-    assert!(rt; of_expr.is_expr() && !of_expr.is_pat());
-    assert!(rt; of_pat.is_pat() && !of_pat.is_expr());
-    assert_eq!(rt; of_expr.as_expr(), Some(expr));
-    assert_eq!(rt; of_expr.as_pat(), None);
-    assert_eq!(rt; of_pat.as_pat(), Some(pat));
-    assert_eq!(rt; of_pat.as_expr(), None);
+    assert!(rt; is_of_expr(of_expr, expr));
+    assert!(rt; is_of_pat(of_pat, pat));
+}
+
+fn has_words(is_mutable: bool, is_ref: bool, words: BindingAnnotation) -> bool {
+    BindingAnnotation::new(is_mutable, is_ref) == words
 }
 
 #[test]
 fn a_binding_has_its_words(rt: HostRuntime) {
-    for (is_mutable, is_ref, words) in [
-        (false, false, BindingAnnotation::Unannotated),
-        (true, false, BindingAnnotation::Mutable),
-        (false, true, BindingAnnotation::Ref),
-        (true, true, BindingAnnotation::RefMut),
-    ] {
-        assert_eq!(rt; BindingAnnotation::new(is_mutable, is_ref), words);
-    }
+    assert!(rt; has_words(false, false, BindingAnnotation::Unannotated));
+    assert!(rt; has_words(true, false, BindingAnnotation::Mutable));
+    assert!(rt; has_words(false, true, BindingAnnotation::Ref));
+    assert!(rt; has_words(true, true, BindingAnnotation::RefMut));
+}
+
+fn is_written(mutability: Mutability, in_ref: &str, in_ptr: &str) -> bool {
+    mutability.as_keyword_for_ref() == in_ref && mutability.as_keyword_for_ptr() == in_ptr
 }
 
 #[test]
 fn references_and_pointers_have_their_words(rt: HostRuntime) {
-    let shared = Mutability::from_mutable(false);
-    let mutable = Mutability::from_mutable(true);
-    assert_eq!(rt; shared.as_keyword_for_ref(), "");
-    assert_eq!(rt; mutable.as_keyword_for_ref(), "mut ");
-    assert_eq!(rt; shared.as_keyword_for_ptr(), "const ");
-    assert_eq!(rt; mutable.as_keyword_for_ptr(), "mut ");
+    assert!(rt; is_written(Mutability::from_mutable(false), "", "const "));
+    assert!(rt; is_written(Mutability::from_mutable(true), "mut ", "mut "));
     assert!(rt; Mutability::Mut.is_mut() && !Mutability::Mut.is_shared());
     assert!(rt; Mutability::Shared.is_shared() && !Mutability::Shared.is_mut());
-    assert!(rt; Rawness::from_raw(true).is_raw());
-    assert!(rt; !Rawness::from_raw(false).is_raw());
+    assert!(rt; Rawness::from_raw(true).is_raw() && !Rawness::from_raw(false).is_raw());
 }
 
 #[test]
 fn a_path_id_is_its_type(rt: HostRuntime) {
     let id = PathId::from_type_ref_unchecked(build::anchor());
-    assert_eq!(rt; id.type_ref(), build::anchor());
+    assert!(rt; id.type_ref() == build::anchor());
+}
+
+// The value of the box, and what it holds when it was made again of its own box.
+fn taken_out(boxed: Boxed<u32>) -> (u32, u32) {
+    let value = *boxed.get();
+    let again = Boxed::from_box(boxed.into_box());
+    (value, again.into_inner())
 }
 
 #[test]
 fn a_boxed_value_comes_back(rt: HostRuntime) -> Result<(), Fail> {
     let boxed = again::boxed(rt.alloc(), 5u32)?;
-    assert_eq!(rt; *boxed.get(), 5);
-    let again = Boxed::from_box(boxed.into_box());
-    assert_eq!(rt; again.into_inner(), 5);
+    assert!(rt; taken_out(boxed) == (5, 5));
     Ok(())
+}
+
+fn float(alloc: Global, text: &str) -> Result<FloatTypeWrapper, AllocError> {
+    let text = match Text::from_str(alloc, text) {
+        Ok(made) => made,
+        Err(_) => Text::from_str(alloc, text)?,
+    };
+    Ok(FloatTypeWrapper::new(text))
+}
+
+fn shows(alloc: Global, number: &FloatTypeWrapper, text: &str) -> Result<bool, AllocError> {
+    let shown = match format!(in alloc; "{number}") {
+        Ok(shown) => shown,
+        Err(_) => format!(in alloc; "{number}")?,
+    };
+    Ok(shown.as_str() == text)
 }
 
 #[test]
 fn a_float_shows_its_text(rt: HostRuntime) -> Result<(), Fail> {
-    let text = match Text::from_str(rt.alloc(), "1.50") {
-        Ok(text) => text,
-        Err(_) => Text::from_str(rt.alloc(), "1.50")?,
-    };
-    let number = FloatTypeWrapper::new(text);
-    let shown = match format!(in rt.alloc(); "{number}") {
-        Ok(shown) => shown,
-        Err(_) => format!(in rt.alloc(); "{number}")?,
-    };
-    assert_eq!(rt; shown.as_str(), "1.50");
+    let number = float(rt.alloc(), "1.50")?;
+    let holds = shows(rt.alloc(), &number, "1.50")?;
+    drop(number);
+    assert!(rt; holds);
     Ok(())
+}
+
+fn with_params(params: Seq<(Option<Name>, TypeRefId)>) -> FnType {
+    FnType {
+        binder: None,
+        params,
+        is_varargs: false,
+        is_unsafe: false,
+        abi: ExternAbi::Rust,
+    }
+}
+
+// Whether there is one parameter before the return type, which is type 2.
+fn returns_the_second(function: &FnType) -> bool {
+    if function.params.is_empty() {
+        return false;
+    }
+    let (params, ret) = function.split_params_and_ret();
+    params.len() == 1 && ret.into_raw() == 2
 }
 
 #[test]
 fn the_last_entry_is_the_return_type(rt: HostRuntime) -> Result<(), Fail> {
-    let function = FnType {
-        binder: None,
-        params: build::two(
-            rt.alloc(),
-            (None, Idx::from_raw(1)),
-            (None, Idx::from_raw(2)),
-        )?,
-        is_varargs: false,
-        is_unsafe: false,
-        abi: ExternAbi::Rust,
-    };
-    assert!(rt; !function.params.is_empty());
-    let (params, ret) = function.split_params_and_ret();
-    assert_eq!(rt; params.len(), 1);
-    assert_eq!(rt; ret.into_raw(), 2);
+    let first = (None, Idx::from_raw(1));
+    let params = build::two(rt.alloc(), first, (None, Idx::from_raw(2)))?;
+    let function = with_params(params);
+    let holds = returns_the_second(&function);
+    drop(function);
+    assert!(rt; holds);
     Ok(())
 }
 

@@ -77,7 +77,10 @@ impl Path {
         ensures ok { IfOk result (λ made. made ≡ Path.BarePath (record { kind = PathKind.Plain; segments = name ∷ [] })) }
         ensures value_returned { IfErr result (λ failed. failed.value ≡ name) }
     {
-        let mut names = Seq::new(alloc);
+        // Most paths have one name, and the first growth of a list makes room for four.
+        let Ok(mut names) = Seq::with_capacity(alloc, 1) else {
+            return Err(AllocFailed { value: name });
+        };
         names.push(name)?;
         Ok(Path::BarePath(ModPath::from_segments(PathKind::Plain, names)))
     }

@@ -1,1 +1,4 @@
 pub mod BuildingLemmas
+pub mod PatLemmas
+pub mod UnderLemmas
+pub mod WalkLemmas

@@ -9,7 +9,7 @@ ghost use Rattle.hir_faults.specs.Faults.{nodes_in};
 ghost use Rattle.hir_faults.specs.Nodes.{sizes_of};
 ghost use Rattle.hir_faults.specs.Sizes.{Few};
 
-use hir_accepted::RootList;
+use crate::root_list::RootList;
 use hir_base::{Arena, ArenaFault, BlockId, HygieneId, Seq, Table};
 use hir_faults::{FinishFault, NodeSlices};
 use hir_forest::Root;

@@ -5,7 +5,9 @@ ghost use Rattle.hir_source.specs.Additions.{finished};
 ghost use Rattle.hir_store.specs.Building.{nodes_of, building_of, contents_of, roots_or_none, HasRoots, has_exprs, kept_marks, finish_fault};
 
 use crate::builder::{ExpressionStoreBuilder, Refused};
-use hir_accepted::{ExpressionStore, Marks, RootList, StoreParts};
+use crate::marks::Marks;
+use crate::root_list::RootList;
+use crate::store::{ExpressionStore, StoreParts};
 use hir_faults::FinishFault;
 use hir_forest::Root;
 use hir_source::ExpressionStoreSourceMap;

@@ -67,7 +67,9 @@ fn what_may_look_wrong(rt: HostRuntime) -> Result<(), Fail> {
     add_chain(&mut builder, a, 100_000)?;
     made::accept(a, builder)?;
     let made = made::finished(a, made::builder(a)?)?;
-    assert!(&rt; made::is_empty(&made.0, a));
+    let is_empty = made::is_empty(&made.0, a);
+    std::mem::drop(made);
+    assert!(&rt; is_empty);
     Ok(())
 }
 
@@ -82,7 +84,11 @@ fn copy(store: &ExpressionStore) -> Result<ExpressionStore, AllocError> {
 /// Whether a copy of it can be had, and equals it.
 fn equals_its_copy(store: &ExpressionStore) -> bool {
     match copy(store) {
-        Ok(copy) => copy == *store,
+        Ok(copy) => {
+            let holds = copy == *store;
+            std::mem::drop(copy);
+            holds
+        }
         Err(_) => false,
     }
 }
@@ -99,11 +105,12 @@ fn has_all_nodes(store: &ExpressionStore) -> bool {
 /// Whether expression 2 is `()`.
 fn has_unit(store: &ExpressionStore, alloc: Global) -> bool {
     let id = ExprId::from_raw(2);
-    store.has_expr(id)
-        && store[id]
-            == Expr::Tuple {
-                exprs: Seq::new(alloc),
-            }
+    let unit = Expr::Tuple {
+        exprs: Seq::new(alloc),
+    };
+    let holds = store.has_expr(id) && store[id] == unit;
+    std::mem::drop(unit);
+    holds
 }
 
 /// Whether the last expression, pattern and binding of the match are there.
@@ -123,18 +130,31 @@ fn has_another(store: &ExpressionStore) -> bool {
         || store.has_lifetime(Idx::from_raw(0))
 }
 
+/// Whether the path `a` may be used with the store.
+fn path_is_sound(alloc: Global, store: &ExpressionStore) -> Result<bool, AllocError> {
+    let path = build::path(alloc)?;
+    let is_sound = store.path_is_sound(&path);
+    std::mem::drop(path);
+    Ok(is_sound)
+}
+
 #[test]
 fn what_a_store_has(rt: HostRuntime) -> Result<(), Fail> {
     let a = rt.alloc();
-    let path = build::path(a)?;
     let mut builder = made::builder(a)?;
     build::add_match_tree(&mut builder, a)?;
     let made = made::finished(a, builder)?;
     let store = &made.0;
-    assert!(&rt; equals_its_copy(store));
-    assert!(&rt; !made::is_empty(store, a));
-    assert!(&rt; has_all_nodes(store) && has_unit(store, a));
-    assert!(&rt; has_the_last(store) && !has_another(store));
-    assert!(&rt; store.path_is_sound(&path));
+    let is_its_copy = equals_its_copy(store);
+    let is_empty = made::is_empty(store, a);
+    let has_all = has_all_nodes(store);
+    let has_unit = has_unit(store, a);
+    let has_last = has_the_last(store);
+    let has_another = has_another(store);
+    let is_sound = path_is_sound(a, store);
+    std::mem::drop(made);
+    assert!(&rt; is_its_copy && !is_empty);
+    assert!(&rt; has_all && has_unit && has_last && !has_another);
+    assert!(&rt; is_sound?);
     Ok(())
 }

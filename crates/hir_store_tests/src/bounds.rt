@@ -23,6 +23,20 @@ fn bound(number: u32) -> TypeBound {
     TypeBound::Path(named(number), TraitBoundModifier::Maybe)
 }
 
+/// Whether what the bound names is there.
+fn is_there(store: &ExpressionStore, bound: TypeBound) -> bool {
+    let holds = store.has_bound(&bound);
+    std::mem::drop(bound);
+    holds
+}
+
+/// Whether what the bound names as a path is one.
+fn names_path(store: &ExpressionStore, bound: TypeBound) -> bool {
+    let holds = store.bound_names_path(&bound);
+    std::mem::drop(bound);
+    holds
+}
+
 /// Whether the bound by this path is the path that the store has there, and may be absent.
 fn is_its_path(store: &ExpressionStore, id: PathId) -> bool {
     if !store.has_path(id) {
@@ -42,9 +56,13 @@ fn what_bounds_name(rt: HostRuntime) -> Result<(), Fail> {
     add_path_and_never(&mut builder, a)?;
     let made = made::finished(a, builder)?;
     let store = &made.0;
-    assert!(&rt; store.has_bound(&bound(1)) && !store.has_bound(&bound(2)));
-    assert!(&rt; store.bound_names_path(&bound(0)) && !store.bound_names_path(&bound(1)));
-    assert!(&rt; is_its_path(store, named(0)) && !is_its_path(store, named(1)));
-    assert!(&rt; TypeBound::Error.as_path(store).is_none());
+    let there = (is_there(store, bound(1)), is_there(store, bound(2)));
+    let paths = (names_path(store, bound(0)), names_path(store, bound(1)));
+    let its_paths = (is_its_path(store, named(0)), is_its_path(store, named(1)));
+    let is_no_path = TypeBound::Error.as_path(store).is_none();
+    std::mem::drop(made);
+    assert!(&rt; there == (true, false));
+    assert!(&rt; paths == (true, false) && its_paths == (true, false));
+    assert!(&rt; is_no_path);
     Ok(())
 }

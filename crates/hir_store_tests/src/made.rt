@@ -53,6 +53,10 @@ pub fn is_refused(
 ) -> Result<bool, Fail> {
     match refusal(alloc, builder)? {
         None => Ok(false),
-        Some(refused) => Ok(refused.fault == fault && refused.builder == *wanted),
+        Some(refused) => {
+            let holds = refused.fault == fault && refused.builder == *wanted;
+            std::mem::drop(refused);
+            Ok(holds)
+        }
     }
 }

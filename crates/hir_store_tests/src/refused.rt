@@ -211,7 +211,9 @@ fn built(case: Case, alloc: Global) -> Result<Box<ExpressionStoreBuilder>, Fail>
 fn is_refused(alloc: Global, case: Case, fault: FinishFault) -> Result<bool, Fail> {
     let builder = built(case, alloc)?;
     let again = built(case, alloc)?;
-    made::is_refused(alloc, builder, &again, fault)
+    let answer = made::is_refused(alloc, builder, &again, fault);
+    std::mem::drop(again);
+    answer
 }
 
 #[test]

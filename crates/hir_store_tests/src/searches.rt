@@ -83,13 +83,17 @@ fn roots_that_nodes_were_made_for(rt: HostRuntime) -> Result<(), Fail> {
     add_two_roots(&mut builder, a)?;
     let made = made::finished(a, builder)?;
     let store = &made.0;
-    assert!(&rt;
-        expr_was_made_for(store, 2, Some(2))
-            && expr_was_made_for(store, 3, Some(4))
-            && expr_was_made_for(store, 5, None)
-    );
-    assert!(&rt; pat_was_made_for(store, 0, Some(4)) && pat_was_made_for(store, 2, None));
-    assert!(&rt; binding_was_made_for(store, 0, Some(4)) && binding_was_made_for(store, 1, None));
-    assert!(&rt; has_both_roots(store));
+    let first_expr = expr_was_made_for(store, 2, Some(2));
+    let second_expr = expr_was_made_for(store, 3, Some(4));
+    let no_expr = expr_was_made_for(store, 5, None);
+    let pat = pat_was_made_for(store, 0, Some(4));
+    let no_pat = pat_was_made_for(store, 2, None);
+    let binding = binding_was_made_for(store, 0, Some(4));
+    let no_binding = binding_was_made_for(store, 1, None);
+    let has_both = has_both_roots(store);
+    std::mem::drop(made);
+    assert!(&rt; first_expr && second_expr && no_expr);
+    assert!(&rt; pat && no_pat && binding && no_binding);
+    assert!(&rt; has_both);
     Ok(())
 }

@@ -87,10 +87,16 @@ fn what_sources_became(rt: HostRuntime) -> Result<(), Fail> {
     say_nodes(&mut builder)?;
     let made = made::finished(a, builder)?;
     let map = &made.1;
-    assert!(&rt; expr_became(map, 5, Some(expr(1))) && expr_became(map, 6, None));
-    assert!(&rt; macro_became(map, 5, expr(1)));
-    assert!(&rt; pat_became(map, 6, Some(pat(3))) && pat_became(map, 5, None));
-    assert!(&rt; label_became(map, 5, Idx::from_raw(2)));
+    let exprs = (
+        expr_became(map, 5, Some(expr(1))),
+        expr_became(map, 6, None),
+    );
+    let macros = macro_became(map, 5, expr(1));
+    let pats = (pat_became(map, 6, Some(pat(3))), pat_became(map, 5, None));
+    let labels = label_became(map, 5, Idx::from_raw(2));
+    std::mem::drop(made);
+    assert!(&rt; exprs == (true, true) && macros);
+    assert!(&rt; pats == (true, true) && labels);
     Ok(())
 }
 
@@ -143,15 +149,22 @@ fn where_nodes_came_from(rt: HostRuntime) -> Result<(), Fail> {
     say_sources(&mut builder)?;
     let made = made::finished(a, builder)?;
     let map = &made.1;
-    assert!(&rt; expr_came_from(map, zero(), 5) && came_from(map, expr(0), 5));
-    assert!(&rt; expr_has_no_source(map, Idx::from_raw(1)));
-    assert!(&rt; pat_came_from(map, Idx::from_raw(3), 6) && came_from(map, pat(3), 6));
-    assert!(&rt; label_came_from(map, Idx::from_raw(2), say::source(5)));
-    assert!(&rt; !map.has_label_syntax(Idx::from_raw(0)));
-    assert!(&rt; field_came_from(map, zero(), say::source(6)));
-    assert!(&rt; !map.has_field_syntax(Idx::from_raw(1)));
-    assert!(&rt; pat_field_came_from(map, Idx::from_raw(4), say::source(7)));
-    assert!(&rt; !map.has_pat_field_syntax(Idx::from_raw(0)));
+    let exprs = (expr_came_from(map, zero(), 5), came_from(map, expr(0), 5));
+    let no_expr = expr_has_no_source(map, Idx::from_raw(1));
+    let pats = (
+        pat_came_from(map, Idx::from_raw(3), 6),
+        came_from(map, pat(3), 6),
+    );
+    let label = label_came_from(map, Idx::from_raw(2), say::source(5));
+    let field = field_came_from(map, zero(), say::source(6));
+    let pat_field = pat_field_came_from(map, Idx::from_raw(4), say::source(7));
+    let has_label = map.has_label_syntax(Idx::from_raw(0));
+    let has_field = map.has_field_syntax(Idx::from_raw(1));
+    let has_pat_field = map.has_pat_field_syntax(Idx::from_raw(0));
+    std::mem::drop(made);
+    assert!(&rt; exprs == (true, true) && no_expr && pats == (true, true));
+    assert!(&rt; label && field && pat_field);
+    assert!(&rt; !has_label && !has_field && !has_pat_field);
     Ok(())
 }
 
@@ -205,7 +218,10 @@ fn made_of(alloc: Global, told: Told) -> Result<made::Made, Fail> {
 fn are_equal(alloc: Global, first: Told, second: Told) -> Result<bool, Fail> {
     let first = made_of(alloc, first)?;
     let second = made_of(alloc, second)?;
-    Ok(first.1 == second.1)
+    let are_equal = first.1 == second.1;
+    std::mem::drop(first);
+    std::mem::drop(second);
+    Ok(are_equal)
 }
 
 #[test]
@@ -213,7 +229,9 @@ fn what_is_compared(rt: HostRuntime) -> Result<(), Fail> {
     let a = rt.alloc();
     // The way from a source to its node isn't compared, though it is kept.
     let made = made_of(a, Told::ExprOfSource)?;
-    assert!(&rt; expr_became(&made.1, 5, Some(expr(0))));
+    let is_kept = expr_became(&made.1, 5, Some(expr(0)));
+    std::mem::drop(made);
+    assert!(&rt; is_kept);
     assert!(&rt; are_equal(a, Told::ExprOfSource, Told::TwoNodes)?);
     assert!(&rt; are_equal(a, Told::LifetimeOfSource, Told::Nothing)?);
     // The way back is.

@@ -85,24 +85,44 @@ pub fn is_owned_by(store: &ExpressionStore, binding: BindingId, owner: Option<Ex
     store.binding_owner(binding) == owner
 }
 
+/// Whether the map of block 1 is missing where block 3 alone has one.
+fn lacks_map_1(alloc: Global, store: &ExpressionStore) -> Result<bool, AllocError> {
+    let maps = one_map(alloc)?;
+    let lacks = lacks_map(store, &maps, BlockId::from_raw(1));
+    std::mem::drop(maps);
+    Ok(lacks)
+}
+
+/// Whether both blocks are given where both have maps.
+fn gives_both_blocks(alloc: Global, store: &ExpressionStore) -> Result<bool, AllocError> {
+    let maps = two_maps(alloc)?;
+    let are_both = are_both_blocks(store, &maps);
+    std::mem::drop(maps);
+    Ok(are_both)
+}
+
 #[test]
 fn blocks_owners_and_hygiene(rt: HostRuntime) -> Result<(), Fail> {
     let a = rt.alloc();
-    let one = one_map(a)?;
-    let two = two_maps(a)?;
     let mut builder = made::builder(a)?;
     say_of_the_store(&mut builder, a)?;
     let made = made::finished(a, builder)?;
     let store = &made.0;
-    assert!(&rt; lacks_map(store, &one, BlockId::from_raw(1)));
-    assert!(&rt; are_both_blocks(store, &two));
-    assert!(&rt; is_owned_by(store, Idx::from_raw(7), Some(Idx::from_raw(1))));
-    assert!(&rt; is_owned_by(store, Idx::from_raw(0), None));
-    assert!(&rt; store.expr_path_hygiene(zero()) == HygieneId::ROOT);
-    assert!(&rt; store.expr_path_hygiene(Idx::from_raw(1)) == expanded());
-    assert!(&rt; store.expr_or_pat_path_hygiene(expr(1)) == expanded());
-    assert!(&rt; store.pat_path_hygiene(Idx::from_raw(0)) == expanded());
-    assert!(&rt; store.pat_path_hygiene(Idx::from_raw(1)) == HygieneId::ROOT);
+    let lacks_map = lacks_map_1(a, store);
+    let gives_both = gives_both_blocks(a, store);
+    let owned = is_owned_by(store, Idx::from_raw(7), Some(Idx::from_raw(1)));
+    let not_owned = is_owned_by(store, Idx::from_raw(0), None);
+    let first_expr = store.expr_path_hygiene(zero());
+    let second_expr = store.expr_path_hygiene(Idx::from_raw(1));
+    let as_node = store.expr_or_pat_path_hygiene(expr(1));
+    let first_pat = store.pat_path_hygiene(Idx::from_raw(0));
+    let second_pat = store.pat_path_hygiene(Idx::from_raw(1));
+    std::mem::drop(made);
+    assert!(&rt; lacks_map? && gives_both?);
+    assert!(&rt; owned && not_owned);
+    assert!(&rt; first_expr == HygieneId::ROOT && second_expr == expanded());
+    assert!(&rt; as_node == expanded());
+    assert!(&rt; first_pat == expanded() && second_pat == HygieneId::ROOT);
     Ok(())
 }
 
@@ -142,16 +162,13 @@ fn definitions_and_closures(rt: HostRuntime) -> Result<(), Fail> {
     say_definitions(&mut builder, a)?;
     let made = made::finished(a, builder)?;
     let map = &made.1;
-    assert!(&rt; is_defined_by(map, Idx::from_raw(0), Idx::from_raw(2), Idx::from_raw(0)));
-    assert!(&rt; map.patterns_for_binding(Idx::from_raw(1)).is_empty());
-    assert!(&rt; map.patterns_for_binding(far()).len() == 9);
-    assert_eq!(&rt;
-        ExpressionStore::coroutine_for_closure(Idx::from_raw(5)).into_raw(),
-        4
-    );
-    assert_eq!(&rt;
-        ExpressionStore::closure_for_coroutine(Idx::from_raw(4)).into_raw(),
-        5
-    );
+    let is_defined = is_defined_by(map, Idx::from_raw(0), Idx::from_raw(2), Idx::from_raw(0));
+    let without = map.patterns_for_binding(Idx::from_raw(1)).len();
+    let many = map.patterns_for_binding(far()).len();
+    std::mem::drop(made);
+    assert!(&rt; is_defined && without == 0 && many == 9);
+    let coroutine = ExpressionStore::coroutine_for_closure(Idx::from_raw(5));
+    let closure = ExpressionStore::closure_for_coroutine(Idx::from_raw(4));
+    assert!(&rt; coroutine.into_raw() == 4 && closure.into_raw() == 5);
     Ok(())
 }

@@ -131,8 +131,10 @@ fn what_lies_under_marked_nodes(rt: HostRuntime) -> Result<(), Fail> {
     add_let_in_tuple(&mut builder, a)?;
     let made = made::finished(a, builder)?;
     let store = &made.0;
-    assert!(&rt; none_has_none(a, store));
-    assert!(&rt; marked_has_both(a, store));
-    assert!(&rt; finds_what_is_under(a, store));
+    let none = none_has_none(a, store);
+    let marked = marked_has_both(a, store);
+    let under = finds_what_is_under(a, store);
+    std::mem::drop(made);
+    assert!(&rt; none && marked && under);
     Ok(())
 }

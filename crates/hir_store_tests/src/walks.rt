@@ -155,12 +155,15 @@ fn walks_of_a_match(rt: HostRuntime) -> Result<(), Fail> {
     build::add_match_tree(&mut builder, a)?;
     let made = made::finished(a, builder)?;
     let store = &made.0;
-    assert!(&rt; visits_a_match(store));
-    assert!(&rt; visits_a_pattern(store));
-    assert!(&rt; walks_a_pattern(store));
-    assert!(&rt; walks_child_patterns(store));
-    assert!(&rt; walks_bindings(store));
-    assert!(&rt; walks_a_match(store));
+    let match_visited = visits_a_match(store);
+    let pattern_visited = visits_a_pattern(store);
+    let pattern_walked = walks_a_pattern(store);
+    let children_walked = walks_child_patterns(store);
+    let bindings_walked = walks_bindings(store);
+    let match_walked = walks_a_match(store);
+    std::mem::drop(made);
+    assert!(&rt; match_visited && pattern_visited);
+    assert!(&rt; pattern_walked && children_walked && bindings_walked && match_walked);
     Ok(())
 }
 
@@ -234,9 +237,12 @@ fn walks_of_a_let_and_a_type(rt: HostRuntime) -> Result<(), Fail> {
     add_tuple_type(&mut builder, a)?;
     let made = made::finished(a, builder)?;
     let store = &made.0;
-    assert!(&rt; walks_a_let(store));
-    assert!(&rt; walks_a_let_without_its_pattern(store));
-    assert!(&rt; walks_expressions_of_a_pattern(store));
-    assert!(&rt; visits_a_type(store));
+    let whole = walks_a_let(store);
+    let without_pattern = walks_a_let_without_its_pattern(store);
+    let pattern_alone = walks_expressions_of_a_pattern(store);
+    let type_visited = visits_a_type(store);
+    std::mem::drop(made);
+    assert!(&rt; whole && without_pattern && pattern_alone);
+    assert!(&rt; type_visited);
     Ok(())
 }

@@ -25,12 +25,12 @@ fn say_of_nothing(builder: &mut ExpressionStoreBuilder) -> Result<(), Fail> {
     Ok(())
 }
 
-/// Whether no block lacks its map.
-fn lacks_no_map(store: &ExpressionStore, maps: &BTreeMap<BlockId, u32>) -> bool {
-    match store.blocks(maps) {
-        Ok(_) => true,
-        Err(_) => false,
-    }
+/// Whether no block lacks its map, though there is no map.
+fn lacks_no_map(alloc: Global, store: &ExpressionStore) -> bool {
+    let maps: BTreeMap<BlockId, u32> = BTreeMap::new(alloc);
+    let holds = store.blocks(&maps).is_ok();
+    std::mem::drop(maps);
+    holds
 }
 
 /// Whether the type there became that one.
@@ -51,19 +51,21 @@ fn type_has_no_source(map: &ExpressionStoreSourceMap, id: TypeRefId) -> bool {
 #[test]
 fn only_types_are_kept(rt: HostRuntime) -> Result<(), Fail> {
     let a = rt.alloc();
-    let maps: BTreeMap<BlockId, u32> = BTreeMap::new(a);
     let mut builder = made::builder(a)?;
     say_of_nothing(&mut builder)?;
     let made = made::finished(a, builder)?;
     let store = &made.0;
     let map = &made.1;
-    assert!(&rt; lacks_no_map(store, &maps));
-    assert!(&rt; is_owned_by(store, Idx::from_raw(0), None));
-    assert!(&rt; made::is_empty(store, a));
-    assert!(&rt; expr_became(map, 5, None));
-    assert!(&rt; type_became(map, say::source(5), Idx::from_raw(2)));
-    assert!(&rt; type_came_from(map, Idx::from_raw(2), say::source(5)));
-    assert!(&rt; type_has_no_source(map, Idx::from_raw(0)));
+    let lacks_none = lacks_no_map(a, store);
+    let not_owned = is_owned_by(store, Idx::from_raw(0), None);
+    let is_empty = made::is_empty(store, a);
+    let no_expr = expr_became(map, 5, None);
+    let became = type_became(map, say::source(5), Idx::from_raw(2));
+    let came_from = type_came_from(map, Idx::from_raw(2), say::source(5));
+    let no_source = type_has_no_source(map, Idx::from_raw(0));
+    std::mem::drop(made);
+    assert!(&rt; lacks_none && not_owned && is_empty && no_expr);
+    assert!(&rt; became && came_from && no_source);
     Ok(())
 }
 
@@ -123,12 +125,19 @@ fn an_expansion(rt: HostRuntime) -> Result<(), Fail> {
     say_call(&mut builder, call)?;
     let made = made::finished(a, builder)?;
     let map = &made.1;
-    assert!(&rt; is_expanded_to(map, 5, Some(call)) && is_expanded_to(map, 6, None));
-    assert!(&rt; has_macro_file(map, 5, call));
-    assert!(&rt; is_only_call(map, call));
-    assert!(&rt; is_only_expansion(map, call));
+    let expanded = (
+        is_expanded_to(map, 5, Some(call)),
+        is_expanded_to(map, 6, None),
+    );
+    let has_file = has_macro_file(map, 5, call);
+    let only_call = is_only_call(map, call);
+    let only_expansion = is_only_expansion(map, call);
+    let is_empty = made::is_empty(&made.0, a);
+    std::mem::drop(made);
+    assert!(&rt; expanded == (true, true) && has_file);
+    assert!(&rt; only_call && only_expansion);
     // It is nothing to the store.
-    assert!(&rt; made::is_empty(&made.0, a));
+    assert!(&rt; is_empty);
     Ok(())
 }
 
@@ -173,10 +182,14 @@ fn diagnostics(rt: HostRuntime) -> Result<(), Fail> {
     let mut builder = made::builder(a)?;
     say_two_diagnostics(&mut builder)?;
     let made = made::finished(a, builder)?;
-    assert!(&rt; are_both_diagnostics(made.1.diagnostics()));
+    let are_both = are_both_diagnostics(made.1.diagnostics());
+    std::mem::drop(made);
+    assert!(&rt; are_both);
     let mut builder = made::builder(a)?;
     say_undeclared_label(&mut builder, a)?;
     let made = made::finished(a, builder)?;
-    assert!(&rt; made.1.diagnostics().len() == 1);
+    let count = made.1.diagnostics().len();
+    std::mem::drop(made);
+    assert!(&rt; count == 1);
     Ok(())
 }

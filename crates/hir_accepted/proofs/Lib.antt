@@ -1,3 +1,0 @@
-pub mod PatLemmas
-pub mod WalkLemmas
-pub mod UnderLemmas

@@ -1,7 +1,0 @@
-pub mod Bodies
-pub mod FirstOfName
-pub mod Generics
-pub mod SameBodies
-pub mod SameGenerics
-pub mod SameSignatures
-pub mod Signatures
