@@ -7,7 +7,7 @@ use Rattle.hir_forest.proofs.VerdictLemmas.{IsOne, unless-one, before-one, first
 use Rattle.hir_node.specs.ChildCalls.{Node, OfExpr, OfPat}
 use Rattle.hir_path.specs.Lists.{last_of}
 use Rattle.hir_faults.specs.Sizes.{HasNode}
-use Rattle.hir_store.specs.NodeSets.{Marked, IsIn, Gains}
+use Rattle.hir_accepted.specs.NodeSets.{Marked, IsIn, Gains}
 use Rattle.hir_defs.specs.declared.formals.Param.{Param}
 use Rattle.hir_defs.specs.declared.body_fault.BodyFault.{BodyFault}
 use Rattle.hir_defs.specs.declared.body_fault.BodyFault.TheVariants.{NoRoot, SelfOutOfRange, ParamOutOfRange, ParamRepeated, ParamUnder, RootInParam}

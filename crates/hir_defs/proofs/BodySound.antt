@@ -10,11 +10,11 @@ use Rattle.hir_forest.proofs.VerdictLemmas.{unless-same, first_below-same}
 use Rattle.hir_node.specs.ChildCalls.{Node, OfExpr, OfPat}
 use Rattle.hir_faults.specs.Sizes.{HasNode}
 use Rattle.hir_faults.specs.Nodes.{Nodes, Has, sizes_of}
-use Rattle.hir_store.specs.Contents.{Contents, rooted_of, contents_fault}
-use Rattle.hir_store.specs.Under.{Under, LiesUnderOther}
-use Rattle.hir_store.specs.NodeSets.{Marked, IsIn, Gains}
+use Rattle.hir_accepted.specs.Contents.{Contents, rooted_of, contents_fault}
+use Rattle.hir_accepted.specs.Under.{Under, LiesUnderOther}
+use Rattle.hir_accepted.specs.NodeSets.{Marked, IsIn, Gains}
 use Rattle.hir_faults.proofs.SoundLemmas.{item_within, roots_apart}
-use Rattle.hir_store.proofs.UnderLemmas.{under_two}
+use Rattle.hir_accepted.proofs.UnderLemmas.{under_two}
 use Rattle.hir_defs.specs.declared.formals.Param.{Param}
 use Rattle.hir_defs.specs.declared.body_fault.BodyFault.{BodyFault}
 use Rattle.hir_defs.specs.declared.body_fault.BodyFault.TheVariants.{NoRoot, SelfOutOfRange, ParamOutOfRange, ParamRepeated, ParamUnder, RootInParam}

@@ -5,20 +5,31 @@ ghost use Rattle.hir_defs.specs.Bodies.{body_fault, last_root, IsAnySelf};
 
 use crate::body_fault::{BodyFault, first_fault, last_root};
 use crate::formals::Param;
+use hir_accepted::ExpressionStore;
 use hir_base::{ExactEq, Seq};
 use hir_node::{BindingId, ExprId, PatId};
-use hir_store::ExpressionStore;
 use std::alloc::{AllocError, Global};
 use std::marker::Model;
 
 /// The body of a function, a constant, a static or an enum variant: what stands in its store, the patterns of its parameters and the
 /// binding of its `self`. It has no fault: there is a root, what the parameters name is there, and no formal and not the last root lies
 /// under another of them.
-#[derive(Debug, Drop, PartialEq, Eq)]
+#[derive(Debug, PartialEq, Eq)]
 pub struct Body {
     store: ExpressionStore,
     params: Seq<Param<PatId>>,
     self_param: Option<Param<BindingId>>,
+}
+
+/// Its parts go one after the other. It stands here, so that it is proved once, and is a call wherever a value is dropped.
+impl Drop for Body {
+    fn drop(self) {
+        let Body {
+            store,
+            params,
+            self_param,
+        } = self;
+    }
 }
 
 impl Model for Body {
@@ -28,7 +39,7 @@ impl Model for Body {
     ghost Value = { BodyParts };
 
     ghost use Rattle.std.specs.Coded.{codes};
-    ghost use Rattle.hir_store.specs.contracts.store.ExpressionStore as stored;
+    ghost use Rattle.hir_accepted.specs.contracts.store.ExpressionStore as stored;
 
     ghost coded = { Prim.hlevel (codes, stored.the_row.coded) };
 

@@ -4,8 +4,8 @@ ghost use Rattle.std.specs.Prelude.{◌≡◌, ◌<◌, All, IfOk, length};
 ghost use Rattle.hir_defs.specs.Bodies.{BodyParts, last_root, apart_fault, body_fault};
 
 use crate::formals::{Param, add_formals, first_out_of_range, first_under, self_is_there};
+use hir_accepted::ExpressionStore;
 use hir_node::{BindingId, ExprId, PatId};
-use hir_store::ExpressionStore;
 use std::alloc::{AllocError, Global};
 use thiserror::Error;
 

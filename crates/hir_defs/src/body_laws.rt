@@ -5,7 +5,7 @@
 ghost use Rattle.std.specs.Prelude.{◌≡◌, Option, None};
 ghost use Rattle.std.specs.Bool.{Decides};
 ghost use Rattle.hir_source.specs.Compared.{compared};
-ghost use Rattle.hir_store.specs.Contents.{contents_fault};
+ghost use Rattle.hir_accepted.specs.Contents.{contents_fault};
 ghost use Rattle.hir_faults.specs.Nodes.{Has};
 ghost use Rattle.std.specs.Prelude.{Contains};
 ghost use Rattle.hir_node.specs.ChildCalls.{Node};

@@ -6,10 +6,20 @@ use hir_base::{InFile, SelfParamPtr};
 use hir_source::ExpressionStoreSourceMap;
 
 /// Where a body comes from: the source map of its store, and the source of its `self`.
-#[derive(Debug, Drop, PartialEq, Eq)]
+#[derive(Debug, PartialEq, Eq)]
 pub struct BodySourceMap {
     store: ExpressionStoreSourceMap,
     self_param_syntax: Option<InFile<SelfParamPtr>>,
+}
+
+/// Its parts go one after the other. It stands here, so that it is proved once, and is a call wherever a value is dropped.
+impl Drop for BodySourceMap {
+    fn drop(self) {
+        let BodySourceMap {
+            store,
+            self_param_syntax: _,
+        } = self;
+    }
 }
 
 impl BodySourceMap {

@@ -4,13 +4,13 @@ ghost use Rattle.std.specs.Prelude.{◌≡◌, ◌<◌, ◌↔◌, All, IfNone, 
 ghost use Rattle.hir_base.specs.Exact.{exact};
 ghost use Rattle.hir_forest.specs.Verdict.{first_below};
 ghost use Rattle.hir_node.specs.ChildCalls.{Node, OfPat};
-ghost use Rattle.hir_store.specs.NodeSets.{IsIn};
+ghost use Rattle.hir_accepted.specs.NodeSets.{IsIn};
 ghost use Rattle.hir_defs.specs.Bodies.{AreBelow, formals_of, range_fault, repeated_fault, under_fault, GainsAll};
 
 use crate::body_fault::BodyFault;
+use hir_accepted::{ExpressionStore, NodeSet};
 use hir_base::{ExactEq, TryClone};
 use hir_node::{BindingId, PatId};
-use hir_store::{ExpressionStore, NodeSet};
 
 /// A parameter as the body has it, and as the user wrote it.
 ///

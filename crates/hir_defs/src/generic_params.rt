@@ -19,12 +19,24 @@ use std::marker::Model;
 use std::ops::Index;
 
 /// The generic parameters of a definition: types and constants in one list, lifetimes in another; and the predicates on them.
-#[derive(Debug, Drop, PartialEq, Eq, Hash)]
+#[derive(Debug, PartialEq, Eq, Hash)]
 pub struct GenericParams {
     type_or_consts: Arena<TypeOrConstParamKind, TypeOrConstParamData>,
     lifetimes: Arena<LifetimeParamKind, LifetimeParamData>,
     where_predicates: Seq<WherePredicate>,
     early_bound_lifetimes_len: usize,
+}
+
+/// Its parts go one after the other. It stands here, so that it is proved once, and is a call wherever a value is dropped.
+impl Drop for GenericParams {
+    fn drop(self) {
+        let GenericParams {
+            type_or_consts,
+            lifetimes,
+            where_predicates,
+            early_bound_lifetimes_len,
+        } = self;
+    }
 }
 
 impl Model for GenericParams {

@@ -7,8 +7,8 @@ ghost use Rattle.hir_base.specs.declared.defs.GenericDefId.{GenericDefId};
 ghost use Rattle.hir_base.specs.declared.defs.GenericDefId.TheVariants as generic;
 ghost use Rattle.hir_base.specs.declared.defs.DefWithBodyId.{DefWithBodyId};
 ghost use Rattle.hir_base.specs.declared.defs.ExpressionStoreOwnerId.{ExpressionStoreOwnerId};
-ghost use Rattle.hir_store.specs.Contents.{Contents};
-ghost use Rattle.hir_store.specs.declared.missing.Missing.TheVariants as missing;
+ghost use Rattle.hir_accepted.specs.Contents.{Contents};
+ghost use Rattle.hir_accepted.specs.declared.missing.Missing.TheVariants as missing;
 ghost use Rattle.hir_source.specs.declared.source_map.ExpressionStoreSourceMap.{ExpressionStoreSourceMap};
 ghost use Rattle.hir_defs.specs.declared.body_source_map.BodySourceMap.{BodySourceMap};
 ghost use Rattle.hir_defs.specs.declared.tables.Tables.{Tables};
@@ -19,9 +19,9 @@ use crate::body::Body;
 use crate::body_source_map::BodySourceMap;
 use crate::generic_params::GenericParams;
 use crate::tables::{PlainDef, Tables};
+use hir_accepted::{ExpressionStore, Missing};
 use hir_base::{AdtId, DefWithBodyId, ExpressionStoreOwnerId, FunctionId, GenericDefId, StructId};
 use hir_source::ExpressionStoreSourceMap;
-use hir_store::{ExpressionStore, Missing};
 
 impl Tables {
     fn of_function(

@@ -8,9 +8,9 @@ ghost use Rattle.hir_defs.specs.Signatures.{param_calls, predicate_calls, predic
 
 use crate::generic_params::GenericParams;
 use crate::signatures::FieldData;
+use hir_accepted::ExpressionStore;
 use hir_generics::{TypeOrConstParamData, WherePredicate};
 use hir_node::{ExprId, LifetimeRefId, TypeRefId};
-use hir_store::ExpressionStore;
 
 fn has_expr(store: &ExpressionStore, id: ExprId) -> bool
     ensures { result ≡ nat_lt id (length store.now.nodes.exprs) }

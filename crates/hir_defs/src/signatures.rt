@@ -7,9 +7,9 @@ ghost use Rattle.hir_defs.specs.Signatures.{function_fault, struct_fault, fields
 use crate::generic_params::GenericParams;
 use crate::named_ids::{generics_name_paths, has_fields, has_generics, has_type_opt, has_types};
 use crate::signature_fault::{RefusedSignature, SignatureFault, ids_fault};
+use hir_accepted::ExpressionStore;
 use hir_base::{ExactEq, ExternAbi, ModPath, Name, Seq};
 use hir_node::{ExprId, TypeRefId};
-use hir_store::ExpressionStore;
 use std::marker::Model;
 
 /// How fields are written: `{ .. }`, `( .. )`, or not at all.
@@ -111,9 +111,16 @@ impl FunctionParts {
 }
 
 /// The signature of a function.
-#[derive(Debug, Drop, PartialEq, Eq)]
+#[derive(Debug, PartialEq, Eq)]
 pub struct FunctionSignature {
     function: FunctionParts,
+}
+
+/// Its parts go one after the other. It stands here, so that it is proved once, and is a call wherever a value is dropped.
+impl Drop for FunctionSignature {
+    fn drop(self) {
+        let FunctionSignature { function } = self;
+    }
 }
 
 impl ExactEq for FunctionSignature {
@@ -130,7 +137,7 @@ impl Model for FunctionSignature {
     ghost Value = { FunctionParts };
 
     ghost use Rattle.std.specs.Coded.{codes};
-    ghost use Rattle.hir_store.specs.contracts.store.ExpressionStore as stored;
+    ghost use Rattle.hir_accepted.specs.contracts.store.ExpressionStore as stored;
 
     ghost coded = { Prim.hlevel (codes, stored.the_row.coded) };
 
@@ -266,9 +273,16 @@ impl StructParts {
 }
 
 /// The signature of a struct.
-#[derive(Debug, Drop, PartialEq, Eq)]
+#[derive(Debug, PartialEq, Eq)]
 pub struct StructSignature {
     structure: StructParts,
+}
+
+/// Its parts go one after the other. It stands here, so that it is proved once, and is a call wherever a value is dropped.
+impl Drop for StructSignature {
+    fn drop(self) {
+        let StructSignature { structure } = self;
+    }
 }
 
 impl ExactEq for StructSignature {
@@ -285,7 +299,7 @@ impl Model for StructSignature {
     ghost Value = { StructParts };
 
     ghost use Rattle.std.specs.Coded.{codes};
-    ghost use Rattle.hir_store.specs.contracts.store.ExpressionStore as stored;
+    ghost use Rattle.hir_accepted.specs.contracts.store.ExpressionStore as stored;
 
     ghost coded = { Prim.hlevel (codes, stored.the_row.coded) };
 
@@ -371,9 +385,16 @@ impl VariantParts {
 }
 
 /// The signature of a struct, a union or a variant of an enum, as its fields.
-#[derive(Debug, Drop, PartialEq, Eq)]
+#[derive(Debug, PartialEq, Eq)]
 pub struct VariantFields {
     variant: VariantParts,
+}
+
+/// Its parts go one after the other. It stands here, so that it is proved once, and is a call wherever a value is dropped.
+impl Drop for VariantFields {
+    fn drop(self) {
+        let VariantFields { variant } = self;
+    }
 }
 
 impl ExactEq for VariantFields {
@@ -390,7 +411,7 @@ impl Model for VariantFields {
     ghost Value = { VariantParts };
 
     ghost use Rattle.std.specs.Coded.{codes};
-    ghost use Rattle.hir_store.specs.contracts.store.ExpressionStore as stored;
+    ghost use Rattle.hir_accepted.specs.contracts.store.ExpressionStore as stored;
 
     ghost coded = { Prim.hlevel (codes, stored.the_row.coded) };
 
@@ -463,9 +484,16 @@ impl PlainParts {
 }
 
 /// The signature of a definition of which only the generic parameters are kept.
-#[derive(Debug, Drop, PartialEq, Eq)]
+#[derive(Debug, PartialEq, Eq)]
 pub struct PlainSignature {
     plain: PlainParts,
+}
+
+/// Its parts go one after the other. It stands here, so that it is proved once, and is a call wherever a value is dropped.
+impl Drop for PlainSignature {
+    fn drop(self) {
+        let PlainSignature { plain } = self;
+    }
 }
 
 impl ExactEq for PlainSignature {
@@ -482,7 +510,7 @@ impl Model for PlainSignature {
     ghost Value = { PlainParts };
 
     ghost use Rattle.std.specs.Coded.{codes};
-    ghost use Rattle.hir_store.specs.contracts.store.ExpressionStore as stored;
+    ghost use Rattle.hir_accepted.specs.contracts.store.ExpressionStore as stored;
 
     ghost coded = { Prim.hlevel (codes, stored.the_row.coded) };
 

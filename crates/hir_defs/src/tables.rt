@@ -8,7 +8,7 @@ ghost use Rattle.hir_base.specs.Keys.{named_code, fields_code, body_code};
 ghost use Rattle.hir_base.specs.RawWords.{no_words, words_of, with_words};
 ghost use Rattle.hir_base.specs.declared.defs.GenericDefId.TheVariants as generic;
 ghost use Rattle.hir_base.specs.declared.defs.AdtId.TheVariants as adt;
-ghost use Rattle.hir_store.specs.declared.missing.Missing.TheVariants as missing;
+ghost use Rattle.hir_accepted.specs.declared.missing.Missing.TheVariants as missing;
 ghost use Rattle.hir_defs.specs.Generics.{empty};
 ghost use Rattle.hir_defs.specs.Tables.{plain_code, plain_tells, generic_def};
 
@@ -17,13 +17,13 @@ use crate::body_source_map::BodySourceMap;
 use crate::generic_params::GenericParams;
 use crate::no_generics::NoGenerics;
 use crate::signatures::{FunctionSignature, PlainSignature, StructSignature, VariantFields};
+use hir_accepted::Missing;
 use hir_base::{
     AdtId, ConstId, CrateId, DefWithBodyId, Edition, EnumId, EnumVariantId, ExactEq, FunctionId,
     GenericDefId, ImplId, Keyed, NamedDef, RawWords, Seq, StaticId, StructId, Table, Text, TraitId,
     TryClone, TypeAliasId, UnionId, VariantId,
 };
 use hir_source::ExpressionStoreSourceMap;
-use hir_store::Missing;
 use std::alloc::{AllocFailed, Global};
 
 /// A definition of which a signature keeps the generic parameters alone.
@@ -89,7 +89,6 @@ impl TryClone for Repr {
 }
 
 /// What is known of the definitions outside. A later entry replaces an earlier one.
-#[derive(Drop)]
 pub struct Tables {
     names: Table<NamedDef, Option<Text>>,
     variant_parents: Table<EnumVariantId, EnumId>,
@@ -102,6 +101,25 @@ pub struct Tables {
     reprs: Table<StructId, Repr>,
     words: RawWords,
     no_generics: NoGenerics,
+}
+
+/// Its parts go one after the other. It stands here, so that it is proved once, and is a call wherever a value is dropped.
+impl Drop for Tables {
+    fn drop(self) {
+        let Tables {
+            names,
+            variant_parents,
+            functions,
+            structs,
+            plains,
+            fields,
+            bodies,
+            crate_names,
+            reprs,
+            words,
+            no_generics,
+        } = self;
+    }
 }
 
 /// Gives the key this value, in the place of the one that it had.

@@ -4,7 +4,7 @@ use Rattle.hir_lines.specs.declared.line.Maker.{Maker}
 use Rattle.hir_lines.specs.declared.line.Maker.TheVariants as make
 use Rattle.hir_faults.specs.Nodes.{Nodes}
 use Rattle.hir_store.specs.Building.{Building, building_of, and_root, some_roots}
-use Rattle.hir_store.specs.Marks.{no_marks}
+use Rattle.hir_accepted.specs.Marks.{no_marks}
 use Rattle.hir_run.specs.declared.fault.RunFault.{RunFault}
 use Rattle.hir_run.specs.declared.fault.RunFault.TheVariants.{BadLine, OutOfMemory}
 use Rattle.hir_run.specs.declared.made.Made as code

@@ -8,7 +8,7 @@ use Rattle.hir_lines.specs.declared.line.Maker.TheVariants as make
 use Rattle.hir_run.specs.declared.fault.RunFault.{RunFault}
 use Rattle.hir_run.specs.declared.fault.RunFault.TheVariants.{BadLine, Refused}
 use Rattle.hir_faults.specs.declared.fault.FinishFault.{FinishFault}
-use Rattle.hir_store.specs.Contents.{Contents}
+use Rattle.hir_accepted.specs.Contents.{Contents}
 use Rattle.hir_store.specs.Building.{contents_of, finish_fault}
 use Rattle.hir_lines.specs.Line.{line_of}
 use Rattle.hir_run.specs.Made.{Made, nothing_made, with_line}

@@ -8,7 +8,7 @@ use Rattle.hir_run.specs.declared.fault.RunFault.TheVariants.{BadLine, Refused, 
 use Rattle.hir_faults.specs.declared.fault.FinishFault.{FinishFault}
 use Rattle.hir_faults.specs.declared.fault.FinishFault.TheVariants.{Memory}
 use Rattle.hir_store.specs.Building.{Building, contents_of, finish_fault}
-use Rattle.hir_store.specs.Contents.{Contents}
+use Rattle.hir_accepted.specs.Contents.{Contents}
 use Rattle.hir_run.specs.Program.{answers, script, script_of, IsMeaning, IsSound}
 
 -- a line that can't be had, told of the run

@@ -11,7 +11,7 @@ use Rattle.hir_lines.specs.declared.line.Maker.{Maker}
 use Rattle.hir_lines.specs.declared.line.Question.{Question}
 use Rattle.hir_run.specs.declared.fault.RunFault.{RunFault}
 use Rattle.hir_run.specs.declared.fault.RunFault.TheVariants.{BadLine, Refused, InputFailed, OutputFailed, OutOfMemory}
-use Rattle.hir_store.specs.Contents.{Contents}
+use Rattle.hir_accepted.specs.Contents.{Contents}
 use Rattle.hir_run.specs.Made.{Made, is_second, with_line}
 use Rattle.hir_lines.specs.Line.{line_of}
 use Rattle.hir_run.specs.Answer.{answer_to}

@@ -12,7 +12,7 @@ use hir_path::{BindingId, ExprId, ExprOrPatId, LabelId, LifetimeRefId, PatId, Ty
 use std::alloc::Global;
 
 /// Where expressions, patterns, labels and bindings come from, what macro calls expanded to, and the diagnostics.
-#[derive(Debug, Drop, PartialEq, Eq)]
+#[derive(Debug, PartialEq, Eq)]
 pub(crate) struct ExprSources {
     /// An expression in source can become a pattern, where it is assigned to.
     pub(crate) expr_map: Table<ExprSource, ExprOrPatId>,
@@ -29,13 +29,44 @@ pub(crate) struct ExprSources {
     pub(crate) diagnostics: Seq<ExpressionStoreDiagnostics>,
 }
 
+/// Its parts go one after the other. It stands here, so that it is proved once, and is a call wherever a value is dropped.
+impl Drop for ExprSources {
+    fn drop(self) {
+        let ExprSources {
+            expr_map,
+            expr_map_back,
+            pat_map,
+            pat_map_back,
+            label_map,
+            label_map_back,
+            definitions,
+            field_map_back,
+            pat_field_map_back,
+            expansions,
+            diagnostics,
+        } = self;
+    }
+}
+
 /// Where types and lifetimes come from.
-#[derive(Debug, Drop, PartialEq, Eq)]
+#[derive(Debug, PartialEq, Eq)]
 pub(crate) struct TypeSources {
     pub(crate) type_map: Table<TypeSource, TypeRefId>,
     pub(crate) type_map_back: Table<TypeRefId, TypeSource>,
     pub(crate) lifetime_map: Table<LifetimeSource, LifetimeRefId>,
     pub(crate) lifetime_map_back: Table<LifetimeRefId, LifetimeSource>,
+}
+
+/// Its parts go one after the other. It stands here, so that it is proved once, and is a call wherever a value is dropped.
+impl Drop for TypeSources {
+    fn drop(self) {
+        let TypeSources {
+            type_map,
+            type_map_back,
+            lifetime_map,
+            lifetime_map_back,
+        } = self;
+    }
 }
 
 impl ExprSources {

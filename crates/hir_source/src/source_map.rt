@@ -21,10 +21,17 @@ use hir_path::{BindingId, ExprId, ExprOrPatId, LabelId, PatId, TypeRefId};
 /// Where the nodes of a store come from. `finish` of a builder makes it.
 ///
 /// Its expression part, which is all but the maps of types and lifetimes, may be left out: then it has no entries.
-#[derive(Debug, Drop)]
+#[derive(Debug)]
 pub struct ExpressionStoreSourceMap {
     pub(crate) exprs: Option<ExprSources>,
     pub(crate) types: TypeSources,
+}
+
+/// Its parts go one after the other. It stands here, so that it is proved once, and is a call wherever a value is dropped.
+impl Drop for ExpressionStoreSourceMap {
+    fn drop(self) {
+        let ExpressionStoreSourceMap { exprs, types } = self;
+    }
 }
 
 impl ExpressionStoreSourceMap {

@@ -16,11 +16,22 @@ use hir_path::{BindingId, ExprId, ExprOrPatId, LabelId, LifetimeRefId, PatId, Ty
 use std::alloc::{AllocFailed, Global};
 
 /// Where nodes come from, as far as it was said. Nothing is checked: ids may be of nodes that aren't there.
-#[derive(Debug, Drop, PartialEq, Eq)]
+#[derive(Debug, PartialEq, Eq)]
 pub struct SourceMapBuilder {
     pub(crate) exprs: ExprSources,
     pub(crate) types: TypeSources,
     pub(crate) alloc: Global,
+}
+
+/// Its parts go one after the other. It stands here, so that it is proved once, and is a call wherever a value is dropped.
+impl Drop for SourceMapBuilder {
+    fn drop(self) {
+        let SourceMapBuilder {
+            exprs,
+            types,
+            alloc,
+        } = self;
+    }
 }
 
 /// Gives the key this value, in the place of the one that it had.
@@ -257,7 +268,11 @@ impl SourceMapBuilder {
     pub fn finish(self, keeps_nodes: bool) -> ExpressionStoreSourceMap
         ensures { result ≡ finished keeps_nodes self }
     {
-        let SourceMapBuilder { exprs, types, .. } = self;
+        let SourceMapBuilder {
+            exprs,
+            types,
+            alloc: _,
+        } = self;
         let exprs = if keeps_nodes || exprs.has_news() {
             Some(exprs)
         } else {

@@ -4,7 +4,7 @@ use Rattle.hir_forest.proofs.VerdictLemmas.{IsOne, unless-one, before-one}
 use Rattle.hir_faults.specs.declared.fault.FinishFault.{FinishFault}
 use Rattle.hir_faults.specs.declared.fault.FinishFault.TheVariants.{NoRoots}
 use Rattle.hir_faults.proofs.FaultLemmas.{rooted_fault-one}
-use Rattle.hir_store.specs.Contents.{rooted_of, contents_fault}
+use Rattle.hir_accepted.specs.Contents.{rooted_of, contents_fault}
 use Rattle.hir_store.specs.Building.{Building, HasRoots, contents_of, finish_fault}
 
 pub no_roots : (b : Building) → (HasRoots b → ⊥) → finish_fault b (Some NoRoots)

@@ -1,4 +1,1 @@
 pub mod BuildingLemmas
-pub mod PatLemmas
-pub mod UnderLemmas
-pub mod WalkLemmas

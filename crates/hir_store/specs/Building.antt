@@ -6,9 +6,9 @@ use Rattle.hir_faults.specs.declared.fault.FinishFault.{FinishFault}
 use Rattle.hir_faults.specs.declared.fault.FinishFault.TheVariants.{NoRoots}
 use Rattle.hir_faults.specs.Nodes.{Nodes}
 use Rattle.hir_faults.specs.Faults.{ends_of}
-use Rattle.hir_store.specs.declared.marks.Marks.{Marks}
-use Rattle.hir_store.specs.Marks.{no_marks}
-use Rattle.hir_store.specs.Contents.{Contents, contents_fault}
+use Rattle.hir_accepted.specs.declared.marks.Marks.{Marks}
+use Rattle.hir_accepted.specs.Marks.{no_marks}
+use Rattle.hir_accepted.specs.Contents.{Contents, contents_fault}
 use Rattle.hir_store.specs.declared.builder.ExpressionStoreBuilder.{ExpressionStoreBuilder}
 
 -- the nodes and what they name, the roots where a list of them was begun, and what was said besides

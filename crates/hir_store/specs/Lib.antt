@@ -1,14 +1,1 @@
-pub mod Blocks
-pub mod Bounds
 pub mod Building
-pub mod ChildPats
-pub mod Contents
-pub mod Marks
-pub mod NodeSets
-pub mod PatLists
-pub mod RootSearch
-pub mod SameMarks
-pub mod SameRoots
-pub mod SameStores
-pub mod StoreParts
-pub mod Under

@@ -3,13 +3,14 @@
 ghost use Rattle.std.specs.Prelude.{◌≡◌, ◌≤◌, [], ◌∷◌, ◌++◌, length, Err, None, IfOk, IfErr, OnOk, OnErr};
 ghost use Rattle.std.specs.FinMap as map;
 ghost use Rattle.hir_path.specs.Keys.{expr_or_pat_code};
-ghost use Rattle.hir_source.specs.Additions.{no_sources};
-ghost use Rattle.hir_store.specs.Building.{nodes_of, building_of, and_root, some_roots};
+ghost use Rattle.hir_source.specs.Additions.{no_sources, finished};
+ghost use Rattle.hir_store.specs.Building.{nodes_of, building_of, contents_of, has_exprs, finish_fault, and_root, some_roots};
 ghost use Rattle.hir_faults.specs.Faults.{nodes_in};
 ghost use Rattle.hir_faults.specs.Nodes.{sizes_of};
 ghost use Rattle.hir_faults.specs.Sizes.{Few};
 
-use crate::root_list::RootList;
+use crate::finish::{kept_marks, roots_or_empty};
+use hir_accepted::{ExpressionStore, Marks, RootList, StoreParts};
 use hir_base::{Arena, ArenaFault, BlockId, HygieneId, Seq, Table};
 use hir_faults::{FinishFault, NodeSlices};
 use hir_forest::Root;
@@ -18,11 +19,11 @@ use hir_node::{
     LabelKind, LifetimeRef, LifetimeRefId, LifetimeRefKind, Pat, PatId, PatKind, TypeRef,
     TypeRefId, TypeRefKind,
 };
-use hir_source::SourceMapBuilder;
+use hir_source::{ExpressionStoreSourceMap, SourceMapBuilder};
 use std::alloc::{AllocFailed, Global};
 
 /// Nodes and roots that are not tested yet.
-#[derive(Debug, Drop, PartialEq, Eq)]
+#[derive(Debug, PartialEq, Eq)]
 pub struct ExpressionStoreBuilder {
     pub exprs: Arena<ExprKind, Expr>,
     pub pats: Arena<PatKind, Pat>,
@@ -37,6 +38,26 @@ pub struct ExpressionStoreBuilder {
     pub(crate) source_map: SourceMapBuilder,
     pub(crate) roots: Option<RootList>,
     pub(crate) alloc: Global,
+}
+
+/// Its parts go one after the other. It stands here, so that it is proved once, and is a call wherever a value is dropped.
+impl Drop for ExpressionStoreBuilder {
+    fn drop(self) {
+        let ExpressionStoreBuilder {
+            exprs,
+            pats,
+            bindings,
+            labels,
+            lifetimes,
+            types,
+            binding_owners,
+            hygiene,
+            block_scopes,
+            source_map,
+            roots,
+            alloc,
+        } = self;
+    }
 }
 
 /// A builder that was refused, as it was, with its first fault.
@@ -211,5 +232,44 @@ impl ExpressionStoreBuilder {
             labels: self.labels.as_slice(),
             lifetimes: self.lifetimes.as_slice(),
         }
+    }
+
+    /// The store and the source map of a builder without a fault.
+    pub(crate) fn accepted(self) -> (ExpressionStore, ExpressionStoreSourceMap)
+        requires { finish_fault (building_of self) None }
+        ensures store { result.0 ≡ contents_of (building_of self) }
+        ensures source_map { result.1 ≡ finished (has_exprs (nodes_of self)) self.source_map }
+    {
+        let keeps_exprs = self.has_exprs();
+        let ExpressionStoreBuilder {
+            exprs,
+            pats,
+            bindings,
+            labels,
+            lifetimes,
+            types,
+            binding_owners,
+            hygiene,
+            block_scopes,
+            source_map,
+            roots,
+            alloc,
+        } = self;
+        let marks = Marks {
+            owners: binding_owners,
+            hygiene,
+            blocks: block_scopes,
+        };
+        let store = ExpressionStore::new(StoreParts {
+            exprs,
+            pats,
+            types,
+            bindings,
+            labels,
+            lifetimes,
+            roots: roots_or_empty(alloc, roots),
+            marks: kept_marks(alloc, keeps_exprs, marks),
+        });
+        (store, source_map.finish(keeps_exprs))
     }
 }

@@ -5,9 +5,7 @@ ghost use Rattle.hir_source.specs.Additions.{finished};
 ghost use Rattle.hir_store.specs.Building.{nodes_of, building_of, contents_of, roots_or_none, HasRoots, has_exprs, kept_marks, finish_fault};
 
 use crate::builder::{ExpressionStoreBuilder, Refused};
-use crate::marks::Marks;
-use crate::root_list::RootList;
-use crate::store::{ExpressionStore, StoreParts};
+use hir_accepted::{ExpressionStore, Marks, RootList};
 use hir_faults::FinishFault;
 use hir_forest::Root;
 use hir_source::ExpressionStoreSourceMap;
@@ -70,7 +68,7 @@ impl ExpressionStoreBuilder {
     }
 
     /// Whether there is an expression, a label, a pattern or a binding.
-    fn has_exprs(&self) -> bool
+    pub(crate) fn has_exprs(&self) -> bool
         ensures { result ≡ has_exprs (nodes_of self.now) }
     {
         !self.exprs.is_empty()
@@ -78,56 +76,17 @@ impl ExpressionStoreBuilder {
             || !self.pats.is_empty()
             || !self.bindings.is_empty()
     }
-
-    /// The store and the source map of a builder without a fault.
-    fn accepted(self) -> (ExpressionStore, ExpressionStoreSourceMap)
-        requires { finish_fault (building_of self) None }
-        ensures store { result.0 ≡ contents_of (building_of self) }
-        ensures source_map { result.1 ≡ finished (has_exprs (nodes_of self)) self.source_map }
-    {
-        let keeps_exprs = self.has_exprs();
-        let ExpressionStoreBuilder {
-            exprs,
-            pats,
-            bindings,
-            labels,
-            lifetimes,
-            types,
-            binding_owners,
-            hygiene,
-            block_scopes,
-            source_map,
-            roots,
-            alloc,
-        } = self;
-        let marks = Marks {
-            owners: binding_owners,
-            hygiene,
-            blocks: block_scopes,
-        };
-        let store = ExpressionStore::new(StoreParts {
-            exprs,
-            pats,
-            types,
-            bindings,
-            labels,
-            lifetimes,
-            roots: roots_or_empty(alloc, roots),
-            marks: kept_marks(alloc, keeps_exprs, marks),
-        });
-        (store, source_map.finish(keeps_exprs))
-    }
 }
 
 /// What is said of nodes besides, where they are kept; else nothing.
-fn kept_marks(alloc: Global, kept: bool, marks: Marks) -> Marks
+pub(crate) fn kept_marks(alloc: Global, kept: bool, marks: Marks) -> Marks
     ensures { result ≡ kept_marks kept marks }
 {
     if kept { marks } else { Marks::new(alloc) }
 }
 
 /// The listed roots; none where no list was begun.
-fn roots_or_empty(alloc: Global, roots: Option<RootList>) -> RootList
+pub(crate) fn roots_or_empty(alloc: Global, roots: Option<RootList>) -> RootList
     ensures { result ≡ roots_or_none roots }
 {
     match roots {

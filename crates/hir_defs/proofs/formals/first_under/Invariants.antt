@@ -1,5 +1,5 @@
 use Rattle.std.proofs.Common.{ℕ, ◌<◌, None}
-use Rattle.hir_store.specs.NodeSets.{IsIn}
+use Rattle.hir_accepted.specs.NodeSets.{IsIn}
 use Rattle.hir_defs.specs.Bodies.{formals_of, under_fault}
 use Rattle.hir_defs.proofs.formals.first_under.Given as goal
 

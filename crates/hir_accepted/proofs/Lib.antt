@@ -1,0 +1,3 @@
+pub mod PatLemmas
+pub mod WalkLemmas
+pub mod UnderLemmas

@@ -1,0 +1,20 @@
+//! Two values of which the second may be refused.
+ghost use Rattle.std.specs.Prelude.{◌≡◌, Err, IfErr, IfOk, Ok};
+
+use std::alloc::AllocError;
+
+/// Both values, where there is a second one; else the first is dropped.
+///
+/// The first is moved whole. A `?` beside it would take it apart once more, which is dear to prove where it is large.
+pub(crate) fn both<A: Drop, B>(
+    first: A,
+    second: Result<B, AllocError>,
+) -> Result<(A, B), AllocError>
+    ensures ok { IfOk result (λ made. (made.0 ≡ first) × (second ≡ Ok made.1)) }
+    ensures err { IfErr result (λ error. second ≡ Err error) }
+{
+    match second {
+        Ok(second) => Ok((first, second)),
+        Err(error) => Err(error),
+    }
+}
