@@ -1,7 +1,7 @@
 //! Calls that take memory, made again where it is refused once.
 //! So each test passes with ample memory, and whichever one growth is refused.
 //! What moves a large value on a path that may fail stands here too: where its type is any type, it isn't laid out.
-use hir_base::{Arena, ArenaFault, ExactEq, Name, Seq, Text, TryClone};
+use hir_base::{Arena, ArenaFault, Name, Seq, Text};
 use hir_store::Missing;
 use std::alloc::{AllocError, AllocFailed, Global};
 use std::fmt::Debug;
@@ -19,18 +19,6 @@ pub fn text(alloc: Global, text: &str) -> Result<Text, AllocError> {
         Ok(text) => Ok(text),
         Err(_) => Text::from_str(alloc, text),
     }
-}
-
-pub fn copy<T: TryClone>(value: &T) -> Result<T, AllocError> {
-    match value.try_clone() {
-        Ok(made) => Ok(made),
-        Err(_) => value.try_clone(),
-    }
-}
-
-/// Whether a copy of the value is the same as it.
-pub fn copies<T: TryClone + ExactEq + Drop>(value: &T) -> Result<bool, AllocError> {
-    Ok(copy(value)?.is_same(value))
 }
 
 pub fn push<T: Drop>(seq: &mut Seq<T>, item: T) -> Result<(), AllocError> {

@@ -9,7 +9,7 @@ use hir_base::{
 use hir_defs::{
     BodySourceMap, FieldData, FieldsShape, FunctionParts, FunctionSignature, GenericParams,
     PlainDef, PlainParts, PlainSignature, RawVisibility, RefusedSignature, Repr, StructParts,
-    StructSignature, Tables, TypeParamProvenance, VariantFields, VariantParts,
+    StructSignature, Tables, VariantFields, VariantParts,
 };
 use hir_node::TypeRefId;
 use hir_store::ExpressionStoreSourceMap;
@@ -18,11 +18,6 @@ use std::test::Fail;
 
 /// What comes of the parts of a signature, and the source map of their store.
 pub type Outcome<S, P> = Box<(Result<S, RefusedSignature<P>>, ExpressionStoreSourceMap)>;
-
-/// One type parameter `T`.
-pub fn one(alloc: Global) -> Result<Box<GenericParams>, Fail> {
-    params::one_type(alloc, "T", TypeParamProvenance::TypeParamList)
-}
 
 /// The list of type 0.
 fn type_0(alloc: Global) -> Result<Seq<TypeRefId>, AllocError> {
@@ -36,7 +31,7 @@ pub fn function(
     alloc: Global,
     count: u32,
 ) -> Result<Outcome<FunctionSignature, FunctionParts>, Fail> {
-    let generic_params = one(alloc)?;
+    let generic_params = params::one(alloc)?;
     let made = trees::made(alloc, &[Step::Types(count)])?;
     let name = again::in_a_box(alloc, again::name(alloc, "f")?)?;
     let params = type_0(alloc)?;
@@ -66,7 +61,7 @@ fn add_function(tables: &mut Tables, alloc: Global) -> Result<(), Fail> {
 
 /// Gives struct 2 the signature of the fundamental `S<T>(..)`, over two types.
 fn add_struct(tables: &mut Tables, alloc: Global) -> Result<(), Fail> {
-    let generic_params = one(alloc)?;
+    let generic_params = params::one(alloc)?;
     let made = trees::made(alloc, &[Step::Types(2)])?;
     let name = again::name(alloc, "S")?;
     let (store, map) = Box::into_inner(made);
@@ -98,7 +93,7 @@ pub fn plain(
 
 /// Gives the definition the signature of one type parameter, over this many types.
 fn add_plain(tables: &mut Tables, alloc: Global, def: PlainDef, count: u32) -> Result<(), Fail> {
-    let (outcome, map) = Box::into_inner(plain(alloc, one(alloc)?, count)?);
+    let (outcome, map) = Box::into_inner(plain(alloc, params::one(alloc)?, count)?);
     let (signature, map) = again::with(outcome, map)?;
     again::taken(tables.add_plain(def, signature, map))
 }

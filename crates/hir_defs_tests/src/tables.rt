@@ -27,7 +27,7 @@ fn lacks_an_id(outcome: &Result<FunctionSignature, RefusedSignature<FunctionPart
 /// No parameters, and a predicate on type 0 whose bound is the path of type 0.
 fn bound_on_0(alloc: Global) -> Result<Box<GenericParams>, AllocError> {
     let mut predicates = again::in_a_box(alloc, Seq::new(alloc))?;
-    again::push(&mut predicates, params::meets(None, 0))?;
+    again::push(&mut predicates, params::meets_itself())?;
     params::boxed(
         alloc,
         Arena::new(alloc),
