@@ -25,6 +25,12 @@ pub enum ArenaFault {
     Full,
 }
 
+impl ExactEq for ArenaFault {
+    ghost use Rattle.hir_base.specs.Exact.{exact};
+
+    ghost eq_decides = { Prim.search exact };
+}
+
 /// A list of items, each named by an id of the kind `K` that is its place from 0.
 #[derive(Drop)]
 #[derive_where(Debug, Clone, PartialEq, Eq, Hash; T)]

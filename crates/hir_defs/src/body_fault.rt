@@ -5,6 +5,7 @@ ghost use Rattle.hir_defs.specs.Bodies.{BodyParts, last_root, apart_fault, body_
 
 use crate::formals::{Param, add_formals, first_out_of_range, first_under, self_is_there};
 use hir_accepted::ExpressionStore;
+use hir_base::ExactEq;
 use hir_node::{BindingId, ExprId, PatId};
 use std::alloc::{AllocError, Global};
 use thiserror::Error;
@@ -34,6 +35,12 @@ pub enum BodyFault {
     /// Memory for the test was refused. It may come in place of any answer.
     #[error("Memory")]
     Memory,
+}
+
+impl ExactEq for BodyFault {
+    ghost use Rattle.hir_base.specs.Exact.{exact};
+
+    ghost eq_decides = { Prim.search exact };
 }
 
 /// The last root, where there is one.

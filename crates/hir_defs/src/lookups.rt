@@ -18,7 +18,7 @@ ghost use Rattle.hir_defs.specs.Lookups.{of_function, of_struct, of_plain, of_va
 use crate::body::Body;
 use crate::body_source_map::BodySourceMap;
 use crate::generic_params::GenericParams;
-use crate::tables::{PlainDef, Tables};
+use crate::tables::{PlainDef, Tables, entry};
 use hir_accepted::{ExpressionStore, Missing};
 use hir_base::{AdtId, DefWithBodyId, ExpressionStoreOwnerId, FunctionId, GenericDefId, StructId};
 use hir_source::ExpressionStoreSourceMap;
@@ -31,7 +31,8 @@ impl Tables {
         ensures found { IfOk result (λ found. of_function self.now id ≡ Some (found.0.now, found.1.now, found.2.now)) }
         ensures absent { IfErr result (λ absent. (absent ≡ missing.Signature (generic.FunctionId id)) × (of_function self.now id ≡ None)) }
     {
-        let (signature, source_map) = self.function_entry(id)?;
+        let wanted = Missing::Signature(GenericDefId::FunctionId(id));
+        let (signature, source_map) = entry(&self.functions, &id, wanted)?;
         Ok((signature.generic_params(), signature.store(), source_map))
     }
 
@@ -42,7 +43,8 @@ impl Tables {
         ensures found { IfOk result (λ found. of_struct self.now id ≡ Some (found.0.now, found.1.now, found.2.now)) }
         ensures absent { IfErr result (λ absent. (absent ≡ missing.Signature (generic.AdtId (adt.StructId id))) × (of_struct self.now id ≡ None)) }
     {
-        let (signature, source_map) = self.struct_entry(id)?;
+        let wanted = Missing::Signature(GenericDefId::AdtId(AdtId::StructId(id)));
+        let (signature, source_map) = entry(&self.structs, &id, wanted)?;
         Ok((signature.generic_params(), signature.store(), source_map))
     }
 
@@ -53,7 +55,8 @@ impl Tables {
         ensures found { IfOk result (λ found. of_plain self.now def ≡ Some (found.0.now, found.1.now, found.2.now)) }
         ensures absent { IfErr result (λ absent. (absent ≡ missing.Signature (generic_def def)) × (of_plain self.now def ≡ None)) }
     {
-        let (signature, source_map) = self.plain_entry(def)?;
+        let wanted = Missing::Signature(def.generic_def());
+        let (signature, source_map) = entry(&self.plains, &def, wanted)?;
         Ok((signature.generic_params(), signature.store(), source_map))
     }
 
@@ -65,8 +68,9 @@ impl Tables {
         ensures found { IfOk result (λ found. of_value self.now def ≡ Some (found.0.now, found.1.now, found.2.now)) }
         ensures absent { IfErr result (λ absent. (absent ≡ missing.Signature (generic_def def)) × (of_value self.now def ≡ None)) }
     {
-        let (signature, source_map) = self.plain_entry(def)?;
-        Ok((self.no_generics(), signature.store(), source_map))
+        let wanted = Missing::Signature(def.generic_def());
+        let (signature, source_map) = entry(&self.plains, &def, wanted)?;
+        Ok((self.no_generics.params(), signature.store(), source_map))
     }
 
     fn of_adt(
@@ -88,7 +92,7 @@ impl Tables {
 impl GenericParams {
     /// The parameters of the definition: none of a constant or a static that is there.
     ///
-    /// Errors: `Missing::Signature` where the tables have no signature of it.
+    /// Answers `Missing::Signature` of the definition where the tables have no signature of it.
     pub fn of(tables: &Tables, def: GenericDefId) -> Result<&GenericParams, Missing>
         ensures found { IfOk result (λ found. option_map (λ entry. entry.0) (signed tables.now def) ≡ Some found.now) }
         ensures absent { IfErr result (λ absent. (absent ≡ missing.Signature def) × (signed tables.now def ≡ None)) }
@@ -99,7 +103,7 @@ impl GenericParams {
 
     /// The parameters of the definition, and the store that they name.
     ///
-    /// Errors: `Missing::Signature` where the tables have no signature of it.
+    /// Answers `Missing::Signature` of the definition where the tables have no signature of it.
     pub fn with_store(
         tables: &Tables,
         def: GenericDefId,
@@ -113,7 +117,7 @@ impl GenericParams {
 
     /// The parameters of the definition, the store that they name, and where that comes from.
     ///
-    /// Errors: `Missing::Signature` where the tables have no signature of it.
+    /// Answers `Missing::Signature` of the definition where the tables have no signature of it.
     pub fn with_source_map(
         tables: &Tables,
         def: GenericDefId,
@@ -137,18 +141,19 @@ impl GenericParams {
 impl Body {
     /// The body of the definition.
     ///
-    /// Errors: `Missing::Body` where the tables have none of it.
+    /// Answers `Missing::Body` of the definition where the tables have none of it.
     pub fn of(tables: &Tables, def: DefWithBodyId) -> Result<&Body, Missing>
         ensures found { IfOk result (λ found. option_map (λ entry. entry.0) (embodied tables.now def) ≡ Some found.now) }
         ensures absent { IfErr result (λ absent. (absent ≡ missing.Body def) × (embodied tables.now def ≡ None)) }
     {
-        let (found, _) = tables.body_entry(def)?;
+        let wanted = Missing::Body(def);
+        let (found, _) = entry(&tables.bodies, &def, wanted)?;
         Ok(found)
     }
 
     /// The body of the definition, and where it comes from.
     ///
-    /// Errors: `Missing::Body` where the tables have none of it.
+    /// Answers `Missing::Body` of the definition where the tables have none of it.
     pub fn with_source_map(
         tables: &Tables,
         def: DefWithBodyId,
@@ -156,7 +161,8 @@ impl Body {
         ensures found { IfOk result (λ found. embodied tables.now def ≡ Some (found.0.now, found.1.now)) }
         ensures absent { IfErr result (λ absent. (absent ≡ missing.Body def) × (embodied tables.now def ≡ None)) }
     {
-        let (found, source_map) = tables.body_entry(def)?;
+        let wanted = Missing::Body(def);
+        let (found, source_map) = entry(&tables.bodies, &def, wanted)?;
         Ok((found, source_map))
     }
 }
@@ -167,11 +173,17 @@ pub trait StoreOf {
     ghost entry: { Tables → ExpressionStoreOwnerId → Option (Self × ExpressionStoreSourceMap) };
 
     /// The store of the owner.
+    ///
+    /// Where the tables have nothing of the owner, answers `Missing::Signature` or `Missing::Body` of its definition, or
+    /// `Missing::Fields` of its variant, as the owner is.
     fn of(tables: &Tables, owner: ExpressionStoreOwnerId) -> Result<&Self, Missing>
         ensures found { IfOk result (λ found. option_map (λ e. e.0) (entry tables.now owner) ≡ Some found.now) }
         ensures absent { IfErr result (λ absent. (absent ≡ missing_owner owner) × (entry tables.now owner ≡ None)) };
 
     /// The store of the owner, and where it comes from.
+    ///
+    /// Where the tables have nothing of the owner, answers `Missing::Signature` or `Missing::Body` of its definition, or
+    /// `Missing::Fields` of its variant, as the owner is.
     fn with_source_map(
         tables: &Tables,
         owner: ExpressionStoreOwnerId,
@@ -198,11 +210,13 @@ impl StoreOf for ExpressionStore {
                 Ok((store, source_map))
             }
             ExpressionStoreOwnerId::Body(def) => {
-                let (body, source_map) = tables.body_entry(def)?;
+                let wanted = Missing::Body(def);
+                let (body, source_map) = entry(&tables.bodies, &def, wanted)?;
                 Ok((body.store(), source_map.store()))
             }
             ExpressionStoreOwnerId::VariantFields(variant) => {
-                let (fields, source_map) = tables.fields_entry(variant)?;
+                let wanted = Missing::Fields(variant);
+                let (fields, source_map) = entry(&tables.fields, &variant, wanted)?;
                 Ok((fields.store(), source_map))
             }
         }

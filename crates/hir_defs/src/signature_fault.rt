@@ -2,6 +2,7 @@
 
 ghost use Rattle.hir_defs.specs.Signatures.{ids_fault};
 
+use hir_base::ExactEq;
 use thiserror::Error;
 
 /// Why a signature is refused: the first of its faults, in this order. The text is the name.
@@ -16,6 +17,12 @@ pub enum SignatureFault {
     /// Memory was refused. The tests take none, so no maker answers it.
     #[error("Memory")]
     Memory,
+}
+
+impl ExactEq for SignatureFault {
+    ghost use Rattle.hir_base.specs.Exact.{exact};
+
+    ghost eq_decides = { Prim.search exact };
 }
 
 /// The parts of a signature that was refused, as they were, with their first fault.

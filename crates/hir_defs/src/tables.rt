@@ -9,12 +9,10 @@ ghost use Rattle.hir_base.specs.RawWords.{no_words, words_of, with_words};
 ghost use Rattle.hir_base.specs.declared.defs.GenericDefId.TheVariants as generic;
 ghost use Rattle.hir_base.specs.declared.defs.AdtId.TheVariants as adt;
 ghost use Rattle.hir_accepted.specs.declared.missing.Missing.TheVariants as missing;
-ghost use Rattle.hir_defs.specs.Generics.{empty};
 ghost use Rattle.hir_defs.specs.Tables.{plain_code, plain_tells, generic_def};
 
 use crate::body::Body;
 use crate::body_source_map::BodySourceMap;
-use crate::generic_params::GenericParams;
 use crate::no_generics::NoGenerics;
 use crate::signatures::{FunctionSignature, PlainSignature, StructSignature, VariantFields};
 use hir_accepted::Missing;
@@ -92,15 +90,15 @@ impl TryClone for Repr {
 pub struct Tables {
     names: Table<NamedDef, Option<Text>>,
     variant_parents: Table<EnumVariantId, EnumId>,
-    functions: Table<FunctionId, (FunctionSignature, ExpressionStoreSourceMap)>,
-    structs: Table<StructId, (StructSignature, ExpressionStoreSourceMap)>,
-    plains: Table<PlainDef, (PlainSignature, ExpressionStoreSourceMap)>,
-    fields: Table<VariantId, (VariantFields, ExpressionStoreSourceMap)>,
-    bodies: Table<DefWithBodyId, (Body, BodySourceMap)>,
+    pub(crate) functions: Table<FunctionId, (FunctionSignature, ExpressionStoreSourceMap)>,
+    pub(crate) structs: Table<StructId, (StructSignature, ExpressionStoreSourceMap)>,
+    pub(crate) plains: Table<PlainDef, (PlainSignature, ExpressionStoreSourceMap)>,
+    pub(crate) fields: Table<VariantId, (VariantFields, ExpressionStoreSourceMap)>,
+    pub(crate) bodies: Table<DefWithBodyId, (Body, BodySourceMap)>,
     crate_names: Table<CrateId, Option<Text>>,
     reprs: Table<StructId, Repr>,
     words: RawWords,
-    no_generics: NoGenerics,
+    pub(crate) no_generics: NoGenerics,
 }
 
 /// Its parts go one after the other. It stands here, so that it is proved once, and is a call wherever a value is dropped.
@@ -134,6 +132,23 @@ fn put<K: Keyed + Drop, V: Drop>(
 {
     table.insert(key, value)?;
     Ok(())
+}
+
+/// The value of this key. Answers `wanted`, as what is missing, where it has none.
+///
+/// It is lent one table, since what is lent all of them is dear to prove.
+pub(crate) fn entry<'a, K: Keyed, V>(
+    table: &'a Table<K, V>,
+    key: &K,
+    wanted: Missing,
+) -> Result<&'a V, Missing>
+    ensures found { IfOk result (λ found. map.get table.now (K.code key.now) ≡ Some found.now) }
+    ensures absent { IfErr result (λ absent. (absent ≡ wanted) × (map.get table.now (K.code key.now) ≡ None)) }
+{
+    match table.get(key) {
+        Some(found) => Ok(found),
+        None => Err(wanted),
+    }
 }
 
 impl Tables {
@@ -318,145 +333,86 @@ impl Tables {
     }
 
     /// What the definition is called; None where it has no name.
+    ///
+    /// Answers `Missing::Name` of the definition where the tables don't say whether it has a name.
     pub fn name(&self, def: NamedDef) -> Result<Option<&Text>, Missing>
         ensures found { IfOk result (λ found. map.get self.now.names (named_code def) ≡ Some (option_copied found)) }
         ensures absent { IfErr result (λ absent. (absent ≡ missing.Name def) × (map.get self.now.names (named_code def) ≡ None)) }
     {
-        match self.names.get(&def) {
-            Some(entry) => Ok(entry.as_ref()),
-            None => Err(Missing::Name(def)),
-        }
+        let wanted = Missing::Name(def);
+        let found = entry(&self.names, &def, wanted)?;
+        Ok(found.as_ref())
     }
 
     /// The enum that the variant is of.
+    ///
+    /// Answers `Missing::Variant` of the variant where the tables don't say of which enum it is.
     pub fn variant_parent(&self, variant: EnumVariantId) -> Result<EnumId, Missing>
         ensures found { IfOk result (λ found. map.get self.now.variant_parents (variant ∷ []) ≡ Some (found)) }
         ensures absent { IfErr result (λ absent. (absent ≡ missing.Variant variant) × (map.get self.now.variant_parents (variant ∷ []) ≡ None)) }
     {
-        match self.variant_parents.get(&variant) {
-            Some(entry) => Ok(*entry),
-            None => Err(Missing::Variant(variant)),
-        }
+        let wanted = Missing::Variant(variant);
+        let found = entry(&self.variant_parents, &variant, wanted)?;
+        Ok(*found)
     }
 
     /// What the crate is called; None where it has no name.
+    ///
+    /// Answers `Missing::Crate` of the crate where the tables don't say whether it has a name.
     pub fn crate_name(&self, id: CrateId) -> Result<Option<&Text>, Missing>
         ensures found { IfOk result (λ found. map.get self.now.crate_names (id ∷ []) ≡ Some (option_copied found)) }
         ensures absent { IfErr result (λ absent. (absent ≡ missing.Crate id) × (map.get self.now.crate_names (id ∷ []) ≡ None)) }
     {
-        match self.crate_names.get(&id) {
-            Some(entry) => Ok(entry.as_ref()),
-            None => Err(Missing::Crate(id)),
-        }
-    }
-
-    /// The signature of the function, with its source map.
-    pub(crate) fn function_entry(
-        &self,
-        id: FunctionId,
-    ) -> Result<&(FunctionSignature, ExpressionStoreSourceMap), Missing>
-        ensures found { IfOk result (λ found. map.get self.now.functions (id ∷ []) ≡ Some found.now) }
-        ensures absent { IfErr result (λ absent. (absent ≡ missing.Signature (generic.FunctionId id)) × (map.get self.now.functions (id ∷ []) ≡ None)) }
-    {
-        match self.functions.get(&id) {
-            Some(entry) => Ok(entry),
-            None => Err(Missing::Signature(GenericDefId::FunctionId(id))),
-        }
+        let wanted = Missing::Crate(id);
+        let found = entry(&self.crate_names, &id, wanted)?;
+        Ok(found.as_ref())
     }
 
     /// The signature of the function.
+    ///
+    /// Answers `Missing::Signature` of the function where the tables have none of it.
     pub fn function_signature(&self, id: FunctionId) -> Result<&FunctionSignature, Missing>
         ensures found { IfOk result (λ found. option_map (λ entry. entry.0) (map.get self.now.functions (id ∷ [])) ≡ Some found.now) }
         ensures absent { IfErr result (λ absent. (absent ≡ missing.Signature (generic.FunctionId id)) × (map.get self.now.functions (id ∷ []) ≡ None)) }
     {
-        let (found, _) = self.function_entry(id)?;
+        let wanted = Missing::Signature(GenericDefId::FunctionId(id));
+        let (found, _) = entry(&self.functions, &id, wanted)?;
         Ok(found)
     }
 
-    /// The signature of the struct, with its source map.
-    pub(crate) fn struct_entry(
-        &self,
-        id: StructId,
-    ) -> Result<&(StructSignature, ExpressionStoreSourceMap), Missing>
-        ensures found { IfOk result (λ found. map.get self.now.structs (id ∷ []) ≡ Some found.now) }
-        ensures absent { IfErr result (λ absent. (absent ≡ missing.Signature (generic.AdtId (adt.StructId id))) × (map.get self.now.structs (id ∷ []) ≡ None)) }
-    {
-        match self.structs.get(&id) {
-            Some(entry) => Ok(entry),
-            None => Err(Missing::Signature(GenericDefId::AdtId(AdtId::StructId(id)))),
-        }
-    }
-
     /// The signature of the struct.
+    ///
+    /// Answers `Missing::Signature` of the struct where the tables have none of it.
     pub fn struct_signature(&self, id: StructId) -> Result<&StructSignature, Missing>
         ensures found { IfOk result (λ found. option_map (λ entry. entry.0) (map.get self.now.structs (id ∷ [])) ≡ Some found.now) }
         ensures absent { IfErr result (λ absent. (absent ≡ missing.Signature (generic.AdtId (adt.StructId id))) × (map.get self.now.structs (id ∷ []) ≡ None)) }
     {
-        let (found, _) = self.struct_entry(id)?;
+        let wanted = Missing::Signature(GenericDefId::AdtId(AdtId::StructId(id)));
+        let (found, _) = entry(&self.structs, &id, wanted)?;
         Ok(found)
     }
 
-    /// The signature of the definition, with its source map.
-    pub(crate) fn plain_entry(
-        &self,
-        def: PlainDef,
-    ) -> Result<&(PlainSignature, ExpressionStoreSourceMap), Missing>
-        ensures found { IfOk result (λ found. map.get self.now.plains (plain_code def) ≡ Some found.now) }
-        ensures absent { IfErr result (λ absent. (absent ≡ missing.Signature (generic_def def)) × (map.get self.now.plains (plain_code def) ≡ None)) }
-    {
-        match self.plains.get(&def) {
-            Some(entry) => Ok(entry),
-            None => Err(Missing::Signature(def.generic_def())),
-        }
-    }
-
     /// The signature of the definition.
+    ///
+    /// Answers `Missing::Signature` of the definition where the tables have none of it.
     pub fn plain_signature(&self, def: PlainDef) -> Result<&PlainSignature, Missing>
         ensures found { IfOk result (λ found. option_map (λ entry. entry.0) (map.get self.now.plains (plain_code def)) ≡ Some found.now) }
         ensures absent { IfErr result (λ absent. (absent ≡ missing.Signature (generic_def def)) × (map.get self.now.plains (plain_code def) ≡ None)) }
     {
-        let (found, _) = self.plain_entry(def)?;
+        let wanted = Missing::Signature(def.generic_def());
+        let (found, _) = entry(&self.plains, &def, wanted)?;
         Ok(found)
     }
 
-    /// The fields of the struct, the union or the variant, with its source map.
-    pub(crate) fn fields_entry(
-        &self,
-        variant: VariantId,
-    ) -> Result<&(VariantFields, ExpressionStoreSourceMap), Missing>
-        ensures found { IfOk result (λ found. map.get self.now.fields (fields_code variant) ≡ Some found.now) }
-        ensures absent { IfErr result (λ absent. (absent ≡ missing.Fields variant) × (map.get self.now.fields (fields_code variant) ≡ None)) }
-    {
-        match self.fields.get(&variant) {
-            Some(entry) => Ok(entry),
-            None => Err(Missing::Fields(variant)),
-        }
-    }
-
     /// The fields of the struct, the union or the variant.
+    ///
+    /// Answers `Missing::Fields` of the struct, the union or the variant where the tables have none of it.
     pub fn variant_fields(&self, variant: VariantId) -> Result<&VariantFields, Missing>
         ensures found { IfOk result (λ found. option_map (λ entry. entry.0) (map.get self.now.fields (fields_code variant)) ≡ Some found.now) }
         ensures absent { IfErr result (λ absent. (absent ≡ missing.Fields variant) × (map.get self.now.fields (fields_code variant) ≡ None)) }
     {
-        let (found, _) = self.fields_entry(variant)?;
+        let wanted = Missing::Fields(variant);
+        let (found, _) = entry(&self.fields, &variant, wanted)?;
         Ok(found)
-    }
-
-    /// No generic parameters, to lend.
-    pub(crate) fn no_generics(&self) -> &GenericParams
-        ensures { result.now ≡ empty }
-    {
-        self.no_generics.params()
-    }
-
-    /// The body of the definition, with its source map.
-    pub(crate) fn body_entry(&self, def: DefWithBodyId) -> Result<&(Body, BodySourceMap), Missing>
-        ensures found { IfOk result (λ found. map.get self.now.bodies (body_code def) ≡ Some found.now) }
-        ensures absent { IfErr result (λ absent. (absent ≡ missing.Body def) × (map.get self.now.bodies (body_code def) ≡ None)) }
-    {
-        match self.bodies.get(&def) {
-            Some(entry) => Ok(entry),
-            None => Err(Missing::Body(def)),
-        }
     }
 }

@@ -1,5 +1,8 @@
 //! Why a builder is refused.
 
+ghost use Rattle.hir_base.specs.Exact.{exact};
+
+use hir_base::ExactEq;
 use hir_node::{ExprId, PatId, TypeRefId};
 use std::fmt;
 use thiserror::Error;
@@ -10,6 +13,10 @@ pub enum NodeId {
     Expr(ExprId),
     Pat(PatId),
     TypeRef(TypeRefId),
+}
+
+impl ExactEq for NodeId {
+    ghost eq_decides = { Prim.search exact };
 }
 
 impl fmt::Display for NodeId {
@@ -23,8 +30,9 @@ impl fmt::Display for NodeId {
 }
 
 /// Why a builder is refused: the first of its faults, in this order. Nodes are ordered as expressions, patterns, types, each by id;
-/// the faults from `IdOutOfRange` to `ArgumentLists` are those of the first node that has one, and then the first in this order. A
-/// root is named by its index in the list of roots. The text is the name and, after a space, the node or the index.
+/// the faults from `IdOutOfRange` to `ArgumentLists` are those of the first node that has one, and then the first in this order. So
+/// are those from `RootOutOfRange` to `RootEnds` of the first root that has one, by its index in the list of roots, which names it.
+/// The text is the name and, after a space, the node or the index.
 #[derive(Clone, Copy, Debug, Drop, PartialEq, Eq, Error)]
 pub enum FinishFault {
     /// An expression, a pattern, a binding or a label exists, and no list of roots was begun.
@@ -66,4 +74,8 @@ pub enum FinishFault {
     /// Memory for the test was refused. It may come in place of any answer.
     #[error("Memory")]
     Memory,
+}
+
+impl ExactEq for FinishFault {
+    ghost eq_decides = { Prim.search exact };
 }

@@ -38,7 +38,7 @@ impl ExactEq for Maker {
 pub enum Question {
     /// `children E`: the child expressions.
     Children(ExprId),
-    /// `root-of E`: the root that the expression is under.
+    /// `root-of E`: the first root whose end of expressions is past this id.
     RootOf(ExprId),
 }
 

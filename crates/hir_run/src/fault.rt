@@ -2,6 +2,7 @@
 
 ghost use Rattle.std.specs.Prelude.{◌≡◌};
 
+use hir_base::ExactEq;
 use hir_ends::LineFault;
 use hir_store::FinishFault;
 use thiserror::Error;
@@ -24,6 +25,12 @@ pub enum RunFault {
     /// 6: memory was refused.
     #[error("out of memory")]
     OutOfMemory,
+}
+
+impl ExactEq for RunFault {
+    ghost use Rattle.hir_base.specs.Exact.{exact};
+
+    ghost eq_decides = { Prim.search exact };
 }
 
 impl From<LineFault> for RunFault {

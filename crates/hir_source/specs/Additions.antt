@@ -1,5 +1,5 @@
 -- What each call of a builder of source maps leaves: one entry more in one of its maps, or another value there, and nothing else changed.
-use Rattle.std.specs.Prelude.{ℕ, List, [], ◌∷◌, ◌++◌, Bool, ◌||◌, cond, Option, Some, None}
+use Rattle.std.specs.Prelude.{◌≡◌, ℕ, List, [], ◌∷◌, ◌++◌, Bool, ◌||◌, cond, Option, Some, None}
 use Rattle.std.specs.FinMap as map
 use Rattle.std.specs.declared.alloc.Global.{Global}
 use Rattle.hir_path.specs.declared.ids.ExprOrPatId.{ExprOrPatId}
@@ -7,6 +7,10 @@ use Rattle.hir_source.specs.declared.diagnostics.ExpressionStoreDiagnostics.{Exp
 use Rattle.hir_source.specs.declared.source_map_builder.SourceMapBuilder.{SourceMapBuilder}
 use Rattle.hir_source.specs.declared.source_map.ExpressionStoreSourceMap.{ExpressionStoreSourceMap}
 use Rattle.hir_source.specs.Parts.{Source, source_key, id_key, no_expr_sources, no_type_sources, and_definition, has_news}
+
+-- two builders have the same maps
+abbrev pub HasSameMaps : SourceMapBuilder → SourceMapBuilder → Type 0
+HasSameMaps b c = (b.exprs ≡ c.exprs) × (b.types ≡ c.types)
 
 -- maps without entries
 abbrev pub no_sources : Global → SourceMapBuilder

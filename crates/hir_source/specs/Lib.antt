@@ -6,3 +6,4 @@ pub mod Calls
 pub mod Compared
 pub mod SameCompared
 pub mod SameMaps
+pub mod SameBuilders

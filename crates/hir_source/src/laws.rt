@@ -8,11 +8,12 @@ ghost use Rattle.hir_path.specs.declared.ids.ExprOrPatId.{ExprOrPatId};
 ghost use Rattle.hir_source.specs.declared.source_map.ExpressionStoreSourceMap.{ExpressionStoreSourceMap};
 ghost use Rattle.hir_source.specs.declared.source_map_builder.SourceMapBuilder.{SourceMapBuilder};
 ghost use Rattle.hir_source.specs.Parts.{Source};
-ghost use Rattle.hir_source.specs.Additions.{finished, with_expr, with_pat, with_label, with_type, with_lifetime};
+ghost use Rattle.hir_source.specs.Additions.{HasSameMaps, finished, with_expr, with_pat, with_label, with_type, with_lifetime};
 ghost use Rattle.hir_source.specs.Lookups.{expr_source, pat_source, label_source, type_source, lifetime_source, expansions_of, diagnostics_of};
 ghost use Rattle.hir_source.specs.Compared.{compared};
 
 use crate::source_map::ExpressionStoreSourceMap;
+use crate::source_map_builder::SourceMapBuilder;
 
 /// Source maps are equal exactly where their compared parts are the same, and so equality is an equivalence.
 pub fn equality_is_of_the_compared_part()
@@ -45,4 +46,9 @@ pub fn equal_maps_know_the_same_sources()
     ensures lifetimes { (x y : ExpressionStoreSourceMap) → IsTrue (⟦<ExpressionStoreSourceMap as PartialEq>⟧.eq x y) → (id : ℕ) → lifetime_source x id ≡ lifetime_source y id }
     ensures expansions { (x y : ExpressionStoreSourceMap) → IsTrue (⟦<ExpressionStoreSourceMap as PartialEq>⟧.eq x y) → expansions_of x ≡ expansions_of y }
     ensures diagnostics { (x y : ExpressionStoreSourceMap) → IsTrue (⟦<ExpressionStoreSourceMap as PartialEq>⟧.eq x y) → diagnostics_of x ≡ diagnostics_of y }
+{}
+
+/// Builders of source maps are equal exactly where all their maps are the same, those from sources to nodes among them.
+pub fn builders_are_compared_by_all_maps()
+    ensures { (x y : SourceMapBuilder) → Decides (⟦<SourceMapBuilder as PartialEq>⟧.eq x y) (HasSameMaps x y) }
 {}

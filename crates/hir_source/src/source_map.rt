@@ -21,6 +21,9 @@ use hir_path::{BindingId, ExprId, ExprOrPatId, LabelId, PatId, TypeRefId};
 /// Where the nodes of a store come from. `finish` of a builder makes it.
 ///
 /// Its expression part, which is all but the maps of types and lifetimes, may be left out: then it has no entries.
+///
+/// `==` compares where nodes came from, expansions, diagnostics, and whether the expression part is kept; the maps from sources to
+/// nodes, those of fields and the definitions of bindings aren't compared.
 #[derive(Debug)]
 pub struct ExpressionStoreSourceMap {
     pub(crate) exprs: Option<ExprSources>,
@@ -37,7 +40,9 @@ impl Drop for ExpressionStoreSourceMap {
 impl ExpressionStoreSourceMap {
     ghost use Rattle.hir_source.specs.Lookups.{expr_at, pat_at, label_at, type_at, expansion_at, expr_source, pat_source, expr_or_pat_source, label_source, type_source, field_source, pat_field_source, or_synthetic, patterns_for, expansions_of, diagnostics_of};
 
-    /// Where the expression or the pattern came from. A node that lowering made up has no source.
+    /// Where the expression or the pattern came from.
+    ///
+    /// Answers `SyntheticSyntax` where that was not said: lowering made up the node, say. So do the next three calls.
     pub fn expr_or_pat_syntax(&self, id: ExprOrPatId) -> Result<ExprOrPatSource, SyntheticSyntax>
         ensures { result ≡ or_synthetic (expr_or_pat_source self.now id) }
     {

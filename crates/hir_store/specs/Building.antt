@@ -9,6 +9,7 @@ use Rattle.hir_faults.specs.Faults.{ends_of}
 use Rattle.hir_accepted.specs.declared.marks.Marks.{Marks}
 use Rattle.hir_accepted.specs.Marks.{no_marks}
 use Rattle.hir_accepted.specs.Contents.{Contents, contents_fault}
+use Rattle.hir_source.specs.Additions.{HasSameMaps}
 use Rattle.hir_store.specs.declared.builder.ExpressionStoreBuilder.{ExpressionStoreBuilder}
 
 -- the nodes and what they name, the roots where a list of them was begun, and what was said besides
@@ -26,6 +27,10 @@ marks_of b = record { owners = b.binding_owners; hygiene = b.hygiene; blocks = b
 
 abbrev pub building_of : ExpressionStoreBuilder → Building
 building_of b = record { nodes = nodes_of b; roots = b.roots; marks = marks_of b }
+
+-- two builders have the same nodes, roots and marks, and the same maps of sources
+abbrev pub HasTheSame : ExpressionStoreBuilder → ExpressionStoreBuilder → Type 0
+HasTheSame b c = (building_of b ≡ building_of c) × HasSameMaps b.source_map c.source_map
 
 abbrev pub roots_or_none : Option (List Root) → List Root
 roots_or_none None = []

@@ -2,9 +2,11 @@
 //! Each is a function with no body to run: its contract is the law.
 
 ghost use Rattle.std.specs.Prelude.{◌≡◌, Option};
+ghost use Rattle.std.specs.Bool.{Decides};
 ghost use Rattle.hir_faults.specs.declared.fault.FinishFault.{FinishFault};
-ghost use Rattle.hir_store.specs.Building.{Building, finish_fault};
+ghost use Rattle.hir_store.specs.Building.{Building, HasTheSame, finish_fault};
 
+use crate::builder::ExpressionStoreBuilder;
 pub use hir_accepted::laws::{
     bindings_in_is, contents_are_a_forest, exprs_in_is, kids_fall, nodes_are_sound,
     paths_of_nodes_fit, pats_is, ranks_are_bounded, roots_stand_apart, under_two_is_under_one,
@@ -14,4 +16,9 @@ pub use hir_accepted::laws::{
 /// A builder has one first fault at most: it is accepted exactly where there is none.
 pub fn first_fault_is_one()
     ensures { (b : Building) (f g : Option FinishFault) → finish_fault b f → finish_fault b g → f ≡ g }
+{}
+
+/// Builders are equal exactly where they have the same nodes, roots and marks, and the same maps of sources.
+pub fn builders_are_compared_by_all_that_they_have()
+    ensures { (x y : ExpressionStoreBuilder) → Decides (⟦<ExpressionStoreBuilder as PartialEq>⟧.eq x y) (HasTheSame x y) }
 {}
