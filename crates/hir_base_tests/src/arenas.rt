@@ -1,7 +1,7 @@
 //! Ids, arenas and their iterators, once each on the happy path, and the laws of ids.
 //! Where memory is refused, what was handed back and what was left are compared, and the call is made again.
-use crate::again;
-use hir_base::{Arena, ArenaFault, ExactEq, Idx, laws};
+use crate::{again, hashes};
+use hir_base::{Arena, ArenaFault, ArenaIter, ExactEq, Idx, MOST_ITEMS, laws};
 use std::alloc::{AllocError, Global};
 use std::cmp::Ordering;
 use std::iter::ExactSizeIterator;
@@ -67,6 +67,7 @@ fn items_are_numbered(rt: HostRuntime) -> Result<(), Fail> {
 
 #[test]
 fn a_new_arena_has_no_items(rt: HostRuntime) {
+    assert!(rt; MOST_ITEMS == 4294967295);
     let arena: Arena<Kind, u32> = Arena::new(rt.alloc());
     assert!(rt; arena.is_empty());
 }
@@ -127,6 +128,40 @@ fn ids_and_items_come_from_both_ends(rt: HostRuntime) -> Result<(), Fail> {
     let holds = meet(&arena);
     drop(arena);
     assert!(rt; holds);
+    Ok(())
+}
+
+// Whether the items from this one on are left.
+fn are_left(items: ArenaIter<'_, Kind, u32>, first: u32) -> bool {
+    let mut holds = true;
+    let mut number = first;
+    for (id, item) in items {
+        holds = holds && is_numbered(id, *item, number);
+        number = number.wrapping_add(1);
+    }
+    holds && number == 20
+}
+
+// Whether behind the first item the iterator and a copy of it have the same items left.
+fn copy_goes_on(mut items: ArenaIter<'_, Kind, u32>) -> Result<bool, AllocError> {
+    let begun = items.next().is_some();
+    let copy = items.clone()?;
+    Ok(begun && are_left(copy, 1) && are_left(items, 1))
+}
+
+#[test]
+fn an_iterator_is_copied_where_it_stands(rt: HostRuntime) -> Result<(), Fail> {
+    let arena = twenty(&rt, rt.alloc())?;
+    let goes_on = copy_goes_on(arena.iter());
+    drop(arena);
+    assert!(rt; goes_on?);
+    Ok(())
+}
+
+#[test]
+fn same_arenas_hash_alike(rt: HostRuntime) -> Result<(), Fail> {
+    let alike = hashes::alike(twenty(&rt, rt.alloc()), twenty(&rt, rt.alloc()))?;
+    assert!(rt; alike);
     Ok(())
 }
 

@@ -6,6 +6,8 @@ mod again;
 #[cfg(test)]
 mod arenas;
 #[cfg(test)]
+mod hashes;
+#[cfg(test)]
 mod lists;
 #[cfg(test)]
 mod maps;

@@ -1,7 +1,7 @@
-//! Lists, texts and names, once each on the happy path.
+//! Lists, texts, names and the plain values that are compared and copied as they are, once each on the happy path.
 //! Where memory is refused, what was handed back and what was left are compared, and the call is made again.
 use crate::again;
-use hir_base::{ExactEq, Name, Seq, Text};
+use hir_base::{ExactEq, Name, Seq, Text, TryClone};
 use std::alloc::{AllocError, Global};
 use std::mem::drop;
 use std::process::Abort;
@@ -37,7 +37,8 @@ fn three(rt: &impl Abort, alloc: Global) -> Result<Seq<u32>, AllocError> {
 }
 
 fn has_three(seq: &Seq<u32>) -> bool {
-    seq.as_slice() == [7, 8, 9].as_slice()
+    !seq.is_empty()
+        && seq.as_slice() == [7, 8, 9].as_slice()
         && seq.get(1).copied() == Some(8)
         && seq.get(3).copied() == None
         && seq.iter().rev().next().copied() == Some(9)
@@ -140,5 +141,37 @@ fn a_text_becomes_a_name(rt: HostRuntime) -> Result<(), Fail> {
     let holds = becomes(text, &name);
     drop(name);
     assert!(rt; holds);
+    Ok(())
+}
+
+// Whether the value is copied, and is another than this one.
+fn is_apart<T: TryClone + ExactEq + Drop>(value: T, other: T) -> Result<bool, AllocError> {
+    let copies = again::copies(&value)?;
+    Ok(copies && !value.is_same(&other))
+}
+
+fn texts_are_apart(alloc: Global) -> Result<bool, AllocError> {
+    let text = again::text(alloc, "größe")?;
+    let other = again::text(alloc, "große")?;
+    is_apart(text, other)
+}
+
+fn numbers_are_apart() -> Result<bool, AllocError> {
+    let small = is_apart(1u8, 2)? && is_apart(1u16, 2)? && is_apart(1u32, 2)?;
+    let large = is_apart(1u64, 2)? && is_apart(1usize, 2)? && is_apart(1u128, 2)?;
+    Ok(small && large && is_apart(1i128, -1)?)
+}
+
+fn others_are_apart() -> Result<bool, AllocError> {
+    let plain = is_apart(true, false)? && is_apart('s', 'ß')? && again::copies(&())?;
+    let joined = is_apart(Some(0u32), None)? && is_apart((1u32, true), (1, false))?;
+    Ok(plain && joined)
+}
+
+#[test]
+fn plain_values_are_compared_and_copied(rt: HostRuntime) -> Result<(), Fail> {
+    assert!(rt; texts_are_apart(rt.alloc())?);
+    assert!(rt; numbers_are_apart()?);
+    assert!(rt; others_are_apart()?);
     Ok(())
 }

@@ -2,8 +2,9 @@
 //! Where memory is refused, what was handed back and what was left are compared, and the call is made again.
 use crate::again;
 use hir_base::{
-    ArenaMap, AstPtr, DefWithBodyId, ExactEq, ExprSource, FunctionId, HirFileId, Idx, InFile,
-    Keyed, NamedDef, StaticId, StructId, SyntaxNodePtr, Table, TextRange, UnionId, VariantId,
+    ArenaMap, ArenaMapIter, AstPtr, DefWithBodyId, ExactEq, ExprSource, FunctionId, HirFileId, Idx,
+    InFile, Keyed, NamedDef, StaticId, StructId, SyntaxNodePtr, Table, TextRange, UnionId,
+    VariantId,
 };
 use std::alloc::{AllocError, Global};
 use std::mem::drop;
@@ -67,23 +68,35 @@ fn a_map_keeps_the_last_value(rt: HostRuntime) -> Result<(), Fail> {
     Ok(())
 }
 
-// Whether these are the entries of the map, in their order.
-fn has_entries(map: &ArenaMap<Kind, u32>, wanted: &[(u32, u32)]) -> bool {
+// Whether these are the entries, in their order.
+fn are_entries(entries: ArenaMapIter<'_, Kind, u32>, wanted: &[(u32, u32)]) -> bool {
     let mut holds = true;
     let mut count = 0usize;
-    for (id, value) in map.iter() {
+    for (id, value) in entries {
         holds = holds && wanted.get(count).copied() == Some((id.into_raw(), *value));
         count = count.wrapping_add(1);
     }
     holds && count == wanted.len()
 }
 
+// Whether behind the first entry the iterator and a copy of it have these entries left.
+fn copy_goes_on(
+    mut entries: ArenaMapIter<'_, Kind, u32>,
+    wanted: &[(u32, u32)],
+) -> Result<bool, AllocError> {
+    let begun = entries.next().is_some();
+    let copy = entries.clone()?;
+    Ok(begun && are_entries(copy, wanted) && are_entries(entries, wanted))
+}
+
 #[test]
 fn the_entries_of_a_map_rise(rt: HostRuntime) -> Result<(), Fail> {
     let map = given(&rt, rt.alloc())?;
-    let holds = has_entries(&map, &[(0, 4), (2, 2), (7, 3)]);
+    let rise = are_entries(map.iter(), &[(0, 4), (2, 2), (7, 3)]);
+    let goes_on = copy_goes_on(map.iter(), &[(2, 2), (7, 3)]);
     drop(map);
-    assert!(rt; holds);
+    assert!(rt; rise);
+    assert!(rt; goes_on?);
     Ok(())
 }
 
@@ -181,11 +194,15 @@ fn both(rt: &impl Abort, alloc: Global) -> Result<Table<NamedDef, u32>, AllocErr
     Ok(table)
 }
 
+fn neither() -> NamedDef {
+    NamedDef::StructId(StructId::from_raw(0))
+}
+
 fn has_both(table: &Table<NamedDef, u32>) -> bool {
-    let neither = NamedDef::StructId(StructId::from_raw(0));
-    table.get(&function()).copied() == Some(3)
+    !table.is_empty()
+        && table.get(&function()).copied() == Some(3)
         && table.get(&structure()).copied() == Some(2)
-        && table.get(&neither).copied() == None
+        && table.get(&neither()).copied() == None
 }
 
 // Whether the entries are those of the two, with 5 as the sum of their values.
@@ -203,6 +220,46 @@ fn lists_both(table: &Table<NamedDef, u32>) -> bool {
 fn a_table_tells_its_keys_apart(rt: HostRuntime) -> Result<(), Fail> {
     let table = both(&rt, rt.alloc())?;
     let holds = has_both(&table) && lists_both(&table);
+    drop(table);
+    assert!(rt; holds);
+    Ok(())
+}
+
+#[test]
+fn a_new_table_has_no_entries(rt: HostRuntime) {
+    let table: Table<NamedDef, u32> = Table::new(rt.alloc());
+    let holds = table.is_empty() && table.get(&function()).copied() == None;
+    drop(table);
+    assert!(rt; holds);
+}
+
+// Writes the value at the key, if it has one, and answers the one that it had.
+fn write(table: &mut Table<NamedDef, u32>, key: NamedDef, value: u32) -> Option<u32> {
+    match table.get_mut(&key) {
+        None => None,
+        Some(place) => {
+            let had = *place;
+            *place = value;
+            Some(had)
+        }
+    }
+}
+
+// Whether the function's value becomes 30 in its place, the other stays, and a key without a value gets none.
+fn is_written(table: &mut Table<NamedDef, u32>) -> bool {
+    let had = write(table, function(), 30);
+    let absent = write(table, neither(), 40);
+    had == Some(3)
+        && absent == None
+        && table.get(&function()).copied() == Some(30)
+        && table.get(&structure()).copied() == Some(2)
+        && table.get(&neither()).copied() == None
+}
+
+#[test]
+fn a_value_of_a_table_is_written_in_its_place(rt: HostRuntime) -> Result<(), Fail> {
+    let mut table = both(&rt, rt.alloc())?;
+    let holds = is_written(&mut table);
     drop(table);
     assert!(rt; holds);
     Ok(())

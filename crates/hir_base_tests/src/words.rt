@@ -5,8 +5,9 @@ use either::Either;
 use hir_base::{
     AdtId, AstPtr, BlockId, ConstParamId, DefWithBodyId, Edition, EnumVariantId, ExactEq,
     ExprPrecedence, ExpressionStoreOwnerId, ExternAbi, FunctionId, GenericDefId, HygieneId, Idx,
-    LabelPtr, ModPath, Name, PathKind, RawWords, Seq, StructId, SyntaxContext, SyntaxNodePtr, Text,
-    TextRange, TryClone, TypeOrConstParamId, TypeParamId, VariantId, ast, laws,
+    LabelPtr, ModPath, Name, PathKind, RawWords, Seq, StructId, SyntaxContext, SyntaxNodePtr,
+    SyntheticSyntax, Text, TextRange, TryClone, TypeOrConstParamId, TypeParamId, VariantId, ast,
+    laws,
 };
 use std::alloc::{AllocError, Global};
 use std::cmp::Ordering;
@@ -221,6 +222,7 @@ fn pointers_keep_their_node(rt: HostRuntime) {
     assert!(rt; wrapped.syntax_node_ptr() == node);
     let same: AstPtr<Either<ast::Label, ast::BlockExpr>> = AstPtr::new(node);
     assert!(rt; wrapped.is_same(&same));
+    assert!(rt; SyntheticSyntax.is_same(&SyntheticSyntax));
 }
 
 #[test]

@@ -1,7 +1,7 @@
 //! Generic parameters: counts, iterators from both ends, finds by name, the `Self` of a trait, and the indexes of lifetimes.
 use crate::again;
 use crate::params::{
-    add_constant, add_type, all_kinds, boxed, constant, four_lifetimes, lifetime, listed,
+    add_constant, add_type, all_kinds, boxed, constant, five_lifetimes, lifetime, listed,
     meets_for_a, no_types, one_type, only, outlives,
 };
 use hir_base::{
@@ -23,9 +23,9 @@ fn parent() -> GenericDefId {
     GenericDefId::FunctionId(FunctionId::from_raw(6))
 }
 
-/// The four lifetimes alone.
+/// The five lifetimes alone.
 fn lifetimes_alone(alloc: Global) -> Result<Box<GenericParams>, Fail> {
-    let lifetimes = four_lifetimes(alloc)?;
+    let lifetimes = five_lifetimes(alloc)?;
     Ok(boxed(
         alloc,
         Arena::new(alloc),
@@ -34,14 +34,15 @@ fn lifetimes_alone(alloc: Global) -> Result<Box<GenericParams>, Fail> {
     )?)
 }
 
-/// Whether each lifetime has its number among those that are bound as it is, and there is no fifth one.
+/// Whether each lifetime has its number among those that are bound as it is, and there is no sixth one.
 fn are_numbered(params: &GenericParams) -> bool {
     for (id, wanted) in &[
         (0u32, Some((0, false))),
         (1, Some((0, true))),
         (2, Some((1, false))),
         (3, Some((1, true))),
-        (4, None),
+        (4, Some((2, false))),
+        (5, None),
     ] {
         if params.lifetime_param_idx(&Idx::from_raw(*id)) != *wanted {
             return false;
@@ -153,20 +154,20 @@ fn self_of_a_trait_is_parameter_0(rt: HostRuntime) -> Result<(), Fail> {
     Ok(())
 }
 
-/// Whether this is the late bound `'d`.
-fn is_d(lifetime: &LifetimeParamData) -> bool {
-    lifetime.name.as_str() == "'d" && lifetime.is_late_bound() && !lifetime.is_early_bound()
+/// Whether this is the early bound `'e`.
+fn is_e(lifetime: &LifetimeParamData) -> bool {
+    lifetime.name.as_str() == "'e" && lifetime.is_early_bound() && !lifetime.is_late_bound()
 }
 
-/// Whether three types and constants, four lifetimes and a predicate are counted, and the ids end with the constant 2 and the
-/// lifetime 3, which is `'d`.
+/// Whether three types and constants, five lifetimes, three of them early bound, and a predicate are counted, and the ids end with
+/// the constant 2 and the lifetime 4, which is `'e`.
 fn counts_all(params: &GenericParams) -> bool {
     let constant = Idx::from_raw(2);
-    let d = Idx::from_raw(3);
-    params.len() == 7
-        && params.len_no_late() == 5
-        && params.len_lifetimes() == 4
-        && params.len_early_bound_lifetimes() == 2
+    let e = Idx::from_raw(4);
+    params.len() == 8
+        && params.len_no_late() == 6
+        && params.len_lifetimes() == 5
+        && params.len_early_bound_lifetimes() == 3
         && params.len_late_bound_lifetimes() == 2
         && params.len_type_or_consts() == 3
         && !params.is_empty()
@@ -174,9 +175,9 @@ fn counts_all(params: &GenericParams) -> bool {
         && params.has_type_or_const(constant)
         && !params.has_type_or_const(Idx::from_raw(3))
         && params[constant].const_param().is_some()
-        && params.has_lifetime(d)
-        && !params.has_lifetime(Idx::from_raw(4))
-        && is_d(&params[d])
+        && params.has_lifetime(e)
+        && !params.has_lifetime(Idx::from_raw(5))
+        && is_e(&params[e])
 }
 
 /// Whether types and constants come by number, and the first one alone is the `Self` of a trait.
@@ -192,9 +193,9 @@ fn are_three(types: ArenaIter<'_, TypeOrConstParamKind, TypeOrConstParamData>) -
 }
 
 /// Whether lifetimes come by number, asked for from both ends in turn.
-fn are_four(mut lifetimes: ArenaIter<'_, LifetimeParamKind, LifetimeParamData>) -> bool {
+fn are_five(mut lifetimes: ArenaIter<'_, LifetimeParamKind, LifetimeParamData>) -> bool {
     let mut front = 0u32;
-    let mut back = 4u32;
+    let mut back = 5u32;
     while let Some((id, _)) = lifetimes.next() {
         if id.into_raw() != front {
             return false;
@@ -207,13 +208,13 @@ fn are_four(mut lifetimes: ArenaIter<'_, LifetimeParamKind, LifetimeParamData>) 
             }
         }
     }
-    (front, back) == (2, 2)
+    (front, back) == (3, 3)
 }
 
 /// Whether so do early bound ones.
 fn are_early(mut early: BoundLifetimes<'_>) -> bool {
     let mut front = 0u32;
-    let mut back = 4u32;
+    let mut back = 6u32;
     while let Some((id, _)) = early.next() {
         if id.into_raw() != front {
             return false;
@@ -226,7 +227,7 @@ fn are_early(mut early: BoundLifetimes<'_>) -> bool {
             }
         }
     }
-    (front, back) == (2, 2)
+    (front, back) == (4, 4)
 }
 
 /// Whether they do from a copy of the iterator too.
@@ -239,7 +240,7 @@ fn are_early_again(early: BoundLifetimes<'_>) -> Result<bool, AllocError> {
         }
         front = front.wrapping_add(2);
     }
-    Ok(front == 4)
+    Ok(front == 6)
 }
 
 /// Whether late bound ones come by number.
@@ -266,7 +267,7 @@ fn are_two(predicates: &[WherePredicate], first: &WherePredicate, second: &Where
 fn come_in_order(params: &GenericParams) -> Result<bool, AllocError> {
     let early_again = are_early_again(params.iter_early_bound_lt())?;
     let types = are_three(params.iter_type_or_consts());
-    let lifetimes = are_four(params.iter_lt());
+    let lifetimes = are_five(params.iter_lt());
     let early = are_early(params.iter_early_bound_lt());
     let late = are_late(params.iter_late_bound_lt());
     Ok(early_again && types && lifetimes && early && late)

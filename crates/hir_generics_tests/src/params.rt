@@ -105,18 +105,20 @@ fn add_lifetime(
     again::alloc(lifetimes, lifetime(name, bound_type))
 }
 
-/// Adds the lifetimes `'a`, `'b`, `'c` and `'d`: early bound, late bound, early bound, late bound.
-fn add_four(alloc: Global, lifetimes: &mut Lifetimes) -> Result<(), Fail> {
+/// Adds the lifetimes `'a` to `'e`: early bound, late bound, early bound, late bound, early bound. Three are bound early and two
+/// late, so that no count of the ones is right for the others.
+fn add_five(alloc: Global, lifetimes: &mut Lifetimes) -> Result<(), Fail> {
     add_lifetime(alloc, lifetimes, "'a", LifetimeBoundType::EarlyBound)?;
     add_lifetime(alloc, lifetimes, "'b", LifetimeBoundType::LateBound)?;
     add_lifetime(alloc, lifetimes, "'c", LifetimeBoundType::EarlyBound)?;
-    add_lifetime(alloc, lifetimes, "'d", LifetimeBoundType::LateBound)
+    add_lifetime(alloc, lifetimes, "'d", LifetimeBoundType::LateBound)?;
+    add_lifetime(alloc, lifetimes, "'e", LifetimeBoundType::EarlyBound)
 }
 
-/// Those four lifetimes.
-pub fn four_lifetimes(alloc: Global) -> Result<Box<Lifetimes>, Fail> {
+/// Those five lifetimes.
+pub fn five_lifetimes(alloc: Global) -> Result<Box<Lifetimes>, Fail> {
     let mut lifetimes = again::in_a_box(alloc, Arena::new(alloc))?;
-    add_four(alloc, &mut lifetimes)?;
+    add_five(alloc, &mut lifetimes)?;
     Ok(lifetimes)
 }
 
@@ -174,10 +176,10 @@ pub fn one_type(
     only(alloc, types)
 }
 
-/// The types `Self` of a trait and `T`, the constant `N`, the four lifetimes, and two predicates.
+/// The types `Self` of a trait and `T`, the constant `N`, the five lifetimes, and two predicates.
 pub fn all_kinds(alloc: Global) -> Result<Box<GenericParams>, Fail> {
     let types = three_types(alloc)?;
-    let lifetimes = four_lifetimes(alloc)?;
+    let lifetimes = five_lifetimes(alloc)?;
     let predicates = two_predicates(alloc)?;
     Ok(boxed(
         alloc,

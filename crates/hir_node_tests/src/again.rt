@@ -1,8 +1,16 @@
 //! Calls that take memory, made again where it is refused once.
 //! So each test passes with ample memory, and whichever one growth is refused.
-use hir_base::{ExactEq, Name, Seq, TryClone};
+use hir_base::{ExactEq, Name, Seq, Text, TryClone};
 use hir_node::Boxed;
 use std::alloc::{AllocError, Global};
+use std::mem::drop;
+
+pub fn text(alloc: Global, text: &str) -> Result<Text, AllocError> {
+    match Text::from_str(alloc, text) {
+        Ok(made) => Ok(made),
+        Err(_) => Text::from_str(alloc, text),
+    }
+}
 
 pub fn name(alloc: Global, text: &str) -> Result<Name, AllocError> {
     match Name::new(alloc, text) {
@@ -32,7 +40,18 @@ pub fn copy<T: TryClone>(value: &T) -> Result<T, AllocError> {
     }
 }
 
-/// Whether a copy of the value is the same as it.
-pub fn copies<T: TryClone + ExactEq + Drop>(value: T) -> Result<bool, AllocError> {
-    Ok(copy(&value)?.is_same(&value))
+/// Whether the value is the same as the second one, and so is a copy of it when the value itself is gone; and the copy isn't the other one.
+/// The values come as they were made: where their type is any type, they aren't laid out.
+pub fn copies_apart<T: TryClone + ExactEq + Drop>(
+    made: Result<T, AllocError>,
+    second: Result<T, AllocError>,
+    other: Result<T, AllocError>,
+) -> Result<bool, AllocError> {
+    let made = made?;
+    let second = second?;
+    let other = other?;
+    let was_same = made == second;
+    let copy = copy(&made)?;
+    drop(made);
+    Ok(was_same && copy.is_same(&second) && copy != other)
 }

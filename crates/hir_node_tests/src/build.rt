@@ -1,9 +1,9 @@
-//! Lists, paths and generic arguments for the tests.
+//! Lists, paths, generic arguments and numbers for the tests.
 use crate::again;
-use hir_base::{FunctionId, Idx, LangItemTarget, ModPath, PathKind, Seq};
+use hir_base::{FunctionId, Idx, LangItemTarget, ModPath, Name, PathKind, Seq};
 use hir_node::{
-    AssociatedTypeBinding, GenericArg, GenericArgs, GenericArgsParentheses, NormalPath, Path,
-    TypeBound, TypeRefId,
+    AssociatedTypeBinding, FloatTypeWrapper, GenericArg, GenericArgs, GenericArgsParentheses,
+    NormalPath, Path, TypeBound, TypeRefId,
 };
 use std::alloc::{AllocError, Global};
 
@@ -21,14 +21,20 @@ pub fn two<T: Drop>(alloc: Global, first: T, second: T) -> Result<Seq<T>, AllocE
     Ok(list)
 }
 
-/// The plain path of these names.
-pub fn plain(alloc: Global, texts: &[&str]) -> Result<ModPath, AllocError> {
-    let mut names = Seq::new(alloc);
+/// The list of these names.
+pub fn names(alloc: Global, texts: &[&str]) -> Result<Seq<Name>, AllocError> {
+    let mut list = Seq::new(alloc);
     for text in texts {
         let name = again::name(alloc, text)?;
-        again::push(&mut names, name)?;
+        again::push(&mut list, name)?;
     }
-    Ok(ModPath::from_segments(PathKind::Plain, names))
+    Ok(list)
+}
+
+/// The plain path of these names.
+pub fn plain(alloc: Global, texts: &[&str]) -> Result<ModPath, AllocError> {
+    let segments = names(alloc, texts)?;
+    Ok(ModPath::from_segments(PathKind::Plain, segments))
 }
 
 /// The plain path of these names, without arguments.
@@ -105,6 +111,13 @@ pub fn with_lists(
     Ok(Path::Normal(again::boxed(alloc, path)?))
 }
 
+/// The path `a::b` behind the anchor, whose second name has the nested arguments.
+pub fn nested_path(alloc: Global) -> Result<Path, AllocError> {
+    let args = nested(alloc)?;
+    let lists = two(alloc, None, Some(args))?;
+    with_lists(alloc, lists, Some(anchor()), &["a", "b"])
+}
+
 /// Function 4, as an item of the language.
 pub fn item() -> LangItemTarget {
     LangItemTarget::FunctionId(FunctionId::from_raw(4))
@@ -125,12 +138,14 @@ fn bound_args(
     type_args(alloc, ty, one(alloc, binding)?)
 }
 
-fn outer(alloc: Global, bounds: Seq<TypeBound>) -> Result<AssociatedTypeBinding, AllocError> {
+/// The binding `B<2, C = 3> = 4` with these bounds.
+pub fn outer(alloc: Global, bounds: Seq<TypeBound>) -> Result<AssociatedTypeBinding, AllocError> {
     let args = bound_args(alloc, 2, inner(alloc)?)?;
     binding(alloc, "B", Some(args), 4, bounds)
 }
 
-fn inner(alloc: Global) -> Result<AssociatedTypeBinding, AllocError> {
+/// The binding `C = 3`.
+pub fn inner(alloc: Global) -> Result<AssociatedTypeBinding, AllocError> {
     binding(alloc, "C", None, 3, Seq::new(alloc))
 }
 
@@ -147,4 +162,10 @@ fn binding(
         type_ref: Some(Idx::from_raw(ty)),
         bounds,
     })
+}
+
+/// The floating point number with this text.
+pub fn float(alloc: Global, text: &str) -> Result<FloatTypeWrapper, AllocError> {
+    let text = again::text(alloc, text)?;
+    Ok(FloatTypeWrapper::new(text))
 }

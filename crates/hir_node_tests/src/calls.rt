@@ -1,12 +1,16 @@
 //! The calls of every visitor: parts that may be absent, lists, bounds, generic arguments and paths.
 #![tactic(auto, using(hir_node::proofs::RunLemmas::freely))]
 
-use crate::build;
+ghost use Rattle.std.specs.Prelude.{List};
+ghost use Rattle.hir_node.specs.ChildCalls.{Call as NodeCall};
+ghost use Rattle.hir_node.specs.Runs.{MayRun};
+
 use crate::wanted::{Call, Wanted};
+use crate::{again, build};
 use hir_base::{Idx, Seq};
 use hir_node::{
-    AssociatedTypeBinding, GenericArgs, Path, PathId, StoreVisitor, StoreVisitorExt,
-    TraitBoundModifier, TypeBound, laws, visit_generic_args,
+    ConstRef, Expr, GenericArg, GenericArgs, GenericArgsParentheses, Path, PathId, StoreVisitor,
+    StoreVisitorExt, TraitBoundModifier, TypeBound, laws, visit_generic_args,
 };
 use std::alloc::{AllocError, Global};
 use std::mem::drop;
@@ -94,9 +98,17 @@ const NESTED: [Call; 5] = [
     Call::Lifetime(5),
 ];
 
+// The laws of arguments and of their bindings, which have nothing to run.
+fn have_laws(args: &GenericArgs) {
+    laws::calls_of_generic_args(args);
+    for binding in args.bindings.as_slice() {
+        laws::calls_of_binding(binding);
+    }
+}
+
 // Whether a visit of the arguments makes the calls `NESTED`.
 fn a_visit_gives_nested(args: &GenericArgs) -> bool {
-    laws::calls_of_generic_args(args);
+    have_laws(args);
     let mut wanted = Wanted::new(&NESTED);
     visit_generic_args(&mut wanted, args);
     wanted.all_met()
@@ -134,6 +146,61 @@ fn a_visitor_can_be_lent(rt: HostRuntime) -> Result<(), Fail> {
     let path = build::with_args_first(rt.alloc(), &["a", "b"])?;
     let holds = lent_gives(&path, &[Call::Type(3), Call::Expr(1)]);
     drop(path);
+    assert!(rt; holds);
+    Ok(())
+}
+
+// `<1, '2, 3>`, where 3 is a constant.
+fn args_of_each_kind(alloc: Global) -> Result<GenericArgs, AllocError> {
+    let mut args = build::two(
+        alloc,
+        GenericArg::Ty(Idx::from_raw(1)),
+        GenericArg::Lifetime(Idx::from_raw(2)),
+    )?;
+    let constant = ConstRef {
+        expr: Idx::from_raw(3),
+    };
+    again::push(&mut args, GenericArg::Const(constant))?;
+    Ok(GenericArgs {
+        args,
+        has_self_type: false,
+        bindings: Seq::new(alloc),
+        parenthesized: GenericArgsParentheses::No,
+    })
+}
+
+// Visits both by the visitor, which is taken: so one that is lent is called as a visitor of its own.
+fn visit_both<V: StoreVisitor + Drop>(mut visitor: V, args: &GenericArgs, expr: &Expr)
+    requires { (v : V) (cs : List NodeCall) → MayRun V.may V.step v cs }
+{
+    visit_generic_args(&mut visitor, args);
+    expr.visit_children(&mut visitor);
+}
+
+// Whether the arguments and a `let` of pattern 4 and expression 5 make these calls of a visitor that is lent.
+fn lent_alone_gives(args: &GenericArgs, calls: &[Call]) -> bool {
+    let expr = Expr::Let {
+        pat: Idx::from_raw(4),
+        expr: Idx::from_raw(5),
+    };
+    let mut wanted = Wanted::new(calls);
+    visit_both(&mut wanted, args, &expr);
+    drop(expr);
+    wanted.all_met()
+}
+
+#[test]
+fn a_lent_visitor_is_one_itself(rt: HostRuntime) -> Result<(), Fail> {
+    const CALLS: [Call; 5] = [
+        Call::Type(1),
+        Call::Lifetime(2),
+        Call::AnonConst(3),
+        Call::Pat(4),
+        Call::Expr(5),
+    ];
+    let args = args_of_each_kind(rt.alloc())?;
+    let holds = lent_alone_gives(&args, &CALLS);
+    drop(args);
     assert!(rt; holds);
     Ok(())
 }

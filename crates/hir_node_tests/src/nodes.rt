@@ -136,13 +136,6 @@ fn a_closure_gives_its_body_first(rt: HostRuntime) -> Result<(), Fail> {
     Ok(())
 }
 
-// The path whose second segment has nested arguments.
-fn nested_path(alloc: Global) -> Result<Path, AllocError> {
-    let args = build::nested(alloc)?;
-    let lists = build::two(alloc, None, Some(args))?;
-    build::with_lists(alloc, lists, Some(build::anchor()), &["a", "b"])
-}
-
 #[test]
 fn a_path_gives_its_anchor_last(rt: HostRuntime) -> Result<(), Fail> {
     const CALLS: [Call; 6] = [
@@ -153,7 +146,7 @@ fn a_path_gives_its_anchor_last(rt: HostRuntime) -> Result<(), Fail> {
         Call::Lifetime(5),
         Call::Type(7),
     ];
-    assert!(rt; expr_gives(Expr::Path(nested_path(rt.alloc())?), &CALLS));
+    assert!(rt; expr_gives(Expr::Path(build::nested_path(rt.alloc())?), &CALLS));
     Ok(())
 }
 
@@ -231,32 +224,5 @@ fn child_patterns_are_walked_in_order(rt: HostRuntime) -> Result<(), Fail> {
     let prefix = build::one(rt.alloc(), Idx::from_raw(1))?;
     let suffix = build::one(rt.alloc(), Idx::from_raw(3))?;
     assert!(rt; slice_is_in_order(prefix, suffix));
-    Ok(())
-}
-
-// Whether a copy is the same. One function for each kind of node, since a function that holds nodes of several kinds is dear to prove.
-fn closure_copies(alloc: Global) -> Result<bool, AllocError> {
-    again::copies(closure(alloc)?)
-}
-
-fn path_copies_in_expr(alloc: Global) -> Result<bool, AllocError> {
-    again::copies(Expr::Path(nested_path(alloc)?))
-}
-
-fn path_copies_in_pat(alloc: Global) -> Result<bool, AllocError> {
-    again::copies(Pat::Path(nested_path(alloc)?))
-}
-
-fn path_copies_in_type(alloc: Global) -> Result<bool, AllocError> {
-    again::copies(TypeRef::Path(nested_path(alloc)?))
-}
-
-#[test]
-fn copies_of_nodes_are_the_same(rt: HostRuntime) -> Result<(), Fail> {
-    let alloc = rt.alloc();
-    assert!(rt; closure_copies(alloc)?);
-    assert!(rt; path_copies_in_expr(alloc)?);
-    assert!(rt; path_copies_in_pat(alloc)?);
-    assert!(rt; path_copies_in_type(alloc)?);
     Ok(())
 }

@@ -246,11 +246,27 @@ fn self_alone_is_the_self_type(rt: HostRuntime) -> Result<(), Fail> {
     Ok(())
 }
 
+const PATHS: [Made<'_>; 6] = [
+    Made::Krate,
+    Made::Item,
+    Made::Bare(&["a", "b"]),
+    Made::Anchored(&["a", "b"]),
+    Made::WithArgsFirst(&["a", "b"]),
+    Made::WithArgsLast,
+];
+
+fn copies(alloc: Global, made: Made<'_>, other: Made<'_>) -> Result<bool, AllocError> {
+    again::copies_apart(make(alloc, made), make(alloc, made), make(alloc, other))
+}
+
 #[test]
-fn a_copy_is_the_same(rt: HostRuntime) -> Result<(), Fail> {
-    let path = build::with_args_first(rt.alloc(), &["a", "b"])?;
-    assert!(rt; again::copies(path)?);
-    let path = build::anchored(rt.alloc(), &["a", "b"])?;
-    assert!(rt; !is(rt.alloc(), path, Made::Bare(&["a", "b"]))?);
+fn copies_of_paths_are_the_same(rt: HostRuntime) -> Result<(), Fail> {
+    let mut before = Made::WithArgsLast;
+    let mut number = 0u32;
+    for made in &PATHS {
+        assert!(rt; copies(rt.alloc(), *made, before)?, "row {number}");
+        before = *made;
+        number = number.wrapping_add(1);
+    }
     Ok(())
 }

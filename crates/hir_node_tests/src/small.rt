@@ -1,6 +1,6 @@
 //! The small calls: literals, ids, words before bindings and pointers, boxes, function types and precedence.
 use crate::{again, build};
-use hir_base::{ArithOp, BinaryOp, ExprPrecedence, ExternAbi, Idx, Name, Seq, Text};
+use hir_base::{ArithOp, BinaryOp, ExprPrecedence, ExternAbi, Idx, Name, Seq};
 use hir_node::{
     BindingAnnotation, Boxed, Expr, ExprId, ExprOrPatId, FloatTypeWrapper, FnType, Literal,
     Mutability, PatId, PathId, Rawness, TypeRefId,
@@ -85,14 +85,6 @@ fn a_boxed_value_comes_back(rt: HostRuntime) -> Result<(), Fail> {
     Ok(())
 }
 
-fn float(alloc: Global, text: &str) -> Result<FloatTypeWrapper, AllocError> {
-    let text = match Text::from_str(alloc, text) {
-        Ok(made) => made,
-        Err(_) => Text::from_str(alloc, text)?,
-    };
-    Ok(FloatTypeWrapper::new(text))
-}
-
 fn shows(alloc: Global, number: &FloatTypeWrapper, text: &str) -> Result<bool, AllocError> {
     let shown = match format!(in alloc; "{number}") {
         Ok(shown) => shown,
@@ -103,7 +95,7 @@ fn shows(alloc: Global, number: &FloatTypeWrapper, text: &str) -> Result<bool, A
 
 #[test]
 fn a_float_shows_its_text(rt: HostRuntime) -> Result<(), Fail> {
-    let number = float(rt.alloc(), "1.50")?;
+    let number = build::float(rt.alloc(), "1.50")?;
     let holds = shows(rt.alloc(), &number, "1.50")?;
     drop(number);
     assert!(rt; holds);

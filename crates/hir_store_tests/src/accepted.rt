@@ -1,72 +1,51 @@
 //! What is accepted though it may look wrong, and what an accepted store has.
-use crate::{again, build, made};
+use crate::build::{MATCH, NEVER, PATH, Step, WILD};
+use crate::made;
+use crate::nodes::{self, ExprStep, TypeStep, Written};
+use crate::say::{Became, CameFrom, Mark, Note};
 use hir_base::{Idx, Seq, TryClone};
-use hir_node::{Expr, ExprId, Label, LifetimeRef, LoopSource, Mutability, RefType, TypeRef};
-use hir_store::{ExpressionStore, ExpressionStoreBuilder};
+use hir_node::{
+    Binding, BindingId, Expr, ExprId, Label, LabelId, LifetimeRef, LifetimeRefId, Pat, PatId,
+    TypeRef, TypeRefId,
+};
+use hir_store::ExpressionStore;
 use std::alloc::{AllocError, Global};
 use std::test::Fail;
 
-/// A reference type of a type of its own, with lifetime 0.
-fn add_reference(builder: &mut ExpressionStoreBuilder, alloc: Global) -> Result<(), Fail> {
-    let ty = again::type_ref(builder, TypeRef::Never)?;
-    let reference = RefType {
-        ty,
-        lifetime: Some(Idx::from_raw(0)),
-        mutability: Mutability::Shared,
-    };
-    again::type_ref(builder, TypeRef::Reference(again::boxed(alloc, reference)?))?;
-    Ok(())
-}
+/// Two reference types, each of a type of its own, with the same lifetime, which is so named twice.
+const REFERENCES: &[Step] = &[
+    Step::Static,
+    NEVER,
+    Step::Type(TypeStep::Reference(0)),
+    NEVER,
+    Step::Type(TypeStep::Reference(2)),
+];
 
-/// Adds two reference types with the same lifetime, which is so named twice.
-fn add_two_references(builder: &mut ExpressionStoreBuilder, alloc: Global) -> Result<(), Fail> {
-    again::lifetime(builder, LifetimeRef::Static)?;
-    add_reference(builder, alloc)?;
-    add_reference(builder, alloc)
-}
+/// A loop that is left at once, by its label, which is so named twice.
+const LOOP: &[Step] = &[
+    Step::Begin,
+    Step::Label("l"),
+    Step::Expr(ExprStep::Break(0)),
+    Step::Expr(ExprStep::Loop(0, 0)),
+];
 
-/// Adds a loop that is left at once, by its label, which is so named twice.
-fn add_loop(builder: &mut ExpressionStoreBuilder, alloc: Global) -> Result<(), Fail> {
-    builder.begin_roots();
-    let name = again::name(alloc, "l")?;
-    let label = Some(again::label(builder, Label { name })?);
-    let body = again::expr(builder, Expr::Break { expr: None, label })?;
-    let source = LoopSource::Loop;
-    again::expr(
-        builder,
-        Expr::Loop {
-            body,
-            label,
-            source,
-        },
-    )?;
-    Ok(())
-}
+/// A path, and 100,000 expressions each of which holds the one before.
+const CHAIN: &[Step] = &[Step::Begin, PATH, Step::Chain(100_000)];
 
-/// Adds a path, and so many expressions each of which holds the one before.
-fn add_chain(builder: &mut ExpressionStoreBuilder, alloc: Global, length: u32) -> Result<(), Fail> {
-    builder.begin_roots();
-    build::add_path(builder, alloc)?;
-    for number in 0..length {
-        let expr = Idx::from_raw(number);
-        again::expr(builder, Expr::Become { expr })?;
-    }
-    Ok(())
-}
+/// A path with bindings nested 100 deep, and innermost the self type 0, which is there.
+const NESTED: &[Step] = &[
+    Step::Begin,
+    Step::Expr(ExprStep::Path(Written::Nested(&[0]))),
+    NEVER,
+];
 
 #[test]
 fn what_may_look_wrong(rt: HostRuntime) -> Result<(), Fail> {
     let a = rt.alloc();
-    let mut builder = made::builder(a)?;
-    add_two_references(&mut builder, a)?;
-    made::accept(a, builder)?;
-    let mut builder = made::builder(a)?;
-    add_loop(&mut builder, a)?;
-    made::accept(a, builder)?;
-    let mut builder = made::builder(a)?;
-    add_chain(&mut builder, a, 100_000)?;
-    made::accept(a, builder)?;
-    let made = made::finished(a, made::builder(a)?)?;
+    for steps in &[REFERENCES, LOOP, CHAIN, NESTED] {
+        std::mem::drop(made::accepted(a, steps)?);
+    }
+    let made = made::accepted(a, &[])?;
     let is_empty = made::is_empty(&made.0, a);
     std::mem::drop(made);
     assert!(&rt; is_empty);
@@ -93,46 +72,49 @@ fn equals_its_copy(store: &ExpressionStore) -> bool {
     }
 }
 
-/// Whether the store has so many nodes of each kind as the match has.
-fn has_all_nodes(store: &ExpressionStore) -> bool {
-    store.exprs().len() == 4
-        && store.pats().len() == 4
-        && store.bindings().len() == 2
-        && store.types().len() == 0
-        && store.lifetimes().len() == 0
+/// How many expressions, patterns, bindings, types and lifetimes the store gives.
+fn counts(store: &ExpressionStore) -> (usize, usize, usize, usize, usize) {
+    (
+        store.exprs().len(),
+        store.pats().len(),
+        store.bindings().len(),
+        store.types().len(),
+        store.lifetimes().len(),
+    )
 }
 
-/// Whether expression 2 is `()`.
-fn has_unit(store: &ExpressionStore, alloc: Global) -> bool {
-    let id = ExprId::from_raw(2);
-    let unit = Expr::Tuple {
-        exprs: Seq::new(alloc),
-    };
-    let holds = store.has_expr(id) && store[id] == unit;
-    std::mem::drop(unit);
+/// Whether the store has an expression, a pattern, a binding, a label, a type and a lifetime of this number.
+fn has_of_each(store: &ExpressionStore, number: u32) -> (bool, bool, bool, bool, bool, bool) {
+    (
+        store.has_expr(Idx::from_raw(number)),
+        store.has_pat(Idx::from_raw(number)),
+        store.has_binding(Idx::from_raw(number)),
+        store.has_label(Idx::from_raw(number)),
+        store.has_type(Idx::from_raw(number)),
+        store.has_lifetime(Idx::from_raw(number)),
+    )
+}
+
+/// Whether it is what was wanted.
+fn equals<T: PartialEq + Drop>(found: &T, wanted: T) -> bool {
+    let holds = *found == wanted;
+    std::mem::drop(wanted);
     holds
 }
 
-/// Whether the last expression, pattern and binding of the match are there.
-fn has_the_last(store: &ExpressionStore) -> bool {
-    store.has_expr(Idx::from_raw(3))
-        && store.has_pat(Idx::from_raw(3))
-        && store.has_binding(Idx::from_raw(1))
+/// Whether the expression of this number is `()`.
+fn finds_unit(store: &ExpressionStore, alloc: Global, number: u32) -> bool {
+    let id = ExprId::from_raw(number);
+    if !store.has_expr(id) {
+        return false;
+    }
+    let exprs = Seq::new(alloc);
+    equals(&store[id], Expr::Tuple { exprs })
 }
 
-/// Whether the store has a node of any kind that the match has not.
-fn has_another(store: &ExpressionStore) -> bool {
-    store.has_expr(Idx::from_raw(4))
-        || store.has_pat(Idx::from_raw(4))
-        || store.has_binding(Idx::from_raw(2))
-        || store.has_label(Idx::from_raw(0))
-        || store.has_type(Idx::from_raw(0))
-        || store.has_lifetime(Idx::from_raw(0))
-}
-
-/// Whether the path `a` may be used with the store.
-fn path_is_sound(alloc: Global, store: &ExpressionStore) -> Result<bool, AllocError> {
-    let path = build::path(alloc)?;
+/// Whether the path that is written so may be used with the store.
+fn is_sound(alloc: Global, store: &ExpressionStore, written: Written) -> Result<bool, AllocError> {
+    let path = nodes::path(alloc, written)?;
     let is_sound = store.path_is_sound(&path);
     std::mem::drop(path);
     Ok(is_sound)
@@ -141,20 +123,116 @@ fn path_is_sound(alloc: Global, store: &ExpressionStore) -> Result<bool, AllocEr
 #[test]
 fn what_a_store_has(rt: HostRuntime) -> Result<(), Fail> {
     let a = rt.alloc();
-    let mut builder = made::builder(a)?;
-    build::add_match_tree(&mut builder, a)?;
-    let made = made::finished(a, builder)?;
+    let made = made::accepted(a, MATCH)?;
     let store = &made.0;
     let is_its_copy = equals_its_copy(store);
     let is_empty = made::is_empty(store, a);
-    let has_all = has_all_nodes(store);
-    let has_unit = has_unit(store, a);
-    let has_last = has_the_last(store);
-    let has_another = has_another(store);
-    let is_sound = path_is_sound(a, store);
+    let counts = counts(store);
+    let has_unit = finds_unit(store, a, 2);
+    let (of_1, of_2) = (has_of_each(store, 1), has_of_each(store, 2));
+    let (of_3, of_4) = (has_of_each(store, 3), has_of_each(store, 4));
+    let of_0 = has_of_each(store, 0);
+    let plain = is_sound(a, store, Written::A);
+    // it names type 0, which is absent
+    let nested = is_sound(a, store, Written::Nested(&[0]));
     std::mem::drop(made);
-    assert!(&rt; is_its_copy && !is_empty);
-    assert!(&rt; has_all && has_unit && has_last && !has_another);
-    assert!(&rt; is_sound?);
+    assert!(&rt; is_its_copy && !is_empty && has_unit);
+    assert!(&rt; counts == (4, 4, 2, 0, 0));
+    assert!(&rt; of_0 == (true, true, true, false, false, false) && of_1 == of_0);
+    assert!(&rt; of_2 == (true, true, false, false, false, false) && of_3 == of_2);
+    assert!(&rt; of_4 == (false, false, false, false, false, false));
+    assert!(&rt; plain? && !nested?);
+    Ok(())
+}
+
+/// A node of each kind.
+const ONE_OF_EACH: &[Step] = &[
+    Step::Begin,
+    Step::Expr(ExprStep::Tuple(&[])),
+    WILD,
+    Step::Binding("x"),
+    Step::Label("l"),
+    NEVER,
+    Step::Static,
+];
+
+/// Whether pattern 0 is `_`, type 0 is `!`, and lifetime 0 is `'static`.
+fn finds_nodes(store: &ExpressionStore) -> bool {
+    let pat = PatId::from_raw(0);
+    let type_ref = TypeRefId::from_raw(0);
+    let lifetime = LifetimeRefId::from_raw(0);
+    store.has_pat(pat)
+        && equals(&store[pat], Pat::Wild)
+        && store.has_type(type_ref)
+        && equals(&store[type_ref], TypeRef::Never)
+        && store.has_lifetime(lifetime)
+        && equals(&store[lifetime], LifetimeRef::Static)
+}
+
+fn is_binding(found: &Binding, name: &str) -> bool {
+    found.name.as_str() == name
+}
+
+fn is_label(found: &Label, name: &str) -> bool {
+    found.name.as_str() == name
+}
+
+/// Whether binding 0 and label 0 have these names.
+fn finds_names(store: &ExpressionStore, of_binding: &str, of_label: &str) -> bool {
+    let binding = BindingId::from_raw(0);
+    let label = LabelId::from_raw(0);
+    store.has_binding(binding)
+        && is_binding(&store[binding], of_binding)
+        && store.has_label(label)
+        && is_label(&store[label], of_label)
+}
+
+#[test]
+fn what_is_there_of_each_kind(rt: HostRuntime) -> Result<(), Fail> {
+    let a = rt.alloc();
+    let made = made::accepted(a, ONE_OF_EACH)?;
+    let store = &made.0;
+    let (of_0, of_1) = (has_of_each(store, 0), has_of_each(store, 1));
+    let finds_unit = finds_unit(store, a, 0);
+    let finds_nodes = finds_nodes(store);
+    let finds_names = finds_names(store, "x", "l");
+    let nested = is_sound(a, store, Written::Nested(&[0]));
+    let without_self = is_sound(a, store, Written::NoSelfArgument);
+    let one_list = is_sound(a, store, Written::OneListForTwo);
+    std::mem::drop(made);
+    assert!(&rt; of_0 == (true, true, true, true, true, true));
+    assert!(&rt; of_1 == (false, false, false, false, false, false));
+    assert!(&rt; finds_unit && finds_nodes && finds_names);
+    assert!(&rt; nested? && !without_self? && !one_list?);
+    Ok(())
+}
+
+/// One step of each kind, which each changes an empty builder.
+const STEPS: &[Step] = &[
+    Step::Begin,
+    Step::Root(0),
+    PATH,
+    WILD,
+    NEVER,
+    Step::Binding("x"),
+    Step::Label("l"),
+    Step::Static,
+    Step::Became(Became::Expr(5, 0)),
+    Step::CameFrom(CameFrom::Lifetime(0, 5)),
+    Step::Note(Note::Expansion(5, 3)),
+    Step::Note(Note::Definition(0, 0)),
+    Step::Note(Note::MissingBody(5)),
+    Step::Mark(Mark::ExprHygiene(0, 4)),
+    Step::Mark(Mark::Block(3)),
+    Step::Mark(Mark::Owner(0, 0)),
+];
+
+#[test]
+fn builders_that_differ_in_one_step(rt: HostRuntime) -> Result<(), Fail> {
+    let a = rt.alloc();
+    for step in STEPS {
+        assert!(&rt; made::differ(a, &[], &[*step])?);
+    }
+    assert!(&rt; !made::differ(a, STEPS, STEPS)?);
     Ok(())
 }

@@ -15,6 +15,8 @@ mod laws;
 #[cfg(test)]
 mod made;
 #[cfg(test)]
+mod nodes;
+#[cfg(test)]
 mod refused;
 #[cfg(test)]
 mod say;

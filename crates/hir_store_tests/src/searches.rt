@@ -1,71 +1,48 @@
 //! Root search: which root an expression, a pattern or a binding was made for.
-use crate::{again, build, made};
+use crate::build::{PATH, Step, WILD};
+use crate::made;
+use crate::nodes::ExprStep;
 use hir_base::Idx;
-use hir_node::{Expr, Pat};
-use hir_store::{ExpressionStore, ExpressionStoreBuilder};
-use std::alloc::Global;
+use hir_node::{BindingId, ExprId, PatId};
+use hir_store::ExpressionStore;
 use std::test::Fail;
 
-fn add_tuple(
-    builder: &mut ExpressionStoreBuilder,
-    alloc: Global,
-    exprs: &[u32],
-) -> Result<(), Fail> {
-    let exprs = build::ids(alloc, exprs)?;
-    let root = again::expr(builder, Expr::Tuple { exprs })?;
-    again::root(builder, root)?;
-    Ok(())
-}
+/// Two roots, 2 and 4, with two patterns and a binding made between them, and an expression behind.
+const TWO_ROOTS: &[Step] = &[
+    PATH,
+    PATH,
+    Step::Expr(ExprStep::Tuple(&[0, 1])),
+    Step::Root(2),
+    WILD,
+    WILD,
+    Step::Binding("x"),
+    PATH,
+    Step::Expr(ExprStep::Tuple(&[3])),
+    Step::Root(4),
+    PATH,
+];
 
-/// Adds two paths and a tuple of them, which is a root.
-fn add_first_root(builder: &mut ExpressionStoreBuilder, alloc: Global) -> Result<(), Fail> {
-    build::add_path(builder, alloc)?;
-    build::add_path(builder, alloc)?;
-    add_tuple(builder, alloc, &[0, 1])
-}
-
-/// Adds two patterns and a binding, a path and a tuple of it, which is a root.
-fn add_second_root(builder: &mut ExpressionStoreBuilder, alloc: Global) -> Result<(), Fail> {
-    again::pat(builder, Pat::Wild)?;
-    again::pat(builder, Pat::Wild)?;
-    build::add_binding(builder, alloc, "x")?;
-    build::add_path(builder, alloc)?;
-    add_tuple(builder, alloc, &[3])
-}
-
-/// Adds two roots, 2 and 4, with two patterns and a binding made between them, and an expression behind.
-fn add_two_roots(builder: &mut ExpressionStoreBuilder, alloc: Global) -> Result<(), Fail> {
-    add_first_root(builder, alloc)?;
-    add_second_root(builder, alloc)?;
-    build::add_path(builder, alloc)?;
-    Ok(())
-}
-
-/// Whether this expression was made for that root, or for none.
-fn expr_was_made_for(store: &ExpressionStore, expr: u32, root: Option<u32>) -> bool {
-    let id = Idx::from_raw(expr);
-    if store.covers_expr(id) {
-        return root == Some(store.find_root_for_expr(id).into_raw());
-    }
-    root == None
-}
-
-/// Whether this pattern was made for that root, or for none.
-fn pat_was_made_for(store: &ExpressionStore, pat: u32, root: Option<u32>) -> bool {
-    let id = Idx::from_raw(pat);
-    if store.covers_pat(id) {
-        return root == Some(store.find_root_for_pat(id).into_raw());
-    }
-    root == None
-}
-
-/// Whether this binding was made for that root, or for none.
-fn binding_was_made_for(store: &ExpressionStore, binding: u32, root: Option<u32>) -> bool {
-    let id = Idx::from_raw(binding);
-    if store.covers_binding(id) {
-        return root == Some(store.find_root_for_binding(id).into_raw());
-    }
-    root == None
+/// The roots that the expression, the pattern and the binding of this number were made for.
+fn roots_for(store: &ExpressionStore, number: u32) -> (Option<u32>, Option<u32>, Option<u32>) {
+    let expr = ExprId::from_raw(number);
+    let for_expr = if store.covers_expr(expr) {
+        Some(store.find_root_for_expr(expr).into_raw())
+    } else {
+        None
+    };
+    let pat = PatId::from_raw(number);
+    let for_pat = if store.covers_pat(pat) {
+        Some(store.find_root_for_pat(pat).into_raw())
+    } else {
+        None
+    };
+    let binding = BindingId::from_raw(number);
+    let for_binding = if store.covers_binding(binding) {
+        Some(store.find_root_for_binding(binding).into_raw())
+    } else {
+        None
+    };
+    (for_expr, for_pat, for_binding)
 }
 
 /// Whether the roots are 2 and 4, read from both ends.
@@ -78,22 +55,20 @@ fn has_both_roots(store: &ExpressionStore) -> bool {
 
 #[test]
 fn roots_that_nodes_were_made_for(rt: HostRuntime) -> Result<(), Fail> {
-    let a = rt.alloc();
-    let mut builder = made::builder(a)?;
-    add_two_roots(&mut builder, a)?;
-    let made = made::finished(a, builder)?;
+    let made = made::accepted(rt.alloc(), TWO_ROOTS)?;
     let store = &made.0;
-    let first_expr = expr_was_made_for(store, 2, Some(2));
-    let second_expr = expr_was_made_for(store, 3, Some(4));
-    let no_expr = expr_was_made_for(store, 5, None);
-    let pat = pat_was_made_for(store, 0, Some(4));
-    let no_pat = pat_was_made_for(store, 2, None);
-    let binding = binding_was_made_for(store, 0, Some(4));
-    let no_binding = binding_was_made_for(store, 1, None);
+    let of_0 = roots_for(store, 0);
+    let of_1 = roots_for(store, 1);
+    let of_2 = roots_for(store, 2);
+    let of_3 = roots_for(store, 3);
+    let of_5 = roots_for(store, 5);
     let has_both = has_both_roots(store);
     std::mem::drop(made);
-    assert!(&rt; first_expr && second_expr && no_expr);
-    assert!(&rt; pat && no_pat && binding && no_binding);
+    assert!(&rt; of_0 == (Some(2), Some(4), Some(4)));
+    assert!(&rt; of_1 == (Some(2), Some(4), None));
+    assert!(&rt; of_2 == (Some(2), None, None));
+    assert!(&rt; of_3 == (Some(4), None, None));
+    assert!(&rt; of_5 == (None, None, None));
     assert!(&rt; has_both);
     Ok(())
 }

@@ -1,15 +1,40 @@
 //! Blocks, owners, definitions and hygiene: what a builder was told of them is what the store and its source map answer.
-
-use crate::source_maps::{add_two, expr, pat, zero};
-use crate::{made, say};
-use hir_base::{BlockId, HygieneId, Idx, SyntaxContext};
-use hir_node::{BindingId, ExprId, PatId};
-use hir_store::{
-    Blocks, ExpressionStore, ExpressionStoreBuilder, ExpressionStoreSourceMap, Missing,
-};
+use crate::build::{PATH, Step};
+use crate::made;
+use crate::say::{self, Mark, Note};
+use hir_base::{BlockId, HygieneId, Idx};
+use hir_node::{ExprId, PatId};
+use hir_store::{Blocks, ExpressionStore, ExpressionStoreSourceMap, Missing};
 use std::alloc::{AllocError, Global};
 use std::collections::BTreeMap;
 use std::test::Fail;
+
+/// A binding of a number that few bodies reach.
+const FAR: u32 = 4_000_000_000;
+
+/// The expressions 0 and 1; the blocks 3 and 1, in that order; expression 1 owns binding 7, and it and pattern 0 have the hygiene of
+/// expansion 4; the patterns 2 and 0 bring binding 0 into scope, in that order, and nine patterns bring the far one.
+const TOLD: &[Step] = &[
+    Step::Begin,
+    PATH,
+    PATH,
+    Step::Mark(Mark::Block(3)),
+    Step::Mark(Mark::Block(1)),
+    Step::Mark(Mark::Owner(7, 1)),
+    Step::Mark(Mark::ExprHygiene(1, 4)),
+    Step::Mark(Mark::PatHygiene(0, 4)),
+    Step::Note(Note::Definition(0, 2)),
+    Step::Note(Note::Definition(0, 0)),
+    Step::Note(Note::Definition(FAR, 0)),
+    Step::Note(Note::Definition(FAR, 1)),
+    Step::Note(Note::Definition(FAR, 2)),
+    Step::Note(Note::Definition(FAR, 3)),
+    Step::Note(Note::Definition(FAR, 4)),
+    Step::Note(Note::Definition(FAR, 5)),
+    Step::Note(Note::Definition(FAR, 6)),
+    Step::Note(Note::Definition(FAR, 7)),
+    Step::Note(Note::Definition(FAR, 8)),
+];
 
 /// Gives the block this map, again where memory is refused once.
 fn add_map(maps: &mut BTreeMap<BlockId, u32>, block: u32, map: u32) -> Result<(), AllocError> {
@@ -22,151 +47,106 @@ fn add_map(maps: &mut BTreeMap<BlockId, u32>, block: u32, map: u32) -> Result<()
     }
 }
 
-/// The map of block 3.
-fn one_map(alloc: Global) -> Result<BTreeMap<BlockId, u32>, AllocError> {
+/// The maps of these blocks.
+fn maps_of(alloc: Global, entries: &[(u32, u32)]) -> Result<BTreeMap<BlockId, u32>, AllocError> {
     let mut maps = BTreeMap::new(alloc);
-    add_map(&mut maps, 3, 30)?;
-    Ok(maps)
-}
-
-/// The maps of the blocks 1 and 3.
-fn two_maps(alloc: Global) -> Result<BTreeMap<BlockId, u32>, AllocError> {
-    let mut maps = BTreeMap::new(alloc);
-    add_map(&mut maps, 1, 10)?;
-    add_map(&mut maps, 3, 30)?;
-    Ok(maps)
-}
-
-/// Whether the blocks are refused because this one has no map.
-fn lacks_map(store: &ExpressionStore, maps: &BTreeMap<BlockId, u32>, block: BlockId) -> bool {
-    match store.blocks(maps) {
-        Ok(_) => false,
-        Err(missing) => missing == Missing::DefMap(block),
+    for (block, map) in entries {
+        add_map(&mut maps, *block, *map)?;
     }
+    Ok(maps)
 }
 
-/// Whether the next block is this one, with this map.
-fn is_next(blocks: &mut Blocks<'_, u32>, block: u32, map: u32) -> bool {
+/// A block with its map, where there is one.
+type Block = Option<(u32, u32)>;
+
+/// The next block, with its map.
+fn next_block(blocks: &mut Blocks<'_, u32>) -> Block {
     match blocks.next() {
-        Some((id, number)) => id == BlockId::from_raw(block) && *number == map,
-        None => false,
+        Some((id, map)) => Some((id.into_raw(), *map)),
+        None => None,
     }
 }
 
-/// Whether the blocks are 3 and 1, each with its map, and no more.
-fn are_both_blocks<'a>(store: &'a ExpressionStore, maps: &'a BTreeMap<BlockId, u32>) -> bool {
+/// The first three blocks with their maps, or what is missing.
+fn first_three<'a>(
+    store: &'a ExpressionStore,
+    maps: &'a BTreeMap<BlockId, u32>,
+) -> Result<(Block, Block, Block), Missing> {
     match store.blocks(maps) {
         Ok(mut blocks) => {
-            is_next(&mut blocks, 3, 30) && is_next(&mut blocks, 1, 10) && blocks.next().is_none()
+            let first = next_block(&mut blocks);
+            let second = next_block(&mut blocks);
+            let third = next_block(&mut blocks);
+            Ok((first, second, third))
         }
-        Err(_) => false,
+        Err(missing) => Err(missing),
     }
 }
 
-/// The hygiene of expansion 4.
-fn expanded() -> HygieneId {
-    HygieneId::new(SyntaxContext::Expansion(4))
-}
-
-/// Adds the blocks 3 and 1, in that order; says that expression 1 owns binding 7, and that the paths of expression 1 and of pattern 0
-/// have the hygiene of expansion 4.
-fn say_of_the_store(builder: &mut ExpressionStoreBuilder, alloc: Global) -> Result<(), Fail> {
-    add_two(builder, alloc)?;
-    say::add_block_scope(builder, BlockId::from_raw(3))?;
-    say::add_block_scope(builder, BlockId::from_raw(1))?;
-    say::own(builder, Idx::from_raw(7), Idx::from_raw(1))?;
-    say::set_hygiene(builder, expr(1), expanded())?;
-    say::set_hygiene(builder, pat(0), expanded())?;
-    Ok(())
-}
-
-/// Whether this expression owns the binding, or none does.
-pub fn is_owned_by(store: &ExpressionStore, binding: BindingId, owner: Option<ExprId>) -> bool {
-    store.binding_owner(binding) == owner
-}
-
-/// Whether the map of block 1 is missing where block 3 alone has one.
-fn lacks_map_1(alloc: Global, store: &ExpressionStore) -> Result<bool, AllocError> {
-    let maps = one_map(alloc)?;
-    let lacks = lacks_map(store, &maps, BlockId::from_raw(1));
+/// The first three blocks, or what is missing, where these blocks have maps.
+fn blocks_of(
+    alloc: Global,
+    store: &ExpressionStore,
+    entries: &[(u32, u32)],
+) -> Result<Result<(Block, Block, Block), Missing>, AllocError> {
+    let maps = maps_of(alloc, entries)?;
+    let blocks = first_three(store, &maps);
     std::mem::drop(maps);
-    Ok(lacks)
+    Ok(blocks)
 }
 
-/// Whether both blocks are given where both have maps.
-fn gives_both_blocks(alloc: Global, store: &ExpressionStore) -> Result<bool, AllocError> {
-    let maps = two_maps(alloc)?;
-    let are_both = are_both_blocks(store, &maps);
+/// Whether no block lacks its map, and there is none, where there is no map.
+pub fn has_no_blocks(alloc: Global, store: &ExpressionStore) -> bool {
+    let maps = BTreeMap::new(alloc);
+    let blocks: Result<(Block, Block, Block), Missing> = first_three(store, &maps);
     std::mem::drop(maps);
-    Ok(are_both)
+    blocks == Ok((None, None, None))
 }
 
-#[test]
-fn blocks_owners_and_hygiene(rt: HostRuntime) -> Result<(), Fail> {
-    let a = rt.alloc();
-    let mut builder = made::builder(a)?;
-    say_of_the_store(&mut builder, a)?;
-    let made = made::finished(a, builder)?;
-    let store = &made.0;
-    let lacks_map = lacks_map_1(a, store);
-    let gives_both = gives_both_blocks(a, store);
-    let owned = is_owned_by(store, Idx::from_raw(7), Some(Idx::from_raw(1)));
-    let not_owned = is_owned_by(store, Idx::from_raw(0), None);
-    let first_expr = store.expr_path_hygiene(zero());
-    let second_expr = store.expr_path_hygiene(Idx::from_raw(1));
-    let as_node = store.expr_or_pat_path_hygiene(expr(1));
-    let first_pat = store.pat_path_hygiene(Idx::from_raw(0));
-    let second_pat = store.pat_path_hygiene(Idx::from_raw(1));
-    std::mem::drop(made);
-    assert!(&rt; lacks_map? && gives_both?);
-    assert!(&rt; owned && not_owned);
-    assert!(&rt; first_expr == HygieneId::ROOT && second_expr == expanded());
-    assert!(&rt; as_node == expanded());
-    assert!(&rt; first_pat == expanded() && second_pat == HygieneId::ROOT);
-    Ok(())
+/// The hygiene of the path that an expression is and a pattern is, each asked as what it is and as either of them.
+type Hygiene = (HygieneId, HygieneId, HygieneId, HygieneId);
+
+/// The hygiene of the expression and of the pattern of this number.
+fn hygiene_of(store: &ExpressionStore, number: u32) -> Hygiene {
+    (
+        store.expr_path_hygiene(ExprId::from_raw(number)),
+        store.expr_or_pat_path_hygiene(say::expr(number)),
+        store.pat_path_hygiene(PatId::from_raw(number)),
+        store.expr_or_pat_path_hygiene(say::pat(number)),
+    )
 }
 
-/// A binding of a number that few bodies reach.
-fn far() -> BindingId {
-    BindingId::from_raw(4_000_000_000)
-}
-
-/// Says that the patterns 2 and 0 bring binding 0 into scope, in that order, and that nine patterns bring the far one.
-fn say_definitions(builder: &mut ExpressionStoreBuilder, alloc: Global) -> Result<(), Fail> {
-    add_two(builder, alloc)?;
-    say::add_definition(builder, Idx::from_raw(0), Idx::from_raw(2))?;
-    say::add_definition(builder, Idx::from_raw(0), Idx::from_raw(0))?;
-    for number in 0..9 {
-        say::add_definition(builder, far(), Idx::from_raw(number))?;
-    }
-    Ok(())
-}
-
-/// Whether these patterns, in this order, are all that bring the binding into scope.
-fn is_defined_by(
-    map: &ExpressionStoreSourceMap,
-    binding: BindingId,
-    first: PatId,
-    second: PatId,
-) -> bool {
-    match map.patterns_for_binding(binding) {
-        [one, other] => *one == first && *other == second,
+/// Whether the patterns 2 and 0, in this order, are all that bring binding 0 into scope; how many bring binding 1, and the far one.
+fn definitions(map: &ExpressionStoreSourceMap) -> (bool, usize, usize) {
+    let in_order = match map.patterns_for_binding(Idx::from_raw(0)) {
+        [first, second] => *first == Idx::from_raw(2) && *second == Idx::from_raw(0),
         _ => false,
-    }
+    };
+    let without = map.patterns_for_binding(Idx::from_raw(1)).len();
+    let many = map.patterns_for_binding(Idx::from_raw(FAR)).len();
+    (in_order, without, many)
 }
 
 #[test]
-fn definitions_and_closures(rt: HostRuntime) -> Result<(), Fail> {
+fn blocks_owners_hygiene_and_definitions(rt: HostRuntime) -> Result<(), Fail> {
     let a = rt.alloc();
-    let mut builder = made::builder(a)?;
-    say_definitions(&mut builder, a)?;
-    let made = made::finished(a, builder)?;
-    let map = &made.1;
-    let is_defined = is_defined_by(map, Idx::from_raw(0), Idx::from_raw(2), Idx::from_raw(0));
-    let without = map.patterns_for_binding(Idx::from_raw(1)).len();
-    let many = map.patterns_for_binding(far()).len();
+    let made = made::accepted(a, TOLD)?;
+    let store = &made.0;
+    let with_one_map = blocks_of(a, store, &[(3, 30)]);
+    let with_both = blocks_of(a, store, &[(1, 10), (3, 30)]);
+    let owner_of_7 = store.binding_owner(Idx::from_raw(7));
+    let owner_of_0 = store.binding_owner(Idx::from_raw(0));
+    let hygiene_of_0 = hygiene_of(store, 0);
+    let hygiene_of_1 = hygiene_of(store, 1);
+    let definitions = definitions(&made.1);
     std::mem::drop(made);
-    assert!(&rt; is_defined && without == 0 && many == 9);
+    assert!(&rt; with_one_map? == Err(Missing::DefMap(BlockId::from_raw(1))));
+    assert!(&rt; with_both? == Ok((Some((3, 30)), Some((1, 10)), None)));
+    assert!(&rt; owner_of_7 == Some(Idx::from_raw(1)) && owner_of_0 == None);
+    let (root, expanded) = (HygieneId::ROOT, say::expanded(4));
+    assert!(&rt; hygiene_of_0 == (root, root, expanded, expanded));
+    assert!(&rt; hygiene_of_1 == (expanded, expanded, root, root));
+    assert!(&rt; definitions == (true, 0, 9));
     let coroutine = ExpressionStore::coroutine_for_closure(Idx::from_raw(5));
     let closure = ExpressionStore::closure_for_coroutine(Idx::from_raw(4));
     assert!(&rt; coroutine.into_raw() == 4 && closure.into_raw() == 5);

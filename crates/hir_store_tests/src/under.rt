@@ -2,12 +2,24 @@
 ghost use Rattle.std.specs.Prelude.{◌≡◌, IfOk};
 ghost use Rattle.hir_faults.specs.Nodes.{sizes_of};
 
-use crate::{again, build, made};
+use crate::build::{PATH, Step, WILD};
+use crate::made;
+use crate::nodes::ExprStep;
 use hir_base::Idx;
-use hir_node::{Expr, Pat};
-use hir_store::{ExpressionStore, ExpressionStoreBuilder, NodeSet};
+use hir_node::{ExprId, PatId};
+use hir_store::{ExpressionStore, NodeSet};
 use std::alloc::{AllocError, Global};
 use std::test::Fail;
+
+/// A `let` in a tuple. Under the `let`, expression 1, lie expression 0 and pattern 0; pattern 1 lies apart; expression 2 is the root.
+const LET_IN_TUPLE: &[Step] = &[
+    WILD,
+    WILD,
+    PATH,
+    Step::Expr(ExprStep::Let(0, 0)),
+    Step::Expr(ExprStep::Tuple(&[1])),
+    Step::Root(2),
+];
 
 fn no_nodes(alloc: Global, store: &ExpressionStore) -> Result<NodeSet, AllocError>
     ensures { IfOk result (λ set. set.sizes ≡ sizes_of store.now.nodes) }
@@ -28,50 +40,6 @@ fn under(alloc: Global, store: &ExpressionStore, tops: &NodeSet) -> Result<NodeS
     }
 }
 
-/// Adds a `let` in a tuple. Under the `let`, expression 1, lie expression 0 and pattern 0; pattern 1 lies apart; expression 2 is the root.
-fn add_let_in_tuple(builder: &mut ExpressionStoreBuilder, alloc: Global) -> Result<(), Fail> {
-    let pat = again::pat(builder, Pat::Wild)?;
-    again::pat(builder, Pat::Wild)?;
-    let expr = build::add_path(builder, alloc)?;
-    let inner = again::expr(builder, Expr::Let { pat, expr })?;
-    let exprs = build::ids(alloc, &[inner.into_raw()])?;
-    let top = again::expr(builder, Expr::Tuple { exprs })?;
-    again::root(builder, top)?;
-    Ok(())
-}
-
-/// Whether the store has this expression, and the set does.
-fn has_expr(store: &ExpressionStore, set: &NodeSet, number: u32) -> bool
-    requires { set.now.sizes ≡ sizes_of store.now.nodes }
-{
-    let id = Idx::from_raw(number);
-    store.has_expr(id) && set.has_expr(id)
-}
-
-/// Whether the store has this expression, and the set does not.
-fn lacks_expr(store: &ExpressionStore, set: &NodeSet, number: u32) -> bool
-    requires { set.now.sizes ≡ sizes_of store.now.nodes }
-{
-    let id = Idx::from_raw(number);
-    store.has_expr(id) && !set.has_expr(id)
-}
-
-/// Whether the store has this pattern, and the set does.
-fn has_pat(store: &ExpressionStore, set: &NodeSet, number: u32) -> bool
-    requires { set.now.sizes ≡ sizes_of store.now.nodes }
-{
-    let id = Idx::from_raw(number);
-    store.has_pat(id) && set.has_pat(id)
-}
-
-/// Whether the store has this pattern, and the set does not.
-fn lacks_pat(store: &ExpressionStore, set: &NodeSet, number: u32) -> bool
-    requires { set.now.sizes ≡ sizes_of store.now.nodes }
-{
-    let id = Idx::from_raw(number);
-    store.has_pat(id) && !set.has_pat(id)
-}
-
 /// The set of the `let` and of the pattern that lies apart.
 fn marked(alloc: Global, store: &ExpressionStore) -> Result<NodeSet, AllocError>
     ensures { IfOk result (λ set. set.sizes ≡ sizes_of store.now.nodes) }
@@ -86,20 +54,37 @@ fn marked(alloc: Global, store: &ExpressionStore) -> Result<NodeSet, AllocError>
     Ok(tops)
 }
 
-/// Whether a set of no nodes lacks what is there.
-fn none_has_none(alloc: Global, store: &ExpressionStore) -> bool {
-    match no_nodes(alloc, store) {
-        Ok(none) => lacks_expr(store, &none, 1) && lacks_pat(store, &none, 1),
-        Err(_) => false,
-    }
+/// Whether a set has an expression and a pattern, where the store has them.
+type Answer = (Option<bool>, Option<bool>);
+
+/// Whether the set has the expression and the pattern of this number.
+fn held(store: &ExpressionStore, set: &NodeSet, number: u32) -> Answer
+    requires { set.now.sizes ≡ sizes_of store.now.nodes }
+{
+    let id = ExprId::from_raw(number);
+    let expr = if store.has_expr(id) {
+        Some(set.has_expr(id))
+    } else {
+        None
+    };
+    let id = PatId::from_raw(number);
+    let pat = if store.has_pat(id) {
+        Some(set.has_pat(id))
+    } else {
+        None
+    };
+    (expr, pat)
 }
 
-/// Whether a set has what was added.
-fn marked_has_both(alloc: Global, store: &ExpressionStore) -> bool {
-    match marked(alloc, store) {
-        Ok(tops) => has_expr(store, &tops, 1) && has_pat(store, &tops, 1),
-        Err(_) => false,
-    }
+/// What a set of no nodes and the set of the marked ones have of number 1.
+fn held_at_first(alloc: Global, store: &ExpressionStore) -> Result<(Answer, Answer), AllocError> {
+    let none = no_nodes(alloc, store)?;
+    let in_none = held(store, &none, 1);
+    std::mem::drop(none);
+    let tops = marked(alloc, store)?;
+    let in_tops = held(store, &tops, 1);
+    std::mem::drop(tops);
+    Ok((in_none, in_tops))
 }
 
 /// What lies under the marked nodes.
@@ -110,31 +95,29 @@ fn under_marked(alloc: Global, store: &ExpressionStore) -> Result<NodeSet, Alloc
     under(alloc, store, &tops)
 }
 
-/// Whether what lies under the `let` is found, and nothing else.
-fn finds_what_is_under(alloc: Global, store: &ExpressionStore) -> bool {
-    match under_marked(alloc, store) {
-        Ok(found) => {
-            has_expr(store, &found, 0)
-                && has_pat(store, &found, 0)
-                && lacks_expr(store, &found, 1)
-                && lacks_pat(store, &found, 1)
-                && lacks_expr(store, &found, 2)
-        }
-        Err(_) => false,
-    }
+/// What the set of what lies under the marked nodes has of the numbers 0, 1 and 2.
+fn held_under(
+    alloc: Global,
+    store: &ExpressionStore,
+) -> Result<(Answer, Answer, Answer), AllocError> {
+    let found = under_marked(alloc, store)?;
+    let of_0 = held(store, &found, 0);
+    let of_1 = held(store, &found, 1);
+    let of_2 = held(store, &found, 2);
+    std::mem::drop(found);
+    Ok((of_0, of_1, of_2))
 }
 
 #[test]
 fn what_lies_under_marked_nodes(rt: HostRuntime) -> Result<(), Fail> {
     let a = rt.alloc();
-    let mut builder = made::builder(a)?;
-    add_let_in_tuple(&mut builder, a)?;
-    let made = made::finished(a, builder)?;
+    let made = made::accepted(a, LET_IN_TUPLE)?;
     let store = &made.0;
-    let none = none_has_none(a, store);
-    let marked = marked_has_both(a, store);
-    let under = finds_what_is_under(a, store);
+    let at_first = held_at_first(a, store);
+    let under = held_under(a, store);
     std::mem::drop(made);
-    assert!(&rt; none && marked && under);
+    let (both, neither) = ((Some(true), Some(true)), (Some(false), Some(false)));
+    assert!(&rt; at_first? == (neither, both));
+    assert!(&rt; under? == (both, neither, (Some(false), None)));
     Ok(())
 }

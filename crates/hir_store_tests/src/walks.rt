@@ -1,17 +1,15 @@
 //! Visits and walks on the tree of a match: each runs the calls of its definition, in order.
 #![tactic(auto, using(hir_node::proofs::RunLemmas::freely))]
 
-use crate::{again, build, made};
-use hir_base::{Idx, RangeOp};
-use hir_node::{
-    BindingId, Expr, ExprId, LifetimeRefId, Pat, PatId, StoreVisitor, TypeRef, TypeRefId,
-};
-use hir_store::{ExpressionStore, ExpressionStoreBuilder};
-use std::alloc::Global;
+use crate::build::{MATCH, NEVER, PATH, Step};
+use crate::made;
+use crate::nodes::{ExprStep, PatStep, TypeStep};
+use hir_node::{BindingId, ExprId, LifetimeRefId, PatId, StoreVisitor, TypeRefId};
+use hir_store::ExpressionStore;
 use std::test::Fail;
 
 /// A call of a visitor or of a closure.
-#[derive(Clone, Copy, Debug, PartialEq, Eq)]
+#[derive(Clone, Copy, PartialEq, Eq)]
 enum Call {
     Expr(u32),
     AnonConst(u32),
@@ -77,7 +75,98 @@ impl StoreVisitor for Wanted<'_> {
     }
 }
 
-const IN_ORDER: [Call; 5] = [
+/// Whether a visitor of the children of this expression meets these calls.
+fn visits_expr(store: &ExpressionStore, number: u32, calls: &[Call]) -> bool {
+    let id = ExprId::from_raw(number);
+    let mut wanted = Wanted::new(calls);
+    if !store.has_expr(id) {
+        return false;
+    }
+    store.visit_expr_children(id, &mut wanted);
+    wanted.all_met()
+}
+
+/// Whether a visitor of the children of this pattern meets these calls.
+fn visits_pat(store: &ExpressionStore, number: u32, calls: &[Call]) -> bool {
+    let id = PatId::from_raw(number);
+    let mut wanted = Wanted::new(calls);
+    if !store.has_pat(id) {
+        return false;
+    }
+    store.visit_pat_children(id, &mut wanted);
+    wanted.all_met()
+}
+
+/// Whether a visitor of the children of this type meets these calls.
+fn visits_type(store: &ExpressionStore, number: u32, calls: &[Call]) -> bool {
+    let id = TypeRefId::from_raw(number);
+    let mut wanted = Wanted::new(calls);
+    if !store.has_type(id) {
+        return false;
+    }
+    store.visit_type_ref_children(id, &mut wanted);
+    wanted.all_met()
+}
+
+/// Whether a walk over a pattern meets these patterns: it and all below where the walk is deep, else those right in it.
+fn walks_pats(store: &ExpressionStore, number: u32, is_deep: bool, calls: &[Call]) -> bool {
+    let id = PatId::from_raw(number);
+    if !store.has_pat(id) {
+        return false;
+    }
+    let mut wanted = Wanted::new(calls);
+    let mut meet = |pat: PatId| wanted.on_pat(pat);
+    if is_deep {
+        store.walk_pats(id, &mut meet);
+    } else {
+        store.walk_pats_shallow(id, &mut meet);
+    }
+    wanted.all_met()
+}
+
+/// Whether a walk over the bindings in a pattern meets these: its own, and then those below.
+fn walks_bindings(store: &ExpressionStore, number: u32, calls: &[Call]) -> bool {
+    let id = PatId::from_raw(number);
+    let mut wanted = Wanted::new(calls);
+    if !store.has_pat(id) {
+        return false;
+    }
+    store.walk_bindings_in_pat(
+        id,
+        &mut |binding: BindingId| wanted.met(Call::Binding(binding.into_raw())),
+    );
+    wanted.all_met()
+}
+
+/// Whether a walk over the child expressions of an expression meets these, those of its patterns among them or left out.
+fn walks_exprs(store: &ExpressionStore, number: u32, with_pats: bool, calls: &[Call]) -> bool {
+    let id = ExprId::from_raw(number);
+    if !store.has_expr(id) {
+        return false;
+    }
+    let mut wanted = Wanted::new(calls);
+    let mut meet = |expr: ExprId| wanted.on_expr(expr);
+    if with_pats {
+        store.walk_child_exprs(id, &mut meet);
+    } else {
+        store.walk_child_exprs_without_pats(id, &mut meet);
+    }
+    wanted.all_met()
+}
+
+/// Whether a walk over the expressions in a pattern meets these.
+fn walks_exprs_in_pat(store: &ExpressionStore, number: u32, calls: &[Call]) -> bool {
+    let id = PatId::from_raw(number);
+    let mut wanted = Wanted::new(calls);
+    if !store.has_pat(id) {
+        return false;
+    }
+    store.walk_exprs_in_pat(id, &mut |expr: ExprId| wanted.on_expr(expr));
+    wanted.all_met()
+}
+
+/// The children of the match, in order.
+const IN_ORDER: &[Call] = &[
     Call::Expr(0),
     Call::Expr(1),
     Call::Pat(2),
@@ -85,162 +174,53 @@ const IN_ORDER: [Call; 5] = [
     Call::Pat(3),
 ];
 
-/// Whether a visitor of the match meets its children in order.
-fn visits_a_match(store: &ExpressionStore) -> bool {
-    let mut wanted = Wanted::new(&IN_ORDER);
-    if !store.has_expr(Idx::from_raw(3)) {
-        return false;
-    }
-    store.visit_expr_children(Idx::from_raw(3), &mut wanted);
-    wanted.all_met()
-}
+/// The pattern in pattern 2.
+const INNER: &[Call] = &[Call::Pat(1)];
 
-/// Whether a visitor of pattern 2 meets the pattern in it.
-fn visits_a_pattern(store: &ExpressionStore) -> bool {
-    let mut wanted = Wanted::new(&[Call::Pat(1)]);
-    if !store.has_pat(Idx::from_raw(2)) {
-        return false;
-    }
-    store.visit_pat_children(Idx::from_raw(2), &mut wanted);
-    wanted.all_met()
-}
+/// Pattern 2, and all below.
+const WHOLE: &[Call] = &[Call::Pat(2), Call::Pat(1), Call::Pat(0)];
 
-/// Whether a walk from pattern 2 meets it and all below.
-fn walks_a_pattern(store: &ExpressionStore) -> bool {
-    let mut wanted = Wanted::new(&[Call::Pat(2), Call::Pat(1), Call::Pat(0)]);
-    if !store.has_pat(Idx::from_raw(2)) {
-        return false;
-    }
-    store.walk_pats(Idx::from_raw(2), &mut |pat: PatId| wanted.on_pat(pat));
-    wanted.all_met()
-}
+/// The binding of pattern 2, and the one below.
+const BINDINGS: &[Call] = &[Call::Binding(0), Call::Binding(1)];
 
-/// Whether a walk over the child patterns of pattern 2 meets the one pattern in it.
-fn walks_child_patterns(store: &ExpressionStore) -> bool {
-    let mut wanted = Wanted::new(&[Call::Pat(1)]);
-    if !store.has_pat(Idx::from_raw(2)) {
-        return false;
-    }
-    store.walk_pats_shallow(Idx::from_raw(2), &mut |pat: PatId| wanted.on_pat(pat));
-    wanted.all_met()
-}
-
-/// Whether a walk over the bindings in pattern 2 meets its own and then the one below.
-fn walks_bindings(store: &ExpressionStore) -> bool {
-    let mut wanted = Wanted::new(&[Call::Binding(0), Call::Binding(1)]);
-    if !store.has_pat(Idx::from_raw(2)) {
-        return false;
-    }
-    store.walk_bindings_in_pat(
-        Idx::from_raw(2),
-        &mut |binding: BindingId| { wanted.met(Call::Binding(binding.into_raw())) },
-    );
-    wanted.all_met()
-}
-
-/// Whether a walk over the child expressions of the match meets the scrutinee and both bodies.
-fn walks_a_match(store: &ExpressionStore) -> bool {
-    let mut wanted = Wanted::new(&[Call::Expr(0), Call::Expr(1), Call::Expr(2)]);
-    if !store.has_expr(Idx::from_raw(3)) {
-        return false;
-    }
-    store.walk_child_exprs(Idx::from_raw(3), &mut |expr: ExprId| wanted.on_expr(expr));
-    wanted.all_met()
-}
+/// The scrutinee, and both bodies.
+const EXPRS: &[Call] = &[Call::Expr(0), Call::Expr(1), Call::Expr(2)];
 
 #[test]
 fn walks_of_a_match(rt: HostRuntime) -> Result<(), Fail> {
-    let a = rt.alloc();
-    let mut builder = made::builder(a)?;
-    build::add_match_tree(&mut builder, a)?;
-    let made = made::finished(a, builder)?;
+    let made = made::accepted(rt.alloc(), MATCH)?;
     let store = &made.0;
-    let match_visited = visits_a_match(store);
-    let pattern_visited = visits_a_pattern(store);
-    let pattern_walked = walks_a_pattern(store);
-    let children_walked = walks_child_patterns(store);
-    let bindings_walked = walks_bindings(store);
-    let match_walked = walks_a_match(store);
+    let match_visited = visits_expr(store, 3, IN_ORDER);
+    let pattern_visited = visits_pat(store, 2, INNER);
+    let pattern_walked = walks_pats(store, 2, true, WHOLE);
+    let children_walked = walks_pats(store, 2, false, INNER);
+    let bindings_walked = walks_bindings(store, 2, BINDINGS);
+    let match_walked = walks_exprs(store, 3, true, EXPRS);
     std::mem::drop(made);
     assert!(&rt; match_visited && pattern_visited);
     assert!(&rt; pattern_walked && children_walked && bindings_walked && match_walked);
     Ok(())
 }
 
-/// Adds `let a.. = a` as a root: expression 0 stands in the pattern, and expression 1 is what is matched.
-fn add_let_of_a_range(builder: &mut ExpressionStoreBuilder, alloc: Global) -> Result<(), Fail> {
-    let start = Some(build::add_path(builder, alloc)?);
-    let range = Pat::Range {
-        start,
-        end: None,
-        range_type: RangeOp::Inclusive,
-    };
-    let pat = again::pat(builder, range)?;
-    let expr = build::add_path(builder, alloc)?;
-    let root = again::expr(builder, Expr::Let { pat, expr })?;
-    again::root(builder, root)?;
-    Ok(())
-}
-
-/// Whether a walk over the child expressions of the `let` meets that of its pattern too.
-fn walks_a_let(store: &ExpressionStore) -> bool {
-    let mut wanted = Wanted::new(&[Call::Expr(0), Call::Expr(1)]);
-    if !store.has_expr(Idx::from_raw(2)) {
-        return false;
-    }
-    store.walk_child_exprs(Idx::from_raw(2), &mut |expr: ExprId| wanted.on_expr(expr));
-    wanted.all_met()
-}
-
-/// Whether a walk without patterns leaves it out.
-fn walks_a_let_without_its_pattern(store: &ExpressionStore) -> bool {
-    let mut wanted = Wanted::new(&[Call::Expr(1)]);
-    if !store.has_expr(Idx::from_raw(2)) {
-        return false;
-    }
-    store.walk_child_exprs_without_pats(Idx::from_raw(2), &mut |expr: ExprId| wanted.on_expr(expr));
-    wanted.all_met()
-}
-
-/// Whether a walk over the expressions in the pattern meets it.
-fn walks_expressions_of_a_pattern(store: &ExpressionStore) -> bool {
-    let mut wanted = Wanted::new(&[Call::Expr(0)]);
-    if !store.has_pat(Idx::from_raw(0)) {
-        return false;
-    }
-    store.walk_exprs_in_pat(Idx::from_raw(0), &mut |expr: ExprId| wanted.on_expr(expr));
-    wanted.all_met()
-}
-
-/// Adds the type `!`, and a tuple of it.
-fn add_tuple_type(builder: &mut ExpressionStoreBuilder, alloc: Global) -> Result<(), Fail> {
-    again::type_ref(builder, TypeRef::Never)?;
-    again::type_ref(builder, TypeRef::Tuple(build::ids(alloc, &[0])?))?;
-    Ok(())
-}
-
-/// Whether a visitor of the tuple meets the type in it.
-fn visits_a_type(store: &ExpressionStore) -> bool {
-    let mut wanted = Wanted::new(&[Call::Type(0)]);
-    if !store.has_type(Idx::from_raw(1)) {
-        return false;
-    }
-    store.visit_type_ref_children(Idx::from_raw(1), &mut wanted);
-    wanted.all_met()
-}
+/// `let a.. = a` as a root: expression 0 stands in the pattern, and expression 1 is what is matched. The type `!`, and a tuple of it.
+const LET_AND_TUPLE: &[Step] = &[
+    PATH,
+    Step::Pat(PatStep::RangeFrom(0)),
+    PATH,
+    Step::Expr(ExprStep::Let(0, 1)),
+    Step::Root(2),
+    NEVER,
+    Step::Type(TypeStep::Tuple(&[0])),
+];
 
 #[test]
 fn walks_of_a_let_and_a_type(rt: HostRuntime) -> Result<(), Fail> {
-    let a = rt.alloc();
-    let mut builder = made::builder(a)?;
-    add_let_of_a_range(&mut builder, a)?;
-    add_tuple_type(&mut builder, a)?;
-    let made = made::finished(a, builder)?;
+    let made = made::accepted(rt.alloc(), LET_AND_TUPLE)?;
     let store = &made.0;
-    let whole = walks_a_let(store);
-    let without_pattern = walks_a_let_without_its_pattern(store);
-    let pattern_alone = walks_expressions_of_a_pattern(store);
-    let type_visited = visits_a_type(store);
+    let whole = walks_exprs(store, 2, true, &[Call::Expr(0), Call::Expr(1)]);
+    let without_pattern = walks_exprs(store, 2, false, &[Call::Expr(1)]);
+    let pattern_alone = walks_exprs_in_pat(store, 0, &[Call::Expr(0)]);
+    let type_visited = visits_type(store, 1, &[Call::Type(0)]);
     std::mem::drop(made);
     assert!(&rt; whole && without_pattern && pattern_alone);
     assert!(&rt; type_visited);
