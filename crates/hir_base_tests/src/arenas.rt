@@ -1,7 +1,6 @@
 //! Ids, arenas and their iterators, once each on the happy path, and the laws of ids.
-//! Where memory is refused, what was handed back and what was left are compared, and the call is made again.
-use crate::{again, hashes};
-use hir_base::{Arena, ArenaFault, ArenaIter, ExactEq, Idx, MOST_ITEMS, laws};
+use crate::same;
+use hir_base::{Arena, ArenaFault, ArenaIter, ExactEq, Idx, MOST_ITEMS, TryClone, laws};
 use std::alloc::{AllocError, Global};
 use std::cmp::Ordering;
 use std::iter::ExactSizeIterator;
@@ -11,40 +10,14 @@ use std::test::Fail;
 
 enum Kind {}
 
-// Whether memory was refused, and this item handed back.
-fn is_back(fault: ArenaFault, back: u32, item: u32) -> bool {
-    fault == ArenaFault::Memory && back == item
-}
-
-fn alloc_again(arena: &mut Arena<Kind, u32>, item: u32) -> Result<Idx<Kind>, ArenaFault> {
-    match arena.alloc(item) {
-        Ok(id) => Ok(id),
-        Err((fault, _)) => Err(fault),
-    }
-}
-
-fn alloc_twice(
-    rt: &impl Abort,
-    arena: &mut Arena<Kind, u32>,
-    item: u32,
-) -> Result<Idx<Kind>, ArenaFault> {
-    let before = arena.len();
-    match arena.alloc(item) {
-        Ok(id) => Ok(id),
-        Err((fault, back)) => {
-            assert!(rt; is_back(fault, back, item));
-            assert!(rt; arena.len() == before);
-            alloc_again(arena, back)
-        }
-    }
-}
-
 // An arena of the numbers below 20, each of which is its own id.
 fn twenty(rt: &impl Abort, alloc: Global) -> Result<Arena<Kind, u32>, ArenaFault> {
     let mut arena = Arena::new(alloc);
     for item in 0..20u32 {
-        let id = alloc_twice(rt, &mut arena, item)?;
-        assert!(rt; id.into_raw() == item);
+        match arena.alloc(item) {
+            Ok(id) => assert!(rt; id.into_raw() == item),
+            Err((fault, _)) => return Err(fault),
+        }
     }
     Ok(arena)
 }
@@ -56,79 +29,20 @@ fn has_twenty(arena: &Arena<Kind, u32>) -> bool {
         && !arena.has(Idx::from_raw(20))
 }
 
-#[test]
-fn items_are_numbered(rt: HostRuntime) -> Result<(), Fail> {
-    let arena = twenty(&rt, rt.alloc())?;
-    let holds = has_twenty(&arena);
-    drop(arena);
-    assert!(rt; holds);
-    Ok(())
-}
-
-#[test]
-fn a_new_arena_has_no_items(rt: HostRuntime) {
-    assert!(rt; MOST_ITEMS == 4294967295);
-    let arena: Arena<Kind, u32> = Arena::new(rt.alloc());
-    assert!(rt; arena.is_empty());
-}
-
-// Whether item 3 is 3, and then 300, which is written there.
-fn changes(arena: &mut Arena<Kind, u32>) -> bool {
-    let third = Idx::from_raw(3);
-    if !arena.has(third) || arena[third] != 3 {
-        return false;
-    }
-    arena[third] = 300;
-    arena[third] == 300
-}
-
-// Whether a copy is the same, until an item of the arena changes.
-fn leaves_its_copy(arena: &mut Arena<Kind, u32>) -> Result<bool, AllocError> {
-    let copy = again::copy(arena)?;
-    let was_same = copy.is_same(arena);
-    let changed = changes(arena);
-    Ok(was_same && changed && !copy.is_same(arena) && copy != *arena)
-}
-
-#[test]
-fn a_change_is_not_that_of_the_copy(rt: HostRuntime) -> Result<(), Fail> {
-    let mut arena = twenty(&rt, rt.alloc())?;
-    let answer = leaves_its_copy(&mut arena);
-    drop(arena);
-    let holds = answer?;
-    assert!(rt; holds);
-    Ok(())
-}
-
-// Whether the id and the item are this number.
-fn is_numbered(id: Idx<Kind>, item: u32, number: u32) -> bool {
-    id.into_raw() == number && item == number
-}
-
 // Whether the ids and the items come in turn from the front and from the back, and ten from each.
-fn meet(arena: &Arena<Kind, u32>) -> bool {
-    let mut items = arena.iter();
+fn meet(mut items: ArenaIter<'_, Kind, u32>) -> bool {
     let mut holds = items.len() == 20;
     let mut front = 0u32;
     let mut back = 20u32;
     while let Some((id, item)) = items.next() {
-        holds = holds && is_numbered(id, *item, front);
+        holds = holds && id.into_raw() == front && *item == front;
         front = front.wrapping_add(1);
         if let Some((id, item)) = items.next_back() {
             back = back.wrapping_sub(1);
-            holds = holds && is_numbered(id, *item, back);
+            holds = holds && id.into_raw() == back && *item == back;
         }
     }
     holds && front == 10 && back == 10 && items.size_hint() == (0, Some(0))
-}
-
-#[test]
-fn ids_and_items_come_from_both_ends(rt: HostRuntime) -> Result<(), Fail> {
-    let arena = twenty(&rt, rt.alloc())?;
-    let holds = meet(&arena);
-    drop(arena);
-    assert!(rt; holds);
-    Ok(())
 }
 
 // Whether the items from this one on are left.
@@ -136,7 +50,7 @@ fn are_left(items: ArenaIter<'_, Kind, u32>, first: u32) -> bool {
     let mut holds = true;
     let mut number = first;
     for (id, item) in items {
-        holds = holds && is_numbered(id, *item, number);
+        holds = holds && id.into_raw() == number && *item == number;
         number = number.wrapping_add(1);
     }
     holds && number == 20
@@ -150,58 +64,60 @@ fn copy_goes_on(mut items: ArenaIter<'_, Kind, u32>) -> Result<bool, AllocError>
 }
 
 #[test]
-fn an_iterator_is_copied_where_it_stands(rt: HostRuntime) -> Result<(), Fail> {
+fn items_are_numbered(rt: HostRuntime) -> Result<(), Fail> {
+    let none: Arena<Kind, u32> = Arena::new(rt.alloc());
+    let is_new = none.is_empty();
+    drop(none);
+    assert!(rt; is_new && MOST_ITEMS == 4294967295);
     let arena = twenty(&rt, rt.alloc())?;
+    let holds = has_twenty(&arena) && meet(arena.iter());
     let goes_on = copy_goes_on(arena.iter());
     drop(arena);
-    assert!(rt; goes_on?);
+    assert!(rt; holds && goes_on?);
+    assert!(rt; same::alike(twenty(&rt, rt.alloc()), twenty(&rt, rt.alloc()))?);
+    Ok(())
+}
+
+// Whether a copy is the same, until item 3, which was 3, becomes 300.
+fn leaves_its_copy(arena: &mut Arena<Kind, u32>) -> Result<bool, AllocError> {
+    let copy = arena.try_clone()?;
+    let was_same = copy.is_same(arena);
+    let third = Idx::from_raw(3);
+    if !arena.has(third) || arena[third] != 3 {
+        return Ok(false);
+    }
+    arena[third] = 300;
+    Ok(was_same && arena[third] == 300 && !copy.is_same(arena) && copy != *arena)
+}
+
+#[test]
+fn a_change_is_not_that_of_the_copy(rt: HostRuntime) -> Result<(), Fail> {
+    let mut arena = twenty(&rt, rt.alloc())?;
+    let answer = leaves_its_copy(&mut arena);
+    drop(arena);
+    assert!(rt; answer?);
     Ok(())
 }
 
 #[test]
-fn same_arenas_hash_alike(rt: HostRuntime) -> Result<(), Fail> {
-    let alike = hashes::alike(twenty(&rt, rt.alloc()), twenty(&rt, rt.alloc()))?;
-    assert!(rt; alike);
-    Ok(())
-}
-
-fn is_before(small: Idx<Kind>, large: Idx<Kind>) -> bool {
-    small.cmp(&large) == Ordering::Less
-        && large.partial_cmp(&small) == Some(Ordering::Greater)
-        && small != large
-}
-
-#[test]
-fn ids_are_ordered_as_their_numbers(rt: HostRuntime) {
+fn ids_are_ordered_as_their_numbers(rt: HostRuntime) -> Result<(), Fail> {
     laws::idx_order_is_that_of_numbers::<Kind>();
     laws::idx_order_agrees_with_eq_and_hash::<Kind>();
-    assert!(rt; is_before(Idx::from_raw(1), Idx::from_raw(4294967295)));
-}
-
-#[test]
-fn ids_are_their_numbers(rt: HostRuntime) -> Result<(), Fail> {
     let small: Idx<Kind> = Idx::from_raw(1);
     let large: Idx<Kind> = Idx::from_raw(4294967295);
     let first: Idx<Kind> = Default::default();
-    let copies = again::copies(&small)?;
-    assert!(rt; copies && large.into_raw() == 4294967295 && first.into_raw() == 0);
+    assert!(rt; small.cmp(&large) == Ordering::Less && small != large);
+    assert!(rt; large.partial_cmp(&small) == Some(Ordering::Greater));
+    assert!(rt; large.into_raw() == 4294967295 && first.into_raw() == 0);
+    assert!(rt; same::copies(&small)?);
     Ok(())
-}
-
-// Whether this is the text of the fault.
-fn is_named(alloc: Global, fault: ArenaFault, text: &str) -> Result<bool, AllocError> {
-    let shown = match format!(in alloc; "{fault}") {
-        Ok(shown) => shown,
-        Err(_) => format!(in alloc; "{fault}")?,
-    };
-    Ok(shown.as_str() == text)
 }
 
 #[test]
 fn faults_are_named(rt: HostRuntime) -> Result<(), Fail> {
     for (fault, text) in [(ArenaFault::Memory, "Memory"), (ArenaFault::Full, "Full")] {
-        let holds = is_named(rt.alloc(), fault, text)?;
-        assert!(rt; holds);
+        let shown = format!(in rt.alloc(); "{fault}")?;
+        assert!(rt; shown.as_str() == text);
     }
     Ok(())
 }

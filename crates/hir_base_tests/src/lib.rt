@@ -2,14 +2,14 @@
 #![tactic(auto)]
 
 #[cfg(test)]
-mod again;
-#[cfg(test)]
 mod arenas;
-#[cfg(test)]
-mod hashes;
 #[cfg(test)]
 mod lists;
 #[cfg(test)]
 mod maps;
+#[cfg(test)]
+mod same;
+#[cfg(test)]
+mod tables;
 #[cfg(test)]
 mod words;

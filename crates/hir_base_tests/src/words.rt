@@ -1,149 +1,119 @@
 //! Paths, hygiene, ids, pointers, precedence and calling conventions, once each on the happy path.
 //! The tables of `needs_parentheses_in` and of `HygieneId` stand here row by row.
-use crate::again;
+use crate::same;
 use either::Either;
 use hir_base::{
     AdtId, AstPtr, BlockId, ConstParamId, DefWithBodyId, Edition, EnumVariantId, ExactEq,
     ExprPrecedence, ExpressionStoreOwnerId, ExternAbi, FunctionId, GenericDefId, HygieneId, Idx,
     LabelPtr, ModPath, Name, PathKind, RawWords, Seq, StructId, SyntaxContext, SyntaxNodePtr,
-    SyntheticSyntax, Text, TextRange, TryClone, TypeOrConstParamId, TypeParamId, VariantId, ast,
-    laws,
+    SyntheticSyntax, Text, TextRange, TypeOrConstParamId, TypeParamId, VariantId, ast, laws,
 };
 use std::alloc::{AllocError, Global};
 use std::cmp::Ordering;
 use std::mem::drop;
 use std::test::Fail;
 
+// An expression, the one that it stands in, and whether it needs parentheses there.
+const PARENTHESES: [(ExprPrecedence, ExprPrecedence, bool); 9] = [
+    (ExprPrecedence::Sum, ExprPrecedence::Product, true),
+    (ExprPrecedence::Sum, ExprPrecedence::Sum, true),
+    (ExprPrecedence::Product, ExprPrecedence::Sum, false),
+    (ExprPrecedence::Assign, ExprPrecedence::Prefix, true),
+    (ExprPrecedence::Jump, ExprPrecedence::Prefix, false),
+    (ExprPrecedence::Prefix, ExprPrecedence::Postfix, true),
+    (ExprPrecedence::Postfix, ExprPrecedence::Unambiguous, false),
+    (ExprPrecedence::Jump, ExprPrecedence::Jump, true),
+    (
+        ExprPrecedence::Unambiguous,
+        ExprPrecedence::Unambiguous,
+        false,
+    ),
+];
+
 #[test]
 fn parentheses_go_by_precedence(rt: HostRuntime) {
-    for (child, parent, answer) in &[
-        (ExprPrecedence::Sum, ExprPrecedence::Product, true),
-        (ExprPrecedence::Sum, ExprPrecedence::Sum, true),
-        (ExprPrecedence::Product, ExprPrecedence::Sum, false),
-        (ExprPrecedence::Assign, ExprPrecedence::Prefix, true),
-        (ExprPrecedence::Jump, ExprPrecedence::Prefix, false),
-        (ExprPrecedence::Prefix, ExprPrecedence::Postfix, true),
-        (ExprPrecedence::Postfix, ExprPrecedence::Unambiguous, false),
-        (ExprPrecedence::Jump, ExprPrecedence::Jump, true),
-        (
-            ExprPrecedence::Unambiguous,
-            ExprPrecedence::Unambiguous,
-            false,
-        ),
-    ] {
-        assert!(rt;
-            child.needs_parentheses_in(*parent) == *answer,
-            "{child:?} in {parent:?}"
-        );
+    let mut row = 0u32;
+    for (child, parent, answer) in &PARENTHESES {
+        assert!(rt; child.needs_parentheses_in(*parent) == *answer, "row {row}");
+        row = row.wrapping_add(1);
     }
 }
 
-// Whether the hygiene is that of source text, of whatever edition.
-fn is_that_of_source(hygiene: HygieneId) -> bool {
-    hygiene == HygieneId::ROOT
-        && hygiene.is_root()
-        && hygiene.syntax_context() == SyntaxContext::Root(Edition::Edition2015)
-}
-
+// All source text has one hygiene, of whatever edition, and an expansion its own.
 #[test]
-fn all_source_text_has_one_hygiene(rt: HostRuntime) {
+fn hygiene_is_that_of_source_or_of_an_expansion(rt: HostRuntime) {
     let source = HygieneId::new(SyntaxContext::Root(Edition::Edition2021));
-    assert!(rt; is_that_of_source(source));
-}
-
-#[test]
-fn an_expansion_has_its_own_hygiene(rt: HostRuntime) {
+    assert!(rt; source == HygieneId::ROOT && source.is_root());
+    assert!(rt; source.syntax_context() == SyntaxContext::Root(Edition::Edition2015));
     let expansion = HygieneId::new(SyntaxContext::Expansion(7));
     assert!(rt; !expansion.is_root());
     assert!(rt; expansion.syntax_context() == SyntaxContext::Expansion(7));
 }
 
 // Whether the calling convention and its copy have this text.
-fn is_written(abi: ExternAbi, text: &str) -> Result<bool, AllocError> {
-    let written = abi.as_str() == text;
-    let copies = again::copies(&abi);
-    drop(abi);
-    Ok(copies? && written)
+fn is_written(abi: &ExternAbi, text: &str) -> Result<bool, AllocError> {
+    Ok(abi.as_str() == text && same::copies(abi)?)
 }
 
-// Whether the calling conventions that have texts of their own are written by them.
-fn are_written() -> Result<bool, AllocError> {
-    let plain = is_written(ExternAbi::Rust, "Rust")?
-        && is_written(ExternAbi::C, "C")?
-        && is_written(ExternAbi::System, "system")?;
-    let unwinding = is_written(ExternAbi::CUnwind, "C-unwind")?
-        && is_written(ExternAbi::SystemUnwind, "system-unwind")?;
-    Ok(plain && unwinding)
-}
+// The calling conventions that have texts of their own.
+const WRITTEN: [(ExternAbi, &str); 5] = [
+    (ExternAbi::Rust, "Rust"),
+    (ExternAbi::C, "C"),
+    (ExternAbi::System, "system"),
+    (ExternAbi::CUnwind, "C-unwind"),
+    (ExternAbi::SystemUnwind, "system-unwind"),
+];
 
 #[test]
-fn calling_conventions_have_texts(rt: HostRuntime) -> Result<(), Fail> {
-    assert!(rt; are_written()?);
+fn calling_conventions_have_texts_or_their_names(rt: HostRuntime) -> Result<(), Fail> {
+    for (abi, text) in &WRITTEN {
+        assert!(rt; is_written(abi, text)?, "{text}");
+    }
+    let named = ExternAbi::Named(Text::from_str(rt.alloc(), "efiapi")?);
+    let answer = is_written(&named, "efiapi");
+    drop(named);
+    assert!(rt; answer?);
     Ok(())
-}
-
-// Whether a calling convention of this name is written by it.
-fn is_written_by_its_name(alloc: Global, name: &str) -> Result<bool, AllocError> {
-    is_written(ExternAbi::Named(again::text(alloc, name)?), name)
-}
-
-#[test]
-fn other_calling_conventions_have_their_names(rt: HostRuntime) -> Result<(), Fail> {
-    assert!(rt; is_written_by_its_name(rt.alloc(), "efiapi")?);
-    Ok(())
-}
-
-fn add_name(list: &mut Seq<Name>, alloc: Global, text: &str) -> Result<(), AllocError> {
-    let name = again::name(alloc, text)?;
-    again::push(list, name)
 }
 
 fn path(alloc: Global, kind: PathKind, names: &[&str]) -> Result<ModPath, AllocError> {
     let mut segments = Seq::new(alloc);
     for name in names {
-        add_name(&mut segments, alloc, name)?;
+        segments.push(Name::new(alloc, name)?)?;
     }
     Ok(ModPath::from_segments(kind, segments))
 }
 
-// Whether the path is an ident or not, and `Self` or not.
-fn is_known(made: &ModPath, ident: bool, is_self: bool) -> bool {
-    made.is_ident() == ident && made.as_ident().is_some() == ident && made.is_Self() == is_self
-}
-
-// Whether the path is known so, and a copy is the same.
-fn and_copies(made: ModPath, ident: bool, is_self: bool) -> Result<bool, AllocError> {
-    let known = is_known(&made, ident, is_self);
-    let copies = again::copies(&made);
+// Whether the path is of this kind and has so many names, and is an ident or not, and `Self` or not. The path is taken.
+fn is_known(made: ModPath, kind: PathKind, count: usize, ident: bool, is_self: bool) -> bool {
+    let known = made.kind() == kind
+        && made.segments().len() == count
+        && made.is_ident() == ident
+        && made.as_ident().is_some() == ident
+        && made.is_Self() == is_self;
     drop(made);
-    Ok(copies? && known)
+    known
 }
 
 // Names behind a kind, and whether their path is an ident, and whether it is `Self`.
-const KNOWN: [(PathKind, &[&str], bool, bool); 5] = [
+const KNOWN: [(PathKind, &[&str], bool, bool); 6] = [
     (PathKind::Plain, &["x"], true, false),
     (PathKind::Plain, &["Self"], true, true),
     (PathKind::Crate, &["Self"], false, false),
     (PathKind::Plain, &["Self", "Self"], false, false),
     (PathKind::SELF, &[], false, false),
+    (PathKind::Abs, &["a", "b"], false, false),
 ];
 
 #[test]
 fn one_plain_name_is_an_ident(rt: HostRuntime) -> Result<(), Fail> {
+    assert!(rt; PathKind::SELF == PathKind::Super(0));
     for (kind, names, ident, is_self) in &KNOWN {
         let made = path(rt.alloc(), *kind, names)?;
-        assert!(rt; and_copies(made, *ident, *is_self)?, "{names:?}");
+        let copies = same::copies(&made);
+        let known = is_known(made, *kind, names.len(), *ident, *is_self);
+        assert!(rt; copies? && known, "{names:?}");
     }
-    Ok(())
-}
-
-#[test]
-fn a_path_has_its_kind_and_names(rt: HostRuntime) -> Result<(), Fail> {
-    assert!(rt; PathKind::SELF == PathKind::Super(0));
-    let made = path(rt.alloc(), PathKind::Abs, &["a", "b"])?;
-    let holds = made.kind() == PathKind::Abs && made.segments().len() == 2;
-    drop(made);
-    assert!(rt; holds);
     Ok(())
 }
 
@@ -170,43 +140,29 @@ fn ids_name_their_owners(rt: HostRuntime) {
     );
 }
 
-fn param() -> TypeOrConstParamId {
-    TypeOrConstParamId {
-        parent: parent(),
-        local_id: Idx::from_raw(6),
-    }
-}
-
-// Whether the parameter's id keeps its parts as the id of a type's parameter.
-fn keeps_as_type(param: TypeOrConstParamId) -> bool {
-    let id = TypeParamId::from_unchecked(param);
-    id.parent() == param.parent && id.local_id() == param.local_id
-}
-
-fn keeps_as_const(param: TypeOrConstParamId) -> bool {
-    let id = ConstParamId::from_unchecked(param);
-    id.parent() == param.parent && id.local_id() == param.local_id
-}
-
+// The id of a parameter keeps its parts as that of a type's and of a constant's parameter.
 #[test]
 fn ids_of_parameters_keep_their_parts(rt: HostRuntime) {
-    assert!(rt; keeps_as_type(param()));
-    assert!(rt; keeps_as_const(param()));
-}
-
-fn is_before(first: BlockId, second: BlockId) -> bool {
-    first.cmp(&second) == Ordering::Less
-        && second.partial_cmp(&first) == Some(Ordering::Greater)
-        && second.into_raw() == 2
+    let local_id = Idx::from_raw(6);
+    let param = TypeOrConstParamId {
+        parent: parent(),
+        local_id,
+    };
+    let of_type = TypeParamId::from_unchecked(param);
+    assert!(rt; of_type.parent() == parent() && of_type.local_id() == local_id);
+    let of_const = ConstParamId::from_unchecked(param);
+    assert!(rt; of_const.parent() == parent() && of_const.local_id() == local_id);
 }
 
 #[test]
 fn blocks_are_ordered_as_their_numbers(rt: HostRuntime) -> Result<(), Fail> {
     laws::block_order_is_that_of_numbers();
     laws::block_order_agrees_with_eq_and_hash();
-    assert!(rt; is_before(BlockId::from_raw(1), BlockId::from_raw(2)));
-    let holds = again::copies(&BlockId::from_raw(2))?;
-    assert!(rt; holds);
+    let first = BlockId::from_raw(1);
+    let second = BlockId::from_raw(2);
+    assert!(rt; first.cmp(&second) == Ordering::Less && second.into_raw() == 2);
+    assert!(rt; second.partial_cmp(&first) == Some(Ordering::Greater));
+    assert!(rt; same::copies(&second)?);
     Ok(())
 }
 
@@ -225,24 +181,12 @@ fn pointers_keep_their_node(rt: HostRuntime) {
     assert!(rt; SyntheticSyntax.is_same(&SyntheticSyntax));
 }
 
-#[test]
-fn new_editions_have_no_words(rt: HostRuntime) {
-    let words = RawWords::new(rt.alloc());
-    for edition in &[
-        Edition::Edition2015,
-        Edition::Edition2018,
-        Edition::Edition2024,
-    ] {
-        assert!(rt; words.words(*edition).is_empty(), "{edition:?}");
-    }
-}
-
-// The list of the word `match`.
-fn given(alloc: Global) -> Result<Seq<Text>, AllocError> {
-    let mut list = Seq::new(alloc);
-    let text = again::text(alloc, "match")?;
-    again::push(&mut list, text)?;
-    Ok(list)
+// Whether no edition has words.
+fn are_new(words: &RawWords) -> bool {
+    words.words(Edition::Edition2015).is_empty()
+        && words.words(Edition::Edition2018).is_empty()
+        && words.words(Edition::Edition2021).is_empty()
+        && words.words(Edition::Edition2024).is_empty()
 }
 
 // Whether the edition 2021 has the word `match` alone, and the one before it has none.
@@ -253,9 +197,13 @@ fn has_match(words: &RawWords) -> bool {
 
 #[test]
 fn each_edition_has_its_words(rt: HostRuntime) -> Result<(), Fail> {
-    let given = given(rt.alloc())?;
+    let mut given = Seq::new(rt.alloc());
+    given.push(Text::from_str(rt.alloc(), "match")?)?;
     let mut words = RawWords::new(rt.alloc());
+    let are_new = are_new(&words);
     words.set_words(Edition::Edition2021, given);
-    assert!(rt; has_match(&words));
+    let has_match = has_match(&words);
+    drop(words);
+    assert!(rt; are_new && has_match);
     Ok(())
 }

@@ -1,291 +1,242 @@
-//! Bodies: which parts are refused, with which fault, and what an accepted body answers.
-use crate::again;
+//! Bodies: which parts are refused, with which fault, what comes back, and what an accepted body answers.
+use crate::memory::{in_a_box, push};
 use crate::trees::{self, Step};
 use hir_base::{AstPtr, HirFileId, Idx, InFile, SelfParamPtr, Seq, SyntaxNodePtr, TextRange};
 use hir_defs::{Body, BodyFault, BodySourceMap, Param, RefusedBody, body_laws};
 use hir_node::{BindingId, PatId};
-use hir_store::ExpressionStore;
 use std::alloc::{AllocError, Global};
 use std::test::Fail;
 
-/// The path `a` as the root.
-pub const PATH: &[Step] = &[Step::Path, Step::Root(0)];
+/// The numbers of a parameter and of what the user wrote of it.
+type Numbers = (u32, u32);
 
-/// A pattern `_`, and the path `a` as the root.
-const WILD: &[Step] = &[Step::Wild, Step::Path, Step::Root(0)];
+/// The literal `1` as the root.
+pub const ONE: &[Step] = &[Step::One, Step::Root(0)];
 
-/// A pattern `_` and the path `a`, which is no root.
-const NO_ROOT: &[Step] = &[Step::Wild, Step::Path, Step::NoRoot];
+/// A pattern `_`, and `1` as the root.
+const WILD: &[Step] = &[Step::Wild, Step::One, Step::Root(0)];
 
-/// `let x = a` as the root.
+/// A pattern `_`, and `1`, which is no root.
+const NO_ROOT: &[Step] = &[Step::Wild, Step::One, Step::NoRoot];
+
+/// `let x = 1` as the root.
 const LET: &[Step] = &[
     Step::Binding("x"),
-    Step::Bind(0),
-    Step::Path,
+    Step::Bind(0, None),
+    Step::One,
     Step::Let(0, 0),
     Step::Root(1),
 ];
 
-/// The pattern `a..`, and its `a` as the root.
-const RANGE: &[Step] = &[Step::Path, Step::RangeFrom(0), Step::Root(0)];
+/// The pattern `1..`, and its `1` as the root.
+const RANGE: &[Step] = &[Step::One, Step::RangeFrom(0), Step::Root(0)];
 
-/// `x @ _`, where the inner pattern is 0 and the outer one 1, and the path `a` as the root.
+/// `x @ _`, where the inner pattern is 0 and the outer one 1, and `1` as the root.
 const NESTED: &[Step] = &[
     Step::Binding("x"),
     Step::Wild,
-    Step::At(0, 0),
-    Step::Path,
+    Step::Bind(0, Some(0)),
+    Step::One,
     Step::Root(0),
 ];
 
-/// `let _ = a`, which is a root, and the path `a` as the last root.
+/// `let _ = 1`, which is a root, and `1` as the last root.
 const TWO_ROOTS: &[Step] = &[
     Step::Wild,
-    Step::Path,
+    Step::One,
     Step::Let(0, 0),
     Step::Root(1),
-    Step::Path,
+    Step::One,
     Step::Root(2),
 ];
 
-/// The bindings `self`, `copy` and `x`, a pattern `_`, and the path `a` as the root.
+/// The bindings `self`, `copy` and `x`, a pattern `_`, and `1` as the root.
 const METHOD: &[Step] = &[
     Step::Binding("self"),
     Step::Binding("copy"),
     Step::Binding("x"),
     Step::Wild,
-    Step::Path,
+    Step::One,
     Step::Root(0),
 ];
 
-/// The parameter of this number, of which the user wrote this one.
-fn param<K>(formal: u32, user_written: u32) -> Param<Idx<K>> {
+/// A tree, the parameters, `self` and the root of the body or why it is refused.
+type Case = (
+    &'static [Step],
+    &'static [Numbers],
+    Option<Numbers>,
+    Result<u32, BodyFault>,
+);
+
+/// Formals that lie under a formal or the last root, and such that don't; then what is absent, and what is accepted.
+const CASES: &[Case] = &[
+    (LET, &[(0, 0)], None, Err(BodyFault::ParamUnder(0))),
+    (RANGE, &[(0, 0)], None, Err(BodyFault::RootInParam)),
+    (
+        WILD,
+        &[(0, 0), (0, 0)],
+        None,
+        Err(BodyFault::ParamRepeated(1)),
+    ),
+    (
+        NESTED,
+        &[(0, 0), (1, 1)],
+        None,
+        Err(BodyFault::ParamUnder(0)),
+    ),
+    (
+        NESTED,
+        &[(1, 1), (0, 0)],
+        None,
+        Err(BodyFault::ParamUnder(1)),
+    ),
+    (NESTED, &[(1, 1)], None, Ok(0)),
+    // the formal is under the earlier root
+    (TWO_ROOTS, &[(0, 0)], None, Ok(2)),
+    // what the user wrote has to be there
+    (WILD, &[(0, 1)], None, Err(BodyFault::ParamOutOfRange(0))),
+    // the first fault by index
+    (
+        WILD,
+        &[(0, 0), (9, 9)],
+        None,
+        Err(BodyFault::ParamOutOfRange(1)),
+    ),
+    // the first fault by kind
+    (
+        WILD,
+        &[(0, 0), (0, 0), (9, 9)],
+        None,
+        Err(BodyFault::ParamOutOfRange(2)),
+    ),
+    (NO_ROOT, &[(9, 9)], Some((5, 5)), Err(BodyFault::NoRoot)),
+    (
+        WILD,
+        &[(9, 9)],
+        Some((5, 5)),
+        Err(BodyFault::SelfOutOfRange),
+    ),
+    // what the user wrote of `self` has to be there
+    (
+        METHOD,
+        &[(0, 0)],
+        Some((0, 3)),
+        Err(BodyFault::SelfOutOfRange),
+    ),
+    (METHOD, &[(0, 0)], Some((0, 1)), Ok(0)),
+    (ONE, &[], None, Ok(0)),
+];
+
+/// The parameter of these numbers.
+fn param<K>(numbers: Numbers) -> Param<Idx<K>> {
     Param {
-        formal: Idx::from_raw(formal),
-        user_written: Idx::from_raw(user_written),
+        formal: Idx::from_raw(numbers.0),
+        user_written: Idx::from_raw(numbers.1),
     }
 }
 
 /// The list of the parameters of these numbers.
-fn listed(alloc: Global, numbers: &[(u32, u32)]) -> Result<Seq<Param<PatId>>, AllocError> {
+fn listed(alloc: Global, numbers: &[Numbers]) -> Result<Seq<Param<PatId>>, AllocError> {
     let mut list = Seq::new(alloc);
-    for (formal, user_written) in numbers {
-        again::push(&mut list, param(*formal, *user_written))?;
+    for numbers in numbers {
+        push(&mut list, param(*numbers))?;
     }
     Ok(list)
 }
 
-/// The body of these parts, asked for again where memory was refused.
-pub fn body(
-    alloc: Global,
-    store: ExpressionStore,
-    params: Seq<Param<PatId>>,
-    self_param: Option<Param<BindingId>>,
-) -> Result<Body, RefusedBody> {
-    match Body::new(alloc, store, params, self_param) {
-        Ok(body) => Ok(body),
-        Err(refused) => {
-            if refused.fault != BodyFault::Memory {
-                return Err(refused);
-            }
-            Body::new(alloc, refused.store, refused.params, refused.self_param)
-        }
-    }
-}
-
-/// The body with these parameters in the store of the tree, or its refusal.
-fn asked(
-    alloc: Global,
-    tree: &[Step],
-    params: &[(u32, u32)],
-    self_param: Option<Param<BindingId>>,
-) -> Result<Box<Result<Body, RefusedBody>>, Fail> {
-    let made = trees::made(alloc, tree)?;
+/// The body of these parameters in the store of the tree, or its refusal. In a box, so that what is dropped is a pointer.
+fn body(alloc: Global, case: &Case) -> Result<Box<Result<Body, RefusedBody>>, Fail> {
+    let (tree, params, self_param, _) = case;
     let params = listed(alloc, params)?;
-    let (store, map) = Box::into_inner(made);
+    let (store, map) = Box::into_inner(trees::made(alloc, 0, tree)?);
     std::mem::drop(map);
-    Ok(again::in_a_box(alloc, body(alloc, store, params, self_param))?)
+    let outcome = Body::new(alloc, store, params, self_param.map(param));
+    Ok(in_a_box(alloc, outcome)?)
 }
 
-/// The root of the body with these parameters in the store of the tree, or why it is refused.
-fn answer(
-    alloc: Global,
-    tree: &[Step],
-    params: &[(u32, u32)],
-    self_param: Option<Param<BindingId>>,
-) -> Result<Result<u32, BodyFault>, Fail> {
-    let outcome = asked(alloc, tree, params, self_param)?;
-    match &*outcome {
-        Ok(body) => Ok(Ok(body.root_expr().into_raw())),
-        Err(refused) => Ok(Err(refused.fault)),
+/// Whether these are the parameters of those numbers.
+fn are(params: &[Param<PatId>], numbers: &[Numbers]) -> bool {
+    for (found, numbers) in params.iter().zip(numbers) {
+        if *found != param(*numbers) {
+            return false;
+        }
     }
+    params.len() == numbers.len()
 }
 
-/// Whether the body is refused because of parameter 0, and its parts come back as they were: one parameter, no `self`, and a store
-/// with an expression.
-fn hands_back(outcome: &Result<Body, RefusedBody>) -> bool {
-    match outcome {
-        Ok(_) => false,
+/// Whether the body has the root that is wanted, or is refused as is wanted, and its parts are there, or come back, as they were given.
+fn answers(outcome: &Result<Body, RefusedBody>, case: &Case) -> bool {
+    let (_, given_params, given_self, wanted) = case;
+    let (root, params, self_param, store) = match outcome {
+        Ok(body) => {
+            let root = body.root_expr().into_raw();
+            (Ok(root), body.params(), body.self_param(), body.store())
+        }
         Err(refused) => {
-            refused.fault == BodyFault::ParamOutOfRange(0)
-                && refused.params.len() == 1
-                && refused.self_param == None
-                && refused.store.has_expr(Idx::from_raw(0))
+            let params = refused.params.as_slice();
+            (
+                Err(refused.fault),
+                params,
+                refused.self_param,
+                &refused.store,
+            )
         }
-    }
-}
-
-/// Whether the body is accepted, and answers what was given.
-fn is_the_method(outcome: &Result<Body, RefusedBody>) -> bool {
-    match outcome {
-        Ok(body) => {
-            body.root_expr() == Idx::from_raw(0)
-                && body.store().has_pat(Idx::from_raw(0))
-                && body.params().len() == 1
-                && body.params()[0] == param(0, 0)
-                && body.self_param() == Some(param(0, 1))
-                && body.is_any_self_param(Idx::from_raw(0))
-                && body.is_any_self_param(Idx::from_raw(1))
-                && !body.is_any_self_param(Idx::from_raw(2))
-        }
-        Err(_) => false,
-    }
-}
-
-/// Whether the text of the fault is this.
-fn reads(alloc: Global, fault: BodyFault, wanted: &str) -> Result<bool, AllocError> {
-    let text = match format!(in alloc; "{fault}") {
-        Ok(text) => text,
-        Err(_) => format!(in alloc; "{fault}")?,
     };
-    Ok(text.as_str() == wanted)
-}
-
-/// Where the `self` of the tests is written.
-pub fn written() -> InFile<SelfParamPtr> {
-    let node = SyntaxNodePtr {
-        kind: 7,
-        range: TextRange { start: 1, end: 5 },
-    };
-    InFile {
-        file_id: HirFileId::from_raw(2),
-        value: AstPtr::new(node),
-    }
-}
-
-/// The source map of a body without nodes, whose `self` is written there.
-fn map_of_nothing(alloc: Global) -> Result<Box<BodySourceMap>, Fail> {
-    let (store, map) = Box::into_inner(trees::made(alloc, &[])?);
-    std::mem::drop(store);
-    Ok(again::in_a_box(alloc, BodySourceMap::new(map, Some(written())))?)
-}
-
-/// Whether the body is accepted, has no parameters and equals itself. That it has no fault is a fact of every body.
-fn is_plain(outcome: &Result<Body, RefusedBody>) -> bool {
-    match outcome {
-        Ok(body) => {
-            body.has_no_fault();
-            body.params().is_empty() && *body == *body
-        }
-        Err(_) => false,
-    }
-}
-
-/// A tree, the numbers of the parameters and of what the user wrote of them, and the root of the body or why it is refused.
-type Case = (
-    &'static [Step],
-    &'static [(u32, u32)],
-    Result<u32, BodyFault>,
-);
-
-/// Formals that lie under a formal or the last root, and such that don't.
-const APART: &[Case] = &[
-    (LET, &[(0, 0)], Err(BodyFault::ParamUnder(0))),
-    (RANGE, &[(0, 0)], Err(BodyFault::RootInParam)),
-    (WILD, &[(0, 0), (0, 0)], Err(BodyFault::ParamRepeated(1))),
-    (NESTED, &[(0, 0), (1, 1)], Err(BodyFault::ParamUnder(0))),
-    (NESTED, &[(1, 1), (0, 0)], Err(BodyFault::ParamUnder(1))),
-    (NESTED, &[(1, 1)], Ok(0)),
-    // the formal is under the earlier root
-    (TWO_ROOTS, &[(0, 0)], Ok(2)),
-    // the first fault by index
-    (WILD, &[(0, 0), (9, 9)], Err(BodyFault::ParamOutOfRange(1))),
-    (
-        WILD,
-        &[(0, 0), (0, 0), (9, 9)],
-        Err(BodyFault::ParamOutOfRange(2)),
-    ),
-];
-
-/// The first fault by kind, where there is no binding 5, and no pattern 9.
-const ABSENT: &[Case] = &[
-    (NO_ROOT, &[(9, 9)], Err(BodyFault::NoRoot)),
-    (WILD, &[(9, 9)], Err(BodyFault::SelfOutOfRange)),
-];
-
-#[test]
-fn formals_and_the_last_root_lie_apart(rt: HostRuntime) -> Result<(), Fail> {
-    for (tree, params, wanted) in APART {
-        assert!(&rt; answer(rt.alloc(), tree, params, None)? == *wanted);
-    }
-    for (tree, params, wanted) in ABSENT {
-        assert!(&rt; answer(rt.alloc(), tree, params, Some(param(5, 5)))? == *wanted);
-    }
-    Ok(())
+    root == *wanted
+        && are(params, given_params)
+        && self_param == given_self.map(param)
+        && store.has_expr(Idx::from_raw(0))
 }
 
 #[test]
-fn parts_that_come_back_and_accepted_bodies(rt: HostRuntime) -> Result<(), Fail> {
-    let a = rt.alloc();
-    // what the user wrote has to be there
-    let outcome = asked(a, WILD, &[(0, 1)], None)?;
-    let parts_come_back = hands_back(&outcome);
-    std::mem::drop(outcome);
-    assert!(&rt; parts_come_back);
-    let outcome = asked(a, METHOD, &[(0, 0)], Some(param(0, 1)))?;
-    let method_is_accepted = is_the_method(&outcome);
-    std::mem::drop(outcome);
-    assert!(&rt; method_is_accepted);
-    let outcome = asked(a, PATH, &[], None)?;
-    let path_is_accepted = is_plain(&outcome);
-    std::mem::drop(outcome);
-    assert!(&rt; path_is_accepted);
-    Ok(())
-}
-
-#[test]
-fn texts_of_faults(rt: HostRuntime) -> Result<(), Fail> {
-    let a = rt.alloc();
-    for (fault, wanted) in &[
-        (BodyFault::NoRoot, "NoRoot"),
-        (BodyFault::SelfOutOfRange, "SelfOutOfRange"),
-        (BodyFault::ParamOutOfRange(3), "ParamOutOfRange 3"),
-        (BodyFault::ParamRepeated(1), "ParamRepeated 1"),
-        (BodyFault::ParamUnder(0), "ParamUnder 0"),
-        (BodyFault::RootInParam, "RootInParam"),
-        (BodyFault::Memory, "Memory"),
-    ] {
-        assert!(&rt; reads(a, *fault, wanted)?);
-    }
-    Ok(())
-}
-
-#[test]
-fn where_self_is_written(rt: HostRuntime) -> Result<(), Fail> {
-    let map = map_of_nothing(rt.alloc())?;
-    let knows_self = map.self_param_syntax() == Some(written());
-    // the map and its part of the store equal themselves
-    let store_equals_itself = map.store() == map.store();
-    let map_equals_itself = *map == *map;
-    std::mem::drop(map);
-    assert!(&rt; knows_self);
-    assert!(&rt; store_equals_itself && map_equals_itself);
-    Ok(())
-}
-
-#[test]
-fn laws_of_bodies() {
+fn roots_faults_and_parts(rt: HostRuntime) -> Result<(), Fail> {
     body_laws::first_body_fault_is_one();
     body_laws::tops_are_there();
     body_laws::tops_lie_apart();
+    for (i, case) in CASES.iter().enumerate() {
+        let outcome = body(rt.alloc(), case)?;
+        let is_answered = answers(&outcome, case);
+        std::mem::drop(outcome);
+        assert!(&rt; is_answered, "case {i}");
+    }
+    Ok(())
+}
+
+/// Accepted bodies, and whether bindings 0, 1 and 2 are that of `self`.
+const OF_SELF: &[(Case, [bool; 3])] = &[
+    (
+        (METHOD, &[(0, 0)], Some((0, 1)), Ok(0)),
+        [true, true, false],
+    ),
+    ((METHOD, &[], None, Ok(0)), [false, false, false]),
+];
+
+/// Whether bindings 0, 1 and 2 are that of `self`, where the body is accepted, and equals itself. That it has no fault is a fact of
+/// every body.
+fn of_self(outcome: &Result<Body, RefusedBody>) -> Option<[bool; 3]> {
+    match outcome {
+        Ok(body) => {
+            body.has_no_fault();
+            if *body != *body {
+                return None;
+            }
+            Some([
+                body.is_any_self_param(Idx::from_raw(0)),
+                body.is_any_self_param(Idx::from_raw(1)),
+                body.is_any_self_param(Idx::from_raw(2)),
+            ])
+        }
+        Err(_) => None,
+    }
+}
+
+#[test]
+fn bindings_of_self(rt: HostRuntime) -> Result<(), Fail> {
+    for (case, wanted) in OF_SELF {
+        let outcome = body(rt.alloc(), case)?;
+        let found = of_self(&outcome);
+        std::mem::drop(outcome);
+        assert!(&rt; found == Some(*wanted));
+    }
+    Ok(())
 }

@@ -2,15 +2,13 @@
 #![tactic(auto)]
 
 #[cfg(test)]
-mod again;
-#[cfg(test)]
 mod bodies;
-#[cfg(test)]
-mod lookups;
 #[cfg(test)]
 mod made;
 #[cfg(test)]
-mod params;
+mod memory;
+#[cfg(test)]
+mod signatures;
 #[cfg(test)]
 mod tables;
 #[cfg(test)]

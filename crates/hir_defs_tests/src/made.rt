@@ -1,41 +1,68 @@
-//! Signatures, fields and bodies for the tests, and tables, empty and with an entry of each kind.
-//! Tables stand in a box, so that what a test drops is a pointer, and its proof is short.
-use crate::trees::{self, Step};
-use crate::{again, bodies, params};
+//! The parts of signatures for the tests, and tables with an entry of each kind.
+//! Parts and tables stand in boxes, so that what a test drops is a pointer, and its proof is short.
+use crate::memory::{added, in_a_box, push, taken, with};
+use crate::{bodies, trees};
 use hir_base::{
-    ConstId, CrateId, DefWithBodyId, Edition, EnumId, EnumVariantId, ExternAbi, FunctionId, Idx,
-    ImplId, Seq, StaticId, StructId, Text, TraitId, TypeAliasId, UnionId, VariantId,
+    Arena, AstPtr, ConstId, CrateId, DefWithBodyId, Edition, EnumId, EnumVariantId, ExternAbi,
+    FunctionId, HirFileId, Idx, ImplId, InFile, Name, NamedDef, SelfParamPtr, Seq, StaticId,
+    StructId, SyntaxNodePtr, Text, TextRange, TraitId, TypeAliasId, UnionId, VariantId,
 };
 use hir_defs::{
-    BodySourceMap, FieldData, FieldsShape, FunctionParts, FunctionSignature, GenericParams,
-    PlainDef, PlainParts, PlainSignature, RawVisibility, RefusedSignature, Repr, StructParts,
-    StructSignature, Tables, VariantFields, VariantParts,
+    Body, BodySourceMap, FieldData, FieldsShape, FunctionParts, FunctionSignature, GenericParams,
+    PlainDef, PlainParts, PlainSignature, RawVisibility, Repr, StructParts, StructSignature,
+    Tables, TypeOrConstParamData, TypeParamData, TypeParamProvenance, VariantFields, VariantParts,
+    WherePredicate,
 };
-use hir_node::TypeRefId;
+use hir_node::{PathId, TraitBoundModifier, TypeBound, TypeRefId};
 use hir_store::ExpressionStoreSourceMap;
 use std::alloc::{AllocError, Global};
 use std::test::Fail;
 
-/// What comes of the parts of a signature, and the source map of their store.
-pub type Outcome<S, P> = Box<(Result<S, RefusedSignature<P>>, ExpressionStoreSourceMap)>;
+/// Parts, and the source map of their store.
+pub type Made<P> = Box<(P, ExpressionStoreSourceMap)>;
+
+/// The type parameter `T`.
+fn type_t(alloc: Global) -> Result<TypeParamData, AllocError> {
+    let name = Name::new(alloc, "T")?;
+    Ok(TypeParamData {
+        name: Some(name),
+        default: None,
+        provenance: TypeParamProvenance::TypeParamList,
+    })
+}
+
+/// One type parameter `T`; and where it is bounded, the predicate that type 0 meets the bound of the path that it is.
+fn generics(alloc: Global, is_bounded: bool) -> Result<Box<GenericParams>, Fail> {
+    let mut types = in_a_box(alloc, Arena::new(alloc))?;
+    added(types.alloc(TypeOrConstParamData::from(type_t(alloc)?)))?;
+    let mut predicates = in_a_box(alloc, Seq::new(alloc))?;
+    if is_bounded {
+        let path = PathId::from_type_ref_unchecked(Idx::from_raw(0));
+        let predicate = WherePredicate::TypeBound {
+            lifetimes: None,
+            target: Idx::from_raw(0),
+            bound: TypeBound::Path(path, TraitBoundModifier::None),
+        };
+        push(&mut predicates, predicate)?;
+    }
+    let (types, predicates) = (Box::into_inner(types), Box::into_inner(predicates));
+    let params = GenericParams::new(types, Arena::new(alloc), predicates);
+    Ok(in_a_box(alloc, params)?)
+}
 
 /// The list of type 0.
 fn type_0(alloc: Global) -> Result<Seq<TypeRefId>, AllocError> {
     let mut list = Seq::new(alloc);
-    again::push(&mut list, Idx::from_raw(0))?;
+    push(&mut list, Idx::from_raw(0))?;
     Ok(list)
 }
 
-/// The signature of `const unsafe extern "C" fn f<T>(..)` with one parameter of type 0, over this many types.
-pub fn function(
-    alloc: Global,
-    count: u32,
-) -> Result<Outcome<FunctionSignature, FunctionParts>, Fail> {
-    let generic_params = params::one(alloc)?;
-    let made = trees::made(alloc, &[Step::Types(count)])?;
-    let name = again::in_a_box(alloc, again::name(alloc, "f")?)?;
+/// What `const unsafe extern "C" fn f<T>(..)` is made of, with one parameter of type 0, over this many types.
+pub fn function(alloc: Global, types: u32) -> Result<Made<FunctionParts>, Fail> {
+    let generic_params = generics(alloc, false)?;
+    let name = in_a_box(alloc, Name::new(alloc, "f")?)?;
     let params = type_0(alloc)?;
-    let (store, map) = Box::into_inner(made);
+    let (store, map) = Box::into_inner(trees::made(alloc, types, &[])?);
     let parts = FunctionParts {
         name: Box::into_inner(name),
         generic_params: Box::into_inner(generic_params),
@@ -49,22 +76,14 @@ pub fn function(
         is_explicit_safe: false,
         legacy_const_indices: None,
     };
-    Ok(again::in_a_box(alloc, (FunctionSignature::new(parts), map))?)
+    Ok(in_a_box(alloc, (parts, map))?)
 }
 
-/// Gives function 1 that signature, over one type.
-fn add_function(tables: &mut Tables, alloc: Global) -> Result<(), Fail> {
-    let (outcome, map) = Box::into_inner(function(alloc, 1)?);
-    let (signature, map) = again::with(outcome, map)?;
-    again::taken(tables.add_function(FunctionId::from_raw(1), signature, map))
-}
-
-/// Gives struct 2 the signature of the fundamental `S<T>(..)`, over two types.
-fn add_struct(tables: &mut Tables, alloc: Global) -> Result<(), Fail> {
-    let generic_params = params::one(alloc)?;
-    let made = trees::made(alloc, &[Step::Types(2)])?;
-    let name = again::name(alloc, "S")?;
-    let (store, map) = Box::into_inner(made);
+/// What the fundamental `S<T>(..)` is made of, over this many types.
+pub fn structure(alloc: Global, types: u32) -> Result<Made<StructParts>, Fail> {
+    let generic_params = generics(alloc, false)?;
+    let name = Name::new(alloc, "S")?;
+    let (store, map) = Box::into_inner(trees::made(alloc, types, &[])?);
     let parts = StructParts {
         name,
         generic_params: Box::into_inner(generic_params),
@@ -72,35 +91,23 @@ fn add_struct(tables: &mut Tables, alloc: Global) -> Result<(), Fail> {
         is_fundamental: true,
         shape: FieldsShape::Tuple,
     };
-    let (signature, map) = again::with(StructSignature::new(parts), map)?;
-    again::taken(tables.add_struct(StructId::from_raw(2), signature, map))
+    Ok(in_a_box(alloc, (parts, map))?)
 }
 
-/// The signature of these parameters alone, over this many types.
-pub fn plain(
-    alloc: Global,
-    generic_params: Box<GenericParams>,
-    count: u32,
-) -> Result<Outcome<PlainSignature, PlainParts>, Fail> {
-    let made = trees::made(alloc, &[Step::Types(count)])?;
-    let (store, map) = Box::into_inner(made);
+/// What a definition with one type parameter is made of, which is bounded or isn't, over this many types.
+pub fn plain(alloc: Global, types: u32, is_bounded: bool) -> Result<Made<PlainParts>, Fail> {
+    let generic_params = generics(alloc, is_bounded)?;
+    let (store, map) = Box::into_inner(trees::made(alloc, types, &[])?);
     let parts = PlainParts {
         generic_params: Box::into_inner(generic_params),
         store,
     };
-    Ok(again::in_a_box(alloc, (PlainSignature::new(parts), map))?)
-}
-
-/// Gives the definition the signature of one type parameter, over this many types.
-fn add_plain(tables: &mut Tables, alloc: Global, def: PlainDef, count: u32) -> Result<(), Fail> {
-    let (outcome, map) = Box::into_inner(plain(alloc, params::one(alloc)?, count)?);
-    let (signature, map) = again::with(outcome, map)?;
-    again::taken(tables.add_plain(def, signature, map))
+    Ok(in_a_box(alloc, (parts, map))?)
 }
 
 /// One field `x`, of type 0.
 fn field_x(alloc: Global) -> Result<Seq<FieldData>, AllocError> {
-    let name = again::name(alloc, "x")?;
+    let name = Name::new(alloc, "x")?;
     let field = FieldData {
         name,
         type_ref: Idx::from_raw(0),
@@ -109,128 +116,131 @@ fn field_x(alloc: Global) -> Result<Seq<FieldData>, AllocError> {
         default_value: None,
     };
     let mut fields = Seq::new(alloc);
-    again::push(&mut fields, field)?;
+    push(&mut fields, field)?;
     Ok(fields)
 }
 
-/// Gives struct 2 the fields `{ x }`, over five types.
-fn add_fields(tables: &mut Tables, alloc: Global) -> Result<(), Fail> {
-    let made = trees::made(alloc, &[Step::Types(5)])?;
+/// What the fields `{ x }` are made of, over this many types.
+pub fn fields(alloc: Global, types: u32) -> Result<Made<VariantParts>, Fail> {
     let fields = field_x(alloc)?;
-    let (store, map) = Box::into_inner(made);
+    let (store, map) = Box::into_inner(trees::made(alloc, types, &[])?);
     let parts = VariantParts {
         shape: FieldsShape::Record,
         fields,
         store,
     };
-    let (fields, map) = again::with(VariantFields::new(parts), map)?;
-    let id = VariantId::StructId(StructId::from_raw(2));
-    again::taken(tables.add_fields(id, fields, map))
+    Ok(in_a_box(alloc, (parts, map))?)
 }
 
-/// The body of function 1.
-pub fn def_1() -> DefWithBodyId {
-    DefWithBodyId::FunctionId(FunctionId::from_raw(1))
-}
-
-/// Gives function 1 the body `a`, and a source map that knows where `self` is written.
-fn add_body(tables: &mut Tables, alloc: Global) -> Result<(), Fail> {
-    let (store, map) = Box::into_inner(trees::made(alloc, bodies::PATH)?);
-    let outcome = bodies::body(alloc, store, Seq::new(alloc), None);
-    let (body, map) = again::with(outcome, map)?;
-    let map = BodySourceMap::new(map, Some(bodies::written()));
-    again::taken(tables.add_body(def_1(), body, map))
-}
-
-/// How struct 0 lies in memory.
-pub fn repr_0() -> Repr {
-    Repr {
-        c: true,
-        align: Some(8),
-        pack: None,
+/// Where the `self` of the tests is written.
+pub fn written() -> InFile<SelfParamPtr> {
+    let node = SyntaxNodePtr {
+        kind: 7,
+        range: TextRange { start: 1, end: 5 },
+    };
+    InFile {
+        file_id: HirFileId::from_raw(2),
+        value: AstPtr::new(node),
     }
 }
 
-/// Says that crate 1 is called `core`.
-fn add_crate_name(tables: &mut Tables, alloc: Global) -> Result<(), Fail> {
-    let name = again::text(alloc, "core")?;
-    match tables.add_crate_name(CrateId::from_raw(1), Some(name)) {
-        Ok(()) => Ok(()),
-        Err(failed) => {
-            let (id, name) = failed.value;
-            again::taken(tables.add_crate_name(id, name))
-        }
-    }
+/// The body `1`, over this many types besides, and a source map that knows where `self` is written.
+fn body(alloc: Global, types: u32) -> Result<Box<(Body, BodySourceMap)>, Fail> {
+    let (store, map) = Box::into_inner(trees::made(alloc, types, bodies::ONE)?);
+    let map = BodySourceMap::new(map, Some(written()));
+    let made = with(Body::new(alloc, store, Seq::new(alloc), None), map)?;
+    Ok(in_a_box(alloc, made)?)
 }
 
-/// Says that variant 2 is of enum 7.
-fn add_variant_parent(tables: &mut Tables) -> Result<(), Fail> {
-    match tables.add_variant_parent(EnumVariantId::from_raw(2), EnumId::from_raw(7)) {
-        Ok(()) => Ok(()),
-        Err(failed) => {
-            let (variant, parent) = failed.value;
-            again::taken(tables.add_variant_parent(variant, parent))
-        }
-    }
-}
-
-/// Says how struct 0 lies in memory.
-fn add_repr(tables: &mut Tables) -> Result<(), Fail> {
-    match tables.add_repr(StructId::from_raw(0), repr_0()) {
-        Ok(()) => Ok(()),
-        Err(failed) => {
-            let (id, repr) = failed.value;
-            again::taken(tables.add_repr(id, repr))
-        }
-    }
-}
-
-/// The word `match`.
-fn match_alone(alloc: Global) -> Result<Seq<Text>, AllocError> {
-    let word = again::text(alloc, "match")?;
-    let mut words = Seq::new(alloc);
-    again::push(&mut words, word)?;
-    Ok(words)
-}
-
-/// The definitions of plain signatures, and over how many types they are.
+/// The definitions of number 4 that have plain signatures, and over how many types they are.
 fn plain_defs() -> [(PlainDef, u32); 7] {
     [
-        (PlainDef::Enum(EnumId::from_raw(3)), 3),
-        (PlainDef::Union(UnionId::from_raw(0)), 1),
-        (PlainDef::Impl(ImplId::from_raw(0)), 2),
-        (PlainDef::Trait(TraitId::from_raw(0)), 3),
-        (PlainDef::TypeAlias(TypeAliasId::from_raw(0)), 4),
+        (PlainDef::Enum(EnumId::from_raw(4)), 3),
+        (PlainDef::Union(UnionId::from_raw(4)), 1),
         (PlainDef::Const(ConstId::from_raw(4)), 2),
         (PlainDef::Static(StaticId::from_raw(4)), 3),
+        (PlainDef::Impl(ImplId::from_raw(4)), 2),
+        (PlainDef::Trait(TraitId::from_raw(4)), 3),
+        (PlainDef::TypeAlias(TypeAliasId::from_raw(4)), 4),
     ]
 }
 
-/// Empty tables.
-pub fn tables(alloc: Global) -> Result<Box<Tables>, Fail> {
-    Ok(again::in_a_box(alloc, Tables::new(alloc))?)
-}
-
-/// Adds an entry of each kind, all those above, and one word that edition 2021 writes raw.
-fn fill(tables: &mut Tables, alloc: Global) -> Result<(), Fail> {
-    let words = match_alone(alloc)?;
-    tables.set_raw_words(Edition::Edition2021, words);
-    add_function(tables, alloc)?;
-    add_struct(tables, alloc)?;
-    add_fields(tables, alloc)?;
-    add_body(tables, alloc)?;
-    add_crate_name(tables, alloc)?;
-    add_variant_parent(tables)?;
-    add_repr(tables)?;
-    for (def, count) in &plain_defs() {
-        add_plain(tables, alloc, *def, *count)?;
+/// Gives the definitions of number 4 a signature each, and struct 4 its fields, over this many types more than the tests look for.
+fn add_signatures(tables: &mut Tables, alloc: Global, more: u32) -> Result<(), Fail> {
+    let (parts, map) = Box::into_inner(function(alloc, more.wrapping_add(1))?);
+    let (signature, map) = with(FunctionSignature::new(parts), map)?;
+    taken(tables.add_function(FunctionId::from_raw(4), signature, map))?;
+    let (parts, map) = Box::into_inner(structure(alloc, more.wrapping_add(2))?);
+    let (signature, map) = with(StructSignature::new(parts), map)?;
+    taken(tables.add_struct(StructId::from_raw(4), signature, map))?;
+    let (parts, map) = Box::into_inner(fields(alloc, more.wrapping_add(5))?);
+    let (signature, map) = with(VariantFields::new(parts), map)?;
+    let id = VariantId::StructId(StructId::from_raw(4));
+    taken(tables.add_fields(id, signature, map))?;
+    for (def, types) in &plain_defs() {
+        let (parts, map) = Box::into_inner(plain(alloc, more.wrapping_add(*types), false)?);
+        let (signature, map) = with(PlainSignature::new(parts), map)?;
+        taken(tables.add_plain(*def, signature, map))?;
     }
     Ok(())
 }
 
-/// Tables with all those entries.
+/// Gives function 4 a body over this many types.
+fn add_body(tables: &mut Tables, alloc: Global, types: u32) -> Result<(), Fail> {
+    let (body, map) = Box::into_inner(body(alloc, types)?);
+    let def = DefWithBodyId::FunctionId(FunctionId::from_raw(4));
+    taken(tables.add_body(def, body, map))
+}
+
+/// The text of the word, where there is one.
+fn text(alloc: Global, word: Option<&str>) -> Result<Option<Text>, AllocError> {
+    match word {
+        Some(word) => Ok(Some(Text::from_str(alloc, word)?)),
+        None => Ok(None),
+    }
+}
+
+/// Gives function 4 and crate 4 this name, and says that edition 2021 writes this word raw; and that variant 4 is of this enum, and
+/// struct 4 aligned so.
+pub fn add_names(
+    tables: &mut Tables,
+    alloc: Global,
+    word: Option<&str>,
+    number: u32,
+) -> Result<(), Fail> {
+    let def = NamedDef::FunctionId(FunctionId::from_raw(4));
+    taken(tables.add_name(def, text(alloc, word)?))?;
+    taken(tables.add_crate_name(CrateId::from_raw(4), text(alloc, word)?))?;
+    let mut words = Seq::new(alloc);
+    if let Some(word) = text(alloc, word)? {
+        push(&mut words, word)?;
+    }
+    tables.set_raw_words(Edition::Edition2021, words);
+    let parent = EnumId::from_raw(number);
+    taken(tables.add_variant_parent(EnumVariantId::from_raw(4), parent))?;
+    taken(tables.add_repr(StructId::from_raw(4), repr(number)))
+}
+
+/// How a struct lies in memory that is aligned so.
+pub fn repr(align: u32) -> Repr {
+    Repr {
+        c: true,
+        align: Some(u64::from(align)),
+        pack: None,
+    }
+}
+
+/// Tables without an entry.
+pub fn tables(alloc: Global) -> Result<Box<Tables>, AllocError> {
+    in_a_box(alloc, Tables::new(alloc))
+}
+
+/// Tables with signatures, fields and bodies of number 4, each of which takes the place of another one, which was over one type more.
 pub fn filled(alloc: Global) -> Result<Box<Tables>, Fail> {
     let mut tables = tables(alloc)?;
-    fill(&mut tables, alloc)?;
+    for more in [1, 0] {
+        add_signatures(&mut tables, alloc, more)?;
+        add_body(&mut tables, alloc, more)?;
+    }
     Ok(tables)
 }

@@ -1,5 +1,5 @@
-//! Sources and sinks that fail at a chosen call, and readers and writers of std that are interrupted. They tell no bytes: a
-//! test compares what a run gave.
+//! Sources and sinks that fail at a chosen call, and a reader and writer of std that is interrupted or fails. They tell no
+//! bytes: a test compares what a run gave.
 
 ghost use Rattle.std.specs.Prelude.{◌≤◌, IfOk};
 
@@ -119,17 +119,18 @@ impl Sink for Kept {
     }
 }
 
-/// A reader and writer of std whose calls are interrupted so many times before each that answers.
+/// A reader and writer of std whose calls are interrupted so many times before each that answers. One that answers takes so many
+/// bytes at most, or fails.
 #[derive(Drop)]
 pub struct Interrupted {
     times: u32,
     left: u32,
-    takes: usize,
+    takes: Result<usize, ErrorKind>,
     pub calls: u64,
 }
 
 impl Interrupted {
-    pub fn new(times: u32, takes: usize) -> Interrupted {
+    pub fn new(times: u32, takes: Result<usize, ErrorKind>) -> Interrupted {
         Interrupted {
             times,
             left: times,
@@ -147,7 +148,10 @@ impl Interrupted {
             return Err(Error::from(ErrorKind::Interrupted));
         }
         self.left = self.times;
-        Ok(self.takes.min(asked))
+        match self.takes {
+            Ok(takes) => Ok(takes.min(asked)),
+            Err(kind) => Err(Error::from(kind)),
+        }
     }
 }
 
@@ -160,30 +164,6 @@ impl Read for Interrupted {
 impl Write for Interrupted {
     fn write(&mut self, buffer: &[u8]) -> IoResult<usize> {
         self.call(buffer.len())
-    }
-
-    fn flush(&mut self) -> IoResult<()> {
-        Ok(())
-    }
-}
-
-/// A reader and writer of std whose calls fail.
-#[derive(Drop)]
-pub struct Broken {
-    pub calls: u64,
-}
-
-impl Read for Broken {
-    fn read(&mut self, _buffer: &mut [u8]) -> IoResult<usize> {
-        self.calls = self.calls.saturating_add(1);
-        Err(Error::from(ErrorKind::BrokenPipe))
-    }
-}
-
-impl Write for Broken {
-    fn write(&mut self, _buffer: &[u8]) -> IoResult<usize> {
-        self.calls = self.calls.saturating_add(1);
-        Err(Error::from(ErrorKind::WouldBlock))
     }
 
     fn flush(&mut self) -> IoResult<()> {

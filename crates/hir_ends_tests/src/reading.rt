@@ -1,29 +1,12 @@
-//! Lines through both ends: across blocks, empty, longer than the buffer, without their end, and where a read, a write or
-//! memory fails. Each line is written again with a `$` behind it, so that what a run wrote says which lines it took.
+//! Lines through both ends: across blocks, empty, longer than the buffer, without their end, and where a read or a write
+//! fails. Each line is written again with a `$` behind it, so that what a run wrote says which lines it took.
 
-ghost use Rattle.std.specs.Prelude.{◌≡◌, ◌+◌, ◌≤◌, ◌<◌, ◌^◌, [], false, IfOk, cond, length};
+ghost use Rattle.std.specs.Prelude.{◌+◌, ◌<◌, ◌^◌, length};
 
 use super::fakes::{Given, Kept};
 use hir_ends::{LineFault, LineReader, OutputBuffer, Sink, Source, next_line};
-use std::alloc::Global;
+use std::alloc::{AllocError, Global};
 use std::test::Fail;
-
-/// Takes a line, and asks again where memory was refused: nothing is lost by that.
-fn next_line_again<R: Source, W: Sink>(
-    lines: &mut LineReader,
-    reader: &mut R,
-    output: &mut OutputBuffer,
-    writer: &mut W,
-) -> Result<bool, LineFault>
-    requires fits { lines.old.count + length lines.old.pending + R.allowance reader.old < 2 ^ 64 }
-    ensures count { IfOk result (λ found. lines.new.count ≡ lines.old.count + cond found 1 0) }
-    ensures falls { IfOk result (λ found. length lines.new.pending + R.allowance reader.new + cond found 1 0 ≤ length lines.old.pending + R.allowance reader.old) }
-{
-    match next_line(lines, reader, output, writer) {
-        Err(LineFault::OutOfMemory) => next_line(lines, reader, output, writer),
-        answer => answer,
-    }
-}
 
 /// Writes each line with a `$`, and says how many there were.
 fn echo<R: Source, W: Sink>(
@@ -34,7 +17,7 @@ fn echo<R: Source, W: Sink>(
 ) -> Result<u64, LineFault>
     requires { lines.old.count + length lines.old.pending + R.allowance reader.old < 2 ^ 64 }
 {
-    while next_line_again(lines, reader, output, writer)? {
+    while next_line(lines, reader, output, writer)? {
         if output.write(lines.line(), writer).is_err() || output.write(b"$", writer).is_err() {
             return Err(LineFault::OutputFailed);
         }
@@ -45,48 +28,23 @@ fn echo<R: Source, W: Sink>(
     }
 }
 
-/// A reader and a buffer, once more where memory was refused.
-fn make_ends(alloc: Global) -> Result<(LineReader, OutputBuffer), Fail>
-    ensures { IfOk result (λ ends. ends.0 ≡ record { line = []; pending = []; at_end = false; count = 0 }) }
-{
-    let lines = match LineReader::new(alloc) {
-        Ok(lines) => lines,
-        Err(_) => LineReader::new(alloc)?,
-    };
-    let output = match OutputBuffer::new(alloc) {
-        Ok(output) => output,
-        Err(_) => OutputBuffer::new(alloc)?,
-    };
-    Ok((lines, output))
-}
+/// How a run ended, whether the sink has what it should, and of the source and of the sink how many calls it took and whether one
+/// failed.
+type Ran = (Result<u64, LineFault>, bool, (u64, bool), (u64, bool));
 
-/// How a run ended, and of the source and of the sink how many calls it took and whether one failed.
-#[derive(Clone, Copy)]
-struct Ran {
-    ended: Result<u64, LineFault>,
-    reads: u64,
-    read_failed: bool,
-    writes: u64,
-    write_failed: bool,
-}
-
-/// Echoes all lines of a source, and says how that ran and whether the sink has this echo.
+/// Echoes all lines of a source, and says how that ran where the sink should have this echo.
 fn run(
     alloc: Global,
     mut reader: Given,
     mut writer: Kept,
     echoed: &[u8],
-) -> Result<(Ran, bool), Fail> {
-    let (mut lines, mut output) = make_ends(alloc)?;
+) -> Result<Ran, AllocError> {
+    let mut lines = LineReader::new(alloc)?;
+    let mut output = OutputBuffer::new(alloc)?;
     let ended = echo(&mut lines, &mut reader, &mut output, &mut writer);
-    let ran = Ran {
-        ended,
-        reads: reader.calls,
-        read_failed: reader.has_failed(),
-        writes: writer.calls,
-        write_failed: writer.has_failed(),
-    };
-    Ok((ran, writer.bytes() == echoed))
+    let reads = (reader.calls, reader.has_failed());
+    let writes = (writer.calls, writer.has_failed());
+    Ok((ended, writer.bytes() == echoed, reads, writes))
 }
 
 const TEXTS: [(&[u8], &[u8], u64); 8] = [
@@ -106,8 +64,8 @@ fn takes_lines_across_reads(rt: HostRuntime) -> Result<(), Fail> {
     for (text, echoed, count) in &TEXTS {
         for step in &[1, 2, 3, 5, 100] {
             let reader = Given::new(text, *step, u64::MAX);
-            let (ran, is_echoed) = run(alloc, reader, Kept::new(7, u64::MAX), echoed)?;
-            assert!(rt; ran.ended == Ok(*count) && is_echoed, "{text:?} by {step}");
+            let ran = run(alloc, reader, Kept::new(7, u64::MAX), echoed)?;
+            assert!(rt; ran.0 == Ok(*count) && ran.1, "{count} lines by {step}");
         }
     }
     Ok(())
@@ -117,35 +75,41 @@ const TEXT: &[u8] = b"one\n\nthree\nfour";
 
 const ECHO: &[u8] = b"one$$three$four$";
 
-/// How many of the first bytes of the text are whole lines: as many as their echo has.
-fn whole_lines(count: u64) -> usize {
-    let mut whole = 0;
-    for (i, b) in TEXT.iter().enumerate() {
-        if *b == b'\n' && (i as u64) < count {
-            whole = i + 1;
-        }
-    }
-    whole
-}
+/// How many of the first bytes of the text are whole lines, where so many bytes are read: their echo has as many.
+const WHOLE: [usize; 16] = [0, 0, 0, 0, 4, 5, 5, 5, 5, 5, 5, 11, 11, 11, 11, 11];
 
 #[test]
 fn stops_where_a_read_fails(rt: HostRuntime) -> Result<(), Fail> {
     let alloc = rt.alloc();
     // Each read gives one byte, and one more meets the end: what was read before the failed one is answered.
-    for call in 0..TEXT.len() as u64 + 1 {
-        let answered = ECHO.get(..whole_lines(call)).unwrap_or(b"");
-        let reader = Given::new(TEXT, 1, call);
-        let (ran, is_echoed) = run(alloc, reader, Kept::new(1000, u64::MAX), answered)?;
+    for (call, whole) in WHOLE.iter().enumerate() {
+        let reader = Given::new(TEXT, 1, call as u64);
+        let answered = ECHO.get(..*whole).unwrap_or(b"");
+        let (ended, is_echoed, reads, writes) = run(
+            alloc,
+            reader,
+            Kept::new(1000, u64::MAX),
+            answered,
+        )?;
         assert!(rt;
-            ran.ended == Err(LineFault::InputFailed) && is_echoed,
+            ended == Err(LineFault::InputFailed) && is_echoed,
             "at {call}"
         );
-        assert!(rt; ran.read_failed && !ran.write_failed && ran.reads == call + 1);
+        assert!(rt; reads == (call as u64 + 1, true) && !writes.1, "at {call}");
     }
     // The end is asked for once.
     let reader = Given::new(TEXT, 1, TEXT.len() as u64 + 1);
-    let (ran, is_echoed) = run(alloc, reader, Kept::new(1000, u64::MAX), ECHO)?;
-    assert!(rt; ran.ended == Ok(4) && is_echoed);
+    let ran = run(alloc, reader, Kept::new(1000, u64::MAX), ECHO)?;
+    assert!(rt; ran.0 == Ok(4) && ran.1);
+    // All answers of a block are written by one call, before the read that meets the end.
+    let reader = Given::new(TEXT, 100, 1);
+    let (ended, is_echoed, _, writes) = run(
+        alloc,
+        reader,
+        Kept::new(1000, u64::MAX),
+        b"one$$three$",
+    )?;
+    assert!(rt; ended == Err(LineFault::InputFailed) && is_echoed && writes.0 == 1);
     Ok(())
 }
 
@@ -156,39 +120,31 @@ fn stops_where_a_write_fails(rt: HostRuntime) -> Result<(), Fail> {
         for call in 0..ECHO.len() as u64 {
             let reader = Given::new(TEXT, *step, u64::MAX);
             let written = &ECHO[..call as usize];
-            let (ran, is_echoed) = run(alloc, reader, Kept::new(1, call), written)?;
+            let (ended, is_echoed, reads, writes) = run(
+                alloc,
+                reader,
+                Kept::new(1, call),
+                written,
+            )?;
             assert!(rt;
-                ran.ended == Err(LineFault::OutputFailed) && is_echoed,
+                ended == Err(LineFault::OutputFailed) && is_echoed,
                 "at {call}"
             );
-            assert!(rt; ran.write_failed && !ran.read_failed && ran.writes == call + 1);
+            assert!(rt; writes == (call + 1, true) && !reads.1, "at {call}");
         }
     }
-    Ok(())
-}
-
-#[test]
-fn answers_a_block_before_the_next_read(rt: HostRuntime) -> Result<(), Fail> {
-    // All answers of a block are written by one call, before the read that meets the end.
-    let reader = Given::new(TEXT, 100, 1);
-    let (ran, is_echoed) = run(
-        rt.alloc(),
-        reader,
-        Kept::new(1000, u64::MAX),
-        b"one$$three$",
-    )?;
-    assert!(rt; ran.ended == Err(LineFault::InputFailed) && is_echoed && ran.writes == 1);
     Ok(())
 }
 
 static LONG: [u8; 400_000] = [b'x'; 400_000];
 
 /// Whether the long line is taken whole, where the source gives so many bytes at a time.
-fn takes_the_long_line(alloc: Global, step: usize) -> Result<bool, Fail> {
-    let (mut lines, mut output) = make_ends(alloc)?;
+fn takes_the_long_line(alloc: Global, step: usize) -> Result<bool, AllocError> {
+    let mut lines = LineReader::new(alloc)?;
+    let mut output = OutputBuffer::new(alloc)?;
     let mut reader = Given::new(&LONG, step, u64::MAX);
     let mut writer = Kept::new(1, 0);
-    let taken = next_line_again(&mut lines, &mut reader, &mut output, &mut writer);
+    let taken = next_line(&mut lines, &mut reader, &mut output, &mut writer);
     Ok(taken == Ok(true) && lines.count() == 1 && lines.line() == LONG.as_slice())
 }
 

@@ -1,18 +1,18 @@
 //! Readers and writers of std as sources and sinks: interruptions, failures, and what one answer means.
 
-use super::fakes::{Broken, Interrupted};
+use super::fakes::Interrupted;
 use hir_ends::{Attempt, EndFailed, Sink, Source, StdEnd, read_attempt, write_attempt};
 use std::io::{Error, ErrorKind};
 
-/// What two reads in a row answer, whether one failed, and how many calls of std they make.
-fn read_twice(
-    mut source: Interrupted,
-) -> (
+/// What two calls in a row answer, whether one failed, and how many calls of std they make.
+type Twice = (
     Result<usize, EndFailed>,
     Result<usize, EndFailed>,
     bool,
     u64,
-) {
+);
+
+fn read_twice(mut source: Interrupted) -> Twice {
     let mut room = [0; 8];
     let mut reader = StdEnd::new(&mut source);
     let first = reader.read(&mut room);
@@ -21,16 +21,7 @@ fn read_twice(
     (first, second, failed, source.calls)
 }
 
-/// The same of two writes.
-fn write_twice(
-    mut sink: Interrupted,
-    text: &[u8],
-) -> (
-    Result<usize, EndFailed>,
-    Result<usize, EndFailed>,
-    bool,
-    u64,
-) {
+fn write_twice(mut sink: Interrupted, text: &[u8]) -> Twice {
     let mut writer = StdEnd::new(&mut sink);
     let first = writer.write(text);
     let second = writer.write(text);
@@ -38,72 +29,72 @@ fn write_twice(
     (first, second, failed, sink.calls)
 }
 
+const NONE: Twice = (Ok(0), Ok(0), false, 2);
+
+const FAILED: Twice = (Err(EndFailed), Err(EndFailed), true, 2);
+
+/// How often each call of std is interrupted, what it takes, the bytes to write, and what two reads and two writes do.
+type Calls = (u32, Result<usize, ErrorKind>, &'static [u8], Twice, Twice);
+
+const CALLS: [Calls; 8] = [
+    (
+        0,
+        Ok(3),
+        b"text",
+        (Ok(3), Ok(3), false, 2),
+        (Ok(3), Ok(3), false, 2),
+    ),
+    (
+        1,
+        Ok(3),
+        b"text",
+        (Ok(3), Ok(3), false, 4),
+        (Ok(3), Ok(3), false, 4),
+    ),
+    (
+        1000,
+        Ok(3),
+        b"text",
+        (Ok(3), Ok(3), false, 2002),
+        (Ok(3), Ok(3), false, 2002),
+    ),
+    (
+        1001,
+        Ok(3),
+        b"text",
+        (Err(EndFailed), Ok(3), true, 1002),
+        (Err(EndFailed), Ok(3), true, 1002),
+    ),
+    // A call that fails isn't made again.
+    (0, Err(ErrorKind::BrokenPipe), b"text", FAILED, FAILED),
+    (0, Err(ErrorKind::WouldBlock), b"text", FAILED, FAILED),
+    // Nor is a write that takes none of some bytes; to read or write none is no failure.
+    (0, Ok(0), b"text", NONE, FAILED),
+    (0, Ok(0), b"", NONE, NONE),
+];
+
 #[test]
-fn makes_interrupted_calls_again(rt: HostRuntime) {
-    let failed = (Err(EndFailed), Ok(3), true, 1002);
-    for (times, answer) in [
-        (0, (Ok(3), Ok(3), false, 2)),
-        (1, (Ok(3), Ok(3), false, 4)),
-        (1000, (Ok(3), Ok(3), false, 2002)),
-        (1001, failed),
-    ] {
-        assert!(rt; read_twice(Interrupted::new(times, 3)) == answer, "{times}");
+fn interrupted_calls_alone_are_made_again(rt: HostRuntime) {
+    for (times, takes, text, read, written) in &CALLS {
         assert!(rt;
-            write_twice(Interrupted::new(times, 3), b"text") == answer,
+            read_twice(Interrupted::new(*times, *takes)) == *read,
+            "{times}"
+        );
+        assert!(rt;
+            write_twice(Interrupted::new(*times, *takes), text) == *written,
             "{times}"
         );
     }
 }
 
-/// What a read and a write of a broken end answer, and how many calls of std they make.
-fn read_and_write_broken() -> (Result<usize, EndFailed>, Result<usize, EndFailed>, u64) {
-    let mut room = [0; 8];
-    let mut broken = Broken { calls: 0 };
-    let read = StdEnd::new(&mut broken).read(&mut room);
-    let written = StdEnd::new(&mut broken).write(b"text");
-    (read, written, broken.calls)
-}
-
-#[test]
-fn fails_at_once(rt: HostRuntime) {
-    assert!(rt; read_and_write_broken() == (Err(EndFailed), Err(EndFailed), 2));
-    // A write that takes none of some bytes isn't made again; to read or write none is no failure.
-    let full = (Err(EndFailed), Err(EndFailed), true, 2);
-    assert!(rt; write_twice(Interrupted::new(0, 0), b"text") == full);
-    let none = (Ok(0), Ok(0), false, 2);
-    assert!(rt; write_twice(Interrupted::new(0, 0), b"") == none);
-    assert!(rt; read_twice(Interrupted::new(0, 0)) == none);
-}
-
-/// Bytes that a call of std took, the bytes it was asked for, and what that means for a read.
-const READS: [(usize, u64, Attempt); 3] = [
-    (0, 0, Attempt::Done(0)),
-    (7, 7, Attempt::Done(7)),
-    (8, 7, Attempt::Failed),
+/// Bytes that a call of std took, the bytes it was asked for, and what that means for a read and for a write.
+const TAKEN: [(usize, usize, Attempt, Attempt); 5] = [
+    (0, 0, Attempt::Done(0), Attempt::Done(0)),
+    (0, 7, Attempt::Done(0), Attempt::Failed),
+    (1, 7, Attempt::Done(1), Attempt::Done(1)),
+    (7, 7, Attempt::Done(7), Attempt::Done(7)),
+    (8, 7, Attempt::Failed, Attempt::Done(8)),
 ];
-
-/// The same of a write.
-const WRITES: [(usize, usize, Attempt); 3] = [
-    (0, 0, Attempt::Done(0)),
-    (1, 7, Attempt::Done(1)),
-    (0, 7, Attempt::Failed),
-];
-
-#[test]
-fn weighs_what_a_call_took(rt: HostRuntime) {
-    for (count, left, attempt) in &READS {
-        assert!(rt;
-            read_attempt(Ok(*count), *left) == *attempt,
-            "{count} of {left}"
-        );
-    }
-    for (count, asked, attempt) in &WRITES {
-        assert!(rt;
-            write_attempt(Ok(*count), *asked) == *attempt,
-            "{count} of {asked}"
-        );
-    }
-}
 
 const ERRORS: [(ErrorKind, Attempt); 4] = [
     (ErrorKind::Interrupted, Attempt::Again),
@@ -113,7 +104,12 @@ const ERRORS: [(ErrorKind, Attempt); 4] = [
 ];
 
 #[test]
-fn weighs_an_error(rt: HostRuntime) {
+fn each_answer_is_weighed(rt: HostRuntime) {
+    for (count, asked, read, written) in &TAKEN {
+        let is_read = read_attempt(Ok(*count), *asked as u64) == *read;
+        let is_written = write_attempt(Ok(*count), *asked) == *written;
+        assert!(rt; is_read && is_written, "{count} of {asked}");
+    }
     for (kind, attempt) in &ERRORS {
         assert!(rt; read_attempt(Err(Error::from(*kind)), 7) == *attempt);
         assert!(rt; write_attempt(Err(Error::from(*kind)), 7) == *attempt);

@@ -5,57 +5,41 @@ use hir_ends::{EndFailed, OutputBuffer, write_all};
 use std::alloc::{AllocError, Global};
 use std::test::Fail;
 
-/// A buffer, once more where memory was refused.
-fn make_output(alloc: Global) -> Result<OutputBuffer, AllocError> {
-    match OutputBuffer::new(alloc) {
-        Ok(output) => Ok(output),
-        Err(_) => OutputBuffer::new(alloc),
-    }
-}
+static TEXT: [u8; 70_000] = [b'w'; 70_000];
 
-static BLOCK: [u8; 65_536] = [b'y'; 65_536];
-
-static LONG: [u8; 70_000] = [b'w'; 70_000];
-
-/// A text that is written, how many calls are made after it, and how many bytes they have.
-type Fill<'a> = (&'a [u8], u64, usize);
+/// How many bytes are written, how many calls are made after it, and how many bytes those have. A whole buffer waits; one byte more
+/// writes it, and a longer text goes past it.
+const FILLS: [(usize, u64, usize); 6] = [
+    (0, 0, 0),
+    (2, 0, 0),
+    (65_536, 1, 2),
+    (1, 2, 65_538),
+    (70_000, 4, 135_539),
+    (1, 4, 135_539),
+];
 
 /// How many of the texts, from the first one on, are written when they should be, and how many calls and bytes there are once
-/// what waits is written. To write it again is no call.
-fn fill(alloc: Global, fills: &[Fill<'_>]) -> Result<(usize, u64, usize), Fail> {
-    let mut output = make_output(alloc)?;
+/// what waits is written, where it is. To write it again is no call.
+fn fill(alloc: Global) -> Result<Option<(usize, u64, usize)>, AllocError> {
+    let mut output = OutputBuffer::new(alloc)?;
     let mut writer = Kept::new(1_000_000, u64::MAX);
     let mut right = 0;
-    for (at, (bytes, calls, len)) in fills.iter().enumerate() {
+    for (at, (count, calls, len)) in FILLS.iter().enumerate() {
+        let bytes = TEXT.get(..*count).unwrap_or(b"");
         let is_written = output.write(bytes, &mut writer) == Ok(());
         if is_written && writer.calls == *calls && writer.len == *len && right == at {
             right = at + 1;
         }
     }
     if output.flush(&mut writer) == Ok(()) && output.flush(&mut writer) == Ok(()) {
-        return Ok((right, writer.calls, writer.len));
+        return Ok(Some((right, writer.calls, writer.len)));
     }
-    Err("what waits isn't written".into())
-}
-
-#[test]
-fn waits_until_it_is_full(rt: HostRuntime) -> Result<(), Fail> {
-    // A whole buffer waits; one byte more writes it, and a longer text goes past it.
-    let fills: [Fill<'_>; 6] = [
-        (b"", 0, 0),
-        (b"ab", 0, 0),
-        (&BLOCK, 1, 2),
-        (b"z", 2, 65_538),
-        (&LONG, 4, 135_539),
-        (b"c", 4, 135_539),
-    ];
-    assert!(rt; fill(rt.alloc(), &fills)? == (6, 5, 135_540));
-    Ok(())
+    Ok(None)
 }
 
 /// Whether four numbers are written in digits, each with a comma behind it.
-fn are_digits(alloc: Global) -> Result<bool, Fail> {
-    let mut output = make_output(alloc)?;
+fn are_digits(alloc: Global) -> Result<bool, AllocError> {
+    let mut output = OutputBuffer::new(alloc)?;
     let mut writer = Kept::new(1_000_000, u64::MAX);
     let mut is_written = true;
     for number in &[0, 9, 10, 4_294_967_295] {
@@ -67,7 +51,8 @@ fn are_digits(alloc: Global) -> Result<bool, Fail> {
 }
 
 #[test]
-fn writes_numbers(rt: HostRuntime) -> Result<(), Fail> {
+fn what_waits_is_written_in_time(rt: HostRuntime) -> Result<(), Fail> {
+    assert!(rt; fill(rt.alloc())? == Some((6, 5, 135_540)));
     assert!(rt; are_digits(rt.alloc())?);
     Ok(())
 }
@@ -80,8 +65,8 @@ fn writes_a_front(call: u64) -> bool {
 }
 
 /// The same of what waits in a buffer. Nothing waits after a failed write, so the next has nothing to write.
-fn flushes_a_front(alloc: Global, call: u64) -> Result<bool, Fail> {
-    let mut output = make_output(alloc)?;
+fn flushes_a_front(alloc: Global, call: u64) -> Result<bool, AllocError> {
+    let mut output = OutputBuffer::new(alloc)?;
     let mut sink = Kept::new(1, call);
     let waits = output.write(b"abc", &mut sink) == Ok(())
         && output.write_number(123, &mut sink) == Ok(())
@@ -99,8 +84,8 @@ fn flushes_a_front(alloc: Global, call: u64) -> Result<bool, Fail> {
 #[test]
 fn writes_a_front_before_it_fails(rt: HostRuntime) -> Result<(), Fail> {
     for call in 0..6 {
-        assert!(rt; writes_a_front(call), "at {call}");
-        assert!(rt; flushes_a_front(rt.alloc(), call)?, "at {call}");
+        let is_front = writes_a_front(call) && flushes_a_front(rt.alloc(), call)?;
+        assert!(rt; is_front, "at {call}");
     }
     Ok(())
 }

@@ -1,7 +1,7 @@
-//! Graphs by name, each with its roots and the fault that it must have: a further case is one more row of a table.
+//! Graphs, each with its roots and the fault that it must have: a further case is one more row of a table.
 //! The ends of roots have a table of their own, and the last test has 1,000,000 nodes.
 
-use crate::again::{begin_row, ends, fault_of, push_kid, roots_of, rows_of};
+use crate::made::{Edge, fault_of, only_exprs, rows_of};
 use hir_forest::ForestFault::{
     Cycle, RootEnds, RootOutOfRange, RootRepeated, RootUnderRoot, SharedChild,
 };
@@ -9,147 +9,146 @@ use hir_forest::{Ends, ForestFault, Root, Rows};
 use std::alloc::Global;
 use std::test::Fail;
 
-/// What a case has: a name, the kids of each node, how many nodes are expressions, the roots and the first fault.
-type Case<'a> = (
-    &'a str,
-    &'a [&'a [usize]],
+const NO_ENDS: Ends = Ends {
+    exprs: 0,
+    pats: 0,
+    bindings: 0,
+};
+
+// Roots that were listed before anything else was there.
+
+const FIRST: Root = Root {
+    node: 0,
+    ends: NO_ENDS,
+};
+
+const SECOND: Root = Root {
+    node: 1,
+    ends: NO_ENDS,
+};
+
+const THIRD: Root = Root {
+    node: 2,
+    ends: NO_ENDS,
+};
+
+const FOURTH: Root = Root {
+    node: 3,
+    ends: NO_ENDS,
+};
+
+const ABSENT: Root = Root {
+    node: 9,
+    ends: NO_ENDS,
+};
+
+const LAST: Root = Root {
+    node: 999999,
+    ends: NO_ENDS,
+};
+
+/// How many nodes there are, all of them expressions, their edges, and the first fault where there are no roots.
+type Shape = (u32, &'static [Edge], Option<ForestFault>);
+
+const SHAPES: [Shape; 10] = [
+    // Nothing.
+    (0, &[], None),
+    // No roots.
+    (2, &[], None),
+    // A kid of two.
+    (3, &[(0, 2), (1, 2)], Some(SharedChild(2))),
+    // A kid twice.
+    (2, &[(1, 0), (1, 0)], Some(SharedChild(0))),
+    // First edge.
+    (5, &[(0, 3), (0, 4), (1, 4), (2, 3)], Some(SharedChild(4))),
+    // Shared before cycle.
+    (1, &[(0, 0), (0, 0)], Some(SharedChild(0))),
+    // Its own kid.
+    (1, &[(0, 0)], Some(Cycle(0))),
+    // A cycle of two.
+    (2, &[(0, 1), (1, 0)], Some(Cycle(0))),
+    // Hanging on a cycle.
+    (3, &[(1, 0), (1, 2), (2, 1)], Some(Cycle(0))),
+    // Two cycles.
+    (5, &[(1, 2), (2, 1), (3, 4), (4, 3)], Some(Cycle(1))),
+];
+
+/// How many nodes there are, their edges, how many nodes are expressions, the roots, and the first fault.
+type Rooted = (
+    usize,
+    &'static [Edge],
     u32,
-    &'a [u32],
+    &'static [Root],
     Option<ForestFault>,
 );
 
-const GRAPHS: [Case<'static>; 22] = [
-    ("nothing", &[], 0, &[], None),
-    ("a tree", &[&[1, 2], &[], &[], &[0]], 4, &[3], None),
-    ("no roots", &[&[], &[]], 2, &[], None),
-    ("roots in any order", &[&[], &[0], &[]], 3, &[2, 1], None),
+const ROOTED: [Rooted; 12] = [
+    // A tree.
+    (4, &[(0, 1), (0, 2), (3, 0)], 4, &[FOURTH], None),
+    // Roots in any order.
+    (3, &[(1, 0)], 3, &[THIRD, SECOND], None),
+    // Cycle before roots.
+    (1, &[(0, 0)], 1, &[ABSENT], Some(Cycle(0))),
+    // An absent root.
+    (1, &[], 1, &[FIRST, SECOND], Some(RootOutOfRange(1))),
+    // No expression.
+    (2, &[], 1, &[SECOND], Some(RootOutOfRange(0))),
+    // Absent covers nothing.
+    (2, &[(1, 0)], 1, &[FIRST, SECOND], Some(RootOutOfRange(1))),
+    // Listed twice.
+    (1, &[], 1, &[FIRST, FIRST], Some(RootRepeated(1))),
+    // Under a later root.
+    (2, &[(1, 0)], 2, &[FIRST, SECOND], Some(RootUnderRoot(0))),
+    // Under an earlier root.
+    (2, &[(1, 0)], 2, &[SECOND, FIRST], Some(RootUnderRoot(1))),
+    // Far under a root.
     (
-        "a kid of two",
-        &[&[2], &[2], &[]],
         3,
-        &[],
-        Some(SharedChild(2)),
-    ),
-    ("a kid twice", &[&[], &[0, 0]], 2, &[], Some(SharedChild(0))),
-    (
-        "first edge",
-        &[&[3, 4], &[4], &[3], &[], &[]],
-        5,
-        &[],
-        Some(SharedChild(4)),
-    ),
-    (
-        "shared before cycle",
-        &[&[0, 0]],
-        1,
-        &[],
-        Some(SharedChild(0)),
-    ),
-    ("its own kid", &[&[0]], 1, &[], Some(Cycle(0))),
-    ("a cycle of two", &[&[1], &[0]], 2, &[], Some(Cycle(0))),
-    (
-        "hanging on a cycle",
-        &[&[], &[0, 2], &[1]],
+        &[(1, 0), (2, 1)],
         3,
-        &[],
-        Some(Cycle(0)),
-    ),
-    (
-        "two cycles",
-        &[&[], &[2], &[1], &[4], &[3]],
-        5,
-        &[],
-        Some(Cycle(1)),
-    ),
-    ("cycle before roots", &[&[0]], 1, &[9], Some(Cycle(0))),
-    (
-        "an absent root",
-        &[&[]],
-        1,
-        &[0, 1],
-        Some(RootOutOfRange(1)),
-    ),
-    (
-        "no expression",
-        &[&[], &[]],
-        1,
-        &[1],
-        Some(RootOutOfRange(0)),
-    ),
-    (
-        "absent covers nothing",
-        &[&[], &[0]],
-        1,
-        &[0, 1],
-        Some(RootOutOfRange(1)),
-    ),
-    ("listed twice", &[&[]], 1, &[0, 0], Some(RootRepeated(1))),
-    (
-        "under a later root",
-        &[&[], &[0]],
-        2,
-        &[0, 1],
-        Some(RootUnderRoot(0)),
-    ),
-    (
-        "under an earlier root",
-        &[&[], &[0]],
-        2,
-        &[1, 0],
+        &[THIRD, FIRST],
         Some(RootUnderRoot(1)),
     ),
+    // Under and twice.
     (
-        "far under a root",
-        &[&[], &[0], &[1]],
-        3,
-        &[2, 0],
-        Some(RootUnderRoot(1)),
-    ),
-    (
-        "under and twice",
-        &[&[], &[0]],
         2,
-        &[0, 0, 1],
+        &[(1, 0)],
+        2,
+        &[FIRST, FIRST, SECOND],
         Some(RootUnderRoot(0)),
     ),
-    ("under no expression", &[&[], &[0]], 1, &[0], None),
+    // Under no expression.
+    (2, &[(1, 0)], 1, &[FIRST], None),
 ];
 
-/// The first fault of a graph with this many expressions and these roots.
+/// The first fault of a graph.
 fn fault_found(
     alloc: Global,
-    kids: &[&[usize]],
-    exprs: u32,
-    nodes: &[u32],
+    count: usize,
+    edges: &[Edge],
+    lengths: Ends,
+    roots: &[Root],
 ) -> Result<Option<ForestFault>, Fail> {
-    let rows = rows_of(alloc, kids)?;
-    let roots = roots_of(alloc, nodes)?;
-    fault_of(alloc, &rows, ends(exprs, 0, 0), &roots)
+    let rows = rows_of(alloc, count, edges)?;
+    fault_of(alloc, &rows, lengths, roots)
 }
 
 #[test]
 fn each_graph_has_its_fault(rt: HostRuntime) -> Result<(), Fail> {
-    for (name, kids, exprs, nodes, fault) in &GRAPHS {
-        let found = fault_found(rt.alloc(), kids, *exprs, nodes)?;
-        assert!(rt; found == *fault, "at {name}");
+    for (at, (count, edges, fault)) in SHAPES.iter().enumerate() {
+        let found = fault_found(rt.alloc(), *count as usize, edges, only_exprs(*count), &[])?;
+        assert!(rt; found == *fault, "case {at}");
     }
     Ok(())
 }
 
-/// The first fault of three nodes of which the first two are roots with these ends.
-fn fault_of_ends(alloc: Global, first: Ends, second: Ends) -> Result<Option<ForestFault>, Fail> {
-    let rows = rows_of(alloc, &[&[], &[], &[]])?;
-    let roots = [
-        Root {
-            node: 0,
-            ends: first,
-        },
-        Root {
-            node: 1,
-            ends: second,
-        },
-    ];
-    fault_of(alloc, &rows, LENGTHS, &roots)
+#[test]
+fn each_list_of_roots_has_its_fault(rt: HostRuntime) -> Result<(), Fail> {
+    for (at, (count, edges, exprs, roots, fault)) in ROOTED.iter().enumerate() {
+        let found = fault_found(rt.alloc(), *count, edges, only_exprs(*exprs), roots)?;
+        assert!(rt; found == *fault, "case {at}");
+    }
+    Ok(())
 }
 
 /// The lengths of the arenas.
@@ -159,50 +158,69 @@ const LENGTHS: Ends = Ends {
     bindings: 1,
 };
 
+/// The ends of two roots in three nodes, each of expressions, patterns and bindings, and the first fault.
+const ENDS: [([u32; 3], [u32; 3], Option<ForestFault>); 9] = [
+    ([1, 0, 0], [3, 2, 1], None),
+    ([2, 2, 1], [2, 2, 1], None),
+    // Past the arenas.
+    ([4, 0, 0], [4, 2, 1], Some(RootEnds(0))),
+    ([1, 3, 0], [3, 3, 1], Some(RootEnds(0))),
+    ([1, 0, 2], [3, 2, 2], Some(RootEnds(0))),
+    ([1, 0, 0], [4, 2, 1], Some(RootEnds(1))),
+    // Falling.
+    ([2, 1, 1], [1, 1, 1], Some(RootEnds(1))),
+    ([2, 1, 1], [2, 0, 1], Some(RootEnds(1))),
+    ([2, 1, 1], [2, 1, 0], Some(RootEnds(1))),
+];
+
+fn ends([exprs, pats, bindings]: [u32; 3]) -> Ends {
+    Ends {
+        exprs,
+        pats,
+        bindings,
+    }
+}
+
 #[test]
 fn ends_rise_within_the_arenas(rt: HostRuntime) -> Result<(), Fail> {
-    let past = Some(RootEnds(0));
-    let falls = Some(RootEnds(1));
-    let cases = [
-        (ends(1, 0, 0), ends(3, 2, 1), None),
-        (ends(2, 2, 1), ends(2, 2, 1), None),
-        (ends(4, 0, 0), ends(4, 2, 1), past),
-        (ends(1, 3, 0), ends(3, 3, 1), past),
-        (ends(1, 0, 2), ends(3, 2, 2), past),
-        (ends(1, 0, 0), ends(4, 2, 1), falls),
-        (ends(2, 1, 1), ends(1, 1, 1), falls),
-        (ends(2, 1, 1), ends(2, 0, 1), falls),
-        (ends(2, 1, 1), ends(2, 1, 0), falls),
-    ];
-    for (first, second, fault) in &cases {
-        let found = fault_of_ends(rt.alloc(), *first, *second)?;
-        let fit = first.fit(ends(0, 0, 0), LENGTHS) && second.fit(*first, LENGTHS);
+    for (first, second, fault) in &ENDS {
+        let (first, second) = (ends(*first), ends(*second));
+        let roots = [
+            Root {
+                node: 0,
+                ends: first,
+            },
+            Root {
+                node: 1,
+                ends: second,
+            },
+        ];
+        let found = fault_found(rt.alloc(), 3, &[], LENGTHS, &roots)?;
+        let fit = first.fit(NO_ENDS, LENGTHS) && second.fit(first, LENGTHS);
         assert!(rt; found == *fault && fit == fault.is_none());
     }
     Ok(())
 }
 
-/// A table of a chain, in which each node is the only kid of the next.
-fn chain_of(alloc: Global, len: usize) -> Result<Rows, Fail> {
-    let mut rows = Rows::new(alloc);
-    begin_row(&mut rows)?;
-    for node in 1..len {
-        begin_row(&mut rows)?;
-        push_kid(&mut rows, node - 1)?;
+/// Adds a row with the kid before it, where there is one.
+fn add_link(rows: &mut Rows, kid: Option<usize>) -> Result<(), Fail> {
+    rows.begin_row()?;
+    if let Some(kid) = kid {
+        rows.push_kid(kid)?;
     }
-    Ok(rows)
+    Ok(())
 }
 
-/// The first fault of a chain of 1,000,000 nodes whose ends are roots, and of the chain with one node more, which is its own
-/// kid.
+/// The first fault of a chain of 1,000,000 nodes, in which each is the only kid of the next and whose ends are roots, and of the
+/// chain with one node more, which is its own kid.
 fn faults_of_the_chain(alloc: Global) -> Result<(Option<ForestFault>, Option<ForestFault>), Fail> {
-    let lengths = ends(1_000_000, 0, 0);
-    let mut rows = chain_of(alloc, 1_000_000)?;
-    let roots = roots_of(alloc, &[999_999, 0])?;
-    let chain = fault_of(alloc, &rows, lengths, &roots)?;
-    begin_row(&mut rows)?;
-    push_kid(&mut rows, 1_000_000)?;
-    let cycle = fault_of(alloc, &rows, lengths, &roots)?;
+    let mut rows = Rows::new(alloc);
+    for node in 0..1_000_000_usize {
+        add_link(&mut rows, node.checked_sub(1))?;
+    }
+    let chain = fault_of(alloc, &rows, only_exprs(1_000_000), &[LAST, FIRST])?;
+    add_link(&mut rows, Some(1_000_000))?;
+    let cycle = fault_of(alloc, &rows, only_exprs(1_000_000), &[LAST, FIRST])?;
     Ok((chain, cycle))
 }
 

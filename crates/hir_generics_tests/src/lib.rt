@@ -2,8 +2,10 @@
 #![tactic(auto)]
 
 #[cfg(test)]
-mod again;
+mod data;
 #[cfg(test)]
 mod generics;
+#[cfg(test)]
+mod memory;
 #[cfg(test)]
 mod params;

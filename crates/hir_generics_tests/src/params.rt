@@ -1,68 +1,81 @@
-//! Generic parameters and predicates, one of each kind, for the tests. Lists that are still growing stand in boxes, since they are
-//! dropped wherever a call fails.
-use crate::again;
+//! Generic parameters for the tests. They are written as lists of what is added one after the other, so that one function makes them all.
+use crate::memory::{self, in_a_box};
 use hir_base::{Arena, Idx, LifetimeParamKind, Name, Seq, TypeOrConstParamKind};
 use hir_defs::{
     ConstParamData, GenericParams, LifetimeBoundType, LifetimeParamData, TypeOrConstParamData,
     TypeParamData, TypeParamProvenance, WherePredicate,
 };
-use hir_node::{PathId, TraitBoundModifier, TypeBound};
+use hir_node::{ConstRef, PathId, TraitBoundModifier, TypeBound};
 use std::alloc::{AllocError, Global};
 use std::test::Fail;
 
-/// Types and constants.
-pub type Types = Arena<TypeOrConstParamKind, TypeOrConstParamData>;
+/// What is added next.
+pub enum Entry {
+    /// A type of this name, written in a list.
+    Type(&'static str),
+    /// The type `Self` of a trait.
+    TraitSelf,
+    /// A constant of this name, without a default.
+    Constant(&'static str),
+    /// An early bound lifetime of this name.
+    Early(&'static str),
+    /// A late bound lifetime of this name.
+    Late(&'static str),
+    /// The predicate of `meets_for_a`.
+    Meets,
+    /// The predicate of `outlives`.
+    Outlives,
+}
 
-/// Lifetimes.
-pub type Lifetimes = Arena<LifetimeParamKind, LifetimeParamData>;
-
-/// A type parameter of this name that comes from there, without a default.
-fn type_from(name: Name, provenance: TypeParamProvenance) -> TypeParamData {
-    TypeParamData {
+/// A type of this name that comes from there, without a default.
+pub fn type_from(
+    alloc: Global,
+    text: &str,
+    provenance: TypeParamProvenance,
+) -> Result<TypeParamData, AllocError> {
+    let name = Name::new(alloc, text)?;
+    Ok(TypeParamData {
         name: Some(name),
         default: None,
         provenance,
-    }
-}
-
-/// A type parameter of this name, written in a list.
-pub fn listed(alloc: Global, text: &str) -> Result<TypeParamData, AllocError> {
-    Ok(type_from(
-        again::name(alloc, text)?,
-        TypeParamProvenance::TypeParamList,
-    ))
-}
-
-/// A constant parameter of this name, of type 4 and without a default.
-pub fn constant(alloc: Global, text: &str) -> Result<ConstParamData, AllocError> {
-    Ok(ConstParamData {
-        name: again::name(alloc, text)?,
-        ty: Idx::from_raw(4),
-        default: None,
     })
 }
 
-/// A lifetime parameter of this name.
-pub fn lifetime(name: Name, bound_type: LifetimeBoundType) -> LifetimeParamData {
-    LifetimeParamData { name, bound_type }
+/// A constant of this name and of type 4, with this default.
+pub fn constant(
+    alloc: Global,
+    text: &str,
+    default: Option<ConstRef>,
+) -> Result<ConstParamData, AllocError> {
+    let name = Name::new(alloc, text)?;
+    Ok(ConstParamData {
+        name,
+        ty: Idx::from_raw(4),
+        default,
+    })
 }
 
-/// Type 0 meets the bound of the path that this type is, after `for<'a>` where lifetimes are given.
-pub fn meets(lifetimes: Option<Seq<Name>>, path: u32) -> WherePredicate {
-    let path = PathId::from_type_ref_unchecked(Idx::from_raw(path));
-    WherePredicate::TypeBound {
-        lifetimes,
-        target: Idx::from_raw(0),
-        bound: TypeBound::Path(path, TraitBoundModifier::None),
-    }
+/// A lifetime of this name that is bound so.
+pub fn lifetime(
+    alloc: Global,
+    text: &str,
+    bound_type: LifetimeBoundType,
+) -> Result<LifetimeParamData, AllocError> {
+    let name = Name::new(alloc, text)?;
+    Ok(LifetimeParamData { name, bound_type })
 }
 
 /// Type 0 meets the bound of the path that type 1 is, after `for<'a>`.
 pub fn meets_for_a(alloc: Global) -> Result<WherePredicate, AllocError> {
-    let name = again::name(alloc, "'a")?;
+    let name = Name::new(alloc, "'a")?;
     let mut lifetimes = Seq::new(alloc);
-    again::push(&mut lifetimes, name)?;
-    Ok(meets(Some(lifetimes), 1))
+    memory::push(&mut lifetimes, name)?;
+    let path = PathId::from_type_ref_unchecked(Idx::from_raw(1));
+    Ok(WherePredicate::TypeBound {
+        lifetimes: Some(lifetimes),
+        target: Idx::from_raw(0),
+        bound: TypeBound::Path(path, TraitBoundModifier::None),
+    })
 }
 
 /// Lifetime 0 outlives lifetime 1.
@@ -73,118 +86,56 @@ pub fn outlives() -> WherePredicate {
     }
 }
 
-/// No types and constants so far.
-pub fn no_types(alloc: Global) -> Result<Box<Types>, AllocError> {
-    again::in_a_box(alloc, Arena::new(alloc))
-}
+type Types = Arena<TypeOrConstParamKind, TypeOrConstParamData>;
 
-/// Adds a type of this name that comes from there.
-pub fn add_type(
+type Lifetimes = Arena<LifetimeParamKind, LifetimeParamData>;
+
+/// Adds what the entry says to the one of the three that it belongs to.
+fn add(
     alloc: Global,
     types: &mut Types,
-    text: &str,
-    provenance: TypeParamProvenance,
-) -> Result<(), Fail> {
-    let added = type_from(again::name(alloc, text)?, provenance);
-    again::alloc(types, TypeOrConstParamData::from(added))
-}
-
-/// Adds a constant of this name.
-pub fn add_constant(alloc: Global, types: &mut Types, text: &str) -> Result<(), Fail> {
-    let added = constant(alloc, text)?;
-    again::alloc(types, TypeOrConstParamData::from(added))
-}
-
-fn add_lifetime(
-    alloc: Global,
     lifetimes: &mut Lifetimes,
-    text: &str,
-    bound_type: LifetimeBoundType,
+    predicates: &mut Seq<WherePredicate>,
+    entry: &Entry,
 ) -> Result<(), Fail> {
-    let name = again::name(alloc, text)?;
-    again::alloc(lifetimes, lifetime(name, bound_type))
+    match entry {
+        Entry::Type(text) => {
+            let added = type_from(alloc, text, TypeParamProvenance::TypeParamList)?;
+            memory::add(types, TypeOrConstParamData::from(added))
+        }
+        Entry::TraitSelf => {
+            let added = type_from(alloc, "Self", TypeParamProvenance::TraitSelf)?;
+            memory::add(types, TypeOrConstParamData::from(added))
+        }
+        Entry::Constant(text) => {
+            let added = constant(alloc, text, None)?;
+            memory::add(types, TypeOrConstParamData::from(added))
+        }
+        Entry::Early(text) => {
+            let added = lifetime(alloc, text, LifetimeBoundType::EarlyBound)?;
+            memory::add(lifetimes, added)
+        }
+        Entry::Late(text) => {
+            let added = lifetime(alloc, text, LifetimeBoundType::LateBound)?;
+            memory::add(lifetimes, added)
+        }
+        Entry::Meets => Ok(memory::push(predicates, meets_for_a(alloc)?)?),
+        Entry::Outlives => Ok(memory::push(predicates, outlives())?),
+    }
 }
 
-/// Adds the lifetimes `'a` to `'e`: early bound, late bound, early bound, late bound, early bound. Three are bound early and two
-/// late, so that no count of the ones is right for the others.
-fn add_five(alloc: Global, lifetimes: &mut Lifetimes) -> Result<(), Fail> {
-    add_lifetime(alloc, lifetimes, "'a", LifetimeBoundType::EarlyBound)?;
-    add_lifetime(alloc, lifetimes, "'b", LifetimeBoundType::LateBound)?;
-    add_lifetime(alloc, lifetimes, "'c", LifetimeBoundType::EarlyBound)?;
-    add_lifetime(alloc, lifetimes, "'d", LifetimeBoundType::LateBound)?;
-    add_lifetime(alloc, lifetimes, "'e", LifetimeBoundType::EarlyBound)
-}
-
-/// Those five lifetimes.
-pub fn five_lifetimes(alloc: Global) -> Result<Box<Lifetimes>, Fail> {
-    let mut lifetimes = again::in_a_box(alloc, Arena::new(alloc))?;
-    add_five(alloc, &mut lifetimes)?;
-    Ok(lifetimes)
-}
-
-/// Adds the `Self` of a trait, the type `T` and the constant `N`.
-fn add_three(alloc: Global, types: &mut Types) -> Result<(), Fail> {
-    add_type(alloc, types, "Self", TypeParamProvenance::TraitSelf)?;
-    add_type(alloc, types, "T", TypeParamProvenance::TypeParamList)?;
-    add_constant(alloc, types, "N")
-}
-
-/// Those three.
-fn three_types(alloc: Global) -> Result<Box<Types>, Fail> {
-    let mut types = no_types(alloc)?;
-    add_three(alloc, &mut types)?;
-    Ok(types)
-}
-
-/// The two predicates of the tests.
-fn two_predicates(alloc: Global) -> Result<Box<Seq<WherePredicate>>, AllocError> {
-    let mut predicates = again::in_a_box(alloc, Seq::new(alloc))?;
-    let first = meets_for_a(alloc)?;
-    again::push(&mut predicates, first)?;
-    again::push(&mut predicates, outlives())?;
-    Ok(predicates)
-}
-
-/// These parameters and predicates.
-pub fn boxed(
-    alloc: Global,
-    types: Types,
-    lifetimes: Lifetimes,
-    predicates: Seq<WherePredicate>,
-) -> Result<Box<GenericParams>, AllocError> {
-    again::in_a_box(alloc, GenericParams::new(types, lifetimes, predicates))
-}
-
-/// Parameters that are these types and constants alone.
-pub fn only(alloc: Global, types: Box<Types>) -> Result<Box<GenericParams>, Fail> {
-    Ok(boxed(
-        alloc,
-        Box::into_inner(types),
-        Arena::new(alloc),
-        Seq::new(alloc),
-    )?)
-}
-
-/// One type of this name that comes from there.
-pub fn one_type(
-    alloc: Global,
-    text: &str,
-    provenance: TypeParamProvenance,
-) -> Result<Box<GenericParams>, Fail> {
-    let mut types = no_types(alloc)?;
-    add_type(alloc, &mut types, text, provenance)?;
-    only(alloc, types)
-}
-
-/// The types `Self` of a trait and `T`, the constant `N`, the five lifetimes, and two predicates.
-pub fn all_kinds(alloc: Global) -> Result<Box<GenericParams>, Fail> {
-    let types = three_types(alloc)?;
-    let lifetimes = five_lifetimes(alloc)?;
-    let predicates = two_predicates(alloc)?;
-    Ok(boxed(
-        alloc,
+/// The parameters and predicates of these entries. In a box, so that what a test drops is a pointer; so are the lists while they grow.
+pub fn made(alloc: Global, entries: &[Entry]) -> Result<Box<GenericParams>, Fail> {
+    let mut types = in_a_box(alloc, Arena::new(alloc))?;
+    let mut lifetimes = in_a_box(alloc, Arena::new(alloc))?;
+    let mut predicates = in_a_box(alloc, Seq::new(alloc))?;
+    for entry in entries {
+        add(alloc, &mut types, &mut lifetimes, &mut predicates, entry)?;
+    }
+    let params = GenericParams::new(
         Box::into_inner(types),
         Box::into_inner(lifetimes),
         Box::into_inner(predicates),
-    )?)
+    );
+    Ok(in_a_box(alloc, params)?)
 }

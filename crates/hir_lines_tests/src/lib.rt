@@ -1,9 +1,6 @@
 //! The tests of `hir_lines`: each form of a line with what it makes, and texts that are nearly lines.
-//! Every call that takes memory is made again where it was refused.
 #![tactic(auto)]
 
-#[cfg(test)]
-mod again;
 #[cfg(test)]
 mod bad;
 #[cfg(test)]
@@ -12,3 +9,5 @@ mod exprs;
 mod good;
 #[cfg(test)]
 mod ops;
+#[cfg(test)]
+mod says;

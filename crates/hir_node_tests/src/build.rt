@@ -1,23 +1,22 @@
-//! Lists, paths, generic arguments and numbers for the tests.
-use crate::again;
-use hir_base::{FunctionId, Idx, LangItemTarget, ModPath, Name, PathKind, Seq};
+//! Lists, paths and generic arguments for the tests.
+use hir_base::{Idx, ModPath, Name, PathKind, Seq};
 use hir_node::{
-    AssociatedTypeBinding, FloatTypeWrapper, GenericArg, GenericArgs, GenericArgsParentheses,
-    NormalPath, Path, TypeBound, TypeRefId,
+    AssociatedTypeBinding, Boxed, GenericArg, GenericArgs, GenericArgsParentheses, NormalPath,
+    Path, TypeBound, TypeRefId,
 };
 use std::alloc::{AllocError, Global};
 
 /// A list of one item.
 pub fn one<T: Drop>(alloc: Global, item: T) -> Result<Seq<T>, AllocError> {
     let mut list = Seq::new(alloc);
-    again::push(&mut list, item)?;
+    list.push(item)?;
     Ok(list)
 }
 
 /// A list of two items.
 pub fn two<T: Drop>(alloc: Global, first: T, second: T) -> Result<Seq<T>, AllocError> {
     let mut list = one(alloc, first)?;
-    again::push(&mut list, second)?;
+    list.push(second)?;
     Ok(list)
 }
 
@@ -25,8 +24,7 @@ pub fn two<T: Drop>(alloc: Global, first: T, second: T) -> Result<Seq<T>, AllocE
 pub fn names(alloc: Global, texts: &[&str]) -> Result<Seq<Name>, AllocError> {
     let mut list = Seq::new(alloc);
     for text in texts {
-        let name = again::name(alloc, text)?;
-        again::push(&mut list, name)?;
+        list.push(Name::new(alloc, text)?)?;
     }
     Ok(list)
 }
@@ -37,28 +35,9 @@ pub fn plain(alloc: Global, texts: &[&str]) -> Result<ModPath, AllocError> {
     Ok(ModPath::from_segments(PathKind::Plain, segments))
 }
 
-/// The plain path of these names, without arguments.
-pub fn bare(alloc: Global, texts: &[&str]) -> Result<Path, AllocError> {
-    Ok(Path::BarePath(plain(alloc, texts)?))
-}
-
-/// For each name a place without arguments.
-pub fn places(alloc: Global, texts: &[&str]) -> Result<Seq<Option<GenericArgs>>, AllocError> {
-    let mut places = Seq::new(alloc);
-    for _text in texts {
-        again::push(&mut places, None)?;
-    }
-    Ok(places)
-}
-
 /// Type 7, the anchor of the tests.
 pub fn anchor() -> TypeRefId {
     Idx::from_raw(7)
-}
-
-/// These names behind the anchor, with a place without arguments for each.
-pub fn anchored(alloc: Global, texts: &[&str]) -> Result<Path, AllocError> {
-    with_lists(alloc, places(alloc, texts)?, Some(anchor()), texts)
 }
 
 /// One type as argument, and these bindings.
@@ -75,25 +54,22 @@ pub fn type_args(
     })
 }
 
-/// For each name a place, the first with type 3 as its argument.
-pub fn lists_first(alloc: Global, texts: &[&str]) -> Result<Seq<Option<GenericArgs>>, AllocError> {
-    let args = type_args(alloc, 3, Seq::new(alloc))?;
-    let mut lists = one(alloc, Some(args))?;
-    for _place in 1..texts.len() {
-        again::push(&mut lists, None)?;
+/// For each of so many names a place, the one at `with_args` with type 3 as its argument.
+pub fn lists(
+    alloc: Global,
+    count: usize,
+    with_args: Option<usize>,
+) -> Result<Seq<Option<GenericArgs>>, AllocError> {
+    let mut lists = Seq::new(alloc);
+    for at in 0..count {
+        let args = if with_args == Some(at) {
+            Some(type_args(alloc, 3, Seq::new(alloc))?)
+        } else {
+            None
+        };
+        lists.push(args)?;
     }
     Ok(lists)
-}
-
-/// The plain path of these names, the first with type 3 as its argument.
-pub fn with_args_first(alloc: Global, texts: &[&str]) -> Result<Path, AllocError> {
-    with_lists(alloc, lists_first(alloc, texts)?, None, texts)
-}
-
-/// The path `a::b`, the second name with type 3 as its argument.
-pub fn with_args_last(alloc: Global) -> Result<Path, AllocError> {
-    let args = type_args(alloc, 3, Seq::new(alloc))?;
-    with_lists(alloc, two(alloc, None, Some(args))?, None, &["a", "b"])
 }
 
 /// The names behind the anchor, with these lists.
@@ -108,45 +84,27 @@ pub fn with_lists(
         type_anchor,
         mod_path: plain(alloc, texts)?,
     };
-    Ok(Path::Normal(again::boxed(alloc, path)?))
+    Ok(Path::Normal(Boxed::new(alloc, path)?))
+}
+
+/// The plain path of these names, the first with type 3 as its argument.
+pub fn with_args_first(alloc: Global, texts: &[&str]) -> Result<Path, AllocError> {
+    with_lists(alloc, lists(alloc, texts.len(), Some(0))?, None, texts)
 }
 
 /// The path `a::b` behind the anchor, whose second name has the nested arguments.
 pub fn nested_path(alloc: Global) -> Result<Path, AllocError> {
-    let args = nested(alloc)?;
-    let lists = two(alloc, None, Some(args))?;
+    let lists = two(alloc, None, Some(nested(alloc)?))?;
     with_lists(alloc, lists, Some(anchor()), &["a", "b"])
-}
-
-/// Function 4, as an item of the language.
-pub fn item() -> LangItemTarget {
-    LangItemTarget::FunctionId(FunctionId::from_raw(4))
 }
 
 /// `<1, B<2, C = 3>: '5 = 4>`: the binding `B` has arguments of its own, a type and a bound.
 pub fn nested(alloc: Global) -> Result<GenericArgs, AllocError> {
+    let inner = binding(alloc, "C", None, 3, Seq::new(alloc))?;
+    let args = type_args(alloc, 2, one(alloc, inner)?)?;
     let bounds = one(alloc, TypeBound::Lifetime(Idx::from_raw(5)))?;
-    bound_args(alloc, 1, outer(alloc, bounds)?)
-}
-
-// This type as argument, and this binding.
-fn bound_args(
-    alloc: Global,
-    ty: u32,
-    binding: AssociatedTypeBinding,
-) -> Result<GenericArgs, AllocError> {
-    type_args(alloc, ty, one(alloc, binding)?)
-}
-
-/// The binding `B<2, C = 3> = 4` with these bounds.
-pub fn outer(alloc: Global, bounds: Seq<TypeBound>) -> Result<AssociatedTypeBinding, AllocError> {
-    let args = bound_args(alloc, 2, inner(alloc)?)?;
-    binding(alloc, "B", Some(args), 4, bounds)
-}
-
-/// The binding `C = 3`.
-pub fn inner(alloc: Global) -> Result<AssociatedTypeBinding, AllocError> {
-    binding(alloc, "C", None, 3, Seq::new(alloc))
+    let outer = binding(alloc, "B", Some(args), 4, bounds)?;
+    type_args(alloc, 1, one(alloc, outer)?)
 }
 
 fn binding(
@@ -157,15 +115,9 @@ fn binding(
     bounds: Seq<TypeBound>,
 ) -> Result<AssociatedTypeBinding, AllocError> {
     Ok(AssociatedTypeBinding {
-        name: again::name(alloc, name)?,
+        name: Name::new(alloc, name)?,
         args,
         type_ref: Some(Idx::from_raw(ty)),
         bounds,
     })
-}
-
-/// The floating point number with this text.
-pub fn float(alloc: Global, text: &str) -> Result<FloatTypeWrapper, AllocError> {
-    let text = again::text(alloc, text)?;
-    Ok(FloatTypeWrapper::new(text))
 }

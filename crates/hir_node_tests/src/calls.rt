@@ -5,8 +5,8 @@ ghost use Rattle.std.specs.Prelude.{List};
 ghost use Rattle.hir_node.specs.ChildCalls.{Call as NodeCall};
 ghost use Rattle.hir_node.specs.Runs.{MayRun};
 
+use crate::build;
 use crate::wanted::{Call, Wanted};
-use crate::{again, build};
 use hir_base::{Idx, Seq};
 use hir_node::{
     ConstRef, Expr, GenericArg, GenericArgs, GenericArgsParentheses, Path, PathId, StoreVisitor,
@@ -23,6 +23,17 @@ fn parts_give(calls: &[Call]) -> bool {
     wanted.on_pat_opt(Some(Idx::from_raw(2)));
     wanted.on_type_opt(Some(Idx::from_raw(3)));
     wanted.on_lifetime_opt(Some(Idx::from_raw(4)));
+    wanted.all_met()
+}
+
+// Whether absent parts make no call.
+fn absent_parts_give_none() -> bool {
+    let mut wanted = Wanted::new(&[]);
+    wanted.on_expr_opt(None);
+    wanted.on_pat_opt(None);
+    wanted.on_type_opt(None);
+    wanted.on_lifetime_opt(None);
+    wanted.on_generic_args_opt(None);
     wanted.all_met()
 }
 
@@ -47,18 +58,8 @@ const LISTS: [Call; 4] = [Call::Expr(1), Call::Expr(2), Call::Pat(3), Call::Type
 #[test]
 fn parts_and_lists_give_a_call_each(rt: HostRuntime) {
     assert!(rt; parts_give(&PARTS));
+    assert!(rt; absent_parts_give_none());
     assert!(rt; lists_give(&LISTS));
-}
-
-#[test]
-fn absent_parts_give_no_call(rt: HostRuntime) {
-    let mut wanted = Wanted::new(&[]);
-    wanted.on_expr_opt(None);
-    wanted.on_pat_opt(None);
-    wanted.on_type_opt(None);
-    wanted.on_lifetime_opt(None);
-    wanted.on_generic_args_opt(None);
-    assert!(rt; wanted.all_met());
 }
 
 fn path_bound(ty: u32) -> TypeBound {
@@ -79,13 +80,11 @@ fn bounds_give(bounds: &[TypeBound], error: &TypeBound, path: &TypeBound, calls:
 
 #[test]
 fn a_bound_gives_its_type_or_lifetime(rt: HostRuntime) -> Result<(), Fail> {
-    let bounds = build::two(
-        rt.alloc(),
-        path_bound(1),
-        TypeBound::Lifetime(Idx::from_raw(2)),
-    )?;
+    let lifetime = TypeBound::Lifetime(Idx::from_raw(2));
+    let bounds = build::two(rt.alloc(), path_bound(1), lifetime)?;
     const CALLS: [Call; 3] = [Call::Type(1), Call::Lifetime(2), Call::Type(3)];
     let holds = bounds_give(bounds.as_slice(), &TypeBound::Error, &path_bound(3), &CALLS);
+    drop(bounds);
     assert!(rt; holds);
     Ok(())
 }
@@ -98,35 +97,25 @@ const NESTED: [Call; 5] = [
     Call::Lifetime(5),
 ];
 
-// The laws of arguments and of their bindings, which have nothing to run.
-fn have_laws(args: &GenericArgs) {
+// Whether a visit of the arguments makes the calls `NESTED`, and so do the visitor's calls with them. Their laws have nothing to run.
+fn give_nested(args: &GenericArgs) -> bool {
     laws::calls_of_generic_args(args);
     for binding in args.bindings.as_slice() {
         laws::calls_of_binding(binding);
     }
-}
-
-// Whether a visit of the arguments makes the calls `NESTED`.
-fn a_visit_gives_nested(args: &GenericArgs) -> bool {
-    have_laws(args);
     let mut wanted = Wanted::new(&NESTED);
     visit_generic_args(&mut wanted, args);
-    wanted.all_met()
-}
-
-// The same of the visitor's calls with the arguments.
-fn calls_give_nested(args: &GenericArgs) -> bool {
-    let mut wanted = Wanted::new(&NESTED);
-    wanted.on_generic_args(args);
+    let mut wanted_on = Wanted::new(&NESTED);
+    wanted_on.on_generic_args(args);
     let mut wanted_opt = Wanted::new(&NESTED);
     wanted_opt.on_generic_args_opt(Some(args));
-    wanted.all_met() && wanted_opt.all_met()
+    wanted.all_met() && wanted_on.all_met() && wanted_opt.all_met()
 }
 
 #[test]
 fn bindings_give_their_own_arguments_first(rt: HostRuntime) -> Result<(), Fail> {
     let args = build::nested(rt.alloc())?;
-    let holds = a_visit_gives_nested(&args) && calls_give_nested(&args);
+    let holds = give_nested(&args);
     drop(args);
     assert!(rt; holds);
     Ok(())
@@ -141,26 +130,14 @@ fn lent_gives(path: &Path, calls: &[Call]) -> bool {
     wanted.all_met()
 }
 
-#[test]
-fn a_visitor_can_be_lent(rt: HostRuntime) -> Result<(), Fail> {
-    let path = build::with_args_first(rt.alloc(), &["a", "b"])?;
-    let holds = lent_gives(&path, &[Call::Type(3), Call::Expr(1)]);
-    drop(path);
-    assert!(rt; holds);
-    Ok(())
-}
-
 // `<1, '2, 3>`, where 3 is a constant.
 fn args_of_each_kind(alloc: Global) -> Result<GenericArgs, AllocError> {
-    let mut args = build::two(
-        alloc,
-        GenericArg::Ty(Idx::from_raw(1)),
-        GenericArg::Lifetime(Idx::from_raw(2)),
-    )?;
+    let ty = GenericArg::Ty(Idx::from_raw(1));
+    let mut args = build::two(alloc, ty, GenericArg::Lifetime(Idx::from_raw(2)))?;
     let constant = ConstRef {
         expr: Idx::from_raw(3),
     };
-    again::push(&mut args, GenericArg::Const(constant))?;
+    args.push(GenericArg::Const(constant))?;
     Ok(GenericArgs {
         args,
         has_self_type: false,
@@ -189,8 +166,9 @@ fn lent_alone_gives(args: &GenericArgs, calls: &[Call]) -> bool {
     wanted.all_met()
 }
 
+// A visitor can be lent, and one that is lent is one itself.
 #[test]
-fn a_lent_visitor_is_one_itself(rt: HostRuntime) -> Result<(), Fail> {
+fn a_visitor_can_be_lent(rt: HostRuntime) -> Result<(), Fail> {
     const CALLS: [Call; 5] = [
         Call::Type(1),
         Call::Lifetime(2),
@@ -198,9 +176,12 @@ fn a_lent_visitor_is_one_itself(rt: HostRuntime) -> Result<(), Fail> {
         Call::Pat(4),
         Call::Expr(5),
     ];
+    let path = build::with_args_first(rt.alloc(), &["a", "b"])?;
+    let lent = lent_gives(&path, &[Call::Type(3), Call::Expr(1)]);
+    drop(path);
     let args = args_of_each_kind(rt.alloc())?;
-    let holds = lent_alone_gives(&args, &CALLS);
+    let lent_alone = lent_alone_gives(&args, &CALLS);
     drop(args);
-    assert!(rt; holds);
+    assert!(rt; lent && lent_alone);
     Ok(())
 }

@@ -1,190 +1,155 @@
 //! Paths: how they are made, what they are made of, and the paths that they are qualified by.
-use crate::{again, build};
-use hir_base::{ModPath, Name, PathKind, Seq};
-use hir_node::{GenericArgs, NormalPath, Path, TypeRefId};
+use crate::build;
+use hir_base::{FunctionId, LangItemTarget, ModPath, Name, PathKind, Seq};
+use hir_node::{Path, TypeRefId};
 use std::alloc::{AllocError, Global};
 use std::mem::drop;
 use std::process::Abort;
 use std::test::Fail;
 
-// A path of the tests, before it is made: so a test names paths, and holds none where it asserts.
-#[derive(Clone, Copy)]
+// A path of the tests, before it is made: so a table can hold it, and no test holds a path where it asserts.
 enum Made<'a> {
     Krate,
     Item,
     Bare(&'a [&'a str]),
     Anchored(&'a [&'a str]),
-    WithArgsFirst(&'a [&'a str]),
-    WithArgsLast,
+    // Type 3 is the argument of the name at this place.
+    WithArgs(&'a [&'a str], usize),
 }
 
-fn make(alloc: Global, made: Made<'_>) -> Result<Path, AllocError> {
+fn make(alloc: Global, made: &Made<'_>) -> Result<Path, AllocError> {
     match made {
-        Made::Krate => Ok(krate(alloc)),
-        Made::Item => Ok(Path::LangItem(build::item(), None)),
-        Made::Bare(texts) => build::bare(alloc, texts),
-        Made::Anchored(texts) => build::anchored(alloc, texts),
-        Made::WithArgsFirst(texts) => build::with_args_first(alloc, texts),
-        Made::WithArgsLast => build::with_args_last(alloc),
+        Made::Krate => {
+            let segments = Seq::new(alloc);
+            Ok(Path::BarePath(ModPath::from_segments(PathKind::Crate, segments)))
+        }
+        Made::Item => Ok(item()),
+        Made::Bare(texts) => Ok(Path::BarePath(build::plain(alloc, texts)?)),
+        Made::Anchored(texts) => anchored(alloc, texts),
+        Made::WithArgs(texts, at) => {
+            let lists = build::lists(alloc, texts.len(), Some(*at))?;
+            build::with_lists(alloc, lists, None, texts)
+        }
     }
 }
 
-fn krate(alloc: Global) -> Path {
-    Path::BarePath(ModPath::from_segments(PathKind::Crate, Seq::new(alloc)))
+// Function 4, as an item of the language.
+fn item() -> Path {
+    Path::LangItem(LangItemTarget::FunctionId(FunctionId::from_raw(4)), None)
 }
 
-fn same(alloc: Global, path: &Path, made: Made<'_>) -> Result<bool, AllocError> {
+// These names behind the anchor, with a place without arguments for each.
+fn anchored(alloc: Global, texts: &[&str]) -> Result<Path, AllocError> {
+    let lists = build::lists(alloc, texts.len(), None)?;
+    build::with_lists(alloc, lists, Some(build::anchor()), texts)
+}
+
+// Whether the path is this one. The path is taken, so that nothing is held where the answer is asked for.
+fn is(alloc: Global, path: Path, made: &Made<'_>) -> Result<bool, AllocError> {
     let other = make(alloc, made)?;
-    let holds = *path == other;
+    let holds = path == other;
+    drop(path);
     drop(other);
     Ok(holds)
 }
 
-// Whether the path is this one. The path is taken, so that nothing is held where the answer is asked for.
-fn is(alloc: Global, path: Path, made: Made<'_>) -> Result<bool, AllocError> {
-    let answer = same(alloc, &path, made);
-    drop(path);
-    answer
-}
-
 // The path's qualifier. What the call asks of a `Normal` path is tested first.
 fn qualifier(rt: &impl Abort, alloc: Global, path: &Path) -> Result<Option<Path>, AllocError> {
-    match path {
-        Path::Normal(normal) => {
-            let normal = normal.get();
-            assert!(rt; normal.generic_args.len() == normal.mod_path.segments().len());
-            match path.qualifier(alloc) {
-                Ok(found) => Ok(found),
-                Err(_) => path.qualifier(alloc),
-            }
-        }
-        Path::BarePath(_) | Path::LangItem(_, _) => match path.qualifier(alloc) {
-            Ok(found) => Ok(found),
-            Err(_) => path.qualifier(alloc),
-        },
+    if let Path::Normal(normal) = path {
+        let normal = normal.get();
+        assert!(rt; normal.generic_args.len() == normal.mod_path.segments().len());
     }
+    path.qualifier(alloc)
 }
 
-fn qualifier_of(
-    rt: &impl Abort,
-    alloc: Global,
-    made: Made<'_>,
-) -> Result<Option<Path>, AllocError> {
-    let path = make(alloc, made)?;
-    let answer = qualifier(rt, alloc, &path);
-    drop(path);
-    answer
-}
-
-fn has_no_qualifier(rt: &impl Abort, alloc: Global, made: Made<'_>) -> Result<bool, AllocError> {
-    let found = qualifier_of(rt, alloc, made)?;
-    let holds = found.is_none();
-    drop(found);
-    Ok(holds)
-}
-
-#[test]
-fn paths_without_a_qualifier(rt: HostRuntime) -> Result<(), Fail> {
-    let alloc = rt.alloc();
-    assert!(&rt; has_no_qualifier(&rt, alloc, Made::Krate)?);
-    assert!(&rt; has_no_qualifier(&rt, alloc, Made::Anchored(&["f"]))?);
-    assert!(&rt; has_no_qualifier(&rt, alloc, Made::Item)?);
-    Ok(())
-}
-
-// Whether the path's qualifier is this one.
+// Whether the path's qualifier is this one, or there is none.
 fn is_qualified(
     rt: &impl Abort,
     alloc: Global,
-    made: Made<'_>,
-    wanted: Made<'_>,
+    made: &Made<'_>,
+    wanted: &Option<Made<'_>>,
 ) -> Result<bool, AllocError> {
-    match qualifier_of(rt, alloc, made)? {
-        None => Ok(false),
-        Some(found) => is(alloc, found, wanted),
+    let path = make(alloc, made)?;
+    let found = qualifier(rt, alloc, &path);
+    drop(path);
+    match (found?, wanted) {
+        (Some(found), Some(wanted)) => is(alloc, found, wanted),
+        (found, wanted) => Ok(found.is_none() && wanted.is_none()),
     }
 }
 
 // What is shown, a path, and its qualifier.
-const QUALIFIED: [(&str, Made<'_>, Made<'_>); 3] = [
+const QUALIFIED: [(&str, Made<'_>, Option<Made<'_>>); 6] = [
+    ("no names", Made::Krate, None),
+    ("one name behind an anchor", Made::Anchored(&["f"]), None),
+    ("an item", Made::Item, None),
     (
         "a name less",
         Made::Bare(&["a", "b", "c"]),
-        Made::Bare(&["a", "b"]),
+        Some(Made::Bare(&["a", "b"])),
     ),
     (
         "it keeps the anchor",
         Made::Anchored(&["a", "b"]),
-        Made::Anchored(&["a"]),
+        Some(Made::Anchored(&["a"])),
     ),
     (
         "without arguments it is bare",
-        Made::WithArgsLast,
-        Made::Bare(&["a"]),
+        Made::WithArgs(&["a", "b"], 1),
+        Some(Made::Bare(&["a"])),
     ),
 ];
 
 #[test]
 fn a_qualifier_is_all_but_the_last_name(rt: HostRuntime) -> Result<(), Fail> {
     for (shown, path, wanted) in &QUALIFIED {
-        assert!(&rt; is_qualified(&rt, rt.alloc(), *path, *wanted)?, "{shown}");
+        assert!(&rt; is_qualified(&rt, rt.alloc(), path, wanted)?, "{shown}");
     }
     Ok(())
 }
 
-// The path of these names, with these lists. What the call asks is tested first, and what it hands back where memory is refused is compared.
-fn known(
-    rt: &impl Abort,
-    alloc: Global,
-    texts: &[&str],
-    lists: Seq<Option<GenericArgs>>,
-) -> Result<Path, AllocError> {
-    let path = build::plain(alloc, texts)?;
-    let count = lists.len();
-    assert!(rt; count == path.segments().len());
-    match Path::from_known_path(alloc, path, lists) {
-        Ok(made) => Ok(made),
-        Err(failed) => known_again(rt, alloc, failed.value, count),
-    }
+// The path `a::b`, with type 3 as the argument of the name at this place. What the call asks is tested first.
+fn known(rt: &impl Abort, alloc: Global, with_args: Option<usize>) -> Result<Path, AllocError> {
+    let path = build::plain(alloc, &["a", "b"])?;
+    let lists = build::lists(alloc, 2, with_args)?;
+    assert!(rt; lists.len() == path.segments().len());
+    Ok(Path::from_known_path(alloc, path, lists)?)
 }
 
-fn known_again(
-    rt: &impl Abort,
-    alloc: Global,
-    parts: NormalPath,
-    count: usize,
-) -> Result<Path, AllocError> {
-    assert!(rt; parts.generic_args.len() == count && parts.type_anchor.is_none());
-    Ok(Path::Normal(again::boxed(alloc, parts)?))
+// The path of one name.
+fn of_name(alloc: Global, text: &str) -> Result<Path, AllocError> {
+    Ok(Path::from_name(alloc, Name::new(alloc, text)?)?)
 }
 
-// Whether the path `a::b` with these lists is this one.
-fn is_known(
-    rt: &impl Abort,
-    alloc: Global,
-    lists: Seq<Option<GenericArgs>>,
-    made: Made<'_>,
-) -> Result<bool, AllocError> {
-    is(alloc, known(rt, alloc, &["a", "b"], lists)?, made)
-}
-
+// A known path is bare without arguments, and a name is a plain path.
 #[test]
-fn a_known_path_is_bare_without_arguments(rt: HostRuntime) -> Result<(), Fail> {
+fn paths_are_made(rt: HostRuntime) -> Result<(), Fail> {
     let alloc = rt.alloc();
-    let lists = build::places(alloc, &["a", "b"])?;
-    assert!(&rt; is_known(&rt, alloc, lists, Made::Bare(&["a", "b"]))?);
-    let lists = build::lists_first(alloc, &["a", "b"])?;
-    assert!(&rt; is_known(&rt, alloc, lists, Made::WithArgsFirst(&["a", "b"]))?);
+    assert!(&rt; is(alloc, known(&rt, alloc, None)?, &Made::Bare(&["a", "b"]))?);
+    assert!(&rt;
+        is(
+            alloc,
+            known(&rt, alloc, Some(0))?,
+            &Made::WithArgs(&["a", "b"], 0)
+        )?
+    );
+    assert!(&rt; is(alloc, of_name(alloc, "x")?, &Made::Bare(&["x"]))?);
     Ok(())
 }
 
-// Whether the path is made of the kind `Plain`, this anchor, lists or none, and the names a and b.
-fn made_of(path: Path, anchor: Option<TypeRefId>, has_lists: bool) -> bool {
-    let holds = path.kind() == PathKind::Plain
+// Whether the path is made of this kind, this anchor, lists or none, and so many names of its own or none.
+fn made_of(
+    path: Path,
+    kind: PathKind,
+    anchor: Option<TypeRefId>,
+    has_lists: bool,
+    names: usize,
+) -> bool {
+    let holds = path.kind() == kind
         && path.type_anchor() == anchor
         && path.generic_args().is_some() == has_lists
-        && path.mod_path().is_some()
-        && path.segments().len() == 2;
+        && path.mod_path().is_some() == (names > 0)
+        && path.segments().len() == names;
     drop(path);
     holds
 }
@@ -193,44 +158,14 @@ fn made_of(path: Path, anchor: Option<TypeRefId>, has_lists: bool) -> bool {
 fn paths_have_their_parts(rt: HostRuntime) -> Result<(), Fail> {
     let names = build::plain(rt.alloc(), &["a", "b"])?;
     let path = Path::from_known_path_with_no_generic(names);
-    assert!(rt; made_of(path, None, false));
-    let path = build::anchored(rt.alloc(), &["a", "b"])?;
-    assert!(rt; made_of(path, Some(build::anchor()), true));
+    assert!(rt; made_of(path, PathKind::Plain, None, false, 2));
+    let path = anchored(rt.alloc(), &["a", "b"])?;
+    assert!(rt; made_of(path, PathKind::Plain, Some(build::anchor()), true, 2));
+    assert!(rt; made_of(item(), PathKind::Abs, None, false, 0));
     Ok(())
 }
 
-// Whether the path is of the kind `Abs`, and has no other part.
-fn has_no_parts(path: Path) -> bool {
-    let holds = path.kind() == PathKind::Abs
-        && path.type_anchor().is_none()
-        && path.generic_args().is_none()
-        && path.mod_path().is_none();
-    drop(path);
-    holds
-}
-
-#[test]
-fn an_item_has_no_parts(rt: HostRuntime) {
-    assert!(rt; has_no_parts(Path::LangItem(build::item(), None)));
-}
-
-// The path of one name, which is handed back where memory is refused.
-fn of_name(alloc: Global, name: Name) -> Result<Path, AllocError> {
-    match Path::from_name(alloc, name) {
-        Ok(path) => Ok(path),
-        Err(failed) => Ok(Path::from_name(alloc, failed.value)?),
-    }
-}
-
-#[test]
-fn a_name_is_a_plain_path(rt: HostRuntime) -> Result<(), Fail> {
-    let name = again::name(rt.alloc(), "x")?;
-    let path = of_name(rt.alloc(), name)?;
-    assert!(rt; is(rt.alloc(), path, Made::Bare(&["x"]))?);
-    Ok(())
-}
-
-fn is_self_type(alloc: Global, made: Made<'_>) -> Result<bool, AllocError> {
+fn is_self_type(alloc: Global, made: &Made<'_>) -> Result<bool, AllocError> {
     let path = make(alloc, made)?;
     let holds = path.is_self_type();
     drop(path);
@@ -240,33 +175,8 @@ fn is_self_type(alloc: Global, made: Made<'_>) -> Result<bool, AllocError> {
 #[test]
 fn self_alone_is_the_self_type(rt: HostRuntime) -> Result<(), Fail> {
     let alloc = rt.alloc();
-    assert!(rt; is_self_type(alloc, Made::Bare(&["Self"]))?);
-    assert!(rt; !is_self_type(alloc, Made::Bare(&["x"]))?);
-    assert!(rt; !is_self_type(alloc, Made::Anchored(&["Self"]))?);
-    Ok(())
-}
-
-const PATHS: [Made<'_>; 6] = [
-    Made::Krate,
-    Made::Item,
-    Made::Bare(&["a", "b"]),
-    Made::Anchored(&["a", "b"]),
-    Made::WithArgsFirst(&["a", "b"]),
-    Made::WithArgsLast,
-];
-
-fn copies(alloc: Global, made: Made<'_>, other: Made<'_>) -> Result<bool, AllocError> {
-    again::copies_apart(make(alloc, made), make(alloc, made), make(alloc, other))
-}
-
-#[test]
-fn copies_of_paths_are_the_same(rt: HostRuntime) -> Result<(), Fail> {
-    let mut before = Made::WithArgsLast;
-    let mut number = 0u32;
-    for made in &PATHS {
-        assert!(rt; copies(rt.alloc(), *made, before)?, "row {number}");
-        before = *made;
-        number = number.wrapping_add(1);
-    }
+    assert!(rt; is_self_type(alloc, &Made::Bare(&["Self"]))?);
+    assert!(rt; !is_self_type(alloc, &Made::Bare(&["x"]))?);
+    assert!(rt; !is_self_type(alloc, &Made::Anchored(&["Self"]))?);
     Ok(())
 }

@@ -2,7 +2,7 @@
 use hir_node::{ExprId, LifetimeRefId, PatId, StoreVisitor, TypeRefId};
 
 /// A call of a visitor.
-#[derive(Clone, Copy, PartialEq, Eq)]
+#[derive(Drop, PartialEq)]
 pub enum Call {
     Expr(u32),
     AnonConst(u32),

@@ -1,15 +1,14 @@
 //! Builders, made of steps. A tree is a list of steps, so that few functions are lent a builder: its type is laid out in each anew.
 use crate::nodes::{ExprStep, PatStep, TypeStep, Written};
-use crate::say::{Became, CameFrom, Mark, Note};
-use crate::{again, nodes, say};
-use hir_base::{Arena, Idx};
-use hir_node::{Expr, ExprKind, Label, LifetimeRef, Pat, TypeRef};
+use crate::say::Said;
+use crate::{nodes, say};
+use hir_base::{Arena, ArenaFault, Idx, Name};
+use hir_node::{Expr, ExprKind, Label, LifetimeRef};
 use hir_store::ExpressionStoreBuilder;
-use std::alloc::Global;
+use std::alloc::{AllocError, AllocFailed, Global};
 use std::test::Fail;
 
 /// What a builder is told next. Nodes are named by their numbers.
-#[derive(Clone, Copy)]
 pub enum Step {
     /// A list of roots begins, where there is none.
     Begin,
@@ -24,14 +23,11 @@ pub enum Step {
     Label(&'static str),
     /// The lifetime `'static`.
     Static,
-    /// So many expressions, each of which holds the one of the number before; the first of them has to be expression 1.
-    Chain(u32),
     /// An arena of so many paths takes the place of the expressions.
     Replaced(u32),
-    Became(Became),
-    CameFrom(CameFrom),
-    Note(Note),
-    Mark(Mark),
+    /// An arena of a path, and so many expressions each of which holds the one before, takes the place of the expressions.
+    Chain(u32),
+    Said(Said),
 }
 
 /// The path `a`.
@@ -58,115 +54,74 @@ pub const MATCH: &[Step] = &[
     Step::Root(3),
 ];
 
-fn add_expr(builder: &mut ExpressionStoreBuilder, expr: Expr) -> Result<(), Fail> {
-    match builder.alloc_expr(expr) {
+/// Whether the item was added: without the item, where it is handed back.
+fn added<I: Drop, T: Drop>(outcome: Result<I, (ArenaFault, T)>) -> Result<(), Fail> {
+    match outcome {
         Ok(_) => Ok(()),
-        Err((_, expr)) => again::told(builder.alloc_expr(expr)),
+        Err((fault, _)) => Err(Fail::from(fault)),
     }
 }
 
-fn add_pat(builder: &mut ExpressionStoreBuilder, pat: Pat) -> Result<(), Fail> {
-    match builder.alloc_pat(pat) {
+/// Whether the value was taken: without the value, where it is handed back.
+pub fn taken<I: Drop, T: Drop>(outcome: Result<I, AllocFailed<T>>) -> Result<(), Fail> {
+    match outcome {
         Ok(_) => Ok(()),
-        Err((_, pat)) => again::told(builder.alloc_pat(pat)),
+        Err(failed) => Err(Fail::from(AllocError::from(failed))),
     }
 }
 
-fn add_type(builder: &mut ExpressionStoreBuilder, type_ref: TypeRef) -> Result<(), Fail> {
-    match builder.alloc_type(type_ref) {
-        Ok(_) => Ok(()),
-        Err((_, type_ref)) => again::told(builder.alloc_type(type_ref)),
-    }
-}
-
-fn add_binding(
-    builder: &mut ExpressionStoreBuilder,
-    alloc: Global,
-    text: &str,
-) -> Result<(), Fail> {
-    let name = again::name(alloc, text)?;
-    match builder.alloc_binding(nodes::binding(name)) {
-        Ok(_) => Ok(()),
-        Err((_, binding)) => again::told(builder.alloc_binding(binding)),
-    }
-}
-
-fn add_label(builder: &mut ExpressionStoreBuilder, alloc: Global, text: &str) -> Result<(), Fail> {
-    let name = again::name(alloc, text)?;
-    match builder.alloc_label(Label { name }) {
-        Ok(_) => Ok(()),
-        Err((_, label)) => again::told(builder.alloc_label(label)),
-    }
-}
-
-fn add_chain(builder: &mut ExpressionStoreBuilder, length: u32) -> Result<(), Fail> {
-    for number in 0..length {
-        let expr = Idx::from_raw(number);
-        add_expr(builder, Expr::Become { expr })?;
-    }
-    Ok(())
-}
-
-/// The arena of so many paths.
-fn paths(alloc: Global, count: u32) -> Result<Arena<ExprKind, Expr>, Fail> {
+/// The arena of so many expressions: each holds the one before where they are a chain, and the others are paths.
+fn exprs(alloc: Global, count: u32, is_chain: bool) -> Result<Arena<ExprKind, Expr>, Fail> {
     let mut exprs = Arena::new(alloc);
-    for _ in 0..count {
-        let path = nodes::path(alloc, Written::A)?;
-        again::item(&mut exprs, Expr::Path(path))?;
+    for number in 0..count {
+        let expr = if is_chain && number > 0 {
+            let expr = Idx::from_raw(number - 1);
+            Expr::Become { expr }
+        } else {
+            Expr::Path(nodes::path(alloc, &Written::A)?)
+        };
+        added(exprs.alloc(expr))?;
     }
     Ok(exprs)
 }
 
-/// Puts an arena of so many paths in the place of the expressions.
-fn replace(builder: &mut ExpressionStoreBuilder, alloc: Global, count: u32) -> Result<(), Fail> {
-    builder.exprs = paths(alloc, count)?;
+/// Puts this arena in the place of the expressions.
+fn replace(
+    builder: &mut ExpressionStoreBuilder,
+    outcome: Result<Arena<ExprKind, Expr>, Fail>,
+) -> Result<(), Fail> {
+    builder.exprs = outcome?;
     Ok(())
 }
 
 /// Tells the builder what the step says.
-fn add(builder: &mut ExpressionStoreBuilder, alloc: Global, step: Step) -> Result<(), Fail> {
+fn add(builder: &mut ExpressionStoreBuilder, alloc: Global, step: &Step) -> Result<(), Fail> {
     match step {
         Step::Begin => {
             builder.begin_roots();
             Ok(())
         }
-        Step::Root(node) => match builder.push_root(Idx::from_raw(node)) {
-            Ok(()) => Ok(()),
-            Err(failed) => again::taken(builder.push_root(failed.value)),
+        Step::Root(node) => taken(builder.push_root(Idx::from_raw(*node))),
+        Step::Expr(step) => added(builder.alloc_expr(nodes::expr(alloc, step)?)),
+        Step::Pat(step) => added(builder.alloc_pat(nodes::pat(alloc, step)?)),
+        Step::Type(step) => added(builder.alloc_type(nodes::type_ref(alloc, step)?)),
+        Step::Binding(text) => added(builder.alloc_binding(nodes::binding(alloc, text)?)),
+        Step::Label(text) => {
+            let name = Name::new(alloc, text)?;
+            added(builder.alloc_label(Label { name }))
         },
-        Step::Expr(step) => add_expr(builder, nodes::expr(alloc, step)?),
-        Step::Pat(step) => add_pat(builder, nodes::pat(alloc, step)?),
-        Step::Type(step) => add_type(builder, nodes::type_ref(alloc, step)?),
-        Step::Binding(text) => add_binding(builder, alloc, text),
-        Step::Label(text) => add_label(builder, alloc, text),
-        Step::Static => match builder.alloc_lifetime(LifetimeRef::Static) {
-            Ok(_) => Ok(()),
-            Err((_, lifetime)) => again::told(builder.alloc_lifetime(lifetime)),
-        },
-        Step::Chain(length) => add_chain(builder, length),
-        Step::Replaced(count) => replace(builder, alloc, count),
-        Step::Became(became) => say::say_node(builder, became),
-        Step::CameFrom(came_from) => say::say_source(builder, came_from),
-        Step::Note(note) => say::say_note(builder, alloc, note),
-        Step::Mark(mark) => say::say_mark(builder, mark),
+        Step::Static => added(builder.alloc_lifetime(LifetimeRef::Static)),
+        Step::Replaced(count) => replace(builder, exprs(alloc, *count, false)),
+        Step::Chain(count) => replace(builder, exprs(alloc, *count, true)),
+        Step::Said(said) => say::say(builder, alloc, said),
     }
-}
-
-/// Tells the builder what all steps say.
-fn add_all(
-    builder: &mut ExpressionStoreBuilder,
-    alloc: Global,
-    steps: &[Step],
-) -> Result<(), Fail> {
-    for step in steps {
-        add(builder, alloc, *step)?;
-    }
-    Ok(())
 }
 
 /// The builder that these steps make, in a box: what is dropped is then a pointer.
 pub fn built(alloc: Global, steps: &[Step]) -> Result<Box<ExpressionStoreBuilder>, Fail> {
-    let mut builder = again::in_a_box(alloc, ExpressionStoreBuilder::new(alloc))?;
-    add_all(&mut builder, alloc, steps)?;
+    let mut builder = Box::new(alloc, ExpressionStoreBuilder::new(alloc))?;
+    for step in steps {
+        add(&mut builder, alloc, step)?;
+    }
     Ok(builder)
 }

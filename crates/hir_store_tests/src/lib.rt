@@ -1,11 +1,9 @@
 //! The tests of `hir_store` through its public surface, as a user would call it: builders that are refused and what is handed back,
-//! accepted stores, their walks and root searches. Every call that takes memory is made again where it was refused.
+//! accepted stores, their walks and root searches. A test in which a growth is refused ends with that error.
 #![tactic(auto)]
 
 #[cfg(test)]
 mod accepted;
-#[cfg(test)]
-mod again;
 #[cfg(test)]
 mod bounds;
 #[cfg(test)]

@@ -1,29 +1,24 @@
 //! The nodes of the tests, each made of what a step says of it. No builder is lent to what stands here.
 //! Nodes are named by their numbers: the first expression is 0, and so is the first pattern.
-use crate::again;
 use hir_base::{ExternAbi, HygieneId, Idx, ModPath, Name, PathKind, RangeOp, Seq};
 use hir_node::{
-    AssociatedTypeBinding, Binding, BindingAnnotation, Expr, FnType, GenericArg, GenericArgs,
-    GenericArgsParentheses, LifetimeRefId, LoopSource, MatchArm, Mutability, NormalPath, Pat, Path,
-    PathId, RefType, TraitBoundModifier, TypeBound, TypeRef,
+    AssociatedTypeBinding, Binding, BindingAnnotation, Boxed, Expr, FnType, GenericArg,
+    GenericArgs, GenericArgsParentheses, LifetimeRefId, LoopSource, MatchArm, Mutability,
+    NormalPath, Pat, Path, PathId, RefType, TraitBoundModifier, TypeBound, TypeRef,
 };
 use std::alloc::{AllocError, Global};
 
 /// How a path is written.
-#[derive(Clone, Copy)]
 pub enum Written {
     /// `a`
     A,
-    /// `a`, whose list of arguments is said to begin with a self type, and is empty.
-    NoSelfArgument,
     /// `a::b` with one list of arguments.
     OneListForTwo,
-    /// `a` with bindings nested 100 deep; the innermost list is said to begin with a self type, and has these types.
-    Nested(&'static [u32]),
+    /// `a` with bindings nested so deep; the innermost list is said to begin with a self type, which is type 0 or lacks.
+    Nested(u32, bool),
 }
 
 /// An expression.
-#[derive(Clone, Copy)]
 pub enum ExprStep {
     Path(Written),
     /// The tuple of these expressions.
@@ -39,7 +34,6 @@ pub enum ExprStep {
 }
 
 /// A pattern.
-#[derive(Clone, Copy)]
 pub enum PatStep {
     /// `_`
     Wild,
@@ -54,7 +48,6 @@ pub enum PatStep {
 }
 
 /// A type.
-#[derive(Clone, Copy)]
 pub enum TypeStep {
     /// `!`
     Never,
@@ -74,7 +67,7 @@ pub enum TypeStep {
 fn ids<K>(alloc: Global, numbers: &[u32]) -> Result<Seq<Idx<K>>, AllocError> {
     let mut list = Seq::new(alloc);
     for number in numbers {
-        again::push(&mut list, Idx::from_raw(*number))?;
+        list.push(Idx::from_raw(*number))?;
     }
     Ok(list)
 }
@@ -83,81 +76,67 @@ fn ids<K>(alloc: Global, numbers: &[u32]) -> Result<Seq<Idx<K>>, AllocError> {
 fn plain(alloc: Global, texts: &[&str]) -> Result<ModPath, AllocError> {
     let mut names = Seq::new(alloc);
     for text in texts {
-        let name = again::name(alloc, text)?;
-        again::push(&mut names, name)?;
+        let name = Name::new(alloc, text)?;
+        names.push(name)?;
     }
     Ok(ModPath::from_segments(PathKind::Plain, names))
 }
 
-/// The generic arguments that these types are.
-fn type_args(alloc: Global, types: &[u32]) -> Result<Seq<GenericArg>, AllocError> {
-    let mut args = Seq::new(alloc);
-    for number in types {
-        again::push(&mut args, GenericArg::Ty(Idx::from_raw(*number)))?;
-    }
-    Ok(args)
-}
-
-/// A list of these arguments and these bindings.
-fn list_of(
-    args: Seq<GenericArg>,
-    bindings: Seq<AssociatedTypeBinding>,
-    has_self_type: bool,
-) -> GenericArgs {
-    GenericArgs {
-        args,
-        has_self_type,
-        bindings,
-        parenthesized: GenericArgsParentheses::No,
-    }
-}
-
 /// The path of these names that has this list alone.
 fn path_with(alloc: Global, names: &[&str], list: Option<GenericArgs>) -> Result<Path, AllocError> {
-    let mut generic_args = Seq::new(alloc);
-    again::push(&mut generic_args, list)?;
     let mod_path = plain(alloc, names)?;
+    let mut generic_args = Seq::new(alloc);
+    generic_args.push(list)?;
     let path = NormalPath {
         generic_args,
         type_anchor: None,
         mod_path,
     };
-    Ok(Path::Normal(again::boxed(alloc, path)?))
+    Ok(Path::Normal(Boxed::new(alloc, path)?))
 }
 
 /// Arguments with one binding, which has these arguments.
 fn nested_once(alloc: Global, inner: GenericArgs) -> Result<GenericArgs, AllocError> {
     let binding = AssociatedTypeBinding {
-        name: again::name(alloc, "B")?,
+        name: Name::new(alloc, "B")?,
         args: Some(inner),
         type_ref: None,
         bounds: Seq::new(alloc),
     };
     let mut bindings = Seq::new(alloc);
-    again::push(&mut bindings, binding)?;
-    Ok(list_of(Seq::new(alloc), bindings, false))
+    bindings.push(binding)?;
+    Ok(GenericArgs {
+        args: Seq::new(alloc),
+        has_self_type: false,
+        bindings,
+        parenthesized: GenericArgsParentheses::No,
+    })
 }
 
-/// The path `a` with bindings nested 100 deep, and innermost these types.
-fn nested(alloc: Global, types: &[u32]) -> Result<Path, AllocError> {
-    let args = type_args(alloc, types)?;
-    let mut inner = list_of(args, Seq::new(alloc), true);
-    for _ in 0..100 {
+/// The path `a` with bindings nested so deep, and innermost its self type or none.
+fn nested(alloc: Global, depth: u32, has_self: bool) -> Result<Path, AllocError> {
+    let mut args = Seq::new(alloc);
+    if has_self {
+        args.push(GenericArg::Ty(Idx::from_raw(0)))?;
+    }
+    let mut inner = GenericArgs {
+        args,
+        has_self_type: true,
+        bindings: Seq::new(alloc),
+        parenthesized: GenericArgsParentheses::No,
+    };
+    for _ in 0..depth {
         inner = nested_once(alloc, inner)?;
     }
     path_with(alloc, &["a"], Some(inner))
 }
 
 /// The path that is written so.
-pub fn path(alloc: Global, written: Written) -> Result<Path, AllocError> {
-    match written {
+pub fn path(alloc: Global, written: &Written) -> Result<Path, AllocError> {
+    match *written {
         Written::A => Ok(Path::BarePath(plain(alloc, &["a"])?)),
-        Written::NoSelfArgument => {
-            let list = list_of(Seq::new(alloc), Seq::new(alloc), true);
-            path_with(alloc, &["a"], Some(list))
-        }
         Written::OneListForTwo => path_with(alloc, &["a", "b"], None),
-        Written::Nested(types) => nested(alloc, types),
+        Written::Nested(depth, has_self) => nested(alloc, depth, has_self),
     }
 }
 
@@ -170,112 +149,103 @@ fn arms(alloc: Global, listed: &[(u32, u32)]) -> Result<Seq<MatchArm>, AllocErro
             guard: None,
             expr: Idx::from_raw(*expr),
         };
-        again::push(&mut list, arm)?;
+        list.push(arm)?;
     }
     Ok(list)
 }
 
 /// The expression of this step.
-pub fn expr(alloc: Global, step: ExprStep) -> Result<Expr, AllocError> {
+pub fn expr(alloc: Global, step: &ExprStep) -> Result<Expr, AllocError> {
     match step {
         ExprStep::Path(written) => Ok(Expr::Path(path(alloc, written)?)),
         ExprStep::Tuple(exprs) => Ok(Expr::Tuple {
             exprs: ids(alloc, exprs)?,
         }),
         ExprStep::Let(pat, expr) => Ok(Expr::Let {
-            pat: Idx::from_raw(pat),
-            expr: Idx::from_raw(expr),
+            pat: Idx::from_raw(*pat),
+            expr: Idx::from_raw(*expr),
         }),
         ExprStep::Match(expr, listed) => Ok(Expr::Match {
-            expr: Idx::from_raw(expr),
+            expr: Idx::from_raw(*expr),
             arms: arms(alloc, listed)?,
         }),
         ExprStep::Break(label) => Ok(Expr::Break {
             expr: None,
-            label: Some(Idx::from_raw(label)),
+            label: Some(Idx::from_raw(*label)),
         }),
         ExprStep::Loop(body, label) => Ok(Expr::Loop {
-            body: Idx::from_raw(body),
-            label: Some(Idx::from_raw(label)),
+            body: Idx::from_raw(*body),
+            label: Some(Idx::from_raw(*label)),
             source: LoopSource::Loop,
         }),
     }
 }
 
 /// The pattern of this step.
-pub fn pat(alloc: Global, step: PatStep) -> Result<Pat, AllocError> {
+pub fn pat(alloc: Global, step: &PatStep) -> Result<Pat, AllocError> {
     match step {
         PatStep::Wild => Ok(Pat::Wild),
         PatStep::Bind(id) => Ok(Pat::Bind {
-            id: Idx::from_raw(id),
+            id: Idx::from_raw(*id),
             subpat: None,
         }),
         PatStep::At(id, inner) => Ok(Pat::Bind {
-            id: Idx::from_raw(id),
-            subpat: Some(Idx::from_raw(inner)),
+            id: Idx::from_raw(*id),
+            subpat: Some(Idx::from_raw(*inner)),
         }),
         // The list first: where the path can't be had, what is dropped isn't a path.
         PatStep::Around(inner) => Ok(Pat::TupleStruct {
-            args: ids(alloc, &[inner])?,
-            path: path(alloc, Written::A)?,
+            args: ids(alloc, &[*inner])?,
+            path: path(alloc, &Written::A)?,
             ellipsis: None,
         }),
         PatStep::RangeFrom(start) => Ok(Pat::Range {
-            start: Some(Idx::from_raw(start)),
+            start: Some(Idx::from_raw(*start)),
             end: None,
             range_type: RangeOp::Inclusive,
         }),
     }
 }
 
-/// The shared reference to this type, with lifetime 0.
-fn reference(alloc: Global, ty: u32) -> Result<TypeRef, AllocError> {
-    let reference = RefType {
-        ty: Idx::from_raw(ty),
-        lifetime: Some(LifetimeRefId::from_raw(0)),
-        mutability: Mutability::Shared,
-    };
-    Ok(TypeRef::Reference(again::boxed(alloc, reference)?))
-}
-
-/// `impl` of the bound by this type, which is named as a path.
-fn bounded(alloc: Global, ty: u32) -> Result<TypeRef, AllocError> {
-    let mut bounds = Seq::new(alloc);
-    let id = PathId::from_type_ref_unchecked(Idx::from_raw(ty));
-    again::push(&mut bounds, TypeBound::Path(id, TraitBoundModifier::None))?;
-    Ok(TypeRef::ImplTrait(bounds))
-}
-
-/// A function type without types.
-fn no_types(alloc: Global) -> Result<TypeRef, AllocError> {
-    let function = FnType {
-        binder: None,
-        params: Seq::new(alloc),
-        is_varargs: false,
-        is_unsafe: false,
-        abi: ExternAbi::Rust,
-    };
-    Ok(TypeRef::Fn(again::boxed(alloc, function)?))
-}
-
 /// The type of this step.
-pub fn type_ref(alloc: Global, step: TypeStep) -> Result<TypeRef, AllocError> {
-    match step {
+pub fn type_ref(alloc: Global, step: &TypeStep) -> Result<TypeRef, AllocError> {
+    match *step {
         TypeStep::Never => Ok(TypeRef::Never),
-        TypeStep::Path => Ok(TypeRef::Path(path(alloc, Written::A)?)),
+        TypeStep::Path => Ok(TypeRef::Path(path(alloc, &Written::A)?)),
         TypeStep::Tuple(types) => Ok(TypeRef::Tuple(ids(alloc, types)?)),
-        TypeStep::Reference(ty) => reference(alloc, ty),
-        TypeStep::Bounded(ty) => bounded(alloc, ty),
-        TypeStep::NoTypes => no_types(alloc),
+        TypeStep::Reference(ty) => {
+            let reference = RefType {
+                ty: Idx::from_raw(ty),
+                lifetime: Some(LifetimeRefId::from_raw(0)),
+                mutability: Mutability::Shared,
+            };
+            Ok(TypeRef::Reference(Boxed::new(alloc, reference)?))
+        }
+        TypeStep::Bounded(ty) => {
+            let id = PathId::from_type_ref_unchecked(Idx::from_raw(ty));
+            let mut bounds = Seq::new(alloc);
+            bounds.push(TypeBound::Path(id, TraitBoundModifier::None))?;
+            Ok(TypeRef::ImplTrait(bounds))
+        }
+        TypeStep::NoTypes => {
+            let function = FnType {
+                binder: None,
+                params: Seq::new(alloc),
+                is_varargs: false,
+                is_unsafe: false,
+                abi: ExternAbi::Rust,
+            };
+            Ok(TypeRef::Fn(Boxed::new(alloc, function)?))
+        }
     }
 }
 
 /// A binding of this name.
-pub fn binding(name: Name) -> Binding {
-    Binding {
-        name,
+pub fn binding(alloc: Global, text: &str) -> Result<Binding, AllocError> {
+    Ok(Binding {
+        name: Name::new(alloc, text)?,
         mode: BindingAnnotation::Unannotated,
         problems: None,
         hygiene: HygieneId::ROOT,
-    }
+    })
 }

@@ -45,14 +45,6 @@ fn roots_for(store: &ExpressionStore, number: u32) -> (Option<u32>, Option<u32>,
     (for_expr, for_pat, for_binding)
 }
 
-/// Whether the roots are 2 and 4, read from both ends.
-fn has_both_roots(store: &ExpressionStore) -> bool {
-    let mut roots = store.expr_roots();
-    roots.next_back() == Some(Idx::from_raw(4))
-        && roots.next() == Some(Idx::from_raw(2))
-        && roots.next().is_none()
-}
-
 #[test]
 fn roots_that_nodes_were_made_for(rt: HostRuntime) -> Result<(), Fail> {
     let made = made::accepted(rt.alloc(), TWO_ROOTS)?;
@@ -62,13 +54,14 @@ fn roots_that_nodes_were_made_for(rt: HostRuntime) -> Result<(), Fail> {
     let of_2 = roots_for(store, 2);
     let of_3 = roots_for(store, 3);
     let of_5 = roots_for(store, 5);
-    let has_both = has_both_roots(store);
+    let mut roots = store.expr_roots();
+    let from_both_ends = [roots.next_back(), roots.next(), roots.next()];
     std::mem::drop(made);
     assert!(&rt; of_0 == (Some(2), Some(4), Some(4)));
     assert!(&rt; of_1 == (Some(2), Some(4), None));
     assert!(&rt; of_2 == (Some(2), None, None));
     assert!(&rt; of_3 == (Some(4), None, None));
     assert!(&rt; of_5 == (None, None, None));
-    assert!(&rt; has_both);
+    assert!(&rt; from_both_ends == [Some(Idx::from_raw(4)), Some(Idx::from_raw(2)), None]);
     Ok(())
 }

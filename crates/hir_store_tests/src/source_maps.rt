@@ -1,7 +1,7 @@
 //! Source maps: what a builder was told of where its nodes come from is what the source map answers.
 use crate::build::{PATH, Step};
 use crate::made;
-use crate::say::{self, Became, CameFrom, Note};
+use crate::say::{self, Said};
 use hir_base::{ExprOrPatSource, FieldSource, Idx, LabelSource, PatFieldSource, TypeSource};
 use hir_node::{ExprId, ExprOrPatId, LabelId, PatId, TypeRefId};
 use hir_store::ExpressionStoreSourceMap;
@@ -14,16 +14,16 @@ const TOLD: &[Step] = &[
     Step::Begin,
     PATH,
     PATH,
-    Step::Became(Became::Expr(5, 0)),
+    Step::Said(Said::BecameExpr(5, 0)),
     // what is said last counts
-    Step::Became(Became::Expr(5, 1)),
-    Step::Became(Became::Pat(6, 3)),
-    Step::Became(Became::Label(5, 2)),
-    Step::CameFrom(CameFrom::Expr(0, 5)),
-    Step::CameFrom(CameFrom::Pat(3, 6)),
-    Step::CameFrom(CameFrom::Label(2, 5)),
-    Step::Note(Note::Field(0, 6)),
-    Step::Note(Note::PatField(4, 7)),
+    Step::Said(Said::BecameExpr(5, 1)),
+    Step::Said(Said::BecamePat(6, 3)),
+    Step::Said(Said::BecameLabel(5, 2)),
+    Step::Said(Said::ExprFrom(0, 5)),
+    Step::Said(Said::PatFrom(3, 6)),
+    Step::Said(Said::LabelFrom(2, 5)),
+    Step::Said(Said::FieldFrom(0, 6)),
+    Step::Said(Said::PatFieldFrom(4, 7)),
 ];
 
 /// What the expression, the pattern, the label, the type and the macro call in the place of an expression became.
@@ -127,34 +127,29 @@ fn what_sources_became_and_where_nodes_came_from(rt: HostRuntime) -> Result<(), 
 fn are_equal(alloc: Global, first: &[Step], second: &[Step]) -> Result<bool, Fail> {
     let first = made::accepted(alloc, first)?;
     let second = made::accepted(alloc, second)?;
-    let are_equal = first.1 == second.1;
-    std::mem::drop(first);
-    std::mem::drop(second);
-    Ok(are_equal)
+    Ok(first.1 == second.1)
 }
+
+/// Nothing.
+const NONE: &[Step] = &[];
 
 /// The expressions 0 and 1.
 const TWO: &[Step] = &[Step::Begin, PATH, PATH];
 
 /// The expressions 0 and 1, and that a source became expression 0.
-const EXPR_OF_SOURCE: &[Step] = &[Step::Begin, PATH, PATH, Step::Became(Became::Expr(5, 0))];
+const EXPR_OF_SOURCE: &[Step] = &[Step::Begin, PATH, PATH, Step::Said(Said::BecameExpr(5, 0))];
 
 /// The expressions 0 and 1, and that expression 0 came from a source.
-const SOURCE_OF_EXPR: &[Step] = &[
-    Step::Begin,
-    PATH,
-    PATH,
-    Step::CameFrom(CameFrom::Expr(0, 5)),
-];
+const SOURCE_OF_EXPR: &[Step] = &[Step::Begin, PATH, PATH, Step::Said(Said::ExprFrom(0, 5))];
 
 /// That a source became an expression, which is not there.
-const EXPR_WITHOUT_NODES: &[Step] = &[Step::Became(Became::Expr(5, 0))];
+const EXPR_WITHOUT_NODES: &[Step] = &[Step::Said(Said::BecameExpr(5, 0))];
 
 /// That lifetime 2 came from a source.
-const SOURCE_OF_LIFETIME: &[Step] = &[Step::CameFrom(CameFrom::Lifetime(2, 6))];
+const SOURCE_OF_LIFETIME: &[Step] = &[Step::Said(Said::LifetimeFrom(2, 6))];
 
 /// That a source became lifetime 2.
-const LIFETIME_OF_SOURCE: &[Step] = &[Step::Became(Became::Lifetime(6, 2))];
+const LIFETIME_OF_SOURCE: &[Step] = &[Step::Said(Said::BecameLifetime(6, 2))];
 
 #[test]
 fn what_is_compared(rt: HostRuntime) -> Result<(), Fail> {
@@ -164,12 +159,16 @@ fn what_is_compared(rt: HostRuntime) -> Result<(), Fail> {
     std::mem::drop(made);
     // The way from a source to its node isn't compared, though it is kept.
     assert!(&rt; kept == Some(say::expr(0)));
-    assert!(&rt; are_equal(a, EXPR_OF_SOURCE, TWO)?);
-    assert!(&rt; are_equal(a, LIFETIME_OF_SOURCE, &[])?);
-    // The way back is.
-    assert!(&rt; !are_equal(a, SOURCE_OF_EXPR, TWO)?);
-    assert!(&rt; !are_equal(a, SOURCE_OF_LIFETIME, &[])?);
-    // What is said of expressions is dropped where there are none.
-    assert!(&rt; are_equal(a, EXPR_WITHOUT_NODES, &[])?);
+    for (first, second, wanted) in &[
+        (EXPR_OF_SOURCE, TWO, true),
+        (LIFETIME_OF_SOURCE, NONE, true),
+        // The way back is.
+        (SOURCE_OF_EXPR, TWO, false),
+        (SOURCE_OF_LIFETIME, NONE, false),
+        // What is said of expressions is dropped where there are none.
+        (EXPR_WITHOUT_NODES, NONE, true),
+    ] {
+        assert!(&rt; are_equal(a, first, second)? == *wanted);
+    }
     Ok(())
 }

@@ -1,7 +1,7 @@
 //! Blocks, owners, definitions and hygiene: what a builder was told of them is what the store and its source map answer.
 use crate::build::{PATH, Step};
 use crate::made;
-use crate::say::{self, Mark, Note};
+use crate::say::{self, Said};
 use hir_base::{BlockId, HygieneId, Idx};
 use hir_node::{ExprId, PatId};
 use hir_store::{Blocks, ExpressionStore, ExpressionStoreSourceMap, Missing};
@@ -18,40 +18,29 @@ const TOLD: &[Step] = &[
     Step::Begin,
     PATH,
     PATH,
-    Step::Mark(Mark::Block(3)),
-    Step::Mark(Mark::Block(1)),
-    Step::Mark(Mark::Owner(7, 1)),
-    Step::Mark(Mark::ExprHygiene(1, 4)),
-    Step::Mark(Mark::PatHygiene(0, 4)),
-    Step::Note(Note::Definition(0, 2)),
-    Step::Note(Note::Definition(0, 0)),
-    Step::Note(Note::Definition(FAR, 0)),
-    Step::Note(Note::Definition(FAR, 1)),
-    Step::Note(Note::Definition(FAR, 2)),
-    Step::Note(Note::Definition(FAR, 3)),
-    Step::Note(Note::Definition(FAR, 4)),
-    Step::Note(Note::Definition(FAR, 5)),
-    Step::Note(Note::Definition(FAR, 6)),
-    Step::Note(Note::Definition(FAR, 7)),
-    Step::Note(Note::Definition(FAR, 8)),
+    Step::Said(Said::Block(3)),
+    Step::Said(Said::Block(1)),
+    Step::Said(Said::Owner(7, 1)),
+    Step::Said(Said::ExprHygiene(1, 4)),
+    Step::Said(Said::PatHygiene(0, 4)),
+    Step::Said(Said::Definition(0, 2)),
+    Step::Said(Said::Definition(0, 0)),
+    Step::Said(Said::Definition(FAR, 0)),
+    Step::Said(Said::Definition(FAR, 1)),
+    Step::Said(Said::Definition(FAR, 2)),
+    Step::Said(Said::Definition(FAR, 3)),
+    Step::Said(Said::Definition(FAR, 4)),
+    Step::Said(Said::Definition(FAR, 5)),
+    Step::Said(Said::Definition(FAR, 6)),
+    Step::Said(Said::Definition(FAR, 7)),
+    Step::Said(Said::Definition(FAR, 8)),
 ];
-
-/// Gives the block this map, again where memory is refused once.
-fn add_map(maps: &mut BTreeMap<BlockId, u32>, block: u32, map: u32) -> Result<(), AllocError> {
-    match maps.insert(BlockId::from_raw(block), map) {
-        Ok(_) => Ok(()),
-        Err(_) => {
-            let _ = maps.insert(BlockId::from_raw(block), map)?;
-            Ok(())
-        }
-    }
-}
 
 /// The maps of these blocks.
 fn maps_of(alloc: Global, entries: &[(u32, u32)]) -> Result<BTreeMap<BlockId, u32>, AllocError> {
     let mut maps = BTreeMap::new(alloc);
     for (block, map) in entries {
-        add_map(&mut maps, *block, *map)?;
+        let _ = maps.insert(BlockId::from_raw(*block), *map)?;
     }
     Ok(maps)
 }
@@ -67,40 +56,30 @@ fn next_block(blocks: &mut Blocks<'_, u32>) -> Block {
     }
 }
 
-/// The first three blocks with their maps, or what is missing.
-fn first_three<'a>(
-    store: &'a ExpressionStore,
-    maps: &'a BTreeMap<BlockId, u32>,
-) -> Result<(Block, Block, Block), Missing> {
-    match store.blocks(maps) {
-        Ok(mut blocks) => {
-            let first = next_block(&mut blocks);
-            let second = next_block(&mut blocks);
-            let third = next_block(&mut blocks);
-            Ok((first, second, third))
-        }
-        Err(missing) => Err(missing),
-    }
-}
-
 /// The first three blocks, or what is missing, where these blocks have maps.
 fn blocks_of(
     alloc: Global,
     store: &ExpressionStore,
     entries: &[(u32, u32)],
-) -> Result<Result<(Block, Block, Block), Missing>, AllocError> {
+) -> Result<Result<[Block; 3], Missing>, AllocError> {
     let maps = maps_of(alloc, entries)?;
-    let blocks = first_three(store, &maps);
+    let blocks = match store.blocks(&maps) {
+        Ok(mut blocks) => Ok([
+            next_block(&mut blocks),
+            next_block(&mut blocks),
+            next_block(&mut blocks),
+        ]),
+        Err(missing) => Err(missing),
+    };
     std::mem::drop(maps);
     Ok(blocks)
 }
 
-/// Whether no block lacks its map, and there is none, where there is no map.
-pub fn has_no_blocks(alloc: Global, store: &ExpressionStore) -> bool {
-    let maps = BTreeMap::new(alloc);
-    let blocks: Result<(Block, Block, Block), Missing> = first_three(store, &maps);
-    std::mem::drop(maps);
-    blocks == Ok((None, None, None))
+/// Whether there is no block, and block 3, which a builder was told of, doesn't lack a map.
+pub fn has_no_blocks(alloc: Global, store: &ExpressionStore) -> Result<bool, AllocError> {
+    let blocks = blocks_of(alloc, store, &[])?;
+    let lacks_3 = blocks == Err(Missing::DefMap(BlockId::from_raw(3)));
+    Ok(!lacks_3 && blocks == Ok([None, None, None]))
 }
 
 /// The hygiene of the path that an expression is and a pattern is, each asked as what it is and as either of them.
@@ -141,7 +120,7 @@ fn blocks_owners_hygiene_and_definitions(rt: HostRuntime) -> Result<(), Fail> {
     let definitions = definitions(&made.1);
     std::mem::drop(made);
     assert!(&rt; with_one_map? == Err(Missing::DefMap(BlockId::from_raw(1))));
-    assert!(&rt; with_both? == Ok((Some((3, 30)), Some((1, 10)), None)));
+    assert!(&rt; with_both? == Ok([Some((3, 30)), Some((1, 10)), None]));
     assert!(&rt; owner_of_7 == Some(Idx::from_raw(1)) && owner_of_0 == None);
     let (root, expanded) = (HygieneId::ROOT, say::expanded(4));
     assert!(&rt; hygiene_of_0 == (root, root, expanded, expanded));

@@ -21,30 +21,11 @@ const LET_IN_TUPLE: &[Step] = &[
     Step::Root(2),
 ];
 
-fn no_nodes(alloc: Global, store: &ExpressionStore) -> Result<NodeSet, AllocError>
-    ensures { IfOk result (λ set. set.sizes ≡ sizes_of store.now.nodes) }
-{
-    match store.no_nodes(alloc) {
-        Ok(set) => Ok(set),
-        Err(_) => store.no_nodes(alloc),
-    }
-}
-
-fn under(alloc: Global, store: &ExpressionStore, tops: &NodeSet) -> Result<NodeSet, AllocError>
-    requires { tops.now.sizes ≡ sizes_of store.now.nodes }
-    ensures { IfOk result (λ found. found.sizes ≡ sizes_of store.now.nodes) }
-{
-    match store.under(alloc, tops) {
-        Ok(found) => Ok(found),
-        Err(_) => store.under(alloc, tops),
-    }
-}
-
 /// The set of the `let` and of the pattern that lies apart.
 fn marked(alloc: Global, store: &ExpressionStore) -> Result<NodeSet, AllocError>
     ensures { IfOk result (λ set. set.sizes ≡ sizes_of store.now.nodes) }
 {
-    let mut tops = no_nodes(alloc, store)?;
+    let mut tops = store.no_nodes(alloc)?;
     if store.has_expr(Idx::from_raw(1)) {
         tops.add_expr(Idx::from_raw(1));
     }
@@ -76,48 +57,34 @@ fn held(store: &ExpressionStore, set: &NodeSet, number: u32) -> Answer
     (expr, pat)
 }
 
-/// What a set of no nodes and the set of the marked ones have of number 1.
-fn held_at_first(alloc: Global, store: &ExpressionStore) -> Result<(Answer, Answer), AllocError> {
-    let none = no_nodes(alloc, store)?;
+/// What a set of no nodes and the set of the marked ones have of number 1, and the set of what lies under these of 0, 1 and 2.
+fn all_held(alloc: Global, store: &ExpressionStore) -> Result<[Answer; 5], AllocError> {
+    let none = store.no_nodes(alloc)?;
     let in_none = held(store, &none, 1);
     std::mem::drop(none);
     let tops = marked(alloc, store)?;
     let in_tops = held(store, &tops, 1);
+    let under = store.under(alloc, &tops);
     std::mem::drop(tops);
-    Ok((in_none, in_tops))
-}
-
-/// What lies under the marked nodes.
-fn under_marked(alloc: Global, store: &ExpressionStore) -> Result<NodeSet, AllocError>
-    ensures { IfOk result (λ found. found.sizes ≡ sizes_of store.now.nodes) }
-{
-    let tops = marked(alloc, store)?;
-    under(alloc, store, &tops)
-}
-
-/// What the set of what lies under the marked nodes has of the numbers 0, 1 and 2.
-fn held_under(
-    alloc: Global,
-    store: &ExpressionStore,
-) -> Result<(Answer, Answer, Answer), AllocError> {
-    let found = under_marked(alloc, store)?;
-    let of_0 = held(store, &found, 0);
-    let of_1 = held(store, &found, 1);
-    let of_2 = held(store, &found, 2);
-    std::mem::drop(found);
-    Ok((of_0, of_1, of_2))
+    let under = under?;
+    let all = [
+        in_none,
+        in_tops,
+        held(store, &under, 0),
+        held(store, &under, 1),
+        held(store, &under, 2),
+    ];
+    std::mem::drop(under);
+    Ok(all)
 }
 
 #[test]
 fn what_lies_under_marked_nodes(rt: HostRuntime) -> Result<(), Fail> {
     let a = rt.alloc();
     let made = made::accepted(a, LET_IN_TUPLE)?;
-    let store = &made.0;
-    let at_first = held_at_first(a, store);
-    let under = held_under(a, store);
+    let all_held = all_held(a, &made.0);
     std::mem::drop(made);
     let (both, neither) = ((Some(true), Some(true)), (Some(false), Some(false)));
-    assert!(&rt; at_first? == (neither, both));
-    assert!(&rt; under? == (both, neither, (Some(false), None)));
+    assert!(&rt; all_held? == [neither, both, both, neither, (Some(false), None)]);
     Ok(())
 }

@@ -1,20 +1,20 @@
 //! What a builder without nodes is told: what is said of expressions is dropped, and types, expansions and diagnostics are kept.
 use crate::build::Step;
 use crate::made;
-use crate::say::{self, Became, CameFrom, Mark, Note};
+use crate::say::{self, Said};
 use crate::source_maps::{nodes_at, sources_of};
 use crate::told::has_no_blocks;
-use hir_base::{Idx, InFile, MacroCallId, MacroCallPtr};
+use hir_base::{Idx, MacroCallId};
 use hir_store::{ExpressionStoreDiagnostics, ExpressionStoreSourceMap};
 use std::test::Fail;
 
 /// A block, an owner and a source that became an expression, which is not there; and type 2 and the source that became it.
 const NOTHING: &[Step] = &[
-    Step::Mark(Mark::Block(3)),
-    Step::Mark(Mark::Owner(0, 0)),
-    Step::Became(Became::Expr(5, 0)),
-    Step::Became(Became::Type(5, 2)),
-    Step::CameFrom(CameFrom::Type(2, 5)),
+    Step::Said(Said::Block(3)),
+    Step::Said(Said::Owner(0, 0)),
+    Step::Said(Said::BecameExpr(5, 0)),
+    Step::Said(Said::BecameType(5, 2)),
+    Step::Said(Said::TypeFrom(2, 5)),
 ];
 
 #[test]
@@ -29,8 +29,7 @@ fn only_types_are_kept(rt: HostRuntime) -> Result<(), Fail> {
     let of_0 = sources_of(&made.1, 0);
     let of_2 = sources_of(&made.1, 2);
     std::mem::drop(made);
-    // no block lacks its map, though there is no map
-    assert!(&rt; has_no_blocks && owner == None && is_empty);
+    assert!(&rt; has_no_blocks? && owner == None && is_empty);
     assert!(&rt; at_5 == (None, None, None, Some(Idx::from_raw(2)), None));
     assert!(&rt; of_0 == (None, None, None, None, None));
     assert!(&rt; of_2 == (None, None, None, None, Some(say::source(5))));
@@ -38,37 +37,17 @@ fn only_types_are_kept(rt: HostRuntime) -> Result<(), Fail> {
 }
 
 /// The macro call at place 5.
-const CALL: &[Step] = &[Step::Note(Note::Expansion(5, 3))];
+const CALL: &[Step] = &[Step::Said(Said::Expansion(5, 3))];
 
-/// What the macro call at this place expanded to, asked both ways.
-fn expanded_to(
-    map: &ExpressionStoreSourceMap,
-    place: u8,
-) -> (Option<MacroCallId>, Option<MacroCallId>) {
-    (
-        map.expansion(say::source(place)),
-        map.node_macro_file(say::source(place)),
-    )
-}
-
-/// A macro call, and what it expanded to.
-type Call = Option<(InFile<MacroCallPtr>, MacroCallId)>;
-
-/// The first macro call by value, and whether it is the only one.
-fn first_call(map: &ExpressionStoreSourceMap) -> (Call, bool) {
+/// Whether the macro call at place 5 is the only one, asked by value and by reference, and expanded to this.
+fn is_only_call(map: &ExpressionStoreSourceMap, id: MacroCallId) -> bool {
+    let source = say::source(5);
     let mut calls = map.macro_calls();
-    let first = calls.next();
-    (first, calls.next().is_none())
-}
-
-/// The first expansion by reference, and whether it is the only one.
-fn first_expansion(map: &ExpressionStoreSourceMap) -> (Call, bool) {
     let mut expansions = map.expansions();
-    let first = match expansions.next() {
-        Some((source, id)) => Some((*source, *id)),
-        None => None,
-    };
-    (first, expansions.next().is_none())
+    calls.next() == Some((source, id))
+        && calls.next().is_none()
+        && expansions.next() == Some((&source, &id))
+        && expansions.next().is_none()
 }
 
 #[test]
@@ -76,16 +55,20 @@ fn an_expansion(rt: HostRuntime) -> Result<(), Fail> {
     let a = rt.alloc();
     let made = made::accepted(a, CALL)?;
     let map = &made.1;
-    let at_5 = expanded_to(map, 5);
-    let at_6 = expanded_to(map, 6);
-    let call = first_call(map);
-    let expansion = first_expansion(map);
+    let at_5 = [
+        map.expansion(say::source(5)),
+        map.node_macro_file(say::source(5)),
+    ];
+    let at_6 = [
+        map.expansion(say::source(6)),
+        map.node_macro_file(say::source(6)),
+    ];
+    let is_only_call = is_only_call(map, MacroCallId::from_raw(3));
     let is_empty = made::is_empty(&made.0, a);
     std::mem::drop(made);
     let id = MacroCallId::from_raw(3);
-    assert!(&rt; at_5 == (Some(id), Some(id)) && at_6 == (None, None));
-    let only = (Some((say::source(5), id)), true);
-    assert!(&rt; call == only && expansion == only);
+    assert!(&rt; at_5 == [Some(id), Some(id)] && at_6 == [None, None]);
+    assert!(&rt; is_only_call);
     // It is nothing to the store.
     assert!(&rt; is_empty);
     Ok(())
@@ -93,26 +76,23 @@ fn an_expansion(rt: HostRuntime) -> Result<(), Fail> {
 
 /// Statics without a value at the places 6 and 5, in that order, and a label that is not declared.
 const DIAGNOSTICS: &[Step] = &[
-    Step::Note(Note::MissingBody(6)),
-    Step::Note(Note::MissingBody(5)),
-    Step::Note(Note::UndeclaredLabel(5)),
+    Step::Said(Said::MissingBody(6)),
+    Step::Said(Said::MissingBody(5)),
+    Step::Said(Said::UndeclaredLabel(5)),
 ];
-
-/// Whether it is the label `l` at place 5.
-fn is_label(found: &ExpressionStoreDiagnostics) -> bool {
-    match found {
-        ExpressionStoreDiagnostics::UndeclaredLabel { node, name } => {
-            *node == say::source(5) && name.as_str() == "l"
-        }
-        _ => false,
-    }
-}
 
 /// Whether the diagnostics are those three, in that order.
 fn are_all(found: &[ExpressionStoreDiagnostics]) -> bool {
     match found {
-        [first, second, third] => {
-            *first == say::missing_body(6) && *second == say::missing_body(5) && is_label(third)
+        [
+            first,
+            second,
+            ExpressionStoreDiagnostics::UndeclaredLabel { node, name },
+        ] => {
+            *first == say::missing_body(6)
+                && *second == say::missing_body(5)
+                && *node == say::source(5)
+                && name.as_str() == "l"
         }
         _ => false,
     }

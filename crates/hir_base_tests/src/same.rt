@@ -1,0 +1,71 @@
+//! What is asked of values of many types: that a copy is the same, that others are not, and that same values hash alike.
+use hir_base::{ExactEq, ExternAbi, ModPath, Name, PathKind, Seq, Text, TryClone};
+use std::alloc::{AllocError, Global};
+use std::hash::{DefaultHasher, Hash, Hasher};
+use std::test::Fail;
+
+/// Whether a copy of the value is the same as it.
+pub fn copies<T: TryClone + ExactEq + Drop>(value: &T) -> Result<bool, AllocError> {
+    let copy = value.try_clone()?;
+    Ok(copy.is_same(value))
+}
+
+// Whether the value is copied, and is another than this one.
+fn is_apart<T: TryClone + ExactEq + Drop>(value: T, other: T) -> Result<bool, AllocError> {
+    let copies = copies(&value)?;
+    Ok(copies && !value.is_same(&other))
+}
+
+fn numbers_are_apart() -> Result<bool, AllocError> {
+    let small = is_apart(1u8, 2)? && is_apart(1u16, 2)? && is_apart(1u32, 2)?;
+    let large = is_apart(1u64, 2)? && is_apart(1usize, 2)? && is_apart(1u128, 2)?;
+    Ok(small && large && is_apart(1i128, -1)?)
+}
+
+fn others_are_apart() -> Result<bool, AllocError> {
+    let plain = is_apart(true, false)? && is_apart('s', 'ß')? && copies(&())?;
+    let joined = is_apart(Some(0u32), None)? && is_apart((1u32, true), (1, false))?;
+    Ok(plain && joined)
+}
+
+#[test]
+fn plain_values_are_compared_and_copied(rt: HostRuntime) -> Result<(), Fail> {
+    assert!(rt; numbers_are_apart()?);
+    assert!(rt; others_are_apart()?);
+    let text = Text::from_str(rt.alloc(), "größe")?;
+    assert!(rt; is_apart(text, Text::from_str(rt.alloc(), "große")?)?);
+    Ok(())
+}
+
+fn hash_of<T: Hash>(value: &T) -> u64 {
+    let mut state = DefaultHasher::new();
+    value.hash(&mut state);
+    state.finish()
+}
+
+/// Whether the two values are equal and hash alike. They come as they were made: where their type is any type, they aren't laid out.
+pub fn alike<T: Hash + Drop, E: Drop>(one: Result<T, E>, second: Result<T, E>) -> Result<bool, E> {
+    let one = one?;
+    let second = second?;
+    Ok(one == second && hash_of(&one) == hash_of(&second))
+}
+
+// `super::super::größe`
+fn path(alloc: Global) -> Result<ModPath, AllocError> {
+    let mut names = Seq::new(alloc);
+    names.push(Name::new(alloc, "größe")?)?;
+    Ok(ModPath::from_segments(PathKind::Super(2), names))
+}
+
+fn named(alloc: Global) -> Result<ExternAbi, AllocError> {
+    Ok(ExternAbi::Named(Text::from_str(alloc, "efiapi")?))
+}
+
+// A path hashes the list of its names, and these their texts.
+#[test]
+fn same_values_hash_alike(rt: HostRuntime) -> Result<(), Fail> {
+    let alloc = rt.alloc();
+    assert!(rt; alike(path(alloc), path(alloc))?);
+    assert!(rt; alike(named(alloc), named(alloc))?);
+    Ok(())
+}

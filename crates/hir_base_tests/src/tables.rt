@@ -1,0 +1,149 @@
+//! Hash tables and their keys, once each on the happy path.
+use crate::same;
+use hir_base::{
+    AstPtr, DefWithBodyId, ExactEq, ExprSource, FunctionId, HirFileId, Idx, InFile, Keyed,
+    NamedDef, StaticId, StructId, SyntaxNodePtr, Table, TextRange, UnionId, VariantId,
+};
+use std::alloc::{AllocError, Global};
+use std::mem::drop;
+use std::process::Abort;
+use std::test::Fail;
+
+enum Kind {}
+
+fn function() -> NamedDef {
+    NamedDef::FunctionId(FunctionId::from_raw(4000000000))
+}
+
+// A structure of the function's number.
+fn structure() -> NamedDef {
+    NamedDef::StructId(StructId::from_raw(4000000000))
+}
+
+// A table of the two, in which the function's value was 1 before.
+fn both(rt: &impl Abort, alloc: Global) -> Result<Table<NamedDef, u32>, AllocError> {
+    let mut table = Table::new(alloc);
+    for (key, value, wanted) in [
+        (function(), 1, None),
+        (structure(), 2, None),
+        (function(), 3, Some(1)),
+    ] {
+        let old = table.insert(key, value)?;
+        assert!(rt; old == wanted);
+    }
+    Ok(table)
+}
+
+// Whether the table has these values at the function and at the structure, and none at a third key.
+fn has(table: &Table<NamedDef, u32>, first: Option<u32>, second: Option<u32>) -> bool {
+    table.get(&function()).copied() == first
+        && table.get(&structure()).copied() == second
+        && table
+            .get(&NamedDef::StructId(StructId::from_raw(0)))
+            .copied()
+            == None
+}
+
+// Whether the entries are those of the two, with 5 as the sum of their values.
+fn lists_both(table: &Table<NamedDef, u32>) -> bool {
+    let mut holds = !table.is_empty();
+    let mut sum = 0u32;
+    for (key, value) in table.iter() {
+        holds = holds && (*key == function() || *key == structure());
+        sum = sum.wrapping_add(*value);
+    }
+    holds && sum == 5
+}
+
+// Whether an empty table, given 2 at one key and 3 at the other, becomes the same as this one, and was not before.
+fn another_becomes<K: Keyed + Copy + Drop>(
+    alloc: Global,
+    made: &Table<K, u32>,
+    of_2: &K,
+    of_3: &K,
+) -> Result<bool, AllocError> {
+    let mut table = Table::new(alloc);
+    let was_empty = table.is_same(made);
+    table.insert(*of_2, 2)?;
+    let was_half = table.is_same(made);
+    table.insert(*of_3, 3)?;
+    Ok(!was_empty && !was_half && table == *made)
+}
+
+#[test]
+fn a_table_tells_its_keys_apart(rt: HostRuntime) -> Result<(), Fail> {
+    let none: Table<NamedDef, u32> = Table::new(rt.alloc());
+    let is_new = none.is_empty() && has(&none, None, None);
+    drop(none);
+    let table = both(&rt, rt.alloc())?;
+    let has_both = has(&table, Some(3), Some(2)) && lists_both(&table);
+    let is_equal = another_becomes(rt.alloc(), &table, &structure(), &function());
+    let copies = same::copies(&table);
+    drop(table);
+    assert!(rt; is_new && has_both);
+    assert!(rt; is_equal? && copies?);
+    Ok(())
+}
+
+// Writes the value at the key, if it has one, and answers the one that it had.
+fn write(table: &mut Table<NamedDef, u32>, key: NamedDef, value: u32) -> Option<u32> {
+    match table.get_mut(&key) {
+        None => None,
+        Some(place) => {
+            let had = *place;
+            *place = value;
+            Some(had)
+        }
+    }
+}
+
+// The function's value becomes 30 in its place, the other stays, and a key without a value gets none.
+#[test]
+fn a_value_of_a_table_is_written_in_its_place(rt: HostRuntime) -> Result<(), Fail> {
+    let mut table = both(&rt, rt.alloc())?;
+    let had = write(&mut table, function(), 30);
+    let neither = NamedDef::StructId(StructId::from_raw(0));
+    let absent = write(&mut table, neither, 40);
+    let holds = has(&table, Some(30), Some(2));
+    drop(table);
+    assert!(rt; had == Some(3) && absent == None && holds);
+    Ok(())
+}
+
+// Whether a table that is given this key, with the value true, has it and not the other key.
+fn has_only<K: Keyed + Drop>(
+    alloc: Global,
+    key: K,
+    same: &K,
+    other: &K,
+) -> Result<bool, AllocError> {
+    let mut table = Table::new(alloc);
+    table.insert(key, true)?;
+    Ok(table.get(same).copied() == Some(true) && table.get(other).copied() == None)
+}
+
+fn source(file: u32) -> ExprSource {
+    let range = TextRange { start: 2, end: 5 };
+    InFile {
+        file_id: HirFileId::from_raw(file),
+        value: AstPtr::new(SyntaxNodePtr { kind: 9, range }),
+    }
+}
+
+#[test]
+fn every_key_of_ours_serves(rt: HostRuntime) -> Result<(), Fail> {
+    let alloc = rt.alloc();
+    let id: Idx<Kind> = Idx::from_raw(3);
+    let ids = has_only(alloc, id, &id, &Idx::from_raw(4))?;
+    let function = FunctionId::from_raw(3);
+    let functions = has_only(alloc, function, &function, &FunctionId::from_raw(4))?;
+    let sources = has_only(alloc, source(1), &source(1), &source(2))?;
+    let body = DefWithBodyId::FunctionId(function);
+    let constant = DefWithBodyId::StaticId(StaticId::from_raw(3));
+    let bodies = has_only(alloc, body, &body, &constant)?;
+    let structure = VariantId::StructId(StructId::from_raw(3));
+    let union = VariantId::UnionId(UnionId::from_raw(3));
+    let fields = has_only(alloc, structure, &structure, &union)?;
+    assert!(rt; ids && functions && sources && bodies && fields);
+    Ok(())
+}
