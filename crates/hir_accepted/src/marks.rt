@@ -9,7 +9,7 @@ use hir_node::{BindingId, ExprId, ExprOrPatId, PatId};
 use std::alloc::{AllocError, Global};
 
 /// What is said of nodes besides. Nothing of it is checked: ids may be of nodes that aren't there.
-#[derive(Debug, Drop, PartialEq, Eq)]
+#[derive(Drop, PartialEq, Eq)]
 pub struct Marks {
     /// Who owns a binding, where the body itself doesn't.
     pub owners: Table<BindingId, ExprId>,

@@ -5,10 +5,11 @@ use hir_base::{
     BlockId, CrateId, DefWithBodyId, EnumVariantId, ExactEq, GenericDefId, LifetimeParamId,
     NamedDef, TryClone, TypeParamId, VariantId,
 };
+use std::fmt;
 use thiserror::Error;
 
 /// What is missing of the definitions outside, with the id asked. The text is the kind alone.
-#[derive(Clone, Copy, Debug, Drop, PartialEq, Eq, Error)]
+#[derive(Clone, Copy, Drop, PartialEq, Eq, Error)]
 pub enum Missing {
     /// Whether the definition has a name, and which.
     #[error("Name")]
@@ -37,6 +38,13 @@ pub enum Missing {
     /// The map of the block's definitions.
     #[error("DefMap")]
     DefMap(BlockId),
+}
+
+/// Its text: the ids that it holds have none.
+impl fmt::Debug for Missing {
+    fn fmt<W: fmt::Write>(&self, f: &mut fmt::Formatter<W>) -> fmt::Result {
+        fmt::Display::fmt(self, f)
+    }
 }
 
 impl ExactEq for Missing {

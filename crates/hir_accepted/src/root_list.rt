@@ -9,7 +9,7 @@ use std::alloc::{AllocError, AllocFailed, Global};
 use std::marker::Model;
 
 /// Roots in order, of which the first takes no memory, seen as the list of them.
-#[derive(Debug, Drop)]
+#[derive(Drop)]
 pub struct RootList {
     list: SmallVec<Root, 1>,
 }

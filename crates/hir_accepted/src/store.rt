@@ -26,7 +26,7 @@ use std::ops::Index;
 
 /// Expressions, patterns, types and what they name, with the roots. They have no fault: each id that a node names is there, and the
 /// nodes are a forest. `ExpressionStoreBuilder::finish` makes it.
-#[derive(Debug, PartialEq, Eq)]
+#[derive(PartialEq, Eq)]
 pub struct ExpressionStore {
     exprs: Arena<ExprKind, Expr>,
     pats: Arena<PatKind, Pat>,

@@ -10,7 +10,7 @@ use std::iter::{ExactSizeIterator, FusedIterator};
 use std::marker::Model;
 
 /// The roots of a store, seen as the list of those that are left.
-#[derive(Debug, Drop)]
+#[derive(Drop)]
 pub struct ExprRoots<'a> {
     roots: &'a [Root],
 }

@@ -14,7 +14,7 @@ use std::alloc::{AllocError, Global};
 use std::marker::Model;
 
 /// A set of nodes of a store. It has a mark for each node that was there when it was made.
-#[derive(Debug, Drop)]
+#[derive(Drop)]
 pub struct NodeSet {
     sizes: Sizes,
     marks: Vec<bool>,

@@ -6,7 +6,7 @@ ghost use Rattle.hir_base.specs.Abi.{abi_text};
 use crate::{ExactEq, Text, TryClone};
 
 /// The calling convention that stands after `extern`. The Rust Reference lists them under "ABI".
-#[derive(Debug, Drop, Clone, PartialEq, Eq, Hash)]
+#[derive(Drop, Clone, PartialEq, Eq, Hash)]
 pub enum ExternAbi {
     /// `"Rust"`
     Rust,

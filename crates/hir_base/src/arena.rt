@@ -33,7 +33,7 @@ impl ExactEq for ArenaFault {
 
 /// A list of items, each named by an id of the kind `K` that is its place from 0.
 #[derive(Drop)]
-#[derive_where(Debug, Clone, PartialEq, Eq, Hash; T)]
+#[derive_where(Clone, PartialEq, Eq, Hash; T)]
 pub struct Arena<K, T> {
     items: Seq<T>,
     #[derive_where(skip)]

@@ -10,11 +10,9 @@ use std::marker::{Model, PhantomData};
 
 /// The items of an arena with their ids, seen as the list of those that are left.
 #[derive(Drop)]
-#[derive_where(Debug; T)]
 pub struct ArenaIter<'a, K, T> {
     first: u32,
     items: &'a [T],
-    #[derive_where(skip)]
     kind: PhantomData<K>,
 }
 

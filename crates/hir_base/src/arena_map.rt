@@ -18,10 +18,8 @@ use std::marker::{Model, PhantomData};
 /// of an arena, where a look-up is one read. One id of 4,000,000,000 would cost as many places, whether or not smaller ids have values:
 /// ids that come from outside belong into a `Table`.
 #[derive(Drop)]
-#[derive_where(Debug; V)]
 pub struct ArenaMap<K, V> {
     places: Vec<Option<V>>,
-    #[derive_where(skip)]
     kind: PhantomData<K>,
 }
 

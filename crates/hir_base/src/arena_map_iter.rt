@@ -9,12 +9,10 @@ use std::marker::{Model, PhantomData};
 
 /// The entries of a map by rising ids, seen as the list of those that are left.
 #[derive(Drop)]
-#[derive_where(Debug; V)]
 pub struct ArenaMapIter<'a, K, V> {
     // The number of the first of `places`.
     first: usize,
     places: &'a [Option<V>],
-    #[derive_where(skip)]
     kind: PhantomData<K>,
 }
 

@@ -4,7 +4,7 @@ ghost use Rattle.hir_base.specs.Exact.{exact};
 use crate::{ExactEq, TryClone};
 
 /// Signed integers.
-#[derive(Clone, Copy, Debug, PartialEq, Eq, Hash)]
+#[derive(Clone, Copy, PartialEq, Eq, Hash)]
 pub enum BuiltinInt {
     /// `isize`
     Isize,
@@ -29,7 +29,7 @@ impl TryClone for BuiltinInt {
 }
 
 /// Unsigned integers.
-#[derive(Clone, Copy, Debug, PartialEq, Eq, Hash)]
+#[derive(Clone, Copy, PartialEq, Eq, Hash)]
 pub enum BuiltinUint {
     /// `usize`
     Usize,
@@ -54,7 +54,7 @@ impl TryClone for BuiltinUint {
 }
 
 /// Floating point numbers.
-#[derive(Clone, Copy, Debug, PartialEq, Eq, Hash)]
+#[derive(Clone, Copy, PartialEq, Eq, Hash)]
 pub enum BuiltinFloat {
     /// `f16`
     F16,

@@ -10,7 +10,7 @@ use crate::ids::{
 use crate::{ExactEq, TryClone};
 
 /// A struct, a union or an enum.
-#[derive(Clone, Copy, Debug, PartialEq, Eq, Hash)]
+#[derive(Clone, Copy, PartialEq, Eq, Hash)]
 pub enum AdtId {
     StructId(StructId),
     UnionId(UnionId),
@@ -26,7 +26,7 @@ impl TryClone for AdtId {
 }
 
 /// What may have generic parameters.
-#[derive(Clone, Copy, Debug, PartialEq, Eq, Hash)]
+#[derive(Clone, Copy, PartialEq, Eq, Hash)]
 pub enum GenericDefId {
     AdtId(AdtId),
     ConstId(ConstId),
@@ -46,7 +46,7 @@ impl TryClone for GenericDefId {
 }
 
 /// What has a body.
-#[derive(Clone, Copy, Debug, PartialEq, Eq, Hash)]
+#[derive(Clone, Copy, PartialEq, Eq, Hash)]
 pub enum DefWithBodyId {
     /// Its block.
     FunctionId(FunctionId),
@@ -67,7 +67,7 @@ impl TryClone for DefWithBodyId {
 }
 
 /// What has fields.
-#[derive(Clone, Copy, Debug, PartialEq, Eq, Hash)]
+#[derive(Clone, Copy, PartialEq, Eq, Hash)]
 pub enum VariantId {
     EnumVariantId(EnumVariantId),
     StructId(StructId),
@@ -83,7 +83,7 @@ impl TryClone for VariantId {
 }
 
 /// What an expression store belongs to.
-#[derive(Clone, Copy, Debug, PartialEq, Eq, Hash)]
+#[derive(Clone, Copy, PartialEq, Eq, Hash)]
 pub enum ExpressionStoreOwnerId {
     /// The signature of a definition.
     Signature(GenericDefId),
@@ -132,7 +132,7 @@ impl From<VariantId> for ExpressionStoreOwnerId {
 }
 
 /// A macro, by the way that it is written.
-#[derive(Clone, Copy, Debug, PartialEq, Eq, Hash)]
+#[derive(Clone, Copy, PartialEq, Eq, Hash)]
 pub enum MacroId {
     Macro2Id(Macro2Id),
     MacroRulesId(MacroRulesId),
@@ -148,7 +148,7 @@ impl TryClone for MacroId {
 }
 
 /// What may be a lang item.
-#[derive(Clone, Copy, Debug, PartialEq, Eq, Hash)]
+#[derive(Clone, Copy, PartialEq, Eq, Hash)]
 pub enum LangItemTarget {
     ImplId(ImplId),
     EnumId(EnumId),
@@ -172,7 +172,7 @@ impl TryClone for LangItemTarget {
 }
 
 /// What has a name of its own, or may be written without one.
-#[derive(Clone, Copy, Debug, PartialEq, Eq, Hash)]
+#[derive(Clone, Copy, PartialEq, Eq, Hash)]
 pub enum NamedDef {
     EnumId(EnumId),
     FunctionId(FunctionId),

@@ -7,7 +7,7 @@ use crate::{ExactEq, Seq, Text, TryClone};
 use std::alloc::Global;
 
 /// An edition of the language.
-#[derive(Clone, Copy, Debug, PartialEq, Eq, Hash)]
+#[derive(Clone, Copy, PartialEq, Eq, Hash)]
 pub enum Edition {
     Edition2015,
     Edition2018,
@@ -24,7 +24,7 @@ impl TryClone for Edition {
 }
 
 /// For each edition, the names that are written with `r#` there, since they are keywords without it.
-#[derive(Debug, Drop)]
+#[derive(Drop)]
 pub struct RawWords {
     pub edition2015: Seq<Text>,
     pub edition2018: Seq<Text>,

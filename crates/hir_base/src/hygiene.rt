@@ -7,7 +7,7 @@ use crate::{ExactEq, TryClone};
 use std::marker::Model;
 
 /// Where a token comes from.
-#[derive(Clone, Copy, Debug, PartialEq, Eq, Hash)]
+#[derive(Clone, Copy, PartialEq, Eq, Hash)]
 pub enum SyntaxContext {
     /// From source text of this edition.
     Root(Edition),
@@ -24,7 +24,7 @@ impl TryClone for SyntaxContext {
 }
 
 /// The hygiene of a name, seen as its context. All source text has one hygiene, whatever its edition.
-#[derive(Clone, Copy, Debug, PartialEq, Eq, Hash)]
+#[derive(Clone, Copy, PartialEq, Eq, Hash)]
 pub struct HygieneId {
     ctx: SyntaxContext,
 }

@@ -7,7 +7,7 @@ use crate::{ExactEq, Name, Seq, TryClone};
 use std::marker::Model;
 
 /// Where a path begins.
-#[derive(Clone, Copy, Debug, PartialEq, Eq, Hash)]
+#[derive(Clone, Copy, PartialEq, Eq, Hash)]
 pub enum PathKind {
     /// At a name that is in scope.
     Plain,
@@ -35,7 +35,7 @@ impl TryClone for PathKind {
 }
 
 /// A path without arguments, seen as its kind and its segments.
-#[derive(Debug, Drop, Clone, PartialEq, Eq, Hash)]
+#[derive(Drop, Clone, PartialEq, Eq, Hash)]
 pub struct ModPath {
     kind: PathKind,
     segments: Seq<Name>,

@@ -4,7 +4,7 @@ ghost use Rattle.hir_base.specs.Exact.{exact};
 use crate::{ExactEq, TryClone};
 
 /// Operators on numbers and bits. Each may also stand before `=`.
-#[derive(Clone, Copy, Debug, PartialEq, Eq, Hash)]
+#[derive(Clone, Copy, PartialEq, Eq, Hash)]
 pub enum ArithOp {
     /// `+`
     Add,
@@ -37,7 +37,7 @@ impl TryClone for ArithOp {
 }
 
 /// Operators on truth values that may leave their right side out.
-#[derive(Clone, Copy, Debug, PartialEq, Eq, Hash)]
+#[derive(Clone, Copy, PartialEq, Eq, Hash)]
 pub enum LogicOp {
     /// `&&`
     And,
@@ -54,7 +54,7 @@ impl TryClone for LogicOp {
 }
 
 /// Which side of a comparison is asked to be the smaller.
-#[derive(Clone, Copy, Debug, PartialEq, Eq, Hash)]
+#[derive(Clone, Copy, PartialEq, Eq, Hash)]
 pub enum Ordering {
     /// `<` and `<=`
     Less,
@@ -71,7 +71,7 @@ impl TryClone for Ordering {
 }
 
 /// Comparisons.
-#[derive(Clone, Copy, Debug, PartialEq, Eq, Hash)]
+#[derive(Clone, Copy, PartialEq, Eq, Hash)]
 pub enum CmpOp {
     /// `==`, and `!=` where it is negated.
     Eq { negated: bool },
@@ -88,7 +88,7 @@ impl TryClone for CmpOp {
 }
 
 /// Operators between two expressions.
-#[derive(Clone, Copy, Debug, PartialEq, Eq, Hash)]
+#[derive(Clone, Copy, PartialEq, Eq, Hash)]
 pub enum BinaryOp {
     LogicOp(LogicOp),
     ArithOp(ArithOp),
@@ -106,7 +106,7 @@ impl TryClone for BinaryOp {
 }
 
 /// Operators of ranges.
-#[derive(Clone, Copy, Debug, PartialEq, Eq, Hash)]
+#[derive(Clone, Copy, PartialEq, Eq, Hash)]
 pub enum RangeOp {
     /// `..`, without the end.
     Exclusive,
@@ -123,7 +123,7 @@ impl TryClone for RangeOp {
 }
 
 /// Operators before an expression.
-#[derive(Clone, Copy, Debug, PartialEq, Eq, Hash)]
+#[derive(Clone, Copy, PartialEq, Eq, Hash)]
 pub enum UnaryOp {
     /// `*`
     Deref,

@@ -19,7 +19,7 @@ pub type LocalTypeOrConstParamId = Idx<TypeOrConstParamKind>;
 pub type LocalLifetimeParamId = Idx<LifetimeParamKind>;
 
 /// A type or constant parameter.
-#[derive(Clone, Copy, Debug, PartialEq, Eq, Hash)]
+#[derive(Clone, Copy, PartialEq, Eq, Hash)]
 pub struct TypeOrConstParamId {
     /// What the parameter belongs to.
     pub parent: GenericDefId,
@@ -36,7 +36,7 @@ impl TryClone for TypeOrConstParamId {
 }
 
 /// A lifetime parameter.
-#[derive(Clone, Copy, Debug, PartialEq, Eq, Hash)]
+#[derive(Clone, Copy, PartialEq, Eq, Hash)]
 pub struct LifetimeParamId {
     /// What the parameter belongs to.
     pub parent: GenericDefId,
@@ -53,7 +53,7 @@ impl TryClone for LifetimeParamId {
 }
 
 /// A parameter that is a type.
-#[derive(Clone, Copy, Debug, PartialEq, Eq, Hash)]
+#[derive(Clone, Copy, PartialEq, Eq, Hash)]
 pub struct TypeParamId {
     type_param: TypeOrConstParamId,
 }
@@ -100,7 +100,7 @@ impl TryClone for TypeParamId {
 }
 
 /// A parameter that is a constant.
-#[derive(Clone, Copy, Debug, PartialEq, Eq, Hash)]
+#[derive(Clone, Copy, PartialEq, Eq, Hash)]
 pub struct ConstParamId {
     const_param: TypeOrConstParamId,
 }

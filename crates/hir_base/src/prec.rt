@@ -6,7 +6,7 @@ ghost use Rattle.hir_base.specs.Exact.{exact};
 use crate::{ExactEq, TryClone};
 
 /// How tightly an expression binds, from low to high.
-#[derive(Clone, Copy, Debug, PartialEq, Eq)]
+#[derive(Clone, Copy, PartialEq, Eq)]
 pub enum ExprPrecedence {
     /// `return`, `break`, `yield`, closures and the like.
     Jump,

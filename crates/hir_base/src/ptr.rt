@@ -10,7 +10,7 @@ use either::Either;
 use std::marker::{Model, PhantomData};
 
 /// A part of a file, in bytes from its start: from `start`, and up to but without `end`.
-#[derive(Clone, Copy, Debug, PartialEq, Eq, Hash)]
+#[derive(Clone, Copy, PartialEq, Eq, Hash)]
 pub struct TextRange {
     pub start: u32,
     pub end: u32,
@@ -25,7 +25,7 @@ impl TryClone for TextRange {
 }
 
 /// A syntax node, named by what it is and where it stands.
-#[derive(Clone, Copy, Debug, PartialEq, Eq, Hash)]
+#[derive(Clone, Copy, PartialEq, Eq, Hash)]
 pub struct SyntaxNodePtr {
     /// The number of the node's syntax kind, as the parser gives it.
     pub kind: u16,
@@ -43,7 +43,7 @@ impl TryClone for SyntaxNodePtr {
 
 /// A pointer to a syntax node of the kind `K`, a marker of the module `ast`.
 #[derive(Drop)]
-#[derive_where(Clone, Copy, PartialEq, Eq, Hash, Debug)]
+#[derive_where(Clone, Copy, PartialEq, Eq, Hash)]
 pub struct AstPtr<K> {
     node: SyntaxNodePtr,
     #[derive_where(skip)]
@@ -105,7 +105,7 @@ impl<K> TryClone for AstPtr<K> {
 }
 
 /// A value and the file that it speaks of.
-#[derive(Clone, Copy, Debug, PartialEq, Eq, Hash)]
+#[derive(Clone, Copy, PartialEq, Eq, Hash)]
 pub struct InFile<T> {
     /// The file, or what a macro call expanded to.
     pub file_id: HirFileId,
@@ -121,7 +121,7 @@ impl<T: TryClone> TryClone for InFile<T> {
 }
 
 /// That no syntax stands behind a node: lowering made it up.
-#[derive(Debug, Drop, PartialEq, Eq)]
+#[derive(Drop, PartialEq, Eq)]
 pub struct SyntheticSyntax;
 
 impl ExactEq for SyntheticSyntax {

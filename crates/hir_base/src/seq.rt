@@ -20,7 +20,7 @@ use std::slice::Iter;
 /// A `Vec` that contracts see as the list of its items.
 ///
 /// It is made from the `Vec` and gives it back without memory.
-#[derive(Debug, Drop)]
+#[derive(Drop)]
 pub struct Seq<T> {
     items: Vec<T>,
 }

@@ -26,7 +26,6 @@ pub trait Keyed: Eq + Hash {
 
 /// A hash table with a fixed seed, seen as the finite map from the codes of its keys to their values.
 #[derive(Drop)]
-#[derive_where(Debug; K, V)]
 pub struct Table<K: Keyed, V> {
     entries: HashMap<K, V>,
 }

@@ -16,7 +16,7 @@ use std::marker::Model;
 /// A `String` that contracts see as its bytes.
 ///
 /// It is made from the `String` and gives it back without memory.
-#[derive(Debug, Drop)]
+#[derive(Drop)]
 pub struct Text {
     text: String,
 }

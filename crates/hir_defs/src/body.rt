@@ -14,7 +14,7 @@ use std::marker::Model;
 /// The body of a function, a constant, a static or an enum variant: what stands in its store, the patterns of its parameters and the
 /// binding of its `self`. It has no fault: there is a root, what the parameters name is there, and no formal and not the last root lies
 /// under another of them.
-#[derive(Debug, PartialEq, Eq)]
+#[derive(PartialEq, Eq)]
 pub struct Body {
     store: ExpressionStore,
     params: Seq<Param<PatId>>,
@@ -51,11 +51,15 @@ impl Model for Body {
 }
 
 /// The parts of a body that was refused, as they were, with their first fault.
-#[derive(Debug, Drop, PartialEq, Eq)]
+#[derive(Drop, PartialEq, Eq)]
+#[derive_where(Debug)]
 pub struct RefusedBody {
     pub fault: BodyFault,
+    #[derive_where(skip(Debug))]
     pub store: ExpressionStore,
+    #[derive_where(skip(Debug))]
     pub params: Seq<Param<PatId>>,
+    #[derive_where(skip(Debug))]
     pub self_param: Option<Param<BindingId>>,
 }
 

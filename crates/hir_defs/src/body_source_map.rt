@@ -6,7 +6,7 @@ use hir_base::{InFile, SelfParamPtr};
 use hir_source::ExpressionStoreSourceMap;
 
 /// Where a body comes from: the source map of its store, and the source of its `self`.
-#[derive(Debug, PartialEq, Eq)]
+#[derive(PartialEq, Eq)]
 pub struct BodySourceMap {
     store: ExpressionStoreSourceMap,
     self_param_syntax: Option<InFile<SelfParamPtr>>,

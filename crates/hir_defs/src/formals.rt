@@ -15,7 +15,7 @@ use hir_node::{BindingId, PatId};
 /// A parameter as the body has it, and as the user wrote it.
 ///
 /// The two differ where a body copies its parameters into local variables, as that of an `async fn` does.
-#[derive(Clone, Copy, Debug, PartialEq, Eq)]
+#[derive(Clone, Copy, PartialEq, Eq)]
 pub struct Param<Id> {
     /// The parameter itself: the id that the analysis of a body is about.
     pub formal: Id,

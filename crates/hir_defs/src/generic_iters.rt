@@ -11,7 +11,7 @@ use std::iter::FusedIterator;
 use std::marker::Model;
 
 /// The early bound lifetimes with their ids, or the late bound ones, seen as the list of those that are left.
-#[derive(Debug, Drop)]
+#[derive(Drop)]
 pub struct BoundLifetimes<'a> {
     lifetimes: ArenaIter<'a, LifetimeParamKind, LifetimeParamData>,
     bound_type: LifetimeBoundType,

@@ -19,7 +19,7 @@ use std::marker::Model;
 use std::ops::Index;
 
 /// The generic parameters of a definition: types and constants in one list, lifetimes in another; and the predicates on them.
-#[derive(Debug, PartialEq, Eq, Hash)]
+#[derive(PartialEq, Eq, Hash)]
 pub struct GenericParams {
     type_or_consts: Arena<TypeOrConstParamKind, TypeOrConstParamData>,
     lifetimes: Arena<LifetimeParamKind, LifetimeParamData>,

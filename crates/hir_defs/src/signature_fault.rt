@@ -26,9 +26,11 @@ impl ExactEq for SignatureFault {
 }
 
 /// The parts of a signature that was refused, as they were, with their first fault.
-#[derive(Debug, Drop, PartialEq, Eq)]
+#[derive(Drop, PartialEq, Eq)]
+#[derive_where(Debug)]
 pub struct RefusedSignature<P> {
     pub fault: SignatureFault,
+    #[derive_where(skip(Debug))]
     pub parts: P,
 }
 

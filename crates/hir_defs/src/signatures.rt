@@ -13,7 +13,7 @@ use hir_node::{ExprId, TypeRefId};
 use std::marker::Model;
 
 /// How fields are written: `{ .. }`, `( .. )`, or not at all.
-#[derive(Clone, Copy, Debug, PartialEq, Eq)]
+#[derive(Clone, Copy, PartialEq, Eq)]
 pub enum FieldsShape {
     Record,
     Tuple,
@@ -27,7 +27,7 @@ impl ExactEq for FieldsShape {
 }
 
 /// From where a field may be seen.
-#[derive(Debug, Drop, PartialEq, Eq)]
+#[derive(Drop, PartialEq, Eq)]
 pub enum RawVisibility {
     /// `pub(in path)`, or private: from this module.
     Module(ModPath),
@@ -46,7 +46,7 @@ impl ExactEq for RawVisibility {
 }
 
 /// A field.
-#[derive(Debug, Drop, PartialEq, Eq)]
+#[derive(Drop, PartialEq, Eq)]
 pub struct FieldData {
     pub name: Name,
     pub type_ref: TypeRefId,
@@ -64,7 +64,7 @@ impl ExactEq for FieldData {
 }
 
 /// What the signature of a function is made of.
-#[derive(Debug, Drop, PartialEq, Eq)]
+#[derive(Drop, PartialEq, Eq)]
 pub struct FunctionParts {
     /// Its name.
     pub name: Name,
@@ -111,7 +111,7 @@ impl FunctionParts {
 }
 
 /// The signature of a function.
-#[derive(Debug, PartialEq, Eq)]
+#[derive(PartialEq, Eq)]
 pub struct FunctionSignature {
     function: FunctionParts,
 }
@@ -240,7 +240,7 @@ impl FunctionSignature {
 }
 
 /// What the signature of a struct is made of.
-#[derive(Debug, Drop, PartialEq, Eq)]
+#[derive(Drop, PartialEq, Eq)]
 pub struct StructParts {
     /// Its name.
     pub name: Name,
@@ -273,7 +273,7 @@ impl StructParts {
 }
 
 /// The signature of a struct.
-#[derive(Debug, PartialEq, Eq)]
+#[derive(PartialEq, Eq)]
 pub struct StructSignature {
     structure: StructParts,
 }
@@ -359,7 +359,7 @@ impl StructSignature {
 }
 
 /// What the signature of a struct, a union or a variant of an enum, as its fields is made of.
-#[derive(Debug, Drop, PartialEq, Eq)]
+#[derive(Drop, PartialEq, Eq)]
 pub struct VariantParts {
     /// How the fields are written.
     pub shape: FieldsShape,
@@ -385,7 +385,7 @@ impl VariantParts {
 }
 
 /// The signature of a struct, a union or a variant of an enum, as its fields.
-#[derive(Debug, PartialEq, Eq)]
+#[derive(PartialEq, Eq)]
 pub struct VariantFields {
     variant: VariantParts,
 }
@@ -457,7 +457,7 @@ impl VariantFields {
 }
 
 /// What the signature of a definition of which only the generic parameters are kept is made of.
-#[derive(Debug, Drop, PartialEq, Eq)]
+#[derive(Drop, PartialEq, Eq)]
 pub struct PlainParts {
     /// Its generic parameters.
     pub generic_params: GenericParams,
@@ -484,7 +484,7 @@ impl PlainParts {
 }
 
 /// The signature of a definition of which only the generic parameters are kept.
-#[derive(Debug, PartialEq, Eq)]
+#[derive(PartialEq, Eq)]
 pub struct PlainSignature {
     plain: PlainParts,
 }

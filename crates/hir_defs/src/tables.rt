@@ -25,7 +25,7 @@ use hir_source::ExpressionStoreSourceMap;
 use std::alloc::{AllocFailed, Global};
 
 /// A definition of which a signature keeps the generic parameters alone.
-#[derive(Clone, Copy, Debug, PartialEq, Eq, Hash)]
+#[derive(Clone, Copy, PartialEq, Eq, Hash)]
 pub enum PlainDef {
     Enum(EnumId),
     Union(UnionId),
@@ -68,7 +68,7 @@ impl Keyed for PlainDef {
 }
 
 /// How a struct lies in memory: what `#[repr(..)]` says.
-#[derive(Clone, Copy, Debug, PartialEq, Eq)]
+#[derive(Clone, Copy, PartialEq, Eq)]
 pub struct Repr {
     /// Whether it is `repr(C)`.
     pub c: bool,

@@ -15,7 +15,7 @@ use thiserror::Error;
 const BLOCK: usize = 65536;
 
 /// What taking a line met.
-#[derive(Clone, Copy, Debug, PartialEq, Eq)]
+#[derive(Clone, Copy, PartialEq, Eq)]
 pub enum Taken {
     /// A line was taken.
     Line,

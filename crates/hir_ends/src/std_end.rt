@@ -12,7 +12,7 @@ use std::io::{ErrorKind, Read, Result as IoResult, Write};
 const RETRIES: u32 = 1000;
 
 /// What the answer of one std call means for a source or a sink.
-#[derive(Clone, Copy, Debug, PartialEq, Eq)]
+#[derive(Clone, Copy, PartialEq, Eq)]
 pub enum Attempt {
     /// The call took so many bytes.
     Done(usize),

@@ -7,7 +7,7 @@ use crate::fault::NodeId;
 use hir_node::{ExprId, PatId, TypeRefId};
 
 /// How many of each there are.
-#[derive(Clone, Copy, Debug, Drop)]
+#[derive(Clone, Copy, Drop)]
 pub struct Sizes {
     pub exprs: usize,
     pub pats: usize,

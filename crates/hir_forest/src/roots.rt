@@ -8,7 +8,7 @@ ghost use Rattle.hir_forest.specs.Faults.{EndsFit};
 use hir_base::ExactEq;
 
 /// How many expressions, patterns and bindings there are, or were when a root was listed.
-#[derive(Clone, Copy, Default, PartialEq, Eq, Debug, Drop)]
+#[derive(Clone, Copy, Default, PartialEq, Eq, Drop)]
 pub struct Ends {
     pub exprs: u32,
     pub pats: u32,
@@ -34,7 +34,7 @@ impl Ends {
 }
 
 /// A listed root: the number of a node, and the lengths of the arenas when it was listed.
-#[derive(Clone, Copy, Default, PartialEq, Eq, Debug, Drop)]
+#[derive(Clone, Copy, Default, PartialEq, Eq, Drop)]
 pub struct Root {
     pub node: u32,
     pub ends: Ends,
@@ -48,7 +48,7 @@ impl ExactEq for Root {
 /// root in the list that has one, and then the first in this order.
 ///
 /// `SharedChild` and `Cycle` have the number of a node, the others the index of a root in the list.
-#[derive(Clone, Copy, PartialEq, Eq, Debug, Drop)]
+#[derive(Clone, Copy, PartialEq, Eq, Drop)]
 pub enum ForestFault {
     /// The node is the child of two edges; it is the child of the first edge whose child is one of an earlier edge.
     SharedChild(usize),

@@ -6,7 +6,7 @@ use hir_base::{ExactEq, Name, TryClone};
 use hir_path::{ConstRef, TypeRefId};
 
 /// Where a type parameter comes from.
-#[derive(Clone, Copy, Debug, PartialEq, Eq, Hash)]
+#[derive(Clone, Copy, PartialEq, Eq, Hash)]
 pub enum TypeParamProvenance {
     /// It is written in a list `<..>`.
     TypeParamList,
@@ -25,7 +25,7 @@ impl TryClone for TypeParamProvenance {
 }
 
 /// A parameter that is a type.
-#[derive(Debug, Drop, Clone, PartialEq, Eq, Hash)]
+#[derive(Drop, Clone, PartialEq, Eq, Hash)]
 pub struct TypeParamData {
     /// Its name. An `impl Trait` in the place of an argument's type has none.
     pub name: Option<Name>,
@@ -45,7 +45,7 @@ impl TryClone for TypeParamData {
 }
 
 /// When a lifetime parameter gets its argument.
-#[derive(Debug, Drop, Clone, PartialEq, Eq, Hash)]
+#[derive(Drop, Clone, PartialEq, Eq, Hash)]
 pub enum LifetimeBoundType {
     /// Where the definition is named.
     EarlyBound,
@@ -62,7 +62,7 @@ impl TryClone for LifetimeBoundType {
 }
 
 /// A parameter that is a lifetime.
-#[derive(Debug, Drop, Clone, PartialEq, Eq, Hash)]
+#[derive(Drop, Clone, PartialEq, Eq, Hash)]
 pub struct LifetimeParamData {
     pub name: Name,
     pub bound_type: LifetimeBoundType,
@@ -101,7 +101,7 @@ impl TryClone for LifetimeParamData {
 }
 
 /// A parameter that is a constant.
-#[derive(Debug, Drop, Clone, PartialEq, Eq, Hash)]
+#[derive(Drop, Clone, PartialEq, Eq, Hash)]
 pub struct ConstParamData {
     pub name: Name,
     /// The type of the constant.

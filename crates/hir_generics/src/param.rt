@@ -7,7 +7,7 @@ use crate::data::{ConstParamData, LifetimeParamData, TypeParamData, TypeParamPro
 use hir_base::{ExactEq, Name, TryClone};
 
 /// A parameter that is a type or a constant.
-#[derive(Debug, Drop, Clone, PartialEq, Eq, Hash)]
+#[derive(Drop, Clone, PartialEq, Eq, Hash)]
 pub enum TypeOrConstParamData {
     TypeParamData(TypeParamData),
     ConstParamData(ConstParamData),
@@ -105,7 +105,7 @@ impl TryClone for TypeOrConstParamData {
 }
 
 /// A parameter that is a type, a constant or a lifetime.
-#[derive(Debug, Drop, Clone, PartialEq, Eq, Hash)]
+#[derive(Drop, Clone, PartialEq, Eq, Hash)]
 pub enum GenericParamData {
     TypeParamData(TypeParamData),
     ConstParamData(ConstParamData),
@@ -201,7 +201,7 @@ impl TryClone for GenericParamData {
 }
 
 /// A borrowed parameter that is a type, a constant or a lifetime.
-#[derive(Clone, Copy, Debug)]
+#[derive(Clone, Copy)]
 pub enum GenericParamDataRef<'a> {
     TypeParamData(&'a TypeParamData),
     ConstParamData(&'a ConstParamData),

@@ -6,7 +6,7 @@ use hir_base::{ExactEq, Name, Seq, TryClone};
 use hir_path::{LifetimeRefId, TypeBound, TypeRefId};
 
 /// One thing that a `where` clause asks. `where T: Foo + Bar` asks two.
-#[derive(Debug, Drop, Clone, PartialEq, Eq, Hash)]
+#[derive(Drop, Clone, PartialEq, Eq, Hash)]
 pub enum WherePredicate {
     /// A type meets a bound.
     TypeBound {

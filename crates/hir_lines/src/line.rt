@@ -5,7 +5,7 @@ use hir_base::{ExactEq, Name};
 use hir_node::{Binding, BindingId, Expr, ExprId, Pat, PatId, TypeRef};
 
 /// A line that makes something.
-#[derive(Debug, Drop, PartialEq, Eq)]
+#[derive(Drop, PartialEq, Eq)]
 pub enum Maker {
     /// `bind ..`: the binding.
     Binding(Binding),
@@ -34,7 +34,7 @@ impl ExactEq for Maker {
 }
 
 /// A line that asks something.
-#[derive(Clone, Copy, Debug, PartialEq, Eq)]
+#[derive(Clone, Copy, PartialEq, Eq)]
 pub enum Question {
     /// `children E`: the child expressions.
     Children(ExprId),
@@ -47,7 +47,7 @@ impl ExactEq for Question {
 }
 
 /// What a line says.
-#[derive(Debug, Drop, PartialEq, Eq)]
+#[derive(Drop, PartialEq, Eq)]
 pub enum Line {
     /// An empty line.
     Blank,

@@ -3,7 +3,7 @@
 use std::alloc::{AllocError, AllocFailed};
 
 /// Why a line isn't read on.
-#[derive(Debug, Drop)]
+#[derive(Drop)]
 pub enum Stop {
     /// No line has these words.
     Bad,

@@ -5,7 +5,7 @@ ghost use Rattle.hir_base.specs.Exact.{exact};
 use hir_base::{ExactEq, HygieneId, Name, TryClone};
 
 /// A label of a block or a loop.
-#[derive(Debug, Drop, Clone, PartialEq, Eq)]
+#[derive(Drop, Clone, PartialEq, Eq)]
 pub struct Label {
     pub name: Name,
 }
@@ -19,7 +19,7 @@ impl TryClone for Label {
 }
 
 /// The words before the name of a binding.
-#[derive(Clone, Copy, Debug, PartialEq, Eq)]
+#[derive(Clone, Copy, PartialEq, Eq)]
 pub enum BindingAnnotation {
     /// None.
     Unannotated,
@@ -56,7 +56,7 @@ impl TryClone for BindingAnnotation {
 }
 
 /// What is wrong with a binding of a pattern.
-#[derive(Debug, Drop, Clone, PartialEq, Eq)]
+#[derive(Drop, Clone, PartialEq, Eq)]
 pub enum BindingProblems {
     /// Its pattern binds the name more than once.
     BoundMoreThanOnce,
@@ -75,7 +75,7 @@ impl TryClone for BindingProblems {
 }
 
 /// A variable that a pattern brings into scope.
-#[derive(Debug, Drop, Clone, PartialEq, Eq)]
+#[derive(Drop, Clone, PartialEq, Eq)]
 pub struct Binding {
     pub name: Name,
     pub mode: BindingAnnotation,

@@ -15,7 +15,7 @@ use hir_path::{Boxed, ExprId, GenericArgs, LabelId, PatId, Path, TypeRefId};
 use std::alloc::AllocError;
 
 /// An expression.
-#[derive(Debug, Drop, PartialEq, Eq)]
+#[derive(Drop, PartialEq, Eq)]
 pub enum Expr {
     /// Nothing was there.
     Missing,

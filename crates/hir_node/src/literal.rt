@@ -8,7 +8,7 @@ use std::fmt;
 use std::marker::Model;
 
 /// A floating point number, kept as its text so that it is rounded once, by whoever reads it as a number.
-#[derive(Debug, Drop, Clone, PartialEq, Eq)]
+#[derive(Drop, Clone, PartialEq, Eq)]
 pub struct FloatTypeWrapper(Text);
 
 impl Model for FloatTypeWrapper {
@@ -48,7 +48,7 @@ impl TryClone for FloatTypeWrapper {
 }
 
 /// A literal. A number may have its type written behind it.
-#[derive(Debug, Drop, Clone, PartialEq, Eq)]
+#[derive(Drop, Clone, PartialEq, Eq)]
 pub enum Literal {
     String(Text),
     ByteString(Seq<u8>),
@@ -92,7 +92,7 @@ impl TryClone for Literal {
 }
 
 /// What a range pattern may end in.
-#[derive(Debug, Drop, Clone, PartialEq, Eq)]
+#[derive(Drop, Clone, PartialEq, Eq)]
 pub enum LiteralOrConst {
     Literal(Literal),
     /// A pattern that names a constant.

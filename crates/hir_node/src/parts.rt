@@ -6,7 +6,7 @@ use hir_base::{ExactEq, MacroDefId, Name, Seq, TryClone};
 use hir_path::{ExprId, PatId, TypeRefId};
 
 /// What stands after the fields of a record literal.
-#[derive(Clone, Copy, Debug, PartialEq, Eq)]
+#[derive(Clone, Copy, PartialEq, Eq)]
 pub enum RecordSpread {
     /// Nothing.
     None,
@@ -25,7 +25,7 @@ impl TryClone for RecordSpread {
 }
 
 /// Whether a block is unsafe.
-#[derive(Clone, Copy, Debug, PartialEq, Eq)]
+#[derive(Clone, Copy, PartialEq, Eq)]
 pub enum Unsafe {
     Yes,
     No,
@@ -40,7 +40,7 @@ impl TryClone for Unsafe {
 }
 
 /// The word that a loop was written with.
-#[derive(Clone, Copy, Debug, PartialEq, Eq)]
+#[derive(Clone, Copy, PartialEq, Eq)]
 pub enum LoopSource {
     Loop,
     While,
@@ -56,7 +56,7 @@ impl TryClone for LoopSource {
 }
 
 /// The place of a field in a type, as `offset_of!` asks for it.
-#[derive(Debug, Drop, Clone, PartialEq, Eq)]
+#[derive(Drop, Clone, PartialEq, Eq)]
 pub struct OffsetOf {
     pub container: TypeRefId,
     /// The names that lead to the field, outermost first.
@@ -72,7 +72,7 @@ impl TryClone for OffsetOf {
 }
 
 /// The words before a coroutine.
-#[derive(Clone, Copy, Debug, PartialEq, Eq, Hash)]
+#[derive(Clone, Copy, PartialEq, Eq, Hash)]
 pub enum CoroutineKind {
     /// `async`
     Async,
@@ -91,7 +91,7 @@ impl TryClone for CoroutineKind {
 }
 
 /// What a closure expression makes.
-#[derive(Clone, Copy, Debug, PartialEq, Eq, Hash)]
+#[derive(Clone, Copy, PartialEq, Eq, Hash)]
 pub enum ClosureKind {
     /// A closure.
     Closure,
@@ -115,7 +115,7 @@ impl TryClone for ClosureKind {
 }
 
 /// Where a coroutine comes from.
-#[derive(Clone, Copy, Debug, PartialEq, Eq, Hash)]
+#[derive(Clone, Copy, PartialEq, Eq, Hash)]
 pub enum CoroutineSource {
     /// A block, as `async {}`.
     Block,
@@ -134,7 +134,7 @@ impl TryClone for CoroutineSource {
 }
 
 /// How a closure takes the variables around it.
-#[derive(Clone, Copy, Debug, PartialEq, Eq)]
+#[derive(Clone, Copy, PartialEq, Eq)]
 pub enum CaptureBy {
     /// By value: `move`.
     Value,
@@ -151,7 +151,7 @@ impl TryClone for CaptureBy {
 }
 
 /// Whether a coroutine may be moved once it has begun.
-#[derive(Clone, Copy, Debug, PartialEq, Eq, Hash)]
+#[derive(Clone, Copy, PartialEq, Eq, Hash)]
 pub enum Movability {
     /// It may not.
     Static,
@@ -168,7 +168,7 @@ impl TryClone for Movability {
 }
 
 /// An array.
-#[derive(Debug, Drop, Clone, PartialEq, Eq)]
+#[derive(Drop, Clone, PartialEq, Eq)]
 pub enum Array {
     /// `[a, b]`
     ElementList { elements: Seq<ExprId> },
@@ -185,7 +185,7 @@ impl TryClone for Array {
 }
 
 /// An arm of a match.
-#[derive(Debug, Drop, Clone, PartialEq, Eq)]
+#[derive(Drop, Clone, PartialEq, Eq)]
 pub struct MatchArm {
     pub pat: PatId,
     /// The condition after `if`.
@@ -203,7 +203,7 @@ impl TryClone for MatchArm {
 }
 
 /// A field of a record literal.
-#[derive(Debug, Drop, Clone, PartialEq, Eq)]
+#[derive(Drop, Clone, PartialEq, Eq)]
 pub struct RecordLitField {
     pub name: Name,
     pub expr: ExprId,
@@ -218,7 +218,7 @@ impl TryClone for RecordLitField {
 }
 
 /// A statement of a block.
-#[derive(Debug, Drop, Clone, PartialEq, Eq)]
+#[derive(Drop, Clone, PartialEq, Eq)]
 pub enum Statement {
     Let {
         pat: PatId,
@@ -242,7 +242,7 @@ impl TryClone for Statement {
 }
 
 /// An item among statements.
-#[derive(Debug, Drop, Clone, PartialEq, Eq)]
+#[derive(Drop, Clone, PartialEq, Eq)]
 pub enum Item {
     /// The definition of a macro, which later statements see.
     MacroDef(MacroDefId),

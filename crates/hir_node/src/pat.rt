@@ -10,7 +10,7 @@ use hir_path::{BindingId, ExprId, PatId, Path};
 use std::alloc::AllocError;
 
 /// A field of a record pattern: its name, and the pattern that its value matches.
-#[derive(Debug, Drop, Clone, PartialEq, Eq)]
+#[derive(Drop, Clone, PartialEq, Eq)]
 pub struct RecordFieldPat {
     pub name: Name,
     pub pat: PatId,
@@ -25,7 +25,7 @@ impl TryClone for RecordFieldPat {
 }
 
 /// A pattern.
-#[derive(Debug, Drop, PartialEq, Eq)]
+#[derive(Drop, PartialEq, Eq)]
 pub enum Pat {
     /// Nothing was there.
     Missing,

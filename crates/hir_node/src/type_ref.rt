@@ -9,7 +9,7 @@ use hir_path::{Boxed, ConstRef, LifetimeRefId, PatId, Path, PathId, TypeBound, T
 use std::alloc::AllocError;
 
 /// Whether what is behind a reference or a pointer may be written.
-#[derive(Clone, Copy, Debug, PartialEq, Eq, Hash)]
+#[derive(Clone, Copy, PartialEq, Eq, Hash)]
 pub enum Mutability {
     /// It may only be read.
     Shared,
@@ -81,7 +81,7 @@ impl TryClone for Mutability {
 }
 
 /// Whether `&` makes a pointer or a reference.
-#[derive(Clone, Copy, Debug, PartialEq, Eq, Hash)]
+#[derive(Clone, Copy, PartialEq, Eq, Hash)]
 pub enum Rawness {
     /// A pointer: `&raw`.
     RawPtr,
@@ -121,7 +121,7 @@ impl TryClone for Rawness {
 }
 
 /// A trait, named by its path.
-#[derive(Clone, Copy, Debug, PartialEq, Eq, Hash)]
+#[derive(Clone, Copy, PartialEq, Eq, Hash)]
 pub struct TraitRef {
     pub path: PathId,
 }
@@ -135,7 +135,7 @@ impl TryClone for TraitRef {
 }
 
 /// The type of a function pointer.
-#[derive(Debug, Drop, Clone, PartialEq, Eq, Hash)]
+#[derive(Drop, Clone, PartialEq, Eq, Hash)]
 pub struct FnType {
     /// The lifetimes of a `for<..>` before it, where one is written.
     pub binder: Option<Seq<Name>>,
@@ -174,7 +174,7 @@ impl TryClone for FnType {
 }
 
 /// The type of an array.
-#[derive(Debug, Drop, Clone, PartialEq, Eq, Hash)]
+#[derive(Drop, Clone, PartialEq, Eq, Hash)]
 pub struct ArrayType {
     /// The type of its items.
     pub ty: TypeRefId,
@@ -191,7 +191,7 @@ impl TryClone for ArrayType {
 }
 
 /// The type of a reference.
-#[derive(Debug, Drop, Clone, PartialEq, Eq, Hash)]
+#[derive(Drop, Clone, PartialEq, Eq, Hash)]
 pub struct RefType {
     /// The type of what it leads to.
     pub ty: TypeRefId,
@@ -208,7 +208,7 @@ impl TryClone for RefType {
 }
 
 /// A lifetime.
-#[derive(Debug, Drop, Clone, PartialEq, Eq, Hash)]
+#[derive(Drop, Clone, PartialEq, Eq, Hash)]
 pub enum LifetimeRef {
     Named(Name),
     /// `'static`
@@ -230,7 +230,7 @@ impl TryClone for LifetimeRef {
 }
 
 /// A type.
-#[derive(Debug, Drop, PartialEq, Eq, Hash)]
+#[derive(Drop, PartialEq, Eq, Hash)]
 pub enum TypeRef {
     /// `!`
     Never,

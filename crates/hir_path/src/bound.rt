@@ -7,7 +7,7 @@ use hir_base::{ExactEq, Name, Seq, TryClone};
 use std::marker::Model;
 
 /// The id of a type that is a path, seen as the number of that type. Nothing here checks that it is one.
-#[derive(Clone, Copy, Debug, PartialEq, Eq, Hash)]
+#[derive(Clone, Copy, PartialEq, Eq, Hash)]
 pub struct PathId(TypeRefId);
 
 impl Model for PathId {
@@ -45,7 +45,7 @@ impl TryClone for PathId {
 }
 
 /// A constant in a type or an argument list: an expression that sees no local variables.
-#[derive(Clone, Copy, Debug, PartialEq, Eq, Hash)]
+#[derive(Clone, Copy, PartialEq, Eq, Hash)]
 pub struct ConstRef {
     pub expr: ExprId,
 }
@@ -59,7 +59,7 @@ impl TryClone for ConstRef {
 }
 
 /// A bound: what a type has to be or to outlive.
-#[derive(Debug, Drop, Clone, PartialEq, Eq, Hash)]
+#[derive(Drop, Clone, PartialEq, Eq, Hash)]
 pub enum TypeBound {
     /// A trait, perhaps after `?`.
     Path(PathId, TraitBoundModifier),
@@ -81,7 +81,7 @@ impl TryClone for TypeBound {
 }
 
 /// What a bound `use<..>` lists.
-#[derive(Debug, Drop, Clone, PartialEq, Eq, Hash)]
+#[derive(Drop, Clone, PartialEq, Eq, Hash)]
 pub enum UseArgRef {
     /// A type or constant parameter, by its name.
     Name(Name),
@@ -97,7 +97,7 @@ impl TryClone for UseArgRef {
 }
 
 /// What stands before the trait of a bound.
-#[derive(Clone, Copy, Debug, PartialEq, Eq, Hash)]
+#[derive(Clone, Copy, PartialEq, Eq, Hash)]
 pub enum TraitBoundModifier {
     None,
     /// `?`

@@ -10,7 +10,7 @@ use std::marker::Model;
 /// A `Box` that contracts see as its value.
 ///
 /// It is made from the `Box` and gives it back without memory.
-#[derive(Debug, Drop)]
+#[derive(Drop)]
 pub struct Boxed<T> {
     inner: Box<T>,
 }

@@ -43,7 +43,7 @@ pub type TypeRefId = Idx<TypeRefKind>;
 pub type LifetimeRefId = Idx<LifetimeRefKind>;
 
 /// The number of an expression or of a pattern.
-#[derive(Clone, Copy, Debug, PartialEq, Eq, Hash)]
+#[derive(Clone, Copy, PartialEq, Eq, Hash)]
 pub enum ExprOrPatId {
     ExprId(ExprId),
     PatId(PatId),

@@ -14,7 +14,7 @@ use hir_base::{ExactEq, LangItemTarget, ModPath, Name, PathKind, Seq, TryClone};
 use std::alloc::{AllocError, AllocFailed, Global};
 
 /// A path.
-#[derive(Debug, Drop, Clone, PartialEq, Eq, Hash)]
+#[derive(Drop, Clone, PartialEq, Eq, Hash)]
 pub enum Path {
     /// A path with neither generic arguments nor a type anchor, as most are.
     BarePath(ModPath),
@@ -235,7 +235,7 @@ fn all_but_last<T: TryClone + Drop>(alloc: Global, items: &[T]) -> Result<Seq<T>
 }
 
 /// A path with generic arguments or a type anchor.
-#[derive(Debug, Drop, Clone, PartialEq, Eq, Hash)]
+#[derive(Drop, Clone, PartialEq, Eq, Hash)]
 pub struct NormalPath {
     /// For each segment its arguments, where it has some.
     pub generic_args: Seq<Option<GenericArgs>>,
@@ -256,7 +256,7 @@ impl TryClone for NormalPath {
 }
 
 /// How generic arguments were written.
-#[derive(Clone, Copy, Debug, PartialEq, Eq, Hash)]
+#[derive(Clone, Copy, PartialEq, Eq, Hash)]
 pub enum GenericArgsParentheses {
     /// Without parentheses.
     No,
@@ -276,7 +276,7 @@ impl TryClone for GenericArgsParentheses {
 
 /// The generic arguments of one segment, as the `<u8, Item = T>` of `Iter<u8, Item = T>`.
 #[cycle(generic_args)]
-#[derive(Debug, Drop, PartialEq, Eq, Hash)]
+#[derive(Drop, PartialEq, Eq, Hash)]
 pub struct GenericArgs {
     pub args: Seq<GenericArg>,
     /// Whether the first argument is the type that a trait is asked of, as the `T` of `<T as Trait>`.
@@ -288,7 +288,7 @@ pub struct GenericArgs {
 
 /// What is said of one associated type, as `Item = T` or `Item: Bound`.
 #[cycle(generic_args)]
-#[derive(Debug, Drop, PartialEq, Eq, Hash)]
+#[derive(Drop, PartialEq, Eq, Hash)]
 pub struct AssociatedTypeBinding {
     pub name: Name,
     /// The arguments of the associated type itself.
@@ -300,7 +300,7 @@ pub struct AssociatedTypeBinding {
 }
 
 /// One generic argument.
-#[derive(Clone, Copy, Debug, PartialEq, Eq, Hash)]
+#[derive(Clone, Copy, PartialEq, Eq, Hash)]
 pub enum GenericArg {
     Ty(TypeRefId),
     Lifetime(LifetimeRefId),

@@ -10,7 +10,7 @@ use crate::segments_iter::PathSegmentsIter;
 use hir_base::Name;
 
 /// One segment of a path: its name, and its arguments where it has some.
-#[derive(Clone, Copy, Debug, PartialEq, Eq, Hash)]
+#[derive(Clone, Copy, PartialEq, Eq, Hash)]
 pub struct PathSegment<'a> {
     pub name: &'a Name,
     pub args_and_bindings: Option<&'a GenericArgs>,
@@ -29,7 +29,7 @@ impl<'a> PathSegment<'a> {
 }
 
 /// Some segments of a path, seen as their names and perhaps a list of their arguments.
-#[derive(Clone, Copy, Debug)]
+#[derive(Clone, Copy)]
 pub struct PathSegments<'a> {
     segments: &'a [Name],
     generic_args: Option<&'a [Option<GenericArgs>]>,

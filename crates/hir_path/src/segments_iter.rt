@@ -9,7 +9,7 @@ use hir_base::Name;
 use std::iter::FusedIterator;
 
 /// The segments of a path that are left, seen as their list.
-#[derive(Clone, Debug, Drop)]
+#[derive(Clone, Drop)]
 pub struct PathSegmentsIter<'a> {
     names: &'a [Name],
     lists: &'a [Option<GenericArgs>],

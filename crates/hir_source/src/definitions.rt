@@ -12,7 +12,7 @@ use std::alloc::{AllocFailed, Global};
 use std::marker::Model;
 
 /// Patterns in order, of which the first four take no memory, seen as the list of them.
-#[derive(Debug, Drop)]
+#[derive(Drop)]
 pub(crate) struct Definitions {
     list: SmallVec<PatId, 4>,
 }

@@ -7,7 +7,7 @@ use hir_base::{
 };
 
 /// The kind of an item that has to have a body or a value.
-#[derive(Clone, Copy, Debug, PartialEq, Eq, Hash)]
+#[derive(Clone, Copy, PartialEq, Eq, Hash)]
 pub enum MissingBodyItemKind {
     /// A constant of a trait or an `impl`.
     AssocConst,
@@ -30,7 +30,7 @@ impl TryClone for MissingBodyItemKind {
 }
 
 /// What lowering found wrong, each with the node of which it speaks.
-#[derive(Debug, Drop, PartialEq, Eq)]
+#[derive(Drop, PartialEq, Eq)]
 pub enum ExpressionStoreDiagnostics {
     /// Code that a `cfg` leaves out.
     InactiveCode {

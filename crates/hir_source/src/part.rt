@@ -12,7 +12,7 @@ use hir_path::{BindingId, ExprId, ExprOrPatId, LabelId, LifetimeRefId, PatId, Ty
 use std::alloc::Global;
 
 /// Where expressions, patterns, labels and bindings come from, what macro calls expanded to, and the diagnostics.
-#[derive(Debug, PartialEq, Eq)]
+#[derive(PartialEq, Eq)]
 pub(crate) struct ExprSources {
     /// An expression in source can become a pattern, where it is assigned to.
     pub(crate) expr_map: Table<ExprSource, ExprOrPatId>,
@@ -49,7 +49,7 @@ impl Drop for ExprSources {
 }
 
 /// Where types and lifetimes come from.
-#[derive(Debug, PartialEq, Eq)]
+#[derive(PartialEq, Eq)]
 pub(crate) struct TypeSources {
     pub(crate) type_map: Table<TypeSource, TypeRefId>,
     pub(crate) type_map_back: Table<TypeRefId, TypeSource>,

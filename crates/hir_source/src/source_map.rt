@@ -24,7 +24,6 @@ use hir_path::{BindingId, ExprId, ExprOrPatId, LabelId, PatId, TypeRefId};
 ///
 /// `==` compares where nodes came from, expansions, diagnostics, and whether the expression part is kept; the maps from sources to
 /// nodes, those of fields and the definitions of bindings aren't compared.
-#[derive(Debug)]
 pub struct ExpressionStoreSourceMap {
     pub(crate) exprs: Option<ExprSources>,
     pub(crate) types: TypeSources,

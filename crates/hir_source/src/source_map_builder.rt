@@ -16,7 +16,7 @@ use hir_path::{BindingId, ExprId, ExprOrPatId, LabelId, LifetimeRefId, PatId, Ty
 use std::alloc::{AllocFailed, Global};
 
 /// Where nodes come from, as far as it was said. Nothing is checked: ids may be of nodes that aren't there.
-#[derive(Debug, PartialEq, Eq)]
+#[derive(PartialEq, Eq)]
 pub struct SourceMapBuilder {
     pub(crate) exprs: ExprSources,
     pub(crate) types: TypeSources,

@@ -23,7 +23,7 @@ use hir_source::{ExpressionStoreSourceMap, SourceMapBuilder};
 use std::alloc::{AllocFailed, Global};
 
 /// Nodes and roots that are not tested yet.
-#[derive(Debug, PartialEq, Eq)]
+#[derive(PartialEq, Eq)]
 pub struct ExpressionStoreBuilder {
     pub exprs: Arena<ExprKind, Expr>,
     pub pats: Arena<PatKind, Pat>,
@@ -61,9 +61,11 @@ impl Drop for ExpressionStoreBuilder {
 }
 
 /// A builder that was refused, as it was, with its first fault.
-#[derive(Debug, Drop, PartialEq, Eq)]
+#[derive(Drop, PartialEq, Eq)]
+#[derive_where(Debug)]
 pub struct Refused {
     pub fault: FinishFault,
+    #[derive_where(skip(Debug))]
     pub builder: ExpressionStoreBuilder,
 }
 
