@@ -5,8 +5,8 @@ use Rattle.hir_base.specs.declared.defs.GenericDefId.{GenericDefId}
 use Rattle.hir_base.specs.declared.defs.GenericDefId.TheVariants as generic
 use Rattle.hir_base.specs.declared.defs.AdtId.TheVariants as adt
 use Rattle.hir_base.specs.Keys.{read_back_tells}
-use Rattle.hir_defs.specs.declared.tables.PlainDef.{PlainDef}
-use Rattle.hir_defs.specs.declared.tables.PlainDef.TheVariants as plain
+use Rattle.hir_defs.specs.declared.plain_def.PlainDef.{PlainDef}
+use Rattle.hir_defs.specs.declared.plain_def.PlainDef.TheVariants as plain
 
 -- a number for the kind, and the id
 abbrev pub plain_code : PlainDef → List ℕ

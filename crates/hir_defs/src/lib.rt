@@ -1,38 +1,21 @@
-//! What definitions are: bodies over accepted stores, generic parameters, and signatures; and the tables of outside definitions with what is
-//! looked up in them.
+//! Outside definitions: the tables of what is known of them, and what is looked up there.
+//!
+//! What a body, generic parameters and a signature are stands in `hir_items`, which is named again here.
 #![tactic(auto)]
 
-mod body;
-mod body_fault;
-pub mod body_laws;
-mod body_source_map;
-mod formals;
-mod generic_bounds;
-mod generic_iters;
-pub mod generic_laws;
-mod generic_params;
 mod lookups;
-mod named_ids;
 mod no_generics;
-mod signature_fault;
-mod signatures;
+mod plain_def;
 mod tables;
 
-pub use body::{Body, RefusedBody};
-pub use body_fault::BodyFault;
-pub use body_source_map::BodySourceMap;
-pub use formals::Param;
-pub use generic_iters::BoundLifetimes;
-pub use generic_params::GenericParams;
-pub use hir_base::{LocalLifetimeParamId, LocalTypeOrConstParamId};
-pub use hir_generics::{
-    ConstParamData, GenericParamData, GenericParamDataRef, LifetimeBoundType, LifetimeParamData,
-    TypeOrConstParamData, TypeParamData, TypeParamProvenance, WherePredicate,
+pub use hir_items::{
+    Bodies, Body, BodyFault, BodySourceMap, BoundLifetimes, ConstParamData, FieldData, FieldsShape,
+    FunctionParts, FunctionSignature, GenericParamData, GenericParamDataRef, GenericParams,
+    LifetimeBoundType, LifetimeParamData, LocalLifetimeParamId, LocalTypeOrConstParamId, Param,
+    PlainParts, PlainSignature, RawVisibility, RefusedBody, RefusedSignature, SignatureFault,
+    Signatures, StructParts, StructSignature, TypeOrConstParamData, TypeParamData,
+    TypeParamProvenance, VariantFields, VariantParts, WherePredicate, body_laws, generic_laws,
 };
 pub use lookups::StoreOf;
-pub use signature_fault::{RefusedSignature, SignatureFault};
-pub use signatures::{
-    FieldData, FieldsShape, FunctionParts, FunctionSignature, PlainParts, PlainSignature,
-    RawVisibility, StructParts, StructSignature, VariantFields, VariantParts,
-};
-pub use tables::{PlainDef, Repr, Tables};
+pub use plain_def::{PlainDef, Repr};
+pub use tables::{Tables, TablesOf};

@@ -1,169 +1,162 @@
-//! The generic parameters of a definition, its body, and the store of an owner, looked up in the tables.
+//! The signature and the body of a definition, and the store of an owner, looked up in the tables.
+//!
+//! The private lookups are lent one table, since what is lent all of them is dear to prove.
 
-ghost use Rattle.std.specs.Prelude.{◌≡◌, Option, None, Some, IfOk, IfErr};
+ghost use Rattle.std.specs.Prelude.{◌≡◌, ◌∷◌, [], Option, None, Some, IfOk, IfErr};
 ghost use Rattle.std.specs.Option.{option_map};
+ghost use Rattle.std.specs.FinMap as map;
 ghost use Rattle.hir_base.specs.declared.defs.AdtId.TheVariants as adt;
-ghost use Rattle.hir_base.specs.declared.defs.GenericDefId.{GenericDefId};
 ghost use Rattle.hir_base.specs.declared.defs.GenericDefId.TheVariants as generic;
-ghost use Rattle.hir_base.specs.declared.defs.DefWithBodyId.{DefWithBodyId};
 ghost use Rattle.hir_base.specs.declared.defs.ExpressionStoreOwnerId.{ExpressionStoreOwnerId};
-ghost use Rattle.hir_accepted.specs.Contents.{Contents};
 ghost use Rattle.hir_accepted.specs.declared.missing.Missing.TheVariants as missing;
 ghost use Rattle.hir_source.specs.declared.source_map.ExpressionStoreSourceMap.{ExpressionStoreSourceMap};
-ghost use Rattle.hir_defs.specs.declared.body_source_map.BodySourceMap.{BodySourceMap};
-ghost use Rattle.hir_defs.specs.declared.tables.Tables.{Tables};
-ghost use Rattle.hir_defs.specs.Tables.{generic_def};
-ghost use Rattle.hir_defs.specs.Lookups.{of_function, of_struct, of_plain, of_value, of_adt, signed, without_source_map, embodied, owned, missing_owner};
+ghost use Rattle.hir_defs.specs.Tables.{plain_code, generic_def};
+ghost use Rattle.hir_defs.specs.Lookups.{Tables, function_entry, struct_entry, plain_entry, value_entry, of_adt, owned, missing_owner};
 
-use crate::body::Body;
-use crate::body_source_map::BodySourceMap;
-use crate::generic_params::GenericParams;
-use crate::tables::{PlainDef, Tables, entry};
+use crate::no_generics::NoGenerics;
+use crate::plain_def::PlainDef;
+use crate::tables::{Tables, entry};
 use hir_accepted::{ExpressionStore, Missing};
-use hir_base::{AdtId, DefWithBodyId, ExpressionStoreOwnerId, FunctionId, GenericDefId, StructId};
+use hir_base::{
+    AdtId, DefWithBodyId, ExpressionStoreOwnerId, FunctionId, GenericDefId, StructId, Table,
+};
+use hir_items::{
+    Bodies, Body, BodySourceMap, FunctionSignature, GenericParams, PlainSignature, Signatures,
+    StructSignature,
+};
 use hir_source::ExpressionStoreSourceMap;
 
-impl Tables {
-    fn of_function(
-        &self,
-        id: FunctionId,
-    ) -> Result<(&GenericParams, &ExpressionStore, &ExpressionStoreSourceMap), Missing>
-        ensures found { IfOk result (λ found. of_function self.now id ≡ Some (found.0.now, found.1.now, found.2.now)) }
-        ensures absent { IfErr result (λ absent. (absent ≡ missing.Signature (generic.FunctionId id)) × (of_function self.now id ≡ None)) }
-    {
-        let wanted = Missing::Signature(GenericDefId::FunctionId(id));
-        let (signature, source_map) = entry(&self.functions, &id, wanted)?;
-        Ok((signature.generic_params(), signature.store(), source_map))
-    }
+fn of_function<'a>(
+    functions: &'a Table<FunctionId, (FunctionSignature, ExpressionStoreSourceMap)>,
+    id: FunctionId,
+) -> Result<
+    (
+        &'a GenericParams,
+        &'a ExpressionStore,
+        &'a ExpressionStoreSourceMap,
+    ),
+    Missing,
+>
+    ensures found { IfOk result (λ found. option_map function_entry (map.get functions.now (id ∷ [])) ≡ Some (found.0.now, found.1.now, found.2.now)) }
+    ensures absent { IfErr result (λ absent. (absent ≡ missing.Signature (generic.FunctionId id)) × (map.get functions.now (id ∷ []) ≡ None)) }
+{
+    let wanted = Missing::Signature(GenericDefId::FunctionId(id));
+    let (signature, source_map) = entry(functions, &id, wanted)?;
+    Ok((signature.generic_params(), signature.store(), source_map))
+}
 
-    fn of_struct(
-        &self,
-        id: StructId,
-    ) -> Result<(&GenericParams, &ExpressionStore, &ExpressionStoreSourceMap), Missing>
-        ensures found { IfOk result (λ found. of_struct self.now id ≡ Some (found.0.now, found.1.now, found.2.now)) }
-        ensures absent { IfErr result (λ absent. (absent ≡ missing.Signature (generic.AdtId (adt.StructId id))) × (of_struct self.now id ≡ None)) }
-    {
-        let wanted = Missing::Signature(GenericDefId::AdtId(AdtId::StructId(id)));
-        let (signature, source_map) = entry(&self.structs, &id, wanted)?;
-        Ok((signature.generic_params(), signature.store(), source_map))
-    }
+fn of_struct<'a>(
+    structs: &'a Table<StructId, (StructSignature, ExpressionStoreSourceMap)>,
+    id: StructId,
+) -> Result<
+    (
+        &'a GenericParams,
+        &'a ExpressionStore,
+        &'a ExpressionStoreSourceMap,
+    ),
+    Missing,
+>
+    ensures found { IfOk result (λ found. option_map struct_entry (map.get structs.now (id ∷ [])) ≡ Some (found.0.now, found.1.now, found.2.now)) }
+    ensures absent { IfErr result (λ absent. (absent ≡ missing.Signature (generic.AdtId (adt.StructId id))) × (map.get structs.now (id ∷ []) ≡ None)) }
+{
+    let wanted = Missing::Signature(GenericDefId::AdtId(AdtId::StructId(id)));
+    let (signature, source_map) = entry(structs, &id, wanted)?;
+    Ok((signature.generic_params(), signature.store(), source_map))
+}
 
-    fn of_plain(
-        &self,
-        def: PlainDef,
-    ) -> Result<(&GenericParams, &ExpressionStore, &ExpressionStoreSourceMap), Missing>
-        ensures found { IfOk result (λ found. of_plain self.now def ≡ Some (found.0.now, found.1.now, found.2.now)) }
-        ensures absent { IfErr result (λ absent. (absent ≡ missing.Signature (generic_def def)) × (of_plain self.now def ≡ None)) }
-    {
-        let wanted = Missing::Signature(def.generic_def());
-        let (signature, source_map) = entry(&self.plains, &def, wanted)?;
-        Ok((signature.generic_params(), signature.store(), source_map))
-    }
+fn of_plain<'a>(
+    plains: &'a Table<PlainDef, (PlainSignature, ExpressionStoreSourceMap)>,
+    def: PlainDef,
+) -> Result<
+    (
+        &'a GenericParams,
+        &'a ExpressionStore,
+        &'a ExpressionStoreSourceMap,
+    ),
+    Missing,
+>
+    ensures found { IfOk result (λ found. option_map plain_entry (map.get plains.now (plain_code def)) ≡ Some (found.0.now, found.1.now, found.2.now)) }
+    ensures absent { IfErr result (λ absent. (absent ≡ missing.Signature (generic_def def)) × (map.get plains.now (plain_code def) ≡ None)) }
+{
+    let wanted = Missing::Signature(def.generic_def());
+    let (signature, source_map) = entry(plains, &def, wanted)?;
+    Ok((signature.generic_params(), signature.store(), source_map))
+}
 
-    /// Of a constant or a static, which has no parameters.
-    fn of_value(
-        &self,
-        def: PlainDef,
-    ) -> Result<(&GenericParams, &ExpressionStore, &ExpressionStoreSourceMap), Missing>
-        ensures found { IfOk result (λ found. of_value self.now def ≡ Some (found.0.now, found.1.now, found.2.now)) }
-        ensures absent { IfErr result (λ absent. (absent ≡ missing.Signature (generic_def def)) × (of_value self.now def ≡ None)) }
-    {
-        let wanted = Missing::Signature(def.generic_def());
-        let (signature, source_map) = entry(&self.plains, &def, wanted)?;
-        Ok((self.no_generics.params(), signature.store(), source_map))
-    }
+/// Of a constant or a static, which has no parameters.
+fn of_value<'a>(
+    plains: &'a Table<PlainDef, (PlainSignature, ExpressionStoreSourceMap)>,
+    no_generics: &'a NoGenerics,
+    def: PlainDef,
+) -> Result<
+    (
+        &'a GenericParams,
+        &'a ExpressionStore,
+        &'a ExpressionStoreSourceMap,
+    ),
+    Missing,
+>
+    ensures found { IfOk result (λ found. option_map value_entry (map.get plains.now (plain_code def)) ≡ Some (found.0.now, found.1.now, found.2.now)) }
+    ensures absent { IfErr result (λ absent. (absent ≡ missing.Signature (generic_def def)) × (map.get plains.now (plain_code def) ≡ None)) }
+{
+    let wanted = Missing::Signature(def.generic_def());
+    let (signature, source_map) = entry(plains, &def, wanted)?;
+    Ok((no_generics.params(), signature.store(), source_map))
+}
 
-    fn of_adt(
-        &self,
-        id: AdtId,
-    ) -> Result<(&GenericParams, &ExpressionStore, &ExpressionStoreSourceMap), Missing>
-        ensures found { IfOk result (λ found. of_adt self.now id ≡ Some (found.0.now, found.1.now, found.2.now)) }
-        ensures absent { IfErr result (λ absent. (absent ≡ missing.Signature (generic.AdtId id)) × (of_adt self.now id ≡ None)) }
-    {
-        match id {
-            AdtId::EnumId(id) => self.of_plain(PlainDef::Enum(id)),
-            AdtId::StructId(id) => self.of_struct(id),
-            AdtId::UnionId(id) => self.of_plain(PlainDef::Union(id)),
-        }
+fn of_adt<'a>(
+    structs: &'a Table<StructId, (StructSignature, ExpressionStoreSourceMap)>,
+    plains: &'a Table<PlainDef, (PlainSignature, ExpressionStoreSourceMap)>,
+    id: AdtId,
+) -> Result<
+    (
+        &'a GenericParams,
+        &'a ExpressionStore,
+        &'a ExpressionStoreSourceMap,
+    ),
+    Missing,
+>
+    ensures found { IfOk result (λ found. of_adt structs.now plains.now id ≡ Some (found.0.now, found.1.now, found.2.now)) }
+    ensures absent { IfErr result (λ absent. (absent ≡ missing.Signature (generic.AdtId id)) × (of_adt structs.now plains.now id ≡ None)) }
+{
+    match id {
+        AdtId::EnumId(id) => of_plain(plains, PlainDef::Enum(id)),
+        AdtId::StructId(id) => of_struct(structs, id),
+        AdtId::UnionId(id) => of_plain(plains, PlainDef::Union(id)),
     }
 }
 
-/// Looking up the generic parameters of a definition.
-impl GenericParams {
-    /// The parameters of the definition: none of a constant or a static that is there.
-    ///
-    /// Answers `Missing::Signature` of the definition where the tables have no signature of it.
-    pub fn of(tables: &Tables, def: GenericDefId) -> Result<&GenericParams, Missing>
-        ensures found { IfOk result (λ found. option_map (λ entry. entry.0) (signed tables.now def) ≡ Some found.now) }
-        ensures absent { IfErr result (λ absent. (absent ≡ missing.Signature def) × (signed tables.now def ≡ None)) }
-    {
-        let (params, _, _) = GenericParams::with_source_map(tables, def)?;
-        Ok(params)
-    }
+impl Signatures for Tables {
+    ghost use Rattle.hir_defs.specs.Lookups.{signed};
 
-    /// The parameters of the definition, and the store that they name.
-    ///
-    /// Answers `Missing::Signature` of the definition where the tables have no signature of it.
-    pub fn with_store(
-        tables: &Tables,
-        def: GenericDefId,
-    ) -> Result<(&GenericParams, &ExpressionStore), Missing>
-        ensures found { IfOk result (λ found. option_map without_source_map (signed tables.now def) ≡ Some (found.0.now, found.1.now)) }
-        ensures absent { IfErr result (λ absent. (absent ≡ missing.Signature def) × (signed tables.now def ≡ None)) }
-    {
-        let (params, store, _) = GenericParams::with_source_map(tables, def)?;
-        Ok((params, store))
-    }
+    ghost signed = { signed };
 
-    /// The parameters of the definition, the store that they name, and where that comes from.
-    ///
-    /// Answers `Missing::Signature` of the definition where the tables have no signature of it.
-    pub fn with_source_map(
-        tables: &Tables,
+    fn signature_of(
+        &self,
         def: GenericDefId,
-    ) -> Result<(&GenericParams, &ExpressionStore, &ExpressionStoreSourceMap), Missing>
-        ensures found { IfOk result (λ found. signed tables.now def ≡ Some (found.0.now, found.1.now, found.2.now)) }
-        ensures absent { IfErr result (λ absent. (absent ≡ missing.Signature def) × (signed tables.now def ≡ None)) }
-    {
+    ) -> Result<(&GenericParams, &ExpressionStore, &ExpressionStoreSourceMap), Missing> {
+        let plains = &self.plains;
         match def {
-            GenericDefId::AdtId(id) => tables.of_adt(id),
-            GenericDefId::ConstId(id) => tables.of_value(PlainDef::Const(id)),
-            GenericDefId::FunctionId(id) => tables.of_function(id),
-            GenericDefId::ImplId(id) => tables.of_plain(PlainDef::Impl(id)),
-            GenericDefId::StaticId(id) => tables.of_value(PlainDef::Static(id)),
-            GenericDefId::TraitId(id) => tables.of_plain(PlainDef::Trait(id)),
-            GenericDefId::TypeAliasId(id) => tables.of_plain(PlainDef::TypeAlias(id)),
+            GenericDefId::AdtId(id) => of_adt(&self.structs, plains, id),
+            GenericDefId::ConstId(id) => of_value(plains, &self.no_generics, PlainDef::Const(id)),
+            GenericDefId::FunctionId(id) => of_function(&self.functions, id),
+            GenericDefId::ImplId(id) => of_plain(plains, PlainDef::Impl(id)),
+            GenericDefId::StaticId(id) => of_value(plains, &self.no_generics, PlainDef::Static(id)),
+            GenericDefId::TraitId(id) => of_plain(plains, PlainDef::Trait(id)),
+            GenericDefId::TypeAliasId(id) => of_plain(plains, PlainDef::TypeAlias(id)),
         }
     }
 }
 
-/// Looking up the body of a definition.
-impl Body {
-    /// The body of the definition.
-    ///
-    /// Answers `Missing::Body` of the definition where the tables have none of it.
-    pub fn of(tables: &Tables, def: DefWithBodyId) -> Result<&Body, Missing>
-        ensures found { IfOk result (λ found. option_map (λ entry. entry.0) (embodied tables.now def) ≡ Some found.now) }
-        ensures absent { IfErr result (λ absent. (absent ≡ missing.Body def) × (embodied tables.now def ≡ None)) }
-    {
-        let wanted = Missing::Body(def);
-        let (found, _) = entry(&tables.bodies, &def, wanted)?;
-        Ok(found)
-    }
+impl Bodies for Tables {
+    ghost use Rattle.hir_defs.specs.Lookups.{embodied};
 
-    /// The body of the definition, and where it comes from.
-    ///
-    /// Answers `Missing::Body` of the definition where the tables have none of it.
-    pub fn with_source_map(
-        tables: &Tables,
-        def: DefWithBodyId,
-    ) -> Result<(&Body, &BodySourceMap), Missing>
-        ensures found { IfOk result (λ found. embodied tables.now def ≡ Some (found.0.now, found.1.now)) }
-        ensures absent { IfErr result (λ absent. (absent ≡ missing.Body def) × (embodied tables.now def ≡ None)) }
-    {
+    ghost embodied = { embodied };
+
+    fn body_of(&self, def: DefWithBodyId) -> Result<(&Body, &BodySourceMap), Missing> {
         let wanted = Missing::Body(def);
-        let (found, source_map) = entry(&tables.bodies, &def, wanted)?;
-        Ok((found, source_map))
+        let (body, source_map) = entry(&self.bodies, &def, wanted)?;
+        Ok((body, source_map))
     }
 }
 
@@ -206,12 +199,11 @@ impl StoreOf for ExpressionStore {
     ) -> Result<(&ExpressionStore, &ExpressionStoreSourceMap), Missing> {
         match owner {
             ExpressionStoreOwnerId::Signature(def) => {
-                let (_, store, source_map) = GenericParams::with_source_map(tables, def)?;
+                let (_, store, source_map) = tables.signature_of(def)?;
                 Ok((store, source_map))
             }
             ExpressionStoreOwnerId::Body(def) => {
-                let wanted = Missing::Body(def);
-                let (body, source_map) = entry(&tables.bodies, &def, wanted)?;
+                let (body, source_map) = tables.body_of(def)?;
                 Ok((body.store(), source_map.store()))
             }
             ExpressionStoreOwnerId::VariantFields(variant) => {

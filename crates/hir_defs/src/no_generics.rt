@@ -1,9 +1,9 @@
 //! What has no generic parameters, kept so that a reference to them can be lent.
 
 ghost use Rattle.std.specs.Prelude.{◌≡◌};
-ghost use Rattle.hir_defs.specs.Generics.{empty};
+ghost use Rattle.hir_items.specs.Generics.{empty};
 
-use crate::generic_params::GenericParams;
+use hir_items::GenericParams;
 use std::alloc::Global;
 use std::marker::Model;
 

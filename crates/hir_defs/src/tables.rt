@@ -3,98 +3,47 @@
 ghost use Rattle.std.specs.Prelude.{◌≡◌, ◌∷◌, [], None, Some, IfOk, IfErr, OnOk, OnErr};
 ghost use Rattle.std.specs.Option.{option_map, option_copied};
 ghost use Rattle.std.specs.FinMap as map;
-ghost use Rattle.hir_base.specs.Exact.{exact};
 ghost use Rattle.hir_base.specs.Keys.{named_code, fields_code, body_code};
 ghost use Rattle.hir_base.specs.RawWords.{no_words, words_of, with_words};
 ghost use Rattle.hir_base.specs.declared.defs.GenericDefId.TheVariants as generic;
 ghost use Rattle.hir_base.specs.declared.defs.AdtId.TheVariants as adt;
 ghost use Rattle.hir_accepted.specs.declared.missing.Missing.TheVariants as missing;
-ghost use Rattle.hir_defs.specs.Tables.{plain_code, plain_tells, generic_def};
+ghost use Rattle.hir_defs.specs.Tables.{plain_code, generic_def};
 
-use crate::body::Body;
-use crate::body_source_map::BodySourceMap;
 use crate::no_generics::NoGenerics;
-use crate::signatures::{FunctionSignature, PlainSignature, StructSignature, VariantFields};
+use crate::plain_def::{PlainDef, Repr};
 use hir_accepted::Missing;
 use hir_base::{
-    AdtId, ConstId, CrateId, DefWithBodyId, Edition, EnumId, EnumVariantId, ExactEq, FunctionId,
-    GenericDefId, ImplId, Keyed, NamedDef, RawWords, Seq, StaticId, StructId, Table, Text, TraitId,
-    TryClone, TypeAliasId, UnionId, VariantId,
+    AdtId, CrateId, DefWithBodyId, Edition, EnumId, EnumVariantId, FunctionId, GenericDefId, Keyed,
+    NamedDef, RawWords, Seq, StructId, Table, Text, VariantId,
+};
+use hir_items::{
+    Body, BodySourceMap, FunctionSignature, PlainSignature, StructSignature, VariantFields,
 };
 use hir_source::ExpressionStoreSourceMap;
 use std::alloc::{AllocFailed, Global};
 
-/// A definition of which a signature keeps the generic parameters alone.
-#[derive(Clone, Copy, PartialEq, Eq, Hash)]
-pub enum PlainDef {
-    Enum(EnumId),
-    Union(UnionId),
-    Const(ConstId),
-    Static(StaticId),
-    Impl(ImplId),
-    Trait(TraitId),
-    TypeAlias(TypeAliasId),
-}
-
-impl PlainDef {
-    /// The same definition, as one that may have generic parameters.
-    pub fn generic_def(self) -> GenericDefId
-        ensures { result ≡ generic_def self }
-    {
-        match self {
-            PlainDef::Enum(id) => GenericDefId::AdtId(AdtId::EnumId(id)),
-            PlainDef::Union(id) => GenericDefId::AdtId(AdtId::UnionId(id)),
-            PlainDef::Const(id) => GenericDefId::ConstId(id),
-            PlainDef::Static(id) => GenericDefId::StaticId(id),
-            PlainDef::Impl(id) => GenericDefId::ImplId(id),
-            PlainDef::Trait(id) => GenericDefId::TraitId(id),
-            PlainDef::TypeAlias(id) => GenericDefId::TypeAliasId(id),
-        }
-    }
-}
-
-impl ExactEq for PlainDef {
-    ghost eq_decides = { Prim.search exact };
-}
-
-impl TryClone for PlainDef {
-    ghost clone_is_same = { Prim.search exact };
-}
-
-impl Keyed for PlainDef {
-    ghost code = { plain_code };
-
-    ghost code_tells = { λ x y. plain_tells _ x y (Prim.search exact) };
-}
-
-/// How a struct lies in memory: what `#[repr(..)]` says.
-#[derive(Clone, Copy, PartialEq, Eq)]
-pub struct Repr {
-    /// Whether it is `repr(C)`.
-    pub c: bool,
-    /// The bytes of `align`, where it is written.
-    pub align: Option<u64>,
-    /// The bytes of `packed`, where it is written.
-    pub pack: Option<u64>,
-}
-
-impl ExactEq for Repr {
-    ghost eq_decides = { Prim.search exact };
-}
-
-impl TryClone for Repr {
-    ghost clone_is_same = { Prim.search exact };
-}
-
 /// What is known of the definitions outside. A later entry replaces an earlier one.
-pub struct Tables {
+pub type Tables = TablesOf<
+    FunctionSignature,
+    StructSignature,
+    PlainSignature,
+    VariantFields,
+    Body,
+    ExpressionStoreSourceMap,
+    BodySourceMap,
+>;
+
+/// Tables of signatures of functions `F`, of structs `S` and of other definitions `P`, of fields `V` and of bodies `B`, with source
+/// maps `M`, and those of bodies `N`. What these are makes no difference to how they are kept, so the calls are proved for any.
+pub struct TablesOf<F, S, P, V, B, M, N> {
     names: Table<NamedDef, Option<Text>>,
     variant_parents: Table<EnumVariantId, EnumId>,
-    pub(crate) functions: Table<FunctionId, (FunctionSignature, ExpressionStoreSourceMap)>,
-    pub(crate) structs: Table<StructId, (StructSignature, ExpressionStoreSourceMap)>,
-    pub(crate) plains: Table<PlainDef, (PlainSignature, ExpressionStoreSourceMap)>,
-    pub(crate) fields: Table<VariantId, (VariantFields, ExpressionStoreSourceMap)>,
-    pub(crate) bodies: Table<DefWithBodyId, (Body, BodySourceMap)>,
+    pub(crate) functions: Table<FunctionId, (F, M)>,
+    pub(crate) structs: Table<StructId, (S, M)>,
+    pub(crate) plains: Table<PlainDef, (P, M)>,
+    pub(crate) fields: Table<VariantId, (V, M)>,
+    pub(crate) bodies: Table<DefWithBodyId, (B, N)>,
     crate_names: Table<CrateId, Option<Text>>,
     reprs: Table<StructId, Repr>,
     words: RawWords,
@@ -102,9 +51,10 @@ pub struct Tables {
 }
 
 /// Its parts go one after the other. It stands here, so that it is proved once, and is a call wherever a value is dropped.
-impl Drop for Tables {
+impl<F: Drop, S: Drop, P: Drop, V: Drop, B: Drop, M: Drop, N: Drop> Drop
+    for TablesOf<F, S, P, V, B, M, N> {
     fn drop(self) {
-        let Tables {
+        let TablesOf {
             names,
             variant_parents,
             functions,
@@ -151,12 +101,12 @@ pub(crate) fn entry<'a, K: Keyed, V>(
     }
 }
 
-impl Tables {
+impl<F: Drop, S: Drop, P: Drop, V: Drop, B: Drop, M: Drop, N: Drop> TablesOf<F, S, P, V, B, M, N> {
     /// Tables without an entry. It takes no memory.
-    pub fn new(alloc: Global) -> Tables
+    pub fn new(alloc: Global) -> TablesOf<F, S, P, V, B, M, N>
         ensures { result ≡ record { names = map.empty; variant_parents = map.empty; functions = map.empty; structs = map.empty; plains = map.empty; fields = map.empty; bodies = map.empty; crate_names = map.empty; reprs = map.empty; words = no_words; no_generics = tt } }
     {
-        Tables {
+        TablesOf {
             names: Table::new(alloc),
             variant_parents: Table::new(alloc),
             functions: Table::new(alloc),
@@ -237,9 +187,9 @@ impl Tables {
     pub fn add_function(
         &mut self,
         id: FunctionId,
-        signature: FunctionSignature,
-        source_map: ExpressionStoreSourceMap,
-    ) -> Result<(), AllocFailed<(FunctionId, (FunctionSignature, ExpressionStoreSourceMap))>>
+        signature: F,
+        source_map: M,
+    ) -> Result<(), AllocFailed<(FunctionId, (F, M))>>
         ensures ok { OnOk result (self.new ≡ record self.old { functions = map.insert self.old.functions (id ∷ []) (signature, source_map) }) }
         ensures err { OnErr result (self.new ≡ self.old) }
         ensures value_returned { IfErr result (λ failed. failed.value ≡ (id, (signature, source_map))) }
@@ -253,9 +203,9 @@ impl Tables {
     pub fn add_struct(
         &mut self,
         id: StructId,
-        signature: StructSignature,
-        source_map: ExpressionStoreSourceMap,
-    ) -> Result<(), AllocFailed<(StructId, (StructSignature, ExpressionStoreSourceMap))>>
+        signature: S,
+        source_map: M,
+    ) -> Result<(), AllocFailed<(StructId, (S, M))>>
         ensures ok { OnOk result (self.new ≡ record self.old { structs = map.insert self.old.structs (id ∷ []) (signature, source_map) }) }
         ensures err { OnErr result (self.new ≡ self.old) }
         ensures value_returned { IfErr result (λ failed. failed.value ≡ (id, (signature, source_map))) }
@@ -269,9 +219,9 @@ impl Tables {
     pub fn add_plain(
         &mut self,
         def: PlainDef,
-        signature: PlainSignature,
-        source_map: ExpressionStoreSourceMap,
-    ) -> Result<(), AllocFailed<(PlainDef, (PlainSignature, ExpressionStoreSourceMap))>>
+        signature: P,
+        source_map: M,
+    ) -> Result<(), AllocFailed<(PlainDef, (P, M))>>
         ensures ok { OnOk result (self.new ≡ record self.old { plains = map.insert self.old.plains (plain_code def) (signature, source_map) }) }
         ensures err { OnErr result (self.new ≡ self.old) }
         ensures value_returned { IfErr result (λ failed. failed.value ≡ (def, (signature, source_map))) }
@@ -285,9 +235,9 @@ impl Tables {
     pub fn add_fields(
         &mut self,
         variant: VariantId,
-        fields: VariantFields,
-        source_map: ExpressionStoreSourceMap,
-    ) -> Result<(), AllocFailed<(VariantId, (VariantFields, ExpressionStoreSourceMap))>>
+        fields: V,
+        source_map: M,
+    ) -> Result<(), AllocFailed<(VariantId, (V, M))>>
         ensures ok { OnOk result (self.new ≡ record self.old { fields = map.insert self.old.fields (fields_code variant) (fields, source_map) }) }
         ensures err { OnErr result (self.new ≡ self.old) }
         ensures value_returned { IfErr result (λ failed. failed.value ≡ (variant, (fields, source_map))) }
@@ -301,9 +251,9 @@ impl Tables {
     pub fn add_body(
         &mut self,
         def: DefWithBodyId,
-        body: Body,
-        source_map: BodySourceMap,
-    ) -> Result<(), AllocFailed<(DefWithBodyId, (Body, BodySourceMap))>>
+        body: B,
+        source_map: N,
+    ) -> Result<(), AllocFailed<(DefWithBodyId, (B, N))>>
         ensures ok { OnOk result (self.new ≡ record self.old { bodies = map.insert self.old.bodies (body_code def) (body, source_map) }) }
         ensures err { OnErr result (self.new ≡ self.old) }
         ensures value_returned { IfErr result (λ failed. failed.value ≡ (def, (body, source_map))) }
@@ -371,7 +321,7 @@ impl Tables {
     /// The signature of the function.
     ///
     /// Answers `Missing::Signature` of the function where the tables have none of it.
-    pub fn function_signature(&self, id: FunctionId) -> Result<&FunctionSignature, Missing>
+    pub fn function_signature(&self, id: FunctionId) -> Result<&F, Missing>
         ensures found { IfOk result (λ found. option_map (λ entry. entry.0) (map.get self.now.functions (id ∷ [])) ≡ Some found.now) }
         ensures absent { IfErr result (λ absent. (absent ≡ missing.Signature (generic.FunctionId id)) × (map.get self.now.functions (id ∷ []) ≡ None)) }
     {
@@ -383,7 +333,7 @@ impl Tables {
     /// The signature of the struct.
     ///
     /// Answers `Missing::Signature` of the struct where the tables have none of it.
-    pub fn struct_signature(&self, id: StructId) -> Result<&StructSignature, Missing>
+    pub fn struct_signature(&self, id: StructId) -> Result<&S, Missing>
         ensures found { IfOk result (λ found. option_map (λ entry. entry.0) (map.get self.now.structs (id ∷ [])) ≡ Some found.now) }
         ensures absent { IfErr result (λ absent. (absent ≡ missing.Signature (generic.AdtId (adt.StructId id))) × (map.get self.now.structs (id ∷ []) ≡ None)) }
     {
@@ -395,7 +345,7 @@ impl Tables {
     /// The signature of the definition.
     ///
     /// Answers `Missing::Signature` of the definition where the tables have none of it.
-    pub fn plain_signature(&self, def: PlainDef) -> Result<&PlainSignature, Missing>
+    pub fn plain_signature(&self, def: PlainDef) -> Result<&P, Missing>
         ensures found { IfOk result (λ found. option_map (λ entry. entry.0) (map.get self.now.plains (plain_code def)) ≡ Some found.now) }
         ensures absent { IfErr result (λ absent. (absent ≡ missing.Signature (generic_def def)) × (map.get self.now.plains (plain_code def) ≡ None)) }
     {
@@ -407,7 +357,7 @@ impl Tables {
     /// The fields of the struct, the union or the variant.
     ///
     /// Answers `Missing::Fields` of the struct, the union or the variant where the tables have none of it.
-    pub fn variant_fields(&self, variant: VariantId) -> Result<&VariantFields, Missing>
+    pub fn variant_fields(&self, variant: VariantId) -> Result<&V, Missing>
         ensures found { IfOk result (λ found. option_map (λ entry. entry.0) (map.get self.now.fields (fields_code variant)) ≡ Some found.now) }
         ensures absent { IfErr result (λ absent. (absent ≡ missing.Fields variant) × (map.get self.now.fields (fields_code variant) ≡ None)) }
     {

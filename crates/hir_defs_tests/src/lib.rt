@@ -1,17 +1,13 @@
-//! The tests of `hir_defs` through its public surface, as a user would call it. Those of generic parameters are in `hir_generics_tests`.
+//! The tests of `hir_defs` through its public surface, as a user would call it. Those of what it names again are in `hir_items_tests`.
 #![tactic(auto)]
 
 #[cfg(test)]
-mod bodies;
+mod entries;
 #[cfg(test)]
-mod made;
+mod filled;
+#[cfg(test)]
+mod lookups;
 #[cfg(test)]
 mod memory;
 #[cfg(test)]
-mod signatures;
-#[cfg(test)]
 mod tables;
-#[cfg(test)]
-mod texts;
-#[cfg(test)]
-mod trees;

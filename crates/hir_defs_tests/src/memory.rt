@@ -1,9 +1,8 @@
 //! Calls that take memory, without what they hand back where it is refused.
 //! What is said here of any type is proved once, and lays out no type, however large it is.
-use hir_base::{Arena, ArenaFault, Seq};
-use hir_defs::{RefusedSignature, SignatureFault};
+use hir_base::{Arena, Seq};
 use std::alloc::{AllocError, AllocFailed, Global};
-use std::fmt::{Debug, Display};
+use std::fmt::Debug;
 use std::test::Fail;
 
 pub fn in_a_box<T: Drop>(alloc: Global, value: T) -> Result<Box<T>, AllocError> {
@@ -14,9 +13,9 @@ pub fn push<T: Drop>(seq: &mut Seq<T>, item: T) -> Result<(), AllocError> {
     Ok(seq.push(item)?)
 }
 
-/// Whether the item was added: without it, where it is handed back.
-pub fn added<I: Drop, T: Drop>(outcome: Result<I, (ArenaFault, T)>) -> Result<(), Fail> {
-    match outcome {
+/// Adds the item, or says why it can't be: without it, where it is handed back.
+pub fn add<K, T: Drop>(arena: &mut Arena<K, T>, item: T) -> Result<(), Fail> {
+    match arena.alloc(item) {
         Ok(_) => Ok(()),
         Err((fault, _)) => Err(Fail::from(fault)),
     }
@@ -30,35 +29,22 @@ pub fn taken<T: Drop>(outcome: Result<(), AllocFailed<T>>) -> Result<(), Fail> {
     }
 }
 
-/// What was accepted; without what is handed back, where it is refused.
-pub fn accepted<T: Drop, R: Debug + Drop>(outcome: Result<T, R>) -> Result<T, Fail> {
-    Ok(outcome?)
+/// What was accepted, in boxes; without what is handed back, where it is refused.
+pub fn in_boxes<T: Drop, U: Drop, R: Debug + Drop>(
+    alloc: Global,
+    outcome: Result<(T, U), R>,
+) -> Result<(Box<T>, Box<U>), Fail> {
+    let (first, second) = outcome?;
+    let first = Box::new(alloc, first)?;
+    Ok((first, Box::new(alloc, second)?))
 }
 
-/// What was accepted, with its source map.
+/// What was accepted, with its source map; without what is handed back, where it is refused.
 pub fn with<T: Drop, R: Debug + Drop, M: Drop>(
+    alloc: Global,
     outcome: Result<T, R>,
-    map: M,
-) -> Result<(T, M), Fail> {
-    Ok((accepted(outcome)?, map))
-}
-
-/// Why the parts of a signature are refused, where they are.
-pub fn fault<S: Drop, P: Drop>(outcome: Result<S, RefusedSignature<P>>) -> Option<SignatureFault> {
-    match outcome {
-        Ok(_) => None,
-        Err(refused) => Some(refused.fault),
-    }
-}
-
-/// Whether the text of the value is this.
-pub fn reads<T: Display>(alloc: Global, value: &T, wanted: &str) -> Result<bool, AllocError> {
-    let text = format!(in alloc; "{value}")?;
-    Ok(text.as_str() == wanted)
-}
-
-/// The parts without the source map of their store.
-pub fn without_map<P: Drop, M: Drop>(made: Box<(P, M)>) -> P {
-    let (parts, _) = Box::into_inner(made);
-    parts
+    map: Box<M>,
+) -> Result<Box<(T, M)>, Fail> {
+    let accepted = outcome?;
+    Ok(Box::new(alloc, (accepted, Box::into_inner(map)))?)
 }

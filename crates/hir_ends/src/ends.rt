@@ -4,19 +4,12 @@ ghost use Rattle.std.specs.Prelude.{◌≡◌, ◌+◌, ◌≤◌, ◌<◌, ◌^
 ghost use Rattle.std.specs.Io.KnownBytes.{Appends, Consumes, IsAtEnd};
 ghost use Rattle.hir_ends.specs.Ends.{GrowsByFront, IsKeptOrUntold};
 
-use hir_base::ExactEq;
 use thiserror::Error;
 
 /// A call of a source or a sink failed.
 #[derive(Clone, Copy, Debug, Drop, PartialEq, Eq, Error)]
 #[error("a read or a write failed")]
 pub struct EndFailed;
-
-impl ExactEq for EndFailed {
-    ghost use Rattle.hir_base.specs.Exact.{exact};
-
-    ghost eq_decides = { Prim.search exact };
-}
 
 /// Where bytes are read from.
 ///

@@ -3,12 +3,14 @@
 #![tactic(auto)]
 
 mod ends;
+mod laws;
 mod lines;
 mod next;
 mod output;
 mod std_end;
 
 pub use ends::{EndFailed, Sink, Source, write_all};
+pub use laws::answers_are_compared_by_all_fields;
 pub use lines::{FillFault, LineReader, Taken};
 pub use next::{LineFault, next_line};
 pub use output::OutputBuffer;

@@ -1,11 +1,9 @@
 //! The lines of a source, which is read block by block: a line that lies whole in the buffer is lent from it and never copied.
 
-ghost use Rattle.hir_base.specs.Exact.{exact};
 ghost use Rattle.hir_ends.specs.Text.{IsFirstLineEnd};
 ghost use Rattle.std.specs.Prelude.{◌≡◌, ◌+◌, ◌-◌, ◌*◌, ◌≤◌, ◌<◌, ◌^◌, ◌||◌, [], false, IfOk, OnOk, OnErr, length, take, slice_range, vec_len, List, ℕ};
 
 use super::ends::Source;
-use hir_base::ExactEq;
 use memchr::memchr;
 use std::alloc::{AllocError, Global};
 use std::marker::Model;
@@ -25,10 +23,6 @@ pub enum Taken {
     End,
 }
 
-impl ExactEq for Taken {
-    ghost eq_decides = { Prim.search exact };
-}
-
 /// Why no more bytes were read.
 #[derive(Clone, Copy, Debug, Drop, PartialEq, Eq, Error)]
 pub enum FillFault {
@@ -38,10 +32,6 @@ pub enum FillFault {
     /// The read failed.
     #[error("input failed")]
     InputFailed,
-}
-
-impl ExactEq for FillFault {
-    ghost eq_decides = { Prim.search exact };
 }
 
 /// Takes the lines of a source.

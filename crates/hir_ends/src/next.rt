@@ -7,7 +7,6 @@ ghost use Rattle.hir_ends.specs.NextLine.{NextTakes, NextWrites, untaken, is_fou
 use super::ends::{Sink, Source};
 use super::lines::{FillFault, LineReader, Taken};
 use super::output::OutputBuffer;
-use hir_base::ExactEq;
 use thiserror::Error;
 
 /// Why the next line can't be had.
@@ -22,12 +21,6 @@ pub enum LineFault {
     /// What waited couldn't be written.
     #[error("output failed")]
     OutputFailed,
-}
-
-impl ExactEq for LineFault {
-    ghost use Rattle.hir_base.specs.Exact.{exact};
-
-    ghost eq_decides = { Prim.search exact };
 }
 
 /// Takes the next line, and says whether there is one. A read is made only where no whole line is pending, and what waits is

@@ -5,7 +5,6 @@ ghost use Rattle.std.specs.Prelude.{◌≡◌, ◌-◌, ◌^◌, false};
 ghost use Rattle.hir_ends.specs.StdEnd.{ReadMeans, WriteMeans};
 
 use super::ends::{EndFailed, Sink, Source};
-use hir_base::ExactEq;
 use std::io::{ErrorKind, Read, Result as IoResult, Write};
 
 /// How often in a row an interrupted call is made again.
@@ -20,12 +19,6 @@ pub enum Attempt {
     Again,
     /// The call counts as failed.
     Failed,
-}
-
-impl ExactEq for Attempt {
-    ghost use Rattle.hir_base.specs.Exact.{exact};
-
-    ghost eq_decides = { Prim.search exact };
 }
 
 /// What the answer of a std read means, where at most `left` bytes may still be read: more of them count as failed, and so does

@@ -8,7 +8,7 @@ use std::fmt;
 use thiserror::Error;
 
 /// The node that a fault names: an expression, a pattern or a type. Its text is the kind of id and the number, as `ExprId(3)`.
-#[derive(Clone, Copy, Debug, Drop, PartialEq, Eq)]
+#[derive(Clone, Copy, Drop, PartialEq, Eq)]
 pub enum NodeId {
     Expr(ExprId),
     Pat(PatId),
@@ -29,11 +29,18 @@ impl fmt::Display for NodeId {
     }
 }
 
+/// Its text.
+impl fmt::Debug for NodeId {
+    fn fmt<W: fmt::Write>(&self, f: &mut fmt::Formatter<W>) -> fmt::Result {
+        fmt::Display::fmt(self, f)
+    }
+}
+
 /// Why a builder is refused: the first of its faults, in this order. Nodes are ordered as expressions, patterns, types, each by id;
 /// the faults from `IdOutOfRange` to `ArgumentLists` are those of the first node that has one, and then the first in this order. So
 /// are those from `RootOutOfRange` to `RootEnds` of the first root that has one, by its index in the list of roots, which names it.
 /// The text is the name and, after a space, the node or the index.
-#[derive(Clone, Copy, Debug, Drop, PartialEq, Eq, Error)]
+#[derive(Clone, Copy, Drop, PartialEq, Eq, Error)]
 pub enum FinishFault {
     /// An expression, a pattern, a binding or a label exists, and no list of roots was begun.
     #[error("NoRoots")]
@@ -74,6 +81,13 @@ pub enum FinishFault {
     /// Memory for the test was refused. It may come in place of any answer.
     #[error("Memory")]
     Memory,
+}
+
+/// Its text.
+impl fmt::Debug for FinishFault {
+    fn fmt<W: fmt::Write>(&self, f: &mut fmt::Formatter<W>) -> fmt::Result {
+        fmt::Display::fmt(self, f)
+    }
 }
 
 impl ExactEq for FinishFault {

@@ -4,7 +4,7 @@
 ghost use Rattle.std.specs.Prelude.{◌≡◌, flat_map};
 ghost use Rattle.std.specs.Option.{option_copied};
 ghost use Rattle.std.specs.List.{list_all};
-ghost use Rattle.hir_faults.specs.Parts.{path_of, is_path_at, bound_paths, args_paths, binding_paths, args_give_self, binding_gives_self, self_given, all_of, option_all, path_paths, path_gives_self, one_list_each, nothing, a_path, some_bounds, names_paths, gives_self, lists_fit};
+ghost use Rattle.hir_faults.specs.Parts.{path_of, is_path_at, bound_paths, args_paths, binding_paths, args_give_self, binding_gives_self, self_given, all_of, option_all, path_paths, path_gives_self, one_list_each, names_paths, gives_self, lists_fit};
 ghost use Rattle.hir_faults.specs.HeldParts.{held_of};
 
 use hir_node::{AssociatedTypeBinding, GenericArg, GenericArgs, Path, PathId, TypeBound, TypeRef};
@@ -124,10 +124,10 @@ fn binding_gives_self(binding: &AssociatedTypeBinding) -> bool
 
 /// What a node holds: a path, generic arguments that aren't in a path, bounds.
 #[derive(Clone, Copy)]
-pub(crate) struct Holds<'a> {
-    pub(crate) path: Option<&'a Path>,
-    pub(crate) args: Option<&'a GenericArgs>,
-    pub(crate) bounds: &'a [TypeBound],
+pub struct Holds<'a> {
+    pub path: Option<&'a Path>,
+    pub args: Option<&'a GenericArgs>,
+    pub bounds: &'a [TypeBound],
 }
 
 /// Whether what the arguments of one segment name as paths are paths.
@@ -204,42 +204,9 @@ pub(crate) fn one_list_each(path: &Path) -> bool
     }
 }
 
-impl<'a> Holds<'a> {
-    /// Nothing.
-    pub(crate) fn nothing() -> Holds<'a>
-        ensures { held_of result ≡ nothing }
-    {
-        Holds {
-            path: None,
-            args: None,
-            bounds: &[],
-        }
-    }
-
-    /// A path.
-    pub(crate) fn path(path: &'a Path) -> Holds<'a>
-        ensures { held_of result ≡ a_path path.now }
-    {
-        Holds {
-            path: Some(path),
-            args: None,
-            bounds: &[],
-        }
-    }
-
-    /// Bounds.
-    pub(crate) fn bounds(bounds: &'a [TypeBound]) -> Holds<'a>
-        ensures { held_of result ≡ some_bounds bounds.now }
-    {
-        Holds {
-            path: None,
-            args: None,
-            bounds,
-        }
-    }
-
+impl Holds<'_> {
     /// Whether each type that is named as a path is one.
-    pub(crate) fn names_paths(&self, types: &[TypeRef]) -> bool
+    pub fn names_paths(&self, types: &[TypeRef]) -> bool
         ensures { result ≡ names_paths types.now (held_of self.now) }
     {
         if let Some(path) = self.path {
@@ -256,7 +223,7 @@ impl<'a> Holds<'a> {
     }
 
     /// Whether each list that is said to begin with a self type isn't empty.
-    pub(crate) fn gives_self(&self) -> bool
+    pub fn gives_self(&self) -> bool
         ensures { result ≡ gives_self (held_of self.now) }
     {
         if let Some(path) = self.path {
@@ -271,7 +238,7 @@ impl<'a> Holds<'a> {
     }
 
     /// Whether the path has no lists, or one for each segment.
-    pub(crate) fn lists_fit(&self) -> bool
+    pub fn lists_fit(&self) -> bool
         ensures { result ≡ lists_fit (held_of self.now) }
     {
         match self.path {

@@ -1,16 +1,13 @@
-//! Whether all ids are there that a node names.
+//! Whether all is there that a visitor is called with.
 
-ghost use Rattle.std.specs.Prelude.{◌≡◌, nat_lt};
-ghost use Rattle.std.specs.Option.{option_to_list};
+ghost use Rattle.std.specs.Prelude.{◌≡◌};
 ghost use Rattle.std.specs.List.{list_all};
 ghost use Rattle.hir_faults.specs.Sizes.{is_there};
 ghost use Rattle.hir_faults.specs.Ranges.{Tests};
-ghost use Rattle.hir_faults.specs.Parts.{names_there};
 ghost use Rattle.hir_node.specs.ChildCalls.{bound_calls, path_calls};
 
 use crate::node::Node;
 use crate::sizes::Sizes;
-use hir_base::Idx;
 use hir_node::{
     ExprId, LifetimeRefId, PatId, Path, StoreVisitor, StoreVisitorExt, TypeBound, TypeRefId,
 };
@@ -46,32 +43,13 @@ impl StoreVisitor for InRange {
     }
 }
 
-/// Whether each call of the visitor is made with what is there.
-fn calls_there<N: Node>(node: &N, sizes: Sizes) -> bool
+/// Whether each call that the node gives a visitor is made with what is there.
+pub fn calls_there<N: Node>(node: &N, sizes: Sizes) -> bool
     ensures { result ≡ list_all (is_there sizes) (N.parts node.now).calls }
 {
     let mut ids = InRange { sizes, holds: true };
     node.visit(&mut ids);
     ids.holds
-}
-
-/// Whether the id, where there is one, is one of so many.
-fn is_below<K>(id: Option<Idx<K>>, count: usize) -> bool
-    ensures { result ≡ list_all (λ n. nat_lt n count) (option_to_list id) }
-{
-    match id {
-        Some(id) => (id.into_raw() as usize) < count,
-        None => true,
-    }
-}
-
-/// Whether each id is there that the node names.
-pub(crate) fn names_there<N: Node>(node: &N, sizes: Sizes) -> bool
-    ensures { result ≡ names_there sizes (N.parts node.now) }
-{
-    calls_there(node, sizes)
-        && is_below(node.binding(), sizes.bindings)
-        && is_below(node.label(), sizes.labels)
 }
 
 /// Whether each call that the path gives a visitor is made with what is there.

@@ -2,14 +2,21 @@
 //! A crate above cites a law by its definition's name and needs nothing of the insides.
 
 ghost use Rattle.std.specs.Prelude.{◌≡◌, ℕ, ◌<◌, ◌≤◌, List, [], ◌∷◌, ◌++◌, Option, None, Some, All, length};
+ghost use Rattle.std.specs.Bool.{Decides};
 ghost use Rattle.std.specs.List.{concat};
-ghost use Rattle.hir_forest.specs.declared.roots.Ends.{Ends};
-ghost use Rattle.hir_forest.specs.declared.roots.Root.{Root};
-ghost use Rattle.hir_forest.specs.declared.roots.ForestFault.{ForestFault};
 ghost use Rattle.hir_forest.specs.Rows.{with_kids};
 ghost use Rattle.hir_forest.specs.Forest.{IsKid, Climbs, IsForest};
 ghost use Rattle.hir_forest.specs.Faults.{IsWithin, forest_fault};
 ghost use Rattle.hir_forest.specs.Height.{height};
+
+use crate::roots::{Ends, ForestFault, Root};
+
+/// Ends, roots and faults are equal exactly where all their fields are.
+pub fn roots_are_compared_by_all_fields()
+    ensures ends { (x y : Ends) → Decides (⟦<Ends as PartialEq>⟧.eq x y) (x ≡ y) }
+    ensures roots { (x y : Root) → Decides (⟦<Root as PartialEq>⟧.eq x y) (x ≡ y) }
+    ensures faults { (x y : ForestFault) → Decides (⟦<ForestFault as PartialEq>⟧.eq x y) (x ≡ y) }
+{}
 
 /// A graph with its roots has one first fault at most.
 pub fn fault_is_one()

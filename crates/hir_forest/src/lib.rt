@@ -11,7 +11,7 @@ mod walk;
 pub use faults::first_fault;
 pub use laws::{
     fault_is_one, fault_is_within, faultless_is_forest, heights_are_bounded, kid_rows_add_up,
-    kids_are_lower, ways_are_short,
+    kids_are_lower, roots_are_compared_by_all_fields, ways_are_short,
 };
 pub use roots::{Ends, ForestFault, Root};
 pub use rows::Rows;

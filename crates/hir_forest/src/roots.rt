@@ -2,10 +2,7 @@
 //! Nodes are numbered from 0; those below a given limit, the number of expressions, may be roots.
 
 ghost use Rattle.std.specs.Prelude.{◌↔◌, IsTrue};
-ghost use Rattle.hir_base.specs.Exact.{exact};
 ghost use Rattle.hir_forest.specs.Faults.{EndsFit};
-
-use hir_base::ExactEq;
 
 /// How many expressions, patterns and bindings there are, or were when a root was listed.
 #[derive(Clone, Copy, Default, PartialEq, Eq, Drop)]
@@ -13,10 +10,6 @@ pub struct Ends {
     pub exprs: u32,
     pub pats: u32,
     pub bindings: u32,
-}
-
-impl ExactEq for Ends {
-    ghost eq_decides = { Prim.search exact };
 }
 
 impl Ends {
@@ -40,10 +33,6 @@ pub struct Root {
     pub ends: Ends,
 }
 
-impl ExactEq for Root {
-    ghost eq_decides = { Prim.search exact };
-}
-
 /// What can be wrong with a graph and its roots, in the order in which faults are looked for: those of roots are those of the first
 /// root in the list that has one, and then the first in this order.
 ///
@@ -63,8 +52,4 @@ pub enum ForestFault {
     RootUnderRoot(usize),
     /// An end of the root is past its arena, or less than that of the root before.
     RootEnds(usize),
-}
-
-impl ExactEq for ForestFault {
-    ghost eq_decides = { Prim.search exact };
 }

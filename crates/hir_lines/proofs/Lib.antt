@@ -6,6 +6,7 @@ pub mod Expressions
 pub mod Forms
 pub mod Fronts
 pub mod Integers
+pub mod Keywords
 pub mod Patterns
 pub mod Separators
 pub mod Signs

@@ -133,17 +133,19 @@ fn lent_gives(path: &Path, calls: &[Call]) -> bool {
 // `<1, '2, 3>`, where 3 is a constant.
 fn args_of_each_kind(alloc: Global) -> Result<GenericArgs, AllocError> {
     let ty = GenericArg::Ty(Idx::from_raw(1));
-    let mut args = build::two(alloc, ty, GenericArg::Lifetime(Idx::from_raw(2)))?;
     let constant = ConstRef {
         expr: Idx::from_raw(3),
     };
-    args.push(GenericArg::Const(constant))?;
-    Ok(GenericArgs {
-        args,
-        has_self_type: false,
-        bindings: Seq::new(alloc),
-        parenthesized: GenericArgsParentheses::No,
-    })
+    let args = build::two(alloc, ty, GenericArg::Lifetime(Idx::from_raw(2)));
+    match build::with(args, Ok(GenericArg::Const(constant))) {
+        Ok(args) => Ok(GenericArgs {
+            args,
+            has_self_type: false,
+            bindings: Seq::new(alloc),
+            parenthesized: GenericArgsParentheses::No,
+        }),
+        Err(error) => Err(error),
+    }
 }
 
 // Visits both by the visitor, which is taken: so one that is lent is called as a visitor of its own.

@@ -6,9 +6,9 @@ use hir_base::{
     TryClone,
 };
 use hir_node::{
-    Array, Binding, BindingAnnotation, BindingProblems, Boxed, Expr, FloatTypeWrapper, FnType,
-    Label, LifetimeRef, Literal, LiteralOrConst, OffsetOf, Pat, Path, PathId, RecordFieldPat,
-    RecordLitField, RecordSpread, TypeBound, TypeRef, UseArgRef,
+    Array, Binding, BindingAnnotation, BindingProblems, Expr, FloatTypeWrapper, FnType, Label,
+    LifetimeRef, Literal, LiteralOrConst, OffsetOf, Pat, Path, PathId, RecordFieldPat,
+    RecordLitField, RecordSpread, TypeBound, TypeRef, TypeRefId, UseArgRef,
 };
 use std::alloc::{AllocError, Global};
 use std::hash::{DefaultHasher, Hash, Hasher};
@@ -45,157 +45,250 @@ fn hash_alike<T: Hash + Drop>(
     Ok(hash_of(&one) == hash_of(&second))
 }
 
-// Adds the item, if it could be made.
-fn add<T: Drop>(list: &mut Seq<T>, item: Result<T, AllocError>) -> Result<(), AllocError> {
-    Ok(list.push(item?)?)
+// `[1, 2]`
+fn array(alloc: Global) -> Result<Expr, AllocError> {
+    match build::two(alloc, Idx::from_raw(1), Idx::from_raw(2)) {
+        Ok(elements) => Ok(Expr::Array(Array::ElementList { elements })),
+        Err(error) => Err(error),
+    }
 }
 
-// `[1, 2]` and the field `y` in the field `x` of type 1.
-fn add_lists(list: &mut Seq<Expr>, alloc: Global) -> Result<(), AllocError> {
-    let elements = build::two(alloc, Idx::from_raw(1), Idx::from_raw(2))?;
-    list.push(Expr::Array(Array::ElementList { elements }))?;
-    let fields = build::names(alloc, &["x", "y"])?;
-    let container = Idx::from_raw(1);
-    list.push(Expr::OffsetOf(OffsetOf { container, fields }))?;
-    Ok(())
+// The field `y` in the field `x` of type 1.
+fn offset_of(alloc: Global) -> Result<Expr, AllocError> {
+    match build::names(alloc, &["x", "y"]) {
+        Ok(fields) => {
+            let container = Idx::from_raw(1);
+            Ok(Expr::OffsetOf(OffsetOf { container, fields }))
+        }
+        Err(error) => Err(error),
+    }
 }
 
 fn method_call(alloc: Global) -> Result<Expr, AllocError> {
-    let method_name = Name::new(alloc, "f")?;
-    let args = build::one(alloc, Idx::from_raw(2))?;
-    let generic_args = Boxed::new(alloc, build::nested(alloc)?)?;
-    Ok(Expr::MethodCall {
-        receiver: Idx::from_raw(1),
-        method_name,
-        args,
-        generic_args: Some(generic_args),
-    })
+    let name_and_args = build::both(Name::new(alloc, "f"), build::one(alloc, Idx::from_raw(2)));
+    match build::both(name_and_args, build::boxed(alloc, build::nested(alloc))) {
+        Ok(((method_name, args), generic_args)) => Ok(Expr::MethodCall {
+            receiver: Idx::from_raw(1),
+            method_name,
+            args,
+            generic_args: Some(generic_args),
+        }),
+        Err(error) => Err(error),
+    }
 }
 
-// `S { x: 1, ..2 }`. The fields first: where the path can't be had, what is dropped isn't a path.
+// `x: 1`
+fn field(alloc: Global) -> Result<RecordLitField, AllocError> {
+    match Name::new(alloc, "x") {
+        Ok(name) => {
+            let expr = Idx::from_raw(1);
+            Ok(RecordLitField { name, expr })
+        }
+        Err(error) => Err(error),
+    }
+}
+
+// `S { x: 1, ..2 }`
 fn record(alloc: Global) -> Result<Expr, AllocError> {
-    let name = Name::new(alloc, "x")?;
-    let expr = Idx::from_raw(1);
-    let fields = build::one(alloc, RecordLitField { name, expr })?;
-    Ok(Expr::RecordLit {
-        path: Path::BarePath(build::plain(alloc, &["S"])?),
-        fields,
-        spread: RecordSpread::Expr(Idx::from_raw(2)),
-    })
+    let fields = build::only(alloc, field(alloc));
+    match build::both(build::bare(alloc, &["S"]), fields) {
+        Ok((path, fields)) => Ok(Expr::RecordLit {
+            path,
+            fields,
+            spread: RecordSpread::Expr(Idx::from_raw(2)),
+        }),
+        Err(error) => Err(error),
+    }
 }
 
-// A text and a number.
-fn add_literals(list: &mut Seq<Expr>, alloc: Global) -> Result<(), AllocError> {
-    list.push(Expr::Literal(Literal::String(Text::from_str(alloc, "a")?)))?;
-    let number = FloatTypeWrapper::new(Text::from_str(alloc, "1.50")?);
-    list.push(Expr::Literal(Literal::Float(number, None)))?;
-    Ok(())
+// The text `a`.
+fn text(alloc: Global) -> Result<Literal, AllocError> {
+    Text::from_str(alloc, "a").map(Literal::String)
+}
+
+fn number(alloc: Global) -> Result<Literal, AllocError> {
+    match Text::from_str(alloc, "1.50") {
+        Ok(text) => Ok(Literal::Float(FloatTypeWrapper::new(text), None)),
+        Err(error) => Err(error),
+    }
 }
 
 fn exprs(alloc: Global) -> Result<Seq<Expr>, AllocError> {
-    let mut list = Seq::new(alloc);
-    add_lists(&mut list, alloc)?;
-    add_literals(&mut list, alloc)?;
-    add(&mut list, made::matched(alloc))?;
-    add(&mut list, made::block(alloc))?;
-    add(&mut list, made::closure(alloc))?;
-    add(&mut list, method_call(alloc))?;
-    add(&mut list, record(alloc))?;
-    Ok(list)
+    let list = build::only(alloc, array(alloc));
+    let list = build::with(list, offset_of(alloc));
+    let list = build::with(list, text(alloc).map(Expr::Literal));
+    let list = build::with(list, number(alloc).map(Expr::Literal));
+    let list = build::with(list, made::matched(alloc));
+    let list = build::with(list, made::block(alloc));
+    let list = build::with(list, made::closure(alloc));
+    let list = build::with(list, method_call(alloc));
+    build::with(list, record(alloc))
+}
+
+// `x: 1`
+fn field_pat(alloc: Global) -> Result<RecordFieldPat, AllocError> {
+    match Name::new(alloc, "x") {
+        Ok(name) => {
+            let pat = Idx::from_raw(1);
+            Ok(RecordFieldPat { name, pat })
+        }
+        Err(error) => Err(error),
+    }
 }
 
 // `S { x: 1, .. }`
 fn record_pat(alloc: Global) -> Result<Pat, AllocError> {
-    let name = Name::new(alloc, "x")?;
-    let pat = Idx::from_raw(1);
-    let args = build::one(alloc, RecordFieldPat { name, pat })?;
-    Ok(Pat::Record {
-        path: Path::BarePath(build::plain(alloc, &["S"])?),
-        args,
-        ellipsis: true,
-    })
+    let fields = build::only(alloc, field_pat(alloc));
+    match build::both(build::bare(alloc, &["S"]), fields) {
+        Ok((path, args)) => Ok(Pat::Record {
+            path,
+            args,
+            ellipsis: true,
+        }),
+        Err(error) => Err(error),
+    }
+}
+
+// `(1, .., 2)`
+fn tuple(alloc: Global) -> Result<Pat, AllocError> {
+    match build::two(alloc, Idx::from_raw(1), Idx::from_raw(2)) {
+        Ok(args) => {
+            let ellipsis = Some(1);
+            Ok(Pat::Tuple { args, ellipsis })
+        }
+        Err(error) => Err(error),
+    }
 }
 
 fn pats(alloc: Global) -> Result<Seq<Pat>, AllocError> {
-    let mut list = Seq::new(alloc);
-    let sides = build::two(alloc, Idx::from_raw(1), Idx::from_raw(2))?;
-    list.push(Pat::Or(sides))?;
-    let args = build::two(alloc, Idx::from_raw(1), Idx::from_raw(2))?;
-    let ellipsis = Some(1);
-    list.push(Pat::Tuple { args, ellipsis })?;
-    add(&mut list, made::slice(alloc))?;
-    add(&mut list, made::tuple_struct(alloc))?;
-    add(&mut list, record_pat(alloc))?;
-    list.push(Pat::Path(build::nested_path(alloc)?))?;
-    Ok(list)
+    let sides = build::two(alloc, Idx::from_raw(1), Idx::from_raw(2));
+    let list = build::only(alloc, sides.map(Pat::Or));
+    let list = build::with(list, tuple(alloc));
+    let list = build::with(list, made::slice(alloc));
+    let list = build::with(list, made::tuple_struct(alloc));
+    let list = build::with(list, record_pat(alloc));
+    build::with(list, build::nested_path(alloc).map(Pat::Path))
 }
 
-// `for<'a, 'b> 1` and `use<'1, T>`
-fn bounds(alloc: Global) -> Result<Seq<TypeBound>, AllocError> {
-    let lifetimes = build::names(alloc, &["'a", "'b"])?;
+// `for<'a, 'b> 1`
+fn for_lifetime(alloc: Global) -> Result<TypeBound, AllocError> {
     let path = PathId::from_type_ref_unchecked(Idx::from_raw(1));
-    let mut list = build::one(alloc, TypeBound::ForLifetime(lifetimes, path))?;
-    let name = UseArgRef::Name(Name::new(alloc, "T")?);
-    let args = build::two(alloc, UseArgRef::Lifetime(Idx::from_raw(1)), name)?;
-    list.push(TypeBound::Use(args))?;
-    Ok(list)
+    match build::names(alloc, &["'a", "'b"]) {
+        Ok(lifetimes) => Ok(TypeBound::ForLifetime(lifetimes, path)),
+        Err(error) => Err(error),
+    }
+}
+
+// `use<'1, T>`
+fn used(alloc: Global) -> Result<TypeBound, AllocError> {
+    let args = build::one(alloc, UseArgRef::Lifetime(Idx::from_raw(1)));
+    build::with(args, Name::new(alloc, "T").map(UseArgRef::Name)).map(TypeBound::Use)
+}
+
+fn bounds(alloc: Global) -> Result<Seq<TypeBound>, AllocError> {
+    build::with(build::only(alloc, for_lifetime(alloc)), used(alloc))
+}
+
+// A parameter of type 1, named `x`.
+fn param(alloc: Global) -> Result<(Option<Name>, TypeRefId), AllocError> {
+    match Name::new(alloc, "x") {
+        Ok(name) => Ok((Some(name), Idx::from_raw(1))),
+        Err(error) => Err(error),
+    }
 }
 
 // `for<'a, 'b> unsafe extern "efiapi" fn(1, ...) -> 2`
-fn function(alloc: Global) -> Result<TypeRef, AllocError> {
-    let name = Some(Name::new(alloc, "x")?);
-    let params = build::two(alloc, (name, Idx::from_raw(1)), (None, Idx::from_raw(2)))?;
-    let abi = ExternAbi::Named(Text::from_str(alloc, "efiapi")?);
-    let function = FnType {
-        binder: Some(build::names(alloc, &["'a", "'b"])?),
-        params,
-        is_varargs: true,
-        is_unsafe: true,
-        abi,
-    };
-    Ok(TypeRef::Fn(Boxed::new(alloc, function)?))
+fn function(alloc: Global) -> Result<FnType, AllocError> {
+    let params = build::only(alloc, param(alloc));
+    let params = build::with(params, Ok((None, Idx::from_raw(2))));
+    let words = build::both(
+        build::names(alloc, &["'a", "'b"]),
+        Text::from_str(alloc, "efiapi"),
+    );
+    match build::both(params, words) {
+        Ok((params, (binder, abi))) => Ok(FnType {
+            binder: Some(binder),
+            params,
+            is_varargs: true,
+            is_unsafe: true,
+            abi: ExternAbi::Named(abi),
+        }),
+        Err(error) => Err(error),
+    }
+}
+
+// Function 4, as the item `new` of the language.
+fn item(alloc: Global) -> Result<Path, AllocError> {
+    let item = LangItemTarget::FunctionId(FunctionId::from_raw(4));
+    match Name::new(alloc, "new") {
+        Ok(name) => Ok(Path::LangItem(item, Some(name))),
+        Err(error) => Err(error),
+    }
 }
 
 fn types(alloc: Global) -> Result<Seq<TypeRef>, AllocError> {
-    let mut list = Seq::new(alloc);
-    list.push(TypeRef::Tuple(build::two(alloc, Idx::from_raw(1), Idx::from_raw(2))?))?;
-    list.push(TypeRef::DynTrait(bounds(alloc)?))?;
-    add(&mut list, function(alloc))?;
-    add(&mut list, made::reference(alloc))?;
-    let name = Name::new(alloc, "new")?;
-    let item = LangItemTarget::FunctionId(FunctionId::from_raw(4));
-    list.push(TypeRef::Path(Path::LangItem(item, Some(name))))?;
-    list.push(TypeRef::Path(build::nested_path(alloc)?))?;
-    Ok(list)
+    let parts = build::two(alloc, Idx::from_raw(1), Idx::from_raw(2));
+    let list = build::only(alloc, parts.map(TypeRef::Tuple));
+    let list = build::with(list, bounds(alloc).map(TypeRef::DynTrait));
+    let list = build::with(list, build::boxed(alloc, function(alloc)).map(TypeRef::Fn));
+    let list = build::with(list, made::reference(alloc));
+    let list = build::with(list, item(alloc).map(TypeRef::Path));
+    build::with(list, build::nested_path(alloc).map(TypeRef::Path))
 }
 
 fn lifetimes(alloc: Global) -> Result<Seq<LifetimeRef>, AllocError> {
-    let named = LifetimeRef::Named(Name::new(alloc, "'a")?);
-    build::two(alloc, named, LifetimeRef::Static)
+    let list = build::only(alloc, Name::new(alloc, "'a").map(LifetimeRef::Named));
+    build::with(list, Ok(LifetimeRef::Static))
 }
 
-// `'a`, `ref mut x` of macro expansion 7, and the end of a range.
+// `'a`
+fn label(alloc: Global) -> Result<Label, AllocError> {
+    match Name::new(alloc, "'a") {
+        Ok(name) => Ok(Label { name }),
+        Err(error) => Err(error),
+    }
+}
+
+// `ref mut x` of macro expansion 7.
+fn binding(alloc: Global) -> Result<Binding, AllocError> {
+    match Name::new(alloc, "x") {
+        Ok(name) => Ok(Binding {
+            name,
+            mode: BindingAnnotation::RefMut,
+            problems: Some(BindingProblems::NotBoundAcrossAll),
+            hygiene: HygieneId::new(SyntaxContext::Expansion(7)),
+        }),
+        Err(error) => Err(error),
+    }
+}
+
+// A label, a binding, and the end of a range.
 fn others(alloc: Global) -> Result<((Label, Binding), LiteralOrConst), AllocError> {
-    let name = Name::new(alloc, "'a")?;
-    let binding = Binding {
-        name: Name::new(alloc, "x")?,
-        mode: BindingAnnotation::RefMut,
-        problems: Some(BindingProblems::NotBoundAcrossAll),
-        hygiene: HygieneId::new(SyntaxContext::Expansion(7)),
-    };
-    let end = Literal::String(Text::from_str(alloc, "a")?);
-    Ok(((Label { name }, binding), LiteralOrConst::Literal(end)))
+    let end = text(alloc).map(LiteralOrConst::Literal);
+    build::both(build::both(label(alloc), binding(alloc)), end)
 }
 
 #[test]
-fn copies_are_the_same_and_hash_alike(rt: HostRuntime) -> Result<(), Fail> {
+fn copies_are_the_same(rt: HostRuntime) -> Result<(), Fail> {
     let alloc = rt.alloc();
-    assert!(rt; is_copied(exprs(alloc), exprs(alloc))?);
-    assert!(rt; is_copied(pats(alloc), pats(alloc))?);
-    assert!(rt; is_copied(types(alloc), types(alloc))?);
-    assert!(rt; is_copied(lifetimes(alloc), lifetimes(alloc))?);
-    assert!(rt; is_copied(others(alloc), others(alloc))?);
-    assert!(rt; hash_alike(types(alloc), types(alloc))?);
-    assert!(rt; hash_alike(lifetimes(alloc), lifetimes(alloc))?);
+    let answers = [
+        is_copied(exprs(alloc), exprs(alloc)),
+        is_copied(pats(alloc), pats(alloc)),
+        is_copied(types(alloc), types(alloc)),
+        is_copied(lifetimes(alloc), lifetimes(alloc)),
+        is_copied(others(alloc), others(alloc)),
+    ];
+    assert!(rt; build::all(&answers)?);
+    Ok(())
+}
+
+#[test]
+fn values_that_are_made_alike_hash_alike(rt: HostRuntime) -> Result<(), Fail> {
+    let alloc = rt.alloc();
+    let answers = [
+        hash_alike(types(alloc), types(alloc)),
+        hash_alike(lifetimes(alloc), lifetimes(alloc)),
+    ];
+    assert!(rt; build::all(&answers)?);
     Ok(())
 }

@@ -2,8 +2,8 @@
 use crate::build;
 use hir_base::Idx;
 use hir_node::{
-    Boxed, CaptureBy, ClosureKind, Expr, ExprId, Item, MatchArm, Mutability, Pat, RefType,
-    Statement, TypeRef, Unsafe,
+    CaptureBy, ClosureKind, Expr, ExprId, Item, MatchArm, Mutability, Pat, RefType, Statement,
+    TypeRef, Unsafe,
 };
 use std::alloc::{AllocError, Global};
 
@@ -17,12 +17,14 @@ fn arm(expr: u32, guard: Option<ExprId>, pat: u32) -> MatchArm {
 
 /// A match on expression 0, whose third arm alone has a guard: the bodies are 1, 2 and 4, the patterns 2, 3 and 6, the guard is 5.
 pub fn matched(alloc: Global) -> Result<Expr, AllocError> {
-    let mut arms = build::two(alloc, arm(1, None, 2), arm(2, None, 3))?;
-    arms.push(arm(4, Some(Idx::from_raw(5)), 6))?;
-    Ok(Expr::Match {
-        expr: Idx::from_raw(0),
-        arms,
-    })
+    let arms = build::two(alloc, arm(1, None, 2), arm(2, None, 3));
+    match build::with(arms, Ok(arm(4, Some(Idx::from_raw(5)), 6))) {
+        Ok(arms) => Ok(Expr::Match {
+            expr: Idx::from_raw(0),
+            arms,
+        }),
+        Err(error) => Err(error),
+    }
 }
 
 /// An item, a `let` of pattern 0, type 1 and the expressions 2 and 3, and expression 5 behind them.
@@ -33,48 +35,59 @@ pub fn block(alloc: Global) -> Result<Expr, AllocError> {
         initializer: Some(Idx::from_raw(2)),
         else_branch: Some(Idx::from_raw(3)),
     };
-    Ok(Expr::Block {
-        id: None,
-        statements: build::two(alloc, Statement::Item(Item::Other), declared)?,
-        tail: Some(Idx::from_raw(5)),
-        label: None,
-        unsafe_: Unsafe::No,
-    })
+    match build::two(alloc, Statement::Item(Item::Other), declared) {
+        Ok(statements) => Ok(Expr::Block {
+            id: None,
+            statements,
+            tail: Some(Idx::from_raw(5)),
+            label: None,
+            unsafe_: Unsafe::No,
+        }),
+        Err(error) => Err(error),
+    }
 }
 
 /// A closure of body 0 and the patterns 1 and 2, of which the second is of type 3, that gives type 4.
 pub fn closure(alloc: Global) -> Result<Expr, AllocError> {
-    let args = build::two(alloc, Idx::from_raw(1), Idx::from_raw(2))?;
-    let arg_types = build::two(alloc, None, Some(Idx::from_raw(3)))?;
-    Ok(Expr::Closure {
-        args,
-        arg_types,
-        ret_type: Some(Idx::from_raw(4)),
-        body: Idx::from_raw(0),
-        closure_kind: ClosureKind::Closure,
-        capture_by: CaptureBy::Ref,
-    })
+    let args = build::two(alloc, Idx::from_raw(1), Idx::from_raw(2));
+    let arg_types = build::two(alloc, None, Some(Idx::from_raw(3)));
+    match build::both(args, arg_types) {
+        Ok((args, arg_types)) => Ok(Expr::Closure {
+            args,
+            arg_types,
+            ret_type: Some(Idx::from_raw(4)),
+            body: Idx::from_raw(0),
+            closure_kind: ClosureKind::Closure,
+            capture_by: CaptureBy::Ref,
+        }),
+        Err(error) => Err(error),
+    }
 }
 
-/// `A<3>(1)`. The list first: where the path can't be had, what is dropped isn't a path.
+/// `A<3>(1)`
 pub fn tuple_struct(alloc: Global) -> Result<Pat, AllocError> {
-    let args = build::one(alloc, Idx::from_raw(1))?;
-    Ok(Pat::TupleStruct {
-        path: build::with_args_first(alloc, &["A"])?,
-        args,
-        ellipsis: None,
-    })
+    let path = build::with_args_first(alloc, &["A"]);
+    match build::both(path, build::one(alloc, Idx::from_raw(1))) {
+        Ok((path, args)) => Ok(Pat::TupleStruct {
+            path,
+            args,
+            ellipsis: None,
+        }),
+        Err(error) => Err(error),
+    }
 }
 
 /// The patterns 1 and 3, and between them the rest by pattern 2.
 pub fn slice(alloc: Global) -> Result<Pat, AllocError> {
-    let prefix = build::one(alloc, Idx::from_raw(1))?;
-    let suffix = build::one(alloc, Idx::from_raw(3))?;
-    Ok(Pat::Slice {
-        prefix,
-        slice: Some(Idx::from_raw(2)),
-        suffix,
-    })
+    let prefix = build::one(alloc, Idx::from_raw(1));
+    match build::both(prefix, build::one(alloc, Idx::from_raw(3))) {
+        Ok((prefix, suffix)) => Ok(Pat::Slice {
+            prefix,
+            slice: Some(Idx::from_raw(2)),
+            suffix,
+        }),
+        Err(error) => Err(error),
+    }
 }
 
 /// A shared reference to type 1 with the lifetime 2.
@@ -84,5 +97,5 @@ pub fn reference(alloc: Global) -> Result<TypeRef, AllocError> {
         lifetime: Some(Idx::from_raw(2)),
         mutability: Mutability::Shared,
     };
-    Ok(TypeRef::Reference(Boxed::new(alloc, reference)?))
+    build::boxed(alloc, Ok(reference)).map(TypeRef::Reference)
 }

@@ -5,29 +5,45 @@ use crate::wanted::{Call, Wanted};
 use crate::{build, made};
 use hir_base::Idx;
 use hir_node::{ArrayType, ConstRef, Expr, Pat, PatId, TypeRef};
+use std::alloc::AllocError;
 use std::mem::drop;
 use std::test::Fail;
 
 // Whether a visit of the node's children makes these calls. The nodes are taken, so that no test has to drop one.
-fn expr_gives(expr: Expr, calls: &[Call]) -> bool {
-    let mut wanted = Wanted::new(calls);
-    expr.visit_children(&mut wanted);
-    drop(expr);
-    wanted.all_met()
+fn expr_gives(expr: Result<Expr, AllocError>, calls: &[Call]) -> Result<bool, AllocError> {
+    match expr {
+        Ok(expr) => {
+            let mut wanted = Wanted::new(calls);
+            expr.visit_children(&mut wanted);
+            drop(expr);
+            Ok(wanted.all_met())
+        }
+        Err(error) => Err(error),
+    }
 }
 
-fn pat_gives(pat: Pat, calls: &[Call]) -> bool {
-    let mut wanted = Wanted::new(calls);
-    pat.visit_children(&mut wanted);
-    drop(pat);
-    wanted.all_met()
+fn pat_gives(pat: Result<Pat, AllocError>, calls: &[Call]) -> Result<bool, AllocError> {
+    match pat {
+        Ok(pat) => {
+            let mut wanted = Wanted::new(calls);
+            pat.visit_children(&mut wanted);
+            drop(pat);
+            Ok(wanted.all_met())
+        }
+        Err(error) => Err(error),
+    }
 }
 
-fn type_gives(type_ref: TypeRef, calls: &[Call]) -> bool {
-    let mut wanted = Wanted::new(calls);
-    type_ref.visit_children(&mut wanted);
-    drop(type_ref);
-    wanted.all_met()
+fn type_gives(type_ref: Result<TypeRef, AllocError>, calls: &[Call]) -> Result<bool, AllocError> {
+    match type_ref {
+        Ok(type_ref) => {
+            let mut wanted = Wanted::new(calls);
+            type_ref.visit_children(&mut wanted);
+            drop(type_ref);
+            Ok(wanted.all_met())
+        }
+        Err(error) => Err(error),
+    }
 }
 
 // The body of an arm comes before its pattern, and its guard between them.
@@ -73,24 +89,34 @@ const PATH: [Call; 6] = [
 #[test]
 fn expressions_give_their_parts_in_order(rt: HostRuntime) -> Result<(), Fail> {
     let alloc = rt.alloc();
-    assert!(rt; expr_gives(made::matched(alloc)?, &MATCH));
-    assert!(rt; expr_gives(made::block(alloc)?, &BLOCK));
-    assert!(rt; expr_gives(made::closure(alloc)?, &CLOSURE));
-    assert!(rt; expr_gives(Expr::Path(build::nested_path(alloc)?), &PATH));
+    let answers = [
+        expr_gives(made::matched(alloc), &MATCH),
+        expr_gives(made::block(alloc), &BLOCK),
+        expr_gives(made::closure(alloc), &CLOSURE),
+        expr_gives(build::nested_path(alloc).map(Expr::Path), &PATH),
+    ];
+    assert!(rt; build::all(&answers)?);
     Ok(())
+}
+
+// The array of type 1 and length 2.
+fn array() -> TypeRef {
+    let expr = Idx::from_raw(2);
+    let len = ConstRef { expr };
+    let ty = Idx::from_raw(1);
+    TypeRef::Array(ArrayType { ty, len })
 }
 
 // A pattern gives its path last.
 #[test]
 fn patterns_and_types_give_their_parts_in_order(rt: HostRuntime) -> Result<(), Fail> {
     let alloc = rt.alloc();
-    assert!(rt; pat_gives(made::tuple_struct(alloc)?, &[Call::Pat(1), Call::Type(3)]));
-    let ty = Idx::from_raw(1);
-    let expr = Idx::from_raw(2);
-    let len = ConstRef { expr };
-    let array = TypeRef::Array(ArrayType { ty, len });
-    assert!(rt; type_gives(array, &[Call::Type(1), Call::AnonConst(2)]));
-    assert!(rt; type_gives(made::reference(alloc)?, &[Call::Type(1), Call::Lifetime(2)]));
+    let answers = [
+        pat_gives(made::tuple_struct(alloc), &[Call::Pat(1), Call::Type(3)]),
+        type_gives(Ok(array()), &[Call::Type(1), Call::AnonConst(2)]),
+        type_gives(made::reference(alloc), &[Call::Type(1), Call::Lifetime(2)]),
+    ];
+    assert!(rt; build::all(&answers)?);
     Ok(())
 }
 

@@ -24,12 +24,20 @@ fn make(alloc: Global, made: &Made<'_>) -> Result<Path, AllocError> {
             Ok(Path::BarePath(ModPath::from_segments(PathKind::Crate, segments)))
         }
         Made::Item => Ok(item()),
-        Made::Bare(texts) => Ok(Path::BarePath(build::plain(alloc, texts)?)),
+        Made::Bare(texts) => build::bare(alloc, texts),
         Made::Anchored(texts) => anchored(alloc, texts),
         Made::WithArgs(texts, at) => {
-            let lists = build::lists(alloc, texts.len(), Some(*at))?;
+            let lists = build::lists(alloc, texts.len(), Some(*at));
             build::with_lists(alloc, lists, None, texts)
         }
+    }
+}
+
+// The path, if there is to be one.
+fn make_opt(alloc: Global, made: &Option<Made<'_>>) -> Result<Option<Path>, AllocError> {
+    match made {
+        Some(made) => make(alloc, made).map(Some),
+        None => Ok(None),
     }
 }
 
@@ -40,17 +48,17 @@ fn item() -> Path {
 
 // These names behind the anchor, with a place without arguments for each.
 fn anchored(alloc: Global, texts: &[&str]) -> Result<Path, AllocError> {
-    let lists = build::lists(alloc, texts.len(), None)?;
+    let lists = build::lists(alloc, texts.len(), None);
     build::with_lists(alloc, lists, Some(build::anchor()), texts)
 }
 
-// Whether the path is this one. The path is taken, so that nothing is held where the answer is asked for.
-fn is(alloc: Global, path: Path, made: &Made<'_>) -> Result<bool, AllocError> {
-    let other = make(alloc, made)?;
-    let holds = path == other;
-    drop(path);
-    drop(other);
-    Ok(holds)
+// Whether both are the same. They are taken, so that nothing is held where the answer is asked for.
+fn are_same<T: PartialEq + Drop>(
+    first: Result<T, AllocError>,
+    second: Result<T, AllocError>,
+) -> Result<bool, AllocError> {
+    let (first, second) = build::both(first, second)?;
+    Ok(first == second)
 }
 
 // The path's qualifier. What the call asks of a `Normal` path is tested first.
@@ -62,56 +70,51 @@ fn qualifier(rt: &impl Abort, alloc: Global, path: &Path) -> Result<Option<Path>
     path.qualifier(alloc)
 }
 
-// Whether the path's qualifier is this one, or there is none.
-fn is_qualified(
+// The qualifier of the path that is so made.
+fn qualifier_of(
     rt: &impl Abort,
     alloc: Global,
     made: &Made<'_>,
-    wanted: &Option<Made<'_>>,
-) -> Result<bool, AllocError> {
-    let path = make(alloc, made)?;
-    let found = qualifier(rt, alloc, &path);
-    drop(path);
-    match (found?, wanted) {
-        (Some(found), Some(wanted)) => is(alloc, found, wanted),
-        (found, wanted) => Ok(found.is_none() && wanted.is_none()),
+) -> Result<Option<Path>, AllocError> {
+    match make(alloc, made) {
+        Ok(path) => {
+            let found = qualifier(rt, alloc, &path);
+            drop(path);
+            found
+        }
+        Err(error) => Err(error),
     }
 }
 
-// What is shown, a path, and its qualifier.
-const QUALIFIED: [(&str, Made<'_>, Option<Made<'_>>); 6] = [
-    ("no names", Made::Krate, None),
-    ("one name behind an anchor", Made::Anchored(&["f"]), None),
-    ("an item", Made::Item, None),
-    (
-        "a name less",
-        Made::Bare(&["a", "b", "c"]),
-        Some(Made::Bare(&["a", "b"])),
-    ),
-    (
-        "it keeps the anchor",
-        Made::Anchored(&["a", "b"]),
-        Some(Made::Anchored(&["a"])),
-    ),
-    (
-        "without arguments it is bare",
-        Made::WithArgs(&["a", "b"], 1),
-        Some(Made::Bare(&["a"])),
-    ),
+// Paths with their qualifiers.
+const QUALIFIED: [(Made<'_>, Option<Made<'_>>); 6] = [
+    // no names
+    (Made::Krate, None),
+    // one name behind an anchor
+    (Made::Anchored(&["f"]), None),
+    // an item
+    (Made::Item, None),
+    // a name less
+    (Made::Bare(&["a", "b", "c"]), Some(Made::Bare(&["a", "b"]))),
+    // it keeps the anchor
+    (Made::Anchored(&["a", "b"]), Some(Made::Anchored(&["a"]))),
+    // without arguments it is bare
+    (Made::WithArgs(&["a", "b"], 1), Some(Made::Bare(&["a"]))),
 ];
 
 #[test]
 fn a_qualifier_is_all_but_the_last_name(rt: HostRuntime) -> Result<(), Fail> {
-    for (shown, path, wanted) in &QUALIFIED {
-        assert!(&rt; is_qualified(&rt, rt.alloc(), path, wanted)?, "{shown}");
+    let alloc = rt.alloc();
+    for (path, wanted) in &QUALIFIED {
+        assert!(&rt; are_same(qualifier_of(&rt, alloc, path), make_opt(alloc, wanted))?);
     }
     Ok(())
 }
 
 // The path `a::b`, with type 3 as the argument of the name at this place. What the call asks is tested first.
 fn known(rt: &impl Abort, alloc: Global, with_args: Option<usize>) -> Result<Path, AllocError> {
-    let path = build::plain(alloc, &["a", "b"])?;
-    let lists = build::lists(alloc, 2, with_args)?;
+    let lists = build::lists(alloc, 2, with_args);
+    let (path, lists) = build::both(build::plain(alloc, &["a", "b"]), lists)?;
     assert!(rt; lists.len() == path.segments().len());
     Ok(Path::from_known_path(alloc, path, lists)?)
 }
@@ -125,58 +128,70 @@ fn of_name(alloc: Global, text: &str) -> Result<Path, AllocError> {
 #[test]
 fn paths_are_made(rt: HostRuntime) -> Result<(), Fail> {
     let alloc = rt.alloc();
-    assert!(&rt; is(alloc, known(&rt, alloc, None)?, &Made::Bare(&["a", "b"]))?);
-    assert!(&rt;
-        is(
-            alloc,
-            known(&rt, alloc, Some(0))?,
-            &Made::WithArgs(&["a", "b"], 0)
-        )?
-    );
-    assert!(&rt; is(alloc, of_name(alloc, "x")?, &Made::Bare(&["x"]))?);
+    let bare = make(alloc, &Made::Bare(&["a", "b"]));
+    let with_args = make(alloc, &Made::WithArgs(&["a", "b"], 0));
+    let answers = [
+        are_same(known(&rt, alloc, None), bare),
+        are_same(known(&rt, alloc, Some(0)), with_args),
+        are_same(of_name(alloc, "x"), make(alloc, &Made::Bare(&["x"]))),
+    ];
+    assert!(&rt; build::all(&answers)?);
     Ok(())
 }
 
 // Whether the path is made of this kind, this anchor, lists or none, and so many names of its own or none.
-fn made_of(
-    path: Path,
+fn is_made_of(
+    path: &Path,
     kind: PathKind,
     anchor: Option<TypeRefId>,
     has_lists: bool,
     names: usize,
 ) -> bool {
-    let holds = path.kind() == kind
-        && path.type_anchor() == anchor
-        && path.generic_args().is_some() == has_lists
-        && path.mod_path().is_some() == (names > 0)
-        && path.segments().len() == names;
-    drop(path);
-    holds
+    let has_names = path.mod_path().is_some() == (names > 0) && path.segments().len() == names;
+    let has_lists = path.generic_args().is_some() == has_lists;
+    has_names & has_lists && path.kind() == kind && path.type_anchor() == anchor
+}
+
+// Whether the path `a::b` without arguments, the same behind the anchor, and an item have their parts.
+fn have_their_parts(alloc: Global) -> Result<bool, AllocError> {
+    let (names, anchored) = build::both(
+        build::plain(alloc, &["a", "b"]),
+        anchored(alloc, &["a", "b"]),
+    )?;
+    let path = Path::from_known_path_with_no_generic(names);
+    let item = item();
+    let is_path = is_made_of(&path, PathKind::Plain, None, false, 2);
+    let is_anchored = is_made_of(&anchored, PathKind::Plain, Some(build::anchor()), true, 2);
+    let is_item = is_made_of(&item, PathKind::Abs, None, false, 0);
+    Ok(is_path & is_anchored & is_item)
 }
 
 #[test]
 fn paths_have_their_parts(rt: HostRuntime) -> Result<(), Fail> {
-    let names = build::plain(rt.alloc(), &["a", "b"])?;
-    let path = Path::from_known_path_with_no_generic(names);
-    assert!(rt; made_of(path, PathKind::Plain, None, false, 2));
-    let path = anchored(rt.alloc(), &["a", "b"])?;
-    assert!(rt; made_of(path, PathKind::Plain, Some(build::anchor()), true, 2));
-    assert!(rt; made_of(item(), PathKind::Abs, None, false, 0));
+    assert!(rt; have_their_parts(rt.alloc())?);
     Ok(())
 }
 
-fn is_self_type(alloc: Global, made: &Made<'_>) -> Result<bool, AllocError> {
-    let path = make(alloc, made)?;
-    let holds = path.is_self_type();
-    drop(path);
-    Ok(holds)
+// Whether the path is the self type, as is wanted.
+fn is_self_type(alloc: Global, made: &Made<'_>, wanted: bool) -> Result<bool, AllocError> {
+    match make(alloc, made) {
+        Ok(path) => {
+            let holds = path.is_self_type() == wanted;
+            drop(path);
+            Ok(holds)
+        }
+        Err(error) => Err(error),
+    }
 }
 
 #[test]
 fn self_alone_is_the_self_type(rt: HostRuntime) -> Result<(), Fail> {
     let alloc = rt.alloc();
-    assert!(rt; is_self_type(alloc, &Made::Bare(&["Self"]))?);
-    assert!(rt; !is_self_type(alloc, &Made::Bare(&["x"]))?);
-    assert!(rt; !is_self_type(alloc, &Made::Anchored(&["Self"]))?);
+    let answers = [
+        is_self_type(alloc, &Made::Bare(&["Self"]), true),
+        is_self_type(alloc, &Made::Bare(&["x"]), false),
+        is_self_type(alloc, &Made::Anchored(&["Self"]), false),
+    ];
+    assert!(rt; build::all(&answers)?);
     Ok(())
 }

@@ -38,17 +38,29 @@ fn expressions_bind_by_their_table(rt: HostRuntime) {
     assert!(rt; binds(Expr::BinaryOp { lhs, rhs, op }, ExprPrecedence::Shift));
 }
 
+// Whether it is an expression or a pattern, as is wanted, and of this number as the one alone.
+fn is_one(id: ExprOrPatId, is_expr: bool, number: u32) -> bool {
+    let as_expr = id.as_expr();
+    let as_pat = id.as_pat();
+    let is_kind = (id.is_expr() == is_expr) & (id.is_pat() != is_expr);
+    match (as_expr, as_pat) {
+        (Some(id), None) => is_kind & is_expr & (id.into_raw() == number),
+        (None, Some(id)) => is_kind & !is_expr & (id.into_raw() == number),
+        _ => false,
+    }
+}
+
 #[test]
 fn an_id_is_of_one_kind(rt: HostRuntime) {
-    let expr: ExprId = Idx::from_raw(3);
-    let pat: PatId = Idx::from_raw(3);
-    let of_expr = ExprOrPatId::from(expr);
-    let of_pat = ExprOrPatId::from(pat);
+    let of_expr = ExprOrPatId::from(ExprId::from_raw(3));
+    let of_pat = ExprOrPatId::from(PatId::from_raw(3));
+    assert!(rt; is_one(of_expr, true, 3));
+    assert!(rt; is_one(of_pat, false, 3));
     assert!(rt; of_expr != of_pat);
-    assert!(rt; of_expr.is_expr() && !of_expr.is_pat());
-    assert!(rt; of_expr.as_expr() == Some(expr) && of_expr.as_pat().is_none());
-    assert!(rt; of_pat.is_pat() && !of_pat.is_expr());
-    assert!(rt; of_pat.as_pat() == Some(pat) && of_pat.as_expr().is_none());
+}
+
+#[test]
+fn a_path_id_has_its_type(rt: HostRuntime) {
     assert!(rt; PathId::from_type_ref_unchecked(build::anchor()).type_ref() == build::anchor());
 }
 
@@ -60,21 +72,26 @@ const BINDINGS: [(bool, bool, BindingAnnotation); 4] = [
     (true, true, BindingAnnotation::RefMut),
 ];
 
-// Whether a reference or pointer is mutable, and the word before its type.
-const POINTERS: [(bool, &str, &str); 2] = [(false, "", "const "), (true, "mut ", "mut ")];
+// Whether a reference or pointer that is mutable or not has these words.
+fn has_words(is_mutable: bool, in_ref: &str, in_ptr: &str) -> bool {
+    let mutability = Mutability::from_mutable(is_mutable);
+    let has_words = mutability.as_keyword_for_ref() == in_ref
+        && mutability.as_keyword_for_ptr() == in_ptr;
+    has_words & (mutability.is_mut() == is_mutable) & (mutability.is_shared() != is_mutable)
+}
 
 #[test]
-fn bindings_references_and_pointers_have_their_words(rt: HostRuntime) {
+fn bindings_have_their_words(rt: HostRuntime) {
     for (is_mutable, is_ref, words) in &BINDINGS {
         assert!(rt; BindingAnnotation::new(*is_mutable, *is_ref) == *words);
     }
-    for (is_mutable, in_ref, in_ptr) in &POINTERS {
-        let mutability = Mutability::from_mutable(*is_mutable);
-        assert!(rt; mutability.as_keyword_for_ref() == *in_ref);
-        assert!(rt; mutability.as_keyword_for_ptr() == *in_ptr);
-        assert!(rt; mutability.is_mut() == *is_mutable && mutability.is_shared() != *is_mutable);
-    }
-    assert!(rt; Rawness::from_raw(true).is_raw() && !Rawness::from_raw(false).is_raw());
+}
+
+#[test]
+fn references_and_pointers_have_their_words(rt: HostRuntime) {
+    assert!(rt; has_words(false, "", "const "));
+    assert!(rt; has_words(true, "mut ", "mut "));
+    assert!(rt; Rawness::from_raw(true).is_raw() & !Rawness::from_raw(false).is_raw());
 }
 
 #[test]

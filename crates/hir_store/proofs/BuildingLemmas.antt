@@ -1,11 +1,11 @@
 -- The first fault of a builder: that roots are missing, or that of its nodes with its roots.
-use Rattle.std.proofs.Common.{◌≡◌, Option, Some, None, refl, inl, inr}
+use Rattle.std.proofs.Common.{Option, Some, None, refl, inl, inr}
 use Rattle.hir_forest.proofs.VerdictLemmas.{IsOne, unless-one, before-one}
 use Rattle.hir_faults.specs.declared.fault.FinishFault.{FinishFault}
 use Rattle.hir_faults.specs.declared.fault.FinishFault.TheVariants.{NoRoots}
-use Rattle.hir_faults.proofs.FaultLemmas.{rooted_fault-one}
 use Rattle.hir_accepted.specs.Contents.{rooted_of, contents_fault}
 use Rattle.hir_store.specs.Building.{Building, HasRoots, contents_of, finish_fault}
+use Rattle.hir_store.proofs.FirstFaultLemmas.{rooted_fault-one}
 
 pub no_roots : (b : Building) → (HasRoots b → ⊥) → finish_fault b (Some NoRoots)
 unfolding finish_fault

@@ -1,1 +1,2 @@
 pub mod BuildingLemmas
+pub mod FirstFaultLemmas

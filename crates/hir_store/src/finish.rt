@@ -5,6 +5,7 @@ ghost use Rattle.hir_source.specs.Additions.{finished};
 ghost use Rattle.hir_store.specs.Building.{nodes_of, building_of, contents_of, roots_or_none, HasRoots, has_exprs, kept_marks, finish_fault};
 
 use crate::builder::{ExpressionStoreBuilder, Refused};
+use crate::first_fault::first_fault_of;
 use hir_accepted::{ExpressionStore, Marks, RootList};
 use hir_faults::FinishFault;
 use hir_forest::Root;
@@ -40,7 +41,7 @@ impl ExpressionStoreBuilder {
         if !self.has_roots() {
             return Ok(Some(FinishFault::NoRoots));
         }
-        self.nodes().first_fault(self.alloc, self.listed())
+        first_fault_of(self.alloc, &self.nodes(), self.listed())
     }
 
     /// The store of the builder's nodes and roots, and its source map, where there is no fault. Else the first fault, or `Memory`

@@ -5,9 +5,12 @@
 mod builder;
 mod builder_sources;
 mod finish;
+mod first_fault;
 pub mod laws;
+mod tested;
 
 pub use builder::{ExpressionStoreBuilder, Refused};
+pub use first_fault::first_fault_of;
 pub use hir_accepted::{Blocks, ExprRoots, ExpressionStore, Missing, NodeSet, TypeBoundExt};
 pub use hir_base::SyntheticSyntax;
 pub use hir_faults::{FinishFault, NodeId};

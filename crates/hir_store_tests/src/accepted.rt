@@ -3,12 +3,12 @@ use crate::build::{MATCH, NEVER, PATH, Step, WILD};
 use crate::made;
 use crate::nodes::{self, ExprStep, PatStep, TypeStep, Written};
 use crate::say::Said;
-use hir_base::{Idx, Seq, TryClone};
+use hir_base::{ArenaFault, Idx, TryClone};
 use hir_node::{
     BindingId, Expr, ExprId, LabelId, LifetimeRef, LifetimeRefId, Pat, PatId, TypeRef, TypeRefId,
 };
 use hir_store::ExpressionStore;
-use std::alloc::{AllocError, Global};
+use std::alloc::Global;
 use std::test::Fail;
 
 /// Two reference types, each of a type of its own, with the same lifetime, which is so named twice.
@@ -46,12 +46,19 @@ const NESTED: &[Step] = &[
     NEVER,
 ];
 
+const MAY_LOOK_WRONG: &[&[Step]] = &[REFERENCES, LOOP, BINDING_TWICE, CHAIN, NESTED];
+
 #[test]
 fn what_may_look_wrong(rt: HostRuntime) -> Result<(), Fail> {
-    let a = rt.alloc();
-    for steps in &[REFERENCES, LOOP, BINDING_TWICE, CHAIN, NESTED] {
-        std::mem::drop(made::accepted(a, steps)?);
+    for steps in MAY_LOOK_WRONG {
+        std::mem::drop(made::accepted(rt.alloc(), steps)?);
     }
+    Ok(())
+}
+
+#[test]
+fn a_builder_of_nothing(rt: HostRuntime) -> Result<(), Fail> {
+    let a = rt.alloc();
     let made = made::accepted(a, &[])?;
     let is_empty = made::is_empty(&made.0, a);
     std::mem::drop(made);
@@ -60,72 +67,102 @@ fn what_may_look_wrong(rt: HostRuntime) -> Result<(), Fail> {
 }
 
 /// Whether a copy of the store equals it.
-fn equals_its_copy(store: &ExpressionStore) -> Result<bool, AllocError> {
-    let copy = store.try_clone()?;
-    let holds = copy == *store;
-    std::mem::drop(copy);
-    Ok(holds)
+fn equals_its_copy(store: &ExpressionStore) -> Result<bool, ArenaFault> {
+    match store.try_clone() {
+        Ok(copy) => {
+            let holds = copy == *store;
+            std::mem::drop(copy);
+            Ok(holds)
+        }
+        Err(_) => Err(ArenaFault::Memory),
+    }
 }
 
 /// How many expressions, patterns, bindings, types and lifetimes the store gives.
-fn counts(store: &ExpressionStore) -> (usize, usize, usize, usize, usize) {
-    (
+fn counts(store: &ExpressionStore) -> [usize; 5] {
+    [
         store.exprs().len(),
         store.pats().len(),
         store.bindings().len(),
         store.types().len(),
         store.lifetimes().len(),
-    )
+    ]
 }
 
-/// Whether the store has an expression, a pattern, a binding, a label, a type and a lifetime of this number.
-fn has_of_each(store: &ExpressionStore, number: u32) -> (bool, bool, bool, bool, bool, bool) {
-    (
-        store.has_expr(Idx::from_raw(number)),
-        store.has_pat(Idx::from_raw(number)),
-        store.has_binding(Idx::from_raw(number)),
-        store.has_label(Idx::from_raw(number)),
-        store.has_type(Idx::from_raw(number)),
-        store.has_lifetime(Idx::from_raw(number)),
-    )
+/// A number, and whether there is an expression, a pattern, a binding, a label, a type and a lifetime of this number.
+type Has = (u32, [bool; 6]);
+
+/// The first number of which the store has other nodes.
+fn first_that_differs(store: &ExpressionStore, rows: &[Has]) -> Option<u32> {
+    for (number, [expr, pat, binding, label, type_ref, lifetime]) in rows {
+        let is_body = (store.has_expr(Idx::from_raw(*number)) == *expr)
+            & (store.has_pat(Idx::from_raw(*number)) == *pat)
+            & (store.has_binding(Idx::from_raw(*number)) == *binding);
+        let is_rest = (store.has_label(Idx::from_raw(*number)) == *label)
+            & (store.has_type(Idx::from_raw(*number)) == *type_ref)
+            & (store.has_lifetime(Idx::from_raw(*number)) == *lifetime);
+        if !(is_body & is_rest) {
+            return Some(*number);
+        }
+    }
+    None
 }
 
-/// Whether it is what was wanted.
-fn equals<T: PartialEq + Drop>(found: &T, wanted: T) -> bool {
-    let holds = *found == wanted;
-    std::mem::drop(wanted);
-    holds
+/// Whether the paths that are written so may be used with the store or not, as is wanted.
+fn are_sound(
+    alloc: Global,
+    store: &ExpressionStore,
+    rows: &[(Written, bool)],
+) -> Result<bool, ArenaFault> {
+    for (written, wanted) in rows {
+        let is_sound = match nodes::path(alloc, written) {
+            Ok(path) => store.path_is_sound(&path),
+            Err(_) => return Err(ArenaFault::Memory),
+        };
+        if is_sound != *wanted {
+            return Ok(false);
+        }
+    }
+    Ok(true)
 }
 
-/// Whether the path that is written so may be used with the store.
-fn is_sound(alloc: Global, store: &ExpressionStore, written: &Written) -> Result<bool, AllocError> {
-    let path = nodes::path(alloc, written)?;
-    let is_sound = store.path_is_sound(&path);
-    std::mem::drop(path);
-    Ok(is_sound)
-}
+/// What the store of the match has: four expressions and patterns, and two bindings.
+const OF_MATCH: &[Has] = &[
+    (0, [true, true, true, false, false, false]),
+    (1, [true, true, true, false, false, false]),
+    (2, [true, true, false, false, false, false]),
+    (3, [true, true, false, false, false, false]),
+    (4, [false, false, false, false, false, false]),
+];
+
+/// Paths with the store of the match. The second names type 0, which is absent.
+const PATHS_WITH_MATCH: &[(Written, bool)] = &[
+    (Written::A, true),
+    (Written::Nested(100, true), false),
+];
 
 #[test]
 fn what_a_store_has(rt: HostRuntime) -> Result<(), Fail> {
+    let made = made::accepted(rt.alloc(), MATCH)?;
+    let counts = counts(&made.0);
+    let first_that_differs = first_that_differs(&made.0, OF_MATCH);
+    std::mem::drop(made);
+    assert!(&rt; counts == [4, 4, 2, 0, 0]);
+    assert!(&rt; first_that_differs == None);
+    Ok(())
+}
+
+#[test]
+fn what_a_store_is(rt: HostRuntime) -> Result<(), Fail> {
     let a = rt.alloc();
     let made = made::accepted(a, MATCH)?;
-    let store = &made.0;
-    let is_its_copy = equals_its_copy(store);
-    let is_empty = made::is_empty(store, a);
-    let counts = counts(store);
-    let (of_1, of_2) = (has_of_each(store, 1), has_of_each(store, 2));
-    let (of_3, of_4) = (has_of_each(store, 3), has_of_each(store, 4));
-    let of_0 = has_of_each(store, 0);
-    let plain = is_sound(a, store, &Written::A);
-    // it names type 0, which is absent
-    let nested = is_sound(a, store, &Written::Nested(100, true));
+    let is_empty = made::is_empty(&made.0, a);
+    let is_its_copy = equals_its_copy(&made.0);
+    let are_sound = are_sound(a, &made.0, PATHS_WITH_MATCH);
     std::mem::drop(made);
-    assert!(&rt; is_its_copy? && !is_empty);
-    assert!(&rt; counts == (4, 4, 2, 0, 0));
-    assert!(&rt; of_0 == (true, true, true, false, false, false) && of_1 == of_0);
-    assert!(&rt; of_2 == (true, true, false, false, false, false) && of_3 == of_2);
-    assert!(&rt; of_4 == (false, false, false, false, false, false));
-    assert!(&rt; plain? && !nested?);
+    assert!(&rt; !is_empty);
+    assert!(&rt; is_its_copy?);
+    assert!(&rt; are_sound?);
     Ok(())
 }
 
@@ -142,45 +179,50 @@ const ONE_OF_EACH: &[Step] = &[
 ];
 
 /// Whether expression 1 is `()`, pattern 0 is `_`, type 0 is `!`, lifetime 0 is `'static`, binding 0 is `x`, and label 0 is `l`.
-fn finds_nodes(store: &ExpressionStore, alloc: Global) -> bool {
+fn finds_nodes(store: &ExpressionStore) -> bool {
     let expr = ExprId::from_raw(1);
-    let exprs = Seq::new(alloc);
     let pat = PatId::from_raw(0);
     let type_ref = TypeRefId::from_raw(0);
     let lifetime = LifetimeRefId::from_raw(0);
     let binding = BindingId::from_raw(0);
     let label = LabelId::from_raw(0);
     store.has_expr(expr)
-        && equals(&store[expr], Expr::Tuple { exprs })
+        && matches!(&store[expr], Expr::Tuple { exprs } if exprs.is_empty())
         && store.has_pat(pat)
-        && equals(&store[pat], Pat::Wild)
+        && matches!(&store[pat], Pat::Wild)
         && store.has_type(type_ref)
-        && equals(&store[type_ref], TypeRef::Never)
+        && matches!(&store[type_ref], TypeRef::Never)
         && store.has_lifetime(lifetime)
-        && equals(&store[lifetime], LifetimeRef::Static)
+        && matches!(&store[lifetime], LifetimeRef::Static)
         && store.has_binding(binding)
         && store[binding].name.as_str() == "x"
         && store.has_label(label)
         && store[label].name.as_str() == "l"
 }
 
+const OF_EACH: &[Has] = &[
+    (0, [true, true, true, true, true, true]),
+    (1, [true, false, false, false, false, false]),
+    (2, [false, false, false, false, false, false]),
+];
+
+const PATHS_WITH_EACH: &[(Written, bool)] = &[
+    (Written::Nested(100, true), true),
+    (Written::Nested(0, false), false),
+    (Written::OneListForTwo, false),
+];
+
 #[test]
 fn what_is_there_of_each_kind(rt: HostRuntime) -> Result<(), Fail> {
     let a = rt.alloc();
     let made = made::accepted(a, ONE_OF_EACH)?;
-    let store = &made.0;
-    let (of_0, of_1) = (has_of_each(store, 0), has_of_each(store, 1));
-    let of_2 = has_of_each(store, 2);
-    let finds_nodes = finds_nodes(store, a);
-    let nested = is_sound(a, store, &Written::Nested(100, true));
-    let without_self = is_sound(a, store, &Written::Nested(0, false));
-    let one_list = is_sound(a, store, &Written::OneListForTwo);
+    let first_that_differs = first_that_differs(&made.0, OF_EACH);
+    let finds_nodes = finds_nodes(&made.0);
+    let are_sound = are_sound(a, &made.0, PATHS_WITH_EACH);
     std::mem::drop(made);
-    assert!(&rt; of_0 == (true, true, true, true, true, true));
-    assert!(&rt; of_1 == (true, false, false, false, false, false));
-    assert!(&rt; of_2 == (false, false, false, false, false, false));
+    assert!(&rt; first_that_differs == None);
     assert!(&rt; finds_nodes);
-    assert!(&rt; nested? && !without_self? && !one_list?);
+    assert!(&rt; are_sound?);
     Ok(())
 }
 
@@ -204,12 +246,21 @@ const STEPS: &[Step] = &[
     Step::Said(Said::Owner(0, 0)),
 ];
 
+/// Whether each of these steps makes another builder than none.
+fn each_changes(alloc: Global, steps: &[Step]) -> Result<bool, ArenaFault> {
+    for step in steps.chunks(1) {
+        match made::differ(alloc, &[], step) {
+            Ok(true) => {}
+            outcome => return outcome,
+        }
+    }
+    Ok(true)
+}
+
 #[test]
 fn builders_that_differ_in_one_step(rt: HostRuntime) -> Result<(), Fail> {
     let a = rt.alloc();
-    for step in STEPS.chunks(1) {
-        assert!(&rt; made::differ(a, &[], step)?);
-    }
+    assert!(&rt; each_changes(a, STEPS)?);
     assert!(&rt; !made::differ(a, STEPS, STEPS)?);
     Ok(())
 }

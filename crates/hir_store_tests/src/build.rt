@@ -2,11 +2,10 @@
 use crate::nodes::{ExprStep, PatStep, TypeStep, Written};
 use crate::say::Said;
 use crate::{nodes, say};
-use hir_base::{Arena, ArenaFault, Idx, Name};
-use hir_node::{Expr, ExprKind, Label, LifetimeRef};
+use hir_base::{Arena, ArenaFault, Idx};
+use hir_node::{Expr, LifetimeRef};
 use hir_store::ExpressionStoreBuilder;
 use std::alloc::{AllocError, AllocFailed, Global};
-use std::test::Fail;
 
 /// What a builder is told next. Nodes are named by their numbers.
 pub enum Step {
@@ -55,71 +54,105 @@ pub const MATCH: &[Step] = &[
 ];
 
 /// Whether the item was added: without the item, where it is handed back.
-fn added<I: Drop, T: Drop>(outcome: Result<I, (ArenaFault, T)>) -> Result<(), Fail> {
+fn added<I: Drop, T: Drop>(outcome: Result<I, (ArenaFault, T)>) -> Result<(), ArenaFault> {
     match outcome {
         Ok(_) => Ok(()),
-        Err((fault, _)) => Err(Fail::from(fault)),
+        Err((fault, _)) => Err(fault),
     }
 }
 
 /// Whether the value was taken: without the value, where it is handed back.
-pub fn taken<I: Drop, T: Drop>(outcome: Result<I, AllocFailed<T>>) -> Result<(), Fail> {
+pub fn taken<I: Drop, T: Drop>(outcome: Result<I, AllocFailed<T>>) -> Result<(), ArenaFault> {
     match outcome {
         Ok(_) => Ok(()),
-        Err(failed) => Err(Fail::from(AllocError::from(failed))),
+        Err(_) => Err(ArenaFault::Memory),
     }
 }
 
-/// The arena of so many expressions: each holds the one before where they are a chain, and the others are paths.
-fn exprs(alloc: Global, count: u32, is_chain: bool) -> Result<Arena<ExprKind, Expr>, Fail> {
-    let mut exprs = Arena::new(alloc);
-    for number in 0..count {
-        let expr = if is_chain && number > 0 {
-            let expr = Idx::from_raw(number - 1);
-            Expr::Become { expr }
-        } else {
-            Expr::Path(nodes::path(alloc, &Written::A)?)
-        };
-        added(exprs.alloc(expr))?;
+/// Puts the item, if it could be made, into the arena.
+fn put<K, T: Drop>(arena: &mut Arena<K, T>, item: Result<T, AllocError>) -> Result<(), ArenaFault> {
+    match item {
+        Ok(item) => added(arena.alloc(item)),
+        Err(_) => Err(ArenaFault::Memory),
     }
-    Ok(exprs)
 }
 
-/// Puts this arena in the place of the expressions.
+/// The expression that holds the one before this number.
+fn link(number: u32) -> Expr {
+    let expr = Idx::from_raw(number.saturating_sub(1));
+    Expr::Become { expr }
+}
+
+/// The expression of this number of a chain, or a path.
+fn chained(alloc: Global, number: u32, is_chain: bool) -> Result<Expr, AllocError> {
+    if is_chain && number > 0 {
+        Ok(link(number))
+    } else {
+        nodes::expr(alloc, &ExprStep::Path(Written::A))
+    }
+}
+
+/// Puts an arena of so many expressions in the place of the expressions: the first is a path, and the others are too, or each holds
+/// the one before.
 fn replace(
-    builder: &mut ExpressionStoreBuilder,
-    outcome: Result<Arena<ExprKind, Expr>, Fail>,
-) -> Result<(), Fail> {
-    builder.exprs = outcome?;
+    b: &mut ExpressionStoreBuilder,
+    alloc: Global,
+    count: u32,
+    is_chain: bool,
+) -> Result<(), ArenaFault> {
+    b.exprs = Arena::new(alloc);
+    for number in 0..count {
+        put(&mut b.exprs, chained(alloc, number, is_chain))?;
+    }
     Ok(())
 }
 
 /// Tells the builder what the step says.
-fn add(builder: &mut ExpressionStoreBuilder, alloc: Global, step: &Step) -> Result<(), Fail> {
+fn add(b: &mut ExpressionStoreBuilder, alloc: Global, step: &Step) -> Result<(), ArenaFault> {
     match step {
         Step::Begin => {
-            builder.begin_roots();
+            b.begin_roots();
             Ok(())
         }
-        Step::Root(node) => taken(builder.push_root(Idx::from_raw(*node))),
-        Step::Expr(step) => added(builder.alloc_expr(nodes::expr(alloc, step)?)),
-        Step::Pat(step) => added(builder.alloc_pat(nodes::pat(alloc, step)?)),
-        Step::Type(step) => added(builder.alloc_type(nodes::type_ref(alloc, step)?)),
-        Step::Binding(text) => added(builder.alloc_binding(nodes::binding(alloc, text)?)),
-        Step::Label(text) => {
-            let name = Name::new(alloc, text)?;
-            added(builder.alloc_label(Label { name }))
+        Step::Root(node) => taken(b.push_root(Idx::from_raw(*node))),
+        Step::Expr(step) => match nodes::expr(alloc, step) {
+            Ok(expr) => added(b.alloc_expr(expr)),
+            Err(_) => Err(ArenaFault::Memory),
         },
-        Step::Static => added(builder.alloc_lifetime(LifetimeRef::Static)),
-        Step::Replaced(count) => replace(builder, exprs(alloc, *count, false)),
-        Step::Chain(count) => replace(builder, exprs(alloc, *count, true)),
-        Step::Said(said) => say::say(builder, alloc, said),
+        Step::Pat(step) => match nodes::pat(alloc, step) {
+            Ok(pat) => added(b.alloc_pat(pat)),
+            Err(_) => Err(ArenaFault::Memory),
+        },
+        Step::Type(step) => match nodes::type_ref(alloc, step) {
+            Ok(type_ref) => added(b.alloc_type(type_ref)),
+            Err(_) => Err(ArenaFault::Memory),
+        },
+        Step::Binding(text) => match nodes::binding(alloc, text) {
+            Ok(binding) => added(b.alloc_binding(binding)),
+            Err(_) => Err(ArenaFault::Memory),
+        },
+        Step::Label(text) => match nodes::label(alloc, text) {
+            Ok(label) => added(b.alloc_label(label)),
+            Err(_) => Err(ArenaFault::Memory),
+        },
+        Step::Static => added(b.alloc_lifetime(LifetimeRef::Static)),
+        Step::Replaced(count) => replace(b, alloc, *count, false),
+        Step::Chain(count) => replace(b, alloc, *count, true),
+        Step::Said(said) => say::say(b, alloc, said),
+    }
+}
+
+/// The value in a box. It is said of any type, so that no large one is laid out here.
+pub fn in_a_box<T: Drop>(alloc: Global, value: T) -> Result<Box<T>, ArenaFault> {
+    match Box::new(alloc, value) {
+        Ok(value) => Ok(value),
+        Err(_) => Err(ArenaFault::Memory),
     }
 }
 
 /// The builder that these steps make, in a box: what is dropped is then a pointer.
-pub fn built(alloc: Global, steps: &[Step]) -> Result<Box<ExpressionStoreBuilder>, Fail> {
-    let mut builder = Box::new(alloc, ExpressionStoreBuilder::new(alloc))?;
+pub fn built(alloc: Global, steps: &[Step]) -> Result<Box<ExpressionStoreBuilder>, ArenaFault> {
+    let mut builder = in_a_box(alloc, ExpressionStoreBuilder::new(alloc))?;
     for step in steps {
         add(&mut builder, alloc, step)?;
     }

@@ -1,10 +1,10 @@
 //! Accepted stores, refused builders and builders that are compared, each made of steps and held in a box: what is dropped is then a
 //! pointer.
 use crate::build::{self, Step};
-use hir_store::{
-    ExpressionStore, ExpressionStoreBuilder, ExpressionStoreSourceMap, FinishFault, Refused,
-};
-use std::alloc::{AllocError, Global};
+use hir_base::ArenaFault;
+use hir_store::{ExpressionStore, ExpressionStoreSourceMap, FinishFault, Refused};
+use std::alloc::Global;
+use std::fmt::Debug;
 use std::test::Fail;
 
 /// An accepted store with its source map.
@@ -14,31 +14,35 @@ pub type Made = Box<(ExpressionStore, ExpressionStoreSourceMap)>;
 fn in_boxes<T: Drop, E: Drop>(
     alloc: Global,
     outcome: Result<T, E>,
-) -> Result<Result<Box<T>, Box<E>>, AllocError> {
+) -> Result<Result<Box<T>, Box<E>>, ArenaFault> {
     match outcome {
-        Ok(value) => Ok(Ok(Box::new(alloc, value)?)),
-        Err(error) => Ok(Err(Box::new(alloc, error)?)),
+        Ok(value) => Ok(Ok(build::in_a_box(alloc, value)?)),
+        Err(error) => Ok(Err(build::in_a_box(alloc, error)?)),
     }
 }
 
-/// What the builder makes, or its refusal.
-fn finished(
-    alloc: Global,
-    builder: Box<ExpressionStoreBuilder>,
-) -> Result<Result<Made, Box<Refused>>, AllocError> {
-    in_boxes(alloc, Box::into_inner(builder).finish())
+/// What the builder of these steps makes, or its refusal.
+fn finished(alloc: Global, steps: &[Step]) -> Result<Result<Made, Box<Refused>>, ArenaFault> {
+    match build::built(alloc, steps) {
+        Ok(builder) => in_boxes(alloc, Box::into_inner(builder).finish()),
+        Err(fault) => Err(fault),
+    }
 }
 
-/// What an outcome has, in a box. It is said of any type, so that no large one is laid out here.
-fn in_a_box<T: Drop>(alloc: Global, outcome: Result<T, Fail>) -> Result<Box<T>, Fail> {
-    Ok(Box::new(alloc, outcome?)?)
+/// What was made, or the refusal as a failed test. It is said of any type, so that no large one is laid out here.
+fn opened<T: Drop, E: Debug + Drop>(
+    outcome: Result<Result<Box<T>, Box<E>>, ArenaFault>,
+) -> Result<Box<T>, Fail> {
+    match outcome {
+        Ok(Ok(value)) => Ok(value),
+        Ok(Err(error)) => Err(Fail::from(Box::into_inner(error))),
+        Err(fault) => Err(Fail::from(fault)),
+    }
 }
 
 /// What the builder of these steps makes.
 pub fn accepted(alloc: Global, steps: &[Step]) -> Result<Made, Fail> {
-    let builder = build::built(alloc, steps)?;
-    let outcome = Box::into_inner(builder).finish().map_err(Fail::from);
-    in_a_box(alloc, outcome)
+    opened(finished(alloc, steps))
 }
 
 /// Whether it is the empty store.
@@ -46,19 +50,29 @@ pub fn is_empty(store: &ExpressionStore, alloc: Global) -> bool {
     *store == ExpressionStore::empty(alloc)
 }
 
+/// Both, if they could be made.
+fn both<T: Drop, U: Drop>(
+    first: Result<T, ArenaFault>,
+    second: Result<U, ArenaFault>,
+) -> Result<(T, U), ArenaFault> {
+    Ok((first?, second?))
+}
+
 /// Whether the builder of these steps is refused by this fault, and comes back as it was: as another one of the same steps.
-pub fn is_refused(alloc: Global, steps: &[Step], fault: FinishFault) -> Result<bool, Fail> {
-    let wanted = build::built(alloc, steps)?;
-    let builder = build::built(alloc, steps)?;
-    match finished(alloc, builder)? {
-        Ok(_) => Ok(false),
-        Err(refused) => Ok(refused.fault == fault && refused.builder == *wanted),
+pub fn is_refused(alloc: Global, steps: &[Step], fault: FinishFault) -> Result<bool, ArenaFault> {
+    match both(build::built(alloc, steps), finished(alloc, steps)) {
+        Ok((wanted, outcome)) => match outcome {
+            Ok(_) => Ok(false),
+            Err(refused) => Ok((refused.fault == fault) & (refused.builder == *wanted)),
+        },
+        Err(fault) => Err(fault),
     }
 }
 
 /// Whether the builders of these steps and of those differ.
-pub fn differ(alloc: Global, first: &[Step], second: &[Step]) -> Result<bool, Fail> {
-    let first = build::built(alloc, first)?;
-    let second = build::built(alloc, second)?;
-    Ok(*first != *second)
+pub fn differ(alloc: Global, first: &[Step], second: &[Step]) -> Result<bool, ArenaFault> {
+    match both(build::built(alloc, first), build::built(alloc, second)) {
+        Ok((first, second)) => Ok(*first != *second),
+        Err(fault) => Err(fault),
+    }
 }

@@ -3,7 +3,7 @@
 use hir_base::{ExternAbi, HygieneId, Idx, ModPath, Name, PathKind, RangeOp, Seq};
 use hir_node::{
     AssociatedTypeBinding, Binding, BindingAnnotation, Boxed, Expr, FnType, GenericArg,
-    GenericArgs, GenericArgsParentheses, LifetimeRefId, LoopSource, MatchArm, Mutability,
+    GenericArgs, GenericArgsParentheses, Label, LifetimeRefId, LoopSource, MatchArm, Mutability,
     NormalPath, Pat, Path, PathId, RefType, TraitBoundModifier, TypeBound, TypeRef,
 };
 use std::alloc::{AllocError, Global};
@@ -72,70 +72,126 @@ fn ids<K>(alloc: Global, numbers: &[u32]) -> Result<Seq<Idx<K>>, AllocError> {
     Ok(list)
 }
 
+/// The list with the item behind it, if both could be made.
+fn with<T: Drop>(
+    list: Result<Seq<T>, AllocError>,
+    item: Result<T, AllocError>,
+) -> Result<Seq<T>, AllocError> {
+    let mut list = list?;
+    list.push(item?)?;
+    Ok(list)
+}
+
+/// Both, if they could be made.
+fn both<T: Drop, U: Drop>(
+    first: Result<T, AllocError>,
+    second: Result<U, AllocError>,
+) -> Result<(T, U), AllocError> {
+    Ok((first?, second?))
+}
+
+/// The value in a box, if it could be made.
+fn boxed<T: Drop>(alloc: Global, value: Result<T, AllocError>) -> Result<Boxed<T>, AllocError> {
+    Ok(Boxed::new(alloc, value?)?)
+}
+
 /// The plain path of these names.
 fn plain(alloc: Global, texts: &[&str]) -> Result<ModPath, AllocError> {
-    let mut names = Seq::new(alloc);
+    let mut names = Ok(Seq::new(alloc));
     for text in texts {
-        let name = Name::new(alloc, text)?;
-        names.push(name)?;
+        names = with(names, Name::new(alloc, text));
     }
-    Ok(ModPath::from_segments(PathKind::Plain, names))
+    match names {
+        Ok(names) => Ok(ModPath::from_segments(PathKind::Plain, names)),
+        Err(error) => Err(error),
+    }
 }
 
 /// The path of these names that has this list alone.
-fn path_with(alloc: Global, names: &[&str], list: Option<GenericArgs>) -> Result<Path, AllocError> {
-    let mod_path = plain(alloc, names)?;
-    let mut generic_args = Seq::new(alloc);
-    generic_args.push(list)?;
-    let path = NormalPath {
-        generic_args,
-        type_anchor: None,
-        mod_path,
+fn path_with(
+    alloc: Global,
+    names: &[&str],
+    list: Result<Option<GenericArgs>, AllocError>,
+) -> Result<Path, AllocError> {
+    let path = match both(plain(alloc, names), with(Ok(Seq::new(alloc)), list)) {
+        Ok((mod_path, generic_args)) => Ok(NormalPath {
+            generic_args,
+            type_anchor: None,
+            mod_path,
+        }),
+        Err(error) => Err(error),
     };
-    Ok(Path::Normal(Boxed::new(alloc, path)?))
+    boxed(alloc, path).map(Path::Normal)
+}
+
+/// The binding `B` with these arguments.
+fn binding_with(
+    alloc: Global,
+    args: Result<GenericArgs, AllocError>,
+) -> Result<AssociatedTypeBinding, AllocError> {
+    match both(Name::new(alloc, "B"), args) {
+        Ok((name, args)) => Ok(AssociatedTypeBinding {
+            name,
+            args: Some(args),
+            type_ref: None,
+            bounds: Seq::new(alloc),
+        }),
+        Err(error) => Err(error),
+    }
 }
 
 /// Arguments with one binding, which has these arguments.
-fn nested_once(alloc: Global, inner: GenericArgs) -> Result<GenericArgs, AllocError> {
-    let binding = AssociatedTypeBinding {
-        name: Name::new(alloc, "B")?,
-        args: Some(inner),
-        type_ref: None,
-        bounds: Seq::new(alloc),
-    };
-    let mut bindings = Seq::new(alloc);
-    bindings.push(binding)?;
+fn nested_once(
+    alloc: Global,
+    inner: Result<GenericArgs, AllocError>,
+) -> Result<GenericArgs, AllocError> {
+    match with(Ok(Seq::new(alloc)), binding_with(alloc, inner)) {
+        Ok(bindings) => Ok(GenericArgs {
+            args: Seq::new(alloc),
+            has_self_type: false,
+            bindings,
+            parenthesized: GenericArgsParentheses::No,
+        }),
+        Err(error) => Err(error),
+    }
+}
+
+/// Arguments that are said to begin with a self type, which is type 0 or lacks.
+fn innermost(alloc: Global, has_self: bool) -> Result<GenericArgs, AllocError> {
+    let mut args = Seq::new(alloc);
+    if has_self {
+        args.push(GenericArg::Ty(Idx::from_raw(0)))?;
+    }
     Ok(GenericArgs {
-        args: Seq::new(alloc),
-        has_self_type: false,
-        bindings,
+        args,
+        has_self_type: true,
+        bindings: Seq::new(alloc),
         parenthesized: GenericArgsParentheses::No,
     })
 }
 
 /// The path `a` with bindings nested so deep, and innermost its self type or none.
 fn nested(alloc: Global, depth: u32, has_self: bool) -> Result<Path, AllocError> {
-    let mut args = Seq::new(alloc);
-    if has_self {
-        args.push(GenericArg::Ty(Idx::from_raw(0)))?;
-    }
-    let mut inner = GenericArgs {
-        args,
-        has_self_type: true,
-        bindings: Seq::new(alloc),
-        parenthesized: GenericArgsParentheses::No,
-    };
+    let mut inner = innermost(alloc, has_self);
     for _ in 0..depth {
-        inner = nested_once(alloc, inner)?;
+        inner = nested_once(alloc, inner);
     }
-    path_with(alloc, &["a"], Some(inner))
+    path_with(alloc, &["a"], inner.map(Some))
+}
+
+/// The path `a`.
+fn bare(alloc: Global) -> Result<Path, AllocError> {
+    match plain(alloc, &["a"]) {
+        Ok(path) => Ok(Path::BarePath(path)),
+        Err(error) => Err(error),
+    }
 }
 
 /// The path that is written so.
 pub fn path(alloc: Global, written: &Written) -> Result<Path, AllocError> {
     match *written {
-        Written::A => Ok(Path::BarePath(plain(alloc, &["a"])?)),
-        Written::OneListForTwo => path_with(alloc, &["a", "b"], None),
+        Written::A => bare(alloc),
+        Written::OneListForTwo => path_with(alloc, &["a", "b"], Ok(None)),
         Written::Nested(depth, has_self) => nested(alloc, depth, has_self),
     }
 }
@@ -154,98 +210,138 @@ fn arms(alloc: Global, listed: &[(u32, u32)]) -> Result<Seq<MatchArm>, AllocErro
     Ok(list)
 }
 
+/// The tuple of these expressions.
+fn tuple(alloc: Global, numbers: &[u32]) -> Result<Expr, AllocError> {
+    match ids(alloc, numbers) {
+        Ok(exprs) => Ok(Expr::Tuple { exprs }),
+        Err(error) => Err(error),
+    }
+}
+
+/// `match` of this expression, with arms of a pattern and a body.
+fn matched(alloc: Global, expr: u32, listed: &[(u32, u32)]) -> Result<Expr, AllocError> {
+    match arms(alloc, listed) {
+        Ok(arms) => Ok(Expr::Match {
+            expr: Idx::from_raw(expr),
+            arms,
+        }),
+        Err(error) => Err(error),
+    }
+}
+
 /// The expression of this step.
 pub fn expr(alloc: Global, step: &ExprStep) -> Result<Expr, AllocError> {
-    match step {
-        ExprStep::Path(written) => Ok(Expr::Path(path(alloc, written)?)),
-        ExprStep::Tuple(exprs) => Ok(Expr::Tuple {
-            exprs: ids(alloc, exprs)?,
-        }),
+    match *step {
+        ExprStep::Path(ref written) => path(alloc, written).map(Expr::Path),
+        ExprStep::Tuple(exprs) => tuple(alloc, exprs),
         ExprStep::Let(pat, expr) => Ok(Expr::Let {
-            pat: Idx::from_raw(*pat),
-            expr: Idx::from_raw(*expr),
+            pat: Idx::from_raw(pat),
+            expr: Idx::from_raw(expr),
         }),
-        ExprStep::Match(expr, listed) => Ok(Expr::Match {
-            expr: Idx::from_raw(*expr),
-            arms: arms(alloc, listed)?,
-        }),
+        ExprStep::Match(expr, listed) => matched(alloc, expr, listed),
         ExprStep::Break(label) => Ok(Expr::Break {
             expr: None,
-            label: Some(Idx::from_raw(*label)),
+            label: Some(Idx::from_raw(label)),
         }),
         ExprStep::Loop(body, label) => Ok(Expr::Loop {
-            body: Idx::from_raw(*body),
-            label: Some(Idx::from_raw(*label)),
+            body: Idx::from_raw(body),
+            label: Some(Idx::from_raw(label)),
             source: LoopSource::Loop,
         }),
     }
 }
 
+/// `a(pattern)`
+fn around(alloc: Global, inner: u32) -> Result<Pat, AllocError> {
+    match both(bare(alloc), ids(alloc, &[inner])) {
+        Ok((path, args)) => Ok(Pat::TupleStruct {
+            path,
+            args,
+            ellipsis: None,
+        }),
+        Err(error) => Err(error),
+    }
+}
+
 /// The pattern of this step.
 pub fn pat(alloc: Global, step: &PatStep) -> Result<Pat, AllocError> {
-    match step {
+    match *step {
         PatStep::Wild => Ok(Pat::Wild),
         PatStep::Bind(id) => Ok(Pat::Bind {
-            id: Idx::from_raw(*id),
+            id: Idx::from_raw(id),
             subpat: None,
         }),
         PatStep::At(id, inner) => Ok(Pat::Bind {
-            id: Idx::from_raw(*id),
-            subpat: Some(Idx::from_raw(*inner)),
+            id: Idx::from_raw(id),
+            subpat: Some(Idx::from_raw(inner)),
         }),
-        // The list first: where the path can't be had, what is dropped isn't a path.
-        PatStep::Around(inner) => Ok(Pat::TupleStruct {
-            args: ids(alloc, &[*inner])?,
-            path: path(alloc, &Written::A)?,
-            ellipsis: None,
-        }),
+        PatStep::Around(inner) => around(alloc, inner),
         PatStep::RangeFrom(start) => Ok(Pat::Range {
-            start: Some(Idx::from_raw(*start)),
+            start: Some(Idx::from_raw(start)),
             end: None,
             range_type: RangeOp::Inclusive,
         }),
     }
 }
 
+/// A reference to this type, with lifetime 0.
+fn reference(alloc: Global, ty: u32) -> Result<TypeRef, AllocError> {
+    let reference = RefType {
+        ty: Idx::from_raw(ty),
+        lifetime: Some(LifetimeRefId::from_raw(0)),
+        mutability: Mutability::Shared,
+    };
+    boxed(alloc, Ok(reference)).map(TypeRef::Reference)
+}
+
+/// `impl` of the bound by this type.
+fn bounded(alloc: Global, ty: u32) -> Result<TypeRef, AllocError> {
+    let id = PathId::from_type_ref_unchecked(Idx::from_raw(ty));
+    let bound = TypeBound::Path(id, TraitBoundModifier::None);
+    with(Ok(Seq::new(alloc)), Ok(bound)).map(TypeRef::ImplTrait)
+}
+
+/// A function type without types.
+fn no_types(alloc: Global) -> Result<TypeRef, AllocError> {
+    let function = FnType {
+        binder: None,
+        params: Seq::new(alloc),
+        is_varargs: false,
+        is_unsafe: false,
+        abi: ExternAbi::Rust,
+    };
+    boxed(alloc, Ok(function)).map(TypeRef::Fn)
+}
+
 /// The type of this step.
 pub fn type_ref(alloc: Global, step: &TypeStep) -> Result<TypeRef, AllocError> {
     match *step {
         TypeStep::Never => Ok(TypeRef::Never),
-        TypeStep::Path => Ok(TypeRef::Path(path(alloc, &Written::A)?)),
-        TypeStep::Tuple(types) => Ok(TypeRef::Tuple(ids(alloc, types)?)),
-        TypeStep::Reference(ty) => {
-            let reference = RefType {
-                ty: Idx::from_raw(ty),
-                lifetime: Some(LifetimeRefId::from_raw(0)),
-                mutability: Mutability::Shared,
-            };
-            Ok(TypeRef::Reference(Boxed::new(alloc, reference)?))
-        }
-        TypeStep::Bounded(ty) => {
-            let id = PathId::from_type_ref_unchecked(Idx::from_raw(ty));
-            let mut bounds = Seq::new(alloc);
-            bounds.push(TypeBound::Path(id, TraitBoundModifier::None))?;
-            Ok(TypeRef::ImplTrait(bounds))
-        }
-        TypeStep::NoTypes => {
-            let function = FnType {
-                binder: None,
-                params: Seq::new(alloc),
-                is_varargs: false,
-                is_unsafe: false,
-                abi: ExternAbi::Rust,
-            };
-            Ok(TypeRef::Fn(Boxed::new(alloc, function)?))
-        }
+        TypeStep::Path => bare(alloc).map(TypeRef::Path),
+        TypeStep::Tuple(types) => ids(alloc, types).map(TypeRef::Tuple),
+        TypeStep::Reference(ty) => reference(alloc, ty),
+        TypeStep::Bounded(ty) => bounded(alloc, ty),
+        TypeStep::NoTypes => no_types(alloc),
     }
 }
 
 /// A binding of this name.
 pub fn binding(alloc: Global, text: &str) -> Result<Binding, AllocError> {
-    Ok(Binding {
-        name: Name::new(alloc, text)?,
-        mode: BindingAnnotation::Unannotated,
-        problems: None,
-        hygiene: HygieneId::ROOT,
-    })
+    match Name::new(alloc, text) {
+        Ok(name) => Ok(Binding {
+            name,
+            mode: BindingAnnotation::Unannotated,
+            problems: None,
+            hygiene: HygieneId::ROOT,
+        }),
+        Err(error) => Err(error),
+    }
+}
+
+/// A label of this name.
+pub fn label(alloc: Global, text: &str) -> Result<Label, AllocError> {
+    match Name::new(alloc, text) {
+        Ok(name) => Ok(Label { name }),
+        Err(error) => Err(error),
+    }
 }

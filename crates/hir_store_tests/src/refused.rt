@@ -71,32 +71,64 @@ const ENDS_THAT_FALL: &[Step] = &[
     PATH,
 ];
 
+/// A fault that a refusal may name, of expression 0 or a type of this number, or of the root at this place of the list.
+enum Fault {
+    NoRoots,
+    IdOutOfRange,
+    NotAPath(u32),
+    NoReturnType(u32),
+    NoSelfArgument,
+    ArgumentLists,
+    SharedChild,
+    Cycle,
+    RootRepeated(usize),
+    RootUnderRoot(usize),
+    RootEnds(usize),
+    RootOutOfRange(usize),
+}
+
+/// The fault as `finish` answers it.
+fn as_answered(fault: &Fault) -> FinishFault {
+    let expr = NodeId::Expr(Idx::from_raw(0));
+    match *fault {
+        Fault::NoRoots => FinishFault::NoRoots,
+        Fault::IdOutOfRange => FinishFault::IdOutOfRange(expr),
+        Fault::NotAPath(number) => FinishFault::NotAPath(NodeId::TypeRef(Idx::from_raw(number))),
+        Fault::NoReturnType(number) => FinishFault::NoReturnType(NodeId::TypeRef(Idx::from_raw(
+            number,
+        ))),
+        Fault::NoSelfArgument => FinishFault::NoSelfArgument(expr),
+        Fault::ArgumentLists => FinishFault::ArgumentLists(expr),
+        Fault::SharedChild => FinishFault::SharedChild(expr),
+        Fault::Cycle => FinishFault::Cycle(expr),
+        Fault::RootRepeated(place) => FinishFault::RootRepeated(place),
+        Fault::RootUnderRoot(place) => FinishFault::RootUnderRoot(place),
+        Fault::RootEnds(place) => FinishFault::RootEnds(place),
+        Fault::RootOutOfRange(place) => FinishFault::RootOutOfRange(place),
+    }
+}
+
+const REFUSED: &[(&[Step], Fault)] = &[
+    (NO_ROOTS, Fault::NoRoots),
+    (OUT_OF_RANGE, Fault::IdOutOfRange),
+    (BOUND_ON_NEVER, Fault::NotAPath(1)),
+    (NO_RETURN_TYPE, Fault::NoReturnType(0)),
+    (NO_SELF_ARGUMENT, Fault::NoSelfArgument),
+    (NO_SELF_ARGUMENT_DEEP_DOWN, Fault::NoSelfArgument),
+    (ONE_LIST_FOR_TWO, Fault::ArgumentLists),
+    (HELD_TWICE, Fault::SharedChild),
+    (HOLDS_ITSELF, Fault::Cycle),
+    (ROOT_TWICE, Fault::RootRepeated(1)),
+    (ROOT_UNDER_ROOT, Fault::RootUnderRoot(0)),
+    (ENDS_PAST_THE_ARENA, Fault::RootEnds(0)),
+    (ROOT_PAST_THE_ARENA, Fault::RootOutOfRange(0)),
+    (ENDS_THAT_FALL, Fault::RootEnds(1)),
+];
+
 #[test]
 fn each_fault(rt: HostRuntime) -> Result<(), Fail> {
-    let a = rt.alloc();
-    let first = NodeId::Expr(Idx::from_raw(0));
-    let type_0 = NodeId::TypeRef(Idx::from_raw(0));
-    let type_1 = NodeId::TypeRef(Idx::from_raw(1));
-    for (steps, fault) in &[
-        (NO_ROOTS, FinishFault::NoRoots),
-        (OUT_OF_RANGE, FinishFault::IdOutOfRange(first)),
-        (BOUND_ON_NEVER, FinishFault::NotAPath(type_1)),
-        (NO_RETURN_TYPE, FinishFault::NoReturnType(type_0)),
-        (NO_SELF_ARGUMENT, FinishFault::NoSelfArgument(first)),
-        (
-            NO_SELF_ARGUMENT_DEEP_DOWN,
-            FinishFault::NoSelfArgument(first),
-        ),
-        (ONE_LIST_FOR_TWO, FinishFault::ArgumentLists(first)),
-        (HELD_TWICE, FinishFault::SharedChild(first)),
-        (HOLDS_ITSELF, FinishFault::Cycle(first)),
-        (ROOT_TWICE, FinishFault::RootRepeated(1)),
-        (ROOT_UNDER_ROOT, FinishFault::RootUnderRoot(0)),
-        (ENDS_PAST_THE_ARENA, FinishFault::RootEnds(0)),
-        (ROOT_PAST_THE_ARENA, FinishFault::RootOutOfRange(0)),
-        (ENDS_THAT_FALL, FinishFault::RootEnds(1)),
-    ] {
-        assert!(&rt; made::is_refused(a, steps, *fault)?);
+    for (steps, fault) in REFUSED {
+        assert!(&rt; made::is_refused(rt.alloc(), steps, as_answered(fault))?);
     }
     Ok(())
 }

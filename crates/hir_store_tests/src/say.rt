@@ -2,13 +2,12 @@
 //! A source is named by its place in file 0, and nodes by their numbers.
 use crate::build::taken;
 use hir_base::{
-    AstPtr, BlockId, HirFileId, HygieneId, Idx, InFile, MacroCallId, Name, SyntaxContext,
-    SyntaxNodePtr, TextRange,
+    ArenaFault, AstPtr, BlockId, HirFileId, HygieneId, Idx, InFile, MacroCallId, Name,
+    SyntaxContext, SyntaxNodePtr, TextRange,
 };
 use hir_node::ExprOrPatId;
 use hir_store::{ExpressionStoreBuilder, ExpressionStoreDiagnostics, MissingBodyItemKind};
 use std::alloc::{AllocError, Global};
-use std::test::Fail;
 
 /// One thing that a builder is told besides its nodes.
 pub enum Said {
@@ -48,7 +47,7 @@ pub enum Said {
 }
 
 /// The node of one byte at this place of file 0.
-fn node(place: u8) -> InFile<SyntaxNodePtr> {
+pub fn node(place: u8) -> InFile<SyntaxNodePtr> {
     let start = place as u32;
     let range = TextRange {
         start,
@@ -85,7 +84,7 @@ pub fn expanded(expansion: u32) -> HygieneId {
 }
 
 /// The diagnostic of a static without a value, at this place.
-pub fn missing_body(place: u8) -> ExpressionStoreDiagnostics {
+fn missing_body(place: u8) -> ExpressionStoreDiagnostics {
     ExpressionStoreDiagnostics::MissingBody {
         node: node(place),
         kind: MissingBodyItemKind::Static,
@@ -100,40 +99,41 @@ fn undeclared_label(alloc: Global, place: u8) -> Result<ExpressionStoreDiagnosti
     })
 }
 
+/// The id of this number.
+fn id<K>(number: u32) -> Idx<K> {
+    Idx::from_raw(number)
+}
+
+/// The macro call of this number.
+fn call(number: u32) -> MacroCallId {
+    MacroCallId::from_raw(number)
+}
+
 /// Tells the builder this.
-pub fn say(b: &mut ExpressionStoreBuilder, alloc: Global, said: &Said) -> Result<(), Fail> {
+pub fn say(b: &mut ExpressionStoreBuilder, alloc: Global, said: &Said) -> Result<(), ArenaFault> {
     match *said {
-        Said::BecameExpr(place, id) => taken(b.map_expr(source(place), expr(id))),
-        Said::BecamePat(place, id) => taken(b.map_pat(source(place), pat(id))),
-        Said::BecameLabel(place, id) => taken(b.map_label(source(place), Idx::from_raw(id))),
-        Said::BecameType(place, id) => taken(b.map_type(source(place), Idx::from_raw(id))),
-        Said::BecameLifetime(place, id) => taken(b.map_lifetime(source(place), Idx::from_raw(id))),
-        Said::ExprFrom(id, place) => taken(b.map_expr_back(Idx::from_raw(id), source(place))),
-        Said::PatFrom(id, place) => taken(b.map_pat_back(Idx::from_raw(id), source(place))),
-        Said::LabelFrom(id, place) => taken(b.map_label_back(Idx::from_raw(id), source(place))),
-        Said::TypeFrom(id, place) => taken(b.map_type_back(Idx::from_raw(id), source(place))),
-        Said::LifetimeFrom(id, place) => taken(b.map_lifetime_back(
-            Idx::from_raw(id),
-            source(place),
-        )),
-        Said::FieldFrom(id, place) => taken(b.map_field_back(Idx::from_raw(id), source(place))),
-        Said::PatFieldFrom(id, place) => taken(b.map_pat_field_back(
-            Idx::from_raw(id),
-            source(place),
-        )),
-        Said::Expansion(place, id) => taken(b.add_expansion(
-            source(place),
-            MacroCallId::from_raw(id),
-        )),
-        Said::Definition(id, by) => taken(b.add_definition(Idx::from_raw(id), Idx::from_raw(by))),
+        Said::BecameExpr(place, to) => taken(b.map_expr(source(place), expr(to))),
+        Said::BecamePat(place, to) => taken(b.map_pat(source(place), pat(to))),
+        Said::BecameLabel(place, to) => taken(b.map_label(source(place), id(to))),
+        Said::BecameType(place, to) => taken(b.map_type(source(place), id(to))),
+        Said::BecameLifetime(place, to) => taken(b.map_lifetime(source(place), id(to))),
+        Said::ExprFrom(of, place) => taken(b.map_expr_back(id(of), source(place))),
+        Said::PatFrom(of, place) => taken(b.map_pat_back(id(of), source(place))),
+        Said::LabelFrom(of, place) => taken(b.map_label_back(id(of), source(place))),
+        Said::TypeFrom(of, place) => taken(b.map_type_back(id(of), source(place))),
+        Said::LifetimeFrom(of, place) => taken(b.map_lifetime_back(id(of), source(place))),
+        Said::FieldFrom(of, place) => taken(b.map_field_back(id(of), source(place))),
+        Said::PatFieldFrom(of, place) => taken(b.map_pat_field_back(id(of), source(place))),
+        Said::Expansion(place, to) => taken(b.add_expansion(source(place), call(to))),
+        Said::Definition(of, by) => taken(b.add_definition(id(of), id(by))),
         Said::MissingBody(place) => taken(b.push_diagnostic(missing_body(place))),
-        Said::UndeclaredLabel(place) => taken(b.push_diagnostic(undeclared_label(alloc, place)?)),
-        Said::ExprHygiene(id, expansion) => taken(b.set_hygiene(expr(id), expanded(expansion))),
-        Said::PatHygiene(id, expansion) => taken(b.set_hygiene(pat(id), expanded(expansion))),
+        Said::UndeclaredLabel(place) => match undeclared_label(alloc, place) {
+            Ok(diagnostic) => taken(b.push_diagnostic(diagnostic)),
+            Err(_) => Err(ArenaFault::Memory),
+        },
+        Said::ExprHygiene(of, expansion) => taken(b.set_hygiene(expr(of), expanded(expansion))),
+        Said::PatHygiene(of, expansion) => taken(b.set_hygiene(pat(of), expanded(expansion))),
         Said::Block(block) => taken(b.add_block_scope(BlockId::from_raw(block))),
-        Said::Owner(id, by) => taken(
-            b.binding_owners
-                .insert(Idx::from_raw(id), Idx::from_raw(by)),
-        ),
+        Said::Owner(of, by) => taken(b.binding_owners.insert(id(of), id(by))),
     }
 }

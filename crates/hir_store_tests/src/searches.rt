@@ -4,7 +4,7 @@ use crate::made;
 use crate::nodes::ExprStep;
 use hir_base::Idx;
 use hir_node::{BindingId, ExprId, PatId};
-use hir_store::ExpressionStore;
+use hir_store::{ExprRoots, ExpressionStore};
 use std::test::Fail;
 
 /// Two roots, 2 and 4, with two patterns and a binding made between them, and an expression behind.
@@ -45,23 +45,44 @@ fn roots_for(store: &ExpressionStore, number: u32) -> (Option<u32>, Option<u32>,
     (for_expr, for_pat, for_binding)
 }
 
+/// A number, and the roots of the expression, the pattern and the binding of this number.
+type Roots = (u32, Option<u32>, Option<u32>, Option<u32>);
+
+const ROOTS: &[Roots] = &[
+    (0, Some(2), Some(4), Some(4)),
+    (1, Some(2), Some(4), None),
+    (2, Some(2), None, None),
+    (3, Some(4), None, None),
+    (5, None, None, None),
+];
+
+/// The first number whose nodes have other roots.
+fn first_that_differs(store: &ExpressionStore) -> Option<u32> {
+    for (number, of_expr, of_pat, of_binding) in ROOTS {
+        let (expr, pat, binding) = roots_for(store, *number);
+        if !((expr == *of_expr) & (pat == *of_pat) & (binding == *of_binding)) {
+            return Some(*number);
+        }
+    }
+    None
+}
+
+/// Whether the roots are 4 from the end, and then 2 from the front alone.
+fn are_4_and_2(mut roots: ExprRoots<'_>) -> bool {
+    let last = roots.next_back();
+    let first = roots.next();
+    let is_last = last == Some(Idx::from_raw(4));
+    let is_first = first == Some(Idx::from_raw(2));
+    is_last & is_first & roots.next().is_none()
+}
+
 #[test]
 fn roots_that_nodes_were_made_for(rt: HostRuntime) -> Result<(), Fail> {
     let made = made::accepted(rt.alloc(), TWO_ROOTS)?;
-    let store = &made.0;
-    let of_0 = roots_for(store, 0);
-    let of_1 = roots_for(store, 1);
-    let of_2 = roots_for(store, 2);
-    let of_3 = roots_for(store, 3);
-    let of_5 = roots_for(store, 5);
-    let mut roots = store.expr_roots();
-    let from_both_ends = [roots.next_back(), roots.next(), roots.next()];
+    let first_that_differs = first_that_differs(&made.0);
+    let are_4_and_2 = are_4_and_2(made.0.expr_roots());
     std::mem::drop(made);
-    assert!(&rt; of_0 == (Some(2), Some(4), Some(4)));
-    assert!(&rt; of_1 == (Some(2), Some(4), None));
-    assert!(&rt; of_2 == (Some(2), None, None));
-    assert!(&rt; of_3 == (Some(4), None, None));
-    assert!(&rt; of_5 == (None, None, None));
-    assert!(&rt; from_both_ends == [Some(Idx::from_raw(4)), Some(Idx::from_raw(2)), None]);
+    assert!(&rt; first_that_differs == None);
+    assert!(&rt; are_4_and_2);
     Ok(())
 }

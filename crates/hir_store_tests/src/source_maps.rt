@@ -2,7 +2,7 @@
 use crate::build::{PATH, Step};
 use crate::made;
 use crate::say::{self, Said};
-use hir_base::{ExprOrPatSource, FieldSource, Idx, LabelSource, PatFieldSource, TypeSource};
+use hir_base::{AstPtr, FieldSource, Idx, InFile, LabelSource, PatFieldSource};
 use hir_node::{ExprId, ExprOrPatId, LabelId, PatId, TypeRefId};
 use hir_store::ExpressionStoreSourceMap;
 use std::alloc::Global;
@@ -26,44 +26,47 @@ const TOLD: &[Step] = &[
     Step::Said(Said::PatFieldFrom(4, 7)),
 ];
 
-/// What the expression, the pattern, the label, the type and the macro call in the place of an expression became.
-type Nodes = (
-    Option<ExprOrPatId>,
-    Option<ExprOrPatId>,
-    Option<LabelId>,
-    Option<TypeRefId>,
-    Option<ExprOrPatId>,
-);
-
-/// What stands at this place became these nodes.
-pub fn nodes_at(map: &ExpressionStoreSourceMap, place: u8) -> Nodes {
-    (
-        map.node_expr(say::source(place)),
-        map.node_pat(say::source(place)),
-        map.node_label(say::source(place)),
-        map.node_type(say::source(place)),
-        map.macro_expansion_expr(say::source(place)),
-    )
+/// Whether what stands at this place became these nodes; so did a macro call in the place of the expression.
+pub fn became(
+    map: &ExpressionStoreSourceMap,
+    place: u8,
+    expr: Option<ExprOrPatId>,
+    pat: Option<ExprOrPatId>,
+    label: Option<LabelId>,
+    type_ref: Option<TypeRefId>,
+) -> bool {
+    let is_expr = map.node_expr(say::source(place)) == expr;
+    let is_call = map.macro_expansion_expr(say::source(place)) == expr;
+    let is_pat = map.node_pat(say::source(place)) == pat;
+    let is_label = map.node_label(say::source(place)) == label;
+    let is_type = map.node_type(say::source(place)) == type_ref;
+    is_expr & is_call & is_pat & is_label & is_type
 }
 
-/// Where an expression and a pattern came from, each asked as what it is and as either of them, and a type.
-type Sources = (
-    Option<ExprOrPatSource>,
-    Option<ExprOrPatSource>,
-    Option<ExprOrPatSource>,
-    Option<ExprOrPatSource>,
-    Option<TypeSource>,
-);
+/// Whether it is the source at this place, or there is none.
+fn is_at<K>(found: Option<InFile<AstPtr<K>>>, place: Option<u8>) -> bool {
+    match (found, place) {
+        (Some(found), Some(place)) => found == say::source(place),
+        (None, None) => true,
+        _ => false,
+    }
+}
 
-/// Where the expression, the pattern and the type of this number came from.
-pub fn sources_of(map: &ExpressionStoreSourceMap, number: u32) -> Sources {
-    (
-        map.expr_syntax(ExprId::from_raw(number)).ok(),
-        map.expr_or_pat_syntax(say::expr(number)).ok(),
-        map.pat_syntax(PatId::from_raw(number)).ok(),
-        map.expr_or_pat_syntax(say::pat(number)).ok(),
-        map.type_syntax(TypeRefId::from_raw(number)).ok(),
-    )
+/// Whether the expression, the pattern and the type of this number came from these places; of the first two each is asked as what it
+/// is and as either of them.
+pub fn are_from(
+    map: &ExpressionStoreSourceMap,
+    number: u32,
+    expr: Option<u8>,
+    pat: Option<u8>,
+    type_ref: Option<u8>,
+) -> bool {
+    let is_expr = is_at(map.expr_syntax(ExprId::from_raw(number)).ok(), expr);
+    let is_either = is_at(map.expr_or_pat_syntax(say::expr(number)).ok(), expr);
+    let is_pat = is_at(map.pat_syntax(PatId::from_raw(number)).ok(), pat);
+    let is_either_pat = is_at(map.expr_or_pat_syntax(say::pat(number)).ok(), pat);
+    let is_type = is_at(map.type_syntax(TypeRefId::from_raw(number)).ok(), type_ref);
+    is_expr & is_either & is_pat & is_either_pat & is_type
 }
 
 /// Where a label, the field of a value and the field that holds a pattern came from.
@@ -96,30 +99,42 @@ fn fields_of(map: &ExpressionStoreSourceMap, number: u32) -> Fields {
     (label, field, pat_field)
 }
 
+/// Whether the label, the field of a value and the field that holds a pattern came from these places.
+fn are_at(fields: Fields, label: Option<u8>, field: Option<u8>, pat_field: Option<u8>) -> bool {
+    is_at(fields.0, label) & is_at(fields.1, field) & is_at(fields.2, pat_field)
+}
+
 #[test]
 fn what_sources_became_and_where_nodes_came_from(rt: HostRuntime) -> Result<(), Fail> {
     let made = made::accepted(rt.alloc(), TOLD)?;
     let map = &made.1;
-    let at_5 = nodes_at(map, 5);
-    let at_6 = nodes_at(map, 6);
-    let of_0 = sources_of(map, 0);
-    let of_1 = sources_of(map, 1);
-    let of_3 = sources_of(map, 3);
-    let fields_of_0 = fields_of(map, 0);
-    let fields_of_1 = fields_of(map, 1);
-    let fields_of_2 = fields_of(map, 2);
-    let fields_of_4 = fields_of(map, 4);
+    let became = became(
+        map,
+        5,
+        Some(say::expr(1)),
+        None,
+        Some(Idx::from_raw(2)),
+        None,
+    ) & became(map, 6, None, Some(say::pat(3)), None, None);
+    let are_from = are_from(map, 0, Some(5), None, None)
+        & are_from(map, 1, None, None, None)
+        & are_from(map, 3, None, Some(6), None);
     std::mem::drop(made);
-    let label = Some(Idx::from_raw(2));
-    assert!(&rt; at_5 == (Some(say::expr(1)), None, label, None, Some(say::expr(1))));
-    assert!(&rt; at_6 == (None, Some(say::pat(3)), None, None, None));
-    assert!(&rt; of_0 == (Some(say::source(5)), Some(say::source(5)), None, None, None));
-    assert!(&rt; of_1 == (None, None, None, None, None));
-    assert!(&rt; of_3 == (None, None, Some(say::source(6)), Some(say::source(6)), None));
-    assert!(&rt; fields_of_0 == (None, Some(say::source(6)), None));
-    assert!(&rt; fields_of_1 == (None, None, None));
-    assert!(&rt; fields_of_2 == (Some(say::source(5)), None, None));
-    assert!(&rt; fields_of_4 == (None, None, Some(say::source(7))));
+    assert!(&rt; became);
+    assert!(&rt; are_from);
+    Ok(())
+}
+
+#[test]
+fn where_labels_and_fields_came_from(rt: HostRuntime) -> Result<(), Fail> {
+    let made = made::accepted(rt.alloc(), TOLD)?;
+    let map = &made.1;
+    let are_at = are_at(fields_of(map, 0), None, Some(6), None)
+        & are_at(fields_of(map, 1), None, None, None)
+        & are_at(fields_of(map, 2), Some(5), None, None)
+        & are_at(fields_of(map, 4), None, None, Some(7));
+    std::mem::drop(made);
+    assert!(&rt; are_at);
     Ok(())
 }
 
@@ -151,24 +166,32 @@ const SOURCE_OF_LIFETIME: &[Step] = &[Step::Said(Said::LifetimeFrom(2, 6))];
 /// That a source became lifetime 2.
 const LIFETIME_OF_SOURCE: &[Step] = &[Step::Said(Said::BecameLifetime(6, 2))];
 
+/// What is built by the one and by the other, and whether the source maps are equal.
+const COMPARED: &[(&[Step], &[Step], bool)] = &[
+    // The way from a source to its node isn't compared.
+    (EXPR_OF_SOURCE, TWO, true),
+    (LIFETIME_OF_SOURCE, NONE, true),
+    // The way back is.
+    (SOURCE_OF_EXPR, TWO, false),
+    (SOURCE_OF_LIFETIME, NONE, false),
+    // What is said of expressions is dropped where there are none.
+    (EXPR_WITHOUT_NODES, NONE, true),
+];
+
 #[test]
 fn what_is_compared(rt: HostRuntime) -> Result<(), Fail> {
     let a = rt.alloc();
-    let made = made::accepted(a, EXPR_OF_SOURCE)?;
-    let kept = nodes_at(&made.1, 5).0;
-    std::mem::drop(made);
-    // The way from a source to its node isn't compared, though it is kept.
-    assert!(&rt; kept == Some(say::expr(0)));
-    for (first, second, wanted) in &[
-        (EXPR_OF_SOURCE, TWO, true),
-        (LIFETIME_OF_SOURCE, NONE, true),
-        // The way back is.
-        (SOURCE_OF_EXPR, TWO, false),
-        (SOURCE_OF_LIFETIME, NONE, false),
-        // What is said of expressions is dropped where there are none.
-        (EXPR_WITHOUT_NODES, NONE, true),
-    ] {
+    for (first, second, wanted) in COMPARED {
         assert!(&rt; are_equal(a, first, second)? == *wanted);
     }
+    Ok(())
+}
+
+#[test]
+fn what_is_not_compared_is_kept(rt: HostRuntime) -> Result<(), Fail> {
+    let made = made::accepted(rt.alloc(), EXPR_OF_SOURCE)?;
+    let kept = made.1.node_expr(say::source(5));
+    std::mem::drop(made);
+    assert!(&rt; kept == Some(say::expr(0)));
     Ok(())
 }

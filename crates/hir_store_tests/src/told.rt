@@ -82,23 +82,20 @@ pub fn has_no_blocks(alloc: Global, store: &ExpressionStore) -> Result<bool, All
     Ok(!lacks_3 && blocks == Ok([None, None, None]))
 }
 
-/// The hygiene of the path that an expression is and a pattern is, each asked as what it is and as either of them.
-type Hygiene = (HygieneId, HygieneId, HygieneId, HygieneId);
-
-/// The hygiene of the expression and of the pattern of this number.
-fn hygiene_of(store: &ExpressionStore, number: u32) -> Hygiene {
-    (
-        store.expr_path_hygiene(ExprId::from_raw(number)),
-        store.expr_or_pat_path_hygiene(say::expr(number)),
-        store.pat_path_hygiene(PatId::from_raw(number)),
-        store.expr_or_pat_path_hygiene(say::pat(number)),
-    )
+/// Whether this is the hygiene of the path that the expression of this number is, and that the pattern is, each asked as what it is
+/// and as either of them.
+fn has_hygiene(store: &ExpressionStore, number: u32, expr: HygieneId, pat: HygieneId) -> bool {
+    let of_expr = store.expr_path_hygiene(ExprId::from_raw(number)) == expr;
+    let of_either = store.expr_or_pat_path_hygiene(say::expr(number)) == expr;
+    let of_pat = store.pat_path_hygiene(PatId::from_raw(number)) == pat;
+    let of_either_pat = store.expr_or_pat_path_hygiene(say::pat(number)) == pat;
+    of_expr & of_either & of_pat & of_either_pat
 }
 
-/// Whether the patterns 2 and 0, in this order, are all that bring binding 0 into scope; how many bring binding 1, and the far one.
+/// Whether the patterns 2 and 0, in this order, are all that bring binding 0 into scope, and how many bring binding 1 and the far one.
 fn definitions(map: &ExpressionStoreSourceMap) -> (bool, usize, usize) {
     let in_order = match map.patterns_for_binding(Idx::from_raw(0)) {
-        [first, second] => *first == Idx::from_raw(2) && *second == Idx::from_raw(0),
+        [first, second] => (first.into_raw() == 2) & (second.into_raw() == 0),
         _ => false,
     };
     let without = map.patterns_for_binding(Idx::from_raw(1)).len();
@@ -107,27 +104,36 @@ fn definitions(map: &ExpressionStoreSourceMap) -> (bool, usize, usize) {
 }
 
 #[test]
-fn blocks_owners_hygiene_and_definitions(rt: HostRuntime) -> Result<(), Fail> {
+fn owners_hygiene_and_definitions(rt: HostRuntime) -> Result<(), Fail> {
+    let (root, expanded) = (HygieneId::ROOT, say::expanded(4));
+    let made = made::accepted(rt.alloc(), TOLD)?;
+    let owner_of_7 = made.0.binding_owner(Idx::from_raw(7));
+    let owner_of_0 = made.0.binding_owner(Idx::from_raw(0));
+    let hygiene = has_hygiene(&made.0, 0, root, expanded) & has_hygiene(&made.0, 1, expanded, root);
+    let definitions = definitions(&made.1);
+    std::mem::drop(made);
+    assert!(&rt; owner_of_7 == Some(Idx::from_raw(1)));
+    assert!(&rt; owner_of_0.is_none());
+    assert!(&rt; hygiene);
+    assert!(&rt; definitions == (true, 0, 9));
+    Ok(())
+}
+
+#[test]
+fn blocks_with_their_maps(rt: HostRuntime) -> Result<(), Fail> {
     let a = rt.alloc();
     let made = made::accepted(a, TOLD)?;
-    let store = &made.0;
-    let with_one_map = blocks_of(a, store, &[(3, 30)]);
-    let with_both = blocks_of(a, store, &[(1, 10), (3, 30)]);
-    let owner_of_7 = store.binding_owner(Idx::from_raw(7));
-    let owner_of_0 = store.binding_owner(Idx::from_raw(0));
-    let hygiene_of_0 = hygiene_of(store, 0);
-    let hygiene_of_1 = hygiene_of(store, 1);
-    let definitions = definitions(&made.1);
+    let with_one_map = blocks_of(a, &made.0, &[(3, 30)]);
+    let with_both = blocks_of(a, &made.0, &[(1, 10), (3, 30)]);
     std::mem::drop(made);
     assert!(&rt; with_one_map? == Err(Missing::DefMap(BlockId::from_raw(1))));
     assert!(&rt; with_both? == Ok([Some((3, 30)), Some((1, 10)), None]));
-    assert!(&rt; owner_of_7 == Some(Idx::from_raw(1)) && owner_of_0 == None);
-    let (root, expanded) = (HygieneId::ROOT, say::expanded(4));
-    assert!(&rt; hygiene_of_0 == (root, root, expanded, expanded));
-    assert!(&rt; hygiene_of_1 == (expanded, expanded, root, root));
-    assert!(&rt; definitions == (true, 0, 9));
+    Ok(())
+}
+
+#[test]
+fn closures_stand_behind_their_coroutines(rt: HostRuntime) {
     let coroutine = ExpressionStore::coroutine_for_closure(Idx::from_raw(5));
     let closure = ExpressionStore::closure_for_coroutine(Idx::from_raw(4));
-    assert!(&rt; coroutine.into_raw() == 4 && closure.into_raw() == 5);
-    Ok(())
+    assert!(&rt; (coroutine.into_raw() == 4) & (closure.into_raw() == 5));
 }

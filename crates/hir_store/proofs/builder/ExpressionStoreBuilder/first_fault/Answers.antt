@@ -12,5 +12,5 @@ returns-then-not-has_roots c = no_roots (building_of c.args.self.now) (λ h. fal
 pub returns : goal.returns
 returns c =
     let b = building_of c.args.self.now in
-    IfOk-weaker c.first_fault.result (contents_fault (contents_of b)) (finish_fault b) (λ o h. has_roots b o (c.has_roots.ensures.0 c.if-not-has_roots.false) h)
-    (rw (c.nodes.ensures.nodes, c.listed.ensures) at c.first_fault.ensures)
+    IfOk-weaker c.first_fault_of.result (contents_fault (contents_of b)) (finish_fault b) (λ o h. has_roots b o (c.has_roots.ensures.0 c.if-not-has_roots.false) h)
+    (rw (c.nodes.ensures.nodes, c.listed.ensures) at c.first_fault_of.ensures)

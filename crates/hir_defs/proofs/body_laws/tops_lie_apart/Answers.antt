@@ -1,5 +1,0 @@
-use Rattle.hir_defs.proofs.BodySound.{body_tops_apart}
-use Rattle.hir_defs.proofs.body_laws.tops_lie_apart.Goals as goal
-
-pub returns : goal.returns
-returns c = body_tops_apart

@@ -1,0 +1,72 @@
+//! The definitions of which a signature keeps the generic parameters alone, and how structs lie in memory.
+
+ghost use Rattle.std.specs.Prelude.{◌≡◌};
+ghost use Rattle.hir_base.specs.Exact.{exact};
+ghost use Rattle.hir_defs.specs.Tables.{plain_code, plain_tells, generic_def};
+
+use hir_base::{
+    AdtId, ConstId, EnumId, ExactEq, GenericDefId, ImplId, Keyed, StaticId, TraitId, TryClone,
+    TypeAliasId, UnionId,
+};
+
+/// A definition of which a signature keeps the generic parameters alone.
+#[derive(Clone, Copy, PartialEq, Eq, Hash)]
+pub enum PlainDef {
+    Enum(EnumId),
+    Union(UnionId),
+    Const(ConstId),
+    Static(StaticId),
+    Impl(ImplId),
+    Trait(TraitId),
+    TypeAlias(TypeAliasId),
+}
+
+impl PlainDef {
+    /// The same definition, as one that may have generic parameters.
+    pub fn generic_def(self) -> GenericDefId
+        ensures { result ≡ generic_def self }
+    {
+        match self {
+            PlainDef::Enum(id) => GenericDefId::AdtId(AdtId::EnumId(id)),
+            PlainDef::Union(id) => GenericDefId::AdtId(AdtId::UnionId(id)),
+            PlainDef::Const(id) => GenericDefId::ConstId(id),
+            PlainDef::Static(id) => GenericDefId::StaticId(id),
+            PlainDef::Impl(id) => GenericDefId::ImplId(id),
+            PlainDef::Trait(id) => GenericDefId::TraitId(id),
+            PlainDef::TypeAlias(id) => GenericDefId::TypeAliasId(id),
+        }
+    }
+}
+
+impl ExactEq for PlainDef {
+    ghost eq_decides = { Prim.search exact };
+}
+
+impl TryClone for PlainDef {
+    ghost clone_is_same = { Prim.search exact };
+}
+
+impl Keyed for PlainDef {
+    ghost code = { plain_code };
+
+    ghost code_tells = { λ x y. plain_tells _ x y (Prim.search exact) };
+}
+
+/// How a struct lies in memory: what `#[repr(..)]` says.
+#[derive(Clone, Copy, PartialEq, Eq)]
+pub struct Repr {
+    /// Whether it is `repr(C)`.
+    pub c: bool,
+    /// The bytes of `align`, where it is written.
+    pub align: Option<u64>,
+    /// The bytes of `packed`, where it is written.
+    pub pack: Option<u64>,
+}
+
+impl ExactEq for Repr {
+    ghost eq_decides = { Prim.search exact };
+}
+
+impl TryClone for Repr {
+    ghost clone_is_same = { Prim.search exact };
+}

@@ -1,0 +1,18 @@
+//! What is true of the values that calls answer, as a contract of a function that does nothing.
+
+ghost use Rattle.std.specs.Prelude.{◌≡◌};
+ghost use Rattle.std.specs.Bool.{Decides};
+
+use crate::ends::EndFailed;
+use crate::lines::{FillFault, Taken};
+use crate::next::LineFault;
+use crate::std_end::Attempt;
+
+/// What the calls of this crate answer, and why they fail, is equal exactly where all fields are.
+pub fn answers_are_compared_by_all_fields()
+    ensures failures { (x y : EndFailed) → Decides (⟦<EndFailed as PartialEq>⟧.eq x y) (x ≡ y) }
+    ensures fills { (x y : FillFault) → Decides (⟦<FillFault as PartialEq>⟧.eq x y) (x ≡ y) }
+    ensures lines { (x y : LineFault) → Decides (⟦<LineFault as PartialEq>⟧.eq x y) (x ≡ y) }
+    ensures taken { (x y : Taken) → Decides (⟦<Taken as PartialEq>⟧.eq x y) (x ≡ y) }
+    ensures attempts { (x y : Attempt) → Decides (⟦<Attempt as PartialEq>⟧.eq x y) (x ≡ y) }
+{}

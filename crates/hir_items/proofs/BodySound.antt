@@ -1,0 +1,220 @@
+-- What the table of nodes under others says of formals and the last root, and what a body without a fault is.
+use Rattle.std.proofs.Common.{◌≡◌, ℕ, zero, suc, ◌+◌, ◌-◌, ◌<◌, ◌⊎◌, ◌↔◌, List, [], ◌∷◌, ◌++◌, Option, Some, None, IfSome, inl, inr, ⊎_elim, refl, ap, sym, ◌∙◌, subst, arith, length, map, take, get_or, slice_get, All, Contains}
+use Rattle.std.specs.Prelude.{Result, Ok, Err, IfOk}
+use Rattle.std.proofs.lemmas.List.{length-map, get_or-map, get_or_default, get_or-take, length-take-le}
+use Rattle.std.proofs.lemmas.List.Elements.{Contains-append_left, Contains-append_cases, Contains-push, Contains-push_cases}
+use Rattle.std.proofs.lemmas.Option.{get_or_from_slice_get}
+use Rattle.hir_forest.specs.Verdict.{first_below}
+use Rattle.hir_forest.specs.Faults.{root_nodes}
+use Rattle.hir_forest.proofs.VerdictLemmas.{unless-same, first_below-same}
+use Rattle.hir_node.specs.ChildCalls.{Node, OfExpr, OfPat}
+use Rattle.hir_faults.specs.Sizes.{HasNode}
+use Rattle.hir_faults.specs.Nodes.{Nodes, Has, sizes_of}
+use Rattle.hir_accepted.specs.Contents.{Contents, rooted_of, contents_fault}
+use Rattle.hir_accepted.specs.Under.{Under, LiesUnderOther}
+use Rattle.hir_accepted.specs.NodeSets.{Marked, IsIn, Gains}
+use Rattle.hir_faults.proofs.SoundLemmas.{item_within, roots_apart}
+use Rattle.hir_accepted.proofs.UnderLemmas.{under_two}
+use Rattle.hir_items.specs.declared.formals.Param.{Param}
+use Rattle.hir_items.specs.declared.body_fault.BodyFault.{BodyFault}
+use Rattle.hir_items.specs.declared.body_fault.BodyFault.TheVariants.{NoRoot, SelfOutOfRange, ParamOutOfRange, ParamRepeated, ParamUnder, RootInParam}
+use Rattle.hir_items.specs.Bodies.{BodyParts, formals_of, user_written_of, last_root, tops_of, tops, LieApart, AreBelow, range_fault, repeated_fault, under_fault, fault_at_root, apart_fault, body_fault, GainsAll}
+use Rattle.hir_items.proofs.BodyLemmas.{pat_of_node, node_of_pat}
+
+-- the last root is an expression that is there
+pub root_there : (c : Contents) → contents_fault c None → (root : ℕ) → last_root c ≡ Some root → root < length c.nodes.exprs
+root_there c sound root e =
+    let xs = root_nodes c.roots in
+    let i = length xs - 1 in
+    let h = item_within xs i root e in
+    subst (λ (n : ℕ). n < length c.nodes.exprs) (get_or_from_slice_get xs i root 0 e) ((roots_apart (rooted_of c) sound).there i (omega (arith, length-map c.roots (λ r. r.node))))
+
+-- each formal is there
+pub all_there : (limit : ℕ) (params : List (Param ℕ)) → ((i : ℕ) → i < length params → range_fault limit params i None) → All (λ p. p.formal < limit) params
+all_there limit params none = λ i d h. subst (λ (n : ℕ). n < limit) (get_or-map (λ p. p.formal) params i d 0 h) (none i h).0
+
+other_same : (s : Nodes) (A B : Node → Type 0) → ((r : Node) → Has s r → A r ↔ B r) → (n : Node) → LiesUnderOther s A n ↔ LiesUnderOther s B n
+other_same s A B same n = (λ x. (x.0, x.1, (same x.0 x.1).0 x.2, x.3, x.4), λ x. (x.0, x.1, (same x.0 x.1).1 x.2, x.3, x.4))
+
+-- another of the formals and the last root than the last root is a formal
+root_under : (s : Nodes) (params : List (Param ℕ)) (root : ℕ) → LiesUnderOther s (Contains (tops_of params root)) (OfExpr root) ↔ LiesUnderOther s (Contains (map OfPat (formals_of params))) (OfExpr root)
+root_under s params root = (
+  λ x. (x.0, x.1, ⊎_elim (λ m. m) (λ e. absurd (x.3 e)) (Contains-push_cases (map OfPat (formals_of params)) (OfExpr root) x.0 x.2), x.3, x.4),
+  λ x. (x.0, x.1, Contains-append_left (map OfPat (formals_of params)) (OfExpr root ∷ []) x.0 x.2, x.3, x.4),
+)
+
+module _ (s : Nodes) (params : List (Param ℕ)) (root : ℕ) (old mid new found : Marked) (size : old.sizes ≡ sizes_of s) (none : (n : Node) → IsIn old n → ⊥)
+    (all : GainsAll old (map OfPat (formals_of params)) mid) (one : Gains mid (OfExpr root) new) (right : (n : Node) → Has s n → IsIn found n ↔ LiesUnderOther s (IsIn new) n) where
+  -- the set has the formals and the last root
+  tops_in : (n : Node) → Has s n → IsIn new n ↔ Contains (tops_of params root) n
+  tops_in n h =
+      let old_has : HasNode old.sizes n = subst (λ z. HasNode z n) (sym size) h in
+      let mid_has : HasNode mid.sizes n = subst (λ z. HasNode z n) (sym all.0) old_has in
+      let more = one.members n mid_has in
+      let before = all.1 n old_has in
+      let fs = map OfPat (formals_of params) in (
+        λ m. ⊎_elim (λ k. ⊎_elim (λ o. absurd (none n o)) (λ f. Contains-append_left fs (OfExpr root ∷ []) n f) (before.0 k)) (λ e. subst (Contains (tops_of params root)) (sym e) (Contains-push fs (OfExpr root))) (more.0 m),
+        λ m. more.1 (⊎_elim (λ f. inl (before.1 (inr f))) (λ e. inr (sym e)) (Contains-push_cases fs (OfExpr root) n m)),
+      )
+
+  found_is : (n : Node) → Has s n → IsIn found n ↔ LiesUnderOther s (Contains (tops_of params root)) n
+  found_is n h =
+      let r = right n h in
+      let o = other_same s (IsIn new) (Contains (tops_of params root)) tops_in n in
+      (λ m. o.0 (r.0 m), λ l. r.1 (o.1 l))
+
+  pub under_told : All (λ p. p.formal < length s.pats) params → (o : Option BodyFault) → first_below (length params) (under_fault (IsIn found) (formals_of params)) o
+      → first_below (length params) (under_fault (LiesUnderOther s (Contains (tops_of params root))) (formals_of params)) o
+  under_told there = first_below-same (length params) (under_fault (IsIn found) (formals_of params)) (under_fault (LiesUnderOther s (Contains (tops_of params root))) (formals_of params)) (λ i h a v.
+      let p = get_or params i record { formal = 0; user_written = 0 } in
+      let formal : p.formal ≡ get_or (formals_of params) i 0 = sym (get_or-map (λ p. p.formal) params i record { formal = 0; user_written = 0 } 0 h) in
+      let f = found_is (OfPat (get_or (formals_of params) i 0)) (subst (λ (n : ℕ). n < length s.pats) formal (there i record { formal = 0; user_written = 0 } h)) in
+      unless-same (ParamUnder i) _ _ (λ no l. no (f.1 l), λ no m. no (f.0 m)) a v)
+
+  pub root_told : root < length s.exprs → IsIn found (OfExpr root) ↔ LiesUnderOther s (Contains (map OfPat (formals_of params))) (OfExpr root)
+  root_told h =
+      let f = found_is (OfExpr root) h in
+      let r = root_under s params root in
+      (λ m. r.0 (f.0 m), λ l. f.1 (r.1 l))
+
+-- the first fault by cases
+module _ (s : Nodes) (params : List (Param ℕ)) (root : ℕ) where
+  abbrev Repeats : Option BodyFault → Type 0
+  Repeats = first_below (length params) (repeated_fault (formals_of params))
+
+  abbrev Under' : Option BodyFault → Type 0
+  Under' = first_below (length params) (under_fault (LiesUnderOther s (Contains (tops_of params root))) (formals_of params))
+
+  pub apart_repeated : (f : BodyFault) → Repeats (Some f) → apart_fault s params root (Some f)
+  unfolding apart_fault
+  apart_repeated f h = inl h
+
+  pub apart_under : (f : BodyFault) → Repeats None → Under' (Some f) → apart_fault s params root (Some f)
+  unfolding apart_fault
+  apart_under f n h = inr (n, inl h)
+
+  pub apart_root : Repeats None → Under' None → LiesUnderOther s (Contains (map OfPat (formals_of params))) (OfExpr root) → apart_fault s params root (Some RootInParam)
+  unfolding apart_fault
+  apart_root n m h = inr (n, inr (m, (refl, λ no. no h)))
+
+  pub apart_none : Repeats None → Under' None → (LiesUnderOther s (Contains (map OfPat (formals_of params))) (OfExpr root) → ⊥) → apart_fault s params root None
+  unfolding apart_fault
+  apart_none n m h = (n, (m, h))
+
+module _ (b : BodyParts) where
+  pub no_root : None ≡ last_root b.store → body_fault b (Some NoRoot)
+  unfolding body_fault
+  no_root e = subst (λ root. fault_at_root b root (Some NoRoot)) e refl
+
+  pub at_root : (root : ℕ) → Some root ≡ last_root b.store → (o : Option BodyFault) → fault_at_root b (Some root) o → body_fault b o
+  unfolding body_fault
+  at_root root e o h = subst (λ root. fault_at_root b root o) e h
+
+  pub fault_is_at_root : body_fault b None → (root : ℕ) × (last_root b.store ≡ Some root) × fault_at_root b (Some root) None
+  unfolding body_fault
+  fault_is_at_root h = by_root (last_root b.store) refl h
+    where
+      by_root : (o : Option ℕ) → last_root b.store ≡ o → fault_at_root b o None → (root : ℕ) × (last_root b.store ≡ Some root) × fault_at_root b (Some root) None
+      by_root None e h = absurd (let n : ⊥ = cc in n)
+      by_root (Some root) e h = (root, e, h)
+
+pub last_part : (b : BodyParts) (root : ℕ) → IfSome b.self_param (AreBelow (length b.store.nodes.bindings)) → first_below (length b.params) (range_fault (length b.store.nodes.pats) b.params) None
+    → (o : Option BodyFault) → apart_fault b.store.nodes b.params root o → fault_at_root b (Some root) o
+last_part b root self range None h = (self, (range, h))
+last_part b root self range (Some f) h = inr (self, inr (range, h))
+
+pub IfOk-more : {T E : Type 0} (P Q : T → Type 0) → ((x : T) → P x → Q x) → (r : Result T E) → IfOk r P → IfOk r Q
+IfOk-more P Q f (Ok x) h = f x h
+IfOk-more P Q f (Err e) h = h
+
+-- the node at a place among the formals and the last root
+top_at : (fs : List ℕ) (root i : ℕ) (a : Node) → slice_get (map OfPat fs ++ OfExpr root ∷ []) i ≡ Some a → ((i < length fs) × (a ≡ OfPat (get_or fs i 0))) ⊎ ((i ≡ length fs) × (a ≡ OfExpr root))
+top_at [] root zero a e = inr (refl, cc)
+top_at [] root (suc i) a e = absurd (let n : ⊥ = cc in n)
+top_at (f ∷ fs) root zero a e = inl (omega arith, cc)
+top_at (f ∷ fs) root (suc i) a e = ⊎_elim (λ x. inl (omega (arith, x.0), x.1)) (λ x. inr (ap suc x.0, x.1)) (top_at fs root i a e)
+
+module _ (c : Contents) (sound : contents_fault c None) (params : List (Param ℕ)) (root : ℕ) (in_range : All (λ p. p.formal < length c.nodes.pats) params) (root_in : root < length c.nodes.exprs) where
+  formal_there : (i : ℕ) → i < length (formals_of params) → get_or (formals_of params) i 0 < length c.nodes.pats
+  formal_there i h =
+      let k : i < length params = omega (arith, length-map params (λ p. p.formal)) in
+      let d : Param ℕ = record { formal = 0; user_written = 0 } in
+      subst (λ (n : ℕ). n < length c.nodes.pats) (sym (get_or-map (λ p. p.formal) params i d 0 k)) (in_range i d k)
+
+  pub top_there : (n : Node) → Contains (tops_of params root) n → Has c.nodes n
+  top_there n m =
+      ⊎_elim
+      (λ f.
+      let h : f.0 < length (formals_of params) = omega (arith, f.1, length-map (formals_of params) OfPat) in
+      let e : OfPat (get_or (formals_of params) f.0 0) ≡ n = sym (get_or-map OfPat (formals_of params) f.0 0 n h) ∙ f.2 in
+      subst (Has c.nodes) e (formal_there f.0 h))
+      (λ e. subst (Has c.nodes) e root_in)
+      (Contains-push_cases (map OfPat (formals_of params)) (OfExpr root) n m)
+
+  module _ (none : apart_fault c.nodes params root None) where
+    parts : first_below (length params) (repeated_fault (formals_of params)) None
+        × first_below (length params) (under_fault (LiesUnderOther c.nodes (Contains (tops_of params root))) (formals_of params)) None
+        × (LiesUnderOther c.nodes (Contains (map OfPat (formals_of params))) (OfExpr root) → ⊥)
+    unfolding apart_fault
+    parts = (none.0, none.1.0, none.1.1)
+
+    -- none lies under another
+    lone : (x : Node) → Contains (tops_of params root) x → LiesUnderOther c.nodes (Contains (tops_of params root)) x → ⊥
+    lone x m l =
+        ⊎_elim
+        (λ f.
+        let h : f.0 < length (formals_of params) = omega (arith, f.1, length-map (formals_of params) OfPat) in
+        let e : OfPat (get_or (formals_of params) f.0 0) ≡ x = sym (get_or-map OfPat (formals_of params) f.0 0 x h) ∙ f.2 in
+        parts.1 f.0 (omega (arith, length-map params (λ p. p.formal))) (subst (LiesUnderOther c.nodes (Contains (tops_of params root))) (sym e) l))
+        (λ e. parts.2 ((root_under c.nodes params root).0 (subst (LiesUnderOther c.nodes (Contains (tops_of params root))) (sym e) l)))
+        (Contains-push_cases (map OfPat (formals_of params)) (OfExpr root) x m)
+
+    taken : (i j : ℕ) → i < j → j < length (formals_of params) → Contains (take j (formals_of params)) (get_or (formals_of params) i 0)
+    taken i j l h =
+        let xs = formals_of params in
+        let at : get_or xs i (get_or xs i 0) ≡ get_or xs i 0 = get_or_default xs i (get_or xs i 0) 0 (omega arith) in
+        let len = length-take-le j xs (omega arith) in
+        (i, omega arith, get_or-take j xs i (get_or xs i 0) l ∙ at)
+
+    same_formal : (x y : ℕ) → OfPat x ≡ OfPat y → x ≡ y
+    same_formal x y e = cc
+
+    no_formal : (x y : ℕ) → OfPat x ≡ OfExpr y → ⊥
+    no_formal x y e = cc
+
+    distinct : (i j : ℕ) (a b : Node) → i < j → slice_get (tops_of params root) i ≡ Some a → slice_get (tops_of params root) j ≡ Some b → a ≡ b → ⊥
+    distinct i j a b l e k same =
+        let xs = formals_of params in
+        ⊎_elim
+        (λ x. ⊎_elim
+        (λ y.
+        let both = same_formal (get_or xs i 0) (get_or xs j 0) (sym x.1 ∙ same ∙ y.1) in
+        parts.0 j (omega (arith, y.0, length-map params (λ p. p.formal))) (subst (Contains (take j xs)) both (taken i j l y.0)))
+        (λ y. no_formal (get_or xs i 0) root (sym x.1 ∙ same ∙ y.1))
+        (top_at xs root j b k))
+        (λ x. ⊎_elim (λ y. absurd (omega (arith, x.0, y.0))) (λ y. absurd (omega (arith, x.0, y.0))) (top_at xs root j b k))
+        (top_at xs root i a e)
+
+    pub apart : LieApart c.nodes (tops_of params root)
+    apart i j a b n l e k u v =
+        let xs = tops_of params root in
+        let first : Contains xs a = (i, item_within xs i a e, get_or_from_slice_get xs i a a e) in
+        let second : Contains xs b = (j, item_within xs j b k, get_or_from_slice_get xs j b b k) in
+        let ne = distinct i j a b l e k in
+        ⊎_elim
+        (λ x. lone a first (b, top_there b second, second, ne, x))
+        (λ x. lone b second (a, top_there a first, first, (λ q. ne (sym q)), x))
+        (under_two (rooted_of c) sound n a b (top_there a first) (top_there b second) u v)
+
+-- the formals and the last root of a body without a fault
+module _ (b : BodyParts) (sound : contents_fault b.store None) (none : body_fault b None) where
+  pub body_tops_there : (n : Node) → Contains (tops b) n → Has b.store.nodes n
+  body_tops_there n m =
+      let at = fault_is_at_root b none in
+      let m' : Contains (tops_of b.params at.0) n = rw at.1 at m in
+      top_there b.store sound b.params at.0 (all_there (length b.store.nodes.pats) b.params at.2.1.0) (root_there b.store sound at.0 at.1) n m'
+
+  pub body_tops_apart : LieApart b.store.nodes (tops b)
+  body_tops_apart =
+      let at = fault_is_at_root b none in
+      rw at.1 (apart b.store sound b.params at.0 (all_there (length b.store.nodes.pats) b.params at.2.1.0) (root_there b.store sound at.0 at.1) at.2.1.1)

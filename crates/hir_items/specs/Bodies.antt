@@ -1,0 +1,86 @@
+-- What a body is made of, and its first fault.
+use Rattle.std.specs.Prelude.{◌≡◌, ◌⊎◌, ◌↔◌, ◌<◌, ℕ, List, [], ◌∷◌, ◌++◌, Option, Some, None, IfSome, option_map, length, map, take, slice_index, slice_get, Contains}
+use Rattle.std.specs.Option.{option_to_list}
+use Rattle.hir_forest.specs.Verdict.{◌unless◌, ◌before◌, first_below}
+use Rattle.hir_forest.specs.Faults.{root_nodes}
+use Rattle.hir_path.specs.Lists.{last_of}
+use Rattle.hir_node.specs.ChildCalls.{Node, OfExpr, OfPat}
+use Rattle.hir_faults.specs.Sizes.{HasNode}
+use Rattle.hir_faults.specs.Nodes.{Nodes}
+use Rattle.hir_accepted.specs.Contents.{Contents}
+use Rattle.hir_accepted.specs.Under.{Under, LiesUnderOther}
+use Rattle.hir_accepted.specs.NodeSets.{Marked, IsIn}
+use Rattle.hir_items.specs.declared.formals.Param.{Param}
+use Rattle.hir_items.specs.declared.body_fault.BodyFault.{BodyFault}
+use Rattle.hir_items.specs.declared.body_fault.BodyFault.TheVariants.{NoRoot, SelfOutOfRange, ParamOutOfRange, ParamRepeated, ParamUnder, RootInParam}
+
+-- a store, the patterns of the parameters, the bindings of `self`
+pub record BodyParts : Type 0 where
+  pub store : Contents
+  pub params : List (Param ℕ)
+  pub self_param : Option (Param ℕ)
+
+-- the formal patterns, and those that the user wrote
+abbrev pub formals_of : List (Param ℕ) → List ℕ
+formals_of params = map (λ p. p.formal) params
+
+abbrev pub user_written_of : List (Param ℕ) → List ℕ
+user_written_of params = map (λ p. p.user_written) params
+
+-- the last root, where there is one
+abbrev pub last_root : Contents → Option ℕ
+last_root c = last_of (root_nodes c.roots)
+
+-- what a body is reached from: its formals, and its last root
+abbrev pub tops_of : List (Param ℕ) → ℕ → List Node
+tops_of params root = map OfPat (formals_of params) ++ OfExpr root ∷ []
+
+abbrev pub tops : BodyParts → List Node
+tops b = map OfPat (formals_of b.params) ++ option_to_list (option_map OfExpr (last_root b.store))
+
+-- nothing lies under two of them
+abbrev pub LieApart : Nodes → List Node → Type 0
+LieApart s tops = (i j : ℕ) (a b n : Node) → i < j → slice_get tops i ≡ Some a → slice_get tops j ≡ Some b → Under s n a → Under s n b → ⊥
+
+-- both ids of a parameter are there
+abbrev pub AreBelow : ℕ → Param ℕ → Type 0
+AreBelow limit p = (p.formal < limit) × (p.user_written < limit)
+
+-- a pattern of parameter i is not among so many patterns
+abbrev pub range_fault : ℕ → List (Param ℕ) → ℕ → Option BodyFault → Type 0
+range_fault limit params i = ParamOutOfRange i unless ((slice_index (formals_of params) i < limit) × (slice_index (user_written_of params) i < limit))
+
+-- formal i is an earlier formal
+abbrev pub repeated_fault : List ℕ → ℕ → Option BodyFault → Type 0
+repeated_fault formals i = ParamRepeated i unless (Contains (take i formals) (slice_index formals i) → ⊥)
+
+-- formal i is under another
+abbrev pub under_fault : (Node → Type 0) → List ℕ → ℕ → Option BodyFault → Type 0
+under_fault IsUnder formals i = ParamUnder i unless (IsUnder (OfPat (slice_index formals i)) → ⊥)
+
+-- formals and the last root do not lie apart: a formal repeats, lies under another formal or the last root, or the last root lies under a formal
+unfoldable pub apart_fault : Nodes → List (Param ℕ) → ℕ → Option BodyFault → Type 0
+apart_fault s params root =
+    first_below (length params) (repeated_fault (formals_of params))
+    before first_below (length params) (under_fault (LiesUnderOther s (Contains (tops_of params root))) (formals_of params))
+    before (RootInParam unless (LiesUnderOther s (Contains (map OfPat (formals_of params))) (OfExpr root) → ⊥))
+
+-- the first fault where there is a last root
+abbrev pub fault_at_root : BodyParts → Option ℕ → Option BodyFault → Type 0
+fault_at_root b None f = f ≡ Some NoRoot
+fault_at_root b (Some root) f =
+    ((SelfOutOfRange unless IfSome b.self_param (AreBelow (length b.store.nodes.bindings)))
+    before first_below (length b.params) (range_fault (length b.store.nodes.pats) b.params)
+    before apart_fault b.store.nodes b.params root) f
+
+-- the first fault of a body's parts
+unfoldable pub body_fault : BodyParts → Option BodyFault → Type 0
+body_fault b = fault_at_root b (last_root b.store)
+
+-- the binding is one of the two of `self`
+abbrev pub IsAnySelf : BodyParts → ℕ → Type 0
+IsAnySelf b id = (p : Param ℕ) × (b.self_param ≡ Some p) × ((p.formal ≡ id) ⊎ (p.user_written ≡ id))
+
+-- the set has these nodes more, and no other
+abbrev pub GainsAll : Marked → List Node → Marked → Type 0
+GainsAll old added new = (new.sizes ≡ old.sizes) × ((n : Node) → HasNode old.sizes n → IsIn new n ↔ (IsIn old n ⊎ Contains added n))

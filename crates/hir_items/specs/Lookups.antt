@@ -1,0 +1,18 @@
+-- What is looked up of a definition that may have generic parameters.
+use Rattle.std.specs.Prelude.{ℕ}
+use Rattle.hir_source.specs.declared.source_map.ExpressionStoreSourceMap.{ExpressionStoreSourceMap}
+use Rattle.hir_accepted.specs.Contents.{Contents}
+use Rattle.hir_items.specs.Bodies.{BodyParts}
+use Rattle.hir_items.specs.Generics.{Generics}
+use Rattle.hir_items.specs.declared.body_source_map.BodySourceMap.{BodySourceMap}
+
+-- generic parameters, the store that they name, and where that comes from
+abbrev pub Signed : Type 0
+Signed = Generics × Contents × ExpressionStoreSourceMap
+
+abbrev pub without_source_map : Signed → Generics × Contents
+without_source_map s = (s.0, s.1)
+
+-- a body, and where it comes from
+abbrev pub Embodied : Type 0
+Embodied = BodyParts × BodySourceMap

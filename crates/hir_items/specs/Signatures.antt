@@ -1,0 +1,75 @@
+-- Which ids a signature names, and the first fault of its parts.
+use Rattle.std.specs.Prelude.{ℕ, Bool, ◌&&◌, true, List, [], ◌∷◌, ◌++◌, Option, Some, None, IsTrue, length, nat_lt}
+use Rattle.std.specs.List.{list_all}
+use Rattle.hir_forest.specs.Verdict.{◌unless◌, ◌before◌}
+use Rattle.hir_node.specs.ChildCalls.{Call, a, t, l, opt, bound_calls}
+use Rattle.hir_generics.specs.declared.param.TypeOrConstParamData.{TypeOrConstParamData}
+use Rattle.hir_generics.specs.declared.param.TypeOrConstParamData.TheVariants as either
+use Rattle.hir_generics.specs.declared.predicate.WherePredicate.{WherePredicate}
+use Rattle.hir_generics.specs.declared.predicate.WherePredicate.TheVariants as predicate
+use Rattle.hir_faults.specs.Sizes.{is_there}
+use Rattle.hir_faults.specs.Parts.{is_path_at, bound_paths}
+use Rattle.hir_faults.specs.Nodes.{Nodes, sizes_of}
+use Rattle.hir_items.specs.Generics.{Generics}
+use Rattle.hir_items.specs.declared.signature_fault.SignatureFault.{SignatureFault}
+use Rattle.hir_items.specs.declared.signature_fault.SignatureFault.TheVariants.{IdOutOfRange, NotAPath}
+use Rattle.hir_items.specs.declared.signatures.FieldData.{FieldData}
+use Rattle.hir_items.specs.declared.signatures.FunctionParts.{FunctionParts}
+use Rattle.hir_items.specs.declared.signatures.StructParts.{StructParts}
+use Rattle.hir_items.specs.declared.signatures.VariantParts.{VariantParts}
+use Rattle.hir_items.specs.declared.signatures.PlainParts.{PlainParts}
+
+-- what a parameter names: a default, the type of a constant
+abbrev pub param_calls : TypeOrConstParamData → List Call
+param_calls (either.TypeParamData p) = opt t p.default
+param_calls (either.ConstParamData p) = t p.ty ++ opt (λ c. a c.expr) p.default
+
+-- what a predicate names
+abbrev pub predicate_calls : WherePredicate → List Call
+predicate_calls (predicate.TypeBound lifetimes target bound) = t target ++ bound_calls bound
+predicate_calls (predicate.Lifetime target bound) = l target ++ l bound
+
+-- what a predicate names as a path
+abbrev pub predicate_paths : WherePredicate → List ℕ
+predicate_paths (predicate.TypeBound lifetimes target bound) = bound_paths bound
+predicate_paths (predicate.Lifetime target bound) = []
+
+-- what a field names: its type and its default
+abbrev pub field_calls : FieldData → List Call
+field_calls f = t f.type_ref ++ opt a f.default_value
+
+-- all that is named is there
+abbrev pub all_there : Nodes → List Call → Bool
+all_there s calls = list_all (is_there (sizes_of s)) calls
+
+-- each id of parameters and predicates is there
+abbrev pub generics_there : Nodes → Generics → Bool
+generics_there s g = list_all (λ p. all_there s (param_calls p)) g.type_or_consts && list_all (λ w. all_there s (predicate_calls w)) g.predicates
+
+-- what predicates name as paths are paths
+abbrev pub generics_name_paths : Nodes → Generics → Bool
+generics_name_paths s g = list_all (λ w. list_all (is_path_at s.types) (predicate_paths w)) g.predicates
+
+-- an id isn't there, or else what is named as a path is none
+unfoldable pub ids_fault : Bool → Bool → Option SignatureFault → Type 0
+ids_fault there paths = (IdOutOfRange unless IsTrue there) before (NotAPath unless IsTrue paths)
+
+-- each of these types is there
+abbrev pub types_there : Nodes → List ℕ → Bool
+types_there s ids = list_all (λ id. nat_lt id (length s.types)) ids
+
+-- the first fault of each kind of signature
+abbrev pub function_fault : FunctionParts → Option SignatureFault → Type 0
+function_fault p =
+    ids_fault
+    (generics_there p.store.nodes p.generic_params && types_there p.store.nodes p.params && all_there p.store.nodes (opt t p.ret_type))
+    (generics_name_paths p.store.nodes p.generic_params)
+
+abbrev pub struct_fault : StructParts → Option SignatureFault → Type 0
+struct_fault p = ids_fault (generics_there p.store.nodes p.generic_params) (generics_name_paths p.store.nodes p.generic_params)
+
+abbrev pub fields_fault : VariantParts → Option SignatureFault → Type 0
+fields_fault p = ids_fault (list_all (λ f. all_there p.store.nodes (field_calls f)) p.fields) true
+
+abbrev pub plain_fault : PlainParts → Option SignatureFault → Type 0
+plain_fault p = ids_fault (generics_there p.store.nodes p.generic_params) (generics_name_paths p.store.nodes p.generic_params)

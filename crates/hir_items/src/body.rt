@@ -1,0 +1,200 @@
+//! Bodies: an accepted store, the formal parameters, and the last root, which is what the body evaluates to.
+
+ghost use Rattle.std.specs.Prelude.{◌≡◌, ◌⊎◌, ◌↔◌, None, Some, IfOk, IfErr, IsTrue};
+ghost use Rattle.hir_items.specs.Bodies.{body_fault, last_root, IsAnySelf};
+
+use crate::body_fault::{BodyFault, first_fault, last_root};
+use crate::formals::Param;
+use hir_accepted::ExpressionStore;
+use hir_base::{ExactEq, Seq};
+use hir_node::{BindingId, ExprId, PatId};
+use std::alloc::{AllocError, Global};
+use std::marker::Model;
+
+/// The body of a function, a constant, a static or an enum variant: what stands in its store, the patterns of its parameters and the
+/// binding of its `self`. It has no fault: there is a root, what the parameters name is there, and no formal and not the last root lies
+/// under another of them.
+#[derive(PartialEq, Eq)]
+pub struct Body {
+    store: ExpressionStore,
+    params: Seq<Param<PatId>>,
+    self_param: Option<Param<BindingId>>,
+}
+
+/// Its parts go one after the other. It stands here, so that it is proved once, and is a call wherever a value is dropped.
+impl Drop for Body {
+    fn drop(self) {
+        let Body {
+            store,
+            params,
+            self_param,
+        } = self;
+    }
+}
+
+impl Model for Body {
+    ghost use Rattle.std.specs.Prelude.{None};
+    ghost use Rattle.hir_items.specs.Bodies.{BodyParts, body_fault};
+
+    ghost Value = { BodyParts };
+
+    ghost use Rattle.std.specs.Coded.{codes};
+    ghost use Rattle.hir_accepted.specs.contracts.store.ExpressionStore as stored;
+
+    ghost coded = { Prim.hlevel (codes, stored.the_row.coded) };
+
+    ghost view = { λ b. record { store = b.store; params = b.params; self_param = b.self_param } };
+
+    ghost inverse = { λ b. record { store = b.store; params = b.params; self_param = b.self_param } };
+
+    ghost invariant = { λ b. body_fault record { store = b.store; params = b.params; self_param = b.self_param } None };
+}
+
+/// The parts of a body that was refused, as they were, with their first fault.
+#[derive(Drop, PartialEq, Eq)]
+#[derive_where(Debug)]
+pub struct RefusedBody {
+    pub fault: BodyFault,
+    #[derive_where(skip(Debug))]
+    pub store: ExpressionStore,
+    #[derive_where(skip(Debug))]
+    pub params: Seq<Param<PatId>>,
+    #[derive_where(skip(Debug))]
+    pub self_param: Option<Param<BindingId>>,
+}
+
+/// What a body is made of, before it is tested.
+#[derive(Drop)]
+struct Parts {
+    store: ExpressionStore,
+    params: Seq<Param<PatId>>,
+    self_param: Option<Param<BindingId>>,
+}
+
+impl Parts {
+    /// The first fault.
+    fn first_fault(&self, alloc: Global) -> Result<Option<BodyFault>, AllocError>
+        ensures { IfOk result (body_fault record { store = self.now.store; params = self.now.params; self_param = self.now.self_param }) }
+    {
+        first_fault(alloc, &self.store, self.params.as_slice(), self.self_param)
+    }
+
+    /// The body of parts without a fault.
+    fn accepted(self) -> Body
+        requires { body_fault record { store = self.store; params = self.params; self_param = self.self_param } None }
+        ensures { result ≡ record { store = self.store; params = self.params; self_param = self.self_param } }
+    {
+        let Parts {
+            store,
+            params,
+            self_param,
+        } = self;
+        Body {
+            store,
+            params,
+            self_param,
+        }
+    }
+
+    /// The parts, handed back.
+    fn refused(self, fault: BodyFault) -> RefusedBody
+        ensures { result ≡ record { fault = fault; store = self.store; params = self.params; self_param = self.self_param } }
+    {
+        let Parts {
+            store,
+            params,
+            self_param,
+        } = self;
+        RefusedBody {
+            fault,
+            store,
+            params,
+            self_param,
+        }
+    }
+}
+
+impl Body {
+    /// The body of these parts where they have no fault. Else the first fault, or `Memory` where a growth was refused, and the parts as
+    /// they were.
+    ///
+    /// It takes time in the number of nodes and parameters, and doesn't recurse.
+    pub fn new(
+        alloc: Global,
+        store: ExpressionStore,
+        params: Seq<Param<PatId>>,
+        self_param: Option<Param<BindingId>>,
+    ) -> Result<Body, RefusedBody>
+        ensures ok { IfOk result (λ body. (body ≡ record { store = store; params = params; self_param = self_param })
+            × body_fault record { store = store; params = params; self_param = self_param } None) }
+        ensures fault { IfErr result (λ refused. refused.fault ≡ BodyFault.Memory
+            ⊎ body_fault record { store = store; params = params; self_param = self_param } (Some refused.fault)) }
+        ensures parts { IfErr result (λ refused. (refused.store ≡ store) × (refused.params ≡ params) × (refused.self_param ≡ self_param)) }
+    {
+        let parts = Parts {
+            store,
+            params,
+            self_param,
+        };
+        let fault = match parts.first_fault(alloc) {
+            Ok(None) => return Ok(parts.accepted()),
+            Ok(Some(fault)) => fault,
+            Err(_) => BodyFault::Memory,
+        };
+        Err(parts.refused(fault))
+    }
+
+    /// Tells a proof that the body has no fault, and does nothing.
+    pub fn has_no_fault(&self)
+        ensures { body_fault self.now None }
+    {
+        let _ = &self.store;
+    }
+
+    /// The nodes and roots.
+    pub fn store(&self) -> &ExpressionStore
+        ensures { result.now ≡ self.now.store }
+    {
+        &self.store
+    }
+
+    /// The parameters in their order, without `self`.
+    pub fn params(&self) -> &[Param<PatId>]
+        ensures { result.now ≡ self.now.params }
+    {
+        self.params.as_slice()
+    }
+
+    /// The `self` parameter, where there is one.
+    pub fn self_param(&self) -> Option<Param<BindingId>>
+        ensures { result ≡ self.now.self_param }
+    {
+        self.self_param
+    }
+
+    /// What the body evaluates to: the last root. Earlier roots belong to the patterns of parameters.
+    pub fn root_expr(&self) -> ExprId
+        ensures { Some result ≡ last_root self.now.store }
+    {
+        match last_root(&self.store) {
+            Some(root) => root,
+            None => unreachable!(),
+        }
+    }
+
+    /// Whether this is the binding of `self`: the formal or the one that the user wrote.
+    pub fn is_any_self_param(&self, binding: BindingId) -> bool
+        ensures { IsTrue result ↔ IsAnySelf self.now binding }
+    {
+        match self.self_param {
+            Some(param) => param.formal == binding || param.user_written == binding,
+            None => false,
+        }
+    }
+}
+
+impl ExactEq for Body {
+    ghost use Rattle.hir_items.specs.SameBodies.{bodies_decide};
+
+    ghost eq_decides = { bodies_decide };
+}

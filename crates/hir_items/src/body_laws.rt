@@ -1,0 +1,36 @@
+//! Laws of bodies that a reader relies on, and that no call's contract says.
+//! Each is a function with no body to run: its contract is the law. `Body::has_no_fault` and `ExpressionStore::has_no_fault` tell what
+//! they ask for.
+
+ghost use Rattle.std.specs.Prelude.{◌≡◌, Option, None};
+ghost use Rattle.std.specs.Bool.{Decides};
+ghost use Rattle.hir_source.specs.Compared.{compared};
+ghost use Rattle.hir_accepted.specs.Contents.{contents_fault};
+ghost use Rattle.hir_faults.specs.Nodes.{Has};
+ghost use Rattle.std.specs.Prelude.{Contains};
+ghost use Rattle.hir_node.specs.ChildCalls.{Node};
+ghost use Rattle.hir_items.specs.declared.body_fault.BodyFault.{BodyFault};
+ghost use Rattle.hir_items.specs.declared.body_source_map.BodySourceMap.{BodySourceMap};
+ghost use Rattle.hir_items.specs.Bodies.{BodyParts, body_fault, tops, LieApart};
+
+use crate::body_source_map::BodySourceMap;
+
+/// The parts of a body have one first fault at most: a body is accepted exactly where there is none.
+pub fn first_body_fault_is_one()
+    ensures { (b : BodyParts) (f g : Option BodyFault) → body_fault b f → body_fault b g → f ≡ g }
+{}
+
+/// The formals and the last root of a body are there.
+pub fn tops_are_there()
+    ensures { (b : BodyParts) → contents_fault b.store None → body_fault b None → (n : Node) → Contains (tops b) n → Has b.store.nodes n }
+{}
+
+/// The formals and the last root of a body lie apart: nothing lies under two of them.
+pub fn tops_lie_apart()
+    ensures { (b : BodyParts) → contents_fault b.store None → body_fault b None → LieApart b.store.nodes (tops b) }
+{}
+
+/// Source maps of bodies are equal exactly where the compared parts of their stores' source maps are the same, and where `self` stands.
+pub fn source_maps_are_compared_by_their_parts()
+    ensures { (x y : BodySourceMap) → Decides (⟦<BodySourceMap as PartialEq>⟧.eq x y) ((compared x.store ≡ compared y.store) × (x.self_param_syntax ≡ y.self_param_syntax)) }
+{}

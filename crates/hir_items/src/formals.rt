@@ -1,0 +1,93 @@
+//! Formal parameters, and the tests of them one by one.
+
+ghost use Rattle.std.specs.Prelude.{◌≡◌, ◌<◌, ◌↔◌, All, IfNone, IfSome, IsTrue, length, map};
+ghost use Rattle.hir_base.specs.Exact.{exact};
+ghost use Rattle.hir_forest.specs.Verdict.{first_below};
+ghost use Rattle.hir_node.specs.ChildCalls.{Node, OfPat};
+ghost use Rattle.hir_accepted.specs.NodeSets.{IsIn};
+ghost use Rattle.hir_items.specs.Bodies.{AreBelow, formals_of, range_fault, repeated_fault, under_fault, GainsAll};
+
+use crate::body_fault::BodyFault;
+use hir_accepted::{ExpressionStore, NodeSet};
+use hir_base::{ExactEq, TryClone};
+use hir_node::{BindingId, PatId};
+
+/// A parameter as the body has it, and as the user wrote it.
+///
+/// The two differ where a body copies its parameters into local variables, as that of an `async fn` does.
+#[derive(Clone, Copy, PartialEq, Eq)]
+pub struct Param<Id> {
+    /// The parameter itself: the id that the analysis of a body is about.
+    pub formal: Id,
+    /// What the user wrote: the id that an editor is about.
+    pub user_written: Id,
+}
+
+impl<Id: ExactEq> ExactEq for Param<Id> {
+    ghost eq_decides = { Prim.search (exact, Id.eq_decides) };
+}
+
+impl<Id: TryClone> TryClone for Param<Id> {
+    ghost clone_is_same = { Prim.search (exact, Id.clone_is_same) };
+}
+
+/// Whether both bindings of the self parameter are there; without one there is nothing to ask.
+pub(crate) fn self_is_there(store: &ExpressionStore, self_param: Option<Param<BindingId>>) -> bool
+    ensures { IsTrue result ↔ IfSome self_param (AreBelow (length store.now.nodes.bindings)) }
+{
+    match self_param {
+        Some(param) => { store.has_binding(param.formal) && store.has_binding(param.user_written) }
+        None => true,
+    }
+}
+
+/// Whether both patterns of a parameter are there.
+fn param_is_there(store: &ExpressionStore, param: Param<PatId>) -> bool
+    ensures { IsTrue result ↔ AreBelow (length store.now.nodes.pats) param }
+{
+    store.has_pat(param.formal) && store.has_pat(param.user_written)
+}
+
+/// The first parameter with a pattern that isn't there.
+pub(crate) fn first_out_of_range(
+    store: &ExpressionStore,
+    params: &[Param<PatId>],
+) -> Option<BodyFault>
+    ensures { first_below (length params.now) (range_fault (length store.now.nodes.pats) params.now) result }
+{
+    for (i, param) in params.iter().enumerate() {
+        if !param_is_there(store, *param) {
+            return Some(BodyFault::ParamOutOfRange(i));
+        }
+    }
+    None
+}
+
+/// Puts the formals into a set that has none of them. The fault is a formal that is in it already.
+pub(crate) fn add_formals(params: &[Param<PatId>], set: &mut NodeSet) -> Option<BodyFault>
+    requires there { All (λ p. p.formal < set.old.sizes.pats) params.now }
+    requires none { (n : Node) → IsIn set.old n → ⊥ }
+    ensures fault { first_below (length params.now) (repeated_fault (formals_of params.now)) result }
+    ensures added { IfNone result (GainsAll set.old (map OfPat (formals_of params.now)) set.new) }
+{
+    for (i, param) in params.iter().enumerate() {
+        if set.has_pat(param.formal) {
+            return Some(BodyFault::ParamRepeated(i));
+        }
+        set.add_pat(param.formal);
+    }
+    None
+}
+
+/// The first formal that is among the nodes that lie under others.
+pub(crate) fn first_under(params: &[Param<PatId>], under: &NodeSet) -> Option<BodyFault>
+    requires there { All (λ p. p.formal < under.now.sizes.pats) params.now }
+    ensures { first_below (length params.now) (under_fault (IsIn under.now) (formals_of params.now)) result }
+{
+    for (i, param) in params.iter().enumerate() {
+        if under.has_pat(param.formal) {
+            return Some(BodyFault::ParamUnder(i));
+        }
+    }
+    None
+}

@@ -1,0 +1,112 @@
+//! The generic parameters of a definition, and its body, looked up in what keeps them.
+
+ghost use Rattle.std.specs.Prelude.{◌≡◌, Option, None, Some, IfOk, IfErr};
+ghost use Rattle.std.specs.Option.{option_map};
+ghost use Rattle.hir_base.specs.declared.defs.GenericDefId.{GenericDefId};
+ghost use Rattle.hir_base.specs.declared.defs.DefWithBodyId.{DefWithBodyId};
+ghost use Rattle.hir_accepted.specs.declared.missing.Missing.TheVariants as missing;
+ghost use Rattle.hir_items.specs.Lookups.{Signed, Embodied, without_source_map};
+
+use crate::body::Body;
+use crate::body_source_map::BodySourceMap;
+use crate::generic_params::GenericParams;
+use hir_accepted::{ExpressionStore, Missing};
+use hir_base::{DefWithBodyId, GenericDefId};
+use hir_source::ExpressionStoreSourceMap;
+
+/// What keeps the signatures of definitions.
+pub trait Signatures {
+    // what is kept of a definition
+    ghost signed: { Self → GenericDefId → Option Signed };
+
+    /// The generic parameters of the definition, the store that they name, and where that comes from.
+    ///
+    /// Answers `Missing::Signature` of the definition where there is no signature of it.
+    fn signature_of(
+        &self,
+        def: GenericDefId,
+    ) -> Result<(&GenericParams, &ExpressionStore, &ExpressionStoreSourceMap), Missing>
+        ensures found { IfOk result (λ found. signed self.now def ≡ Some (found.0.now, found.1.now, found.2.now)) }
+        ensures absent { IfErr result (λ absent. (absent ≡ missing.Signature def) × (signed self.now def ≡ None)) };
+}
+
+/// What keeps the bodies of definitions.
+pub trait Bodies {
+    // what is kept of a definition
+    ghost embodied: { Self → DefWithBodyId → Option Embodied };
+
+    /// The body of the definition, and where it comes from.
+    ///
+    /// Answers `Missing::Body` of the definition where there is none of it.
+    fn body_of(&self, def: DefWithBodyId) -> Result<(&Body, &BodySourceMap), Missing>
+        ensures found { IfOk result (λ found. embodied self.now def ≡ Some (found.0.now, found.1.now)) }
+        ensures absent { IfErr result (λ absent. (absent ≡ missing.Body def) × (embodied self.now def ≡ None)) };
+}
+
+/// Looking up the generic parameters of a definition.
+impl GenericParams {
+    /// The parameters of the definition: none of a constant or a static that is there.
+    ///
+    /// Answers `Missing::Signature` of the definition where the tables have no signature of it.
+    pub fn of<T: Signatures>(tables: &T, def: GenericDefId) -> Result<&GenericParams, Missing>
+        ensures found { IfOk result (λ found. option_map (λ entry. entry.0) (T.signed tables.now def) ≡ Some found.now) }
+        ensures absent { IfErr result (λ absent. (absent ≡ missing.Signature def) × (T.signed tables.now def ≡ None)) }
+    {
+        let (params, _, _) = tables.signature_of(def)?;
+        Ok(params)
+    }
+
+    /// The parameters of the definition, and the store that they name.
+    ///
+    /// Answers `Missing::Signature` of the definition where the tables have no signature of it.
+    pub fn with_store<T: Signatures>(
+        tables: &T,
+        def: GenericDefId,
+    ) -> Result<(&GenericParams, &ExpressionStore), Missing>
+        ensures found { IfOk result (λ found. option_map without_source_map (T.signed tables.now def) ≡ Some (found.0.now, found.1.now)) }
+        ensures absent { IfErr result (λ absent. (absent ≡ missing.Signature def) × (T.signed tables.now def ≡ None)) }
+    {
+        let (params, store, _) = tables.signature_of(def)?;
+        Ok((params, store))
+    }
+
+    /// The parameters of the definition, the store that they name, and where that comes from.
+    ///
+    /// Answers `Missing::Signature` of the definition where the tables have no signature of it.
+    pub fn with_source_map<T: Signatures>(
+        tables: &T,
+        def: GenericDefId,
+    ) -> Result<(&GenericParams, &ExpressionStore, &ExpressionStoreSourceMap), Missing>
+        ensures found { IfOk result (λ found. T.signed tables.now def ≡ Some (found.0.now, found.1.now, found.2.now)) }
+        ensures absent { IfErr result (λ absent. (absent ≡ missing.Signature def) × (T.signed tables.now def ≡ None)) }
+    {
+        tables.signature_of(def)
+    }
+}
+
+/// Looking up the body of a definition.
+impl Body {
+    /// The body of the definition.
+    ///
+    /// Answers `Missing::Body` of the definition where the tables have none of it.
+    pub fn of<T: Bodies>(tables: &T, def: DefWithBodyId) -> Result<&Body, Missing>
+        ensures found { IfOk result (λ found. option_map (λ entry. entry.0) (T.embodied tables.now def) ≡ Some found.now) }
+        ensures absent { IfErr result (λ absent. (absent ≡ missing.Body def) × (T.embodied tables.now def ≡ None)) }
+    {
+        let (body, _) = tables.body_of(def)?;
+        Ok(body)
+    }
+
+    /// The body of the definition, and where it comes from.
+    ///
+    /// Answers `Missing::Body` of the definition where the tables have none of it.
+    pub fn with_source_map<T: Bodies>(
+        tables: &T,
+        def: DefWithBodyId,
+    ) -> Result<(&Body, &BodySourceMap), Missing>
+        ensures found { IfOk result (λ found. T.embodied tables.now def ≡ Some (found.0.now, found.1.now)) }
+        ensures absent { IfErr result (λ absent. (absent ≡ missing.Body def) × (T.embodied tables.now def ≡ None)) }
+    {
+        tables.body_of(def)
+    }
+}

@@ -1,0 +1,48 @@
+//! Why a signature is refused.
+
+ghost use Rattle.hir_items.specs.Signatures.{ids_fault};
+
+use hir_base::ExactEq;
+use thiserror::Error;
+
+/// Why a signature is refused: the first of its faults, in this order. The text is the name.
+#[derive(Clone, Copy, Debug, Drop, PartialEq, Eq, Error)]
+pub enum SignatureFault {
+    /// An id of the lists, the return type, the parameters or the predicates isn't in the store.
+    #[error("IdOutOfRange")]
+    IdOutOfRange,
+    /// A bound of a predicate names as a path a type that is none.
+    #[error("NotAPath")]
+    NotAPath,
+    /// Memory was refused. The tests take none, so no maker answers it.
+    #[error("Memory")]
+    Memory,
+}
+
+impl ExactEq for SignatureFault {
+    ghost use Rattle.hir_base.specs.Exact.{exact};
+
+    ghost eq_decides = { Prim.search exact };
+}
+
+/// The parts of a signature that was refused, as they were, with their first fault.
+#[derive(Drop, PartialEq, Eq)]
+#[derive_where(Debug)]
+pub struct RefusedSignature<P> {
+    pub fault: SignatureFault,
+    #[derive_where(skip(Debug))]
+    pub parts: P,
+}
+
+/// The first fault, where it is known whether all ids are there, and whether what is named as a path is one.
+pub(crate) fn ids_fault(there: bool, paths: bool) -> Option<SignatureFault>
+    ensures { ids_fault there paths result }
+{
+    if !there {
+        return Some(SignatureFault::IdOutOfRange);
+    }
+    if !paths {
+        return Some(SignatureFault::NotAPath);
+    }
+    None
+}

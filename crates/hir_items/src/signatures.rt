@@ -1,0 +1,549 @@
+//! Signatures of definitions, and the fields of variants. Each holds the store in which its ids are, and no id that isn't there.
+
+ghost use Rattle.std.specs.Prelude.{◌≡◌, None, Some, IfOk, IfErr};
+ghost use Rattle.std.specs.Option.{option_map};
+ghost use Rattle.hir_items.specs.Signatures.{function_fault, struct_fault, fields_fault, plain_fault};
+
+use crate::generic_params::GenericParams;
+use crate::named_ids::{generics_name_paths, has_fields, has_generics, has_type_opt, has_types};
+use crate::signature_fault::{RefusedSignature, SignatureFault, ids_fault};
+use hir_accepted::ExpressionStore;
+use hir_base::{ExactEq, ExternAbi, ModPath, Name, Seq};
+use hir_node::{ExprId, TypeRefId};
+use std::marker::Model;
+
+/// How fields are written: `{ .. }`, `( .. )`, or not at all.
+#[derive(Clone, Copy, PartialEq, Eq)]
+pub enum FieldsShape {
+    Record,
+    Tuple,
+    Unit,
+}
+
+impl ExactEq for FieldsShape {
+    ghost use Rattle.hir_items.specs.SameSignatures.{shapes_decide};
+
+    ghost eq_decides = { shapes_decide };
+}
+
+/// From where a field may be seen.
+#[derive(Drop, PartialEq, Eq)]
+pub enum RawVisibility {
+    /// `pub(in path)`, or private: from this module.
+    Module(ModPath),
+    /// `pub`
+    Public,
+    /// `pub(crate)`
+    PubCrate,
+    /// `pub(self)`
+    PubSelf,
+}
+
+impl ExactEq for RawVisibility {
+    ghost use Rattle.hir_items.specs.SameSignatures.{visibilities_decide};
+
+    ghost eq_decides = { visibilities_decide };
+}
+
+/// A field.
+#[derive(Drop, PartialEq, Eq)]
+pub struct FieldData {
+    pub name: Name,
+    pub type_ref: TypeRefId,
+    pub visibility: RawVisibility,
+    /// Whether it is an `unsafe` field.
+    pub is_unsafe: bool,
+    /// What it is where a record literal leaves it out.
+    pub default_value: Option<ExprId>,
+}
+
+impl ExactEq for FieldData {
+    ghost use Rattle.hir_items.specs.SameSignatures.{fields_decide};
+
+    ghost eq_decides = { fields_decide };
+}
+
+/// What the signature of a function is made of.
+#[derive(Drop, PartialEq, Eq)]
+pub struct FunctionParts {
+    /// Its name.
+    pub name: Name,
+    /// Its generic parameters.
+    pub generic_params: GenericParams,
+    /// The types that the signature names.
+    pub store: ExpressionStore,
+    /// The types of the parameters, in their order.
+    pub params: Seq<TypeRefId>,
+    /// The return type, where one is written.
+    pub ret_type: Option<TypeRefId>,
+    /// The calling convention.
+    pub abi: ExternAbi,
+    /// Whether it is `const`.
+    pub is_const: bool,
+    /// Whether it is `async`.
+    pub is_async: bool,
+    /// Whether it is `unsafe`.
+    pub is_unsafe: bool,
+    /// Whether it is written `safe`.
+    pub is_explicit_safe: bool,
+    /// The places of the arguments that are given to constant parameters, where there are such.
+    pub legacy_const_indices: Option<Seq<u32>>,
+}
+
+impl ExactEq for FunctionParts {
+    ghost use Rattle.hir_items.specs.SameSignatures.{functions_decide};
+
+    ghost eq_decides = { functions_decide };
+}
+
+impl FunctionParts {
+    fn first_fault(&self) -> Option<SignatureFault>
+        ensures { function_fault self.now result }
+    {
+        let there = has_generics(&self.store, &self.generic_params)
+            && has_types(&self.store, self.params.as_slice())
+            && has_type_opt(&self.store, self.ret_type);
+        ids_fault(
+            there,
+            generics_name_paths(&self.store, &self.generic_params),
+        )
+    }
+}
+
+/// The signature of a function.
+#[derive(PartialEq, Eq)]
+pub struct FunctionSignature {
+    function: FunctionParts,
+}
+
+/// Its parts go one after the other. It stands here, so that it is proved once, and is a call wherever a value is dropped.
+impl Drop for FunctionSignature {
+    fn drop(self) {
+        let FunctionSignature { function } = self;
+    }
+}
+
+impl ExactEq for FunctionSignature {
+    ghost use Rattle.hir_items.specs.SameSignatures.{functions_decide};
+
+    ghost eq_decides = { functions_decide };
+}
+
+impl Model for FunctionSignature {
+    ghost use Rattle.std.specs.Prelude.{None};
+    ghost use Rattle.hir_items.specs.Signatures.{function_fault};
+    ghost use Rattle.hir_items.specs.declared.signatures.FunctionParts.{FunctionParts};
+
+    ghost Value = { FunctionParts };
+
+    ghost use Rattle.std.specs.Coded.{codes};
+    ghost use Rattle.hir_accepted.specs.contracts.store.ExpressionStore as stored;
+
+    ghost coded = { Prim.hlevel (codes, stored.the_row.coded) };
+
+    ghost view = { λ s. s.function };
+
+    ghost inverse = { λ p. record { function = p } };
+
+    ghost invariant = { λ s. function_fault s.function None };
+}
+
+impl FunctionSignature {
+    /// The signature of these parts. Else their first fault, and the parts as they were. It takes no memory.
+    pub fn new(parts: FunctionParts) -> Result<FunctionSignature, RefusedSignature<FunctionParts>>
+        ensures ok { IfOk result (λ made. (made ≡ parts) × function_fault parts None) }
+        ensures err { IfErr result (λ refused. (refused.parts ≡ parts) × function_fault parts (Some refused.fault)) }
+    {
+        match parts.first_fault() {
+            None => Ok(FunctionSignature { function: parts }),
+            Some(fault) => Err(RefusedSignature { fault, parts }),
+        }
+    }
+
+    /// Its name.
+    pub fn name(&self) -> &Name
+        ensures { result.now ≡ self.now.name }
+    {
+        &self.function.name
+    }
+
+    /// Its generic parameters.
+    pub fn generic_params(&self) -> &GenericParams
+        ensures { result.now ≡ self.now.generic_params }
+    {
+        &self.function.generic_params
+    }
+
+    /// The types that the signature names.
+    pub fn store(&self) -> &ExpressionStore
+        ensures { result.now ≡ self.now.store }
+    {
+        &self.function.store
+    }
+
+    /// The types of the parameters, in their order.
+    pub fn params(&self) -> &[TypeRefId]
+        ensures { result.now ≡ self.now.params }
+    {
+        self.function.params.as_slice()
+    }
+
+    /// The return type, where one is written.
+    pub fn ret_type(&self) -> Option<TypeRefId>
+        ensures { result ≡ self.now.ret_type }
+    {
+        self.function.ret_type
+    }
+
+    /// The calling convention.
+    pub fn abi(&self) -> &ExternAbi
+        ensures { result.now ≡ self.now.abi }
+    {
+        &self.function.abi
+    }
+
+    /// Whether it is `const`.
+    pub fn is_const(&self) -> bool
+        ensures { result ≡ self.now.is_const }
+    {
+        self.function.is_const
+    }
+
+    /// Whether it is `async`.
+    pub fn is_async(&self) -> bool
+        ensures { result ≡ self.now.is_async }
+    {
+        self.function.is_async
+    }
+
+    /// Whether it is `unsafe`.
+    pub fn is_unsafe(&self) -> bool
+        ensures { result ≡ self.now.is_unsafe }
+    {
+        self.function.is_unsafe
+    }
+
+    /// Whether it is written `safe`.
+    pub fn is_explicit_safe(&self) -> bool
+        ensures { result ≡ self.now.is_explicit_safe }
+    {
+        self.function.is_explicit_safe
+    }
+
+    /// The places of the arguments that are given to constant parameters, where there are such.
+    pub fn legacy_const_indices(&self) -> Option<&[u32]>
+        ensures { option_map (λ list. list.now) result ≡ self.now.legacy_const_indices }
+    {
+        let indices = self.function.legacy_const_indices.as_ref();
+        indices.map(Seq::as_slice)
+    }
+}
+
+/// What the signature of a struct is made of.
+#[derive(Drop, PartialEq, Eq)]
+pub struct StructParts {
+    /// Its name.
+    pub name: Name,
+    /// Its generic parameters.
+    pub generic_params: GenericParams,
+    /// The types that the signature names.
+    pub store: ExpressionStore,
+    /// Whether it is `#[fundamental]`.
+    pub is_fundamental: bool,
+    /// How its fields are written.
+    pub shape: FieldsShape,
+}
+
+impl ExactEq for StructParts {
+    ghost use Rattle.hir_items.specs.SameSignatures.{structs_decide};
+
+    ghost eq_decides = { structs_decide };
+}
+
+impl StructParts {
+    fn first_fault(&self) -> Option<SignatureFault>
+        ensures { struct_fault self.now result }
+    {
+        let there = has_generics(&self.store, &self.generic_params);
+        ids_fault(
+            there,
+            generics_name_paths(&self.store, &self.generic_params),
+        )
+    }
+}
+
+/// The signature of a struct.
+#[derive(PartialEq, Eq)]
+pub struct StructSignature {
+    structure: StructParts,
+}
+
+/// Its parts go one after the other. It stands here, so that it is proved once, and is a call wherever a value is dropped.
+impl Drop for StructSignature {
+    fn drop(self) {
+        let StructSignature { structure } = self;
+    }
+}
+
+impl ExactEq for StructSignature {
+    ghost use Rattle.hir_items.specs.SameSignatures.{structs_decide};
+
+    ghost eq_decides = { structs_decide };
+}
+
+impl Model for StructSignature {
+    ghost use Rattle.std.specs.Prelude.{None};
+    ghost use Rattle.hir_items.specs.Signatures.{struct_fault};
+    ghost use Rattle.hir_items.specs.declared.signatures.StructParts.{StructParts};
+
+    ghost Value = { StructParts };
+
+    ghost use Rattle.std.specs.Coded.{codes};
+    ghost use Rattle.hir_accepted.specs.contracts.store.ExpressionStore as stored;
+
+    ghost coded = { Prim.hlevel (codes, stored.the_row.coded) };
+
+    ghost view = { λ s. s.structure };
+
+    ghost inverse = { λ p. record { structure = p } };
+
+    ghost invariant = { λ s. struct_fault s.structure None };
+}
+
+impl StructSignature {
+    /// The signature of these parts. Else their first fault, and the parts as they were. It takes no memory.
+    pub fn new(parts: StructParts) -> Result<StructSignature, RefusedSignature<StructParts>>
+        ensures ok { IfOk result (λ made. (made ≡ parts) × struct_fault parts None) }
+        ensures err { IfErr result (λ refused. (refused.parts ≡ parts) × struct_fault parts (Some refused.fault)) }
+    {
+        match parts.first_fault() {
+            None => Ok(StructSignature { structure: parts }),
+            Some(fault) => Err(RefusedSignature { fault, parts }),
+        }
+    }
+
+    /// Its name.
+    pub fn name(&self) -> &Name
+        ensures { result.now ≡ self.now.name }
+    {
+        &self.structure.name
+    }
+
+    /// Its generic parameters.
+    pub fn generic_params(&self) -> &GenericParams
+        ensures { result.now ≡ self.now.generic_params }
+    {
+        &self.structure.generic_params
+    }
+
+    /// The types that the signature names.
+    pub fn store(&self) -> &ExpressionStore
+        ensures { result.now ≡ self.now.store }
+    {
+        &self.structure.store
+    }
+
+    /// Whether it is `#[fundamental]`.
+    pub fn is_fundamental(&self) -> bool
+        ensures { result ≡ self.now.is_fundamental }
+    {
+        self.structure.is_fundamental
+    }
+
+    /// How its fields are written.
+    pub fn shape(&self) -> FieldsShape
+        ensures { result ≡ self.now.shape }
+    {
+        self.structure.shape
+    }
+}
+
+/// What the signature of a struct, a union or a variant of an enum, as its fields is made of.
+#[derive(Drop, PartialEq, Eq)]
+pub struct VariantParts {
+    /// How the fields are written.
+    pub shape: FieldsShape,
+    /// The fields, in their order.
+    pub fields: Seq<FieldData>,
+    /// The types and defaults that the fields name.
+    pub store: ExpressionStore,
+}
+
+impl ExactEq for VariantParts {
+    ghost use Rattle.hir_items.specs.SameSignatures.{variants_decide};
+
+    ghost eq_decides = { variants_decide };
+}
+
+impl VariantParts {
+    fn first_fault(&self) -> Option<SignatureFault>
+        ensures { fields_fault self.now result }
+    {
+        let there = has_fields(&self.store, self.fields.as_slice());
+        ids_fault(there, true)
+    }
+}
+
+/// The signature of a struct, a union or a variant of an enum, as its fields.
+#[derive(PartialEq, Eq)]
+pub struct VariantFields {
+    variant: VariantParts,
+}
+
+/// Its parts go one after the other. It stands here, so that it is proved once, and is a call wherever a value is dropped.
+impl Drop for VariantFields {
+    fn drop(self) {
+        let VariantFields { variant } = self;
+    }
+}
+
+impl ExactEq for VariantFields {
+    ghost use Rattle.hir_items.specs.SameSignatures.{variants_decide};
+
+    ghost eq_decides = { variants_decide };
+}
+
+impl Model for VariantFields {
+    ghost use Rattle.std.specs.Prelude.{None};
+    ghost use Rattle.hir_items.specs.Signatures.{fields_fault};
+    ghost use Rattle.hir_items.specs.declared.signatures.VariantParts.{VariantParts};
+
+    ghost Value = { VariantParts };
+
+    ghost use Rattle.std.specs.Coded.{codes};
+    ghost use Rattle.hir_accepted.specs.contracts.store.ExpressionStore as stored;
+
+    ghost coded = { Prim.hlevel (codes, stored.the_row.coded) };
+
+    ghost view = { λ s. s.variant };
+
+    ghost inverse = { λ p. record { variant = p } };
+
+    ghost invariant = { λ s. fields_fault s.variant None };
+}
+
+impl VariantFields {
+    /// The signature of these parts. Else their first fault, and the parts as they were. It takes no memory.
+    pub fn new(parts: VariantParts) -> Result<VariantFields, RefusedSignature<VariantParts>>
+        ensures ok { IfOk result (λ made. (made ≡ parts) × fields_fault parts None) }
+        ensures err { IfErr result (λ refused. (refused.parts ≡ parts) × fields_fault parts (Some refused.fault)) }
+    {
+        match parts.first_fault() {
+            None => Ok(VariantFields { variant: parts }),
+            Some(fault) => Err(RefusedSignature { fault, parts }),
+        }
+    }
+
+    /// How the fields are written.
+    pub fn shape(&self) -> FieldsShape
+        ensures { result ≡ self.now.shape }
+    {
+        self.variant.shape
+    }
+
+    /// The fields, in their order.
+    pub fn fields(&self) -> &[FieldData]
+        ensures { result.now ≡ self.now.fields }
+    {
+        self.variant.fields.as_slice()
+    }
+
+    /// The types and defaults that the fields name.
+    pub fn store(&self) -> &ExpressionStore
+        ensures { result.now ≡ self.now.store }
+    {
+        &self.variant.store
+    }
+}
+
+/// What the signature of a definition of which only the generic parameters are kept is made of.
+#[derive(Drop, PartialEq, Eq)]
+pub struct PlainParts {
+    /// Its generic parameters.
+    pub generic_params: GenericParams,
+    /// The types that the signature names.
+    pub store: ExpressionStore,
+}
+
+impl ExactEq for PlainParts {
+    ghost use Rattle.hir_items.specs.SameSignatures.{plains_decide};
+
+    ghost eq_decides = { plains_decide };
+}
+
+impl PlainParts {
+    fn first_fault(&self) -> Option<SignatureFault>
+        ensures { plain_fault self.now result }
+    {
+        let there = has_generics(&self.store, &self.generic_params);
+        ids_fault(
+            there,
+            generics_name_paths(&self.store, &self.generic_params),
+        )
+    }
+}
+
+/// The signature of a definition of which only the generic parameters are kept.
+#[derive(PartialEq, Eq)]
+pub struct PlainSignature {
+    plain: PlainParts,
+}
+
+/// Its parts go one after the other. It stands here, so that it is proved once, and is a call wherever a value is dropped.
+impl Drop for PlainSignature {
+    fn drop(self) {
+        let PlainSignature { plain } = self;
+    }
+}
+
+impl ExactEq for PlainSignature {
+    ghost use Rattle.hir_items.specs.SameSignatures.{plains_decide};
+
+    ghost eq_decides = { plains_decide };
+}
+
+impl Model for PlainSignature {
+    ghost use Rattle.std.specs.Prelude.{None};
+    ghost use Rattle.hir_items.specs.Signatures.{plain_fault};
+    ghost use Rattle.hir_items.specs.declared.signatures.PlainParts.{PlainParts};
+
+    ghost Value = { PlainParts };
+
+    ghost use Rattle.std.specs.Coded.{codes};
+    ghost use Rattle.hir_accepted.specs.contracts.store.ExpressionStore as stored;
+
+    ghost coded = { Prim.hlevel (codes, stored.the_row.coded) };
+
+    ghost view = { λ s. s.plain };
+
+    ghost inverse = { λ p. record { plain = p } };
+
+    ghost invariant = { λ s. plain_fault s.plain None };
+}
+
+impl PlainSignature {
+    /// The signature of these parts. Else their first fault, and the parts as they were. It takes no memory.
+    pub fn new(parts: PlainParts) -> Result<PlainSignature, RefusedSignature<PlainParts>>
+        ensures ok { IfOk result (λ made. (made ≡ parts) × plain_fault parts None) }
+        ensures err { IfErr result (λ refused. (refused.parts ≡ parts) × plain_fault parts (Some refused.fault)) }
+    {
+        match parts.first_fault() {
+            None => Ok(PlainSignature { plain: parts }),
+            Some(fault) => Err(RefusedSignature { fault, parts }),
+        }
+    }
+
+    /// Its generic parameters.
+    pub fn generic_params(&self) -> &GenericParams
+        ensures { result.now ≡ self.now.generic_params }
+    {
+        &self.plain.generic_params
+    }
+
+    /// The types that the signature names.
+    pub fn store(&self) -> &ExpressionStore
+        ensures { result.now ≡ self.now.store }
+    {
+        &self.plain.store
+    }
+}
