@@ -45,9 +45,9 @@ pub trait Bodies {
 
 /// Looking up the generic parameters of a definition.
 impl GenericParams {
-    /// The parameters of the definition: none of a constant or a static that is there.
+    /// The parameters of the definition.
     ///
-    /// Answers `Missing::Signature` of the definition where the tables have no signature of it.
+    /// Answers `Missing::Signature` of the definition where there is no signature of it.
     pub fn of<T: Signatures>(tables: &T, def: GenericDefId) -> Result<&GenericParams, Missing>
         ensures found { IfOk result (λ found. option_map (λ entry. entry.0) (T.signed tables.now def) ≡ Some found.now) }
         ensures absent { IfErr result (λ absent. (absent ≡ missing.Signature def) × (T.signed tables.now def ≡ None)) }
@@ -58,7 +58,7 @@ impl GenericParams {
 
     /// The parameters of the definition, and the store that they name.
     ///
-    /// Answers `Missing::Signature` of the definition where the tables have no signature of it.
+    /// Answers `Missing::Signature` of the definition where there is no signature of it.
     pub fn with_store<T: Signatures>(
         tables: &T,
         def: GenericDefId,
@@ -72,7 +72,7 @@ impl GenericParams {
 
     /// The parameters of the definition, the store that they name, and where that comes from.
     ///
-    /// Answers `Missing::Signature` of the definition where the tables have no signature of it.
+    /// Answers `Missing::Signature` of the definition where there is no signature of it.
     pub fn with_source_map<T: Signatures>(
         tables: &T,
         def: GenericDefId,
@@ -88,7 +88,7 @@ impl GenericParams {
 impl Body {
     /// The body of the definition.
     ///
-    /// Answers `Missing::Body` of the definition where the tables have none of it.
+    /// Answers `Missing::Body` of the definition where there is none of it.
     pub fn of<T: Bodies>(tables: &T, def: DefWithBodyId) -> Result<&Body, Missing>
         ensures found { IfOk result (λ found. option_map (λ entry. entry.0) (T.embodied tables.now def) ≡ Some found.now) }
         ensures absent { IfErr result (λ absent. (absent ≡ missing.Body def) × (T.embodied tables.now def ≡ None)) }
@@ -99,7 +99,7 @@ impl Body {
 
     /// The body of the definition, and where it comes from.
     ///
-    /// Answers `Missing::Body` of the definition where the tables have none of it.
+    /// Answers `Missing::Body` of the definition where there is none of it.
     pub fn with_source_map<T: Bodies>(
         tables: &T,
         def: DefWithBodyId,
