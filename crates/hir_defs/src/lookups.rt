@@ -8,7 +8,7 @@ ghost use Rattle.std.specs.FinMap as map;
 ghost use Rattle.hir_base.specs.declared.defs.AdtId.TheVariants as adt;
 ghost use Rattle.hir_base.specs.declared.defs.GenericDefId.TheVariants as generic;
 ghost use Rattle.hir_base.specs.declared.defs.ExpressionStoreOwnerId.{ExpressionStoreOwnerId};
-ghost use Rattle.hir_accepted.specs.declared.missing.Missing.TheVariants as missing;
+ghost use Rattle.hir_expr_store.specs.declared.missing.Missing.TheVariants as missing;
 ghost use Rattle.hir_source.specs.declared.source_map.ExpressionStoreSourceMap.{ExpressionStoreSourceMap};
 ghost use Rattle.hir_defs.specs.Tables.{plain_code, generic_def};
 ghost use Rattle.hir_defs.specs.Lookups.{Tables, function_entry, struct_entry, plain_entry, value_entry, of_adt, owned, missing_owner};
@@ -16,7 +16,7 @@ ghost use Rattle.hir_defs.specs.Lookups.{Tables, function_entry, struct_entry, p
 use crate::no_generics::NoGenerics;
 use crate::plain_def::PlainDef;
 use crate::tables::{Tables, entry};
-use hir_accepted::{ExpressionStore, Missing};
+use hir_expr_store::{ExpressionStore, Missing};
 use hir_base::{
     AdtId, DefWithBodyId, ExpressionStoreOwnerId, FunctionId, GenericDefId, StructId, Table,
 };

@@ -7,12 +7,12 @@ ghost use Rattle.hir_base.specs.Keys.{named_code, fields_code, body_code};
 ghost use Rattle.hir_base.specs.RawWords.{no_words, words_of, with_words};
 ghost use Rattle.hir_base.specs.declared.defs.GenericDefId.TheVariants as generic;
 ghost use Rattle.hir_base.specs.declared.defs.AdtId.TheVariants as adt;
-ghost use Rattle.hir_accepted.specs.declared.missing.Missing.TheVariants as missing;
+ghost use Rattle.hir_expr_store.specs.declared.missing.Missing.TheVariants as missing;
 ghost use Rattle.hir_defs.specs.Tables.{plain_code, generic_def};
 
 use crate::no_generics::NoGenerics;
 use crate::plain_def::{PlainDef, Repr};
-use hir_accepted::Missing;
+use hir_expr_store::Missing;
 use hir_base::{
     AdtId, CrateId, DefWithBodyId, Edition, EnumId, EnumVariantId, FunctionId, GenericDefId, Keyed,
     NamedDef, RawWords, Seq, StructId, Table, Text, VariantId,

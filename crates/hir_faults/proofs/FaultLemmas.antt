@@ -12,8 +12,8 @@ use Rattle.hir_node.specs.ChildCalls.{Call, OnExpr, OnAnonConst, OnPat, OnType, 
 use Rattle.hir_forest.specs.Forest.{IsForest}
 use Rattle.hir_forest.proofs.HeightLemmas.{forest_from_none}
 use Rattle.hir_faults.specs.declared.sizes.Sizes.{Sizes}
-use Rattle.hir_faults.specs.declared.fault.NodeId.{NodeId}
-use Rattle.hir_faults.specs.declared.fault.NodeId.TheVariants as named
+use Rattle.hir_node.specs.declared.node_id.NodeId.{NodeId}
+use Rattle.hir_node.specs.declared.node_id.NodeId.TheVariants as node
 use Rattle.hir_faults.specs.Sizes.{is_there, place, places}
 use Rattle.hir_faults.specs.Parts.{Parts, expr_parts, pat_parts, type_parts, names_there}
 use Rattle.hir_faults.specs.Nodes.{Nodes, sizes_of, graph}
@@ -89,9 +89,9 @@ pub kids_there : (s : Nodes) → first_bad_node s None → All (λ n. n < length
 unfolding first_bad_node
 kids_there s h =
     let z = sizes_of s in
-    let exprs = rw (map-map (λ x. places z x.calls) expr_parts s.exprs) at (of_sort z s.types named.Expr (map expr_parts s.exprs) h.0) in
-    let pats = rw (map-map (λ x. places z x.calls) pat_parts s.pats) at (of_sort z s.types named.Pat (map pat_parts s.pats) h.1.0) in
-    let types = rw (map-map (λ x. places z x.calls) type_parts s.types) at (of_sort z s.types named.TypeRef (map type_parts s.types) h.1.1) in
+    let exprs = rw (map-map (λ x. places z x.calls) expr_parts s.exprs) at (of_sort z s.types node.Expr (map expr_parts s.exprs) h.0) in
+    let pats = rw (map-map (λ x. places z x.calls) pat_parts s.pats) at (of_sort z s.types node.Pat (map pat_parts s.pats) h.1.0) in
+    let types = rw (map-map (λ x. places z x.calls) type_parts s.types) at (of_sort z s.types node.TypeRef (map type_parts s.types) h.1.1) in
     let below : ℕ → Type 0 = λ n. n < z.exprs + z.pats + z.types in
     rw (graph-length s, graph-is s, concat-append, concat-append) (All-append below _ _ (All-append below _ _ exprs pats) types)
 

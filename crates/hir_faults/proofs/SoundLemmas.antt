@@ -12,10 +12,10 @@ use Rattle.hir_forest.proofs.HeightLemmas.{height_falls, height_bounded}
 use Rattle.hir_node.specs.declared.expr.Expr.{Expr}
 use Rattle.hir_node.specs.declared.pat.Pat.{Pat}
 use Rattle.hir_node.specs.declared.type_ref.TypeRef.{TypeRef}
-use Rattle.hir_node.specs.ChildCalls.{Call, OnExpr, OnAnonConst, OnPat, OnType, OnLifetime, Node, OfExpr, OfPat, OfType, expr_calls, pat_calls, type_calls, opt, kids}
+use Rattle.hir_node.specs.ChildCalls.{Call, OnExpr, OnAnonConst, OnPat, OnType, OnLifetime, expr_calls, pat_calls, type_calls, opt, kids}
 use Rattle.hir_faults.specs.declared.sizes.Sizes.{Sizes}
-use Rattle.hir_faults.specs.declared.fault.NodeId.{NodeId}
-use Rattle.hir_faults.specs.declared.fault.NodeId.TheVariants as named
+use Rattle.hir_node.specs.declared.node_id.NodeId.{NodeId}
+use Rattle.hir_node.specs.declared.node_id.NodeId.TheVariants as node
 use Rattle.hir_faults.specs.Sizes.{is_there, HasNode, place, places}
 use Rattle.hir_faults.specs.Parts.{Parts, expr_parts, pat_parts, type_parts}
 use Rattle.hir_faults.specs.Nodes.{Nodes, sizes_of, Has, calls_of, kids_of, all_calls, graph}
@@ -52,21 +52,21 @@ sound_at parts s name xs h i x e =
 module _ (c : Rooted) (sound : rooted_fault c None) where
   pub exprs_sound : (i : ℕ) (x : Expr) → slice_get c.nodes.exprs i ≡ Some x → IsSoundNode c.nodes (expr_parts x)
   unfolding rooted_fault first_bad_node
-  exprs_sound = sound_at expr_parts c.nodes named.Expr c.nodes.exprs sound.0.0
+  exprs_sound = sound_at expr_parts c.nodes node.Expr c.nodes.exprs sound.0.0
 
   pub pats_sound : (i : ℕ) (x : Pat) → slice_get c.nodes.pats i ≡ Some x → IsSoundNode c.nodes (pat_parts x)
   unfolding rooted_fault first_bad_node
-  pats_sound = sound_at pat_parts c.nodes named.Pat c.nodes.pats sound.0.1.0
+  pats_sound = sound_at pat_parts c.nodes node.Pat c.nodes.pats sound.0.1.0
 
   pub types_sound : (i : ℕ) (x : TypeRef) → slice_get c.nodes.types i ≡ Some x → IsSoundNode c.nodes (type_parts x)
   unfolding rooted_fault first_bad_node
-  types_sound = sound_at type_parts c.nodes named.TypeRef c.nodes.types sound.0.1.1
+  types_sound = sound_at type_parts c.nodes node.TypeRef c.nodes.types sound.0.1.1
 
   -- each call of a node is made with what is there
-  pub calls_there : (n : Node) → Has c.nodes n → list_all (is_there (sizes_of c.nodes)) (calls_of c.nodes n) ≡ true
-  calls_there (OfExpr id) h = let x = item_at c.nodes.exprs id h in rw x.1 (first_so _ _ (first_so _ _ (exprs_sound id x.0 x.1).there))
-  calls_there (OfPat id) h = let x = item_at c.nodes.pats id h in rw x.1 (first_so _ _ (first_so _ _ (pats_sound id x.0 x.1).there))
-  calls_there (OfType id) h = let x = item_at c.nodes.types id h in rw x.1 (first_so _ _ (first_so _ _ (types_sound id x.0 x.1).there))
+  pub calls_there : (n : NodeId) → Has c.nodes n → list_all (is_there (sizes_of c.nodes)) (calls_of c.nodes n) ≡ true
+  calls_there (node.Expr id) h = let x = item_at c.nodes.exprs id h in rw x.1 (first_so _ _ (first_so _ _ (exprs_sound id x.0 x.1).there))
+  calls_there (node.Pat id) h = let x = item_at c.nodes.pats id h in rw x.1 (first_so _ _ (first_so _ _ (pats_sound id x.0 x.1).there))
+  calls_there (node.TypeRef id) h = let x = item_at c.nodes.types id h in rw x.1 (first_so _ _ (first_so _ _ (types_sound id x.0 x.1).there))
 
 -- the kids among calls that are made with what is there are there
 kids_there : (sizes : Sizes) (calls : List Call) → list_all (is_there sizes) calls ≡ true → AllByRecursion (HasNode sizes) (kids calls)
@@ -86,10 +86,10 @@ mapped_member : {X Y : Type 0} (f : X → Y) (xs : List X) (x : X) → Contains 
 mapped_member f xs x c = (c.0, omega (arith, length-map xs f, c.1), get_or-map f xs c.0 x (f x) c.1 ∙ ap f c.2)
 
 -- the places of the nodes that are there, and no other, are below the number of nodes
-pub place_within : (sizes : Sizes) (n : Node) → HasNode sizes n → place sizes n < sizes.exprs + sizes.pats + sizes.types
-place_within sizes (OfExpr id) h = omega arith
-place_within sizes (OfPat id) h = omega arith
-place_within sizes (OfType id) h = omega arith
+pub place_within : (sizes : Sizes) (n : NodeId) → HasNode sizes n → place sizes n < sizes.exprs + sizes.pats + sizes.types
+place_within sizes (node.Expr id) h = omega arith
+place_within sizes (node.Pat id) h = omega arith
+place_within sizes (node.TypeRef id) h = omega arith
 
 row_of : {X : Type 0} (calls : X → List Call) (xs : List X) (i : ℕ) → i < length xs → get_or (map calls xs) i [] ≡ opt calls (slice_get xs i)
 row_of calls [] i h = absurd (omega arith)
@@ -103,30 +103,30 @@ module _ (s : Nodes) where
       ∙ rw (length-append (map expr_calls s.exprs) (map pat_calls s.pats), length-map s.exprs expr_calls, length-map s.pats pat_calls, length-map s.types type_calls) refl
 
   -- the calls of a node stand in its place
-  calls_at_place : (n : Node) → Has s n → get_or (all_calls s) (place (sizes_of s) n) [] ≡ calls_of s n
-  calls_at_place (OfExpr id) h =
+  calls_at_place : (n : NodeId) → Has s n → get_or (all_calls s) (place (sizes_of s) n) [] ≡ calls_of s n
+  calls_at_place (node.Expr id) h =
       let a = map expr_calls s.exprs in let b = map pat_calls s.pats in
       get_or_append_left (a ++ b) (map type_calls s.types) [] id (omega (arith, length-append a b, length-map s.exprs expr_calls))
       ∙ get_or_append_left a b [] id (omega (arith, length-map s.exprs expr_calls)) ∙ row_of expr_calls s.exprs id h
-  calls_at_place (OfPat id) h =
+  calls_at_place (node.Pat id) h =
       let a = map expr_calls s.exprs in let b = map pat_calls s.pats in
       let e = length-map s.exprs expr_calls in
       let at : get_or (a ++ b) (length s.exprs + id) [] ≡ get_or b id [] = rw e at (get_or-append-add a b id []) in
       get_or_append_left (a ++ b) (map type_calls s.types) [] (length s.exprs + id) (omega (arith, length-append a b, length-map s.exprs expr_calls, length-map s.pats pat_calls))
       ∙ at ∙ row_of pat_calls s.pats id h
-  calls_at_place (OfType id) h =
+  calls_at_place (node.TypeRef id) h =
       let a = map expr_calls s.exprs in let b = map pat_calls s.pats in
       let e : length (a ++ b) ≡ length s.exprs + length s.pats = length-append a b ∙ rw (length-map s.exprs expr_calls, length-map s.pats pat_calls) refl in
       let at : get_or (all_calls s) (length s.exprs + length s.pats + id) [] ≡ get_or (map type_calls s.types) id [] = rw e at (get_or-append-add (a ++ b) (map type_calls s.types) id []) in
       at ∙ row_of type_calls s.types id h
 
-  pub row_at_place : (n : Node) → Has s n → get_or (graph s) (place (sizes_of s) n) [] ≡ map (place (sizes_of s)) (kids_of s n)
+  pub row_at_place : (n : NodeId) → Has s n → get_or (graph s) (place (sizes_of s) n) [] ≡ map (place (sizes_of s)) (kids_of s n)
   row_at_place n h =
       get_or-map (places (sizes_of s)) (all_calls s) (place (sizes_of s) n) [] [] (omega (arith, length-all_calls, place_within (sizes_of s) n h))
       ∙ ap (places (sizes_of s)) (calls_at_place n h)
 
   -- a kid of a node is a kid in the graph
-  pub kid_in_graph : (n k : Node) → Has s n → Contains (kids_of s n) k → IsKid (graph s) (place (sizes_of s) n) (place (sizes_of s) k)
+  pub kid_in_graph : (n k : NodeId) → Has s n → Contains (kids_of s n) k → IsKid (graph s) (place (sizes_of s) n) (place (sizes_of s) k)
   kid_in_graph n k h c = rw (row_at_place n h) (mapped_member (place (sizes_of s)) (kids_of s n) k c)
 
 module _ (c : Rooted) (sound : rooted_fault c None) where
@@ -136,7 +136,7 @@ module _ (c : Rooted) (sound : rooted_fault c None) where
   abbrev g : List (List ℕ)
   g = graph c.nodes
 
-  all_kids_there : (n : Node) → Has c.nodes n → AllByRecursion (Has c.nodes) (kids_of c.nodes n)
+  all_kids_there : (n : NodeId) → Has c.nodes n → AllByRecursion (Has c.nodes) (kids_of c.nodes n)
   all_kids_there n h = kids_there sizes (calls_of c.nodes n) (calls_there c sound n h)
 
   pub sound_falls : KidsFall c.nodes
@@ -147,7 +147,7 @@ module _ (c : Rooted) (sound : rooted_fault c None) where
   }
 
 -- no rank is above the number of nodes
-pub rank_bounded : (s : Nodes) (n : Node) → rank s n ≤ length s.exprs + length s.pats + length s.types
+pub rank_bounded : (s : Nodes) (n : NodeId) → rank s n ≤ length s.exprs + length s.pats + length s.types
 unfolding rank
 rank_bounded s n = let h = height_bounded (graph s) (place (sizes_of s) n) in omega (arith, graph-length s)
 

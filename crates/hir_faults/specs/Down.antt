@@ -1,33 +1,33 @@
 -- Going down a store: a number that falls from each node to its kids, and definitions that tell a node's value by its kids' values.
 use Rattle.std.specs.Prelude.{◌≡◌, ◌<◌, ℕ, zero, suc, List, [], ◌∷◌, ⊤, Contains}
 use Rattle.hir_forest.specs.Height.{height}
-use Rattle.hir_node.specs.ChildCalls.{Node}
+use Rattle.hir_node.specs.declared.node_id.NodeId.{NodeId}
 use Rattle.hir_faults.specs.Sizes.{place}
 use Rattle.hir_faults.specs.Nodes.{Nodes, sizes_of, Has, kids_of, graph}
 
 -- how many nodes stand on the longest way down from a node
-unfoldable pub rank : Nodes → Node → ℕ
+unfoldable pub rank : Nodes → NodeId → ℕ
 rank s n = height (graph s) (place (sizes_of s) n)
 
 -- each kid of a node that is there is there, and stands lower
 pub record KidsFall (s : Nodes) : Type 0 where
-  pub there : (n : Node) → Has s n → (k : Node) → Contains (kids_of s n) k → Has s k
-  pub lower : (n : Node) → Has s n → (k : Node) → Contains (kids_of s n) k → rank s k < rank s n
+  pub there : (n : NodeId) → Has s n → (k : NodeId) → Contains (kids_of s n) k → Has s k
+  pub lower : (n : NodeId) → Has s n → (k : NodeId) → Contains (kids_of s n) k → rank s k < rank s n
 
 -- the value of a node by a step, where `self` in the step is the value of another node, to a depth; below it `none`
-abbrev pub value_within : {A : Type 0} → ((Node → A) → Node → A) → A → ℕ → Node → A
+abbrev pub value_within : {A : Type 0} → ((NodeId → A) → NodeId → A) → A → ℕ → NodeId → A
 value_within step none zero n = none
 value_within step none (suc depth) n = step (value_within step none depth) n
 
 -- the value of a node by a step: no way down is longer than the rank says
-unfoldable pub value : {A : Type 0} → Nodes → ((Node → A) → Node → A) → A → Node → A
+unfoldable pub value : {A : Type 0} → Nodes → ((NodeId → A) → NodeId → A) → A → NodeId → A
 value s step none n = value_within step none (suc (rank s n)) n
 
 -- two ways to tell values agree on each of these nodes
-abbrev pub AgreeOn : {A : Type 0} → (Node → A) → (Node → A) → List Node → Type 0
+abbrev pub AgreeOn : {A : Type 0} → (NodeId → A) → (NodeId → A) → List NodeId → Type 0
 AgreeOn self other [] = ⊤
 AgreeOn self other (k ∷ ks) = (self k ≡ other k) × AgreeOn self other ks
 
 -- the step asks for the values of a node's kids alone
-abbrev pub AsksKids : {A : Type 0} → Nodes → ((Node → A) → Node → A) → Type 0
-AsksKids s step = (self other : Node → _) (n : Node) → AgreeOn self other (kids_of s n) → step self n ≡ step other n
+abbrev pub AsksKids : {A : Type 0} → Nodes → ((NodeId → A) → NodeId → A) → Type 0
+AsksKids s step = (self other : NodeId → _) (n : NodeId) → AgreeOn self other (kids_of s n) → step self n ≡ step other n

@@ -9,8 +9,8 @@ use Rattle.hir_forest.specs.Verdict.{◌unless◌, ◌before◌, first_below, in
 use Rattle.hir_forest.specs.Faults.{forest_fault}
 use Rattle.hir_faults.specs.declared.sizes.Sizes.{Sizes}
 use Rattle.hir_faults.specs.declared.nodes.NodeSlices.{NodeSlices}
-use Rattle.hir_faults.specs.declared.fault.NodeId.{NodeId}
-use Rattle.hir_faults.specs.declared.fault.NodeId.TheVariants as named
+use Rattle.hir_node.specs.declared.node_id.NodeId.{NodeId}
+use Rattle.hir_node.specs.declared.node_id.NodeId.TheVariants as node
 use Rattle.hir_faults.specs.declared.fault.FinishFault.{FinishFault}
 use Rattle.hir_faults.specs.declared.fault.FinishFault.TheVariants.{IdOutOfRange, NotAPath, NoReturnType, NoSelfArgument, ArgumentLists, SharedChild, Cycle, RootOutOfRange, RootRepeated, RootUnderRoot, RootEnds}
 use Rattle.hir_faults.specs.Sizes.{node_at}
@@ -49,9 +49,9 @@ first_of sizes types name parts = first_below (length parts) (λ n. node_fault s
 -- the first fault of one node: of an expression, then of a pattern, then of a type
 unfoldable pub first_bad_node : Nodes → Option FinishFault → Type 0
 first_bad_node s =
-    first_of (sizes_of s) s.types named.Expr (map expr_parts s.exprs)
-    before first_of (sizes_of s) s.types named.Pat (map pat_parts s.pats)
-    before first_of (sizes_of s) s.types named.TypeRef (map type_parts s.types)
+    first_of (sizes_of s) s.types node.Expr (map expr_parts s.exprs)
+    before first_of (sizes_of s) s.types node.Pat (map pat_parts s.pats)
+    before first_of (sizes_of s) s.types node.TypeRef (map type_parts s.types)
 
 -- a fault of the graph, told of the nodes
 abbrev pub told : Sizes → ForestFault → FinishFault

@@ -6,7 +6,9 @@ use Rattle.hir_node.specs.declared.type_ref.TypeRef.{TypeRef}
 use Rattle.hir_node.specs.declared.type_ref.LifetimeRef.{LifetimeRef}
 use Rattle.hir_node.specs.declared.binding.Binding.{Binding}
 use Rattle.hir_node.specs.declared.binding.Label.{Label}
-use Rattle.hir_node.specs.ChildCalls.{Call, Node, OfExpr, OfPat, OfType, expr_calls, pat_calls, type_calls, opt, kids}
+use Rattle.hir_node.specs.ChildCalls.{Call, expr_calls, pat_calls, type_calls, opt, kids}
+use Rattle.hir_node.specs.declared.node_id.NodeId.{NodeId}
+use Rattle.hir_node.specs.declared.node_id.NodeId.TheVariants as node
 use Rattle.hir_faults.specs.declared.sizes.Sizes.{Sizes}
 use Rattle.hir_faults.specs.Sizes.{HasNode, places}
 
@@ -22,7 +24,7 @@ pub record Nodes : Type 0 where
 abbrev pub sizes_of : Nodes → Sizes
 sizes_of s = record { exprs = length s.exprs; pats = length s.pats; types = length s.types; bindings = length s.bindings; labels = length s.labels; lifetimes = length s.lifetimes }
 
-abbrev pub Has : Nodes → Node → Type 0
+abbrev pub Has : Nodes → NodeId → Type 0
 Has s n = HasNode (sizes_of s) n
 
 -- the calls of what is there
@@ -30,13 +32,13 @@ abbrev pub calls_at : {X : Type 0} → (X → List Call) → List X → ℕ → 
 calls_at calls xs id = opt calls (slice_get xs id)
 
 -- the child calls of a node
-abbrev pub calls_of : Nodes → Node → List Call
-calls_of s (OfExpr id) = calls_at expr_calls s.exprs id
-calls_of s (OfPat id) = calls_at pat_calls s.pats id
-calls_of s (OfType id) = calls_at type_calls s.types id
+abbrev pub calls_of : Nodes → NodeId → List Call
+calls_of s (node.Expr id) = calls_at expr_calls s.exprs id
+calls_of s (node.Pat id) = calls_at pat_calls s.pats id
+calls_of s (node.TypeRef id) = calls_at type_calls s.types id
 
 -- the kids of a node
-abbrev pub kids_of : Nodes → Node → List Node
+abbrev pub kids_of : Nodes → NodeId → List NodeId
 kids_of s n = kids (calls_of s n)
 
 -- the calls of all nodes: of the expressions, then of the patterns, then of the types

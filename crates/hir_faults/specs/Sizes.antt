@@ -1,9 +1,9 @@
 -- How many of each there are, which calls name what is there, and the places of nodes in one row: expressions, then patterns, then types.
 use Rattle.std.specs.Prelude.{ℕ, Bool, ◌+◌, ◌-◌, ◌<◌, ◌≤◌, List, map, nat_lt, cond}
-use Rattle.hir_node.specs.ChildCalls.{Call, OnExpr, OnAnonConst, OnPat, OnType, OnLifetime, Node, OfExpr, OfPat, OfType, kids}
+use Rattle.hir_node.specs.ChildCalls.{Call, OnExpr, OnAnonConst, OnPat, OnType, OnLifetime, kids}
 use Rattle.hir_faults.specs.declared.sizes.Sizes.{Sizes}
-use Rattle.hir_faults.specs.declared.fault.NodeId.{NodeId}
-use Rattle.hir_faults.specs.declared.fault.NodeId.TheVariants as named
+use Rattle.hir_node.specs.declared.node_id.NodeId.{NodeId}
+use Rattle.hir_node.specs.declared.node_id.NodeId.TheVariants as node
 
 -- the call is made with an id that is there
 abbrev pub is_there : Sizes → Call → Bool
@@ -14,23 +14,23 @@ is_there sizes (OnType id) = nat_lt id sizes.types
 is_there sizes (OnLifetime id) = nat_lt id sizes.lifetimes
 
 -- the node is there
-abbrev pub HasNode : Sizes → Node → Type 0
-HasNode sizes (OfExpr id) = id < sizes.exprs
-HasNode sizes (OfPat id) = id < sizes.pats
-HasNode sizes (OfType id) = id < sizes.types
+abbrev pub HasNode : Sizes → NodeId → Type 0
+HasNode sizes (node.Expr id) = id < sizes.exprs
+HasNode sizes (node.Pat id) = id < sizes.pats
+HasNode sizes (node.TypeRef id) = id < sizes.types
 
 -- the place of a node in the row
-abbrev pub place : Sizes → Node → ℕ
-place sizes (OfExpr id) = id
-place sizes (OfPat id) = sizes.exprs + id
-place sizes (OfType id) = sizes.exprs + sizes.pats + id
+abbrev pub place : Sizes → NodeId → ℕ
+place sizes (node.Expr id) = id
+place sizes (node.Pat id) = sizes.exprs + id
+place sizes (node.TypeRef id) = sizes.exprs + sizes.pats + id
 
 -- the node at a place of the row
 abbrev pub node_at : Sizes → ℕ → NodeId
 node_at sizes n =
-    cond (nat_lt n sizes.exprs) (named.Expr n)
-    (cond (nat_lt n (sizes.exprs + sizes.pats)) (named.Pat (n - sizes.exprs))
-    (named.TypeRef (n - (sizes.exprs + sizes.pats))))
+    cond (nat_lt n sizes.exprs) (node.Expr n)
+    (cond (nat_lt n (sizes.exprs + sizes.pats)) (node.Pat (n - sizes.exprs))
+    (node.TypeRef (n - (sizes.exprs + sizes.pats))))
 
 -- the places of the kids among calls
 abbrev pub places : Sizes → List Call → List ℕ

@@ -3,38 +3,9 @@
 ghost use Rattle.hir_base.specs.Exact.{exact};
 
 use hir_base::ExactEq;
-use hir_node::{ExprId, PatId, TypeRefId};
+use hir_node::NodeId;
 use std::fmt;
 use thiserror::Error;
-
-/// The node that a fault names: an expression, a pattern or a type. Its text is the kind of id and the number, as `ExprId(3)`.
-#[derive(Clone, Copy, Drop, PartialEq, Eq)]
-pub enum NodeId {
-    Expr(ExprId),
-    Pat(PatId),
-    TypeRef(TypeRefId),
-}
-
-impl ExactEq for NodeId {
-    ghost eq_decides = { Prim.search exact };
-}
-
-impl fmt::Display for NodeId {
-    fn fmt<W: fmt::Write>(&self, f: &mut fmt::Formatter<W>) -> fmt::Result {
-        match self {
-            NodeId::Expr(id) => write!(f, "ExprId({})", id.into_raw()),
-            NodeId::Pat(id) => write!(f, "PatId({})", id.into_raw()),
-            NodeId::TypeRef(id) => write!(f, "TypeRefId({})", id.into_raw()),
-        }
-    }
-}
-
-/// Its text.
-impl fmt::Debug for NodeId {
-    fn fmt<W: fmt::Write>(&self, f: &mut fmt::Formatter<W>) -> fmt::Result {
-        fmt::Display::fmt(self, f)
-    }
-}
 
 /// Why a builder is refused: the first of its faults, in this order. Nodes are ordered as expressions, patterns, types, each by id;
 /// the faults from `IdOutOfRange` to `ArgumentLists` are those of the first node that has one, and then the first in this order. So

@@ -10,7 +10,7 @@ mod range;
 mod rows;
 mod sizes;
 
-pub use fault::{FinishFault, NodeId};
+pub use fault::FinishFault;
 pub use held::{Holds, as_path};
 pub use node::Node;
 pub use nodes::NodeSlices;

@@ -4,10 +4,11 @@ use Rattle.std.proofs.lemmas.List.{length-map, length_push, get_or-map, take_mor
 use Rattle.std.proofs.lemmas.List.Elements.{Contains-append_cases, Contains-append_left, Contains-append_right, Contains-push, Contains-push_cases}
 use Rattle.std.proofs.lemmas.Option.{get_or_from_slice_get}
 use Rattle.hir_forest.proofs.VerdictLemmas.{IsOne, unless-one, before-one, first_below-one}
-use Rattle.hir_node.specs.ChildCalls.{Node, OfExpr, OfPat}
+use Rattle.hir_node.specs.declared.node_id.NodeId.{NodeId}
+use Rattle.hir_node.specs.declared.node_id.NodeId.TheVariants as node
 use Rattle.hir_path.specs.Lists.{last_of}
 use Rattle.hir_faults.specs.Sizes.{HasNode}
-use Rattle.hir_accepted.specs.NodeSets.{Marked, IsIn, Gains}
+use Rattle.hir_expr_store.specs.NodeSets.{Marked, IsIn, Gains}
 use Rattle.hir_items.specs.declared.formals.Param.{Param}
 use Rattle.hir_items.specs.declared.body_fault.BodyFault.{BodyFault}
 use Rattle.hir_items.specs.declared.body_fault.BodyFault.TheVariants.{NoRoot, SelfOutOfRange, ParamOutOfRange, ParamRepeated, ParamUnder, RootInParam}
@@ -17,27 +18,27 @@ pub read_at : {X : Type 0} (f : X → ℕ) (xs : List X) (i : ℕ) (x : X) → i
 read_at f xs i x h e = get_or-map f xs i x 0 h ∙ ap f (sym e)
 
 -- the members of patterns as nodes
-pub node_of_pat : (xs : List ℕ) (x : ℕ) → Contains xs x → Contains (map OfPat xs) (OfPat x)
-node_of_pat xs x m = (m.0, omega (arith, m.1, length-map xs OfPat), get_or-map OfPat xs m.0 x (OfPat x) m.1 ∙ ap OfPat m.2)
+pub node_of_pat : (xs : List ℕ) (x : ℕ) → Contains xs x → Contains (map node.Pat xs) (node.Pat x)
+node_of_pat xs x m = (m.0, omega (arith, m.1, length-map xs node.Pat), get_or-map node.Pat xs m.0 x (node.Pat x) m.1 ∙ ap node.Pat m.2)
 
-pub pat_of_node : (xs : List ℕ) (x : ℕ) → Contains (map OfPat xs) (OfPat x) → Contains xs x
+pub pat_of_node : (xs : List ℕ) (x : ℕ) → Contains (map node.Pat xs) (node.Pat x) → Contains xs x
 pat_of_node xs x m =
-    let h : m.0 < length xs = omega (arith, m.1, length-map xs OfPat) in
-    let e : OfPat (get_or xs m.0 x) ≡ OfPat x = sym (get_or-map OfPat xs m.0 x (OfPat x) h) ∙ m.2 in
+    let h : m.0 < length xs = omega (arith, m.1, length-map xs node.Pat) in
+    let e : node.Pat (get_or xs m.0 x) ≡ node.Pat x = sym (get_or-map node.Pat xs m.0 x (node.Pat x) h) ∙ m.2 in
     (m.0, h, cc)
 
 -- one formal more is in the set
 pub gains_more : (old now new : Marked) (xs : List ℕ) (i x : ℕ) → i < length xs → get_or xs i 0 ≡ x
-    → GainsAll old (map OfPat (take i xs)) now → Gains now (OfPat x) new → GainsAll old (map OfPat (take (i + 1) xs)) new
+    → GainsAll old (map node.Pat (take i xs)) now → Gains now (node.Pat x) new → GainsAll old (map node.Pat (take (i + 1) xs)) new
 gains_more old now new xs i x h e all one = (
   one.sizes ∙ all.0,
   λ n k.
       let more = one.members n (subst (λ z. HasNode z n) (sym all.0) k) in
       let before = all.1 n k in
-      let grown : map OfPat (take (i + 1) xs) ≡ map OfPat (take i xs) ++ OfPat x ∷ [] = rw (take_more xs i 0 h, e) (map-append OfPat (take i xs) (x ∷ [])) in
+      let grown : map node.Pat (take (i + 1) xs) ≡ map node.Pat (take i xs) ++ node.Pat x ∷ [] = rw (take_more xs i 0 h, e) (map-append node.Pat (take i xs) (x ∷ [])) in
       rw grown (
-        λ m. ⊎_elim (λ b. ⊎_elim inl (λ c. inr (Contains-append_left (map OfPat (take i xs)) _ n c)) (before.0 b)) (λ s. inr (subst (Contains (map OfPat (take i xs) ++ OfPat x ∷ [])) (sym s) (Contains-push (map OfPat (take i xs)) (OfPat x)))) (more.0 m),
-        λ m. more.1 (⊎_elim (λ b. inl (before.1 (inl b))) (λ c. ⊎_elim (λ d. inl (before.1 (inr d))) (λ d. inr (sym d)) (Contains-push_cases (map OfPat (take i xs)) (OfPat x) n c)) m),
+        λ m. ⊎_elim (λ b. ⊎_elim inl (λ c. inr (Contains-append_left (map node.Pat (take i xs)) _ n c)) (before.0 b)) (λ s. inr (subst (Contains (map node.Pat (take i xs) ++ node.Pat x ∷ [])) (sym s) (Contains-push (map node.Pat (take i xs)) (node.Pat x)))) (more.0 m),
+        λ m. more.1 (⊎_elim (λ b. inl (before.1 (inl b))) (λ c. ⊎_elim (λ d. inl (before.1 (inr d))) (λ d. inr (sym d)) (Contains-push_cases (map node.Pat (take i xs)) (node.Pat x) n c)) m),
       ),
 )
 

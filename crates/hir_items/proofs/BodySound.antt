@@ -7,18 +7,19 @@ use Rattle.std.proofs.lemmas.Option.{get_or_from_slice_get}
 use Rattle.hir_forest.specs.Verdict.{first_below}
 use Rattle.hir_forest.specs.Faults.{root_nodes}
 use Rattle.hir_forest.proofs.VerdictLemmas.{unless-same, first_below-same}
-use Rattle.hir_node.specs.ChildCalls.{Node, OfExpr, OfPat}
+use Rattle.hir_node.specs.declared.node_id.NodeId.{NodeId}
+use Rattle.hir_node.specs.declared.node_id.NodeId.TheVariants as node
 use Rattle.hir_faults.specs.Sizes.{HasNode}
 use Rattle.hir_faults.specs.Nodes.{Nodes, Has, sizes_of}
-use Rattle.hir_accepted.specs.Contents.{Contents, rooted_of, contents_fault}
-use Rattle.hir_accepted.specs.Under.{Under, LiesUnderOther}
-use Rattle.hir_accepted.specs.NodeSets.{Marked, IsIn, Gains}
+use Rattle.hir_expr_store.specs.Contents.{Contents, rooted_of, contents_fault}
+use Rattle.hir_expr_store.specs.Under.{Under, LiesUnderOther, LieApart}
+use Rattle.hir_expr_store.specs.NodeSets.{Marked, IsIn, Gains}
 use Rattle.hir_faults.proofs.SoundLemmas.{item_within, roots_apart}
-use Rattle.hir_accepted.proofs.UnderLemmas.{under_two}
+use Rattle.hir_expr_store.proofs.UnderLemmas.{under_two}
 use Rattle.hir_items.specs.declared.formals.Param.{Param}
 use Rattle.hir_items.specs.declared.body_fault.BodyFault.{BodyFault}
 use Rattle.hir_items.specs.declared.body_fault.BodyFault.TheVariants.{NoRoot, SelfOutOfRange, ParamOutOfRange, ParamRepeated, ParamUnder, RootInParam}
-use Rattle.hir_items.specs.Bodies.{BodyParts, formals_of, user_written_of, last_root, tops_of, tops, LieApart, AreBelow, range_fault, repeated_fault, under_fault, fault_at_root, apart_fault, body_fault, GainsAll}
+use Rattle.hir_items.specs.Bodies.{BodyParts, formals_of, user_written_of, last_root, tops_of, tops, AreBelow, range_fault, repeated_fault, under_fault, fault_at_root, apart_fault, body_fault, GainsAll}
 use Rattle.hir_items.proofs.BodyLemmas.{pat_of_node, node_of_pat}
 
 -- the last root is an expression that is there
@@ -33,31 +34,31 @@ root_there c sound root e =
 pub all_there : (limit : ℕ) (params : List (Param ℕ)) → ((i : ℕ) → i < length params → range_fault limit params i None) → All (λ p. p.formal < limit) params
 all_there limit params none = λ i d h. subst (λ (n : ℕ). n < limit) (get_or-map (λ p. p.formal) params i d 0 h) (none i h).0
 
-other_same : (s : Nodes) (A B : Node → Type 0) → ((r : Node) → Has s r → A r ↔ B r) → (n : Node) → LiesUnderOther s A n ↔ LiesUnderOther s B n
+other_same : (s : Nodes) (A B : NodeId → Type 0) → ((r : NodeId) → Has s r → A r ↔ B r) → (n : NodeId) → LiesUnderOther s A n ↔ LiesUnderOther s B n
 other_same s A B same n = (λ x. (x.0, x.1, (same x.0 x.1).0 x.2, x.3, x.4), λ x. (x.0, x.1, (same x.0 x.1).1 x.2, x.3, x.4))
 
 -- another of the formals and the last root than the last root is a formal
-root_under : (s : Nodes) (params : List (Param ℕ)) (root : ℕ) → LiesUnderOther s (Contains (tops_of params root)) (OfExpr root) ↔ LiesUnderOther s (Contains (map OfPat (formals_of params))) (OfExpr root)
+root_under : (s : Nodes) (params : List (Param ℕ)) (root : ℕ) → LiesUnderOther s (Contains (tops_of params root)) (node.Expr root) ↔ LiesUnderOther s (Contains (map node.Pat (formals_of params))) (node.Expr root)
 root_under s params root = (
-  λ x. (x.0, x.1, ⊎_elim (λ m. m) (λ e. absurd (x.3 e)) (Contains-push_cases (map OfPat (formals_of params)) (OfExpr root) x.0 x.2), x.3, x.4),
-  λ x. (x.0, x.1, Contains-append_left (map OfPat (formals_of params)) (OfExpr root ∷ []) x.0 x.2, x.3, x.4),
+  λ x. (x.0, x.1, ⊎_elim (λ m. m) (λ e. absurd (x.3 e)) (Contains-push_cases (map node.Pat (formals_of params)) (node.Expr root) x.0 x.2), x.3, x.4),
+  λ x. (x.0, x.1, Contains-append_left (map node.Pat (formals_of params)) (node.Expr root ∷ []) x.0 x.2, x.3, x.4),
 )
 
-module _ (s : Nodes) (params : List (Param ℕ)) (root : ℕ) (old mid new found : Marked) (size : old.sizes ≡ sizes_of s) (none : (n : Node) → IsIn old n → ⊥)
-    (all : GainsAll old (map OfPat (formals_of params)) mid) (one : Gains mid (OfExpr root) new) (right : (n : Node) → Has s n → IsIn found n ↔ LiesUnderOther s (IsIn new) n) where
+module _ (s : Nodes) (params : List (Param ℕ)) (root : ℕ) (old mid new found : Marked) (size : old.sizes ≡ sizes_of s) (none : (n : NodeId) → IsIn old n → ⊥)
+    (all : GainsAll old (map node.Pat (formals_of params)) mid) (one : Gains mid (node.Expr root) new) (right : (n : NodeId) → Has s n → IsIn found n ↔ LiesUnderOther s (IsIn new) n) where
   -- the set has the formals and the last root
-  tops_in : (n : Node) → Has s n → IsIn new n ↔ Contains (tops_of params root) n
+  tops_in : (n : NodeId) → Has s n → IsIn new n ↔ Contains (tops_of params root) n
   tops_in n h =
       let old_has : HasNode old.sizes n = subst (λ z. HasNode z n) (sym size) h in
       let mid_has : HasNode mid.sizes n = subst (λ z. HasNode z n) (sym all.0) old_has in
       let more = one.members n mid_has in
       let before = all.1 n old_has in
-      let fs = map OfPat (formals_of params) in (
-        λ m. ⊎_elim (λ k. ⊎_elim (λ o. absurd (none n o)) (λ f. Contains-append_left fs (OfExpr root ∷ []) n f) (before.0 k)) (λ e. subst (Contains (tops_of params root)) (sym e) (Contains-push fs (OfExpr root))) (more.0 m),
-        λ m. more.1 (⊎_elim (λ f. inl (before.1 (inr f))) (λ e. inr (sym e)) (Contains-push_cases fs (OfExpr root) n m)),
+      let fs = map node.Pat (formals_of params) in (
+        λ m. ⊎_elim (λ k. ⊎_elim (λ o. absurd (none n o)) (λ f. Contains-append_left fs (node.Expr root ∷ []) n f) (before.0 k)) (λ e. subst (Contains (tops_of params root)) (sym e) (Contains-push fs (node.Expr root))) (more.0 m),
+        λ m. more.1 (⊎_elim (λ f. inl (before.1 (inr f))) (λ e. inr (sym e)) (Contains-push_cases fs (node.Expr root) n m)),
       )
 
-  found_is : (n : Node) → Has s n → IsIn found n ↔ LiesUnderOther s (Contains (tops_of params root)) n
+  found_is : (n : NodeId) → Has s n → IsIn found n ↔ LiesUnderOther s (Contains (tops_of params root)) n
   found_is n h =
       let r = right n h in
       let o = other_same s (IsIn new) (Contains (tops_of params root)) tops_in n in
@@ -68,12 +69,12 @@ module _ (s : Nodes) (params : List (Param ℕ)) (root : ℕ) (old mid new found
   under_told there = first_below-same (length params) (under_fault (IsIn found) (formals_of params)) (under_fault (LiesUnderOther s (Contains (tops_of params root))) (formals_of params)) (λ i h a v.
       let p = get_or params i record { formal = 0; user_written = 0 } in
       let formal : p.formal ≡ get_or (formals_of params) i 0 = sym (get_or-map (λ p. p.formal) params i record { formal = 0; user_written = 0 } 0 h) in
-      let f = found_is (OfPat (get_or (formals_of params) i 0)) (subst (λ (n : ℕ). n < length s.pats) formal (there i record { formal = 0; user_written = 0 } h)) in
+      let f = found_is (node.Pat (get_or (formals_of params) i 0)) (subst (λ (n : ℕ). n < length s.pats) formal (there i record { formal = 0; user_written = 0 } h)) in
       unless-same (ParamUnder i) _ _ (λ no l. no (f.1 l), λ no m. no (f.0 m)) a v)
 
-  pub root_told : root < length s.exprs → IsIn found (OfExpr root) ↔ LiesUnderOther s (Contains (map OfPat (formals_of params))) (OfExpr root)
+  pub root_told : root < length s.exprs → IsIn found (node.Expr root) ↔ LiesUnderOther s (Contains (map node.Pat (formals_of params))) (node.Expr root)
   root_told h =
-      let f = found_is (OfExpr root) h in
+      let f = found_is (node.Expr root) h in
       let r = root_under s params root in
       (λ m. r.0 (f.0 m), λ l. f.1 (r.1 l))
 
@@ -93,11 +94,11 @@ module _ (s : Nodes) (params : List (Param ℕ)) (root : ℕ) where
   unfolding apart_fault
   apart_under f n h = inr (n, inl h)
 
-  pub apart_root : Repeats None → Under' None → LiesUnderOther s (Contains (map OfPat (formals_of params))) (OfExpr root) → apart_fault s params root (Some RootInParam)
+  pub apart_root : Repeats None → Under' None → LiesUnderOther s (Contains (map node.Pat (formals_of params))) (node.Expr root) → apart_fault s params root (Some RootInParam)
   unfolding apart_fault
   apart_root n m h = inr (n, inr (m, (refl, λ no. no h)))
 
-  pub apart_none : Repeats None → Under' None → (LiesUnderOther s (Contains (map OfPat (formals_of params))) (OfExpr root) → ⊥) → apart_fault s params root None
+  pub apart_none : Repeats None → Under' None → (LiesUnderOther s (Contains (map node.Pat (formals_of params))) (node.Expr root) → ⊥) → apart_fault s params root None
   unfolding apart_fault
   apart_none n m h = (n, (m, h))
 
@@ -128,7 +129,7 @@ IfOk-more P Q f (Ok x) h = f x h
 IfOk-more P Q f (Err e) h = h
 
 -- the node at a place among the formals and the last root
-top_at : (fs : List ℕ) (root i : ℕ) (a : Node) → slice_get (map OfPat fs ++ OfExpr root ∷ []) i ≡ Some a → ((i < length fs) × (a ≡ OfPat (get_or fs i 0))) ⊎ ((i ≡ length fs) × (a ≡ OfExpr root))
+top_at : (fs : List ℕ) (root i : ℕ) (a : NodeId) → slice_get (map node.Pat fs ++ node.Expr root ∷ []) i ≡ Some a → ((i < length fs) × (a ≡ node.Pat (get_or fs i 0))) ⊎ ((i ≡ length fs) × (a ≡ node.Expr root))
 top_at [] root zero a e = inr (refl, cc)
 top_at [] root (suc i) a e = absurd (let n : ⊥ = cc in n)
 top_at (f ∷ fs) root zero a e = inl (omega arith, cc)
@@ -141,33 +142,33 @@ module _ (c : Contents) (sound : contents_fault c None) (params : List (Param �
       let d : Param ℕ = record { formal = 0; user_written = 0 } in
       subst (λ (n : ℕ). n < length c.nodes.pats) (sym (get_or-map (λ p. p.formal) params i d 0 k)) (in_range i d k)
 
-  pub top_there : (n : Node) → Contains (tops_of params root) n → Has c.nodes n
+  pub top_there : (n : NodeId) → Contains (tops_of params root) n → Has c.nodes n
   top_there n m =
       ⊎_elim
       (λ f.
-      let h : f.0 < length (formals_of params) = omega (arith, f.1, length-map (formals_of params) OfPat) in
-      let e : OfPat (get_or (formals_of params) f.0 0) ≡ n = sym (get_or-map OfPat (formals_of params) f.0 0 n h) ∙ f.2 in
+      let h : f.0 < length (formals_of params) = omega (arith, f.1, length-map (formals_of params) node.Pat) in
+      let e : node.Pat (get_or (formals_of params) f.0 0) ≡ n = sym (get_or-map node.Pat (formals_of params) f.0 0 n h) ∙ f.2 in
       subst (Has c.nodes) e (formal_there f.0 h))
       (λ e. subst (Has c.nodes) e root_in)
-      (Contains-push_cases (map OfPat (formals_of params)) (OfExpr root) n m)
+      (Contains-push_cases (map node.Pat (formals_of params)) (node.Expr root) n m)
 
   module _ (none : apart_fault c.nodes params root None) where
     parts : first_below (length params) (repeated_fault (formals_of params)) None
         × first_below (length params) (under_fault (LiesUnderOther c.nodes (Contains (tops_of params root))) (formals_of params)) None
-        × (LiesUnderOther c.nodes (Contains (map OfPat (formals_of params))) (OfExpr root) → ⊥)
+        × (LiesUnderOther c.nodes (Contains (map node.Pat (formals_of params))) (node.Expr root) → ⊥)
     unfolding apart_fault
     parts = (none.0, none.1.0, none.1.1)
 
     -- none lies under another
-    lone : (x : Node) → Contains (tops_of params root) x → LiesUnderOther c.nodes (Contains (tops_of params root)) x → ⊥
+    lone : (x : NodeId) → Contains (tops_of params root) x → LiesUnderOther c.nodes (Contains (tops_of params root)) x → ⊥
     lone x m l =
         ⊎_elim
         (λ f.
-        let h : f.0 < length (formals_of params) = omega (arith, f.1, length-map (formals_of params) OfPat) in
-        let e : OfPat (get_or (formals_of params) f.0 0) ≡ x = sym (get_or-map OfPat (formals_of params) f.0 0 x h) ∙ f.2 in
+        let h : f.0 < length (formals_of params) = omega (arith, f.1, length-map (formals_of params) node.Pat) in
+        let e : node.Pat (get_or (formals_of params) f.0 0) ≡ x = sym (get_or-map node.Pat (formals_of params) f.0 0 x h) ∙ f.2 in
         parts.1 f.0 (omega (arith, length-map params (λ p. p.formal))) (subst (LiesUnderOther c.nodes (Contains (tops_of params root))) (sym e) l))
         (λ e. parts.2 ((root_under c.nodes params root).0 (subst (LiesUnderOther c.nodes (Contains (tops_of params root))) (sym e) l)))
-        (Contains-push_cases (map OfPat (formals_of params)) (OfExpr root) x m)
+        (Contains-push_cases (map node.Pat (formals_of params)) (node.Expr root) x m)
 
     taken : (i j : ℕ) → i < j → j < length (formals_of params) → Contains (take j (formals_of params)) (get_or (formals_of params) i 0)
     taken i j l h =
@@ -176,13 +177,13 @@ module _ (c : Contents) (sound : contents_fault c None) (params : List (Param �
         let len = length-take-le j xs (omega arith) in
         (i, omega arith, get_or-take j xs i (get_or xs i 0) l ∙ at)
 
-    same_formal : (x y : ℕ) → OfPat x ≡ OfPat y → x ≡ y
+    same_formal : (x y : ℕ) → node.Pat x ≡ node.Pat y → x ≡ y
     same_formal x y e = cc
 
-    no_formal : (x y : ℕ) → OfPat x ≡ OfExpr y → ⊥
+    no_formal : (x y : ℕ) → node.Pat x ≡ node.Expr y → ⊥
     no_formal x y e = cc
 
-    distinct : (i j : ℕ) (a b : Node) → i < j → slice_get (tops_of params root) i ≡ Some a → slice_get (tops_of params root) j ≡ Some b → a ≡ b → ⊥
+    distinct : (i j : ℕ) (a b : NodeId) → i < j → slice_get (tops_of params root) i ≡ Some a → slice_get (tops_of params root) j ≡ Some b → a ≡ b → ⊥
     distinct i j a b l e k same =
         let xs = formals_of params in
         ⊎_elim
@@ -208,7 +209,7 @@ module _ (c : Contents) (sound : contents_fault c None) (params : List (Param �
 
 -- the formals and the last root of a body without a fault
 module _ (b : BodyParts) (sound : contents_fault b.store None) (none : body_fault b None) where
-  pub body_tops_there : (n : Node) → Contains (tops b) n → Has b.store.nodes n
+  pub body_tops_there : (n : NodeId) → Contains (tops b) n → Has b.store.nodes n
   body_tops_there n m =
       let at = fault_is_at_root b none in
       let m' : Contains (tops_of b.params at.0) n = rw at.1 at m in

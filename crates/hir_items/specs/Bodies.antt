@@ -4,12 +4,13 @@ use Rattle.std.specs.Option.{option_to_list}
 use Rattle.hir_forest.specs.Verdict.{◌unless◌, ◌before◌, first_below}
 use Rattle.hir_forest.specs.Faults.{root_nodes}
 use Rattle.hir_path.specs.Lists.{last_of}
-use Rattle.hir_node.specs.ChildCalls.{Node, OfExpr, OfPat}
+use Rattle.hir_node.specs.declared.node_id.NodeId.{NodeId}
+use Rattle.hir_node.specs.declared.node_id.NodeId.TheVariants as node
 use Rattle.hir_faults.specs.Sizes.{HasNode}
 use Rattle.hir_faults.specs.Nodes.{Nodes}
-use Rattle.hir_accepted.specs.Contents.{Contents}
-use Rattle.hir_accepted.specs.Under.{Under, LiesUnderOther}
-use Rattle.hir_accepted.specs.NodeSets.{Marked, IsIn}
+use Rattle.hir_expr_store.specs.Contents.{Contents}
+use Rattle.hir_expr_store.specs.Under.{Under, LiesUnderOther}
+use Rattle.hir_expr_store.specs.NodeSets.{Marked, IsIn}
 use Rattle.hir_items.specs.declared.formals.Param.{Param}
 use Rattle.hir_items.specs.declared.body_fault.BodyFault.{BodyFault}
 use Rattle.hir_items.specs.declared.body_fault.BodyFault.TheVariants.{NoRoot, SelfOutOfRange, ParamOutOfRange, ParamRepeated, ParamUnder, RootInParam}
@@ -32,15 +33,11 @@ abbrev pub last_root : Contents → Option ℕ
 last_root c = last_of (root_nodes c.roots)
 
 -- what a body is reached from: its formals, and its last root
-abbrev pub tops_of : List (Param ℕ) → ℕ → List Node
-tops_of params root = map OfPat (formals_of params) ++ OfExpr root ∷ []
+abbrev pub tops_of : List (Param ℕ) → ℕ → List NodeId
+tops_of params root = map node.Pat (formals_of params) ++ node.Expr root ∷ []
 
-abbrev pub tops : BodyParts → List Node
-tops b = map OfPat (formals_of b.params) ++ option_to_list (option_map OfExpr (last_root b.store))
-
--- nothing lies under two of them
-abbrev pub LieApart : Nodes → List Node → Type 0
-LieApart s tops = (i j : ℕ) (a b n : Node) → i < j → slice_get tops i ≡ Some a → slice_get tops j ≡ Some b → Under s n a → Under s n b → ⊥
+abbrev pub tops : BodyParts → List NodeId
+tops b = map node.Pat (formals_of b.params) ++ option_to_list (option_map node.Expr (last_root b.store))
 
 -- both ids of a parameter are there
 abbrev pub AreBelow : ℕ → Param ℕ → Type 0
@@ -55,15 +52,15 @@ abbrev pub repeated_fault : List ℕ → ℕ → Option BodyFault → Type 0
 repeated_fault formals i = ParamRepeated i unless (Contains (take i formals) (slice_index formals i) → ⊥)
 
 -- formal i is under another
-abbrev pub under_fault : (Node → Type 0) → List ℕ → ℕ → Option BodyFault → Type 0
-under_fault IsUnder formals i = ParamUnder i unless (IsUnder (OfPat (slice_index formals i)) → ⊥)
+abbrev pub under_fault : (NodeId → Type 0) → List ℕ → ℕ → Option BodyFault → Type 0
+under_fault IsUnder formals i = ParamUnder i unless (IsUnder (node.Pat (slice_index formals i)) → ⊥)
 
 -- formals and the last root do not lie apart: a formal repeats, lies under another formal or the last root, or the last root lies under a formal
 unfoldable pub apart_fault : Nodes → List (Param ℕ) → ℕ → Option BodyFault → Type 0
 apart_fault s params root =
     first_below (length params) (repeated_fault (formals_of params))
     before first_below (length params) (under_fault (LiesUnderOther s (Contains (tops_of params root))) (formals_of params))
-    before (RootInParam unless (LiesUnderOther s (Contains (map OfPat (formals_of params))) (OfExpr root) → ⊥))
+    before (RootInParam unless (LiesUnderOther s (Contains (map node.Pat (formals_of params))) (node.Expr root) → ⊥))
 
 -- the first fault where there is a last root
 abbrev pub fault_at_root : BodyParts → Option ℕ → Option BodyFault → Type 0
@@ -82,5 +79,5 @@ abbrev pub IsAnySelf : BodyParts → ℕ → Type 0
 IsAnySelf b id = (p : Param ℕ) × (b.self_param ≡ Some p) × ((p.formal ≡ id) ⊎ (p.user_written ≡ id))
 
 -- the set has these nodes more, and no other
-abbrev pub GainsAll : Marked → List Node → Marked → Type 0
-GainsAll old added new = (new.sizes ≡ old.sizes) × ((n : Node) → HasNode old.sizes n → IsIn new n ↔ (IsIn old n ⊎ Contains added n))
+abbrev pub GainsAll : Marked → List NodeId → Marked → Type 0
+GainsAll old added new = (new.sizes ≡ old.sizes) × ((n : NodeId) → HasNode old.sizes n → IsIn new n ↔ (IsIn old n ⊎ Contains added n))

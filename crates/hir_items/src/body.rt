@@ -5,7 +5,7 @@ ghost use Rattle.hir_items.specs.Bodies.{body_fault, last_root, IsAnySelf};
 
 use crate::body_fault::{BodyFault, first_fault, last_root};
 use crate::formals::Param;
-use hir_accepted::ExpressionStore;
+use hir_expr_store::ExpressionStore;
 use hir_base::{ExactEq, Seq};
 use hir_node::{BindingId, ExprId, PatId};
 use std::alloc::{AllocError, Global};
@@ -39,7 +39,7 @@ impl Model for Body {
     ghost Value = { BodyParts };
 
     ghost use Rattle.std.specs.Coded.{codes};
-    ghost use Rattle.hir_accepted.specs.contracts.store.ExpressionStore as stored;
+    ghost use Rattle.hir_expr_store.specs.contracts.store.ExpressionStore as stored;
 
     ghost coded = { Prim.hlevel (codes, stored.the_row.coded) };
 

@@ -4,7 +4,7 @@ ghost use Rattle.std.specs.Prelude.{◌≡◌, ◌<◌, All, IfOk, length};
 ghost use Rattle.hir_items.specs.Bodies.{BodyParts, last_root, apart_fault, body_fault};
 
 use crate::formals::{Param, add_formals, first_out_of_range, first_under, self_is_there};
-use hir_accepted::ExpressionStore;
+use hir_expr_store::ExpressionStore;
 use hir_base::ExactEq;
 use hir_node::{BindingId, ExprId, PatId};
 use std::alloc::{AllocError, Global};

@@ -5,13 +5,14 @@
 ghost use Rattle.std.specs.Prelude.{◌≡◌, Option, None};
 ghost use Rattle.std.specs.Bool.{Decides};
 ghost use Rattle.hir_source.specs.Compared.{compared};
-ghost use Rattle.hir_accepted.specs.Contents.{contents_fault};
+ghost use Rattle.hir_expr_store.specs.Contents.{contents_fault};
 ghost use Rattle.hir_faults.specs.Nodes.{Has};
 ghost use Rattle.std.specs.Prelude.{Contains};
-ghost use Rattle.hir_node.specs.ChildCalls.{Node};
+ghost use Rattle.hir_node.specs.declared.node_id.NodeId.{NodeId};
 ghost use Rattle.hir_items.specs.declared.body_fault.BodyFault.{BodyFault};
 ghost use Rattle.hir_items.specs.declared.body_source_map.BodySourceMap.{BodySourceMap};
-ghost use Rattle.hir_items.specs.Bodies.{BodyParts, body_fault, tops, LieApart};
+ghost use Rattle.hir_items.specs.Bodies.{BodyParts, body_fault, tops};
+ghost use Rattle.hir_expr_store.specs.Under.{LieApart};
 
 use crate::body_source_map::BodySourceMap;
 
@@ -22,7 +23,7 @@ pub fn first_body_fault_is_one()
 
 /// The formals and the last root of a body are there.
 pub fn tops_are_there()
-    ensures { (b : BodyParts) → contents_fault b.store None → body_fault b None → (n : Node) → Contains (tops b) n → Has b.store.nodes n }
+    ensures { (b : BodyParts) → contents_fault b.store None → body_fault b None → (n : NodeId) → Contains (tops b) n → Has b.store.nodes n }
 {}
 
 /// The formals and the last root of a body lie apart: nothing lies under two of them.

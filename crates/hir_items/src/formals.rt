@@ -3,12 +3,13 @@
 ghost use Rattle.std.specs.Prelude.{◌≡◌, ◌<◌, ◌↔◌, All, IfNone, IfSome, IsTrue, length, map};
 ghost use Rattle.hir_base.specs.Exact.{exact};
 ghost use Rattle.hir_forest.specs.Verdict.{first_below};
-ghost use Rattle.hir_node.specs.ChildCalls.{Node, OfPat};
-ghost use Rattle.hir_accepted.specs.NodeSets.{IsIn};
+ghost use Rattle.hir_node.specs.declared.node_id.NodeId.{NodeId};
+ghost use Rattle.hir_node.specs.declared.node_id.NodeId.TheVariants as node;
+ghost use Rattle.hir_expr_store.specs.NodeSets.{IsIn};
 ghost use Rattle.hir_items.specs.Bodies.{AreBelow, formals_of, range_fault, repeated_fault, under_fault, GainsAll};
 
 use crate::body_fault::BodyFault;
-use hir_accepted::{ExpressionStore, NodeSet};
+use hir_expr_store::{ExpressionStore, NodeSet};
 use hir_base::{ExactEq, TryClone};
 use hir_node::{BindingId, PatId};
 
@@ -66,9 +67,9 @@ pub(crate) fn first_out_of_range(
 /// Puts the formals into a set that has none of them. The fault is a formal that is in it already.
 pub(crate) fn add_formals(params: &[Param<PatId>], set: &mut NodeSet) -> Option<BodyFault>
     requires there { All (λ p. p.formal < set.old.sizes.pats) params.now }
-    requires none { (n : Node) → IsIn set.old n → ⊥ }
+    requires none { (n : NodeId) → IsIn set.old n → ⊥ }
     ensures fault { first_below (length params.now) (repeated_fault (formals_of params.now)) result }
-    ensures added { IfNone result (GainsAll set.old (map OfPat (formals_of params.now)) set.new) }
+    ensures added { IfNone result (GainsAll set.old (map node.Pat (formals_of params.now)) set.new) }
 {
     for (i, param) in params.iter().enumerate() {
         if set.has_pat(param.formal) {

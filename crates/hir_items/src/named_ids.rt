@@ -8,7 +8,7 @@ ghost use Rattle.hir_items.specs.Signatures.{param_calls, predicate_calls, predi
 
 use crate::generic_params::GenericParams;
 use crate::signatures::FieldData;
-use hir_accepted::ExpressionStore;
+use hir_expr_store::ExpressionStore;
 use hir_generics::{TypeOrConstParamData, WherePredicate};
 use hir_node::{ExprId, LifetimeRefId, TypeRefId};
 

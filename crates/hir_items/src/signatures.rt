@@ -7,7 +7,7 @@ ghost use Rattle.hir_items.specs.Signatures.{function_fault, struct_fault, field
 use crate::generic_params::GenericParams;
 use crate::named_ids::{generics_name_paths, has_fields, has_generics, has_type_opt, has_types};
 use crate::signature_fault::{RefusedSignature, SignatureFault, ids_fault};
-use hir_accepted::ExpressionStore;
+use hir_expr_store::ExpressionStore;
 use hir_base::{ExactEq, ExternAbi, ModPath, Name, Seq};
 use hir_node::{ExprId, TypeRefId};
 use std::marker::Model;
@@ -137,7 +137,7 @@ impl Model for FunctionSignature {
     ghost Value = { FunctionParts };
 
     ghost use Rattle.std.specs.Coded.{codes};
-    ghost use Rattle.hir_accepted.specs.contracts.store.ExpressionStore as stored;
+    ghost use Rattle.hir_expr_store.specs.contracts.store.ExpressionStore as stored;
 
     ghost coded = { Prim.hlevel (codes, stored.the_row.coded) };
 
@@ -299,7 +299,7 @@ impl Model for StructSignature {
     ghost Value = { StructParts };
 
     ghost use Rattle.std.specs.Coded.{codes};
-    ghost use Rattle.hir_accepted.specs.contracts.store.ExpressionStore as stored;
+    ghost use Rattle.hir_expr_store.specs.contracts.store.ExpressionStore as stored;
 
     ghost coded = { Prim.hlevel (codes, stored.the_row.coded) };
 
@@ -411,7 +411,7 @@ impl Model for VariantFields {
     ghost Value = { VariantParts };
 
     ghost use Rattle.std.specs.Coded.{codes};
-    ghost use Rattle.hir_accepted.specs.contracts.store.ExpressionStore as stored;
+    ghost use Rattle.hir_expr_store.specs.contracts.store.ExpressionStore as stored;
 
     ghost coded = { Prim.hlevel (codes, stored.the_row.coded) };
 
@@ -510,7 +510,7 @@ impl Model for PlainSignature {
     ghost Value = { PlainParts };
 
     ghost use Rattle.std.specs.Coded.{codes};
-    ghost use Rattle.hir_accepted.specs.contracts.store.ExpressionStore as stored;
+    ghost use Rattle.hir_expr_store.specs.contracts.store.ExpressionStore as stored;
 
     ghost coded = { Prim.hlevel (codes, stored.the_row.coded) };
 

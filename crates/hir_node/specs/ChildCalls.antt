@@ -26,6 +26,8 @@ use Rattle.hir_node.specs.declared.parts.Statement.{Statement}
 use Rattle.hir_node.specs.declared.parts.Statement.TheVariants as statement
 use Rattle.hir_node.specs.declared.expr.Expr.{Expr}
 use Rattle.hir_node.specs.declared.expr.Expr.TheVariants as expr
+use Rattle.hir_node.specs.declared.node_id.NodeId.{NodeId}
+use Rattle.hir_node.specs.declared.node_id.NodeId.TheVariants as node
 
 -- a call of a visitor: with an expression, an anonymous constant (an expression that sees no local variables), a pattern, a type, a lifetime
 pub data Call : Type 0 where
@@ -190,22 +192,16 @@ type_calls type.Placeholder = []
 type_calls (type.TypeParam param) = []
 type_calls type.Error = []
 
--- an expression, a pattern or a type
-pub data Node : Type 0 where
-  OfExpr : ℕ → Node
-  OfPat : ℕ → Node
-  OfType : ℕ → Node
-
 -- the node that a call is made with, where it is one
-abbrev pub kid : Call → List Node
-kid (OnExpr id) = OfExpr id ∷ []
-kid (OnAnonConst id) = OfExpr id ∷ []
-kid (OnPat id) = OfPat id ∷ []
-kid (OnType id) = OfType id ∷ []
+abbrev pub kid : Call → List NodeId
+kid (OnExpr id) = node.Expr id ∷ []
+kid (OnAnonConst id) = node.Expr id ∷ []
+kid (OnPat id) = node.Pat id ∷ []
+kid (OnType id) = node.TypeRef id ∷ []
 kid (OnLifetime id) = []
 
 -- the kids among calls: the expressions, the anonymous constants, the patterns and the types
-abbrev pub kids : List Call → List Node
+abbrev pub kids : List Call → List NodeId
 kids calls = flat_map kid calls
 
 -- the pattern that a call is made with, where it is one

@@ -7,6 +7,7 @@ mod children;
 mod expr;
 pub mod laws;
 mod literal;
+mod node_id;
 mod part;
 mod parts;
 mod pat;
@@ -22,6 +23,7 @@ pub use hir_path::{
     PathSegmentsIter, TraitBoundModifier, TypeBound, TypeRefId, TypeRefKind, UseArgRef,
 };
 pub use literal::{FloatTypeWrapper, Literal, LiteralOrConst};
+pub use node_id::NodeId;
 pub use parts::{
     Array, CaptureBy, ClosureKind, CoroutineKind, CoroutineSource, Item, LoopSource, MatchArm,
     Movability, OffsetOf, RecordLitField, RecordSpread, Statement, Unsafe,

@@ -4,18 +4,18 @@ use Rattle.std.specs.Prelude.{flat_map}
 use Rattle.std.specs.Io.KnownBytes.{Appends}
 use Rattle.std.proofs.lemmas.List.Folds.{list_all-append}
 use Rattle.std.proofs.lemmas.Grind.{flat_map-append}
-use Rattle.hir_ends.specs.declared.next.LineFault.{LineFault}
-use Rattle.hir_ends.specs.declared.next.LineFault.TheVariants as line
-use Rattle.hir_ends.specs.EndLemmas.{Appends-twice}
-use Rattle.hir_ends.specs.Ends.{GrowsByFront, IsWrittenUpTo}
-use Rattle.hir_ends.specs.LineState.{LineState}
-use Rattle.hir_ends.specs.NextLine.{NextTakes, NextWrites}
-use Rattle.hir_ends.specs.Reads.{Reads, ReadsAll, ReadsFront}
-use Rattle.hir_ends.specs.ReadLemmas.{ReadsFront-now, ReadsFront-before, ReadsUntilFailure-now}
+use Rattle.hir_io.specs.declared.next.LineFault.{LineFault}
+use Rattle.hir_io.specs.declared.next.LineFault.TheVariants as line
+use Rattle.hir_io.specs.EndLemmas.{Appends-twice}
+use Rattle.hir_io.specs.Ends.{GrowsByFront, IsWrittenUpTo}
+use Rattle.hir_io.specs.LineState.{LineState}
+use Rattle.hir_io.specs.NextLine.{NextTakes, NextWrites}
+use Rattle.hir_io.specs.Reads.{Reads, ReadsAll, ReadsFront}
+use Rattle.hir_io.specs.ReadLemmas.{ReadsFront-now, ReadsFront-before, ReadsUntilFailure-now}
 use Rattle.hir_lines.specs.declared.line.Question.{Question}
 use Rattle.hir_run.specs.declared.fault.RunFault.{RunFault}
 use Rattle.hir_run.specs.declared.fault.RunFault.TheVariants.{BadLine, Refused, InputFailed, OutputFailed, OutOfMemory}
-use Rattle.hir_accepted.specs.Contents.{Contents}
+use Rattle.hir_expr_store.specs.Contents.{Contents}
 use Rattle.hir_lines.specs.Line.{line_of}
 use Rattle.hir_run.specs.Answer.{answer_to}
 use Rattle.hir_run.specs.Program.{asks, says, answer}

@@ -2,10 +2,10 @@
 use Rattle.std.proofs.Common.{◌≡◌, ◌+◌, ℕ, false, List, [], ◌∷◌, ◌++◌, Option, None, Some, Result, Ok, Err, refl, sym, ap, ◌∙◌, append_assoc, append-nil, length, inr, arith, length-append}
 use Rattle.std.specs.Prelude.{flat_map}
 use Rattle.std.proofs.lemmas.List.{length-map}
-use Rattle.hir_ends.specs.LineState.{LineState}
-use Rattle.hir_ends.specs.Reads.{Reads}
-use Rattle.hir_ends.specs.ReadLemmas.{ReadsAll-joined, ReadsFront-joined, ReadsUntilFailure-joined}
-use Rattle.hir_ends.specs.Text.{lines}
+use Rattle.hir_io.specs.LineState.{LineState}
+use Rattle.hir_io.specs.Reads.{Reads}
+use Rattle.hir_io.specs.ReadLemmas.{ReadsAll-joined, ReadsFront-joined, ReadsUntilFailure-joined}
+use Rattle.hir_io.specs.Text.{lines}
 use Rattle.hir_lines.specs.declared.line.Line.{Line}
 use Rattle.hir_lines.specs.declared.line.Line.TheVariants.{Ask}
 use Rattle.hir_lines.specs.declared.line.Question.{Question}

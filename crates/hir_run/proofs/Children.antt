@@ -5,8 +5,8 @@ use Rattle.std.specs.Fmt.{decimal}
 use Rattle.std.proofs.lemmas.Bool.{lt-ltb, le-ltb}
 use Rattle.hir_forest.specs.declared.roots.Root.{Root}
 use Rattle.hir_faults.specs.Nodes.{Nodes}
-use Rattle.hir_accepted.specs.PatLists.{children}
-use Rattle.hir_accepted.specs.RootSearch.{root_for_expr}
+use Rattle.hir_expr_store.specs.PatLists.{children}
+use Rattle.hir_expr_store.specs.RootSearch.{root_for_expr}
 use Rattle.hir_run.specs.Answer.{children_text, root_text, found_text, spaced}
 
 pub children_found : (s : Nodes) (e : ℕ) → e < length s.exprs → children_text s e ≡ codes " =" ++ spaced (children s e)

@@ -1,11 +1,11 @@
 -- How a stage ends where no line can be had.
 use Rattle.std.proofs.Common.{◌≡◌, ◌+◌, ◌++◌, ◌∷◌, [], ℕ, false, List, Option, Err, length, inl, inr, ap, ◌∙◌, if◌then◌else◌, arith}
-use Rattle.hir_ends.specs.declared.next.LineFault.{LineFault}
-use Rattle.hir_ends.specs.declared.next.LineFault.TheVariants as line
-use Rattle.hir_ends.specs.LineState.{LineState}
-use Rattle.hir_ends.specs.NextLine.{NextTakes, is_failed_output}
-use Rattle.hir_ends.specs.Reads.{Reads}
-use Rattle.hir_ends.specs.ReadLemmas.{ReadsFront-now, ReadsUntilFailure-now}
+use Rattle.hir_io.specs.declared.next.LineFault.{LineFault}
+use Rattle.hir_io.specs.declared.next.LineFault.TheVariants as line
+use Rattle.hir_io.specs.LineState.{LineState}
+use Rattle.hir_io.specs.NextLine.{NextTakes, is_failed_output}
+use Rattle.hir_io.specs.Reads.{Reads}
+use Rattle.hir_io.specs.ReadLemmas.{ReadsFront-now, ReadsUntilFailure-now}
 use Rattle.hir_run.specs.declared.fault.RunFault.{RunFault}
 use Rattle.hir_run.specs.declared.fault.RunFault.TheVariants.{BadLine, Refused, InputFailed, OutputFailed, OutOfMemory}
 use Rattle.hir_lines.specs.declared.line.Line.TheVariants.{Make, Bad}

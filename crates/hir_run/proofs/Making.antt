@@ -10,8 +10,8 @@ use Rattle.hir_lines.specs.declared.line.Line.TheVariants.{Blank, Make, Ask, Bad
 use Rattle.hir_lines.specs.declared.line.Maker.{Maker}
 use Rattle.hir_run.specs.Made.{Made, nothing_made, with_line}
 use Rattle.hir_lines.specs.declared.line.Question.{Question}
-use Rattle.hir_ends.specs.LineState.{LineState}
-use Rattle.hir_ends.specs.Reads.{Reads}
+use Rattle.hir_io.specs.LineState.{LineState}
+use Rattle.hir_io.specs.Reads.{Reads}
 use Rattle.hir_run.specs.Program.{makes, asks, maker_of, built_by, script}
 use Rattle.hir_run.specs.Stages.{AllMake, Makes, Builds, BuildsLine, line_behind}
 use Rattle.hir_run.proofs.Scripts.{Tells, script-push, behind_is, behind_make, tells_blank, tells_more}

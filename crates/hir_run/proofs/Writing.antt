@@ -3,8 +3,8 @@ use Rattle.std.proofs.Common.{◌≡◌, ◌∷◌, [], ◌++◌, ◌||◌, List
 use Rattle.std.specs.Prelude.{OnOk, OnErr}
 use Rattle.std.specs.Fmt.{decimal}
 use Rattle.std.proofs.lemmas.Grind.{flat_map-append}
-use Rattle.hir_ends.specs.Ends.{GrowsByFront, IsWrittenUpTo}
-use Rattle.hir_ends.specs.EndLemmas.{Appends-twice, GrowsByFront-after, GrowsByFront-more, IsWrittenUpTo-start}
+use Rattle.hir_io.specs.Ends.{GrowsByFront, IsWrittenUpTo}
+use Rattle.hir_io.specs.EndLemmas.{Appends-twice, GrowsByFront-after, GrowsByFront-more, IsWrittenUpTo-start}
 use Rattle.hir_run.specs.Answer.{spaced, Writes, WritesNext, FailsNext}
 
 -- what was written, and then more

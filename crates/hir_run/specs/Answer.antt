@@ -5,10 +5,10 @@ use Rattle.hir_lines.specs.declared.line.Question.{Question}
 use Rattle.hir_lines.specs.declared.line.Question.TheVariants.{Children, RootOf}
 use Rattle.hir_forest.specs.declared.roots.Root.{Root}
 use Rattle.hir_faults.specs.Nodes.{Nodes}
-use Rattle.hir_accepted.specs.RootSearch.{root_for_expr}
-use Rattle.hir_accepted.specs.Contents.{Contents}
-use Rattle.hir_accepted.specs.PatLists.{children}
-use Rattle.hir_ends.specs.Ends.{GrowsByFront, IsWrittenUpTo}
+use Rattle.hir_expr_store.specs.RootSearch.{root_for_expr}
+use Rattle.hir_expr_store.specs.Contents.{Contents}
+use Rattle.hir_expr_store.specs.PatLists.{children}
+use Rattle.hir_io.specs.Ends.{GrowsByFront, IsWrittenUpTo}
 
 -- numbers, each after a space
 abbrev pub spaced : List ℕ → List ℕ

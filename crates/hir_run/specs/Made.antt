@@ -4,7 +4,7 @@ use Rattle.hir_lines.specs.declared.line.Maker.{Maker}
 use Rattle.hir_lines.specs.declared.line.Maker.TheVariants as make
 use Rattle.hir_faults.specs.Nodes.{Nodes}
 use Rattle.hir_store.specs.Building.{Building, building_of, and_root, some_roots}
-use Rattle.hir_accepted.specs.Marks.{no_marks}
+use Rattle.hir_expr_store.specs.SideTables.{no_side_tables}
 use Rattle.hir_run.specs.declared.fault.RunFault.{RunFault}
 use Rattle.hir_run.specs.declared.fault.RunFault.TheVariants.{BadLine, OutOfMemory}
 use Rattle.hir_run.specs.declared.made.Made as code
@@ -20,7 +20,7 @@ abbrev pub no_nodes : Nodes
 no_nodes = record { exprs = []; pats = []; types = []; bindings = []; labels = []; lifetimes = [] }
 
 abbrev pub nothing_made : Made
-nothing_made = record { built = record { nodes = no_nodes; roots = None; marks = no_marks }; self_param = None; params = []; name = None }
+nothing_made = record { built = record { nodes = no_nodes; roots = None; side_tables = no_side_tables }; self_param = None; params = []; name = None }
 
 -- what the code holds
 abbrev pub made_of : code.Made → Made

@@ -1,6 +1,6 @@
 -- What the program writes and how it ends, for the lines that it is given.
 use Rattle.std.specs.Prelude.{◌≡◌, ◌⊎◌, ℕ, ◌+◌, Bool, true, false, ◌&&◌, ◌||◌, if◌then◌else◌, List, [], ◌∷◌, length, Option, None, Some, Result, Ok, Err, filter_map, flat_map, fold, map, codes}
-use Rattle.hir_ends.specs.Text.{lines}
+use Rattle.hir_io.specs.Text.{lines}
 use Rattle.hir_lines.specs.declared.line.Line.{Line}
 use Rattle.hir_lines.specs.declared.line.Line.TheVariants.{Blank, Make, Ask, Bad}
 use Rattle.hir_lines.specs.declared.line.Maker.{Maker}
@@ -8,7 +8,7 @@ use Rattle.hir_lines.specs.declared.line.Maker.TheVariants as make
 use Rattle.hir_run.specs.declared.fault.RunFault.{RunFault}
 use Rattle.hir_run.specs.declared.fault.RunFault.TheVariants.{BadLine, Refused}
 use Rattle.hir_faults.specs.declared.fault.FinishFault.{FinishFault}
-use Rattle.hir_accepted.specs.Contents.{Contents}
+use Rattle.hir_expr_store.specs.Contents.{Contents}
 use Rattle.hir_store.specs.Building.{contents_of, finish_fault}
 use Rattle.hir_lines.specs.Line.{line_of}
 use Rattle.hir_run.specs.Made.{Made, nothing_made, with_line}

@@ -1,14 +1,14 @@
 -- How a run of the program ends, with the bytes that it leaves unread and those that it has written.
 use Rattle.std.specs.Prelude.{◌≡◌, ℕ, Bool, true, false, List, ◌++◌, Option, None, Some, Result, Ok, Err, IfSome, ⊤}
-use Rattle.hir_ends.specs.Text.{lines, IsCutShort}
-use Rattle.hir_ends.specs.declared.next.LineFault.{LineFault}
-use Rattle.hir_ends.specs.declared.next.LineFault.TheVariants as line
+use Rattle.hir_io.specs.Text.{lines, IsCutShort}
+use Rattle.hir_io.specs.declared.next.LineFault.{LineFault}
+use Rattle.hir_io.specs.declared.next.LineFault.TheVariants as line
 use Rattle.hir_run.specs.declared.fault.RunFault.{RunFault}
 use Rattle.hir_run.specs.declared.fault.RunFault.TheVariants.{BadLine, Refused, InputFailed, OutputFailed, OutOfMemory}
 use Rattle.hir_faults.specs.declared.fault.FinishFault.{FinishFault}
 use Rattle.hir_faults.specs.declared.fault.FinishFault.TheVariants.{Memory}
 use Rattle.hir_store.specs.Building.{Building, contents_of, finish_fault}
-use Rattle.hir_accepted.specs.Contents.{Contents}
+use Rattle.hir_expr_store.specs.Contents.{Contents}
 use Rattle.hir_run.specs.Program.{answers, script, script_of, IsMeaning, IsSound}
 
 -- a line that can't be had, told of the run

@@ -2,16 +2,16 @@
 use Rattle.std.specs.Prelude.{◌≡◌, ◌⊎◌, ℕ, ◌+◌, true, false, List, [], ◌∷◌, ◌++◌, length, Option, None, Some, Result, Ok, Err, flat_map, codes}
 use Rattle.std.specs.List.{list_all, list_any}
 use Rattle.std.specs.Io.KnownBytes.{Appends}
-use Rattle.hir_ends.specs.Ends.{GrowsByFront, IsWrittenUpTo}
-use Rattle.hir_ends.specs.LineState.{LineState}
-use Rattle.hir_ends.specs.Reads.{Reads, ReadsAll, ReadsFront, ReadsUntilFailure}
+use Rattle.hir_io.specs.Ends.{GrowsByFront, IsWrittenUpTo}
+use Rattle.hir_io.specs.LineState.{LineState}
+use Rattle.hir_io.specs.Reads.{Reads, ReadsAll, ReadsFront, ReadsUntilFailure}
 use Rattle.hir_lines.specs.declared.line.Line.{Line}
 use Rattle.hir_lines.specs.declared.line.Line.TheVariants.{Blank, Make, Ask, Bad}
 use Rattle.hir_lines.specs.declared.line.Maker.{Maker}
 use Rattle.hir_lines.specs.declared.line.Question.{Question}
 use Rattle.hir_run.specs.declared.fault.RunFault.{RunFault}
 use Rattle.hir_run.specs.declared.fault.RunFault.TheVariants.{BadLine, Refused, InputFailed, OutputFailed, OutOfMemory}
-use Rattle.hir_accepted.specs.Contents.{Contents}
+use Rattle.hir_expr_store.specs.Contents.{Contents}
 use Rattle.hir_run.specs.Made.{Made, is_second, with_line}
 use Rattle.hir_lines.specs.Line.{line_of}
 use Rattle.hir_run.specs.Answer.{answer_to}

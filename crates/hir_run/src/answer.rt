@@ -2,11 +2,11 @@
 
 ghost use Rattle.std.specs.Prelude.{◌≡◌, ◌<◌, ◌||◌, ◌++◌, ◌∷◌, [], true, false, Result, Ok, Err, OnOk, OnErr, length, is_err};
 ghost use Rattle.std.specs.Fmt.{decimal};
-ghost use Rattle.hir_ends.specs.Ends.{GrowsByFront, IsWrittenUpTo};
-ghost use Rattle.hir_accepted.specs.PatLists.{children};
+ghost use Rattle.hir_io.specs.Ends.{GrowsByFront, IsWrittenUpTo};
+ghost use Rattle.hir_expr_store.specs.PatLists.{children};
 ghost use Rattle.hir_run.specs.Answer.{answer_to, children_line, children_text, root_line, root_text, spaced, FailsNext, Writes, WritesNext};
 
-use hir_ends::{EndFailed, OutputBuffer, Sink};
+use hir_io::{EndFailed, OutputBuffer, Sink};
 use hir_lines::Question;
 use hir_node::ExprId;
 use hir_store::ExpressionStore;

@@ -3,7 +3,7 @@
 ghost use Rattle.std.specs.Prelude.{◌≡◌};
 
 use hir_base::ExactEq;
-use hir_ends::LineFault;
+use hir_io::LineFault;
 use hir_store::FinishFault;
 use thiserror::Error;
 

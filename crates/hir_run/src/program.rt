@@ -7,7 +7,7 @@ ghost use Rattle.hir_run.specs.Run.{Runs, IsFinished, IsTold, store_of, is_input
 use super::fault::RunFault;
 use super::made::Made;
 use super::stages::{accept, answer_all, build};
-use hir_ends::{LineReader, OutputBuffer, Sink, Source};
+use hir_io::{LineReader, OutputBuffer, Sink, Source};
 use hir_store::{ExpressionStore, ExpressionStoreSourceMap, FinishFault, Refused};
 use std::alloc::Global;
 use std::mem::{drop, forget};

@@ -4,7 +4,7 @@ ghost use Rattle.std.specs.Prelude.{◌≡◌};
 ghost use Rattle.hir_run.specs.Run.{status_of};
 
 use super::fault::RunFault;
-use hir_ends::{Sink, write_all};
+use hir_io::{Sink, write_all};
 use std::fmt;
 use std::fmt::Write;
 

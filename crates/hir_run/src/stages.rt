@@ -1,7 +1,7 @@
 //! The two stages of a run: lines that make something, then questions.
 
 ghost use Rattle.std.specs.Prelude.{◌≡◌, ◌+◌, ◌<◌, ◌^◌, ◌||◌, [], false, Ok, Err, length, OnOk, OnErr, is_err};
-ghost use Rattle.hir_ends.specs.NextLine.{untaken};
+ghost use Rattle.hir_io.specs.NextLine.{untaken};
 ghost use Rattle.hir_run.specs.Made.{made_of, nothing_made};
 ghost use Rattle.hir_run.specs.Answer.{answer_to};
 ghost use Rattle.hir_run.specs.Run.{is_input_failed, is_output_failed};
@@ -10,7 +10,7 @@ ghost use Rattle.hir_run.specs.Stages.{Accepts, Answers, AnswersBy, AnswersLine,
 use super::answer::answer;
 use super::fault::RunFault;
 use super::made::Made;
-use hir_ends::{LineReader, OutputBuffer, Sink, Source, next_line};
+use hir_io::{LineReader, OutputBuffer, Sink, Source, next_line};
 use hir_lines::{Line, Question, parse};
 use hir_store::ExpressionStore;
 use std::alloc::Global;

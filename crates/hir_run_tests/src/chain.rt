@@ -2,7 +2,7 @@
 
 use crate::again::{by, run_again};
 use crate::fakes::Kept;
-use hir_ends::OutputBuffer;
+use hir_io::OutputBuffer;
 use hir_node::ExprId;
 use hir_run::RunFault;
 use hir_store::{FinishFault, NodeId};

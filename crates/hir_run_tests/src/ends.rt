@@ -2,7 +2,7 @@
 //! and are written before each read, at the end, and before a fault is told.
 
 use crate::again::{by, run_again, until};
-use hir_ends::{Sink, Source};
+use hir_io::{Sink, Source};
 use hir_run::RunFault;
 
 /// Answers, one of them after an empty line, and a line that is bad behind a question.

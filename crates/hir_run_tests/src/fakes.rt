@@ -2,7 +2,7 @@
 
 ghost use Rattle.std.specs.Prelude.{◌≡◌, ◌++◌, IsFalse, IsTrue, false};
 
-use hir_ends::{EndFailed, Sink, Source};
+use hir_io::{EndFailed, Sink, Source};
 use std::alloc::Global;
 
 /// Bytes that are read some at a time, until the call that fails.

@@ -1,7 +1,7 @@
 //! Reads lines that build an expression store and questions on it from standard input, and answers the questions.
 #![tactic(auto)]
 
-use hir_ends::StdEnd;
+use hir_io::StdEnd;
 use hir_run::{report, run};
 use std::process::ExitCode;
 

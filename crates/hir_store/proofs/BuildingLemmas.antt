@@ -3,7 +3,7 @@ use Rattle.std.proofs.Common.{Option, Some, None, refl, inl, inr}
 use Rattle.hir_forest.proofs.VerdictLemmas.{IsOne, unless-one, before-one}
 use Rattle.hir_faults.specs.declared.fault.FinishFault.{FinishFault}
 use Rattle.hir_faults.specs.declared.fault.FinishFault.TheVariants.{NoRoots}
-use Rattle.hir_accepted.specs.Contents.{rooted_of, contents_fault}
+use Rattle.hir_expr_store.specs.Contents.{rooted_of, contents_fault}
 use Rattle.hir_store.specs.Building.{Building, HasRoots, contents_of, finish_fault}
 use Rattle.hir_store.proofs.FirstFaultLemmas.{rooted_fault-one}
 

@@ -8,8 +8,8 @@ use Rattle.hir_forest.specs.Faults.{forest_fault}
 use Rattle.hir_forest.proofs.VerdictLemmas.{IsOne, unless-one, before-one, first_below-one, in_words-one}
 use Rattle.hir_forest.proofs.FaultLemmas.{forest_fault-one}
 use Rattle.hir_faults.specs.declared.sizes.Sizes.{Sizes}
-use Rattle.hir_faults.specs.declared.fault.NodeId.{NodeId}
-use Rattle.hir_faults.specs.declared.fault.NodeId.TheVariants as named
+use Rattle.hir_node.specs.declared.node_id.NodeId.{NodeId}
+use Rattle.hir_node.specs.declared.node_id.NodeId.TheVariants as node
 use Rattle.hir_faults.specs.declared.fault.FinishFault.{FinishFault}
 use Rattle.hir_faults.specs.declared.fault.FinishFault.TheVariants.{IdOutOfRange, NotAPath, NoReturnType, NoSelfArgument, ArgumentLists}
 use Rattle.hir_faults.specs.Parts.{Parts, expr_parts, pat_parts, type_parts, names_there, names_paths, gives_self, lists_fit}
@@ -68,15 +68,15 @@ graph_last c None n h = (n, h)
 graph_last c (Some f) n h = inr (n, h)
 
 -- what is found among the expressions, then among the patterns, then among the types
-pub bad_expr : (s : Nodes) (f : FinishFault) → first_of (sizes_of s) s.types named.Expr (map expr_parts s.exprs) (Some f) → first_bad_node s (Some f)
+pub bad_expr : (s : Nodes) (f : FinishFault) → first_of (sizes_of s) s.types node.Expr (map expr_parts s.exprs) (Some f) → first_bad_node s (Some f)
 unfolding first_bad_node
 bad_expr s f h = inl h
 
-pub bad_pat : (s : Nodes) (f : FinishFault) → first_of (sizes_of s) s.types named.Expr (map expr_parts s.exprs) None → first_of (sizes_of s) s.types named.Pat (map pat_parts s.pats) (Some f) → first_bad_node s (Some f)
+pub bad_pat : (s : Nodes) (f : FinishFault) → first_of (sizes_of s) s.types node.Expr (map expr_parts s.exprs) None → first_of (sizes_of s) s.types node.Pat (map pat_parts s.pats) (Some f) → first_bad_node s (Some f)
 unfolding first_bad_node
 bad_pat s f n h = inr (n, inl h)
 
-pub bad_type : (s : Nodes) (o : Option FinishFault) → first_of (sizes_of s) s.types named.Expr (map expr_parts s.exprs) None → first_of (sizes_of s) s.types named.Pat (map pat_parts s.pats) None → first_of (sizes_of s) s.types named.TypeRef (map type_parts s.types) o → first_bad_node s o
+pub bad_type : (s : Nodes) (o : Option FinishFault) → first_of (sizes_of s) s.types node.Expr (map expr_parts s.exprs) None → first_of (sizes_of s) s.types node.Pat (map pat_parts s.pats) None → first_of (sizes_of s) s.types node.TypeRef (map type_parts s.types) o → first_bad_node s o
 unfolding first_bad_node
 bad_type s None n m h = (n, (m, h))
 bad_type s (Some f) n m h = inr (n, inr (m, h))

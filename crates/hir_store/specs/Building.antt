@@ -6,9 +6,9 @@ use Rattle.hir_faults.specs.declared.fault.FinishFault.{FinishFault}
 use Rattle.hir_faults.specs.declared.fault.FinishFault.TheVariants.{NoRoots}
 use Rattle.hir_faults.specs.Nodes.{Nodes}
 use Rattle.hir_faults.specs.Faults.{ends_of}
-use Rattle.hir_accepted.specs.declared.marks.Marks.{Marks}
-use Rattle.hir_accepted.specs.Marks.{no_marks}
-use Rattle.hir_accepted.specs.Contents.{Contents, contents_fault}
+use Rattle.hir_expr_store.specs.declared.side_tables.SideTables.{SideTables}
+use Rattle.hir_expr_store.specs.SideTables.{no_side_tables}
+use Rattle.hir_expr_store.specs.Contents.{Contents, contents_fault}
 use Rattle.hir_source.specs.Additions.{HasSameMaps}
 use Rattle.hir_store.specs.declared.builder.ExpressionStoreBuilder.{ExpressionStoreBuilder}
 
@@ -16,19 +16,19 @@ use Rattle.hir_store.specs.declared.builder.ExpressionStoreBuilder.{ExpressionSt
 pub record Building : Type 0 where
   pub nodes : Nodes
   pub roots : Option (List Root)
-  pub marks : Marks
+  pub side_tables : SideTables
 
 -- what a builder has
 abbrev pub nodes_of : ExpressionStoreBuilder → Nodes
 nodes_of b = record { exprs = b.exprs; pats = b.pats; types = b.types; bindings = b.bindings; labels = b.labels; lifetimes = b.lifetimes }
 
-abbrev pub marks_of : ExpressionStoreBuilder → Marks
-marks_of b = record { owners = b.binding_owners; hygiene = b.hygiene; blocks = b.block_scopes }
+abbrev pub side_tables_of : ExpressionStoreBuilder → SideTables
+side_tables_of b = record { owners = b.binding_owners; hygiene = b.hygiene; blocks = b.block_scopes }
 
 abbrev pub building_of : ExpressionStoreBuilder → Building
-building_of b = record { nodes = nodes_of b; roots = b.roots; marks = marks_of b }
+building_of b = record { nodes = nodes_of b; roots = b.roots; side_tables = side_tables_of b }
 
--- two builders have the same nodes, roots and marks, and the same maps of sources
+-- two builders have the same nodes, roots and side_tables, and the same maps of sources
 abbrev pub HasTheSame : ExpressionStoreBuilder → ExpressionStoreBuilder → Type 0
 HasTheSame b c = (building_of b ≡ building_of c) × HasSameMaps b.source_map c.source_map
 
@@ -40,13 +40,13 @@ roots_or_none (Some roots) = roots
 abbrev pub has_exprs : Nodes → Bool
 has_exprs s = not (nat_eq (length s.exprs) 0) || not (nat_eq (length s.labels) 0) || not (nat_eq (length s.pats) 0) || not (nat_eq (length s.bindings) 0)
 
--- the marks where the expression part is kept, and else none
-abbrev pub kept_marks : Bool → Marks → Marks
-kept_marks kept marks = cond kept marks no_marks
+-- the side_tables where the expression part is kept, and else none
+abbrev pub kept_side_tables : Bool → SideTables → SideTables
+kept_side_tables kept side_tables = cond kept side_tables no_side_tables
 
 -- what the store of a builder holds
 abbrev pub contents_of : Building → Contents
-contents_of b = record { nodes = b.nodes; roots = roots_or_none b.roots; marks = kept_marks (has_exprs b.nodes) b.marks }
+contents_of b = record { nodes = b.nodes; roots = roots_or_none b.roots; side_tables = kept_side_tables (has_exprs b.nodes) b.side_tables }
 
 -- the roots and one more, whose ends are the lengths of the arenas at that moment
 abbrev pub and_root : Building → ℕ → Option (List Root)

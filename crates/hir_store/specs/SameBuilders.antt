@@ -14,7 +14,7 @@ use Rattle.hir_node.specs.SameStructs.{bindings_decide}
 use Rattle.hir_node.specs.contracts.binding.LabelExactEq.TheImpl.Laws as labels_law
 use Rattle.hir_node.specs.contracts.type_ref.LifetimeRefExactEq.TheImpl.Laws as lifetimes_law
 use Rattle.hir_source.specs.SameBuilders.{builders_decide as source_maps_decide}
-use Rattle.hir_accepted.specs.SameRoots.{root_lists_decide}
+use Rattle.hir_expr_store.specs.SameRoots.{root_lists_decide}
 use Rattle.hir_store.specs.declared.builder.ExpressionStoreBuilder.{ExpressionStoreBuilder}
 use Rattle.hir_store.specs.contracts.builder.ExpressionStoreBuilderPartialEq.TheImpl as builders
 use Rattle.hir_store.specs.Building.{HasTheSame}
@@ -40,9 +40,9 @@ builders_decide x y =
       λ i. record {
         nodes = record { exprs = e i; pats = r.0 i; types = r.1.1.1.1.0 i; bindings = r.1.0 i; labels = r.1.1.0 i; lifetimes = r.1.1.1.0 i };
         roots = r.1.1.1.1.1.1.1.1.1.0 i;
-        marks = record { owners = r.1.1.1.1.1.0 i; hygiene = r.1.1.1.1.1.1.0 i; blocks = r.1.1.1.1.1.1.1.0 i };
+        side_tables = record { owners = r.1.1.1.1.1.0 i; hygiene = r.1.1.1.1.1.1.0 i; blocks = r.1.1.1.1.1.1.1.0 i };
       },
       r.1.1.1.1.1.1.1.1.0,
     ))
     (λ h i. (h.0 i).nodes.exprs)
-    (λ h. (λ i. (h.0 i).nodes.pats, (λ i. (h.0 i).nodes.bindings, (λ i. (h.0 i).nodes.labels, (λ i. (h.0 i).nodes.lifetimes, (λ i. (h.0 i).nodes.types, (λ i. (h.0 i).marks.owners, (λ i. (h.0 i).marks.hygiene, (λ i. (h.0 i).marks.blocks, (h.1, (λ i. (h.0 i).roots, refl)))))))))))
+    (λ h. (λ i. (h.0 i).nodes.pats, (λ i. (h.0 i).nodes.bindings, (λ i. (h.0 i).nodes.labels, (λ i. (h.0 i).nodes.lifetimes, (λ i. (h.0 i).nodes.types, (λ i. (h.0 i).side_tables.owners, (λ i. (h.0 i).side_tables.hygiene, (λ i. (h.0 i).side_tables.blocks, (h.1, (λ i. (h.0 i).roots, refl)))))))))))

@@ -9,8 +9,8 @@ ghost use Rattle.hir_faults.specs.Faults.{nodes_in};
 ghost use Rattle.hir_faults.specs.Nodes.{sizes_of};
 ghost use Rattle.hir_faults.specs.Sizes.{Few};
 
-use crate::finish::{kept_marks, roots_or_empty};
-use hir_accepted::{ExpressionStore, Marks, RootList, StoreParts};
+use crate::finish::{kept_side_tables, roots_or_empty};
+use hir_expr_store::{ExpressionStore, SideTables, RootList, StoreParts};
 use hir_base::{Arena, ArenaFault, BlockId, HygieneId, Seq, Table};
 use hir_faults::{FinishFault, NodeSlices};
 use hir_forest::Root;
@@ -257,7 +257,7 @@ impl ExpressionStoreBuilder {
             roots,
             alloc,
         } = self;
-        let marks = Marks {
+        let side_tables = SideTables {
             owners: binding_owners,
             hygiene,
             blocks: block_scopes,
@@ -270,7 +270,7 @@ impl ExpressionStoreBuilder {
             labels,
             lifetimes,
             roots: roots_or_empty(alloc, roots),
-            marks: kept_marks(alloc, keeps_exprs, marks),
+            side_tables: kept_side_tables(alloc, keeps_exprs, side_tables),
         });
         (store, source_map.finish(keeps_exprs))
     }

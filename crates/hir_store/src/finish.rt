@@ -2,11 +2,11 @@
 
 ghost use Rattle.std.specs.Prelude.{◌≡◌, ◌⊎◌, ◌↔◌, IsTrue, IfOk, IfErr, None, Some};
 ghost use Rattle.hir_source.specs.Additions.{finished};
-ghost use Rattle.hir_store.specs.Building.{nodes_of, building_of, contents_of, roots_or_none, HasRoots, has_exprs, kept_marks, finish_fault};
+ghost use Rattle.hir_store.specs.Building.{nodes_of, building_of, contents_of, roots_or_none, HasRoots, has_exprs, kept_side_tables, finish_fault};
 
 use crate::builder::{ExpressionStoreBuilder, Refused};
 use crate::first_fault::first_fault_of;
-use hir_accepted::{ExpressionStore, Marks, RootList};
+use hir_expr_store::{ExpressionStore, SideTables, RootList};
 use hir_faults::FinishFault;
 use hir_forest::Root;
 use hir_source::ExpressionStoreSourceMap;
@@ -80,10 +80,10 @@ impl ExpressionStoreBuilder {
 }
 
 /// What is said of nodes besides, where they are kept; else nothing.
-pub(crate) fn kept_marks(alloc: Global, kept: bool, marks: Marks) -> Marks
-    ensures { result ≡ kept_marks kept marks }
+pub(crate) fn kept_side_tables(alloc: Global, kept: bool, side_tables: SideTables) -> SideTables
+    ensures { result ≡ kept_side_tables kept side_tables }
 {
-    if kept { marks } else { Marks::new(alloc) }
+    if kept { side_tables } else { SideTables::new(alloc) }
 }
 
 /// The listed roots; none where no list was begun.

@@ -11,9 +11,9 @@ ghost use Rattle.hir_faults.specs.Sizes.{Few, node_at};
 
 use crate::tested::Tested;
 use hir_base::Idx;
-use hir_faults::{FinishFault, NodeId, NodeSlices, Sizes, calls_there};
+use hir_faults::{FinishFault, NodeSlices, Sizes, calls_there};
 use hir_forest::{ForestFault, Root, first_fault};
-use hir_node::{ExprId, PatId, TypeRef, TypeRefId};
+use hir_node::{ExprId, NodeId, PatId, TypeRef, TypeRefId};
 use std::alloc::{AllocError, Global};
 
 /// Whether the id, where there is one, is one of so many.

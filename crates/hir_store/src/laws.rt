@@ -7,7 +7,7 @@ ghost use Rattle.hir_faults.specs.declared.fault.FinishFault.{FinishFault};
 ghost use Rattle.hir_store.specs.Building.{Building, HasTheSame, finish_fault};
 
 use crate::builder::ExpressionStoreBuilder;
-pub use hir_accepted::laws::{
+pub use hir_expr_store::laws::{
     bindings_in_is, contents_are_a_forest, exprs_in_is, kids_fall, nodes_are_sound,
     paths_of_nodes_fit, pats_is, ranks_are_bounded, roots_stand_apart, under_two_is_under_one,
     what_is_under_is_there,
@@ -18,7 +18,7 @@ pub fn first_fault_is_one()
     ensures { (b : Building) (f g : Option FinishFault) → finish_fault b f → finish_fault b g → f ≡ g }
 {}
 
-/// Builders are equal exactly where they have the same nodes, roots and marks, and the same maps of sources.
+/// Builders are equal exactly where they have the same nodes, roots and side_tables, and the same maps of sources.
 pub fn builders_are_compared_by_all_that_they_have()
     ensures { (x y : ExpressionStoreBuilder) → Decides (⟦<ExpressionStoreBuilder as PartialEq>⟧.eq x y) (HasTheSame x y) }
 {}

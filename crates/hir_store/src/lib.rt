@@ -11,8 +11,8 @@ mod tested;
 
 pub use builder::{ExpressionStoreBuilder, Refused};
 pub use first_fault::first_fault_of;
-pub use hir_accepted::{Blocks, ExprRoots, ExpressionStore, Missing, NodeSet, TypeBoundExt};
+pub use hir_expr_store::{Blocks, ExprRoots, ExpressionStore, Missing, NodeSet, TypeBoundExt};
 pub use hir_base::SyntheticSyntax;
-pub use hir_faults::{FinishFault, NodeId};
-pub use hir_node::{StoreVisitor, StoreVisitorExt, visit_generic_args};
+pub use hir_faults::FinishFault;
+pub use hir_node::{NodeId, StoreVisitor, StoreVisitorExt, visit_generic_args};
 pub use hir_source::{ExpressionStoreDiagnostics, ExpressionStoreSourceMap, MissingBodyItemKind};

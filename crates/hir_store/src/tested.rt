@@ -2,13 +2,13 @@
 
 ghost use Rattle.std.specs.Prelude.{◌≡◌, ℕ};
 ghost use Rattle.std.specs.Option.{option_to_list};
-ghost use Rattle.hir_faults.specs.declared.fault.NodeId.{NodeId};
+ghost use Rattle.hir_node.specs.declared.node_id.NodeId.{NodeId};
 ghost use Rattle.hir_faults.specs.HeldParts.{held_of};
 ghost use Rattle.hir_faults.specs.Parts.{nothing, a_path, some_bounds};
 
-use hir_faults::{Holds, Node, NodeId};
+use hir_faults::{Holds, Node};
 use hir_node::{
-    BindingId, Boxed, Expr, ExprId, LabelId, Pat, PatId, Path, TypeBound, TypeRef, TypeRefId,
+    BindingId, Boxed, Expr, ExprId, LabelId, NodeId, Pat, PatId, Path, TypeBound, TypeRef, TypeRefId,
 };
 
 /// Nothing is held.
@@ -71,9 +71,9 @@ pub(crate) trait Tested: Node {
 }
 
 impl Tested for Expr {
-    ghost use Rattle.hir_faults.specs.declared.fault.NodeId.TheVariants as named;
+    ghost use Rattle.hir_node.specs.declared.node_id.NodeId.TheVariants as node;
 
-    ghost name = { named.Expr };
+    ghost name = { node.Expr };
 
     fn name(n: u32) -> NodeId {
         NodeId::Expr(ExprId::from_raw(n))
@@ -166,9 +166,9 @@ impl Tested for Expr {
 }
 
 impl Tested for Pat {
-    ghost use Rattle.hir_faults.specs.declared.fault.NodeId.TheVariants as named;
+    ghost use Rattle.hir_node.specs.declared.node_id.NodeId.TheVariants as node;
 
-    ghost name = { named.Pat };
+    ghost name = { node.Pat };
 
     fn name(n: u32) -> NodeId {
         NodeId::Pat(PatId::from_raw(n))
@@ -228,9 +228,9 @@ impl Tested for Pat {
 }
 
 impl Tested for TypeRef {
-    ghost use Rattle.hir_faults.specs.declared.fault.NodeId.TheVariants as named;
+    ghost use Rattle.hir_node.specs.declared.node_id.NodeId.TheVariants as node;
 
-    ghost name = { named.TypeRef };
+    ghost name = { node.TypeRef };
 
     fn name(n: u32) -> NodeId {
         NodeId::TypeRef(TypeRefId::from_raw(n))

@@ -1,10 +1,10 @@
 use Rattle.std.proofs.Common.{ℕ, ◌<◌, map, take, None}
-use Rattle.hir_node.specs.ChildCalls.{OfPat}
+use Rattle.hir_node.specs.declared.node_id.NodeId.TheVariants as node
 use Rattle.hir_items.specs.Bodies.{formals_of, repeated_fault, GainsAll}
 use Rattle.hir_items.proofs.formals.add_formals.Given as goal
 
 abbrev pub invariant-loop-i : goal.invariant-loop-i
 invariant-loop-i l = record {
-  added : GainsAll l.initial.set (map OfPat (take l.i (formals_of l.params))) l.set;
+  added : GainsAll l.initial.set (map node.Pat (take l.i (formals_of l.params))) l.set;
   new : (j : ℕ) → j < l.i → repeated_fault (formals_of l.params) j None;
 }

@@ -2,7 +2,7 @@ use Rattle.std.proofs.Common.{◌++◌, append_assoc}
 use Rattle.std.specs.Prelude.{codes}
 use Rattle.std.specs.Fmt.{decimal}
 use Rattle.std.proofs.lemmas.Result.{err_from_is_err_and}
-use Rattle.hir_ends.specs.Ends.{GrowsByFront, IsWrittenUpTo}
+use Rattle.hir_io.specs.Ends.{GrowsByFront, IsWrittenUpTo}
 use Rattle.hir_run.specs.Answer.{children_text}
 use Rattle.hir_run.proofs.Writing.{Writes-by, Writes-then, Writes-failed, IsWrittenUpTo-then, GrowsByFront-then}
 use Rattle.hir_run.proofs.answer.answer_children.Goals as goal

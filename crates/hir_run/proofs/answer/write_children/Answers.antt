@@ -1,8 +1,8 @@
 use Rattle.std.proofs.Common.{◌≡◌, Result, refl, sym, ◌∙◌}
 use Rattle.std.proofs.lemmas.Fn.{chained_keeps}
-use Rattle.hir_ends.specs.declared.ends.EndFailed.{EndFailed}
-use Rattle.hir_ends.specs.declared.output.OutputBuffer.{OutputBuffer}
-use Rattle.hir_accepted.specs.PatLists.{children}
+use Rattle.hir_io.specs.declared.ends.EndFailed.{EndFailed}
+use Rattle.hir_io.specs.declared.output.OutputBuffer.{OutputBuffer}
+use Rattle.hir_expr_store.specs.PatLists.{children}
 use Rattle.hir_run.proofs.Writing.{SoFar, SoFar-none, SoFar-more}
 use Rattle.hir_run.proofs.answer.write_children.Goals as goal
 use Rattle.hir_run.proofs.answer.write_children.Given as given

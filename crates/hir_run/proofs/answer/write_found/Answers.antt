@@ -2,7 +2,7 @@ use Rattle.std.proofs.Common.{◌<◌, ◌≤◌, length, sym, ◌∙◌, inl, i
 use Rattle.std.specs.Prelude.{codes}
 use Rattle.std.proofs.lemmas.Bool.{cases_lt, false≢true}
 use Rattle.std.proofs.lemmas.Result.{err_from_is_err_and}
-use Rattle.hir_accepted.specs.PatLists.{children}
+use Rattle.hir_expr_store.specs.PatLists.{children}
 use Rattle.hir_run.specs.Answer.{spaced}
 use Rattle.hir_run.proofs.Writing.{Writes-by, Writes-then, Writes-failed}
 use Rattle.hir_run.proofs.Children.{children_found, children_unknown}

@@ -3,7 +3,7 @@ use Rattle.std.specs.Prelude.{codes}
 use Rattle.std.specs.Fmt.{decimal}
 use Rattle.std.proofs.lemmas.Bool.{false≢true}
 use Rattle.std.proofs.lemmas.Result.{err_from_is_err_and}
-use Rattle.hir_accepted.specs.RootSearch.{root_for_expr}
+use Rattle.hir_expr_store.specs.RootSearch.{root_for_expr}
 use Rattle.hir_run.proofs.Writing.{Writes-by, Writes-then, Writes-failed}
 use Rattle.hir_run.proofs.Children.{root_found, root_none}
 use Rattle.hir_run.proofs.answer.write_root.Goals as goal

@@ -1,6 +1,6 @@
 use Rattle.std.proofs.Common.{◌≡◌, ◌⊎◌, inl, inr, Result, Ok, Err, None, Some, sym}
 use Rattle.std.specs.Prelude.{IfOk, IfErr, MatchResult, IsErrAnd}
-use Rattle.hir_accepted.specs.Contents.{Contents}
+use Rattle.hir_expr_store.specs.Contents.{Contents}
 use Rattle.hir_faults.specs.declared.fault.FinishFault.{FinishFault}
 use Rattle.hir_faults.specs.declared.fault.FinishFault.TheVariants.{Memory}
 use Rattle.hir_store.specs.Building.{Building, building_of, contents_of, finish_fault}

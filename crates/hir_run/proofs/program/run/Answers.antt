@@ -1,6 +1,6 @@
 use Rattle.std.proofs.Common.{Ok, Err, sym, ◌∙◌}
 use Rattle.std.proofs.lemmas.Result.{err_from_is_err_and}
-use Rattle.hir_ends.specs.NextLine.{untaken}
+use Rattle.hir_io.specs.NextLine.{untaken}
 use Rattle.hir_run.specs.Made.{made_of}
 use Rattle.hir_run.specs.Stages.{Builds}
 use Rattle.hir_run.proofs.Ending.{runs_out_first, build_ends, store_ends, accepted_ends, fresh}

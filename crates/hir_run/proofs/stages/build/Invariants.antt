@@ -1,6 +1,6 @@
 use Rattle.std.proofs.Common.{◌≡◌, ◌+◌, ◌≤◌, List, ℕ, [], length}
-use Rattle.hir_ends.specs.NextLine.{untaken}
-use Rattle.hir_ends.specs.Reads.{Reads}
+use Rattle.hir_io.specs.NextLine.{untaken}
+use Rattle.hir_io.specs.Reads.{Reads}
 use Rattle.hir_run.specs.Made.{made_of}
 use Rattle.hir_run.specs.Stages.{Makes}
 use Rattle.hir_run.proofs.Scripts.{Tells}

@@ -1,7 +1,7 @@
 use Rattle.std.proofs.Common.{sym, ◌∙◌}
 use Rattle.std.proofs.lemmas.Bool.{false≢true}
 use Rattle.std.proofs.lemmas.Result.{IfOk-weaker}
-use Rattle.hir_accepted.specs.Contents.{contents_fault}
+use Rattle.hir_expr_store.specs.Contents.{contents_fault}
 use Rattle.hir_store.specs.Building.{building_of, contents_of, finish_fault}
 use Rattle.hir_store.proofs.BuildingLemmas.{no_roots, has_roots}
 use Rattle.hir_store.proofs.builder.ExpressionStoreBuilder.first_fault.Goals as goal

@@ -1,6 +1,0 @@
-use Rattle.hir_faults.proofs.SoundLemmas.{empty_sound}
-use Rattle.hir_accepted.proofs.store.ExpressionStore.empty.Goals as goal
-
-pub invariant_of-result : goal.invariant_of-result
-invariant_of-result c =
-    rw (c.new.ensures, c.new-2.ensures, c.new-3.ensures, c.new-4.ensures, c.new-5.ensures, c.new-6.ensures, c.new-7.ensures) empty_sound

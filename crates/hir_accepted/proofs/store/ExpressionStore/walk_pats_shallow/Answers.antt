@@ -1,4 +1,0 @@
-use Rattle.hir_accepted.proofs.store.ExpressionStore.walk_pats_shallow.Goals as goal
-
-pub returns : goal.returns
-returns g c = rw c.index.ensures c.walk_child_pats.ensures

@@ -1,0 +1,21 @@
+-- What a store holds.
+use Rattle.std.specs.Prelude.{List, Option}
+use Rattle.hir_forest.specs.declared.roots.Root.{Root}
+use Rattle.hir_faults.specs.declared.fault.FinishFault.{FinishFault}
+use Rattle.hir_faults.specs.Nodes.{Nodes}
+use Rattle.hir_faults.specs.Faults.{Rooted, rooted_fault}
+use Rattle.hir_expr_store.specs.declared.side_tables.SideTables.{SideTables}
+
+-- the nodes and what they name, the roots, and what was said of them besides
+pub record Contents : Type 0 where
+  pub nodes : Nodes
+  pub roots : List Root
+  pub side_tables : SideTables
+
+-- without what was said besides
+abbrev pub rooted_of : Contents → Rooted
+rooted_of c = record { nodes = c.nodes; roots = c.roots }
+
+-- the first fault: what was said besides has none
+abbrev pub contents_fault : Contents → Option FinishFault → Type 0
+contents_fault c = rooted_fault (rooted_of c)

@@ -1,0 +1,20 @@
+-- Sets of nodes of a store, kept as a mark for each node.
+use Rattle.std.specs.Prelude.{◌≡◌, ◌⊎◌, ◌↔◌, Bool, List}
+use Rattle.hir_forest.specs.Forest.{Marks}
+use Rattle.hir_node.specs.declared.node_id.NodeId.{NodeId}
+use Rattle.hir_faults.specs.declared.sizes.Sizes.{Sizes}
+use Rattle.hir_faults.specs.Sizes.{HasNode, place}
+
+-- how many nodes there are, and a mark for each, in the order of the row
+pub record Marked : Type 0 where
+  pub sizes : Sizes
+  pub marks : List Bool
+
+-- the node is in the set
+abbrev pub IsIn : Marked → NodeId → Type 0
+IsIn set n = Marks set.marks (place set.sizes n)
+
+-- the set has this node more, and no other
+pub record Gains (old : Marked) (added : NodeId) (new : Marked) : Type 0 where
+  pub sizes : new.sizes ≡ old.sizes
+  pub members : (n : NodeId) → HasNode old.sizes n → IsIn new n ↔ (IsIn old n ⊎ (n ≡ added))

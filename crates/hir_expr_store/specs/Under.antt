@@ -1,0 +1,21 @@
+-- What lies under a node, told by going down from a node to its kids.
+use Rattle.std.specs.Prelude.{◌≡◌, ◌<◌, ℕ, List, Some, slice_get, Contains}
+use Rattle.hir_node.specs.declared.node_id.NodeId.{NodeId}
+use Rattle.hir_faults.specs.Nodes.{Nodes, Has, kids_of}
+
+-- a node is under itself, and what is under a kid of a node is under the node
+pub data Under (s : Nodes) (n : NodeId) : NodeId → Type 0 where
+  itself : Under s n n
+  below : {k r : NodeId} → Contains (kids_of s r) k → Under s n k → Under s n r
+
+-- the node is under another one, which is among these
+abbrev pub LiesUnderOther : Nodes → (NodeId → Type 0) → NodeId → Type 0
+LiesUnderOther s Among n = (r : NodeId) × Has s r × Among r × (n ≡ r → ⊥) × Under s n r
+
+-- nothing lies under two of these nodes
+abbrev pub LieApart : Nodes → List NodeId → Type 0
+LieApart s tops = (i j : ℕ) (a b n : NodeId) → i < j → slice_get tops i ≡ Some a → slice_get tops j ≡ Some b → Under s n a → Under s n b → ⊥
+
+-- the node is *reached* from these: it is under one of them
+abbrev pub Reached : Nodes → List NodeId → NodeId → Type 0
+Reached s tops n = (t : NodeId) × Contains tops t × Under s n t

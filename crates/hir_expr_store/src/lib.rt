@@ -1,0 +1,28 @@
+//! The accepted store: expressions, patterns, types and what they name, which are a well-formed forest, with its roots and what was said
+//! of its nodes besides. It is read, walked and searched here; the builder that makes it stands above.
+#![tactic(auto)]
+
+mod blocks;
+mod both;
+mod bounds;
+mod child_pats;
+pub mod laws;
+mod side_tables;
+mod missing;
+mod own_exprs;
+mod root_list;
+mod roots;
+mod store;
+mod store_iter;
+mod under;
+mod visits;
+mod walks;
+
+pub use blocks::Blocks;
+pub use bounds::TypeBoundExt;
+pub use side_tables::SideTables;
+pub use missing::Missing;
+pub use root_list::RootList;
+pub use store::{ExpressionStore, StoreParts};
+pub use store_iter::ExprRoots;
+pub use under::NodeSet;

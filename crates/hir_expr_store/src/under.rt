@@ -1,0 +1,103 @@
+//! Sets of nodes of a store, and which nodes lie under others.
+
+ghost use Rattle.std.specs.Prelude.{◌≡◌, ◌↔◌, ◌<◌, length, IfOk, IsTrue};
+ghost use Rattle.hir_node.specs.declared.node_id.NodeId.{NodeId};
+ghost use Rattle.hir_node.specs.declared.node_id.NodeId.TheVariants as node;
+ghost use Rattle.hir_faults.specs.Nodes.{Has, sizes_of};
+ghost use Rattle.hir_expr_store.specs.NodeSets.{IsIn, Gains};
+ghost use Rattle.hir_expr_store.specs.Under.{LiesUnderOther};
+
+use crate::store::ExpressionStore;
+use hir_faults::Sizes;
+use hir_forest::nodes_under;
+use hir_node::{ExprId, PatId};
+use std::alloc::{AllocError, Global};
+use std::marker::Model;
+
+/// A set of nodes of a store. It has a mark for each node that was there when it was made.
+#[derive(Drop)]
+pub struct NodeSet {
+    sizes: Sizes,
+    marks: Vec<bool>,
+}
+
+impl Model for NodeSet {
+    ghost use Rattle.std.specs.Prelude.{◌≡◌, ◌+◌, length};
+    ghost use Rattle.hir_expr_store.specs.NodeSets.{Marked};
+
+    ghost Value = { Marked };
+
+    ghost view = { λ s. record { sizes = s.sizes; marks = s.marks.items } };
+
+    ghost invariant = { λ s. length s.marks.items ≡ s.sizes.exprs + s.sizes.pats + s.sizes.types };
+}
+
+impl NodeSet {
+    /// Whether the expression is in the set. The store has to have it.
+    pub fn has_expr(&self, id: ExprId) -> bool
+        requires { id < self.now.sizes.exprs }
+        ensures { IsTrue result ↔ IsIn self.now (node.Expr id) }
+    {
+        let at = id.into_raw() as usize;
+        self.marks[at]
+    }
+
+    /// Whether the pattern is in the set. The store has to have it.
+    pub fn has_pat(&self, id: PatId) -> bool
+        requires { id < self.now.sizes.pats }
+        ensures { IsTrue result ↔ IsIn self.now (node.Pat id) }
+    {
+        let place = self.sizes.exprs + id.into_raw() as usize;
+        self.marks[place]
+    }
+
+    /// Puts the expression into the set. The store has to have it.
+    pub fn add_expr(&mut self, id: ExprId)
+        requires { id < self.old.sizes.exprs }
+        ensures { Gains self.old (node.Expr id) self.new }
+    {
+        self.marks[id.into_raw() as usize] = true;
+    }
+
+    /// Puts the pattern into the set. The store has to have it.
+    pub fn add_pat(&mut self, id: PatId)
+        requires { id < self.old.sizes.pats }
+        ensures { Gains self.old (node.Pat id) self.new }
+    {
+        self.marks[self.sizes.exprs + id.into_raw() as usize] = true;
+    }
+}
+
+impl ExpressionStore {
+    /// No nodes.
+    ///
+    /// Refused only where memory for a mark for each node is.
+    pub fn no_nodes(&self, alloc: Global) -> Result<NodeSet, AllocError>
+        ensures sizes { IfOk result (λ set. set.sizes ≡ sizes_of self.now.nodes) }
+        ensures none { IfOk result (λ set. (n : NodeId) → IsIn set n → ⊥) }
+    {
+        let sizes = self.sizes();
+        Ok(NodeSet {
+            sizes,
+            marks: vec![in alloc; false; sizes.exprs + sizes.pats + sizes.types]?,
+        })
+    }
+
+    /// The nodes that lie properly under one of these, which are nodes of this store.
+    ///
+    /// It takes time in the number of nodes and doesn't recurse. Refused only where memory for its tables is.
+    pub fn under(&self, alloc: Global, tops: &NodeSet) -> Result<NodeSet, AllocError>
+        requires { tops.now.sizes ≡ sizes_of self.now.nodes }
+        ensures sizes { IfOk result (λ found. found.sizes ≡ sizes_of self.now.nodes) }
+        ensures under { IfOk result (λ found. (n : NodeId) → Has self.now.nodes n
+            → IsIn found n ↔ LiesUnderOther self.now.nodes (IsIn tops.now) n) }
+    {
+        self.has_no_fault();
+        let rows = self.rows(alloc)?;
+        let marks = nodes_under(alloc, &rows, tops.marks.as_slice())?;
+        Ok(NodeSet {
+            sizes: self.sizes(),
+            marks,
+        })
+    }
+}

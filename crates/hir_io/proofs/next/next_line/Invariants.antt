@@ -1,0 +1,21 @@
+use Rattle.std.proofs.Common.{◌≡◌, ◌+◌, ◌≤◌, ◌⊎◌, [], false, cond, length}
+use Rattle.std.specs.Io.KnownBytes.{Keeps}
+use Rattle.hir_io.specs.Ends.{IsWrittenUpTo}
+use Rattle.hir_io.specs.Text.{HasNoLineEnd}
+use Rattle.hir_io.specs.NextLine.{untaken}
+use Rattle.hir_io.proofs.next.next_line.Given as goal
+
+abbrev pub invariant-loop-output : goal.invariant-loop-output
+invariant-loop-output g l = record {
+  same_count : l.lines.count ≡ l.fn.lines.count;
+  same_input_mark : g.R.Source.failed l.reader ≡ g.R.Source.failed l.fn.reader;
+  same_output_mark : g.W.Sink.failed l.writer ≡ g.W.Sink.failed l.fn.writer;
+  kept : Keeps (untaken l.fn.lines.pending l.fn.lines.at_end (g.R.Source.remaining l.fn.reader)) (untaken l.lines.pending l.lines.at_end (g.R.Source.remaining l.reader));
+  written : IsWrittenUpTo (g.W.Sink.contents l.fn.writer) (g.W.Sink.contents l.writer) l.fn.output l.output;
+  idle : l.fn.output ≡ [] → (l.output ≡ []) × (l.writer ≡ l.fn.writer);
+  falls : length l.lines.pending + g.R.Source.allowance l.reader ≤ length l.fn.lines.pending + g.R.Source.allowance l.fn.reader;
+  late : ((l.reader ≡ l.fn.reader) × (l.writer ≡ l.fn.writer) × (l.output ≡ l.fn.output) × (l.lines ≡ l.fn.lines)) ⊎ (HasNoLineEnd l.fn.lines.pending × (l.fn.lines.at_end ≡ false) × (l.output ≡ []));
+}
+
+abbrev pub decreases-loop-output : goal.decreases-loop-output
+decreases-loop-output g l = g.R.Source.allowance l.reader + cond l.lines.at_end 0 1

@@ -1,0 +1,83 @@
+//! Sources and sinks: where bytes are read from and written to, what they tell of them, and writing all of some bytes.
+
+ghost use Rattle.std.specs.Prelude.{◌≡◌, ◌+◌, ◌≤◌, ◌<◌, ◌^◌, ◌||◌, [], List, ℕ, Bool, Option, IfOk, IsOk, OnErr, OnOk, take, length, is_err};
+ghost use Rattle.std.specs.Io.KnownBytes.{Appends, Consumes, IsAtEnd};
+ghost use Rattle.hir_io.specs.Ends.{GrowsByFront, IsKeptOrUntold};
+
+use thiserror::Error;
+
+/// A call of a source or a sink failed.
+#[derive(Clone, Copy, Debug, Drop, PartialEq, Eq, Error)]
+#[error("a read or a write failed")]
+pub struct EndFailed;
+
+/// Where bytes are read from.
+///
+/// A source means the bytes that it has left, where it tells them, and whether a call has failed. It also means a number below
+/// 2^64 that falls by each byte read, so that reading ends and lines can be counted in 64 bits.
+pub trait Source {
+    // The bytes that are left to read, where they are told.
+    ghost remaining: { Self → Option (List ℕ) };
+
+    // Whether a call has failed.
+    ghost failed: { Self → Bool };
+
+    // A number that falls by each byte that is read.
+    ghost allowance: { Self → ℕ };
+
+    /// Reads some bytes into the front of the buffer, and says how many. They are none only at the end, or where there is no
+    /// room. After an `Err` the bytes left are as before or told no more, and `has_failed` is true from then on.
+    fn read(&mut self, buffer: &mut [u8]) -> Result<usize, EndFailed>
+        ensures count { IfOk result (λ n. n ≤ length buffer.new) }
+        ensures bytes { IfOk result (λ n. Consumes (remaining self.old) (remaining self.new) (take n buffer.new)) }
+        ensures end { result ≡ Ok 0 → 0 < length buffer.new → IsAtEnd (remaining self.old) }
+        ensures err { OnErr result (IsKeptOrUntold (remaining self.old) (remaining self.new)) }
+        ensures failure { failed self.new ≡ (is_err result || failed self.old) }
+        ensures falls { IfOk result (λ n. allowance self.new + n ≤ allowance self.old) };
+
+    /// Whether a call has failed.
+    fn has_failed(&self) -> bool
+        ensures { result ≡ failed self.now };
+
+    // The number fits 64 bits.
+    ghost bounded: { (source : Self) → allowance source < 2 ^ 64 };
+}
+
+/// Where bytes are written to.
+///
+/// A sink means the bytes that were written to it, where it tells them, and whether a call has failed.
+pub trait Sink {
+    // The bytes that were written, where they are told.
+    ghost contents: { Self → Option (List ℕ) };
+
+    // Whether a call has failed.
+    ghost failed: { Self → Bool };
+
+    /// Writes some bytes from the front of the buffer, at least one where there are any, and says how many. After an `Err`
+    /// what was written is as before or told no more, and `has_failed` is true from then on.
+    fn write(&mut self, buffer: &[u8]) -> Result<usize, EndFailed>
+        ensures count { IfOk result (λ n. n ≤ length buffer.now) }
+        ensures progress { IfOk result (λ n. 0 < length buffer.now → 0 < n) }
+        ensures bytes { IfOk result (λ n. Appends (contents self.old) (contents self.new) (take n buffer.now)) }
+        ensures err { OnErr result (IsKeptOrUntold (contents self.old) (contents self.new)) }
+        ensures failure { failed self.new ≡ (is_err result || failed self.old) };
+
+    /// Whether a call has failed.
+    fn has_failed(&self) -> bool
+        ensures { result ≡ failed self.now };
+}
+
+/// Writes all the bytes. After an `Err` some front of them was written. Where there are none, the writer isn't called.
+pub fn write_all<W: Sink>(writer: &mut W, bytes: &[u8]) -> Result<(), EndFailed>
+    ensures bytes { OnOk result (Appends (W.contents writer.old) (W.contents writer.new) bytes.now) }
+    ensures err { OnErr result (GrowsByFront (W.contents writer.old) (W.contents writer.new) bytes.now) }
+    ensures failure { W.failed writer.new ≡ (is_err result || W.failed writer.old) }
+    ensures idle { bytes.now ≡ [] → IsOk result × (writer.new ≡ writer.old) }
+{
+    let mut rest = bytes;
+    while !rest.is_empty() {
+        let count = writer.write(rest)?;
+        rest = &rest[count..];
+    }
+    Ok(())
+}

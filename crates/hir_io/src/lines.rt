@@ -1,0 +1,197 @@
+//! The lines of a source, which is read block by block: a line that lies whole in the buffer is lent from it and never copied.
+
+ghost use Rattle.hir_io.specs.Text.{IsFirstLineEnd};
+ghost use Rattle.std.specs.Prelude.{◌≡◌, ◌+◌, ◌-◌, ◌*◌, ◌≤◌, ◌<◌, ◌^◌, ◌||◌, [], false, IfOk, OnOk, OnErr, length, take, slice_range, vec_len, List, ℕ};
+
+use super::ends::Source;
+use memchr::memchr;
+use std::alloc::{AllocError, Global};
+use std::marker::Model;
+use thiserror::Error;
+
+/// How many bytes are asked for at least.
+const BLOCK: usize = 65536;
+
+/// What taking a line met.
+#[derive(Clone, Copy, PartialEq, Eq)]
+pub enum Taken {
+    /// A line was taken.
+    Line,
+    /// The pending bytes have no line end, and more may come.
+    More,
+    /// All lines were taken.
+    End,
+}
+
+/// Why no more bytes were read.
+#[derive(Clone, Copy, Debug, Drop, PartialEq, Eq, Error)]
+pub enum FillFault {
+    /// Memory for a longer line was refused, before the read.
+    #[error("out of memory")]
+    OutOfMemory,
+    /// The read failed.
+    #[error("input failed")]
+    InputFailed,
+}
+
+/// Takes the lines of a source.
+///
+/// It is seen as the line taken last, the bytes that were read and not yet taken, whether the end was met, and how many lines
+/// were taken. A line is lent from the buffer, which grows only where a line is longer.
+#[derive(Drop)]
+pub struct LineReader {
+    bytes: Vec<u8>,
+    line_start: usize,
+    line_end: usize,
+    start: usize,
+    scanned: usize,
+    filled: usize,
+    at_end: bool,
+    count: u64,
+}
+
+impl Model for LineReader {
+    ghost use Rattle.std.specs.Prelude.{◌≤◌, slice_range, vec_len};
+    ghost use Rattle.hir_io.specs.Text.{HasNoLineEnd};
+    ghost use Rattle.hir_io.specs.LineState.{LineState};
+
+    ghost Value = { LineState };
+
+    ghost view = { λ r. record {
+      line = slice_range r.bytes.items r.line_start r.line_end;
+      pending = slice_range r.bytes.items r.start r.filled;
+      at_end = r.at_end;
+      count = r.count;
+    } };
+
+    ghost invariant = { λ r. (r.line_start ≤ r.line_end) × (r.line_end ≤ vec_len r.bytes)
+        × (r.start ≤ r.scanned) × (r.scanned ≤ r.filled) × (r.filled ≤ vec_len r.bytes) × (65536 ≤ vec_len r.bytes)
+        × HasNoLineEnd (slice_range r.bytes.items r.start r.scanned) };
+}
+
+/// The place of the first line end.
+fn find_line_end(bytes: &[u8]) -> Option<usize>
+    ensures { IsFirstLineEnd bytes.now result }
+{
+    // An empty line is worth a test of its own: a search reads 64 bytes at least.
+    if let [b'\n', ..] = bytes {
+        return Some(0);
+    }
+    memchr(b'\n', bytes)
+}
+
+/// Moves the bytes from `start` to `filled` to the front, with room for a block behind them.
+fn make_room(bytes: &mut Vec<u8>, start: usize, filled: usize) -> Result<(), AllocError>
+    requires in_order { (start ≤ filled) × (filled ≤ vec_len bytes.old) }
+    requires has_block { 65536 ≤ vec_len bytes.old }
+    ensures moved { take (filled - start) bytes.new.items ≡ slice_range bytes.old.items start filled }
+    ensures room { OnOk result (filled - start + 65536 ≤ vec_len bytes.new) }
+    ensures kept { vec_len bytes.old ≤ vec_len bytes.new }
+{
+    let pending = filled - start;
+    if start > 0 {
+        bytes.copy_within(start..filled, 0);
+    }
+    if bytes.len() - pending < BLOCK {
+        bytes.resize(bytes.len() * 2, 0)?;
+    }
+    Ok(())
+}
+
+impl LineReader {
+    ghost use Rattle.hir_io.specs.Reading.{Takes, Fills, is_failed_read};
+
+    /// A reader of which no line was taken, with room for one block.
+    ///
+    /// `AllocError` where that memory was refused.
+    pub fn new(alloc: Global) -> Result<Self, AllocError>
+        ensures { IfOk result (λ r. r ≡ record { line = []; pending = []; at_end = false; count = 0 }) }
+    {
+        Ok(LineReader {
+            bytes: vec![in alloc; 0; BLOCK]?,
+            line_start: 0,
+            line_end: 0,
+            start: 0,
+            scanned: 0,
+            filled: 0,
+            at_end: false,
+            count: 0,
+        })
+    }
+
+    /// The line that was taken last, without its end; none before the first, and none once more bytes were asked for.
+    pub fn line(&self) -> &[u8]
+        ensures { result.now ≡ self.now.line }
+    {
+        &self.bytes[self.line_start..self.line_end]
+    }
+
+    /// How many lines were taken.
+    pub fn count(&self) -> u64
+        ensures { result ≡ self.now.count }
+    {
+        self.count
+    }
+
+    /// Takes a line from the pending bytes, without a read. The last line may lack its end once the end of the input was met.
+    pub fn take_line(&mut self) -> Taken
+        requires { self.old.count + length self.old.pending < 2 ^ 64 }
+        ensures { Takes self.old self.new result }
+    {
+        match find_line_end(&self.bytes[self.scanned..self.filled]) {
+            Some(i) => {
+                let end = self.scanned + i;
+                self.line_start = self.start;
+                self.line_end = end;
+                self.start = end + 1;
+                self.scanned = end + 1;
+                self.count += 1;
+                Taken::Line
+            }
+            None => {
+                self.scanned = self.filled;
+                if !self.at_end {
+                    return Taken::More;
+                }
+                if self.start == self.filled {
+                    return Taken::End;
+                }
+                self.line_start = self.start;
+                self.line_end = self.filled;
+                self.start = self.filled;
+                self.count += 1;
+                Taken::Line
+            }
+        }
+    }
+
+    /// Reads once, behind the pending bytes, for a block at least. A read of no bytes is the end of the input.
+    ///
+    /// `OutOfMemory` where the buffer had to grow and couldn't: nothing was read. `InputFailed` where the read failed. After
+    /// either the pending bytes are as before, and the call may be made again.
+    pub fn fill<R: Source>(&mut self, reader: &mut R) -> Result<(), FillFault>
+        ensures fills { Fills self.old self.new (R.remaining reader.old) (R.remaining reader.new) result }
+        ensures unread { result ≡ Err FillFault.OutOfMemory → reader.new ≡ reader.old }
+        ensures failure { R.failed reader.new ≡ (is_failed_read result || R.failed reader.old) }
+        ensures falls { OnOk result (length self.new.pending + R.allowance reader.new ≤ length self.old.pending + R.allowance reader.old) }
+    {
+        let pending = self.filled - self.start;
+        let room = make_room(&mut self.bytes, self.start, self.filled);
+        self.line_start = 0;
+        self.line_end = 0;
+        self.scanned -= self.start;
+        self.start = 0;
+        self.filled = pending;
+        if room.is_err() {
+            return Err(FillFault::OutOfMemory);
+        }
+        match reader.read(&mut self.bytes[pending..]) {
+            Ok(count) => {
+                self.filled = pending + count;
+                self.at_end = count == 0;
+                Ok(())
+            }
+            Err(_) => Err(FillFault::InputFailed),
+        }
+    }
+}

@@ -1,0 +1,68 @@
+//! Asking for the next line, where what waits is written before each read: who asks one question and waits gets its answer.
+
+ghost use Rattle.std.specs.Prelude.{◌≡◌, ◌+◌, ◌≤◌, ◌<◌, ◌^◌, ◌||◌, ◌⊎◌, [], true, false, length, cond};
+ghost use Rattle.hir_io.specs.Text.{HasNoLineEnd};
+ghost use Rattle.hir_io.specs.NextLine.{NextTakes, NextWrites, untaken, is_found, is_failed_input, is_failed_output};
+
+use super::ends::{Sink, Source};
+use super::lines::{FillFault, LineReader, Taken};
+use super::output::OutputBuffer;
+use thiserror::Error;
+
+/// Why the next line can't be had.
+#[derive(Clone, Copy, Debug, Drop, PartialEq, Eq, Error)]
+pub enum LineFault {
+    /// Memory for a longer line was refused.
+    #[error("out of memory")]
+    OutOfMemory,
+    /// A read failed.
+    #[error("input failed")]
+    InputFailed,
+    /// What waited couldn't be written.
+    #[error("output failed")]
+    OutputFailed,
+}
+
+/// Takes the next line, and says whether there is one. A read is made only where no whole line is pending, and what waits is
+/// written before it.
+///
+/// `InputFailed` where a read failed: the pending bytes are the beginning of a line. `OutputFailed` where what waited couldn't
+/// be written: a front of it was. `OutOfMemory` where memory for a longer line was refused. After the first and the last what
+/// waited is written, after each nothing waits, and no byte that was read is lost.
+pub fn next_line<R: Source, W: Sink>(
+    lines: &mut LineReader,
+    reader: &mut R,
+    output: &mut OutputBuffer,
+    writer: &mut W,
+) -> Result<bool, LineFault>
+    requires fits { lines.old.count + length lines.old.pending + R.allowance reader.old < 2 ^ 64 }
+    ensures takes { NextTakes (untaken lines.old.pending lines.old.at_end (R.remaining reader.old)) (untaken lines.new.pending lines.new.at_end (R.remaining reader.new))
+        (R.remaining reader.new) lines.old lines.new result }
+    ensures writes { NextWrites (W.contents writer.old) (W.contents writer.new) output.old output.new result }
+    ensures count { lines.new.count ≡ lines.old.count + cond (is_found result) 1 0 }
+    ensures falls { is_failed_input result ≡ false →
+        length lines.new.pending + R.allowance reader.new + cond (is_found result) 1 0 ≤ length lines.old.pending + R.allowance reader.old }
+    ensures input_failure { R.failed reader.new ≡ (is_failed_input result || R.failed reader.old) }
+    ensures output_failure { W.failed writer.new ≡ (is_failed_output result || W.failed writer.old) }
+    // Where nothing waits the writer isn't called.
+    ensures idle { output.old ≡ [] → (is_failed_output result ≡ false) × (writer.new ≡ writer.old) × (output.new ≡ []) }
+    ensures read_late { ((reader.new ≡ reader.old) × (writer.new ≡ writer.old) × (output.new ≡ output.old))
+        ⊎ (HasNoLineEnd lines.old.pending × (lines.old.at_end ≡ false) × (output.new ≡ [])) }
+    ensures stays_ended { lines.old.at_end ≡ true → lines.new.at_end ≡ true }
+{
+    loop {
+        match lines.take_line() {
+            Taken::Line => return Ok(true),
+            Taken::End => return Ok(false),
+            Taken::More => {}
+        }
+        if output.flush(writer).is_err() {
+            return Err(LineFault::OutputFailed);
+        }
+        match lines.fill(reader) {
+            Ok(()) => {}
+            Err(FillFault::OutOfMemory) => return Err(LineFault::OutOfMemory),
+            Err(FillFault::InputFailed) => return Err(LineFault::InputFailed),
+        }
+    }
+}

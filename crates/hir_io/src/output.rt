@@ -1,0 +1,98 @@
+//! Output that waits, so that many short writes become few calls of a sink. Its memory is taken once, at the start.
+
+ghost use Rattle.std.specs.Prelude.{◌≡◌, ◌+◌, ◌≤◌, ◌||◌, ◌++◌, [], true, length, IfOk, OnOk, OnErr, IsOk, is_err, cond};
+ghost use Rattle.std.specs.Fmt.{decimal};
+ghost use Rattle.std.specs.Io.KnownBytes.{Appends};
+ghost use Rattle.hir_io.specs.Ends.{GrowsByFront, IsWrittenUpTo};
+
+use super::ends::{EndFailed, Sink, write_all};
+use itoa::Buffer;
+use std::alloc::{AllocError, Global};
+use std::marker::Model;
+
+/// How many bytes wait at most.
+const CAPACITY: usize = 65536;
+
+/// The bytes that wait to be written, seen as a list. Writing needs no memory.
+#[derive(Drop)]
+pub struct OutputBuffer {
+    bytes: Vec<u8>,
+}
+
+impl Model for OutputBuffer {
+    ghost use Rattle.std.specs.Prelude.{List, ℕ, ◌≤◌, vec_capacity};
+
+    ghost Value = { List ℕ };
+
+    ghost view = { λ b. b.bytes.items };
+
+    ghost invariant = { λ b. 65536 ≤ vec_capacity b.bytes };
+}
+
+impl OutputBuffer {
+    /// A buffer in which nothing waits, with all its memory.
+    ///
+    /// `AllocError` where that memory was refused.
+    pub fn new(alloc: Global) -> Result<Self, AllocError>
+        ensures { IfOk result (λ b. b ≡ []) }
+    {
+        Ok(OutputBuffer {
+            bytes: Vec::with_capacity(alloc, CAPACITY)?,
+        })
+    }
+
+    /// Adds bytes to those that wait, where they fit, and says whether they did.
+    fn hold(&mut self, bytes: &[u8]) -> bool
+        ensures added { self.new ≡ self.old ++ cond result bytes.now [] }
+        ensures fits { length self.old + length bytes.now ≤ CAPACITY → result ≡ true }
+    {
+        bytes.len() <= self.bytes.capacity() - self.bytes.len()
+            && self.bytes.extend_from_slice(bytes).is_ok()
+    }
+
+    /// Adds bytes to those that wait. Where they would be more than 65,536, what waits is written first; where they fit the
+    /// writer isn't called.
+    ///
+    /// After an `Err` a front of what waited and of these bytes was written, and nothing waits.
+    pub fn write<W: Sink>(&mut self, bytes: &[u8], writer: &mut W) -> Result<(), EndFailed>
+        ensures bytes { OnOk result (IsWrittenUpTo (W.contents writer.old) (W.contents writer.new) (self.old ++ bytes.now) self.new) }
+        ensures err { OnErr result (GrowsByFront (W.contents writer.old) (W.contents writer.new) (self.old ++ bytes.now) × (self.new ≡ [])) }
+        ensures failure { W.failed writer.new ≡ (is_err result || W.failed writer.old) }
+        ensures waits { length self.old + length bytes.now ≤ CAPACITY → IsOk result × (writer.new ≡ writer.old) }
+    {
+        if self.hold(bytes) {
+            return Ok(());
+        }
+        self.flush(writer)?;
+        if self.hold(bytes) {
+            return Ok(());
+        }
+        write_all(writer, bytes)
+    }
+
+    /// Adds a number in decimal, as `write` does.
+    pub fn write_number<W: Sink>(&mut self, number: u32, writer: &mut W) -> Result<(), EndFailed>
+        ensures bytes { OnOk result (IsWrittenUpTo (W.contents writer.old) (W.contents writer.new) (self.old ++ decimal number) self.new) }
+        ensures err { OnErr result (GrowsByFront (W.contents writer.old) (W.contents writer.new) (self.old ++ decimal number) × (self.new ≡ [])) }
+        ensures failure { W.failed writer.new ≡ (is_err result || W.failed writer.old) }
+        ensures waits { length self.old + length (decimal number) ≤ CAPACITY → IsOk result × (writer.new ≡ writer.old) }
+    {
+        let mut digits = Buffer::new();
+        self.write(digits.format(number).as_bytes(), writer)
+    }
+
+    /// Writes all that waits. Where nothing waits, the writer isn't called.
+    ///
+    /// After an `Err` a front of it was written. After either nothing waits.
+    pub fn flush<W: Sink>(&mut self, writer: &mut W) -> Result<(), EndFailed>
+        ensures empty { self.new ≡ [] }
+        ensures bytes { OnOk result (Appends (W.contents writer.old) (W.contents writer.new) self.old) }
+        ensures err { OnErr result (GrowsByFront (W.contents writer.old) (W.contents writer.new) self.old) }
+        ensures failure { W.failed writer.new ≡ (is_err result || W.failed writer.old) }
+        ensures idle { self.old ≡ [] → IsOk result × (writer.new ≡ writer.old) }
+    {
+        let result = write_all(writer, &self.bytes);
+        self.bytes.clear();
+        result
+    }
+}

@@ -1,0 +1,172 @@
+//! Sources and sinks that fail at a chosen call, and a reader and writer of std that is interrupted or fails. They tell no
+//! bytes: a test compares what a run gave.
+
+ghost use Rattle.std.specs.Prelude.{◌≤◌, IfOk};
+
+use hir_io::{EndFailed, Sink, Source};
+use std::io::{Error, ErrorKind, Read, Result as IoResult, Write};
+
+/// Bytes that are read some at a time, but for one call that fails.
+#[derive(Drop)]
+pub struct Given<'a> {
+    bytes: &'a [u8],
+    at: usize,
+    step: usize,
+    pub calls: u64,
+    fails_at: u64,
+    has_failed: bool,
+}
+
+impl<'a> Given<'a> {
+    pub fn new(bytes: &'a [u8], step: usize, fails_at: u64) -> Given<'a> {
+        Given {
+            bytes,
+            at: 0,
+            step,
+            calls: 0,
+            fails_at,
+            has_failed: false,
+        }
+    }
+}
+
+impl Source for Given<'_> {
+    ghost use Rattle.std.specs.Prelude.{None, min, length, ◌-◌, ◌^◌};
+    ghost use Rattle.std.proofs.Common.{arith};
+
+    ghost remaining = { λ _. None };
+
+    ghost failed = { λ s. s.has_failed };
+
+    ghost allowance = { λ s. min (length s.bytes.now - s.at) (2 ^ 64 - 1) };
+
+    ghost bounded = { λ s. omega arith };
+
+    fn read(&mut self, buffer: &mut [u8]) -> Result<usize, EndFailed> {
+        let call = self.calls;
+        self.calls = call.saturating_add(1);
+        if call == self.fails_at {
+            self.has_failed = true;
+            return Err(EndFailed);
+        }
+        let left = &self.bytes[self.at.min(self.bytes.len())..];
+        let count = self.step.max(1).min(buffer.len()).min(left.len());
+        buffer[..count].copy_from_slice(&left[..count]);
+        self.at = self.at.min(self.bytes.len()) + count;
+        Ok(count)
+    }
+
+    fn has_failed(&self) -> bool {
+        self.has_failed
+    }
+}
+
+/// How many bytes a `Kept` keeps.
+const ROOM: usize = 128;
+
+/// The first bytes are kept and all are counted, but for the calls from one on, which fail.
+#[derive(Drop)]
+pub struct Kept {
+    bytes: [u8; ROOM],
+    pub len: usize,
+    step: usize,
+    pub calls: u64,
+    fails_from: u64,
+    has_failed: bool,
+}
+
+impl Kept {
+    pub fn new(step: usize, fails_from: u64) -> Kept {
+        Kept {
+            bytes: [0; ROOM],
+            len: 0,
+            step,
+            calls: 0,
+            fails_from,
+            has_failed: false,
+        }
+    }
+
+    pub fn bytes(&self) -> &[u8] {
+        &self.bytes[..self.len.min(ROOM)]
+    }
+}
+
+impl Sink for Kept {
+    ghost use Rattle.std.specs.Prelude.{None};
+
+    ghost contents = { λ _. None };
+
+    ghost failed = { λ s. s.has_failed };
+
+    fn write(&mut self, buffer: &[u8]) -> Result<usize, EndFailed> {
+        let call = self.calls;
+        self.calls = call.saturating_add(1);
+        if call >= self.fails_from {
+            self.has_failed = true;
+            return Err(EndFailed);
+        }
+        let count = self.step.max(1).min(buffer.len());
+        let from = self.len.min(ROOM);
+        let kept = count.min(ROOM - from);
+        self.bytes[from..from + kept].copy_from_slice(&buffer[..kept]);
+        self.len = self.len.saturating_add(count);
+        Ok(count)
+    }
+
+    fn has_failed(&self) -> bool {
+        self.has_failed
+    }
+}
+
+/// A reader and writer of std whose calls are interrupted so many times before each that answers. One that answers takes so many
+/// bytes at most, or fails.
+#[derive(Drop)]
+pub struct Interrupted {
+    times: u32,
+    left: u32,
+    takes: Result<usize, ErrorKind>,
+    pub calls: u64,
+}
+
+impl Interrupted {
+    pub fn new(times: u32, takes: Result<usize, ErrorKind>) -> Interrupted {
+        Interrupted {
+            times,
+            left: times,
+            takes,
+            calls: 0,
+        }
+    }
+
+    fn call(&mut self, asked: usize) -> IoResult<usize>
+        ensures { IfOk result (λ n. n ≤ asked) }
+    {
+        self.calls = self.calls.saturating_add(1);
+        if self.left > 0 {
+            self.left -= 1;
+            return Err(Error::from(ErrorKind::Interrupted));
+        }
+        self.left = self.times;
+        match self.takes {
+            Ok(takes) => Ok(takes.min(asked)),
+            Err(kind) => Err(Error::from(kind)),
+        }
+    }
+}
+
+impl Read for Interrupted {
+    fn read(&mut self, buffer: &mut [u8]) -> IoResult<usize> {
+        self.call(buffer.len())
+    }
+}
+
+impl Write for Interrupted {
+    fn write(&mut self, buffer: &[u8]) -> IoResult<usize> {
+        self.call(buffer.len())
+    }
+
+    fn flush(&mut self) -> IoResult<()> {
+        Ok(())
+    }
+}
