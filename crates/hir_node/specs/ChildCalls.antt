@@ -17,13 +17,13 @@ use Rattle.hir_path.specs.declared.path.Path.{Path}
 use Rattle.hir_path.specs.declared.path.Path.TheVariants as path
 use Rattle.hir_node.specs.declared.pat.Pat.{Pat}
 use Rattle.hir_node.specs.declared.pat.Pat.TheVariants as pat
-use Rattle.hir_node.specs.declared.parts.RecordSpread.{RecordSpread}
-use Rattle.hir_node.specs.declared.parts.RecordSpread.TheVariants as spread
-use Rattle.hir_node.specs.declared.parts.Array.{Array}
-use Rattle.hir_node.specs.declared.parts.Array.TheVariants as array
-use Rattle.hir_node.specs.declared.parts.MatchArm.{MatchArm}
-use Rattle.hir_node.specs.declared.parts.Statement.{Statement}
-use Rattle.hir_node.specs.declared.parts.Statement.TheVariants as statement
+use Rattle.hir_node.specs.declared.expr_types.RecordSpread.{RecordSpread}
+use Rattle.hir_node.specs.declared.expr_types.RecordSpread.TheVariants as spread
+use Rattle.hir_node.specs.declared.expr_types.Array.{Array}
+use Rattle.hir_node.specs.declared.expr_types.Array.TheVariants as array
+use Rattle.hir_node.specs.declared.expr_types.MatchArm.{MatchArm}
+use Rattle.hir_node.specs.declared.expr_types.Statement.{Statement}
+use Rattle.hir_node.specs.declared.expr_types.Statement.TheVariants as statement
 use Rattle.hir_node.specs.declared.expr.Expr.{Expr}
 use Rattle.hir_node.specs.declared.expr.Expr.TheVariants as expr
 use Rattle.hir_node.specs.declared.node_id.NodeId.{NodeId}

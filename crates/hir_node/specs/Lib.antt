@@ -1,14 +1,9 @@
+pub mod same
 pub mod Annotations
 pub mod ChildCalls
 pub mod Keywords
-pub mod Leaves
 pub mod Literals
+pub mod NodeText
 pub mod OtherIds
-pub mod Parts
 pub mod Precedence
 pub mod Runs
-pub mod SameExprs
-pub mod SameLiterals
-pub mod SamePats
-pub mod SameStructs
-pub mod SameTypes

@@ -85,7 +85,7 @@ pub struct Binding {
 }
 
 impl ExactEq for Binding {
-    ghost use Rattle.hir_node.specs.SameStructs.{bindings_decide};
+    ghost use Rattle.hir_node.specs.same.SameStructs.{bindings_decide};
 
     ghost eq_decides = { bindings_decide };
 }

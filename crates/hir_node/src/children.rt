@@ -5,8 +5,8 @@ ghost use Rattle.hir_node.specs.ChildCalls.{expr_calls, pat_calls, type_calls, s
 ghost use Rattle.hir_node.specs.Runs.{Runs, MayRun};
 
 use crate::expr::Expr;
-use crate::part::visit_each;
-use crate::parts::{Array, RecordSpread};
+use crate::visit::visit_each;
+use crate::expr_types::{Array, RecordSpread};
 use crate::pat::Pat;
 use crate::type_ref::TypeRef;
 use crate::visitor::{StoreVisitor, StoreVisitorExt};

@@ -3,7 +3,7 @@ ghost use Rattle.std.specs.Prelude.{◌≡◌, IfOk};
 ghost use Rattle.hir_node.specs.Precedence.{of_operator, of_arith};
 
 use crate::literal::Literal;
-use crate::parts::{
+use crate::expr_types::{
     Array, CaptureBy, ClosureKind, LoopSource, MatchArm, OffsetOf, RecordLitField, RecordSpread,
     Statement, Unsafe,
 };
@@ -389,7 +389,7 @@ fn clone_params(
 }
 
 impl ExactEq for Expr {
-    ghost use Rattle.hir_node.specs.SameExprs.{exprs_decide};
+    ghost use Rattle.hir_node.specs.same.SameExprs.{exprs_decide};
 
     ghost eq_decides = { exprs_decide };
 }

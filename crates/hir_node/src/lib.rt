@@ -6,18 +6,22 @@ mod binding;
 mod child_pats;
 mod children;
 mod expr;
+mod expr_types;
 pub mod laws;
 mod literal;
 mod node_id;
-mod part;
-mod parts;
 mod pat;
 mod type_ref;
+mod visit;
 mod visitor;
 
 pub use binding::{Binding, BindingAnnotation, BindingProblems, Label};
 pub use child_pats::ChildPats;
 pub use expr::Expr;
+pub use expr_types::{
+    Array, CaptureBy, ClosureKind, CoroutineKind, CoroutineSource, Item, LoopSource, MatchArm,
+    Movability, OffsetOf, RecordLitField, RecordSpread, Statement, Unsafe,
+};
 pub use hir_path::{
     AssociatedTypeBinding, BindingId, BindingKind, Boxed, ConstRef, ExprId, ExprKind, ExprOrPatId,
     GenericArg, GenericArgs, GenericArgsParentheses, LabelId, LabelKind, LifetimeRefId,
@@ -26,10 +30,6 @@ pub use hir_path::{
 };
 pub use literal::{FloatTypeWrapper, Literal, LiteralOrConst};
 pub use node_id::NodeId;
-pub use parts::{
-    Array, CaptureBy, ClosureKind, CoroutineKind, CoroutineSource, Item, LoopSource, MatchArm,
-    Movability, OffsetOf, RecordLitField, RecordSpread, Statement, Unsafe,
-};
 pub use pat::{Pat, RecordFieldPat};
 pub use type_ref::{
     ArrayType, FnType, LifetimeRef, Mutability, Rawness, RefType, TraitRef, TypeRef,

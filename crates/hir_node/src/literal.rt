@@ -82,7 +82,7 @@ impl Literal {
 }
 
 impl ExactEq for Literal {
-    ghost use Rattle.hir_node.specs.SameLiterals.{literals_decide};
+    ghost use Rattle.hir_node.specs.same.SameLiterals.{literals_decide};
 
     ghost eq_decides = { literals_decide };
 }
@@ -100,7 +100,7 @@ pub enum LiteralOrConst {
 }
 
 impl ExactEq for LiteralOrConst {
-    ghost use Rattle.hir_node.specs.SameLiterals.{ends_decide};
+    ghost use Rattle.hir_node.specs.same.SameLiterals.{ends_decide};
 
     ghost eq_decides = { ends_decide };
 }

@@ -1,5 +1,5 @@
 //! The id of a node of any sort.
-
+ghost use Rattle.std.specs.Prelude.{Some};
 ghost use Rattle.hir_base.specs.Exact.{exact};
 
 use hir_base::ExactEq;
@@ -19,6 +19,10 @@ impl ExactEq for NodeId {
 }
 
 impl fmt::Display for NodeId {
+    ghost use Rattle.hir_node.specs.NodeText.{node_text};
+
+    ghost output = { λ node. Some (node_text node) };
+
     fn fmt<W: fmt::Write>(&self, f: &mut fmt::Formatter<W>) -> fmt::Result {
         match self {
             NodeId::Expr(id) => write!(f, "ExprId({})", id.into_raw()),
@@ -28,8 +32,12 @@ impl fmt::Display for NodeId {
     }
 }
 
-/// Its text.
+/// The same text.
 impl fmt::Debug for NodeId {
+    ghost use Rattle.hir_node.specs.NodeText.{node_text};
+
+    ghost debug_output = { λ node. Some (node_text node) };
+
     fn fmt<W: fmt::Write>(&self, f: &mut fmt::Formatter<W>) -> fmt::Result {
         fmt::Display::fmt(self, f)
     }

@@ -186,7 +186,7 @@ fn clone_tuple_struct(
 }
 
 impl ExactEq for Pat {
-    ghost use Rattle.hir_node.specs.SamePats.{pats_decide};
+    ghost use Rattle.hir_node.specs.same.SamePats.{pats_decide};
 
     ghost eq_decides = { pats_decide };
 }

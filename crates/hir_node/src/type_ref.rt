@@ -164,7 +164,7 @@ impl FnType {
 }
 
 impl ExactEq for FnType {
-    ghost use Rattle.hir_node.specs.SameStructs.{functions_decide};
+    ghost use Rattle.hir_node.specs.same.SameStructs.{functions_decide};
 
     ghost eq_decides = { functions_decide };
 }
@@ -277,7 +277,7 @@ impl Clone for TypeRef {
 }
 
 impl ExactEq for TypeRef {
-    ghost use Rattle.hir_node.specs.SameTypes.{types_decide};
+    ghost use Rattle.hir_node.specs.same.SameTypes.{types_decide};
 
     ghost eq_decides = { types_decide };
 }

@@ -6,7 +6,7 @@ ghost use Rattle.std.specs.List.{flat_map};
 ghost use Rattle.hir_node.specs.ChildCalls.{Call, OnExpr, OnAnonConst, OnPat, OnType, OnLifetime, e, p, t, l, opt, use_calls, bound_calls, arg_calls, args_calls, binding_calls, path_calls, normal_path_calls};
 ghost use Rattle.hir_node.specs.Runs.{Runs, MayRun};
 
-use crate::part::visit_each;
+use crate::visit::visit_each;
 use hir_path::{
     AssociatedTypeBinding, ExprId, GenericArg, GenericArgs, LifetimeRefId, NormalPath, PatId, Path,
     TypeBound, TypeRefId, UseArgRef,

@@ -1,9 +1,6 @@
-pub mod Fields
+pub mod same
 pub mod Ids
 pub mod Keys
-pub mod Leaves
 pub mod Lists
 pub mod Paths
-pub mod SameArgs
-pub mod SamePaths
 pub mod Segments

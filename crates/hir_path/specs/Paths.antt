@@ -1,5 +1,6 @@
 -- What a path is made of, the path that it is qualified by, and when it is `Self`.
-use Rattle.std.specs.Prelude.{◌≡◌, ℕ, Bool, true, false, cond, IsTrue, List, [], ◌∷◌, codes, Option, Some, None}
+use Rattle.std.specs.Prelude.{◌≡◌, ℕ, Bool, cond, is_none, IsTrue, List, [], ◌∷◌, codes, Option, Some, None}
+use Rattle.std.specs.List.{list_all}
 use Rattle.std.specs.Option.{option_to_list}
 use Rattle.hir_base.specs.ModPath.{ModPath, ident_of}
 use Rattle.hir_base.specs.declared.mod_path.PathKind.{PathKind}
@@ -45,9 +46,7 @@ segments_of path = record { names = names_of path; lists = lists_of path }
 
 -- no place has arguments
 abbrev pub no_args : List (Option GenericArgs) → Bool
-no_args [] = true
-no_args (None ∷ lists) = no_args lists
-no_args (Some args ∷ lists) = false
+no_args lists = list_all is_none lists
 
 -- the path with this anchor and these arguments: a bare one, where it has none of them
 abbrev pub path_with : Option ℕ → ModPath → List (Option GenericArgs) → Path

@@ -31,10 +31,9 @@ impl<T> Boxed<T> {
         ensures ok { IfOk result (λ b. b ≡ value) }
         ensures value_returned { IfErr result (λ failed. failed.value ≡ value) }
     {
-        match Box::new(alloc, value) {
-            Ok(inner) => Ok(Boxed { inner }),
-            Err(failed) => Err(failed),
-        }
+        Ok(Boxed {
+            inner: Box::new(alloc, value)?,
+        })
     }
 
     /// The value of this box, which takes no memory.

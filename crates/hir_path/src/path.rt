@@ -26,7 +26,7 @@ pub enum Path {
 }
 
 impl ExactEq for Path {
-    ghost use Rattle.hir_path.specs.SamePaths.{of_paths};
+    ghost use Rattle.hir_path.specs.same.SamePaths.{of_paths};
 
     ghost eq_decides = { Prim.search of_paths };
 }
@@ -205,14 +205,7 @@ impl Path {
 fn has_no_args(lists: &[Option<GenericArgs>]) -> bool
     ensures { result ≡ no_args lists.now }
 {
-    let mut rest = lists;
-    while let Some((args, others)) = rest.split_first() {
-        if args.is_some() {
-            return false;
-        }
-        rest = others;
-    }
-    true
+    lists.iter().all(|args| args.is_none())
 }
 
 /// The path without its last segment.
@@ -227,11 +220,7 @@ fn all_but_last<T: TryClone + Drop>(alloc: Global, items: &[T]) -> Result<Seq<T>
     ensures { IfOk result (λ made. made ≡ all_but 1 items.now) }
 {
     let kept = &items[..items.len().saturating_sub(1)];
-    let mut copies = Seq::with_capacity(alloc, kept.len())?;
-    for item in kept {
-        copies.push(item.try_clone()?)?;
-    }
-    Ok(copies)
+    Ok(Seq::from_vec(kept.to_vec(alloc)?))
 }
 
 /// A path with generic arguments or a type anchor.
@@ -246,7 +235,7 @@ pub struct NormalPath {
 }
 
 impl ExactEq for NormalPath {
-    ghost use Rattle.hir_path.specs.SamePaths.{normals_decide};
+    ghost use Rattle.hir_path.specs.same.SamePaths.{normals_decide};
 
     ghost eq_decides = { normals_decide };
 }
@@ -316,13 +305,13 @@ impl TryClone for GenericArg {
 }
 
 impl ExactEq for GenericArgs {
-    ghost use Rattle.hir_path.specs.SameArgs.{args_decides};
+    ghost use Rattle.hir_path.specs.same.SameArgs.{args_decides};
 
     ghost eq_decides = { args_decides };
 }
 
 impl ExactEq for AssociatedTypeBinding {
-    ghost use Rattle.hir_path.specs.SameArgs.{binding_decides};
+    ghost use Rattle.hir_path.specs.same.SameArgs.{binding_decides};
 
     ghost eq_decides = { binding_decides };
 }

@@ -120,10 +120,7 @@ impl<'a> PathSegments<'a> {
     {
         PathSegments {
             segments: self.segments.get(len..).unwrap_or(&[]),
-            generic_args: match self.generic_args {
-                None => None,
-                Some(lists) => lists.get(len..),
-            },
+            generic_args: self.generic_args.and_then(|lists| lists.get(len..)),
         }
     }
 
@@ -133,10 +130,9 @@ impl<'a> PathSegments<'a> {
     {
         PathSegments {
             segments: self.segments.get(..len).unwrap_or(self.segments),
-            generic_args: match self.generic_args {
-                None => None,
-                Some(lists) => Some(lists.get(..len).unwrap_or(lists)),
-            },
+            generic_args: self
+                .generic_args
+                .map(|lists| lists.get(..len).unwrap_or(lists)),
         }
     }
 
@@ -160,10 +156,7 @@ impl<'a> PathSegments<'a> {
     {
         PathSegments {
             segments: all_but(self.segments, count),
-            generic_args: match self.generic_args {
-                None => None,
-                Some(lists) => Some(all_but(lists, count)),
-            },
+            generic_args: self.generic_args.map(|lists| all_but(lists, count)),
         }
     }
 }

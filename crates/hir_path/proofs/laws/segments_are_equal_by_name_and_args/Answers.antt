@@ -1,6 +1,6 @@
-use Rattle.hir_path.specs.Fields.{and_decides}
-use Rattle.hir_path.specs.Leaves.{names_decide}
-use Rattle.hir_path.specs.SameArgs.{args_decides}
+use Rattle.hir_path.specs.same.Fields.{and_decides}
+use Rattle.hir_path.specs.same.Leaves.{names_decide}
+use Rattle.hir_path.specs.same.SameArgs.{args_decides}
 use Rattle.hir_path.proofs.ReadOptions.{read_options_decide}
 use Rattle.hir_path.proofs.laws.segments_are_equal_by_name_and_args.Goals as goal
 

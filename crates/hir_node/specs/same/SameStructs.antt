@@ -7,9 +7,9 @@ use Rattle.std.specs.Cmp.Lexicographic.{pointwise_decides}
 use Rattle.std.specs.contracts.prelude.BoolPartialEq.TheImpl as flag
 use Rattle.hir_base.specs.Exact.{exact}
 use Rattle.hir_base.specs.contracts.name.NamePartialEq.TheImpl as name
-use Rattle.hir_path.specs.Fields.{and_decides, both}
-use Rattle.hir_path.specs.Leaves.{names_decide, optional_names_decide}
-use Rattle.hir_node.specs.Leaves.{abis_decide, hygienes_decide, annotations_decide, problems_decide, optional_name_lists_decide}
+use Rattle.hir_path.specs.same.Fields.{and_decides, both}
+use Rattle.hir_path.specs.same.Leaves.{names_decide, optional_names_decide}
+use Rattle.hir_node.specs.same.Leaves.{abis_decide, hygienes_decide, annotations_decide, problems_decide, optional_name_lists_decide}
 use Rattle.hir_node.specs.declared.binding.Binding.{Binding}
 use Rattle.hir_node.specs.declared.type_ref.FnType.{FnType}
 use Rattle.hir_node.specs.contracts.binding.BindingPartialEq.TheImpl as binding

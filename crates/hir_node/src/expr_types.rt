@@ -1,4 +1,4 @@
-//! The parts of expressions: statements, match arms, fields, and what says of which kind a loop, a closure or an array is.
+//! The types that expressions are made of: statements, match arms, fields, and what says of which kind a loop, a closure or an array is.
 ghost use Rattle.std.specs.Prelude.{◌≡◌};
 ghost use Rattle.hir_base.specs.Exact.{exact};
 

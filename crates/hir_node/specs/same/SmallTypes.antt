@@ -1,4 +1,4 @@
--- That `==` of the parts of expressions, patterns and types decides whether they are the same.
+-- That `==` of the small types of expressions, patterns and types decides whether they are the same.
 use Rattle.std.specs.Prelude.{◌≡◌, List, Option}
 use Rattle.std.specs.Bool.{Decides}
 use Rattle.std.specs.Option.{option_eq}
@@ -26,27 +26,27 @@ use Rattle.hir_node.specs.contracts.type_ref.ArrayTypeExactEq.TheImpl.Laws as ar
 use Rattle.hir_node.specs.declared.type_ref.FnType.{FnType}
 use Rattle.hir_node.specs.contracts.type_ref.FnTypePartialEq.TheImpl as fn_types
 use Rattle.hir_node.specs.contracts.type_ref.FnTypeExactEq.TheImpl.Laws as fn_types_law
-use Rattle.hir_node.specs.declared.parts.Array.{Array}
-use Rattle.hir_node.specs.contracts.parts.ArrayPartialEq.TheImpl as arrays
-use Rattle.hir_node.specs.contracts.parts.ArrayExactEq.TheImpl.Laws as arrays_law
-use Rattle.hir_node.specs.declared.parts.OffsetOf.{OffsetOf}
-use Rattle.hir_node.specs.contracts.parts.OffsetOfPartialEq.TheImpl as offsets
-use Rattle.hir_node.specs.contracts.parts.OffsetOfExactEq.TheImpl.Laws as offsets_law
-use Rattle.hir_node.specs.declared.parts.RecordSpread.{RecordSpread}
-use Rattle.hir_node.specs.contracts.parts.RecordSpreadPartialEq.TheImpl as spreads
-use Rattle.hir_node.specs.contracts.parts.RecordSpreadExactEq.TheImpl.Laws as spreads_law
-use Rattle.hir_node.specs.declared.parts.Unsafe.{Unsafe}
-use Rattle.hir_node.specs.contracts.parts.UnsafePartialEq.TheImpl as unsafes
-use Rattle.hir_node.specs.contracts.parts.UnsafeExactEq.TheImpl.Laws as unsafes_law
-use Rattle.hir_node.specs.declared.parts.LoopSource.{LoopSource}
-use Rattle.hir_node.specs.contracts.parts.LoopSourcePartialEq.TheImpl as loop_sources
-use Rattle.hir_node.specs.contracts.parts.LoopSourceExactEq.TheImpl.Laws as loop_sources_law
-use Rattle.hir_node.specs.declared.parts.ClosureKind.{ClosureKind}
-use Rattle.hir_node.specs.contracts.parts.ClosureKindPartialEq.TheImpl as closure_kinds
-use Rattle.hir_node.specs.contracts.parts.ClosureKindExactEq.TheImpl.Laws as closure_kinds_law
-use Rattle.hir_node.specs.declared.parts.CaptureBy.{CaptureBy}
-use Rattle.hir_node.specs.contracts.parts.CaptureByPartialEq.TheImpl as captures
-use Rattle.hir_node.specs.contracts.parts.CaptureByExactEq.TheImpl.Laws as captures_law
+use Rattle.hir_node.specs.declared.expr_types.Array.{Array}
+use Rattle.hir_node.specs.contracts.expr_types.ArrayPartialEq.TheImpl as arrays
+use Rattle.hir_node.specs.contracts.expr_types.ArrayExactEq.TheImpl.Laws as arrays_law
+use Rattle.hir_node.specs.declared.expr_types.OffsetOf.{OffsetOf}
+use Rattle.hir_node.specs.contracts.expr_types.OffsetOfPartialEq.TheImpl as offsets
+use Rattle.hir_node.specs.contracts.expr_types.OffsetOfExactEq.TheImpl.Laws as offsets_law
+use Rattle.hir_node.specs.declared.expr_types.RecordSpread.{RecordSpread}
+use Rattle.hir_node.specs.contracts.expr_types.RecordSpreadPartialEq.TheImpl as spreads
+use Rattle.hir_node.specs.contracts.expr_types.RecordSpreadExactEq.TheImpl.Laws as spreads_law
+use Rattle.hir_node.specs.declared.expr_types.Unsafe.{Unsafe}
+use Rattle.hir_node.specs.contracts.expr_types.UnsafePartialEq.TheImpl as unsafes
+use Rattle.hir_node.specs.contracts.expr_types.UnsafeExactEq.TheImpl.Laws as unsafes_law
+use Rattle.hir_node.specs.declared.expr_types.LoopSource.{LoopSource}
+use Rattle.hir_node.specs.contracts.expr_types.LoopSourcePartialEq.TheImpl as loop_sources
+use Rattle.hir_node.specs.contracts.expr_types.LoopSourceExactEq.TheImpl.Laws as loop_sources_law
+use Rattle.hir_node.specs.declared.expr_types.ClosureKind.{ClosureKind}
+use Rattle.hir_node.specs.contracts.expr_types.ClosureKindPartialEq.TheImpl as closure_kinds
+use Rattle.hir_node.specs.contracts.expr_types.ClosureKindExactEq.TheImpl.Laws as closure_kinds_law
+use Rattle.hir_node.specs.declared.expr_types.CaptureBy.{CaptureBy}
+use Rattle.hir_node.specs.contracts.expr_types.CaptureByPartialEq.TheImpl as captures
+use Rattle.hir_node.specs.contracts.expr_types.CaptureByExactEq.TheImpl.Laws as captures_law
 use Rattle.hir_base.specs.declared.operators.RangeOp.{RangeOp}
 use Rattle.hir_base.specs.contracts.operators.RangeOpPartialEq.TheImpl as ranges
 use Rattle.hir_base.specs.contracts.operators.RangeOpExactEq.TheImpl.Laws as ranges_law
@@ -55,15 +55,15 @@ use Rattle.hir_base.specs.contracts.operators.UnaryOpPartialEq.TheImpl as unary_
 use Rattle.hir_base.specs.contracts.operators.UnaryOpExactEq.TheImpl.Laws as unary_ops_law
 use Rattle.hir_base.specs.contracts.params.TypeParamIdPartialEq.TheImpl as params
 use Rattle.hir_base.specs.contracts.params.TypeParamIdExactEq.TheImpl.Laws as params_law
-use Rattle.hir_node.specs.declared.parts.Statement.{Statement}
-use Rattle.hir_node.specs.contracts.parts.StatementPartialEq.TheImpl as statements
-use Rattle.hir_node.specs.contracts.parts.StatementExactEq.TheImpl.Laws as statements_law
-use Rattle.hir_node.specs.declared.parts.MatchArm.{MatchArm}
-use Rattle.hir_node.specs.contracts.parts.MatchArmPartialEq.TheImpl as arms
-use Rattle.hir_node.specs.contracts.parts.MatchArmExactEq.TheImpl.Laws as arms_law
-use Rattle.hir_node.specs.declared.parts.RecordLitField.{RecordLitField}
-use Rattle.hir_node.specs.contracts.parts.RecordLitFieldPartialEq.TheImpl as fields
-use Rattle.hir_node.specs.contracts.parts.RecordLitFieldExactEq.TheImpl.Laws as fields_law
+use Rattle.hir_node.specs.declared.expr_types.Statement.{Statement}
+use Rattle.hir_node.specs.contracts.expr_types.StatementPartialEq.TheImpl as statements
+use Rattle.hir_node.specs.contracts.expr_types.StatementExactEq.TheImpl.Laws as statements_law
+use Rattle.hir_node.specs.declared.expr_types.MatchArm.{MatchArm}
+use Rattle.hir_node.specs.contracts.expr_types.MatchArmPartialEq.TheImpl as arms
+use Rattle.hir_node.specs.contracts.expr_types.MatchArmExactEq.TheImpl.Laws as arms_law
+use Rattle.hir_node.specs.declared.expr_types.RecordLitField.{RecordLitField}
+use Rattle.hir_node.specs.contracts.expr_types.RecordLitFieldPartialEq.TheImpl as fields
+use Rattle.hir_node.specs.contracts.expr_types.RecordLitFieldExactEq.TheImpl.Laws as fields_law
 use Rattle.hir_node.specs.declared.pat.RecordFieldPat.{RecordFieldPat}
 use Rattle.hir_node.specs.contracts.pat.RecordFieldPatPartialEq.TheImpl as field_pats
 use Rattle.hir_node.specs.contracts.pat.RecordFieldPatExactEq.TheImpl.Laws as field_pats_law
@@ -149,4 +149,4 @@ operators_decide = options_decide operators_law.lawful.eq_decides
 pub given_args_decide : (x y : Option GenericArgs) → Decides (option_eq given_args.ghosts.eq x y) (x ≡ y)
 given_args_decide = options_decide given_args_law.lawful.eq_decides
 
-pub ruleset parts = (exact, paths_decide, literals_decide, mutabilities_decide, rawnesses_decide, ref_types_decide, array_types_decide, fn_types_decide, arrays_decide, offsets_decide, spreads_decide, unsafes_decide, loop_sources_decide, closure_kinds_decide, captures_decide, ranges_decide, unary_ops_decide, params_decide, statements_decide, arms_decide, fields_decide, field_pats_decide, bounds_decide, operators_decide, given_args_decide)
+pub ruleset small_types = (exact, paths_decide, literals_decide, mutabilities_decide, rawnesses_decide, ref_types_decide, array_types_decide, fn_types_decide, arrays_decide, offsets_decide, spreads_decide, unsafes_decide, loop_sources_decide, closure_kinds_decide, captures_decide, ranges_decide, unary_ops_decide, params_decide, statements_decide, arms_decide, fields_decide, field_pats_decide, bounds_decide, operators_decide, given_args_decide)

@@ -2,8 +2,8 @@
 use Rattle.std.specs.Prelude.{◌≡◌}
 use Rattle.std.specs.Bool.{Decides}
 use Rattle.hir_base.specs.Exact.{optional_numbers_decide}
-use Rattle.hir_path.specs.Fields.{and_decides, both}
-use Rattle.hir_path.specs.Leaves.{leaves, mod_paths_decide, given_lists_decide}
+use Rattle.hir_path.specs.same.Fields.{and_decides, both}
+use Rattle.hir_path.specs.same.Leaves.{leaves, mod_paths_decide, given_lists_decide}
 use Rattle.hir_path.specs.declared.path.NormalPath.{NormalPath}
 use Rattle.hir_path.specs.contracts.path.NormalPathPartialEq.TheImpl as normal
 

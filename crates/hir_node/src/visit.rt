@@ -1,4 +1,4 @@
-//! The parts of nodes, each with its calls on a visitor, and the one loop over a list of parts.
+//! What a visitor visits: whatever stands in a node and gives calls, and the one loop over a list of such.
 #![tactic(auto, using(crate::proofs::RunLemmas::runs))]
 
 ghost use Rattle.std.specs.Prelude.{List};
@@ -6,7 +6,7 @@ ghost use Rattle.std.specs.List.{flat_map};
 ghost use Rattle.hir_node.specs.ChildCalls.{Call, arm_calls};
 ghost use Rattle.hir_node.specs.Runs.{Runs, MayRun};
 
-use crate::parts::{MatchArm, RecordLitField, Statement};
+use crate::expr_types::{MatchArm, RecordLitField, Statement};
 use crate::pat::RecordFieldPat;
 use crate::visitor::{
     StoreVisitor, StoreVisitorExt, visit_args_opt, visit_generic_arg, visit_use_arg,
@@ -14,8 +14,8 @@ use crate::visitor::{
 use hir_base::Name;
 use hir_path::{ExprId, GenericArg, GenericArgs, PatId, TypeBound, TypeRefId, UseArgRef};
 
-/// A part of a node that gives calls.
-pub(crate) trait Part {
+/// What stands in a node and gives calls.
+pub(crate) trait Visit {
     // its calls, in order
     ghost calls: { Self → List Call };
 
@@ -24,17 +24,17 @@ pub(crate) trait Part {
         ensures { Runs V.step visitor.old (calls self.now) visitor.new };
 }
 
-/// Visits each part, in order.
-pub(crate) fn visit_each<V: StoreVisitor, T: Part>(visitor: &mut V, parts: &[T])
-    requires { MayRun V.may V.step visitor.old (flat_map T.calls parts.now) }
-    ensures { Runs V.step visitor.old (flat_map T.calls parts.now) visitor.new }
+/// Visits each item, in order.
+pub(crate) fn visit_each<V: StoreVisitor, T: Visit>(visitor: &mut V, items: &[T])
+    requires { MayRun V.may V.step visitor.old (flat_map T.calls items.now) }
+    ensures { Runs V.step visitor.old (flat_map T.calls items.now) visitor.new }
 {
-    for part in parts {
-        part.visit(visitor);
+    for item in items {
+        item.visit(visitor);
     }
 }
 
-impl Part for ExprId {
+impl Visit for ExprId {
     ghost use Rattle.hir_node.specs.ChildCalls.{e};
 
     ghost calls = { e };
@@ -44,7 +44,7 @@ impl Part for ExprId {
     }
 }
 
-impl Part for PatId {
+impl Visit for PatId {
     ghost use Rattle.hir_node.specs.ChildCalls.{p};
 
     ghost calls = { p };
@@ -54,7 +54,7 @@ impl Part for PatId {
     }
 }
 
-impl Part for TypeRefId {
+impl Visit for TypeRefId {
     ghost use Rattle.hir_node.specs.ChildCalls.{t};
 
     ghost calls = { t };
@@ -64,7 +64,7 @@ impl Part for TypeRefId {
     }
 }
 
-impl Part for Option<TypeRefId> {
+impl Visit for Option<TypeRefId> {
     ghost use Rattle.hir_node.specs.ChildCalls.{t, opt};
 
     ghost calls = { opt t };
@@ -74,7 +74,7 @@ impl Part for Option<TypeRefId> {
     }
 }
 
-impl Part for GenericArg {
+impl Visit for GenericArg {
     ghost use Rattle.hir_node.specs.ChildCalls.{arg_calls};
 
     ghost calls = { arg_calls };
@@ -84,7 +84,7 @@ impl Part for GenericArg {
     }
 }
 
-impl Part for UseArgRef {
+impl Visit for UseArgRef {
     ghost use Rattle.hir_node.specs.ChildCalls.{use_calls};
 
     ghost calls = { use_calls };
@@ -94,7 +94,7 @@ impl Part for UseArgRef {
     }
 }
 
-impl Part for TypeBound {
+impl Visit for TypeBound {
     ghost use Rattle.hir_node.specs.ChildCalls.{bound_calls};
 
     ghost calls = { bound_calls };
@@ -104,7 +104,7 @@ impl Part for TypeBound {
     }
 }
 
-impl Part for Option<GenericArgs> {
+impl Visit for Option<GenericArgs> {
     ghost use Rattle.hir_node.specs.ChildCalls.{args_calls, opt};
 
     ghost calls = { opt args_calls };
@@ -115,7 +115,7 @@ impl Part for Option<GenericArgs> {
 }
 
 // A field of a record literal: its value.
-impl Part for RecordLitField {
+impl Visit for RecordLitField {
     ghost use Rattle.hir_node.specs.ChildCalls.{e};
 
     ghost calls = { λ field. e field.expr };
@@ -125,7 +125,7 @@ impl Part for RecordLitField {
     }
 }
 
-impl Part for RecordFieldPat {
+impl Visit for RecordFieldPat {
     ghost use Rattle.hir_node.specs.ChildCalls.{p};
 
     ghost calls = { λ field. p field.pat };
@@ -136,7 +136,7 @@ impl Part for RecordFieldPat {
 }
 
 // An entry of a function type.
-impl Part for (Option<Name>, TypeRefId) {
+impl Visit for (Option<Name>, TypeRefId) {
     ghost use Rattle.hir_node.specs.ChildCalls.{t};
 
     ghost calls = { λ entry. t entry.1 };
@@ -146,7 +146,7 @@ impl Part for (Option<Name>, TypeRefId) {
     }
 }
 
-impl Part for Statement {
+impl Visit for Statement {
     ghost use Rattle.hir_node.specs.ChildCalls.{statement_calls};
 
     ghost calls = { statement_calls };
@@ -170,7 +170,7 @@ impl Part for Statement {
     }
 }
 
-impl Part for MatchArm {
+impl Visit for MatchArm {
     ghost calls = { arm_calls };
 
     fn visit<V: StoreVisitor>(&self, visitor: &mut V) {

@@ -5,8 +5,8 @@ use Rattle.std.specs.Option.{option_eq}
 use Rattle.std.specs.Cmp.Lexicographic.{pointwise, pointwise_decides}
 use Rattle.hir_base.specs.Exact.{options_decide}
 use Rattle.hir_base.specs.contracts.name.NamePartialEq.TheImpl as names
-use Rattle.hir_path.specs.Leaves.{names_decide}
-use Rattle.hir_path.specs.Leaves as paths
+use Rattle.hir_path.specs.same.Leaves.{names_decide}
+use Rattle.hir_path.specs.same.Leaves as paths
 use Rattle.hir_base.specs.declared.hygiene.SyntaxContext.{SyntaxContext}
 use Rattle.hir_base.specs.declared.abi.ExternAbi.{ExternAbi}
 use Rattle.hir_node.specs.declared.binding.BindingAnnotation.{BindingAnnotation}

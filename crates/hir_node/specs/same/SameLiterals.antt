@@ -2,7 +2,7 @@
 use Rattle.std.specs.Prelude.{◌≡◌}
 use Rattle.std.specs.Bool.{Decides}
 use Rattle.hir_base.specs.Variants.{values_decide, then, last}
-use Rattle.hir_node.specs.Leaves.{leaves}
+use Rattle.hir_node.specs.same.Leaves.{leaves}
 use Rattle.hir_node.specs.declared.literal.Literal.{Literal}
 use Rattle.hir_node.specs.contracts.literal.Literal.{enum}
 use Rattle.hir_node.specs.contracts.literal.LiteralPartialEq.TheImpl as node

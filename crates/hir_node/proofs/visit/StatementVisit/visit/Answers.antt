@@ -1,6 +1,6 @@
 use Rattle.hir_node.specs.ChildCalls.{t, opt}
 use Rattle.hir_node.proofs.RunLemmas.{may_here, may_first, may_after, runs_one, runs_append}
-use Rattle.hir_node.proofs.part.StatementPart.visit.Goals as goal
+use Rattle.hir_node.proofs.visit.StatementVisit.visit.Goals as goal
 
 pub on_pat-requires : goal.on_pat-requires
 on_pat-requires g c =
