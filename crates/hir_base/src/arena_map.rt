@@ -111,7 +111,8 @@ fn put_past_the_end<V>(
 ) -> Result<(), AllocFailed<V>>
     requires past { vec_len places.old ≤ at }
     requires fits { at < 2 ^ 32 }
-    ensures ok { OnOk result (places.new.items ≡ places.old.items ++ replicate (at - vec_len places.old) None ++ Some value ∷ []) }
+    ensures ok { let missing = replicate (at - vec_len places.old) None in
+        OnOk result (places.new.items ≡ places.old.items ++ missing ++ Some value ∷ []) }
     ensures len { OnOk result (vec_len places.new ≡ at + 1) }
     ensures err { OnErr result (places.new.items ≡ places.old.items) }
     ensures value_returned { IfErr result (λ failed. failed.value ≡ value) }

@@ -31,7 +31,8 @@ impl<K> Keyed for AstPtr<K> {
 impl<T: Keyed> Keyed for InFile<T> {
     ghost code = { λ source. source.file_id ∷ T.code source.value };
 
-    ghost code_tells = { λ x y. cons_tells _ _ _ _ _ _ (unsigned_Decides x.file_id y.file_id) (T.code_tells x.value y.value) };
+    ghost code_tells = { λ x y.
+        cons_tells _ _ _ _ _ _ (unsigned_Decides x.file_id y.file_id) (T.code_tells x.value y.value) };
 }
 
 impl Keyed for DefWithBodyId {

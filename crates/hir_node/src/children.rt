@@ -5,16 +5,16 @@ ghost use Rattle.hir_node.specs.ChildCalls.{expr_calls, pat_calls, type_calls, s
 ghost use Rattle.hir_node.specs.Runs.{Runs, MayRun};
 
 use crate::expr::Expr;
-use crate::visit::visit_each;
 use crate::expr_types::{Array, RecordSpread};
 use crate::pat::Pat;
 use crate::type_ref::TypeRef;
+use crate::visit::visit_each;
 use crate::visitor::{StoreVisitor, StoreVisitorExt};
 use hir_path::Boxed;
 
 impl Expr {
     /// Calls the visitor with each child, in the order of the child calls.
-    // One arm a variant: split, the function would name variants twice.
+    // One arm a variant: split, the function would name variants twice. Each field is named, so that a new one is looked at.
     pub fn visit_children<V: StoreVisitor>(&self, visitor: &mut V)
         requires { MayRun V.may V.step visitor.old (expr_calls self.now) }
         ensures { Runs V.step visitor.old (expr_calls self.now) visitor.new }
@@ -24,7 +24,7 @@ impl Expr {
             | Expr::Underscore
             | Expr::IncludeBytes
             | Expr::Literal(_)
-            | Expr::Continue { .. } => {}
+            | Expr::Continue { label: _ } => {}
             Expr::Path(path) => visitor.on_path(path),
             Expr::Array(array) => visit_array(visitor, array),
             Expr::OffsetOf(offset) => visitor.on_type(offset.container),
@@ -43,23 +43,29 @@ impl Expr {
                 visitor.on_expr(*expr);
             }
             Expr::Block {
+                id: _,
                 statements,
                 tail,
-                ..
+                label: _,
+                unsafe_: _,
             } => {
                 visit_each(visitor, statements.as_slice());
                 visitor.on_expr_opt(*tail);
             }
-            Expr::Loop { body, .. } => visitor.on_expr(*body),
+            Expr::Loop {
+                body,
+                label: _,
+                source: _,
+            } => visitor.on_expr(*body),
             Expr::Call { callee, args } => {
                 visitor.on_expr(*callee);
                 visitor.on_exprs(args.as_slice());
             }
             Expr::MethodCall {
                 receiver,
+                method_name: _,
                 args,
                 generic_args,
-                ..
             } => {
                 visitor.on_expr(*receiver);
                 visitor.on_exprs(args.as_slice());
@@ -69,15 +75,19 @@ impl Expr {
                 visitor.on_expr(*expr);
                 visit_each(visitor, arms.as_slice());
             }
-            Expr::Break { expr, .. } => visitor.on_expr_opt(*expr),
+            Expr::Break { expr, label: _ } => visitor.on_expr_opt(*expr),
             Expr::Return { expr } | Expr::Yield { expr } | Expr::Yeet { expr } => {
                 visitor.on_expr_opt(*expr)
             }
             Expr::Become { expr }
             | Expr::Await { expr }
-            | Expr::Field { expr, .. }
-            | Expr::Ref { expr, .. }
-            | Expr::UnaryOp { expr, .. } => visitor.on_expr(*expr),
+            | Expr::Field { expr, name: _ }
+            | Expr::Ref {
+                expr,
+                rawness: _,
+                mutability: _,
+            }
+            | Expr::UnaryOp { expr, op: _ } => visitor.on_expr(*expr),
             Expr::RecordLit {
                 path,
                 fields,
@@ -91,7 +101,7 @@ impl Expr {
                 visitor.on_expr(*expr);
                 visitor.on_type(*type_ref);
             }
-            Expr::BinaryOp { lhs, rhs, .. } => {
+            Expr::BinaryOp { lhs, rhs, op: _ } => {
                 visitor.on_expr(*lhs);
                 visitor.on_expr(*rhs);
             }
@@ -108,7 +118,8 @@ impl Expr {
                 arg_types,
                 ret_type,
                 body,
-                ..
+                closure_kind: _,
+                capture_by: _,
             } => {
                 visitor.on_expr(*body);
                 visitor.on_pats(args.as_slice());
@@ -155,13 +166,21 @@ impl Pat {
     {
         match self {
             Pat::Missing | Pat::Rest | Pat::Wild | Pat::NotNull => {}
-            Pat::Tuple { args, .. } => visitor.on_pats(args.as_slice()),
+            Pat::Tuple { args, ellipsis: _ } => visitor.on_pats(args.as_slice()),
             Pat::Or(args) => visitor.on_pats(args.as_slice()),
-            Pat::Record { path, args, .. } => {
+            Pat::Record {
+                path,
+                args,
+                ellipsis: _,
+            } => {
                 visit_each(visitor, args.as_slice());
                 visitor.on_path(path);
             }
-            Pat::Range { start, end, .. } => {
+            Pat::Range {
+                start,
+                end,
+                range_type: _,
+            } => {
                 visitor.on_expr_opt(*start);
                 visitor.on_expr_opt(*end);
             }
@@ -176,12 +195,16 @@ impl Pat {
             }
             Pat::Path(path) => visitor.on_path(path),
             Pat::Lit(expr) | Pat::Expr(expr) => visitor.on_expr(*expr),
-            Pat::Bind { subpat, .. } => visitor.on_pat_opt(*subpat),
-            Pat::TupleStruct { path, args, .. } => {
+            Pat::Bind { id: _, subpat } => visitor.on_pat_opt(*subpat),
+            Pat::TupleStruct {
+                path,
+                args,
+                ellipsis: _,
+            } => {
                 visitor.on_pats(args.as_slice());
                 visitor.on_path(path);
             }
-            Pat::Ref { pat, .. } => visitor.on_pat(*pat),
+            Pat::Ref { pat, mutability: _ } => visitor.on_pat(*pat),
             Pat::Box { inner } | Pat::Deref { inner } => visitor.on_pat(*inner),
         }
     }

@@ -2,11 +2,11 @@
 ghost use Rattle.std.specs.Prelude.{◌≡◌, IfOk};
 ghost use Rattle.hir_node.specs.Precedence.{of_operator, of_arith};
 
-use crate::literal::Literal;
 use crate::expr_types::{
     Array, CaptureBy, ClosureKind, LoopSource, MatchArm, OffsetOf, RecordLitField, RecordSpread,
     Statement, Unsafe,
 };
+use crate::literal::Literal;
 use crate::type_ref::{Mutability, Rawness};
 use hir_base::{
     ArithOp, BinaryOp, BlockId, ExactEq, ExprPrecedence, LogicOp, Name, Seq, TryClone, UnaryOp,
@@ -116,7 +116,8 @@ pub enum Expr {
         rhs: ExprId,
         op: Option<BinaryOp>,
     },
-    /// `=`. Its left side is a pattern, whose paths and expressions are those that are written.
+    /// `=`. Its left side is a pattern, whose paths and expressions are those that are written: `x = 1` has the target `Pat::Path(x)`, and
+    /// `v[0] = 1` the target `Pat::Expr` of the index.
     Assignment {
         target: PatId,
         value: ExprId,
@@ -146,37 +147,80 @@ impl Expr {
     pub fn precedence(&self) -> ExprPrecedence
         ensures { result ≡ precedence self.now }
     {
+        // Here and wherever a node is taken apart each field is named, so that a new one is looked at.
         match self {
             Expr::Array(_)
-            | Expr::Block { .. }
+            | Expr::Block {
+                id: _,
+                statements: _,
+                tail: _,
+                label: _,
+                unsafe_: _,
+            }
             | Expr::Const(_)
-            | Expr::If { .. }
+            | Expr::If {
+                condition: _,
+                then_branch: _,
+                else_branch: _,
+            }
             | Expr::Literal(_)
-            | Expr::Loop { .. }
-            | Expr::Match { .. }
+            | Expr::Loop {
+                body: _,
+                label: _,
+                source: _,
+            }
+            | Expr::Match { expr: _, arms: _ }
             | Expr::Missing
             | Expr::Path(_)
-            | Expr::RecordLit { .. }
-            | Expr::Tuple { .. }
+            | Expr::RecordLit {
+                path: _,
+                fields: _,
+                spread: _,
+            }
+            | Expr::Tuple { exprs: _ }
             | Expr::OffsetOf(_)
             | Expr::Underscore
             | Expr::IncludeBytes
-            | Expr::Continue { .. } => ExprPrecedence::Unambiguous,
-            Expr::Await { .. }
-            | Expr::Call { .. }
-            | Expr::Field { .. }
-            | Expr::Index { .. }
-            | Expr::MethodCall { .. } => ExprPrecedence::Postfix,
-            Expr::Let { .. } | Expr::UnaryOp { .. } | Expr::Ref { .. } => ExprPrecedence::Prefix,
-            Expr::Cast { .. } => ExprPrecedence::Cast,
-            Expr::BinaryOp { op, .. } => binary_precedence(*op),
-            Expr::Assignment { .. } => ExprPrecedence::Assign,
-            Expr::Become { .. }
-            | Expr::Break { .. }
-            | Expr::Closure { .. }
-            | Expr::Return { .. }
-            | Expr::Yeet { .. }
-            | Expr::Yield { .. } => ExprPrecedence::Jump,
+            | Expr::Continue { label: _ } => ExprPrecedence::Unambiguous,
+            Expr::Await { expr: _ }
+            | Expr::Call { callee: _, args: _ }
+            | Expr::Field { expr: _, name: _ }
+            | Expr::Index { base: _, index: _ }
+            | Expr::MethodCall {
+                receiver: _,
+                method_name: _,
+                args: _,
+                generic_args: _,
+            } => ExprPrecedence::Postfix,
+            Expr::Let { pat: _, expr: _ }
+            | Expr::UnaryOp { expr: _, op: _ }
+            | Expr::Ref {
+                expr: _,
+                rawness: _,
+                mutability: _,
+            } => ExprPrecedence::Prefix,
+            Expr::Cast {
+                expr: _,
+                type_ref: _,
+            } => ExprPrecedence::Cast,
+            Expr::BinaryOp { lhs: _, rhs: _, op } => binary_precedence(*op),
+            Expr::Assignment {
+                target: _,
+                value: _,
+            } => ExprPrecedence::Assign,
+            Expr::Become { expr: _ }
+            | Expr::Break { expr: _, label: _ }
+            | Expr::Closure {
+                args: _,
+                arg_types: _,
+                ret_type: _,
+                body: _,
+                closure_kind: _,
+                capture_by: _,
+            }
+            | Expr::Return { expr: _ }
+            | Expr::Yeet { expr: _ }
+            | Expr::Yield { expr: _ } => ExprPrecedence::Jump,
         }
     }
 }
@@ -190,7 +234,7 @@ fn binary_precedence(op: Option<BinaryOp>) -> ExprPrecedence
         Some(BinaryOp::LogicOp(LogicOp::Or)) => ExprPrecedence::LOr,
         Some(BinaryOp::LogicOp(LogicOp::And)) => ExprPrecedence::LAnd,
         Some(BinaryOp::CmpOp(_)) => ExprPrecedence::Compare,
-        Some(BinaryOp::Assignment { .. }) => ExprPrecedence::Assign,
+        Some(BinaryOp::Assignment { op: _ }) => ExprPrecedence::Assign,
         Some(BinaryOp::ArithOp(op)) => arith_precedence(op),
     }
 }
@@ -352,7 +396,7 @@ fn clone_method_call(
     args: &Seq<ExprId>,
     generic_args: &Option<Boxed<GenericArgs>>,
 ) -> Result<Expr, AllocError>
-    ensures { IfOk result (λ copy. copy ≡ Expr.MethodCall receiver method_name.now args.now generic_args.now) }
+    ensures { IfOk result (λ it. it ≡ Expr.MethodCall receiver method_name.now args.now generic_args.now) }
 {
     Ok(Expr::MethodCall {
         receiver,

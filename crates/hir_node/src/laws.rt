@@ -10,10 +10,12 @@ use hir_path::{AssociatedTypeBinding, GenericArgs};
 
 /// The child calls of generic arguments are those of each argument, then those of each binding.
 pub fn calls_of_generic_args(args: &GenericArgs)
-    ensures { args_calls args.now ≡ flat_map arg_calls (out-GenericArgs args.now).args ++ flat_map binding_calls (out-GenericArgs args.now).bindings }
+    ensures { let held = out-GenericArgs args.now in
+        args_calls args.now ≡ flat_map arg_calls held.args ++ flat_map binding_calls held.bindings }
 {}
 
 /// The child calls of an associated type binding are those of its own generic arguments, its type, and those of its bounds.
 pub fn calls_of_binding(binding: &AssociatedTypeBinding)
-    ensures { binding_calls binding.now ≡ opt args_calls (out-AssociatedTypeBinding binding.now).args ++ opt t (out-AssociatedTypeBinding binding.now).type_ref ++ flat_map bound_calls (out-AssociatedTypeBinding binding.now).bounds }
+    ensures { let held = out-AssociatedTypeBinding binding.now in
+        binding_calls binding.now ≡ opt args_calls held.args ++ opt t held.type_ref ++ flat_map bound_calls held.bounds }
 {}

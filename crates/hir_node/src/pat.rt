@@ -57,8 +57,13 @@ pub enum Pat {
         slice: Option<PatId>,
         suffix: Seq<PatId>,
     },
+    /// A constant, or a variant without fields. On the left of an assignment it may also be a variable, as the `a` of `(a, b) = c`.
     Path(Path),
+    /// A literal, as the `1` and the `-2` of `match x { 1 | -2 => .. }`. It may stand wherever a pattern may; its expression is an
+    /// `Expr::Literal`, with the sign of a negative number in it.
     Lit(ExprId),
+    /// An expression that is assigned to. It stands on the left of an assignment alone, in the pattern that is its `target`: the `*b`
+    /// of `(a, *b) = (1, 2)` is the second argument of a `Tuple`. A store takes it anywhere.
     Expr(ExprId),
     Bind {
         id: BindingId,

@@ -4,8 +4,9 @@ use Rattle.std.specs.List.{list_all}
 use Rattle.std.specs.Option.{option_to_list}
 use Rattle.hir_base.specs.ModPath.{ModPath, ident_of}
 use Rattle.hir_base.specs.declared.mod_path.PathKind.{PathKind}
-use Rattle.hir_base.specs.declared.mod_path.PathKind.TheVariants.{Abs}
+use Rattle.hir_base.specs.declared.mod_path.PathKind.TheVariants.{Abs, Plain}
 use Rattle.hir_path.specs.declared.path.GenericArgs.{GenericArgs}
+use Rattle.hir_path.specs.declared.path.NormalPath.{NormalPath}
 use Rattle.hir_path.specs.declared.path.Path.{Path}
 use Rattle.hir_path.specs.declared.path.Path.TheVariants.{BarePath, Normal, LangItem}
 use Rattle.hir_path.specs.Segments.{Segments}
@@ -48,14 +49,27 @@ segments_of path = record { names = names_of path; lists = lists_of path }
 abbrev pub no_args : List (Option GenericArgs) → Bool
 no_args lists = list_all is_none lists
 
+-- these arguments for these segments, with no anchor
+abbrev pub without_anchor : ModPath → List (Option GenericArgs) → NormalPath
+without_anchor path lists = record { generic_args = lists; type_anchor = None; mod_path = path }
+
+-- the plain path of one name
+abbrev pub one_name : List ℕ → Path
+one_name name = BarePath (record { kind = Plain; segments = name ∷ [] })
+
 -- the path with this anchor and these arguments: a bare one, where it has none of them
 abbrev pub path_with : Option ℕ → ModPath → List (Option GenericArgs) → Path
-path_with None path lists = cond (no_args lists) (BarePath path) (Normal (record { generic_args = lists; type_anchor = None; mod_path = path }))
-path_with (Some anchor) path lists = Normal (record { generic_args = lists; type_anchor = Some anchor; mod_path = path })
+path_with None path lists = cond (no_args lists) (BarePath path) (Normal (without_anchor path lists))
+path_with (Some anchor) path lists =
+    Normal (record { generic_args = lists; type_anchor = Some anchor; mod_path = path })
+
+-- without its last segment
+abbrev pub but_last : ModPath → ModPath
+but_last path = record { kind = path.kind; segments = all_but 1 path.segments }
 
 -- without its last segment and the last of its lists
 abbrev pub shorter : Option ℕ → ModPath → List (Option GenericArgs) → Path
-shorter anchor path lists = path_with anchor (record { kind = path.kind; segments = all_but 1 path.segments }) (all_but 1 lists)
+shorter anchor path lists = path_with anchor (but_last path) (all_but 1 lists)
 
 -- nothing for an ident and where there are no segments, else the shorter path
 abbrev pub qualified : Option (List ℕ) → List (List ℕ) → Path → Option Path
@@ -66,11 +80,14 @@ qualified None (name ∷ names) path = Some path
 -- what stands before the last segment
 abbrev pub qualifier : Path → Option Path
 qualifier (BarePath path) = qualified (ident_of path) path.segments (shorter None path [])
-qualifier (Normal normal) = qualified (ident_of normal.mod_path) normal.mod_path.segments (shorter normal.type_anchor normal.mod_path normal.generic_args)
+qualifier (Normal normal) =
+    let path = normal.mod_path in
+    qualified (ident_of path) path.segments (shorter normal.type_anchor path normal.generic_args)
 qualifier (LangItem target name) = None
 
 -- the identifier `Self`, with no anchor and no arguments
 abbrev pub IsSelfType : Path → Type 0
 IsSelfType (BarePath path) = ident_of path ≡ Some (codes "Self")
-IsSelfType (Normal normal) = (normal.type_anchor ≡ None) × (ident_of normal.mod_path ≡ Some (codes "Self")) × IsTrue (no_args normal.generic_args)
+IsSelfType (Normal normal) =
+    (normal.type_anchor ≡ None) × (ident_of normal.mod_path ≡ Some (codes "Self")) × IsTrue (no_args normal.generic_args)
 IsSelfType (LangItem target name) = ⊥

@@ -1,4 +1,5 @@
--- The segments of a path, seen as two lists: the names, and perhaps a list of their arguments. And the cuts of such a view.
+-- The segments of a path, seen as two lists: the names, and perhaps a list of their arguments. And the cuts of
+-- such a view.
 use Rattle.std.specs.Prelude.{◌≡◌, ⊤, ℕ, nat_le, List, [], ◌∷◌, length, take, drop, Option, Some, None, cond}
 use Rattle.std.specs.Option.{option_map, option_copied}
 use Rattle.hir_path.specs.declared.path.GenericArgs.{GenericArgs}
@@ -63,7 +64,8 @@ first n s = record { names = take n s.names; lists = option_map (take n) s.lists
 abbrev pub strip : ℕ → Segments → Segments
 strip n s = record { names = all_but n s.names; lists = option_map (all_but n) s.lists }
 
--- there are no lists, or one for each name
+-- one list for each name, as of a normal path, or no list of lists at all, as of every other path: an empty list of lists is one for each
+-- name only where there are no names
 abbrev pub one_each : List (List ℕ) → Option (List (Option GenericArgs)) → Type 0
 one_each names None = ⊤
 one_each names (Some lists) = length lists ≡ length names

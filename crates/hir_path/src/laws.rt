@@ -12,7 +12,8 @@ pub fn take_then_skip_is_all()
     ensures { (s : Segments) (n : ℕ) → items (first n s) ++ items (skip n s) ≡ items s }
 {}
 
-/// Where there are no lists of arguments or one for each segment, stripping leaves all segments but the last ones.
+/// Where a view has one list of arguments for each segment, as that of a `Normal` path, or none at all, as that of the other paths,
+/// stripping leaves all segments but the last ones. (An empty list of lists beside a segment is neither.)
 pub fn strip_is_all_but_the_last()
     ensures { (s : Segments) (n : ℕ) → OneListEach s → items (strip n s) ≡ all_but n (items s) }
 {}
@@ -29,5 +30,6 @@ pub fn cuts_of_empty_are_empty()
 
 /// Segments are equal exactly where their names and their arguments are the same, from whichever paths they are borrowed.
 pub fn segments_are_equal_by_name_and_args<'a>()
-    ensures { (x y : PathSegment) → Decides (⟦<PathSegment<'a> as PartialEq>⟧.eq x y) (segment_of x ≡ segment_of y) }
+    ensures { (x y : PathSegment) →
+        Decides (⟦<PathSegment<'a> as PartialEq>⟧.eq x y) (segment_of x ≡ segment_of y) }
 {}

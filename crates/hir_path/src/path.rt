@@ -3,7 +3,7 @@
 ghost use Rattle.std.specs.Prelude.{◌≡◌, ◌↔◌, IfOk, IfErr, IsTrue, length, [], ◌∷◌, None};
 ghost use Rattle.std.specs.Option.{option_copied};
 ghost use Rattle.hir_base.specs.Exact.{exact};
-ghost use Rattle.hir_path.specs.Paths.{no_args};
+ghost use Rattle.hir_path.specs.Paths.{no_args, but_last};
 ghost use Rattle.hir_path.specs.Lists.{all_but};
 
 use crate::bound::{ConstRef, TypeBound};
@@ -18,7 +18,7 @@ use std::alloc::{AllocError, AllocFailed, Global};
 pub enum Path {
     /// A path with neither generic arguments nor a type anchor, as most are.
     BarePath(ModPath),
-    /// A path with generic arguments or a type anchor.
+    /// A path with generic arguments or a type anchor, as `Vec::<u8>::new`: one list of arguments for each segment.
     Normal(Boxed<NormalPath>),
     /// An item of the language, by what it is, and perhaps one name in it. Lowering makes these, where the path to the item might be
     /// private.
@@ -37,7 +37,7 @@ impl TryClone for Path {
 
 impl Path {
     ghost use Rattle.hir_base.specs.ModPath.{ModPath};
-    ghost use Rattle.hir_path.specs.Paths.{kind_of, anchor_of, lists_of, mod_path_of, segments_of, path_with, qualifier, IsSelfType};
+    ghost use Rattle.hir_path.specs.Paths.{kind_of, anchor_of, lists_of, mod_path_of, segments_of, without_anchor, one_name, path_with, qualifier, IsSelfType};
     ghost use Rattle.hir_path.specs.Segments.{OneListEach, seen};
 
     /// The path with these arguments for its segments, of which there has to be one list for each: a `BarePath` where no segment
@@ -51,7 +51,7 @@ impl Path {
     ) -> Result<Path, AllocFailed<NormalPath>>
         requires one_list_each { length generic_args ≡ length path.segments }
         ensures ok { IfOk result (λ made. made ≡ path_with None path generic_args) }
-        ensures value_returned { IfErr result (λ failed. failed.value ≡ record { generic_args = generic_args; type_anchor = None; mod_path = path }) }
+        ensures value_returned { IfErr result (λ failed. failed.value ≡ without_anchor path generic_args) }
     {
         Path::with(
             alloc,
@@ -74,7 +74,7 @@ impl Path {
     ///
     /// Answers an error where memory was refused: the name is handed back.
     pub fn from_name(alloc: Global, name: Name) -> Result<Path, AllocFailed<Name>>
-        ensures ok { IfOk result (λ made. made ≡ Path.BarePath (record { kind = PathKind.Plain; segments = name ∷ [] })) }
+        ensures ok { IfOk result (λ made. made ≡ one_name name) }
         ensures value_returned { IfErr result (λ failed. failed.value ≡ name) }
     {
         // Most paths have one name, and the first growth of a list makes room for four.
@@ -143,7 +143,7 @@ impl Path {
 
     /// What stands before the last segment: the path without that segment and its arguments, a `BarePath` where no anchor and no
     /// arguments are left. `None` for an item of the language, for an identifier, behind an anchor too, and where there are no
-    /// segments. A `Normal` path has to have one list of arguments for each segment.
+    /// segments. A `Normal` path has to have one list of arguments for each segment: an empty list of lists beside one segment won't do.
     ///
     /// Answers an error where memory was refused.
     pub fn qualifier(&self, alloc: Global) -> Result<Option<Path>, AllocError>
@@ -210,7 +210,7 @@ fn has_no_args(lists: &[Option<GenericArgs>]) -> bool
 
 /// The path without its last segment.
 fn without_last(alloc: Global, path: &ModPath) -> Result<ModPath, AllocError>
-    ensures { IfOk result (λ made. made ≡ record { kind = path.now.kind; segments = all_but 1 path.now.segments }) }
+    ensures { IfOk result (λ made. made ≡ but_last path.now) }
 {
     Ok(ModPath::from_segments(path.kind(), all_but_last(alloc, path.segments())?))
 }
@@ -224,9 +224,12 @@ fn all_but_last<T: TryClone + Drop>(alloc: Global, items: &[T]) -> Result<Seq<T>
 }
 
 /// A path with generic arguments or a type anchor.
+///
+/// There is one list of arguments for each segment. A list may be absent, but its place isn't left out: `Vec::<u8>::new` has the lists
+/// `[Some([u8]), None]`. A store refuses a path with fewer or more places than segments, as one with no place beside one segment.
 #[derive(Drop, Clone, PartialEq, Eq, Hash)]
 pub struct NormalPath {
-    /// For each segment its arguments, where it has some.
+    /// In the place of each segment its arguments, where it has some.
     pub generic_args: Seq<Option<GenericArgs>>,
     /// The type that the path begins at, as the `T` of `<T>::f`.
     pub type_anchor: Option<TypeRefId>,
@@ -275,16 +278,17 @@ pub struct GenericArgs {
     pub parenthesized: GenericArgsParentheses,
 }
 
-/// What is said of one associated type, as `Item = T` or `Item: Bound`.
+/// What is said of one associated type, as the `Item = T` of `Iterator<Item = T>` or the `Item: Debug` of `Iterator<Item: Debug>`.
 #[cycle(generic_args)]
 #[derive(Drop, PartialEq, Eq, Hash)]
 pub struct AssociatedTypeBinding {
+    /// The name of the associated type, as `Item`.
     pub name: Name,
-    /// The arguments of the associated type itself.
+    /// The arguments of the associated type itself, as the `'a` of `Lend<Item<'a> = &'a T>`.
     pub args: Option<GenericArgs>,
-    /// The type that it is.
+    /// The type that it is: the `T` of `Item = T`. Absent where bounds alone are said of it, as in `Item: Debug`.
     pub type_ref: Option<TypeRefId>,
-    /// The bounds that it has.
+    /// The bounds that it has: the `Debug` of `Item: Debug`. Empty for `Item = T`.
     pub bounds: Seq<TypeBound>,
 }
 
