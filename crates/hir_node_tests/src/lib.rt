@@ -7,6 +7,8 @@ mod build;
 #[cfg(test)]
 mod calls;
 #[cfg(test)]
+mod child_pats;
+#[cfg(test)]
 mod copies;
 #[cfg(test)]
 mod cuts;

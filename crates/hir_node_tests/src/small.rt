@@ -3,7 +3,7 @@ use crate::build;
 use hir_base::{ArithOp, BinaryOp, ExprPrecedence, ExternAbi, Idx, Text};
 use hir_node::{
     BindingAnnotation, Boxed, Expr, ExprId, ExprOrPatId, FloatTypeWrapper, FnType, Literal,
-    Mutability, PatId, PathId, Rawness,
+    Mutability, NodeId, PatId, PathId, Rawness,
 };
 use std::mem::drop;
 use std::test::Fail;
@@ -110,6 +110,22 @@ fn a_float_shows_its_text(rt: HostRuntime) -> Result<(), Fail> {
     drop(number);
     let shown = shown?;
     assert!(rt; shown.as_str() == "1.50");
+    Ok(())
+}
+
+// The text of a node is that of its `Debug` as well.
+#[test]
+fn a_node_shows_its_kind_and_its_number(rt: HostRuntime) -> Result<(), Fail> {
+    for (node, text) in [
+        (NodeId::Expr(Idx::from_raw(3)), "ExprId(3)"),
+        (NodeId::Pat(Idx::from_raw(0)), "PatId(0)"),
+        (NodeId::TypeRef(Idx::from_raw(4294967295)), "TypeRefId(4294967295)"),
+    ] {
+        let shown = format!(in rt.alloc(); "{node}")?;
+        assert!(rt; shown.as_str() == text);
+        let debugged = format!(in rt.alloc(); "{node:?}")?;
+        assert!(rt; debugged.as_str() == text);
+    }
     Ok(())
 }
 
