@@ -15,7 +15,7 @@ use Rattle.hir_source.specs.declared.source_map.ExpressionStoreSourceMap.{Expres
 use Rattle.hir_expr_store.specs.Contents.{Contents}
 use Rattle.hir_expr_store.specs.declared.missing.Missing.{Missing}
 use Rattle.hir_expr_store.specs.declared.missing.Missing.TheVariants as missing
-use Rattle.hir_items.specs.Bodies.{BodyParts}
+use Rattle.hir_items.specs.Bodies.{BodyContents}
 use Rattle.hir_items.specs.Generics.{empty}
 use Rattle.hir_items.specs.Lookups.{Signed, Embodied}
 use Rattle.hir_items.specs.declared.body_source_map.BodySourceMap.{BodySourceMap}
@@ -29,7 +29,7 @@ use Rattle.hir_defs.specs.declared.plain_def.PlainDef.TheVariants as plain
 use Rattle.hir_defs.specs.declared.tables.TablesOf.{TablesOf}
 
 abbrev pub Tables : Type 0
-Tables = TablesOf FunctionParts StructParts PlainParts VariantParts BodyParts ExpressionStoreSourceMap BodySourceMap
+Tables = TablesOf FunctionParts StructParts PlainParts VariantParts BodyContents ExpressionStoreSourceMap BodySourceMap
 
 -- what the signature of a function, of a struct and of another definition is looked up for
 abbrev pub function_entry : FunctionParts × ExpressionStoreSourceMap → Signed

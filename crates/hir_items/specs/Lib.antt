@@ -2,7 +2,6 @@ pub mod Bodies
 pub mod FirstOfName
 pub mod Generics
 pub mod Lookups
-pub mod SameBodies
-pub mod SameGenerics
-pub mod SameSignatures
+pub mod RefusedBodies
 pub mod Signatures
+pub mod same

@@ -1,11 +1,12 @@
 //! Why a body is refused, and the first fault of its parts.
 
 ghost use Rattle.std.specs.Prelude.{◌≡◌, ◌<◌, All, IfOk, length};
-ghost use Rattle.hir_items.specs.Bodies.{BodyParts, last_root, apart_fault, body_fault};
+ghost use Rattle.hir_items.specs.Bodies.{body_of, last_root, apart_fault, body_fault};
 
 use crate::formals::{Param, add_formals, first_out_of_range, first_under, self_is_there};
-use hir_expr_store::ExpressionStore;
 use hir_base::ExactEq;
+use hir_expr_store::ExpressionStore;
+use hir_expr_store::laws::roots_stand_apart;
 use hir_node::{BindingId, ExprId, PatId};
 use std::alloc::{AllocError, Global};
 use thiserror::Error;
@@ -83,9 +84,10 @@ pub(crate) fn first_fault(
     params: &[Param<PatId>],
     self_param: Option<Param<BindingId>>,
 ) -> Result<Option<BodyFault>, AllocError>
-    ensures { IfOk result (body_fault record { store = store.now; params = params.now; self_param = self_param }) }
+    ensures { IfOk result (body_fault (body_of store.now params.now self_param)) }
 {
     store.has_no_fault();
+    roots_stand_apart();
     let root = match last_root(store) {
         Some(root) => root,
         None => return Ok(Some(BodyFault::NoRoot)),

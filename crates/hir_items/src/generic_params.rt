@@ -325,7 +325,7 @@ impl Index<LocalLifetimeParamId> for GenericParams {
 }
 
 impl ExactEq for GenericParams {
-    ghost use Rattle.hir_items.specs.SameGenerics.{generics_decide};
+    ghost use Rattle.hir_items.specs.same.SameGenerics.{generics_decide};
 
     ghost eq_decides = { generics_decide };
 }

@@ -21,7 +21,7 @@ pub enum FieldsShape {
 }
 
 impl ExactEq for FieldsShape {
-    ghost use Rattle.hir_items.specs.SameSignatures.{shapes_decide};
+    ghost use Rattle.hir_items.specs.same.SameSignatures.{shapes_decide};
 
     ghost eq_decides = { shapes_decide };
 }
@@ -40,7 +40,7 @@ pub enum RawVisibility {
 }
 
 impl ExactEq for RawVisibility {
-    ghost use Rattle.hir_items.specs.SameSignatures.{visibilities_decide};
+    ghost use Rattle.hir_items.specs.same.SameSignatures.{visibilities_decide};
 
     ghost eq_decides = { visibilities_decide };
 }
@@ -58,7 +58,7 @@ pub struct FieldData {
 }
 
 impl ExactEq for FieldData {
-    ghost use Rattle.hir_items.specs.SameSignatures.{fields_decide};
+    ghost use Rattle.hir_items.specs.same.SameSignatures.{fields_decide};
 
     ghost eq_decides = { fields_decide };
 }
@@ -91,7 +91,7 @@ pub struct FunctionParts {
 }
 
 impl ExactEq for FunctionParts {
-    ghost use Rattle.hir_items.specs.SameSignatures.{functions_decide};
+    ghost use Rattle.hir_items.specs.same.SameSignatures.{functions_decide};
 
     ghost eq_decides = { functions_decide };
 }
@@ -124,7 +124,7 @@ impl Drop for FunctionSignature {
 }
 
 impl ExactEq for FunctionSignature {
-    ghost use Rattle.hir_items.specs.SameSignatures.{functions_decide};
+    ghost use Rattle.hir_items.specs.same.SameSignatures.{functions_decide};
 
     ghost eq_decides = { functions_decide };
 }
@@ -255,7 +255,7 @@ pub struct StructParts {
 }
 
 impl ExactEq for StructParts {
-    ghost use Rattle.hir_items.specs.SameSignatures.{structs_decide};
+    ghost use Rattle.hir_items.specs.same.SameSignatures.{structs_decide};
 
     ghost eq_decides = { structs_decide };
 }
@@ -286,7 +286,7 @@ impl Drop for StructSignature {
 }
 
 impl ExactEq for StructSignature {
-    ghost use Rattle.hir_items.specs.SameSignatures.{structs_decide};
+    ghost use Rattle.hir_items.specs.same.SameSignatures.{structs_decide};
 
     ghost eq_decides = { structs_decide };
 }
@@ -370,7 +370,7 @@ pub struct VariantParts {
 }
 
 impl ExactEq for VariantParts {
-    ghost use Rattle.hir_items.specs.SameSignatures.{variants_decide};
+    ghost use Rattle.hir_items.specs.same.SameSignatures.{variants_decide};
 
     ghost eq_decides = { variants_decide };
 }
@@ -398,7 +398,7 @@ impl Drop for VariantFields {
 }
 
 impl ExactEq for VariantFields {
-    ghost use Rattle.hir_items.specs.SameSignatures.{variants_decide};
+    ghost use Rattle.hir_items.specs.same.SameSignatures.{variants_decide};
 
     ghost eq_decides = { variants_decide };
 }
@@ -466,7 +466,7 @@ pub struct PlainParts {
 }
 
 impl ExactEq for PlainParts {
-    ghost use Rattle.hir_items.specs.SameSignatures.{plains_decide};
+    ghost use Rattle.hir_items.specs.same.SameSignatures.{plains_decide};
 
     ghost eq_decides = { plains_decide };
 }
@@ -497,7 +497,7 @@ impl Drop for PlainSignature {
 }
 
 impl ExactEq for PlainSignature {
-    ghost use Rattle.hir_items.specs.SameSignatures.{plains_decide};
+    ghost use Rattle.hir_items.specs.same.SameSignatures.{plains_decide};
 
     ghost eq_decides = { plains_decide };
 }

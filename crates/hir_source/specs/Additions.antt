@@ -6,7 +6,7 @@ use Rattle.hir_path.specs.declared.ids.ExprOrPatId.{ExprOrPatId}
 use Rattle.hir_source.specs.declared.diagnostics.ExpressionStoreDiagnostics.{ExpressionStoreDiagnostics}
 use Rattle.hir_source.specs.declared.source_map_builder.SourceMapBuilder.{SourceMapBuilder}
 use Rattle.hir_source.specs.declared.source_map.ExpressionStoreSourceMap.{ExpressionStoreSourceMap}
-use Rattle.hir_source.specs.Parts.{Source, source_key, id_key, no_expr_sources, no_type_sources, and_definition, has_news}
+use Rattle.hir_source.specs.Sources.{Source, source_key, id_key, no_expr_sources, no_type_sources, and_definition, has_news}
 
 -- two builders have the same maps
 abbrev pub HasSameMaps : SourceMapBuilder → SourceMapBuilder → Type 0

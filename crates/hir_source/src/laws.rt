@@ -7,7 +7,7 @@ ghost use Rattle.std.specs.Cmp.{IsEquivalence};
 ghost use Rattle.hir_path.specs.declared.ids.ExprOrPatId.{ExprOrPatId};
 ghost use Rattle.hir_source.specs.declared.source_map.ExpressionStoreSourceMap.{ExpressionStoreSourceMap};
 ghost use Rattle.hir_source.specs.declared.source_map_builder.SourceMapBuilder.{SourceMapBuilder};
-ghost use Rattle.hir_source.specs.Parts.{Source};
+ghost use Rattle.hir_source.specs.Sources.{Source};
 ghost use Rattle.hir_source.specs.Additions.{HasSameMaps, finished, with_expr, with_pat, with_label, with_type, with_lifetime};
 ghost use Rattle.hir_source.specs.Lookups.{expr_source, pat_source, label_source, type_source, lifetime_source, expansions_of, diagnostics_of};
 ghost use Rattle.hir_source.specs.Compared.{compared};

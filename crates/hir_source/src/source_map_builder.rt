@@ -2,11 +2,11 @@
 
 ghost use Rattle.std.specs.Prelude.{◌≡◌, [], ◌∷◌, OnOk, OnErr, IfErr};
 ghost use Rattle.std.specs.FinMap as map;
-ghost use Rattle.hir_source.specs.Parts.{id_key, and_definition};
+ghost use Rattle.hir_source.specs.Sources.{id_key, and_definition};
 
 use crate::definitions::Definitions;
 use crate::diagnostics::ExpressionStoreDiagnostics;
-use crate::part::{ExprSources, TypeSources};
+use crate::sources::{ExprSources, TypeSources};
 use crate::source_map::ExpressionStoreSourceMap;
 use hir_base::{
     ExprOrPatSource, ExprSource, FieldSource, InFile, Keyed, LabelSource, LifetimeSource,
@@ -316,15 +316,9 @@ fn first_definition(
     ensures value_returned { IfErr result (λ failed. failed.value ≡ (binding, pat)) }
 {
     let mut list = Definitions::new(alloc);
-    if list.push(pat).is_err() {
-        return Err(AllocFailed {
-            value: (binding, pat),
-        });
+    let value = (binding, pat);
+    if list.push(pat).is_err() || put(definitions, binding, list).is_err() {
+        return Err(AllocFailed { value });
     }
-    match definitions.insert(binding, list) {
-        Ok(_) => Ok(()),
-        Err(_) => Err(AllocFailed {
-            value: (binding, pat),
-        }),
-    }
+    Ok(())
 }

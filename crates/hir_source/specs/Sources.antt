@@ -5,8 +5,8 @@ use Rattle.hir_base.specs.Table.{by_code}
 use Rattle.hir_base.specs.Keys.{node_code}
 use Rattle.hir_base.specs.declared.ptr.InFile.{InFile}
 use Rattle.hir_base.specs.declared.ptr.SyntaxNodePtr.{SyntaxNodePtr}
-use Rattle.hir_source.specs.declared.part.ExprSources.{ExprSources}
-use Rattle.hir_source.specs.declared.part.TypeSources.{TypeSources}
+use Rattle.hir_source.specs.declared.sources.ExprSources.{ExprSources}
+use Rattle.hir_source.specs.declared.sources.TypeSources.{TypeSources}
 
 -- a source: a node of syntax, and its file
 abbrev pub Source : Type 0

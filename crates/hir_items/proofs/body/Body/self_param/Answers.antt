@@ -1,0 +1,6 @@
+use Rattle.hir_items.specs.Bodies.{body_of}
+use Rattle.hir_items.proofs.BodySound.{self_there}
+use Rattle.hir_items.proofs.body.Body.self_param.Goals as goal
+
+pub returns-clause-there : goal.returns-clause-there
+returns-clause-there c = self_there (body_of c.self.inside.store c.self.inside.params c.self.inside.self_param) c.self.invariant
