@@ -54,7 +54,8 @@ AreBelow limit p = (p.formal < limit) × (p.user_written < limit)
 -- a pattern of parameter i is not among so many patterns
 abbrev pub range_fault : ℕ → List (Param ℕ) → ℕ → Option BodyFault → Type 0
 range_fault limit params i =
-    ParamOutOfRange i unless ((slice_index (formals_of params) i < limit) × (slice_index (user_written_of params) i < limit))
+    ParamOutOfRange i
+    unless ((slice_index (formals_of params) i < limit) × (slice_index (user_written_of params) i < limit))
 
 -- formal i is an earlier formal
 abbrev pub repeated_fault : List ℕ → ℕ → Option BodyFault → Type 0
@@ -64,13 +65,15 @@ repeated_fault formals i = ParamRepeated i unless (Contains (take i formals) (sl
 abbrev pub under_fault : (NodeId → Type 0) → List ℕ → ℕ → Option BodyFault → Type 0
 under_fault IsUnder formals i = ParamUnder i unless (IsUnder (node.Pat (slice_index formals i)) → ⊥)
 
--- formals and the last root do not lie apart: a formal repeats, lies under another formal or the last root, or the last root
--- lies under a formal
+-- formals and the last root do not lie apart: a formal repeats, lies under another formal or the last root, or the last
+-- root lies under a formal
 unfoldable pub apart_fault : Nodes → List (Param ℕ) → ℕ → Option BodyFault → Type 0
 apart_fault s params root =
     first_below (length params) (repeated_fault (formals_of params))
-    before first_below (length params) (under_fault (LiesUnderOther s (Contains (tops_of params root))) (formals_of params))
-    before (RootInParam unless (LiesUnderOther s (Contains (map node.Pat (formals_of params))) (node.Expr root) → ⊥))
+    before first_below (length params)
+        (under_fault (LiesUnderOther s (Contains (tops_of params root))) (formals_of params))
+    before (RootInParam
+        unless (LiesUnderOther s (Contains (map node.Pat (formals_of params))) (node.Expr root) → ⊥))
 
 -- the first fault where there is a last root
 abbrev pub fault_at_root : BodyContents → Option ℕ → Option BodyFault → Type 0
@@ -91,4 +94,5 @@ IsAnySelf b id = (p : Param ℕ) × (b.self_param ≡ Some p) × ((p.formal ≡ 
 -- the set has these nodes more, and no other
 abbrev pub GainsAll : Marked → List NodeId → Marked → Type 0
 GainsAll old added new =
-    (new.sizes ≡ old.sizes) × ((n : NodeId) → HasNode old.sizes n → IsIn new n ↔ (IsIn old n ⊎ Contains added n))
+    (new.sizes ≡ old.sizes)
+    × ((n : NodeId) → HasNode old.sizes n → IsIn new n ↔ (IsIn old n ⊎ Contains added n))

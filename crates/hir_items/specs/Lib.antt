@@ -1,4 +1,5 @@
 pub mod Bodies
+pub mod FaultTexts
 pub mod FirstOfName
 pub mod Generics
 pub mod Lookups

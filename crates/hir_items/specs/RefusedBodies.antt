@@ -7,4 +7,5 @@ use Rattle.hir_items.specs.declared.formals.Param.{Param}
 
 -- the fault, and the parts as they were
 abbrev pub refused_body : BodyFault → Contents → List (Param ℕ) → Option (Param ℕ) → RefusedBody
-refused_body fault store params self_param = record { fault = fault; store = store; params = params; self_param = self_param }
+refused_body fault store params self_param =
+    record { fault = fault; store = store; params = params; self_param = self_param }

@@ -39,7 +39,7 @@ impl Drop for Body {
 
 impl Model for Body {
     ghost use Rattle.std.specs.Prelude.{None};
-    ghost use Rattle.hir_items.specs.Bodies.{BodyContents, body_fault};
+    ghost use Rattle.hir_items.specs.Bodies.{BodyContents, body_of, body_fault};
 
     ghost Value = { BodyContents };
 
@@ -52,7 +52,7 @@ impl Model for Body {
 
     ghost inverse = { λ b. record { store = b.store; params = b.params; self_param = b.self_param } };
 
-    ghost invariant = { λ b. body_fault record { store = b.store; params = b.params; self_param = b.self_param } None };
+    ghost invariant = { λ b. body_fault (body_of b.store b.params b.self_param) None };
 }
 
 /// The parts of a body that was refused, as they were, with their first fault.

@@ -31,7 +31,8 @@ pub fn tops_are_there()
 
 /// The formals and the last root of a body lie apart: nothing lies under two of them.
 pub fn tops_lie_apart()
-    ensures { (b : BodyContents) → contents_fault b.store None → body_fault b None → LieApart b.store.nodes (tops b) }
+    ensures { (b : BodyContents) → contents_fault b.store None → body_fault b None
+        → LieApart b.store.nodes (tops b) }
 {
     roots_stand_apart();
     under_two_is_under_one();

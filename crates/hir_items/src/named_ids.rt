@@ -115,7 +115,8 @@ fn names_paths(store: &ExpressionStore, predicate: &WherePredicate) -> bool
 }
 
 fn predicates_name_paths(store: &ExpressionStore, predicates: &[WherePredicate]) -> bool
-    ensures { result ≡ list_all (λ w. list_all (is_path_at store.now.nodes.types) (predicate_paths w)) predicates.now }
+    ensures { result ≡
+        list_all (λ w. list_all (is_path_at store.now.nodes.types) (predicate_paths w)) predicates.now }
 {
     for predicate in predicates {
         if !names_paths(store, predicate) {

@@ -152,7 +152,8 @@ impl FunctionSignature {
     /// The signature of these parts. Else their first fault, and the parts as they were. It takes no memory.
     pub fn new(parts: FunctionParts) -> Result<FunctionSignature, RefusedSignature<FunctionParts>>
         ensures ok { IfOk result (λ made. (made ≡ parts) × function_fault parts None) }
-        ensures err { IfErr result (λ refused. (refused.parts ≡ parts) × function_fault parts (Some refused.fault)) }
+        ensures err { IfErr result (λ refused.
+            (refused.parts ≡ parts) × function_fault parts (Some refused.fault)) }
     {
         match parts.first_fault() {
             None => Ok(FunctionSignature { function: parts }),
@@ -314,7 +315,8 @@ impl StructSignature {
     /// The signature of these parts. Else their first fault, and the parts as they were. It takes no memory.
     pub fn new(parts: StructParts) -> Result<StructSignature, RefusedSignature<StructParts>>
         ensures ok { IfOk result (λ made. (made ≡ parts) × struct_fault parts None) }
-        ensures err { IfErr result (λ refused. (refused.parts ≡ parts) × struct_fault parts (Some refused.fault)) }
+        ensures err { IfErr result (λ refused.
+            (refused.parts ≡ parts) × struct_fault parts (Some refused.fault)) }
     {
         match parts.first_fault() {
             None => Ok(StructSignature { structure: parts }),
@@ -426,7 +428,8 @@ impl VariantFields {
     /// The signature of these parts. Else their first fault, and the parts as they were. It takes no memory.
     pub fn new(parts: VariantParts) -> Result<VariantFields, RefusedSignature<VariantParts>>
         ensures ok { IfOk result (λ made. (made ≡ parts) × fields_fault parts None) }
-        ensures err { IfErr result (λ refused. (refused.parts ≡ parts) × fields_fault parts (Some refused.fault)) }
+        ensures err { IfErr result (λ refused.
+            (refused.parts ≡ parts) × fields_fault parts (Some refused.fault)) }
     {
         match parts.first_fault() {
             None => Ok(VariantFields { variant: parts }),
@@ -525,7 +528,8 @@ impl PlainSignature {
     /// The signature of these parts. Else their first fault, and the parts as they were. It takes no memory.
     pub fn new(parts: PlainParts) -> Result<PlainSignature, RefusedSignature<PlainParts>>
         ensures ok { IfOk result (λ made. (made ≡ parts) × plain_fault parts None) }
-        ensures err { IfErr result (λ refused. (refused.parts ≡ parts) × plain_fault parts (Some refused.fault)) }
+        ensures err { IfErr result (λ refused.
+            (refused.parts ≡ parts) × plain_fault parts (Some refused.fault)) }
     {
         match parts.first_fault() {
             None => Ok(PlainSignature { plain: parts }),

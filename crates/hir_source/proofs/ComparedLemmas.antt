@@ -7,9 +7,9 @@ use Rattle.hir_base.specs.Table.{by_code}
 use Rattle.hir_source.specs.declared.diagnostics.ExpressionStoreDiagnostics.{ExpressionStoreDiagnostics}
 use Rattle.hir_source.specs.declared.sources.ExprSources.{ExprSources}
 use Rattle.hir_source.specs.declared.source_map.ExpressionStoreSourceMap.{ExpressionStoreSourceMap}
-use Rattle.hir_source.specs.Sources.{Source, id_key}
+use Rattle.hir_source.specs.Sources.{id_key}
 use Rattle.hir_source.specs.Lookups.{expr_source, pat_source, label_source, type_source, lifetime_source, expansions_of, diagnostics_of}
-use Rattle.hir_source.specs.Compared.{ComparedExprs, Compared, compared_exprs, compared}
+use Rattle.hir_source.specs.Compared.{ComparedExprs, compared_exprs, compared}
 
 -- parts with one compared part give one, kept or not
 pub kept_alike : (p q : ExprSources) → compared_exprs p ≡ compared_exprs q → (b : Bool) → option_map compared_exprs (cond b (Some p) None) ≡ option_map compared_exprs (cond b (Some q) None)

@@ -253,7 +253,8 @@ impl ExpressionStoreSourceMap {
 
 /// Whether what is compared of two expression parts is equal.
 fn same_exprs(x: &ExprSources, y: &ExprSources) -> bool
-    ensures { result ≡ same_exprs ⟦<ExprOrPatSource as PartialEq>⟧.eq ⟦<MacroCallId as PartialEq>⟧.eq ⟦<ExpressionStoreDiagnostics as PartialEq>⟧.eq x.now y.now }
+    ensures { result ≡ same_exprs ⟦<ExprOrPatSource as PartialEq>⟧.eq ⟦<MacroCallId as PartialEq>⟧.eq
+        ⟦<ExpressionStoreDiagnostics as PartialEq>⟧.eq x.now y.now }
 {
     x.expr_map_back == y.expr_map_back
         && x.pat_map_back == y.pat_map_back
@@ -268,7 +269,8 @@ impl PartialEq for ExpressionStoreSourceMap {
     ghost use Rattle.hir_source.specs.Compared.{same_compared};
     ghost use Rattle.hir_source.specs.same.SameCompared.{compared_per};
 
-    ghost eq = { same_compared ⟦<ExprOrPatSource as PartialEq>⟧.eq ⟦<MacroCallId as PartialEq>⟧.eq ⟦<ExpressionStoreDiagnostics as PartialEq>⟧.eq };
+    ghost eq = { same_compared ⟦<ExprOrPatSource as PartialEq>⟧.eq ⟦<MacroCallId as PartialEq>⟧.eq
+        ⟦<ExpressionStoreDiagnostics as PartialEq>⟧.eq };
 
     ghost laws = { compared_per (Prim.search exact) (Prim.search exact) diagnostics_decide };
 
