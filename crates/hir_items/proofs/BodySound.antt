@@ -235,10 +235,15 @@ module _ (b : BodyContents) (stand : RootsStandApart (rooted_of b.store)) (none 
       let at = fault_is_at_root b none in
       rw at.1 (apart b.store b.params at.0 (all_there (length b.store.nodes.pats) b.params at.2.1.0) (root_there b.store stand at.0 at.1) at.2.1.1 under_two)
 
--- the parameters of a body without a fault
-module _ (b : BodyContents) (none : body_fault b None) where
-  pub params_there : All (AreBelow (length b.store.nodes.pats)) b.params
-  params_there = both_there (length b.store.nodes.pats) b.params (fault_is_at_root b none).2.1.0
+-- what a body without a fault names is there; `now` is the body as a caller sees it
+module _ (b : BodyContents) (none : body_fault b None) (now : BodyContents) (same : b ≡ now) where
+  pub params_there : (params : List (Param ℕ)) → params ≡ b.params → All (AreBelow (length now.store.nodes.pats)) params
+  params_there params e =
+      let there = both_there (length b.store.nodes.pats) b.params (fault_is_at_root b none).2.1.0 in
+      subst (λ (v : BodyContents). All (AreBelow (length v.store.nodes.pats)) params) same (subst (All (AreBelow (length b.store.nodes.pats))) (sym e) there)
 
-  pub self_there : IfSome b.self_param (AreBelow (length b.store.nodes.bindings))
-  self_there = (fault_is_at_root b none).2.0
+  pub self_there : IfSome b.self_param (AreBelow (length now.store.nodes.bindings))
+  self_there = subst (λ (v : BodyContents). IfSome b.self_param (AreBelow (length v.store.nodes.bindings))) same (fault_is_at_root b none).2.0
+
+  pub root_below : RootsStandApart (rooted_of b.store) → (root : ℕ) → last_root b.store ≡ Some root → root < length now.store.nodes.exprs
+  root_below stand root e = subst (λ (v : BodyContents). root < length v.store.nodes.exprs) same (root_there b.store stand root e)

@@ -71,9 +71,9 @@ unfoldable pub apart_fault : Nodes → List (Param ℕ) → ℕ → Option BodyF
 apart_fault s params root =
     first_below (length params) (repeated_fault (formals_of params))
     before first_below (length params)
-        (under_fault (LiesUnderOther s (Contains (tops_of params root))) (formals_of params))
+    (under_fault (LiesUnderOther s (Contains (tops_of params root))) (formals_of params))
     before (RootInParam
-        unless (LiesUnderOther s (Contains (map node.Pat (formals_of params))) (node.Expr root) → ⊥))
+    unless (LiesUnderOther s (Contains (map node.Pat (formals_of params))) (node.Expr root) → ⊥))
 
 -- the first fault where there is a last root
 abbrev pub fault_at_root : BodyContents → Option ℕ → Option BodyFault → Type 0

@@ -39,23 +39,25 @@ impl Drop for GenericParams {
 }
 
 impl Model for GenericParams {
+    ghost use Rattle.hir_base.specs.declared.arena.TheConstants.{MOST_ITEMS};
+
     ghost Value = { Generics };
 
     ghost view = { λ p. record {
-        type_or_consts = p.type_or_consts;
-        lifetimes = p.lifetimes;
-        predicates = p.where_predicates;
+      type_or_consts = p.type_or_consts;
+      lifetimes = p.lifetimes;
+      predicates = p.where_predicates;
     } };
 
     ghost inverse = { λ g. record {
-        type_or_consts = g.type_or_consts;
-        lifetimes = g.lifetimes;
-        where_predicates = g.predicates;
-        early_bound_lifetimes_len = count_bound EarlyBound g.lifetimes;
+      type_or_consts = g.type_or_consts;
+      lifetimes = g.lifetimes;
+      where_predicates = g.predicates;
+      early_bound_lifetimes_len = count_bound EarlyBound g.lifetimes;
     } };
 
     ghost invariant = { λ p. (p.early_bound_lifetimes_len ≡ count_bound EarlyBound p.lifetimes)
-        × (length p.lifetimes ≤ 4294967295) };
+        × (length p.lifetimes ≤ MOST_ITEMS) };
 }
 
 /// Whether it is a type of this name.

@@ -10,8 +10,8 @@ ghost use Rattle.hir_items.specs.Lookups.{Signed, Embodied, without_source_map};
 use crate::body::Body;
 use crate::body_source_map::BodySourceMap;
 use crate::generic_params::GenericParams;
-use hir_expr_store::{ExpressionStore, Missing};
 use hir_base::{DefWithBodyId, GenericDefId};
+use hir_expr_store::{ExpressionStore, Missing};
 use hir_source::ExpressionStoreSourceMap;
 
 /// The generic parameters of a definition, the store that they name, and where that comes from.

@@ -77,9 +77,11 @@ fn has_predicate(store: &ExpressionStore, predicate: &WherePredicate) -> bool
     ensures { result ≡ all_there store.now.nodes (predicate_calls predicate.now) }
 {
     match predicate {
-        WherePredicate::TypeBound { lifetimes: _, target, bound } => {
-            has_type(store, *target) && store.has_bound(bound)
-        }
+        WherePredicate::TypeBound {
+            lifetimes: _,
+            target,
+            bound,
+        } => { has_type(store, *target) && store.has_bound(bound) }
         WherePredicate::Lifetime { target, bound } => {
             has_lifetime(store, *target) && has_lifetime(store, *bound)
         }
@@ -109,8 +111,15 @@ fn names_paths(store: &ExpressionStore, predicate: &WherePredicate) -> bool
     ensures { result ≡ list_all (is_path_at store.now.nodes.types) (predicate_paths predicate.now) }
 {
     match predicate {
-        WherePredicate::TypeBound { lifetimes: _, target: _, bound } => store.bound_names_path(bound),
-        WherePredicate::Lifetime { target: _, bound: _ } => true,
+        WherePredicate::TypeBound {
+            lifetimes: _,
+            target: _,
+            bound,
+        } => store.bound_names_path(bound),
+        WherePredicate::Lifetime {
+            target: _,
+            bound: _,
+        } => true,
     }
 }
 

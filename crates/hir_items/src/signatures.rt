@@ -7,8 +7,8 @@ ghost use Rattle.hir_items.specs.Signatures.{function_fault, struct_fault, field
 use crate::generic_params::GenericParams;
 use crate::named_ids::{generics_name_paths, has_fields, has_generics, has_type_opt, has_types};
 use crate::signature_fault::{RefusedSignature, SignatureFault, ids_fault};
-use hir_expr_store::ExpressionStore;
 use hir_base::{ExactEq, ExternAbi, ModPath, Name, Seq};
+use hir_expr_store::ExpressionStore;
 use hir_node::{ExprId, TypeRefId};
 use std::marker::Model;
 

@@ -1,6 +1,6 @@
 use Rattle.std.proofs.Common.{sym, ◌∙◌}
 use Rattle.hir_items.specs.Bodies.{body_of}
-use Rattle.hir_items.proofs.BodySound.{fault_is_at_root, root_there}
+use Rattle.hir_items.proofs.BodySound.{fault_is_at_root, root_below}
 use Rattle.hir_items.proofs.body.Body.root_expr.Goals as goal
 
 pub unreachable-requires : goal.unreachable-requires
@@ -9,7 +9,7 @@ unreachable-requires c =
     let e = c.in-None.ensures ∙ at.1 in
     cc
 
-pub returns-in-Some-clause-there : goal.returns-in-Some-clause-there
-returns-in-Some-clause-there c =
-    let store = c.self.inside.store in
-    root_there store (c.roots_stand_apart.ensures store c.has_no_fault.ensures) c.in-Some.root (sym c.in-Some.ensures)
+pub returns-clause-there : goal.returns-clause-there
+returns-clause-there c =
+    let b = body_of c.self.inside.store c.self.inside.params c.self.inside.self_param in
+    root_below b c.self.invariant c.args.self.now c.self.view_is (c.roots_stand_apart.ensures b.store c.has_no_fault.ensures) c.in-Some.root (sym c.in-Some.ensures)
