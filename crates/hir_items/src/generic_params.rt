@@ -39,7 +39,10 @@ impl Drop for GenericParams {
 }
 
 impl Model for GenericParams {
+    ghost use Rattle.std.specs.Prelude.{◌≡◌, ◌≤◌, length};
     ghost use Rattle.hir_base.specs.declared.arena.TheConstants.{MOST_ITEMS};
+    ghost use Rattle.hir_generics.specs.declared.data.LifetimeBoundType.TheVariants.{EarlyBound};
+    ghost use Rattle.hir_items.specs.Generics.{Generics, count_bound};
 
     ghost Value = { Generics };
 

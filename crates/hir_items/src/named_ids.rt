@@ -65,12 +65,7 @@ fn has_param(store: &ExpressionStore, param: &TypeOrConstParamData) -> bool
 fn has_params(store: &ExpressionStore, params: &[TypeOrConstParamData]) -> bool
     ensures { result ≡ list_all (λ p. all_there store.now.nodes (param_calls p)) params.now }
 {
-    for param in params {
-        if !has_param(store, param) {
-            return false;
-        }
-    }
-    true
+    params.iter().all(|param| has_param(store, param))
 }
 
 fn has_predicate(store: &ExpressionStore, predicate: &WherePredicate) -> bool
@@ -91,12 +86,7 @@ fn has_predicate(store: &ExpressionStore, predicate: &WherePredicate) -> bool
 fn has_predicates(store: &ExpressionStore, predicates: &[WherePredicate]) -> bool
     ensures { result ≡ list_all (λ w. all_there store.now.nodes (predicate_calls w)) predicates.now }
 {
-    for predicate in predicates {
-        if !has_predicate(store, predicate) {
-            return false;
-        }
-    }
-    true
+    predicates.iter().all(|predicate| has_predicate(store, predicate))
 }
 
 /// Whether each id of the parameters and predicates is there.
@@ -127,12 +117,7 @@ fn predicates_name_paths(store: &ExpressionStore, predicates: &[WherePredicate])
     ensures { result ≡
         list_all (λ w. list_all (is_path_at store.now.nodes.types) (predicate_paths w)) predicates.now }
 {
-    for predicate in predicates {
-        if !names_paths(store, predicate) {
-            return false;
-        }
-    }
-    true
+    predicates.iter().all(|predicate| names_paths(store, predicate))
 }
 
 /// Whether what the predicates name as paths are paths.
@@ -146,12 +131,7 @@ pub(crate) fn generics_name_paths(store: &ExpressionStore, generics: &GenericPar
 pub(crate) fn has_types(store: &ExpressionStore, ids: &[TypeRefId]) -> bool
     ensures { result ≡ types_there store.now.nodes ids.now }
 {
-    for id in ids {
-        if !has_type(store, *id) {
-            return false;
-        }
-    }
-    true
+    ids.iter().all(|id| has_type(store, *id))
 }
 
 fn has_field(store: &ExpressionStore, field: &FieldData) -> bool
@@ -164,10 +144,5 @@ fn has_field(store: &ExpressionStore, field: &FieldData) -> bool
 pub(crate) fn has_fields(store: &ExpressionStore, fields: &[FieldData]) -> bool
     ensures { result ≡ list_all (λ f. all_there store.now.nodes (field_calls f)) fields.now }
 {
-    for field in fields {
-        if !has_field(store, field) {
-            return false;
-        }
-    }
-    true
+    fields.iter().all(|field| has_field(store, field))
 }
