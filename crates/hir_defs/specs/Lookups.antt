@@ -1,4 +1,5 @@
--- What the tables have for a definition that may have generic parameters, for one that may have a body, and for the owner of a store.
+-- What the tables have for a definition that may have generic parameters, for one that may have a body, and for the
+-- owner of a store.
 use Rattle.std.specs.Prelude.{ℕ, [], ◌∷◌, Option}
 use Rattle.std.specs.Option.{option_map}
 use Rattle.std.specs.FinMap as map
@@ -15,7 +16,7 @@ use Rattle.hir_source.specs.declared.source_map.ExpressionStoreSourceMap.{Expres
 use Rattle.hir_expr_store.specs.Contents.{Contents}
 use Rattle.hir_expr_store.specs.declared.missing.Missing.{Missing}
 use Rattle.hir_expr_store.specs.declared.missing.Missing.TheVariants as missing
-use Rattle.hir_items.specs.Bodies.{BodyParts}
+use Rattle.hir_items.specs.Bodies.{BodyContents}
 use Rattle.hir_items.specs.Generics.{empty}
 use Rattle.hir_items.specs.Lookups.{Signed, Embodied}
 use Rattle.hir_items.specs.declared.body_source_map.BodySourceMap.{BodySourceMap}
@@ -29,7 +30,9 @@ use Rattle.hir_defs.specs.declared.plain_def.PlainDef.TheVariants as plain
 use Rattle.hir_defs.specs.declared.tables.TablesOf.{TablesOf}
 
 abbrev pub Tables : Type 0
-Tables = TablesOf FunctionParts StructParts PlainParts VariantParts BodyParts ExpressionStoreSourceMap BodySourceMap
+Tables =
+    TablesOf
+    FunctionParts StructParts PlainParts VariantParts BodyContents ExpressionStoreSourceMap BodySourceMap
 
 -- what the signature of a function, of a struct and of another definition is looked up for
 abbrev pub function_entry : FunctionParts × ExpressionStoreSourceMap → Signed
@@ -45,7 +48,8 @@ plain_entry e = (e.0.generic_params, e.0.store, e.1)
 abbrev pub value_entry : PlainParts × ExpressionStoreSourceMap → Signed
 value_entry e = (empty, e.0.store, e.1)
 
-abbrev pub of_adt : map.FinMap by_code (StructParts × ExpressionStoreSourceMap) → map.FinMap by_code (PlainParts × ExpressionStoreSourceMap) → AdtId → Option Signed
+abbrev pub of_adt : map.FinMap by_code (StructParts × ExpressionStoreSourceMap)
+    → map.FinMap by_code (PlainParts × ExpressionStoreSourceMap) → AdtId → Option Signed
 of_adt structs plains (adt.EnumId id) = option_map plain_entry (map.get plains (plain_code (plain.Enum id)))
 of_adt structs plains (adt.StructId id) = option_map struct_entry (map.get structs (id ∷ []))
 of_adt structs plains (adt.UnionId id) = option_map plain_entry (map.get plains (plain_code (plain.Union id)))
@@ -58,7 +62,8 @@ signed t (generic.FunctionId id) = option_map function_entry (map.get t.function
 signed t (generic.ImplId id) = option_map plain_entry (map.get t.plains (plain_code (plain.Impl id)))
 signed t (generic.StaticId id) = option_map value_entry (map.get t.plains (plain_code (plain.Static id)))
 signed t (generic.TraitId id) = option_map plain_entry (map.get t.plains (plain_code (plain.Trait id)))
-signed t (generic.TypeAliasId id) = option_map plain_entry (map.get t.plains (plain_code (plain.TypeAlias id)))
+signed t (generic.TypeAliasId id) =
+    option_map plain_entry (map.get t.plains (plain_code (plain.TypeAlias id)))
 
 -- the body of a definition, and where it comes from
 abbrev pub embodied : Tables → DefWithBodyId → Option Embodied
@@ -71,7 +76,8 @@ without_params s = (s.1, s.2)
 abbrev pub owned : Tables → ExpressionStoreOwnerId → Option (Contents × ExpressionStoreSourceMap)
 owned t (owner.Signature def) = option_map without_params (signed t def)
 owned t (owner.Body def) = option_map (λ e. (e.0.store, e.1.store)) (embodied t def)
-owned t (owner.VariantFields variant) = option_map (λ e. (e.0.store, e.1)) (map.get t.fields (fields_code variant))
+owned t (owner.VariantFields variant) =
+    option_map (λ e. (e.0.store, e.1)) (map.get t.fields (fields_code variant))
 
 -- what is missing where an owner has no entry
 abbrev pub missing_owner : ExpressionStoreOwnerId → Missing

@@ -19,7 +19,9 @@ plain_code (plain.Trait id) = 5 ∷ id ∷ []
 plain_code (plain.TypeAlias id) = 6 ∷ id ∷ []
 
 plain_makers : List (ℕ → PlainDef)
-plain_makers = (λ id. plain.Enum id) ∷ (λ id. plain.Union id) ∷ (λ id. plain.Const id) ∷ (λ id. plain.Static id) ∷ (λ id. plain.Impl id) ∷ (λ id. plain.Trait id) ∷ (λ id. plain.TypeAlias id) ∷ []
+plain_makers =
+    (λ id. plain.Enum id) ∷ (λ id. plain.Union id) ∷ (λ id. plain.Const id) ∷ (λ id. plain.Static id)
+    ∷ (λ id. plain.Impl id) ∷ (λ id. plain.Trait id) ∷ (λ id. plain.TypeAlias id) ∷ []
 
 plain_back : List ℕ → Option PlainDef
 plain_back (kind ∷ id ∷ []) = option_map (λ make. make id) (slice_get plain_makers kind)

@@ -9,10 +9,10 @@ mod plain_def;
 mod tables;
 
 pub use hir_items::{
-    Bodies, Body, BodyFault, BodySourceMap, BoundLifetimes, ConstParamData, FieldData, FieldsShape,
+    Bodies, Body, BodyEntry, BodyFault, BodySourceMap, BoundLifetimes, ConstParamData, FieldData, FieldsShape,
     FunctionParts, FunctionSignature, GenericParamData, GenericParamDataRef, GenericParams,
     LifetimeBoundType, LifetimeParamData, LocalLifetimeParamId, LocalTypeOrConstParamId, Param,
-    PlainParts, PlainSignature, RawVisibility, RefusedBody, RefusedSignature, SignatureFault,
+    PlainParts, PlainSignature, RawVisibility, RefusedBody, RefusedSignature, SignatureEntry, SignatureFault,
     Signatures, StructParts, StructSignature, TypeOrConstParamData, TypeParamData,
     TypeParamProvenance, VariantFields, VariantParts, WherePredicate, body_laws, generic_laws,
 };

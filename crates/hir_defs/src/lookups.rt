@@ -21,7 +21,7 @@ use hir_base::{
     AdtId, DefWithBodyId, ExpressionStoreOwnerId, FunctionId, GenericDefId, StructId, Table,
 };
 use hir_items::{
-    Bodies, Body, BodySourceMap, FunctionSignature, GenericParams, PlainSignature, Signatures,
+    Bodies, BodyEntry, FunctionSignature, PlainSignature, SignatureEntry, Signatures,
     StructSignature,
 };
 use hir_source::ExpressionStoreSourceMap;
@@ -29,16 +29,12 @@ use hir_source::ExpressionStoreSourceMap;
 fn of_function<'a>(
     functions: &'a Table<FunctionId, (FunctionSignature, ExpressionStoreSourceMap)>,
     id: FunctionId,
-) -> Result<
-    (
-        &'a GenericParams,
-        &'a ExpressionStore,
-        &'a ExpressionStoreSourceMap,
-    ),
-    Missing,
->
-    ensures found { IfOk result (λ found. option_map function_entry (map.get functions.now (id ∷ [])) ≡ Some (found.0.now, found.1.now, found.2.now)) }
-    ensures absent { IfErr result (λ absent. (absent ≡ missing.Signature (generic.FunctionId id)) × (map.get functions.now (id ∷ []) ≡ None)) }
+) -> Result<SignatureEntry<'a>, Missing>
+    ensures found { IfOk result (λ found.
+        option_map function_entry (map.get functions.now (id ∷ []))
+        ≡ Some (found.0.now, found.1.now, found.2.now)) }
+    ensures absent { IfErr result (λ absent.
+        (absent ≡ missing.Signature (generic.FunctionId id)) × (map.get functions.now (id ∷ []) ≡ None)) }
 {
     let wanted = Missing::Signature(GenericDefId::FunctionId(id));
     let (signature, source_map) = entry(functions, &id, wanted)?;
@@ -48,16 +44,13 @@ fn of_function<'a>(
 fn of_struct<'a>(
     structs: &'a Table<StructId, (StructSignature, ExpressionStoreSourceMap)>,
     id: StructId,
-) -> Result<
-    (
-        &'a GenericParams,
-        &'a ExpressionStore,
-        &'a ExpressionStoreSourceMap,
-    ),
-    Missing,
->
-    ensures found { IfOk result (λ found. option_map struct_entry (map.get structs.now (id ∷ [])) ≡ Some (found.0.now, found.1.now, found.2.now)) }
-    ensures absent { IfErr result (λ absent. (absent ≡ missing.Signature (generic.AdtId (adt.StructId id))) × (map.get structs.now (id ∷ []) ≡ None)) }
+) -> Result<SignatureEntry<'a>, Missing>
+    ensures found { IfOk result (λ found.
+        option_map struct_entry (map.get structs.now (id ∷ []))
+        ≡ Some (found.0.now, found.1.now, found.2.now)) }
+    ensures absent { IfErr result (λ absent.
+        (absent ≡ missing.Signature (generic.AdtId (adt.StructId id)))
+        × (map.get structs.now (id ∷ []) ≡ None)) }
 {
     let wanted = Missing::Signature(GenericDefId::AdtId(AdtId::StructId(id)));
     let (signature, source_map) = entry(structs, &id, wanted)?;
@@ -67,16 +60,12 @@ fn of_struct<'a>(
 fn of_plain<'a>(
     plains: &'a Table<PlainDef, (PlainSignature, ExpressionStoreSourceMap)>,
     def: PlainDef,
-) -> Result<
-    (
-        &'a GenericParams,
-        &'a ExpressionStore,
-        &'a ExpressionStoreSourceMap,
-    ),
-    Missing,
->
-    ensures found { IfOk result (λ found. option_map plain_entry (map.get plains.now (plain_code def)) ≡ Some (found.0.now, found.1.now, found.2.now)) }
-    ensures absent { IfErr result (λ absent. (absent ≡ missing.Signature (generic_def def)) × (map.get plains.now (plain_code def) ≡ None)) }
+) -> Result<SignatureEntry<'a>, Missing>
+    ensures found { IfOk result (λ found.
+        option_map plain_entry (map.get plains.now (plain_code def))
+        ≡ Some (found.0.now, found.1.now, found.2.now)) }
+    ensures absent { IfErr result (λ absent.
+        (absent ≡ missing.Signature (generic_def def)) × (map.get plains.now (plain_code def) ≡ None)) }
 {
     let wanted = Missing::Signature(def.generic_def());
     let (signature, source_map) = entry(plains, &def, wanted)?;
@@ -88,16 +77,12 @@ fn of_value<'a>(
     plains: &'a Table<PlainDef, (PlainSignature, ExpressionStoreSourceMap)>,
     no_generics: &'a NoGenerics,
     def: PlainDef,
-) -> Result<
-    (
-        &'a GenericParams,
-        &'a ExpressionStore,
-        &'a ExpressionStoreSourceMap,
-    ),
-    Missing,
->
-    ensures found { IfOk result (λ found. option_map value_entry (map.get plains.now (plain_code def)) ≡ Some (found.0.now, found.1.now, found.2.now)) }
-    ensures absent { IfErr result (λ absent. (absent ≡ missing.Signature (generic_def def)) × (map.get plains.now (plain_code def) ≡ None)) }
+) -> Result<SignatureEntry<'a>, Missing>
+    ensures found { IfOk result (λ found.
+        option_map value_entry (map.get plains.now (plain_code def))
+        ≡ Some (found.0.now, found.1.now, found.2.now)) }
+    ensures absent { IfErr result (λ absent.
+        (absent ≡ missing.Signature (generic_def def)) × (map.get plains.now (plain_code def) ≡ None)) }
 {
     let wanted = Missing::Signature(def.generic_def());
     let (signature, source_map) = entry(plains, &def, wanted)?;
@@ -108,16 +93,11 @@ fn of_adt<'a>(
     structs: &'a Table<StructId, (StructSignature, ExpressionStoreSourceMap)>,
     plains: &'a Table<PlainDef, (PlainSignature, ExpressionStoreSourceMap)>,
     id: AdtId,
-) -> Result<
-    (
-        &'a GenericParams,
-        &'a ExpressionStore,
-        &'a ExpressionStoreSourceMap,
-    ),
-    Missing,
->
-    ensures found { IfOk result (λ found. of_adt structs.now plains.now id ≡ Some (found.0.now, found.1.now, found.2.now)) }
-    ensures absent { IfErr result (λ absent. (absent ≡ missing.Signature (generic.AdtId id)) × (of_adt structs.now plains.now id ≡ None)) }
+) -> Result<SignatureEntry<'a>, Missing>
+    ensures found { IfOk result (λ found.
+        of_adt structs.now plains.now id ≡ Some (found.0.now, found.1.now, found.2.now)) }
+    ensures absent { IfErr result (λ absent.
+        (absent ≡ missing.Signature (generic.AdtId id)) × (of_adt structs.now plains.now id ≡ None)) }
 {
     match id {
         AdtId::EnumId(id) => of_plain(plains, PlainDef::Enum(id)),
@@ -131,10 +111,7 @@ impl Signatures for Tables {
 
     ghost signed = { signed };
 
-    fn signature_of(
-        &self,
-        def: GenericDefId,
-    ) -> Result<(&GenericParams, &ExpressionStore, &ExpressionStoreSourceMap), Missing> {
+    fn signature_of(&self, def: GenericDefId) -> Result<SignatureEntry<'_>, Missing> {
         let plains = &self.plains;
         match def {
             GenericDefId::AdtId(id) => of_adt(&self.structs, plains, id),
@@ -153,7 +130,7 @@ impl Bodies for Tables {
 
     ghost embodied = { embodied };
 
-    fn body_of(&self, def: DefWithBodyId) -> Result<(&Body, &BodySourceMap), Missing> {
+    fn body_of(&self, def: DefWithBodyId) -> Result<BodyEntry<'_>, Missing> {
         let wanted = Missing::Body(def);
         let (body, source_map) = entry(&self.bodies, &def, wanted)?;
         Ok((body, source_map))
@@ -170,8 +147,10 @@ pub trait StoreOf {
     /// Where the tables have nothing of the owner, answers `Missing::Signature` or `Missing::Body` of its definition, or
     /// `Missing::Fields` of its variant, as the owner is.
     fn of(tables: &Tables, owner: ExpressionStoreOwnerId) -> Result<&Self, Missing>
-        ensures found { IfOk result (λ found. option_map (λ e. e.0) (entry tables.now owner) ≡ Some found.now) }
-        ensures absent { IfErr result (λ absent. (absent ≡ missing_owner owner) × (entry tables.now owner ≡ None)) };
+        ensures found { IfOk result (λ found.
+            option_map (λ e. e.0) (entry tables.now owner) ≡ Some found.now) }
+        ensures absent { IfErr result (λ absent.
+            (absent ≡ missing_owner owner) × (entry tables.now owner ≡ None)) };
 
     /// The store of the owner, and where it comes from.
     ///
@@ -182,7 +161,8 @@ pub trait StoreOf {
         owner: ExpressionStoreOwnerId,
     ) -> Result<(&Self, &ExpressionStoreSourceMap), Missing>
         ensures found { IfOk result (λ found. entry tables.now owner ≡ Some (found.0.now, found.1.now)) }
-        ensures absent { IfErr result (λ absent. (absent ≡ missing_owner owner) × (entry tables.now owner ≡ None)) };
+        ensures absent { IfErr result (λ absent.
+            (absent ≡ missing_owner owner) × (entry tables.now owner ≡ None)) };
 }
 
 impl StoreOf for ExpressionStore {

@@ -4,11 +4,12 @@ ghost use Rattle.std.specs.Prelude.{◌≡◌, ◌∷◌, [], None, Some, IfOk, 
 ghost use Rattle.std.specs.Option.{option_map, option_copied};
 ghost use Rattle.std.specs.FinMap as map;
 ghost use Rattle.hir_base.specs.Keys.{named_code, fields_code, body_code};
-ghost use Rattle.hir_base.specs.RawWords.{no_words, words_of, with_words};
+ghost use Rattle.hir_base.specs.RawWords.{words_of, with_words};
 ghost use Rattle.hir_base.specs.declared.defs.GenericDefId.TheVariants as generic;
 ghost use Rattle.hir_base.specs.declared.defs.AdtId.TheVariants as adt;
 ghost use Rattle.hir_expr_store.specs.declared.missing.Missing.TheVariants as missing;
 ghost use Rattle.hir_defs.specs.Tables.{plain_code, generic_def};
+ghost use Rattle.hir_defs.specs.NoTables.{no_tables};
 
 use crate::no_generics::NoGenerics;
 use crate::plain_def::{PlainDef, Repr};
@@ -70,20 +71,6 @@ impl<F: Drop, S: Drop, P: Drop, V: Drop, B: Drop, M: Drop, N: Drop> Drop
     }
 }
 
-/// Gives the key this value, in the place of the one that it had.
-fn put<K: Keyed + Drop, V: Drop>(
-    table: &mut Table<K, V>,
-    key: K,
-    value: V,
-) -> Result<(), AllocFailed<(K, V)>>
-    ensures ok { OnOk result (table.new ≡ map.insert table.old (K.code key) value) }
-    ensures err { OnErr result (table.new ≡ table.old) }
-    ensures value_returned { IfErr result (λ failed. failed.value ≡ (key, value)) }
-{
-    table.insert(key, value)?;
-    Ok(())
-}
-
 /// The value of this key. Answers `wanted`, as what is missing, where it has none.
 ///
 /// It is lent one table, since what is lent all of them is dear to prove.
@@ -93,7 +80,8 @@ pub(crate) fn entry<'a, K: Keyed, V>(
     wanted: Missing,
 ) -> Result<&'a V, Missing>
     ensures found { IfOk result (λ found. map.get table.now (K.code key.now) ≡ Some found.now) }
-    ensures absent { IfErr result (λ absent. (absent ≡ wanted) × (map.get table.now (K.code key.now) ≡ None)) }
+    ensures absent { IfErr result (λ absent.
+        (absent ≡ wanted) × (map.get table.now (K.code key.now) ≡ None)) }
 {
     match table.get(key) {
         Some(found) => Ok(found),
@@ -104,7 +92,7 @@ pub(crate) fn entry<'a, K: Keyed, V>(
 impl<F: Drop, S: Drop, P: Drop, V: Drop, B: Drop, M: Drop, N: Drop> TablesOf<F, S, P, V, B, M, N> {
     /// Tables without an entry. It takes no memory.
     pub fn new(alloc: Global) -> TablesOf<F, S, P, V, B, M, N>
-        ensures { result ≡ record { names = map.empty; variant_parents = map.empty; functions = map.empty; structs = map.empty; plains = map.empty; fields = map.empty; bodies = map.empty; crate_names = map.empty; reprs = map.empty; words = no_words; no_generics = tt } }
+        ensures { result ≡ no_tables }
     {
         TablesOf {
             names: Table::new(alloc),
@@ -129,11 +117,12 @@ impl<F: Drop, S: Drop, P: Drop, V: Drop, B: Drop, M: Drop, N: Drop> TablesOf<F, 
         def: NamedDef,
         name: Option<Text>,
     ) -> Result<(), AllocFailed<(NamedDef, Option<Text>)>>
-        ensures ok { OnOk result (self.new ≡ record self.old { names = map.insert self.old.names (named_code def) name }) }
+        ensures ok { OnOk result (self.new ≡
+            record self.old { names = map.insert self.old.names (named_code def) name }) }
         ensures err { OnErr result (self.new ≡ self.old) }
         ensures value_returned { IfErr result (λ failed. failed.value ≡ (def, name)) }
     {
-        put(&mut self.names, def, name)
+        self.names.put(def, name)
     }
 
     /// Says of which enum the variant is.
@@ -144,11 +133,12 @@ impl<F: Drop, S: Drop, P: Drop, V: Drop, B: Drop, M: Drop, N: Drop> TablesOf<F, 
         variant: EnumVariantId,
         parent: EnumId,
     ) -> Result<(), AllocFailed<(EnumVariantId, EnumId)>>
-        ensures ok { OnOk result (self.new ≡ record self.old { variant_parents = map.insert self.old.variant_parents (variant ∷ []) parent }) }
+        ensures ok { OnOk result (self.new ≡
+            record self.old { variant_parents = map.insert self.old.variant_parents (variant ∷ []) parent }) }
         ensures err { OnErr result (self.new ≡ self.old) }
         ensures value_returned { IfErr result (λ failed. failed.value ≡ (variant, parent)) }
     {
-        put(&mut self.variant_parents, variant, parent)
+        self.variant_parents.put(variant, parent)
     }
 
     /// Gives the crate this name, or says that it has none.
@@ -159,11 +149,12 @@ impl<F: Drop, S: Drop, P: Drop, V: Drop, B: Drop, M: Drop, N: Drop> TablesOf<F, 
         id: CrateId,
         name: Option<Text>,
     ) -> Result<(), AllocFailed<(CrateId, Option<Text>)>>
-        ensures ok { OnOk result (self.new ≡ record self.old { crate_names = map.insert self.old.crate_names (id ∷ []) name }) }
+        ensures ok { OnOk result (self.new ≡
+            record self.old { crate_names = map.insert self.old.crate_names (id ∷ []) name }) }
         ensures err { OnErr result (self.new ≡ self.old) }
         ensures value_returned { IfErr result (λ failed. failed.value ≡ (id, name)) }
     {
-        put(&mut self.crate_names, id, name)
+        self.crate_names.put(id, name)
     }
 
     /// Says how the struct lies in memory.
@@ -174,11 +165,12 @@ impl<F: Drop, S: Drop, P: Drop, V: Drop, B: Drop, M: Drop, N: Drop> TablesOf<F, 
         id: StructId,
         repr: Repr,
     ) -> Result<(), AllocFailed<(StructId, Repr)>>
-        ensures ok { OnOk result (self.new ≡ record self.old { reprs = map.insert self.old.reprs (id ∷ []) repr }) }
+        ensures ok { OnOk result (self.new ≡
+            record self.old { reprs = map.insert self.old.reprs (id ∷ []) repr }) }
         ensures err { OnErr result (self.new ≡ self.old) }
         ensures value_returned { IfErr result (λ failed. failed.value ≡ (id, repr)) }
     {
-        put(&mut self.reprs, id, repr)
+        self.reprs.put(id, repr)
     }
 
     /// Gives the function this signature.
@@ -190,11 +182,12 @@ impl<F: Drop, S: Drop, P: Drop, V: Drop, B: Drop, M: Drop, N: Drop> TablesOf<F, 
         signature: F,
         source_map: M,
     ) -> Result<(), AllocFailed<(FunctionId, (F, M))>>
-        ensures ok { OnOk result (self.new ≡ record self.old { functions = map.insert self.old.functions (id ∷ []) (signature, source_map) }) }
+        ensures ok { OnOk result (self.new ≡
+            record self.old { functions = map.insert self.old.functions (id ∷ []) (signature, source_map) }) }
         ensures err { OnErr result (self.new ≡ self.old) }
         ensures value_returned { IfErr result (λ failed. failed.value ≡ (id, (signature, source_map))) }
     {
-        put(&mut self.functions, id, (signature, source_map))
+        self.functions.put(id, (signature, source_map))
     }
 
     /// Gives the struct this signature.
@@ -206,11 +199,12 @@ impl<F: Drop, S: Drop, P: Drop, V: Drop, B: Drop, M: Drop, N: Drop> TablesOf<F, 
         signature: S,
         source_map: M,
     ) -> Result<(), AllocFailed<(StructId, (S, M))>>
-        ensures ok { OnOk result (self.new ≡ record self.old { structs = map.insert self.old.structs (id ∷ []) (signature, source_map) }) }
+        ensures ok { OnOk result (self.new ≡
+            record self.old { structs = map.insert self.old.structs (id ∷ []) (signature, source_map) }) }
         ensures err { OnErr result (self.new ≡ self.old) }
         ensures value_returned { IfErr result (λ failed. failed.value ≡ (id, (signature, source_map))) }
     {
-        put(&mut self.structs, id, (signature, source_map))
+        self.structs.put(id, (signature, source_map))
     }
 
     /// Gives the definition this signature.
@@ -222,11 +216,12 @@ impl<F: Drop, S: Drop, P: Drop, V: Drop, B: Drop, M: Drop, N: Drop> TablesOf<F, 
         signature: P,
         source_map: M,
     ) -> Result<(), AllocFailed<(PlainDef, (P, M))>>
-        ensures ok { OnOk result (self.new ≡ record self.old { plains = map.insert self.old.plains (plain_code def) (signature, source_map) }) }
+        ensures ok { OnOk result (self.new ≡ record self.old {
+            plains = map.insert self.old.plains (plain_code def) (signature, source_map) }) }
         ensures err { OnErr result (self.new ≡ self.old) }
         ensures value_returned { IfErr result (λ failed. failed.value ≡ (def, (signature, source_map))) }
     {
-        put(&mut self.plains, def, (signature, source_map))
+        self.plains.put(def, (signature, source_map))
     }
 
     /// Gives the struct, the union or the variant these fields.
@@ -238,11 +233,12 @@ impl<F: Drop, S: Drop, P: Drop, V: Drop, B: Drop, M: Drop, N: Drop> TablesOf<F, 
         fields: V,
         source_map: M,
     ) -> Result<(), AllocFailed<(VariantId, (V, M))>>
-        ensures ok { OnOk result (self.new ≡ record self.old { fields = map.insert self.old.fields (fields_code variant) (fields, source_map) }) }
+        ensures ok { OnOk result (self.new ≡ record self.old {
+            fields = map.insert self.old.fields (fields_code variant) (fields, source_map) }) }
         ensures err { OnErr result (self.new ≡ self.old) }
         ensures value_returned { IfErr result (λ failed. failed.value ≡ (variant, (fields, source_map))) }
     {
-        put(&mut self.fields, variant, (fields, source_map))
+        self.fields.put(variant, (fields, source_map))
     }
 
     /// Gives the definition this body.
@@ -254,11 +250,12 @@ impl<F: Drop, S: Drop, P: Drop, V: Drop, B: Drop, M: Drop, N: Drop> TablesOf<F, 
         body: B,
         source_map: N,
     ) -> Result<(), AllocFailed<(DefWithBodyId, (B, N))>>
-        ensures ok { OnOk result (self.new ≡ record self.old { bodies = map.insert self.old.bodies (body_code def) (body, source_map) }) }
+        ensures ok { OnOk result (self.new ≡
+            record self.old { bodies = map.insert self.old.bodies (body_code def) (body, source_map) }) }
         ensures err { OnErr result (self.new ≡ self.old) }
         ensures value_returned { IfErr result (λ failed. failed.value ≡ (def, (body, source_map))) }
     {
-        put(&mut self.bodies, def, (body, source_map))
+        self.bodies.put(def, (body, source_map))
     }
 
     /// Gives the edition these words that are written with `r#`, in place of the ones that it had.
@@ -286,8 +283,10 @@ impl<F: Drop, S: Drop, P: Drop, V: Drop, B: Drop, M: Drop, N: Drop> TablesOf<F, 
     ///
     /// Answers `Missing::Name` of the definition where the tables don't say whether it has a name.
     pub fn name(&self, def: NamedDef) -> Result<Option<&Text>, Missing>
-        ensures found { IfOk result (λ found. map.get self.now.names (named_code def) ≡ Some (option_copied found)) }
-        ensures absent { IfErr result (λ absent. (absent ≡ missing.Name def) × (map.get self.now.names (named_code def) ≡ None)) }
+        ensures found { IfOk result (λ found.
+            map.get self.now.names (named_code def) ≡ Some (option_copied found)) }
+        ensures absent { IfErr result (λ absent.
+            (absent ≡ missing.Name def) × (map.get self.now.names (named_code def) ≡ None)) }
     {
         let wanted = Missing::Name(def);
         let found = entry(&self.names, &def, wanted)?;
@@ -298,8 +297,10 @@ impl<F: Drop, S: Drop, P: Drop, V: Drop, B: Drop, M: Drop, N: Drop> TablesOf<F, 
     ///
     /// Answers `Missing::Variant` of the variant where the tables don't say of which enum it is.
     pub fn variant_parent(&self, variant: EnumVariantId) -> Result<EnumId, Missing>
-        ensures found { IfOk result (λ found. map.get self.now.variant_parents (variant ∷ []) ≡ Some (found)) }
-        ensures absent { IfErr result (λ absent. (absent ≡ missing.Variant variant) × (map.get self.now.variant_parents (variant ∷ []) ≡ None)) }
+        ensures found { IfOk result (λ found.
+            map.get self.now.variant_parents (variant ∷ []) ≡ Some found) }
+        ensures absent { IfErr result (λ absent.
+            (absent ≡ missing.Variant variant) × (map.get self.now.variant_parents (variant ∷ []) ≡ None)) }
     {
         let wanted = Missing::Variant(variant);
         let found = entry(&self.variant_parents, &variant, wanted)?;
@@ -310,8 +311,10 @@ impl<F: Drop, S: Drop, P: Drop, V: Drop, B: Drop, M: Drop, N: Drop> TablesOf<F, 
     ///
     /// Answers `Missing::Crate` of the crate where the tables don't say whether it has a name.
     pub fn crate_name(&self, id: CrateId) -> Result<Option<&Text>, Missing>
-        ensures found { IfOk result (λ found. map.get self.now.crate_names (id ∷ []) ≡ Some (option_copied found)) }
-        ensures absent { IfErr result (λ absent. (absent ≡ missing.Crate id) × (map.get self.now.crate_names (id ∷ []) ≡ None)) }
+        ensures found { IfOk result (λ found.
+            map.get self.now.crate_names (id ∷ []) ≡ Some (option_copied found)) }
+        ensures absent { IfErr result (λ absent.
+            (absent ≡ missing.Crate id) × (map.get self.now.crate_names (id ∷ []) ≡ None)) }
     {
         let wanted = Missing::Crate(id);
         let found = entry(&self.crate_names, &id, wanted)?;
@@ -322,8 +325,11 @@ impl<F: Drop, S: Drop, P: Drop, V: Drop, B: Drop, M: Drop, N: Drop> TablesOf<F, 
     ///
     /// Answers `Missing::Signature` of the function where the tables have none of it.
     pub fn function_signature(&self, id: FunctionId) -> Result<&F, Missing>
-        ensures found { IfOk result (λ found. option_map (λ entry. entry.0) (map.get self.now.functions (id ∷ [])) ≡ Some found.now) }
-        ensures absent { IfErr result (λ absent. (absent ≡ missing.Signature (generic.FunctionId id)) × (map.get self.now.functions (id ∷ []) ≡ None)) }
+        ensures found { IfOk result (λ found.
+            option_map (λ entry. entry.0) (map.get self.now.functions (id ∷ [])) ≡ Some found.now) }
+        ensures absent { IfErr result (λ absent.
+            (absent ≡ missing.Signature (generic.FunctionId id))
+            × (map.get self.now.functions (id ∷ []) ≡ None)) }
     {
         let wanted = Missing::Signature(GenericDefId::FunctionId(id));
         let (found, _) = entry(&self.functions, &id, wanted)?;
@@ -334,8 +340,11 @@ impl<F: Drop, S: Drop, P: Drop, V: Drop, B: Drop, M: Drop, N: Drop> TablesOf<F, 
     ///
     /// Answers `Missing::Signature` of the struct where the tables have none of it.
     pub fn struct_signature(&self, id: StructId) -> Result<&S, Missing>
-        ensures found { IfOk result (λ found. option_map (λ entry. entry.0) (map.get self.now.structs (id ∷ [])) ≡ Some found.now) }
-        ensures absent { IfErr result (λ absent. (absent ≡ missing.Signature (generic.AdtId (adt.StructId id))) × (map.get self.now.structs (id ∷ []) ≡ None)) }
+        ensures found { IfOk result (λ found.
+            option_map (λ entry. entry.0) (map.get self.now.structs (id ∷ [])) ≡ Some found.now) }
+        ensures absent { IfErr result (λ absent.
+            (absent ≡ missing.Signature (generic.AdtId (adt.StructId id)))
+            × (map.get self.now.structs (id ∷ []) ≡ None)) }
     {
         let wanted = Missing::Signature(GenericDefId::AdtId(AdtId::StructId(id)));
         let (found, _) = entry(&self.structs, &id, wanted)?;
@@ -346,8 +355,11 @@ impl<F: Drop, S: Drop, P: Drop, V: Drop, B: Drop, M: Drop, N: Drop> TablesOf<F, 
     ///
     /// Answers `Missing::Signature` of the definition where the tables have none of it.
     pub fn plain_signature(&self, def: PlainDef) -> Result<&P, Missing>
-        ensures found { IfOk result (λ found. option_map (λ entry. entry.0) (map.get self.now.plains (plain_code def)) ≡ Some found.now) }
-        ensures absent { IfErr result (λ absent. (absent ≡ missing.Signature (generic_def def)) × (map.get self.now.plains (plain_code def) ≡ None)) }
+        ensures found { IfOk result (λ found.
+            option_map (λ entry. entry.0) (map.get self.now.plains (plain_code def)) ≡ Some found.now) }
+        ensures absent { IfErr result (λ absent.
+            (absent ≡ missing.Signature (generic_def def))
+            × (map.get self.now.plains (plain_code def) ≡ None)) }
     {
         let wanted = Missing::Signature(def.generic_def());
         let (found, _) = entry(&self.plains, &def, wanted)?;
@@ -358,8 +370,10 @@ impl<F: Drop, S: Drop, P: Drop, V: Drop, B: Drop, M: Drop, N: Drop> TablesOf<F, 
     ///
     /// Answers `Missing::Fields` of the struct, the union or the variant where the tables have none of it.
     pub fn variant_fields(&self, variant: VariantId) -> Result<&V, Missing>
-        ensures found { IfOk result (λ found. option_map (λ entry. entry.0) (map.get self.now.fields (fields_code variant)) ≡ Some found.now) }
-        ensures absent { IfErr result (λ absent. (absent ≡ missing.Fields variant) × (map.get self.now.fields (fields_code variant) ≡ None)) }
+        ensures found { IfOk result (λ found.
+            option_map (λ entry. entry.0) (map.get self.now.fields (fields_code variant)) ≡ Some found.now) }
+        ensures absent { IfErr result (λ absent.
+            (absent ≡ missing.Fields variant) × (map.get self.now.fields (fields_code variant) ≡ None)) }
     {
         let wanted = Missing::Fields(variant);
         let (found, _) = entry(&self.fields, &variant, wanted)?;

@@ -1,3 +1,2 @@
 pub mod Params
-pub mod Same
-pub mod SameParams
+pub mod same

@@ -35,7 +35,7 @@ pub struct TypeParamData {
 }
 
 impl ExactEq for TypeParamData {
-    ghost use Rattle.hir_generics.specs.Same.{type_params_decide};
+    ghost use Rattle.hir_generics.specs.same.SameData.{type_params_decide};
 
     ghost eq_decides = { type_params_decide };
 }

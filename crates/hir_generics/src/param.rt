@@ -95,7 +95,7 @@ impl From<ConstParamData> for TypeOrConstParamData {
 }
 
 impl ExactEq for TypeOrConstParamData {
-    ghost use Rattle.hir_generics.specs.SameParams.{kinds};
+    ghost use Rattle.hir_generics.specs.same.SameParams.{kinds};
 
     ghost eq_decides = { Prim.search kinds };
 }
@@ -191,7 +191,7 @@ impl From<LifetimeParamData> for GenericParamData {
 }
 
 impl ExactEq for GenericParamData {
-    ghost use Rattle.hir_generics.specs.SameParams.{kinds};
+    ghost use Rattle.hir_generics.specs.same.SameParams.{kinds};
 
     ghost eq_decides = { Prim.search kinds };
 }

@@ -23,7 +23,7 @@ pub enum WherePredicate {
 }
 
 impl ExactEq for WherePredicate {
-    ghost use Rattle.hir_generics.specs.Same.{predicates_decide};
+    ghost use Rattle.hir_generics.specs.same.SameData.{predicates_decide};
 
     ghost eq_decides = { predicates_decide };
 }

@@ -12,7 +12,7 @@ use Rattle.hir_expr_store.specs.NodeSets.{Marked, IsIn, Gains}
 use Rattle.hir_items.specs.declared.formals.Param.{Param}
 use Rattle.hir_items.specs.declared.body_fault.BodyFault.{BodyFault}
 use Rattle.hir_items.specs.declared.body_fault.BodyFault.TheVariants.{NoRoot, SelfOutOfRange, ParamOutOfRange, ParamRepeated, ParamUnder, RootInParam}
-use Rattle.hir_items.specs.Bodies.{BodyParts, formals_of, user_written_of, last_root, fault_at_root, apart_fault, body_fault, GainsAll}
+use Rattle.hir_items.specs.Bodies.{BodyContents, formals_of, user_written_of, last_root, fault_at_root, apart_fault, body_fault, GainsAll}
 
 pub read_at : {X : Type 0} (f : X → ℕ) (xs : List X) (i : ℕ) (x : X) → i < length xs → x ≡ get_or xs i x → get_or (map f xs) i 0 ≡ f x
 read_at f xs i x h e = get_or-map f xs i x 0 h ∙ ap f (sym e)
@@ -43,14 +43,14 @@ gains_more old now new xs i x h e all one = (
 )
 
 -- a body's parts have one first fault at most
-fault_at_root-one : (b : BodyParts) (root : Option ℕ) → IsOne (fault_at_root b root)
+fault_at_root-one : (b : BodyContents) (root : Option ℕ) → IsOne (fault_at_root b root)
 unfolding apart_fault
 fault_at_root-one b None f g h k = h ∙ sym k
 fault_at_root-one b (Some root) f g h k =
     before-one _ _ (unless-one _ _) (before-one _ _ (first_below-one _ _ (λ i. unless-one _ _))
     (before-one _ _ (first_below-one _ _ (λ i. unless-one _ _)) (before-one _ _ (first_below-one _ _ (λ i. unless-one _ _)) (unless-one _ _)))) f g h k
 
-pub body_fault-one : (b : BodyParts) → IsOne (body_fault b)
+pub body_fault-one : (b : BodyContents) → IsOne (body_fault b)
 unfolding body_fault
 body_fault-one b = fault_at_root-one b (last_root b.store)
 

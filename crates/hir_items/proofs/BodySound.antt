@@ -14,25 +14,40 @@ use Rattle.hir_faults.specs.Nodes.{Nodes, Has, sizes_of}
 use Rattle.hir_expr_store.specs.Contents.{Contents, rooted_of, contents_fault}
 use Rattle.hir_expr_store.specs.Under.{Under, LiesUnderOther, LieApart}
 use Rattle.hir_expr_store.specs.NodeSets.{Marked, IsIn, Gains}
-use Rattle.hir_faults.proofs.SoundLemmas.{item_within, roots_apart}
-use Rattle.hir_expr_store.proofs.UnderLemmas.{under_two}
+use Rattle.hir_faults.specs.Sound.{RootsStandApart}
 use Rattle.hir_items.specs.declared.formals.Param.{Param}
 use Rattle.hir_items.specs.declared.body_fault.BodyFault.{BodyFault}
 use Rattle.hir_items.specs.declared.body_fault.BodyFault.TheVariants.{NoRoot, SelfOutOfRange, ParamOutOfRange, ParamRepeated, ParamUnder, RootInParam}
-use Rattle.hir_items.specs.Bodies.{BodyParts, formals_of, user_written_of, last_root, tops_of, tops, AreBelow, range_fault, repeated_fault, under_fault, fault_at_root, apart_fault, body_fault, GainsAll}
+use Rattle.hir_items.specs.Bodies.{BodyContents, formals_of, user_written_of, last_root, tops_of, tops, AreBelow, range_fault, repeated_fault, under_fault, fault_at_root, apart_fault, body_fault, GainsAll}
 use Rattle.hir_items.proofs.BodyLemmas.{pat_of_node, node_of_pat}
 
+item_within : {X : Type 0} (xs : List X) (i : ℕ) (x : X) → slice_get xs i ≡ Some x → i < length xs
+item_within [] i x e = absurd (cc)
+item_within (y ∷ ys) zero x e = omega arith
+item_within (y ∷ ys) (suc i) x e = let h = item_within ys i x e in omega arith
+
+-- where a node lies under two nodes, one of the two lies under the other
+abbrev pub OneIsUnderOther : Nodes → Type 0
+OneIsUnderOther s = (n a b : NodeId) → Has s a → Has s b → Under s n a → Under s n b → Under s a b ⊎ Under s b a
+
 -- the last root is an expression that is there
-pub root_there : (c : Contents) → contents_fault c None → (root : ℕ) → last_root c ≡ Some root → root < length c.nodes.exprs
-root_there c sound root e =
+pub root_there : (c : Contents) → RootsStandApart (rooted_of c) → (root : ℕ) → last_root c ≡ Some root → root < length c.nodes.exprs
+root_there c stand root e =
     let xs = root_nodes c.roots in
     let i = length xs - 1 in
     let h = item_within xs i root e in
-    subst (λ (n : ℕ). n < length c.nodes.exprs) (get_or_from_slice_get xs i root 0 e) ((roots_apart (rooted_of c) sound).there i (omega (arith, length-map c.roots (λ r. r.node))))
+    subst (λ (n : ℕ). n < length c.nodes.exprs) (get_or_from_slice_get xs i root 0 e) (stand.there i (omega (arith, length-map c.roots (λ r. r.node))))
 
 -- each formal is there
 pub all_there : (limit : ℕ) (params : List (Param ℕ)) → ((i : ℕ) → i < length params → range_fault limit params i None) → All (λ p. p.formal < limit) params
 all_there limit params none = λ i d h. subst (λ (n : ℕ). n < limit) (get_or-map (λ p. p.formal) params i d 0 h) (none i h).0
+
+-- and so is what the user wrote
+pub both_there : (limit : ℕ) (params : List (Param ℕ)) → ((i : ℕ) → i < length params → range_fault limit params i None) → All (AreBelow limit) params
+both_there limit params none = λ i d h. (
+  subst (λ (n : ℕ). n < limit) (get_or-map (λ p. p.formal) params i d 0 h) (none i h).0,
+  subst (λ (n : ℕ). n < limit) (get_or-map (λ p. p.user_written) params i d 0 h) (none i h).1,
+)
 
 other_same : (s : Nodes) (A B : NodeId → Type 0) → ((r : NodeId) → Has s r → A r ↔ B r) → (n : NodeId) → LiesUnderOther s A n ↔ LiesUnderOther s B n
 other_same s A B same n = (λ x. (x.0, x.1, (same x.0 x.1).0 x.2, x.3, x.4), λ x. (x.0, x.1, (same x.0 x.1).1 x.2, x.3, x.4))
@@ -102,7 +117,7 @@ module _ (s : Nodes) (params : List (Param ℕ)) (root : ℕ) where
   unfolding apart_fault
   apart_none n m h = (n, (m, h))
 
-module _ (b : BodyParts) where
+module _ (b : BodyContents) where
   pub no_root : None ≡ last_root b.store → body_fault b (Some NoRoot)
   unfolding body_fault
   no_root e = subst (λ root. fault_at_root b root (Some NoRoot)) e refl
@@ -119,7 +134,7 @@ module _ (b : BodyParts) where
       by_root None e h = absurd (let n : ⊥ = cc in n)
       by_root (Some root) e h = (root, e, h)
 
-pub last_part : (b : BodyParts) (root : ℕ) → IfSome b.self_param (AreBelow (length b.store.nodes.bindings)) → first_below (length b.params) (range_fault (length b.store.nodes.pats) b.params) None
+pub last_part : (b : BodyContents) (root : ℕ) → IfSome b.self_param (AreBelow (length b.store.nodes.bindings)) → first_below (length b.params) (range_fault (length b.store.nodes.pats) b.params) None
     → (o : Option BodyFault) → apart_fault b.store.nodes b.params root o → fault_at_root b (Some root) o
 last_part b root self range None h = (self, (range, h))
 last_part b root self range (Some f) h = inr (self, inr (range, h))
@@ -135,7 +150,7 @@ top_at [] root (suc i) a e = absurd (let n : ⊥ = cc in n)
 top_at (f ∷ fs) root zero a e = inl (omega arith, cc)
 top_at (f ∷ fs) root (suc i) a e = ⊎_elim (λ x. inl (omega (arith, x.0), x.1)) (λ x. inr (ap suc x.0, x.1)) (top_at fs root i a e)
 
-module _ (c : Contents) (sound : contents_fault c None) (params : List (Param ℕ)) (root : ℕ) (in_range : All (λ p. p.formal < length c.nodes.pats) params) (root_in : root < length c.nodes.exprs) where
+module _ (c : Contents) (params : List (Param ℕ)) (root : ℕ) (in_range : All (λ p. p.formal < length c.nodes.pats) params) (root_in : root < length c.nodes.exprs) where
   formal_there : (i : ℕ) → i < length (formals_of params) → get_or (formals_of params) i 0 < length c.nodes.pats
   formal_there i h =
       let k : i < length params = omega (arith, length-map params (λ p. p.formal)) in
@@ -152,7 +167,7 @@ module _ (c : Contents) (sound : contents_fault c None) (params : List (Param �
       (λ e. subst (Has c.nodes) e root_in)
       (Contains-push_cases (map node.Pat (formals_of params)) (node.Expr root) n m)
 
-  module _ (none : apart_fault c.nodes params root None) where
+  module _ (none : apart_fault c.nodes params root None) (under_two : OneIsUnderOther c.nodes) where
     parts : first_below (length params) (repeated_fault (formals_of params)) None
         × first_below (length params) (under_fault (LiesUnderOther c.nodes (Contains (tops_of params root))) (formals_of params)) None
         × (LiesUnderOther c.nodes (Contains (map node.Pat (formals_of params))) (node.Expr root) → ⊥)
@@ -205,17 +220,30 @@ module _ (c : Contents) (sound : contents_fault c None) (params : List (Param �
         ⊎_elim
         (λ x. lone a first (b, top_there b second, second, ne, x))
         (λ x. lone b second (a, top_there a first, first, (λ q. ne (sym q)), x))
-        (under_two (rooted_of c) sound n a b (top_there a first) (top_there b second) u v)
+        (under_two n a b (top_there a first) (top_there b second) u v)
 
 -- the formals and the last root of a body without a fault
-module _ (b : BodyParts) (sound : contents_fault b.store None) (none : body_fault b None) where
+module _ (b : BodyContents) (stand : RootsStandApart (rooted_of b.store)) (none : body_fault b None) where
   pub body_tops_there : (n : NodeId) → Contains (tops b) n → Has b.store.nodes n
   body_tops_there n m =
       let at = fault_is_at_root b none in
       let m' : Contains (tops_of b.params at.0) n = rw at.1 at m in
-      top_there b.store sound b.params at.0 (all_there (length b.store.nodes.pats) b.params at.2.1.0) (root_there b.store sound at.0 at.1) n m'
+      top_there b.store b.params at.0 (all_there (length b.store.nodes.pats) b.params at.2.1.0) (root_there b.store stand at.0 at.1) n m'
 
-  pub body_tops_apart : LieApart b.store.nodes (tops b)
-  body_tops_apart =
+  pub body_tops_apart : OneIsUnderOther b.store.nodes → LieApart b.store.nodes (tops b)
+  body_tops_apart under_two =
       let at = fault_is_at_root b none in
-      rw at.1 (apart b.store sound b.params at.0 (all_there (length b.store.nodes.pats) b.params at.2.1.0) (root_there b.store sound at.0 at.1) at.2.1.1)
+      rw at.1 (apart b.store b.params at.0 (all_there (length b.store.nodes.pats) b.params at.2.1.0) (root_there b.store stand at.0 at.1) at.2.1.1 under_two)
+
+-- what a body without a fault names is there; `now` is the body as a caller sees it
+module _ (b : BodyContents) (none : body_fault b None) (now : BodyContents) (same : b ≡ now) where
+  pub params_there : (params : List (Param ℕ)) → params ≡ b.params → All (AreBelow (length now.store.nodes.pats)) params
+  params_there params e =
+      let there = both_there (length b.store.nodes.pats) b.params (fault_is_at_root b none).2.1.0 in
+      subst (λ (v : BodyContents). All (AreBelow (length v.store.nodes.pats)) params) same (subst (All (AreBelow (length b.store.nodes.pats))) (sym e) there)
+
+  pub self_there : IfSome b.self_param (AreBelow (length now.store.nodes.bindings))
+  self_there = subst (λ (v : BodyContents). IfSome b.self_param (AreBelow (length v.store.nodes.bindings))) same (fault_is_at_root b none).2.0
+
+  pub root_below : RootsStandApart (rooted_of b.store) → (root : ℕ) → last_root b.store ≡ Some root → root < length now.store.nodes.exprs
+  root_below stand root e = subst (λ (v : BodyContents). root < length v.store.nodes.exprs) same (root_there b.store stand root e)

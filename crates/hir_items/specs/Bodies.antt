@@ -9,17 +9,21 @@ use Rattle.hir_node.specs.declared.node_id.NodeId.TheVariants as node
 use Rattle.hir_faults.specs.Sizes.{HasNode}
 use Rattle.hir_faults.specs.Nodes.{Nodes}
 use Rattle.hir_expr_store.specs.Contents.{Contents}
-use Rattle.hir_expr_store.specs.Under.{Under, LiesUnderOther}
+use Rattle.hir_expr_store.specs.Under.{LiesUnderOther, Reached}
 use Rattle.hir_expr_store.specs.NodeSets.{Marked, IsIn}
 use Rattle.hir_items.specs.declared.formals.Param.{Param}
 use Rattle.hir_items.specs.declared.body_fault.BodyFault.{BodyFault}
 use Rattle.hir_items.specs.declared.body_fault.BodyFault.TheVariants.{NoRoot, SelfOutOfRange, ParamOutOfRange, ParamRepeated, ParamUnder, RootInParam}
 
 -- a store, the patterns of the parameters, the bindings of `self`
-pub record BodyParts : Type 0 where
+pub record BodyContents : Type 0 where
   pub store : Contents
   pub params : List (Param ℕ)
   pub self_param : Option (Param ℕ)
+
+-- the body of these
+abbrev pub body_of : Contents → List (Param ℕ) → Option (Param ℕ) → BodyContents
+body_of store params self_param = record { store = store; params = params; self_param = self_param }
 
 -- the formal patterns, and those that the user wrote
 abbrev pub formals_of : List (Param ℕ) → List ℕ
@@ -36,8 +40,12 @@ last_root c = last_of (root_nodes c.roots)
 abbrev pub tops_of : List (Param ℕ) → ℕ → List NodeId
 tops_of params root = map node.Pat (formals_of params) ++ node.Expr root ∷ []
 
-abbrev pub tops : BodyParts → List NodeId
+abbrev pub tops : BodyContents → List NodeId
 tops b = map node.Pat (formals_of b.params) ++ option_to_list (option_map node.Expr (last_root b.store))
+
+-- the body reaches the node: it lies under a formal or under the last root
+abbrev pub BodyReaches : BodyContents → NodeId → Type 0
+BodyReaches b n = Reached b.store.nodes (tops b) n
 
 -- both ids of a parameter are there
 abbrev pub AreBelow : ℕ → Param ℕ → Type 0
@@ -45,7 +53,9 @@ AreBelow limit p = (p.formal < limit) × (p.user_written < limit)
 
 -- a pattern of parameter i is not among so many patterns
 abbrev pub range_fault : ℕ → List (Param ℕ) → ℕ → Option BodyFault → Type 0
-range_fault limit params i = ParamOutOfRange i unless ((slice_index (formals_of params) i < limit) × (slice_index (user_written_of params) i < limit))
+range_fault limit params i =
+    ParamOutOfRange i
+    unless ((slice_index (formals_of params) i < limit) × (slice_index (user_written_of params) i < limit))
 
 -- formal i is an earlier formal
 abbrev pub repeated_fault : List ℕ → ℕ → Option BodyFault → Type 0
@@ -55,15 +65,18 @@ repeated_fault formals i = ParamRepeated i unless (Contains (take i formals) (sl
 abbrev pub under_fault : (NodeId → Type 0) → List ℕ → ℕ → Option BodyFault → Type 0
 under_fault IsUnder formals i = ParamUnder i unless (IsUnder (node.Pat (slice_index formals i)) → ⊥)
 
--- formals and the last root do not lie apart: a formal repeats, lies under another formal or the last root, or the last root lies under a formal
+-- formals and the last root do not lie apart: a formal repeats, lies under another formal or the last root, or the last
+-- root lies under a formal
 unfoldable pub apart_fault : Nodes → List (Param ℕ) → ℕ → Option BodyFault → Type 0
 apart_fault s params root =
     first_below (length params) (repeated_fault (formals_of params))
-    before first_below (length params) (under_fault (LiesUnderOther s (Contains (tops_of params root))) (formals_of params))
-    before (RootInParam unless (LiesUnderOther s (Contains (map node.Pat (formals_of params))) (node.Expr root) → ⊥))
+    before first_below (length params)
+    (under_fault (LiesUnderOther s (Contains (tops_of params root))) (formals_of params))
+    before (RootInParam
+    unless (LiesUnderOther s (Contains (map node.Pat (formals_of params))) (node.Expr root) → ⊥))
 
 -- the first fault where there is a last root
-abbrev pub fault_at_root : BodyParts → Option ℕ → Option BodyFault → Type 0
+abbrev pub fault_at_root : BodyContents → Option ℕ → Option BodyFault → Type 0
 fault_at_root b None f = f ≡ Some NoRoot
 fault_at_root b (Some root) f =
     ((SelfOutOfRange unless IfSome b.self_param (AreBelow (length b.store.nodes.bindings)))
@@ -71,13 +84,15 @@ fault_at_root b (Some root) f =
     before apart_fault b.store.nodes b.params root) f
 
 -- the first fault of a body's parts
-unfoldable pub body_fault : BodyParts → Option BodyFault → Type 0
+unfoldable pub body_fault : BodyContents → Option BodyFault → Type 0
 body_fault b = fault_at_root b (last_root b.store)
 
 -- the binding is one of the two of `self`
-abbrev pub IsAnySelf : BodyParts → ℕ → Type 0
+abbrev pub IsAnySelf : BodyContents → ℕ → Type 0
 IsAnySelf b id = (p : Param ℕ) × (b.self_param ≡ Some p) × ((p.formal ≡ id) ⊎ (p.user_written ≡ id))
 
 -- the set has these nodes more, and no other
 abbrev pub GainsAll : Marked → List NodeId → Marked → Type 0
-GainsAll old added new = (new.sizes ≡ old.sizes) × ((n : NodeId) → HasNode old.sizes n → IsIn new n ↔ (IsIn old n ⊎ Contains added n))
+GainsAll old added new =
+    (new.sizes ≡ old.sizes)
+    × ((n : NodeId) → HasNode old.sizes n → IsIn new n ↔ (IsIn old n ⊎ Contains added n))

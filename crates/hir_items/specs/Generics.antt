@@ -1,6 +1,6 @@
 -- The generic parameters of a definition, as lists; the first of a name, and the index of a lifetime.
 use Rattle.std.specs.Prelude.{ℕ, nat_eq, List, [], ◌∷◌, length, take, slice_get, Bool, false, cond, Option, Some, None}
-use Rattle.std.specs.List.{filter, position}
+use Rattle.std.specs.List.{filter, enumerate_from, position}
 use Rattle.std.specs.Option.{option_map}
 use Rattle.std.specs.Cmp.Lexicographic.{pointwise}
 use Rattle.hir_base.specs.declared.defs.GenericDefId.{GenericDefId}
@@ -20,12 +20,21 @@ pub record Generics : Type 0 where
   pub lifetimes : List LifetimeParamData
   pub predicates : List WherePredicate
 
+-- the parameters of these
+abbrev pub generics_of : List TypeOrConstParamData → List LifetimeParamData → List WherePredicate → Generics
+generics_of type_or_consts lifetimes predicates =
+    record { type_or_consts = type_or_consts; lifetimes = lifetimes; predicates = predicates }
+
 abbrev pub empty : Generics
 empty = record { type_or_consts = []; lifetimes = []; predicates = [] }
 
 -- how many lifetimes are bound in this way
 abbrev pub count_bound : LifetimeBoundType → List LifetimeParamData → ℕ
 count_bound way lifetimes = length (filter (is_bound way) lifetimes)
+
+-- the lifetimes that are bound in this way, each after its place among all
+abbrev pub entries_bound : LifetimeBoundType → List LifetimeParamData → List (ℕ × LifetimeParamData)
+entries_bound way lifetimes = filter (λ entry. is_bound way entry.1) (enumerate_from 0 lifetimes)
 
 abbrev pub same_name : List ℕ → Option (List ℕ) → Bool
 same_name name None = false
@@ -49,7 +58,8 @@ of_parent parent at = record { parent = parent; local_id = at }
 abbrev pub lifetime_of_parent : GenericDefId → ℕ → LifetimeParamId
 lifetime_of_parent parent at = record { parent = parent; local_id = at }
 
--- the first type of this name, the first constant, the first lifetime: position is the place of the first member that passes
+-- the first type of this name, the first constant, the first lifetime: position is the place of the first member
+-- that passes
 abbrev pub first_type : List ℕ → GenericDefId → List TypeOrConstParamData → Option TypeOrConstParamId
 first_type name parent params = option_map (of_parent parent) (position (is_type_named name) params)
 
@@ -57,7 +67,8 @@ abbrev pub first_const : List ℕ → GenericDefId → List TypeOrConstParamData
 first_const name parent params = option_map (of_parent parent) (position (is_const_named name) params)
 
 abbrev pub first_lifetime : List ℕ → GenericDefId → List LifetimeParamData → Option LifetimeParamId
-first_lifetime name parent lifetimes = option_map (lifetime_of_parent parent) (position (is_lifetime_named name) lifetimes)
+first_lifetime name parent lifetimes =
+    option_map (lifetime_of_parent parent) (position (is_lifetime_named name) lifetimes)
 
 -- parameter 0, where it is the Self of a trait
 abbrev pub self_of_trait : List TypeOrConstParamData → Option ℕ
@@ -66,7 +77,8 @@ self_of_trait (param ∷ params) = cond (is_trait_self param) (Some 0) None
 
 -- how many earlier lifetimes are bound as this one is, and whether it is late bound
 abbrev pub index_of : List LifetimeParamData → ℕ → LifetimeParamData → ℕ × Bool
-index_of lifetimes id lifetime = (count_bound lifetime.bound_type (take id lifetimes), is_bound LateBound lifetime)
+index_of lifetimes id lifetime =
+    (count_bound lifetime.bound_type (take id lifetimes), is_bound LateBound lifetime)
 
 abbrev pub lifetime_index : List LifetimeParamData → ℕ → Option (ℕ × Bool)
 lifetime_index lifetimes id = option_map (index_of lifetimes id) (slice_get lifetimes id)

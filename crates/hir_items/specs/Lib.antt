@@ -1,8 +1,8 @@
 pub mod Bodies
+pub mod FaultTexts
 pub mod FirstOfName
 pub mod Generics
 pub mod Lookups
-pub mod SameBodies
-pub mod SameGenerics
-pub mod SameSignatures
+pub mod RefusedBodies
 pub mod Signatures
+pub mod same

@@ -2,7 +2,7 @@
 use Rattle.std.specs.Prelude.{ℕ}
 use Rattle.hir_source.specs.declared.source_map.ExpressionStoreSourceMap.{ExpressionStoreSourceMap}
 use Rattle.hir_expr_store.specs.Contents.{Contents}
-use Rattle.hir_items.specs.Bodies.{BodyParts}
+use Rattle.hir_items.specs.Bodies.{BodyContents}
 use Rattle.hir_items.specs.Generics.{Generics}
 use Rattle.hir_items.specs.declared.body_source_map.BodySourceMap.{BodySourceMap}
 
@@ -15,4 +15,4 @@ without_source_map s = (s.0, s.1)
 
 -- a body, and where it comes from
 abbrev pub Embodied : Type 0
-Embodied = BodyParts × BodySourceMap
+Embodied = BodyContents × BodySourceMap

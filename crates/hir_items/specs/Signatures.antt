@@ -44,7 +44,9 @@ all_there s calls = list_all (is_there (sizes_of s)) calls
 
 -- each id of parameters and predicates is there
 abbrev pub generics_there : Nodes → Generics → Bool
-generics_there s g = list_all (λ p. all_there s (param_calls p)) g.type_or_consts && list_all (λ w. all_there s (predicate_calls w)) g.predicates
+generics_there s g =
+    list_all (λ p. all_there s (param_calls p)) g.type_or_consts
+    && list_all (λ w. all_there s (predicate_calls w)) g.predicates
 
 -- what predicates name as paths are paths
 abbrev pub generics_name_paths : Nodes → Generics → Bool
@@ -62,14 +64,21 @@ types_there s ids = list_all (λ id. nat_lt id (length s.types)) ids
 abbrev pub function_fault : FunctionParts → Option SignatureFault → Type 0
 function_fault p =
     ids_fault
-    (generics_there p.store.nodes p.generic_params && types_there p.store.nodes p.params && all_there p.store.nodes (opt t p.ret_type))
+    (generics_there p.store.nodes p.generic_params && types_there p.store.nodes p.params
+    && all_there p.store.nodes (opt t p.ret_type))
     (generics_name_paths p.store.nodes p.generic_params)
 
 abbrev pub struct_fault : StructParts → Option SignatureFault → Type 0
-struct_fault p = ids_fault (generics_there p.store.nodes p.generic_params) (generics_name_paths p.store.nodes p.generic_params)
+struct_fault p =
+    ids_fault
+    (generics_there p.store.nodes p.generic_params)
+    (generics_name_paths p.store.nodes p.generic_params)
 
 abbrev pub fields_fault : VariantParts → Option SignatureFault → Type 0
 fields_fault p = ids_fault (list_all (λ f. all_there p.store.nodes (field_calls f)) p.fields) true
 
 abbrev pub plain_fault : PlainParts → Option SignatureFault → Type 0
-plain_fault p = ids_fault (generics_there p.store.nodes p.generic_params) (generics_name_paths p.store.nodes p.generic_params)
+plain_fault p =
+    ids_fault
+    (generics_there p.store.nodes p.generic_params)
+    (generics_name_paths p.store.nodes p.generic_params)

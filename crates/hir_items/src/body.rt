@@ -1,12 +1,13 @@
 //! Bodies: an accepted store, the formal parameters, and the last root, which is what the body evaluates to.
 
-ghost use Rattle.std.specs.Prelude.{◌≡◌, ◌⊎◌, ◌↔◌, None, Some, IfOk, IfErr, IsTrue};
-ghost use Rattle.hir_items.specs.Bodies.{body_fault, last_root, IsAnySelf};
+ghost use Rattle.std.specs.Prelude.{◌≡◌, ◌<◌, ◌⊎◌, ◌↔◌, All, None, Some, IfOk, IfErr, IfSome, IsTrue, length};
+ghost use Rattle.hir_items.specs.Bodies.{body_of, body_fault, last_root, AreBelow, IsAnySelf};
 
 use crate::body_fault::{BodyFault, first_fault, last_root};
 use crate::formals::Param;
-use hir_expr_store::ExpressionStore;
 use hir_base::{ExactEq, Seq};
+use hir_expr_store::ExpressionStore;
+use hir_expr_store::laws::roots_stand_apart;
 use hir_node::{BindingId, ExprId, PatId};
 use std::alloc::{AllocError, Global};
 use std::marker::Model;
@@ -14,6 +15,10 @@ use std::marker::Model;
 /// The body of a function, a constant, a static or an enum variant: what stands in its store, the patterns of its parameters and the
 /// binding of its `self`. It has no fault: there is a root, what the parameters name is there, and no formal and not the last root lies
 /// under another of them.
+///
+/// The last root is what the body evaluates to. Earlier roots are expressions in the patterns of parameters, whose types are inferred by
+/// themselves: in `fn f(Wrap::<{ 1 + 1 }>(x): Wrap<2>) -> u8 { x }` the roots are `{ 1 + 1 }`, which lies under the formal pattern, and
+/// then `{ x }`. A body is *reached* from its formals and its last root: an earlier root that lies under no formal isn't.
 #[derive(PartialEq, Eq)]
 pub struct Body {
     store: ExpressionStore,
@@ -34,9 +39,9 @@ impl Drop for Body {
 
 impl Model for Body {
     ghost use Rattle.std.specs.Prelude.{None};
-    ghost use Rattle.hir_items.specs.Bodies.{BodyParts, body_fault};
+    ghost use Rattle.hir_items.specs.Bodies.{BodyContents, body_of, body_fault};
 
-    ghost Value = { BodyParts };
+    ghost Value = { BodyContents };
 
     ghost use Rattle.std.specs.Coded.{codes};
     ghost use Rattle.hir_expr_store.specs.contracts.store.ExpressionStore as stored;
@@ -47,7 +52,7 @@ impl Model for Body {
 
     ghost inverse = { λ b. record { store = b.store; params = b.params; self_param = b.self_param } };
 
-    ghost invariant = { λ b. body_fault record { store = b.store; params = b.params; self_param = b.self_param } None };
+    ghost invariant = { λ b. body_fault (body_of b.store b.params b.self_param) None };
 }
 
 /// The parts of a body that was refused, as they were, with their first fault.
@@ -63,28 +68,30 @@ pub struct RefusedBody {
     pub self_param: Option<Param<BindingId>>,
 }
 
-/// What a body is made of, before it is tested.
+/// A body that isn't tested yet.
 #[derive(Drop)]
-struct Parts {
+struct UntestedBody {
     store: ExpressionStore,
     params: Seq<Param<PatId>>,
     self_param: Option<Param<BindingId>>,
 }
 
-impl Parts {
+impl UntestedBody {
+    ghost use Rattle.hir_items.specs.RefusedBodies.{refused_body};
+
     /// The first fault.
     fn first_fault(&self, alloc: Global) -> Result<Option<BodyFault>, AllocError>
-        ensures { IfOk result (body_fault record { store = self.now.store; params = self.now.params; self_param = self.now.self_param }) }
+        ensures { IfOk result (body_fault (body_of self.now.store self.now.params self.now.self_param)) }
     {
         first_fault(alloc, &self.store, self.params.as_slice(), self.self_param)
     }
 
-    /// The body of parts without a fault.
+    /// The body, which has no fault.
     fn accepted(self) -> Body
-        requires { body_fault record { store = self.store; params = self.params; self_param = self.self_param } None }
-        ensures { result ≡ record { store = self.store; params = self.params; self_param = self.self_param } }
+        requires { body_fault (body_of self.store self.params self.self_param) None }
+        ensures { result ≡ body_of self.store self.params self.self_param }
     {
-        let Parts {
+        let UntestedBody {
             store,
             params,
             self_param,
@@ -96,11 +103,11 @@ impl Parts {
         }
     }
 
-    /// The parts, handed back.
+    /// What it was made of, handed back.
     fn refused(self, fault: BodyFault) -> RefusedBody
-        ensures { result ≡ record { fault = fault; store = self.store; params = self.params; self_param = self.self_param } }
+        ensures { result ≡ refused_body fault self.store self.params self.self_param }
     {
-        let Parts {
+        let UntestedBody {
             store,
             params,
             self_param,
@@ -125,23 +132,24 @@ impl Body {
         params: Seq<Param<PatId>>,
         self_param: Option<Param<BindingId>>,
     ) -> Result<Body, RefusedBody>
-        ensures ok { IfOk result (λ body. (body ≡ record { store = store; params = params; self_param = self_param })
-            × body_fault record { store = store; params = params; self_param = self_param } None) }
+        ensures ok { IfOk result (λ body. (body ≡ body_of store params self_param)
+            × body_fault (body_of store params self_param) None) }
         ensures fault { IfErr result (λ refused. refused.fault ≡ BodyFault.Memory
-            ⊎ body_fault record { store = store; params = params; self_param = self_param } (Some refused.fault)) }
-        ensures parts { IfErr result (λ refused. (refused.store ≡ store) × (refused.params ≡ params) × (refused.self_param ≡ self_param)) }
+            ⊎ body_fault (body_of store params self_param) (Some refused.fault)) }
+        ensures parts { IfErr result (λ refused.
+            (refused.store ≡ store) × (refused.params ≡ params) × (refused.self_param ≡ self_param)) }
     {
-        let parts = Parts {
+        let untested = UntestedBody {
             store,
             params,
             self_param,
         };
-        let fault = match parts.first_fault(alloc) {
-            Ok(None) => return Ok(parts.accepted()),
+        let fault = match untested.first_fault(alloc) {
+            Ok(None) => return Ok(untested.accepted()),
             Ok(Some(fault)) => fault,
             Err(_) => BodyFault::Memory,
         };
-        Err(parts.refused(fault))
+        Err(untested.refused(fault))
     }
 
     /// Tells a proof that the body has no fault, and does nothing.
@@ -158,24 +166,29 @@ impl Body {
         &self.store
     }
 
-    /// The parameters in their order, without `self`.
+    /// The parameters in their order, without `self`. Both patterns of each are in the store.
     pub fn params(&self) -> &[Param<PatId>]
-        ensures { result.now ≡ self.now.params }
+        ensures params { result.now ≡ self.now.params }
+        ensures there { All (AreBelow (length self.now.store.nodes.pats)) result.now }
     {
         self.params.as_slice()
     }
 
-    /// The `self` parameter, where there is one.
+    /// The `self` parameter, where there is one. Both bindings of it are in the store.
     pub fn self_param(&self) -> Option<Param<BindingId>>
-        ensures { result ≡ self.now.self_param }
+        ensures self_param { result ≡ self.now.self_param }
+        ensures there { IfSome result (AreBelow (length self.now.store.nodes.bindings)) }
     {
         self.self_param
     }
 
-    /// What the body evaluates to: the last root. Earlier roots belong to the patterns of parameters.
+    /// What the body evaluates to: the last root, which is in the store. Earlier roots belong to the patterns of parameters.
     pub fn root_expr(&self) -> ExprId
-        ensures { Some result ≡ last_root self.now.store }
+        ensures last { Some result ≡ last_root self.now.store }
+        ensures there { result < length self.now.store.nodes.exprs }
     {
+        self.store.has_no_fault();
+        roots_stand_apart();
         match last_root(&self.store) {
             Some(root) => root,
             None => unreachable!(),
@@ -194,7 +207,7 @@ impl Body {
 }
 
 impl ExactEq for Body {
-    ghost use Rattle.hir_items.specs.SameBodies.{bodies_decide};
+    ghost use Rattle.hir_items.specs.same.SameBodies.{bodies_decide};
 
     ghost eq_decides = { bodies_decide };
 }

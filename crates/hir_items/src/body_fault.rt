@@ -1,41 +1,56 @@
 //! Why a body is refused, and the first fault of its parts.
 
 ghost use Rattle.std.specs.Prelude.{◌≡◌, ◌<◌, All, IfOk, length};
-ghost use Rattle.hir_items.specs.Bodies.{BodyParts, last_root, apart_fault, body_fault};
+ghost use Rattle.hir_items.specs.Bodies.{body_of, last_root, apart_fault, body_fault};
 
 use crate::formals::{Param, add_formals, first_out_of_range, first_under, self_is_there};
-use hir_expr_store::ExpressionStore;
 use hir_base::ExactEq;
+use hir_expr_store::ExpressionStore;
+use hir_expr_store::laws::roots_stand_apart;
 use hir_node::{BindingId, ExprId, PatId};
 use std::alloc::{AllocError, Global};
-use thiserror::Error;
+use std::fmt::{self, Display};
 
 /// Why a body is refused: the first of its faults, in this order, and among faults of one kind the one with the least index. A
 /// parameter is named by its index in the list. The text is the name and, after a space, the index.
-#[derive(Clone, Copy, Debug, Drop, PartialEq, Eq, Error)]
+#[derive(Clone, Copy, Debug, PartialEq, Eq)]
 pub enum BodyFault {
     /// The store has no root.
-    #[error("NoRoot")]
     NoRoot,
     /// A binding of the self parameter isn't there.
-    #[error("SelfOutOfRange")]
     SelfOutOfRange,
     /// A pattern of the parameter isn't there.
-    #[error("ParamOutOfRange {0}")]
     ParamOutOfRange(usize),
     /// The parameter's formal pattern is that of an earlier one.
-    #[error("ParamRepeated {0}")]
     ParamRepeated(usize),
     /// The parameter's formal pattern lies properly under another formal, or under the last root.
-    #[error("ParamUnder {0}")]
     ParamUnder(usize),
     /// The last root lies under a formal.
-    #[error("RootInParam")]
     RootInParam,
     /// Memory for the test was refused. It may come in place of any answer.
-    #[error("Memory")]
     Memory,
 }
+
+impl Display for BodyFault {
+    ghost use Rattle.std.specs.Prelude.{Some};
+    ghost use Rattle.hir_items.specs.FaultTexts.{body_fault_text};
+
+    ghost output = { λ fault. Some (body_fault_text fault) };
+
+    fn fmt<W: fmt::Write>(&self, f: &mut fmt::Formatter<W>) -> fmt::Result {
+        match self {
+            BodyFault::NoRoot => f.write_str("NoRoot"),
+            BodyFault::SelfOutOfRange => f.write_str("SelfOutOfRange"),
+            BodyFault::ParamOutOfRange(index) => write!(f, "ParamOutOfRange {index}"),
+            BodyFault::ParamRepeated(index) => write!(f, "ParamRepeated {index}"),
+            BodyFault::ParamUnder(index) => write!(f, "ParamUnder {index}"),
+            BodyFault::RootInParam => f.write_str("RootInParam"),
+            BodyFault::Memory => f.write_str("Memory"),
+        }
+    }
+}
+
+impl std::error::Error for BodyFault {}
 
 impl ExactEq for BodyFault {
     ghost use Rattle.hir_base.specs.Exact.{exact};
@@ -83,9 +98,10 @@ pub(crate) fn first_fault(
     params: &[Param<PatId>],
     self_param: Option<Param<BindingId>>,
 ) -> Result<Option<BodyFault>, AllocError>
-    ensures { IfOk result (body_fault record { store = store.now; params = params.now; self_param = self_param }) }
+    ensures { IfOk result (body_fault (body_of store.now params.now self_param)) }
 {
     store.has_no_fault();
+    roots_stand_apart();
     let root = match last_root(store) {
         Some(root) => root,
         None => return Ok(Some(BodyFault::NoRoot)),

@@ -1,37 +1,54 @@
 //! Laws of bodies that a reader relies on, and that no call's contract says.
-//! Each is a function with no body to run: its contract is the law. `Body::has_no_fault` and `ExpressionStore::has_no_fault` tell what
-//! they ask for.
+//! Each is a function that does nothing: its contract is the law. `Body::has_no_fault` and `ExpressionStore::has_no_fault` tell what
+//! they ask for. Where one follows from laws of stores, it calls these.
 
-ghost use Rattle.std.specs.Prelude.{◌≡◌, Option, None};
+ghost use Rattle.std.specs.Prelude.{◌≡◌, Option, None, Contains};
 ghost use Rattle.std.specs.Bool.{Decides};
 ghost use Rattle.hir_source.specs.Compared.{compared};
 ghost use Rattle.hir_expr_store.specs.Contents.{contents_fault};
 ghost use Rattle.hir_faults.specs.Nodes.{Has};
-ghost use Rattle.std.specs.Prelude.{Contains};
 ghost use Rattle.hir_node.specs.declared.node_id.NodeId.{NodeId};
 ghost use Rattle.hir_items.specs.declared.body_fault.BodyFault.{BodyFault};
 ghost use Rattle.hir_items.specs.declared.body_source_map.BodySourceMap.{BodySourceMap};
-ghost use Rattle.hir_items.specs.Bodies.{BodyParts, body_fault, tops};
+ghost use Rattle.hir_items.specs.Bodies.{BodyContents, body_fault, tops, BodyReaches};
 ghost use Rattle.hir_expr_store.specs.Under.{LieApart};
 
 use crate::body_source_map::BodySourceMap;
+use hir_expr_store::laws::{roots_stand_apart, under_two_is_under_one, what_is_under_is_there};
 
 /// The parts of a body have one first fault at most: a body is accepted exactly where there is none.
 pub fn first_body_fault_is_one()
-    ensures { (b : BodyParts) (f g : Option BodyFault) → body_fault b f → body_fault b g → f ≡ g }
+    ensures { (b : BodyContents) (f g : Option BodyFault) → body_fault b f → body_fault b g → f ≡ g }
 {}
 
 /// The formals and the last root of a body are there.
 pub fn tops_are_there()
-    ensures { (b : BodyParts) → contents_fault b.store None → body_fault b None → (n : NodeId) → Contains (tops b) n → Has b.store.nodes n }
-{}
+    ensures { (b : BodyContents) → contents_fault b.store None → body_fault b None
+        → (n : NodeId) → Contains (tops b) n → Has b.store.nodes n }
+{
+    roots_stand_apart();
+}
 
 /// The formals and the last root of a body lie apart: nothing lies under two of them.
 pub fn tops_lie_apart()
-    ensures { (b : BodyParts) → contents_fault b.store None → body_fault b None → LieApart b.store.nodes (tops b) }
-{}
+    ensures { (b : BodyContents) → contents_fault b.store None → body_fault b None
+        → LieApart b.store.nodes (tops b) }
+{
+    roots_stand_apart();
+    under_two_is_under_one();
+}
+
+/// What a body reaches is there.
+pub fn what_a_body_reaches_is_there()
+    ensures { (b : BodyContents) → contents_fault b.store None → body_fault b None
+        → (n : NodeId) → BodyReaches b n → Has b.store.nodes n }
+{
+    tops_are_there();
+    what_is_under_is_there();
+}
 
 /// Source maps of bodies are equal exactly where the compared parts of their stores' source maps are the same, and where `self` stands.
 pub fn source_maps_are_compared_by_their_parts()
-    ensures { (x y : BodySourceMap) → Decides (⟦<BodySourceMap as PartialEq>⟧.eq x y) ((compared x.store ≡ compared y.store) × (x.self_param_syntax ≡ y.self_param_syntax)) }
+    ensures { (x y : BodySourceMap) → Decides (⟦<BodySourceMap as PartialEq>⟧.eq x y)
+        ((compared x.store ≡ compared y.store) × (x.self_param_syntax ≡ y.self_param_syntax)) }
 {}

@@ -9,8 +9,8 @@ ghost use Rattle.hir_expr_store.specs.NodeSets.{IsIn};
 ghost use Rattle.hir_items.specs.Bodies.{AreBelow, formals_of, range_fault, repeated_fault, under_fault, GainsAll};
 
 use crate::body_fault::BodyFault;
-use hir_expr_store::{ExpressionStore, NodeSet};
 use hir_base::{ExactEq, TryClone};
+use hir_expr_store::{ExpressionStore, NodeSet};
 use hir_node::{BindingId, PatId};
 
 /// A parameter as the body has it, and as the user wrote it.

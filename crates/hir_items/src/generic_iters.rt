@@ -29,13 +29,13 @@ impl<'a> Model for BoundLifetimes<'a> {
 }
 
 impl<'a> BoundLifetimes<'a> {
-    ghost use Rattle.std.specs.List.{filter, enumerate_from};
+    ghost use Rattle.hir_items.specs.Generics.{entries_bound};
 
     pub(crate) fn new(
         lifetimes: &'a Arena<LifetimeParamKind, LifetimeParamData>,
         bound_type: LifetimeBoundType,
     ) -> BoundLifetimes<'a>
-        ensures { result ≡ filter (λ entry. is_bound bound_type entry.1) (enumerate_from 0 lifetimes.now) }
+        ensures { result ≡ entries_bound bound_type lifetimes.now }
     {
         BoundLifetimes {
             lifetimes: lifetimes.iter(),

@@ -10,13 +10,17 @@ ghost use Rattle.hir_generics.specs.declared.param.TypeOrConstParamData.{TypeOrC
 
 /// Each lifetime is early bound or late bound, and none is both.
 pub fn lifetimes_are_early_or_late()
-    ensures { (lifetimes : List LifetimeParamData) → count_bound EarlyBound lifetimes + count_bound LateBound lifetimes ≡ length lifetimes }
+    ensures { (lifetimes : List LifetimeParamData)
+        → count_bound EarlyBound lifetimes + count_bound LateBound lifetimes ≡ length lifetimes }
 {}
 
 /// The place that a find by name answers is that of the first type, constant or lifetime of that name: none stands before it. Where
 /// it answers none, none has that name.
 pub fn finds_answer_the_first()
-    ensures types { (name : List ℕ) (params : List TypeOrConstParamData) → IsFirst (IsTypeNamed name) params (position (is_type_named name) params) }
-    ensures consts { (name : List ℕ) (params : List TypeOrConstParamData) → IsFirst (IsConstNamed name) params (position (is_const_named name) params) }
-    ensures lifetimes { (name : List ℕ) (lifetimes : List LifetimeParamData) → IsFirst (IsLifetimeNamed name) lifetimes (position (is_lifetime_named name) lifetimes) }
+    ensures types { (name : List ℕ) (params : List TypeOrConstParamData)
+        → IsFirst (IsTypeNamed name) params (position (is_type_named name) params) }
+    ensures consts { (name : List ℕ) (params : List TypeOrConstParamData)
+        → IsFirst (IsConstNamed name) params (position (is_const_named name) params) }
+    ensures lifetimes { (name : List ℕ) (lifetimes : List LifetimeParamData)
+        → IsFirst (IsLifetimeNamed name) lifetimes (position (is_lifetime_named name) lifetimes) }
 {}

@@ -1,9 +1,8 @@
 //! The generic parameters of a definition, and what its `where` clause asks of them.
 //! Early bound lifetimes are counted once, when the value is made.
 ghost use Rattle.std.specs.Prelude.{◌≡◌, ◌+◌, ◌<◌, ◌≤◌, [], ◌↔◌, IsTrue, length, slice_get, Some};
-ghost use Rattle.std.specs.List.{filter, enumerate_from};
-ghost use Rattle.hir_items.specs.Generics.{Generics, empty, count_bound, is_type_named, is_const_named, first_type, first_const, first_lifetime, self_of_trait, lifetime_index};
-ghost use Rattle.hir_generics.specs.Params.{is_bound};
+ghost use Rattle.std.specs.List.{enumerate_from};
+ghost use Rattle.hir_items.specs.Generics.{Generics, generics_of, empty, count_bound, is_type_named, is_const_named, first_type, first_const, first_lifetime, self_of_trait, lifetime_index, entries_bound};
 ghost use Rattle.hir_generics.specs.declared.data.LifetimeBoundType.TheVariants.{EarlyBound, LateBound};
 
 use crate::generic_bounds::count_bound;
@@ -40,13 +39,28 @@ impl Drop for GenericParams {
 }
 
 impl Model for GenericParams {
+    ghost use Rattle.std.specs.Prelude.{◌≡◌, ◌≤◌, length};
+    ghost use Rattle.hir_base.specs.declared.arena.TheConstants.{MOST_ITEMS};
+    ghost use Rattle.hir_generics.specs.declared.data.LifetimeBoundType.TheVariants.{EarlyBound};
+    ghost use Rattle.hir_items.specs.Generics.{Generics, count_bound};
+
     ghost Value = { Generics };
 
-    ghost view = { λ p. record { type_or_consts = p.type_or_consts; lifetimes = p.lifetimes; predicates = p.where_predicates } };
+    ghost view = { λ p. record {
+      type_or_consts = p.type_or_consts;
+      lifetimes = p.lifetimes;
+      predicates = p.where_predicates;
+    } };
 
-    ghost inverse = { λ g. record { type_or_consts = g.type_or_consts; lifetimes = g.lifetimes; where_predicates = g.predicates; early_bound_lifetimes_len = count_bound EarlyBound g.lifetimes } };
+    ghost inverse = { λ g. record {
+      type_or_consts = g.type_or_consts;
+      lifetimes = g.lifetimes;
+      where_predicates = g.predicates;
+      early_bound_lifetimes_len = count_bound EarlyBound g.lifetimes;
+    } };
 
-    ghost invariant = { λ p. (p.early_bound_lifetimes_len ≡ count_bound EarlyBound p.lifetimes) × (length p.lifetimes ≤ 4294967295) };
+    ghost invariant = { λ p. (p.early_bound_lifetimes_len ≡ count_bound EarlyBound p.lifetimes)
+        × (length p.lifetimes ≤ MOST_ITEMS) };
 }
 
 /// Whether it is a type of this name.
@@ -79,7 +93,7 @@ impl GenericParams {
         lifetimes: Arena<LifetimeParamKind, LifetimeParamData>,
         where_predicates: Seq<WherePredicate>,
     ) -> GenericParams
-        ensures { result ≡ record { type_or_consts = type_or_consts; lifetimes = lifetimes; predicates = where_predicates } }
+        ensures { result ≡ generics_of type_or_consts lifetimes where_predicates }
     {
         let early_bound_lifetimes_len = count_bound(
             lifetimes.as_slice(),
@@ -207,14 +221,14 @@ impl GenericParams {
 
     /// The early bound lifetimes with their ids, in their order. It can be taken from both ends.
     pub fn iter_early_bound_lt(&self) -> BoundLifetimes<'_>
-        ensures { result ≡ filter (λ entry. is_bound EarlyBound entry.1) (enumerate_from 0 self.now.lifetimes) }
+        ensures { result ≡ entries_bound EarlyBound self.now.lifetimes }
     {
         BoundLifetimes::new(&self.lifetimes, LifetimeBoundType::EarlyBound)
     }
 
     /// The late bound lifetimes with their ids, in their order. It can be taken from both ends.
     pub fn iter_late_bound_lt(&self) -> BoundLifetimes<'_>
-        ensures { result ≡ filter (λ entry. is_bound LateBound entry.1) (enumerate_from 0 self.now.lifetimes) }
+        ensures { result ≡ entries_bound LateBound self.now.lifetimes }
     {
         BoundLifetimes::new(&self.lifetimes, LifetimeBoundType::LateBound)
     }
@@ -325,7 +339,7 @@ impl Index<LocalLifetimeParamId> for GenericParams {
 }
 
 impl ExactEq for GenericParams {
-    ghost use Rattle.hir_items.specs.SameGenerics.{generics_decide};
+    ghost use Rattle.hir_items.specs.same.SameGenerics.{generics_decide};
 
     ghost eq_decides = { generics_decide };
 }

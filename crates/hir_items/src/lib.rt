@@ -26,7 +26,7 @@ pub use hir_generics::{
     ConstParamData, GenericParamData, GenericParamDataRef, LifetimeBoundType, LifetimeParamData,
     TypeOrConstParamData, TypeParamData, TypeParamProvenance, WherePredicate,
 };
-pub use lookups::{Bodies, Signatures};
+pub use lookups::{Bodies, BodyEntry, SignatureEntry, Signatures};
 pub use signature_fault::{RefusedSignature, SignatureFault};
 pub use signatures::{
     FieldData, FieldsShape, FunctionParts, FunctionSignature, PlainParts, PlainSignature,

@@ -10,9 +10,19 @@ ghost use Rattle.hir_items.specs.Lookups.{Signed, Embodied, without_source_map};
 use crate::body::Body;
 use crate::body_source_map::BodySourceMap;
 use crate::generic_params::GenericParams;
-use hir_expr_store::{ExpressionStore, Missing};
 use hir_base::{DefWithBodyId, GenericDefId};
+use hir_expr_store::{ExpressionStore, Missing};
 use hir_source::ExpressionStoreSourceMap;
+
+/// The generic parameters of a definition, the store that they name, and where that comes from.
+pub type SignatureEntry<'a> = (
+    &'a GenericParams,
+    &'a ExpressionStore,
+    &'a ExpressionStoreSourceMap,
+);
+
+/// The body of a definition, and where it comes from.
+pub type BodyEntry<'a> = (&'a Body, &'a BodySourceMap);
 
 /// What keeps the signatures of definitions.
 pub trait Signatures {
@@ -22,12 +32,11 @@ pub trait Signatures {
     /// The generic parameters of the definition, the store that they name, and where that comes from.
     ///
     /// Answers `Missing::Signature` of the definition where there is no signature of it.
-    fn signature_of(
-        &self,
-        def: GenericDefId,
-    ) -> Result<(&GenericParams, &ExpressionStore, &ExpressionStoreSourceMap), Missing>
-        ensures found { IfOk result (λ found. signed self.now def ≡ Some (found.0.now, found.1.now, found.2.now)) }
-        ensures absent { IfErr result (λ absent. (absent ≡ missing.Signature def) × (signed self.now def ≡ None)) };
+    fn signature_of(&self, def: GenericDefId) -> Result<SignatureEntry<'_>, Missing>
+        ensures found { IfOk result (λ found.
+            signed self.now def ≡ Some (found.0.now, found.1.now, found.2.now)) }
+        ensures absent { IfErr result (λ absent.
+            (absent ≡ missing.Signature def) × (signed self.now def ≡ None)) };
 }
 
 /// What keeps the bodies of definitions.
@@ -38,9 +47,10 @@ pub trait Bodies {
     /// The body of the definition, and where it comes from.
     ///
     /// Answers `Missing::Body` of the definition where there is none of it.
-    fn body_of(&self, def: DefWithBodyId) -> Result<(&Body, &BodySourceMap), Missing>
+    fn body_of(&self, def: DefWithBodyId) -> Result<BodyEntry<'_>, Missing>
         ensures found { IfOk result (λ found. embodied self.now def ≡ Some (found.0.now, found.1.now)) }
-        ensures absent { IfErr result (λ absent. (absent ≡ missing.Body def) × (embodied self.now def ≡ None)) };
+        ensures absent { IfErr result (λ absent.
+            (absent ≡ missing.Body def) × (embodied self.now def ≡ None)) };
 }
 
 /// Looking up the generic parameters of a definition.
@@ -49,8 +59,10 @@ impl GenericParams {
     ///
     /// Answers `Missing::Signature` of the definition where there is no signature of it.
     pub fn of<T: Signatures>(tables: &T, def: GenericDefId) -> Result<&GenericParams, Missing>
-        ensures found { IfOk result (λ found. option_map (λ entry. entry.0) (T.signed tables.now def) ≡ Some found.now) }
-        ensures absent { IfErr result (λ absent. (absent ≡ missing.Signature def) × (T.signed tables.now def ≡ None)) }
+        ensures found { IfOk result (λ found.
+            option_map (λ entry. entry.0) (T.signed tables.now def) ≡ Some found.now) }
+        ensures absent { IfErr result (λ absent.
+            (absent ≡ missing.Signature def) × (T.signed tables.now def ≡ None)) }
     {
         let (params, _, _) = tables.signature_of(def)?;
         Ok(params)
@@ -63,8 +75,10 @@ impl GenericParams {
         tables: &T,
         def: GenericDefId,
     ) -> Result<(&GenericParams, &ExpressionStore), Missing>
-        ensures found { IfOk result (λ found. option_map without_source_map (T.signed tables.now def) ≡ Some (found.0.now, found.1.now)) }
-        ensures absent { IfErr result (λ absent. (absent ≡ missing.Signature def) × (T.signed tables.now def ≡ None)) }
+        ensures found { IfOk result (λ found.
+            option_map without_source_map (T.signed tables.now def) ≡ Some (found.0.now, found.1.now)) }
+        ensures absent { IfErr result (λ absent.
+            (absent ≡ missing.Signature def) × (T.signed tables.now def ≡ None)) }
     {
         let (params, store, _) = tables.signature_of(def)?;
         Ok((params, store))
@@ -76,9 +90,11 @@ impl GenericParams {
     pub fn with_source_map<T: Signatures>(
         tables: &T,
         def: GenericDefId,
-    ) -> Result<(&GenericParams, &ExpressionStore, &ExpressionStoreSourceMap), Missing>
-        ensures found { IfOk result (λ found. T.signed tables.now def ≡ Some (found.0.now, found.1.now, found.2.now)) }
-        ensures absent { IfErr result (λ absent. (absent ≡ missing.Signature def) × (T.signed tables.now def ≡ None)) }
+    ) -> Result<SignatureEntry<'_>, Missing>
+        ensures found { IfOk result (λ found.
+            T.signed tables.now def ≡ Some (found.0.now, found.1.now, found.2.now)) }
+        ensures absent { IfErr result (λ absent.
+            (absent ≡ missing.Signature def) × (T.signed tables.now def ≡ None)) }
     {
         tables.signature_of(def)
     }
@@ -90,8 +106,10 @@ impl Body {
     ///
     /// Answers `Missing::Body` of the definition where there is none of it.
     pub fn of<T: Bodies>(tables: &T, def: DefWithBodyId) -> Result<&Body, Missing>
-        ensures found { IfOk result (λ found. option_map (λ entry. entry.0) (T.embodied tables.now def) ≡ Some found.now) }
-        ensures absent { IfErr result (λ absent. (absent ≡ missing.Body def) × (T.embodied tables.now def ≡ None)) }
+        ensures found { IfOk result (λ found.
+            option_map (λ entry. entry.0) (T.embodied tables.now def) ≡ Some found.now) }
+        ensures absent { IfErr result (λ absent.
+            (absent ≡ missing.Body def) × (T.embodied tables.now def ≡ None)) }
     {
         let (body, _) = tables.body_of(def)?;
         Ok(body)
@@ -103,9 +121,10 @@ impl Body {
     pub fn with_source_map<T: Bodies>(
         tables: &T,
         def: DefWithBodyId,
-    ) -> Result<(&Body, &BodySourceMap), Missing>
+    ) -> Result<BodyEntry<'_>, Missing>
         ensures found { IfOk result (λ found. T.embodied tables.now def ≡ Some (found.0.now, found.1.now)) }
-        ensures absent { IfErr result (λ absent. (absent ≡ missing.Body def) × (T.embodied tables.now def ≡ None)) }
+        ensures absent { IfErr result (λ absent.
+            (absent ≡ missing.Body def) × (T.embodied tables.now def ≡ None)) }
     {
         tables.body_of(def)
     }

@@ -65,21 +65,18 @@ fn has_param(store: &ExpressionStore, param: &TypeOrConstParamData) -> bool
 fn has_params(store: &ExpressionStore, params: &[TypeOrConstParamData]) -> bool
     ensures { result ≡ list_all (λ p. all_there store.now.nodes (param_calls p)) params.now }
 {
-    for param in params {
-        if !has_param(store, param) {
-            return false;
-        }
-    }
-    true
+    params.iter().all(|param| has_param(store, param))
 }
 
 fn has_predicate(store: &ExpressionStore, predicate: &WherePredicate) -> bool
     ensures { result ≡ all_there store.now.nodes (predicate_calls predicate.now) }
 {
     match predicate {
-        WherePredicate::TypeBound { target, bound, .. } => {
-            has_type(store, *target) && store.has_bound(bound)
-        }
+        WherePredicate::TypeBound {
+            lifetimes: _,
+            target,
+            bound,
+        } => { has_type(store, *target) && store.has_bound(bound) }
         WherePredicate::Lifetime { target, bound } => {
             has_lifetime(store, *target) && has_lifetime(store, *bound)
         }
@@ -89,12 +86,7 @@ fn has_predicate(store: &ExpressionStore, predicate: &WherePredicate) -> bool
 fn has_predicates(store: &ExpressionStore, predicates: &[WherePredicate]) -> bool
     ensures { result ≡ list_all (λ w. all_there store.now.nodes (predicate_calls w)) predicates.now }
 {
-    for predicate in predicates {
-        if !has_predicate(store, predicate) {
-            return false;
-        }
-    }
-    true
+    predicates.iter().all(|predicate| has_predicate(store, predicate))
 }
 
 /// Whether each id of the parameters and predicates is there.
@@ -109,20 +101,23 @@ fn names_paths(store: &ExpressionStore, predicate: &WherePredicate) -> bool
     ensures { result ≡ list_all (is_path_at store.now.nodes.types) (predicate_paths predicate.now) }
 {
     match predicate {
-        WherePredicate::TypeBound { bound, .. } => store.bound_names_path(bound),
-        WherePredicate::Lifetime { .. } => true,
+        WherePredicate::TypeBound {
+            lifetimes: _,
+            target: _,
+            bound,
+        } => store.bound_names_path(bound),
+        WherePredicate::Lifetime {
+            target: _,
+            bound: _,
+        } => true,
     }
 }
 
 fn predicates_name_paths(store: &ExpressionStore, predicates: &[WherePredicate]) -> bool
-    ensures { result ≡ list_all (λ w. list_all (is_path_at store.now.nodes.types) (predicate_paths w)) predicates.now }
+    ensures { result ≡
+        list_all (λ w. list_all (is_path_at store.now.nodes.types) (predicate_paths w)) predicates.now }
 {
-    for predicate in predicates {
-        if !names_paths(store, predicate) {
-            return false;
-        }
-    }
-    true
+    predicates.iter().all(|predicate| names_paths(store, predicate))
 }
 
 /// Whether what the predicates name as paths are paths.
@@ -136,12 +131,7 @@ pub(crate) fn generics_name_paths(store: &ExpressionStore, generics: &GenericPar
 pub(crate) fn has_types(store: &ExpressionStore, ids: &[TypeRefId]) -> bool
     ensures { result ≡ types_there store.now.nodes ids.now }
 {
-    for id in ids {
-        if !has_type(store, *id) {
-            return false;
-        }
-    }
-    true
+    ids.iter().all(|id| has_type(store, *id))
 }
 
 fn has_field(store: &ExpressionStore, field: &FieldData) -> bool
@@ -154,10 +144,5 @@ fn has_field(store: &ExpressionStore, field: &FieldData) -> bool
 pub(crate) fn has_fields(store: &ExpressionStore, fields: &[FieldData]) -> bool
     ensures { result ≡ list_all (λ f. all_there store.now.nodes (field_calls f)) fields.now }
 {
-    for field in fields {
-        if !has_field(store, field) {
-            return false;
-        }
-    }
-    true
+    fields.iter().all(|field| has_field(store, field))
 }

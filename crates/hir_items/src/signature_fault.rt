@@ -3,21 +3,35 @@
 ghost use Rattle.hir_items.specs.Signatures.{ids_fault};
 
 use hir_base::ExactEq;
-use thiserror::Error;
+use std::fmt::{self, Display};
 
 /// Why a signature is refused: the first of its faults, in this order. The text is the name.
-#[derive(Clone, Copy, Debug, Drop, PartialEq, Eq, Error)]
+#[derive(Clone, Copy, Debug, PartialEq, Eq)]
 pub enum SignatureFault {
     /// An id of the lists, the return type, the parameters or the predicates isn't in the store.
-    #[error("IdOutOfRange")]
     IdOutOfRange,
     /// A bound of a predicate names as a path a type that is none.
-    #[error("NotAPath")]
     NotAPath,
     /// Memory was refused. The tests take none, so no maker answers it.
-    #[error("Memory")]
     Memory,
 }
+
+impl Display for SignatureFault {
+    ghost use Rattle.std.specs.Prelude.{Some};
+    ghost use Rattle.hir_items.specs.FaultTexts.{signature_fault_text};
+
+    ghost output = { λ fault. Some (signature_fault_text fault) };
+
+    fn fmt<W: fmt::Write>(&self, f: &mut fmt::Formatter<W>) -> fmt::Result {
+        match self {
+            SignatureFault::IdOutOfRange => f.write_str("IdOutOfRange"),
+            SignatureFault::NotAPath => f.write_str("NotAPath"),
+            SignatureFault::Memory => f.write_str("Memory"),
+        }
+    }
+}
+
+impl std::error::Error for SignatureFault {}
 
 impl ExactEq for SignatureFault {
     ghost use Rattle.hir_base.specs.Exact.{exact};

@@ -7,8 +7,8 @@ ghost use Rattle.hir_items.specs.Signatures.{function_fault, struct_fault, field
 use crate::generic_params::GenericParams;
 use crate::named_ids::{generics_name_paths, has_fields, has_generics, has_type_opt, has_types};
 use crate::signature_fault::{RefusedSignature, SignatureFault, ids_fault};
-use hir_expr_store::ExpressionStore;
 use hir_base::{ExactEq, ExternAbi, ModPath, Name, Seq};
+use hir_expr_store::ExpressionStore;
 use hir_node::{ExprId, TypeRefId};
 use std::marker::Model;
 
@@ -21,7 +21,7 @@ pub enum FieldsShape {
 }
 
 impl ExactEq for FieldsShape {
-    ghost use Rattle.hir_items.specs.SameSignatures.{shapes_decide};
+    ghost use Rattle.hir_items.specs.same.SameSignatures.{shapes_decide};
 
     ghost eq_decides = { shapes_decide };
 }
@@ -40,7 +40,7 @@ pub enum RawVisibility {
 }
 
 impl ExactEq for RawVisibility {
-    ghost use Rattle.hir_items.specs.SameSignatures.{visibilities_decide};
+    ghost use Rattle.hir_items.specs.same.SameSignatures.{visibilities_decide};
 
     ghost eq_decides = { visibilities_decide };
 }
@@ -58,7 +58,7 @@ pub struct FieldData {
 }
 
 impl ExactEq for FieldData {
-    ghost use Rattle.hir_items.specs.SameSignatures.{fields_decide};
+    ghost use Rattle.hir_items.specs.same.SameSignatures.{fields_decide};
 
     ghost eq_decides = { fields_decide };
 }
@@ -91,7 +91,7 @@ pub struct FunctionParts {
 }
 
 impl ExactEq for FunctionParts {
-    ghost use Rattle.hir_items.specs.SameSignatures.{functions_decide};
+    ghost use Rattle.hir_items.specs.same.SameSignatures.{functions_decide};
 
     ghost eq_decides = { functions_decide };
 }
@@ -124,7 +124,7 @@ impl Drop for FunctionSignature {
 }
 
 impl ExactEq for FunctionSignature {
-    ghost use Rattle.hir_items.specs.SameSignatures.{functions_decide};
+    ghost use Rattle.hir_items.specs.same.SameSignatures.{functions_decide};
 
     ghost eq_decides = { functions_decide };
 }
@@ -152,7 +152,8 @@ impl FunctionSignature {
     /// The signature of these parts. Else their first fault, and the parts as they were. It takes no memory.
     pub fn new(parts: FunctionParts) -> Result<FunctionSignature, RefusedSignature<FunctionParts>>
         ensures ok { IfOk result (λ made. (made ≡ parts) × function_fault parts None) }
-        ensures err { IfErr result (λ refused. (refused.parts ≡ parts) × function_fault parts (Some refused.fault)) }
+        ensures err { IfErr result (λ refused.
+            (refused.parts ≡ parts) × function_fault parts (Some refused.fault)) }
     {
         match parts.first_fault() {
             None => Ok(FunctionSignature { function: parts }),
@@ -255,7 +256,7 @@ pub struct StructParts {
 }
 
 impl ExactEq for StructParts {
-    ghost use Rattle.hir_items.specs.SameSignatures.{structs_decide};
+    ghost use Rattle.hir_items.specs.same.SameSignatures.{structs_decide};
 
     ghost eq_decides = { structs_decide };
 }
@@ -286,7 +287,7 @@ impl Drop for StructSignature {
 }
 
 impl ExactEq for StructSignature {
-    ghost use Rattle.hir_items.specs.SameSignatures.{structs_decide};
+    ghost use Rattle.hir_items.specs.same.SameSignatures.{structs_decide};
 
     ghost eq_decides = { structs_decide };
 }
@@ -314,7 +315,8 @@ impl StructSignature {
     /// The signature of these parts. Else their first fault, and the parts as they were. It takes no memory.
     pub fn new(parts: StructParts) -> Result<StructSignature, RefusedSignature<StructParts>>
         ensures ok { IfOk result (λ made. (made ≡ parts) × struct_fault parts None) }
-        ensures err { IfErr result (λ refused. (refused.parts ≡ parts) × struct_fault parts (Some refused.fault)) }
+        ensures err { IfErr result (λ refused.
+            (refused.parts ≡ parts) × struct_fault parts (Some refused.fault)) }
     {
         match parts.first_fault() {
             None => Ok(StructSignature { structure: parts }),
@@ -370,7 +372,7 @@ pub struct VariantParts {
 }
 
 impl ExactEq for VariantParts {
-    ghost use Rattle.hir_items.specs.SameSignatures.{variants_decide};
+    ghost use Rattle.hir_items.specs.same.SameSignatures.{variants_decide};
 
     ghost eq_decides = { variants_decide };
 }
@@ -398,7 +400,7 @@ impl Drop for VariantFields {
 }
 
 impl ExactEq for VariantFields {
-    ghost use Rattle.hir_items.specs.SameSignatures.{variants_decide};
+    ghost use Rattle.hir_items.specs.same.SameSignatures.{variants_decide};
 
     ghost eq_decides = { variants_decide };
 }
@@ -426,7 +428,8 @@ impl VariantFields {
     /// The signature of these parts. Else their first fault, and the parts as they were. It takes no memory.
     pub fn new(parts: VariantParts) -> Result<VariantFields, RefusedSignature<VariantParts>>
         ensures ok { IfOk result (λ made. (made ≡ parts) × fields_fault parts None) }
-        ensures err { IfErr result (λ refused. (refused.parts ≡ parts) × fields_fault parts (Some refused.fault)) }
+        ensures err { IfErr result (λ refused.
+            (refused.parts ≡ parts) × fields_fault parts (Some refused.fault)) }
     {
         match parts.first_fault() {
             None => Ok(VariantFields { variant: parts }),
@@ -466,7 +469,7 @@ pub struct PlainParts {
 }
 
 impl ExactEq for PlainParts {
-    ghost use Rattle.hir_items.specs.SameSignatures.{plains_decide};
+    ghost use Rattle.hir_items.specs.same.SameSignatures.{plains_decide};
 
     ghost eq_decides = { plains_decide };
 }
@@ -497,7 +500,7 @@ impl Drop for PlainSignature {
 }
 
 impl ExactEq for PlainSignature {
-    ghost use Rattle.hir_items.specs.SameSignatures.{plains_decide};
+    ghost use Rattle.hir_items.specs.same.SameSignatures.{plains_decide};
 
     ghost eq_decides = { plains_decide };
 }
@@ -525,7 +528,8 @@ impl PlainSignature {
     /// The signature of these parts. Else their first fault, and the parts as they were. It takes no memory.
     pub fn new(parts: PlainParts) -> Result<PlainSignature, RefusedSignature<PlainParts>>
         ensures ok { IfOk result (λ made. (made ≡ parts) × plain_fault parts None) }
-        ensures err { IfErr result (λ refused. (refused.parts ≡ parts) × plain_fault parts (Some refused.fault)) }
+        ensures err { IfErr result (λ refused.
+            (refused.parts ≡ parts) × plain_fault parts (Some refused.fault)) }
     {
         match parts.first_fault() {
             None => Ok(PlainSignature { plain: parts }),

@@ -3,7 +3,7 @@ use crate::memory::push;
 use crate::trees::{self, BindingOf, ExprOf, PatOf, Tree};
 use hir_base::{Idx, Seq};
 use hir_items::{Body, BodyFault, Param, RefusedBody, body_laws};
-use hir_node::PatId;
+use hir_node::{Expr, Literal, Pat, PatId};
 use std::alloc::{AllocError, Global};
 use std::test::Fail;
 
@@ -180,6 +180,31 @@ fn are(params: &[Param<PatId>], numbers: &[Numbers]) -> bool {
     params.len() == numbers.len()
 }
 
+/// What the body evaluates to. An id that a body gives is in its store: nothing is tested first.
+fn value_of(body: &Body) -> &Expr {
+    &body.store()[body.root_expr()]
+}
+
+/// Whether each parameter is a pattern, as the body has it and as the user wrote it.
+fn has_patterns(body: &Body) -> bool {
+    for param in body.params() {
+        let formal = &body.store()[param.formal];
+        let user_written = &body.store()[param.user_written];
+        if *formal == Pat::Missing || *user_written == Pat::Missing {
+            return false;
+        }
+    }
+    true
+}
+
+/// Whether the binding of `self` is called so, where there is one.
+fn has_self(body: &Body) -> bool {
+    match body.self_param() {
+        Some(param) => body.store()[param.formal].name.as_str() == "self",
+        None => true,
+    }
+}
+
 /// What tests ask of a body that is accepted, and of one that is refused.
 trait Answered {
     /// Whether it is what is wanted, and its parts are there, or come back, as they were given.
@@ -199,7 +224,9 @@ impl Answered for Body {
         *wanted == Ok((self.root_expr().into_raw(), of_self))
             && are(self.params(), params)
             && self.self_param() == self_param.map(param)
-            && self.store().has_expr(Idx::from_raw(0))
+            && *value_of(self) == Expr::Literal(Literal::Int(1, None))
+            && has_patterns(self)
+            && has_self(self)
             && *self == *self
     }
 }
@@ -237,6 +264,7 @@ fn roots_faults_and_parts(rt: HostRuntime) -> Result<(), Fail> {
     body_laws::first_body_fault_is_one();
     body_laws::tops_are_there();
     body_laws::tops_lie_apart();
+    body_laws::what_a_body_reaches_is_there();
     for (i, case) in CASES.iter().enumerate() {
         assert!(&rt; is_answered(rt.alloc(), case)?, "case {i}");
     }

@@ -5,55 +5,55 @@ use Rattle.std.specs.Option.{option_map}
 use Rattle.std.specs.FinMap as map
 use Rattle.hir_base.specs.Table.{by_code}
 use Rattle.hir_source.specs.declared.diagnostics.ExpressionStoreDiagnostics.{ExpressionStoreDiagnostics}
-use Rattle.hir_source.specs.declared.part.ExprSources.{ExprSources}
+use Rattle.hir_source.specs.declared.sources.ExprSources.{ExprSources}
 use Rattle.hir_source.specs.declared.source_map.ExpressionStoreSourceMap.{ExpressionStoreSourceMap}
-use Rattle.hir_source.specs.Parts.{Source, id_key}
+use Rattle.hir_source.specs.Sources.{id_key}
 use Rattle.hir_source.specs.Lookups.{expr_source, pat_source, label_source, type_source, lifetime_source, expansions_of, diagnostics_of}
-use Rattle.hir_source.specs.Compared.{ComparedPart, Compared, compared_part, compared}
+use Rattle.hir_source.specs.Compared.{ComparedExprs, compared_exprs, compared}
 
 -- parts with one compared part give one, kept or not
-pub kept_alike : (p q : ExprSources) → compared_part p ≡ compared_part q → (b : Bool) → option_map compared_part (cond b (Some p) None) ≡ option_map compared_part (cond b (Some q) None)
+pub kept_alike : (p q : ExprSources) → compared_exprs p ≡ compared_exprs q → (b : Bool) → option_map compared_exprs (cond b (Some p) None) ≡ option_map compared_exprs (cond b (Some q) None)
 kept_alike p q same true = λ i. Some (same i)
 kept_alike p q same false = refl
 
-looked : {V : Type 0} → (ComparedPart → map.FinMap by_code V) → Option ComparedPart → List ℕ → Option V
+looked : {V : Type 0} → (ComparedExprs → map.FinMap by_code V) → Option ComparedExprs → List ℕ → Option V
 looked family None key = None
 looked family (Some part) key = map.get (family part) key
 
-expr_looked : (e : Option ExprSources) (t : ExpressionStoreSourceMap) (id : ℕ) → expr_source (record t { exprs = e }) id ≡ looked (λ p. p.exprs) (option_map compared_part e) (id_key id)
+expr_looked : (e : Option ExprSources) (t : ExpressionStoreSourceMap) (id : ℕ) → expr_source (record t { exprs = e }) id ≡ looked (λ p. p.exprs) (option_map compared_exprs e) (id_key id)
 unfolding looked
 expr_looked None t id = refl
 expr_looked (Some p) t id = refl
 
-pat_looked : (e : Option ExprSources) (t : ExpressionStoreSourceMap) (id : ℕ) → pat_source (record t { exprs = e }) id ≡ looked (λ p. p.pats) (option_map compared_part e) (id_key id)
+pat_looked : (e : Option ExprSources) (t : ExpressionStoreSourceMap) (id : ℕ) → pat_source (record t { exprs = e }) id ≡ looked (λ p. p.pats) (option_map compared_exprs e) (id_key id)
 unfolding looked
 pat_looked None t id = refl
 pat_looked (Some p) t id = refl
 
-label_looked : (e : Option ExprSources) (t : ExpressionStoreSourceMap) (id : ℕ) → label_source (record t { exprs = e }) id ≡ looked (λ p. p.labels) (option_map compared_part e) (id_key id)
+label_looked : (e : Option ExprSources) (t : ExpressionStoreSourceMap) (id : ℕ) → label_source (record t { exprs = e }) id ≡ looked (λ p. p.labels) (option_map compared_exprs e) (id_key id)
 unfolding looked
 label_looked None t id = refl
 label_looked (Some p) t id = refl
 
-calls_kept : Option ComparedPart → map.FinMap by_code ℕ
+calls_kept : Option ComparedExprs → map.FinMap by_code ℕ
 calls_kept None = map.empty
 calls_kept (Some part) = part.expansions
 
-expansions_kept : (e : Option ExprSources) (t : ExpressionStoreSourceMap) → expansions_of (record t { exprs = e }) ≡ calls_kept (option_map compared_part e)
+expansions_kept : (e : Option ExprSources) (t : ExpressionStoreSourceMap) → expansions_of (record t { exprs = e }) ≡ calls_kept (option_map compared_exprs e)
 unfolding calls_kept
 expansions_kept None t = refl
 expansions_kept (Some p) t = refl
 
-notes_kept : Option ComparedPart → List ExpressionStoreDiagnostics
+notes_kept : Option ComparedExprs → List ExpressionStoreDiagnostics
 notes_kept None = []
 notes_kept (Some part) = part.diagnostics
 
-diagnostics_kept : (e : Option ExprSources) (t : ExpressionStoreSourceMap) → diagnostics_of (record t { exprs = e }) ≡ notes_kept (option_map compared_part e)
+diagnostics_kept : (e : Option ExprSources) (t : ExpressionStoreSourceMap) → diagnostics_of (record t { exprs = e }) ≡ notes_kept (option_map compared_exprs e)
 unfolding notes_kept
 diagnostics_kept None t = refl
 diagnostics_kept (Some p) t = refl
 
-some_kept : (e : Option ExprSources) → is_some e ≡ is_some (option_map compared_part e)
+some_kept : (e : Option ExprSources) → is_some e ≡ is_some (option_map compared_exprs e)
 some_kept None = refl
 some_kept (Some p) = refl
 

@@ -1,11 +1,11 @@
 -- Definitions with one more, and definitions in which a list was put back.
-use Rattle.std.proofs.Common.{◌≡◌, ℕ, List, [], ◌∷◌, ◌++◌, Bool, true, false, cond, refl, ap, sym, ◌∙◌, subst}
-use Rattle.std.specs.Prelude.{Option, Some, None, OnSome}
+use Rattle.std.proofs.Common.{◌≡◌, ℕ, List, [], ◌∷◌, ◌++◌, true, false, cond, refl, ap, sym, ◌∙◌, subst}
+use Rattle.std.specs.Prelude.{Option, Some, OnSome}
 use Rattle.std.specs.Ordering.{eq_by_cmp}
 use Rattle.std.specs.Cmp.Lexicographic.{nat_list_cmp_total}
 use Rattle.std.specs.FinMap as map
 use Rattle.hir_base.specs.Table.{by_code, by_code-IsAntisymmetric, by_code_decides}
-use Rattle.hir_source.specs.Parts.{id_key, list_or_none, and_definition}
+use Rattle.hir_source.specs.Sources.{id_key, list_or_none, and_definition}
 
 -- what follows from a value that is there
 pub of_some : {A P : Type 0} {o : Option A} {x : A} → o ≡ Some x → OnSome o P → P

@@ -1,9 +1,6 @@
-pub mod Parts
-pub mod SameDiagnostics
+pub mod Sources
 pub mod Additions
 pub mod Lookups
 pub mod Calls
 pub mod Compared
-pub mod SameCompared
-pub mod SameMaps
-pub mod SameBuilders
+pub mod same

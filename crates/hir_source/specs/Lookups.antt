@@ -6,9 +6,9 @@ use Rattle.hir_base.specs.declared.ptr.SyntheticSyntax.{SyntheticSyntax}
 use Rattle.hir_path.specs.declared.ids.ExprOrPatId.{ExprOrPatId}
 use Rattle.hir_path.specs.declared.ids.ExprOrPatId.TheVariants.{ExprId, PatId}
 use Rattle.hir_source.specs.declared.diagnostics.ExpressionStoreDiagnostics.{ExpressionStoreDiagnostics}
-use Rattle.hir_source.specs.declared.part.ExprSources.{ExprSources}
+use Rattle.hir_source.specs.declared.sources.ExprSources.{ExprSources}
 use Rattle.hir_source.specs.declared.source_map.ExpressionStoreSourceMap.{ExpressionStoreSourceMap}
-use Rattle.hir_source.specs.Parts.{Source, source_key, id_key, patterns_of}
+use Rattle.hir_source.specs.Sources.{Source, source_key, id_key, patterns_of}
 
 abbrev entry : {V : Type 0} → (ExprSources → map.FinMap by_code V) → Option ExprSources → List ℕ → Option V
 entry family None key = None

@@ -81,7 +81,7 @@ pub enum ExpressionStoreDiagnostics {
 }
 
 impl ExactEq for ExpressionStoreDiagnostics {
-    ghost use Rattle.hir_source.specs.SameDiagnostics.{diagnostics_decide};
+    ghost use Rattle.hir_source.specs.same.SameDiagnostics.{diagnostics_decide};
 
     ghost eq_decides = { diagnostics_decide };
 }

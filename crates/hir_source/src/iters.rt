@@ -79,10 +79,8 @@ impl<'a> Iterator for MacroCalls<'a> {
     ghost remaining = { item_count (λ rest. rest) };
 
     fn next(&mut self) -> Option<(InFile<MacroCallPtr>, MacroCallId)> {
-        match self.inner.next() {
-            Some((call, expansion)) => Some((*call, *expansion)),
-            None => None,
-        }
+        let (call, expansion) = self.inner.next()?;
+        Some((*call, *expansion))
     }
 }
 

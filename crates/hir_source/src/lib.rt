@@ -6,9 +6,9 @@ mod definitions;
 mod diagnostics;
 mod iters;
 pub mod laws;
-mod part;
 mod source_map;
 mod source_map_builder;
+mod sources;
 
 pub use diagnostics::{ExpressionStoreDiagnostics, MissingBodyItemKind};
 pub use iters::{Expansions, MacroCalls};

@@ -5,13 +5,13 @@ ghost use Rattle.std.specs.List.Sorted.{IsPermutation};
 ghost use Rattle.std.specs.FinMap as map;
 ghost use Rattle.hir_base.specs.Exact.{exact};
 ghost use Rattle.hir_base.specs.Table.{coded};
-ghost use Rattle.hir_source.specs.Parts.{source_key};
-ghost use Rattle.hir_source.specs.Compared.{same_part};
-ghost use Rattle.hir_source.specs.SameDiagnostics.{diagnostics_decide};
+ghost use Rattle.hir_source.specs.Sources.{source_key};
+ghost use Rattle.hir_source.specs.Compared.{same_exprs};
+ghost use Rattle.hir_source.specs.same.SameDiagnostics.{diagnostics_decide};
 
 use crate::diagnostics::ExpressionStoreDiagnostics;
 use crate::iters::{Expansions, MacroCalls};
-use crate::part::{ExprSources, TypeSources};
+use crate::sources::{ExprSources, TypeSources};
 use hir_base::{
     AstPtr, ExprOrPatSource, ExprPtr, ExprSource, FieldSource, InFile, LabelSource, MacroCallId,
     MacroCallPtr, PatFieldSource, PatPtr, SyntheticSyntax, TypePtr, TypeSource, ast,
@@ -55,38 +55,26 @@ impl ExpressionStoreSourceMap {
     pub fn expr_syntax(&self, expr: ExprId) -> Result<ExprOrPatSource, SyntheticSyntax>
         ensures { result ≡ or_synthetic (expr_source self.now expr) }
     {
-        let part = match &self.exprs {
-            Some(part) => part,
-            None => return Err(SyntheticSyntax),
-        };
-        match part.expr_map_back.get(&expr) {
-            Some(source) => Ok(*source),
-            None => Err(SyntheticSyntax),
-        }
+        let exprs = self.exprs.as_ref().ok_or(SyntheticSyntax)?;
+        let source = exprs.expr_map_back.get(&expr);
+        source.copied().ok_or(SyntheticSyntax)
     }
 
     /// Where the pattern came from.
     pub fn pat_syntax(&self, pat: PatId) -> Result<ExprOrPatSource, SyntheticSyntax>
         ensures { result ≡ or_synthetic (pat_source self.now pat) }
     {
-        let part = match &self.exprs {
-            Some(part) => part,
-            None => return Err(SyntheticSyntax),
-        };
-        match part.pat_map_back.get(&pat) {
-            Some(source) => Ok(*source),
-            None => Err(SyntheticSyntax),
-        }
+        let exprs = self.exprs.as_ref().ok_or(SyntheticSyntax)?;
+        let source = exprs.pat_map_back.get(&pat);
+        source.copied().ok_or(SyntheticSyntax)
     }
 
     /// Where the type came from.
     pub fn type_syntax(&self, type_ref: TypeRefId) -> Result<TypeSource, SyntheticSyntax>
         ensures { result ≡ or_synthetic (type_source self.now type_ref) }
     {
-        match self.types.type_map_back.get(&type_ref) {
-            Some(source) => Ok(*source),
-            None => Err(SyntheticSyntax),
-        }
+        let source = self.types.type_map_back.get(&type_ref);
+        source.copied().ok_or(SyntheticSyntax)
     }
 
     /// What the expression in source became: an expression, or a pattern where it is assigned to.
@@ -158,7 +146,7 @@ impl ExpressionStoreSourceMap {
         ensures { IsPermutation (coded source_key result) (map.entries (expansions_of self.now)) }
     {
         match &self.exprs {
-            Some(part) => Expansions::new(Some(part.expansions.iter())),
+            Some(exprs) => Expansions::new(Some(exprs.expansions.iter())),
             None => Expansions::new(None),
         }
     }
@@ -168,7 +156,7 @@ impl ExpressionStoreSourceMap {
         ensures { IsTrue result ↔ IsSome (label_source self.now label) }
     {
         match &self.exprs {
-            Some(part) => part.label_map_back.get(&label).is_some(),
+            Some(exprs) => exprs.label_map_back.get(&label).is_some(),
             None => false,
         }
     }
@@ -178,11 +166,11 @@ impl ExpressionStoreSourceMap {
         requires { IsSome (label_source self.now label) }
         ensures { Some result ≡ label_source self.now label }
     {
-        let part = match &self.exprs {
-            Some(part) => part,
+        let exprs = match &self.exprs {
+            Some(exprs) => exprs,
             None => unreachable!(),
         };
-        match part.label_map_back.get(&label) {
+        match exprs.label_map_back.get(&label) {
             Some(source) => *source,
             None => unreachable!(),
         }
@@ -193,7 +181,7 @@ impl ExpressionStoreSourceMap {
         ensures { IsTrue result ↔ IsSome (field_source self.now expr) }
     {
         match &self.exprs {
-            Some(part) => part.field_map_back.get(&expr).is_some(),
+            Some(exprs) => exprs.field_map_back.get(&expr).is_some(),
             None => false,
         }
     }
@@ -203,11 +191,11 @@ impl ExpressionStoreSourceMap {
         requires { IsSome (field_source self.now expr) }
         ensures { Some result ≡ field_source self.now expr }
     {
-        let part = match &self.exprs {
-            Some(part) => part,
+        let exprs = match &self.exprs {
+            Some(exprs) => exprs,
             None => unreachable!(),
         };
-        match part.field_map_back.get(&expr) {
+        match exprs.field_map_back.get(&expr) {
             Some(source) => *source,
             None => unreachable!(),
         }
@@ -218,7 +206,7 @@ impl ExpressionStoreSourceMap {
         ensures { IsTrue result ↔ IsSome (pat_field_source self.now pat) }
     {
         match &self.exprs {
-            Some(part) => part.pat_field_map_back.get(&pat).is_some(),
+            Some(exprs) => exprs.pat_field_map_back.get(&pat).is_some(),
             None => false,
         }
     }
@@ -228,11 +216,11 @@ impl ExpressionStoreSourceMap {
         requires { IsSome (pat_field_source self.now pat) }
         ensures { Some result ≡ pat_field_source self.now pat }
     {
-        let part = match &self.exprs {
-            Some(part) => part,
+        let exprs = match &self.exprs {
+            Some(exprs) => exprs,
             None => unreachable!(),
         };
-        match part.pat_field_map_back.get(&pat) {
+        match exprs.pat_field_map_back.get(&pat) {
             Some(source) => *source,
             None => unreachable!(),
         }
@@ -242,11 +230,11 @@ impl ExpressionStoreSourceMap {
     pub fn patterns_for_binding(&self, binding: BindingId) -> &[PatId]
         ensures { result.now ≡ patterns_for self.now binding }
     {
-        let part = match &self.exprs {
-            Some(part) => part,
+        let exprs = match &self.exprs {
+            Some(exprs) => exprs,
             None => return &[],
         };
-        match part.definitions.get(&binding) {
+        match exprs.definitions.get(&binding) {
             Some(patterns) => patterns.as_slice(),
             None => &[],
         }
@@ -257,15 +245,16 @@ impl ExpressionStoreSourceMap {
         ensures { result.now ≡ diagnostics_of self.now }
     {
         match &self.exprs {
-            Some(part) => part.diagnostics.as_slice(),
+            Some(exprs) => exprs.diagnostics.as_slice(),
             None => &[],
         }
     }
 }
 
 /// Whether what is compared of two expression parts is equal.
-fn same_part(x: &ExprSources, y: &ExprSources) -> bool
-    ensures { result ≡ same_part ⟦<ExprOrPatSource as PartialEq>⟧.eq ⟦<MacroCallId as PartialEq>⟧.eq ⟦<ExpressionStoreDiagnostics as PartialEq>⟧.eq x.now y.now }
+fn same_exprs(x: &ExprSources, y: &ExprSources) -> bool
+    ensures { result ≡ same_exprs ⟦<ExprOrPatSource as PartialEq>⟧.eq ⟦<MacroCallId as PartialEq>⟧.eq
+        ⟦<ExpressionStoreDiagnostics as PartialEq>⟧.eq x.now y.now }
 {
     x.expr_map_back == y.expr_map_back
         && x.pat_map_back == y.pat_map_back
@@ -278,15 +267,16 @@ fn same_part(x: &ExprSources, y: &ExprSources) -> bool
 /// and lifetimes came from, the expansions and the diagnostics. The maps from sources to nodes follow from these, and may differ.
 impl PartialEq for ExpressionStoreSourceMap {
     ghost use Rattle.hir_source.specs.Compared.{same_compared};
-    ghost use Rattle.hir_source.specs.SameCompared.{compared_per};
+    ghost use Rattle.hir_source.specs.same.SameCompared.{compared_per};
 
-    ghost eq = { same_compared ⟦<ExprOrPatSource as PartialEq>⟧.eq ⟦<MacroCallId as PartialEq>⟧.eq ⟦<ExpressionStoreDiagnostics as PartialEq>⟧.eq };
+    ghost eq = { same_compared ⟦<ExprOrPatSource as PartialEq>⟧.eq ⟦<MacroCallId as PartialEq>⟧.eq
+        ⟦<ExpressionStoreDiagnostics as PartialEq>⟧.eq };
 
     ghost laws = { compared_per (Prim.search exact) (Prim.search exact) diagnostics_decide };
 
     fn eq(&self, other: &ExpressionStoreSourceMap) -> bool {
         let same = match (&self.exprs, &other.exprs) {
-            (Some(mine), Some(theirs)) => same_part(mine, theirs),
+            (Some(mine), Some(theirs)) => same_exprs(mine, theirs),
             (None, None) => true,
             (Some(_), None) | (None, Some(_)) => false,
         };
@@ -296,7 +286,7 @@ impl PartialEq for ExpressionStoreSourceMap {
 }
 
 impl Eq for ExpressionStoreSourceMap {
-    ghost use Rattle.hir_source.specs.SameCompared.{compared_equiv};
+    ghost use Rattle.hir_source.specs.same.SameCompared.{compared_equiv};
 
     ghost laws = { compared_equiv (Prim.search exact) (Prim.search exact) diagnostics_decide };
 }

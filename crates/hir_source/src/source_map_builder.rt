@@ -2,15 +2,15 @@
 
 ghost use Rattle.std.specs.Prelude.{◌≡◌, [], ◌∷◌, OnOk, OnErr, IfErr};
 ghost use Rattle.std.specs.FinMap as map;
-ghost use Rattle.hir_source.specs.Parts.{id_key, and_definition};
+ghost use Rattle.hir_source.specs.Sources.{id_key, and_definition};
 
 use crate::definitions::Definitions;
 use crate::diagnostics::ExpressionStoreDiagnostics;
-use crate::part::{ExprSources, TypeSources};
 use crate::source_map::ExpressionStoreSourceMap;
+use crate::sources::{ExprSources, TypeSources};
 use hir_base::{
-    ExprOrPatSource, ExprSource, FieldSource, InFile, Keyed, LabelSource, LifetimeSource,
-    MacroCallId, MacroCallPtr, PatFieldSource, PatSource, Table, TypeSource,
+    ExprOrPatSource, ExprSource, FieldSource, InFile, LabelSource, LifetimeSource, MacroCallId,
+    MacroCallPtr, PatFieldSource, PatSource, Table, TypeSource,
 };
 use hir_path::{BindingId, ExprId, ExprOrPatId, LabelId, LifetimeRefId, PatId, TypeRefId};
 use std::alloc::{AllocFailed, Global};
@@ -31,22 +31,6 @@ impl Drop for SourceMapBuilder {
             types,
             alloc,
         } = self;
-    }
-}
-
-/// Gives the key this value, in the place of the one that it had.
-fn put<K: Keyed + Drop, V: Drop>(
-    table: &mut Table<K, V>,
-    key: K,
-    value: V,
-) -> Result<(), AllocFailed<(K, V)>>
-    ensures ok { OnOk result (table.new ≡ map.insert table.old (K.code key) value) }
-    ensures err { OnErr result (table.new ≡ table.old) }
-    ensures value_returned { IfErr result (λ failed. failed.value ≡ (key, value)) }
-{
-    match table.insert(key, value) {
-        Ok(_) => Ok(()),
-        Err(failed) => Err(failed),
     }
 }
 
@@ -77,7 +61,7 @@ impl SourceMapBuilder {
         ensures err { OnErr result (self.new ≡ self.old) }
         ensures value_returned { IfErr result (λ failed. failed.value ≡ (source, expr)) }
     {
-        put(&mut self.exprs.expr_map, source, expr)
+        self.exprs.expr_map.put(source, expr)
     }
 
     /// The expression came from this source.
@@ -90,7 +74,7 @@ impl SourceMapBuilder {
         ensures err { OnErr result (self.new ≡ self.old) }
         ensures value_returned { IfErr result (λ failed. failed.value ≡ (expr, source)) }
     {
-        put(&mut self.exprs.expr_map_back, expr, source)
+        self.exprs.expr_map_back.put(expr, source)
     }
 
     /// This source became this pattern, or this expression.
@@ -103,7 +87,7 @@ impl SourceMapBuilder {
         ensures err { OnErr result (self.new ≡ self.old) }
         ensures value_returned { IfErr result (λ failed. failed.value ≡ (source, pat)) }
     {
-        put(&mut self.exprs.pat_map, source, pat)
+        self.exprs.pat_map.put(source, pat)
     }
 
     /// The pattern came from this source.
@@ -116,7 +100,7 @@ impl SourceMapBuilder {
         ensures err { OnErr result (self.new ≡ self.old) }
         ensures value_returned { IfErr result (λ failed. failed.value ≡ (pat, source)) }
     {
-        put(&mut self.exprs.pat_map_back, pat, source)
+        self.exprs.pat_map_back.put(pat, source)
     }
 
     /// This source became this label.
@@ -129,7 +113,7 @@ impl SourceMapBuilder {
         ensures err { OnErr result (self.new ≡ self.old) }
         ensures value_returned { IfErr result (λ failed. failed.value ≡ (source, label)) }
     {
-        put(&mut self.exprs.label_map, source, label)
+        self.exprs.label_map.put(source, label)
     }
 
     /// The label came from this source.
@@ -142,7 +126,7 @@ impl SourceMapBuilder {
         ensures err { OnErr result (self.new ≡ self.old) }
         ensures value_returned { IfErr result (λ failed. failed.value ≡ (label, source)) }
     {
-        put(&mut self.exprs.label_map_back, label, source)
+        self.exprs.label_map_back.put(label, source)
     }
 
     /// This source became this type.
@@ -155,7 +139,7 @@ impl SourceMapBuilder {
         ensures err { OnErr result (self.new ≡ self.old) }
         ensures value_returned { IfErr result (λ failed. failed.value ≡ (source, type_ref)) }
     {
-        put(&mut self.types.type_map, source, type_ref)
+        self.types.type_map.put(source, type_ref)
     }
 
     /// The type came from this source.
@@ -168,7 +152,7 @@ impl SourceMapBuilder {
         ensures err { OnErr result (self.new ≡ self.old) }
         ensures value_returned { IfErr result (λ failed. failed.value ≡ (type_ref, source)) }
     {
-        put(&mut self.types.type_map_back, type_ref, source)
+        self.types.type_map_back.put(type_ref, source)
     }
 
     /// This source became this lifetime.
@@ -181,7 +165,7 @@ impl SourceMapBuilder {
         ensures err { OnErr result (self.new ≡ self.old) }
         ensures value_returned { IfErr result (λ failed. failed.value ≡ (source, lifetime)) }
     {
-        put(&mut self.types.lifetime_map, source, lifetime)
+        self.types.lifetime_map.put(source, lifetime)
     }
 
     /// The lifetime came from this source.
@@ -194,7 +178,7 @@ impl SourceMapBuilder {
         ensures err { OnErr result (self.new ≡ self.old) }
         ensures value_returned { IfErr result (λ failed. failed.value ≡ (lifetime, source)) }
     {
-        put(&mut self.types.lifetime_map_back, lifetime, source)
+        self.types.lifetime_map_back.put(lifetime, source)
     }
 
     /// The field of which the expression is the value came from this source.
@@ -207,7 +191,7 @@ impl SourceMapBuilder {
         ensures err { OnErr result (self.new ≡ self.old) }
         ensures value_returned { IfErr result (λ failed. failed.value ≡ (expr, source)) }
     {
-        put(&mut self.exprs.field_map_back, expr, source)
+        self.exprs.field_map_back.put(expr, source)
     }
 
     /// The field that holds the pattern came from this source.
@@ -220,7 +204,7 @@ impl SourceMapBuilder {
         ensures err { OnErr result (self.new ≡ self.old) }
         ensures value_returned { IfErr result (λ failed. failed.value ≡ (pat, source)) }
     {
-        put(&mut self.exprs.pat_field_map_back, pat, source)
+        self.exprs.pat_field_map_back.put(pat, source)
     }
 
     /// The macro call has this expansion.
@@ -233,7 +217,7 @@ impl SourceMapBuilder {
         ensures err { OnErr result (self.new ≡ self.old) }
         ensures value_returned { IfErr result (λ failed. failed.value ≡ (call, expansion)) }
     {
-        put(&mut self.exprs.expansions, call, expansion)
+        self.exprs.expansions.put(call, expansion)
     }
 
     /// The pattern defines the binding, beside the patterns that were said to before.
@@ -316,15 +300,9 @@ fn first_definition(
     ensures value_returned { IfErr result (λ failed. failed.value ≡ (binding, pat)) }
 {
     let mut list = Definitions::new(alloc);
-    if list.push(pat).is_err() {
-        return Err(AllocFailed {
-            value: (binding, pat),
-        });
+    let value = (binding, pat);
+    if list.push(pat).is_err() || definitions.put(binding, list).is_err() {
+        return Err(AllocFailed { value });
     }
-    match definitions.insert(binding, list) {
-        Ok(_) => Ok(()),
-        Err(_) => Err(AllocFailed {
-            value: (binding, pat),
-        }),
-    }
+    Ok(())
 }

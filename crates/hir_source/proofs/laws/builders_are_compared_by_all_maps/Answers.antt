@@ -1,4 +1,4 @@
-use Rattle.hir_source.specs.SameBuilders.{builders_decide}
+use Rattle.hir_source.specs.same.SameBuilders.{builders_decide}
 use Rattle.hir_source.proofs.laws.builders_are_compared_by_all_maps.Goals as goal
 
 pub returns : goal.returns

@@ -1,4 +1,4 @@
-use Rattle.hir_source.specs.SameMaps.{maps_decide}
+use Rattle.hir_source.specs.same.SameMaps.{maps_decide}
 use Rattle.hir_source.proofs.ComparedLemmas as lemma
 use Rattle.hir_source.proofs.laws.equal_maps_know_the_same_sources.Goals as goal
 

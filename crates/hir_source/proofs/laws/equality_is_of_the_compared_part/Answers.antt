@@ -1,7 +1,7 @@
 use Rattle.hir_base.specs.Exact.{exact}
-use Rattle.hir_source.specs.SameCompared.{compared_equiv}
-use Rattle.hir_source.specs.SameDiagnostics.{diagnostics_decide}
-use Rattle.hir_source.specs.SameMaps.{maps_decide}
+use Rattle.hir_source.specs.same.SameCompared.{compared_equiv}
+use Rattle.hir_source.specs.same.SameDiagnostics.{diagnostics_decide}
+use Rattle.hir_source.specs.same.SameMaps.{maps_decide}
 use Rattle.hir_source.proofs.laws.equality_is_of_the_compared_part.Goals as goal
 
 pub returns-clause-decides : goal.returns-clause-decides

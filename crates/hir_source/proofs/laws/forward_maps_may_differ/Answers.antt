@@ -1,8 +1,8 @@
 use Rattle.std.specs.Prelude.{◌||◌}
 use Rattle.std.proofs.Common.{refl}
 use Rattle.hir_source.specs.Additions.{finished, with_expr, with_pat, with_label, with_type, with_lifetime}
-use Rattle.hir_source.specs.Parts.{has_news}
-use Rattle.hir_source.specs.SameMaps.{maps_decide}
+use Rattle.hir_source.specs.Sources.{has_news}
+use Rattle.hir_source.specs.same.SameMaps.{maps_decide}
 use Rattle.hir_source.proofs.ComparedLemmas.{kept_alike}
 use Rattle.hir_source.proofs.laws.forward_maps_may_differ.Goals as goal
 

@@ -1,4 +1,4 @@
-use Rattle.hir_source.specs.Parts.{id_key}
+use Rattle.hir_source.specs.Sources.{id_key}
 use Rattle.hir_source.proofs.DefinitionLemmas.{of_some, one_more, put_back}
 use Rattle.hir_source.proofs.source_map_builder.define.Goals as goal
 

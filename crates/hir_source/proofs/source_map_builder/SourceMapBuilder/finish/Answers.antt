@@ -1,9 +1,9 @@
 use Rattle.std.proofs.Common.{◌≡◌, Bool, Option, None, Some, sym, ap, ◌∙◌}
 use Rattle.std.specs.Prelude.{◌||◌, cond}
-use Rattle.hir_source.specs.declared.part.ExprSources.{ExprSources}
-use Rattle.hir_source.specs.declared.part.TypeSources.{TypeSources}
+use Rattle.hir_source.specs.declared.sources.ExprSources.{ExprSources}
+use Rattle.hir_source.specs.declared.sources.TypeSources.{TypeSources}
 use Rattle.hir_source.specs.declared.source_map.ExpressionStoreSourceMap.{ExpressionStoreSourceMap}
-use Rattle.hir_source.specs.Parts.{has_news}
+use Rattle.hir_source.specs.Sources.{has_news}
 use Rattle.hir_source.proofs.source_map_builder.SourceMapBuilder.finish.Goals as goal
 use Rattle.hir_source.proofs.source_map_builder.SourceMapBuilder.finish.Goals.{then-keeps_nodes, else-keeps_nodes, then-has_news, else-has_news}
 

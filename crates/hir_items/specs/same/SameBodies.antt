@@ -9,13 +9,13 @@ use Rattle.hir_path.specs.Fields.{and_decides, both}
 use Rattle.hir_path.specs.contracts.ids.PatKind as pat
 use Rattle.hir_path.specs.contracts.ids.BindingKind as binding
 use Rattle.hir_source.specs.Compared.{compared}
-use Rattle.hir_source.specs.SameMaps.{maps_decide}
+use Rattle.hir_source.specs.same.SameMaps.{maps_decide}
 use Rattle.hir_expr_store.specs.SameStores.{stores_decide}
 use Rattle.hir_items.specs.declared.body_source_map.BodySourceMap.{BodySourceMap}
 use Rattle.hir_items.specs.declared.formals.Param.{Param}
 use Rattle.hir_items.specs.contracts.body.BodyPartialEq.TheImpl as body
 use Rattle.hir_items.specs.contracts.body_source_map.BodySourceMapPartialEq.TheImpl as body_maps
-use Rattle.hir_items.specs.Bodies.{BodyParts}
+use Rattle.hir_items.specs.Bodies.{BodyContents}
 
 params_decide : (x y : Param ℕ) → Decides ((id.ghosts pat.the_row).eq x.formal y.formal && (id.ghosts pat.the_row).eq x.user_written y.user_written) (x ≡ y)
 params_decide x y = search exact
@@ -26,7 +26,7 @@ self_decides x y = search exact
 selves_decide : (x y : Option (Param ℕ)) → Decides (option_eq (λ x y. (id.ghosts binding.the_row).eq x.formal y.formal && (id.ghosts binding.the_row).eq x.user_written y.user_written) x y) (x ≡ y)
 selves_decide x y = search (exact, self_decides)
 
-pub bodies_decide : (x y : BodyParts) → Decides (body.ghosts.eq x y) (x ≡ y)
+pub bodies_decide : (x y : BodyContents) → Decides (body.ghosts.eq x y) (x ≡ y)
 bodies_decide x y =
     and_decides _ _ (stores_decide x.store y.store)
     (both _ _ (pointwise_decides params_decide x.params y.params) (selves_decide x.self_param y.self_param))

@@ -1,12 +1,12 @@
 -- That `==` of source maps decides whether their compared parts are the same.
-use Rattle.std.specs.Prelude.{◌≡◌, ℕ}
+use Rattle.std.specs.Prelude.{◌≡◌}
 use Rattle.std.specs.Bool.{Decides}
 use Rattle.hir_base.specs.Exact.{exact}
 use Rattle.hir_source.specs.declared.source_map.ExpressionStoreSourceMap.{ExpressionStoreSourceMap}
 use Rattle.hir_source.specs.contracts.source_map.ExpressionStoreSourceMapPartialEq.TheImpl as maps
 use Rattle.hir_source.specs.Compared.{compared}
-use Rattle.hir_source.specs.SameCompared.{compared_decides}
-use Rattle.hir_source.specs.SameDiagnostics.{diagnostics_decide}
+use Rattle.hir_source.specs.same.SameCompared.{compared_decides}
+use Rattle.hir_source.specs.same.SameDiagnostics.{diagnostics_decide}
 
 pub maps_decide : (x y : ExpressionStoreSourceMap) → Decides (maps.ghosts.eq x y) (compared x ≡ compared y)
 maps_decide = compared_decides (search exact) (search exact) diagnostics_decide

@@ -1,12 +1,13 @@
--- The two parts of a source map: keys, parts without entries, and what an expression part is kept for.
+-- The maps of a source map, in two groups, that of expressions and that of types: their keys, both without entries,
+-- and what the first is kept for.
 use Rattle.std.specs.Prelude.{ℕ, List, [], ◌∷◌, ◌++◌, length, Bool, not, ◌||◌, Option, Some, None, ◌==◌, nat_eq}
 use Rattle.std.specs.FinMap as map
 use Rattle.hir_base.specs.Table.{by_code}
 use Rattle.hir_base.specs.Keys.{node_code}
 use Rattle.hir_base.specs.declared.ptr.InFile.{InFile}
 use Rattle.hir_base.specs.declared.ptr.SyntaxNodePtr.{SyntaxNodePtr}
-use Rattle.hir_source.specs.declared.part.ExprSources.{ExprSources}
-use Rattle.hir_source.specs.declared.part.TypeSources.{TypeSources}
+use Rattle.hir_source.specs.declared.sources.ExprSources.{ExprSources}
+use Rattle.hir_source.specs.declared.sources.TypeSources.{TypeSources}
 
 -- a source: a node of syntax, and its file
 abbrev pub Source : Type 0
@@ -36,7 +37,13 @@ no_expr_sources = record {
 }
 
 abbrev pub no_type_sources : TypeSources
-no_type_sources = record { type_map = map.empty; type_map_back = map.empty; lifetime_map = map.empty; lifetime_map_back = map.empty }
+no_type_sources =
+    record {
+      type_map = map.empty;
+      type_map_back = map.empty;
+      lifetime_map = map.empty;
+      lifetime_map_back = map.empty;
+    }
 
 -- there is an expansion or a diagnostic
 abbrev pub has_news : ExprSources → Bool
@@ -52,4 +59,5 @@ patterns_of definitions binding = list_or_none (map.get definitions (id_key bind
 
 -- the definitions with one more of this binding, behind its others
 abbrev pub and_definition : map.FinMap by_code (List ℕ) → ℕ → ℕ → map.FinMap by_code (List ℕ)
-and_definition definitions binding pat = map.insert definitions (id_key binding) (patterns_of definitions binding ++ pat ∷ [])
+and_definition definitions binding pat =
+    map.insert definitions (id_key binding) (patterns_of definitions binding ++ pat ∷ [])

@@ -8,14 +8,14 @@ use Rattle.hir_base.specs.Exact.{exact}
 use Rattle.hir_base.specs.Maps.{same_maps, same_maps_decides}
 use Rattle.hir_base.specs.Table.{by_code, by_code-IsAntisymmetric}
 use Rattle.hir_path.specs.Fields.{and_decides, both}
-use Rattle.hir_source.specs.declared.part.ExprSources.{ExprSources}
-use Rattle.hir_source.specs.declared.part.TypeSources.{TypeSources}
+use Rattle.hir_source.specs.declared.sources.ExprSources.{ExprSources}
+use Rattle.hir_source.specs.declared.sources.TypeSources.{TypeSources}
 use Rattle.hir_source.specs.declared.source_map_builder.SourceMapBuilder.{SourceMapBuilder}
-use Rattle.hir_source.specs.contracts.part.ExprSourcesPartialEq.TheImpl as exprs
-use Rattle.hir_source.specs.contracts.part.TypeSourcesPartialEq.TheImpl as types
+use Rattle.hir_source.specs.contracts.sources.ExprSourcesPartialEq.TheImpl as exprs
+use Rattle.hir_source.specs.contracts.sources.TypeSourcesPartialEq.TheImpl as types
 use Rattle.hir_source.specs.contracts.source_map_builder.SourceMapBuilderPartialEq.TheImpl as builders
 use Rattle.hir_source.specs.Additions.{HasSameMaps}
-use Rattle.hir_source.specs.SameDiagnostics.{diagnostics_decide}
+use Rattle.hir_source.specs.same.SameDiagnostics.{diagnostics_decide}
 
 tables_decide : {X : Type 0} {E : X → X → Bool} → ((x y : X) → Decides (E x y) (x ≡ y)) → (m n : map.FinMap by_code X) → Decides (same_maps by_code E m n) (m ≡ n)
 tables_decide {E = E} decides = same_maps_decides nat_list_cmp_total E by_code-IsAntisymmetric decides

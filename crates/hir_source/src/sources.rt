@@ -70,7 +70,7 @@ impl Drop for TypeSources {
 }
 
 impl ExprSources {
-    ghost use Rattle.hir_source.specs.Parts.{no_expr_sources, has_news};
+    ghost use Rattle.hir_source.specs.Sources.{no_expr_sources, has_news};
 
     /// Maps without entries.
     pub(crate) fn new(alloc: Global) -> ExprSources
@@ -100,7 +100,7 @@ impl ExprSources {
 }
 
 impl TypeSources {
-    ghost use Rattle.hir_source.specs.Parts.{no_type_sources};
+    ghost use Rattle.hir_source.specs.Sources.{no_type_sources};
 
     /// Maps without entries.
     pub(crate) fn new(alloc: Global) -> TypeSources

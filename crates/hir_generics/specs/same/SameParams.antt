@@ -2,7 +2,7 @@
 use Rattle.std.specs.Prelude.{◌≡◌}
 use Rattle.std.specs.Bool.{Decides}
 use Rattle.hir_base.specs.Exact.{exact}
-use Rattle.hir_generics.specs.Same.{type_params_decide}
+use Rattle.hir_generics.specs.same.SameData.{type_params_decide}
 use Rattle.hir_generics.specs.declared.data.ConstParamData.{ConstParamData}
 use Rattle.hir_generics.specs.declared.data.LifetimeParamData.{LifetimeParamData}
 use Rattle.hir_generics.specs.contracts.data.ConstParamDataPartialEq.TheImpl as consts

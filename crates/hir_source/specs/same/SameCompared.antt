@@ -1,5 +1,5 @@
 -- That the test of compared parts decides whether they are the same, and so is an equivalence.
-use Rattle.std.specs.Prelude.{◌≡◌, ℕ, Bool, true, ◌&&◌, Option, Some, None}
+use Rattle.std.specs.Prelude.{◌≡◌, ℕ, Bool, ◌&&◌, Option, Some, None}
 use Rattle.std.specs.Bool.{Decides, one_answer}
 use Rattle.std.specs.Option.{option_eq, option_map}
 use Rattle.std.specs.Cmp.{IsEquivalence, IsPartialEquivalence, partial_equiv_from_equiv, first_so, second_so}
@@ -8,10 +8,10 @@ use Rattle.std.proofs.Common.{sym, ◌∙◌, refl}
 use Rattle.hir_base.specs.Maps.{same_maps_decides}
 use Rattle.hir_base.specs.Table.{by_code-IsAntisymmetric}
 use Rattle.hir_source.specs.declared.diagnostics.ExpressionStoreDiagnostics.{ExpressionStoreDiagnostics}
-use Rattle.hir_source.specs.declared.part.ExprSources.{ExprSources}
+use Rattle.hir_source.specs.declared.sources.ExprSources.{ExprSources}
 use Rattle.hir_source.specs.declared.source_map.ExpressionStoreSourceMap.{ExpressionStoreSourceMap}
-use Rattle.hir_source.specs.Parts.{Source}
-use Rattle.hir_source.specs.Compared.{compared_part, compared, same_part, same_compared}
+use Rattle.hir_source.specs.Sources.{Source}
+use Rattle.hir_source.specs.Compared.{compared_exprs, compared, same_exprs, same_compared}
 
 -- two tests, one after the other
 both : {P Q : Type 0} (a b : Bool) → Decides a P → Decides b Q → Decides (a && b) (P × Q)
@@ -44,7 +44,7 @@ equivalence {E = E} f d = record {
 
 module _ {S : Source → Source → Bool} {C : ℕ → ℕ → Bool} {D : ExpressionStoreDiagnostics → ExpressionStoreDiagnostics → Bool}
     (s : (x y : Source) → Decides (S x y) (x ≡ y)) (c : (x y : ℕ) → Decides (C x y) (x ≡ y)) (d : (x y : ExpressionStoreDiagnostics) → Decides (D x y) (x ≡ y)) where
-  parts_decide : (p q : ExprSources) → Decides (same_part S C D p q) (compared_part p ≡ compared_part q)
+  parts_decide : (p q : ExprSources) → Decides (same_exprs S C D p q) (compared_exprs p ≡ compared_exprs q)
   parts_decide p q =
       let sources = same_maps_decides nat_list_cmp_total S by_code-IsAntisymmetric s in
       let calls = same_maps_decides nat_list_cmp_total C by_code-IsAntisymmetric c in
@@ -55,7 +55,7 @@ module _ {S : Source → Source → Bool} {C : ℕ → ℕ → Bool} {D : Expres
   pub compared_decides : (x y : ExpressionStoreSourceMap) → Decides (same_compared S C D x y) (compared x ≡ compared y)
   compared_decides x y =
       let sources = same_maps_decides nat_list_cmp_total S by_code-IsAntisymmetric s in
-      in_words (both _ _ (both _ _ (options compared_part parts_decide x.exprs y.exprs) (sources x.types.type_map_back y.types.type_map_back)) (sources x.types.lifetime_map_back y.types.lifetime_map_back))
+      in_words (both _ _ (both _ _ (options compared_exprs parts_decide x.exprs y.exprs) (sources x.types.type_map_back y.types.type_map_back)) (sources x.types.lifetime_map_back y.types.lifetime_map_back))
       (λ r i. record { kept = r.0.0 i; types = r.0.1 i; lifetimes = r.1 i })
       (λ e. ((λ i. (e i).kept, λ i. (e i).types), λ i. (e i).lifetimes))
 

@@ -1,0 +1,11 @@
+-- What is handed back of a body that is refused.
+use Rattle.std.specs.Prelude.{ℕ, List, Option}
+use Rattle.hir_expr_store.specs.Contents.{Contents}
+use Rattle.hir_items.specs.declared.body.RefusedBody.{RefusedBody}
+use Rattle.hir_items.specs.declared.body_fault.BodyFault.{BodyFault}
+use Rattle.hir_items.specs.declared.formals.Param.{Param}
+
+-- the fault, and the parts as they were
+abbrev pub refused_body : BodyFault → Contents → List (Param ℕ) → Option (Param ℕ) → RefusedBody
+refused_body fault store params self_param =
+    record { fault = fault; store = store; params = params; self_param = self_param }
