@@ -1,5 +1,5 @@
 -- Texts that are written to a sink piece by piece.
-use Rattle.std.proofs.Common.{◌≡◌, ◌∷◌, [], ◌++◌, List, ℕ, Bool, Option, None, Some, Result, Ok, Err, sym, ap, ◌∙◌, append-nil}
+use Rattle.std.proofs.Common.{[], ◌++◌, List, ℕ, Option, None, Some, Result, Ok, Err, sym, append-nil}
 use Rattle.std.specs.Prelude.{OnOk, OnErr}
 use Rattle.std.specs.Io.KnownBytes.{Appends}
 use Rattle.hir_io.specs.Ends.{GrowsByFront}

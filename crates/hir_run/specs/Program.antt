@@ -149,7 +149,7 @@ abbrev pub once_each : Bool → Bool → List Line → List Line
 once_each has_self has_name [] = []
 once_each has_self has_name (line ∷ rest) =
     unless_second has_self has_name line
-        ∷ once_each (has_self || gives_self line) (has_name || gives_name line) rest
+    ∷ once_each (has_self || gives_self line) (has_name || gives_name line) rest
 
 -- what texts say, each for itself; and as a script, one after another
 abbrev pub says : List (List ℕ) → List Line

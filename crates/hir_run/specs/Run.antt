@@ -33,9 +33,9 @@ IsInputCutShort input before remaining contents =
 abbrev pub IsOutputCutShort : List ℕ → List ℕ → Option (List ℕ) → Type 0
 IsOutputCutShort input before contents =
     IfSome contents
-        (λ written. (text done missing : List ℕ) × (outcome : Result (Unit {0}) RunFault)
-            × IsMeaning (script_of input) text outcome × (written ≡ before ++ done)
-            × (text ≡ done ++ missing))
+    (λ written. (text done missing : List ℕ) × (outcome : Result (Unit {0}) RunFault)
+    × IsMeaning (script_of input) text outcome × (written ≡ before ++ done)
+    × (text ≡ done ++ missing))
 
 -- memory was refused at some line: the answers of the lines before it are written, and no fault comes in these
 abbrev pub IsWithoutMemory : List ℕ → List ℕ → Option (List ℕ) → Type 0

@@ -1,12 +1,13 @@
 -- What is written of the end of a run: the text of each fault.
-use Rattle.std.specs.Prelude.{◌≡◌, ℕ, List, [], ◌∷◌, ◌++◌, Option, Result, Ok, Err, codes}
-use Rattle.std.specs.Fmt.{decimal}
+use Rattle.std.specs.Prelude.{ℕ, List, [], ◌∷◌, ◌++◌, Option, Some, Result, Ok, Err, codes}
+use Rattle.std.specs.Fmt.{decimal, option_append}
 use Rattle.std.specs.Io.KnownBytes.{Appends}
 use Rattle.hir_io.specs.Ends.{GrowsByFront}
 use Rattle.hir_node.specs.declared.node_id.NodeId.{NodeId}
 use Rattle.hir_node.specs.declared.node_id.NodeId.TheVariants as node
 use Rattle.hir_faults.specs.declared.fault.FinishFault.{FinishFault}
 use Rattle.hir_faults.specs.declared.fault.FinishFault.TheVariants as finish
+use Rattle.hir_faults.specs.contracts.fault.FinishFaultDisplay.TheImpl as finish_fault
 use Rattle.hir_run.specs.declared.fault.RunFault.{RunFault}
 use Rattle.hir_run.specs.declared.fault.RunFault.TheVariants.{BadLine, Refused, InputFailed, OutputFailed, OutOfMemory}
 
@@ -38,6 +39,14 @@ fault_text (Refused fault) = codes "refused " ++ finish_fault_text fault
 fault_text InputFailed = codes "input failed"
 fault_text OutputFailed = codes "output failed"
 fault_text OutOfMemory = codes "out of memory"
+
+-- the text that `{}` writes: that of a refusal is stated as far as the text of its fault is
+abbrev pub displayed : RunFault → Option (List ℕ)
+displayed (BadLine number) = Some (fault_text (BadLine number))
+displayed (Refused fault) = option_append (Some (codes "refused ")) (finish_fault.ghosts.output fault)
+displayed InputFailed = Some (fault_text InputFailed)
+displayed OutputFailed = Some (fault_text OutputFailed)
+displayed OutOfMemory = Some (fault_text OutOfMemory)
 
 -- what is written of an outcome: nothing of a good one, and of a fault its text and a line end
 abbrev pub text_of : Result (Unit {0}) RunFault → List ℕ

@@ -26,10 +26,9 @@ pub enum RunFault {
 
 /// What `report` writes of it, without the line end.
 impl fmt::Display for RunFault {
-    ghost use Rattle.std.specs.Prelude.{Some};
-    ghost use Rattle.hir_run.specs.Texts.{fault_text};
+    ghost use Rattle.hir_run.specs.Texts.{displayed};
 
-    ghost output = { λ fault. Some (fault_text fault) };
+    ghost output = { displayed };
 
     fn fmt<W: fmt::Write>(&self, f: &mut fmt::Formatter<W>) -> fmt::Result {
         match self {
