@@ -3,7 +3,7 @@ use Rattle.std.proofs.Common.{◌≡◌, ℕ, Bool, true, false, eqb, List, [], 
 use Rattle.std.specs.Io.KnownBytes.{Consumes, IsAtEnd, Keeps, Appends, append_known}
 use Rattle.std.proofs.lemmas.Bool.Decides.{nat_tests}
 use Rattle.hir_io.specs.Ends.{IsKeptOrUntold, GrowsByFront, IsWrittenUpTo}
-use Rattle.hir_io.specs.EndLemmas.{Appends-twice, GrowsByFront-after}
+use Rattle.hir_io.proofs.EndLemmas.{Appends-twice, GrowsByFront-after}
 use Rattle.hir_io.specs.Text.{HasNoLineEnd, TakesLine}
 use Rattle.hir_io.specs.LineState.{LineState}
 use Rattle.hir_io.specs.Reading.{Fills}

@@ -2,3 +2,6 @@ pub mod Told
 pub mod Ranges
 pub mod Held
 pub mod Asking
+pub mod EndLemmas
+pub mod TextLemmas
+pub mod ReadLemmas

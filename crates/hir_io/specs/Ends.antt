@@ -11,7 +11,8 @@ IsKeptOrUntold old (Some bytes) = old ≡ Some bytes
 abbrev pub GrowsByFront : Option (List ℕ) → Option (List ℕ) → List ℕ → Type 0
 GrowsByFront None new bytes = Unit {0}
 GrowsByFront (Some xs) None bytes = Unit {0}
-GrowsByFront (Some xs) (Some ys) bytes = (done missing : List ℕ) × (bytes ≡ done ++ missing) × (ys ≡ xs ++ done)
+GrowsByFront (Some xs) (Some ys) bytes =
+    (done missing : List ℕ) × (bytes ≡ done ++ missing) × (ys ≡ xs ++ done)
 
 -- of these bytes all but the rest were written
 abbrev pub IsWrittenUpTo : Option (List ℕ) → Option (List ℕ) → List ℕ → List ℕ → Type 0

@@ -1,10 +1,8 @@
 pub mod Ends
-pub mod EndLemmas
 pub mod StdEnd
 pub mod Text
-pub mod TextLemmas
 pub mod LineState
 pub mod Reading
 pub mod NextLine
 pub mod Reads
-pub mod ReadLemmas
+pub mod FaultTexts

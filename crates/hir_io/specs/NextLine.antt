@@ -22,22 +22,30 @@ TakesTold (Some text) (Some rest) line at_end = TakesLine text rest line at_end
 -- the told bytes are the beginning of a line, and those that weren't read
 abbrev pub IsBegunLine : Option (List ℕ) → Option (List ℕ) → List ℕ → Type 0
 IsBegunLine None remaining begun = Unit {0}
-IsBegunLine (Some text) remaining begun = (unread : List ℕ) × (text ≡ begun ++ unread) × HasNoLineEnd begun × IfSome remaining (λ rest. rest ≡ unread)
+IsBegunLine (Some text) remaining begun =
+    (unread : List ℕ) × (text ≡ begun ++ unread) × HasNoLineEnd begun
+    × IfSome remaining (λ rest. rest ≡ unread)
 
 -- what becomes of the lines, by the bytes still to be taken before and after, and those that the source has left
-abbrev pub NextTakes : Option (List ℕ) → Option (List ℕ) → Option (List ℕ) → LineState → LineState → Result Bool LineFault → Type 0
+abbrev pub NextTakes : Option (List ℕ) → Option (List ℕ) → Option (List ℕ) → LineState → LineState →
+    Result Bool LineFault → Type 0
 NextTakes known known' remaining old new (Ok true) = TakesTold known known' new.line new.at_end
-NextTakes known known' remaining old new (Ok false) = IsAtEnd known × IsAtEnd known' × (new.pending ≡ []) × (new.at_end ≡ true)
-NextTakes known known' remaining old new (Err InputFailed) = IsBegunLine known remaining new.pending × (old.at_end ≡ false) × (new.at_end ≡ false)
+NextTakes known known' remaining old new (Ok false) =
+    IsAtEnd known × IsAtEnd known' × (new.pending ≡ []) × (new.at_end ≡ true)
+NextTakes known known' remaining old new (Err InputFailed) =
+    IsBegunLine known remaining new.pending × (old.at_end ≡ false) × (new.at_end ≡ false)
 NextTakes known known' remaining old new (Err OutputFailed) = Keeps known known'
 NextTakes known known' remaining old new (Err OutOfMemory) = Keeps known known'
 
 -- what becomes of the bytes that the sink has and of those that wait
 abbrev pub NextWrites : Option (List ℕ) → Option (List ℕ) → List ℕ → List ℕ → Result Bool LineFault → Type 0
 NextWrites contents contents' waiting waiting' (Ok found) = IsWrittenUpTo contents contents' waiting waiting'
-NextWrites contents contents' waiting waiting' (Err InputFailed) = Appends contents contents' waiting × (waiting' ≡ [])
-NextWrites contents contents' waiting waiting' (Err OutputFailed) = GrowsByFront contents contents' waiting × (waiting' ≡ [])
-NextWrites contents contents' waiting waiting' (Err OutOfMemory) = Appends contents contents' waiting × (waiting' ≡ [])
+NextWrites contents contents' waiting waiting' (Err InputFailed) =
+    Appends contents contents' waiting × (waiting' ≡ [])
+NextWrites contents contents' waiting waiting' (Err OutputFailed) =
+    GrowsByFront contents contents' waiting × (waiting' ≡ [])
+NextWrites contents contents' waiting waiting' (Err OutOfMemory) =
+    Appends contents contents' waiting × (waiting' ≡ [])
 
 abbrev pub is_found : Result Bool LineFault → Bool
 is_found (Ok found) = found

@@ -11,7 +11,9 @@ use Rattle.hir_io.specs.LineState.{LineState}
 
 -- what taking a line does, without a read
 abbrev pub Takes : LineState → LineState → Taken → Type 0
-Takes old new Line = TakesLine old.pending new.pending new.line old.at_end × (new.at_end ≡ old.at_end) × (new.count ≡ old.count + 1)
+Takes old new Line =
+    TakesLine old.pending new.pending new.line old.at_end × (new.at_end ≡ old.at_end)
+    × (new.count ≡ old.count + 1)
 Takes old new More = (new ≡ old) × (old.at_end ≡ false) × HasNoLineEnd old.pending
 Takes old new End = (new ≡ old) × (old.at_end ≡ true) × (old.pending ≡ [])
 
@@ -21,13 +23,17 @@ without_line old = record old { line = [] }
 
 -- a read gave these bytes; none of them mean the end
 abbrev pub with_bytes : LineState → List ℕ → LineState
-with_bytes old bytes = record { line = []; pending = old.pending ++ bytes; at_end = eqb (length bytes) 0; count = old.count }
+with_bytes old bytes =
+    record { line = []; pending = old.pending ++ bytes; at_end = eqb (length bytes) 0; count = old.count }
 
 -- what one read does to the lines, and to the bytes that the source tells
-abbrev pub Fills : LineState → LineState → Option (List ℕ) → Option (List ℕ) → Result (Unit {0}) FillFault → Type 0
+abbrev pub Fills : LineState → LineState → Option (List ℕ) → Option (List ℕ) → Result (Unit {0}) FillFault →
+    Type 0
 Fills old new remaining remaining' (Ok done) =
-    (bytes : List ℕ) × Consumes remaining remaining' bytes × (new ≡ with_bytes old bytes) × (bytes ≡ [] → IsAtEnd remaining)
-Fills old new remaining remaining' (Err InputFailed) = (new ≡ without_line old) × IsKeptOrUntold remaining remaining'
+    (bytes : List ℕ) × Consumes remaining remaining' bytes × (new ≡ with_bytes old bytes)
+    × (bytes ≡ [] → IsAtEnd remaining)
+Fills old new remaining remaining' (Err InputFailed) =
+    (new ≡ without_line old) × IsKeptOrUntold remaining remaining'
 Fills old new remaining remaining' (Err OutOfMemory) = new ≡ without_line old
 
 abbrev pub is_failed_read : Result (Unit {0}) FillFault → Bool

@@ -19,4 +19,6 @@ ReadsFront known texts = IfSome known (λ input. (more : List (List ℕ)) × (li
 -- a read failed after these lines of the told bytes and the beginning of one more
 abbrev pub ReadsUntilFailure : Option (List ℕ) → List (List ℕ) → List ℕ → Option (List ℕ) → Type 0
 ReadsUntilFailure known texts begun remaining =
-    IfSome known (λ input. (unread : List ℕ) × IsCutShort input texts begun unread × IfSome remaining (λ rest. rest ≡ unread))
+    IfSome known
+        (λ input. (unread : List ℕ) × IsCutShort input texts begun unread
+            × IfSome remaining (λ rest. rest ≡ unread))

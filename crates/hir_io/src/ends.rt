@@ -1,15 +1,29 @@
 //! Sources and sinks: where bytes are read from and written to, what they tell of them, and writing all of some bytes.
 
 ghost use Rattle.std.specs.Prelude.{◌≡◌, ◌+◌, ◌≤◌, ◌<◌, ◌^◌, ◌||◌, [], List, ℕ, Bool, Option, IfOk, IsOk, OnErr, OnOk, take, length, is_err};
+ghost use Rattle.std.specs.Fmt.{decimal};
 ghost use Rattle.std.specs.Io.KnownBytes.{Appends, Consumes, IsAtEnd};
 ghost use Rattle.hir_io.specs.Ends.{GrowsByFront, IsKeptOrUntold};
 
+use itoa::Buffer;
+use std::fmt;
 use thiserror::Error;
 
 /// A call of a source or a sink failed.
 #[derive(Clone, Copy, Debug, Drop, PartialEq, Eq, Error)]
-#[error("a read or a write failed")]
 pub struct EndFailed;
+
+/// The text says no more than the type does: std's error isn't kept.
+impl fmt::Display for EndFailed {
+    ghost use Rattle.std.specs.Prelude.{Some};
+    ghost use Rattle.hir_io.specs.FaultTexts.{end_failed_text};
+
+    ghost output = { λ _. Some end_failed_text };
+
+    fn fmt<W: fmt::Write>(&self, f: &mut fmt::Formatter<W>) -> fmt::Result {
+        f.write_str("a read or a write failed")
+    }
+}
 
 /// Where bytes are read from.
 ///
@@ -29,7 +43,8 @@ pub trait Source {
     /// room. After an `Err` the bytes left are as before or told no more, and `has_failed` is true from then on.
     fn read(&mut self, buffer: &mut [u8]) -> Result<usize, EndFailed>
         ensures count { IfOk result (λ n. n ≤ length buffer.new) }
-        ensures bytes { IfOk result (λ n. Consumes (remaining self.old) (remaining self.new) (take n buffer.new)) }
+        ensures bytes { IfOk result
+            (λ n. Consumes (remaining self.old) (remaining self.new) (take n buffer.new)) }
         ensures end { result ≡ Ok 0 → 0 < length buffer.new → IsAtEnd (remaining self.old) }
         ensures err { OnErr result (IsKeptOrUntold (remaining self.old) (remaining self.new)) }
         ensures failure { failed self.new ≡ (is_err result || failed self.old) }
@@ -58,7 +73,8 @@ pub trait Sink {
     fn write(&mut self, buffer: &[u8]) -> Result<usize, EndFailed>
         ensures count { IfOk result (λ n. n ≤ length buffer.now) }
         ensures progress { IfOk result (λ n. 0 < length buffer.now → 0 < n) }
-        ensures bytes { IfOk result (λ n. Appends (contents self.old) (contents self.new) (take n buffer.now)) }
+        ensures bytes { IfOk result
+            (λ n. Appends (contents self.old) (contents self.new) (take n buffer.now)) }
         ensures err { OnErr result (IsKeptOrUntold (contents self.old) (contents self.new)) }
         ensures failure { failed self.new ≡ (is_err result || failed self.old) };
 
@@ -80,4 +96,15 @@ pub fn write_all<W: Sink>(writer: &mut W, bytes: &[u8]) -> Result<(), EndFailed>
         rest = &rest[count..];
     }
     Ok(())
+}
+
+/// Writes a number in decimal. After an `Err` some front of its digits was written.
+pub fn write_decimal<W: Sink>(writer: &mut W, number: u64) -> Result<(), EndFailed>
+    ensures bytes { OnOk result (Appends (W.contents writer.old) (W.contents writer.new) (decimal number)) }
+    ensures err { OnErr result
+        (GrowsByFront (W.contents writer.old) (W.contents writer.new) (decimal number)) }
+    ensures failure { W.failed writer.new ≡ (is_err result || W.failed writer.old) }
+{
+    let mut digits = Buffer::new();
+    write_all(writer, digits.format(number).as_bytes())
 }

@@ -9,7 +9,7 @@ mod next;
 mod output;
 mod std_end;
 
-pub use ends::{EndFailed, Sink, Source, write_all};
+pub use ends::{EndFailed, Sink, Source, write_all, write_decimal};
 pub use laws::answers_are_compared_by_all_fields;
 pub use lines::{FillFault, LineReader, Taken};
 pub use next::{LineFault, next_line};

@@ -3,9 +3,10 @@
 ghost use Rattle.hir_io.specs.Text.{IsFirstLineEnd};
 ghost use Rattle.std.specs.Prelude.{◌≡◌, ◌+◌, ◌-◌, ◌*◌, ◌≤◌, ◌<◌, ◌^◌, ◌||◌, [], false, IfOk, OnOk, OnErr, length, take, slice_range, vec_len, List, ℕ};
 
-use super::ends::Source;
+use crate::ends::Source;
 use memchr::memchr;
 use std::alloc::{AllocError, Global};
+use std::fmt;
 use std::marker::Model;
 use thiserror::Error;
 
@@ -27,11 +28,24 @@ pub enum Taken {
 #[derive(Clone, Copy, Debug, Drop, PartialEq, Eq, Error)]
 pub enum FillFault {
     /// Memory for a longer line was refused, before the read.
-    #[error("out of memory")]
     OutOfMemory,
     /// The read failed.
-    #[error("input failed")]
     InputFailed,
+}
+
+/// What failed.
+impl fmt::Display for FillFault {
+    ghost use Rattle.std.specs.Prelude.{Some};
+    ghost use Rattle.hir_io.specs.FaultTexts.{fill_fault_text};
+
+    ghost output = { λ fault. Some (fill_fault_text fault) };
+
+    fn fmt<W: fmt::Write>(&self, f: &mut fmt::Formatter<W>) -> fmt::Result {
+        match self {
+            FillFault::OutOfMemory => f.write_str("out of memory"),
+            FillFault::InputFailed => f.write_str("input failed"),
+        }
+    }
 }
 
 /// Takes the lines of a source.
@@ -65,7 +79,8 @@ impl Model for LineReader {
     } };
 
     ghost invariant = { λ r. (r.line_start ≤ r.line_end) × (r.line_end ≤ vec_len r.bytes)
-        × (r.start ≤ r.scanned) × (r.scanned ≤ r.filled) × (r.filled ≤ vec_len r.bytes) × (65536 ≤ vec_len r.bytes)
+        × (r.start ≤ r.scanned) × (r.scanned ≤ r.filled) × (r.filled ≤ vec_len r.bytes)
+        × (65536 ≤ vec_len r.bytes)
         × HasNoLineEnd (slice_range r.bytes.items r.start r.scanned) };
 }
 
@@ -173,7 +188,9 @@ impl LineReader {
         ensures fills { Fills self.old self.new (R.remaining reader.old) (R.remaining reader.new) result }
         ensures unread { result ≡ Err FillFault.OutOfMemory → reader.new ≡ reader.old }
         ensures failure { R.failed reader.new ≡ (is_failed_read result || R.failed reader.old) }
-        ensures falls { OnOk result (length self.new.pending + R.allowance reader.new ≤ length self.old.pending + R.allowance reader.old) }
+        ensures falls { OnOk result
+            (length self.new.pending + R.allowance reader.new
+                ≤ length self.old.pending + R.allowance reader.old) }
     {
         let pending = self.filled - self.start;
         let room = make_room(&mut self.bytes, self.start, self.filled);

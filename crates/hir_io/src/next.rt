@@ -4,23 +4,37 @@ ghost use Rattle.std.specs.Prelude.{◌≡◌, ◌+◌, ◌≤◌, ◌<◌, ◌^
 ghost use Rattle.hir_io.specs.Text.{HasNoLineEnd};
 ghost use Rattle.hir_io.specs.NextLine.{NextTakes, NextWrites, untaken, is_found, is_failed_input, is_failed_output};
 
-use super::ends::{Sink, Source};
-use super::lines::{FillFault, LineReader, Taken};
-use super::output::OutputBuffer;
+use crate::ends::{Sink, Source};
+use crate::lines::{FillFault, LineReader, Taken};
+use crate::output::OutputBuffer;
+use std::fmt;
 use thiserror::Error;
 
 /// Why the next line can't be had.
 #[derive(Clone, Copy, Debug, Drop, PartialEq, Eq, Error)]
 pub enum LineFault {
     /// Memory for a longer line was refused.
-    #[error("out of memory")]
     OutOfMemory,
     /// A read failed.
-    #[error("input failed")]
     InputFailed,
     /// What waited couldn't be written.
-    #[error("output failed")]
     OutputFailed,
+}
+
+/// What failed.
+impl fmt::Display for LineFault {
+    ghost use Rattle.std.specs.Prelude.{Some};
+    ghost use Rattle.hir_io.specs.FaultTexts.{line_fault_text};
+
+    ghost output = { λ fault. Some (line_fault_text fault) };
+
+    fn fmt<W: fmt::Write>(&self, f: &mut fmt::Formatter<W>) -> fmt::Result {
+        match self {
+            LineFault::OutOfMemory => f.write_str("out of memory"),
+            LineFault::InputFailed => f.write_str("input failed"),
+            LineFault::OutputFailed => f.write_str("output failed"),
+        }
+    }
 }
 
 /// Takes the next line, and says whether there is one. A read is made only where no whole line is pending, and what waits is
@@ -36,16 +50,19 @@ pub fn next_line<R: Source, W: Sink>(
     writer: &mut W,
 ) -> Result<bool, LineFault>
     requires fits { lines.old.count + length lines.old.pending + R.allowance reader.old < 2 ^ 64 }
-    ensures takes { NextTakes (untaken lines.old.pending lines.old.at_end (R.remaining reader.old)) (untaken lines.new.pending lines.new.at_end (R.remaining reader.new))
+    ensures takes { NextTakes (untaken lines.old.pending lines.old.at_end (R.remaining reader.old))
+        (untaken lines.new.pending lines.new.at_end (R.remaining reader.new))
         (R.remaining reader.new) lines.old lines.new result }
     ensures writes { NextWrites (W.contents writer.old) (W.contents writer.new) output.old output.new result }
     ensures count { lines.new.count ≡ lines.old.count + cond (is_found result) 1 0 }
     ensures falls { is_failed_input result ≡ false →
-        length lines.new.pending + R.allowance reader.new + cond (is_found result) 1 0 ≤ length lines.old.pending + R.allowance reader.old }
+        length lines.new.pending + R.allowance reader.new + cond (is_found result) 1 0
+            ≤ length lines.old.pending + R.allowance reader.old }
     ensures input_failure { R.failed reader.new ≡ (is_failed_input result || R.failed reader.old) }
     ensures output_failure { W.failed writer.new ≡ (is_failed_output result || W.failed writer.old) }
     // Where nothing waits the writer isn't called.
-    ensures idle { output.old ≡ [] → (is_failed_output result ≡ false) × (writer.new ≡ writer.old) × (output.new ≡ []) }
+    ensures idle { output.old ≡ [] →
+        (is_failed_output result ≡ false) × (writer.new ≡ writer.old) × (output.new ≡ []) }
     ensures read_late { ((reader.new ≡ reader.old) × (writer.new ≡ writer.old) × (output.new ≡ output.old))
         ⊎ (HasNoLineEnd lines.old.pending × (lines.old.at_end ≡ false) × (output.new ≡ [])) }
     ensures stays_ended { lines.old.at_end ≡ true → lines.new.at_end ≡ true }

@@ -5,7 +5,7 @@ ghost use Rattle.std.specs.Fmt.{decimal};
 ghost use Rattle.std.specs.Io.KnownBytes.{Appends};
 ghost use Rattle.hir_io.specs.Ends.{GrowsByFront, IsWrittenUpTo};
 
-use super::ends::{EndFailed, Sink, write_all};
+use crate::ends::{EndFailed, Sink, write_all};
 use itoa::Buffer;
 use std::alloc::{AllocError, Global};
 use std::marker::Model;
@@ -55,10 +55,14 @@ impl OutputBuffer {
     ///
     /// After an `Err` a front of what waited and of these bytes was written, and nothing waits.
     pub fn write<W: Sink>(&mut self, bytes: &[u8], writer: &mut W) -> Result<(), EndFailed>
-        ensures bytes { OnOk result (IsWrittenUpTo (W.contents writer.old) (W.contents writer.new) (self.old ++ bytes.now) self.new) }
-        ensures err { OnErr result (GrowsByFront (W.contents writer.old) (W.contents writer.new) (self.old ++ bytes.now) × (self.new ≡ [])) }
+        ensures bytes { OnOk result
+            (IsWrittenUpTo (W.contents writer.old) (W.contents writer.new) (self.old ++ bytes.now) self.new) }
+        ensures err { OnErr result
+            (GrowsByFront (W.contents writer.old) (W.contents writer.new) (self.old ++ bytes.now)
+                × (self.new ≡ [])) }
         ensures failure { W.failed writer.new ≡ (is_err result || W.failed writer.old) }
-        ensures waits { length self.old + length bytes.now ≤ CAPACITY → IsOk result × (writer.new ≡ writer.old) }
+        ensures waits { length self.old + length bytes.now ≤ CAPACITY →
+            IsOk result × (writer.new ≡ writer.old) }
     {
         if self.hold(bytes) {
             return Ok(());
@@ -72,10 +76,15 @@ impl OutputBuffer {
 
     /// Adds a number in decimal, as `write` does.
     pub fn write_number<W: Sink>(&mut self, number: u32, writer: &mut W) -> Result<(), EndFailed>
-        ensures bytes { OnOk result (IsWrittenUpTo (W.contents writer.old) (W.contents writer.new) (self.old ++ decimal number) self.new) }
-        ensures err { OnErr result (GrowsByFront (W.contents writer.old) (W.contents writer.new) (self.old ++ decimal number) × (self.new ≡ [])) }
+        ensures bytes { OnOk result
+            (IsWrittenUpTo (W.contents writer.old) (W.contents writer.new)
+                (self.old ++ decimal number) self.new) }
+        ensures err { OnErr result
+            (GrowsByFront (W.contents writer.old) (W.contents writer.new) (self.old ++ decimal number)
+                × (self.new ≡ [])) }
         ensures failure { W.failed writer.new ≡ (is_err result || W.failed writer.old) }
-        ensures waits { length self.old + length (decimal number) ≤ CAPACITY → IsOk result × (writer.new ≡ writer.old) }
+        ensures waits { length self.old + length (decimal number) ≤ CAPACITY →
+            IsOk result × (writer.new ≡ writer.old) }
     {
         let mut digits = Buffer::new();
         self.write(digits.format(number).as_bytes(), writer)

@@ -4,7 +4,7 @@
 ghost use Rattle.std.specs.Prelude.{◌≡◌, ◌-◌, ◌^◌, false};
 ghost use Rattle.hir_io.specs.StdEnd.{ReadMeans, WriteMeans};
 
-use super::ends::{EndFailed, Sink, Source};
+use crate::ends::{EndFailed, Sink, Source};
 use std::io::{ErrorKind, Read, Result as IoResult, Write};
 
 /// How often in a row an interrupted call is made again.

@@ -3,7 +3,7 @@
 
 ghost use Rattle.std.specs.Prelude.{◌+◌, ◌<◌, ◌^◌, length};
 
-use super::fakes::{Given, Kept};
+use crate::fakes::{Given, Kept};
 use hir_io::{LineFault, LineReader, OutputBuffer, Sink, Source, next_line};
 use std::alloc::{AllocError, Global};
 use std::test::Fail;

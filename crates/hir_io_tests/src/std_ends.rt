@@ -1,6 +1,6 @@
 //! Readers and writers of std as sources and sinks: interruptions, failures, and what one answer means.
 
-use super::fakes::Interrupted;
+use crate::fakes::Interrupted;
 use hir_io::{Attempt, EndFailed, Sink, Source, StdEnd, read_attempt, write_attempt};
 use std::io::{Error, ErrorKind};
 

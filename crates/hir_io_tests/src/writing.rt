@@ -1,7 +1,7 @@
 //! Output that waits: when it is written, and what a failed write leaves of it.
 
-use super::fakes::Kept;
-use hir_io::{EndFailed, OutputBuffer, write_all};
+use crate::fakes::Kept;
+use hir_io::{EndFailed, OutputBuffer, write_all, write_decimal};
 use std::alloc::{AllocError, Global};
 use std::test::Fail;
 
@@ -88,4 +88,23 @@ fn writes_a_front_before_it_fails(rt: HostRuntime) -> Result<(), Fail> {
         assert!(rt; is_front, "at {call}");
     }
     Ok(())
+}
+
+/// Whether the greatest number that is written digit by digit is a front of its digits where the call of this number fails.
+fn digits_are_a_front(call: u64) -> bool {
+    let digits = b"18446744073709551615".as_slice();
+    let mut writer = Kept::new(1, call);
+    let ended = write_decimal(&mut writer, u64::MAX);
+    let done = (call as usize).min(20);
+    ended == (if call < 20 { Err(EndFailed) } else { Ok(()) }) && writer.bytes() == &digits[..done]
+}
+
+#[test]
+fn writes_digits(rt: HostRuntime) {
+    for call in 0..22 {
+        assert!(rt; digits_are_a_front(call), "at {call}");
+    }
+    let mut writer = Kept::new(1000, u64::MAX);
+    let ended = write_decimal(&mut writer, 0);
+    assert!(rt; ended == Ok(()) && writer.calls == 1 && writer.bytes() == b"0".as_slice());
 }

@@ -9,7 +9,7 @@ use Rattle.hir_node.specs.declared.parts.Statement.TheVariants.{Let, Expr, Item}
 use Rattle.hir_node.specs.declared.parts.Item.TheVariants.{MacroDef, Other}
 use Rattle.hir_lines.specs.Readings.{gives, whole, parts_of}
 use Rattle.hir_lines.specs.Words.{one_of}
-use Rattle.hir_lines.specs.Parts.{arm, arm_of, statement_of, statement_forms, let_statement, semi_statement, expr_statement, macro_statement}
+use Rattle.hir_lines.specs.ArmsAndStatements.{arm, arm_of, statement_of, statement_forms, let_statement, semi_statement, expr_statement, macro_statement}
 use Rattle.hir_lines.specs.Tokens.{Token, Word, Number, Optional, IsWord, IsNumber, IsArm, IsStatement, colons}
 use Rattle.hir_lines.proofs.Forms.{Accepts, accept_head, whole_read, whole_found, Sound, sound_one_of, AllSound, no_form, form}
 use Rattle.hir_lines.proofs.Takes.{accepting, sounding}

@@ -12,7 +12,7 @@ use Rattle.hir_node.specs.declared.type_ref.Mutability.TheVariants.{Shared}
 use Rattle.hir_node.specs.declared.type_ref.Rawness.TheVariants.{Ref as Reference}
 use Rattle.hir_lines.specs.Readings.{Reading, ◌>>=◌, gives, each}
 use Rattle.hir_lines.specs.Words.{number, optional, list, path, int, op, one_of}
-use Rattle.hir_lines.specs.Parts.{arm_of, statement_of}
+use Rattle.hir_lines.specs.ArmsAndStatements.{arm_of, statement_of}
 
 abbrev pub path_expr : Reading Expr
 path_expr = do

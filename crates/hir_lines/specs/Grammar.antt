@@ -19,8 +19,10 @@ use Rattle.hir_lines.specs.ExprGrammar.{IsExpr}
 pub data IsMaker : Maker → List Token → Type 0 where
   bind : {name : List ℕ} → IsMaker (Binding (plain_binding name)) (Word (codes "bind") ∷ Name name ∷ [])
   pat : {p : Pat} {tokens : List Token} → IsPat p tokens → IsMaker (MakePat p) (Word (codes "pat") ∷ tokens)
-  type_ref : {t : TypeRef} {tokens : List Token} → IsType t tokens → IsMaker (MakeType t) (Word (codes "type") ∷ tokens)
-  expr : {e : Expr} {tokens : List Token} → IsExpr e tokens → IsMaker (MakeExpr e) (Word (codes "expr") ∷ tokens)
+  type_ref : {t : TypeRef} {tokens : List Token} → IsType t tokens →
+      IsMaker (MakeType t) (Word (codes "type") ∷ tokens)
+  expr : {e : Expr} {tokens : List Token} → IsExpr e tokens →
+      IsMaker (MakeExpr e) (Word (codes "expr") ∷ tokens)
   self_param : {binding : ℕ} → IsMaker (SelfParam binding) (Word (codes "self") ∷ Number binding ∷ [])
   param : {pat : ℕ} → IsMaker (Param pat) (Word (codes "param") ∷ Number pat ∷ [])
   fn_name : {name : List ℕ} → IsMaker (FnName name) (Word (codes "fn") ∷ Name name ∷ [])

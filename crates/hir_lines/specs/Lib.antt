@@ -5,11 +5,11 @@ pub mod Line
 pub mod Names
 pub mod Numerals
 pub mod Operators
-pub mod Parts
+pub mod ArmsAndStatements
 pub mod PatGrammar
 pub mod Pats
 pub mod Readings
-pub mod SameLines
+pub mod same
 pub mod Tokens
 pub mod TypeGrammar
 pub mod Types

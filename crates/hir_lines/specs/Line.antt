@@ -16,7 +16,8 @@ use Rattle.hir_lines.specs.Exprs.{expr}
 
 -- a binding of source text, with no word before its name
 abbrev pub plain_binding : List ℕ → Binding
-plain_binding text = record { name = text; mode = Unannotated; problems = None; hygiene = OfSource Edition2015 }
+plain_binding text =
+    record { name = text; mode = Unannotated; problems = None; hygiene = OfSource Edition2015 }
 
 abbrev pub bind_line : Reading Line
 bind_line = do

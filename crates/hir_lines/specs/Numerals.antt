@@ -42,4 +42,5 @@ signed minus n =
 
 -- an integer: a numeral, perhaps behind a minus
 unfoldable pub int_of : List ℕ → Option ℤ
-int_of text = if is_numeral (without_minus text) then signed (has_minus text) (value (without_minus text)) else None
+int_of text =
+    if is_numeral (without_minus text) then signed (has_minus text) (value (without_minus text)) else None

@@ -10,10 +10,13 @@ pub data IsPat : Pat → List Token → Type 0 where
   wild : IsPat Wild (Word (codes "wild") ∷ [])
   missing : IsPat Missing (Word (codes "missing") ∷ [])
   rest : IsPat Rest (Word (codes "rest") ∷ [])
-  bind : {id : ℕ} {subpat : Option ℕ} → IsPat (Bind id subpat) (Word (codes "bind") ∷ Number id ∷ Optional subpat ∷ [])
+  bind : {id : ℕ} {subpat : Option ℕ} →
+      IsPat (Bind id subpat) (Word (codes "bind") ∷ Number id ∷ Optional subpat ∷ [])
   tuple : {args : List ℕ} → IsPat (Tuple args None) (Word (codes "tuple") ∷ Numbers args ∷ [])
   or_pat : {pats : List ℕ} → IsPat (Or pats) (Word (codes "or") ∷ Numbers pats ∷ [])
-  tuple_struct : {name args : List ℕ} → IsPat (TupleStruct (plain name) args None) (Word (codes "tstruct") ∷ Name name ∷ Numbers args ∷ [])
-  range : {start end : Option ℕ} → IsPat (Range start end Inclusive) (Word (codes "range") ∷ Optional start ∷ Optional end ∷ [])
+  tuple_struct : {name args : List ℕ} →
+      IsPat (TupleStruct (plain name) args None) (Word (codes "tstruct") ∷ Name name ∷ Numbers args ∷ [])
+  range : {start end : Option ℕ} →
+      IsPat (Range start end Inclusive) (Word (codes "range") ∷ Optional start ∷ Optional end ∷ [])
   lit : {expr : ℕ} → IsPat (Lit expr) (Word (codes "lit") ∷ Number expr ∷ [])
   expr : {expr : ℕ} → IsPat (Expr expr) (Word (codes "expr") ∷ Number expr ∷ [])

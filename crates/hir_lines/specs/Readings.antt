@@ -74,4 +74,5 @@ Found found result = MatchResult result (λ x. found ≡ Some x) (λ stop. stop 
 
 -- what a reading of these words finds, and the words that it leaves; or that the words don't fit
 abbrev pub Reads : {X : Type 0} → Reading X → List (List ℕ) → Result X Stop → List (List ℕ) → Type 0
-Reads reading old result new = MatchResult result (λ x. reading old ≡ Some (x, new)) (λ stop. stop ≡ Bad → reading old ≡ None)
+Reads reading old result new =
+    MatchResult result (λ x. reading old ≡ Some (x, new)) (λ stop. stop ≡ Bad → reading old ≡ None)

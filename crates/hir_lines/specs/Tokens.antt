@@ -36,7 +36,8 @@ IsOptional (Some n) word = IsNumber n word
 -- numbers parted by commas, or a dash for none
 abbrev pub IsNumbers : List ℕ → List ℕ → Type 0
 IsNumbers [] word = word ≡ codes "-"
-IsNumbers (n ∷ ns) word = (words : List (List ℕ)) × AllZip IsNumber (n ∷ ns) words × (word ≡ join_with_byte comma words)
+IsNumbers (n ∷ ns) word =
+    (words : List (List ℕ)) × AllZip IsNumber (n ∷ ns) words × (word ≡ join_with_byte comma words)
 
 -- an integer of 128 bits in decimal; the zero may have a minus
 abbrev pub IsInteger : ℤ → List ℕ → Type 0
@@ -48,15 +49,19 @@ colons parts = join_with_byte colon parts
 
 -- pattern, guard, body
 abbrev pub IsArm : MatchArm → List ℕ → Type 0
-IsArm arm word = (pat guard body : List ℕ) × IsNumber arm.pat pat × IsOptional arm.guard guard × IsNumber arm.expr body × (word ≡ colons (pat ∷ guard ∷ body ∷ []))
+IsArm arm word =
+    (pat guard body : List ℕ) × IsNumber arm.pat pat × IsOptional arm.guard guard × IsNumber arm.expr body
+    × (word ≡ colons (pat ∷ guard ∷ body ∷ []))
 
 -- of a `let` the pattern, type, initializer, else
 abbrev pub IsStatement : Statement → List ℕ → Type 0
 IsStatement (Let pat type_ref initializer else_branch) word =
-    (p t i e : List ℕ) × IsNumber pat p × IsOptional type_ref t × IsOptional initializer i × IsOptional else_branch e × (word ≡ colons (codes "let" ∷ p ∷ t ∷ i ∷ e ∷ []))
+    (p t i e : List ℕ) × IsNumber pat p × IsOptional type_ref t × IsOptional initializer i
+    × IsOptional else_branch e × (word ≡ colons (codes "let" ∷ p ∷ t ∷ i ∷ e ∷ []))
 IsStatement (Expr expr true) word = (e : List ℕ) × IsNumber expr e × (word ≡ colons (codes "semi" ∷ e ∷ []))
 IsStatement (Expr expr false) word = (e : List ℕ) × IsNumber expr e × (word ≡ colons (codes "expr" ∷ e ∷ []))
-IsStatement (Item (MacroDef definition)) word = (n : List ℕ) × IsNumber definition n × (word ≡ colons (codes "macro" ∷ n ∷ []))
+IsStatement (Item (MacroDef definition)) word =
+    (n : List ℕ) × IsNumber definition n × (word ≡ colons (codes "macro" ∷ n ∷ []))
 IsStatement (Item Other) word = word ≡ codes "item"
 
 -- how a word is written that says this
@@ -73,4 +78,5 @@ IsWord (Stmt statement) word = IsStatement statement word
 
 -- the text of words that say this, parted by one space each
 abbrev pub IsText : List Token → List ℕ → Type 0
-IsText tokens text = (words : List (List ℕ)) × AllZip IsWord tokens words × (text ≡ join_with_byte space words)
+IsText tokens text =
+    (words : List (List ℕ)) × AllZip IsWord tokens words × (text ≡ join_with_byte space words)

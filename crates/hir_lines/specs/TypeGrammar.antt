@@ -9,6 +9,7 @@ use Rattle.hir_lines.specs.Tokens.{Token, Word, Name, Number, Numbers}
 pub data IsType : TypeRef → List Token → Type 0 where
   path : {name : List ℕ} → IsType (Path (plain name)) (Word (codes "path") ∷ Name name ∷ [])
   tuple : {types : List ℕ} → IsType (Tuple types) (Word (codes "tuple") ∷ Numbers types ∷ [])
-  array : {element len : ℕ} → IsType (Array (array_of element len)) (Word (codes "array") ∷ Number element ∷ Number len ∷ [])
+  array : {element len : ℕ} →
+      IsType (Array (array_of element len)) (Word (codes "array") ∷ Number element ∷ Number len ∷ [])
   pattern : {ty pat : ℕ} → IsType (PatternType ty pat) (Word (codes "pattern") ∷ Number ty ∷ Number pat ∷ [])
   never : IsType Never (Word (codes "never") ∷ [])

@@ -7,7 +7,8 @@ ghost use Rattle.hir_lines.specs.Line.{line_of};
 
 /// A text is one line at most, but for a bad line, which is any text.
 pub fn line_is_one()
-    ensures { (text : List ℕ) (line other : Line) → line ≢ Line.Bad → other ≢ Line.Bad → IsLine line text → IsLine other text → line ≡ other }
+    ensures { (text : List ℕ) (line other : Line) → line ≢ Line.Bad → other ≢ Line.Bad → IsLine line text →
+        IsLine other text → line ≡ other }
 {}
 
 /// What a text says is written so.

@@ -2,13 +2,13 @@
 //! Lines are words parted by one space; what a form of words makes is one short function of takes from the words.
 #![tactic(auto)]
 
+mod arms_and_statements;
 mod exprs;
 pub mod laws;
 mod line;
 mod names;
 mod numerals;
 mod operators;
-mod parts;
 mod pats;
 mod reading;
 mod stop;

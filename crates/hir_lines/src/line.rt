@@ -28,7 +28,7 @@ pub enum Maker {
 }
 
 impl ExactEq for Maker {
-    ghost use Rattle.hir_lines.specs.SameLines.{makers_decide};
+    ghost use Rattle.hir_lines.specs.same.SameLines.{makers_decide};
 
     ghost eq_decides = { makers_decide };
 }
@@ -58,7 +58,7 @@ pub enum Line {
 }
 
 impl ExactEq for Line {
-    ghost use Rattle.hir_lines.specs.SameLines.{lines_decide};
+    ghost use Rattle.hir_lines.specs.same.SameLines.{lines_decide};
 
     ghost eq_decides = { lines_decide };
 }

@@ -46,8 +46,7 @@ pub fn ascii(text: &[u8]) -> Option<&str>
     if !is_ascii(text) {
         return None;
     }
-    // ASCII is UTF-8.
-    Some(unsafe { str::from_utf8_unchecked(text) })
+    str::from_utf8(text).ok()
 }
 
 /// The text, if it is a name.
@@ -58,6 +57,5 @@ pub fn name(text: &[u8]) -> Option<&str>
     if !is_a_name(text) {
         return None;
     }
-    // A name is ASCII, so it is UTF-8.
-    Some(unsafe { str::from_utf8_unchecked(text) })
+    str::from_utf8(text).ok()
 }

@@ -8,7 +8,9 @@ ghost use Rattle.hir_lines.specs.Words.{number};
 
 /// What the digits in front stand for, if it is below 2 ^ 32, and how many they are.
 fn leading_digits(text: &[u8]) -> Option<(u32, usize)>
-    ensures some { IfSome result (λ found. (found.1 ≡ digits_len text.now) × (if_below (2 ^ 32) (value (take found.1 text.now)) ≡ Some found.0)) }
+    ensures some { IfSome result
+        (λ found. (found.1 ≡ digits_len text.now)
+        × (if_below (2 ^ 32) (value (take found.1 text.now)) ≡ Some found.0)) }
     ensures none { IfNone result (if_below (2 ^ 32) (value (take (digits_len text.now) text.now)) ≡ None) }
 {
     let mut value: u32 = 0;
@@ -43,7 +45,8 @@ fn is_numeral(text: &[u8]) -> bool
 
 /// The number that the digits in front are, and how many they are.
 fn leading_number(text: &[u8]) -> Option<(u32, usize)>
-    ensures some { IfSome result (λ found. (found.1 ≡ digits_len text.now) × (number_of (take found.1 text.now) ≡ Some found.0)) }
+    ensures some { IfSome result
+        (λ found. (found.1 ≡ digits_len text.now) × (number_of (take found.1 text.now) ≡ Some found.0)) }
     ensures none { IfNone result (number_of (take (digits_len text.now) text.now) ≡ None) }
 {
     let (value, end) = leading_digits(text)?;
@@ -85,15 +88,17 @@ pub fn int(text: &[u8]) -> Option<i128>
     if !is_numeral(without_minus(text)) {
         return None;
     }
-    // A minus and digits are ASCII, so they are UTF-8.
-    let text = unsafe { str::from_utf8_unchecked(text) };
-    text.parse().ok()
+    match str::from_utf8(text) {
+        Ok(text) => text.parse().ok(),
+        Err(_) => None,
+    }
 }
 
 /// The number before the first separator, and what is left behind it.
 pub fn first_number(text: &[u8], separator: u8) -> Option<(u32, Option<&[u8]>)>
     requires { is_digit separator ≡ false }
-    ensures some { IfSome result (λ found. number (parts_of separator text.now) ≡ Some (found.0, parts_left separator found.1)) }
+    ensures some { IfSome result
+        (λ found. number (parts_of separator text.now) ≡ Some (found.0, parts_left separator found.1)) }
     ensures none { IfNone result (number (parts_of separator text.now) ≡ None) }
 {
     let (number, end) = leading_number(text)?;

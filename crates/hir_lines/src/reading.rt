@@ -79,7 +79,8 @@ pub fn parse(alloc: Global, text: &[u8]) -> Result<Line, AllocError>
     // What is accepted is written as the grammar has it.
     ensures accepted { IfOk result (λ line. IsLine line text.now) }
     // All that the grammar has is accepted.
-    ensures whole { IfOk result (λ line. (other : Line) → other ≢ Line.Bad → IsLine other text.now → line ≡ other) }
+    ensures whole { IfOk result
+        (λ line. (other : Line) → other ≢ Line.Bad → IsLine other text.now → line ≡ other) }
 {
     line(alloc, text)
 }

@@ -121,7 +121,8 @@ impl<'a> Words<'a> {
 
     /// Takes the next word, if it is one in ASCII.
     pub fn keyword(&mut self) -> Result<&'a str, Stop>
-        ensures { MatchResult result (λ text. keyword self.old ≡ Some (text.now, self.new)) (λ stop. stop ≡ Stop.Bad → keyword self.old ≡ None) }
+        ensures { MatchResult result (λ text. keyword self.old ≡ Some (text.now, self.new))
+            (λ stop. stop ≡ Stop.Bad → keyword self.old ≡ None) }
     {
         let word = self.word()?;
         match ascii_text(word) {

@@ -1,6 +1,6 @@
 //! Texts that are nearly lines, and are none. They stand in a few tables: one table of them all would be far dearer to prove.
 
-use super::says::says;
+use crate::says::says;
 use hir_lines::Line;
 use std::alloc::Global;
 use std::process::Abort;

@@ -1,7 +1,7 @@
 //! What each line of an expression makes, but for operators.
 //! The texts stand in tables, and an expression is made by its place there: each function that holds expressions is dear to prove.
 
-use super::says::{id, list, path, says};
+use crate::says::{id, list, path, says};
 use hir_base::{BlockId, MacroDefId, Seq};
 use hir_lines::{Line, Maker};
 use hir_node::{

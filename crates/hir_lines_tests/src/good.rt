@@ -1,6 +1,6 @@
 //! What each form of a line makes or asks, but for expressions.
 
-use super::says::{id, list, makes, path, says};
+use crate::says::{id, list, makes, path, says};
 use hir_base::{HygieneId, Name, RangeOp, Seq};
 use hir_lines::{Line, Maker, Question};
 use hir_node::{ArrayType, Binding, BindingAnnotation, ConstRef, ExprId, Pat, PatId, TypeRef};

@@ -1,6 +1,6 @@
 //! The operators between two expressions, each by its text.
 
-use super::says::{id, makes};
+use crate::says::{id, makes};
 use hir_base::{ArithOp, BinaryOp, CmpOp, LogicOp, Ordering};
 use hir_lines::Maker;
 use hir_node::Expr;

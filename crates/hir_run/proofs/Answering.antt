@@ -6,12 +6,12 @@ use Rattle.std.proofs.lemmas.List.Folds.{list_all-append}
 use Rattle.std.proofs.lemmas.Grind.{flat_map-append}
 use Rattle.hir_io.specs.declared.next.LineFault.{LineFault}
 use Rattle.hir_io.specs.declared.next.LineFault.TheVariants as line
-use Rattle.hir_io.specs.EndLemmas.{Appends-twice}
+use Rattle.hir_io.proofs.EndLemmas.{Appends-twice}
 use Rattle.hir_io.specs.Ends.{GrowsByFront, IsWrittenUpTo}
 use Rattle.hir_io.specs.LineState.{LineState}
 use Rattle.hir_io.specs.NextLine.{NextTakes, NextWrites}
 use Rattle.hir_io.specs.Reads.{Reads, ReadsAll, ReadsFront}
-use Rattle.hir_io.specs.ReadLemmas.{ReadsFront-now, ReadsFront-before, ReadsUntilFailure-now}
+use Rattle.hir_io.proofs.ReadLemmas.{ReadsFront-now, ReadsFront-before, ReadsUntilFailure-now}
 use Rattle.hir_lines.specs.declared.line.Question.{Question}
 use Rattle.hir_run.specs.declared.fault.RunFault.{RunFault}
 use Rattle.hir_run.specs.declared.fault.RunFault.TheVariants.{BadLine, Refused, InputFailed, OutputFailed, OutOfMemory}
@@ -19,7 +19,7 @@ use Rattle.hir_expr_store.specs.Contents.{Contents}
 use Rattle.hir_lines.specs.Line.{line_of}
 use Rattle.hir_run.specs.Answer.{answer_to}
 use Rattle.hir_run.specs.Program.{asks, says, answer}
-use Rattle.hir_run.specs.Run.{told_of_line}
+use Rattle.hir_run.specs.Run.{fault_of_line}
 use Rattle.hir_run.specs.Stages.{AllAsk, answers_from, AnswersOne, AnswersLine, AnsweredUpTo, AnswersSome, Answers, Closes}
 use Rattle.hir_run.proofs.Scripts.{says-push}
 use Rattle.hir_run.proofs.Writing.{IsWrittenUpTo-then, GrowsByFront-then}
@@ -60,7 +60,7 @@ fails_at_first known rest remaining old new lines was waiting store question (Re
 -- no line could be had
 pub fails_to_read : (known mid rest remaining old before new : Option (List ℕ)) (first lines lines' : LineState) (was waiting : List ℕ) (store : Contents) (question : Question) (texts : List (List ℕ)) (fault : LineFault) →
     AnsweredUpTo old before was store question texts → Reads known texts mid lines.at_end → (lines.at_end ≡ false → first.at_end ≡ false) → lines.count ≡ first.count + length texts → lines'.count ≡ lines.count + 0 →
-    NextTakes mid rest remaining lines lines' (Err fault) → NextWrites before new was waiting (Err fault) → AnswersSome known remaining first lines' old new waiting store question (Err (told_of_line fault))
+    NextTakes mid rest remaining lines lines' (Err fault) → NextWrites before new was waiting (Err fault) → AnswersSome known remaining first lines' old new waiting store question (Err (fault_of_line fault))
 fails_to_read known mid rest remaining old before new first lines lines' was waiting store question texts line.OutOfMemory a read stays count counted takes writes =
     (texts, (a.0, kept old before new (answers_from store question texts) was waiting a.1 (was, rw (writes.1) (sym (append-nil was)), writes.0)), ReadsFront-now known mid texts lines.at_end read, inl (omega arith))
 fails_to_read known mid rest remaining old before new first lines lines' was waiting store question texts line.InputFailed a read stays count counted takes writes =

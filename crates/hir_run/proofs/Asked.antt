@@ -4,7 +4,7 @@ use Rattle.std.specs.Prelude.{flat_map}
 use Rattle.std.proofs.lemmas.List.{length-map}
 use Rattle.hir_io.specs.LineState.{LineState}
 use Rattle.hir_io.specs.Reads.{Reads}
-use Rattle.hir_io.specs.ReadLemmas.{ReadsAll-joined, ReadsFront-joined, ReadsUntilFailure-joined}
+use Rattle.hir_io.proofs.ReadLemmas.{ReadsAll-joined, ReadsFront-joined, ReadsUntilFailure-joined}
 use Rattle.hir_io.specs.Text.{lines}
 use Rattle.hir_lines.specs.declared.line.Line.{Line}
 use Rattle.hir_lines.specs.declared.line.Line.TheVariants.{Ask}

@@ -6,7 +6,7 @@ use Rattle.std.specs.Io.KnownBytes.{Appends}
 use Rattle.std.proofs.lemmas.Grind.{flat_map-append}
 use Rattle.hir_io.specs.LineState.{LineState}
 use Rattle.hir_io.specs.NextLine.{untaken}
-use Rattle.hir_io.specs.ReadLemmas.{ReadsFront-now}
+use Rattle.hir_io.proofs.ReadLemmas.{ReadsFront-now}
 use Rattle.hir_io.specs.Text.{lines}
 use Rattle.hir_lines.specs.declared.line.Line.{Line}
 use Rattle.hir_lines.specs.declared.line.Line.TheVariants.{Ask, Bad}

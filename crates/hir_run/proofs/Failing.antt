@@ -5,17 +5,17 @@ use Rattle.hir_io.specs.declared.next.LineFault.TheVariants as line
 use Rattle.hir_io.specs.LineState.{LineState}
 use Rattle.hir_io.specs.NextLine.{NextTakes, is_failed_output}
 use Rattle.hir_io.specs.Reads.{Reads}
-use Rattle.hir_io.specs.ReadLemmas.{ReadsFront-now, ReadsUntilFailure-now}
+use Rattle.hir_io.proofs.ReadLemmas.{ReadsFront-now, ReadsUntilFailure-now}
 use Rattle.hir_run.specs.declared.fault.RunFault.{RunFault}
 use Rattle.hir_run.specs.declared.fault.RunFault.TheVariants.{BadLine, Refused, InputFailed, OutputFailed, OutOfMemory}
 use Rattle.hir_lines.specs.declared.line.Line.TheVariants.{Make, Bad}
 use Rattle.hir_run.specs.Made.{Made}
-use Rattle.hir_run.specs.Run.{told_of_line}
+use Rattle.hir_run.specs.Run.{fault_of_line}
 use Rattle.hir_run.specs.Stages.{AllMake, Builds, BuildsLine}
 use Rattle.hir_run.proofs.Scripts.{Tells, bad_is, behind_make}
 
 pub build_fails : (known mid rest remaining : Option (List ℕ)) (lines lines' : LineState) (built : Made) (texts : List (List ℕ)) (fault : LineFault) →
-    AllMake texts → Reads known texts mid lines.at_end → lines.count ≡ length texts → lines'.count ≡ lines.count + 0 → NextTakes mid rest remaining lines lines' (Err fault) → is_failed_output (Err fault) ≡ false → Builds known rest remaining lines' built (Err (told_of_line fault))
+    AllMake texts → Reads known texts mid lines.at_end → lines.count ≡ length texts → lines'.count ≡ lines.count + 0 → NextTakes mid rest remaining lines lines' (Err fault) → is_failed_output (Err fault) ≡ false → Builds known rest remaining lines' built (Err (fault_of_line fault))
 build_fails known mid rest remaining lines lines' built texts line.OutOfMemory all read count counted takes quiet =
     (texts, all, ReadsFront-now known mid texts lines.at_end read, inl (omega arith))
 build_fails known mid rest remaining lines lines' built texts line.InputFailed all read count counted takes quiet =

@@ -8,4 +8,5 @@ pub mod Ending
 pub mod Asked
 pub mod Meanings
 pub mod Writing
+pub mod Texts
 pub mod Children

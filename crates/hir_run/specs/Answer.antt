@@ -16,7 +16,8 @@ spaced numbers = flat_map (λ n. 32 ∷ decimal n) numbers
 
 -- what is known of an expression: its children, or that it isn't there
 abbrev pub children_text : Nodes → ℕ → List ℕ
-children_text s e = if nat_lt e (length s.exprs) then codes " =" ++ spaced (children s e) else codes " unknown"
+children_text s e =
+    if nat_lt e (length s.exprs) then codes " =" ++ spaced (children s e) else codes " unknown"
 
 -- the line of an expression and its children
 abbrev pub children_line : Nodes → ℕ → List ℕ
@@ -40,14 +41,20 @@ answer_to c (Children e) = children_line c.nodes e
 answer_to c (RootOf e) = root_line c.roots e
 
 -- the bytes are written behind those that wait, all but what waits then; after a failure a front of them is, and nothing waits
-abbrev pub Writes : {X E : Type 0} → Option (List ℕ) → List ℕ → Option (List ℕ) → List ℕ → List ℕ → Result X E → Type 0
-Writes contents waiting contents' waiting' bytes (Ok x) = IsWrittenUpTo contents contents' (waiting ++ bytes) waiting'
-Writes contents waiting contents' waiting' bytes (Err e) = GrowsByFront contents contents' (waiting ++ bytes) × (waiting' ≡ [])
+abbrev pub Writes : {X E : Type 0} → Option (List ℕ) → List ℕ → Option (List ℕ) → List ℕ → List ℕ →
+    Result X E → Type 0
+Writes contents waiting contents' waiting' bytes (Ok x) =
+    IsWrittenUpTo contents contents' (waiting ++ bytes) waiting'
+Writes contents waiting contents' waiting' bytes (Err e) =
+    GrowsByFront contents contents' (waiting ++ bytes) × (waiting' ≡ [])
 
 -- the next bytes are written, unless a write has failed
-abbrev pub WritesNext : {X E : Type 0} → Result X E → Option (List ℕ) → List ℕ → Option (List ℕ) → List ℕ → List ℕ → Result X E → Type 0
-WritesNext (Ok x) contents waiting contents' waiting' bytes result = Writes contents waiting contents' waiting' bytes result
-WritesNext (Err e) contents waiting contents' waiting' bytes result = (result ≡ Err e) × (contents' ≡ contents) × (waiting' ≡ waiting)
+abbrev pub WritesNext : {X E : Type 0} → Result X E → Option (List ℕ) → List ℕ → Option (List ℕ) → List ℕ →
+    List ℕ → Result X E → Type 0
+WritesNext (Ok x) contents waiting contents' waiting' bytes result =
+    Writes contents waiting contents' waiting' bytes result
+WritesNext (Err e) contents waiting contents' waiting' bytes result =
+    (result ≡ Err e) × (contents' ≡ contents) × (waiting' ≡ waiting)
 
 -- the mark of a failed call after that
 abbrev pub FailsNext : {X E : Type 0} → Result X E → Bool → Bool → Result X E → Type 0

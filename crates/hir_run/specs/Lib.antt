@@ -3,3 +3,4 @@ pub mod Answer
 pub mod Program
 pub mod Run
 pub mod Stages
+pub mod Texts

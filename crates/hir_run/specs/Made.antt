@@ -20,11 +20,17 @@ abbrev pub no_nodes : Nodes
 no_nodes = record { exprs = []; pats = []; types = []; bindings = []; labels = []; lifetimes = [] }
 
 abbrev pub nothing_made : Made
-nothing_made = record { built = record { nodes = no_nodes; roots = None; side_tables = no_side_tables }; self_param = None; params = []; name = None }
+nothing_made = record {
+  built = record { nodes = no_nodes; roots = None; side_tables = no_side_tables };
+  self_param = None;
+  params = [];
+  name = None;
+}
 
 -- what the code holds
 abbrev pub made_of : code.Made → Made
-made_of m = record { built = building_of m.builder; self_param = m.self_param; params = m.params; name = m.name }
+made_of m =
+    record { built = building_of m.builder; self_param = m.self_param; params = m.params; name = m.name }
 
 -- the same with other nodes; with other roots
 abbrev pub with_nodes : Made → Nodes → Made
@@ -32,10 +38,13 @@ with_nodes m nodes = record m { built = record m.built { nodes = nodes } }
 
 -- what is made with one more line
 abbrev pub with_line : Made → Maker → Made
-with_line m (make.Binding binding) = with_nodes m (record m.built.nodes { bindings = m.built.nodes.bindings ++ binding ∷ [] })
+with_line m (make.Binding binding) =
+    with_nodes m (record m.built.nodes { bindings = m.built.nodes.bindings ++ binding ∷ [] })
 with_line m (make.Pat pat) = with_nodes m (record m.built.nodes { pats = m.built.nodes.pats ++ pat ∷ [] })
-with_line m (make.Type type_ref) = with_nodes m (record m.built.nodes { types = m.built.nodes.types ++ type_ref ∷ [] })
-with_line m (make.Expr expr) = with_nodes m (record m.built.nodes { exprs = m.built.nodes.exprs ++ expr ∷ [] })
+with_line m (make.Type type_ref) =
+    with_nodes m (record m.built.nodes { types = m.built.nodes.types ++ type_ref ∷ [] })
+with_line m (make.Expr expr) =
+    with_nodes m (record m.built.nodes { exprs = m.built.nodes.exprs ++ expr ∷ [] })
 with_line m (make.SelfParam id) = record m { self_param = Some id }
 with_line m (make.Param id) = record m { params = m.params ++ id ∷ [] }
 with_line m (make.FnName name) = record m { name = Some name }

@@ -88,16 +88,21 @@ ending good (bad ∷ rest) = Err (BadLine (good + 1))
 
 -- what is written and how the program ends: by the verdict on what so many lines made, the answers, the questions and the lines left over.
 -- A bad line before any question comes first, since what was made isn't looked at before a question or the end
-abbrev pub Means : (Option FinishFault → Type 0) → ℕ → List ℕ → List Line → List Line → List ℕ → Result (Unit {0}) RunFault → Type 0
+abbrev pub Means : (Option FinishFault → Type 0) → ℕ → List ℕ → List Line → List Line → List ℕ →
+    Result (Unit {0}) RunFault → Type 0
 Means verdict good answers [] (bad ∷ rest) text outcome = (text ≡ []) × (outcome ≡ Err (BadLine (good + 1)))
 Means verdict good answers [] [] text outcome =
-    (fault : Option FinishFault) × verdict fault × (text ≡ unless_refused fault (codes "accepted\n")) × (outcome ≡ refused_or fault (Ok tt))
+    (fault : Option FinishFault) × verdict fault × (text ≡ unless_refused fault (codes "accepted\n"))
+    × (outcome ≡ refused_or fault (Ok tt))
 Means verdict good answers (question ∷ questions) rest text outcome =
-    (fault : Option FinishFault) × verdict fault × (text ≡ unless_refused fault answers) × (outcome ≡ refused_or fault (ending (good + length (question ∷ questions)) rest))
+    (fault : Option FinishFault) × verdict fault × (text ≡ unless_refused fault answers)
+    × (outcome ≡ refused_or fault (ending (good + length (question ∷ questions)) rest))
 
 -- the text that a script has written, and its outcome
 unfoldable pub IsMeaning : List Line → List ℕ → Result (Unit {0}) RunFault → Type 0
-IsMeaning script text outcome = Means (finish_fault (made script).built) (length (making script)) (answers script) (asking script) (left_over script) text outcome
+IsMeaning script text outcome =
+    Means (finish_fault (made script).built) (length (making script)) (answers script) (asking script)
+    (left_over script) text outcome
 
 -- whether a line gives the self parameter; the name
 abbrev pub maker_gives_self : Maker → Bool
@@ -136,13 +141,15 @@ gives_name Bad = false
 
 -- a line, where a self parameter was given before or wasn't, and a name: a second one is bad
 abbrev pub unless_second : Bool → Bool → Line → Line
-unless_second has_self has_name line = if (has_self && gives_self line) || (has_name && gives_name line) then Bad else line
+unless_second has_self has_name line =
+    if (has_self && gives_self line) || (has_name && gives_name line) then Bad else line
 
 -- the lines, where a second self parameter and a second name are bad
 abbrev pub once_each : Bool → Bool → List Line → List Line
 once_each has_self has_name [] = []
 once_each has_self has_name (line ∷ rest) =
-    unless_second has_self has_name line ∷ once_each (has_self || gives_self line) (has_name || gives_name line) rest
+    unless_second has_self has_name line
+    ∷ once_each (has_self || gives_self line) (has_name || gives_name line) rest
 
 -- what texts say, each for itself; and as a script, one after another
 abbrev pub says : List (List ℕ) → List Line

@@ -17,7 +17,8 @@ fn write_spaced<W: Sink>(
     output: &mut OutputBuffer,
     writer: &mut W,
 ) -> Result<(), EndFailed>
-    ensures writes { Writes (W.contents writer.old) output.old (W.contents writer.new) output.new (32 ∷ decimal id) result }
+    ensures writes { Writes (W.contents writer.old) output.old (W.contents writer.new) output.new
+        (32 ∷ decimal id) result }
     ensures failure { W.failed writer.new ≡ (is_err result || W.failed writer.old) }
 {
     output.write(b" ", writer)?;
@@ -32,15 +33,18 @@ fn write_children<W: Sink>(
     writer: &mut W,
 ) -> Result<(), EndFailed>
     requires { id < length store.now.nodes.exprs }
-    ensures writes { Writes (W.contents writer.old) output.old (W.contents writer.new) output.new (spaced (children store.now.nodes id)) result }
+    ensures writes { Writes (W.contents writer.old) output.old (W.contents writer.new) output.new
+        (spaced (children store.now.nodes id)) result }
     ensures failure { W.failed writer.new ≡ (is_err result || W.failed writer.old) }
 {
     let mut outcome = Ok(());
     store.walk_child_exprs(
         id,
         &mut |child: ExprId| -> ()
-            ensures writes { WritesNext outcome.entry (W.contents writer.entry.now) output.entry.now (W.contents writer.exit.now) output.exit.now (32 ∷ decimal child) outcome.exit }
-            ensures failure { FailsNext outcome.entry (W.failed writer.entry.now) (W.failed writer.exit.now) outcome.exit }
+            ensures writes { WritesNext outcome.entry (W.contents writer.entry.now) output.entry.now
+                (W.contents writer.exit.now) output.exit.now (32 ∷ decimal child) outcome.exit }
+            ensures failure { FailsNext outcome.entry (W.failed writer.entry.now) (W.failed writer.exit.now)
+                outcome.exit }
         {
             if outcome.is_ok() {
                 outcome = write_spaced(child, output, writer);
@@ -57,7 +61,8 @@ fn write_found<W: Sink>(
     output: &mut OutputBuffer,
     writer: &mut W,
 ) -> Result<(), EndFailed>
-    ensures writes { Writes (W.contents writer.old) output.old (W.contents writer.new) output.new (children_text store.now.nodes id) result }
+    ensures writes { Writes (W.contents writer.old) output.old (W.contents writer.new) output.new
+        (children_text store.now.nodes id) result }
     ensures failure { W.failed writer.new ≡ (is_err result || W.failed writer.old) }
 {
     if !store.has_expr(id) {
@@ -74,7 +79,8 @@ fn write_known<W: Sink>(
     output: &mut OutputBuffer,
     writer: &mut W,
 ) -> Result<(), EndFailed>
-    ensures writes { Writes (W.contents writer.old) output.old (W.contents writer.new) output.new (decimal id ++ children_text store.now.nodes id) result }
+    ensures writes { Writes (W.contents writer.old) output.old (W.contents writer.new) output.new
+        (decimal id ++ children_text store.now.nodes id) result }
     ensures failure { W.failed writer.new ≡ (is_err result || W.failed writer.old) }
 {
     output.write_number(id.into_raw(), writer)?;
@@ -88,7 +94,8 @@ fn answer_children<W: Sink>(
     output: &mut OutputBuffer,
     writer: &mut W,
 ) -> Result<(), EndFailed>
-    ensures writes { Writes (W.contents writer.old) output.old (W.contents writer.new) output.new (children_line store.now.nodes id) result }
+    ensures writes { Writes (W.contents writer.old) output.old (W.contents writer.new) output.new
+        (children_line store.now.nodes id) result }
     ensures failure { W.failed writer.new ≡ (is_err result || W.failed writer.old) }
 {
     output.write(b"children ", writer)?;
@@ -103,7 +110,8 @@ fn write_root<W: Sink>(
     output: &mut OutputBuffer,
     writer: &mut W,
 ) -> Result<(), EndFailed>
-    ensures writes { Writes (W.contents writer.old) output.old (W.contents writer.new) output.new (root_text store.now.roots id) result }
+    ensures writes { Writes (W.contents writer.old) output.old (W.contents writer.new) output.new
+        (root_text store.now.roots id) result }
     ensures failure { W.failed writer.new ≡ (is_err result || W.failed writer.old) }
 {
     if !store.covers_expr(id) {
@@ -121,7 +129,8 @@ fn write_with_root<W: Sink>(
     output: &mut OutputBuffer,
     writer: &mut W,
 ) -> Result<(), EndFailed>
-    ensures writes { Writes (W.contents writer.old) output.old (W.contents writer.new) output.new (decimal id ++ root_text store.now.roots id) result }
+    ensures writes { Writes (W.contents writer.old) output.old (W.contents writer.new) output.new
+        (decimal id ++ root_text store.now.roots id) result }
     ensures failure { W.failed writer.new ≡ (is_err result || W.failed writer.old) }
 {
     output.write_number(id.into_raw(), writer)?;
@@ -135,7 +144,8 @@ fn answer_root<W: Sink>(
     output: &mut OutputBuffer,
     writer: &mut W,
 ) -> Result<(), EndFailed>
-    ensures writes { Writes (W.contents writer.old) output.old (W.contents writer.new) output.new (root_line store.now.roots id) result }
+    ensures writes { Writes (W.contents writer.old) output.old (W.contents writer.new) output.new
+        (root_line store.now.roots id) result }
     ensures failure { W.failed writer.new ≡ (is_err result || W.failed writer.old) }
 {
     output.write(b"root-of ", writer)?;
@@ -152,7 +162,8 @@ pub(crate) fn answer<W: Sink>(
     output: &mut OutputBuffer,
     writer: &mut W,
 ) -> Result<(), EndFailed>
-    ensures writes { Writes (W.contents writer.old) output.old (W.contents writer.new) output.new (answer_to store.now question) result }
+    ensures writes { Writes (W.contents writer.old) output.old (W.contents writer.new) output.new
+        (answer_to store.now question) result }
     ensures failure { W.failed writer.new ≡ (is_err result || W.failed writer.old) }
 {
     match question {

@@ -4,27 +4,41 @@ ghost use Rattle.std.specs.Prelude.{◌≡◌};
 
 use hir_base::ExactEq;
 use hir_io::LineFault;
-use hir_store::FinishFault;
+use hir_store::{FinishFault, Refused};
+use std::fmt;
+use std::mem::drop;
 use thiserror::Error;
 
-/// How the program fails. The text is what `main` writes to standard error.
+/// How the program fails.
 #[derive(Clone, Copy, Debug, Drop, PartialEq, Eq, Error)]
 pub enum RunFault {
-    /// 1: the line of this number, from 1, is none that may stand there.
-    #[error("bad line {0}")]
+    /// The line of this number, from 1, is none that may stand there.
     BadLine(u64),
-    /// 2: what the lines made was refused.
-    #[error("refused {0}")]
+    /// What the lines made was refused.
     Refused(FinishFault),
-    /// 4: a read failed.
-    #[error("input failed")]
+    /// A read failed.
     InputFailed,
-    /// 5: a write failed.
-    #[error("output failed")]
+    /// A write failed.
     OutputFailed,
-    /// 6: memory was refused.
-    #[error("out of memory")]
+    /// Memory was refused.
     OutOfMemory,
+}
+
+/// What `report` writes of it, without the line end.
+impl fmt::Display for RunFault {
+    ghost use Rattle.hir_run.specs.Texts.{displayed};
+
+    ghost output = { displayed };
+
+    fn fmt<W: fmt::Write>(&self, f: &mut fmt::Formatter<W>) -> fmt::Result {
+        match self {
+            RunFault::BadLine(number) => write!(f, "bad line {number}"),
+            RunFault::Refused(fault) => write!(f, "refused {fault}"),
+            RunFault::InputFailed => f.write_str("input failed"),
+            RunFault::OutputFailed => f.write_str("output failed"),
+            RunFault::OutOfMemory => f.write_str("out of memory"),
+        }
+    }
 }
 
 impl ExactEq for RunFault {
@@ -35,9 +49,9 @@ impl ExactEq for RunFault {
 
 impl From<LineFault> for RunFault {
     ghost use Rattle.std.specs.Prelude.{◌≡◌};
-    ghost use Rattle.hir_run.specs.Run.{told_of_line};
+    ghost use Rattle.hir_run.specs.Run.{fault_of_line};
 
-    ghost from_gives = { λ fault told. told ≡ told_of_line fault };
+    ghost from_gives = { λ fault failure. failure ≡ fault_of_line fault };
 
     fn from(fault: LineFault) -> RunFault {
         match fault {
@@ -45,5 +59,44 @@ impl From<LineFault> for RunFault {
             LineFault::InputFailed => RunFault::InputFailed,
             LineFault::OutputFailed => RunFault::OutputFailed,
         }
+    }
+}
+
+impl From<FinishFault> for RunFault {
+    ghost use Rattle.std.specs.Prelude.{◌≡◌};
+    ghost use Rattle.hir_run.specs.Run.{fault_of_finish};
+
+    ghost from_gives = { λ fault failure. failure ≡ fault_of_finish fault };
+
+    fn from(fault: FinishFault) -> RunFault {
+        match fault {
+            FinishFault::Memory => RunFault::OutOfMemory,
+            FinishFault::NoRoots
+            | FinishFault::IdOutOfRange(_)
+            | FinishFault::NotAPath(_)
+            | FinishFault::NoReturnType(_)
+            | FinishFault::NoSelfArgument(_)
+            | FinishFault::ArgumentLists(_)
+            | FinishFault::SharedChild(_)
+            | FinishFault::Cycle(_)
+            | FinishFault::RootOutOfRange(_)
+            | FinishFault::RootRepeated(_)
+            | FinishFault::RootUnderRoot(_)
+            | FinishFault::RootEnds(_) => RunFault::Refused(fault),
+        }
+    }
+}
+
+/// The builder that is handed back is dropped.
+impl From<Refused> for RunFault {
+    ghost use Rattle.std.specs.Prelude.{◌≡◌};
+    ghost use Rattle.hir_run.specs.Run.{fault_of_finish};
+
+    ghost from_gives = { λ refused failure. failure ≡ fault_of_finish refused.fault };
+
+    fn from(refused: Refused) -> RunFault {
+        let fault = refused.fault;
+        drop(refused);
+        RunFault::from(fault)
     }
 }

@@ -3,7 +3,7 @@
 ghost use Rattle.std.specs.Prelude.{◌≡◌, false, Ok, Err, OnOk, OnErr};
 ghost use Rattle.hir_run.specs.Made.{made_of, nothing_made, with_line, is_second, not_made};
 
-use super::fault::RunFault;
+use crate::fault::RunFault;
 use hir_base::{Name, Seq};
 use hir_lines::Maker;
 use hir_node::{BindingId, PatId};
@@ -41,8 +41,11 @@ impl Made {
 
     /// Adds what the line of this number makes. A second self parameter or a second name is a bad line. After a refusal all is as it was.
     pub(crate) fn make(&mut self, maker: Maker, line: u64) -> Result<(), RunFault>
-        ensures ok { OnOk result ((is_second (made_of self.old) maker ≡ false) × (made_of self.new ≡ with_line (made_of self.old) maker)) }
-        ensures err { OnErr result ((self.new ≡ self.old) × (result ≡ Err (not_made (is_second (made_of self.old) maker) line))) }
+        ensures ok { OnOk result
+            ((is_second (made_of self.old) maker ≡ false)
+            × (made_of self.new ≡ with_line (made_of self.old) maker)) }
+        ensures err { OnErr result
+            ((self.new ≡ self.old) × (result ≡ Err (not_made (is_second (made_of self.old) maker) line))) }
     {
         match maker {
             Maker::Binding(binding) => or_memory(self.builder.alloc_binding(binding)),

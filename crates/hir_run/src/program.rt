@@ -2,40 +2,21 @@
 
 ghost use Rattle.std.specs.Prelude.{◌≡◌, false};
 ghost use Rattle.hir_store.specs.Building.{building_of};
-ghost use Rattle.hir_run.specs.Run.{Runs, IsFinished, IsTold, store_of, is_input_failed, is_output_failed};
+ghost use Rattle.hir_run.specs.Run.{Runs, IsFinished, store_of, is_input_failed, is_output_failed};
 
-use super::fault::RunFault;
-use super::made::Made;
-use super::stages::{accept, answer_all, build};
+use crate::fault::RunFault;
+use crate::made::Made;
+use crate::stages::{accept, answer_all, build};
 use hir_io::{LineReader, OutputBuffer, Sink, Source};
-use hir_store::{ExpressionStore, ExpressionStoreSourceMap, FinishFault, Refused};
+use hir_store::{ExpressionStore, ExpressionStoreSourceMap};
 use std::alloc::Global;
 use std::mem::{drop, forget};
-
-/// How the run tells this fault of a builder.
-fn told(fault: FinishFault) -> RunFault
-    ensures { IsTold fault result }
-{
-    if fault == FinishFault::Memory {
-        return RunFault::OutOfMemory;
-    }
-    RunFault::Refused(fault)
-}
-
-/// How the run tells why a builder is refused.
-fn refusal(refused: Refused) -> RunFault
-    ensures { IsTold refused.fault result }
-{
-    let fault = told(refused.fault);
-    drop(refused);
-    fault
-}
 
 /// The store of what was built, with its source map, or why there is none.
 fn finished(made: Made) -> Result<(ExpressionStore, ExpressionStoreSourceMap), RunFault>
     ensures { IsFinished (building_of made.builder) (store_of result) }
 {
-    made.into_builder().finish().map_err(refusal)
+    Ok(made.into_builder().finish()?)
 }
 
 /// Runs the program on the lines that the source gives, and writes its answers to the sink.
@@ -52,7 +33,8 @@ pub fn run<R: Source, W: Sink>(
 ) -> Result<(), RunFault>
     requires reading { R.failed reader.old ≡ false }
     requires writing { W.failed writer.old ≡ false }
-    ensures runs { Runs (R.remaining reader.old) (W.contents writer.old) (R.remaining reader.new) (W.contents writer.new) result }
+    ensures runs { Runs (R.remaining reader.old) (W.contents writer.old) (R.remaining reader.new)
+        (W.contents writer.new) result }
     ensures input_failed { R.failed reader.new ≡ is_input_failed result }
     ensures output_failed { W.failed writer.new ≡ is_output_failed result }
 {

@@ -7,9 +7,9 @@ ghost use Rattle.hir_run.specs.Answer.{answer_to};
 ghost use Rattle.hir_run.specs.Run.{is_input_failed, is_output_failed};
 ghost use Rattle.hir_run.specs.Stages.{Accepts, Answers, AnswersBy, AnswersLine, AnswersOne, AnswersSome, Builds, BuildsBy, BuildsLine, Closes};
 
-use super::answer::answer;
-use super::fault::RunFault;
-use super::made::Made;
+use crate::answer::answer;
+use crate::fault::RunFault;
+use crate::made::Made;
 use hir_io::{LineReader, OutputBuffer, Sink, Source, next_line};
 use hir_lines::{Line, Question, parse};
 use hir_store::ExpressionStore;
@@ -57,11 +57,13 @@ pub(crate) fn build<R: Source, W: Sink>(
     requires fits { length lines.old.pending + R.allowance reader.old < 2 ^ 64 }
     requires fresh { (lines.old.count ≡ 0) × (lines.old.at_end ≡ false) × (made_of made.old ≡ nothing_made) }
     requires quiet { output.old ≡ [] }
-    ensures builds { Builds (untaken lines.old.pending lines.old.at_end (R.remaining reader.old)) (untaken lines.new.pending lines.new.at_end (R.remaining reader.new))
+    ensures builds { Builds (untaken lines.old.pending lines.old.at_end (R.remaining reader.old))
+        (untaken lines.new.pending lines.new.at_end (R.remaining reader.new))
         (R.remaining reader.new) lines.new (made_of made.new) result }
     ensures still_quiet { (output.new ≡ []) × (writer.new ≡ writer.old) }
     ensures failure { R.failed reader.new ≡ (is_input_failed result || R.failed reader.old) }
-    ensures still_fits { OnOk result (lines.new.count + length lines.new.pending + R.allowance reader.new < 2 ^ 64) }
+    ensures still_fits { OnOk result
+        (lines.new.count + length lines.new.pending + R.allowance reader.new < 2 ^ 64) }
 {
     while next_line(lines, reader, output, writer)? {
         let question = build_line(alloc, lines, made)?;
@@ -79,7 +81,8 @@ fn answer_one<W: Sink>(
     output: &mut OutputBuffer,
     writer: &mut W,
 ) -> Result<(), RunFault>
-    ensures answers { AnswersOne (W.contents writer.old) output.old (W.contents writer.new) output.new (answer_to store.now question) result }
+    ensures answers { AnswersOne (W.contents writer.old) output.old (W.contents writer.new) output.new
+        (answer_to store.now question) result }
     ensures failure { W.failed writer.new ≡ (is_output_failed result || W.failed writer.old) }
 {
     match answer(store, question, output, writer) {
@@ -96,7 +99,8 @@ fn answer_by<W: Sink>(
     output: &mut OutputBuffer,
     writer: &mut W,
 ) -> Result<(), RunFault>
-    ensures answers { AnswersBy (W.contents writer.old) output.old (W.contents writer.new) output.new store.now line number result }
+    ensures answers { AnswersBy (W.contents writer.old) output.old (W.contents writer.new) output.new
+        store.now line number result }
     ensures failure { W.failed writer.new ≡ (is_output_failed result || W.failed writer.old) }
 {
     match line {
@@ -118,7 +122,8 @@ fn answer_line<W: Sink>(
     output: &mut OutputBuffer,
     writer: &mut W,
 ) -> Result<(), RunFault>
-    ensures answers { AnswersLine (W.contents writer.old) output.old (W.contents writer.new) output.new store.now lines.now result }
+    ensures answers { AnswersLine (W.contents writer.old) output.old (W.contents writer.new) output.new
+        store.now lines.now result }
     ensures failure { W.failed writer.new ≡ (is_output_failed result || W.failed writer.old) }
 {
     match parse(alloc, lines.line()) {
@@ -139,7 +144,8 @@ fn answer_lines<R: Source, W: Sink>(
 ) -> Result<(), RunFault>
     requires fits { lines.old.count + length lines.old.pending + R.allowance reader.old < 2 ^ 64 }
     requires quiet { output.old ≡ [] }
-    ensures answers { AnswersSome (untaken lines.old.pending lines.old.at_end (R.remaining reader.old)) (R.remaining reader.new) lines.old lines.new
+    ensures answers { AnswersSome (untaken lines.old.pending lines.old.at_end (R.remaining reader.old))
+        (R.remaining reader.new) lines.old lines.new
         (W.contents writer.old) (W.contents writer.new) output.new store.now first result }
     ensures read_failure { R.failed reader.new ≡ (is_input_failed result || R.failed reader.old) }
     ensures write_failure { W.failed writer.new ≡ (is_output_failed result || W.failed writer.old) }
@@ -158,7 +164,8 @@ fn close<W: Sink>(
     writer: &mut W,
 ) -> Result<(), RunFault>
     ensures closes { Closes (W.contents writer.old) (W.contents writer.new) output.old outcome result }
-    ensures failure { W.failed writer.old ≡ is_output_failed outcome → W.failed writer.new ≡ is_output_failed result }
+    ensures failure { W.failed writer.old ≡ is_output_failed outcome →
+        W.failed writer.new ≡ is_output_failed result }
 {
     let flushed = output.flush(writer);
     match flushed {
@@ -180,7 +187,8 @@ pub(crate) fn answer_all<R: Source, W: Sink>(
     requires fits { lines.old.count + length lines.old.pending + R.allowance reader.old < 2 ^ 64 }
     requires quiet { output.old ≡ [] }
     requires unfailed { W.failed writer.old ≡ false }
-    ensures answers { Answers (untaken lines.old.pending lines.old.at_end (R.remaining reader.old)) (R.remaining reader.new) lines.old lines.new
+    ensures answers { Answers (untaken lines.old.pending lines.old.at_end (R.remaining reader.old))
+        (R.remaining reader.new) lines.old lines.new
         (W.contents writer.old) (W.contents writer.new) store.now first result }
     ensures read_failure { R.failed reader.new ≡ (is_input_failed result || R.failed reader.old) }
     ensures write_failure { W.failed writer.new ≡ is_output_failed result }

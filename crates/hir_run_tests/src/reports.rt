@@ -1,83 +1,133 @@
 //! What the program says of its end, and its exit status, for each outcome; also where nothing can be said.
 
 use crate::fakes::Kept;
-use hir_node::ExprId;
+use hir_node::{ExprId, PatId, TypeRefId};
 use hir_run::{RunFault, report};
 use hir_store::{FinishFault, NodeId};
+use std::alloc::Global;
+use std::process::Abort;
+use std::test::Fail;
+
+/// Fails where an outcome is reported in other words or by another status. A sink that fails takes a front of the text, is
+/// called no more, and changes no status.
+fn reports(
+    rt: &impl Abort,
+    alloc: Global,
+    outcome: Result<(), RunFault>,
+    text: &str,
+    status: u8,
+) {
+    for step in [1, 1000] {
+        let mut errors = Kept::new(alloc, step, u64::MAX);
+        assert_eq!(rt; report(&outcome, &mut errors), status, "{text}");
+        assert_eq!(rt; errors.bytes.as_slice(), text.as_bytes());
+    }
+    for call in 0..text.len() {
+        let mut errors = Kept::new(alloc, 1, call as u64);
+        assert_eq!(rt; report(&outcome, &mut errors), status, "{text}");
+        assert_eq!(rt; errors.bytes.as_slice(), &text.as_bytes()[..call]);
+        assert_eq!(rt; errors.calls, call as u64 + 1);
+    }
+}
+
+/// The same of a fault, whose line is its text and a line end.
+fn reports_fault(
+    rt: &impl Abort,
+    alloc: Global,
+    fault: RunFault,
+    text: &str,
+    status: u8,
+) -> Result<(), Fail> {
+    let line = format!(in alloc; "{fault}\n")?;
+    assert_eq!(rt; line.as_str(), text);
+    reports(rt, alloc, Err(fault), text, status);
+    Ok(())
+}
 
 #[test]
-fn reports_each_outcome(rt: HostRuntime) {
+fn reports_each_outcome(rt: HostRuntime) -> Result<(), Fail> {
     let alloc = rt.alloc();
-    let node = ExprId::from_raw(4_294_967_295);
+    reports(&rt, alloc, Ok(()), "", 0);
     let cases = [
-        (Ok(()), "", 0),
-        (Err(RunFault::BadLine(1)), "bad line 1\n", 1),
+        (RunFault::BadLine(1), "bad line 1\n", 1),
         (
-            Err(RunFault::BadLine(u64::MAX)),
+            RunFault::BadLine(u64::MAX),
             "bad line 18446744073709551615\n",
             1,
         ),
-        (
-            Err(RunFault::Refused(FinishFault::NoRoots)),
-            "refused NoRoots\n",
-            2,
-        ),
-        (
-            Err(RunFault::Refused(FinishFault::IdOutOfRange(NodeId::Expr(node)))),
-            "refused IdOutOfRange ExprId(4294967295)\n",
-            2,
-        ),
-        (
-            Err(RunFault::Refused(FinishFault::SharedChild(NodeId::Expr(node)))),
-            "refused SharedChild ExprId(4294967295)\n",
-            2,
-        ),
-        (
-            Err(RunFault::Refused(FinishFault::Cycle(NodeId::Expr(node)))),
-            "refused Cycle ExprId(4294967295)\n",
-            2,
-        ),
-        (
-            Err(RunFault::Refused(FinishFault::RootOutOfRange(0))),
-            "refused RootOutOfRange 0\n",
-            2,
-        ),
-        (
-            Err(RunFault::Refused(FinishFault::RootRepeated(10))),
-            "refused RootRepeated 10\n",
-            2,
-        ),
-        (
-            Err(RunFault::Refused(FinishFault::RootUnderRoot(7))),
-            "refused RootUnderRoot 7\n",
-            2,
-        ),
-        (
-            Err(RunFault::Refused(FinishFault::RootEnds(usize::MAX))),
-            "refused RootEnds 18446744073709551615\n",
-            2,
-        ),
-        (
-            Err(RunFault::Refused(FinishFault::Memory)),
-            "refused Memory\n",
-            2,
-        ),
-        (Err(RunFault::InputFailed), "input failed\n", 3),
-        (Err(RunFault::OutputFailed), "output failed\n", 3),
-        (Err(RunFault::OutOfMemory), "out of memory\n", 4),
+        (RunFault::InputFailed, "input failed\n", 3),
+        (RunFault::OutputFailed, "output failed\n", 3),
+        (RunFault::OutOfMemory, "out of memory\n", 4),
     ];
-    for (outcome, text, status) in cases {
-        for step in [1, 1000] {
-            let mut errors = Kept::new(alloc, step, u64::MAX);
-            assert_eq!(rt; report(&outcome, &mut errors), status, "{text}");
-            assert_eq!(rt; errors.bytes.as_slice(), text.as_bytes());
-        }
-        // A failing sink takes a front of the text, is called no more, and changes no status.
-        for call in 0..text.len() {
-            let mut errors = Kept::new(alloc, 1, call as u64);
-            assert_eq!(rt; report(&outcome, &mut errors), status, "{text}");
-            assert_eq!(rt; errors.bytes.as_slice(), &text.as_bytes()[..call]);
-            assert_eq!(rt; errors.calls, call as u64 + 1);
-        }
+    for (fault, text, status) in cases {
+        reports_fault(&rt, alloc, fault, text, status)?;
     }
+    Ok(())
+}
+
+#[test]
+fn reports_each_fault_of_a_root(rt: HostRuntime) -> Result<(), Fail> {
+    let cases = [
+        (FinishFault::NoRoots, "refused NoRoots\n"),
+        (
+            FinishFault::RootOutOfRange(0),
+            "refused RootOutOfRange 0\n",
+        ),
+        (FinishFault::RootRepeated(10), "refused RootRepeated 10\n"),
+        (FinishFault::RootUnderRoot(7), "refused RootUnderRoot 7\n"),
+        (
+            FinishFault::RootEnds(usize::MAX),
+            "refused RootEnds 18446744073709551615\n",
+        ),
+        (FinishFault::Memory, "refused Memory\n"),
+    ];
+    for (fault, text) in cases {
+        reports_fault(&rt, rt.alloc(), RunFault::Refused(fault), text, 2)?;
+    }
+    Ok(())
+}
+
+#[test]
+fn reports_each_fault_of_a_node(rt: HostRuntime) -> Result<(), Fail> {
+    let expr = NodeId::Expr(ExprId::from_raw(4_294_967_295));
+    let pat = NodeId::Pat(PatId::from_raw(0));
+    let type_ref = NodeId::TypeRef(TypeRefId::from_raw(10));
+    let cases = [
+        (
+            FinishFault::IdOutOfRange(expr),
+            "refused IdOutOfRange ExprId(4294967295)\n",
+        ),
+        (
+            FinishFault::NotAPath(expr),
+            "refused NotAPath ExprId(4294967295)\n",
+        ),
+        (
+            FinishFault::NoReturnType(type_ref),
+            "refused NoReturnType TypeRefId(10)\n",
+        ),
+        (
+            FinishFault::NoSelfArgument(pat),
+            "refused NoSelfArgument PatId(0)\n",
+        ),
+        (
+            FinishFault::ArgumentLists(pat),
+            "refused ArgumentLists PatId(0)\n",
+        ),
+        (
+            FinishFault::SharedChild(expr),
+            "refused SharedChild ExprId(4294967295)\n",
+        ),
+        (
+            FinishFault::Cycle(expr),
+            "refused Cycle ExprId(4294967295)\n",
+        ),
+        (
+            FinishFault::Cycle(type_ref),
+            "refused Cycle TypeRefId(10)\n",
+        ),
+    ];
+    for (fault, text) in cases {
+        reports_fault(&rt, rt.alloc(), RunFault::Refused(fault), text, 2)?;
+    }
+    Ok(())
 }

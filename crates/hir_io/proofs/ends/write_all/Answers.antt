@@ -1,6 +1,6 @@
 use Rattle.std.proofs.Common.{◌∙◌, ap, length, length-append, arith}
 use Rattle.std.proofs.lemmas.Bool.Decides.{nat_tests}
-use Rattle.hir_io.specs.EndLemmas.{IsWrittenUpTo-more}
+use Rattle.hir_io.proofs.EndLemmas.{IsWrittenUpTo-more}
 use Rattle.hir_io.proofs.ends.write_all.Goals as goal
 
 pub loop-rest-preserved : goal.loop-rest-preserved

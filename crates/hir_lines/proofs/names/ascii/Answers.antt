@@ -1,8 +1,10 @@
 use Rattle.std.proofs.Common.{sym, ◌∙◌}
 use Rattle.std.proofs.lemmas.Str.{IsUtf8-from_ascii}
-use Rattle.hir_lines.proofs.Ascii.{IsAscii-all}
+use Rattle.hir_lines.proofs.Ascii.{IsAscii-all, is_found}
 use Rattle.hir_lines.proofs.names.ascii.Goals as goal
 
-pub from_utf8_unchecked-requires : goal.from_utf8_unchecked-requires
-from_utf8_unchecked-requires c =
-    IsUtf8-from_ascii c.args.text.now (IsAscii-all c.args.text.now (sym c.is_ascii.ensures ∙ c.if-not-is_ascii.false))
+pub returns-clause-none : goal.returns-clause-none
+returns-clause-none c =
+    let text = c.args.text.now in
+    let utf8 = IsUtf8-from_ascii text (IsAscii-all text (sym c.is_ascii.ensures ∙ c.if-not-is_ascii.false)) in
+    is_found _ _ c.from_utf8.result c.ok.result text _ c.ok.ensures.value c.from_utf8.ensures.cases utf8

@@ -9,14 +9,14 @@ pub returns-then-not-is_numeral : goal.returns-then-not-is_numeral
 unfolding int_of
 returns-then-not-is_numeral c = grind (arith, common_steps)
 
-pub from_utf8_unchecked-text-requires : goal.from_utf8_unchecked-text-requires
-from_utf8_unchecked-text-requires c =
+pub returns-in-Err : goal.returns-in-Err
+returns-in-Err c =
     let text = c.args.text.now in
     let numeral : is_numeral (without_minus text) ≡ true = ap is_numeral (sym c.without_minus.ensures) ∙ sym c.is_numeral.ensures ∙ c.if-not-is_numeral.false in
-    IsUtf8-from_ascii text (IsAscii-int text numeral)
+    absurd (c.in-Err.ensures.cases.0 (IsUtf8-from_ascii text (IsAscii-int text numeral)))
 
-pub returns : goal.returns
-returns c =
+pub returns-in-Ok : goal.returns-in-Ok
+returns-in-Ok c =
     let text = c.args.text.now in
     let numeral : is_numeral (without_minus text) ≡ true = ap is_numeral (sym c.without_minus.ensures) ∙ sym c.is_numeral.ensures ∙ c.if-not-is_numeral.false in
-    c.ok.ensures.value ∙ int_parses text c.parse.result (rw c.from_utf8_unchecked-text.ensures at c.parse.ensures.value.0) numeral
+    c.ok.ensures.value ∙ int_parses text c.parse.result (rw c.in-Ok.ensures.cases.0 at c.parse.ensures.value.0) numeral

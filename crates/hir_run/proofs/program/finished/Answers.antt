@@ -1,32 +1,37 @@
-use Rattle.std.proofs.Common.{◌≡◌, ◌⊎◌, inl, inr, Result, Ok, Err, None, Some, sym}
-use Rattle.std.specs.Prelude.{IfOk, IfErr, MatchResult, IsErrAnd}
-use Rattle.hir_expr_store.specs.Contents.{Contents}
+use Rattle.std.proofs.Common.{◌≡◌, ◌⊎◌, inl, inr, Err, Some}
+use Rattle.std.proofs.lemmas.Result.{err_from_is_err_and}
 use Rattle.hir_faults.specs.declared.fault.FinishFault.{FinishFault}
-use Rattle.hir_faults.specs.declared.fault.FinishFault.TheVariants.{Memory}
-use Rattle.hir_store.specs.Building.{Building, building_of, contents_of, finish_fault}
-use Rattle.hir_store.specs.declared.builder.Refused.{Refused}
-use Rattle.hir_run.specs.Run.{IsFinished, IsTold, store_of}
-use Rattle.hir_run.specs.declared.fault.RunFault.{RunFault}
-use Rattle.hir_run.specs.declared.fault.RunFault.TheVariants as run
+use Rattle.hir_faults.specs.declared.fault.FinishFault.TheVariants as finish
+use Rattle.hir_store.specs.Building.{Building, building_of, finish_fault}
+use Rattle.hir_run.specs.Run.{IsFinished, fault_of_finish}
 use Rattle.hir_run.proofs.program.finished.Goals as goal
 
--- how the first fault of what was built, or memory that was refused, is told
-told_ends : (fault : FinishFault) (built : Building) (told : RunFault) → IsTold fault told → fault ≡ Memory ⊎ finish_fault built (Some fault) → IsFinished built (Err told)
-told_ends fault built (run.Refused same) told (inl e) = absurd (told.1 e)
-told_ends fault built (run.Refused same) told (inr p) = rw told.0 p
-told_ends fault built run.OutOfMemory told p = tt
-told_ends fault built (run.BadLine number) told p = absurd told
-told_ends fault built run.InputFailed told p = absurd told
-told_ends fault built run.OutputFailed told p = absurd told
+-- a fault that isn't want of memory is the first of what was built
+not_memory : (fault : FinishFault) (built : Building) → (fault ≡ finish.Memory → ⊥) → fault ≡ finish.Memory ⊎ finish_fault built (Some fault) → finish_fault built (Some fault)
+not_memory fault built other (inl e) = absurd (other e)
+not_memory fault built other (inr p) = p
 
-outcome_told : {Map : Type 0} (Back : Refused → Type 0) (built : Building) (outcome : Result (Contents × Map) Refused) (result : Result (Contents × Map) RunFault)
-    → IfOk outcome (λ made. (made.0 ≡ contents_of built) × finish_fault built None)
-    → IfErr outcome (λ refused. Back refused × (refused.fault ≡ Memory ⊎ finish_fault built (Some refused.fault)))
-    → MatchResult outcome (λ stored. result ≡ Ok stored) (λ refused. IsErrAnd result (IsTold refused.fault))
-    → IsFinished built (store_of result)
-outcome_told Back built (Ok made) result ok err same = rw same ok
-outcome_told Back built (Err refused) (Ok stored) ok err told = absurd told
-outcome_told Back built (Err refused) (Err fault) ok err told = told_ends refused.fault built fault told err.1
+-- how a run ends where what was built is refused
+fault_ends : (fault : FinishFault) (built : Building) → fault ≡ finish.Memory ⊎ finish_fault built (Some fault) → IsFinished built (Err (fault_of_finish fault))
+fault_ends finish.Memory built p = tt
+fault_ends finish.NoRoots built p = not_memory finish.NoRoots built (λ e. cc) p
+fault_ends (finish.IdOutOfRange node) built p = not_memory (finish.IdOutOfRange node) built (λ e. cc) p
+fault_ends (finish.NotAPath node) built p = not_memory (finish.NotAPath node) built (λ e. cc) p
+fault_ends (finish.NoReturnType node) built p = not_memory (finish.NoReturnType node) built (λ e. cc) p
+fault_ends (finish.NoSelfArgument node) built p = not_memory (finish.NoSelfArgument node) built (λ e. cc) p
+fault_ends (finish.ArgumentLists node) built p = not_memory (finish.ArgumentLists node) built (λ e. cc) p
+fault_ends (finish.SharedChild node) built p = not_memory (finish.SharedChild node) built (λ e. cc) p
+fault_ends (finish.Cycle node) built p = not_memory (finish.Cycle node) built (λ e. cc) p
+fault_ends (finish.RootOutOfRange index) built p = not_memory (finish.RootOutOfRange index) built (λ e. cc) p
+fault_ends (finish.RootRepeated index) built p = not_memory (finish.RootRepeated index) built (λ e. cc) p
+fault_ends (finish.RootUnderRoot index) built p = not_memory (finish.RootUnderRoot index) built (λ e. cc) p
+fault_ends (finish.RootEnds index) built p = not_memory (finish.RootEnds index) built (λ e. cc) p
 
 pub returns : goal.returns
-returns c = rw (sym c.into_builder.ensures) (outcome_told _ (building_of c.into_builder.result) c.finish.result c.map_err.result c.finish.ensures.ok c.finish.ensures.err c.map_err.ensures.cases)
+returns c = rw c.into_builder.ensures at c.in_ok-finish.ensures.ok
+
+pub returns-in_err-finish : goal.returns-in_err-finish
+returns-in_err-finish c =
+    let p = err_from_is_err_and c.from_residual.result c.from_residual.ensures.1 in
+    let first = rw c.into_builder.ensures at c.in_err-finish.ensures.err.1 in
+    rw (p.1, p.2) (fault_ends c.in_err-finish.field-0.0.fault (building_of c.args.made.builder) first)

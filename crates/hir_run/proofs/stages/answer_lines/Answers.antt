@@ -1,6 +1,6 @@
 use Rattle.std.proofs.Common.{◌≡◌, ◌++◌, ◌∷◌, [], Bool, true, false, ◌∙◌, arith, length-append, refl}
 use Rattle.std.proofs.lemmas.Result.{err_from_is_err_and}
-use Rattle.hir_io.specs.ReadLemmas.{Reads-none, Reads-more, ReadsAll-end}
+use Rattle.hir_io.proofs.ReadLemmas.{Reads-none, Reads-more, ReadsAll-end}
 use Rattle.hir_run.proofs.Answering.{kept, answered-first, answered-more, fails_at_first, fails_to_read, fails_at_line}
 use Rattle.hir_run.proofs.stages.answer_lines.Goals as goal
 

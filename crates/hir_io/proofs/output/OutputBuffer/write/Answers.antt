@@ -1,6 +1,6 @@
 use Rattle.std.proofs.Common.{◌≡◌, [], rules}
 use Rattle.std.proofs.lemmas.Result.{on_ok_weaker}
-use Rattle.hir_io.specs.EndLemmas.{IsWrittenUpTo-twice}
+use Rattle.hir_io.proofs.EndLemmas.{IsWrittenUpTo-twice}
 use Rattle.hir_io.proofs.output.OutputBuffer.write.Goals as goal
 
 pub returns-clause-bytes : goal.returns-clause-bytes

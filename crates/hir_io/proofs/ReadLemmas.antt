@@ -2,7 +2,7 @@
 use Rattle.std.proofs.Common.{◌≡◌, ℕ, Bool, true, false, List, [], ◌∷◌, ◌++◌, Option, None, Some, refl, sym, ap, ◌∙◌, inl, inr, append_assoc, append-nil, flat_map}
 use Rattle.std.specs.Io.KnownBytes.{IsAtEnd}
 use Rattle.hir_io.specs.Text.{lines, ended, TakesLine, IsRead}
-use Rattle.hir_io.specs.TextLemmas.{lines-ended, lines-taken, ended-append, all-append}
+use Rattle.hir_io.proofs.TextLemmas.{lines-ended, lines-taken, ended-append, all-append}
 use Rattle.hir_io.specs.NextLine.{TakesTold, IsBegunLine}
 use Rattle.hir_io.specs.Reads.{Reads, ReadsAll, ReadsFront, ReadsUntilFailure}
 

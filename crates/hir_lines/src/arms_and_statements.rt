@@ -1,14 +1,14 @@
 //! The arms of a match and the statements of a block: each is one word, whose parts are parted by colons.
 
 ghost use Rattle.hir_lines.specs.Readings.{Reads, Found};
-ghost use Rattle.hir_lines.specs.Parts.{arm_of, statement_of};
+ghost use Rattle.hir_lines.specs.ArmsAndStatements.{arm_of, statement_of};
 
 use crate::stop::Stop;
 use crate::words::{Word, Words};
 use hir_base::MacroDefId;
 use hir_node::{Item, MatchArm, Statement};
 
-#[tactic(auto, unfolding(crate::specs::Parts::arm_of))]
+#[tactic(auto, unfolding(crate::specs::ArmsAndStatements::arm_of))]
 fn arm(word: &[u8]) -> Result<MatchArm, Stop>
     ensures { Found (arm_of word.now) result }
 {
@@ -19,7 +19,7 @@ fn arm(word: &[u8]) -> Result<MatchArm, Stop>
     parts.alone(MatchArm { pat, guard, expr })
 }
 
-#[tactic(auto, unfolding(crate::specs::Parts::statement_of))]
+#[tactic(auto, unfolding(crate::specs::ArmsAndStatements::statement_of))]
 fn statement(word: &[u8]) -> Result<Statement, Stop>
     ensures { Found (statement_of word.now) result }
 {
@@ -47,7 +47,7 @@ fn statement(word: &[u8]) -> Result<Statement, Stop>
 }
 
 impl Word for MatchArm {
-    ghost use Rattle.hir_lines.specs.Parts.{arm_of};
+    ghost use Rattle.hir_lines.specs.ArmsAndStatements.{arm_of};
 
     ghost said = { arm_of };
 
@@ -57,7 +57,7 @@ impl Word for MatchArm {
 }
 
 impl Word for Statement {
-    ghost use Rattle.hir_lines.specs.Parts.{statement_of};
+    ghost use Rattle.hir_lines.specs.ArmsAndStatements.{statement_of};
 
     ghost said = { statement_of };
 
