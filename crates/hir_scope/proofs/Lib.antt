@@ -1,1 +1,4 @@
 mod Rows
+pub mod FlatLemmas
+pub mod PathLemmas
+pub mod ResolveLemmas

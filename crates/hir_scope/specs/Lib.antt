@@ -6,3 +6,6 @@ pub mod Slots
 pub mod Chains
 pub mod Resolution
 pub mod Counts
+pub mod Scopes
+pub mod Paths
+pub mod Flat
