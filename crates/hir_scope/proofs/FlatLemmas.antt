@@ -47,7 +47,7 @@ scopes_kept xs ys from (row ∷ rows) h =
 pub range_new : (xs ys : List ScopeEntry) (row : ScopeData) → row.start ≡ length xs → row.end ≡ length xs + length ys → entries_in (xs ++ ys) row ≡ ys
 range_new xs ys row s e = ap (take (row.end - row.start)) (drop_at xs ys row.start (sym s)) ∙ take_all (row.end - row.start) ys (omega (arith, s, e))
 
-length_in : (xs : List ScopeEntry) (row : ScopeData) → row.start ≤ row.end → row.end ≤ length xs → length (entries_in xs row) ≡ row.end - row.start
+pub length_in : (xs : List ScopeEntry) (row : ScopeData) → row.start ≤ row.end → row.end ≤ length xs → length (entries_in xs row) ≡ row.end - row.start
 length_in xs row b w = length-take-le (row.end - row.start) (drop row.start xs) (omega (arith, b, w, length-drop row.start xs))
 
 -- all entries stand in the ranges

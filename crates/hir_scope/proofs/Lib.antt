@@ -2,3 +2,4 @@ mod Rows
 pub mod FlatLemmas
 pub mod PathLemmas
 pub mod ResolveLemmas
+pub mod SameLemmas

@@ -8,7 +8,6 @@ use Rattle.hir_base.specs.declared.mod_path.PathKind.TheVariants.{Plain}
 use Rattle.hir_base.specs.declared.operators.RangeOp.TheVariants.{Inclusive}
 use Rattle.hir_path.specs.declared.path.Path.{Path}
 use Rattle.hir_path.specs.declared.path.Path.TheVariants as path
-use Rattle.hir_node.specs.ChildCalls.{e, p}
 use Rattle.hir_node.specs.declared.binding.Binding.{Binding}
 use Rattle.hir_node.specs.declared.binding.BindingAnnotation.TheVariants.{Unannotated}
 use Rattle.hir_node.specs.declared.expr.Expr.{Expr}
@@ -29,14 +28,15 @@ use Rattle.hir_node.specs.declared.node_id.NodeId.TheVariants as node
 use Rattle.hir_forest.specs.Height.{height}
 use Rattle.hir_faults.specs.Nodes.{Nodes}
 use Rattle.hir_faults.specs.Down.{rank, value}
-use Rattle.hir_scope.specs.PatLists.{pats}
-use Rattle.hir_scope.specs.Frames.{Frame, Chain, binds, plain}
+use Rattle.hir_expr_store.specs.PatLists.{pats}
+use Rattle.hir_scope.specs.Frames.{Chain, empty}
 use Rattle.hir_scope.specs.Forms.{form_of}
 use Rattle.hir_scope.specs.Leak.{leak}
-use Rattle.hir_scope.specs.Slots.{in_turn, slots}
-use Rattle.hir_scope.specs.Chains.{Place, place_kid, places_of_kids, within_own}
+use Rattle.hir_scope.specs.Slots.{slots}
+use Rattle.hir_scope.specs.Chains.{Place, places_of_kids, within_own}
+use Rattle.hir_scope.specs.Tops.{body_tops, signature_tops}
 use Rattle.hir_scope.specs.Resolution.{entries_of, resolve}
-use Rattle.hir_scope.specs.Counts.{body_scope_count, body_entry_count}
+use Rattle.hir_scope.specs.Counts.{body_scope_count, body_entry_count, signature_scope_count, signature_entry_count}
 
 -- a body without `self`
 record Row : Type 0 where
@@ -44,10 +44,11 @@ record Row : Type 0 where
   formals : List ℕ
   root : ℕ
 
+abbrev nobody : Option ℕ
+nobody = None
+
 abbrev tops : Row → List Place
-tops row =
-    let root = plain (flat_map (binds row.nodes) row.formals) ∷ [] in
-    map (place_kid [] []) (in_turn row.nodes root root (flat_map p row.formals ++ e row.root))
+tops row = body_tops row.nodes nobody row.formals (Some row.root)
 
 -- a place and those under it, in the order in which scopes are made
 abbrev places_under : Nodes → ℕ → Place → List Place
@@ -76,9 +77,6 @@ meaning name hygiene chain = option_map (λ entry. entry.binding) (resolve chain
 -- what a name means at each of them
 abbrev meanings : Row → List ℕ → SyntaxContext → List (ℕ × Option ℕ)
 meanings row name hygiene = map (λ x. (x.0, meaning name hygiene x.1)) (chains row)
-
-abbrev nobody : Option ℕ
-nobody = None
 
 -- scopes, entries, expressions entered
 abbrev counts : Row → ℕ × ℕ × ℕ
@@ -125,15 +123,15 @@ row_one = record {
 
 -- the initializer doesn't see its own let
 one : seen row_one ≡ (3, 7 ∷ []) ∷ (1, 7 ∷ []) ∷ (0, 7 ∷ []) ∷ (2, 7 ∷ 7 ∷ []) ∷ []
-unfolding slots leak pats value rank height
+unfolding body_tops slots leak pats value rank height
 one = refl
 
 one-means : meanings row_one (7 ∷ []) source ≡ (3, Some 0) ∷ (1, Some 0) ∷ (0, Some 0) ∷ (2, Some 1) ∷ []
-unfolding slots leak pats value rank height
+unfolding body_tops slots leak pats value rank height
 one-means = refl
 
 one-counts : counts row_one ≡ (3, 2, 4)
-unfolding slots leak pats value rank height
+unfolding body_tops slots leak pats value rank height
 one-counts = refl
 
 -- fn _(param) { let local: [(); M] = 0; let _: _ = []; }: the length is a constant, so it sees the parameter and never the local
@@ -152,7 +150,7 @@ row_two = record {
 }
 
 two : seen row_two ≡ (3, 1 ∷ []) ∷ (0, 1 ∷ []) ∷ (1, 1 ∷ []) ∷ (2, 2 ∷ 1 ∷ []) ∷ []
-unfolding slots leak pats value rank height
+unfolding body_tops slots leak pats value rank height
 two = refl
 
 -- fn _(foo) { let f = |bar, baz| M; }
@@ -171,7 +169,7 @@ row_three = record {
 }
 
 three : seen row_three ≡ (2, 1 ∷ []) ∷ (1, 1 ∷ []) ∷ (0, 3 ∷ 4 ∷ 1 ∷ []) ∷ []
-unfolding slots leak pats value rank height
+unfolding body_tops slots leak pats value rank height
 three = refl
 
 -- match s { opt @ Some(unit) => M, _ => () }
@@ -190,7 +188,7 @@ row_four = record {
 }
 
 four : seen row_four ≡ (3, []) ∷ (0, []) ∷ (1, 1 ∷ 2 ∷ []) ∷ (2, []) ∷ []
-unfolding slots leak pats value rank height
+unfolding body_tops slots leak pats value rank height
 four = refl
 
 -- if let p = a && M1 {} else { M2 }
@@ -210,11 +208,11 @@ row_five = record {
 
 -- the right side of `&&` and the then branch see the let, the else branch doesn't
 five : seen row_five ≡ (7, []) ∷ (3, []) ∷ (1, []) ∷ (0, []) ∷ (2, 1 ∷ []) ∷ (4, 1 ∷ []) ∷ (6, []) ∷ (5, []) ∷ []
-unfolding slots leak pats value rank height
+unfolding body_tops slots leak pats value rank height
 five = refl
 
 five-counts : counts row_five ≡ (5, 1, 8)
-unfolding slots leak pats value rank height
+unfolding body_tops slots leak pats value rank height
 five-counts = refl
 
 -- { let (a, const { let y = 1; y }, b) = z; W }
@@ -234,11 +232,11 @@ row_six = record {
 
 -- the expression in the pattern sees both of its bindings, also the later one; the constant's block sees neither
 six : seen row_six ≡ (6, []) ∷ (4, []) ∷ (3, 1 ∷ 2 ∷ []) ∷ (2, []) ∷ (0, []) ∷ (1, 3 ∷ []) ∷ (5, 1 ∷ 2 ∷ []) ∷ []
-unfolding slots leak pats value rank height
+unfolding body_tops slots leak pats value rank height
 six = refl
 
 six-counts : counts row_six ≡ (5, 3, 7)
-unfolding slots leak pats value rank height
+unfolding body_tops slots leak pats value rank height
 six-counts = refl
 
 -- { x = M; W }
@@ -258,7 +256,7 @@ row_seven = record {
 
 -- neither the value nor what follows sees the target's binding
 seven : seen row_seven ≡ (3, []) ∷ (1, []) ∷ (0, []) ∷ (2, []) ∷ []
-unfolding slots leak pats value rank height
+unfolding body_tops slots leak pats value rank height
 seven = refl
 
 -- fn _((a, R..=), b) ()
@@ -278,11 +276,11 @@ row_eight = record {
 
 -- an expression in a parameter's pattern sees all parameters
 eight : seen row_eight ≡ (0, 1 ∷ 2 ∷ []) ∷ (1, 1 ∷ 2 ∷ []) ∷ []
-unfolding slots leak pats value rank height
+unfolding body_tops slots leak pats value rank height
 eight = refl
 
 eight-counts : counts row_eight ≡ (1, 2, 2)
-unfolding slots leak pats value rank height
+unfolding body_tops slots leak pats value rank height
 eight-counts = refl
 
 -- fn _(x) { let x = 0; x }, where a macro wrote the second `x`
@@ -301,17 +299,33 @@ row_hygiene = record {
 }
 
 hygiene : seen row_hygiene ≡ (2, 7 ∷ []) ∷ (1, 7 ∷ []) ∷ (0, 7 ∷ 7 ∷ []) ∷ []
-unfolding slots leak pats value rank height
+unfolding body_tops slots leak pats value rank height
 hygiene = refl
 
 hygiene-source : meanings row_hygiene (7 ∷ []) source ≡ (2, Some 0) ∷ (1, Some 0) ∷ (0, Some 0) ∷ []
-unfolding slots leak pats value rank height
+unfolding body_tops slots leak pats value rank height
 hygiene-source = refl
 
 hygiene-expansion : meanings row_hygiene (7 ∷ []) (Expansion 1) ≡ (2, None) ∷ (1, None) ∷ (0, Some 1) ∷ []
-unfolding slots leak pats value rank height
+unfolding body_tops slots leak pats value rank height
 hygiene-expansion = refl
 
 hygiene-other : meanings row_hygiene (7 ∷ []) (Expansion 2) ≡ (2, None) ∷ (1, None) ∷ (0, None) ∷ []
-unfolding slots leak pats value rank height
+unfolding body_tops slots leak pats value rank height
 hygiene-other = refl
+
+-- A signature with two roots, a path each: its nodes are those of a body with these roots.
+abbrev two_roots : Nodes
+two_roots = record { exprs = name ∷ name ∷ []; pats = []; types = []; bindings = []; labels = []; lifetimes = [] }
+
+abbrev root_places : List Place
+root_places = flat_map (places_under two_roots 9) (signature_tops (0 ∷ 1 ∷ []))
+
+-- each sees its own empty frame and the root frame
+signature : flat_map (λ at. expr_at two_roots at at.node) root_places ≡ (0, empty ∷ empty ∷ []) ∷ (1, empty ∷ empty ∷ []) ∷ []
+unfolding signature_tops slots leak pats value rank height
+signature = refl
+
+signature-counts : ◌≡◌ {A = ℕ × ℕ} (signature_scope_count two_roots 2 (map (λ at. at.node) root_places), signature_entry_count two_roots (map (λ at. at.node) root_places)) (3, 0)
+unfolding signature_tops slots leak pats value rank height
+signature-counts = refl

@@ -8,7 +8,7 @@ use Rattle.hir_node.specs.declared.parts.Statement.TheVariants as statement
 use Rattle.hir_node.specs.declared.node_id.NodeId.{NodeId}
 use Rattle.hir_node.specs.declared.node_id.NodeId.TheVariants as node
 use Rattle.hir_faults.specs.Nodes.{Nodes}
-use Rattle.hir_scope.specs.PatLists.{bindings_at}
+use Rattle.hir_expr_store.specs.PatLists.{bindings_at}
 use Rattle.hir_scope.specs.Forms.{ScopingForm, form_of}
 use Rattle.hir_scope.specs.Forms as form
 

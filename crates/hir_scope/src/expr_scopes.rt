@@ -235,3 +235,30 @@ impl ExprScopes {
         ScopeChain::new(self, scope)
     }
 }
+
+/// Scopes are equal where the scope of each expression and the list of scopes are: their kinds, entries and parents.
+impl PartialEq for ExprScopes {
+    ghost use Rattle.hir_scope.specs.SameScopes.{same_scopes, scopes_per};
+
+    ghost eq = { same_scopes };
+
+    ghost laws = { scopes_per };
+
+    fn eq(&self, other: &ExprScopes) -> bool {
+        self.scopes == other.scopes
+            && self.entries == other.entries
+            && self.scope_by_expr == other.scope_by_expr
+    }
+}
+
+impl Eq for ExprScopes {
+    ghost use Rattle.hir_scope.specs.SameScopes.{scopes_equiv};
+
+    ghost laws = { scopes_equiv };
+}
+
+impl ExactEq for ExprScopes {
+    ghost use Rattle.hir_scope.specs.SameScopes.{scopes_decide};
+
+    ghost eq_decides = { scopes_decide };
+}
