@@ -3,3 +3,5 @@ pub mod FlatLemmas
 pub mod PathLemmas
 pub mod ResolveLemmas
 pub mod SameLemmas
+pub mod LeakLemmas
+pub mod SlotLemmas
