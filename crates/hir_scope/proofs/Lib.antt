@@ -5,3 +5,4 @@ pub mod ResolveLemmas
 pub mod SameLemmas
 pub mod LeakLemmas
 pub mod SlotLemmas
+pub mod StandsLemmas

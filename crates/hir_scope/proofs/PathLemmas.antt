@@ -52,3 +52,25 @@ path_step scopes s x earlier e =
     ∙ path_kept (w.0 ++ x ∷ []) w.1 (Some s) (omega (arith, w.3, length_push w.0 x))
     ∙ path_new w.0 x s (sym w.3)
     ∙ ap (λ (p : List ℕ). s ∷ p) (sym (ap (λ (xs : List Scope). path xs x.parent) w.2 ∙ path_kept w.0 (x ∷ w.1) x.parent below))
+
+weaker : (m n : ℕ) (o : Option ℕ) → m ≤ n → IsBelow m o → IsBelow n o
+weaker m n None l h = tt
+weaker m n (Some s) l h = omega (arith, l, h)
+
+read : (scopes : List Scope) (s : ℕ) → s < length scopes → (x : Scope) × (slice_get scopes s ≡ Some x)
+read [] s h = absurd (omega (arith, h))
+read (x ∷ scopes) zero h = (x, refl)
+read (x ∷ scopes) (suc s) h = read scopes s (omega (arith, h))
+
+path_short : (scopes : List Scope) → ParentsStandEarlier scopes → (n : ℕ) (o : Option ℕ) → n ≤ length scopes → IsBelow n o → length (path scopes o) ≤ n
+path_short scopes earlier n None l h = omega arith
+path_short scopes earlier zero (Some s) l h = absurd (omega (arith, h))
+path_short scopes earlier (suc n) (Some s) l h =
+    let x = read scopes s (omega (arith, l, h)) in
+    let shorter = path_short scopes earlier n x.0.parent (omega (arith, l)) (weaker s n x.0.parent (omega (arith, h)) (earlier s x.0 x.1)) in
+    let long : length (path scopes (Some s)) ≡ suc (length (path scopes x.0.parent)) = ap (length {A = ℕ}) (path_step scopes s x.0 earlier x.1) in
+    omega (arith, shorter, long)
+
+-- a path has at most as many members as there are scopes
+pub path_fits : (scopes : List Scope) → ParentsStandEarlier scopes → (o : Option ℕ) → IsIn scopes o → length (path scopes o) ≤ length scopes
+path_fits scopes earlier o h = path_short scopes earlier (length scopes) o (omega arith) h

@@ -4,6 +4,7 @@
 
 mod expr_scopes;
 mod fault;
+pub mod laws;
 mod resolve;
 mod scope;
 mod scope_chain;
