@@ -1,5 +1,5 @@
 -- Ranges that follow each other in one list: what a range holds, and what one range more changes.
-use Rattle.std.proofs.Common.{◌≡◌, ℕ, zero, suc, ◌+◌, ◌-◌, ◌<◌, ◌≤◌, ◌⊎◌, inl, inr, List, [], ◌∷◌, ◌++◌, Option, Some, None, length, map, take, drop, refl, ap, sym, ◌∙◌, subst, arith}
+use Rattle.std.proofs.Common.{◌≡◌, ℕ, zero, suc, ◌+◌, ◌-◌, ◌<◌, ◌≤◌, ◌⊎◌, inl, inr, List, [], ◌∷◌, ◌++◌, Option, Some, None, length, take, drop, refl, ap, sym, ◌∙◌, subst, arith}
 use Rattle.std.proofs.Common.{Bool, true, false, cond, get_or, length-append}
 use Rattle.std.specs.Prelude.{option_map}
 use Rattle.std.specs.List.{slice_get}
@@ -57,7 +57,7 @@ counted xs from (row ∷ rows) h =
     let l = length_in xs row (omega (arith, h.0, h.1)) (follow_rises row.end rows (length xs) h.2) in
     let r = counted xs row.end rows h.2 in
     let sum : entry_count (scopes_of xs (row ∷ rows)) ≡ entry_count (scope_of xs row ∷ []) + entry_count (scopes_of xs rows) =
-        sum_by-append (λ (s : Scope). length s.entries) (scope_of xs row ∷ []) (scopes_of xs rows) in
+    sum_by-append (λ (s : Scope). length s.entries) (scope_of xs row ∷ []) (scopes_of xs rows) in
     let one : entry_count (scope_of xs row ∷ []) ≡ 0 + length (entries_in xs row) = refl in
     omega (arith, sum, one, l, r, h.0, h.1)
 
@@ -92,8 +92,8 @@ chosen false v s o e = inr e
 pub below_inserted : (m : finmap.FinMap nat_cmp ℕ) (n e s : ℕ) → AreBelow m n → s < n → AreBelow (finmap.insert m e s) n
 below_inserted m n e s h l expr scope q =
     elim (chosen (eq_by_cmp nat_cmp expr e) s scope (finmap.get m expr) (sym (finmap.get-insert nat_cmp_total m e s expr) ∙ q)) [
-      inl w ↦ subst (λ x. x < n) w l
-    | inr w ↦ h expr scope w
+      | inl w ↦ subst (λ x. x < n) w l
+      | inr w ↦ h expr scope w
     ]
 
 pub flat_empty : IsFlat [] [] finmap.empty

@@ -1,5 +1,5 @@
 -- The leak of a node is its step's, at the leaks of the node's kids.
-use Rattle.std.proofs.Common.{◌≡◌, ℕ, List, [], ◌∷◌, ◌++◌, Option, Some, None, refl}
+use Rattle.std.proofs.Common.{◌≡◌, List, [], ◌∷◌, ◌++◌, Option, Some, None, refl}
 use Rattle.std.specs.List.{slice_get}
 use Rattle.hir_node.specs.ChildCalls.{Call, OnExpr, OnAnonConst, OnPat, OnType, OnLifetime, e, opt, kids, expr_calls, pat_calls, type_calls}
 use Rattle.hir_node.specs.declared.expr.Expr.{Expr}
@@ -9,12 +9,12 @@ use Rattle.hir_node.specs.declared.type_ref.TypeRef.{TypeRef}
 use Rattle.hir_node.specs.declared.type_ref.TypeRef.TheVariants as type
 use Rattle.hir_node.specs.declared.node_id.NodeId.{NodeId}
 use Rattle.hir_node.specs.declared.node_id.NodeId.TheVariants as node
-use Rattle.hir_faults.specs.Nodes.{Nodes, Has, kids_of}
+use Rattle.hir_faults.specs.Nodes.{Nodes, Has}
 use Rattle.hir_faults.specs.Down.{KidsFall, AgreeOn, AsksKids}
 use Rattle.hir_faults.proofs.DownLemmas.{value_at}
-use Rattle.hir_scope.specs.Frames.{Frame, Chain, frame}
+use Rattle.hir_scope.specs.Frames.{Chain, frame}
 use Rattle.hir_scope.specs.Forms.{form_at, expr_form, pat_form, type_form}
-use Rattle.hir_scope.specs.Leak.{leak_of_call, leaks, leak_of_form, leak_step, leak}
+use Rattle.hir_scope.specs.Leak.{leaks, leak_of_form, leak_step, leak}
 
 leaks_agree : (f g : NodeId → Chain) (cs : List Call) → AgreeOn f g (kids cs) → leaks f cs ≡ leaks g cs
 leaks_agree f g [] h = refl

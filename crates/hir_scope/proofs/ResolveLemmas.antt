@@ -1,5 +1,5 @@
 -- A name's meaning in a scope: that among the scope's entries, and where there is none that in its parent.
-use Rattle.std.proofs.Common.{◌≡◌, ℕ, suc, ◌+◌, ◌<◌, ◌≤◌, Bool, true, false, cond, List, [], ◌∷◌, ◌++◌, Option, Some, None, length, refl, ap, sym, ◌∙◌, subst, arith}
+use Rattle.std.proofs.Common.{◌≡◌, ℕ, suc, ◌<◌, Bool, true, false, cond, List, [], ◌∷◌, ◌++◌, Option, Some, None, length, refl, ap, ◌∙◌, subst, arith}
 use Rattle.std.specs.Prelude.{option_map}
 use Rattle.std.specs.List.{slice_get, flat_map}
 use Rattle.std.proofs.lemmas.Option.{slice_get_within}
@@ -57,9 +57,10 @@ parent_there scopes s parent earlier p =
     let below : IsBelow s parent = subst (IsBelow s) x.2 (earlier s x.0 x.1) in
     let there = slice_get_within scopes s x.0 x.1 in
     (wider parent below there, shorter parent below) where
-  wider : (o : Option ℕ) → IsBelow s o → s < length scopes → IsIn scopes o
-  wider None b l = tt
-  wider (Some q) b l = omega (arith, b, l)
-  shorter : (o : Option ℕ) → IsBelow s o → ways o < suc s
-  shorter None b = omega arith
-  shorter (Some q) b = omega (arith, b)
+      wider : (o : Option ℕ) → IsBelow s o → s < length scopes → IsIn scopes o
+      wider None b l = tt
+      wider (Some q) b l = omega (arith, b, l)
+
+      shorter : (o : Option ℕ) → IsBelow s o → ways o < suc s
+      shorter None b = omega arith
+      shorter (Some q) b = omega (arith, b)

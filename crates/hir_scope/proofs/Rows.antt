@@ -1,5 +1,5 @@
 -- Worked examples, computed: what each expression of a body sees, what names mean there, and how many scopes and entries there are.
-use Rattle.std.specs.Prelude.{◌≡◌, true, ℕ, zero, suc, List, [], ◌∷◌, ◌++◌, map, length, Option, Some, None, option_map, refl}
+use Rattle.std.specs.Prelude.{◌≡◌, true, ℕ, zero, suc, List, [], ◌∷◌, map, length, Option, Some, None, option_map, refl}
 use Rattle.std.specs.List.{flat_map}
 use Rattle.hir_base.specs.declared.edition.Edition.TheVariants.{Edition2015}
 use Rattle.hir_base.specs.declared.hygiene.SyntaxContext.{SyntaxContext}

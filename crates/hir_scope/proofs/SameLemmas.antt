@@ -1,6 +1,6 @@
 -- Scopes are the same exactly where what keeps them is.
-use Rattle.std.proofs.Common.{◌≡◌, ℕ, zero, suc, ◌+◌, ◌-◌, ◌<◌, ◌≤◌, List, [], ◌∷◌, ◌++◌, Bool, true, false, length, take, drop, refl, ap, sym, ◌∙◌, subst, arith, ◌&&◌, Decides}
-use Rattle.std.proofs.lemmas.List.{take-append-drop, length-drop, drop_all, length-take-le}
+use Rattle.std.proofs.Common.{◌≡◌, ℕ, zero, suc, ◌-◌, ◌≤◌, List, [], ◌∷◌, ◌++◌, Bool, true, false, length, take, drop, refl, ap, sym, ◌∙◌, subst, arith, ◌&&◌, Decides}
+use Rattle.std.proofs.lemmas.List.{take-append-drop, drop_all}
 use Rattle.std.specs.Ordering.{nat_cmp}
 use Rattle.std.specs.FinMap as finmap
 use Rattle.std.specs.Prelude.{eqb}
@@ -14,7 +14,6 @@ use Rattle.hir_scope.specs.contracts.expr_scopes.ScopeDataPartialEq.TheImpl as r
 use Rattle.hir_scope.specs.contracts.expr_scopes.ScopeDataExactEq.TheImpl.Laws as row_law
 use Rattle.hir_scope.specs.declared.scope.ScopeEntry.{ScopeEntry}
 use Rattle.hir_scope.specs.declared.expr_scopes.ScopeData.{ScopeData}
-use Rattle.hir_scope.specs.Scopes.{Scope, Scopes}
 use Rattle.hir_scope.specs.Flat.{entries_in, scope_of, scopes_of, FollowEachOther, IsFlat}
 use Rattle.hir_scope.specs.SameScopes.{same_scopes, scopes_decide}
 use Rattle.hir_scope.proofs.FlatLemmas.{follow_rises, length_in}
@@ -52,14 +51,15 @@ kept_once xs ys from (row ∷ rows) (other ∷ others) f g e =
     let starts : row.start ≡ other.start = f.0 ∙ sym g.0 in
     let ends : row.end ≡ other.end = omega (arith, f.0, f.1, g.0, g.1, m, n, ap (length {A = ScopeEntry}) es) in
     let same : row ≡ other = λ i. record { parent = (h i).parent; kind = (h i).kind; start = starts i; end = ends i } in
-    let r = kept_once xs ys row.end rows others f.2 (subst (λ k. FollowEachOther k others (length ys)) (sym ends) g.2) t in
-    (λ i. same i ∷ r.0 i,
+    let r = kept_once xs ys row.end rows others f.2 (subst (λ k. FollowEachOther k others (length ys)) (sym ends) g.2) t in (
+      λ i. same i ∷ r.0 i,
       subst (λ k. drop k xs ≡ drop k ys) f.0
-      (rest_of xs row.start row.end (omega (arith, f.0, f.1))
-      ∙ (λ i. es i ++ r.1 i)
-      ∙ ap (λ k. take (other.end - other.start) (drop other.start ys) ++ drop k ys) ends
-      ∙ sym (rest_of ys other.start other.end (omega (arith, g.0, g.1)))
-      ∙ ap (λ k. drop k ys) (sym starts)))
+          (rest_of xs row.start row.end (omega (arith, f.0, f.1))
+          ∙ (λ i. es i ++ r.1 i)
+          ∙ ap (λ k. take (other.end - other.start) (drop other.start ys) ++ drop k ys) ends
+          ∙ sym (rest_of ys other.start other.end (omega (arith, g.0, g.1)))
+          ∙ ap (λ k. drop k ys) (sym starts)),
+    )
 
 -- two tests that decide the same
 pub one_test : {P Q : Type 0} (a b : Bool) → Decides a P → Decides b Q → (P → Q) → (Q → P) → a ≡ b
@@ -86,5 +86,5 @@ all_tests xs ys rows others m n f g a b c da db dc =
     (scopes_decide (record { scopes = scopes_of xs rows; scope_by_expr = m }) (record { scopes = scopes_of ys others; scope_by_expr = n }))
     (λ e i. record { scopes = scopes_of (e.1.0 i) (e.0 i); scope_by_expr = e.1.1 i })
     (λ e.
-      let k = kept_once xs ys 0 rows others f.fill g.fill (λ i. (e i).scopes) in
-      (k.0, (k.1, λ i. (e i).scope_by_expr)))
+    let k = kept_once xs ys 0 rows others f.fill g.fill (λ i. (e i).scopes) in
+    (k.0, (k.1, λ i. (e i).scope_by_expr)))

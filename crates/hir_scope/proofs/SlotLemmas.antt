@@ -17,7 +17,7 @@ use Rattle.hir_node.specs.declared.type_ref.TypeRef.TheVariants as type
 use Rattle.hir_node.specs.declared.node_id.NodeId.{NodeId}
 use Rattle.hir_node.specs.declared.node_id.NodeId.TheVariants as node
 use Rattle.hir_faults.specs.Nodes.{Nodes, kids_of}
-use Rattle.hir_scope.specs.Frames.{Frame, Chain, frame, of_kind, empty}
+use Rattle.hir_scope.specs.Frames.{Chain, frame, of_kind, empty}
 use Rattle.hir_scope.specs.Forms.{form_at, expr_form, pat_form, type_form}
 use Rattle.hir_scope.specs.Leak.{leak_of_call, leaks, leak}
 use Rattle.hir_scope.specs.Slots.{Slot, call_slot, in_turn, made, made_for_constants, statement_slots, block_slots, arm_slots, slots_of_form, slots, own_frame, block_constants, loop_kind}
@@ -58,9 +58,9 @@ arm_kids : (s : Nodes) (add : Chain) (arm : MatchArm) → IsPermutation (kids (a
 arm_kids s add arm =
     subst (IsPermutation (kids (arm_calls arm))) (sym (turn_kids s [] (frame s (arm.pat ∷ []) ∷ add) (p arm.pat ++ opt e arm.guard ++ e arm.expr)))
     (at arm.guard) where
-  at : (guard : Option ℕ) → IsPermutation (kids (e arm.expr ++ opt e guard ++ p arm.pat)) (kids (p arm.pat ++ opt e guard ++ e arm.expr))
-  at None = IsPermutation-append_comm (node.Expr arm.expr ∷ []) (node.Pat arm.pat ∷ [])
-  at (Some g) = IsPermutation-reverse (node.Expr arm.expr ∷ node.Expr g ∷ node.Pat arm.pat ∷ [])
+      at : (guard : Option ℕ) → IsPermutation (kids (e arm.expr ++ opt e guard ++ p arm.pat)) (kids (p arm.pat ++ opt e guard ++ e arm.expr))
+      at None = IsPermutation-append_comm (node.Expr arm.expr ∷ []) (node.Pat arm.pat ∷ [])
+      at (Some g) = IsPermutation-reverse (node.Expr arm.expr ∷ node.Expr g ∷ node.Pat arm.pat ∷ [])
 
 arms_kids : (s : Nodes) (add : Chain) (arms : List MatchArm) → IsPermutation (kids (flat_map arm_calls arms)) (kids_in (flat_map (arm_slots s add) arms))
 arms_kids s add [] = IsPermutation-refl []

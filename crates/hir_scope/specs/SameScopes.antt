@@ -1,5 +1,5 @@
 -- That `==` of scopes decides whether they are the same: their kinds, entries and parents, and the scope of each expression.
-use Rattle.std.specs.Prelude.{◌≡◌, ℕ, Bool, ◌&&◌, eqb}
+use Rattle.std.specs.Prelude.{◌≡◌, Bool, ◌&&◌, eqb}
 use Rattle.std.specs.Bool.{Decides}
 use Rattle.std.specs.Option.{option_eq}
 use Rattle.std.specs.Ordering.{nat_cmp}

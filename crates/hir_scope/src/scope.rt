@@ -63,10 +63,7 @@ pub enum ScopeKind {
     /// The scope of bindings alone.
     None,
     /// That of a block which may hold items of its own.
-    Block {
-        id: BlockId,
-        label: Option<LabelId>,
-    },
+    Block { id: BlockId, label: Option<LabelId> },
     /// That of a labeled loop, or of a labeled block without an id.
     Label(LabelId),
     /// From a macro's definition on, its macro is known.

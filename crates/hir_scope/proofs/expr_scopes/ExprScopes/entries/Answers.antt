@@ -1,6 +1,5 @@
-use Rattle.std.proofs.Common.{◌≡◌, ◌≤◌, ◌<◌, ◌∙◌, ap, sym, subst, length, Some}
+use Rattle.std.proofs.Common.{◌<◌, ap, sym, subst, length}
 use Rattle.std.specs.Prelude.{option_map}
-use Rattle.std.specs.List.{slice_get}
 use Rattle.hir_scope.specs.Scopes.{Scope, Scopes}
 use Rattle.hir_scope.specs.Flat.{scopes_of}
 use Rattle.hir_scope.proofs.FlatLemmas.{scope_seen, row_seen, range_at}
@@ -12,7 +11,7 @@ slice_bounds-result-count c =
     let rows = c.self.inside.scopes.items in
     let row = c.index-data.result.now in
     let l : c.into_raw.result < length (scopes_of es rows) =
-        rw c.into_raw.ensures (subst (λ (x : Scopes). c.args.scope < length x.scopes) (sym c.self.view_is) c.requires) in
+    rw c.into_raw.ensures (subst (λ (x : Scopes). c.args.scope < length x.scopes) (sym c.self.view_is) c.requires) in
     (range_at 0 rows (length es) c.into_raw.result row c.self.invariant.fill (row_seen es rows c.into_raw.result row l c.index-data.ensures)).0
 
 pub slice_bounds-result-start : goal.slice_bounds-result-start
@@ -21,7 +20,7 @@ slice_bounds-result-start c =
     let rows = c.self.inside.scopes.items in
     let row = c.index-data.result.now in
     let l : c.into_raw.result < length (scopes_of es rows) =
-        rw c.into_raw.ensures (subst (λ (x : Scopes). c.args.scope < length x.scopes) (sym c.self.view_is) c.requires) in
+    rw c.into_raw.ensures (subst (λ (x : Scopes). c.args.scope < length x.scopes) (sym c.self.view_is) c.requires) in
     (range_at 0 rows (length es) c.into_raw.result row c.self.invariant.fill (row_seen es rows c.into_raw.result row l c.index-data.ensures)).0
 
 pub slice_bounds-result-end : goal.slice_bounds-result-end
@@ -30,7 +29,7 @@ slice_bounds-result-end c =
     let rows = c.self.inside.scopes.items in
     let row = c.index-data.result.now in
     let l : c.into_raw.result < length (scopes_of es rows) =
-        rw c.into_raw.ensures (subst (λ (x : Scopes). c.args.scope < length x.scopes) (sym c.self.view_is) c.requires) in
+    rw c.into_raw.ensures (subst (λ (x : Scopes). c.args.scope < length x.scopes) (sym c.self.view_is) c.requires) in
     rw c.deref.ensures.value ((range_at 0 rows (length es) c.into_raw.result row c.self.invariant.fill (row_seen es rows c.into_raw.result row l c.index-data.ensures)).1)
 
 pub returns : goal.returns
@@ -39,6 +38,6 @@ returns c =
     let rows = c.self.inside.scopes.items in
     let row = c.index-data.result.now in
     let l : c.into_raw.result < length (scopes_of es rows) =
-        rw c.into_raw.ensures (subst (λ (x : Scopes). c.args.scope < length x.scopes) (sym c.self.view_is) c.requires) in
+    rw c.into_raw.ensures (subst (λ (x : Scopes). c.args.scope < length x.scopes) (sym c.self.view_is) c.requires) in
     let seen = scope_seen es rows c.into_raw.result row (row_seen es rows c.into_raw.result row l c.index-data.ensures) in
     rw (← c.self.view_is, ← c.into_raw.ensures, c.deref.ensures.value) (ap (option_map (λ (s : Scope). s.entries)) seen)

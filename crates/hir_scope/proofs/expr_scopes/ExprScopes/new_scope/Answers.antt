@@ -1,8 +1,6 @@
-use Rattle.std.proofs.Common.{◌≡◌, ◌≤◌, ◌<◌, ◌+◌, ◌∙◌, ◌++◌, ◌∷◌, [], List, cond, ap, sym, subst, length, arith, refl, Err, Ok}
-use Rattle.hir_scope.specs.declared.scope.ScopeEntry.{ScopeEntry}
+use Rattle.std.proofs.Common.{◌≡◌, ◌≤◌, ◌<◌, ◌+◌, ◌∙◌, ◌++◌, ◌∷◌, [], List, cond, ap, sym, subst, length, arith, refl}
 use Rattle.hir_scope.specs.declared.expr_scopes.ScopeData.{ScopeData}
 use Rattle.hir_scope.specs.Scopes.{Scopes, Scope, IsBelow}
-use Rattle.hir_scope.specs.Flat.{scopes_of}
 use Rattle.hir_scope.proofs.FlatLemmas.{flat_push, seen_pushed, length_seen, scopes_too_many, entries_too_many, not_too_many}
 use Rattle.hir_scope.proofs.expr_scopes.ExprScopes.new_scope.Goals as goal
 use Rattle.hir_scope.proofs.expr_scopes.ExprScopes.new_scope.Goals.{then-count-ge-LIMIT-via-then-count-ge-LIMIT, then-count-ge-LIMIT-via-else-count-ge-LIMIT+then-len-start}
@@ -14,10 +12,11 @@ returns-then-count-ge-LIMIT-clause-full c =
     let n = length c.args.entries.now.items in
     rw (← c.self.view_is) (
       λ _. elim c.then-count-ge-LIMIT.branch [
-        then-count-ge-LIMIT-via-then-count-ge-LIMIT w ↦ scopes_too_many es rows n (omega (arith, w.if-count-ge-LIMIT, c.len-count.ensures))
-      | then-count-ge-LIMIT-via-else-count-ge-LIMIT+then-len-start w ↦ entries_too_many es rows n c.self.invariant.fill (omega (arith, w.if-len-start, w.len.ensures, c.len-start.ensures))
+        | then-count-ge-LIMIT-via-then-count-ge-LIMIT w ↦ scopes_too_many es rows n (omega (arith, w.if-count-ge-LIMIT, c.len-count.ensures))
+        | then-count-ge-LIMIT-via-else-count-ge-LIMIT+then-len-start w ↦ entries_too_many es rows n c.self.invariant.fill (omega (arith, w.if-len-start, w.len.ensures, c.len-start.ensures))
       ],
-      λ _. refl)
+      λ _. refl,
+    )
 
 pub returns-then-is_err-clause-full : goal.returns-then-is_err-clause-full
 returns-then-is_err-clause-full c =
@@ -46,7 +45,7 @@ invariant_of-self-2 c =
     let appended : c.append.new.self.items ≡ es ++ more = c.append.ensures.items ∙ ap (λ b. cond b (es ++ more) es) c.if-is_err-2.ensures.negation in
     let pushed : c.push_reserved.new.self.items ≡ rows ++ row ∷ [] = c.push_reserved.ensures.items ∙ ap (λ xs. xs ++ row ∷ []) c.reserve.ensures.items in
     let below : IsBelow (length rows) c.args.parent =
-        subst (λ n. IsBelow n c.args.parent) (length_seen es rows) (subst (λ (x : Scopes). IsBelow (length x.scopes) c.args.parent) (sym c.self.view_is) c.requires) in
+    subst (λ n. IsBelow n c.args.parent) (length_seen es rows) (subst (λ (x : Scopes). IsBelow (length x.scopes) c.args.parent) (sym c.self.view_is) c.requires) in
     rw (appended, pushed)
     (flat_push es more rows c.self.inside.scope_by_expr row c.self.invariant (omega (arith, c.len-start.ensures)) (omega (arith, c.len-start.ensures, c.len-2.ensures)) below
     (omega (arith, c.if-count-ge-LIMIT.false, c.len-count.ensures))
