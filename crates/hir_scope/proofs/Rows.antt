@@ -20,6 +20,8 @@ use Rattle.hir_node.specs.declared.type_ref.Rawness.TheVariants as rawness
 use Rattle.hir_node.specs.declared.parts.Array.TheVariants as array
 use Rattle.hir_node.specs.declared.parts.CaptureBy.TheVariants as capture
 use Rattle.hir_node.specs.declared.parts.ClosureKind.TheVariants as closure
+use Rattle.hir_node.specs.declared.parts.Item.TheVariants as item
+use Rattle.hir_node.specs.declared.parts.LoopSource.TheVariants as loop
 use Rattle.hir_node.specs.declared.parts.Statement.{Statement}
 use Rattle.hir_node.specs.declared.parts.Statement.TheVariants as statement
 use Rattle.hir_node.specs.declared.parts.Unsafe.TheVariants as unsafe
@@ -29,7 +31,9 @@ use Rattle.hir_forest.specs.Height.{height}
 use Rattle.hir_faults.specs.Nodes.{Nodes}
 use Rattle.hir_faults.specs.Down.{rank, value}
 use Rattle.hir_expr_store.specs.PatLists.{pats}
-use Rattle.hir_scope.specs.Frames.{Chain, empty}
+use Rattle.hir_scope.specs.declared.scope.ScopeKind.{ScopeKind}
+use Rattle.hir_scope.specs.declared.scope.ScopeKind.TheVariants as kind
+use Rattle.hir_scope.specs.Frames.{Frame, Chain, empty}
 use Rattle.hir_scope.specs.Forms.{form_of}
 use Rattle.hir_scope.specs.Leak.{leak}
 use Rattle.hir_scope.specs.Slots.{slots}
@@ -329,3 +333,91 @@ signature = refl
 signature-counts : ◌≡◌ {A = ℕ × ℕ} (signature_scope_count two_roots 2 (map (λ at. at.node) root_places), signature_entry_count two_roots (map (λ at. at.node) root_places)) (3, 0)
 unfolding signature_tops slots leak pats value rank height
 signature-counts = refl
+
+-- the frames of each chain: their kinds, and the bindings of their entries
+abbrev Shown : Type 0
+Shown = List (ℕ × List (ScopeKind × List ℕ))
+
+abbrev shown : Row → Shown
+shown row = map (λ x. (x.0, map (λ (f : Frame). (f.kind, map (λ entry. entry.binding) f.entries)) x.1)) (chains row)
+
+-- loop { macro 7; let a: [(); n] = x; const { y }; macro 8; if let p = q { z }; t }, where the block has the id 5
+abbrev row_kinds : Row
+row_kinds = record {
+  nodes = record {
+    exprs =
+      name ∷ name ∷ name ∷ expr.Const 2 ∷ name ∷ expr.Let 1 4 ∷ name ∷ expr.If 5 6 None ∷ name ∷
+      expr.Block (Some 5) (statement.Item (item.MacroDef 7) ∷ statement.Let 0 (Some 1) (Some 1) None ∷ statement.Expr 3 true ∷ statement.Item (item.MacroDef 8) ∷ statement.Expr 7 true ∷ []) (Some 8) None unsafe.No ∷
+      expr.Loop 9 None loop.Loop ∷ [];
+    pats = bind 0 ∷ bind 1 ∷ [];
+    types = type.Tuple [] ∷ type.Array (record { ty = 0; len = record { expr = 0 } }) ∷ [];
+    bindings = binding 1 source ∷ binding 2 source ∷ [];
+    labels = [];
+    lifetimes = [];
+  };
+  formals = [];
+  root = 10;
+}
+
+-- a macro's definition and a block with an id are seen by constants too, a local and an `if` aren't
+kinds : ◌≡◌ {A = Shown} (shown row_kinds) (
+  (10, (kind.None, []) ∷ []) ∷
+  (9, (kind.Block 5 None, []) ∷ (kind.None, []) ∷ (kind.None, []) ∷ []) ∷
+  (0, (kind.MacroDef 7, []) ∷ (kind.Block 5 None, []) ∷ (kind.None, []) ∷ []) ∷
+  (1, (kind.MacroDef 7, []) ∷ (kind.Block 5 None, []) ∷ (kind.None, []) ∷ (kind.None, []) ∷ []) ∷
+  (3, (kind.None, 0 ∷ []) ∷ (kind.MacroDef 7, []) ∷ (kind.Block 5 None, []) ∷ (kind.None, []) ∷ (kind.None, []) ∷ []) ∷
+  (2, (kind.MacroDef 7, []) ∷ (kind.Block 5 None, []) ∷ (kind.None, []) ∷ []) ∷
+  (7, (kind.MacroDef 8, []) ∷ (kind.None, 0 ∷ []) ∷ (kind.MacroDef 7, []) ∷ (kind.Block 5 None, []) ∷ (kind.None, []) ∷ (kind.None, []) ∷ []) ∷
+  (5, (kind.None, []) ∷ (kind.MacroDef 8, []) ∷ (kind.None, 0 ∷ []) ∷ (kind.MacroDef 7, []) ∷ (kind.Block 5 None, []) ∷ (kind.None, []) ∷ (kind.None, []) ∷ []) ∷
+  (4, (kind.None, []) ∷ (kind.MacroDef 8, []) ∷ (kind.None, 0 ∷ []) ∷ (kind.MacroDef 7, []) ∷ (kind.Block 5 None, []) ∷ (kind.None, []) ∷ (kind.None, []) ∷ []) ∷
+  (6, (kind.None, 1 ∷ []) ∷ (kind.None, []) ∷ (kind.MacroDef 8, []) ∷ (kind.None, 0 ∷ []) ∷ (kind.MacroDef 7, []) ∷ (kind.Block 5 None, []) ∷ (kind.None, []) ∷ (kind.None, []) ∷ []) ∷
+  (8, (kind.MacroDef 8, []) ∷ (kind.None, 0 ∷ []) ∷ (kind.MacroDef 7, []) ∷ (kind.Block 5 None, []) ∷ (kind.None, []) ∷ (kind.None, []) ∷ []) ∷
+  [])
+unfolding body_tops slots leak pats value rank height
+kinds = refl
+
+kinds-counts : counts row_kinds ≡ (11, 2, 11)
+unfolding body_tops slots leak pats value rank height
+kinds-counts = refl
+
+-- { if c { k } else (let p = q); match (let r = s) { m if (let g = h) => u }; x = (let v = w); || t }
+abbrev row_leaks : Row
+row_leaks = record {
+  nodes = record {
+    exprs =
+      name ∷ name ∷ name ∷ expr.Let 0 2 ∷ expr.If 0 1 (Some 3) ∷ name ∷ expr.Let 1 5 ∷ name ∷ expr.Let 3 7 ∷ name ∷
+      expr.Match 6 (record { pat = 2; guard = Some 8; expr = 9 } ∷ []) ∷ name ∷ expr.Let 5 11 ∷ expr.Assignment 4 12 ∷ name ∷
+      expr.Closure [] [] None 14 closure.Closure capture.Ref ∷
+      block (statement.Expr 4 true ∷ statement.Expr 10 true ∷ statement.Expr 13 true ∷ []) (Some 15) ∷ [];
+    pats = bind 0 ∷ bind 1 ∷ bind 2 ∷ bind 3 ∷ bind 4 ∷ bind 5 ∷ [];
+    types = [];
+    bindings = binding 1 source ∷ binding 2 source ∷ binding 3 source ∷ binding 4 source ∷ binding 5 source ∷ binding 6 source ∷ [];
+    labels = [];
+    lifetimes = [];
+  };
+  formals = [];
+  root = 16;
+}
+
+-- lets in an else branch, a scrutinee and a value go on; one in a guard ends with its arm, and a target's binding with the target
+leaking : ◌≡◌ {A = Shown} (shown row_leaks) (
+  (16, (kind.None, []) ∷ (kind.None, []) ∷ []) ∷
+  (4, (kind.None, []) ∷ (kind.None, []) ∷ []) ∷
+  (0, (kind.None, []) ∷ (kind.None, []) ∷ (kind.None, []) ∷ []) ∷
+  (1, (kind.None, []) ∷ (kind.None, []) ∷ (kind.None, []) ∷ []) ∷
+  (3, (kind.None, []) ∷ (kind.None, []) ∷ []) ∷
+  (2, (kind.None, []) ∷ (kind.None, []) ∷ []) ∷
+  (10, (kind.None, 0 ∷ []) ∷ (kind.None, []) ∷ (kind.None, []) ∷ []) ∷
+  (6, (kind.None, 0 ∷ []) ∷ (kind.None, []) ∷ (kind.None, []) ∷ []) ∷
+  (5, (kind.None, 0 ∷ []) ∷ (kind.None, []) ∷ (kind.None, []) ∷ []) ∷
+  (8, (kind.None, 2 ∷ []) ∷ (kind.None, 1 ∷ []) ∷ (kind.None, 0 ∷ []) ∷ (kind.None, []) ∷ (kind.None, []) ∷ []) ∷
+  (7, (kind.None, 2 ∷ []) ∷ (kind.None, 1 ∷ []) ∷ (kind.None, 0 ∷ []) ∷ (kind.None, []) ∷ (kind.None, []) ∷ []) ∷
+  (9, (kind.None, 3 ∷ []) ∷ (kind.None, 2 ∷ []) ∷ (kind.None, 1 ∷ []) ∷ (kind.None, 0 ∷ []) ∷ (kind.None, []) ∷ (kind.None, []) ∷ []) ∷
+  (13, (kind.None, 1 ∷ []) ∷ (kind.None, 0 ∷ []) ∷ (kind.None, []) ∷ (kind.None, []) ∷ []) ∷
+  (12, (kind.None, 1 ∷ []) ∷ (kind.None, 0 ∷ []) ∷ (kind.None, []) ∷ (kind.None, []) ∷ []) ∷
+  (11, (kind.None, 1 ∷ []) ∷ (kind.None, 0 ∷ []) ∷ (kind.None, []) ∷ (kind.None, []) ∷ []) ∷
+  (15, (kind.None, 5 ∷ []) ∷ (kind.None, 1 ∷ []) ∷ (kind.None, 0 ∷ []) ∷ (kind.None, []) ∷ (kind.None, []) ∷ []) ∷
+  (14, (kind.None, []) ∷ (kind.None, 5 ∷ []) ∷ (kind.None, 1 ∷ []) ∷ (kind.None, 0 ∷ []) ∷ (kind.None, []) ∷ (kind.None, []) ∷ []) ∷
+  [])
+unfolding body_tops slots leak pats value rank height
+leaking = refl
