@@ -1,0 +1,45 @@
+-- A lexical frame: what it is, and the bindings that it brings into scope, all at once.
+use Rattle.std.specs.Prelude.{ℕ, List, [], ◌∷◌, slice_get}
+use Rattle.std.specs.List.{flat_map}
+use Rattle.hir_node.specs.declared.binding.Binding.{Binding}
+use Rattle.hir_faults.specs.Parts.{all_of}
+use Rattle.hir_faults.specs.Nodes.{Nodes}
+use Rattle.hir_expr_store.specs.PatLists.{bindings_in}
+use Rattle.hir_scope.specs.declared.scope.ScopeEntry.{ScopeEntry}
+use Rattle.hir_scope.specs.declared.scope.ScopeKind.{ScopeKind}
+use Rattle.hir_scope.specs.declared.scope.ScopeKind.TheVariants as kind
+
+pub record Frame : Type 0 where
+  pub kind : ScopeKind
+  pub entries : List ScopeEntry
+
+-- frames, the innermost first
+abbrev pub Chain : Type 0
+Chain = List Frame
+
+-- the entry of a binding: its name, its hygiene, its number
+abbrev pub entry_of : ℕ → Binding → ScopeEntry
+entry_of id binding = record { name = binding.name; hygiene = binding.hygiene; binding = id }
+
+-- the same where the binding is there
+abbrev pub entry_at : Nodes → ℕ → List ScopeEntry
+entry_at s id = all_of (λ binding. entry_of id binding ∷ []) (slice_get s.bindings id)
+
+-- the entries of the `Bind` patterns of a pattern, in the order of its patterns
+abbrev pub binds : Nodes → ℕ → List ScopeEntry
+binds s p = flat_map (entry_at s) (bindings_in s p)
+
+-- a frame of entries alone
+abbrev pub plain : List ScopeEntry → Frame
+plain entries = record { kind = kind.None; entries = entries }
+
+-- the frame of all that these patterns bind
+abbrev pub frame : Nodes → List ℕ → Frame
+frame s ps = plain (flat_map (binds s) ps)
+
+-- a frame that is only of a kind
+abbrev pub of_kind : ScopeKind → Frame
+of_kind kind = record { kind = kind; entries = [] }
+
+abbrev pub empty : Frame
+empty = of_kind kind.None

@@ -1,0 +1,12 @@
+pub mod Frames
+pub mod Forms
+pub mod Leak
+pub mod Slots
+pub mod Chains
+pub mod Tops
+pub mod Resolution
+pub mod Counts
+pub mod Scopes
+pub mod Paths
+pub mod Flat
+pub mod SameScopes

@@ -1,0 +1,23 @@
+//! Why scopes were not made.
+ghost use Rattle.hir_base.specs.Exact.{exact};
+
+use hir_base::ExactEq;
+use thiserror::Error;
+
+/// Why the scopes of a body or a signature were not made. Its text is its name.
+#[derive(Clone, Copy, Debug, Drop, PartialEq, Eq, Error)]
+pub enum ScopesFault {
+    /// The tables hold no body, signature or fields of the definition that was asked for.
+    #[error("Missing")]
+    Missing,
+    /// More than 4,294,967,295 scopes, or more than 4,294,967,295 entries, are needed.
+    #[error("Full")]
+    Full,
+    /// Memory was refused.
+    #[error("Memory")]
+    Memory,
+}
+
+impl ExactEq for ScopesFault {
+    ghost eq_decides = { Prim.search exact };
+}

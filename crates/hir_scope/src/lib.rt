@@ -1,0 +1,15 @@
+//! Lexical scopes: which bindings each expression of a body or signature sees.
+//! `ExprScopes` holds the scopes and answers questions on them; what a scope's chain has to be is told in `specs/`.
+#![tactic(auto)]
+
+mod expr_scopes;
+mod fault;
+pub mod laws;
+mod resolve;
+mod scope;
+mod scope_chain;
+
+pub use expr_scopes::{ExprScopes, ScopeData};
+pub use fault::ScopesFault;
+pub use scope::{ScopeEntry, ScopeId, ScopeKind, ScopeMarker};
+pub use scope_chain::ScopeChain;

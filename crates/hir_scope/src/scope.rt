@@ -1,0 +1,79 @@
+//! What a scope is made of: its kind and its entries.
+ghost use Rattle.std.specs.Prelude.{◌≡◌};
+ghost use Rattle.hir_base.specs.Exact.{exact};
+
+use hir_base::{BlockId, ExactEq, HygieneId, Idx, MacroDefId, Name, TryClone};
+use hir_node::{BindingId, LabelId};
+
+/// The kind of the ids of scopes. It is a marker: no value of it exists.
+pub enum ScopeMarker {}
+
+/// The number of a scope.
+pub type ScopeId = Idx<ScopeMarker>;
+
+/// A name that a scope brings in: the binding that it names, and the hygiene that it was written with.
+#[derive(Drop, PartialEq, Eq)]
+pub struct ScopeEntry {
+    name: Name,
+    hygiene: HygieneId,
+    binding: BindingId,
+}
+
+impl ScopeEntry {
+    /// The entry of a binding with this name and hygiene.
+    pub(crate) fn new(name: Name, hygiene: HygieneId, binding: BindingId) -> ScopeEntry
+        ensures { result ≡ record { name = name; hygiene = hygiene; binding = binding } }
+    {
+        ScopeEntry {
+            name,
+            hygiene,
+            binding,
+        }
+    }
+
+    /// The name.
+    pub fn name(&self) -> &Name
+        ensures { result.now ≡ self.now.name }
+    {
+        &self.name
+    }
+
+    /// Which macro expansion, if any, the name was written by.
+    pub fn hygiene(&self) -> HygieneId
+        ensures { result ≡ self.now.hygiene }
+    {
+        self.hygiene
+    }
+
+    /// The binding that the name stands for.
+    pub fn binding(&self) -> BindingId
+        ensures { result ≡ self.now.binding }
+    {
+        self.binding
+    }
+}
+
+impl ExactEq for ScopeEntry {
+    ghost eq_decides = { Prim.search exact };
+}
+
+/// What a scope is, besides the bindings that it brings in.
+#[derive(Clone, Copy, PartialEq, Eq)]
+pub enum ScopeKind {
+    /// The scope of bindings alone.
+    None,
+    /// That of a block which may hold items of its own.
+    Block { id: BlockId, label: Option<LabelId> },
+    /// That of a labeled loop, or of a labeled block without an id.
+    Label(LabelId),
+    /// From a macro's definition on, its macro is known.
+    MacroDef(MacroDefId),
+}
+
+impl ExactEq for ScopeKind {
+    ghost eq_decides = { Prim.search exact };
+}
+
+impl TryClone for ScopeKind {
+    ghost clone_is_same = { Prim.search exact };
+}
