@@ -1,0 +1,4 @@
+pub mod PageLemmas
+pub mod EndLemmas
+pub mod BufferLemmas
+pub mod KeptLemmas

@@ -1,0 +1,4 @@
+pub mod Pieces
+pub mod Page
+pub mod Buffer
+pub mod LastByte
