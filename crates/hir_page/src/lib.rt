@@ -3,8 +3,13 @@
 
 mod buffer;
 mod line_format;
+mod literals;
 mod piece_writer;
 
 pub use buffer::PageBuffer;
 pub use line_format::LineFormat;
+pub use literals::{
+    write_bytes_literal, write_c_string_literal, write_char_literal, write_number,
+    write_string_literal,
+};
 pub use piece_writer::PieceWriter;
