@@ -25,6 +25,7 @@ mod params;
 mod prec;
 mod ptr;
 mod seq;
+mod steps;
 mod table;
 mod table_iter;
 mod text;
@@ -63,6 +64,7 @@ pub use ptr::{
     TypeSource,
 };
 pub use seq::Seq;
+pub use steps::Steps;
 pub use table::{Keyed, Table};
 pub use table_iter::TableIter;
 pub use text::Text;

@@ -100,6 +100,18 @@ impl<K: Keyed + Drop, V: Drop> Table<K, V> {
     {
         self.entries.insert(key, value)
     }
+
+    /// Gives the key this value, in the place of the one that it had.
+    ///
+    /// Answers an error where room for one more entry was refused: key and value are handed back and the table is unchanged.
+    pub fn put(&mut self, key: K, value: V) -> Result<(), AllocFailed<(K, V)>>
+        ensures ok { OnOk result (self.new ≡ map.insert self.old (K.code key) value) }
+        ensures err { OnErr result (self.new ≡ self.old) }
+        ensures value_returned { IfErr result (λ failed. failed.value ≡ (key, value)) }
+    {
+        self.insert(key, value)?;
+        Ok(())
+    }
 }
 
 impl<K: Keyed, V: ExactEq> PartialEq for Table<K, V> {

@@ -1,0 +1,53 @@
+//! A count of steps that contracts alone see: it takes no bytes, and counting does nothing at run time.
+ghost use Rattle.std.specs.Prelude.{◌≡◌, ◌+◌, ℕ};
+
+use std::marker::Model;
+
+/// How many steps were taken, seen as that number.
+///
+/// It serves contracts that say how much a call does, as how many ends a search reads. A caller makes a count by `new` and lends it to
+/// such a call: what the number is afterwards stands in the call's contract, and nothing reads it at run time.
+#[derive(Drop)]
+pub struct Steps {
+    ghost count: { ℕ },
+}
+
+impl Model for Steps {
+    ghost use Rattle.std.specs.Prelude.{ℕ};
+    ghost use base.Fml.{ftrue};
+
+    ghost Value = { ℕ };
+
+    ghost view = { λ steps. steps.count };
+
+    ghost also_owns = { λ _. ftrue };
+}
+
+impl Steps {
+    /// No steps yet.
+    pub fn new() -> Steps
+        ensures { result ≡ 0 }
+    {
+        Steps::none()
+    }
+
+    /// Takes a step: the number rises by one.
+    pub fn tick(&mut self)
+        ensures { self.new ≡ self.old + 1 }
+    {
+        *self = Steps::after(self);
+    }
+
+    // The two functions that make a count, and so the two whose proofs are written by hand.
+    fn none() -> Steps
+        ensures { result ≡ 0 }
+    {
+        Steps {}
+    }
+
+    fn after(_before: &Steps) -> Steps
+        ensures { result ≡ _before.now + 1 }
+    {
+        Steps {}
+    }
+}
