@@ -61,20 +61,8 @@ fn comparison(ordering: Ordering, strict: bool) -> &'static str
     ensures { result.now ≡ ordering_text ordering strict }
 {
     match ordering {
-        Ordering::Less => {
-            if strict {
-                "<"
-            } else {
-                "<="
-            }
-        }
-        Ordering::Greater => {
-            if strict {
-                ">"
-            } else {
-                ">="
-            }
-        }
+        Ordering::Less => { if strict { "<" } else { "<=" } }
+        Ordering::Greater => { if strict { ">" } else { ">=" } }
     }
 }
 

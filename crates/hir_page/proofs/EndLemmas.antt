@@ -87,12 +87,16 @@ ending text (suc n) t = by_end (get_or text n 0 == 10) refl
   where
     index : suc n - 1 ≡ n
     index = omega arith
+
     last : ℕ
     last = get_or text n 0
+
     taken : take (suc n) text ≡ take n text ++ (get_or text n 0 ∷ [])
     taken = let lt = t.within in let s : suc n ≡ n + 1 = omega arith in rw s (take_more text n 0 (omega arith))
+
     empty_is : (k : List ℕ) (b : Bool) → (get_or text n 0 == 10) ≡ b → is_empty_line k ≡ b → is_empty_line k ≡ ((suc n == 0) || (get_or text (suc n - 1) 0 == 10))
     empty_is k b e f = let zero_not : (suc n == 0) ≡ false = grind (arith, nat_tests) in rw (index, zero_not, e) f
+
     by_end : (b : Bool) → (get_or text n 0 == 10) ≡ b → Ending text (suc n)
     by_end true e =
         let ends : get_or text n 0 ≡ 10 = grind (arith, nat_tests) in

@@ -13,7 +13,7 @@ kept_spaces text kept n t =
     record {
       within = omega arith;
       spaces = drop-append-le kept text (replicate n 32) t.within ∙ ap (λ d. d ++ replicate n 32) t.spaces ∙ replicate-append-replicate (length text - kept) n 32
-      ∙ ap (λ k. replicate k 32) count;
+          ∙ ap (λ k. replicate k 32) count;
       before = λ some. rw (get_or_append_left text (replicate n 32) 0 (kept - 1) (omega arith)) (t.before some);
     }
 

@@ -74,6 +74,7 @@ text_continued l (c ∷ cs) = text_continued (one_more c l) cs ∙ ap (λ t. t +
     in_last : (above : List (List ℕ)) → lines_text above (l.1 ++ (c ∷ [])) ≡ lines_text above l.1 ++ (c ∷ [])
     in_last [] = refl
     in_last (line ∷ above) = sym (append_assoc (lines_text above line) (10 ∷ l.1) (c ∷ []))
+
     text_one_more : (b : Bool) → (c == 10) ≡ b → lines_text (one_more c l).0 (one_more c l).1 ≡ lines_text l.0 l.1 ++ (c ∷ [])
     text_one_more true e =
         let is : c ≡ 10 = grind (arith, nat_tests) in
@@ -93,6 +94,7 @@ begun_format p = by_format p.format refl
     either : (b : Bool) → (indented (cond b p (record p { above = p.last ∷ p.above; last = [] }))).format ≡ p.format
     either true = refl
     either false = refl
+
     by_format : (f : LineFormat) → p.format ≡ f → (begun_in f p).format ≡ p.format
     by_format Oneline e = refl
     by_format Newline e = refl

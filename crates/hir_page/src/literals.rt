@@ -200,7 +200,10 @@ pub fn write_bytes_literal<W: PieceWriter>(writer: &mut W, bytes: &[u8]) -> Resu
 }
 
 /// Writes a C string in double quotes, with the 0 that ends it.
-pub fn write_c_string_literal<W: PieceWriter>(writer: &mut W, bytes: &[u8]) -> Result<(), AllocError>
+pub fn write_c_string_literal<W: PieceWriter>(
+    writer: &mut W,
+    bytes: &[u8],
+) -> Result<(), AllocError>
     ensures { Writes W.step W.refuses writer.old (c_string_literal bytes.now) (is_ok result) writer.new }
 {
     writer.text("\"")?;

@@ -12,7 +12,10 @@ fn strings_are_escaped(rt: HostRuntime) -> Result<(), Fail> {
     assert_eq!(rt; page.into_text().as_str(), "\"a\\\"\\u{1}é'\"");
     let mut page = PageBuffer::new(rt.alloc(), LineFormat::Newline);
     write_string_literal(&mut page, "\0\t\r\n\\\u{1f}\u{7f}")?;
-    assert_eq!(rt; page.into_text().as_str(), "\"\\0\\t\\r\\n\\\\\\u{1f}\\u{7f}\"");
+    assert_eq!(rt;
+        page.into_text().as_str(),
+        "\"\\0\\t\\r\\n\\\\\\u{1f}\\u{7f}\""
+    );
     Ok(())
 }
 
@@ -50,8 +53,7 @@ fn numbers_are_decimal(rt: HostRuntime) -> Result<(), Fail> {
     let mut page = PageBuffer::new(rt.alloc(), LineFormat::Newline);
     write_number(&mut page, i128::MIN)?;
     write_number(&mut page, u128::MAX)?;
-    assert_eq!(
-        rt;
+    assert_eq!(rt;
         page.into_text().as_str(),
         "-170141183460469231731687303715884105728340282366920938463463374607431768211455"
     );

@@ -57,7 +57,10 @@ fn match_in_a_repeat(page: &mut PageBuffer) -> Result<(), Fail> {
 fn break_after_an_outdent_leaves_an_empty_line(rt: HostRuntime) -> Result<(), Fail> {
     let mut page = PageBuffer::new(rt.alloc(), LineFormat::Newline);
     match_in_a_repeat(&mut page)?;
-    assert_eq!(rt; page.into_text().as_str(), "[\n    x; match y {\n    }\n\n]");
+    assert_eq!(rt;
+        page.into_text().as_str(),
+        "[\n    x; match y {\n    }\n\n]"
+    );
     Ok(())
 }
 
@@ -69,8 +72,7 @@ fn at_a_level_that_line_keeps_its_spaces(rt: HostRuntime) -> Result<(), Fail> {
     match_in_a_repeat(&mut page)?;
     page.outdent()?;
     page.text("}")?;
-    assert_eq!(
-        rt;
+    assert_eq!(rt;
         page.into_text().as_str(),
         "{\n    [\n        x; match y {\n        }\n    \n    ]}"
     );

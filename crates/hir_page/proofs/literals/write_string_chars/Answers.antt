@@ -15,7 +15,7 @@ loop-c-preserved g c =
     record {
       utf8 = IsUtf8-past_char text rest c.in-Some.c utf8 is;
       leads = λ b last r. c.loop-c.invariant.leads b last
-      (writes_char string_char text rest c.in-Some.c (chars_past_char text rest c.in-Some.c utf8 is) (rw c.escape_in_string.ensures at c.in_ok-write_escaped.ensures) r);
+          (writes_char string_char text rest c.in-Some.c (chars_past_char text rest c.in-Some.c utf8 is) (rw c.escape_in_string.ensures at c.in_ok-write_escaped.ensures) r);
     }
 
 pub returns-in_err-write_escaped : goal.returns-in_err-write_escaped

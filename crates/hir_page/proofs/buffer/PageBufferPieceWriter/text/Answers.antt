@@ -17,7 +17,7 @@ loop-line-preserved c =
     record {
       utf8 = search rules;
       puts = ap (put_all after) (c.in_ok-line_end.ensures ∙ ap (put 10) c.in_ok-line.ensures)
-      ∙ sym (put_all-append line (10 ∷ after) p) ∙ ap (λ t. put_all t p) (sym parts.0) ∙ c.loop-line.invariant.puts;
+          ∙ sym (put_all-append line (10 ∷ after) p) ∙ ap (λ t. put_all t p) (sym parts.0) ∙ c.loop-line.invariant.puts;
     }
 
 pub line-requires-2 : goal.line-requires-2
