@@ -1,11 +1,10 @@
 -- What a page becomes as the text grows.
-use Rattle.std.proofs.Common.{◌≡◌, ◌≢◌, ℕ, ◌+◌, ◌*◌, ◌<◌, Bool, true, false, List, [], ◌∷◌, ◌++◌, length, get_or, take, replicate, ◌-◌, ◌==◌, ◌||◌, cond, refl, sym, ap, ◌∙◌, arith}
-use Rattle.std.proofs.lemmas.Bool.Decides.{nat_tests}
+use Rattle.std.proofs.Common.{◌≡◌, ℕ, List, [], ◌∷◌, ◌++◌, get_or, take, replicate, ◌-◌, ◌==◌, ◌||◌, sym, ap, ◌∙◌}
 use Rattle.hir_page.specs.declared.line_format.LineFormat.{LineFormat}
 use Rattle.hir_page.specs.Buffer.{lines_of, HasNoEnd, IsTrimmedLen}
 use Rattle.hir_page.specs.Page.{Lines, Page, is_blank, trimmed}
 use Rattle.hir_page.proofs.PageLemmas.{lines_of-plain, lines_of-end}
-use Rattle.hir_page.proofs.EndLemmas.{no_end_in_spaces, Ending, ending}
+use Rattle.hir_page.proofs.EndLemmas.{no_end_in_spaces, ending}
 
 -- the page of a text, a level and a format
 abbrev pub page : List ℕ → ℕ → LineFormat → Page

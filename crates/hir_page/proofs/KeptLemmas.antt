@@ -1,6 +1,6 @@
 -- The length of a text without its trailing spaces, as the text grows.
-use Rattle.std.proofs.Common.{◌≡◌, ◌≢◌, ℕ, zero, suc, ◌+◌, ◌*◌, ◌/◌, ◌<◌, ◌≤◌, List, [], ◌∷◌, ◌++◌, length, get_or, take, drop, replicate, ◌-◌, refl, sym, ap, ◌∙◌, arith, length-append}
-use Rattle.std.proofs.lemmas.List.{drop-append-le, length-replicate, get_or_append_left, get_or-append-add, replicate-append-replicate, take-replicate}
+use Rattle.std.proofs.Common.{◌≡◌, ℕ, ◌+◌, ◌*◌, ◌<◌, List, [], ◌∷◌, ◌++◌, length, drop, replicate, ◌-◌, sym, ap, ◌∙◌, arith, length-append}
+use Rattle.std.proofs.lemmas.List.{drop-append-le, length-replicate, get_or_append_left, get_or-append-add, replicate-append-replicate}
 use Rattle.std.proofs.Math.Seq.{drop-append-add, drop-length, get_or-append_seam}
 use Rattle.hir_page.specs.Buffer.{IsTrimmedLen, level_of}
 

@@ -1,5 +1,5 @@
 -- How lines grow.
-use Rattle.std.proofs.Common.{◌≡◌, ◌≢◌, ℕ, zero, suc, ◌+◌, ◌*◌, ◌-◌, ◌<◌, ◌≤◌, Bool, true, false, List, [], ◌∷◌, ◌++◌, length, get_or, replicate, ◌==◌, cond, refl, sym, ap, ap₂, ◌∙◌, append_assoc, append-nil, arith, eqb}
+use Rattle.std.proofs.Common.{◌≡◌, ◌≢◌, ℕ, suc, ◌<◌, Bool, true, false, List, [], ◌∷◌, ◌++◌, length, ◌==◌, cond, refl, sym, ap, ◌∙◌, append_assoc, append-nil, arith}
 use Rattle.std.proofs.lemmas.Bool.Decides.{nat_tests}
 use Rattle.hir_page.specs.declared.line_format.LineFormat.{LineFormat}
 use Rattle.hir_page.specs.declared.line_format.LineFormat.TheVariants.{Oneline, Newline, Indentation}

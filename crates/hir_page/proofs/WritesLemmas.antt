@@ -1,5 +1,5 @@
 -- Lists of pieces, written one after another.
-use Rattle.std.proofs.Common.{◌≡◌, Bool, true, false, List, [], ◌∷◌, ◌++◌, refl, append-nil, subst, sym}
+use Rattle.std.proofs.Common.{◌≡◌, Bool, true, false, List, [], ◌∷◌, ◌++◌, refl}
 use Rattle.std.specs.Prelude.{Result, Ok, Err, IsErr, is_ok}
 use Rattle.std.proofs.Common.{ℕ, ◌<◌, ◌≤◌, ◌+◌, length, get_or, drop, cond, ap, ◌∙◌, ◌==◌, ◌||◌, nat_lt, codes, arith}
 use Rattle.std.proofs.lemmas.List.{drop_more}

@@ -1,5 +1,5 @@
 -- How the buffer holds a page.
-use Rattle.std.specs.Prelude.{◌≡◌, ◌≢◌, ℕ, ◌+◌, ◌*◌, ◌-◌, ◌/◌, ◌<◌, ◌≤◌, List, [], ◌∷◌, ◌++◌, length, drop, replicate, ◌==◌, if◌then◌else◌, slice_index, string_bytes}
+use Rattle.std.specs.Prelude.{◌≡◌, ◌≢◌, ℕ, ◌*◌, ◌-◌, ◌/◌, ◌<◌, ◌≤◌, List, [], ◌∷◌, ◌++◌, length, drop, replicate, ◌==◌, if◌then◌else◌, slice_index, string_bytes}
 use Rattle.hir_page.specs.declared.buffer.PageBuffer.TheInside.{Inside}
 use Rattle.hir_page.specs.Page.{Page, Lines, cut_lines}
 

@@ -1,8 +1,4 @@
-use Rattle.std.proofs.Common.{◌≡◌, ◌<◌, ◌≤◌, ◌==◌, ◌∷◌, [], ◌++◌, Bool, true, false, length, get_or, drop, refl, sym, ap, ◌∙◌, arith, rules}
-use Rattle.hir_page.specs.Pieces.{Text}
-use Rattle.hir_page.specs.Writes.{Writes, written, all_written, refused}
-use Rattle.hir_page.specs.Literals.{string_char, byte_pieces, escape_in_string}
-use Rattle.hir_page.proofs.WritesLemmas.{writes_err, writes_item, item_stopped, writes_over, writes_char, char_stopped, chars_over}
+use Rattle.hir_page.specs.Writes.{written, all_written}
 use Rattle.hir_page.proofs.literals.write_number.Goals as goal
 
 pub returns : goal.returns

@@ -1,7 +1,5 @@
-use Rattle.std.proofs.Common.{◌≡◌, ◌∷◌, [], ◌++◌, refl, sym, ap, ◌∙◌, arith, rules}
 use Rattle.hir_page.specs.Writes.{written, all_written, refused}
-use Rattle.hir_page.specs.Literals.{short_escape, escape_in_string, escape_in_bytes, two_digits, hexadecimal, control_escape, long_escape, byte_escape, escaped_by, string_char, byte_pieces}
-use Rattle.hir_page.proofs.WritesLemmas.{writes_then, writes_stopped, writes_err, escaped, not_escaped}
+use Rattle.hir_page.proofs.WritesLemmas.{writes_err}
 use Rattle.hir_page.proofs.literals.write_two_digits.Goals as goal
 
 pub returns-in_err-text : goal.returns-in_err-text

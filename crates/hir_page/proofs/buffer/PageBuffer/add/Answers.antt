@@ -1,7 +1,7 @@
-use Rattle.std.proofs.Common.{◌≡◌, ◌≢◌, ◌<◌, ◌≤◌, ◌++◌, ◌∷◌, [], ℕ, ◌+◌, ◌*◌, ◌-◌, ◌==◌, ◌||◌, List, Bool, true, false, length, replicate, refl, sym, ap, ◌∙◌, arith, rules}
-use Rattle.std.specs.String.{string_bytes, string_len}
-use Rattle.hir_page.specs.Buffer.{IsPageBuffer, level_of}
-use Rattle.hir_page.proofs.BufferLemmas.{page, page_plain}
+use Rattle.std.proofs.Common.{◌≡◌, length, arith}
+use Rattle.std.specs.String.{string_bytes}
+use Rattle.hir_page.specs.Buffer.{level_of}
+use Rattle.hir_page.proofs.BufferLemmas.{page_plain}
 use Rattle.hir_page.proofs.KeptLemmas.{kept_part, kept_blank}
 use Rattle.hir_page.proofs.buffer.PageBuffer.add.Goals as goal
 

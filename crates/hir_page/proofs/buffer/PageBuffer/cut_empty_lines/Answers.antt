@@ -1,8 +1,7 @@
-use Rattle.std.proofs.Common.{◌≡◌, ◌≢◌, ◌<◌, ◌≤◌, ◌++◌, ◌∷◌, [], ℕ, ◌+◌, ◌*◌, ◌-◌, ◌==◌, ◌||◌, List, Bool, true, false, length, get_or, take, replicate, refl, sym, ap, ◌∙◌, arith, rules}
-use Rattle.std.specs.String.{string_bytes, string_len}
-use Rattle.hir_page.specs.Buffer.{level_of, lines_of, EndsInLineEnd}
-use Rattle.hir_page.specs.Page.{Lines, Page, without_empty_lines}
-use Rattle.hir_page.proofs.BufferLemmas.{page}
+use Rattle.std.proofs.Common.{sym, ap}
+use Rattle.std.specs.String.{string_bytes}
+use Rattle.hir_page.specs.Buffer.{level_of}
+use Rattle.hir_page.specs.Page.{Lines, Page}
 use Rattle.hir_page.proofs.EndLemmas.{cut_done}
 use Rattle.hir_page.proofs.buffer.PageBuffer.cut_empty_lines.Goals as goal
 

@@ -1,8 +1,7 @@
-use Rattle.std.proofs.Common.{◌≡◌, ◌≢◌, ◌<◌, ◌≤◌, ◌++◌, ◌∷◌, [], ℕ, ◌+◌, ◌*◌, ◌-◌, ◌==◌, ◌||◌, List, Bool, true, false, length, replicate, refl, sym, ap, ◌∙◌, arith, rules}
-use Rattle.std.specs.String.{string_bytes, string_len}
-use Rattle.hir_page.specs.Buffer.{IsPageBuffer, level_of}
-use Rattle.hir_page.proofs.BufferLemmas.{page, page_end}
-use Rattle.hir_page.proofs.KeptLemmas.{kept_end}
+use Rattle.std.proofs.Common.{◌≡◌, ◌++◌, ◌∷◌, [], ap, ◌∙◌, arith}
+use Rattle.std.specs.String.{string_bytes}
+use Rattle.hir_page.specs.Buffer.{level_of}
+use Rattle.hir_page.proofs.BufferLemmas.{page_end}
 use Rattle.hir_page.proofs.buffer.PageBuffer.end_line.Goals as goal
 
 pub returns : goal.returns

@@ -1,9 +1,7 @@
-use Rattle.std.proofs.Common.{◌≡◌, ◌≢◌, ◌<◌, ◌≤◌, ◌++◌, ◌∷◌, [], ℕ, ◌+◌, ◌*◌, ◌-◌, ◌==◌, ◌||◌, List, Bool, true, false, length, replicate, refl, sym, ap, ◌∙◌, arith, rules}
-use Rattle.std.specs.String.{string_bytes, string_len}
+use Rattle.std.proofs.Common.{◌≡◌, ◌==◌, ◌||◌, Bool, true, false, sym, ap, ◌∙◌, arith}
+use Rattle.std.specs.String.{string_bytes}
 use Rattle.std.proofs.lemmas.Bool.Decides.{nat_tests}
-use Rattle.hir_page.specs.Page.{is_blank}
-use Rattle.hir_page.specs.Buffer.{lines_of}
-use Rattle.hir_page.proofs.BufferLemmas.{page, blank_by_len}
+use Rattle.hir_page.proofs.BufferLemmas.{blank_by_len}
 use Rattle.hir_page.proofs.buffer.PageBuffer.ends_in_blank_line.Goals as goal
 
 or_left : (a b c : Bool) → a ≡ b || c → b ≡ true → b ≡ a

@@ -1,7 +1,7 @@
-use Rattle.std.proofs.Common.{◌≡◌, ◌≢◌, ◌<◌, ◌≤◌, ◌++◌, ◌∷◌, [], ℕ, ◌+◌, ◌*◌, ◌-◌, ◌==◌, ◌||◌, List, Bool, true, false, length, get_or, take, replicate, refl, sym, ap, ◌∙◌, arith, rules}
-use Rattle.std.specs.String.{string_bytes, string_len}
-use Rattle.hir_page.specs.Buffer.{IsPageBuffer, level_of}
-use Rattle.hir_page.proofs.BufferLemmas.{page, page_spaces}
+use Rattle.std.proofs.Common.{◌≡◌, ◌++◌, ◌*◌, replicate, ap, ◌∙◌}
+use Rattle.std.specs.String.{string_bytes}
+use Rattle.hir_page.specs.Buffer.{level_of}
+use Rattle.hir_page.proofs.BufferLemmas.{page_spaces}
 use Rattle.hir_page.proofs.KeptLemmas.{kept_spaces}
 use Rattle.hir_page.proofs.buffer.PageBuffer.indent_line.Goals as goal
 

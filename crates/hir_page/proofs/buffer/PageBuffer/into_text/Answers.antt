@@ -1,5 +1,5 @@
-use Rattle.std.proofs.Common.{◌≡◌, ◌≢◌, ◌<◌, ◌≤◌, ◌++◌, ◌∷◌, [], ℕ, ◌+◌, ◌*◌, ◌-◌, ◌==◌, ◌||◌, List, Bool, true, false, length, replicate, refl, sym, ap, ◌∙◌, arith, rules}
-use Rattle.std.specs.String.{string_bytes, string_len}
+use Rattle.std.proofs.Common.{sym}
+use Rattle.std.specs.String.{string_bytes}
 use Rattle.hir_page.proofs.PageLemmas.{text_of_lines}
 use Rattle.hir_page.proofs.buffer.PageBuffer.into_text.Goals as goal
 

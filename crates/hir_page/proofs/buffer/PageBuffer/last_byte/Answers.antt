@@ -1,8 +1,6 @@
-use Rattle.std.proofs.Common.{◌≡◌, ◌≢◌, ◌<◌, ◌≤◌, ◌++◌, ◌∷◌, [], ℕ, ◌+◌, ◌*◌, ◌-◌, ◌==◌, ◌||◌, List, Bool, true, false, length, get_or, take, replicate, refl, sym, ap, ◌∙◌, arith, rules}
-use Rattle.std.specs.String.{string_bytes, string_len}
+use Rattle.std.proofs.Common.{◌≡◌, ◌<◌, ◌-◌, ◌==◌, true, false, length, get_or, arith}
+use Rattle.std.specs.String.{string_bytes}
 use Rattle.std.proofs.lemmas.Bool.Decides.{nat_tests}
-use Rattle.hir_page.specs.Page.{Page, is_empty_line, is_empty_text, ends_in_space}
-use Rattle.hir_page.specs.Buffer.{lines_of}
 use Rattle.hir_page.proofs.EndLemmas.{no_text, after_end, in_line}
 use Rattle.hir_page.proofs.buffer.PageBuffer.last_byte.Goals as goal
 

@@ -1,8 +1,7 @@
-use Rattle.std.proofs.Common.{◌≡◌, ◌≢◌, ◌<◌, ◌≤◌, ◌++◌, ◌∷◌, [], ℕ, ◌+◌, ◌*◌, ◌-◌, ◌==◌, ◌||◌, List, Bool, true, false, length, get_or, take, replicate, refl, sym, ap, ◌∙◌, arith, rules}
-use Rattle.std.specs.String.{string_bytes, string_len}
+use Rattle.std.proofs.Common.{◌<◌, ◌++◌, length, sym, ap, ◌∙◌, arith}
 use Rattle.std.proofs.lemmas.Bool.Decides.{nat_tests}
 use Rattle.hir_page.specs.declared.line_format.LineFormat.{LineFormat}
-use Rattle.hir_page.specs.Page.{Page, put_all, begun, format_in_line}
+use Rattle.hir_page.specs.Page.{Page, begun, format_in_line}
 use Rattle.hir_page.proofs.PageLemmas.{put_line, begun_format}
 use Rattle.hir_page.proofs.buffer.PageBuffer.line.Goals as goal
 

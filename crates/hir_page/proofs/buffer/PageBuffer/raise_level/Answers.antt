@@ -1,6 +1,4 @@
-use Rattle.std.proofs.Common.{◌≡◌, ◌≢◌, ◌<◌, ◌≤◌, ◌++◌, ◌∷◌, [], ℕ, ◌+◌, ◌*◌, ◌-◌, ◌==◌, ◌||◌, List, Bool, true, false, length, get_or, take, replicate, refl, sym, ap, ◌∙◌, arith, rules}
-use Rattle.std.specs.String.{string_bytes, string_len}
-use Rattle.hir_page.specs.Buffer.{IsPageBuffer, level_of}
+use Rattle.std.specs.String.{string_bytes}
 use Rattle.hir_page.proofs.KeptLemmas.{indentation_more}
 use Rattle.hir_page.proofs.buffer.PageBuffer.raise_level.Goals as goal
 

@@ -1,7 +1,6 @@
-use Rattle.std.proofs.Common.{◌≡◌, ◌≢◌, ◌<◌, ◌≤◌, ◌++◌, ◌∷◌, [], ℕ, ◌+◌, ◌*◌, ◌-◌, ◌==◌, ◌||◌, List, Bool, true, false, length, get_or, take, replicate, refl, sym, ap, ◌∙◌, arith, rules}
-use Rattle.std.specs.String.{string_bytes, string_len}
+use Rattle.std.specs.String.{string_bytes}
 use Rattle.hir_page.specs.Buffer.{level_of}
-use Rattle.hir_page.proofs.BufferLemmas.{page, page_trimmed}
+use Rattle.hir_page.proofs.BufferLemmas.{page_trimmed}
 use Rattle.hir_page.proofs.buffer.PageBuffer.trim.Goals as goal
 
 pub returns : goal.returns

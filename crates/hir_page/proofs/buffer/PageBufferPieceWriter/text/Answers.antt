@@ -1,5 +1,4 @@
-use Rattle.std.proofs.Common.{◌≡◌, ◌≢◌, ◌<◌, ◌≤◌, ◌++◌, ◌∷◌, [], ℕ, ◌+◌, ◌*◌, ◌-◌, ◌==◌, ◌||◌, List, Bool, true, false, length, get_or, take, replicate, refl, sym, ap, ◌∙◌, arith, rules}
-use Rattle.std.specs.String.{string_bytes, string_len}
+use Rattle.std.proofs.Common.{◌∷◌, sym, ap, ◌∙◌, arith, rules}
 use Rattle.std.proofs.lemmas.Str.Pattern.{split_parts}
 use Rattle.hir_page.specs.Page.{put, put_all}
 use Rattle.hir_page.proofs.PageLemmas.{put_all-append}
