@@ -14,3 +14,4 @@ pub mod Seq
 pub mod Table
 pub mod TableLends
 pub mod Variants
+pub mod OpTexts

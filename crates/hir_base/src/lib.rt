@@ -19,6 +19,7 @@ mod keys;
 pub mod laws;
 mod mod_path;
 mod name;
+mod op_text;
 mod operators;
 mod params;
 mod prec;

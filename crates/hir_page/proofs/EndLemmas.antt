@@ -1,0 +1,197 @@
+-- The end of a text: its trailing spaces and what stands before them.
+use Rattle.std.proofs.Common.{◌≡◌, ◌≢◌, ℕ, zero, suc, ◌+◌, ◌-◌, ◌<◌, ◌≤◌, Bool, true, false, List, [], ◌∷◌, ◌++◌, length, get_or, take, drop, take-append-drop, replicate, ◌==◌, ◌||◌, cond, refl, sym, ap, ap₂, ◌∙◌, arith, le_refl}
+use Rattle.std.proofs.lemmas.Bool.Decides.{nat_tests}
+use Rattle.std.proofs.lemmas.Grind.{common_steps}
+use Rattle.std.proofs.lemmas.List.{drop_more, take_more, take_all}
+use Rattle.hir_page.specs.Buffer.{lines_of, HasNoEnd, IsTrimmedLen, EndsInLineEnd}
+use Rattle.hir_page.specs.Page.{Lines, cut_lines, is_blank, trimmed, ends_in_space, is_empty_line, is_empty_text}
+use Rattle.hir_page.proofs.PageLemmas.{lines_of-plain, lines_of-end}
+
+pub spaces_more : (text : List ℕ) (n : ℕ) → 0 < n → n ≤ length text → get_or text (n - 1) 0 ≡ 32 → drop n text ≡ replicate (length text - n) 32
+    → drop (n - 1) text ≡ replicate (length text - (n - 1)) 32
+spaces_more text zero lt le e d = absurd (omega arith)
+spaces_more text (suc n) lt le e d =
+    let one : suc n - 1 ≡ n = omega arith in
+    let count : length text - n ≡ suc (length text - suc n) = omega arith in
+    rw (one, count) (drop_more text n 0 (omega arith) ∙ ap₂ (λ c cs. c ∷ cs) (rw one at e) (ap (λ k. drop k text) (let s : n + 1 ≡ suc n = omega arith in s) ∙ d))
+
+pub no_end_in_spaces : (n : ℕ) → HasNoEnd (replicate n 32)
+no_end_in_spaces n i lt e = absurd (grind (arith, common_steps))
+
+is_space : (c : ℕ) → c ≢ 32 → (c == 32) ≡ false
+is_space c ne = grind (arith, nat_tests)
+
+blank_spaces : (n : ℕ) → is_blank (replicate n 32) ≡ true
+blank_spaces zero = refl
+blank_spaces (suc n) = blank_spaces n
+
+blank_not : (x : List ℕ) (c n : ℕ) → c ≢ 32 → is_blank ((x ++ (c ∷ [])) ++ replicate n 32) ≡ false
+blank_not [] c n ne = ap (λ b. cond b (is_blank (replicate n 32)) false) (is_space c ne)
+blank_not (d ∷ x) c n ne = rw (blank_not x c n ne) (both (d == 32))
+  where
+    both : (b : Bool) → cond b false false ≡ false
+    both true = refl
+    both false = refl
+
+trimmed_spaces : (n : ℕ) → trimmed (replicate n 32) ≡ []
+trimmed_spaces zero = refl
+trimmed_spaces (suc n) = ap (λ b. cond b [] (32 ∷ trimmed (replicate n 32))) (blank_spaces n)
+
+trimmed_kept : (x : List ℕ) (c n : ℕ) → c ≢ 32 → trimmed ((x ++ (c ∷ [])) ++ replicate n 32) ≡ x ++ (c ∷ [])
+trimmed_kept [] c n ne =
+    ap (λ b. cond b [] (c ∷ trimmed (replicate n 32))) (blank_not [] c n ne) ∙ ap (λ cs. c ∷ cs) (trimmed_spaces n)
+trimmed_kept (d ∷ x) c n ne =
+    ap (λ b. cond b [] (d ∷ trimmed ((x ++ (c ∷ [])) ++ replicate n 32))) (blank_not (d ∷ x) c n ne) ∙ ap (λ cs. d ∷ cs) (trimmed_kept x c n ne)
+
+-- The lines of a text, by its trimmed length: the lines above, the last line without its trailing spaces, and what is known of it.
+pub record Ending (text : List ℕ) (len : ℕ) : Type 0 where
+  pub above : List (List ℕ)
+  pub kept : List ℕ
+  pub whole : lines_of text ≡ (above, kept ++ replicate (length text - len) 32)
+  pub short : lines_of (take len text) ≡ (above, kept)
+  pub blank : is_blank (kept ++ replicate (length text - len) 32) ≡ is_empty_line kept
+  pub cut : trimmed (kept ++ replicate (length text - len) 32) ≡ kept
+  pub empty : is_empty_line kept ≡ ((len == 0) || (get_or text (len - 1) 0 == 10))
+
+module _ (text : List ℕ) (len : ℕ) (t : IsTrimmedLen text len) where
+  whole_of : (above : List (List ℕ)) (kept : List ℕ) → lines_of (take len text) ≡ (above, kept) → lines_of text ≡ (above, kept ++ replicate (length text - len) 32)
+  whole_of above kept short =
+      let spaces = replicate (length text - len) 32 in
+      let parts : text ≡ take len text ++ spaces = sym (take-append-drop len text) ∙ ap (λ d. take len text ++ d) t.spaces in
+      let lines : Lines → Lines = λ l. (l.0, l.1 ++ spaces) in
+      ap lines_of parts ∙ lines_of-plain (take len text) spaces (no_end_in_spaces (length text - len)) ∙ ap lines short
+
+no_end_one : (c : ℕ) → c ≢ 10 → HasNoEnd (c ∷ [])
+no_end_one c ne zero lt = ne
+no_end_one c ne (suc i) lt = absurd (omega arith)
+
+pub empty_push : (x : List ℕ) (c : ℕ) → is_empty_line (x ++ (c ∷ [])) ≡ false
+empty_push [] c = refl
+empty_push (d ∷ x) c = refl
+
+pub lines_of-nil : lines_of [] ≡ ([], [])
+unfolding lines_of
+lines_of-nil = refl
+
+pub ending : (text : List ℕ) (len : ℕ) → IsTrimmedLen text len → Ending text len
+ending text zero t = record {
+  above = [];
+  kept = [];
+  whole = whole_of text zero t [] [] lines_of-nil;
+  short = lines_of-nil;
+  blank = blank_spaces (length text - 0);
+  cut = trimmed_spaces (length text - 0);
+  empty = refl;
+}
+ending text (suc n) t = by_end (get_or text n 0 == 10) refl
+  where
+    index : suc n - 1 ≡ n
+    index = omega arith
+
+    last : ℕ
+    last = get_or text n 0
+
+    taken : take (suc n) text ≡ take n text ++ (get_or text n 0 ∷ [])
+    taken = let lt = t.within in let s : suc n ≡ n + 1 = omega arith in rw s (take_more text n 0 (omega arith))
+
+    empty_is : (k : List ℕ) (b : Bool) → (get_or text n 0 == 10) ≡ b → is_empty_line k ≡ b → is_empty_line k ≡ ((suc n == 0) || (get_or text (suc n - 1) 0 == 10))
+    empty_is k b e f = let zero_not : (suc n == 0) ≡ false = grind (arith, nat_tests) in rw (index, zero_not, e) f
+
+    by_end : (b : Bool) → (get_or text n 0 == 10) ≡ b → Ending text (suc n)
+    by_end true e =
+        let ends : get_or text n 0 ≡ 10 = grind (arith, nat_tests) in
+        let lines = lines_of (take n text) in
+        let short : lines_of (take (suc n) text) ≡ (lines.1 ∷ lines.0, []) = ap lines_of (rw ends at taken) ∙ lines_of-end (take n text) in
+        record {
+          above = lines.1 ∷ lines.0;
+          kept = [];
+          whole = whole_of text (suc n) t (lines.1 ∷ lines.0) [] short;
+          short = short;
+          blank = blank_spaces (length text - suc n);
+          cut = trimmed_spaces (length text - suc n);
+          empty = empty_is [] true e refl;
+        }
+    by_end false e =
+        let c = get_or text n 0 in
+        let differs : c ≢ 10 = grind (arith, nat_tests) in
+        let no_end = no_end_one c differs in
+        let no_space : c ≢ 32 = rw index at (t.before (omega arith)) in
+        let lines = lines_of (take n text) in
+        let short : lines_of (take (suc n) text) ≡ (lines.0, lines.1 ++ (c ∷ [])) = ap lines_of taken ∙ lines_of-plain (take n text) (c ∷ []) no_end in
+        record {
+          above = lines.0;
+          kept = lines.1 ++ (c ∷ []);
+          whole = whole_of text (suc n) t lines.0 (lines.1 ++ (c ∷ [])) short;
+          short = short;
+          blank = blank_not lines.1 c (length text - suc n) no_space ∙ sym (empty_push lines.1 c);
+          cut = trimmed_kept lines.1 c (length text - suc n) no_space;
+          empty = empty_is (lines.1 ++ (c ∷ [])) false e (empty_push lines.1 c);
+        }
+
+-- the last character and what stands before it
+module _ (text : List ℕ) (some : 0 < length text) where
+  pub push_back : text ≡ take (length text - 1) text ++ (get_or text (length text - 1) 0 ∷ [])
+  push_back =
+      let n = length text - 1 in
+      let all : n + 1 ≡ length text = omega arith in
+      sym (take_all (length text) text (le_refl (length text))) ∙ ap (λ k. take k text) (sym all) ∙ take_more text n 0 (omega arith)
+
+  pub lines_at_end : get_or text (length text - 1) 0 ≡ 10 → lines_of text ≡ ((lines_of (take (length text - 1) text)).1 ∷ (lines_of (take (length text - 1) text)).0, [])
+  lines_at_end e = ap lines_of (push_back ∙ ap (λ c. take (length text - 1) text ++ (c ∷ [])) e) ∙ lines_of-end (take (length text - 1) text)
+
+  pub lines_in_line : get_or text (length text - 1) 0 ≢ 10
+      → lines_of text ≡ ((lines_of (take (length text - 1) text)).0, (lines_of (take (length text - 1) text)).1 ++ (get_or text (length text - 1) 0 ∷ []))
+  lines_in_line ne = ap lines_of push_back ∙ lines_of-plain (take (length text - 1) text) (get_or text (length text - 1) 0 ∷ []) (no_end_one _ ne)
+
+cut_push : (above : List (List ℕ)) (x : List ℕ) (c : ℕ) → cut_lines above (x ++ (c ∷ [])) ≡ (above, x ++ (c ∷ []))
+cut_push [] x c = refl
+cut_push (line ∷ above) [] c = refl
+cut_push (line ∷ above) (d ∷ x) c = refl
+
+-- a text that does not end in a line end is cut
+pub cut_done : (text : List ℕ) → (EndsInLineEnd text → ⊥) → cut_lines (lines_of text).0 (lines_of text).1 ≡ lines_of text
+cut_done [] h = ap (λ l. cut_lines l.0 l.1) lines_of-nil ∙ sym lines_of-nil
+cut_done (b ∷ bs) h =
+    let text = b ∷ bs in
+    let some : 0 < length text = omega arith in
+    let is = lines_in_line text some (λ e. h (some, e)) in
+    ap (λ l. cut_lines l.0 l.1) is ∙ cut_push _ _ _ ∙ sym is
+
+-- a text that does is cut as the text before its last character
+pub cut_more : (text : List ℕ) → EndsInLineEnd text → cut_lines (lines_of text).0 (lines_of text).1 ≡ (let l = lines_of (take (length text - 1) text) in cut_lines l.0 l.1)
+cut_more text e = ap (λ l. cut_lines l.0 l.1) (lines_at_end text e.0 e.1)
+
+pub space_push : (x : List ℕ) (c : ℕ) → ends_in_space (x ++ (c ∷ [])) ≡ (c == 32)
+space_push [] c = refl
+space_push (d ∷ []) c = refl
+space_push (d ∷ e ∷ x) c = space_push (e ∷ x) c
+
+pub not_empty_text : (above : List (List ℕ)) (last : List ℕ) → is_empty_line last ≡ false → is_empty_text above last ≡ false
+not_empty_text [] last e = e
+not_empty_text (line ∷ above) last e = refl
+
+-- what the last character of a text says of the last line
+abbrev pub Ends : List ℕ → Bool → Bool → Bool → Type 0
+Ends text none line space = let l = lines_of text in (is_empty_text l.0 l.1 ≡ none) × (is_empty_line l.1 ≡ line) × (ends_in_space l.1 ≡ space)
+
+nil_of : (xs : List ℕ) → length xs ≡ 0 → xs ≡ []
+nil_of [] e = refl
+nil_of (x ∷ xs) e = absurd (omega arith)
+
+pub no_text : (text : List ℕ) → length text ≡ 0 → Ends text true true false
+no_text text e =
+    let is : lines_of text ≡ ([], []) = ap lines_of (nil_of text e) ∙ lines_of-nil in
+    (ap (λ (l : Lines). is_empty_text l.0 l.1) is, ap (λ (l : Lines). is_empty_line l.1) is, ap (λ (l : Lines). ends_in_space l.1) is)
+
+pub after_end : (text : List ℕ) → 0 < length text → get_or text (length text - 1) 0 ≡ 10 → Ends text false true false
+after_end text some e =
+    let is = lines_at_end text some e in
+    (ap (λ (l : Lines). is_empty_text l.0 l.1) is, ap (λ (l : Lines). is_empty_line l.1) is, ap (λ (l : Lines). ends_in_space l.1) is)
+
+pub in_line : (text : List ℕ) (space : Bool) → 0 < length text → get_or text (length text - 1) 0 ≢ 10 → (get_or text (length text - 1) 0 == 32) ≡ space → Ends text false false space
+in_line text space some ne e =
+    let is = lines_in_line text some ne in
+    let before = (lines_of (take (length text - 1) text)).1 in
+    let c = get_or text (length text - 1) 0 in
+    let some_line : is_empty_line (lines_of text).1 ≡ false = ap (λ (l : Lines). is_empty_line l.1) is ∙ empty_push before c in
+    (not_empty_text (lines_of text).0 (lines_of text).1 some_line, some_line, ap (λ (l : Lines). ends_in_space l.1) is ∙ space_push before c ∙ e)

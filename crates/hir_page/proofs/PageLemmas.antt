@@ -1,0 +1,101 @@
+-- How lines grow.
+use Rattle.std.proofs.Common.{◌≡◌, ◌≢◌, ℕ, suc, ◌<◌, Bool, true, false, List, [], ◌∷◌, ◌++◌, length, ◌==◌, cond, refl, sym, ap, ◌∙◌, append_assoc, append-nil, arith}
+use Rattle.std.proofs.lemmas.Bool.Decides.{nat_tests}
+use Rattle.hir_page.specs.declared.line_format.LineFormat.{LineFormat}
+use Rattle.hir_page.specs.declared.line_format.LineFormat.TheVariants.{Oneline, Newline, Indentation}
+use Rattle.hir_page.specs.Buffer.{one_more, continued, lines_of, HasNoEnd}
+use Rattle.hir_page.specs.Page.{Lines, Page, begun, begun_in, indented, is_blank, put, put_all, lines_text, format_in_line, format_after_end}
+
+pub continued-append : (l : Lines) (xs ys : List ℕ) → continued l (xs ++ ys) ≡ continued (continued l xs) ys
+continued-append l [] ys = refl
+continued-append l (x ∷ xs) ys = continued-append (one_more x l) xs ys
+
+pub lines_of-append : (xs ys : List ℕ) → lines_of (xs ++ ys) ≡ continued (lines_of xs) ys
+unfolding lines_of
+lines_of-append xs ys = continued-append ([], []) xs ys
+
+not_end : (c : ℕ) → c ≢ 10 → (c == 10) ≡ false
+not_end c ne = grind (arith, nat_tests)
+
+-- characters that are no line end stand in the last line
+pub continued-plain : (l : Lines) (cs : List ℕ) → HasNoEnd cs → continued l cs ≡ (l.0, l.1 ++ cs)
+continued-plain l [] h = ap (λ x. (l.0, x)) (sym (append-nil l.1))
+continued-plain l (c ∷ cs) h =
+    let here : one_more c l ≡ (l.0, l.1 ++ (c ∷ [])) = ap (λ b. cond b (l.1 ∷ l.0, []) (l.0, l.1 ++ (c ∷ []))) (not_end c (h 0 (omega arith))) in
+    ap (λ m. continued m cs) here ∙ continued-plain (l.0, l.1 ++ (c ∷ [])) cs (λ i lt. h (suc i) (omega arith)) ∙ ap (λ x. (l.0, x)) (append_assoc l.1 (c ∷ []) cs)
+
+pub lines_of-plain : (xs cs : List ℕ) → HasNoEnd cs → lines_of (xs ++ cs) ≡ ((lines_of xs).0, (lines_of xs).1 ++ cs)
+lines_of-plain xs cs h = lines_of-append xs cs ∙ continued-plain (lines_of xs) cs h
+
+pub lines_of-end : (xs : List ℕ) → lines_of (xs ++ (10 ∷ [])) ≡ ((lines_of xs).1 ∷ (lines_of xs).0, [])
+lines_of-end xs = lines_of-append xs (10 ∷ [])
+
+-- a character that is no line end
+put_plain : (c : ℕ) (p : Page) → c ≢ 10 → put c p ≡ (let q = begun p in record q { last = q.last ++ (c ∷ []); format = format_in_line p.format })
+put_plain c p ne =
+    let q = begun p in
+    let both : Bool → Page = λ b. cond b (record q { above = q.last ∷ q.above; last = []; format = format_after_end p.format }) (record q { last = q.last ++ (c ∷ []); format = format_in_line p.format }) in
+    ap both (not_end c ne)
+
+-- a character that is no line end, within a line
+put_in_line : (c : ℕ) (above : List (List ℕ)) (last : List ℕ) (level : ℕ) (format : LineFormat) → c ≢ 10
+    → put c (record { above = above; last = last; level = level; format = format_in_line format }) ≡ record { above = above; last = last ++ (c ∷ []); level = level; format = format_in_line format }
+put_in_line c above last level Oneline ne = put_plain c (record { above = above; last = last; level = level; format = Oneline }) ne
+put_in_line c above last level Newline ne = put_plain c (record { above = above; last = last; level = level; format = Newline }) ne
+put_in_line c above last level Indentation ne = put_plain c (record { above = above; last = last; level = level; format = Newline }) ne
+
+-- a text without a line end, within a line
+put_all-plain : (above : List (List ℕ)) (last : List ℕ) (level : ℕ) (format : LineFormat) (cs : List ℕ) → HasNoEnd cs
+    → put_all cs (record { above = above; last = last; level = level; format = format_in_line format }) ≡ record { above = above; last = last ++ cs; level = level; format = format_in_line format }
+put_all-plain above last level format [] h =
+    let page : List ℕ → Page = λ l. record { above = above; last = l; level = level; format = format_in_line format } in ap page (sym (append-nil last))
+put_all-plain above last level format (c ∷ cs) h =
+    let page : List ℕ → Page = λ l. record { above = above; last = l; level = level; format = format_in_line format } in
+    ap (put_all cs) (put_in_line c above last level format (h 0 (omega arith))) ∙ put_all-plain above (last ++ (c ∷ [])) level format cs (λ i lt. h (suc i) (omega arith))
+    ∙ ap page (append_assoc last (c ∷ []) cs)
+
+-- a text that is not empty and has no line end
+pub put_line : (p : Page) (cs : List ℕ) → 0 < length cs → HasNoEnd cs → put_all cs p ≡ (let q = begun p in record q { last = q.last ++ cs; format = format_in_line p.format })
+put_line p [] lt h = absurd (omega arith)
+put_line p (c ∷ cs) lt h =
+    let q = begun p in
+    let page : List ℕ → Page = λ l. record { above = q.above; last = l; level = q.level; format = format_in_line p.format } in
+    ap (put_all cs) (put_plain c p (h 0 (omega arith))) ∙ put_all-plain q.above (q.last ++ (c ∷ [])) q.level p.format cs (λ i lt. h (suc i) (omega arith))
+    ∙ ap page (append_assoc q.last (c ∷ []) cs)
+
+pub put_all-append : (xs ys : List ℕ) (p : Page) → put_all (xs ++ ys) p ≡ put_all ys (put_all xs p)
+put_all-append [] ys p = refl
+put_all-append (x ∷ xs) ys p = put_all-append xs ys (put x p)
+
+text_continued : (l : Lines) (cs : List ℕ) → lines_text (continued l cs).0 (continued l cs).1 ≡ lines_text l.0 l.1 ++ cs
+text_continued l [] = sym (append-nil (lines_text l.0 l.1))
+text_continued l (c ∷ cs) = text_continued (one_more c l) cs ∙ ap (λ t. t ++ cs) (text_one_more (c == 10) refl) ∙ append_assoc (lines_text l.0 l.1) (c ∷ []) cs
+  where
+    in_last : (above : List (List ℕ)) → lines_text above (l.1 ++ (c ∷ [])) ≡ lines_text above l.1 ++ (c ∷ [])
+    in_last [] = refl
+    in_last (line ∷ above) = sym (append_assoc (lines_text above line) (10 ∷ l.1) (c ∷ []))
+
+    text_one_more : (b : Bool) → (c == 10) ≡ b → lines_text (one_more c l).0 (one_more c l).1 ≡ lines_text l.0 l.1 ++ (c ∷ [])
+    text_one_more true e =
+        let is : c ≡ 10 = grind (arith, nat_tests) in
+        ap (λ (m : Lines). lines_text m.0 m.1) (ap (λ b. cond b (l.1 ∷ l.0, []) (l.0, l.1 ++ (c ∷ []))) e) ∙ ap (λ k. lines_text l.0 l.1 ++ (k ∷ [])) (sym is)
+    text_one_more false e =
+        ap (λ (m : Lines). lines_text m.0 m.1) (ap (λ b. cond b (l.1 ∷ l.0, []) (l.0, l.1 ++ (c ∷ []))) e) ∙ in_last l.0
+
+-- the lines of a text, joined, are the text
+pub text_of_lines : (bs : List ℕ) → lines_text (lines_of bs).0 (lines_of bs).1 ≡ bs
+unfolding lines_of
+text_of_lines bs = text_continued ([], []) bs
+
+-- a begun line keeps the format
+pub begun_format : (p : Page) → (begun p).format ≡ p.format
+begun_format p = by_format p.format refl
+  where
+    either : (b : Bool) → (indented (cond b p (record p { above = p.last ∷ p.above; last = [] }))).format ≡ p.format
+    either true = refl
+    either false = refl
+
+    by_format : (f : LineFormat) → p.format ≡ f → (begun_in f p).format ≡ p.format
+    by_format Oneline e = refl
+    by_format Newline e = refl
+    by_format Indentation e = either (is_blank p.last)

@@ -1,0 +1,12 @@
+use Rattle.std.proofs.Common.{◌≡◌, ◌++◌, ◌∷◌, [], ap, ◌∙◌, arith}
+use Rattle.std.specs.String.{string_bytes}
+use Rattle.hir_page.specs.Buffer.{level_of}
+use Rattle.hir_page.proofs.BufferLemmas.{page_spaces}
+use Rattle.hir_page.proofs.buffer.PageBuffer.add_space.Goals as goal
+
+pub returns : goal.returns
+returns c =
+    let old = c.self.inside in
+    let bs = string_bytes old.text in
+    let bytes : string_bytes c.push.new.self ≡ bs ++ (32 ∷ []) = c.in_ok-push.ensures.bytes ∙ ap (λ e. bs ++ e) (c.in_ok-push.ensures.ascii (omega arith)) in
+    rw (← c.self.view_is, bytes) (page_spaces bs 1 (level_of (string_bytes old.indentation)) old.format)

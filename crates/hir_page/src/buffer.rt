@@ -1,0 +1,330 @@
+//! The one buffer of a printing: a text that is written at its end alone, and looks back over its last characters.
+ghost use Rattle.std.specs.Prelude.{◌≡◌, ◌∷◌, [], ◌++◌, ◌+◌, ◌-◌, OnOk, IsTrue, ◌↔◌, string_bytes};
+ghost use Rattle.hir_page.specs.Buffer.{HasNoEnd, IsTrimmedLen, IsCutText, EndsInLineEnd};
+ghost use Rattle.hir_page.specs.LastByte.{IsLastByte};
+ghost use Rattle.hir_page.specs.Page.{begun, parted, indented, put, put_all, trimmed, spaced, line_ended, joined, without_empty_lines, is_blank, empty_page, page_text};
+
+use crate::{LineFormat, PieceWriter};
+use std::alloc::{AllocError, Global};
+use std::fmt;
+use std::marker::Model;
+
+/// A page of text, written piece by piece. Contracts see it as its lines, its level and its format.
+///
+/// No step goes over the text again: the length without trailing spaces is kept, and the indentation is a text of spaces that
+/// grows and shrinks with the level. A step fails only where memory for the text or the indentation was refused.
+#[derive(Drop)]
+pub struct PageBuffer {
+    text: String,
+    kept: usize,
+    indentation: String,
+    format: LineFormat,
+}
+
+impl Model for PageBuffer {
+    ghost use Rattle.hir_page.specs.Page.{Page};
+
+    ghost Value = { Page };
+
+    ghost use Rattle.hir_page.specs.Buffer.{page_of, IsPageBuffer};
+
+    ghost view = { page_of };
+
+    ghost invariant = { IsPageBuffer };
+}
+
+impl PageBuffer {
+    /// An empty page, in this format. It takes no memory.
+    pub fn new(alloc: Global, format: LineFormat) -> PageBuffer
+        ensures { result ≡ empty_page format }
+    {
+        PageBuffer {
+            text: String::new(alloc),
+            kept: 0,
+            indentation: String::new(alloc),
+            format,
+        }
+    }
+
+    /// The text of the page: its lines, joined by line ends. It takes no memory.
+    pub fn into_text(self) -> String
+        ensures { string_bytes result ≡ page_text self }
+    {
+        let PageBuffer {
+            text,
+            kept: _,
+            indentation: _,
+            format: _,
+        } = self;
+        text
+    }
+
+    /// Whether the last line holds only spaces.
+    fn ends_in_blank_line(&self) -> bool
+        ensures { result ≡ is_blank self.now.last }
+    {
+        let text = self.text.as_bytes();
+        self.kept == 0 || text[self.kept - 1] == b'\n'
+    }
+
+    /// Adds a line end, whatever the format.
+    fn end_line(&mut self) -> Result<(), AllocError>
+        ensures { OnOk result (self.new ≡ record self.old { above = self.old.last ∷ self.old.above; last = [] }) }
+    {
+        self.text.push('\n')?;
+        self.kept = self.text.len();
+        Ok(())
+    }
+
+    /// Adds characters to the last line, whatever the format.
+    fn add(&mut self, part: &str) -> Result<(), AllocError>
+        requires { HasNoEnd part.now }
+        ensures { OnOk result (self.new ≡ record self.old { last = self.old.last ++ part.now }) }
+    {
+        let before = self.text.len();
+        self.text.push_str(part)?;
+        let of_part = trimmed_len(part.as_bytes());
+        if of_part > 0 {
+            self.kept = before + of_part;
+        }
+        Ok(())
+    }
+
+    /// Adds four spaces a level.
+    fn indent_line(&mut self) -> Result<(), AllocError>
+        ensures { OnOk result (self.new ≡ indented self.old) }
+    {
+        self.text.push_str(self.indentation.as_str())?;
+        Ok(())
+    }
+
+    /// Begins a line, unless the last is blank.
+    fn part_line(&mut self) -> Result<(), AllocError>
+        ensures { OnOk result (self.new ≡ parted self.old) }
+    {
+        if !self.ends_in_blank_line() {
+            self.end_line()?;
+        }
+        Ok(())
+    }
+
+    /// Begins a line where the next text has to.
+    fn begin(&mut self) -> Result<(), AllocError>
+        ensures { OnOk result (self.new ≡ begun self.old) }
+    {
+        match self.format {
+            LineFormat::Oneline => Ok(()),
+            LineFormat::Newline => Ok(()),
+            LineFormat::Indentation => {
+                self.part_line()?;
+                self.indent_line()
+            }
+        }
+    }
+
+    /// Writes text without a line end.
+    fn line(&mut self, line: &str) -> Result<(), AllocError>
+        requires { HasNoEnd line.now }
+        ensures { OnOk result (self.new ≡ put_all line.now self.old) }
+    {
+        if !line.is_empty() {
+            self.begin()?;
+            self.add(line)?;
+            self.format = self.format.in_line();
+        }
+        Ok(())
+    }
+
+    /// Writes a line end.
+    fn line_end(&mut self) -> Result<(), AllocError>
+        ensures { OnOk result (self.new ≡ put 10 self.old) }
+    {
+        self.begin()?;
+        self.end_line()?;
+        self.format = self.format.after_end();
+        Ok(())
+    }
+
+    /// Takes the last line's trailing spaces away.
+    fn trim(&mut self)
+        ensures { self.new ≡ record self.old { last = trimmed self.old.last } }
+    {
+        self.text.truncate(self.kept);
+    }
+
+    /// Writes a break in lines.
+    fn break_line(&mut self) -> Result<(), AllocError>
+        ensures { OnOk result (self.new ≡ line_ended self.old) }
+    {
+        if !self.ends_in_blank_line() {
+            self.trim();
+            self.line_end()?;
+        }
+        Ok(())
+    }
+
+    /// Adds a space, whatever the format.
+    fn add_space(&mut self) -> Result<(), AllocError>
+        ensures { OnOk result (self.new ≡ record self.old { last = self.old.last ++ (32 ∷ []) }) }
+    {
+        self.text.push(' ')?;
+        Ok(())
+    }
+
+    /// The last character, as far as layout asks for it.
+    fn last_byte(&self) -> LastByte
+        ensures { IsLastByte self.now result }
+    {
+        let text = self.text.as_bytes();
+        let len = text.len();
+        if len == 0 {
+            return LastByte::Absent;
+        }
+        let last = text[len - 1];
+        if last == b'\n' {
+            return LastByte::LineEnd;
+        }
+        if last == b' ' {
+            return LastByte::Space;
+        }
+        LastByte::Other
+    }
+
+    /// Writes a soft space.
+    fn space(&mut self) -> Result<(), AllocError>
+        ensures { OnOk result (self.new ≡ spaced self.old) }
+    {
+        match self.last_byte() {
+            LastByte::Absent | LastByte::LineEnd | LastByte::Space => Ok(()),
+            LastByte::Other => self.add_space(),
+        }
+    }
+
+    /// Writes a break in one line.
+    fn join(&mut self) -> Result<(), AllocError>
+        ensures { OnOk result (self.new ≡ joined self.old) }
+    {
+        match self.last_byte() {
+            LastByte::Absent | LastByte::Space => Ok(()),
+            LastByte::LineEnd | LastByte::Other => self.add_space(),
+        }
+    }
+
+    /// Makes the level one more.
+    fn raise_level(&mut self) -> Result<(), AllocError>
+        ensures { OnOk result (self.new ≡ record self.old { level = self.old.level + 1 }) }
+    {
+        self.indentation.push_str("    ")?;
+        Ok(())
+    }
+
+    /// Makes the level one less, unless it is 0.
+    fn lower_level(&mut self)
+        ensures { self.new ≡ record self.old { level = self.old.level - 1 } }
+    {
+        let spaces = self.indentation.as_bytes().len();
+        if spaces >= 4 {
+            self.indentation.truncate(spaces - 4);
+        }
+    }
+
+    /// Takes empty last lines away. It looks back over what it takes away, and over the spaces before it.
+    fn cut_empty_lines(&mut self)
+        ensures { self.new ≡ without_empty_lines self.old }
+    {
+        if ends_in_line_end(self.text.as_bytes()) {
+            cut_line_ends(&mut self.text);
+            self.kept = trimmed_len(self.text.as_bytes());
+        }
+    }
+}
+
+impl PieceWriter for PageBuffer {
+    ghost use Rattle.std.specs.Prelude.{◌≡◌};
+    ghost use Rattle.hir_page.specs.Page.{rendered};
+
+    ghost step = { λ page piece after. after ≡ rendered piece page };
+
+    fn text(&mut self, text: &str) -> Result<(), AllocError> {
+        let mut rest = text;
+        while let Some((line, after)) = rest.split_once('\n') {
+            self.line(line)?;
+            self.line_end()?;
+            rest = after;
+        }
+        self.line(rest)
+    }
+
+    fn soft_space(&mut self) -> Result<(), AllocError> {
+        self.space()
+    }
+
+    fn line_break(&mut self) -> Result<(), AllocError> {
+        match self.format {
+            LineFormat::Oneline => self.join(),
+            LineFormat::Newline => self.break_line(),
+            LineFormat::Indentation => self.break_line(),
+        }
+    }
+
+    fn indent(&mut self) -> Result<(), AllocError> {
+        self.raise_level()?;
+        self.line_break()
+    }
+
+    fn outdent(&mut self) -> Result<(), AllocError> {
+        self.lower_level();
+        self.cut_empty_lines();
+        Ok(())
+    }
+}
+
+impl fmt::Write for PageBuffer {
+    ghost use Rattle.std.specs.Prelude.{◌≡◌};
+    ghost use Rattle.hir_page.specs.Page.{put_all};
+
+    ghost write_str_gives = { λ page text after. after ≡ put_all text page };
+
+    fn write_str(&mut self, text: &str) -> fmt::Result {
+        match self.text(text) {
+            Ok(()) => Ok(()),
+            Err(_) => Err(fmt::Error),
+        }
+    }
+}
+
+/// The last character of a text.
+#[derive(Clone, Copy)]
+enum LastByte {
+    Absent,
+    LineEnd,
+    Space,
+    Other,
+}
+
+/// How long the text is without its trailing spaces.
+fn trimmed_len(text: &[u8]) -> usize
+    ensures { IsTrimmedLen text.now result }
+{
+    let mut len = text.len();
+    while len > 0 && text[len - 1] == b' ' {
+        len -= 1;
+    }
+    len
+}
+
+/// Takes the line ends away from the end of a text.
+fn cut_line_ends(text: &mut String)
+    ensures { IsCutText (string_bytes text.old) (string_bytes text.new) }
+{
+    while ends_in_line_end(text.as_bytes()) {
+        text.truncate(text.len() - 1);
+    }
+}
+
+fn ends_in_line_end(text: &[u8]) -> bool
+    ensures { IsTrue result ↔ EndsInLineEnd text.now }
+{
+    let len = text.len();
+    len > 0 && text[len - 1] == b'\n'
+}

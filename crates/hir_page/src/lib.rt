@@ -1,0 +1,15 @@
+//! Pages of text: what pieces of text, soft spaces, breaks and levels make of a page, and the one buffer that holds it.
+#![tactic(auto)]
+
+mod buffer;
+mod line_format;
+mod literals;
+mod piece_writer;
+
+pub use buffer::PageBuffer;
+pub use line_format::LineFormat;
+pub use literals::{
+    write_bytes_literal, write_c_string_literal, write_char_literal, write_number,
+    write_string_literal,
+};
+pub use piece_writer::PieceWriter;
