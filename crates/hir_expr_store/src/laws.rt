@@ -16,8 +16,8 @@ ghost use Rattle.hir_path.specs.declared.path.AssociatedTypeBinding.{AssociatedT
 ghost use Rattle.hir_path.specs.declared.bound.TypeBound.{TypeBound};
 ghost use Rattle.hir_path.specs.declared.bound.TypeBound.TheVariants as bound;
 ghost use Rattle.hir_path.specs.declared.bound.TraitBoundModifier.{TraitBoundModifier};
-ghost use Rattle.hir_node.specs.declared.parts.RecordLitField.{RecordLitField};
-ghost use Rattle.hir_node.specs.declared.parts.RecordSpread.{RecordSpread};
+ghost use Rattle.hir_node.specs.declared.expr_types.RecordLitField.{RecordLitField};
+ghost use Rattle.hir_node.specs.declared.expr_types.RecordSpread.{RecordSpread};
 ghost use Rattle.hir_node.specs.declared.expr.Expr.{Expr};
 ghost use Rattle.hir_node.specs.declared.expr.Expr.TheVariants as expr;
 ghost use Rattle.hir_node.specs.declared.pat.Pat.{Pat};

@@ -8,8 +8,8 @@ use Rattle.hir_path.specs.declared.path.Path.{Path}
 use Rattle.hir_node.specs.declared.expr.Expr.TheVariants as expr
 use Rattle.hir_node.specs.declared.pat.Pat.TheVariants as pat
 use Rattle.hir_node.specs.declared.pat.RecordFieldPat.{RecordFieldPat}
-use Rattle.hir_node.specs.declared.parts.RecordLitField.{RecordLitField}
-use Rattle.hir_node.specs.declared.parts.RecordSpread.{RecordSpread}
+use Rattle.hir_node.specs.declared.expr_types.RecordLitField.{RecordLitField}
+use Rattle.hir_node.specs.declared.expr_types.RecordSpread.{RecordSpread}
 use Rattle.hir_node.specs.declared.type_ref.TypeRef.TheVariants as type
 use Rattle.hir_node.specs.ChildCalls.{Call, e, p, path_calls, spread_calls}
 use Rattle.hir_faults.specs.Sizes.{is_there}

@@ -8,7 +8,7 @@ use Rattle.hir_generics.specs.declared.param.TypeOrConstParamData.TheVariants as
 use Rattle.hir_generics.specs.declared.predicate.WherePredicate.{WherePredicate}
 use Rattle.hir_generics.specs.declared.predicate.WherePredicate.TheVariants as predicate
 use Rattle.hir_faults.specs.Sizes.{is_there}
-use Rattle.hir_faults.specs.Parts.{is_path_at, bound_paths}
+use Rattle.hir_faults.specs.Tested.{is_path_at, bound_paths}
 use Rattle.hir_faults.specs.Nodes.{Nodes, sizes_of}
 use Rattle.hir_items.specs.Generics.{Generics}
 use Rattle.hir_items.specs.declared.signature_fault.SignatureFault.{SignatureFault}

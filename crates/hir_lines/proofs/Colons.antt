@@ -3,10 +3,10 @@ use Rattle.std.proofs.Common.{◌≡◌, ℕ, true, false, List, [], ◌∷◌, 
 use Rattle.std.specs.Prelude.{codes}
 use Rattle.std.specs.List.{AllZip}
 use Rattle.std.proofs.lemmas.List.Splits.{join_with_byte-slice_split}
-use Rattle.hir_node.specs.declared.parts.MatchArm.{MatchArm}
-use Rattle.hir_node.specs.declared.parts.Statement.{Statement}
-use Rattle.hir_node.specs.declared.parts.Statement.TheVariants.{Let, Expr, Item}
-use Rattle.hir_node.specs.declared.parts.Item.TheVariants.{MacroDef, Other}
+use Rattle.hir_node.specs.declared.expr_types.MatchArm.{MatchArm}
+use Rattle.hir_node.specs.declared.expr_types.Statement.{Statement}
+use Rattle.hir_node.specs.declared.expr_types.Statement.TheVariants.{Let, Expr, Item}
+use Rattle.hir_node.specs.declared.expr_types.Item.TheVariants.{MacroDef, Other}
 use Rattle.hir_lines.specs.Readings.{gives, whole, parts_of}
 use Rattle.hir_lines.specs.Words.{one_of}
 use Rattle.hir_lines.specs.ArmsAndStatements.{arm, arm_of, statement_of, statement_forms, let_statement, semi_statement, expr_statement, macro_statement}

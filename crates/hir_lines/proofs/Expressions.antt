@@ -3,9 +3,9 @@ use Rattle.std.proofs.Common.{refl}
 use Rattle.std.specs.Prelude.{List, map, None}
 use Rattle.hir_node.specs.declared.expr.Expr.{Expr}
 use Rattle.hir_node.specs.declared.expr.Expr.TheVariants.{Missing, Match, Block}
-use Rattle.hir_node.specs.declared.parts.Unsafe.TheVariants.{No as Safe}
-use Rattle.hir_node.specs.declared.parts.MatchArm.{MatchArm}
-use Rattle.hir_node.specs.declared.parts.Statement.{Statement}
+use Rattle.hir_node.specs.declared.expr_types.Unsafe.TheVariants.{No as Safe}
+use Rattle.hir_node.specs.declared.expr_types.MatchArm.{MatchArm}
+use Rattle.hir_node.specs.declared.expr_types.Statement.{Statement}
 use Rattle.hir_lines.specs.Readings.{◌>>=◌, gives, each}
 use Rattle.hir_lines.specs.ArmsAndStatements.{arm_of, statement_of}
 use Rattle.hir_lines.specs.Exprs.{expr, expr_forms, path_expr, int_expr, call_expr, tuple_expr, array_expr, repeat_expr, ref_expr, bin_expr, let_expr as let_reading, if_expr as if_reading, loop_expr as loop_reading, assign_expr, const_expr, match_expr as match_reading, closure_expr, block_expr}

@@ -11,10 +11,10 @@ use Rattle.hir_base.specs.declared.operators.Ordering.TheVariants.{Less, Greater
 use Rattle.hir_base.specs.declared.operators.CmpOp.TheVariants.{Eq, Ord}
 use Rattle.hir_base.specs.declared.operators.BinaryOp.{BinaryOp}
 use Rattle.hir_base.specs.declared.operators.BinaryOp.TheVariants.{LogicOp as Logic, ArithOp as Arith, CmpOp as Cmp, Assignment}
-use Rattle.hir_node.specs.declared.parts.MatchArm.{MatchArm}
-use Rattle.hir_node.specs.declared.parts.Statement.{Statement}
-use Rattle.hir_node.specs.declared.parts.Statement.TheVariants.{Let, Expr, Item}
-use Rattle.hir_node.specs.declared.parts.Item.TheVariants.{MacroDef, Other}
+use Rattle.hir_node.specs.declared.expr_types.MatchArm.{MatchArm}
+use Rattle.hir_node.specs.declared.expr_types.Statement.{Statement}
+use Rattle.hir_node.specs.declared.expr_types.Statement.TheVariants.{Let, Expr, Item}
+use Rattle.hir_node.specs.declared.expr_types.Item.TheVariants.{MacroDef, Other}
 use Rattle.hir_lines.specs.Names.{is_name, continues_name}
 use Rattle.hir_lines.specs.Numerals.{is_digit}
 use Rattle.hir_lines.specs.Operators.{op_text}

@@ -6,8 +6,8 @@ use Rattle.std.proofs.lemmas.List.Splits.{join_with_byte-slice_split}
 use Rattle.hir_node.specs.declared.expr.Expr.{Expr}
 use Rattle.hir_node.specs.declared.pat.Pat.{Pat}
 use Rattle.hir_node.specs.declared.type_ref.TypeRef.{TypeRef}
-use Rattle.hir_node.specs.declared.parts.MatchArm.{MatchArm}
-use Rattle.hir_node.specs.declared.parts.Statement.{Statement}
+use Rattle.hir_node.specs.declared.expr_types.MatchArm.{MatchArm}
+use Rattle.hir_node.specs.declared.expr_types.Statement.{Statement}
 use Rattle.hir_lines.specs.declared.line.Line.{Line}
 use Rattle.hir_lines.specs.declared.line.Line.TheVariants.{Blank, Make, Ask, Bad}
 use Rattle.hir_lines.specs.declared.line.Maker.{Maker}

@@ -1,9 +1,9 @@
 -- The arms of a match and the statements of a block. Each is one word, whose parts are parted by colons.
 use Rattle.std.specs.Prelude.{ℕ, true, false, List, [], ◌∷◌, Option, codes}
-use Rattle.hir_node.specs.declared.parts.MatchArm.{MatchArm}
-use Rattle.hir_node.specs.declared.parts.Statement.{Statement}
-use Rattle.hir_node.specs.declared.parts.Statement.TheVariants.{Let, Expr as ExprStatement, Item as ItemStatement}
-use Rattle.hir_node.specs.declared.parts.Item.TheVariants.{MacroDef, Other}
+use Rattle.hir_node.specs.declared.expr_types.MatchArm.{MatchArm}
+use Rattle.hir_node.specs.declared.expr_types.Statement.{Statement}
+use Rattle.hir_node.specs.declared.expr_types.Statement.TheVariants.{Let, Expr as ExprStatement, Item as ItemStatement}
+use Rattle.hir_node.specs.declared.expr_types.Item.TheVariants.{MacroDef, Other}
 use Rattle.hir_lines.specs.Readings.{Reading, ◌>>=◌, gives, whole, parts_of, colon}
 use Rattle.hir_lines.specs.Words.{number, optional, one_of}
 

@@ -4,13 +4,13 @@ use Rattle.hir_base.specs.declared.operators.BinaryOp.{BinaryOp}
 use Rattle.hir_node.specs.declared.expr.Expr.{Expr}
 use Rattle.hir_node.specs.declared.expr.Expr.TheVariants.{Missing, Path, Literal as LiteralExpr, Array as ArrayExpr, Const, If, Let, Block, Loop, Call, Match, Ref as RefExpr, BinaryOp as BinaryExpr, Assignment, Closure as ClosureExpr, Tuple}
 use Rattle.hir_node.specs.declared.literal.Literal.TheVariants.{Int}
-use Rattle.hir_node.specs.declared.parts.MatchArm.{MatchArm}
-use Rattle.hir_node.specs.declared.parts.Statement.{Statement}
-use Rattle.hir_node.specs.declared.parts.Array.TheVariants.{ElementList, Repeat}
-use Rattle.hir_node.specs.declared.parts.ClosureKind.TheVariants.{Closure}
-use Rattle.hir_node.specs.declared.parts.CaptureBy.TheVariants.{Ref as ByRef}
-use Rattle.hir_node.specs.declared.parts.LoopSource.TheVariants.{Loop as PlainLoop}
-use Rattle.hir_node.specs.declared.parts.Unsafe.TheVariants.{No as Safe}
+use Rattle.hir_node.specs.declared.expr_types.MatchArm.{MatchArm}
+use Rattle.hir_node.specs.declared.expr_types.Statement.{Statement}
+use Rattle.hir_node.specs.declared.expr_types.Array.TheVariants.{ElementList, Repeat}
+use Rattle.hir_node.specs.declared.expr_types.ClosureKind.TheVariants.{Closure}
+use Rattle.hir_node.specs.declared.expr_types.CaptureBy.TheVariants.{Ref as ByRef}
+use Rattle.hir_node.specs.declared.expr_types.LoopSource.TheVariants.{Loop as PlainLoop}
+use Rattle.hir_node.specs.declared.expr_types.Unsafe.TheVariants.{No as Safe}
 use Rattle.hir_node.specs.declared.type_ref.Mutability.TheVariants.{Shared}
 use Rattle.hir_node.specs.declared.type_ref.Rawness.TheVariants.{Ref as Reference}
 use Rattle.hir_lines.specs.Words.{plain}

@@ -4,10 +4,10 @@ use Rattle.std.specs.Fmt.{decimal, signed_decimal}
 use Rattle.std.specs.Int.{w128}
 use Rattle.std.specs.List.{AllZip, join_with_byte}
 use Rattle.hir_base.specs.declared.operators.BinaryOp.{BinaryOp}
-use Rattle.hir_node.specs.declared.parts.MatchArm.{MatchArm}
-use Rattle.hir_node.specs.declared.parts.Statement.{Statement}
-use Rattle.hir_node.specs.declared.parts.Statement.TheVariants.{Let, Expr, Item}
-use Rattle.hir_node.specs.declared.parts.Item.TheVariants.{MacroDef, Other}
+use Rattle.hir_node.specs.declared.expr_types.MatchArm.{MatchArm}
+use Rattle.hir_node.specs.declared.expr_types.Statement.{Statement}
+use Rattle.hir_node.specs.declared.expr_types.Statement.TheVariants.{Let, Expr, Item}
+use Rattle.hir_node.specs.declared.expr_types.Item.TheVariants.{MacroDef, Other}
 use Rattle.hir_lines.specs.Names.{is_name}
 use Rattle.hir_lines.specs.Operators.{op_text}
 use Rattle.hir_lines.specs.Readings.{space, colon, comma}

@@ -17,14 +17,14 @@ use Rattle.hir_node.specs.declared.pat.Pat.TheVariants as pat
 use Rattle.hir_node.specs.declared.type_ref.TypeRef.TheVariants as type
 use Rattle.hir_node.specs.declared.type_ref.Mutability.TheVariants as mutability
 use Rattle.hir_node.specs.declared.type_ref.Rawness.TheVariants as rawness
-use Rattle.hir_node.specs.declared.parts.Array.TheVariants as array
-use Rattle.hir_node.specs.declared.parts.CaptureBy.TheVariants as capture
-use Rattle.hir_node.specs.declared.parts.ClosureKind.TheVariants as closure
-use Rattle.hir_node.specs.declared.parts.Item.TheVariants as item
-use Rattle.hir_node.specs.declared.parts.LoopSource.TheVariants as loop
-use Rattle.hir_node.specs.declared.parts.Statement.{Statement}
-use Rattle.hir_node.specs.declared.parts.Statement.TheVariants as statement
-use Rattle.hir_node.specs.declared.parts.Unsafe.TheVariants as unsafe
+use Rattle.hir_node.specs.declared.expr_types.Array.TheVariants as array
+use Rattle.hir_node.specs.declared.expr_types.CaptureBy.TheVariants as capture
+use Rattle.hir_node.specs.declared.expr_types.ClosureKind.TheVariants as closure
+use Rattle.hir_node.specs.declared.expr_types.Item.TheVariants as item
+use Rattle.hir_node.specs.declared.expr_types.LoopSource.TheVariants as loop
+use Rattle.hir_node.specs.declared.expr_types.Statement.{Statement}
+use Rattle.hir_node.specs.declared.expr_types.Statement.TheVariants as statement
+use Rattle.hir_node.specs.declared.expr_types.Unsafe.TheVariants as unsafe
 use Rattle.hir_node.specs.declared.node_id.NodeId.{NodeId}
 use Rattle.hir_node.specs.declared.node_id.NodeId.TheVariants as node
 use Rattle.hir_forest.specs.Height.{height}

@@ -7,7 +7,7 @@ use Rattle.std.specs.Prelude.{eqb}
 use Rattle.std.specs.Cmp.{nat_cmp_total, unsigned_Decides}
 use Rattle.std.specs.Cmp.Lexicographic.{pointwise, pointwise_decides}
 use Rattle.hir_base.specs.Maps.{same_maps, same_maps_decides}
-use Rattle.hir_path.specs.Fields.{both}
+use Rattle.hir_path.specs.same.Fields.{both}
 use Rattle.hir_scope.specs.contracts.scope.ScopeEntryPartialEq.TheImpl as entry
 use Rattle.hir_scope.specs.contracts.scope.ScopeEntryExactEq.TheImpl.Laws as entry_law
 use Rattle.hir_scope.specs.contracts.expr_scopes.ScopeDataPartialEq.TheImpl as row

@@ -1,10 +1,10 @@
 -- The counts of scopes and entries: sums over the nodes that a body or a signature reaches.
 use Rattle.std.specs.Prelude.{ℕ, ◌+◌, List, Option, Some, None, length}
 use Rattle.std.specs.List.{sum_by}
-use Rattle.hir_node.specs.declared.parts.Item.{Item}
-use Rattle.hir_node.specs.declared.parts.Item.TheVariants as item
-use Rattle.hir_node.specs.declared.parts.Statement.{Statement}
-use Rattle.hir_node.specs.declared.parts.Statement.TheVariants as statement
+use Rattle.hir_node.specs.declared.expr_types.Item.{Item}
+use Rattle.hir_node.specs.declared.expr_types.Item.TheVariants as item
+use Rattle.hir_node.specs.declared.expr_types.Statement.{Statement}
+use Rattle.hir_node.specs.declared.expr_types.Statement.TheVariants as statement
 use Rattle.hir_node.specs.declared.node_id.NodeId.{NodeId}
 use Rattle.hir_node.specs.declared.node_id.NodeId.TheVariants as node
 use Rattle.hir_faults.specs.Nodes.{Nodes}

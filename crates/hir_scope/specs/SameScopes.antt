@@ -8,7 +8,7 @@ use Rattle.std.specs.Cmp.{IsEquivalence, IsPartialEquivalence, decided, partial_
 use Rattle.std.specs.Cmp.Lexicographic.{pointwise, pointwise_decides}
 use Rattle.hir_base.specs.Exact.{optional_numbers_decide}
 use Rattle.hir_base.specs.Maps.{same_maps, same_maps_decides}
-use Rattle.hir_path.specs.Fields.{and_decides, both}
+use Rattle.hir_path.specs.same.Fields.{and_decides, both}
 use Rattle.hir_scope.specs.contracts.scope.ScopeEntryPartialEq.TheImpl as entry
 use Rattle.hir_scope.specs.contracts.scope.ScopeEntryExactEq.TheImpl.Laws as entry_law
 use Rattle.hir_scope.specs.contracts.scope.ScopeKindPartialEq.TheImpl as kind

@@ -5,7 +5,7 @@ use Rattle.std.specs.Cmp.Lexicographic.{nat_list_cmp_total, pointwise_decides}
 use Rattle.hir_base.specs.Exact.{exact}
 use Rattle.hir_base.specs.Maps.{same_maps_decides}
 use Rattle.hir_base.specs.Table.{by_code-IsAntisymmetric}
-use Rattle.hir_path.specs.Fields.{and_decides, both}
+use Rattle.hir_path.specs.same.Fields.{and_decides, both}
 use Rattle.hir_expr_store.specs.declared.side_tables.SideTables.{SideTables}
 use Rattle.hir_expr_store.specs.contracts.side_tables.SideTablesPartialEq.TheImpl as side_tables
 

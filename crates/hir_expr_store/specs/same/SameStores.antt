@@ -2,11 +2,11 @@
 use Rattle.std.specs.Prelude.{◌≡◌}
 use Rattle.std.specs.Bool.{Decides}
 use Rattle.std.specs.Cmp.Lexicographic.{pointwise_decides}
-use Rattle.hir_path.specs.Fields.{and_decides, both}
-use Rattle.hir_node.specs.SameExprs.{exprs_decide}
-use Rattle.hir_node.specs.SamePats.{pats_decide}
-use Rattle.hir_node.specs.SameTypes.{types_decide}
-use Rattle.hir_node.specs.SameStructs.{bindings_decide}
+use Rattle.hir_path.specs.same.Fields.{and_decides, both}
+use Rattle.hir_node.specs.same.SameExprs.{exprs_decide}
+use Rattle.hir_node.specs.same.SamePats.{pats_decide}
+use Rattle.hir_node.specs.same.SameTypes.{types_decide}
+use Rattle.hir_node.specs.same.SameStructs.{bindings_decide}
 use Rattle.hir_node.specs.contracts.binding.LabelExactEq.TheImpl.Laws as labels_law
 use Rattle.hir_node.specs.contracts.type_ref.LifetimeRefExactEq.TheImpl.Laws as lifetimes_law
 use Rattle.hir_expr_store.specs.Contents.{Contents}

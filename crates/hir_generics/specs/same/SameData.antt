@@ -6,7 +6,7 @@ use Rattle.std.specs.Cmp.Lexicographic.{pointwise, pointwise_decides}
 use Rattle.std.specs.Cmp.{unsigned_Decides}
 use Rattle.hir_base.specs.Exact.{exact, options_decide, optional_numbers_decide}
 use Rattle.hir_base.specs.Variants.{values_decide, then, also, last}
-use Rattle.hir_path.specs.Fields.{and_decides, both}
+use Rattle.hir_path.specs.same.Fields.{and_decides, both}
 use Rattle.hir_base.specs.contracts.name.NamePartialEq.TheImpl as names
 use Rattle.hir_base.specs.contracts.name.NameExactEq.TheImpl.Laws as names_law
 use Rattle.hir_path.specs.declared.bound.TypeBound.{TypeBound}

@@ -4,7 +4,7 @@ use Rattle.std.specs.Bool.{Decides}
 use Rattle.std.specs.Cmp.{unsigned_Decides}
 use Rattle.std.specs.Cmp.Lexicographic.{pointwise, pointwise_decides}
 use Rattle.std.proofs.Common.{ap}
-use Rattle.hir_path.specs.Fields.{and_decides}
+use Rattle.hir_path.specs.same.Fields.{and_decides}
 use Rattle.hir_generics.specs.declared.data.LifetimeParamData.{LifetimeParamData}
 use Rattle.hir_generics.specs.declared.data.LifetimeBoundType.TheVariants.{EarlyBound}
 use Rattle.hir_generics.specs.declared.param.TypeOrConstParamData.{TypeOrConstParamData}

@@ -5,11 +5,11 @@ use Rattle.std.specs.Option.{option_eq}
 use Rattle.std.specs.Cmp.{unsigned_Decides}
 use Rattle.std.specs.Cmp.Lexicographic.{pointwise, pointwise_decides}
 use Rattle.hir_base.specs.Exact.{exact, options_decide, optional_numbers_decide}
-use Rattle.hir_path.specs.Fields.{and_decides, both}
-use Rattle.hir_path.specs.Leaves.{names_decide, mod_paths_decide}
-use Rattle.hir_node.specs.Leaves.{abis_decide}
-use Rattle.hir_node.specs.SameStructs.{flags_decide}
-use Rattle.hir_expr_store.specs.SameStores.{stores_decide}
+use Rattle.hir_path.specs.same.Fields.{and_decides, both}
+use Rattle.hir_path.specs.same.Leaves.{names_decide, mod_paths_decide}
+use Rattle.hir_node.specs.same.Leaves.{abis_decide}
+use Rattle.hir_node.specs.same.SameStructs.{flags_decide}
+use Rattle.hir_expr_store.specs.same.SameStores.{stores_decide}
 use Rattle.hir_items.specs.same.SameGenerics.{generics_decide}
 use Rattle.hir_items.specs.declared.signatures.FieldsShape.{FieldsShape}
 use Rattle.hir_items.specs.declared.signatures.RawVisibility.{RawVisibility}

@@ -3,10 +3,10 @@ use Rattle.std.specs.Prelude.{◌≡◌}
 use Rattle.std.specs.Bool.{Decides}
 use Rattle.hir_base.specs.Exact.{exact}
 use Rattle.hir_base.specs.Variants.{values_decide, then, last}
-use Rattle.hir_node.specs.SameExprs.{exprs_decide}
-use Rattle.hir_node.specs.SamePats.{pats_decide}
-use Rattle.hir_node.specs.SameStructs.{bindings_decide}
-use Rattle.hir_node.specs.SameTypes.{types_decide}
+use Rattle.hir_node.specs.same.SameExprs.{exprs_decide}
+use Rattle.hir_node.specs.same.SamePats.{pats_decide}
+use Rattle.hir_node.specs.same.SameStructs.{bindings_decide}
+use Rattle.hir_node.specs.same.SameTypes.{types_decide}
 use Rattle.hir_lines.specs.declared.line.Line.{Line}
 use Rattle.hir_lines.specs.declared.line.Maker.{Maker}
 use Rattle.hir_lines.specs.declared.line.Question.{Question}

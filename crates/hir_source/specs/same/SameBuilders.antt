@@ -7,7 +7,7 @@ use Rattle.std.proofs.Common.{refl}
 use Rattle.hir_base.specs.Exact.{exact}
 use Rattle.hir_base.specs.Maps.{same_maps, same_maps_decides}
 use Rattle.hir_base.specs.Table.{by_code, by_code-IsAntisymmetric}
-use Rattle.hir_path.specs.Fields.{and_decides, both}
+use Rattle.hir_path.specs.same.Fields.{and_decides, both}
 use Rattle.hir_source.specs.declared.sources.ExprSources.{ExprSources}
 use Rattle.hir_source.specs.declared.sources.TypeSources.{TypeSources}
 use Rattle.hir_source.specs.declared.source_map_builder.SourceMapBuilder.{SourceMapBuilder}

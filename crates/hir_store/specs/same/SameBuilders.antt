@@ -6,14 +6,14 @@ use Rattle.std.proofs.Common.{refl}
 use Rattle.hir_base.specs.Exact.{exact, options_decide}
 use Rattle.hir_base.specs.Maps.{same_maps_decides}
 use Rattle.hir_base.specs.Table.{by_code-IsAntisymmetric}
-use Rattle.hir_path.specs.Fields.{and_decides, both}
-use Rattle.hir_node.specs.SameExprs.{exprs_decide}
-use Rattle.hir_node.specs.SamePats.{pats_decide}
-use Rattle.hir_node.specs.SameTypes.{types_decide}
-use Rattle.hir_node.specs.SameStructs.{bindings_decide}
+use Rattle.hir_path.specs.same.Fields.{and_decides, both}
+use Rattle.hir_node.specs.same.SameExprs.{exprs_decide}
+use Rattle.hir_node.specs.same.SamePats.{pats_decide}
+use Rattle.hir_node.specs.same.SameTypes.{types_decide}
+use Rattle.hir_node.specs.same.SameStructs.{bindings_decide}
 use Rattle.hir_node.specs.contracts.binding.LabelExactEq.TheImpl.Laws as labels_law
 use Rattle.hir_node.specs.contracts.type_ref.LifetimeRefExactEq.TheImpl.Laws as lifetimes_law
-use Rattle.hir_source.specs.SameBuilders.{builders_decide as source_maps_decide}
+use Rattle.hir_source.specs.same.SameBuilders.{builders_decide as source_maps_decide}
 use Rattle.hir_expr_store.specs.same.SameRoots.{root_lists_decide}
 use Rattle.hir_store.specs.declared.builder.ExpressionStoreBuilder.{ExpressionStoreBuilder}
 use Rattle.hir_store.specs.contracts.builder.ExpressionStoreBuilderPartialEq.TheImpl as builders
