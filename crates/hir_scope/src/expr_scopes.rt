@@ -238,7 +238,7 @@ impl ExprScopes {
 
 /// Scopes are equal where the scope of each expression and the list of scopes are: their kinds, entries and parents.
 impl PartialEq for ExprScopes {
-    ghost use Rattle.hir_scope.specs.SameScopes.{same_scopes, scopes_per};
+    ghost use Rattle.hir_scope.specs.same.SameScopes.{same_scopes, scopes_per};
 
     ghost eq = { same_scopes };
 
@@ -252,13 +252,13 @@ impl PartialEq for ExprScopes {
 }
 
 impl Eq for ExprScopes {
-    ghost use Rattle.hir_scope.specs.SameScopes.{scopes_equiv};
+    ghost use Rattle.hir_scope.specs.same.SameScopes.{scopes_equiv};
 
     ghost laws = { scopes_equiv };
 }
 
 impl ExactEq for ExprScopes {
-    ghost use Rattle.hir_scope.specs.SameScopes.{scopes_decide};
+    ghost use Rattle.hir_scope.specs.same.SameScopes.{scopes_decide};
 
     ghost eq_decides = { scopes_decide };
 }
