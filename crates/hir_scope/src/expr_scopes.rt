@@ -157,6 +157,15 @@ impl ExprScopes {
         self.scopes[scope.into_raw() as usize].parent
     }
 
+    /// Tells a proof that each scope stands in one that was made before it, and that the scope of each expression is there. It does
+    /// nothing.
+    pub fn parents_stand_earlier(&self)
+        ensures parents { ParentsStandEarlier self.now.scopes }
+        ensures there { (expr scope : ℕ) → map.get self.now.scope_by_expr expr ≡ Some scope → scope < length self.now.scopes }
+    {
+        let _ = &self.scopes;
+    }
+
     /// The scope of an expression, where it has one.
     pub fn scope_for(&self, expr: ExprId) -> Option<ScopeId>
         ensures scope { result ≡ map.get self.now.scope_by_expr expr }
