@@ -85,6 +85,9 @@ row_seen es rows i row l e = slice_get_read rows (length rows) i row refl (subst
 abbrev pub AreBelow : finmap.FinMap nat_cmp ℕ → ℕ → Type 0
 AreBelow m n = (expr scope : ℕ) → finmap.get m expr ≡ Some scope → scope < n
 
+pub there_seen : (es : List ScopeEntry) (rows : List ScopeData) (m : finmap.FinMap nat_cmp ℕ) → AreBelow m (length rows) → AreBelow m (length (scopes_of es rows))
+there_seen es rows m h expr scope e = subst (λ n. scope < n) (sym (length_seen es rows)) (h expr scope e)
+
 chosen : (b : Bool) (v s : ℕ) (o : Option ℕ) → cond b (Some v) o ≡ Some s → (v ≡ s) ⊎ (o ≡ Some s)
 chosen true v s o e = inl cc
 chosen false v s o e = inr e

@@ -346,9 +346,9 @@ abbrev row_kinds : Row
 row_kinds = record {
   nodes = record {
     exprs =
-      name ∷ name ∷ name ∷ expr.Const 2 ∷ name ∷ expr.Let 1 4 ∷ name ∷ expr.If 5 6 None ∷ name ∷
-      expr.Block (Some 5) (statement.Item (item.MacroDef 7) ∷ statement.Let 0 (Some 1) (Some 1) None ∷ statement.Expr 3 true ∷ statement.Item (item.MacroDef 8) ∷ statement.Expr 7 true ∷ []) (Some 8) None unsafe.No ∷
-      expr.Loop 9 None loop.Loop ∷ [];
+        name ∷ name ∷ name ∷ expr.Const 2 ∷ name ∷ expr.Let 1 4 ∷ name ∷ expr.If 5 6 None ∷ name ∷
+        expr.Block (Some 5) (statement.Item (item.MacroDef 7) ∷ statement.Let 0 (Some 1) (Some 1) None ∷ statement.Expr 3 true ∷ statement.Item (item.MacroDef 8) ∷ statement.Expr 7 true ∷ []) (Some 8) None unsafe.No ∷
+        expr.Loop 9 None loop.Loop ∷ [];
     pats = bind 0 ∷ bind 1 ∷ [];
     types = type.Tuple [] ∷ type.Array (record { ty = 0; len = record { expr = 0 } }) ∷ [];
     bindings = binding 1 source ∷ binding 2 source ∷ [];
@@ -361,18 +361,18 @@ row_kinds = record {
 
 -- a macro's definition and a block with an id are seen by constants too, a local and an `if` aren't
 kinds : ◌≡◌ {A = Shown} (shown row_kinds) (
-  (10, (kind.None, []) ∷ []) ∷
-  (9, (kind.Block 5 None, []) ∷ (kind.None, []) ∷ (kind.None, []) ∷ []) ∷
-  (0, (kind.MacroDef 7, []) ∷ (kind.Block 5 None, []) ∷ (kind.None, []) ∷ []) ∷
-  (1, (kind.MacroDef 7, []) ∷ (kind.Block 5 None, []) ∷ (kind.None, []) ∷ (kind.None, []) ∷ []) ∷
-  (3, (kind.None, 0 ∷ []) ∷ (kind.MacroDef 7, []) ∷ (kind.Block 5 None, []) ∷ (kind.None, []) ∷ (kind.None, []) ∷ []) ∷
-  (2, (kind.MacroDef 7, []) ∷ (kind.Block 5 None, []) ∷ (kind.None, []) ∷ []) ∷
-  (7, (kind.MacroDef 8, []) ∷ (kind.None, 0 ∷ []) ∷ (kind.MacroDef 7, []) ∷ (kind.Block 5 None, []) ∷ (kind.None, []) ∷ (kind.None, []) ∷ []) ∷
-  (5, (kind.None, []) ∷ (kind.MacroDef 8, []) ∷ (kind.None, 0 ∷ []) ∷ (kind.MacroDef 7, []) ∷ (kind.Block 5 None, []) ∷ (kind.None, []) ∷ (kind.None, []) ∷ []) ∷
-  (4, (kind.None, []) ∷ (kind.MacroDef 8, []) ∷ (kind.None, 0 ∷ []) ∷ (kind.MacroDef 7, []) ∷ (kind.Block 5 None, []) ∷ (kind.None, []) ∷ (kind.None, []) ∷ []) ∷
-  (6, (kind.None, 1 ∷ []) ∷ (kind.None, []) ∷ (kind.MacroDef 8, []) ∷ (kind.None, 0 ∷ []) ∷ (kind.MacroDef 7, []) ∷ (kind.Block 5 None, []) ∷ (kind.None, []) ∷ (kind.None, []) ∷ []) ∷
-  (8, (kind.MacroDef 8, []) ∷ (kind.None, 0 ∷ []) ∷ (kind.MacroDef 7, []) ∷ (kind.Block 5 None, []) ∷ (kind.None, []) ∷ (kind.None, []) ∷ []) ∷
-  [])
+    (10, (kind.None, []) ∷ []) ∷
+    (9, (kind.Block 5 None, []) ∷ (kind.None, []) ∷ (kind.None, []) ∷ []) ∷
+    (0, (kind.MacroDef 7, []) ∷ (kind.Block 5 None, []) ∷ (kind.None, []) ∷ []) ∷
+    (1, (kind.MacroDef 7, []) ∷ (kind.Block 5 None, []) ∷ (kind.None, []) ∷ (kind.None, []) ∷ []) ∷
+    (3, (kind.None, 0 ∷ []) ∷ (kind.MacroDef 7, []) ∷ (kind.Block 5 None, []) ∷ (kind.None, []) ∷ (kind.None, []) ∷ []) ∷
+    (2, (kind.MacroDef 7, []) ∷ (kind.Block 5 None, []) ∷ (kind.None, []) ∷ []) ∷
+    (7, (kind.MacroDef 8, []) ∷ (kind.None, 0 ∷ []) ∷ (kind.MacroDef 7, []) ∷ (kind.Block 5 None, []) ∷ (kind.None, []) ∷ (kind.None, []) ∷ []) ∷
+    (5, (kind.None, []) ∷ (kind.MacroDef 8, []) ∷ (kind.None, 0 ∷ []) ∷ (kind.MacroDef 7, []) ∷ (kind.Block 5 None, []) ∷ (kind.None, []) ∷ (kind.None, []) ∷ []) ∷
+    (4, (kind.None, []) ∷ (kind.MacroDef 8, []) ∷ (kind.None, 0 ∷ []) ∷ (kind.MacroDef 7, []) ∷ (kind.Block 5 None, []) ∷ (kind.None, []) ∷ (kind.None, []) ∷ []) ∷
+    (6, (kind.None, 1 ∷ []) ∷ (kind.None, []) ∷ (kind.MacroDef 8, []) ∷ (kind.None, 0 ∷ []) ∷ (kind.MacroDef 7, []) ∷ (kind.Block 5 None, []) ∷ (kind.None, []) ∷ (kind.None, []) ∷ []) ∷
+    (8, (kind.MacroDef 8, []) ∷ (kind.None, 0 ∷ []) ∷ (kind.MacroDef 7, []) ∷ (kind.Block 5 None, []) ∷ (kind.None, []) ∷ (kind.None, []) ∷ []) ∷
+    [])
 unfolding body_tops slots leak pats value rank height
 kinds = refl
 
@@ -385,10 +385,10 @@ abbrev row_leaks : Row
 row_leaks = record {
   nodes = record {
     exprs =
-      name ∷ name ∷ name ∷ expr.Let 0 2 ∷ expr.If 0 1 (Some 3) ∷ name ∷ expr.Let 1 5 ∷ name ∷ expr.Let 3 7 ∷ name ∷
-      expr.Match 6 (record { pat = 2; guard = Some 8; expr = 9 } ∷ []) ∷ name ∷ expr.Let 5 11 ∷ expr.Assignment 4 12 ∷ name ∷
-      expr.Closure [] [] None 14 closure.Closure capture.Ref ∷
-      block (statement.Expr 4 true ∷ statement.Expr 10 true ∷ statement.Expr 13 true ∷ []) (Some 15) ∷ [];
+        name ∷ name ∷ name ∷ expr.Let 0 2 ∷ expr.If 0 1 (Some 3) ∷ name ∷ expr.Let 1 5 ∷ name ∷ expr.Let 3 7 ∷ name ∷
+        expr.Match 6 (record { pat = 2; guard = Some 8; expr = 9 } ∷ []) ∷ name ∷ expr.Let 5 11 ∷ expr.Assignment 4 12 ∷ name ∷
+        expr.Closure [] [] None 14 closure.Closure capture.Ref ∷
+        block (statement.Expr 4 true ∷ statement.Expr 10 true ∷ statement.Expr 13 true ∷ []) (Some 15) ∷ [];
     pats = bind 0 ∷ bind 1 ∷ bind 2 ∷ bind 3 ∷ bind 4 ∷ bind 5 ∷ [];
     types = [];
     bindings = binding 1 source ∷ binding 2 source ∷ binding 3 source ∷ binding 4 source ∷ binding 5 source ∷ binding 6 source ∷ [];
@@ -401,23 +401,23 @@ row_leaks = record {
 
 -- lets in an else branch, a scrutinee and a value go on; one in a guard ends with its arm, and a target's binding with the target
 leaking : ◌≡◌ {A = Shown} (shown row_leaks) (
-  (16, (kind.None, []) ∷ (kind.None, []) ∷ []) ∷
-  (4, (kind.None, []) ∷ (kind.None, []) ∷ []) ∷
-  (0, (kind.None, []) ∷ (kind.None, []) ∷ (kind.None, []) ∷ []) ∷
-  (1, (kind.None, []) ∷ (kind.None, []) ∷ (kind.None, []) ∷ []) ∷
-  (3, (kind.None, []) ∷ (kind.None, []) ∷ []) ∷
-  (2, (kind.None, []) ∷ (kind.None, []) ∷ []) ∷
-  (10, (kind.None, 0 ∷ []) ∷ (kind.None, []) ∷ (kind.None, []) ∷ []) ∷
-  (6, (kind.None, 0 ∷ []) ∷ (kind.None, []) ∷ (kind.None, []) ∷ []) ∷
-  (5, (kind.None, 0 ∷ []) ∷ (kind.None, []) ∷ (kind.None, []) ∷ []) ∷
-  (8, (kind.None, 2 ∷ []) ∷ (kind.None, 1 ∷ []) ∷ (kind.None, 0 ∷ []) ∷ (kind.None, []) ∷ (kind.None, []) ∷ []) ∷
-  (7, (kind.None, 2 ∷ []) ∷ (kind.None, 1 ∷ []) ∷ (kind.None, 0 ∷ []) ∷ (kind.None, []) ∷ (kind.None, []) ∷ []) ∷
-  (9, (kind.None, 3 ∷ []) ∷ (kind.None, 2 ∷ []) ∷ (kind.None, 1 ∷ []) ∷ (kind.None, 0 ∷ []) ∷ (kind.None, []) ∷ (kind.None, []) ∷ []) ∷
-  (13, (kind.None, 1 ∷ []) ∷ (kind.None, 0 ∷ []) ∷ (kind.None, []) ∷ (kind.None, []) ∷ []) ∷
-  (12, (kind.None, 1 ∷ []) ∷ (kind.None, 0 ∷ []) ∷ (kind.None, []) ∷ (kind.None, []) ∷ []) ∷
-  (11, (kind.None, 1 ∷ []) ∷ (kind.None, 0 ∷ []) ∷ (kind.None, []) ∷ (kind.None, []) ∷ []) ∷
-  (15, (kind.None, 5 ∷ []) ∷ (kind.None, 1 ∷ []) ∷ (kind.None, 0 ∷ []) ∷ (kind.None, []) ∷ (kind.None, []) ∷ []) ∷
-  (14, (kind.None, []) ∷ (kind.None, 5 ∷ []) ∷ (kind.None, 1 ∷ []) ∷ (kind.None, 0 ∷ []) ∷ (kind.None, []) ∷ (kind.None, []) ∷ []) ∷
-  [])
+    (16, (kind.None, []) ∷ (kind.None, []) ∷ []) ∷
+    (4, (kind.None, []) ∷ (kind.None, []) ∷ []) ∷
+    (0, (kind.None, []) ∷ (kind.None, []) ∷ (kind.None, []) ∷ []) ∷
+    (1, (kind.None, []) ∷ (kind.None, []) ∷ (kind.None, []) ∷ []) ∷
+    (3, (kind.None, []) ∷ (kind.None, []) ∷ []) ∷
+    (2, (kind.None, []) ∷ (kind.None, []) ∷ []) ∷
+    (10, (kind.None, 0 ∷ []) ∷ (kind.None, []) ∷ (kind.None, []) ∷ []) ∷
+    (6, (kind.None, 0 ∷ []) ∷ (kind.None, []) ∷ (kind.None, []) ∷ []) ∷
+    (5, (kind.None, 0 ∷ []) ∷ (kind.None, []) ∷ (kind.None, []) ∷ []) ∷
+    (8, (kind.None, 2 ∷ []) ∷ (kind.None, 1 ∷ []) ∷ (kind.None, 0 ∷ []) ∷ (kind.None, []) ∷ (kind.None, []) ∷ []) ∷
+    (7, (kind.None, 2 ∷ []) ∷ (kind.None, 1 ∷ []) ∷ (kind.None, 0 ∷ []) ∷ (kind.None, []) ∷ (kind.None, []) ∷ []) ∷
+    (9, (kind.None, 3 ∷ []) ∷ (kind.None, 2 ∷ []) ∷ (kind.None, 1 ∷ []) ∷ (kind.None, 0 ∷ []) ∷ (kind.None, []) ∷ (kind.None, []) ∷ []) ∷
+    (13, (kind.None, 1 ∷ []) ∷ (kind.None, 0 ∷ []) ∷ (kind.None, []) ∷ (kind.None, []) ∷ []) ∷
+    (12, (kind.None, 1 ∷ []) ∷ (kind.None, 0 ∷ []) ∷ (kind.None, []) ∷ (kind.None, []) ∷ []) ∷
+    (11, (kind.None, 1 ∷ []) ∷ (kind.None, 0 ∷ []) ∷ (kind.None, []) ∷ (kind.None, []) ∷ []) ∷
+    (15, (kind.None, 5 ∷ []) ∷ (kind.None, 1 ∷ []) ∷ (kind.None, 0 ∷ []) ∷ (kind.None, []) ∷ (kind.None, []) ∷ []) ∷
+    (14, (kind.None, []) ∷ (kind.None, 5 ∷ []) ∷ (kind.None, 1 ∷ []) ∷ (kind.None, 0 ∷ []) ∷ (kind.None, []) ∷ (kind.None, []) ∷ []) ∷
+    [])
 unfolding body_tops slots leak pats value rank height
 leaking = refl

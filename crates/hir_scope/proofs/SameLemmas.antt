@@ -15,7 +15,7 @@ use Rattle.hir_scope.specs.contracts.expr_scopes.ScopeDataExactEq.TheImpl.Laws a
 use Rattle.hir_scope.specs.declared.scope.ScopeEntry.{ScopeEntry}
 use Rattle.hir_scope.specs.declared.expr_scopes.ScopeData.{ScopeData}
 use Rattle.hir_scope.specs.Flat.{entries_in, scope_of, scopes_of, FollowEachOther, IsFlat}
-use Rattle.hir_scope.specs.SameScopes.{same_scopes, scopes_decide}
+use Rattle.hir_scope.specs.same.SameScopes.{same_scopes, scopes_decide}
 use Rattle.hir_scope.proofs.FlatLemmas.{follow_rises, length_in}
 
 drop_nil : (n : ℕ) (xs : List ScopeEntry) → xs ≡ [] → drop n xs ≡ []

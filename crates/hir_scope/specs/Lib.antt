@@ -9,4 +9,4 @@ pub mod Counts
 pub mod Scopes
 pub mod Paths
 pub mod Flat
-pub mod SameScopes
+pub mod same

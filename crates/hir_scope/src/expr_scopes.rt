@@ -157,6 +157,15 @@ impl ExprScopes {
         self.scopes[scope.into_raw() as usize].parent
     }
 
+    /// Tells a proof that each scope stands in one that was made before it, and that the scope of each expression is there. It does
+    /// nothing.
+    pub fn parents_stand_earlier(&self)
+        ensures parents { ParentsStandEarlier self.now.scopes }
+        ensures there { (expr scope : ℕ) → map.get self.now.scope_by_expr expr ≡ Some scope → scope < length self.now.scopes }
+    {
+        let _ = &self.scopes;
+    }
+
     /// The scope of an expression, where it has one.
     pub fn scope_for(&self, expr: ExprId) -> Option<ScopeId>
         ensures scope { result ≡ map.get self.now.scope_by_expr expr }
@@ -238,7 +247,7 @@ impl ExprScopes {
 
 /// Scopes are equal where the scope of each expression and the list of scopes are: their kinds, entries and parents.
 impl PartialEq for ExprScopes {
-    ghost use Rattle.hir_scope.specs.SameScopes.{same_scopes, scopes_per};
+    ghost use Rattle.hir_scope.specs.same.SameScopes.{same_scopes, scopes_per};
 
     ghost eq = { same_scopes };
 
@@ -252,13 +261,13 @@ impl PartialEq for ExprScopes {
 }
 
 impl Eq for ExprScopes {
-    ghost use Rattle.hir_scope.specs.SameScopes.{scopes_equiv};
+    ghost use Rattle.hir_scope.specs.same.SameScopes.{scopes_equiv};
 
     ghost laws = { scopes_equiv };
 }
 
 impl ExactEq for ExprScopes {
-    ghost use Rattle.hir_scope.specs.SameScopes.{scopes_decide};
+    ghost use Rattle.hir_scope.specs.same.SameScopes.{scopes_decide};
 
     ghost eq_decides = { scopes_decide };
 }

@@ -3,4 +3,4 @@ use Rattle.hir_scope.specs.Resolution.{first_asked}
 use Rattle.hir_scope.proofs.resolve.first_asked.Given as goal
 
 abbrev pub invariant-loop-entry : goal.invariant-loop-entry
-invariant-loop-entry l = first_asked l.name l.hygiene (drop l.entry-index l.entries) ≡ first_asked l.name l.hygiene l.entries
+invariant-loop-entry l = first_asked l.fn.name l.fn.hygiene (drop l.entry-index l.entries) ≡ first_asked l.fn.name l.fn.hygiene l.entries

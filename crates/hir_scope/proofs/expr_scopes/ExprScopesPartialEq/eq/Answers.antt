@@ -4,7 +4,7 @@ use Rattle.std.specs.Ordering.{nat_cmp}
 use Rattle.std.specs.Cmp.Lexicographic.{pointwise}
 use Rattle.hir_base.specs.Maps.{same_maps}
 use Rattle.hir_scope.specs.contracts.scope.ScopeEntryPartialEq.TheImpl as entry
-use Rattle.hir_scope.specs.SameScopes.{same_scopes}
+use Rattle.hir_scope.specs.same.SameScopes.{same_scopes}
 use Rattle.hir_scope.proofs.SameLemmas.{all_tests, rows_decide, entries_decide, maps_decide}
 use Rattle.hir_scope.proofs.expr_scopes.ExprScopesPartialEq.eq.Goals as goal
 use Rattle.hir_scope.proofs.expr_scopes.ExprScopesPartialEq.eq.Goals.{then-eq, else-eq}
