@@ -20,7 +20,7 @@ pub enum ArenaFault {
     /// Memory for one more item was refused.
     #[error("Memory")]
     Memory,
-    /// The arena holds 4,294,967,295 items.
+    /// The arena holds `MOST_ITEMS` items.
     #[error("Full")]
     Full,
 }
@@ -43,6 +43,7 @@ pub struct Arena<K, T> {
 impl<K, T> Model for Arena<K, T> {
     ghost use Rattle.std.specs.Prelude.{List, length, ◌≤◌};
     ghost use Rattle.std.specs.Coded.{coded_list};
+    ghost use Rattle.hir_base.specs.declared.arena.TheConstants.{MOST_ITEMS};
 
     ghost Value = { List T };
 
@@ -52,7 +53,7 @@ impl<K, T> Model for Arena<K, T> {
 
     ghost inverse = { λ items. record { items = items; kind = record {} } };
 
-    ghost invariant = { λ a. length a.items ≤ 4294967295 };
+    ghost invariant = { λ a. length a.items ≤ MOST_ITEMS };
 }
 
 impl<K, T> Arena<K, T> {
@@ -68,7 +69,7 @@ impl<K, T> Arena<K, T> {
 
     /// Puts the item last and answers its id.
     ///
-    /// Answers `Memory` where room for it was refused, and `Full` exactly where the arena holds 4,294,967,295 items. Either hands
+    /// Answers `Memory` where room for it was refused, and `Full` exactly where the arena holds `MOST_ITEMS` items. Either hands
     /// the item back, and the arena is unchanged.
     pub fn alloc(&mut self, item: T) -> Result<Idx<K>, (ArenaFault, T)>
         ensures ok { IfOk result (λ id. (id ≡ length self.old) × (self.new ≡ self.old ++ item ∷ [])) }

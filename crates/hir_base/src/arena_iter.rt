@@ -3,7 +3,7 @@ ghost use Rattle.std.specs.Prelude.{◌≡◌, length, ⊤, IfSome};
 ghost use Rattle.std.specs.Iterator.{YieldsFirstBy, YieldsLastBy, UpTo, at_most, item_count};
 ghost use Rattle.std.specs.Iterator.SizeHint.{IsWithinCount};
 
-use crate::Idx;
+use crate::{Idx, MOST_ITEMS};
 use std::alloc::AllocError;
 use std::iter::{ExactSizeIterator, FusedIterator};
 use std::marker::{Model, PhantomData};
@@ -19,12 +19,13 @@ pub struct ArenaIter<'a, K, T> {
 impl<'a, K, T> Model for ArenaIter<'a, K, T> {
     ghost use Rattle.std.specs.Prelude.{List, ℕ, length, ◌+◌, ◌≤◌};
     ghost use Rattle.std.specs.List.{enumerate_from};
+    ghost use Rattle.hir_base.specs.declared.arena.TheConstants.{MOST_ITEMS};
 
     ghost Value = { List (ℕ × T) };
 
     ghost view = { λ it. enumerate_from it.first it.items.now };
 
-    ghost invariant = { λ it. it.first + length it.items.now ≤ 4294967295 };
+    ghost invariant = { λ it. it.first + length it.items.now ≤ MOST_ITEMS };
 }
 
 impl<'a, K, T> ArenaIter<'a, K, T> {
@@ -32,7 +33,7 @@ impl<'a, K, T> ArenaIter<'a, K, T> {
     ghost use Rattle.std.specs.List.{enumerate_from};
 
     pub(crate) fn new(items: &'a [T]) -> ArenaIter<'a, K, T>
-        requires { length items.now ≤ 4294967295 }
+        requires { length items.now ≤ MOST_ITEMS }
         ensures { result ≡ enumerate_from 0 items.now }
     {
         ArenaIter {

@@ -24,7 +24,7 @@ pub struct ArenaMap<K, V> {
 }
 
 impl<K, V> Model for ArenaMap<K, V> {
-    ghost use Rattle.std.specs.Prelude.{IsTrue, length, ◌≤◌};
+    ghost use Rattle.std.specs.Prelude.{IsTrue, length, ◌≤◌, ◌^◌};
     ghost use Rattle.std.specs.Ordering.{nat_cmp};
     ghost use Rattle.std.specs.FinMap as map;
     ghost use Rattle.std.specs.Coded.{coded_ℕ};
@@ -36,7 +36,7 @@ impl<K, V> Model for ArenaMap<K, V> {
 
     ghost view = { λ m. map_of m.places.items };
 
-    ghost invariant = { λ m. IsTrue (ends_full m.places.items) × (length m.places.items ≤ 4294967296) };
+    ghost invariant = { λ m. IsTrue (ends_full m.places.items) × (length m.places.items ≤ 2 ^ 32) };
 }
 
 impl<K, V> ArenaMap<K, V> {

@@ -17,22 +17,22 @@ pub struct ArenaMapIter<'a, K, V> {
 }
 
 impl<'a, K, V> Model for ArenaMapIter<'a, K, V> {
-    ghost use Rattle.std.specs.Prelude.{List, ℕ, length, ◌+◌, ◌≤◌};
+    ghost use Rattle.std.specs.Prelude.{List, ℕ, length, ◌+◌, ◌^◌, ◌≤◌};
     ghost use Rattle.hir_base.specs.Places.{entries_from};
 
     ghost Value = { List (ℕ × V) };
 
     ghost view = { λ it. entries_from it.first it.places.now };
 
-    ghost invariant = { λ it. it.first + length it.places.now ≤ 4294967296 };
+    ghost invariant = { λ it. it.first + length it.places.now ≤ 2 ^ 32 };
 }
 
 impl<'a, K, V> ArenaMapIter<'a, K, V> {
-    ghost use Rattle.std.specs.Prelude.{◌≤◌, length};
+    ghost use Rattle.std.specs.Prelude.{◌^◌, ◌≤◌, length};
     ghost use Rattle.hir_base.specs.Places.{entries_from};
 
     pub(crate) fn new(places: &'a [Option<V>]) -> ArenaMapIter<'a, K, V>
-        requires { length places.now ≤ 4294967296 }
+        requires { length places.now ≤ 2 ^ 32 }
         ensures { result ≡ entries_from 0 places.now }
     {
         ArenaMapIter {

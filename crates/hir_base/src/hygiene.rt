@@ -1,5 +1,5 @@
 //! The hygiene of names: which macro expansion, if any, a name was written by.
-ghost use Rattle.std.specs.Prelude.{◌≡◌};
+ghost use Rattle.std.specs.Prelude.{◌≡◌, ◌↔◌, IsTrue};
 ghost use Rattle.hir_base.specs.Exact.{exact};
 
 use crate::edition::Edition;
@@ -23,7 +23,8 @@ impl TryClone for SyntaxContext {
     ghost clone_is_same = { Prim.search exact };
 }
 
-/// The hygiene of a name, seen as its context. All source text has one hygiene, whatever its edition.
+/// The hygiene of a name, seen as its context. All source text has one hygiene, whatever its edition: its context is never a root of
+/// another edition than 2015.
 #[derive(Clone, Copy, PartialEq, Eq, Hash)]
 pub struct HygieneId {
     ctx: SyntaxContext,
@@ -31,10 +32,14 @@ pub struct HygieneId {
 
 impl Model for HygieneId {
     ghost use Rattle.hir_base.specs.declared.hygiene.SyntaxContext.{SyntaxContext};
+    ghost use Rattle.std.specs.Prelude.{◌≡◌};
+    ghost use Rattle.hir_base.specs.Hygiene.{without_edition};
 
     ghost Value = { SyntaxContext };
 
     ghost view = { λ id. id.ctx };
+
+    ghost invariant = { λ id. without_edition id.ctx ≡ id.ctx };
 
     ghost inverse = { λ ctx. record { ctx = ctx } };
 }
@@ -64,9 +69,10 @@ impl HygieneId {
         self.ctx
     }
 
-    /// Whether it is that of source text.
+    /// Whether it is that of source text, `ROOT`.
     pub fn is_root(self) -> bool
-        ensures { result ≡ is_root self }
+        ensures test { result ≡ is_root self }
+        ensures source { IsTrue result ↔ (self ≡ SyntaxContext.Root Edition.Edition2015) }
     {
         match self.ctx {
             SyntaxContext::Root(_) => true,

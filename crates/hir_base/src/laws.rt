@@ -1,10 +1,10 @@
 //! Laws that a reader relies on, and that no call's contract says.
-//! Each is a function with no body to run: its contract is the law, proved for every value.
+//! Each but the last is a function with no body to run: its contract is the law, proved for every value.
 ghost use Rattle.std.specs.Prelude.{◌≡◌, ℕ};
 ghost use Rattle.std.specs.Ordering.{nat_cmp};
 ghost use Rattle.hir_base.specs.Laws.{OrderAgrees};
 
-use crate::{BlockId, Idx};
+use crate::{BlockId, Idx, PathKind};
 use std::hash::Hash;
 
 /// Ids are ordered as their numbers, whatever their kind is.
@@ -28,3 +28,10 @@ pub fn block_order_is_that_of_numbers()
 pub fn block_order_agrees_with_eq_and_hash()
     ensures { OrderAgrees ⟦<BlockId as PartialEq>⟧.eq ⟦<BlockId as Ord>⟧.cmp ⟦<BlockId as Hash>⟧.hash_input }
 {}
+
+/// The kind of paths that begin with `self` is `Super` of no module. (A clause can't name such a constant, so it is the answer here.)
+pub fn kind_of_self() -> PathKind
+    ensures { result ≡ PathKind.Super 0 }
+{
+    PathKind::SELF
+}

@@ -76,24 +76,7 @@ impl ExprPrecedence {
     fn level(self) -> u8
         ensures { result ≡ level self }
     {
-        match self {
-            ExprPrecedence::Jump => 0,
-            ExprPrecedence::Assign => 1,
-            ExprPrecedence::Range => 2,
-            ExprPrecedence::LOr => 3,
-            ExprPrecedence::LAnd => 4,
-            ExprPrecedence::Compare => 5,
-            ExprPrecedence::BitOr => 6,
-            ExprPrecedence::BitXor => 7,
-            ExprPrecedence::BitAnd => 8,
-            ExprPrecedence::Shift => 9,
-            ExprPrecedence::Sum => 10,
-            ExprPrecedence::Product => 11,
-            ExprPrecedence::Cast => 12,
-            ExprPrecedence::Prefix => 13,
-            ExprPrecedence::Postfix => 14,
-            ExprPrecedence::Unambiguous => 15,
-        }
+        self as u8
     }
 }
 

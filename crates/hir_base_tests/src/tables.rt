@@ -85,6 +85,19 @@ fn a_table_tells_its_keys_apart(rt: HostRuntime) -> Result<(), Fail> {
     Ok(())
 }
 
+// A value that is put under a key takes the place of the one before, and no other changes.
+#[test]
+fn a_value_is_put_in_place_of_the_one_before(rt: HostRuntime) -> Result<(), Fail> {
+    let mut table = Table::new(rt.alloc());
+    for (key, value) in [(function(), 1), (structure(), 2), (function(), 3)] {
+        table.put(key, value)?;
+    }
+    let holds = has(&table, Some(3), Some(2)) && lists_both(&table);
+    drop(table);
+    assert!(rt; holds);
+    Ok(())
+}
+
 // Writes the value at the key, if it has one, and answers the one that it had.
 fn write(table: &mut Table<NamedDef, u32>, key: NamedDef, value: u32) -> Option<u32> {
     match table.get_mut(&key) {

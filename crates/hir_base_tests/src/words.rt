@@ -50,6 +50,21 @@ fn hygiene_is_that_of_source_or_of_an_expansion(rt: HostRuntime) {
     assert!(rt; expansion.syntax_context() == SyntaxContext::Expansion(7));
 }
 
+// The hygiene of every context is source text's, where the context is a root, and never a root of a later edition.
+#[test]
+fn no_hygiene_is_a_root_of_a_later_edition(rt: HostRuntime) {
+    for edition in [
+        Edition::Edition2015,
+        Edition::Edition2018,
+        Edition::Edition2021,
+        Edition::Edition2024,
+    ] {
+        let hygiene = HygieneId::new(SyntaxContext::Root(edition));
+        assert!(rt; hygiene.is_root() && hygiene == HygieneId::ROOT);
+        assert!(rt; HygieneId::new(hygiene.syntax_context()) == hygiene);
+    }
+}
+
 // Whether the calling convention and its copy have this text.
 fn is_written(abi: &ExternAbi, text: &str) -> Result<bool, AllocError> {
     Ok(abi.as_str() == text && same::copies(abi)?)
@@ -107,7 +122,7 @@ const KNOWN: [(PathKind, &[&str], bool, bool); 6] = [
 
 #[test]
 fn one_plain_name_is_an_ident(rt: HostRuntime) -> Result<(), Fail> {
-    assert!(rt; PathKind::SELF == PathKind::Super(0));
+    assert!(rt; PathKind::SELF == PathKind::Super(0) && laws::kind_of_self() == PathKind::SELF);
     for (kind, names, ident, is_self) in &KNOWN {
         let made = path(rt.alloc(), *kind, names)?;
         let copies = same::copies(&made);

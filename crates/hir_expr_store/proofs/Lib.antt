@@ -1,3 +1,6 @@
 pub mod PatLemmas
 pub mod WalkLemmas
 pub mod UnderLemmas
+pub mod ApartLemmas
+pub mod ReachedLemmas
+pub mod RootLemmas

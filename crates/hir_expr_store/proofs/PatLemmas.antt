@@ -8,7 +8,7 @@ use Rattle.hir_node.specs.ChildCalls.{Call, OnExpr, OnAnonConst, OnPat, OnType, 
 use Rattle.hir_node.specs.declared.node_id.NodeId.{NodeId}
 use Rattle.hir_node.specs.declared.node_id.NodeId.TheVariants as node
 use Rattle.hir_node.specs.OtherIds.{pat_bindings}
-use Rattle.hir_node.proofs.ChildPats.{none-path}
+use Rattle.hir_node.proofs.ChildPatLemmas.{none-path}
 use Rattle.hir_faults.specs.Nodes.{Nodes, calls_of}
 use Rattle.hir_faults.specs.Down.{KidsFall, AgreeOn, AsksKids}
 use Rattle.hir_expr_store.specs.PatLists.{child_pats_of, pats_step, pats, bindings_at, bindings_in, exprs_from, own_exprs, exprs_in_step, exprs_in}
@@ -47,11 +47,11 @@ flat_map-twice f g (x ∷ xs) = flat_map-append f (g x) (flat_map g xs) ∙ ap (
 module _ (s : Nodes) (fall : KidsFall s) where
   pub pats_is : (id : ℕ) → id < length s.pats → pats s id ≡ id ∷ flat_map (pats s) (child_pats_of s id)
   unfolding pats
-  pats_is id h = value_at s fall (pats_step s) [] (pats_asks s) (node.Pat id) h
+  pats_is id h = value_at s fall (pats_step s) [] (pats_asks s) (node.Pat id)
 
   pub exprs_in_is : (id : ℕ) → id < length s.pats → exprs_in s id ≡ flat_map (exprs_from (exprs_in s)) (calls_of s (node.Pat id))
   unfolding exprs_in
-  exprs_in_is id h = value_at s fall (exprs_in_step s) [] (exprs_in_asks s) (node.Pat id) h
+  exprs_in_is id h = value_at s fall (exprs_in_step s) [] (exprs_in_asks s) (node.Pat id)
 
   pub bindings_in_is : (id : ℕ) → id < length s.pats → bindings_in s id ≡ bindings_at s id ++ flat_map (bindings_in s) (child_pats_of s id)
   bindings_in_is id h = ap (flat_map (bindings_at s)) (pats_is id h) ∙ ap (λ rest. bindings_at s id ++ rest) (flat_map-twice (bindings_at s) (pats s) (child_pats_of s id))

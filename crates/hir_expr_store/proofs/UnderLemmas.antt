@@ -72,12 +72,12 @@ climbs_meet g one (suc i) (suc j) c a b x y =
     climbs_meet g one i j x.0 a b x.2 (subst (λ (n : ℕ). Climbs g j n b) e y.2)
 
 -- each step up is higher
-climb_rises : (g : List (List ℕ)) → IsForest g → (k c p : ℕ) → Climbs g k c p → height g c + k ≤ height g p
+pub climb_rises : (g : List (List ℕ)) → IsForest g → (k c p : ℕ) → Climbs g k c p → height g c + k ≤ height g p
 climb_rises g f zero c p x = let e = ap (height g) x in omega arith
 climb_rises g f (suc k) c p x = let l = height_falls g f x.0 c x.1 in let m = climb_rises g f k x.0 p x.2 in omega arith
 
 -- one step more at the lower end
-under_more : (s : Nodes) (n k : NodeId) {r : NodeId} → Under s k r → Contains (kids_of s k) n → Under s n r
+pub under_more : (s : Nodes) (n k : NodeId) {r : NodeId} → Under s k r → Contains (kids_of s k) n → Under s n r
 under_more s n k itself c = below c itself
 under_more s n k (below d u) c = below d (under_more s n k u c)
 
@@ -106,7 +106,7 @@ module _ (c : Rooted) (sound : rooted_fault c None) where
       let there = falls.there m h (get_or (kids_of s m) row.0 n) (Contains-get_or (kids_of s m) row.0 n lt) in
       (row.0, lt, same_place z (get_or (kids_of s m) row.0 n) n there k (sym (get_or-map (place z) (kids_of s m) row.0 n (place z n) lt) ∙ row.2))
 
-  climb_from_under : (n : NodeId) {r : NodeId} → Under s n r → Has s r → (k : ℕ) × Climbs g k (place z n) (place z r)
+  pub climb_from_under : (n : NodeId) {r : NodeId} → Under s n r → Has s r → (k : ℕ) × Climbs g k (place z n) (place z r)
   climb_from_under n itself h = (zero, refl)
   climb_from_under n (below {k} {r} d u) h =
       let up = climb_from_under n u (falls.there r h k d) in

@@ -7,7 +7,7 @@ use Rattle.hir_node.specs.Runs.{Runs, no_call, a_call, MayRun, at_end, at_call}
 use Rattle.hir_node.specs.ChildCalls.{Call, OnExpr, OnAnonConst, OnPat, OnType, OnLifetime, kids, pat_of_call, child_pats}
 use Rattle.hir_node.specs.declared.node_id.NodeId.{NodeId}
 use Rattle.hir_node.specs.declared.node_id.NodeId.TheVariants as node
-use Rattle.hir_node.proofs.ChildPats.{folds_on}
+use Rattle.hir_node.proofs.ChildPatLemmas.{folds_on}
 use Rattle.hir_faults.specs.Nodes.{Nodes, Has, calls_of, kids_of}
 use Rattle.hir_faults.specs.Down.{rank, KidsFall}
 

@@ -1,16 +1,24 @@
 -- What a store holds.
-use Rattle.std.specs.Prelude.{List, Option}
+use Rattle.std.specs.Prelude.{List, [], Option}
 use Rattle.hir_forest.specs.declared.roots.Root.{Root}
 use Rattle.hir_faults.specs.declared.fault.FinishFault.{FinishFault}
 use Rattle.hir_faults.specs.Nodes.{Nodes}
 use Rattle.hir_faults.specs.Faults.{Rooted, rooted_fault}
 use Rattle.hir_expr_store.specs.declared.side_tables.SideTables.{SideTables}
+use Rattle.hir_expr_store.specs.SideTables.{no_side_tables}
 
 -- the nodes and what they name, the roots, and what was said of them besides
 pub record Contents : Type 0 where
   pub nodes : Nodes
   pub roots : List Root
   pub side_tables : SideTables
+
+abbrev pub no_nodes : Nodes
+no_nodes = record { exprs = []; pats = []; types = []; bindings = []; labels = []; lifetimes = [] }
+
+-- of nothing
+abbrev pub no_contents : Contents
+no_contents = record { nodes = no_nodes; roots = []; side_tables = no_side_tables }
 
 -- without what was said besides
 abbrev pub rooted_of : Contents → Rooted

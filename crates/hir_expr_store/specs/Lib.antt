@@ -2,12 +2,9 @@ pub mod SideTables
 pub mod Blocks
 pub mod Contents
 pub mod StoreParts
-pub mod SameRoots
-pub mod SameSideTables
-pub mod SameStores
 pub mod PatLists
-pub mod ChildPats
 pub mod RootSearch
 pub mod Bounds
 pub mod Under
 pub mod NodeSets
+pub mod same

@@ -1,7 +1,9 @@
 -- What lies under a node, told by going down from a node to its kids.
-use Rattle.std.specs.Prelude.{◌≡◌, ◌<◌, ℕ, List, Some, slice_get, Contains}
+use Rattle.std.specs.Prelude.{◌≡◌, ◌<◌, ℕ, List, [], ◌∷◌, Some, slice_get, Contains}
+use Rattle.std.specs.List.{flat_map}
 use Rattle.hir_node.specs.declared.node_id.NodeId.{NodeId}
 use Rattle.hir_faults.specs.Nodes.{Nodes, Has, kids_of}
+use Rattle.hir_faults.specs.Down.{value}
 
 -- a node is under itself, and what is under a kid of a node is under the node
 pub data Under (s : Nodes) (n : NodeId) : NodeId → Type 0 where
@@ -19,3 +21,15 @@ LieApart s tops = (i j : ℕ) (a b n : NodeId) → i < j → slice_get tops i �
 -- the node is *reached* from these: it is under one of them
 abbrev pub Reached : Nodes → List NodeId → NodeId → Type 0
 Reached s tops n = (t : NodeId) × Contains tops t × Under s n t
+
+-- a node, and then what lies under each of its kids
+abbrev pub nodes_step : Nodes → (NodeId → List NodeId) → NodeId → List NodeId
+nodes_step s self n = n ∷ flat_map self (kids_of s n)
+
+-- the nodes under a node, itself first
+unfoldable pub nodes_under : Nodes → NodeId → List NodeId
+nodes_under s n = value s (nodes_step s) [] n
+
+-- the nodes that are reached from these, each top's behind those of the tops before it
+abbrev pub reached_nodes : Nodes → List NodeId → List NodeId
+reached_nodes s tops = flat_map (nodes_under s) tops

@@ -1,12 +1,21 @@
 //! Laws that a reader relies on, and that no call's contract says.
 //! Each is a function with no body to run: its contract is the law. `ExpressionStore::has_no_fault` tells that a store has no fault.
 
-ghost use Rattle.std.specs.Prelude.{◌≡◌, ◌⊎◌, ◌≤◌, ◌<◌, ◌+◌, ◌++◌, ◌∷◌, ℕ, Bool, List, Option, None, Some, IsTrue, length, slice_get};
-ghost use Rattle.std.specs.List.{flat_map};
+ghost use Rattle.std.specs.Prelude.{◌≡◌, ◌≢◌, ◌⊎◌, ◌↔◌, ◌≤◌, ◌<◌, ◌+◌, ◌++◌, ◌∷◌, ℕ, Bool, List, Option, None, Some, IsTrue, length, map, slice_get, Contains};
+ghost use Rattle.std.specs.List.{flat_map, list_all, AllPairs};
 ghost use Rattle.hir_forest.specs.Forest.{IsForest};
+ghost use Rattle.hir_forest.specs.Faults.{root_nodes};
 ghost use Rattle.hir_node.specs.declared.node_id.NodeId.{NodeId};
 ghost use Rattle.hir_node.specs.declared.node_id.NodeId.TheVariants as node;
 ghost use Rattle.hir_path.specs.declared.path.Path.{Path};
+ghost use Rattle.hir_path.specs.declared.path.Path.TheVariants as path;
+ghost use Rattle.hir_path.specs.declared.path.NormalPath.{NormalPath};
+ghost use Rattle.hir_path.specs.declared.path.GenericArg.{GenericArg};
+ghost use Rattle.hir_path.specs.declared.path.GenericArgs.{GenericArgs, out-GenericArgs};
+ghost use Rattle.hir_path.specs.declared.path.AssociatedTypeBinding.{AssociatedTypeBinding, out-AssociatedTypeBinding};
+ghost use Rattle.hir_path.specs.declared.bound.TypeBound.{TypeBound};
+ghost use Rattle.hir_path.specs.declared.bound.TypeBound.TheVariants as bound;
+ghost use Rattle.hir_path.specs.declared.bound.TraitBoundModifier.{TraitBoundModifier};
 ghost use Rattle.hir_node.specs.declared.parts.RecordLitField.{RecordLitField};
 ghost use Rattle.hir_node.specs.declared.parts.RecordSpread.{RecordSpread};
 ghost use Rattle.hir_node.specs.declared.expr.Expr.{Expr};
@@ -16,13 +25,16 @@ ghost use Rattle.hir_node.specs.declared.pat.Pat.TheVariants as pat;
 ghost use Rattle.hir_node.specs.declared.pat.RecordFieldPat.{RecordFieldPat};
 ghost use Rattle.hir_node.specs.declared.type_ref.TypeRef.{TypeRef};
 ghost use Rattle.hir_node.specs.declared.type_ref.TypeRef.TheVariants as type;
-ghost use Rattle.hir_faults.specs.Parts.{expr_parts, pat_parts, type_parts};
-ghost use Rattle.hir_faults.specs.Nodes.{Nodes, Has, calls_of, graph};
+ghost use Rattle.hir_node.specs.ChildCalls.{arg_calls};
+ghost use Rattle.hir_faults.specs.Tested.{tested_expr, tested_pat, tested_type, is_path_at};
+ghost use Rattle.hir_faults.specs.Sizes.{is_there};
+ghost use Rattle.hir_faults.specs.Nodes.{Nodes, Has, sizes_of, calls_of, kids_of, graph};
 ghost use Rattle.hir_expr_store.specs.Contents.{Contents, rooted_of, contents_fault};
-ghost use Rattle.hir_faults.specs.PathSound.{path_fits};
+ghost use Rattle.hir_faults.specs.Fits.{path_fits, args_fit, bound_fits};
 ghost use Rattle.hir_faults.specs.Sound.{IsSoundNode, RootsStandApart};
-ghost use Rattle.hir_faults.specs.Down.{rank, KidsFall};
-ghost use Rattle.hir_expr_store.specs.Under.{Under};
+ghost use Rattle.hir_faults.specs.Down.{rank, KidsFall, value, AsksKids};
+ghost use Rattle.hir_expr_store.specs.Under.{Under, LieApart, Reached, nodes_under, reached_nodes};
+ghost use Rattle.hir_expr_store.specs.Bounds.{BoundFits};
 ghost use Rattle.hir_expr_store.specs.PatLists.{child_pats_of, pats, bindings_at, bindings_in, exprs_from, exprs_in};
 
 /// Nodes without a fault are a forest: each has one parent at most and is its kid once, and each chain of parents ends.
@@ -41,12 +53,12 @@ pub fn ranks_are_bounded()
 {}
 
 /// Each node is sound: each expression, pattern, type, binding, label and lifetime that it names is there, what it names as a path is one,
-/// a function type has a return type, a list of generic arguments that begins with a self type isn't empty, and a path has no lists or one
-/// for each segment.
+/// a function type has a return type, a list of generic arguments that begins with a self type isn't empty, and a `Normal` path has one
+/// list for each segment.
 pub fn nodes_are_sound()
-    ensures exprs { (c : Contents) → contents_fault c None → (id : ℕ) (x : Expr) → slice_get c.nodes.exprs id ≡ Some x → IsSoundNode c.nodes (expr_parts x) }
-    ensures pats { (c : Contents) → contents_fault c None → (id : ℕ) (x : Pat) → slice_get c.nodes.pats id ≡ Some x → IsSoundNode c.nodes (pat_parts x) }
-    ensures types { (c : Contents) → contents_fault c None → (id : ℕ) (x : TypeRef) → slice_get c.nodes.types id ≡ Some x → IsSoundNode c.nodes (type_parts x) }
+    ensures exprs { (c : Contents) → contents_fault c None → (id : ℕ) (x : Expr) → slice_get c.nodes.exprs id ≡ Some x → IsSoundNode c.nodes (tested_expr x) }
+    ensures pats { (c : Contents) → contents_fault c None → (id : ℕ) (x : Pat) → slice_get c.nodes.pats id ≡ Some x → IsSoundNode c.nodes (tested_pat x) }
+    ensures types { (c : Contents) → contents_fault c None → (id : ℕ) (x : TypeRef) → slice_get c.nodes.types id ≡ Some x → IsSoundNode c.nodes (tested_type x) }
 {}
 
 /// The path that a node holds fits the store, as `ExpressionStore::path_is_sound` tests it.
@@ -94,4 +106,123 @@ pub fn under_two_is_under_one()
 /// What lies under a node is there.
 pub fn what_is_under_is_there()
     ensures { (c : Contents) → contents_fault c None → (n r : NodeId) → Has c.nodes r → Under c.nodes n r → Has c.nodes n }
+{}
+
+/// Nothing lies under two kids of a node, so no kid is listed twice.
+pub fn kids_lie_apart()
+    ensures { (c : Contents) → contents_fault c None → (n : NodeId) → Has c.nodes n → LieApart c.nodes (kids_of c.nodes n) }
+{}
+
+/// Two nodes with a common kid are one.
+pub fn one_parent()
+    ensures { (c : Contents) → contents_fault c None → (n m k : NodeId)
+        → Contains (kids_of c.nodes n) k → Contains (kids_of c.nodes m) k → n ≡ m }
+{}
+
+/// Nothing lies under two of the listed roots, so none is listed twice.
+pub fn roots_lie_apart()
+    ensures { (c : Contents) → contents_fault c None → LieApart c.nodes (map node.Expr (root_nodes c.roots)) }
+{}
+
+/// The nodes under a node are itself, and then those under each of its kids.
+pub fn nodes_under_is()
+    ensures { (c : Contents) → contents_fault c None → (n : NodeId)
+        → nodes_under c.nodes n ≡ n ∷ flat_map (nodes_under c.nodes) (kids_of c.nodes n) }
+{}
+
+/// The reached nodes are listed, and no others: by the list each sum and each count over what is reached is stated.
+pub fn reached_is_listed()
+    ensures { (c : Contents) → contents_fault c None → (tops : List NodeId) (n : NodeId)
+        → Contains (reached_nodes c.nodes tops) n ↔ Reached c.nodes tops n }
+{}
+
+/// No reached node is listed twice, where nothing lies under two of the tops.
+pub fn reached_is_listed_once()
+    ensures { (c : Contents) → contents_fault c None → (tops : List NodeId)
+        → LieApart c.nodes tops → AllPairs (λ n m. n ≢ m) (reached_nodes c.nodes tops) }
+{}
+
+/// Each node is reached or it isn't.
+pub fn reached_is_decided()
+    ensures { (c : Contents) → contents_fault c None → (tops : List NodeId) (n : NodeId)
+        → Reached c.nodes tops n ⊎ (Reached c.nodes tops n → ⊥) }
+{}
+
+/// What is reached from nodes that are there is there.
+pub fn what_is_reached_is_there()
+    ensures { (c : Contents) → contents_fault c None → (tops : List NodeId)
+        → ((t : NodeId) → Contains tops t → Has c.nodes t) → (n : NodeId) → Reached c.nodes tops n → Has c.nodes n }
+{}
+
+/// A kid of what is reached is reached. This holds of any nodes.
+pub fn kids_of_reached_are_reached()
+    ensures { (s : Nodes) (tops : List NodeId) (n k : NodeId) → Reached s tops n → Contains (kids_of s n) k → Reached s tops k }
+{}
+
+/// Only a node that is there has kids. This holds of any nodes.
+pub fn who_has_kids_is_there()
+    ensures { (s : Nodes) (n k : NodeId) → Contains (kids_of s n) k → Has s n }
+{}
+
+/// The bounds and the generic arguments that a node holds fit the store. Those that a path holds fit by `paths_of_nodes_fit` and
+/// `parts_of_paths_fit`.
+pub fn bounds_and_args_of_nodes_fit()
+    ensures impl_traits { (c : Contents) → contents_fault c None → (id : ℕ) (bounds : List TypeBound) (x : TypeBound)
+        → slice_get c.nodes.types id ≡ Some (type.ImplTrait bounds) → Contains bounds x → IsTrue (bound_fits c.nodes x) }
+    ensures dyn_traits { (c : Contents) → contents_fault c None → (id : ℕ) (bounds : List TypeBound) (x : TypeBound)
+        → slice_get c.nodes.types id ≡ Some (type.DynTrait bounds) → Contains bounds x → IsTrue (bound_fits c.nodes x) }
+    ensures method_calls { (c : Contents) → contents_fault c None → (id : ℕ) (receiver : ℕ) (name : List ℕ) (args : List ℕ) (x : GenericArgs)
+        → slice_get c.nodes.exprs id ≡ Some (expr.MethodCall receiver name args (Some x)) → IsTrue (args_fit c.nodes x) }
+{}
+
+/// Of a path that fits, each list of generic arguments fits, and the anchor is there. This holds of any nodes.
+pub fn parts_of_paths_fit()
+    ensures args { (s : Nodes) (normal : NormalPath) (args : GenericArgs)
+        → IsTrue (path_fits s (path.Normal normal)) → Contains normal.generic_args (Some args) → IsTrue (args_fit s args) }
+    ensures anchor { (s : Nodes) (normal : NormalPath) (id : ℕ)
+        → IsTrue (path_fits s (path.Normal normal)) → normal.type_anchor ≡ Some id → id < length s.types }
+{}
+
+/// Of generic arguments that fit, what each argument names is there, and of each associated type binding the arguments fit, the type is
+/// there and each bound fits. This holds of any nodes.
+pub fn parts_of_args_fit()
+    ensures args { (s : Nodes) (x : GenericArgs) → IsTrue (args_fit s x) → (arg : GenericArg)
+        → Contains (out-GenericArgs x).args arg → IsTrue (list_all (is_there (sizes_of s)) (arg_calls arg)) }
+    ensures binding_args { (s : Nodes) (x : GenericArgs) → IsTrue (args_fit s x) → (b : AssociatedTypeBinding)
+        → Contains (out-GenericArgs x).bindings b → (args : GenericArgs)
+        → (out-AssociatedTypeBinding b).args ≡ Some args → IsTrue (args_fit s args) }
+    ensures binding_types { (s : Nodes) (x : GenericArgs) → IsTrue (args_fit s x) → (b : AssociatedTypeBinding)
+        → Contains (out-GenericArgs x).bindings b → (id : ℕ)
+        → (out-AssociatedTypeBinding b).type_ref ≡ Some id → id < length s.types }
+    ensures binding_bounds { (s : Nodes) (x : GenericArgs) → IsTrue (args_fit s x) → (b : AssociatedTypeBinding)
+        → Contains (out-GenericArgs x).bindings b → (y : TypeBound)
+        → Contains (out-AssociatedTypeBinding b).bounds y → IsTrue (bound_fits s y) }
+{}
+
+/// What a bound that fits names as a path is there and is one, so the bound may be asked for it. This holds of any nodes.
+pub fn paths_of_bounds_are_there()
+    ensures paths { (s : Nodes) (id : ℕ) (before : TraitBoundModifier) → IsTrue (bound_fits s (bound.Path id before)) → IsTrue (is_path_at s.types id) }
+    ensures for_lifetimes { (s : Nodes) (names : List (List ℕ)) (id : ℕ) → IsTrue (bound_fits s (bound.ForLifetime names id)) → IsTrue (is_path_at s.types id) }
+    ensures asked { (s : Nodes) (x : TypeBound) → IsTrue (bound_fits s x) → BoundFits x s }
+{}
+
+/// Values of nodes that are told by the values of their kids, as a list that a node begins and its kids go on. An `impl` for a type of
+/// its own names the values and the step, and proves that the step asks for the kids alone.
+pub trait ToldByKids {
+    // what is told of a node
+    ghost Told: { Type 0 };
+
+    // the value of a node, by the values that the first function gives to others
+    ghost step: { Nodes → (NodeId → Told) → NodeId → Told };
+
+    // what stands below the lowest node; no value of a store's nodes depends on it
+    ghost nothing: { Told };
+
+    ghost asks_kids: { (s : Nodes) → AsksKids s (step s) };
+}
+
+/// The value of a node is what the step tells of it by the values of its kids.
+pub fn value_is<V: ToldByKids>()
+    ensures { (c : Contents) → contents_fault c None → (n : NodeId)
+        → value c.nodes (V.step c.nodes) V.nothing n ≡ V.step c.nodes (value c.nodes (V.step c.nodes) V.nothing) n }
 {}

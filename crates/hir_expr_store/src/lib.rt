@@ -5,13 +5,15 @@
 mod blocks;
 mod both;
 mod bounds;
-mod child_pats;
+mod coroutines;
 pub mod laws;
-mod side_tables;
+mod lookups;
 mod missing;
 mod own_exprs;
 mod root_list;
+mod root_search;
 mod roots;
+mod side_tables;
 mod store;
 mod store_iter;
 mod under;
@@ -20,9 +22,9 @@ mod walks;
 
 pub use blocks::Blocks;
 pub use bounds::TypeBoundExt;
-pub use side_tables::SideTables;
 pub use missing::Missing;
 pub use root_list::RootList;
+pub use side_tables::SideTables;
 pub use store::{ExpressionStore, StoreParts};
 pub use store_iter::ExprRoots;
 pub use under::NodeSet;

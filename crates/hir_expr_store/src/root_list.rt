@@ -52,7 +52,7 @@ impl Clone for RootList {
 }
 
 impl ExactEq for RootList {
-    ghost use Rattle.hir_expr_store.specs.SameRoots.{root_lists_decide};
+    ghost use Rattle.hir_expr_store.specs.same.SameRoots.{root_lists_decide};
 
     ghost eq_decides = { root_lists_decide };
 }

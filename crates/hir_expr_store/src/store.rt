@@ -1,16 +1,16 @@
 //! An accepted store: its nodes, which are a well-formed forest, and its roots.
 
-ghost use Rattle.std.specs.Prelude.{◌≡◌, ◌<◌, ◌↔◌, [], None, Some, length, slice_get, IsTrue, IfOk};
+ghost use Rattle.std.specs.Prelude.{◌≡◌, ◌<◌, ◌↔◌, None, Some, length, slice_get, IsTrue, IfOk};
 ghost use Rattle.std.specs.List.{enumerate_from, list_all};
 ghost use Rattle.hir_forest.specs.Faults.{root_nodes};
-ghost use Rattle.hir_faults.specs.Parts.{bound_paths, is_path_at, path_at};
+ghost use Rattle.hir_faults.specs.Tested.{bound_paths, is_path_at, path_at};
 ghost use Rattle.hir_faults.specs.Sizes.{is_there};
 ghost use Rattle.hir_node.specs.ChildCalls.{bound_calls};
-ghost use Rattle.hir_faults.specs.PathSound.{path_fits};
+ghost use Rattle.hir_faults.specs.Fits.{path_fits};
 
 use crate::both::both;
-use crate::side_tables::SideTables;
 use crate::root_list::RootList;
+use crate::side_tables::SideTables;
 use crate::store_iter::ExprRoots;
 use hir_base::{Arena, ArenaIter, ExactEq, TryClone};
 use hir_faults::{NodeSlices, Sizes, as_path};
@@ -87,11 +87,10 @@ pub struct StoreParts {
 }
 
 impl ExpressionStore {
-    ghost use Rattle.hir_expr_store.specs.Contents.{contents_fault};
+    ghost use Rattle.hir_expr_store.specs.Contents.{no_contents, contents_fault};
     ghost use Rattle.hir_faults.specs.Faults.{nodes_in};
     ghost use Rattle.hir_faults.specs.Nodes.{graph, sizes_of};
     ghost use Rattle.hir_faults.specs.Sizes.{Few};
-    ghost use Rattle.hir_expr_store.specs.SideTables.{no_side_tables};
     ghost use Rattle.hir_expr_store.specs.StoreParts.{contents_of_parts};
 
     /// A store of parts without a fault, which a caller has to prove: a builder tests it once.
@@ -123,7 +122,7 @@ impl ExpressionStore {
 
     /// A store of nothing. It takes no memory.
     pub fn empty(alloc: Global) -> ExpressionStore
-        ensures { result ≡ record { nodes = record { exprs = []; pats = []; types = []; bindings = []; labels = []; lifetimes = [] }; roots = []; side_tables = no_side_tables } }
+        ensures { result ≡ no_contents }
     {
         ExpressionStore {
             exprs: Arena::new(alloc),
@@ -238,8 +237,8 @@ impl ExpressionStore {
     }
 
     /// Whether a path fits the store: each id that it names is there, each type that it names as a path is one, each list of generic
-    /// arguments that begins with a self type isn't empty, and the path has no lists or one for each segment. A path that a node of
-    /// the store has fits it.
+    /// arguments that begins with a self type isn't empty, and a `Normal` path has one list for each segment. A path that a node of the
+    /// store has fits it.
     pub fn path_is_sound(&self, path: &Path) -> bool
         ensures { result ≡ path_fits self.now.nodes path.now }
     {
@@ -423,7 +422,7 @@ impl Clone for ExpressionStore {
 }
 
 impl ExactEq for ExpressionStore {
-    ghost use Rattle.hir_expr_store.specs.SameStores.{stores_decide};
+    ghost use Rattle.hir_expr_store.specs.same.SameStores.{stores_decide};
 
     ghost eq_decides = { stores_decide };
 }

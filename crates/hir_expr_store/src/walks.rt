@@ -8,7 +8,6 @@ ghost use Rattle.hir_faults.specs.Sizes.{is_there};
 ghost use Rattle.hir_faults.specs.Nodes.{sizes_of};
 ghost use Rattle.hir_expr_store.specs.PatLists.{child_pats_of, pats, bindings_in, exprs_from, exprs_in, children, children_no_pats};
 
-use crate::child_pats::child_pats;
 use crate::own_exprs::OwnExprs;
 use crate::store::ExpressionStore;
 use hir_node::{BindingId, ExprId, LifetimeRefId, Pat, PatId, StoreVisitor, TypeRefId};
@@ -18,7 +17,8 @@ impl ExpressionStore {
     pub fn walk_pats_shallow<F: FnMut(PatId)>(&self, id: PatId, f: &mut F)
         requires there { id < length self.now.nodes.pats }
         requires callable { F.IsAlwaysCallable f.old }
-        ensures { FoldsTo (λ p x q. F.step p x tt q) f.old (child_pats_of self.now.nodes id) f.new }
+        ensures runs { FoldsTo (λ p x q. F.step p x tt q) f.old (child_pats_of self.now.nodes id) f.new }
+        ensures callable { F.IsAlwaysCallable f.new }
     {
         self[id].walk_child_pats(f);
     }
@@ -45,7 +45,7 @@ impl ExpressionStore {
         ensures callable { F.IsAlwaysCallable f.new }
     {
         self.has_no_fault();
-        for child in child_pats(&self[id]) {
+        for child in self[id].child_pats() {
             self.walk_pats(child, f);
         }
     }
@@ -60,7 +60,7 @@ impl ExpressionStore {
         self.has_no_fault();
         let pat = &self[id];
         walk_binding(pat, f);
-        for child in child_pats(pat) {
+        for child in pat.child_pats() {
             self.walk_bindings_in_pat(child, f);
         }
     }
@@ -74,7 +74,7 @@ impl ExpressionStore {
     {
         self.has_no_fault();
         let pat = &self[id];
-        for child in child_pats(pat) {
+        for child in pat.child_pats() {
             self.walk_exprs_in_pat(child, f);
         }
         let mut own = OwnExprs { f: &mut *f };
@@ -114,7 +114,7 @@ fn walk_binding<F: FnMut(BindingId)>(pat: &Pat, f: &mut F)
     ensures runs { FoldsTo (λ p x q. F.step p x tt q) f.old (pat_bindings pat.now) f.new }
     ensures callable { F.IsAlwaysCallable f.new }
 {
-    if let Pat::Bind { id, .. } = pat {
+    if let Pat::Bind { id, subpat: _ } = pat {
         f(*id);
     }
 }

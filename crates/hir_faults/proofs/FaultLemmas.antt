@@ -15,12 +15,12 @@ use Rattle.hir_faults.specs.declared.sizes.Sizes.{Sizes}
 use Rattle.hir_node.specs.declared.node_id.NodeId.{NodeId}
 use Rattle.hir_node.specs.declared.node_id.NodeId.TheVariants as node
 use Rattle.hir_faults.specs.Sizes.{is_there, place, places}
-use Rattle.hir_faults.specs.Parts.{Parts, expr_parts, pat_parts, type_parts, names_there}
+use Rattle.hir_faults.specs.Tested.{Tested, tested_expr, tested_pat, tested_type, names_there}
 use Rattle.hir_faults.specs.Nodes.{Nodes, sizes_of, graph}
-use Rattle.hir_faults.specs.Faults.{Rooted, node_fault, no_parts, first_of, first_bad_node, graph_fault, rooted_fault, ends_of}
+use Rattle.hir_faults.specs.Faults.{Rooted, node_fault, nothing_tested, first_of, first_bad_node, graph_fault, rooted_fault, ends_of}
 
 -- a node without a fault names what is there
-ids_are_there : (sizes : Sizes) (types : List TypeRef) (id : NodeId) (x : Parts) → node_fault sizes types id x None → names_there sizes x ≡ true
+ids_are_there : (sizes : Sizes) (types : List TypeRef) (id : NodeId) (x : Tested) → node_fault sizes types id x None → names_there sizes x ≡ true
 unfolding node_fault
 ids_are_there sizes types id x h = h.0
 
@@ -51,15 +51,15 @@ module _ (sizes : Sizes) where
       rw (map-append (place sizes) (kid c) (kids calls))
       (All-append In (map (place sizes) (kid c)) (places sizes calls) (call_below c (first_so _ _ h)) (calls_below calls (second_so _ _ h)))
 
-  parts_below : (parts : List Parts) → ((i : ℕ) → i < length parts → names_there sizes (get_or parts i no_parts) ≡ true)
+  parts_below : (parts : List Tested) → ((i : ℕ) → i < length parts → names_there sizes (get_or parts i nothing_tested) ≡ true)
       → All In (concat (map (λ x. places sizes x.calls) parts))
   parts_below [] h = All-nil In
   parts_below (x ∷ parts) h =
       All-append In (places sizes x.calls) (concat (map (λ x. places sizes x.calls) parts)) (calls_below x.calls (first_so _ _ (first_so _ _ (h 0 (omega arith))))) (parts_below parts (λ i lt. h (suc i) (omega arith)))
 
-of_sort : (sizes : Sizes) (types : List TypeRef) (name : ℕ → NodeId) (parts : List Parts) → first_of sizes types name parts None
+of_sort : (sizes : Sizes) (types : List TypeRef) (name : ℕ → NodeId) (parts : List Tested) → first_of sizes types name parts None
     → All (λ n. n < sizes.exprs + sizes.pats + sizes.types) (concat (map (λ x. places sizes x.calls) parts))
-of_sort sizes types name parts h = parts_below sizes parts (λ i lt. ids_are_there sizes types (name i) (get_or parts i no_parts) (h i lt))
+of_sort sizes types name parts h = parts_below sizes parts (λ i lt. ids_are_there sizes types (name i) (get_or parts i nothing_tested) (h i lt))
 
 pub map-map : {X Y Z : Type 0} (f : Y → Z) (g : X → Y) (xs : List X) → map f (map g xs) ≡ map (λ x. f (g x)) xs
 map-map f g [] = refl
@@ -67,9 +67,9 @@ map-map f g (x ∷ xs) = ap (λ rest. f (g x) ∷ rest) (map-map f g xs)
 
 -- the graph as the rows of the three sorts
 pub graph-is : (s : Nodes) → graph s ≡
-    map (λ x. places (sizes_of s) (expr_parts x).calls) s.exprs
-    ++ map (λ x. places (sizes_of s) (pat_parts x).calls) s.pats
-    ++ map (λ x. places (sizes_of s) (type_parts x).calls) s.types
+    map (λ x. places (sizes_of s) (tested_expr x).calls) s.exprs
+    ++ map (λ x. places (sizes_of s) (tested_pat x).calls) s.pats
+    ++ map (λ x. places (sizes_of s) (tested_type x).calls) s.types
 graph-is s =
     let row : List Call → List ℕ = places (sizes_of s) in
     rw (
@@ -89,9 +89,9 @@ pub kids_there : (s : Nodes) → first_bad_node s None → All (λ n. n < length
 unfolding first_bad_node
 kids_there s h =
     let z = sizes_of s in
-    let exprs = rw (map-map (λ x. places z x.calls) expr_parts s.exprs) at (of_sort z s.types node.Expr (map expr_parts s.exprs) h.0) in
-    let pats = rw (map-map (λ x. places z x.calls) pat_parts s.pats) at (of_sort z s.types node.Pat (map pat_parts s.pats) h.1.0) in
-    let types = rw (map-map (λ x. places z x.calls) type_parts s.types) at (of_sort z s.types node.TypeRef (map type_parts s.types) h.1.1) in
+    let exprs = rw (map-map (λ x. places z x.calls) tested_expr s.exprs) at (of_sort z s.types node.Expr (map tested_expr s.exprs) h.0) in
+    let pats = rw (map-map (λ x. places z x.calls) tested_pat s.pats) at (of_sort z s.types node.Pat (map tested_pat s.pats) h.1.0) in
+    let types = rw (map-map (λ x. places z x.calls) tested_type s.types) at (of_sort z s.types node.TypeRef (map tested_type s.types) h.1.1) in
     let below : ℕ → Type 0 = λ n. n < z.exprs + z.pats + z.types in
     rw (graph-length s, graph-is s, concat-append, concat-append) (All-append below _ _ (All-append below _ _ exprs pats) types)
 

@@ -6,7 +6,7 @@ use Rattle.std.proofs.lemmas.List.Folds.{list_all-append, list_all_more}
 use Rattle.hir_path.specs.declared.path.GenericArgs.{GenericArgs, out-GenericArgs, fold_out-GenericArgs}
 use Rattle.hir_path.specs.declared.path.AssociatedTypeBinding.{AssociatedTypeBinding, out-AssociatedTypeBinding, fold_out-AssociatedTypeBinding}
 use Rattle.hir_path.specs.declared.path.AssociatedTypeBinding.TheShapes.{former-AssociatedTypeBinding-args}
-use Rattle.hir_faults.specs.Parts.{bound_paths, args_paths, binding_paths, all_of, option_all, args_give_self, binding_gives_self, self_given, binding_paths_layer, args_paths_layer, binding_self_layer, args_self_layer}
+use Rattle.hir_faults.specs.Tested.{bound_paths, args_paths, binding_paths, all_of, option_all, args_give_self, binding_gives_self, self_given, binding_paths_layer, args_paths_layer, binding_self_layer, args_self_layer}
 
 flat_map_of_map : {X A : Type 0} (f : X → List A) (xs : List X) → flat_map (λ piece. piece) (map f xs) ≡ flat_map f xs
 flat_map_of_map f [] = refl

@@ -5,3 +5,5 @@ pub mod FaultLemmas
 pub mod SoundLemmas
 pub mod DownLemmas
 pub mod PathFits
+pub mod FirstFaultLemmas
+pub mod FitsLemmas

@@ -13,10 +13,10 @@ use Rattle.hir_node.specs.declared.parts.RecordSpread.{RecordSpread}
 use Rattle.hir_node.specs.declared.type_ref.TypeRef.TheVariants as type
 use Rattle.hir_node.specs.ChildCalls.{Call, e, p, path_calls, spread_calls}
 use Rattle.hir_faults.specs.Sizes.{is_there}
-use Rattle.hir_faults.specs.Parts.{is_path_at, path_paths, path_gives_self, one_list_each, a_path}
+use Rattle.hir_faults.specs.Tested.{is_path_at, path_paths, path_gives_self, one_list_each, a_path}
 use Rattle.hir_faults.specs.Nodes.{Nodes, sizes_of}
 use Rattle.hir_faults.specs.Faults.{Rooted, rooted_fault}
-use Rattle.hir_faults.specs.PathSound.{path_fits}
+use Rattle.hir_faults.specs.Fits.{path_fits}
 use Rattle.hir_faults.specs.Sound.{IsSoundNode}
 use Rattle.hir_faults.proofs.SoundLemmas.{exprs_sound, pats_sound, types_sound}
 

@@ -14,7 +14,7 @@ use Rattle.hir_node.specs.declared.node_id.NodeId.TheVariants as node
 use Rattle.hir_faults.specs.declared.fault.FinishFault.{FinishFault}
 use Rattle.hir_faults.specs.declared.fault.FinishFault.TheVariants.{IdOutOfRange, NotAPath, NoReturnType, NoSelfArgument, ArgumentLists, SharedChild, Cycle, RootOutOfRange, RootRepeated, RootUnderRoot, RootEnds}
 use Rattle.hir_faults.specs.Sizes.{node_at}
-use Rattle.hir_faults.specs.Parts.{Parts, expr_parts, pat_parts, type_parts, names_there, names_paths, gives_self, lists_fit}
+use Rattle.hir_faults.specs.Tested.{Tested, tested_expr, tested_pat, tested_type, names_there, names_paths, gives_self, lists_fit}
 use Rattle.hir_faults.specs.Nodes.{Nodes, sizes_of, graph}
 
 -- the nodes that are borrowed
@@ -31,7 +31,7 @@ abbrev pub ends_of : Nodes → Ends
 ends_of s = record { exprs = length s.exprs; pats = length s.pats; bindings = length s.bindings }
 
 -- a fault of one node: ids out of range, then what isn't a path, then a missing return type, then a missing self argument, then lists that don't fit
-unfoldable pub node_fault : Sizes → List TypeRef → NodeId → Parts → Option FinishFault → Type 0
+unfoldable pub node_fault : Sizes → List TypeRef → NodeId → Tested → Option FinishFault → Type 0
 node_fault sizes types id x =
     (IdOutOfRange id unless IsTrue (names_there sizes x))
     before (NotAPath id unless IsTrue (names_paths types x.held))
@@ -39,19 +39,19 @@ node_fault sizes types id x =
     before (NoSelfArgument id unless IsTrue (gives_self x.held))
     before (ArgumentLists id unless IsTrue (lists_fit x.held))
 
-abbrev pub no_parts : Parts
-no_parts = record { calls = []; bindings = []; labels = []; held = record { path = None; args = None; bounds = [] }; returns = true }
+abbrev pub nothing_tested : Tested
+nothing_tested = record { calls = []; bindings = []; labels = []; held = record { path = None; args = None; bounds = [] }; returns = true }
 
 -- the first fault of one node, of nodes of one sort
-abbrev pub first_of : Sizes → List TypeRef → (ℕ → NodeId) → List Parts → Option FinishFault → Type 0
-first_of sizes types name parts = first_below (length parts) (λ n. node_fault sizes types (name n) (slice_index_or parts n no_parts))
+abbrev pub first_of : Sizes → List TypeRef → (ℕ → NodeId) → List Tested → Option FinishFault → Type 0
+first_of sizes types name parts = first_below (length parts) (λ n. node_fault sizes types (name n) (slice_index_or parts n nothing_tested))
 
 -- the first fault of one node: of an expression, then of a pattern, then of a type
 unfoldable pub first_bad_node : Nodes → Option FinishFault → Type 0
 first_bad_node s =
-    first_of (sizes_of s) s.types node.Expr (map expr_parts s.exprs)
-    before first_of (sizes_of s) s.types node.Pat (map pat_parts s.pats)
-    before first_of (sizes_of s) s.types node.TypeRef (map type_parts s.types)
+    first_of (sizes_of s) s.types node.Expr (map tested_expr s.exprs)
+    before first_of (sizes_of s) s.types node.Pat (map tested_pat s.pats)
+    before first_of (sizes_of s) s.types node.TypeRef (map tested_type s.types)
 
 -- a fault of the graph, told of the nodes
 abbrev pub told : Sizes → ForestFault → FinishFault

@@ -1,10 +1,10 @@
 pub mod Sizes
-pub mod Parts
-pub mod HeldParts
+pub mod Tested
+pub mod Holds
 pub mod Nodes
 pub mod Faults
 pub mod Ranges
 pub mod Pushes
-pub mod PathSound
+pub mod Fits
 pub mod Down
 pub mod Sound

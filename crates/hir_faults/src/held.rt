@@ -4,8 +4,8 @@
 ghost use Rattle.std.specs.Prelude.{◌≡◌, flat_map};
 ghost use Rattle.std.specs.Option.{option_copied};
 ghost use Rattle.std.specs.List.{list_all};
-ghost use Rattle.hir_faults.specs.Parts.{path_of, is_path_at, bound_paths, args_paths, binding_paths, args_give_self, binding_gives_self, self_given, all_of, option_all, path_paths, path_gives_self, one_list_each, names_paths, gives_self, lists_fit};
-ghost use Rattle.hir_faults.specs.HeldParts.{held_of};
+ghost use Rattle.hir_faults.specs.Tested.{path_of, is_path_at, bound_paths, args_paths, binding_paths, args_give_self, binding_gives_self, self_given, all_of, option_all, path_paths, path_gives_self, one_list_each, names_paths, gives_self, lists_fit};
+ghost use Rattle.hir_faults.specs.Holds.{held_of};
 
 use hir_node::{AssociatedTypeBinding, GenericArg, GenericArgs, Path, PathId, TypeBound, TypeRef};
 
@@ -124,7 +124,7 @@ fn binding_gives_self(binding: &AssociatedTypeBinding) -> bool
 
 /// What a node holds: a path, generic arguments that aren't in a path, bounds.
 #[derive(Clone, Copy)]
-pub struct Holds<'a> {
+pub(crate) struct Holds<'a> {
     pub path: Option<&'a Path>,
     pub args: Option<&'a GenericArgs>,
     pub bounds: &'a [TypeBound],
@@ -175,12 +175,7 @@ fn segment_gives_self(args: &Option<GenericArgs>) -> bool
 fn segments_give_self(lists: &[Option<GenericArgs>]) -> bool
     ensures { result ≡ list_all (option_all args_give_self) lists.now }
 {
-    for args in lists {
-        if !segment_gives_self(args) {
-            return false;
-        }
-    }
-    true
+    lists.iter().all(segment_gives_self)
 }
 
 pub(crate) fn path_gives_self(path: &Path) -> bool
@@ -192,7 +187,7 @@ pub(crate) fn path_gives_self(path: &Path) -> bool
     }
 }
 
-/// Whether a path has no lists, or one for each segment.
+/// Whether a `Normal` path has one list for each segment.
 pub(crate) fn one_list_each(path: &Path) -> bool
     ensures { result ≡ one_list_each path.now }
 {
@@ -237,7 +232,7 @@ impl Holds<'_> {
         }
     }
 
-    /// Whether the path has no lists, or one for each segment.
+    /// Whether a `Normal` path has one list for each segment.
     pub fn lists_fit(&self) -> bool
         ensures { result ≡ lists_fit (held_of self.now) }
     {

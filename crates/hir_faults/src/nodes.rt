@@ -5,8 +5,8 @@ ghost use Rattle.std.specs.List.{list_all};
 ghost use Rattle.hir_node.specs.ChildCalls.{bound_calls};
 ghost use Rattle.hir_faults.specs.Faults.{nodes_in, ends_of};
 ghost use Rattle.hir_faults.specs.Nodes.{sizes_of, graph};
-ghost use Rattle.hir_faults.specs.Parts.{bound_paths, is_path_at};
-ghost use Rattle.hir_faults.specs.PathSound.{path_fits};
+ghost use Rattle.hir_faults.specs.Tested.{bound_paths, is_path_at};
+ghost use Rattle.hir_faults.specs.Fits.{path_fits};
 ghost use Rattle.hir_faults.specs.Sizes.{Few, is_there};
 
 use crate::held::{bound_names_path, is_path, one_list_each, path_gives_self, path_names_paths};
@@ -73,7 +73,7 @@ impl NodeSlices<'_> {
     }
 
     /// Whether a path fits these nodes: each id that it names is there, each type that it names as a path is one, each list of generic
-    /// arguments that begins with a self type isn't empty, and the path has no lists or one for each segment.
+    /// arguments that begins with a self type isn't empty, and a `Normal` path has one list for each segment.
     pub fn path_is_sound(&self, path: &Path) -> bool
         ensures { result ≡ path_fits (nodes_in self.now) path.now }
     {

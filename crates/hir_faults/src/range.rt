@@ -6,8 +6,8 @@ ghost use Rattle.hir_faults.specs.Sizes.{is_there};
 ghost use Rattle.hir_faults.specs.Ranges.{Tests};
 ghost use Rattle.hir_node.specs.ChildCalls.{bound_calls, path_calls};
 
-use crate::node::Node;
 use crate::sizes::Sizes;
+use crate::tested::TestedNode;
 use hir_node::{
     ExprId, LifetimeRefId, PatId, Path, StoreVisitor, StoreVisitorExt, TypeBound, TypeRefId,
 };
@@ -44,8 +44,8 @@ impl StoreVisitor for InRange {
 }
 
 /// Whether each call that the node gives a visitor is made with what is there.
-pub fn calls_there<N: Node>(node: &N, sizes: Sizes) -> bool
-    ensures { result ≡ list_all (is_there sizes) (N.parts node.now).calls }
+pub(crate) fn calls_there<N: TestedNode>(node: &N, sizes: Sizes) -> bool
+    ensures { result ≡ list_all (is_there sizes) (N.tested node.now).calls }
 {
     let mut ids = InRange { sizes, holds: true };
     node.visit(&mut ids);

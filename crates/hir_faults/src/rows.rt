@@ -1,12 +1,12 @@
 //! The kids of all nodes as one flat table: the rows of the expressions, then of the patterns, then of the types.
 
 ghost use Rattle.std.specs.Prelude.{◌≡◌, [], ◌∷◌, ◌++◌, map, IfOk, IsOk, OnOk};
-ghost use Rattle.hir_faults.specs.Parts.{expr_parts, pat_parts, type_parts};
+ghost use Rattle.hir_faults.specs.Tested.{tested_expr, tested_pat, tested_type};
 ghost use Rattle.hir_faults.specs.Pushes.{CanPush, Pushed, Pushes};
 ghost use Rattle.hir_faults.specs.Sizes.{Few, places};
 
-use crate::node::Node;
 use crate::sizes::Sizes;
+use crate::tested::TestedNode;
 use hir_forest::Rows;
 use hir_node::{Expr, ExprId, LifetimeRefId, Pat, PatId, StoreVisitor, TypeRef, TypeRefId};
 use std::alloc::{AllocError, Global};
@@ -55,12 +55,12 @@ impl Kids {
     }
 
     /// Adds a row for each node.
-    fn add_rows<N: Node>(&mut self, nodes: &[N]) -> Result<(), AllocError>
+    fn add_rows<N: TestedNode>(&mut self, nodes: &[N]) -> Result<(), AllocError>
         requires few { Few self.old.sizes }
         requires grown { IsOk self.old.grown }
         ensures sizes { self.new.sizes ≡ self.old.sizes }
         ensures grown { OnOk result (IsOk self.new.grown) }
-        ensures rows { OnOk result (self.new.rows ≡ self.old.rows ++ map (λ x. places self.old.sizes (N.parts x).calls) nodes.now) }
+        ensures rows { OnOk result (self.new.rows ≡ self.old.rows ++ map (λ x. places self.old.sizes (N.tested x).calls) nodes.now) }
     {
         for node in nodes {
             self.rows.begin_row()?;
@@ -81,9 +81,9 @@ pub(crate) fn rows_of(
 ) -> Result<Rows, AllocError>
     requires few { Few sizes }
     ensures { IfOk result (λ rows. rows ≡
-        map (λ x. places sizes (expr_parts x).calls) exprs.now
-        ++ map (λ x. places sizes (pat_parts x).calls) pats.now
-        ++ map (λ x. places sizes (type_parts x).calls) types.now) }
+        map (λ x. places sizes (tested_expr x).calls) exprs.now
+        ++ map (λ x. places sizes (tested_pat x).calls) pats.now
+        ++ map (λ x. places sizes (tested_type x).calls) types.now) }
 {
     let nodes = sizes.exprs + sizes.pats + sizes.types;
     let mut kids = Kids {

@@ -1,4 +1,4 @@
 pub mod ArgsCalls
 pub mod ArgsSizes
-pub mod ChildPats
+pub mod ChildPatLemmas
 pub mod RunLemmas

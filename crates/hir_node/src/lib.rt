@@ -3,6 +3,7 @@
 #![tactic(auto)]
 
 mod binding;
+mod child_pats;
 mod children;
 mod expr;
 pub mod laws;
@@ -15,6 +16,7 @@ mod type_ref;
 mod visitor;
 
 pub use binding::{Binding, BindingAnnotation, BindingProblems, Label};
+pub use child_pats::ChildPats;
 pub use expr::Expr;
 pub use hir_path::{
     AssociatedTypeBinding, BindingId, BindingKind, Boxed, ConstRef, ExprId, ExprKind, ExprOrPatId,

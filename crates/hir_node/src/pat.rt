@@ -1,7 +1,6 @@
 //! Patterns.
-ghost use Rattle.std.specs.Prelude.{◌≡◌, map, IfOk};
+ghost use Rattle.std.specs.Prelude.{◌≡◌, IfOk};
 ghost use Rattle.std.specs.List.{FoldsTo};
-ghost use Rattle.std.specs.Option.{option_to_list};
 ghost use Rattle.hir_base.specs.Exact.{exact};
 
 use crate::type_ref::Mutability;
@@ -87,75 +86,15 @@ pub enum Pat {
 impl Pat {
     ghost use Rattle.hir_node.specs.ChildCalls.{child_pats};
 
-    /// Runs the closure on each pattern that this one names, in the order of the child calls.
+    /// Runs the closure on each pattern that this one names, in the order of the child calls: a `for` over `child_pats`.
     pub fn walk_child_pats<F: FnMut(PatId)>(&self, f: &mut F)
         requires { F.IsAlwaysCallable f.old }
-        ensures { FoldsTo (λ p x q. F.step p x tt q) f.old (child_pats self.now) f.new }
+        ensures runs { FoldsTo (λ p x q. F.step p x tt q) f.old (child_pats self.now) f.new }
+        ensures callable { F.IsAlwaysCallable f.new }
     {
-        match self {
-            Pat::Missing
-            | Pat::Rest
-            | Pat::Wild
-            | Pat::NotNull
-            | Pat::Range { .. }
-            | Pat::Lit(_)
-            | Pat::Expr(_) => {}
-            Pat::Path(_) => {}
-            Pat::Tuple { args, .. } => walk_ids(args.as_slice(), f),
-            Pat::Or(args) => walk_ids(args.as_slice(), f),
-            Pat::TupleStruct { args, .. } => walk_ids(args.as_slice(), f),
-            Pat::Record { args, .. } => walk_fields(args.as_slice(), f),
-            Pat::Slice {
-                prefix,
-                slice,
-                suffix,
-            } => {
-                walk_ids(prefix.as_slice(), f);
-                walk_optional(*slice, f);
-                walk_ids(suffix.as_slice(), f);
-            }
-            Pat::Bind { subpat, .. } => walk_optional(*subpat, f),
-            Pat::Ref { pat, .. } => f(*pat),
-            Pat::Box { inner } => f(*inner),
-            Pat::Deref { inner } => f(*inner),
+        for id in self.child_pats() {
+            f(id);
         }
-    }
-}
-
-/// Runs the closure on each id, in order.
-fn walk_ids<F: FnMut(PatId)>(ids: &[PatId], f: &mut F)
-    requires { F.IsAlwaysCallable f.old }
-    ensures callable { F.IsAlwaysCallable f.new }
-    ensures runs { FoldsTo (λ p x q. F.step p x tt q) f.old ids.now f.new }
-{
-    let mut rest = ids;
-    while let Some((id, others)) = rest.split_first() {
-        f(*id);
-        rest = others;
-    }
-}
-
-/// Runs the closure on the id, where there is one.
-fn walk_optional<F: FnMut(PatId)>(id: Option<PatId>, f: &mut F)
-    requires { F.IsAlwaysCallable f.old }
-    ensures callable { F.IsAlwaysCallable f.new }
-    ensures runs { FoldsTo (λ p x q. F.step p x tt q) f.old (option_to_list id) f.new }
-{
-    if let Some(id) = id {
-        f(id);
-    }
-}
-
-/// Runs the closure on the pattern of each field, in order.
-fn walk_fields<F: FnMut(PatId)>(fields: &[RecordFieldPat], f: &mut F)
-    requires { F.IsAlwaysCallable f.old }
-    ensures callable { F.IsAlwaysCallable f.new }
-    ensures runs { FoldsTo (λ p x q. F.step p x tt q) f.old (map (λ field. field.pat) fields.now) f.new }
-{
-    let mut rest = fields;
-    while let Some((field, others)) = rest.split_first() {
-        f(field.pat);
-        rest = others;
     }
 }
 

@@ -5,7 +5,7 @@ use Rattle.hir_faults.specs.declared.fault.FinishFault.{FinishFault}
 use Rattle.hir_faults.specs.declared.fault.FinishFault.TheVariants.{NoRoots}
 use Rattle.hir_expr_store.specs.Contents.{rooted_of, contents_fault}
 use Rattle.hir_store.specs.Building.{Building, HasRoots, contents_of, finish_fault}
-use Rattle.hir_store.proofs.FirstFaultLemmas.{rooted_fault-one}
+use Rattle.hir_faults.proofs.FirstFaultLemmas.{rooted_fault-one}
 
 pub no_roots : (b : Building) → (HasRoots b → ⊥) → finish_fault b (Some NoRoots)
 unfolding finish_fault

@@ -1,2 +1,1 @@
 pub mod BuildingLemmas
-pub mod FirstFaultLemmas

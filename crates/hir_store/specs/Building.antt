@@ -1,5 +1,7 @@
 -- What a builder holds, what its store holds, and its first fault.
 use Rattle.std.specs.Prelude.{◌≡◌, ◌⊎◌, ℕ, List, [], ◌∷◌, ◌++◌, Bool, not, ◌||◌, cond, nat_eq, length, Option, Some, None, IsSome}
+use Rattle.std.specs.FinMap as map
+use Rattle.std.specs.declared.alloc.Global.{Global}
 use Rattle.hir_forest.specs.declared.roots.Root.{Root}
 use Rattle.hir_forest.specs.Verdict.{◌unless◌, ◌before◌}
 use Rattle.hir_faults.specs.declared.fault.FinishFault.{FinishFault}
@@ -9,7 +11,7 @@ use Rattle.hir_faults.specs.Faults.{ends_of}
 use Rattle.hir_expr_store.specs.declared.side_tables.SideTables.{SideTables}
 use Rattle.hir_expr_store.specs.SideTables.{no_side_tables}
 use Rattle.hir_expr_store.specs.Contents.{Contents, contents_fault}
-use Rattle.hir_source.specs.Additions.{HasSameMaps}
+use Rattle.hir_source.specs.Additions.{HasSameMaps, no_sources}
 use Rattle.hir_store.specs.declared.builder.ExpressionStoreBuilder.{ExpressionStoreBuilder}
 
 -- the nodes and what they name, the roots where a list of them was begun, and what was said besides
@@ -17,6 +19,10 @@ pub record Building : Type 0 where
   pub nodes : Nodes
   pub roots : Option (List Root)
   pub side_tables : SideTables
+
+-- a builder of nothing, which takes its memory from here
+abbrev pub empty_builder : Global → ExpressionStoreBuilder
+empty_builder alloc = record { exprs = []; pats = []; bindings = []; labels = []; lifetimes = []; types = []; binding_owners = map.empty; hygiene = map.empty; block_scopes = []; source_map = no_sources alloc; roots = None; alloc = alloc }
 
 -- what a builder has
 abbrev pub nodes_of : ExpressionStoreBuilder → Nodes

@@ -3,15 +3,14 @@
 ghost use Rattle.std.specs.Prelude.{◌≡◌, ◌≤◌, [], ◌∷◌, ◌++◌, length, Err, None, IfOk, IfErr, OnOk, OnErr};
 ghost use Rattle.std.specs.FinMap as map;
 ghost use Rattle.hir_path.specs.Keys.{expr_or_pat_code};
-ghost use Rattle.hir_source.specs.Additions.{no_sources, finished};
-ghost use Rattle.hir_store.specs.Building.{nodes_of, building_of, contents_of, has_exprs, finish_fault, and_root, some_roots};
+ghost use Rattle.hir_source.specs.Additions.{finished};
+ghost use Rattle.hir_store.specs.Building.{nodes_of, building_of, empty_builder, contents_of, has_exprs, kept_side_tables, roots_or_none, finish_fault, and_root, some_roots};
 ghost use Rattle.hir_faults.specs.Faults.{nodes_in};
 ghost use Rattle.hir_faults.specs.Nodes.{sizes_of};
 ghost use Rattle.hir_faults.specs.Sizes.{Few};
 
-use crate::finish::{kept_side_tables, roots_or_empty};
-use hir_expr_store::{ExpressionStore, SideTables, RootList, StoreParts};
 use hir_base::{Arena, ArenaFault, BlockId, HygieneId, Seq, Table};
+use hir_expr_store::{ExpressionStore, RootList, SideTables, StoreParts};
 use hir_faults::{FinishFault, NodeSlices};
 use hir_forest::Root;
 use hir_node::{
@@ -72,7 +71,7 @@ pub struct Refused {
 impl ExpressionStoreBuilder {
     /// A builder of nothing, which takes its memory from `alloc`, and none now.
     pub fn new(alloc: Global) -> ExpressionStoreBuilder
-        ensures { result ≡ record { exprs = []; pats = []; bindings = []; labels = []; lifetimes = []; types = []; binding_owners = map.empty; hygiene = map.empty; block_scopes = []; source_map = no_sources alloc; roots = None; alloc = alloc } }
+        ensures { result ≡ empty_builder alloc }
     {
         ExpressionStoreBuilder {
             exprs: Arena::new(alloc),
@@ -206,10 +205,7 @@ impl ExpressionStoreBuilder {
         ensures err { OnErr result (self.new ≡ self.old) }
         ensures value_returned { IfErr result (λ failed. failed.value ≡ (id, hygiene)) }
     {
-        match self.hygiene.insert(id, hygiene) {
-            Ok(_) => Ok(()),
-            Err(failed) => Err(failed),
-        }
+        self.hygiene.insert(id, hygiene).map(|_| ())
     }
 
     /// Lists a block that may hold items, behind the others. After a refusal the builder is as it was, and the block is handed back.
@@ -234,6 +230,16 @@ impl ExpressionStoreBuilder {
             labels: self.labels.as_slice(),
             lifetimes: self.lifetimes.as_slice(),
         }
+    }
+
+    /// Whether there is an expression, a label, a pattern or a binding.
+    fn has_exprs(&self) -> bool
+        ensures { result ≡ has_exprs (nodes_of self.now) }
+    {
+        !self.exprs.is_empty()
+            || !self.labels.is_empty()
+            || !self.pats.is_empty()
+            || !self.bindings.is_empty()
     }
 
     /// The store and the source map of a builder without a fault.
@@ -273,5 +279,26 @@ impl ExpressionStoreBuilder {
             side_tables: kept_side_tables(alloc, keeps_exprs, side_tables),
         });
         (store, source_map.finish(keeps_exprs))
+    }
+}
+
+/// What is said of nodes besides, where they are kept; else nothing.
+fn kept_side_tables(alloc: Global, kept: bool, side_tables: SideTables) -> SideTables
+    ensures { result ≡ kept_side_tables kept side_tables }
+{
+    if kept {
+        side_tables
+    } else {
+        SideTables::new(alloc)
+    }
+}
+
+/// The listed roots; none where no list was begun.
+fn roots_or_empty(alloc: Global, roots: Option<RootList>) -> RootList
+    ensures { result ≡ roots_or_none roots }
+{
+    match roots {
+        Some(roots) => roots,
+        None => RootList::new(alloc),
     }
 }

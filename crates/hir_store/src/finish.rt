@@ -2,12 +2,11 @@
 
 ghost use Rattle.std.specs.Prelude.{◌≡◌, ◌⊎◌, ◌↔◌, IsTrue, IfOk, IfErr, None, Some};
 ghost use Rattle.hir_source.specs.Additions.{finished};
-ghost use Rattle.hir_store.specs.Building.{nodes_of, building_of, contents_of, roots_or_none, HasRoots, has_exprs, kept_side_tables, finish_fault};
+ghost use Rattle.hir_store.specs.Building.{nodes_of, building_of, contents_of, roots_or_none, HasRoots, has_exprs, finish_fault};
 
 use crate::builder::{ExpressionStoreBuilder, Refused};
-use crate::first_fault::first_fault_of;
-use hir_expr_store::{ExpressionStore, SideTables, RootList};
-use hir_faults::FinishFault;
+use hir_expr_store::ExpressionStore;
+use hir_faults::{FinishFault, first_fault_of};
 use hir_forest::Root;
 use hir_source::ExpressionStoreSourceMap;
 use std::alloc::{AllocError, Global};
@@ -66,32 +65,5 @@ impl ExpressionStoreBuilder {
             fault,
             builder: self,
         })
-    }
-
-    /// Whether there is an expression, a label, a pattern or a binding.
-    pub(crate) fn has_exprs(&self) -> bool
-        ensures { result ≡ has_exprs (nodes_of self.now) }
-    {
-        !self.exprs.is_empty()
-            || !self.labels.is_empty()
-            || !self.pats.is_empty()
-            || !self.bindings.is_empty()
-    }
-}
-
-/// What is said of nodes besides, where they are kept; else nothing.
-pub(crate) fn kept_side_tables(alloc: Global, kept: bool, side_tables: SideTables) -> SideTables
-    ensures { result ≡ kept_side_tables kept side_tables }
-{
-    if kept { side_tables } else { SideTables::new(alloc) }
-}
-
-/// The listed roots; none where no list was begun.
-pub(crate) fn roots_or_empty(alloc: Global, roots: Option<RootList>) -> RootList
-    ensures { result ≡ roots_or_none roots }
-{
-    match roots {
-        Some(roots) => roots,
-        None => RootList::new(alloc),
     }
 }

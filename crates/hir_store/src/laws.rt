@@ -8,9 +8,12 @@ ghost use Rattle.hir_store.specs.Building.{Building, HasTheSame, finish_fault};
 
 use crate::builder::ExpressionStoreBuilder;
 pub use hir_expr_store::laws::{
-    bindings_in_is, contents_are_a_forest, exprs_in_is, kids_fall, nodes_are_sound,
-    paths_of_nodes_fit, pats_is, ranks_are_bounded, roots_stand_apart, under_two_is_under_one,
-    what_is_under_is_there,
+    ToldByKids, bindings_in_is, bounds_and_args_of_nodes_fit, contents_are_a_forest, exprs_in_is,
+    kids_fall, kids_lie_apart, kids_of_reached_are_reached, nodes_are_sound, nodes_under_is,
+    one_parent, parts_of_args_fit, parts_of_paths_fit, paths_of_bounds_are_there,
+    paths_of_nodes_fit, pats_is, ranks_are_bounded, reached_is_decided, reached_is_listed,
+    reached_is_listed_once, roots_lie_apart, roots_stand_apart, under_two_is_under_one, value_is,
+    what_is_reached_is_there, what_is_under_is_there, who_has_kids_is_there,
 };
 
 /// A builder has one first fault at most: it is accepted exactly where there is none.

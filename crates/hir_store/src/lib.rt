@@ -5,14 +5,11 @@
 mod builder;
 mod builder_sources;
 mod finish;
-mod first_fault;
 pub mod laws;
-mod tested;
 
 pub use builder::{ExpressionStoreBuilder, Refused};
-pub use first_fault::first_fault_of;
-pub use hir_expr_store::{Blocks, ExprRoots, ExpressionStore, Missing, NodeSet, TypeBoundExt};
 pub use hir_base::SyntheticSyntax;
+pub use hir_expr_store::{Blocks, ExprRoots, ExpressionStore, Missing, NodeSet, TypeBoundExt};
 pub use hir_faults::FinishFault;
 pub use hir_node::{NodeId, StoreVisitor, StoreVisitorExt, visit_generic_args};
 pub use hir_source::{ExpressionStoreDiagnostics, ExpressionStoreSourceMap, MissingBodyItemKind};

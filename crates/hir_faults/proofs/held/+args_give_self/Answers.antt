@@ -1,5 +1,5 @@
 use Rattle.std.proofs.Common.{◌∙◌, sym}
-use Rattle.hir_faults.specs.Parts.{binding_gives_self}
+use Rattle.hir_faults.specs.Tested.{binding_gives_self}
 use Rattle.hir_faults.proofs.HeldLemmas.{args_give_self_is, all_stops, all_done}
 use Rattle.hir_faults.proofs.held.+args_give_self.Goals as goal
 

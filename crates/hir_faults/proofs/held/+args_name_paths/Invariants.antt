@@ -1,6 +1,6 @@
 use Rattle.std.proofs.Common.{◌≡◌, true, take}
 use Rattle.std.specs.List.{list_all}
-use Rattle.hir_faults.specs.Parts.{binding_paths, is_path_at}
+use Rattle.hir_faults.specs.Tested.{binding_paths, is_path_at}
 use Rattle.hir_faults.proofs.held.+args_name_paths.Given as goal
 
 -- the bindings so far name paths

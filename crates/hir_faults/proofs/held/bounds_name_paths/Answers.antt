@@ -1,6 +1,6 @@
 use Rattle.std.proofs.Common.{◌∙◌, sym}
 use Rattle.std.specs.List.{list_all}
-use Rattle.hir_faults.specs.Parts.{bound_paths, is_path_at}
+use Rattle.hir_faults.specs.Tested.{bound_paths, is_path_at}
 use Rattle.hir_faults.proofs.HeldLemmas.{list_all-flat_map, all_stops, all_done}
 use Rattle.hir_faults.proofs.held.bounds_name_paths.Goals as goal
 

@@ -1,6 +1,6 @@
 use Rattle.std.proofs.Common.{◌≡◌, true, take}
 use Rattle.std.specs.List.{list_all}
-use Rattle.hir_faults.specs.Parts.{bound_paths, is_path_at}
+use Rattle.hir_faults.specs.Tested.{bound_paths, is_path_at}
 use Rattle.hir_faults.proofs.held.bounds_name_paths.Given as goal
 
 -- the bounds so far name paths

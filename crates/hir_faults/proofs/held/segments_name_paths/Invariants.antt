@@ -1,6 +1,6 @@
 use Rattle.std.proofs.Common.{◌≡◌, true, take}
 use Rattle.std.specs.List.{list_all}
-use Rattle.hir_faults.specs.Parts.{all_of, args_paths, is_path_at}
+use Rattle.hir_faults.specs.Tested.{all_of, args_paths, is_path_at}
 use Rattle.hir_faults.proofs.held.segments_name_paths.Given as goal
 
 -- the segments so far name paths

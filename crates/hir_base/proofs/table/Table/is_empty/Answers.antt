@@ -1,6 +1,4 @@
-use Rattle.std.specs.Prelude.{◌≡◌, IsTrue}
-use Rattle.std.specs.Bool.{Decides, one_answer}
-use Rattle.std.specs.FinMap as map
+use Rattle.std.specs.Bool.{one_answer}
 use Rattle.std.proofs.Common.{sym, ◌∙◌}
 use Rattle.hir_base.proofs.TableLemmas.{empty_by_len, none_left, none_there}
 use Rattle.hir_base.proofs.table.Table.is_empty.Goals as goal

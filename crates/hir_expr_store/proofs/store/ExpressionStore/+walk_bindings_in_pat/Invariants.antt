@@ -1,6 +1,5 @@
 use Rattle.std.specs.List.{flat_map, FoldsTo, AllByRecursion}
 use Rattle.hir_node.specs.declared.node_id.NodeId.TheVariants as node
-use Rattle.hir_expr_store.specs.ChildPats.{left}
 use Rattle.hir_faults.specs.Down.{rank}
 use Rattle.hir_expr_store.specs.PatLists.{bindings_in}
 use Rattle.hir_expr_store.proofs.WalkLemmas.{IsBelow}
@@ -14,8 +13,8 @@ abbrev pub invariant-loop-child : goal.invariant-loop-child
 invariant-loop-child g l = record {
   next : (goal.iterator-loop-child g).can_next l.child-iterator;
   finite : (goal.iterator-loop-child g).is_finite l.child-iterator;
-  below : AllByRecursion (IsBelow l.fn.self.nodes l.fn.id) (left l.child-iterator);
+  below : AllByRecursion (IsBelow l.fn.self.nodes l.fn.id) l.child-iterator;
   callable : goal.F-IsAlwaysCallable g l.f;
-  ends : (last : _) → FoldsTo (λ p x q. goal.F-step g p x tt q) l.f (flat_map (bindings_in l.fn.self.nodes) (left l.child-iterator)) last
+  ends : (last : _) → FoldsTo (λ p x q. goal.F-step g p x tt q) l.f (flat_map (bindings_in l.fn.self.nodes) l.child-iterator) last
       → FoldsTo (λ p x q. goal.F-step g p x tt q) l.fn.f (bindings_in l.fn.self.nodes l.fn.id) last;
 }

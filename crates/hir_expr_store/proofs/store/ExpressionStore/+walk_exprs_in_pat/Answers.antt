@@ -1,8 +1,7 @@
 use Rattle.std.proofs.Common.{◌≡◌, [], ◌∙◌, ap, refl, rules, sym}
-use Rattle.hir_node.proofs.ChildPats.{folds_on}
+use Rattle.hir_node.proofs.ChildPatLemmas.{folds_on}
 use Rattle.hir_node.proofs.RunLemmas.{runs_keep, runs_leave, may_always}
 use Rattle.hir_node.specs.ChildCalls.{child_pats}
-use Rattle.hir_expr_store.specs.ChildPats.{left}
 use Rattle.hir_expr_store.specs.PatLists.{own_exprs}
 use Rattle.hir_faults.proofs.SoundLemmas.{sound_falls}
 use Rattle.hir_expr_store.proofs.PatLemmas.{exprs_in_parted}
@@ -15,7 +14,7 @@ loop-child-init g t c =
     let s = c.args.self.now.nodes in
     let x = c.index-pat.result.now in
     let fall = sound_falls (rooted_of c.args.self.now) c.has_no_fault.ensures in
-    let kids : left c.into_iter-child-iterator.result ≡ child_pats x = ap left c.into_iter-child-iterator.ensures.into_iter_gives ∙ c.child_pats-child-items.ensures in
+    let kids : c.into_iter-child-iterator.result ≡ child_pats x = c.into_iter-child-iterator.ensures.into_iter_gives ∙ c.child_pats-child-items.ensures in
     record {
       next = tt;
       finite = tt;
@@ -43,7 +42,7 @@ returns-clause-runs g t c =
     let s = c.args.self.now.nodes in
     let x = c.index-pat.result.now in
     let fall = sound_falls (rooted_of c.args.self.now) c.has_no_fault.ensures in
-    let none : left c.loop-child.child-iterator ≡ [] = search rules in
+    let none : c.loop-child.child-iterator ≡ [] = search rules in
     let children = rw c.index-pat.ensures at (c.loop-child.invariant.ends c.loop-child.f (rw none refl)) in
     let own = folds_through (λ p y q. goal.F-step g p y tt q) (λ v. v.f.now) own_exprs (λ v w d r. r.0) c.visit_children.ensures in
     let same = sym (runs_keep (λ v. v.f.ghost_name) (λ v w d r. r.2) c.visit_children.ensures) in

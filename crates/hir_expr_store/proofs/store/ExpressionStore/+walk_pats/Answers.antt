@@ -1,7 +1,6 @@
 use Rattle.std.proofs.Common.{◌≡◌, ◌∙◌, ap}
-use Rattle.hir_node.proofs.ChildPats.{folds_on}
+use Rattle.hir_node.proofs.ChildPatLemmas.{folds_on}
 use Rattle.hir_node.specs.ChildCalls.{child_pats}
-use Rattle.hir_expr_store.specs.ChildPats.{left}
 use Rattle.hir_faults.proofs.SoundLemmas.{sound_falls}
 use Rattle.hir_expr_store.proofs.PatLemmas.{pats_is}
 use Rattle.hir_expr_store.proofs.WalkLemmas.{children_below}
@@ -13,7 +12,7 @@ walk_pats_below-loop-child-init g t c =
     let s = c.args.self.now.nodes in
     let x = c.index.result.now in
     let fall = sound_falls (rooted_of c.args.self.now) c.has_no_fault.ensures in
-    let kids : left c.into_iter-child-iterator.result ≡ child_pats x = ap left c.into_iter-child-iterator.ensures.into_iter_gives ∙ c.child_pats-child-items.ensures in
+    let kids : c.into_iter-child-iterator.result ≡ child_pats x = c.into_iter-child-iterator.ensures.into_iter_gives ∙ c.child_pats-child-items.ensures in
     record {
       next = tt;
       finite = tt;

@@ -20,10 +20,10 @@ pub loop-node-preserved : goal.loop-node-preserved
 loop-node-preserved g c =
     let p = pushed_all c.visit.ensures in
     let ok : IsOk c.visit.new.visitor.grown = rw c.in_ok-self.was refl in
-    let f : g.row.N.Denot → List ℕ = λ x. places c.args.self.now.sizes (g.N.Node.parts x).calls in
+    let f : g.row.N.Denot → List ℕ = λ x. places c.args.self.now.sizes (g.N.TestedNode.tested x).calls in
     let same = c.loop-node.invariant.0 in
     let kids : c.visit.new.visitor.rows ≡ with_kids (c.loop-node.self.rows ++ [] ∷ []) (f c.node-item.result) =
-    rw (c.in_ok-begin_row.ensures.ok) at (subst (λ z. c.visit.new.visitor.rows ≡ with_kids c.begin_row.new.self (places z (g.N.Node.parts c.node-item.result).calls)) same (p.grown ok).1) in (
+    rw (c.in_ok-begin_row.ensures.ok) at (subst (λ z. c.visit.new.visitor.rows ≡ with_kids c.begin_row.new.self (places z (g.N.TestedNode.tested c.node-item.result).calls)) same (p.grown ok).1) in (
       p.sizes ∙ same,
       ok,
       row_added f c.args.nodes.now c.loop-node.node-index c.node-item.result c.args.self.now.rows c.loop-node.self.rows c.visit.new.visitor.rows c.loop-node-test.true c.node-item.is c.loop-node.invariant.2 kids,

@@ -7,4 +7,4 @@ abbrev pub invariant-loop-node : goal.invariant-loop-node
 invariant-loop-node g l =
     (l.self.sizes ≡ l.fn.self.sizes)
     × IsOk l.self.grown
-    × (l.self.rows ≡ l.fn.self.rows ++ map (λ x. places l.fn.self.sizes (g.N.Node.parts x).calls) (take l.node-index l.nodes))
+    × (l.self.rows ≡ l.fn.self.rows ++ map (λ x. places l.fn.self.sizes (g.N.TestedNode.tested x).calls) (take l.node-index l.nodes))

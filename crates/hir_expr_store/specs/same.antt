@@ -1,0 +1,3 @@
+pub mod SameRoots
+pub mod SameSideTables
+pub mod SameStores

@@ -1,0 +1,31 @@
+use Rattle.std.proofs.Common.{length, subst}
+use Rattle.hir_forest.specs.Faults.{forest_fault, IsWithin}
+use Rattle.hir_forest.proofs.FaultLemmas.{fault_within}
+use Rattle.hir_faults.specs.Nodes.{graph}
+use Rattle.hir_faults.specs.Faults.{Rooted, nodes_in, ends_of}
+use Rattle.hir_faults.proofs.FaultLemmas.{kids_there, graph-length}
+use Rattle.hir_faults.proofs.FirstFaultLemmas.{told_some, told_none}
+use Rattle.hir_faults.proofs.first_fault.first_graph_fault.Goals as goal
+use Rattle.hir_faults.proofs.first_fault.first_graph_fault.Goals.{In_ok-fault}
+
+pub first_fault-requires-clause-within : goal.first_fault-requires-clause-within
+first_fault-requires-clause-within c = rw c.in_ok-rows.ensures (kids_there (nodes_in c.args.nodes.now) c.requires.nodes)
+
+found : (c : In_ok-fault) → forest_fault (graph (nodes_in c.args.nodes.now)) (ends_of (nodes_in c.args.nodes.now)) c.args.roots.now c.in_ok-fault.field-0
+found c = rw (c.in_ok-rows.ensures, c.ends.ensures) at c.in_ok-fault.ensures
+
+pub tell-requires-clause-within : goal.tell-requires-clause-within
+tell-requires-clause-within c =
+    let s = nodes_in c.args.nodes.now in
+    let within = fault_within (graph s) (ends_of s) c.args.roots.now c.in-Some.fault (kids_there s c.requires.nodes) (rw c.in-Some.is at (found (goal.at.tell-requires-clause-within c).In_ok-fault)) in
+    rw c.sizes.ensures (subst (λ n. IsWithin n (length c.args.roots.now) c.in-Some.fault) (graph-length s) within)
+
+abbrev rooted : (c : In_ok-fault) → Rooted
+rooted c = record { nodes = nodes_in c.args.nodes.now; roots = c.args.roots.now }
+
+pub returns-in-Some : goal.returns-in-Some
+returns-in-Some c =
+    rw (c.tell.ensures, c.sizes.ensures) (told_some (rooted (goal.at.returns-in-Some c).In_ok-fault) c.in-Some.fault (rw c.in-Some.is at (found (goal.at.returns-in-Some c).In_ok-fault)))
+
+pub returns : goal.returns
+returns c = told_none (rooted (goal.at.returns c).In_ok-fault) (rw c.in-None.is at (found (goal.at.returns c).In_ok-fault))

@@ -1,0 +1,7 @@
+use Rattle.std.proofs.Common.{ℕ, ◌<◌, None, map, get_or}
+use Rattle.hir_faults.specs.Faults.{node_fault, nothing_tested}
+use Rattle.hir_faults.proofs.first_fault.first_of.Given as goal
+
+-- the nodes so far have no fault
+abbrev pub invariant-loop-i : goal.invariant-loop-i
+invariant-loop-i g l = (j : ℕ) → j < l.i → node_fault l.sizes l.types (g.N.TestedNode.name j) (get_or (map g.N.TestedNode.tested l.nodes) j nothing_tested) None

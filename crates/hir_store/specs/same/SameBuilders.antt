@@ -1,0 +1,48 @@
+-- Only a proof: that `==` of builders decides whether they have the same, part by part.
+use Rattle.std.specs.Prelude.{◌≡◌, true}
+use Rattle.std.specs.Bool.{Decides}
+use Rattle.std.specs.Cmp.Lexicographic.{nat_list_cmp_total, pointwise_decides}
+use Rattle.std.proofs.Common.{refl}
+use Rattle.hir_base.specs.Exact.{exact, options_decide}
+use Rattle.hir_base.specs.Maps.{same_maps_decides}
+use Rattle.hir_base.specs.Table.{by_code-IsAntisymmetric}
+use Rattle.hir_path.specs.Fields.{and_decides, both}
+use Rattle.hir_node.specs.SameExprs.{exprs_decide}
+use Rattle.hir_node.specs.SamePats.{pats_decide}
+use Rattle.hir_node.specs.SameTypes.{types_decide}
+use Rattle.hir_node.specs.SameStructs.{bindings_decide}
+use Rattle.hir_node.specs.contracts.binding.LabelExactEq.TheImpl.Laws as labels_law
+use Rattle.hir_node.specs.contracts.type_ref.LifetimeRefExactEq.TheImpl.Laws as lifetimes_law
+use Rattle.hir_source.specs.SameBuilders.{builders_decide as source_maps_decide}
+use Rattle.hir_expr_store.specs.same.SameRoots.{root_lists_decide}
+use Rattle.hir_store.specs.declared.builder.ExpressionStoreBuilder.{ExpressionStoreBuilder}
+use Rattle.hir_store.specs.contracts.builder.ExpressionStoreBuilderPartialEq.TheImpl as builders
+use Rattle.hir_store.specs.Building.{HasTheSame}
+
+-- two handles to the memory are never told apart
+handles_decide : Decides true (true ≡ true)
+handles_decide = (λ h. refl, λ e. refl)
+
+pub builders_decide : (x y : ExpressionStoreBuilder) → Decides (builders.ghosts.eq x y) (HasTheSame x y)
+builders_decide x y =
+    and_decides _ _ (pointwise_decides exprs_decide x.exprs y.exprs)
+    (both _ _ (pointwise_decides pats_decide x.pats y.pats)
+    (both _ _ (pointwise_decides bindings_decide x.bindings y.bindings)
+    (both _ _ (pointwise_decides labels_law.lawful.eq_decides x.labels y.labels)
+    (both _ _ (pointwise_decides lifetimes_law.lawful.eq_decides x.lifetimes y.lifetimes)
+    (both _ _ (pointwise_decides types_decide x.types y.types)
+    (both _ _ (same_maps_decides nat_list_cmp_total _ by_code-IsAntisymmetric (search exact) x.binding_owners y.binding_owners)
+    (both _ _ (same_maps_decides nat_list_cmp_total _ by_code-IsAntisymmetric (search exact) x.hygiene y.hygiene)
+    (both _ _ (pointwise_decides (search exact) x.block_scopes y.block_scopes)
+    (both _ _ (source_maps_decide x.source_map y.source_map)
+    (both _ _ (options_decide root_lists_decide x.roots y.roots) handles_decide))))))))))
+    (λ e r. (
+      λ i. record {
+        nodes = record { exprs = e i; pats = r.0 i; types = r.1.1.1.1.0 i; bindings = r.1.0 i; labels = r.1.1.0 i; lifetimes = r.1.1.1.0 i };
+        roots = r.1.1.1.1.1.1.1.1.1.0 i;
+        side_tables = record { owners = r.1.1.1.1.1.0 i; hygiene = r.1.1.1.1.1.1.0 i; blocks = r.1.1.1.1.1.1.1.0 i };
+      },
+      r.1.1.1.1.1.1.1.1.0,
+    ))
+    (λ h i. (h.0 i).nodes.exprs)
+    (λ h. (λ i. (h.0 i).nodes.pats, (λ i. (h.0 i).nodes.bindings, (λ i. (h.0 i).nodes.labels, (λ i. (h.0 i).nodes.lifetimes, (λ i. (h.0 i).nodes.types, (λ i. (h.0 i).side_tables.owners, (λ i. (h.0 i).side_tables.hygiene, (λ i. (h.0 i).side_tables.blocks, (h.1, (λ i. (h.0 i).roots, refl)))))))))))
