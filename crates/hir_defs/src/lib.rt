@@ -9,12 +9,13 @@ mod plain_def;
 mod tables;
 
 pub use hir_items::{
-    Bodies, Body, BodyEntry, BodyFault, BodySourceMap, BoundLifetimes, ConstParamData, FieldData, FieldsShape,
-    FunctionParts, FunctionSignature, GenericParamData, GenericParamDataRef, GenericParams,
-    LifetimeBoundType, LifetimeParamData, LocalLifetimeParamId, LocalTypeOrConstParamId, Param,
-    PlainParts, PlainSignature, RawVisibility, RefusedBody, RefusedSignature, SignatureEntry, SignatureFault,
-    Signatures, StructParts, StructSignature, TypeOrConstParamData, TypeParamData,
-    TypeParamProvenance, VariantFields, VariantParts, WherePredicate, body_laws, generic_laws,
+    Bodies, Body, BodyEntry, BodyFault, BodySourceMap, BoundLifetimes, ConstParamData, FieldData,
+    FieldsShape, FunctionParts, FunctionSignature, GenericParamData, GenericParamDataRef,
+    GenericParams, LifetimeBoundType, LifetimeParamData, LocalLifetimeParamId,
+    LocalTypeOrConstParamId, Param, PlainParts, PlainSignature, RawVisibility, RefusedBody,
+    RefusedSignature, SignatureEntry, SignatureFault, Signatures, StructParts, StructSignature,
+    TypeOrConstParamData, TypeParamData, TypeParamProvenance, VariantFields, VariantParts,
+    WherePredicate, body_laws, generic_laws, signature_laws,
 };
 pub use lookups::StoreOf;
 pub use plain_def::{PlainDef, Repr};

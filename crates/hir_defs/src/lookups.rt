@@ -16,10 +16,10 @@ ghost use Rattle.hir_defs.specs.Lookups.{Tables, function_entry, struct_entry, p
 use crate::no_generics::NoGenerics;
 use crate::plain_def::PlainDef;
 use crate::tables::{Tables, entry};
-use hir_expr_store::{ExpressionStore, Missing};
 use hir_base::{
     AdtId, DefWithBodyId, ExpressionStoreOwnerId, FunctionId, GenericDefId, StructId, Table,
 };
+use hir_expr_store::{ExpressionStore, Missing};
 use hir_items::{
     Bodies, BodyEntry, FunctionSignature, PlainSignature, SignatureEntry, Signatures,
     StructSignature,

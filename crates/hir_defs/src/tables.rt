@@ -13,11 +13,11 @@ ghost use Rattle.hir_defs.specs.NoTables.{no_tables};
 
 use crate::no_generics::NoGenerics;
 use crate::plain_def::{PlainDef, Repr};
-use hir_expr_store::Missing;
 use hir_base::{
     AdtId, CrateId, DefWithBodyId, Edition, EnumId, EnumVariantId, FunctionId, GenericDefId, Keyed,
     NamedDef, RawWords, Seq, StructId, Table, Text, VariantId,
 };
+use hir_expr_store::Missing;
 use hir_items::{
     Body, BodySourceMap, FunctionSignature, PlainSignature, StructSignature, VariantFields,
 };
@@ -217,7 +217,8 @@ impl<F: Drop, S: Drop, P: Drop, V: Drop, B: Drop, M: Drop, N: Drop> TablesOf<F, 
         source_map: M,
     ) -> Result<(), AllocFailed<(PlainDef, (P, M))>>
         ensures ok { OnOk result (self.new ≡ record self.old {
-            plains = map.insert self.old.plains (plain_code def) (signature, source_map) }) }
+          plains = map.insert self.old.plains (plain_code def) (signature, source_map);
+        }) }
         ensures err { OnErr result (self.new ≡ self.old) }
         ensures value_returned { IfErr result (λ failed. failed.value ≡ (def, (signature, source_map))) }
     {
@@ -234,7 +235,8 @@ impl<F: Drop, S: Drop, P: Drop, V: Drop, B: Drop, M: Drop, N: Drop> TablesOf<F, 
         source_map: M,
     ) -> Result<(), AllocFailed<(VariantId, (V, M))>>
         ensures ok { OnOk result (self.new ≡ record self.old {
-            fields = map.insert self.old.fields (fields_code variant) (fields, source_map) }) }
+          fields = map.insert self.old.fields (fields_code variant) (fields, source_map);
+        }) }
         ensures err { OnErr result (self.new ≡ self.old) }
         ensures value_returned { IfErr result (λ failed. failed.value ≡ (variant, (fields, source_map))) }
     {

@@ -3,7 +3,7 @@
 ghost use Rattle.std.specs.Prelude.{◌≡◌, nat_lt, length};
 ghost use Rattle.std.specs.List.{list_all};
 ghost use Rattle.hir_node.specs.ChildCalls.{a, l, t, opt};
-ghost use Rattle.hir_faults.specs.Parts.{is_path_at};
+ghost use Rattle.hir_faults.specs.Tested.{is_path_at};
 ghost use Rattle.hir_items.specs.Signatures.{param_calls, predicate_calls, predicate_paths, field_calls, all_there, generics_there, generics_name_paths, types_there};
 
 use crate::generic_params::GenericParams;
@@ -86,7 +86,9 @@ fn has_predicate(store: &ExpressionStore, predicate: &WherePredicate) -> bool
 fn has_predicates(store: &ExpressionStore, predicates: &[WherePredicate]) -> bool
     ensures { result ≡ list_all (λ w. all_there store.now.nodes (predicate_calls w)) predicates.now }
 {
-    predicates.iter().all(|predicate| has_predicate(store, predicate))
+    predicates
+        .iter()
+        .all(|predicate| has_predicate(store, predicate))
 }
 
 /// Whether each id of the parameters and predicates is there.
@@ -117,7 +119,9 @@ fn predicates_name_paths(store: &ExpressionStore, predicates: &[WherePredicate])
     ensures { result ≡
         list_all (λ w. list_all (is_path_at store.now.nodes.types) (predicate_paths w)) predicates.now }
 {
-    predicates.iter().all(|predicate| names_paths(store, predicate))
+    predicates
+        .iter()
+        .all(|predicate| names_paths(store, predicate))
 }
 
 /// Whether what the predicates name as paths are paths.

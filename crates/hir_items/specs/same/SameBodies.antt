@@ -10,7 +10,7 @@ use Rattle.hir_path.specs.contracts.ids.PatKind as pat
 use Rattle.hir_path.specs.contracts.ids.BindingKind as binding
 use Rattle.hir_source.specs.Compared.{compared}
 use Rattle.hir_source.specs.same.SameMaps.{maps_decide}
-use Rattle.hir_expr_store.specs.SameStores.{stores_decide}
+use Rattle.hir_expr_store.specs.same.SameStores.{stores_decide}
 use Rattle.hir_items.specs.declared.body_source_map.BodySourceMap.{BodySourceMap}
 use Rattle.hir_items.specs.declared.formals.Param.{Param}
 use Rattle.hir_items.specs.contracts.body.BodyPartialEq.TheImpl as body

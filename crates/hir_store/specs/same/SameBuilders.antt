@@ -13,7 +13,7 @@ use Rattle.hir_node.specs.SameTypes.{types_decide}
 use Rattle.hir_node.specs.SameStructs.{bindings_decide}
 use Rattle.hir_node.specs.contracts.binding.LabelExactEq.TheImpl.Laws as labels_law
 use Rattle.hir_node.specs.contracts.type_ref.LifetimeRefExactEq.TheImpl.Laws as lifetimes_law
-use Rattle.hir_source.specs.SameBuilders.{builders_decide as source_maps_decide}
+use Rattle.hir_source.specs.same.SameBuilders.{builders_decide as source_maps_decide}
 use Rattle.hir_expr_store.specs.same.SameRoots.{root_lists_decide}
 use Rattle.hir_store.specs.declared.builder.ExpressionStoreBuilder.{ExpressionStoreBuilder}
 use Rattle.hir_store.specs.contracts.builder.ExpressionStoreBuilderPartialEq.TheImpl as builders
