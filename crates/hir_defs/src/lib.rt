@@ -15,7 +15,7 @@ pub use hir_items::{
     LocalTypeOrConstParamId, Param, PlainParts, PlainSignature, RawVisibility, RefusedBody,
     RefusedSignature, SignatureEntry, SignatureFault, Signatures, StructParts, StructSignature,
     TypeOrConstParamData, TypeParamData, TypeParamProvenance, VariantFields, VariantParts,
-    WherePredicate, body_laws, generic_laws,
+    WherePredicate, body_laws, generic_laws, signature_laws,
 };
 pub use lookups::StoreOf;
 pub use plain_def::{PlainDef, Repr};

@@ -3,7 +3,7 @@ use Rattle.std.proofs.Common.{◌≡◌, ℕ, zero, suc, ◌+◌, ◌-◌, ◌<�
 use Rattle.std.specs.Prelude.{Result, Ok, Err, IfOk}
 use Rattle.std.proofs.lemmas.List.{length-map, get_or-map, get_or_default, get_or-take, length-take-le}
 use Rattle.std.proofs.lemmas.List.Elements.{Contains-append_left, Contains-append_cases, Contains-push, Contains-push_cases}
-use Rattle.std.proofs.lemmas.Option.{get_or_from_slice_get}
+use Rattle.std.proofs.lemmas.Option.{get_or_from_slice_get, slice_get_within}
 use Rattle.hir_forest.specs.Verdict.{first_below}
 use Rattle.hir_forest.specs.Faults.{root_nodes}
 use Rattle.hir_forest.proofs.VerdictLemmas.{unless-same, first_below-same}
@@ -21,11 +21,6 @@ use Rattle.hir_items.specs.declared.body_fault.BodyFault.TheVariants.{NoRoot, Se
 use Rattle.hir_items.specs.Bodies.{BodyContents, formals_of, user_written_of, last_root, tops_of, tops, AreBelow, range_fault, repeated_fault, under_fault, fault_at_root, apart_fault, body_fault, GainsAll}
 use Rattle.hir_items.proofs.BodyLemmas.{pat_of_node, node_of_pat}
 
-item_within : {X : Type 0} (xs : List X) (i : ℕ) (x : X) → slice_get xs i ≡ Some x → i < length xs
-item_within [] i x e = absurd (cc)
-item_within (y ∷ ys) zero x e = omega arith
-item_within (y ∷ ys) (suc i) x e = let h = item_within ys i x e in omega arith
-
 -- where a node lies under two nodes, one of the two lies under the other
 abbrev pub OneIsUnderOther : Nodes → Type 0
 OneIsUnderOther s = (n a b : NodeId) → Has s a → Has s b → Under s n a → Under s n b → Under s a b ⊎ Under s b a
@@ -35,7 +30,7 @@ pub root_there : (c : Contents) → RootsStandApart (rooted_of c) → (root : �
 root_there c stand root e =
     let xs = root_nodes c.roots in
     let i = length xs - 1 in
-    let h = item_within xs i root e in
+    let h = slice_get_within xs i root e in
     subst (λ (n : ℕ). n < length c.nodes.exprs) (get_or_from_slice_get xs i root 0 e) (stand.there i (omega (arith, length-map c.roots (λ r. r.node))))
 
 -- each formal is there
@@ -214,8 +209,8 @@ module _ (c : Contents) (params : List (Param ℕ)) (root : ℕ) (in_range : All
     pub apart : LieApart c.nodes (tops_of params root)
     apart i j a b n l e k u v =
         let xs = tops_of params root in
-        let first : Contains xs a = (i, item_within xs i a e, get_or_from_slice_get xs i a a e) in
-        let second : Contains xs b = (j, item_within xs j b k, get_or_from_slice_get xs j b b k) in
+        let first : Contains xs a = (i, slice_get_within xs i a e, get_or_from_slice_get xs i a a e) in
+        let second : Contains xs b = (j, slice_get_within xs j b k, get_or_from_slice_get xs j b b k) in
         let ne = distinct i j a b l e k in
         ⊎_elim
         (λ x. lone a first (b, top_there b second, second, ne, x))

@@ -9,7 +9,7 @@ use Rattle.hir_node.specs.declared.node_id.NodeId.TheVariants as node
 use Rattle.hir_faults.specs.Sizes.{HasNode}
 use Rattle.hir_faults.specs.Nodes.{Nodes}
 use Rattle.hir_expr_store.specs.Contents.{Contents}
-use Rattle.hir_expr_store.specs.Under.{LiesUnderOther, Reached}
+use Rattle.hir_expr_store.specs.Under.{LiesUnderOther, Reached, reached_nodes}
 use Rattle.hir_expr_store.specs.NodeSets.{Marked, IsIn}
 use Rattle.hir_items.specs.declared.formals.Param.{Param}
 use Rattle.hir_items.specs.declared.body_fault.BodyFault.{BodyFault}
@@ -46,6 +46,10 @@ tops b = map node.Pat (formals_of b.params) ++ option_to_list (option_map node.E
 -- the body reaches the node: it lies under a formal or under the last root
 abbrev pub BodyReaches : BodyContents → NodeId → Type 0
 BodyReaches b n = Reached b.store.nodes (tops b) n
+
+-- these nodes, listed: under the first formal, under the second and so on, and under the last root
+abbrev pub body_nodes : BodyContents → List NodeId
+body_nodes b = reached_nodes b.store.nodes (tops b)
 
 -- both ids of a parameter are there
 abbrev pub AreBelow : ℕ → Param ℕ → Type 0

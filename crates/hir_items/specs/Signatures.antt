@@ -1,8 +1,11 @@
 -- Which ids a signature names, and the first fault of its parts.
-use Rattle.std.specs.Prelude.{ℕ, Bool, ◌&&◌, true, List, [], ◌∷◌, ◌++◌, Option, Some, None, IsTrue, length, nat_lt}
+use Rattle.std.specs.Prelude.{ℕ, Bool, ◌&&◌, true, List, [], ◌∷◌, ◌++◌, Option, Some, None, IsTrue, length, map, nat_lt}
 use Rattle.std.specs.List.{list_all}
+use Rattle.hir_forest.specs.Faults.{root_nodes}
 use Rattle.hir_forest.specs.Verdict.{◌unless◌, ◌before◌}
 use Rattle.hir_node.specs.ChildCalls.{Call, a, t, l, opt, bound_calls}
+use Rattle.hir_node.specs.declared.node_id.NodeId.{NodeId}
+use Rattle.hir_node.specs.declared.node_id.NodeId.TheVariants as node
 use Rattle.hir_generics.specs.declared.param.TypeOrConstParamData.{TypeOrConstParamData}
 use Rattle.hir_generics.specs.declared.param.TypeOrConstParamData.TheVariants as either
 use Rattle.hir_generics.specs.declared.predicate.WherePredicate.{WherePredicate}
@@ -10,6 +13,8 @@ use Rattle.hir_generics.specs.declared.predicate.WherePredicate.TheVariants as p
 use Rattle.hir_faults.specs.Sizes.{is_there}
 use Rattle.hir_faults.specs.Tested.{is_path_at, bound_paths}
 use Rattle.hir_faults.specs.Nodes.{Nodes, sizes_of}
+use Rattle.hir_expr_store.specs.Contents.{Contents}
+use Rattle.hir_expr_store.specs.Under.{Reached, reached_nodes}
 use Rattle.hir_items.specs.Generics.{Generics}
 use Rattle.hir_items.specs.declared.signature_fault.SignatureFault.{SignatureFault}
 use Rattle.hir_items.specs.declared.signature_fault.SignatureFault.TheVariants.{IdOutOfRange, NotAPath}
@@ -18,6 +23,18 @@ use Rattle.hir_items.specs.declared.signatures.FunctionParts.{FunctionParts}
 use Rattle.hir_items.specs.declared.signatures.StructParts.{StructParts}
 use Rattle.hir_items.specs.declared.signatures.VariantParts.{VariantParts}
 use Rattle.hir_items.specs.declared.signatures.PlainParts.{PlainParts}
+
+-- what a signature over this store is reached from: its listed roots
+abbrev pub root_tops : Contents → List NodeId
+root_tops c = map node.Expr (root_nodes c.roots)
+
+-- the signature reaches the node: it lies under a root
+abbrev pub SignatureReaches : Contents → NodeId → Type 0
+SignatureReaches c n = Reached c.nodes (root_tops c) n
+
+-- these nodes, listed: under the first root, under the second and so on
+abbrev pub signature_nodes : Contents → List NodeId
+signature_nodes c = reached_nodes c.nodes (root_tops c)
 
 -- what a parameter names: a default, the type of a constant
 abbrev pub param_calls : TypeOrConstParamData → List Call

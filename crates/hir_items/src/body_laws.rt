@@ -2,19 +2,23 @@
 //! Each is a function that does nothing: its contract is the law. `Body::has_no_fault` and `ExpressionStore::has_no_fault` tell what
 //! they ask for. Where one follows from laws of stores, it calls these.
 
-ghost use Rattle.std.specs.Prelude.{◌≡◌, Option, None, Contains};
+ghost use Rattle.std.specs.Prelude.{◌≡◌, ◌≢◌, ◌⊎◌, ◌↔◌, Option, None, Contains};
 ghost use Rattle.std.specs.Bool.{Decides};
+ghost use Rattle.std.specs.List.{AllPairs};
 ghost use Rattle.hir_source.specs.Compared.{compared};
 ghost use Rattle.hir_expr_store.specs.Contents.{contents_fault};
 ghost use Rattle.hir_faults.specs.Nodes.{Has};
 ghost use Rattle.hir_node.specs.declared.node_id.NodeId.{NodeId};
 ghost use Rattle.hir_items.specs.declared.body_fault.BodyFault.{BodyFault};
 ghost use Rattle.hir_items.specs.declared.body_source_map.BodySourceMap.{BodySourceMap};
-ghost use Rattle.hir_items.specs.Bodies.{BodyContents, body_fault, tops, BodyReaches};
+ghost use Rattle.hir_items.specs.Bodies.{BodyContents, body_fault, tops, BodyReaches, body_nodes};
 ghost use Rattle.hir_expr_store.specs.Under.{LieApart};
 
 use crate::body_source_map::BodySourceMap;
-use hir_expr_store::laws::{roots_stand_apart, under_two_is_under_one, what_is_under_is_there};
+use hir_expr_store::laws::{
+    reached_is_decided, reached_is_listed, reached_is_listed_once, roots_stand_apart,
+    under_two_is_under_one, what_is_reached_is_there,
+};
 
 /// The parts of a body have one first fault at most: a body is accepted exactly where there is none.
 pub fn first_body_fault_is_one()
@@ -44,7 +48,23 @@ pub fn what_a_body_reaches_is_there()
         → (n : NodeId) → BodyReaches b n → Has b.store.nodes n }
 {
     tops_are_there();
-    what_is_under_is_there();
+    what_is_reached_is_there();
+}
+
+/// What a body reaches is listed, and nothing else, each node once; so each node is reached or it isn't. By the list each sum and each
+/// count over what a body reaches is stated.
+pub fn what_a_body_reaches_is_listed()
+    ensures listed { (b : BodyContents) → contents_fault b.store None
+        → (n : NodeId) → Contains (body_nodes b) n ↔ BodyReaches b n }
+    ensures once { (b : BodyContents) → contents_fault b.store None → body_fault b None
+        → AllPairs (λ n m. n ≢ m) (body_nodes b) }
+    ensures decided { (b : BodyContents) → contents_fault b.store None
+        → (n : NodeId) → BodyReaches b n ⊎ (BodyReaches b n → ⊥) }
+{
+    tops_lie_apart();
+    reached_is_listed();
+    reached_is_listed_once();
+    reached_is_decided();
 }
 
 /// Source maps of bodies are equal exactly where the compared parts of their stores' source maps are the same, and where `self` stands.

@@ -13,6 +13,7 @@ mod generic_params;
 mod lookups;
 mod named_ids;
 mod signature_fault;
+pub mod signature_laws;
 mod signatures;
 
 pub use body::{Body, RefusedBody};

@@ -86,7 +86,9 @@ fn has_predicate(store: &ExpressionStore, predicate: &WherePredicate) -> bool
 fn has_predicates(store: &ExpressionStore, predicates: &[WherePredicate]) -> bool
     ensures { result ≡ list_all (λ w. all_there store.now.nodes (predicate_calls w)) predicates.now }
 {
-    predicates.iter().all(|predicate| has_predicate(store, predicate))
+    predicates
+        .iter()
+        .all(|predicate| has_predicate(store, predicate))
 }
 
 /// Whether each id of the parameters and predicates is there.
@@ -117,7 +119,9 @@ fn predicates_name_paths(store: &ExpressionStore, predicates: &[WherePredicate])
     ensures { result ≡
         list_all (λ w. list_all (is_path_at store.now.nodes.types) (predicate_paths w)) predicates.now }
 {
-    predicates.iter().all(|predicate| names_paths(store, predicate))
+    predicates
+        .iter()
+        .all(|predicate| names_paths(store, predicate))
 }
 
 /// Whether what the predicates name as paths are paths.

@@ -265,6 +265,7 @@ fn roots_faults_and_parts(rt: HostRuntime) -> Result<(), Fail> {
     body_laws::tops_are_there();
     body_laws::tops_lie_apart();
     body_laws::what_a_body_reaches_is_there();
+    body_laws::what_a_body_reaches_is_listed();
     for (i, case) in CASES.iter().enumerate() {
         assert!(&rt; is_answered(rt.alloc(), case)?, "case {i}");
     }

@@ -1,0 +1,27 @@
+//! Laws of signatures that a reader relies on, and that no call's contract says.
+//! Each is a function that does nothing: its contract is the law. `ExpressionStore::has_no_fault` tells what they ask for.
+
+ghost use Rattle.std.specs.Prelude.{◌≢◌, ◌⊎◌, ◌↔◌, None, Contains};
+ghost use Rattle.std.specs.List.{AllPairs};
+ghost use Rattle.hir_node.specs.declared.node_id.NodeId.{NodeId};
+ghost use Rattle.hir_expr_store.specs.Contents.{Contents, contents_fault};
+ghost use Rattle.hir_items.specs.Signatures.{SignatureReaches, signature_nodes};
+
+use hir_expr_store::laws::{
+    reached_is_decided, reached_is_listed, reached_is_listed_once, roots_lie_apart,
+};
+
+/// What a signature over a store reaches is listed, and nothing else, each node once; so each node is reached or it isn't. It is what
+/// lies under the roots of the store: a body is reached from its formals too, and from the last root alone.
+pub fn what_a_signature_reaches_is_listed()
+    ensures listed { (c : Contents) → contents_fault c None
+        → (n : NodeId) → Contains (signature_nodes c) n ↔ SignatureReaches c n }
+    ensures once { (c : Contents) → contents_fault c None → AllPairs (λ n m. n ≢ m) (signature_nodes c) }
+    ensures decided { (c : Contents) → contents_fault c None
+        → (n : NodeId) → SignatureReaches c n ⊎ (SignatureReaches c n → ⊥) }
+{
+    roots_lie_apart();
+    reached_is_listed();
+    reached_is_listed_once();
+    reached_is_decided();
+}
