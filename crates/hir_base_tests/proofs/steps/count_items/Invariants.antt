@@ -2,5 +2,5 @@ use Rattle.std.proofs.Common.{◌≡◌, ◌+◌}
 use Rattle.hir_base_tests.proofs.steps.count_items.Given as goal
 
 -- a step for each item so far
-abbrev pub invariant-loop-_item : goal.invariant-loop-_item
-invariant-loop-_item l = l.steps ≡ l.initial.steps + l._item-index
+abbrev pub invariant-loop-item : goal.invariant-loop-item
+invariant-loop-item l = l.steps ≡ l.initial.steps + l._item-index
