@@ -4,3 +4,4 @@ pub mod UnderLemmas
 pub mod ApartLemmas
 pub mod ReachedLemmas
 pub mod RootLemmas
+pub mod GivenLemmas

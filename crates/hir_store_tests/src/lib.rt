@@ -23,6 +23,8 @@ mod searches;
 #[cfg(test)]
 mod source_maps;
 #[cfg(test)]
+mod texts;
+#[cfg(test)]
 mod told;
 #[cfg(test)]
 mod under;

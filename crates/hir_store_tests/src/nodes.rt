@@ -14,6 +14,8 @@ pub enum Written {
     A,
     /// `a::b` with one list of arguments.
     OneListForTwo,
+    /// `a` as a path with an empty list of lists.
+    NoListForOne,
     /// `a` with bindings nested so deep; the innermost list is said to begin with a self type, which is type 0 or lacks.
     Nested(u32, bool),
 }
@@ -124,6 +126,19 @@ fn path_with(
     boxed(alloc, path).map(Path::Normal)
 }
 
+/// The path of these names that has no list, though it isn't a plain one.
+fn path_without(alloc: Global, names: &[&str]) -> Result<Path, AllocError> {
+    let path = match plain(alloc, names) {
+        Ok(mod_path) => Ok(NormalPath {
+            generic_args: Seq::new(alloc),
+            type_anchor: None,
+            mod_path,
+        }),
+        Err(error) => Err(error),
+    };
+    boxed(alloc, path).map(Path::Normal)
+}
+
 /// The binding `B` with these arguments.
 fn binding_with(
     alloc: Global,
@@ -192,6 +207,7 @@ pub fn path(alloc: Global, written: &Written) -> Result<Path, AllocError> {
     match *written {
         Written::A => bare(alloc),
         Written::OneListForTwo => path_with(alloc, &["a", "b"], Ok(None)),
+        Written::NoListForOne => path_without(alloc, &["a"]),
         Written::Nested(depth, has_self) => nested(alloc, depth, has_self),
     }
 }

@@ -37,6 +37,12 @@ const ONE_LIST_FOR_TWO: &[Step] = &[
     Step::Expr(ExprStep::Path(Written::OneListForTwo)),
 ];
 
+/// A path of one segment that isn't a plain one and has no list of arguments. A list for the segment is accepted.
+const NO_LIST_FOR_ONE: &[Step] = &[
+    Step::Begin,
+    Step::Expr(ExprStep::Path(Written::NoListForOne)),
+];
+
 /// A path, and a tuple that holds it twice.
 const HELD_TWICE: &[Step] = &[Step::Begin, PATH, Step::Expr(ExprStep::Tuple(&[0, 0]))];
 
@@ -116,6 +122,7 @@ const REFUSED: &[(&[Step], Fault)] = &[
     (NO_SELF_ARGUMENT, Fault::NoSelfArgument),
     (NO_SELF_ARGUMENT_DEEP_DOWN, Fault::NoSelfArgument),
     (ONE_LIST_FOR_TWO, Fault::ArgumentLists),
+    (NO_LIST_FOR_ONE, Fault::ArgumentLists),
     (HELD_TWICE, Fault::SharedChild),
     (HOLDS_ITSELF, Fault::Cycle),
     (ROOT_TWICE, Fault::RootRepeated(1)),

@@ -2,7 +2,7 @@
 use crate::build::{PATH, Step, WILD};
 use crate::made;
 use crate::nodes::ExprStep;
-use hir_base::Idx;
+use hir_base::{Idx, Steps};
 use hir_node::{BindingId, ExprId, PatId};
 use hir_store::{ExprRoots, ExpressionStore};
 use std::test::Fail;
@@ -45,6 +45,21 @@ fn roots_for(store: &ExpressionStore, number: u32) -> (Option<u32>, Option<u32>,
     (for_expr, for_pat, for_binding)
 }
 
+/// The root that the expression of this number was made for, by the search that counts.
+fn counted_root_for(store: &ExpressionStore, number: u32) -> Option<u32> {
+    let expr = ExprId::from_raw(number);
+    if store.covers_expr(expr) {
+        let mut steps = Steps::new();
+        Some(
+            store
+                .find_root_for_expr_counted(expr, &mut steps)
+                .into_raw(),
+        )
+    } else {
+        None
+    }
+}
+
 /// A number, and the roots of the expression, the pattern and the binding of this number.
 type Roots = (u32, Option<u32>, Option<u32>, Option<u32>);
 
@@ -60,7 +75,8 @@ const ROOTS: &[Roots] = &[
 fn first_that_differs(store: &ExpressionStore) -> Option<u32> {
     for (number, of_expr, of_pat, of_binding) in ROOTS {
         let (expr, pat, binding) = roots_for(store, *number);
-        if !((expr == *of_expr) & (pat == *of_pat) & (binding == *of_binding)) {
+        let is_counted = counted_root_for(store, *number) == expr;
+        if !(is_counted & (expr == *of_expr) & (pat == *of_pat) & (binding == *of_binding)) {
             return Some(*number);
         }
     }
