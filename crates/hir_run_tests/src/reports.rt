@@ -10,13 +10,7 @@ use std::test::Fail;
 
 /// Fails where an outcome is reported in other words or by another status. A sink that fails takes a front of the text, is
 /// called no more, and changes no status.
-fn reports(
-    rt: &impl Abort,
-    alloc: Global,
-    outcome: Result<(), RunFault>,
-    text: &str,
-    status: u8,
-) {
+fn reports(rt: &impl Abort, alloc: Global, outcome: Result<(), RunFault>, text: &str, status: u8) {
     for step in [1, 1000] {
         let mut errors = Kept::new(alloc, step, u64::MAX);
         assert_eq!(rt; report(&outcome, &mut errors), status, "{text}");
@@ -69,10 +63,7 @@ fn reports_each_outcome(rt: HostRuntime) -> Result<(), Fail> {
 fn reports_each_fault_of_a_root(rt: HostRuntime) -> Result<(), Fail> {
     let cases = [
         (FinishFault::NoRoots, "refused NoRoots\n"),
-        (
-            FinishFault::RootOutOfRange(0),
-            "refused RootOutOfRange 0\n",
-        ),
+        (FinishFault::RootOutOfRange(0), "refused RootOutOfRange 0\n"),
         (FinishFault::RootRepeated(10), "refused RootRepeated 10\n"),
         (FinishFault::RootUnderRoot(7), "refused RootUnderRoot 7\n"),
         (
@@ -89,40 +80,40 @@ fn reports_each_fault_of_a_root(rt: HostRuntime) -> Result<(), Fail> {
 
 #[test]
 fn reports_each_fault_of_a_node(rt: HostRuntime) -> Result<(), Fail> {
-    let expr = NodeId::Expr(ExprId::from_raw(4_294_967_295));
-    let pat = NodeId::Pat(PatId::from_raw(0));
-    let type_ref = NodeId::TypeRef(TypeRefId::from_raw(10));
+    let expr = ExprId::from_raw(4_294_967_295);
+    let pat = PatId::from_raw(0);
+    let type_ref = TypeRefId::from_raw(10);
     let cases = [
         (
-            FinishFault::IdOutOfRange(expr),
+            FinishFault::IdOutOfRange(NodeId::Expr(expr)),
             "refused IdOutOfRange ExprId(4294967295)\n",
         ),
         (
-            FinishFault::NotAPath(expr),
+            FinishFault::NotAPath(NodeId::Expr(expr)),
             "refused NotAPath ExprId(4294967295)\n",
         ),
         (
-            FinishFault::NoReturnType(type_ref),
+            FinishFault::NoReturnType(NodeId::TypeRef(type_ref)),
             "refused NoReturnType TypeRefId(10)\n",
         ),
         (
-            FinishFault::NoSelfArgument(pat),
+            FinishFault::NoSelfArgument(NodeId::Pat(pat)),
             "refused NoSelfArgument PatId(0)\n",
         ),
         (
-            FinishFault::ArgumentLists(pat),
+            FinishFault::ArgumentLists(NodeId::Pat(pat)),
             "refused ArgumentLists PatId(0)\n",
         ),
         (
-            FinishFault::SharedChild(expr),
+            FinishFault::SharedChild(NodeId::Expr(expr)),
             "refused SharedChild ExprId(4294967295)\n",
         ),
         (
-            FinishFault::Cycle(expr),
+            FinishFault::Cycle(NodeId::Expr(expr)),
             "refused Cycle ExprId(4294967295)\n",
         ),
         (
-            FinishFault::Cycle(type_ref),
+            FinishFault::Cycle(NodeId::TypeRef(type_ref)),
             "refused Cycle TypeRefId(10)\n",
         ),
     ];
