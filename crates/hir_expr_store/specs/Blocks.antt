@@ -1,5 +1,5 @@
 -- The blocks of a store with the maps of their items.
-use Rattle.std.specs.Prelude.{ℕ, List, [], ◌∷◌, Option, Some, None, Result, Ok, Err, is_none, if◌then◌else◌}
+use Rattle.std.specs.Prelude.{ℕ, List, Option, Some, None, Result, Ok, Err, is_none, find}
 use Rattle.std.specs.Option.{option_map}
 use Rattle.std.specs.List.{filter_map}
 use Rattle.std.specs.Ordering.{nat_cmp}
@@ -14,8 +14,7 @@ module _ {M : Type 0} (maps : BTreeMap ℕ M) where
 
   -- the first block that has no map
   abbrev pub first_without : List ℕ → Option ℕ
-  first_without [] = None
-  first_without (block ∷ blocks) = if is_none (map_of block) then Some block else first_without blocks
+  first_without blocks = find (λ block. is_none (map_of block)) blocks
 
   -- each block that has a map, with the map
   abbrev pub with_maps : List ℕ → List (ℕ × M)

@@ -69,10 +69,5 @@ impl ExpressionStore {
 fn first_without<M>(blocks: &[BlockId], maps: &BTreeMap<BlockId, M>) -> Option<BlockId>
     ensures { result ≡ first_without maps.now blocks.now }
 {
-    for block in blocks {
-        if !maps.contains_key(block) {
-            return Some(*block);
-        }
-    }
-    None
+    blocks.iter().find(|block| !maps.contains_key(*block)).copied()
 }

@@ -56,22 +56,33 @@ pub fn ranks_are_bounded()
 /// a function type has a return type, a list of generic arguments that begins with a self type isn't empty, and a `Normal` path has one
 /// list for each segment.
 pub fn nodes_are_sound()
-    ensures exprs { (c : Contents) → contents_fault c None → (id : ℕ) (x : Expr) → slice_get c.nodes.exprs id ≡ Some x → IsSoundNode c.nodes (tested_expr x) }
-    ensures pats { (c : Contents) → contents_fault c None → (id : ℕ) (x : Pat) → slice_get c.nodes.pats id ≡ Some x → IsSoundNode c.nodes (tested_pat x) }
-    ensures types { (c : Contents) → contents_fault c None → (id : ℕ) (x : TypeRef) → slice_get c.nodes.types id ≡ Some x → IsSoundNode c.nodes (tested_type x) }
+    ensures exprs { (c : Contents) → contents_fault c None → (id : ℕ) (x : Expr)
+        → slice_get c.nodes.exprs id ≡ Some x → IsSoundNode c.nodes (tested_expr x) }
+    ensures pats { (c : Contents) → contents_fault c None → (id : ℕ) (x : Pat)
+        → slice_get c.nodes.pats id ≡ Some x → IsSoundNode c.nodes (tested_pat x) }
+    ensures types { (c : Contents) → contents_fault c None → (id : ℕ) (x : TypeRef)
+        → slice_get c.nodes.types id ≡ Some x → IsSoundNode c.nodes (tested_type x) }
 {}
 
 /// The path that a node holds fits the store, as `ExpressionStore::path_is_sound` tests it.
 pub fn paths_of_nodes_fit()
-    ensures exprs { (c : Contents) → contents_fault c None → (id : ℕ) (path : Path) → slice_get c.nodes.exprs id ≡ Some (expr.Path path) → IsTrue (path_fits c.nodes path) }
-    ensures record_lits { (c : Contents) → contents_fault c None → (id : ℕ) (path : Path) (fields : List RecordLitField) (spread : RecordSpread)
-        → slice_get c.nodes.exprs id ≡ Some (expr.RecordLit path fields spread) → IsTrue (path_fits c.nodes path) }
-    ensures pats { (c : Contents) → contents_fault c None → (id : ℕ) (path : Path) → slice_get c.nodes.pats id ≡ Some (pat.Path path) → IsTrue (path_fits c.nodes path) }
-    ensures tuple_structs { (c : Contents) → contents_fault c None → (id : ℕ) (path : Path) (args : List ℕ) (ellipsis : Option ℕ)
-        → slice_get c.nodes.pats id ≡ Some (pat.TupleStruct path args ellipsis) → IsTrue (path_fits c.nodes path) }
-    ensures record_pats { (c : Contents) → contents_fault c None → (id : ℕ) (path : Path) (args : List RecordFieldPat) (ellipsis : Bool)
+    ensures exprs { (c : Contents) → contents_fault c None → (id : ℕ) (path : Path)
+        → slice_get c.nodes.exprs id ≡ Some (expr.Path path) → IsTrue (path_fits c.nodes path) }
+    ensures record_lits { (c : Contents) → contents_fault c None
+        → (id : ℕ) (path : Path) (fields : List RecordLitField) (spread : RecordSpread)
+        → slice_get c.nodes.exprs id ≡ Some (expr.RecordLit path fields spread)
+        → IsTrue (path_fits c.nodes path) }
+    ensures pats { (c : Contents) → contents_fault c None → (id : ℕ) (path : Path)
+        → slice_get c.nodes.pats id ≡ Some (pat.Path path) → IsTrue (path_fits c.nodes path) }
+    ensures tuple_structs { (c : Contents) → contents_fault c None
+        → (id : ℕ) (path : Path) (args : List ℕ) (ellipsis : Option ℕ)
+        → slice_get c.nodes.pats id ≡ Some (pat.TupleStruct path args ellipsis)
+        → IsTrue (path_fits c.nodes path) }
+    ensures record_pats { (c : Contents) → contents_fault c None
+        → (id : ℕ) (path : Path) (args : List RecordFieldPat) (ellipsis : Bool)
         → slice_get c.nodes.pats id ≡ Some (pat.Record path args ellipsis) → IsTrue (path_fits c.nodes path) }
-    ensures types { (c : Contents) → contents_fault c None → (id : ℕ) (path : Path) → slice_get c.nodes.types id ≡ Some (type.Path path) → IsTrue (path_fits c.nodes path) }
+    ensures types { (c : Contents) → contents_fault c None → (id : ℕ) (path : Path)
+        → slice_get c.nodes.types id ≡ Some (type.Path path) → IsTrue (path_fits c.nodes path) }
 {}
 
 /// The roots are there, none is another or lies under one, and their ends rise up to the lengths of the arenas.
@@ -88,7 +99,8 @@ pub fn pats_is()
 /// The bindings of a pattern are its own, and then those of each of its child patterns.
 pub fn bindings_in_is()
     ensures { (c : Contents) → contents_fault c None → (id : ℕ) → id < length c.nodes.pats
-        → bindings_in c.nodes id ≡ bindings_at c.nodes id ++ flat_map (bindings_in c.nodes) (child_pats_of c.nodes id) }
+        → bindings_in c.nodes id
+        ≡ bindings_at c.nodes id ++ flat_map (bindings_in c.nodes) (child_pats_of c.nodes id) }
 {}
 
 /// The expressions of a pattern are what its calls give, in order: an expression or an anonymous constant itself, a pattern its expressions.
@@ -105,12 +117,14 @@ pub fn under_two_is_under_one()
 
 /// What lies under a node is there.
 pub fn what_is_under_is_there()
-    ensures { (c : Contents) → contents_fault c None → (n r : NodeId) → Has c.nodes r → Under c.nodes n r → Has c.nodes n }
+    ensures { (c : Contents) → contents_fault c None → (n r : NodeId) → Has c.nodes r → Under c.nodes n r
+        → Has c.nodes n }
 {}
 
 /// Nothing lies under two kids of a node, so no kid is listed twice.
 pub fn kids_lie_apart()
-    ensures { (c : Contents) → contents_fault c None → (n : NodeId) → Has c.nodes n → LieApart c.nodes (kids_of c.nodes n) }
+    ensures { (c : Contents) → contents_fault c None → (n : NodeId) → Has c.nodes n
+        → LieApart c.nodes (kids_of c.nodes n) }
 {}
 
 /// Two nodes with a common kid are one.
@@ -151,12 +165,14 @@ pub fn reached_is_decided()
 /// What is reached from nodes that are there is there.
 pub fn what_is_reached_is_there()
     ensures { (c : Contents) → contents_fault c None → (tops : List NodeId)
-        → ((t : NodeId) → Contains tops t → Has c.nodes t) → (n : NodeId) → Reached c.nodes tops n → Has c.nodes n }
+        → ((t : NodeId) → Contains tops t → Has c.nodes t) → (n : NodeId) → Reached c.nodes tops n
+        → Has c.nodes n }
 {}
 
 /// A kid of what is reached is reached. This holds of any nodes.
 pub fn kids_of_reached_are_reached()
-    ensures { (s : Nodes) (tops : List NodeId) (n k : NodeId) → Reached s tops n → Contains (kids_of s n) k → Reached s tops k }
+    ensures { (s : Nodes) (tops : List NodeId) (n k : NodeId) → Reached s tops n → Contains (kids_of s n) k
+        → Reached s tops k }
 {}
 
 /// Only a node that is there has kids. This holds of any nodes.
@@ -167,18 +183,25 @@ pub fn who_has_kids_is_there()
 /// The bounds and the generic arguments that a node holds fit the store. Those that a path holds fit by `paths_of_nodes_fit` and
 /// `parts_of_paths_fit`.
 pub fn bounds_and_args_of_nodes_fit()
-    ensures impl_traits { (c : Contents) → contents_fault c None → (id : ℕ) (bounds : List TypeBound) (x : TypeBound)
-        → slice_get c.nodes.types id ≡ Some (type.ImplTrait bounds) → Contains bounds x → IsTrue (bound_fits c.nodes x) }
-    ensures dyn_traits { (c : Contents) → contents_fault c None → (id : ℕ) (bounds : List TypeBound) (x : TypeBound)
-        → slice_get c.nodes.types id ≡ Some (type.DynTrait bounds) → Contains bounds x → IsTrue (bound_fits c.nodes x) }
-    ensures method_calls { (c : Contents) → contents_fault c None → (id : ℕ) (receiver : ℕ) (name : List ℕ) (args : List ℕ) (x : GenericArgs)
-        → slice_get c.nodes.exprs id ≡ Some (expr.MethodCall receiver name args (Some x)) → IsTrue (args_fit c.nodes x) }
+    ensures impl_traits { (c : Contents) → contents_fault c None
+        → (id : ℕ) (bounds : List TypeBound) (x : TypeBound)
+        → slice_get c.nodes.types id ≡ Some (type.ImplTrait bounds) → Contains bounds x
+        → IsTrue (bound_fits c.nodes x) }
+    ensures dyn_traits { (c : Contents) → contents_fault c None
+        → (id : ℕ) (bounds : List TypeBound) (x : TypeBound)
+        → slice_get c.nodes.types id ≡ Some (type.DynTrait bounds) → Contains bounds x
+        → IsTrue (bound_fits c.nodes x) }
+    ensures method_calls { (c : Contents) → contents_fault c None
+        → (id : ℕ) (receiver : ℕ) (name : List ℕ) (args : List ℕ) (x : GenericArgs)
+        → slice_get c.nodes.exprs id ≡ Some (expr.MethodCall receiver name args (Some x))
+        → IsTrue (args_fit c.nodes x) }
 {}
 
 /// Of a path that fits, each list of generic arguments fits, and the anchor is there. This holds of any nodes.
 pub fn parts_of_paths_fit()
     ensures args { (s : Nodes) (normal : NormalPath) (args : GenericArgs)
-        → IsTrue (path_fits s (path.Normal normal)) → Contains normal.generic_args (Some args) → IsTrue (args_fit s args) }
+        → IsTrue (path_fits s (path.Normal normal)) → Contains normal.generic_args (Some args)
+        → IsTrue (args_fit s args) }
     ensures anchor { (s : Nodes) (normal : NormalPath) (id : ℕ)
         → IsTrue (path_fits s (path.Normal normal)) → normal.type_anchor ≡ Some id → id < length s.types }
 {}
@@ -191,18 +214,22 @@ pub fn parts_of_args_fit()
     ensures binding_args { (s : Nodes) (x : GenericArgs) → IsTrue (args_fit s x) → (b : AssociatedTypeBinding)
         → Contains (out-GenericArgs x).bindings b → (args : GenericArgs)
         → (out-AssociatedTypeBinding b).args ≡ Some args → IsTrue (args_fit s args) }
-    ensures binding_types { (s : Nodes) (x : GenericArgs) → IsTrue (args_fit s x) → (b : AssociatedTypeBinding)
+    ensures binding_types { (s : Nodes) (x : GenericArgs) → IsTrue (args_fit s x)
+        → (b : AssociatedTypeBinding)
         → Contains (out-GenericArgs x).bindings b → (id : ℕ)
         → (out-AssociatedTypeBinding b).type_ref ≡ Some id → id < length s.types }
-    ensures binding_bounds { (s : Nodes) (x : GenericArgs) → IsTrue (args_fit s x) → (b : AssociatedTypeBinding)
+    ensures binding_bounds { (s : Nodes) (x : GenericArgs) → IsTrue (args_fit s x)
+        → (b : AssociatedTypeBinding)
         → Contains (out-GenericArgs x).bindings b → (y : TypeBound)
         → Contains (out-AssociatedTypeBinding b).bounds y → IsTrue (bound_fits s y) }
 {}
 
 /// What a bound that fits names as a path is there and is one, so the bound may be asked for it. This holds of any nodes.
 pub fn paths_of_bounds_are_there()
-    ensures paths { (s : Nodes) (id : ℕ) (before : TraitBoundModifier) → IsTrue (bound_fits s (bound.Path id before)) → IsTrue (is_path_at s.types id) }
-    ensures for_lifetimes { (s : Nodes) (names : List (List ℕ)) (id : ℕ) → IsTrue (bound_fits s (bound.ForLifetime names id)) → IsTrue (is_path_at s.types id) }
+    ensures paths { (s : Nodes) (id : ℕ) (before : TraitBoundModifier)
+        → IsTrue (bound_fits s (bound.Path id before)) → IsTrue (is_path_at s.types id) }
+    ensures for_lifetimes { (s : Nodes) (names : List (List ℕ)) (id : ℕ)
+        → IsTrue (bound_fits s (bound.ForLifetime names id)) → IsTrue (is_path_at s.types id) }
     ensures asked { (s : Nodes) (x : TypeBound) → IsTrue (bound_fits s x) → BoundFits x s }
 {}
 
@@ -224,5 +251,6 @@ pub trait ToldByKids {
 /// The value of a node is what the step tells of it by the values of its kids.
 pub fn value_is<V: ToldByKids>()
     ensures { (c : Contents) → contents_fault c None → (n : NodeId)
-        → value c.nodes (V.step c.nodes) V.nothing n ≡ V.step c.nodes (value c.nodes (V.step c.nodes) V.nothing) n }
+        → value c.nodes (V.step c.nodes) V.nothing n
+        ≡ V.step c.nodes (value c.nodes (V.step c.nodes) V.nothing) n }
 {}

@@ -60,7 +60,8 @@ impl Kids {
         requires grown { IsOk self.old.grown }
         ensures sizes { self.new.sizes ≡ self.old.sizes }
         ensures grown { OnOk result (IsOk self.new.grown) }
-        ensures rows { OnOk result (self.new.rows ≡ self.old.rows ++ map (λ x. places self.old.sizes (N.tested x).calls) nodes.now) }
+        ensures rows { OnOk result (self.new.rows
+            ≡ self.old.rows ++ map (λ x. places self.old.sizes (N.tested x).calls) nodes.now) }
     {
         for node in nodes {
             self.rows.begin_row()?;

@@ -47,7 +47,8 @@ impl Model for ExprScopes {
 
     ghost coded = { Prim.hlevel (codes, map.code {R = nat_cmp} coded_ℕ coded_ℕ) };
 
-    ghost view = { λ s. record { scopes = scopes_of s.entries.items s.scopes.items; scope_by_expr = s.scope_by_expr } };
+    ghost view = { λ s. record { scopes = scopes_of s.entries.items s.scopes.items;
+        scope_by_expr = s.scope_by_expr } };
 
     ghost invariant = { λ s. IsFlat s.entries.items s.scopes.items s.scope_by_expr };
 }
@@ -161,7 +162,8 @@ impl ExprScopes {
     /// nothing.
     pub fn parents_stand_earlier(&self)
         ensures parents { ParentsStandEarlier self.now.scopes }
-        ensures there { (expr scope : ℕ) → map.get self.now.scope_by_expr expr ≡ Some scope → scope < length self.now.scopes }
+        ensures there { (expr scope : ℕ) → map.get self.now.scope_by_expr expr ≡ Some scope
+            → scope < length self.now.scopes }
     {
         let _ = &self.scopes;
     }
@@ -196,11 +198,13 @@ impl ExprScopes {
     ) -> Result<ScopeId, ScopesFault>
         requires { IsIn self.old.scopes parent }
         ensures id { IfOk result (λ id. id ≡ length self.old.scopes) }
-        ensures ok { OnOk result (self.new ≡ record { scopes = self.old.scopes ++ record { parent = parent; kind = kind; entries = entries.old.items } ∷ []; scope_by_expr = self.old.scope_by_expr }) }
+        ensures ok { OnOk result (self.new ≡ record { scopes = self.old.scopes ++ record { parent = parent;
+            kind = kind; entries = entries.old.items } ∷ []; scope_by_expr = self.old.scope_by_expr }) }
         ensures taken { OnOk result (entries.new.items ≡ []) }
         ensures err { OnErr result (self.new ≡ self.old) }
         ensures kept { OnErr result (entries.new.items ≡ entries.old.items) }
-        ensures full { result ≡ Err ScopesFault.Full ↔ ((4294967295 < length self.old.scopes + 1) ⊎ (4294967295 < entry_count self.old.scopes + length entries.old.items)) }
+        ensures full { result ≡ Err ScopesFault.Full ↔ ((4294967295 < length self.old.scopes + 1)
+            ⊎ (4294967295 < entry_count self.old.scopes + length entries.old.items)) }
         ensures missing { result ≡ Err ScopesFault.Missing → ⊥ }
     {
         let count = self.scopes.len();
@@ -226,7 +230,8 @@ impl ExprScopes {
     /// Answers `Memory` where room for it was refused: nothing has changed then.
     pub(crate) fn set_scope(&mut self, expr: ExprId, scope: ScopeId) -> Result<(), ScopesFault>
         requires { scope < length self.old.scopes }
-        ensures ok { OnOk result (self.new ≡ record { scopes = self.old.scopes; scope_by_expr = map.insert self.old.scope_by_expr expr scope }) }
+        ensures ok { OnOk result (self.new ≡ record { scopes = self.old.scopes;
+            scope_by_expr = map.insert self.old.scope_by_expr expr scope }) }
         ensures err { OnErr result (self.new ≡ self.old) }
         ensures memory { OnErr result (result ≡ Err ScopesFault.Memory) }
     {

@@ -16,7 +16,8 @@ use hir_expr_store::laws::kids_fall;
 
 /// The leak of a node is what its kind of node leaks, by the leaks of its kids.
 pub fn leak_is_its_step()
-    ensures { (c : Contents) → contents_fault c None → (n : NodeId) → Has c.nodes n → leak c.nodes n ≡ leak_step c.nodes (leak c.nodes) n }
+    ensures { (c : Contents) → contents_fault c None → (n : NodeId) → Has c.nodes n
+        → leak c.nodes n ≡ leak_step c.nodes (leak c.nodes) n }
 {
     kids_fall();
 }
@@ -28,11 +29,14 @@ pub fn slots_hold_the_kids()
 
 /// A node stands in a place exactly where it is reached.
 pub fn what_is_reached_stands()
-    ensures stands { (s : Nodes) (tops : List Place) (n : NodeId) → Reached s (map (λ at. at.node) tops) n → (at : Place) × Stands s tops at × (at.node ≡ n) }
-    ensures reached { (s : Nodes) (tops : List Place) (at : Place) → Stands s tops at → Reached s (map (λ at. at.node) tops) at.node }
+    ensures stands { (s : Nodes) (tops : List Place) (n : NodeId) → Reached s (map (λ at. at.node) tops) n
+        → (at : Place) × Stands s tops at × (at.node ≡ n) }
+    ensures reached { (s : Nodes) (tops : List Place) (at : Place) → Stands s tops at
+        → Reached s (map (λ at. at.node) tops) at.node }
 {}
 
 /// A scope and those around it are at most as many as there are scopes.
 pub fn chains_are_short()
-    ensures { (scopes : List Scope) → ParentsStandEarlier scopes → (scope : Option ℕ) → IsIn scopes scope → length (path scopes scope) ≤ length scopes }
+    ensures { (scopes : List Scope) → ParentsStandEarlier scopes → (scope : Option ℕ) → IsIn scopes scope
+        → length (path scopes scope) ≤ length scopes }
 {}

@@ -94,9 +94,11 @@ impl ExpressionStoreBuilder {
     /// Answers `Memory` where room for it was refused, and `Full` exactly where there are 4,294,967,295. Either hands the expression
     /// back, and the builder is as it was. So do the other calls that add something.
     pub fn alloc_expr(&mut self, expr: Expr) -> Result<ExprId, (ArenaFault, Expr)>
-        ensures ok { IfOk result (λ id. (id ≡ length self.old.exprs) × (self.new ≡ record self.old { exprs = self.old.exprs ++ expr ∷ [] })) }
+        ensures ok { IfOk result (λ id. (id ≡ length self.old.exprs)
+            × (self.new ≡ record self.old { exprs = self.old.exprs ++ expr ∷ [] })) }
         ensures err { IfErr result (λ refused. (refused.1 ≡ expr) × (self.new ≡ self.old)) }
-        ensures full { IfErr result (λ refused. refused.0 ≡ ArenaFault.Full → length self.old.exprs ≡ 4294967295) }
+        ensures full { IfErr result (λ refused. refused.0 ≡ ArenaFault.Full
+            → length self.old.exprs ≡ 4294967295) }
         ensures full_only { length self.old.exprs ≡ 4294967295 → result ≡ Err (ArenaFault.Full, expr) }
     {
         self.exprs.alloc(expr)
@@ -104,9 +106,11 @@ impl ExpressionStoreBuilder {
 
     /// Adds a pattern and answers its id, the number of patterns before it.
     pub fn alloc_pat(&mut self, pat: Pat) -> Result<PatId, (ArenaFault, Pat)>
-        ensures ok { IfOk result (λ id. (id ≡ length self.old.pats) × (self.new ≡ record self.old { pats = self.old.pats ++ pat ∷ [] })) }
+        ensures ok { IfOk result (λ id. (id ≡ length self.old.pats)
+            × (self.new ≡ record self.old { pats = self.old.pats ++ pat ∷ [] })) }
         ensures err { IfErr result (λ refused. (refused.1 ≡ pat) × (self.new ≡ self.old)) }
-        ensures full { IfErr result (λ refused. refused.0 ≡ ArenaFault.Full → length self.old.pats ≡ 4294967295) }
+        ensures full { IfErr result (λ refused. refused.0 ≡ ArenaFault.Full
+            → length self.old.pats ≡ 4294967295) }
         ensures full_only { length self.old.pats ≡ 4294967295 → result ≡ Err (ArenaFault.Full, pat) }
     {
         self.pats.alloc(pat)
@@ -114,9 +118,11 @@ impl ExpressionStoreBuilder {
 
     /// Adds a binding and answers its id, the number of bindings before it.
     pub fn alloc_binding(&mut self, binding: Binding) -> Result<BindingId, (ArenaFault, Binding)>
-        ensures ok { IfOk result (λ id. (id ≡ length self.old.bindings) × (self.new ≡ record self.old { bindings = self.old.bindings ++ binding ∷ [] })) }
+        ensures ok { IfOk result (λ id. (id ≡ length self.old.bindings)
+            × (self.new ≡ record self.old { bindings = self.old.bindings ++ binding ∷ [] })) }
         ensures err { IfErr result (λ refused. (refused.1 ≡ binding) × (self.new ≡ self.old)) }
-        ensures full { IfErr result (λ refused. refused.0 ≡ ArenaFault.Full → length self.old.bindings ≡ 4294967295) }
+        ensures full { IfErr result (λ refused. refused.0 ≡ ArenaFault.Full
+            → length self.old.bindings ≡ 4294967295) }
         ensures full_only { length self.old.bindings ≡ 4294967295 → result ≡ Err (ArenaFault.Full, binding) }
     {
         self.bindings.alloc(binding)
@@ -124,9 +130,11 @@ impl ExpressionStoreBuilder {
 
     /// Adds a label and answers its id, the number of labels before it.
     pub fn alloc_label(&mut self, label: Label) -> Result<LabelId, (ArenaFault, Label)>
-        ensures ok { IfOk result (λ id. (id ≡ length self.old.labels) × (self.new ≡ record self.old { labels = self.old.labels ++ label ∷ [] })) }
+        ensures ok { IfOk result (λ id. (id ≡ length self.old.labels)
+            × (self.new ≡ record self.old { labels = self.old.labels ++ label ∷ [] })) }
         ensures err { IfErr result (λ refused. (refused.1 ≡ label) × (self.new ≡ self.old)) }
-        ensures full { IfErr result (λ refused. refused.0 ≡ ArenaFault.Full → length self.old.labels ≡ 4294967295) }
+        ensures full { IfErr result (λ refused. refused.0 ≡ ArenaFault.Full
+            → length self.old.labels ≡ 4294967295) }
         ensures full_only { length self.old.labels ≡ 4294967295 → result ≡ Err (ArenaFault.Full, label) }
     {
         self.labels.alloc(label)
@@ -134,9 +142,11 @@ impl ExpressionStoreBuilder {
 
     /// Adds a type and answers its id, the number of types before it.
     pub fn alloc_type(&mut self, type_ref: TypeRef) -> Result<TypeRefId, (ArenaFault, TypeRef)>
-        ensures ok { IfOk result (λ id. (id ≡ length self.old.types) × (self.new ≡ record self.old { types = self.old.types ++ type_ref ∷ [] })) }
+        ensures ok { IfOk result (λ id. (id ≡ length self.old.types)
+            × (self.new ≡ record self.old { types = self.old.types ++ type_ref ∷ [] })) }
         ensures err { IfErr result (λ refused. (refused.1 ≡ type_ref) × (self.new ≡ self.old)) }
-        ensures full { IfErr result (λ refused. refused.0 ≡ ArenaFault.Full → length self.old.types ≡ 4294967295) }
+        ensures full { IfErr result (λ refused. refused.0 ≡ ArenaFault.Full
+            → length self.old.types ≡ 4294967295) }
         ensures full_only { length self.old.types ≡ 4294967295 → result ≡ Err (ArenaFault.Full, type_ref) }
     {
         self.types.alloc(type_ref)
@@ -147,10 +157,13 @@ impl ExpressionStoreBuilder {
         &mut self,
         lifetime: LifetimeRef,
     ) -> Result<LifetimeRefId, (ArenaFault, LifetimeRef)>
-        ensures ok { IfOk result (λ id. (id ≡ length self.old.lifetimes) × (self.new ≡ record self.old { lifetimes = self.old.lifetimes ++ lifetime ∷ [] })) }
+        ensures ok { IfOk result (λ id. (id ≡ length self.old.lifetimes)
+            × (self.new ≡ record self.old { lifetimes = self.old.lifetimes ++ lifetime ∷ [] })) }
         ensures err { IfErr result (λ refused. (refused.1 ≡ lifetime) × (self.new ≡ self.old)) }
-        ensures full { IfErr result (λ refused. refused.0 ≡ ArenaFault.Full → length self.old.lifetimes ≡ 4294967295) }
-        ensures full_only { length self.old.lifetimes ≡ 4294967295 → result ≡ Err (ArenaFault.Full, lifetime) }
+        ensures full { IfErr result (λ refused. refused.0 ≡ ArenaFault.Full
+            → length self.old.lifetimes ≡ 4294967295) }
+        ensures full_only { length self.old.lifetimes ≡ 4294967295
+            → result ≡ Err (ArenaFault.Full, lifetime) }
     {
         self.lifetimes.alloc(lifetime)
     }
@@ -167,7 +180,8 @@ impl ExpressionStoreBuilder {
     /// Lists a root, with the lengths of the arenas of expressions, patterns and bindings at this moment as its ends; a list is begun
     /// where there is none. After a refusal the builder is as it was, and the id is handed back.
     pub fn push_root(&mut self, expr: ExprId) -> Result<(), AllocFailed<ExprId>>
-        ensures ok { OnOk result (self.new ≡ record self.old { roots = and_root (building_of self.old) expr }) }
+        ensures ok { OnOk result (self.new
+            ≡ record self.old { roots = and_root (building_of self.old) expr }) }
         ensures err { OnErr result (self.new ≡ self.old) }
         ensures value_returned { IfErr result (λ failed. failed.value ≡ expr) }
     {
@@ -201,7 +215,8 @@ impl ExpressionStoreBuilder {
         id: ExprOrPatId,
         hygiene: HygieneId,
     ) -> Result<(), AllocFailed<(ExprOrPatId, HygieneId)>>
-        ensures ok { OnOk result (self.new ≡ record self.old { hygiene = map.insert self.old.hygiene (expr_or_pat_code id) hygiene }) }
+        ensures ok { OnOk result (self.new
+            ≡ record self.old { hygiene = map.insert self.old.hygiene (expr_or_pat_code id) hygiene }) }
         ensures err { OnErr result (self.new ≡ self.old) }
         ensures value_returned { IfErr result (λ failed. failed.value ≡ (id, hygiene)) }
     {
@@ -210,7 +225,8 @@ impl ExpressionStoreBuilder {
 
     /// Lists a block that may hold items, behind the others. After a refusal the builder is as it was, and the block is handed back.
     pub fn add_block_scope(&mut self, block: BlockId) -> Result<(), AllocFailed<BlockId>>
-        ensures ok { OnOk result (self.new ≡ record self.old { block_scopes = self.old.block_scopes ++ block ∷ [] }) }
+        ensures ok { OnOk result (self.new
+            ≡ record self.old { block_scopes = self.old.block_scopes ++ block ∷ [] }) }
         ensures err { OnErr result (self.new ≡ self.old) }
         ensures value_returned { IfErr result (λ failed. failed.value ≡ block) }
     {

@@ -22,7 +22,8 @@ impl ExpressionStoreBuilder {
         source: ExprSource,
         expr: ExprOrPatId,
     ) -> Result<(), AllocFailed<(ExprSource, ExprOrPatId)>>
-        ensures ok { OnOk result (self.new ≡ record self.old { source_map = with_expr self.old.source_map source expr }) }
+        ensures ok { OnOk result (self.new
+            ≡ record self.old { source_map = with_expr self.old.source_map source expr }) }
         ensures err { OnErr result (self.new ≡ self.old) }
         ensures value_returned { IfErr result (λ failed. failed.value ≡ (source, expr)) }
     {
@@ -35,7 +36,8 @@ impl ExpressionStoreBuilder {
         expr: ExprId,
         source: ExprOrPatSource,
     ) -> Result<(), AllocFailed<(ExprId, ExprOrPatSource)>>
-        ensures ok { OnOk result (self.new ≡ record self.old { source_map = with_expr_back self.old.source_map expr source }) }
+        ensures ok { OnOk result (self.new
+            ≡ record self.old { source_map = with_expr_back self.old.source_map expr source }) }
         ensures err { OnErr result (self.new ≡ self.old) }
         ensures value_returned { IfErr result (λ failed. failed.value ≡ (expr, source)) }
     {
@@ -48,7 +50,8 @@ impl ExpressionStoreBuilder {
         source: PatSource,
         pat: ExprOrPatId,
     ) -> Result<(), AllocFailed<(PatSource, ExprOrPatId)>>
-        ensures ok { OnOk result (self.new ≡ record self.old { source_map = with_pat self.old.source_map source pat }) }
+        ensures ok { OnOk result (self.new
+            ≡ record self.old { source_map = with_pat self.old.source_map source pat }) }
         ensures err { OnErr result (self.new ≡ self.old) }
         ensures value_returned { IfErr result (λ failed. failed.value ≡ (source, pat)) }
     {
@@ -61,7 +64,8 @@ impl ExpressionStoreBuilder {
         pat: PatId,
         source: ExprOrPatSource,
     ) -> Result<(), AllocFailed<(PatId, ExprOrPatSource)>>
-        ensures ok { OnOk result (self.new ≡ record self.old { source_map = with_pat_back self.old.source_map pat source }) }
+        ensures ok { OnOk result (self.new
+            ≡ record self.old { source_map = with_pat_back self.old.source_map pat source }) }
         ensures err { OnErr result (self.new ≡ self.old) }
         ensures value_returned { IfErr result (λ failed. failed.value ≡ (pat, source)) }
     {
@@ -74,7 +78,8 @@ impl ExpressionStoreBuilder {
         source: LabelSource,
         label: LabelId,
     ) -> Result<(), AllocFailed<(LabelSource, LabelId)>>
-        ensures ok { OnOk result (self.new ≡ record self.old { source_map = with_label self.old.source_map source label }) }
+        ensures ok { OnOk result (self.new
+            ≡ record self.old { source_map = with_label self.old.source_map source label }) }
         ensures err { OnErr result (self.new ≡ self.old) }
         ensures value_returned { IfErr result (λ failed. failed.value ≡ (source, label)) }
     {
@@ -87,7 +92,8 @@ impl ExpressionStoreBuilder {
         label: LabelId,
         source: LabelSource,
     ) -> Result<(), AllocFailed<(LabelId, LabelSource)>>
-        ensures ok { OnOk result (self.new ≡ record self.old { source_map = with_label_back self.old.source_map label source }) }
+        ensures ok { OnOk result (self.new
+            ≡ record self.old { source_map = with_label_back self.old.source_map label source }) }
         ensures err { OnErr result (self.new ≡ self.old) }
         ensures value_returned { IfErr result (λ failed. failed.value ≡ (label, source)) }
     {
@@ -100,7 +106,8 @@ impl ExpressionStoreBuilder {
         source: TypeSource,
         type_ref: TypeRefId,
     ) -> Result<(), AllocFailed<(TypeSource, TypeRefId)>>
-        ensures ok { OnOk result (self.new ≡ record self.old { source_map = with_type self.old.source_map source type_ref }) }
+        ensures ok { OnOk result (self.new
+            ≡ record self.old { source_map = with_type self.old.source_map source type_ref }) }
         ensures err { OnErr result (self.new ≡ self.old) }
         ensures value_returned { IfErr result (λ failed. failed.value ≡ (source, type_ref)) }
     {
@@ -113,7 +120,8 @@ impl ExpressionStoreBuilder {
         type_ref: TypeRefId,
         source: TypeSource,
     ) -> Result<(), AllocFailed<(TypeRefId, TypeSource)>>
-        ensures ok { OnOk result (self.new ≡ record self.old { source_map = with_type_back self.old.source_map type_ref source }) }
+        ensures ok { OnOk result (self.new
+            ≡ record self.old { source_map = with_type_back self.old.source_map type_ref source }) }
         ensures err { OnErr result (self.new ≡ self.old) }
         ensures value_returned { IfErr result (λ failed. failed.value ≡ (type_ref, source)) }
     {
@@ -126,7 +134,8 @@ impl ExpressionStoreBuilder {
         source: LifetimeSource,
         lifetime: LifetimeRefId,
     ) -> Result<(), AllocFailed<(LifetimeSource, LifetimeRefId)>>
-        ensures ok { OnOk result (self.new ≡ record self.old { source_map = with_lifetime self.old.source_map source lifetime }) }
+        ensures ok { OnOk result (self.new
+            ≡ record self.old { source_map = with_lifetime self.old.source_map source lifetime }) }
         ensures err { OnErr result (self.new ≡ self.old) }
         ensures value_returned { IfErr result (λ failed. failed.value ≡ (source, lifetime)) }
     {
@@ -139,7 +148,8 @@ impl ExpressionStoreBuilder {
         lifetime: LifetimeRefId,
         source: LifetimeSource,
     ) -> Result<(), AllocFailed<(LifetimeRefId, LifetimeSource)>>
-        ensures ok { OnOk result (self.new ≡ record self.old { source_map = with_lifetime_back self.old.source_map lifetime source }) }
+        ensures ok { OnOk result (self.new
+            ≡ record self.old { source_map = with_lifetime_back self.old.source_map lifetime source }) }
         ensures err { OnErr result (self.new ≡ self.old) }
         ensures value_returned { IfErr result (λ failed. failed.value ≡ (lifetime, source)) }
     {
@@ -152,7 +162,8 @@ impl ExpressionStoreBuilder {
         expr: ExprId,
         source: FieldSource,
     ) -> Result<(), AllocFailed<(ExprId, FieldSource)>>
-        ensures ok { OnOk result (self.new ≡ record self.old { source_map = with_field_back self.old.source_map expr source }) }
+        ensures ok { OnOk result (self.new
+            ≡ record self.old { source_map = with_field_back self.old.source_map expr source }) }
         ensures err { OnErr result (self.new ≡ self.old) }
         ensures value_returned { IfErr result (λ failed. failed.value ≡ (expr, source)) }
     {
@@ -165,7 +176,8 @@ impl ExpressionStoreBuilder {
         pat: PatId,
         source: PatFieldSource,
     ) -> Result<(), AllocFailed<(PatId, PatFieldSource)>>
-        ensures ok { OnOk result (self.new ≡ record self.old { source_map = with_pat_field_back self.old.source_map pat source }) }
+        ensures ok { OnOk result (self.new
+            ≡ record self.old { source_map = with_pat_field_back self.old.source_map pat source }) }
         ensures err { OnErr result (self.new ≡ self.old) }
         ensures value_returned { IfErr result (λ failed. failed.value ≡ (pat, source)) }
     {
@@ -178,7 +190,8 @@ impl ExpressionStoreBuilder {
         call: InFile<MacroCallPtr>,
         expansion: MacroCallId,
     ) -> Result<(), AllocFailed<(InFile<MacroCallPtr>, MacroCallId)>>
-        ensures ok { OnOk result (self.new ≡ record self.old { source_map = with_expansion self.old.source_map call expansion }) }
+        ensures ok { OnOk result (self.new
+            ≡ record self.old { source_map = with_expansion self.old.source_map call expansion }) }
         ensures err { OnErr result (self.new ≡ self.old) }
         ensures value_returned { IfErr result (λ failed. failed.value ≡ (call, expansion)) }
     {
@@ -191,7 +204,8 @@ impl ExpressionStoreBuilder {
         binding: BindingId,
         pat: PatId,
     ) -> Result<(), AllocFailed<(BindingId, PatId)>>
-        ensures ok { OnOk result (self.new ≡ record self.old { source_map = with_definition self.old.source_map binding pat }) }
+        ensures ok { OnOk result (self.new
+            ≡ record self.old { source_map = with_definition self.old.source_map binding pat }) }
         ensures err { OnErr result (self.new ≡ self.old) }
         ensures value_returned { IfErr result (λ failed. failed.value ≡ (binding, pat)) }
     {
@@ -203,7 +217,8 @@ impl ExpressionStoreBuilder {
         &mut self,
         diagnostic: ExpressionStoreDiagnostics,
     ) -> Result<(), AllocFailed<ExpressionStoreDiagnostics>>
-        ensures ok { OnOk result (self.new ≡ record self.old { source_map = with_diagnostic self.old.source_map diagnostic }) }
+        ensures ok { OnOk result (self.new
+            ≡ record self.old { source_map = with_diagnostic self.old.source_map diagnostic }) }
         ensures err { OnErr result (self.new ≡ self.old) }
         ensures value_returned { IfErr result (λ failed. failed.value ≡ diagnostic) }
     {

@@ -52,9 +52,12 @@ impl ExpressionStoreBuilder {
     /// where an expansion or a diagnostic exists; a part that isn't kept is dropped with its entries. It takes time in the number of nodes, edges and roots, and doesn't recurse, but for associated type bindings that
     /// are nested in one path.
     pub fn finish(self) -> Result<(ExpressionStore, ExpressionStoreSourceMap), Refused>
-        ensures ok { IfOk result (λ made. (made.0 ≡ contents_of (building_of self)) × finish_fault (building_of self) None) }
-        ensures source_map { IfOk result (λ made. made.1 ≡ finished (has_exprs (nodes_of self)) self.source_map) }
-        ensures err { IfErr result (λ refused. (refused.builder ≡ self) × (refused.fault ≡ FinishFault.Memory ⊎ finish_fault (building_of self) (Some refused.fault))) }
+        ensures ok { IfOk result (λ made. (made.0 ≡ contents_of (building_of self))
+            × finish_fault (building_of self) None) }
+        ensures source_map { IfOk result (λ made. made.1
+            ≡ finished (has_exprs (nodes_of self)) self.source_map) }
+        ensures err { IfErr result (λ refused. (refused.builder ≡ self)
+            × (refused.fault ≡ FinishFault.Memory ⊎ finish_fault (building_of self) (Some refused.fault))) }
     {
         let fault = match self.first_fault() {
             Ok(None) => return Ok(self.accepted()),

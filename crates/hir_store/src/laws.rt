@@ -23,5 +23,6 @@ pub fn first_fault_is_one()
 
 /// Builders are equal exactly where they have the same nodes, roots and side_tables, and the same maps of sources.
 pub fn builders_are_compared_by_all_that_they_have()
-    ensures { (x y : ExpressionStoreBuilder) → Decides (⟦<ExpressionStoreBuilder as PartialEq>⟧.eq x y) (HasTheSame x y) }
+    ensures { (x y : ExpressionStoreBuilder)
+        → Decides (⟦<ExpressionStoreBuilder as PartialEq>⟧.eq x y) (HasTheSame x y) }
 {}
