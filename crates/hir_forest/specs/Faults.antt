@@ -43,7 +43,7 @@ abbrev pub root_fault : (ℕ → Type 0) → Ends → List Root → ℕ → Opti
 root_fault IsUnder lengths roots i =
     (RootOutOfRange i unless (slice_index (root_nodes roots) i < lengths.exprs))
     before (RootRepeated i
-        unless (Contains (take i (root_nodes roots)) (slice_index (root_nodes roots) i) → ⊥))
+    unless (Contains (take i (root_nodes roots)) (slice_index (root_nodes roots) i) → ⊥))
     before (RootUnderRoot i unless (IsUnder (slice_index (root_nodes roots) i) → ⊥))
     before (RootEnds i unless EndsFit lengths (ends_before roots i) (ends_before roots (suc i)))
 
@@ -53,7 +53,7 @@ forest_fault g lengths roots =
     first_below (length (concat g)) (edge_fault (concat g))
     before first_below (length g) (cycle_fault (ChainEnds g))
     before first_below (length roots)
-        (root_fault (LiesUnderRoot g lengths.exprs (root_nodes roots)) lengths roots)
+    (root_fault (LiesUnderRoot g lengths.exprs (root_nodes roots)) lengths roots)
 
 -- a fault names one of so many nodes, or one of so many roots
 abbrev pub IsWithin : ℕ → ℕ → ForestFault → Type 0
