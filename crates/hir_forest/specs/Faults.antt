@@ -31,7 +31,8 @@ ends_before roots i = slice_index_or (no_ends ∷ map (λ r. r.ends) roots) i no
 
 -- the child of edge e was no child of an earlier edge
 abbrev pub edge_fault : List ℕ → ℕ → Option ForestFault → Type 0
-edge_fault children e = SharedChild (slice_index children e) unless (Contains (take e children) (slice_index children e) → ⊥)
+edge_fault children e =
+    SharedChild (slice_index children e) unless (Contains (take e children) (slice_index children e) → ⊥)
 
 -- the chain of node n ends
 abbrev pub cycle_fault : (ℕ → Type 0) → ℕ → Option ForestFault → Type 0
@@ -41,7 +42,8 @@ cycle_fault Ends n = Cycle n unless Ends n
 abbrev pub root_fault : (ℕ → Type 0) → Ends → List Root → ℕ → Option ForestFault → Type 0
 root_fault IsUnder lengths roots i =
     (RootOutOfRange i unless (slice_index (root_nodes roots) i < lengths.exprs))
-    before (RootRepeated i unless (Contains (take i (root_nodes roots)) (slice_index (root_nodes roots) i) → ⊥))
+    before (RootRepeated i
+    unless (Contains (take i (root_nodes roots)) (slice_index (root_nodes roots) i) → ⊥))
     before (RootUnderRoot i unless (IsUnder (slice_index (root_nodes roots) i) → ⊥))
     before (RootEnds i unless EndsFit lengths (ends_before roots i) (ends_before roots (suc i)))
 
@@ -50,7 +52,8 @@ unfoldable pub forest_fault : List (List ℕ) → Ends → List Root → Option 
 forest_fault g lengths roots =
     first_below (length (concat g)) (edge_fault (concat g))
     before first_below (length g) (cycle_fault (ChainEnds g))
-    before first_below (length roots) (root_fault (LiesUnderRoot g lengths.exprs (root_nodes roots)) lengths roots)
+    before first_below (length roots)
+    (root_fault (LiesUnderRoot g lengths.exprs (root_nodes roots)) lengths roots)
 
 -- a fault names one of so many nodes, or one of so many roots
 abbrev pub IsWithin : ℕ → ℕ → ForestFault → Type 0

@@ -4,4 +4,4 @@ pub mod Forest
 pub mod Faults
 pub mod Height
 pub mod Walk
-pub mod SameRoots
+pub mod same

@@ -25,9 +25,11 @@ pub record Meets (row : List ℕ) (b : Bool) (old new : Reach) : Type 0 where
   pub met_length : length new.met ≡ length old.met
   pub under_length : length new.under ≡ length old.under
   pub stays_met : (c : ℕ) → Marks old.met c → Marks new.met c
-  pub stays_under : (c : ℕ) → Marks old.met c → slice_index_or new.under c false ≡ slice_index_or old.under c false
+  pub stays_under : (c : ℕ) → Marks old.met c →
+      slice_index_or new.under c false ≡ slice_index_or old.under c false
   pub kids_met : (c : ℕ) → Contains row c → Marks new.met c
-  pub fresh : (c : ℕ) → Marks new.met c → Marks old.met c ⊎ (Contains row c × Contains new.waiting c × (slice_index_or new.under c false ≡ b))
+  pub fresh : (c : ℕ) → Marks new.met c →
+      Marks old.met c ⊎ (Contains row c × Contains new.waiting c × (slice_index_or new.under c false ≡ b))
   pub stays_waiting : (c : ℕ) → Contains old.waiting c → Contains new.waiting c
   pub waiting_met : (c : ℕ) → Contains new.waiting c → Contains old.waiting c ⊎ Contains row c
   pub falls : work_left new ≡ work_left old
@@ -36,7 +38,8 @@ pub record Meets (row : List ℕ) (b : Bool) (old new : Reach) : Type 0 where
 pub record Starts (has_parent : List Bool) (s : Reach) : Type 0 where
   pub met_length : length s.met ≡ length has_parent
   pub under_length : length s.under ≡ length has_parent
-  pub met_is : (c : ℕ) → c < length has_parent → slice_index_or s.met c false ≡ not (slice_index_or has_parent c false)
+  pub met_is : (c : ℕ) → c < length has_parent →
+      slice_index_or s.met c false ≡ not (slice_index_or has_parent c false)
   pub waiting_is : (c : ℕ) → Contains s.waiting c ↔ Marks s.met c
   pub under_none : (c : ℕ) → slice_index_or s.under c false ≡ false
 

@@ -20,5 +20,5 @@ ReadsFront known texts = IfSome known (λ input. (more : List (List ℕ)) × (li
 abbrev pub ReadsUntilFailure : Option (List ℕ) → List (List ℕ) → List ℕ → Option (List ℕ) → Type 0
 ReadsUntilFailure known texts begun remaining =
     IfSome known
-        (λ input. (unread : List ℕ) × IsCutShort input texts begun unread
-            × IfSome remaining (λ rest. rest ≡ unread))
+    (λ input. (unread : List ℕ) × IsCutShort input texts begun unread
+    × IfSome remaining (λ rest. rest ≡ unread))

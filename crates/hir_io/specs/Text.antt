@@ -32,7 +32,7 @@ IsFirstLineEnd bytes (Some i) =
 abbrev pub TakesLine : List ℕ → List ℕ → List ℕ → Bool → Type 0
 TakesLine text rest line at_end =
     HasNoLineEnd line
-        × ((text ≡ line ++ 10 ∷ rest) ⊎ ((at_end ≡ true) × (0 < length line) × (text ≡ line) × (rest ≡ [])))
+    × ((text ≡ line ++ 10 ∷ rest) ⊎ ((at_end ≡ true) × (0 < length line) × (text ≡ line) × (rest ≡ [])))
 
 -- these are the first lines of the input, and this is what follows them; before its end is met, each of them has its own line end
 abbrev pub IsRead : List ℕ → List (List ℕ) → List ℕ → Bool → Type 0

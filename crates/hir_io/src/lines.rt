@@ -190,7 +190,7 @@ impl LineReader {
         ensures failure { R.failed reader.new ≡ (is_failed_read result || R.failed reader.old) }
         ensures falls { OnOk result
             (length self.new.pending + R.allowance reader.new
-                ≤ length self.old.pending + R.allowance reader.old) }
+            ≤ length self.old.pending + R.allowance reader.old) }
     {
         let pending = self.filled - self.start;
         let room = make_room(&mut self.bytes, self.start, self.filled);

@@ -57,7 +57,7 @@ pub fn next_line<R: Source, W: Sink>(
     ensures count { lines.new.count ≡ lines.old.count + cond (is_found result) 1 0 }
     ensures falls { is_failed_input result ≡ false →
         length lines.new.pending + R.allowance reader.new + cond (is_found result) 1 0
-            ≤ length lines.old.pending + R.allowance reader.old }
+        ≤ length lines.old.pending + R.allowance reader.old }
     ensures input_failure { R.failed reader.new ≡ (is_failed_input result || R.failed reader.old) }
     ensures output_failure { W.failed writer.new ≡ (is_failed_output result || W.failed writer.old) }
     // Where nothing waits the writer isn't called.

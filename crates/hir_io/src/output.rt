@@ -59,7 +59,7 @@ impl OutputBuffer {
             (IsWrittenUpTo (W.contents writer.old) (W.contents writer.new) (self.old ++ bytes.now) self.new) }
         ensures err { OnErr result
             (GrowsByFront (W.contents writer.old) (W.contents writer.new) (self.old ++ bytes.now)
-                × (self.new ≡ [])) }
+            × (self.new ≡ [])) }
         ensures failure { W.failed writer.new ≡ (is_err result || W.failed writer.old) }
         ensures waits { length self.old + length bytes.now ≤ CAPACITY →
             IsOk result × (writer.new ≡ writer.old) }
@@ -78,10 +78,10 @@ impl OutputBuffer {
     pub fn write_number<W: Sink>(&mut self, number: u32, writer: &mut W) -> Result<(), EndFailed>
         ensures bytes { OnOk result
             (IsWrittenUpTo (W.contents writer.old) (W.contents writer.new)
-                (self.old ++ decimal number) self.new) }
+            (self.old ++ decimal number) self.new) }
         ensures err { OnErr result
             (GrowsByFront (W.contents writer.old) (W.contents writer.new) (self.old ++ decimal number)
-                × (self.new ≡ [])) }
+            × (self.new ≡ [])) }
         ensures failure { W.failed writer.new ≡ (is_err result || W.failed writer.old) }
         ensures waits { length self.old + length (decimal number) ≤ CAPACITY →
             IsOk result × (writer.new ≡ writer.old) }

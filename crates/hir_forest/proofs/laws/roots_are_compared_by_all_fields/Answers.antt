@@ -1,4 +1,4 @@
-use Rattle.hir_forest.specs.SameRoots.{ends_decide, roots_decide, faults_decide}
+use Rattle.hir_forest.specs.same.SameRoots.{ends_decide, roots_decide, faults_decide}
 use Rattle.hir_forest.proofs.laws.roots_are_compared_by_all_fields.Goals as goal
 
 pub returns : goal.returns
