@@ -1,1 +1,2 @@
+mod FutureLemmas
 mod Rows

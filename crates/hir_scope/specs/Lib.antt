@@ -6,3 +6,5 @@ pub mod Slots
 pub mod Chains
 pub mod Resolution
 pub mod Counts
+pub mod PlacesUnder
+pub mod Pending

@@ -4,6 +4,7 @@
 
 mod fault;
 mod scope;
+mod tasks;
 
 pub use fault::ScopesFault;
 pub use scope::{ScopeData, ScopeEntry, ScopeId, ScopeKind, ScopeMarker};
