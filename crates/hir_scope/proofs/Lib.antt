@@ -1,2 +1,4 @@
 mod FutureLemmas
+mod KidLemmas
+mod StepLemmas
 mod Rows
