@@ -98,7 +98,7 @@ module _ (s : Nodes) (chain : ℕ → Chain) where
       ∙ future_turn h k [] [] cs ts
 
   -- the same, where what is added ends with them
-  turn_ended : (h k constants add : Chain) (cs : List Call) (a : Around) (ts : List Task) → chain a.here ≡ h → chain a.constant ≡ k → exprs_under s (map (place_kid h k) (in_turn s constants add cs)) ++ future s chain h k ts ≡ future s chain (add ++ h) (constants ++ k) ((tasks_of cs ++ task.Leave a ∷ []) ++ ts)
+  pub turn_ended : (h k constants add : Chain) (cs : List Call) (a : Around) (ts : List Task) → chain a.here ≡ h → chain a.constant ≡ k → exprs_under s (map (place_kid h k) (in_turn s constants add cs)) ++ future s chain h k ts ≡ future s chain (add ++ h) (constants ++ k) ((tasks_of cs ++ task.Leave a ∷ []) ++ ts)
   unfolding future
   turn_ended h k constants add cs a ts eh ek =
       let ps = exprs_under s (map (place_kid h k) (in_turn s constants add cs)) in

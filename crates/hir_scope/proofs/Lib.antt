@@ -1,4 +1,5 @@
 mod FutureLemmas
 mod KidLemmas
+mod MetLemmas
 mod StepLemmas
 mod Rows
