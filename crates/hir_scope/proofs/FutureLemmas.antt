@@ -23,7 +23,7 @@ use Rattle.hir_scope.specs.Leak.{leak, leak_of_call, leaks, leak_of_form}
 use Rattle.hir_scope.specs.Slots.{Slot, call_slot, in_turn, own_frame, block_constants, item_frames, made, made_for_constants, statement_slots, block_slots, arm_slots, loop_kind, slots_of_form, slots}
 use Rattle.hir_scope.specs.Chains.{Place, place_kid, places_of_kids}
 use Rattle.hir_scope.specs.PlacesUnder.{place, places_under, is_expr, exprs_under}
-use Rattle.hir_scope.specs.Pending.{task_of, tasks_of, item_tasks, statement_tasks, closure_calls, form_tasks, opens_here, opens_constant, future, arm_calls}
+use Rattle.hir_scope.specs.Pending.{task_of, tasks_of, arm_task, arm_with, leave, item_tasks, statement_tasks, closure_calls, form_tasks, opens_here, opens_constant, future, arm_calls}
 
 pub exprs_under-nil : (s : Nodes) → exprs_under s [] ≡ []
 unfolding exprs_under
@@ -98,14 +98,14 @@ module _ (s : Nodes) (chain : ℕ → Chain) where
       ∙ future_turn h k [] [] cs ts
 
   -- the same, where what is added ends with them
-  pub turn_ended : (h k constants add : Chain) (cs : List Call) (a : Around) (ts : List Task) → chain a.here ≡ h → chain a.constant ≡ k → exprs_under s (map (place_kid h k) (in_turn s constants add cs)) ++ future s chain h k ts ≡ future s chain (add ++ h) (constants ++ k) ((tasks_of cs ++ task.Leave a ∷ []) ++ ts)
+  pub turn_ended : (h k constants add : Chain) (cs : List Call) (a : Around) (ts : List Task) → chain a.here ≡ h → chain a.constant ≡ k → exprs_under s (map (place_kid h k) (in_turn s constants add cs)) ++ future s chain h k ts ≡ future s chain (add ++ h) (constants ++ k) ((tasks_of cs ++ leave a ∷ []) ++ ts)
   unfolding future
   turn_ended h k constants add cs a ts eh ek =
       let ps = exprs_under s (map (place_kid h k) (in_turn s constants add cs)) in
       ap (λ (c : Chain). ps ++ future s chain c k ts) (sym eh)
       ∙ (ap (λ (c : Chain). ps ++ future s chain (chain a.here) c ts) (sym ek)
-      ∙ (future_turn h k constants add cs (task.Leave a ∷ ts)
-      ∙ ap (λ (us : List Task). future s chain (add ++ h) (constants ++ k) us) (sym (append_assoc (tasks_of cs) (task.Leave a ∷ []) ts))))
+      ∙ (future_turn h k constants add cs (leave a ∷ ts)
+      ∙ ap (λ (us : List Task). future s chain (add ++ h) (constants ++ k) us) (sym (append_assoc (tasks_of cs) (leave a ∷ []) ts))))
 
   -- what is added first may be part of what is around
   moved : (h k constants outer add : Chain) (cs : List Call) → map (place_kid h k) (in_turn s constants (add ++ outer) cs) ≡ map (place_kid (outer ++ h) k) (in_turn s constants add cs)
@@ -126,13 +126,19 @@ module _ (s : Nodes) (chain : ℕ → Chain) where
       ap (λ (ps : List Place). place (node.TypeRef x) (constants ++ k) (constants ++ k) ∷ ps) (moved h k constants outer add cs)
   moved h k constants outer add (OnLifetime x ∷ cs) = moved h k constants outer add cs
 
-  future_arms : (h k outer : Chain) (arms : List MatchArm) (ts : List Task) → exprs_under s (map (place_kid h k) (flat_map (arm_slots s outer) arms)) ++ future s chain (outer ++ h) k ts ≡ future s chain (outer ++ h) k (map task.Arm arms ++ ts)
+  pub future_arm_task : (h k : Chain) (pat expr : ℕ) (guard : Option ℕ) (ts : List Task) → future s chain h k (arm_task (arm_with pat expr guard) ∷ ts) ≡ exprs_under s (map (place_kid h k) (arm_slots s [] (arm_with pat expr guard))) ++ future s chain h k ts
+  unfolding future
+  future_arm_task h k pat expr None ts = refl
+  future_arm_task h k pat expr (Some guard) ts = refl
+
+  future_arms : (h k outer : Chain) (arms : List MatchArm) (ts : List Task) → exprs_under s (map (place_kid h k) (flat_map (arm_slots s outer) arms)) ++ future s chain (outer ++ h) k ts ≡ future s chain (outer ++ h) k (map arm_task arms ++ ts)
   unfolding future
   future_arms h k outer [] ts = none _
   future_arms h k outer (arm ∷ arms) ts =
       two h k (arm_slots s outer arm) (flat_map (arm_slots s outer) arms) _
       ∙ (ap (λ (ps : List Place). exprs_under s (map (place_kid h k) (arm_slots s outer arm)) ++ ps) (future_arms h k outer arms ts)
-      ∙ ap (λ (ps : List Place). exprs_under s ps ++ future s chain (outer ++ h) k (map task.Arm arms ++ ts)) (moved h k [] outer (frame s (arm.pat ∷ []) ∷ []) (arm_calls arm)))
+      ∙ (ap (λ (ps : List Place). exprs_under s ps ++ future s chain (outer ++ h) k (map arm_task arms ++ ts)) (moved h k [] outer (frame s (arm.pat ∷ []) ∷ []) (arm_calls arm))
+      ∙ sym (future_arm_task (outer ++ h) k arm.pat arm.expr arm.guard (map arm_task arms ++ ts))))
 
   -- a type leaks nothing
   leaks_let : (ty x y : Option ℕ) → leaks (leak s) (opt t ty ++ opt e x ++ opt e y) ≡ leaks (leak s) (opt e x ++ opt e y)
@@ -158,11 +164,11 @@ module _ (s : Nodes) (chain : ℕ → Chain) where
   future_statement h k constants add (statement.Item (item.MacroDef m)) ts = none _
   future_statement h k constants add (statement.Item item.Other) ts = none _
 
-  future_block : (h k constants add : Chain) (a : Around) (xs : List Statement) (tail : Option ℕ) (ts : List Task) → chain a.here ≡ h → chain a.constant ≡ k → exprs_under s (map (place_kid h k) (block_slots s constants add xs tail)) ++ future s chain h k ts ≡ future s chain (add ++ h) (constants ++ k) ((flat_map statement_tasks xs ++ (tasks_of (opt e tail) ++ task.Leave a ∷ [])) ++ ts)
+  future_block : (h k constants add : Chain) (a : Around) (xs : List Statement) (tail : Option ℕ) (ts : List Task) → chain a.here ≡ h → chain a.constant ≡ k → exprs_under s (map (place_kid h k) (block_slots s constants add xs tail)) ++ future s chain h k ts ≡ future s chain (add ++ h) (constants ++ k) ((flat_map statement_tasks xs ++ (tasks_of (opt e tail) ++ leave a ∷ [])) ++ ts)
   unfolding future
   future_block h k constants add a [] tail ts eh ek = turn_ended h k constants add (opt e tail) a ts eh ek
   future_block h k constants add a (x ∷ xs) tail ts eh ek =
-      let X = tasks_of (opt e tail) ++ task.Leave a ∷ [] in
+      let X = tasks_of (opt e tail) ++ leave a ∷ [] in
       two h k (statement_slots s constants add x) (block_slots s (made_for_constants x ++ constants) (made s x ++ add) xs tail) _
       ∙ (ap (λ (ps : List Place). exprs_under s (map (place_kid h k) (statement_slots s constants add x)) ++ ps) (future_block h k (made_for_constants x ++ constants) (made s x ++ add) a xs tail ts eh ek)
       ∙ (future_statement h k constants add x ((flat_map statement_tasks xs ++ X) ++ ts)
@@ -186,7 +192,7 @@ module _ (s : Nodes) (chain : ℕ → Chain) where
       let k = chain a.constant in
       two h k (in_turn s [] (empty ∷ []) (e c ++ e y)) (in_turn s [] [] (opt e f)) _
       ∙ (ap (λ (ps : List Place). exprs_under s (map (place_kid h k) (in_turn s [] (empty ∷ []) (e c ++ e y))) ++ ps) (turn_bare h k (opt e f) ts)
-      ∙ future_turn h k [] (empty ∷ []) (e c ++ e y) (task.Leave a ∷ (tasks_of (opt e f) ++ ts)))
+      ∙ future_turn h k [] (empty ∷ []) (e c ++ e y) (leave a ∷ (tasks_of (opt e f) ++ ts)))
   future_form a (form.Let pat x) ts =
       let h = chain a.here in
       let k = chain a.constant in

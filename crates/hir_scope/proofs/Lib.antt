@@ -1,5 +1,7 @@
 mod FutureLemmas
 mod KidLemmas
 mod MetLemmas
+pub mod PushLemmas
 mod StepLemmas
+pub mod TurnLemmas
 mod Rows

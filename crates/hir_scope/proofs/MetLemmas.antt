@@ -15,8 +15,8 @@ use Rattle.hir_scope.specs.Leak.{leak, leak_of_form}
 use Rattle.hir_scope.specs.Slots.{slots_of_form}
 use Rattle.hir_scope.specs.Chains.{Place, place_kid}
 use Rattle.hir_scope.specs.PlacesUnder.{place, exprs_under}
-use Rattle.hir_scope.specs.Pending.{form_tasks, opens_here, opens_constant, future, arm_calls, tasks_of}
-use Rattle.hir_scope.proofs.FutureLemmas.{future_form, turn_ended}
+use Rattle.hir_scope.specs.Pending.{form_tasks, opens_here, opens_constant, future, arm_calls, arm_task, leave, tasks_of}
+use Rattle.hir_scope.proofs.FutureLemmas.{future_form, turn_ended, future_arm_task}
 use Rattle.hir_scope.proofs.StepLemmas.{leak_at, exprs_under_expr, exprs_under_pat, exprs_under_type}
 
 module _ (s : Nodes) (fall : KidsFall s) (chain : ℕ → Chain) where
@@ -47,17 +47,17 @@ module _ (s : Nodes) (fall : KidsFall s) (chain : ℕ → Chain) where
   for_constants a = record { here = a.constant; constant = a.constant }
 
   -- a type stands in the scope of constants
-  pub future_type : (a : Around) (id : ℕ) (x : ScopingForm) (ts : List Task) → Has s (node.TypeRef id) → form_of s (node.TypeRef id) ≡ x → let h = chain a.here in let k = chain a.constant in future s chain h k (task.TypeRef id ∷ ts) ≡ future s chain (opens_here s x ++ k) (opens_constant x ++ k) (form_tasks (for_constants a) x ++ (task.Leave a ∷ ts))
+  pub future_type : (a : Around) (id : ℕ) (x : ScopingForm) (ts : List Task) → Has s (node.TypeRef id) → form_of s (node.TypeRef id) ≡ x → let h = chain a.here in let k = chain a.constant in future s chain h k (task.TypeRef id ∷ ts) ≡ future s chain (opens_here s x ++ k) (opens_constant x ++ k) (form_tasks (for_constants a) x ++ (leave a ∷ ts))
   unfolding future
   future_type a id x ts there is =
       let h = chain a.here in
       let k = chain a.constant in
       ap (λ (ps : List Place). ps ++ future s chain h k ts) (exprs_under_type s fall id k k there)
       ∙ (ap (λ (y : ScopingForm). exprs_under s (map (place_kid k k) (slots_of_form s y)) ++ future s chain h k ts) is
-      ∙ future_form s chain (for_constants a) x (task.Leave a ∷ ts))
+      ∙ future_form s chain (for_constants a) x (leave a ∷ ts))
 
   -- a constant is an expression in the scope of constants
-  pub future_constant : (a : Around) (id : ℕ) (ts : List Task) → let h = chain a.here in let k = chain a.constant in future s chain h k (task.Constant id ∷ ts) ≡ future s chain k k (task.Expr id ∷ task.Leave a ∷ ts)
+  pub future_constant : (a : Around) (id : ℕ) (ts : List Task) → let h = chain a.here in let k = chain a.constant in future s chain h k (task.Constant id ∷ ts) ≡ future s chain k k (task.Expr id ∷ leave a ∷ ts)
   unfolding future
   future_constant a id ts = refl
 
@@ -67,6 +67,8 @@ module _ (s : Nodes) (fall : KidsFall s) (chain : ℕ → Chain) where
   future_bound h k id ts = refl
 
   -- an arm is met in the frame of its pattern, which ends with it
-  pub future_arm : (a : Around) (arm : MatchArm) (ts : List Task) → let h = chain a.here in let k = chain a.constant in future s chain h k (task.Arm arm ∷ ts) ≡ future s chain (frame s (arm.pat ∷ []) ∷ h) k ((tasks_of (arm_calls arm) ++ task.Leave a ∷ []) ++ ts)
+  pub future_arm : (a : Around) (arm : MatchArm) (ts : List Task) → let h = chain a.here in let k = chain a.constant in future s chain h k (arm_task arm ∷ ts) ≡ future s chain (frame s (arm.pat ∷ []) ∷ h) k ((tasks_of (arm_calls arm) ++ leave a ∷ []) ++ ts)
   unfolding future
-  future_arm a arm ts = turn_ended s chain (chain a.here) (chain a.constant) [] (frame s (arm.pat ∷ []) ∷ []) (arm_calls arm) a ts refl refl
+  future_arm a arm ts =
+      future_arm_task s chain (chain a.here) (chain a.constant) arm.pat arm.expr arm.guard ts
+      ∙ turn_ended s chain (chain a.here) (chain a.constant) [] (frame s (arm.pat ∷ []) ∷ []) (arm_calls arm) a ts refl refl

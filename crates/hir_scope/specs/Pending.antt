@@ -43,6 +43,20 @@ statement_tasks (statement.Let pat type_ref initializer else_branch) =
 statement_tasks (statement.Expr expr has_semi) = tasks_of (e expr)
 statement_tasks (statement.Item item) = item_tasks item
 
+-- the task of an arm
+abbrev pub guarded_task : ℕ → ℕ → Option ℕ → Task
+guarded_task pat expr None = task.Arm pat expr
+guarded_task pat expr (Some guard) = task.GuardedArm pat guard expr
+
+abbrev pub arm_task : MatchArm → Task
+arm_task arm = guarded_task arm.pat arm.expr arm.guard
+
+abbrev pub arm_with : ℕ → ℕ → Option ℕ → MatchArm
+arm_with pat expr guard = record { pat = pat; guard = guard; expr = expr }
+
+abbrev pub leave : Around → Task
+leave around = task.Leave around.here around.constant
+
 -- the calls of a closure in the order in which they are met: types see none of its bindings
 abbrev pub closure_calls : List (Option ℕ) → Option ℕ → List ℕ → ℕ → List Call
 closure_calls arg_types ret_type args body = (flat_map (opt t) arg_types ++ opt t ret_type) ++ (flat_map p args ++ e body)
@@ -50,14 +64,14 @@ closure_calls arg_types ret_type args body = (flat_map (opt t) arg_types ++ opt 
 -- the tasks of what is inside a node, which is left with `around`
 abbrev pub form_tasks : Around → ScopingForm → List Task
 form_tasks around (form.If condition then_branch else_branch) =
-    tasks_of (e condition ++ e then_branch) ++ (task.Leave around ∷ tasks_of (opt e else_branch))
+    tasks_of (e condition ++ e then_branch) ++ (leave around ∷ tasks_of (opt e else_branch))
 form_tasks around (form.Let pat expr) = task.Expr expr ∷ task.Bound pat ∷ []
-form_tasks around (form.Block id label statements tail) = flat_map statement_tasks statements ++ (tasks_of (opt e tail) ++ task.Leave around ∷ [])
-form_tasks around (form.Loop label body) = task.Expr body ∷ task.Leave around ∷ []
-form_tasks around (form.Closure arg_types ret_type args body) = tasks_of (closure_calls arg_types ret_type args body) ++ task.Leave around ∷ []
-form_tasks around (form.Match scrutinee arms) = task.Expr scrutinee ∷ map task.Arm arms
-form_tasks around (form.Assignment target value) = task.Pat target ∷ task.Leave around ∷ task.Expr value ∷ []
-form_tasks around (form.PatternType type pat) = task.TypeRef type ∷ task.Bound pat ∷ task.Leave around ∷ []
+form_tasks around (form.Block id label statements tail) = flat_map statement_tasks statements ++ (tasks_of (opt e tail) ++ leave around ∷ [])
+form_tasks around (form.Loop label body) = task.Expr body ∷ leave around ∷ []
+form_tasks around (form.Closure arg_types ret_type args body) = tasks_of (closure_calls arg_types ret_type args body) ++ leave around ∷ []
+form_tasks around (form.Match scrutinee arms) = task.Expr scrutinee ∷ map arm_task arms
+form_tasks around (form.Assignment target value) = task.Pat target ∷ leave around ∷ task.Expr value ∷ []
+form_tasks around (form.PatternType type pat) = task.TypeRef type ∷ task.Bound pat ∷ leave around ∷ []
 form_tasks around (form.InTurn calls) = tasks_of calls
 
 -- the frames that are opened as a node is met, around what is inside it
@@ -98,11 +112,13 @@ future s chain here constant (task.TypeRef id ∷ rest) =
 future s chain here constant (task.Bound id ∷ rest) =
     exprs_under s (place (node.Pat id) (frame s (id ∷ []) ∷ here) constant ∷ [])
     ++ future s chain (leak s (node.Pat id) ++ (frame s (id ∷ []) ∷ here)) constant rest
-future s chain here constant (task.Arm arm ∷ rest) =
-    exprs_under s (map (place_kid here constant) (arm_slots s [] arm)) ++ future s chain here constant rest
+future s chain here constant (task.Arm pat expr ∷ rest) =
+    exprs_under s (map (place_kid here constant) (arm_slots s [] (arm_with pat expr None))) ++ future s chain here constant rest
+future s chain here constant (task.GuardedArm pat guard expr ∷ rest) =
+    exprs_under s (map (place_kid here constant) (arm_slots s [] (arm_with pat expr (Some guard)))) ++ future s chain here constant rest
 future s chain here constant (task.MacroDef id ∷ rest) =
     future s chain (of_kind (kind.MacroDef id) ∷ here) (of_kind (kind.MacroDef id) ∷ constant) rest
-future s chain here constant (task.Leave around ∷ rest) = future s chain (chain around.here) (chain around.constant) rest
+future s chain here constant (task.Leave outer outer_constant ∷ rest) = future s chain (chain outer) (chain outer_constant) rest
 
 -- the nodes that a task is about
 abbrev pub arm_calls : MatchArm → List Call
@@ -114,9 +130,10 @@ task_kids (task.Constant id) = node.Expr id ∷ []
 task_kids (task.Pat id) = node.Pat id ∷ []
 task_kids (task.TypeRef id) = node.TypeRef id ∷ []
 task_kids (task.Bound id) = node.Pat id ∷ []
-task_kids (task.Arm arm) = kids (arm_calls arm)
+task_kids (task.Arm pat expr) = kids (arm_calls (arm_with pat expr None))
+task_kids (task.GuardedArm pat guard expr) = kids (arm_calls (arm_with pat expr (Some guard)))
 task_kids (task.MacroDef id) = []
-task_kids (task.Leave around) = []
+task_kids (task.Leave outer outer_constant) = []
 
 -- the frames that a task opens itself
 abbrev pub task_frames : Nodes → Task → List Frame
@@ -125,6 +142,7 @@ task_frames s (task.Constant id) = []
 task_frames s (task.Pat id) = []
 task_frames s (task.TypeRef id) = []
 task_frames s (task.Bound id) = frame s (id ∷ []) ∷ []
-task_frames s (task.Arm arm) = frame s (arm.pat ∷ []) ∷ []
+task_frames s (task.Arm pat expr) = frame s (pat ∷ []) ∷ []
+task_frames s (task.GuardedArm pat guard expr) = frame s (pat ∷ []) ∷ []
 task_frames s (task.MacroDef id) = of_kind (kind.MacroDef id) ∷ of_kind (kind.MacroDef id) ∷ []
-task_frames s (task.Leave around) = []
+task_frames s (task.Leave outer outer_constant) = []

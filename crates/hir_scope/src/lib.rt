@@ -4,7 +4,11 @@
 
 mod fault;
 mod scope;
+mod pushes;
+mod queue;
+mod stack;
 mod tasks;
+mod turn;
 
 pub use fault::ScopesFault;
 pub use scope::{ScopeData, ScopeEntry, ScopeId, ScopeKind, ScopeMarker};

@@ -3,7 +3,7 @@ ghost use Rattle.std.specs.Prelude.{◌≡◌};
 
 use crate::scope::ScopeId;
 use hir_base::MacroDefId;
-use hir_node::{ExprId, MatchArm, PatId, TypeRefId};
+use hir_node::{ExprId, PatId, TypeRefId};
 
 /// The scope around what is met next, and that around the constants in it.
 #[derive(Clone, Copy)]
@@ -13,7 +13,8 @@ pub(crate) struct Around {
 }
 
 /// What a walk has still to do.
-#[derive(Drop)]
+// Flat, ids alone: the prover cannot build a function that is lent a list of values with records or options in them.
+#[derive(Clone, Copy)]
 pub(crate) enum Task {
     /// An expression, in the current scope.
     Expr(ExprId),
@@ -25,10 +26,12 @@ pub(crate) enum Task {
     TypeRef(TypeRefId),
     /// A pattern, in a scope of its own that stays.
     Bound(PatId),
-    /// An arm, in a scope of its own that ends with it.
-    Arm(MatchArm),
+    /// An arm without a guard, in a scope of its own that ends with it.
+    Arm(PatId, ExprId),
+    /// An arm with a guard, in a scope of its own that ends with it.
+    GuardedArm(PatId, ExprId, ExprId),
     /// A macro's definition: a scope for what follows, and one for the constants in it.
     MacroDef(MacroDefId),
-    /// Takes back the scopes that were current before.
-    Leave(Around),
+    /// Takes back the scopes that were current before: the one around, and the one around constants.
+    Leave(ScopeId, ScopeId),
 }
