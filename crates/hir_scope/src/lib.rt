@@ -4,6 +4,7 @@
 
 mod fault;
 mod scope;
+mod inside;
 mod pushes;
 mod queue;
 mod stack;
