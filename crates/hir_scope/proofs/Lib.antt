@@ -4,5 +4,13 @@ mod MetLemmas
 pub mod PushLemmas
 mod StepLemmas
 mod TaskLemmas
+mod TotalLemmas
 pub mod TurnLemmas
 mod Rows
+pub mod FlatLemmas
+pub mod PathLemmas
+pub mod ResolveLemmas
+pub mod SameLemmas
+pub mod LeakLemmas
+pub mod SlotLemmas
+pub mod StandsLemmas

@@ -1,6 +1,6 @@
 -- The counts of scopes and entries: sums over the nodes that a body or a signature reaches.
-use Rattle.std.specs.Prelude.{ℕ, ◌+◌, List, [], ◌∷◌, Option, Some, None, length, slice_get}
-use Rattle.hir_node.specs.OtherIds.{pat_bindings}
+use Rattle.std.specs.Prelude.{ℕ, ◌+◌, List, Option, Some, None, length}
+use Rattle.std.specs.List.{sum_by}
 use Rattle.hir_node.specs.declared.parts.Item.{Item}
 use Rattle.hir_node.specs.declared.parts.Item.TheVariants as item
 use Rattle.hir_node.specs.declared.parts.Statement.{Statement}
@@ -8,14 +8,9 @@ use Rattle.hir_node.specs.declared.parts.Statement.TheVariants as statement
 use Rattle.hir_node.specs.declared.node_id.NodeId.{NodeId}
 use Rattle.hir_node.specs.declared.node_id.NodeId.TheVariants as node
 use Rattle.hir_faults.specs.Nodes.{Nodes}
-use Rattle.hir_scope.specs.PatLists.{bindings_at}
+use Rattle.hir_expr_store.specs.PatLists.{bindings_at}
 use Rattle.hir_scope.specs.Forms.{ScopingForm, form_of}
 use Rattle.hir_scope.specs.Forms as form
-
--- the sum of a number for each
-abbrev pub sum : {X : Type 0} → (X → ℕ) → List X → ℕ
-sum f [] = 0
-sum f (x ∷ xs) = f x + sum f xs
 
 abbrev pub count_if_there : {X : Type 0} → Option X → ℕ
 count_if_there None = 0
@@ -33,7 +28,7 @@ statement_scopes (statement.Item item) = item_scopes item
 
 -- the scopes that a node opens: a block one, with an id one more, and those of its statements; a match one for each arm
 abbrev pub form_scopes : ScopingForm → ℕ
-form_scopes (form.Block id label statements tail) = 1 + count_if_there id + sum statement_scopes statements
+form_scopes (form.Block id label statements tail) = 1 + count_if_there id + sum_by statement_scopes statements
 form_scopes (form.Match scrutinee arms) = length arms
 form_scopes (form.If condition then_branch else_branch) = 1
 form_scopes (form.Let pat expr) = 1
@@ -51,15 +46,15 @@ node_entries s (node.TypeRef id) = 0
 
 -- over the nodes that a body reaches: the root scope, and those that the nodes open
 abbrev pub body_scope_count : Nodes → List NodeId → ℕ
-body_scope_count s reached = 1 + sum (λ n. form_scopes (form_of s n)) reached
+body_scope_count s reached = 1 + sum_by (λ n. form_scopes (form_of s n)) reached
 
 -- that of `self`, where there is one, and those of the nodes
 abbrev pub body_entry_count : {Self : Type 0} → Nodes → Option Self → List NodeId → ℕ
-body_entry_count s self_param reached = count_if_there self_param + sum (node_entries s) reached
+body_entry_count s self_param reached = count_if_there self_param + sum_by (node_entries s) reached
 
 -- over the nodes that a signature with so many roots reaches: the root scope, one for each root, and those that the nodes open
 abbrev pub signature_scope_count : Nodes → ℕ → List NodeId → ℕ
-signature_scope_count s roots reached = 1 + roots + sum (λ n. form_scopes (form_of s n)) reached
+signature_scope_count s roots reached = 1 + roots + sum_by (λ n. form_scopes (form_of s n)) reached
 
 abbrev pub signature_entry_count : Nodes → List NodeId → ℕ
-signature_entry_count s reached = sum (node_entries s) reached
+signature_entry_count s reached = sum_by (node_entries s) reached

@@ -4,7 +4,7 @@ use Rattle.std.specs.List.{flat_map}
 use Rattle.hir_node.specs.declared.binding.Binding.{Binding}
 use Rattle.hir_faults.specs.Parts.{all_of}
 use Rattle.hir_faults.specs.Nodes.{Nodes}
-use Rattle.hir_scope.specs.PatLists.{bindings_in}
+use Rattle.hir_expr_store.specs.PatLists.{bindings_in}
 use Rattle.hir_scope.specs.declared.scope.ScopeEntry.{ScopeEntry}
 use Rattle.hir_scope.specs.declared.scope.ScopeKind.{ScopeKind}
 use Rattle.hir_scope.specs.declared.scope.ScopeKind.TheVariants as kind

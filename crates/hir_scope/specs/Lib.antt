@@ -1,10 +1,14 @@
-pub mod PatLists
 pub mod Frames
 pub mod Forms
 pub mod Leak
 pub mod Slots
 pub mod Chains
+pub mod Tops
 pub mod Resolution
 pub mod Counts
 pub mod PlacesUnder
 pub mod Pending
+pub mod Scopes
+pub mod Paths
+pub mod Flat
+pub mod same

@@ -2,14 +2,20 @@
 //! `ExprScopes` holds the scopes and answers questions on them; what a scope's chain has to be is told in `specs/`.
 #![tactic(auto)]
 
+mod expr_scopes;
 mod fault;
-mod scope;
 mod inside;
+pub mod laws;
 mod pushes;
 mod queue;
+mod resolve;
+mod scope;
+mod scope_chain;
 mod stack;
 mod tasks;
 mod turn;
 
+pub use expr_scopes::{ExprScopes, ScopeData};
 pub use fault::ScopesFault;
-pub use scope::{ScopeData, ScopeEntry, ScopeId, ScopeKind, ScopeMarker};
+pub use scope::{ScopeEntry, ScopeId, ScopeKind, ScopeMarker};
+pub use scope_chain::ScopeChain;

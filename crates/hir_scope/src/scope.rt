@@ -1,4 +1,4 @@
-//! What a scope is made of: its kind, its entries, and the scope that it stands in.
+//! What a scope is made of: its kind and its entries.
 ghost use Rattle.std.specs.Prelude.{◌≡◌};
 ghost use Rattle.hir_base.specs.Exact.{exact};
 
@@ -63,10 +63,7 @@ pub enum ScopeKind {
     /// The scope of bindings alone.
     None,
     /// That of a block which may hold items of its own.
-    Block {
-        id: BlockId,
-        label: Option<LabelId>,
-    },
+    Block { id: BlockId, label: Option<LabelId> },
     /// That of a labeled loop, or of a labeled block without an id.
     Label(LabelId),
     /// From a macro's definition on, its macro is known.
@@ -79,17 +76,4 @@ impl ExactEq for ScopeKind {
 
 impl TryClone for ScopeKind {
     ghost clone_is_same = { Prim.search exact };
-}
-
-/// A scope: the scope that it stands in, what it is, and the range of its entries in the list of all.
-#[derive(Clone, Copy, PartialEq, Eq)]
-pub struct ScopeData {
-    parent: Option<ScopeId>,
-    kind: ScopeKind,
-    start: u32,
-    end: u32,
-}
-
-impl ExactEq for ScopeData {
-    ghost eq_decides = { Prim.search exact };
 }

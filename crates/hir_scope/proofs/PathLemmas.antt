@@ -1,0 +1,76 @@
+-- The paths of scopes: a scope's path is its id on its parent's path.
+use Rattle.std.proofs.Common.{◌≡◌, ℕ, zero, suc, ◌+◌, ◌<◌, ◌≤◌, List, [], ◌∷◌, ◌++◌, Option, Some, None, fold, get_or, length, refl, ap, sym, ◌∙◌, subst, arith, append_assoc}
+use Rattle.std.specs.List.{slice_get}
+use Rattle.std.proofs.lemmas.List.{get_or_append_left, get_or_at, length_push}
+use Rattle.std.proofs.lemmas.Grind.{fold-append}
+use Rattle.hir_scope.specs.Scopes.{Scope, IsBelow, IsIn, ParentsStandEarlier}
+use Rattle.hir_scope.specs.Paths.{path_among, with_path, paths, path}
+
+length_with : (earlier : List (List ℕ)) (more : List Scope) → length (fold with_path earlier more) ≡ length earlier + length more
+length_with earlier [] = omega arith
+length_with earlier (s ∷ more) = omega (arith, length_with (with_path earlier s) more, length_push earlier (length earlier ∷ path_among earlier s.parent))
+
+kept_with : (earlier : List (List ℕ)) (more : List Scope) (i : ℕ) (d : List ℕ) → i < length earlier → get_or (fold with_path earlier more) i d ≡ get_or earlier i d
+kept_with earlier [] i d h = refl
+kept_with earlier (s ∷ more) i d h =
+    kept_with (with_path earlier s) more i d (omega (arith, length_push earlier (length earlier ∷ path_among earlier s.parent)))
+    ∙ get_or_append_left earlier ((length earlier ∷ path_among earlier s.parent) ∷ []) d i h
+
+pub length_paths : (scopes : List Scope) → length (paths scopes) ≡ length scopes
+unfolding paths
+length_paths scopes = omega (arith, length_with [] scopes)
+
+-- later scopes change no path
+pub path_kept : (scopes more : List Scope) (o : Option ℕ) → IsBelow (length scopes) o → path (scopes ++ more) o ≡ path scopes o
+unfolding paths
+path_kept scopes more None h = refl
+path_kept scopes more (Some s) h =
+    ap (λ (ps : List (List ℕ)). get_or ps s []) (fold-append with_path [] scopes more)
+    ∙ kept_with (fold with_path [] scopes) more s [] (omega (arith, length_with [] scopes, h))
+
+-- the path of one scope more
+pub path_new : (scopes : List Scope) (x : Scope) (s : ℕ) → s ≡ length scopes → path (scopes ++ x ∷ []) (Some s) ≡ s ∷ path scopes x.parent
+unfolding paths
+path_new scopes x s e =
+    let n : length (fold with_path [] scopes) ≡ s = omega (arith, length_with [] scopes, e) in
+    ap (λ (ps : List (List ℕ)). get_or ps s []) (fold-append with_path [] scopes (x ∷ []))
+    ∙ get_or_at (fold with_path [] scopes) (length (fold with_path [] scopes) ∷ path_among (fold with_path [] scopes) x.parent) [] [] s n
+    ∙ ap (λ m. m ∷ path_among (fold with_path [] scopes) x.parent) n
+
+split_at : (scopes : List Scope) (i : ℕ) (x : Scope) → slice_get scopes i ≡ Some x → (before : List Scope) × (after : List Scope) × (scopes ≡ before ++ x ∷ after) × (length before ≡ i)
+split_at [] i x e = absurd cc
+split_at (y ∷ scopes) zero x e = let q : y ≡ x = cc in ([], scopes, ap (λ z. z ∷ scopes) q, refl)
+split_at (y ∷ scopes) (suc i) x e = let r = split_at scopes i x e in (y ∷ r.0, r.1, ap (λ zs. y ∷ zs) r.2, ap suc r.3)
+
+-- a scope's path is its id on its parent's path
+pub path_step : (scopes : List Scope) (s : ℕ) (x : Scope) → ParentsStandEarlier scopes → slice_get scopes s ≡ Some x → path scopes (Some s) ≡ s ∷ path scopes x.parent
+path_step scopes s x earlier e =
+    let w = split_at scopes s x e in
+    let long : scopes ≡ (w.0 ++ x ∷ []) ++ w.1 = w.2 ∙ sym (append_assoc w.0 (x ∷ []) w.1) in
+    let below : IsBelow (length w.0) x.parent = subst (λ n. IsBelow n x.parent) (sym w.3) (earlier s x e) in
+    ap (λ (xs : List Scope). path xs (Some s)) long
+    ∙ path_kept (w.0 ++ x ∷ []) w.1 (Some s) (omega (arith, w.3, length_push w.0 x))
+    ∙ path_new w.0 x s (sym w.3)
+    ∙ ap (λ (p : List ℕ). s ∷ p) (sym (ap (λ (xs : List Scope). path xs x.parent) w.2 ∙ path_kept w.0 (x ∷ w.1) x.parent below))
+
+weaker : (m n : ℕ) (o : Option ℕ) → m ≤ n → IsBelow m o → IsBelow n o
+weaker m n None l h = tt
+weaker m n (Some s) l h = omega (arith, l, h)
+
+read : (scopes : List Scope) (s : ℕ) → s < length scopes → (x : Scope) × (slice_get scopes s ≡ Some x)
+read [] s h = absurd (omega (arith, h))
+read (x ∷ scopes) zero h = (x, refl)
+read (x ∷ scopes) (suc s) h = read scopes s (omega (arith, h))
+
+path_short : (scopes : List Scope) → ParentsStandEarlier scopes → (n : ℕ) (o : Option ℕ) → n ≤ length scopes → IsBelow n o → length (path scopes o) ≤ n
+path_short scopes earlier n None l h = omega arith
+path_short scopes earlier zero (Some s) l h = absurd (omega (arith, h))
+path_short scopes earlier (suc n) (Some s) l h =
+    let x = read scopes s (omega (arith, l, h)) in
+    let shorter = path_short scopes earlier n x.0.parent (omega (arith, l)) (weaker s n x.0.parent (omega (arith, h)) (earlier s x.0 x.1)) in
+    let long : length (path scopes (Some s)) ≡ suc (length (path scopes x.0.parent)) = ap (length {A = ℕ}) (path_step scopes s x.0 earlier x.1) in
+    omega (arith, shorter, long)
+
+-- a path has at most as many members as there are scopes
+pub path_fits : (scopes : List Scope) → ParentsStandEarlier scopes → (o : Option ℕ) → IsIn scopes o → length (path scopes o) ≤ length scopes
+path_fits scopes earlier o h = path_short scopes earlier (length scopes) o (omega arith) h

@@ -1,0 +1,15 @@
+use Rattle.std.proofs.Common.{◌≡◌, Some}
+use Rattle.hir_scope.specs.Scopes.{IsIn}
+use Rattle.hir_scope.specs.Paths.{chain}
+use Rattle.hir_scope.specs.Resolution.{resolve}
+use Rattle.hir_scope.proofs.ResolveLemmas.{ways}
+use Rattle.hir_scope.proofs.expr_scopes.ExprScopes.resolve_name_in_scope.Given as goal
+
+abbrev pub invariant-loop-current : goal.invariant-loop-current
+invariant-loop-current l = record {
+  within : IsIn l.self.scopes l.current;
+  same : resolve (chain l.self.scopes l.current) l.name l.hygiene ≡ resolve (chain l.self.scopes (Some l.fn.scope)) l.name l.hygiene;
+}
+
+abbrev pub decreases-loop-current : goal.decreases-loop-current
+decreases-loop-current l = ways l.current

@@ -1,0 +1,56 @@
+-- Scopes as a caller sees them: a list of scopes, each with the scope that it stands in, and the scope of each expression.
+use Rattle.std.specs.Prelude.{◌≡◌, ℕ, ◌<◌, List, Option, Some, None, length, slice_get, ⊤}
+use Rattle.std.specs.List.{sum_by}
+use Rattle.std.specs.Ordering.{nat_cmp}
+use Rattle.std.specs.FinMap as map
+use Rattle.hir_scope.specs.declared.scope.ScopeEntry.{ScopeEntry}
+use Rattle.hir_scope.specs.declared.scope.ScopeKind.{ScopeKind}
+use Rattle.hir_scope.specs.declared.scope.ScopeKind.TheVariants as kind
+use Rattle.hir_scope.specs.Frames.{Frame}
+
+pub record Scope : Type 0 where
+  pub parent : Option ℕ
+  pub kind : ScopeKind
+  pub entries : List ScopeEntry
+
+pub record Scopes : Type 0 where
+  pub scopes : List Scope
+  pub scope_by_expr : map.FinMap nat_cmp ℕ
+
+-- the frame of a scope
+abbrev pub frame_of : Scope → Frame
+frame_of s = record { kind = s.kind; entries = s.entries }
+
+abbrev pub entry_count : List Scope → ℕ
+entry_count scopes = sum_by (λ s. length s.entries) scopes
+
+-- the scope, if any, is below a number
+abbrev pub IsBelow : ℕ → Option ℕ → Type 0
+IsBelow n None = ⊤
+IsBelow n (Some scope) = scope < n
+
+-- the scope, if any, is there
+abbrev pub IsIn : List Scope → Option ℕ → Type 0
+IsIn scopes scope = IsBelow (length scopes) scope
+
+-- each scope stands in one that comes before it, or in none
+abbrev pub ParentsStandEarlier : List Scope → Type 0
+ParentsStandEarlier scopes = (i : ℕ) (s : Scope) → slice_get scopes i ≡ Some s → IsBelow i s.parent
+
+abbrev pub block_of : ScopeKind → Option ℕ
+block_of (kind.Block id label) = Some id
+block_of kind.None = None
+block_of (kind.Label label) = None
+block_of (kind.MacroDef id) = None
+
+abbrev pub label_of : ScopeKind → Option ℕ
+label_of (kind.Block id label) = label
+label_of (kind.Label label) = Some label
+label_of kind.None = None
+label_of (kind.MacroDef id) = None
+
+abbrev pub macro_def_of : ScopeKind → Option ℕ
+macro_def_of (kind.MacroDef id) = Some id
+macro_def_of kind.None = None
+macro_def_of (kind.Block id label) = None
+macro_def_of (kind.Label label) = None

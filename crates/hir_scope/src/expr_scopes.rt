@@ -1,0 +1,273 @@
+//! The scopes of a body or a signature, and the scope of each of its expressions.
+ghost use Rattle.std.specs.Prelude.{◌≡◌, ◌<◌, ◌≤◌, ◌+◌, ◌⊎◌, ◌↔◌, ℕ, [], ◌∷◌, ◌++◌, length, slice_get, option_map, Some, Err, IsTrue, IsOk, IfOk, OnOk, OnErr, IfSome};
+ghost use Rattle.std.specs.FinMap as map;
+
+use crate::fault::ScopesFault;
+use crate::scope::{ScopeEntry, ScopeId, ScopeKind};
+use crate::scope_chain::ScopeChain;
+use hir_base::{ArenaMap, BlockId, ExactEq, MacroDefId};
+use hir_node::{ExprId, ExprKind, LabelId};
+use std::alloc::Global;
+use std::marker::Model;
+
+/// A scope: the scope that it stands in, what it is, and the range of its entries in the list of all.
+#[derive(Clone, Copy, PartialEq, Eq)]
+pub struct ScopeData {
+    parent: Option<ScopeId>,
+    kind: ScopeKind,
+    start: u32,
+    end: u32,
+}
+
+impl ExactEq for ScopeData {
+    ghost use Rattle.hir_base.specs.Exact.{exact};
+
+    ghost eq_decides = { Prim.search exact };
+}
+
+/// Scopes, each with the scope that it stands in, which was made before it; and the scope of each expression that has one.
+///
+/// The entries of all scopes stand in one list, in the order of the scopes.
+#[derive(Drop)]
+pub struct ExprScopes {
+    scopes: Vec<ScopeData>,
+    entries: Vec<ScopeEntry>,
+    scope_by_expr: ArenaMap<ExprKind, ScopeId>,
+}
+
+impl Model for ExprScopes {
+    ghost use Rattle.hir_scope.specs.Scopes.{Scopes};
+    ghost use Rattle.hir_scope.specs.Flat.{scopes_of, IsFlat};
+
+    ghost Value = { Scopes };
+
+    ghost use Rattle.std.specs.Coded.{codes, coded_ℕ};
+    ghost use Rattle.std.specs.FinMap as map;
+    ghost use Rattle.std.specs.Ordering.{nat_cmp};
+
+    ghost coded = { Prim.hlevel (codes, map.code {R = nat_cmp} coded_ℕ coded_ℕ) };
+
+    ghost view = { λ s. record { scopes = scopes_of s.entries.items s.scopes.items; scope_by_expr = s.scope_by_expr } };
+
+    ghost invariant = { λ s. IsFlat s.entries.items s.scopes.items s.scope_by_expr };
+}
+
+/// How many scopes there may be, and how many entries in all.
+const LIMIT: usize = 4_294_967_295;
+
+impl ExprScopes {
+    ghost use Rattle.hir_scope.specs.Scopes.{Scope, entry_count, block_of, label_of, macro_def_of, IsIn, ParentsStandEarlier};
+    ghost use Rattle.hir_scope.specs.Paths.{path};
+
+    /// No scopes, with room for the scopes of this number of expressions.
+    ///
+    /// Answers `Memory` where that room was refused.
+    pub(crate) fn with_exprs(alloc: Global, exprs: usize) -> Result<ExprScopes, ScopesFault>
+        ensures ok { IfOk result (λ made. made ≡ record { scopes = []; scope_by_expr = map.empty }) }
+        ensures err { OnErr result (result ≡ Err ScopesFault.Memory) }
+    {
+        let Ok(scope_by_expr) = ArenaMap::with_capacity(alloc, exprs) else {
+            return Err(ScopesFault::Memory);
+        };
+        Ok(ExprScopes {
+            scopes: Vec::new(alloc),
+            entries: Vec::new(alloc),
+            scope_by_expr,
+        })
+    }
+
+    /// The number of scopes.
+    pub fn scope_count(&self) -> usize
+        ensures count { result ≡ length self.now.scopes }
+        ensures most { result ≤ 4294967295 }
+    {
+        self.scopes.len()
+    }
+
+    /// The number of entries of all scopes.
+    pub fn entry_count(&self) -> usize
+        ensures count { result ≡ entry_count self.now.scopes }
+        ensures most { result ≤ 4294967295 }
+    {
+        self.entries.len()
+    }
+
+    /// Whether there is a scope with this id.
+    pub fn has_scope(&self, scope: ScopeId) -> bool
+        ensures { IsTrue result ↔ scope < length self.now.scopes }
+    {
+        (scope.into_raw() as usize) < self.scopes.len()
+    }
+
+    /// The entries that a scope brings in, all at once. The scope has to be there: `has_scope` tests it.
+    pub fn entries(&self, scope: ScopeId) -> &[ScopeEntry]
+        requires { scope < length self.now.scopes }
+        ensures { option_map (λ s. s.entries) (slice_get self.now.scopes scope) ≡ Some result.now }
+    {
+        let data = self.scopes[scope.into_raw() as usize];
+        &self.entries[data.start as usize..data.end as usize]
+    }
+
+    /// The block whose scope this is, where the block has an id. The scope has to be there: `has_scope` tests it.
+    pub fn block(&self, scope: ScopeId) -> Option<BlockId>
+        requires { scope < length self.now.scopes }
+        ensures { option_map (λ s. block_of s.kind) (slice_get self.now.scopes scope) ≡ Some result }
+    {
+        match self.scopes[scope.into_raw() as usize].kind {
+            ScopeKind::Block { id, label: _ } => Some(id),
+            ScopeKind::None => None,
+            ScopeKind::Label(_) => None,
+            ScopeKind::MacroDef(_) => None,
+        }
+    }
+
+    /// The macro that is known from this scope on, where it is the scope of a macro's definition. The scope has to be there: `has_scope`
+    /// tests it.
+    pub fn macro_def(&self, scope: ScopeId) -> Option<MacroDefId>
+        requires { scope < length self.now.scopes }
+        ensures { option_map (λ s. macro_def_of s.kind) (slice_get self.now.scopes scope) ≡ Some result }
+    {
+        match self.scopes[scope.into_raw() as usize].kind {
+            ScopeKind::MacroDef(id) => Some(id),
+            ScopeKind::None => None,
+            ScopeKind::Label(_) => None,
+            ScopeKind::Block { id: _, label: _ } => None,
+        }
+    }
+
+    /// The label of the block or loop whose scope this is, where it has one. The scope has to be there: `has_scope` tests it.
+    pub fn label(&self, scope: ScopeId) -> Option<LabelId>
+        requires { scope < length self.now.scopes }
+        ensures { option_map (λ s. label_of s.kind) (slice_get self.now.scopes scope) ≡ Some result }
+    {
+        match self.scopes[scope.into_raw() as usize].kind {
+            ScopeKind::Block { id: _, label } => label,
+            ScopeKind::Label(label) => Some(label),
+            ScopeKind::None => None,
+            ScopeKind::MacroDef(_) => None,
+        }
+    }
+
+    /// The scope that a scope stands in.
+    pub(crate) fn parent(&self, scope: ScopeId) -> Option<ScopeId>
+        requires { scope < length self.now.scopes }
+        ensures is { option_map (λ s. s.parent) (slice_get self.now.scopes scope) ≡ Some result }
+        ensures parents { ParentsStandEarlier self.now.scopes }
+    {
+        self.scopes[scope.into_raw() as usize].parent
+    }
+
+    /// Tells a proof that each scope stands in one that was made before it, and that the scope of each expression is there. It does
+    /// nothing.
+    pub fn parents_stand_earlier(&self)
+        ensures parents { ParentsStandEarlier self.now.scopes }
+        ensures there { (expr scope : ℕ) → map.get self.now.scope_by_expr expr ≡ Some scope → scope < length self.now.scopes }
+    {
+        let _ = &self.scopes;
+    }
+
+    /// The scope of an expression, where it has one.
+    pub fn scope_for(&self, expr: ExprId) -> Option<ScopeId>
+        ensures scope { result ≡ map.get self.now.scope_by_expr expr }
+        ensures there { IsIn self.now.scopes result }
+    {
+        match self.scope_by_expr.get(expr) {
+            Some(scope) => Some(*scope),
+            None => None,
+        }
+    }
+
+    /// The scope of each expression that has one.
+    pub fn scope_by_expr(&self) -> &ArenaMap<ExprKind, ScopeId>
+        ensures { result.now ≡ self.now.scope_by_expr }
+    {
+        &self.scope_by_expr
+    }
+
+    /// Adds a scope of this kind in the scope `parent`, with these entries, which it takes.
+    ///
+    /// Answers `Full` exactly where there would be more than 4,294,967,295 scopes or entries, and `Memory` where room was refused. Either
+    /// leaves the scopes and the entries as they were.
+    pub(crate) fn new_scope(
+        &mut self,
+        parent: Option<ScopeId>,
+        kind: ScopeKind,
+        entries: &mut Vec<ScopeEntry>,
+    ) -> Result<ScopeId, ScopesFault>
+        requires { IsIn self.old.scopes parent }
+        ensures id { IfOk result (λ id. id ≡ length self.old.scopes) }
+        ensures ok { OnOk result (self.new ≡ record { scopes = self.old.scopes ++ record { parent = parent; kind = kind; entries = entries.old.items } ∷ []; scope_by_expr = self.old.scope_by_expr }) }
+        ensures taken { OnOk result (entries.new.items ≡ []) }
+        ensures err { OnErr result (self.new ≡ self.old) }
+        ensures kept { OnErr result (entries.new.items ≡ entries.old.items) }
+        ensures full { result ≡ Err ScopesFault.Full ↔ ((4294967295 < length self.old.scopes + 1) ⊎ (4294967295 < entry_count self.old.scopes + length entries.old.items)) }
+        ensures missing { result ≡ Err ScopesFault.Missing → ⊥ }
+    {
+        let count = self.scopes.len();
+        let start = self.entries.len();
+        if count >= LIMIT || entries.len() > LIMIT - start {
+            return Err(ScopesFault::Full);
+        }
+        let end = start + entries.len();
+        if self.scopes.reserve(1).is_err() || self.entries.append(entries).is_err() {
+            return Err(ScopesFault::Memory);
+        }
+        self.scopes.push_reserved(ScopeData {
+            parent,
+            kind,
+            start: start as u32,
+            end: end as u32,
+        });
+        Ok(ScopeId::from_raw(count as u32))
+    }
+
+    /// Gives an expression its scope, which has to be there.
+    ///
+    /// Answers `Memory` where room for it was refused: nothing has changed then.
+    pub(crate) fn set_scope(&mut self, expr: ExprId, scope: ScopeId) -> Result<(), ScopesFault>
+        requires { scope < length self.old.scopes }
+        ensures ok { OnOk result (self.new ≡ record { scopes = self.old.scopes; scope_by_expr = map.insert self.old.scope_by_expr expr scope }) }
+        ensures err { OnErr result (self.new ≡ self.old) }
+        ensures memory { OnErr result (result ≡ Err ScopesFault.Memory) }
+    {
+        match self.scope_by_expr.insert(expr, scope) {
+            Ok(_) => Ok(()),
+            Err(_) => Err(ScopesFault::Memory),
+        }
+    }
+
+    /// A scope and those around it, innermost first; of no scope none. The scope has to be there: `has_scope` tests it.
+    pub fn scope_chain(&self, scope: Option<ScopeId>) -> ScopeChain<'_>
+        requires { IsIn self.now.scopes scope }
+        ensures { result ≡ path self.now.scopes scope }
+    {
+        ScopeChain::new(self, scope)
+    }
+}
+
+/// Scopes are equal where the scope of each expression and the list of scopes are: their kinds, entries and parents.
+impl PartialEq for ExprScopes {
+    ghost use Rattle.hir_scope.specs.same.SameScopes.{same_scopes, scopes_per};
+
+    ghost eq = { same_scopes };
+
+    ghost laws = { scopes_per };
+
+    fn eq(&self, other: &ExprScopes) -> bool {
+        self.scopes == other.scopes
+            && self.entries == other.entries
+            && self.scope_by_expr == other.scope_by_expr
+    }
+}
+
+impl Eq for ExprScopes {
+    ghost use Rattle.hir_scope.specs.same.SameScopes.{scopes_equiv};
+
+    ghost laws = { scopes_equiv };
+}
+
+impl ExactEq for ExprScopes {
+    ghost use Rattle.hir_scope.specs.same.SameScopes.{scopes_decide};
+
+    ghost eq_decides = { scopes_decide };
+}

@@ -1,0 +1,38 @@
+//! Laws that a reader relies on, and that no call's contract says.
+//! Each is a function that does nothing: its contract is the law.
+
+ghost use Rattle.std.specs.Prelude.{◌≡◌, ◌≤◌, ℕ, None, List, Option, IsPermutation, length, map};
+ghost use Rattle.hir_node.specs.declared.node_id.NodeId.{NodeId};
+ghost use Rattle.hir_faults.specs.Nodes.{Nodes, Has, kids_of};
+ghost use Rattle.hir_expr_store.specs.Contents.{Contents, contents_fault};
+ghost use Rattle.hir_expr_store.specs.Under.{Reached};
+ghost use Rattle.hir_scope.specs.Leak.{leak, leak_step};
+ghost use Rattle.hir_scope.specs.Slots.{slots};
+ghost use Rattle.hir_scope.specs.Chains.{Place, Stands};
+ghost use Rattle.hir_scope.specs.Scopes.{Scope, IsIn, ParentsStandEarlier};
+ghost use Rattle.hir_scope.specs.Paths.{path};
+
+use hir_expr_store::laws::kids_fall;
+
+/// The leak of a node is what its kind of node leaks, by the leaks of its kids.
+pub fn leak_is_its_step()
+    ensures { (c : Contents) → contents_fault c None → (n : NodeId) → Has c.nodes n → leak c.nodes n ≡ leak_step c.nodes (leak c.nodes) n }
+{
+    kids_fall();
+}
+
+/// The kids of a node's slots are the node's kids, each once.
+pub fn slots_hold_the_kids()
+    ensures { (s : Nodes) (n : NodeId) → IsPermutation (kids_of s n) (map (λ slot. slot.kid) (slots s n)) }
+{}
+
+/// A node stands in a place exactly where it is reached.
+pub fn what_is_reached_stands()
+    ensures stands { (s : Nodes) (tops : List Place) (n : NodeId) → Reached s (map (λ at. at.node) tops) n → (at : Place) × Stands s tops at × (at.node ≡ n) }
+    ensures reached { (s : Nodes) (tops : List Place) (at : Place) → Stands s tops at → Reached s (map (λ at. at.node) tops) at.node }
+{}
+
+/// A scope and those around it are at most as many as there are scopes.
+pub fn chains_are_short()
+    ensures { (scopes : List Scope) → ParentsStandEarlier scopes → (scope : Option ℕ) → IsIn scopes scope → length (path scopes scope) ≤ length scopes }
+{}

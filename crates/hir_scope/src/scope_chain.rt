@@ -1,0 +1,62 @@
+//! The iterator over a scope and those around it.
+ghost use Rattle.std.specs.Prelude.{◌≡◌};
+ghost use Rattle.std.specs.Iterator.{YieldsFirst, item_count};
+
+use crate::expr_scopes::ExprScopes;
+use crate::scope::ScopeId;
+use std::iter::FusedIterator;
+use std::marker::Model;
+
+/// A scope and those around it, innermost first, seen as the list of those that are left.
+#[derive(Drop)]
+pub struct ScopeChain<'a> {
+    scopes: &'a ExprScopes,
+    next: Option<ScopeId>,
+}
+
+impl<'a> Model for ScopeChain<'a> {
+    ghost use Rattle.std.specs.Prelude.{List, ℕ};
+    ghost use Rattle.hir_scope.specs.Scopes.{IsIn};
+    ghost use Rattle.hir_scope.specs.Paths.{path};
+
+    ghost Value = { List ℕ };
+
+    ghost view = { λ it. path it.scopes.now.scopes it.next };
+
+    ghost invariant = { λ it. IsIn it.scopes.now.scopes it.next };
+}
+
+impl<'a> ScopeChain<'a> {
+    ghost use Rattle.hir_scope.specs.Scopes.{IsIn};
+    ghost use Rattle.hir_scope.specs.Paths.{path};
+
+    pub(crate) fn new(scopes: &'a ExprScopes, scope: Option<ScopeId>) -> ScopeChain<'a>
+        requires { IsIn scopes.now.scopes scope }
+        ensures { result ≡ path scopes.now.scopes scope }
+    {
+        ScopeChain {
+            scopes,
+            next: scope,
+        }
+    }
+}
+
+impl<'a> Iterator for ScopeChain<'a> {
+    type Item = ScopeId;
+
+    ghost next_gives = { YieldsFirst (λ rest. rest) };
+
+    ghost remaining = { item_count (λ rest. rest) };
+
+    fn next(&mut self) -> Option<ScopeId> {
+        match self.next {
+            Some(scope) => {
+                self.next = self.scopes.parent(scope);
+                Some(scope)
+            }
+            None => None,
+        }
+    }
+}
+
+impl<'a> FusedIterator for ScopeChain<'a> {}
