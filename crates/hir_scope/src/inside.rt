@@ -54,7 +54,12 @@ fn push_if(
 impl Queue<Task> {
     /// Puts what is inside an expression on the stack, the first on top. `around` is what the expression is left with.
     // One arm a form: split, the function would name variants twice.
-    pub(crate) fn push_in_expr(&mut self, tasks: &mut Stack<Task>, expr: &Expr, around: Around) -> Result<(), ScopesFault>
+    pub(crate) fn push_in_expr(
+        &mut self,
+        tasks: &mut Stack<Task>,
+        expr: &Expr,
+        around: Around,
+    ) -> Result<(), ScopesFault>
         ensures ok { OnOk result (tasks.new ≡ form_tasks around (expr_form expr.now) ++ tasks.old) }
         ensures memory { OnErr result (result ≡ Err ScopesFault.Memory) }
     {
@@ -90,7 +95,14 @@ impl Queue<Task> {
                 body,
                 closure_kind: _,
                 capture_by: _,
-            } => push_closure(tasks, arg_types.as_slice(), *ret_type, args.as_slice(), *body, around),
+            } => push_closure(
+                tasks,
+                arg_types.as_slice(),
+                *ret_type,
+                args.as_slice(),
+                *body,
+                around,
+            ),
             Expr::Match { expr, arms } => {
                 push_arms(tasks, arms.as_slice())?;
                 tasks.push(Task::Expr(*expr))
@@ -149,7 +161,12 @@ impl Queue<Task> {
     }
 
     /// Puts what is inside a pattern on the stack, the first on top.
-    pub(crate) fn push_in_pat(&mut self, tasks: &mut Stack<Task>, pat: &Pat, around: Around) -> Result<(), ScopesFault>
+    pub(crate) fn push_in_pat(
+        &mut self,
+        tasks: &mut Stack<Task>,
+        pat: &Pat,
+        around: Around,
+    ) -> Result<(), ScopesFault>
         ensures ok { OnOk result (tasks.new ≡ form_tasks around (pat_form pat.now) ++ tasks.old) }
         ensures memory { OnErr result (result ≡ Err ScopesFault.Memory) }
     {
@@ -157,7 +174,12 @@ impl Queue<Task> {
     }
 
     /// Puts what is inside a type on the stack, the first on top. `around` is what the type is left with.
-    pub(crate) fn push_in_type(&mut self, tasks: &mut Stack<Task>, type_ref: &TypeRef, around: Around) -> Result<(), ScopesFault>
+    pub(crate) fn push_in_type(
+        &mut self,
+        tasks: &mut Stack<Task>,
+        type_ref: &TypeRef,
+        around: Around,
+    ) -> Result<(), ScopesFault>
         ensures ok { OnOk result (tasks.new ≡ form_tasks around (type_form type_ref.now) ++ tasks.old) }
         ensures memory { OnErr result (result ≡ Err ScopesFault.Memory) }
     {
@@ -167,10 +189,9 @@ impl Queue<Task> {
                 tasks.push(Task::Bound(*pat))?;
                 tasks.push(Task::TypeRef(*ty))
             }
-            TypeRef::Never
-            | TypeRef::Placeholder
-            | TypeRef::Error
-            | TypeRef::TypeParam(_) => Ok(()),
+            TypeRef::Never | TypeRef::Placeholder | TypeRef::Error | TypeRef::TypeParam(_) => Ok(
+                (),
+            ),
             TypeRef::Tuple(_)
             | TypeRef::Path(_)
             | TypeRef::RawPtr(_, _)

@@ -14,7 +14,10 @@ use crate::tasks::{Around, Task};
 use hir_node::{ExprId, Item, MatchArm, PatId, Statement, TypeRefId};
 
 /// Puts an expression on the stack, where there is one.
-pub(crate) fn push_expr_opt(tasks: &mut Stack<Task>, expr: Option<ExprId>) -> Result<(), ScopesFault>
+pub(crate) fn push_expr_opt(
+    tasks: &mut Stack<Task>,
+    expr: Option<ExprId>,
+) -> Result<(), ScopesFault>
     ensures ok { OnOk result (tasks.new ≡ tasks_of (opt e expr) ++ tasks.old) }
     ensures memory { OnErr result (result ≡ Err ScopesFault.Memory) }
 {
@@ -25,7 +28,10 @@ pub(crate) fn push_expr_opt(tasks: &mut Stack<Task>, expr: Option<ExprId>) -> Re
 }
 
 /// Puts a type on the stack, where there is one.
-pub(crate) fn push_type_opt(tasks: &mut Stack<Task>, type_ref: Option<TypeRefId>) -> Result<(), ScopesFault>
+pub(crate) fn push_type_opt(
+    tasks: &mut Stack<Task>,
+    type_ref: Option<TypeRefId>,
+) -> Result<(), ScopesFault>
     ensures ok { OnOk result (tasks.new ≡ tasks_of (opt t type_ref) ++ tasks.old) }
     ensures memory { OnErr result (result ≡ Err ScopesFault.Memory) }
 {
@@ -49,7 +55,10 @@ pub(crate) fn push_pats(tasks: &mut Stack<Task>, pats: &[PatId]) -> Result<(), S
 }
 
 /// Puts the types that are there on the stack, the first on top.
-pub(crate) fn push_types(tasks: &mut Stack<Task>, types: &[Option<TypeRefId>]) -> Result<(), ScopesFault>
+pub(crate) fn push_types(
+    tasks: &mut Stack<Task>,
+    types: &[Option<TypeRefId>],
+) -> Result<(), ScopesFault>
     ensures ok { OnOk result (tasks.new ≡ tasks_of (flat_map (opt t) types.now) ++ tasks.old) }
     ensures memory { OnErr result (result ≡ Err ScopesFault.Memory) }
 {
@@ -114,16 +123,16 @@ fn push_statement(tasks: &mut Stack<Task>, statement: &Statement) -> Result<(), 
             push_type_opt(tasks, *type_ref)?;
             Ok(())
         }
-        Statement::Expr {
-            expr,
-            has_semi: _,
-        } => tasks.push(Task::Expr(*expr)),
+        Statement::Expr { expr, has_semi: _ } => tasks.push(Task::Expr(*expr)),
         Statement::Item(item) => push_item(tasks, item),
     }
 }
 
 /// Puts statements on the stack, the first on top.
-pub(crate) fn push_statements(tasks: &mut Stack<Task>, statements: &[Statement]) -> Result<(), ScopesFault>
+pub(crate) fn push_statements(
+    tasks: &mut Stack<Task>,
+    statements: &[Statement],
+) -> Result<(), ScopesFault>
     ensures ok { OnOk result (tasks.new ≡ flat_map statement_tasks statements.now ++ tasks.old) }
     ensures memory { OnErr result (result ≡ Err ScopesFault.Memory) }
 {

@@ -36,7 +36,11 @@ impl StoreVisitor for Queue<Task> {
 
 impl Queue<Task> {
     /// Puts the tasks of an expression's child calls on the stack, the first on top.
-    pub(crate) fn push_expr(&mut self, tasks: &mut Stack<Task>, expr: &Expr) -> Result<(), ScopesFault>
+    pub(crate) fn push_expr(
+        &mut self,
+        tasks: &mut Stack<Task>,
+        expr: &Expr,
+    ) -> Result<(), ScopesFault>
         ensures ok { OnOk result (tasks.new ≡ tasks_of (expr_calls expr.now) ++ tasks.old) }
         ensures memory { OnErr result (result ≡ Err ScopesFault.Memory) }
     {
@@ -56,7 +60,11 @@ impl Queue<Task> {
     }
 
     /// Puts the tasks of a type's child calls on the stack, the first on top.
-    pub(crate) fn push_type(&mut self, tasks: &mut Stack<Task>, type_ref: &TypeRef) -> Result<(), ScopesFault>
+    pub(crate) fn push_type(
+        &mut self,
+        tasks: &mut Stack<Task>,
+        type_ref: &TypeRef,
+    ) -> Result<(), ScopesFault>
         ensures ok { OnOk result (tasks.new ≡ tasks_of (type_calls type_ref.now) ++ tasks.old) }
         ensures memory { OnErr result (result ≡ Err ScopesFault.Memory) }
     {
