@@ -1,16 +1,14 @@
 -- What is still to do before a task is what it does, and then what is still to do after it.
 use Rattle.std.proofs.Common.{◌≡◌, ℕ, List, [], ◌∷◌, ◌++◌, map, refl, sym, ap, ◌∙◌, append_assoc, Option, Some, None}
-use Rattle.std.specs.List.{flat_map, filter}
+use Rattle.std.specs.List.{flat_map}
 use Rattle.std.proofs.lemmas.List.{append-nil, map-append}
 use Rattle.std.proofs.lemmas.List.Concat.{flat_map-append}
 use Rattle.std.proofs.lemmas.List.Elements.{filter-append}
 use Rattle.hir_node.specs.ChildCalls.{Call, OnExpr, OnAnonConst, OnPat, OnType, OnLifetime, e, p, t, opt}
-use Rattle.hir_node.specs.declared.parts.Item.{Item}
 use Rattle.hir_node.specs.declared.parts.Item.TheVariants as item
 use Rattle.hir_node.specs.declared.parts.MatchArm.{MatchArm}
 use Rattle.hir_node.specs.declared.parts.Statement.{Statement}
 use Rattle.hir_node.specs.declared.parts.Statement.TheVariants as statement
-use Rattle.hir_node.specs.declared.node_id.NodeId.{NodeId}
 use Rattle.hir_node.specs.declared.node_id.NodeId.TheVariants as node
 use Rattle.hir_faults.specs.Nodes.{Nodes}
 use Rattle.hir_scope.specs.declared.tasks.Around.{Around}
@@ -19,11 +17,11 @@ use Rattle.hir_scope.specs.declared.tasks.Task.TheVariants as task
 use Rattle.hir_scope.specs.Frames.{Frame, Chain, frame, of_kind, empty}
 use Rattle.hir_scope.specs.Forms.{ScopingForm, form_of}
 use Rattle.hir_scope.specs.Forms as form
-use Rattle.hir_scope.specs.Leak.{leak, leak_of_call, leaks, leak_of_form}
-use Rattle.hir_scope.specs.Slots.{Slot, call_slot, in_turn, own_frame, block_constants, item_frames, made, made_for_constants, statement_slots, block_slots, arm_slots, loop_kind, slots_of_form, slots}
-use Rattle.hir_scope.specs.Chains.{Place, place_kid, places_of_kids}
-use Rattle.hir_scope.specs.PlacesUnder.{place, places_under, is_expr, exprs_under}
-use Rattle.hir_scope.specs.Pending.{task_of, tasks_of, arm_task, arm_with, leave, item_tasks, statement_tasks, closure_calls, form_tasks, opens_here, opens_constant, future, arm_calls}
+use Rattle.hir_scope.specs.Leak.{leak, leaks, leak_of_form}
+use Rattle.hir_scope.specs.Slots.{Slot, call_slot, in_turn, own_frame, block_constants, made, made_for_constants, statement_slots, block_slots, arm_slots, loop_kind, slots_of_form, slots}
+use Rattle.hir_scope.specs.Chains.{Place, place_kid}
+use Rattle.hir_scope.specs.PlacesUnder.{place, exprs_under}
+use Rattle.hir_scope.specs.Pending.{tasks_of, arm_task, arm_with, leave, statement_tasks, closure_calls, form_tasks, opens_here, opens_constant, future, arm_calls}
 
 pub exprs_under-nil : (s : Nodes) → exprs_under s [] ≡ []
 unfolding exprs_under

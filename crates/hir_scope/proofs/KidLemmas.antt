@@ -1,29 +1,27 @@
 -- The slots of a node are about its kids, each once; and the tasks of a node are about the same, in the order of its slots.
-use Rattle.std.proofs.Common.{◌≡◌, ℕ, ◌+◌, List, [], ◌∷◌, ◌++◌, map, refl, sym, ap, ◌∙◌, append_assoc, Option, Some, None, Contains, arith, sum_by, IsPermutation, subst}
+use Rattle.std.proofs.Common.{◌≡◌, ℕ, List, [], ◌∷◌, ◌++◌, map, refl, sym, ap, ◌∙◌, append_assoc, Option, Some, None, IsPermutation, subst}
 use Rattle.std.specs.Prelude.{slice_get}
 use Rattle.std.specs.List.{flat_map}
 use Rattle.std.proofs.lemmas.List.{map-append}
 use Rattle.std.proofs.lemmas.List.Concat.{flat_map-append}
-use Rattle.std.proofs.lemmas.List.Sorted.{IsPermutation-refl, IsPermutation-trans, IsPermutation-append_comm, IsPermutation-append_left, IsPermutation-append_right, IsPermutation-cons, IsPermutation-reverse}
+use Rattle.std.proofs.lemmas.List.Sorted.{IsPermutation-refl, IsPermutation-trans, IsPermutation-append_comm, IsPermutation-append_left, IsPermutation-append_right, IsPermutation-cons}
 use Rattle.hir_node.specs.ChildCalls.{Call, OnExpr, OnAnonConst, OnPat, OnType, OnLifetime, e, p, t, opt, kid, kids, statement_calls, expr_calls, pat_calls, type_calls}
 use Rattle.hir_node.specs.ChildCalls as calls
-use Rattle.hir_node.specs.declared.parts.Item.TheVariants as item
 use Rattle.hir_node.specs.declared.parts.MatchArm.{MatchArm}
 use Rattle.hir_node.specs.declared.parts.Statement.{Statement}
 use Rattle.hir_node.specs.declared.parts.Statement.TheVariants as statement
 use Rattle.hir_node.specs.declared.expr.Expr.{Expr}
 use Rattle.hir_node.specs.declared.expr.Expr.TheVariants as expr
-use Rattle.hir_node.specs.declared.pat.Pat.{Pat}
 use Rattle.hir_node.specs.declared.type_ref.TypeRef.{TypeRef}
 use Rattle.hir_node.specs.declared.type_ref.TypeRef.TheVariants as type
 use Rattle.hir_node.specs.declared.node_id.NodeId.{NodeId}
 use Rattle.hir_node.specs.declared.node_id.NodeId.TheVariants as node
-use Rattle.hir_faults.specs.Nodes.{Nodes, calls_of, kids_of}
-use Rattle.hir_scope.specs.Frames.{Chain, frame, of_kind, empty}
+use Rattle.hir_faults.specs.Nodes.{Nodes, calls_of}
+use Rattle.hir_scope.specs.Frames.{Chain, frame, empty}
 use Rattle.hir_scope.specs.Forms.{ScopingForm, form_at, form_of, expr_form, pat_form, type_form}
 use Rattle.hir_scope.specs.Forms as form
-use Rattle.hir_scope.specs.Leak.{leak, leak_of_call, leaks}
-use Rattle.hir_scope.specs.Slots.{Slot, call_slot, in_turn, own_frame, block_constants, made, made_for_constants, statement_slots, block_slots, arm_slots, loop_kind, slots_of_form}
+use Rattle.hir_scope.specs.Leak.{leak, leaks}
+use Rattle.hir_scope.specs.Slots.{Slot, in_turn, own_frame, block_constants, made, made_for_constants, statement_slots, block_slots, arm_slots, slots_of_form}
 use Rattle.hir_scope.specs.Pending.{arm_calls, closure_calls}
 
 abbrev pub Shuffled : List Call → List Call → Type 0

@@ -1,6 +1,5 @@
 -- The leak of a node is told by the leaks of its kids, and what is under a place by what is under the places of the kids.
-use Rattle.std.proofs.Common.{◌≡◌, ℕ, zero, suc, List, [], ◌∷◌, ◌++◌, map, refl, sym, ap, ◌∙◌, Option, Some, None, Contains, arith, IsPermutation, subst}
-use Rattle.std.specs.Prelude.{⊤}
+use Rattle.std.proofs.Common.{◌≡◌, ℕ, zero, suc, List, [], ◌∷◌, ◌++◌, map, refl, sym, ap, ◌∙◌, Contains, arith, subst}
 use Rattle.std.specs.List.{flat_map, filter}
 use Rattle.std.proofs.Math.Path.{fun_ext}
 use Rattle.std.proofs.lemmas.List.{append-nil}
@@ -11,14 +10,14 @@ use Rattle.hir_node.specs.declared.node_id.NodeId.TheVariants as node
 use Rattle.hir_faults.specs.Nodes.{Nodes, Has, calls_of, kids_of}
 use Rattle.hir_faults.specs.Down.{KidsFall, value, AgreeOn, AsksKids}
 use Rattle.hir_faults.proofs.DownLemmas.{value_at}
-use Rattle.hir_scope.specs.Frames.{Chain, frame}
+use Rattle.hir_scope.specs.Frames.{Chain}
 use Rattle.hir_scope.specs.Forms.{ScopingForm, form_of}
 use Rattle.hir_scope.specs.Forms as form
-use Rattle.hir_scope.specs.Leak.{leak, leak_of_call, leaks, leak_of_form, leak_step}
+use Rattle.hir_scope.specs.Leak.{leak, leaks, leak_of_form, leak_step}
 use Rattle.hir_scope.specs.Slots.{Slot, slots, slots_of_form}
 use Rattle.hir_scope.specs.Chains.{Place, place_kid, places_of_kids}
 use Rattle.hir_scope.specs.PlacesUnder.{place, places_under, under_step, is_expr, exprs_under}
-use Rattle.hir_scope.proofs.KidLemmas.{Shuffled, met_in_form, calls_shuffled, kids_of_form}
+use Rattle.hir_scope.proofs.KidLemmas.{met_in_form, calls_shuffled, kids_of_form}
 
 -- 1. What agrees on the kids of a node agrees on its slots
 

@@ -1,5 +1,5 @@
 -- The tasks of what is inside a node are about its kids, each once.
-use Rattle.std.proofs.Common.{◌≡◌, ℕ, List, [], ◌∷◌, ◌++◌, map, refl, sym, ap, ◌∙◌, append_assoc, Option, Some, None}
+use Rattle.std.proofs.Common.{◌≡◌, ℕ, List, [], ◌∷◌, ◌++◌, map, refl, ap, ◌∙◌, Option, Some, None}
 use Rattle.std.specs.List.{flat_map}
 use Rattle.std.proofs.lemmas.List.{append-nil}
 use Rattle.std.proofs.lemmas.List.Concat.{flat_map-append}
@@ -15,7 +15,7 @@ use Rattle.hir_scope.specs.declared.tasks.Task.{Task}
 use Rattle.hir_scope.specs.declared.tasks.Task.TheVariants as task
 use Rattle.hir_scope.specs.Forms.{ScopingForm}
 use Rattle.hir_scope.specs.Forms as form
-use Rattle.hir_scope.specs.Pending.{task_of, tasks_of, arm_task, arm_calls, guarded_task, leave, statement_tasks, closure_calls, form_tasks, task_kids}
+use Rattle.hir_scope.specs.Pending.{tasks_of, arm_task, arm_calls, guarded_task, leave, statement_tasks, closure_calls, form_tasks, task_kids}
 use Rattle.hir_scope.proofs.KidLemmas.{met_in_statement, met_in_form}
 
 abbrev pub about : List Task → List NodeId

@@ -1,5 +1,5 @@
 -- Sums over tasks and all nodes under those that they are about: what a node weighs is what it weighs itself, and what its tasks weigh.
-use Rattle.std.proofs.Common.{◌≡◌, ℕ, ◌+◌, List, [], ◌∷◌, ◌++◌, refl, sym, ap, ◌∙◌, subst, arith}
+use Rattle.std.proofs.Common.{◌≡◌, ℕ, ◌+◌, List, [], ◌∷◌, ◌++◌, refl, sym, ap, ◌∙◌, arith}
 use Rattle.std.specs.List.{sum_by}
 use Rattle.std.proofs.lemmas.List.Sums.{sum_by-append, sum_by-cons}
 use Rattle.std.proofs.lemmas.List.Concat.{flat_map-append}
@@ -11,8 +11,8 @@ use Rattle.hir_faults.specs.Down.{KidsFall, value, AgreeOn}
 use Rattle.hir_faults.proofs.DownLemmas.{value_at}
 use Rattle.hir_scope.specs.declared.tasks.Around.{Around}
 use Rattle.hir_scope.specs.declared.tasks.Task.{Task}
-use Rattle.hir_scope.specs.Forms.{ScopingForm, form_of}
-use Rattle.hir_scope.specs.Slots.{Slot, slots, slots_of_form}
+use Rattle.hir_scope.specs.Forms.{form_of}
+use Rattle.hir_scope.specs.Slots.{slots}
 use Rattle.hir_scope.specs.Pending.{form_tasks, task_kids}
 use Rattle.hir_scope.proofs.KidLemmas.{met_in_form, kids_of_form}
 use Rattle.hir_scope.proofs.SlotLemmas.{kids_in, slots_kids}

@@ -18,7 +18,7 @@ use Rattle.hir_scope.specs.Frames.{Frame, Chain, frame, of_kind, empty}
 use Rattle.hir_scope.specs.Forms.{ScopingForm}
 use Rattle.hir_scope.specs.Forms as form
 use Rattle.hir_scope.specs.Leak.{leak}
-use Rattle.hir_scope.specs.Slots.{own_frame, block_constants, item_frames, arm_slots, loop_kind}
+use Rattle.hir_scope.specs.Slots.{own_frame, block_constants, arm_slots, loop_kind}
 use Rattle.hir_scope.specs.Chains.{Place, place_kid}
 use Rattle.hir_scope.specs.PlacesUnder.{place, exprs_under}
 
