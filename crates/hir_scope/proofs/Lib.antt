@@ -1,3 +1,11 @@
+mod FutureLemmas
+mod KidLemmas
+mod MetLemmas
+pub mod PushLemmas
+mod StepLemmas
+mod TaskLemmas
+mod TotalLemmas
+pub mod TurnLemmas
 mod Rows
 pub mod FlatLemmas
 pub mod PathLemmas

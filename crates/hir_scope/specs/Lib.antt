@@ -6,6 +6,8 @@ pub mod Chains
 pub mod Tops
 pub mod Resolution
 pub mod Counts
+pub mod PlacesUnder
+pub mod Pending
 pub mod Scopes
 pub mod Paths
 pub mod Flat

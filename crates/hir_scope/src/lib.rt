@@ -4,10 +4,16 @@
 
 mod expr_scopes;
 mod fault;
+mod inside;
 pub mod laws;
+mod pushes;
+mod queue;
 mod resolve;
 mod scope;
 mod scope_chain;
+mod stack;
+mod tasks;
+mod turn;
 
 pub use expr_scopes::{ExprScopes, ScopeData};
 pub use fault::ScopesFault;
