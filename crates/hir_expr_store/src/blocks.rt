@@ -69,5 +69,10 @@ impl ExpressionStore {
 fn first_without<M>(blocks: &[BlockId], maps: &BTreeMap<BlockId, M>) -> Option<BlockId>
     ensures { result ≡ first_without maps.now blocks.now }
 {
-    blocks.iter().find(|block| !maps.contains_key(*block)).copied()
+    for block in blocks {
+        if !maps.contains_key(block) {
+            return Some(*block);
+        }
+    }
+    None
 }

@@ -1,0 +1,8 @@
+//! A program as a new user writes it: a body is built by calls, finished and walked. What the store and the body give is handed back to
+//! them with nothing asked in between.
+#![tactic(auto, using(hir_expr_store::proofs::GivenLemmas::id_is_there, hir_node::proofs::RunLemmas::freely))]
+
+#[cfg(test)]
+mod body;
+#[cfg(test)]
+mod walk;
