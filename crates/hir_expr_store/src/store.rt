@@ -66,17 +66,42 @@ impl Model for ExpressionStore {
 
     ghost coded = { Prim.hlevel (codes, args.the_row.coded, said.the_row.coded) };
 
-    ghost view = { λ s. record { nodes = record { exprs = s.exprs; pats = s.pats; types = s.types;
-        bindings = s.bindings; labels = s.labels; lifetimes = s.lifetimes }; roots = s.roots;
-        side_tables = s.side_tables } };
+    ghost view = { λ s. record {
+      nodes = record {
+        exprs = s.exprs;
+        pats = s.pats;
+        types = s.types;
+        bindings = s.bindings;
+        labels = s.labels;
+        lifetimes = s.lifetimes;
+      };
+      roots = s.roots;
+      side_tables = s.side_tables;
+    } };
 
-    ghost inverse = { λ c. record { exprs = c.nodes.exprs; pats = c.nodes.pats; types = c.nodes.types;
-        bindings = c.nodes.bindings; labels = c.nodes.labels; lifetimes = c.nodes.lifetimes;
-        roots = c.roots; side_tables = c.side_tables } };
+    ghost inverse = { λ c. record {
+      exprs = c.nodes.exprs;
+      pats = c.nodes.pats;
+      types = c.nodes.types;
+      bindings = c.nodes.bindings;
+      labels = c.nodes.labels;
+      lifetimes = c.nodes.lifetimes;
+      roots = c.roots;
+      side_tables = c.side_tables;
+    } };
 
-    ghost invariant = { λ s. contents_fault record { nodes = record { exprs = s.exprs; pats = s.pats;
-        types = s.types; bindings = s.bindings; labels = s.labels; lifetimes = s.lifetimes };
-        roots = s.roots; side_tables = s.side_tables } None };
+    ghost invariant = { λ s. contents_fault record {
+      nodes = record {
+        exprs = s.exprs;
+        pats = s.pats;
+        types = s.types;
+        bindings = s.bindings;
+        labels = s.labels;
+        lifetimes = s.lifetimes;
+      };
+      roots = s.roots;
+      side_tables = s.side_tables;
+    } None };
 }
 
 /// What a store is made of: the nodes and what they name, the roots, and what was said of the nodes besides.

@@ -119,7 +119,10 @@ fn a_node_shows_its_kind_and_its_number(rt: HostRuntime) -> Result<(), Fail> {
     for (node, text) in [
         (NodeId::Expr(Idx::from_raw(3)), "ExprId(3)"),
         (NodeId::Pat(Idx::from_raw(0)), "PatId(0)"),
-        (NodeId::TypeRef(Idx::from_raw(4294967295)), "TypeRefId(4294967295)"),
+        (
+            NodeId::TypeRef(Idx::from_raw(4294967295)),
+            "TypeRefId(4294967295)",
+        ),
     ] {
         let shown = format!(in rt.alloc(); "{node}")?;
         assert!(rt; shown.as_str() == text);

@@ -69,8 +69,10 @@ impl PageBuffer {
 
     /// Adds a line end, whatever the format.
     fn end_line(&mut self) -> Result<(), AllocError>
-        ensures { OnOk result (self.new ≡ record self.old { above = self.old.last ∷ self.old.above;
-            last = [] }) }
+        ensures { OnOk result (self.new ≡ record self.old {
+          above = self.old.last ∷ self.old.above;
+          last = [];
+        }) }
     {
         self.text.push('\n')?;
         self.kept = self.text.len();

@@ -92,4 +92,4 @@ leak_asks s f g (node.TypeRef id) h = at (slice_get s.types id) h where
 -- the leak of a node is its step's
 pub leak_at : (s : Nodes) → KidsFall s → (n : NodeId) → Has s n → leak s n ≡ leak_step s (leak s) n
 unfolding leak
-leak_at s fall n h = value_at s fall (leak_step s) [] (leak_asks s) n h
+leak_at s fall n h = value_at s fall (leak_step s) [] (leak_asks s) n

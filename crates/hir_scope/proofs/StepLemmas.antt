@@ -75,7 +75,7 @@ leak_asks s f g n h = form_reads s f g (form_of s n) (met_agree f g s n h)
 -- the leak of a node is told by the leaks of its kids
 pub leak_at : (s : Nodes) → KidsFall s → (n : NodeId) → Has s n → leak s n ≡ leak_of_form s (leak s) (form_of s n)
 unfolding leak
-leak_at s fall n h = value_at s fall (leak_step s) [] (leak_asks s) n h
+leak_at s fall n h = value_at s fall (leak_step s) [] (leak_asks s) n
 
 -- 3. Places
 
@@ -99,7 +99,7 @@ under_asks s f g n agree =
 pub under_at : (s : Nodes) → KidsFall s → (at : Place) → Has s at.node → places_under s at ≡ at ∷ flat_map (places_under s) (places_of_kids s at)
 unfolding places_under
 under_at s fall at h =
-    ap (λ (w : Chain → Chain → List Place). w at.here at.constant) (value_at s fall (under_step s) (λ here constant. []) (under_asks s) at.node h)
+    ap (λ (w : Chain → Chain → List Place). w at.here at.constant) (value_at s fall (under_step s) (λ here constant. []) (under_asks s) at.node)
 
 -- 4. The expressions under a place
 

@@ -41,7 +41,7 @@ sum_reads f g (n ∷ ns) h =
 module _ (s : Nodes) (fall : KidsFall s) (u : NodeId → ℕ) where
   pub total_at : (n : NodeId) → Has s n → total s u n ≡ u n + sum_by (total s u) (kids_of s n)
   unfolding total
-  total_at n h = value_at s fall (total_step s u) 0 (λ f g m agree. ap (λ (x : ℕ). u m + x) (sum_reads f g (kids_of s m) agree)) n h
+  total_at n h = value_at s fall (total_step s u) 0 (λ f g m agree. ap (λ (x : ℕ). u m + x) (sum_reads f g (kids_of s m) agree)) n
 
   met_kids : (n : NodeId) → sum_by (total s u) (kids (met_in_form (form_of s n))) ≡ sum_by (total s u) (kids_of s n)
   unfolding slots

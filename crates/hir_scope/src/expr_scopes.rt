@@ -47,8 +47,10 @@ impl Model for ExprScopes {
 
     ghost coded = { Prim.hlevel (codes, map.code {R = nat_cmp} coded_ℕ coded_ℕ) };
 
-    ghost view = { λ s. record { scopes = scopes_of s.entries.items s.scopes.items;
-        scope_by_expr = s.scope_by_expr } };
+    ghost view = { λ s. record {
+      scopes = scopes_of s.entries.items s.scopes.items;
+      scope_by_expr = s.scope_by_expr;
+    } };
 
     ghost invariant = { λ s. IsFlat s.entries.items s.scopes.items s.scope_by_expr };
 }
@@ -198,8 +200,14 @@ impl ExprScopes {
     ) -> Result<ScopeId, ScopesFault>
         requires { IsIn self.old.scopes parent }
         ensures id { IfOk result (λ id. id ≡ length self.old.scopes) }
-        ensures ok { OnOk result (self.new ≡ record { scopes = self.old.scopes ++ record { parent = parent;
-            kind = kind; entries = entries.old.items } ∷ []; scope_by_expr = self.old.scope_by_expr }) }
+        ensures ok { OnOk result (self.new ≡ record {
+          scopes = self.old.scopes ++ record {
+            parent = parent;
+            kind = kind;
+            entries = entries.old.items;
+          } ∷ [];
+          scope_by_expr = self.old.scope_by_expr;
+        }) }
         ensures taken { OnOk result (entries.new.items ≡ []) }
         ensures err { OnErr result (self.new ≡ self.old) }
         ensures kept { OnErr result (entries.new.items ≡ entries.old.items) }
@@ -230,8 +238,10 @@ impl ExprScopes {
     /// Answers `Memory` where room for it was refused: nothing has changed then.
     pub(crate) fn set_scope(&mut self, expr: ExprId, scope: ScopeId) -> Result<(), ScopesFault>
         requires { scope < length self.old.scopes }
-        ensures ok { OnOk result (self.new ≡ record { scopes = self.old.scopes;
-            scope_by_expr = map.insert self.old.scope_by_expr expr scope }) }
+        ensures ok { OnOk result (self.new ≡ record {
+          scopes = self.old.scopes;
+          scope_by_expr = map.insert self.old.scope_by_expr expr scope;
+        }) }
         ensures err { OnErr result (self.new ≡ self.old) }
         ensures memory { OnErr result (result ≡ Err ScopesFault.Memory) }
     {

@@ -3,7 +3,8 @@
 use hir_base::{ArenaFault, HygieneId, Name, Seq};
 use hir_items::{Body, BodyFault, Param, RefusedBody};
 use hir_node::{
-    Binding, BindingAnnotation, Expr, ExprId, Mutability, Pat, PatId, Path, Rawness, Statement, Unsafe,
+    Binding, BindingAnnotation, Expr, ExprId, Mutability, Pat, PatId, Path, Rawness, Statement,
+    Unsafe,
 };
 use hir_store::{ExpressionStoreBuilder, ExpressionStoreSourceMap, FinishFault, Refused};
 use std::alloc::{AllocError, AllocFailed, Global};

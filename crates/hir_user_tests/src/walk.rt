@@ -34,9 +34,12 @@ impl StoreVisitor for Counts {
 fn count_children(store: &ExpressionStore) -> usize {
     let mut count = 0usize;
     for (id, _) in store.exprs() {
-        store.walk_child_exprs(id, &mut |_child: ExprId| {
-            count = count.saturating_add(1);
-        });
+        store.walk_child_exprs(
+            id,
+            &mut |_child: ExprId| {
+                count = count.saturating_add(1);
+            },
+        );
     }
     count
 }
@@ -45,9 +48,12 @@ fn count_children(store: &ExpressionStore) -> usize {
 fn count_bindings(store: &ExpressionStore) -> usize {
     let mut count = 0usize;
     for (id, _) in store.pats() {
-        store.walk_bindings_in_pat(id, &mut |_binding| {
-            count = count.saturating_add(1);
-        });
+        store.walk_bindings_in_pat(
+            id,
+            &mut |_binding| {
+                count = count.saturating_add(1);
+            },
+        );
     }
     count
 }
@@ -55,7 +61,8 @@ fn count_bindings(store: &ExpressionStore) -> usize {
 /// What is visited below the root.
 fn below_the_root(body: &Body) -> Counts {
     let mut counts = Counts { exprs: 0, pats: 0 };
-    body.store().visit_expr_children(body.root_expr(), &mut counts);
+    body.store()
+        .visit_expr_children(body.root_expr(), &mut counts);
     counts
 }
 
