@@ -41,7 +41,8 @@ impl ExpressionStore {
     fn walk_pats_below<F: FnMut(PatId)>(&self, id: PatId, f: &mut F)
         requires there { id < length self.now.nodes.pats }
         requires callable { F.IsAlwaysCallable f.old }
-        ensures runs { FoldsTo (λ p x q. F.step p x tt q) f.old (flat_map (pats self.now.nodes) (child_pats_of self.now.nodes id)) f.new }
+        ensures runs { FoldsTo (λ p x q. F.step p x tt q) f.old
+            (flat_map (pats self.now.nodes) (child_pats_of self.now.nodes id)) f.new }
         ensures callable { F.IsAlwaysCallable f.new }
     {
         self.has_no_fault();
@@ -129,7 +130,8 @@ struct ChildExprs<'s, 'f, F> {
 impl<F: FnMut(ExprId)> StoreVisitor for ChildExprs<'_, '_, F> {
     ghost may = { λ v c. F.IsAlwaysCallable v.f.now × IsTrue (is_there (sizes_of v.store.now.nodes) c) };
 
-    ghost step = { λ v c w. FoldsTo (λ p x q. F.step p x tt q) v.f.now (exprs_from (exprs_in v.store.now.nodes) c) w.f.now
+    ghost step = { λ v c w. FoldsTo (λ p x q. F.step p x tt q) v.f.now
+        (exprs_from (exprs_in v.store.now.nodes) c) w.f.now
         × F.IsAlwaysCallable w.f.now
         × (w.store ≡ v.store)
         × (w.f.ghost_name ≡ v.f.ghost_name) };

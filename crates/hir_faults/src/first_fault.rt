@@ -14,7 +14,7 @@ use crate::nodes::NodeSlices;
 use crate::range::calls_there;
 use crate::sizes::Sizes;
 use crate::tested::TestedNode;
-use hir_base::Idx;
+use hir_base::{Idx, MOST_ITEMS};
 use hir_forest::{ForestFault, Root, first_fault};
 use hir_node::{ExprId, NodeId, PatId, TypeRef, TypeRefId};
 use std::alloc::{AllocError, Global};
@@ -68,7 +68,7 @@ fn fault_of<N: TestedNode>(
 
 /// The first fault of nodes of one sort.
 fn first_of<N: TestedNode>(nodes: &[N], sizes: Sizes, types: &[TypeRef]) -> Option<FinishFault>
-    requires { length nodes.now ≤ 4294967295 }
+    requires { length nodes.now ≤ MOST_ITEMS }
     ensures { first_of sizes types.now N.name (map N.tested nodes.now) result }
 {
     for (i, node) in nodes.iter().enumerate() {

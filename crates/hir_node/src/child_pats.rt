@@ -25,7 +25,8 @@ impl<'a> Model for ChildPats<'a> {
 
     ghost Value = { List ℕ };
 
-    ghost view = { λ it. it.front.now ++ (map (λ field. field.pat) it.fields.now ++ (option_to_list it.middle ++ it.back.now)) };
+    ghost view = { λ it. it.front.now
+        ++ (map (λ field. field.pat) it.fields.now ++ (option_to_list it.middle ++ it.back.now)) };
 }
 
 impl<'a> Clone for ChildPats<'a> {

@@ -17,5 +17,6 @@ pub fn calls_of_generic_args(args: &GenericArgs)
 /// The child calls of an associated type binding are those of its own generic arguments, its type, and those of its bounds.
 pub fn calls_of_binding(binding: &AssociatedTypeBinding)
     ensures { let held = out-AssociatedTypeBinding binding.now in
-        binding_calls binding.now ≡ opt args_calls held.args ++ opt t held.type_ref ++ flat_map bound_calls held.bounds }
+        binding_calls binding.now
+        ≡ opt args_calls held.args ++ opt t held.type_ref ++ flat_map bound_calls held.bounds }
 {}

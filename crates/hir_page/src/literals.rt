@@ -130,7 +130,8 @@ fn write_byte_escape<W: PieceWriter>(writer: &mut W, byte: u8) -> Result<(), All
 
 /// Writes a character by its short escape, where there is one.
 fn write_escaped<W: PieceWriter>(writer: &mut W, escape: &str, c: char) -> Result<(), AllocError>
-    ensures { Writes W.step W.refuses writer.old (escaped_by escape.now (long_escape c)) (is_ok result) writer.new }
+    ensures { Writes W.step W.refuses writer.old (escaped_by escape.now (long_escape c))
+        (is_ok result) writer.new }
 {
     if escape.is_empty() {
         return write_long_escape(writer, c);
@@ -151,7 +152,8 @@ fn write_byte<W: PieceWriter>(writer: &mut W, byte: u8) -> Result<(), AllocError
 }
 
 fn write_string_chars<W: PieceWriter>(writer: &mut W, text: &str) -> Result<(), AllocError>
-    ensures { Writes W.step W.refuses writer.old (flat_map string_char (chars text.now)) (is_ok result) writer.new }
+    ensures { Writes W.step W.refuses writer.old (flat_map string_char (chars text.now))
+        (is_ok result) writer.new }
 {
     let mut rest = text.chars();
     while let Some(c) = rest.next() {

@@ -18,21 +18,26 @@ pub trait PieceWriter {
 
     /// Writes text.
     fn text(&mut self, text: &str) -> Result<(), AllocError>
-        ensures { MatchResult result (λ _. step self.old (piece.Text text.now) self.new) (λ _. refuses self.old (piece.Text text.now) self.new) };
+        ensures { MatchResult result (λ _. step self.old (piece.Text text.now) self.new)
+            (λ _. refuses self.old (piece.Text text.now) self.new) };
 
     /// Writes a soft space: a space, where there is none and no line begins.
     fn soft_space(&mut self) -> Result<(), AllocError>
-        ensures { MatchResult result (λ _. step self.old piece.SoftSpace self.new) (λ _. refuses self.old piece.SoftSpace self.new) };
+        ensures { MatchResult result (λ _. step self.old piece.SoftSpace self.new)
+            (λ _. refuses self.old piece.SoftSpace self.new) };
 
     /// Ends the line, unless it is blank.
     fn line_break(&mut self) -> Result<(), AllocError>
-        ensures { MatchResult result (λ _. step self.old piece.Break self.new) (λ _. refuses self.old piece.Break self.new) };
+        ensures { MatchResult result (λ _. step self.old piece.Break self.new)
+            (λ _. refuses self.old piece.Break self.new) };
 
     /// Raises the level and ends the line.
     fn indent(&mut self) -> Result<(), AllocError>
-        ensures { MatchResult result (λ _. step self.old piece.Indent self.new) (λ _. refuses self.old piece.Indent self.new) };
+        ensures { MatchResult result (λ _. step self.old piece.Indent self.new)
+            (λ _. refuses self.old piece.Indent self.new) };
 
     /// Lowers the level and takes empty last lines away.
     fn outdent(&mut self) -> Result<(), AllocError>
-        ensures { MatchResult result (λ _. step self.old piece.Outdent self.new) (λ _. refuses self.old piece.Outdent self.new) };
+        ensures { MatchResult result (λ _. step self.old piece.Outdent self.new)
+            (λ _. refuses self.old piece.Outdent self.new) };
 }

@@ -5,7 +5,7 @@ ghost use Rattle.std.specs.FinMap as map;
 use crate::fault::ScopesFault;
 use crate::scope::{ScopeEntry, ScopeId, ScopeKind};
 use crate::scope_chain::ScopeChain;
-use hir_base::{ArenaMap, BlockId, ExactEq, MacroDefId};
+use hir_base::{ArenaMap, BlockId, ExactEq, MOST_ITEMS, MacroDefId};
 use hir_node::{ExprId, ExprKind, LabelId};
 use std::alloc::Global;
 use std::marker::Model;
@@ -82,7 +82,7 @@ impl ExprScopes {
     /// The number of scopes.
     pub fn scope_count(&self) -> usize
         ensures count { result ≡ length self.now.scopes }
-        ensures most { result ≤ 4294967295 }
+        ensures most { result ≤ MOST_ITEMS }
     {
         self.scopes.len()
     }
@@ -90,7 +90,7 @@ impl ExprScopes {
     /// The number of entries of all scopes.
     pub fn entry_count(&self) -> usize
         ensures count { result ≡ entry_count self.now.scopes }
-        ensures most { result ≤ 4294967295 }
+        ensures most { result ≤ MOST_ITEMS }
     {
         self.entries.len()
     }
@@ -190,7 +190,7 @@ impl ExprScopes {
 
     /// Adds a scope of this kind in the scope `parent`, with these entries, which it takes.
     ///
-    /// Answers `Full` exactly where there would be more than 4,294,967,295 scopes or entries, and `Memory` where room was refused. Either
+    /// Answers `Full` exactly where there would be more than `MOST_ITEMS` scopes or entries, and `Memory` where room was refused. Either
     /// leaves the scopes and the entries as they were.
     pub(crate) fn new_scope(
         &mut self,
@@ -211,8 +211,8 @@ impl ExprScopes {
         ensures taken { OnOk result (entries.new.items ≡ []) }
         ensures err { OnErr result (self.new ≡ self.old) }
         ensures kept { OnErr result (entries.new.items ≡ entries.old.items) }
-        ensures full { result ≡ Err ScopesFault.Full ↔ ((4294967295 < length self.old.scopes + 1)
-            ⊎ (4294967295 < entry_count self.old.scopes + length entries.old.items)) }
+        ensures full { result ≡ Err ScopesFault.Full ↔ ((MOST_ITEMS < length self.old.scopes + 1)
+            ⊎ (MOST_ITEMS < entry_count self.old.scopes + length entries.old.items)) }
         ensures missing { result ≡ Err ScopesFault.Missing → ⊥ }
     {
         let count = self.scopes.len();

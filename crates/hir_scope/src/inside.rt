@@ -22,7 +22,8 @@ fn push_closure(
     body: ExprId,
     around: Around,
 ) -> Result<(), ScopesFault>
-    ensures ok { OnOk result (tasks.new ≡ (tasks_of (closure_calls arg_types.now ret_type args.now body) ++ leave around ∷ []) ++ tasks.old) }
+    ensures ok { OnOk result (tasks.new ≡ (tasks_of (closure_calls arg_types.now ret_type args.now body)
+        ++ leave around ∷ []) ++ tasks.old) }
     ensures memory { OnErr result (result ≡ Err ScopesFault.Memory) }
 {
     tasks.push(Task::Leave(around.here, around.constant))?;
@@ -41,7 +42,8 @@ fn push_if(
     else_branch: Option<ExprId>,
     around: Around,
 ) -> Result<(), ScopesFault>
-    ensures ok { OnOk result (tasks.new ≡ Task.Expr condition ∷ Task.Expr then_branch ∷ leave around ∷ (tasks_of (opt e else_branch) ++ tasks.old)) }
+    ensures ok { OnOk result (tasks.new ≡ Task.Expr condition ∷ Task.Expr then_branch ∷ leave around
+        ∷ (tasks_of (opt e else_branch) ++ tasks.old)) }
     ensures memory { OnErr result (result ≡ Err ScopesFault.Memory) }
 {
     push_expr_opt(tasks, else_branch)?;

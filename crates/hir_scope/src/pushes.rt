@@ -151,7 +151,8 @@ pub(crate) fn push_block(
     tail: Option<ExprId>,
     around: Around,
 ) -> Result<(), ScopesFault>
-    ensures ok { OnOk result (tasks.new ≡ flat_map statement_tasks statements.now ++ (tasks_of (opt e tail) ++ (leave around ∷ tasks.old))) }
+    ensures ok { OnOk result (tasks.new ≡ flat_map statement_tasks statements.now
+        ++ (tasks_of (opt e tail) ++ (leave around ∷ tasks.old))) }
     ensures memory { OnErr result (result ≡ Err ScopesFault.Memory) }
 {
     tasks.push(Task::Leave(around.here, around.constant))?;

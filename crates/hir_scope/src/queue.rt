@@ -39,7 +39,8 @@ impl<T> Queue<T> {
     pub(crate) fn push(&mut self, item: T)
     where
         T: Drop,
-        ensures { self.new.refused ≡ false → (self.old.refused ≡ false) × (self.new.items.items ≡ self.old.items.items ++ item ∷ []) }
+        ensures { self.new.refused ≡ false → (self.old.refused ≡ false)
+            × (self.new.items.items ≡ self.old.items.items ++ item ∷ []) }
     {
         if self.items.push(item).is_err() {
             self.refused = true;
@@ -52,7 +53,8 @@ impl<T> Queue<T> {
     pub(crate) fn move_to(&mut self, stack: &mut Stack<T>) -> Result<(), ScopesFault>
     where
         T: Drop,
-        ensures ok { OnOk result ((self.old.refused ≡ false) × (stack.new ≡ self.old.items.items ++ stack.old)) }
+        ensures ok { OnOk result ((self.old.refused ≡ false)
+            × (stack.new ≡ self.old.items.items ++ stack.old)) }
         ensures memory { OnErr result (result ≡ Err ScopesFault.Memory) }
     {
         if self.refused {

@@ -13,7 +13,8 @@ use hir_node::{Expr, ExprId, LifetimeRefId, Pat, PatId, StoreVisitor, TypeRef, T
 
 /// What is called is to be done in its turn.
 impl StoreVisitor for Queue<Task> {
-    ghost step = { λ v c w. w.refused ≡ false → (v.refused ≡ false) × (w.items.items ≡ v.items.items ++ task_of c) };
+    ghost step = { λ v c w. w.refused ≡ false → (v.refused ≡ false)
+        × (w.items.items ≡ v.items.items ++ task_of c) };
 
     fn on_expr(&mut self, expr: ExprId) {
         self.push(Task::Expr(expr));

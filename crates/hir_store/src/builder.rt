@@ -9,7 +9,7 @@ ghost use Rattle.hir_faults.specs.Faults.{nodes_in};
 ghost use Rattle.hir_faults.specs.Nodes.{sizes_of};
 ghost use Rattle.hir_faults.specs.Sizes.{Few};
 
-use hir_base::{Arena, ArenaFault, BlockId, HygieneId, Seq, Table};
+use hir_base::{Arena, ArenaFault, BlockId, HygieneId, MOST_ITEMS, Seq, Table};
 use hir_expr_store::{ExpressionStore, RootList, SideTables, StoreParts};
 use hir_faults::{FinishFault, NodeSlices};
 use hir_forest::Root;
@@ -91,15 +91,15 @@ impl ExpressionStoreBuilder {
 
     /// Adds an expression and answers its id, the number of expressions before it.
     ///
-    /// Answers `Memory` where room for it was refused, and `Full` exactly where there are 4,294,967,295. Either hands the expression
+    /// Answers `Memory` where room for it was refused, and `Full` exactly where there are `MOST_ITEMS`. Either hands the expression
     /// back, and the builder is as it was. So do the other calls that add something.
     pub fn alloc_expr(&mut self, expr: Expr) -> Result<ExprId, (ArenaFault, Expr)>
         ensures ok { IfOk result (λ id. (id ≡ length self.old.exprs)
             × (self.new ≡ record self.old { exprs = self.old.exprs ++ expr ∷ [] })) }
         ensures err { IfErr result (λ refused. (refused.1 ≡ expr) × (self.new ≡ self.old)) }
         ensures full { IfErr result (λ refused. refused.0 ≡ ArenaFault.Full
-            → length self.old.exprs ≡ 4294967295) }
-        ensures full_only { length self.old.exprs ≡ 4294967295 → result ≡ Err (ArenaFault.Full, expr) }
+            → length self.old.exprs ≡ MOST_ITEMS) }
+        ensures full_only { length self.old.exprs ≡ MOST_ITEMS → result ≡ Err (ArenaFault.Full, expr) }
     {
         self.exprs.alloc(expr)
     }
@@ -110,8 +110,8 @@ impl ExpressionStoreBuilder {
             × (self.new ≡ record self.old { pats = self.old.pats ++ pat ∷ [] })) }
         ensures err { IfErr result (λ refused. (refused.1 ≡ pat) × (self.new ≡ self.old)) }
         ensures full { IfErr result (λ refused. refused.0 ≡ ArenaFault.Full
-            → length self.old.pats ≡ 4294967295) }
-        ensures full_only { length self.old.pats ≡ 4294967295 → result ≡ Err (ArenaFault.Full, pat) }
+            → length self.old.pats ≡ MOST_ITEMS) }
+        ensures full_only { length self.old.pats ≡ MOST_ITEMS → result ≡ Err (ArenaFault.Full, pat) }
     {
         self.pats.alloc(pat)
     }
@@ -122,8 +122,8 @@ impl ExpressionStoreBuilder {
             × (self.new ≡ record self.old { bindings = self.old.bindings ++ binding ∷ [] })) }
         ensures err { IfErr result (λ refused. (refused.1 ≡ binding) × (self.new ≡ self.old)) }
         ensures full { IfErr result (λ refused. refused.0 ≡ ArenaFault.Full
-            → length self.old.bindings ≡ 4294967295) }
-        ensures full_only { length self.old.bindings ≡ 4294967295 → result ≡ Err (ArenaFault.Full, binding) }
+            → length self.old.bindings ≡ MOST_ITEMS) }
+        ensures full_only { length self.old.bindings ≡ MOST_ITEMS → result ≡ Err (ArenaFault.Full, binding) }
     {
         self.bindings.alloc(binding)
     }
@@ -134,8 +134,8 @@ impl ExpressionStoreBuilder {
             × (self.new ≡ record self.old { labels = self.old.labels ++ label ∷ [] })) }
         ensures err { IfErr result (λ refused. (refused.1 ≡ label) × (self.new ≡ self.old)) }
         ensures full { IfErr result (λ refused. refused.0 ≡ ArenaFault.Full
-            → length self.old.labels ≡ 4294967295) }
-        ensures full_only { length self.old.labels ≡ 4294967295 → result ≡ Err (ArenaFault.Full, label) }
+            → length self.old.labels ≡ MOST_ITEMS) }
+        ensures full_only { length self.old.labels ≡ MOST_ITEMS → result ≡ Err (ArenaFault.Full, label) }
     {
         self.labels.alloc(label)
     }
@@ -146,8 +146,8 @@ impl ExpressionStoreBuilder {
             × (self.new ≡ record self.old { types = self.old.types ++ type_ref ∷ [] })) }
         ensures err { IfErr result (λ refused. (refused.1 ≡ type_ref) × (self.new ≡ self.old)) }
         ensures full { IfErr result (λ refused. refused.0 ≡ ArenaFault.Full
-            → length self.old.types ≡ 4294967295) }
-        ensures full_only { length self.old.types ≡ 4294967295 → result ≡ Err (ArenaFault.Full, type_ref) }
+            → length self.old.types ≡ MOST_ITEMS) }
+        ensures full_only { length self.old.types ≡ MOST_ITEMS → result ≡ Err (ArenaFault.Full, type_ref) }
     {
         self.types.alloc(type_ref)
     }
@@ -161,8 +161,8 @@ impl ExpressionStoreBuilder {
             × (self.new ≡ record self.old { lifetimes = self.old.lifetimes ++ lifetime ∷ [] })) }
         ensures err { IfErr result (λ refused. (refused.1 ≡ lifetime) × (self.new ≡ self.old)) }
         ensures full { IfErr result (λ refused. refused.0 ≡ ArenaFault.Full
-            → length self.old.lifetimes ≡ 4294967295) }
-        ensures full_only { length self.old.lifetimes ≡ 4294967295
+            → length self.old.lifetimes ≡ MOST_ITEMS) }
+        ensures full_only { length self.old.lifetimes ≡ MOST_ITEMS
             → result ≡ Err (ArenaFault.Full, lifetime) }
     {
         self.lifetimes.alloc(lifetime)

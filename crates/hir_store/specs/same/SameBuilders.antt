@@ -36,13 +36,13 @@ builders_decide x y =
     (both _ _ (pointwise_decides (search exact) x.block_scopes y.block_scopes)
     (both _ _ (source_maps_decide x.source_map y.source_map)
     (both _ _ (options_decide root_lists_decide x.roots y.roots) handles_decide))))))))))
-    (λ e r. (
+    (λ exprs (pats, (bindings, (labels, (lifetimes, (types, (owners, (hygiene, (blocks, (sources, (roots, handle)))))))))). (
       λ i. record {
-        nodes = record { exprs = e i; pats = r.0 i; types = r.1.1.1.1.0 i; bindings = r.1.0 i; labels = r.1.1.0 i; lifetimes = r.1.1.1.0 i };
-        roots = r.1.1.1.1.1.1.1.1.1.0 i;
-        side_tables = record { owners = r.1.1.1.1.1.0 i; hygiene = r.1.1.1.1.1.1.0 i; blocks = r.1.1.1.1.1.1.1.0 i };
+        nodes = record { exprs = exprs i; pats = pats i; types = types i; bindings = bindings i; labels = labels i; lifetimes = lifetimes i };
+        roots = roots i;
+        side_tables = record { owners = owners i; hygiene = hygiene i; blocks = blocks i };
       },
-      r.1.1.1.1.1.1.1.1.0,
+      sources,
     ))
     (λ h i. (h.0 i).nodes.exprs)
     (λ h. (λ i. (h.0 i).nodes.pats, (λ i. (h.0 i).nodes.bindings, (λ i. (h.0 i).nodes.labels, (λ i. (h.0 i).nodes.lifetimes, (λ i. (h.0 i).nodes.types, (λ i. (h.0 i).side_tables.owners, (λ i. (h.0 i).side_tables.hygiene, (λ i. (h.0 i).side_tables.blocks, (h.1, (λ i. (h.0 i).roots, refl)))))))))))
