@@ -1,0 +1,2 @@
+pub mod WorkedRows
+pub mod StepLemmas

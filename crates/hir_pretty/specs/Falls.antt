@@ -1,0 +1,23 @@
+-- The nodes among the items of a node, and that they stand lower.
+use Rattle.std.specs.Prelude.{◌<◌, List, [], ◌∷◌, ⊤}
+use Rattle.hir_node.specs.declared.node_id.NodeId.{NodeId}
+use Rattle.hir_node.specs.declared.node_id.NodeId.TheVariants as node
+use Rattle.hir_faults.specs.Nodes.{Has}
+use Rattle.hir_faults.specs.Down.{rank}
+use Rattle.hir_pretty.specs.Questions.{Setting}
+use Rattle.hir_pretty.specs.Items.{Item, Put, Lacks, Whole, Under, Pattern, TypeItem}
+use Rattle.hir_pretty.specs.Pieces.{items_of}
+
+-- each node among these items is such
+abbrev pub AllNodes : (NodeId → Type 0) → List Item → Type 0
+AllNodes P [] = ⊤
+AllNodes P (Put piece ∷ is) = AllNodes P is
+AllNodes P (Lacks missing ∷ is) = AllNodes P is
+AllNodes P (Whole id ∷ is) = P (node.Expr id) × AllNodes P is
+AllNodes P (Under id parent ∷ is) = P (node.Expr id) × AllNodes P is
+AllNodes P (Pattern id ∷ is) = P (node.Pat id) × AllNodes P is
+AllNodes P (TypeItem id ∷ is) = P (node.TypeRef id) × AllNodes P is
+
+-- what is printed inside a node is there, and stands lower
+abbrev pub ItemsFall : Setting → Type 0
+ItemsFall s = (n : NodeId) → Has s.nodes n → AllNodes (λ k. Has s.nodes k × (rank s.nodes k < rank s.nodes n)) (items_of s n)

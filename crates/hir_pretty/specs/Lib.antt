@@ -1,0 +1,10 @@
+pub mod Questions
+pub mod Items
+pub mod Names
+pub mod Paths
+pub mod Types
+pub mod Literals
+pub mod Exprs
+pub mod Pats
+pub mod Pieces
+pub mod Falls

@@ -1,0 +1,21 @@
+-- What printing looks up: in the store, in the tables of definitions, and among the words of an edition.
+use Rattle.std.specs.Prelude.{ℕ, Bool, List, Option, Result}
+use Rattle.hir_base.specs.declared.defs.NamedDef.{NamedDef}
+use Rattle.hir_base.specs.declared.params.TypeOrConstParamId.{TypeOrConstParamId}
+use Rattle.hir_base.specs.declared.params.LifetimeParamId.{LifetimeParamId}
+use Rattle.hir_expr_store.specs.declared.missing.Missing.{Missing}
+use Rattle.hir_faults.specs.Nodes.{Nodes}
+
+-- What is asked of the tables. A name, a crate's name and that of a type parameter may be there and be none.
+pub record Questions : Type 0 where
+  pub name : NamedDef → Result (Option (List ℕ)) Missing
+  pub crate_name : ℕ → Result (Option (List ℕ)) Missing
+  pub type_param : TypeOrConstParamId → Result (Option (List ℕ)) Missing
+  pub lifetime_param : LifetimeParamId → Result (List ℕ) Missing
+
+-- a store, tables, the words that are written with `r#`, and whether all stands in one line
+pub record Setting : Type 0 where
+  pub nodes : Nodes
+  pub tables : Questions
+  pub words : List (List ℕ)
+  pub one_line : Bool

@@ -1,0 +1,4 @@
+//! Expressions, patterns and types as text: what each node is printed as.
+#![tactic(auto)]
+
+pub mod laws;
