@@ -11,4 +11,5 @@ pub mod Pending
 pub mod Scopes
 pub mod Paths
 pub mod Flat
+pub mod Built
 pub mod same

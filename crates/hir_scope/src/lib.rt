@@ -2,6 +2,7 @@
 //! `ExprScopes` holds the scopes and answers questions on them; what a scope's chain has to be is told in `specs/`.
 #![tactic(auto)]
 
+mod building;
 mod expr_scopes;
 mod fault;
 mod inside;
