@@ -14,3 +14,13 @@ pub mod SameLemmas
 pub mod LeakLemmas
 pub mod SlotLemmas
 pub mod StandsLemmas
+pub mod BeginLemmas
+pub mod BuiltLemmas
+pub mod CountLemmas
+pub mod EntryLemmas
+pub mod MemberLemmas
+pub mod SumLemmas
+pub mod TopLemmas
+pub mod UnderLemmas
+pub mod UniqueLemmas
+pub mod WrittenLemmas

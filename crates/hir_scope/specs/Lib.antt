@@ -12,4 +12,6 @@ pub mod Scopes
 pub mod Paths
 pub mod Flat
 pub mod Built
+pub mod Begins
+pub mod Lookups
 pub mod same

@@ -7,6 +7,7 @@ mod expr_scopes;
 mod fault;
 mod inside;
 pub mod laws;
+mod lookups;
 mod pushes;
 mod queue;
 mod resolve;
