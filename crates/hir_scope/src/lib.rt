@@ -2,6 +2,7 @@
 //! `ExprScopes` holds the scopes and answers questions on them; what a scope's chain has to be is told in `specs/`.
 #![tactic(auto)]
 
+mod binder;
 mod expr_scopes;
 mod fault;
 mod inside;
@@ -14,6 +15,7 @@ mod scope_chain;
 mod stack;
 mod tasks;
 mod turn;
+mod walk;
 
 pub use expr_scopes::{ExprScopes, ScopeData};
 pub use fault::ScopesFault;
