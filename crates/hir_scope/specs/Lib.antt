@@ -8,6 +8,7 @@ pub mod Resolution
 pub mod Counts
 pub mod PlacesUnder
 pub mod Pending
+pub mod Machine
 pub mod Scopes
 pub mod Paths
 pub mod Flat

@@ -2,6 +2,7 @@
 //! `ExprScopes` holds the scopes and answers questions on them; what a scope's chain has to be is told in `specs/`.
 #![tactic(auto)]
 
+mod binder;
 mod building;
 mod expr_scopes;
 mod fault;
@@ -16,6 +17,7 @@ mod scope_chain;
 mod stack;
 mod tasks;
 mod turn;
+mod walk;
 
 pub use expr_scopes::{ExprScopes, ScopeData};
 pub use fault::ScopesFault;
