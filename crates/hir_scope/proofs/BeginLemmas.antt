@@ -1,10 +1,11 @@
 -- The state in which the walk over a body or a signature begins: it is ready, what it has to do is what is under the tops, and what its
 -- frames and those to come weigh are the counts of scopes and entries.
 use Rattle.std.proofs.Common.{◌≡◌, ◌⊎◌, ℕ, zero, suc, ◌+◌, ◌<◌, ◌≤◌, List, [], ◌∷◌, ◌++◌, map, length, replicate, refl, sym, ap, ◌∙◌, arith, subst, inl, inr, ⊎_elim, Option, Some, None, Contains, length-append}
-use Rattle.std.specs.Prelude.{IfSome}
+use Rattle.std.specs.Prelude.{IfSome, slice_index}
 use Rattle.std.specs.List.{flat_map, slice_get, sum_by}
 use Rattle.std.specs.Option.{option_to_list, option_map}
 use Rattle.std.proofs.lemmas.List.{length-map, length-replicate}
+use Rattle.std.proofs.lemmas.Grind.{get_or_default_zero}
 use Rattle.std.proofs.lemmas.List.Sums.{sum_by-append, sum_by-cons}
 use Rattle.hir_forest.specs.Faults.{root_nodes}
 use Rattle.hir_node.specs.ChildCalls.{Call, OnExpr, OnAnonConst, OnPat, OnType, OnLifetime, e, p, opt, kids}
@@ -34,7 +35,7 @@ use Rattle.hir_scope.specs.Scopes.{Scope, frame_of, IsBelow, ParentsStandEarlier
 use Rattle.hir_scope.specs.Tops.{root_frame, signature_tops}
 use Rattle.hir_scope.proofs.CountLemmas.{bound_by, calls_open, form_ones, frame_entries, sum_one}
 use Rattle.hir_scope.proofs.EntryLemmas.{entries_of_node, entries_total, no_around, one_entry}
-use Rattle.hir_scope.proofs.MemberLemmas.{In, in_contains}
+use Rattle.hir_scope.proofs.MemberLemmas.{In, in_contains, contains_in, in_map}
 use Rattle.hir_scope.proofs.PathLemmas.{path_step}
 use Rattle.hir_scope.proofs.SumLemmas.{reached_total, sum_same, sum_mapped}
 use Rattle.hir_scope.proofs.TaskLemmas.{about_calls}
@@ -43,6 +44,16 @@ use Rattle.hir_scope.proofs.TopLemmas.{body_future, body_top_nodes, signature_fu
 all_there : (s : Nodes) (ns : List NodeId) → ((n : NodeId) → In n ns → Has s n) → AreThere s ns
 all_there s [] h = tt
 all_there s (n ∷ ns) h = (h n (inl refl), all_there s ns (λ m i. h m (inr i)))
+
+contained_at : (xs : List ℕ) (x : ℕ) → Contains xs x → (i : ℕ) × (i < length xs) × (slice_index xs i ≡ x)
+contained_at xs x c = (c.0, c.1, sym (get_or_default_zero xs c.0 x c.1) ∙ c.2)
+
+-- the roots of a store are there
+pub roots_there : (s : Nodes) (roots : List ℕ) → ((i : ℕ) → i < length roots → slice_index roots i < length s.exprs) → (n : NodeId) → Contains (map node.Expr roots) n → Has s n
+roots_there s roots h n c =
+    let r = in_map node.Expr n roots (in_contains (map node.Expr roots) n c) in
+    let at = contained_at roots r.0 (contains_in roots r.0 r.1) in
+    subst (Has s) r.2 (subst (λ (x : ℕ). x < length s.exprs) at.2 (h at.0 at.1))
 
 -- 1. What all states weigh
 

@@ -34,7 +34,7 @@ use Rattle.hir_scope.proofs.MemberLemmas.{In, in_contains, contains_in, flat_map
 use Rattle.hir_scope.proofs.SlotLemmas.{kids_in, slots_kids}
 use Rattle.hir_scope.proofs.SumLemmas.{sum_flat, sum_same, sum_plus}
 use Rattle.hir_scope.proofs.TaskLemmas.{about_form}
-use Rattle.hir_scope.proofs.TotalLemmas.{total_at, met_kids}
+use Rattle.hir_scope.proofs.TotalLemmas.{total_at}
 
 -- 1. Each binding of a pattern is there, and is one entry
 

@@ -14,7 +14,8 @@ use Rattle.hir_scope.specs.PlacesUnder.{places_under, is_expr, exprs_under}
 use Rattle.hir_scope.proofs.MemberLemmas.{In, in_contains, contains_in}
 use Rattle.hir_scope.proofs.StepLemmas.{under_at}
 use Rattle.hir_scope.proofs.SlotLemmas.{kids_in, slots_kids}
-use Rattle.hir_scope.proofs.TotalLemmas.{total, total_at}
+use Rattle.hir_scope.specs.Machine.{total}
+use Rattle.hir_scope.proofs.TotalLemmas.{total_at}
 use Rattle.hir_scope.proofs.UnderLemmas.{kid_there, kid_lower}
 
 -- 1. Sums over lists

@@ -25,7 +25,7 @@ about-append xs ys = flat_map-append task_kids xs ys
 kids-append : (cs ds : List Call) → kids (cs ++ ds) ≡ kids cs ++ kids ds
 kids-append cs ds = flat_map-append kid cs ds
 
-about_calls : (cs : List Call) → about (tasks_of cs) ≡ kids cs
+pub about_calls : (cs : List Call) → about (tasks_of cs) ≡ kids cs
 about_calls [] = refl
 about_calls (OnExpr x ∷ cs) = ap (λ (ns : List NodeId). node.Expr x ∷ ns) (about_calls cs)
 about_calls (OnAnonConst x ∷ cs) = ap (λ (ns : List NodeId). node.Expr x ∷ ns) (about_calls cs)

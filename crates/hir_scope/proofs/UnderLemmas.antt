@@ -1,5 +1,5 @@
 -- What is listed under some tops is what stands in a place below them.
-use Rattle.std.proofs.Common.{◌≡◌, ℕ, zero, suc, ◌<◌, List, [], ◌∷◌, ◌↔◌, refl, sym, ap, ◌∙◌, arith, subst, inl, inr, ⊎_elim, true, Contains}
+use Rattle.std.proofs.Common.{◌≡◌, ℕ, zero, suc, ◌<◌, List, [], ◌∷◌, ◌↔◌, map, refl, sym, ap, ◌∙◌, arith, subst, inl, inr, ⊎_elim, true, Contains}
 use Rattle.std.specs.List.{flat_map}
 use Rattle.hir_node.specs.declared.node_id.NodeId.{NodeId}
 use Rattle.hir_node.specs.declared.node_id.NodeId.TheVariants as node
@@ -7,9 +7,14 @@ use Rattle.hir_faults.specs.Nodes.{Nodes, Has, kids_of}
 use Rattle.hir_faults.specs.Down.{rank, KidsFall}
 use Rattle.hir_scope.specs.Chains.{Place, places_of_kids, Stands, top, kid}
 use Rattle.hir_scope.specs.PlacesUnder.{places_under, is_expr, exprs_under}
-use Rattle.hir_scope.proofs.MemberLemmas.{In, in_contains, contains_in, in_flat_map, flat_map_in, in_filter, filter_in}
+use Rattle.hir_scope.proofs.MemberLemmas.{In, in_contains, contains_in, in_flat_map, flat_map_in, map_in, in_filter, filter_in}
 use Rattle.hir_scope.proofs.StandsLemmas.{kid_of_place}
 use Rattle.hir_scope.proofs.StepLemmas.{under_at}
+
+-- the nodes of tops are there
+pub places_there : (s : Nodes) (tops : List Place) (nodes : List NodeId) → map (λ (p : Place). p.node) tops ≡ nodes → ((n : NodeId) → Contains nodes n → Has s n) → (p : Place) → In p tops → Has s p.node
+places_there s tops nodes same there p i =
+    there p.node (contains_in nodes p.node (subst (In p.node) same (map_in (λ (q : Place). q.node) p tops i)))
 
 module _ (s : Nodes) (fall : KidsFall s) where
   -- a kid's place: the kid is there, and lower
