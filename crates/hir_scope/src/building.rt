@@ -1,10 +1,13 @@
 //! The scopes of a body or a signature, made by a walk over what it reaches.
-ghost use Rattle.std.specs.Prelude.{◌≡◌, ◌+◌, ◌<◌, ◌≤◌, ◌++◌, ◌∷◌, [], length, option_map, Err, IfOk, OnOk, OnErr, IfSome};
+ghost use Rattle.std.specs.Prelude.{◌≡◌, ◌+◌, ◌<◌, ◌≤◌, ◌++◌, ◌∷◌, [], length, option_map, Err, IfOk, OnOk, OnErr, IfSome, Contains};
 ghost use Rattle.std.specs.List.{All, flat_map};
 ghost use Rattle.hir_faults.specs.Tested.{all_of};
-ghost use Rattle.hir_items.specs.Bodies.{AreBelow, body_nodes, formals_of};
+ghost use Rattle.hir_node.specs.declared.node_id.NodeId.{NodeId};
+ghost use Rattle.hir_faults.specs.Nodes.{Has};
+ghost use Rattle.hir_items.specs.Bodies.{AreBelow, body_nodes, formals_of, tops};
+ghost use Rattle.hir_items.specs.Signatures.{root_tops};
 ghost use Rattle.hir_scope.specs.Built.{AreBodyScopes, AreSignatureScopes, BodyIsTooLarge, SignatureIsTooLarge, expr_count};
-ghost use Rattle.hir_scope.specs.Begins.{at_first, for_none, root_entries, body_root, formal_tasks, body_begins, signature_begins};
+ghost use Rattle.hir_scope.specs.Begins.{IsSound, at_first, for_none, root_entries, body_root, formal_tasks, body_begins, signature_begins};
 ghost use Rattle.hir_scope.specs.Frames.{entry_at, binds};
 ghost use Rattle.hir_scope.specs.Machine.{machine};
 
@@ -17,9 +20,41 @@ use crate::tasks::{Around, Task};
 use crate::walk::Walk;
 use hir_base::{MOST_ITEMS, Steps, TryClone};
 use hir_expr_store::ExpressionStore;
+use hir_expr_store::laws::{
+    bindings_in_is, kids_fall, nodes_are_sound, nodes_under_is, roots_stand_apart,
+};
+use hir_items::body_laws::tops_are_there;
 use hir_items::{Body, Param};
 use hir_node::{BindingId, PatId};
 use std::alloc::Global;
+
+/// Tells a proof what laws tell of the store's nodes, and does nothing.
+fn is_sound(store: &ExpressionStore)
+    ensures { IsSound store.now.nodes }
+{
+    store.has_no_fault();
+    kids_fall();
+    nodes_under_is();
+    bindings_in_is();
+    nodes_are_sound();
+}
+
+/// Tells a proof that the formals and the last root of the body are there, and does nothing.
+fn tops_of_body_are_there(body: &Body)
+    ensures { (n : NodeId) → Contains (tops body.now) n → Has body.now.store.nodes n }
+{
+    body.has_no_fault();
+    body.store().has_no_fault();
+    tops_are_there();
+}
+
+/// Tells a proof that the roots of the store are there, and does nothing.
+fn roots_are_there(store: &ExpressionStore)
+    ensures { (n : NodeId) → Contains (root_tops store.now) n → Has store.now.nodes n }
+{
+    store.has_no_fault();
+    roots_stand_apart();
+}
 
 /// Adds the entry of `self`, where there is one.
 fn add_self(
@@ -172,11 +207,12 @@ impl ExprScopes {
         ensures full { result ≡ Err ScopesFault.Full → BodyIsTooLarge body.now }
         ensures missing { result ≡ Err ScopesFault.Missing → ⊥ }
     {
-        body.has_no_fault();
-        body.self_param();
-        nodes_of_bodies_are_told();
+        let store = body.store();
+        let _ = body.self_param();
+        is_sound(store);
+        tops_of_body_are_there(body);
         let mut walk = Walk::over_body(alloc, body)?;
-        walk.run(body.store(), steps)?;
+        walk.run(store, steps)?;
         Ok(walk.scopes)
     }
 
@@ -189,6 +225,8 @@ impl ExprScopes {
         ensures full { result ≡ Err ScopesFault.Full → SignatureIsTooLarge store.now }
         ensures missing { result ≡ Err ScopesFault.Missing → ⊥ }
     {
+        is_sound(store);
+        roots_are_there(store);
         let mut steps = Steps::new();
         let mut walk = Walk::over_roots(alloc, store)?;
         walk.run(store, &mut steps)?;

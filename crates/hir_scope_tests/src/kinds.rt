@@ -1,29 +1,9 @@
 //! Blocks, labels and macros along chains, and what types and constants see: the scopes around constants alone.
-use crate::asks::{self, Ask, Kind, NONE};
+use crate::asks::{self, Ask, NONE};
 use crate::build::Step;
 use crate::made::{self, Tree};
 use crate::nodes::{ExprStep, PatStep, StatementStep, TypeStep};
 use std::test::Fail;
-
-/// The pattern that brings this binding into scope.
-const fn bind(binding: u32) -> Step {
-    Step::Pat(PatStep::Bind(binding, None))
-}
-
-/// That of a block with this id and this label.
-const fn of_block(id: u32, label: Option<u32>) -> Kind {
-    (Some(id), label, None)
-}
-
-/// That of a label.
-const fn of_label(label: u32) -> Kind {
-    (None, Some(label), None)
-}
-
-/// That of a macro's definition.
-const fn of_macro(number: u32) -> Kind {
-    (None, None, Some(number))
-}
 
 const PATH: Step = Step::Expr(ExprStep::Path);
 
@@ -38,7 +18,7 @@ const CASES: &[Case] = &[
         &[
             Step::Binding("p"),
             Step::Label("a"),
-            bind(0),
+            Step::Pat(PatStep::Bind(0, None)),
             PATH,
             PATH,
             Step::Expr(ExprStep::Repeat(0, 1)),
@@ -46,9 +26,9 @@ const CASES: &[Case] = &[
             Step::Root(3),
         ],
         &[
-            Ask::Kinds(0, &[of_block(7, Some(0)), NONE]),
-            Ask::Kinds(1, &[of_block(7, None), NONE]),
-            Ask::Kinds(3, &[of_block(7, Some(0)), NONE]),
+            Ask::Kinds(0, &[(Some(7), Some(0), None), NONE]),
+            Ask::Kinds(1, &[(Some(7), None, None), NONE]),
+            Ask::Kinds(3, &[(Some(7), Some(0), None), NONE]),
             Ask::Counts(3, 1),
         ],
     ),
@@ -57,7 +37,7 @@ const CASES: &[Case] = &[
         &[
             Step::Binding("p"),
             Step::Label("a"),
-            bind(0),
+            Step::Pat(PatStep::Bind(0, None)),
             PATH,
             PATH,
             Step::Expr(ExprStep::Repeat(0, 1)),
@@ -65,7 +45,7 @@ const CASES: &[Case] = &[
             Step::Root(3),
         ],
         &[
-            Ask::Kinds(0, &[of_label(0), NONE]),
+            Ask::Kinds(0, &[(None, Some(0), None), NONE]),
             Ask::Kinds(1, &[NONE]),
             Ask::Counts(2, 1),
         ],
@@ -75,14 +55,14 @@ const CASES: &[Case] = &[
         &[
             Step::Binding("p"),
             Step::Label("a"),
-            bind(0),
+            Step::Pat(PatStep::Bind(0, None)),
             PATH,
             Step::Expr(ExprStep::Block(None, None, Some(0), &[])),
             Step::Expr(ExprStep::Loop(1, Some(0))),
             Step::Root(2),
         ],
         &[
-            Ask::Kinds(0, &[NONE, of_label(0), NONE]),
+            Ask::Kinds(0, &[NONE, (None, Some(0), None), NONE]),
             Ask::Kinds(2, &[NONE]),
         ],
     ),
@@ -90,7 +70,7 @@ const CASES: &[Case] = &[
         "a macro is known from its definition on, on both chains: { [M; C]; macro 5; [N; D] }",
         &[
             Step::Binding("p"),
-            bind(0),
+            Step::Pat(PatStep::Bind(0, None)),
             PATH,
             PATH,
             Step::Expr(ExprStep::Repeat(0, 1)),
@@ -106,10 +86,10 @@ const CASES: &[Case] = &[
             Step::Root(6),
         ],
         &[
-            Ask::Kinds(0, &[of_block(7, None), NONE]),
-            Ask::Kinds(1, &[of_block(7, None), NONE]),
-            Ask::Kinds(3, &[of_macro(5), of_block(7, None), NONE]),
-            Ask::Kinds(4, &[of_macro(5), of_block(7, None), NONE]),
+            Ask::Kinds(0, &[(Some(7), None, None), NONE]),
+            Ask::Kinds(1, &[(Some(7), None, None), NONE]),
+            Ask::Kinds(3, &[(None, None, Some(5)), (Some(7), None, None), NONE]),
+            Ask::Kinds(4, &[(None, None, Some(5)), (Some(7), None, None), NONE]),
             Ask::Counts(5, 1),
         ],
     ),
@@ -118,8 +98,8 @@ const CASES: &[Case] = &[
         &[
             Step::Binding("p"),
             Step::Binding("a"),
-            bind(0),
-            bind(1),
+            Step::Pat(PatStep::Bind(0, None)),
+            Step::Pat(PatStep::Bind(1, None)),
             PATH,
             PATH,
             PATH,
@@ -137,9 +117,9 @@ const CASES: &[Case] = &[
             Step::Root(4),
         ],
         &[
-            Ask::Kinds(0, &[of_macro(5), NONE, NONE]),
-            Ask::Kinds(1, &[of_macro(6), NONE, of_macro(5), NONE, NONE]),
-            Ask::Kinds(2, &[of_macro(6), of_macro(5), NONE]),
+            Ask::Kinds(0, &[(None, None, Some(5)), NONE, NONE]),
+            Ask::Kinds(1, &[(None, None, Some(6)), NONE, (None, None, Some(5)), NONE, NONE]),
+            Ask::Kinds(2, &[(None, None, Some(6)), (None, None, Some(5)), NONE]),
             Ask::Chain(1, &["a", "p"]),
             Ask::Chain(2, &["p"]),
         ],
@@ -149,8 +129,8 @@ const CASES: &[Case] = &[
         &[
             Step::Binding("p"),
             Step::Binding("a"),
-            bind(0),
-            bind(1),
+            Step::Pat(PatStep::Bind(0, None)),
+            Step::Pat(PatStep::Bind(1, None)),
             PATH,
             Step::Type(TypeStep::Tuple),
             Step::Type(TypeStep::Array(0, 0)),
@@ -170,8 +150,8 @@ const CASES: &[Case] = &[
         &[
             Step::Binding("p"),
             Step::Binding("a"),
-            bind(0),
-            bind(1),
+            Step::Pat(PatStep::Bind(0, None)),
+            Step::Pat(PatStep::Bind(1, None)),
             PATH,
             PATH,
             PATH,
@@ -193,8 +173,8 @@ const CASES: &[Case] = &[
         &[
             Step::Binding("p"),
             Step::Binding("a"),
-            bind(0),
-            bind(1),
+            Step::Pat(PatStep::Bind(0, None)),
+            Step::Pat(PatStep::Bind(1, None)),
             PATH,
             PATH,
             PATH,
@@ -221,9 +201,9 @@ const CASES: &[Case] = &[
             Step::Binding("p"),
             Step::Binding("a"),
             Step::Binding("y"),
-            bind(0),
-            bind(1),
-            bind(2),
+            Step::Pat(PatStep::Bind(0, None)),
+            Step::Pat(PatStep::Bind(1, None)),
+            Step::Pat(PatStep::Bind(2, None)),
             PATH,
             PATH,
             PATH,

@@ -349,7 +349,7 @@ pub fn type_ref(alloc: Global, step: &TypeStep) -> Result<TypeRef, AllocError> {
                     expr: Idx::from_raw(len),
                 },
             };
-            boxed(alloc, Ok(array)).map(TypeRef::Array)
+            Ok(TypeRef::Array(array))
         }
         TypeStep::Pattern(ty, pat) => {
             Ok(TypeRef::PatternType(Idx::from_raw(ty), Idx::from_raw(pat)))

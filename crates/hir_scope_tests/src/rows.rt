@@ -8,11 +8,6 @@ use std::test::Fail;
 /// A body, and questions on its scopes.
 type Row = (Tree, &'static [Ask]);
 
-/// The pattern that brings this binding into scope.
-const fn bind(binding: u32) -> Step {
-    Step::Pat(PatStep::Bind(binding, None))
-}
-
 /// A path.
 const PATH: Step = Step::Expr(ExprStep::Path);
 
@@ -26,8 +21,8 @@ const ROWS: &[Row] = &[
             steps: &[
                 Step::Binding("x"),
                 Step::Binding("x"),
-                bind(0),
-                bind(1),
+                Step::Pat(PatStep::Bind(0, None)),
+                Step::Pat(PatStep::Bind(1, None)),
                 PATH,
                 Step::Expr(ExprStep::Ref(0)),
                 PATH,
@@ -58,8 +53,8 @@ const ROWS: &[Row] = &[
             steps: &[
                 Step::Binding("param"),
                 Step::Binding("local"),
-                bind(0),
-                bind(1),
+                Step::Pat(PatStep::Bind(0, None)),
+                Step::Pat(PatStep::Bind(1, None)),
                 Step::Pat(PatStep::Wild),
                 LEAF,
                 PATH,
@@ -93,10 +88,10 @@ const ROWS: &[Row] = &[
                 Step::Binding("f"),
                 Step::Binding("bar"),
                 Step::Binding("baz"),
-                bind(0),
-                bind(1),
-                bind(2),
-                bind(3),
+                Step::Pat(PatStep::Bind(0, None)),
+                Step::Pat(PatStep::Bind(1, None)),
+                Step::Pat(PatStep::Bind(2, None)),
+                Step::Pat(PatStep::Bind(3, None)),
                 PATH,
                 Step::Expr(ExprStep::Closure(0, &[2, 3], None)),
                 Step::Expr(ExprStep::Block(
@@ -118,7 +113,7 @@ const ROWS: &[Row] = &[
             steps: &[
                 Step::Binding("opt"),
                 Step::Binding("unit"),
-                bind(1),
+                Step::Pat(PatStep::Bind(1, None)),
                 Step::Pat(PatStep::Some(&[0])),
                 Step::Pat(PatStep::Bind(0, Some(1))),
                 Step::Pat(PatStep::Wild),
@@ -138,7 +133,7 @@ const ROWS: &[Row] = &[
         Tree {
             steps: &[
                 Step::Binding("p"),
-                bind(0),
+                Step::Pat(PatStep::Bind(0, None)),
                 PATH,
                 Step::Expr(ExprStep::Let(0, 0)),
                 PATH,
@@ -166,8 +161,8 @@ const ROWS: &[Row] = &[
                 Step::Binding("a"),
                 Step::Binding("b"),
                 Step::Binding("y"),
-                bind(0),
-                bind(2),
+                Step::Pat(PatStep::Bind(0, None)),
+                Step::Pat(PatStep::Bind(2, None)),
                 LEAF,
                 PATH,
                 Step::Expr(ExprStep::Block(
@@ -178,7 +173,7 @@ const ROWS: &[Row] = &[
                 )),
                 Step::Expr(ExprStep::Const(2)),
                 Step::Pat(PatStep::Expr(3)),
-                bind(1),
+                Step::Pat(PatStep::Bind(1, None)),
                 Step::Pat(PatStep::Tuple(&[0, 2, 3])),
                 PATH,
                 PATH,
@@ -206,7 +201,7 @@ const ROWS: &[Row] = &[
         Tree {
             steps: &[
                 Step::Binding("x"),
-                bind(0),
+                Step::Pat(PatStep::Bind(0, None)),
                 PATH,
                 Step::Expr(ExprStep::Assign(0, 0)),
                 PATH,
@@ -229,11 +224,11 @@ const ROWS: &[Row] = &[
             steps: &[
                 Step::Binding("a"),
                 Step::Binding("b"),
-                bind(0),
+                Step::Pat(PatStep::Bind(0, None)),
                 PATH,
                 Step::Pat(PatStep::RangeFrom(0)),
                 Step::Pat(PatStep::Tuple(&[0, 1])),
-                bind(1),
+                Step::Pat(PatStep::Bind(1, None)),
                 LEAF,
                 Step::Root(1),
             ],
@@ -248,8 +243,8 @@ const ROWS: &[Row] = &[
             steps: &[
                 Step::Binding("x"),
                 Step::BindingIn("x", 1),
-                bind(0),
-                bind(1),
+                Step::Pat(PatStep::Bind(0, None)),
+                Step::Pat(PatStep::Bind(1, None)),
                 PATH,
                 LEAF,
                 Step::Expr(ExprStep::Block(
@@ -276,7 +271,7 @@ const ROWS: &[Row] = &[
             steps: &[
                 Step::Binding("self"),
                 Step::Binding("x"),
-                bind(1),
+                Step::Pat(PatStep::Bind(1, None)),
                 PATH,
                 Step::Root(0),
             ],

@@ -5,11 +5,6 @@ use crate::made::{self, Tree};
 use crate::nodes::{ExprStep, PatStep, StatementStep};
 use std::test::Fail;
 
-/// The pattern that brings this binding into scope.
-const fn bind(binding: u32) -> Step {
-    Step::Pat(PatStep::Bind(binding, None))
-}
-
 const PATH: Step = Step::Expr(ExprStep::Path);
 
 const LEAF: Step = Step::Expr(ExprStep::Leaf);
@@ -22,7 +17,7 @@ const CASES: &[Case] = &[
         "a closure as an argument: (f, |x| M)",
         &[
             Step::Binding("x"),
-            bind(0),
+            Step::Pat(PatStep::Bind(0, None)),
             PATH,
             PATH,
             Step::Expr(ExprStep::Closure(1, &[0], None)),
@@ -35,7 +30,7 @@ const CASES: &[Case] = &[
         "a loop: loop { let x = (); M }",
         &[
             Step::Binding("x"),
-            bind(0),
+            Step::Pat(PatStep::Bind(0, None)),
             LEAF,
             PATH,
             Step::Expr(ExprStep::Block(
@@ -53,7 +48,7 @@ const CASES: &[Case] = &[
         "a match: match () { Some(x) => { M } }",
         &[
             Step::Binding("x"),
-            bind(0),
+            Step::Pat(PatStep::Bind(0, None)),
             Step::Pat(PatStep::Some(&[0])),
             LEAF,
             PATH,
@@ -67,7 +62,7 @@ const CASES: &[Case] = &[
         "a reference pattern: if let Some(&from) = a { M }",
         &[
             Step::Binding("from"),
-            bind(0),
+            Step::Pat(PatStep::Bind(0, None)),
             Step::Pat(PatStep::Ref(0)),
             Step::Pat(PatStep::Some(&[1])),
             PATH,
@@ -83,7 +78,7 @@ const CASES: &[Case] = &[
         "while let: loop { if let Some(spam) = spam { M } else { N } }",
         &[
             Step::Binding("spam"),
-            bind(0),
+            Step::Pat(PatStep::Bind(0, None)),
             Step::Pat(PatStep::Some(&[0])),
             PATH,
             Step::Expr(ExprStep::Let(1, 0)),
@@ -105,8 +100,8 @@ const CASES: &[Case] = &[
         &[
             Step::Binding("x"),
             Step::Binding("spam"),
-            bind(0),
-            bind(1),
+            Step::Pat(PatStep::Bind(0, None)),
+            Step::Pat(PatStep::Bind(1, None)),
             Step::Pat(PatStep::Some(&[1])),
             Step::Pat(PatStep::Wild),
             PATH,
@@ -128,8 +123,8 @@ const CASES: &[Case] = &[
         &[
             Step::Binding("spam"),
             Step::Binding("spam"),
-            bind(0),
-            bind(1),
+            Step::Pat(PatStep::Bind(0, None)),
+            Step::Pat(PatStep::Bind(1, None)),
             PATH,
             Step::Expr(ExprStep::Let(0, 0)),
             PATH,
@@ -151,7 +146,7 @@ const CASES: &[Case] = &[
         "a let of an expression leaks to what is met after it: (let a = e, M), and not out of a block",
         &[
             Step::Binding("a"),
-            bind(0),
+            Step::Pat(PatStep::Bind(0, None)),
             LEAF,
             Step::Expr(ExprStep::Let(0, 0)),
             PATH,
@@ -168,8 +163,8 @@ const CASES: &[Case] = &[
         &[
             Step::Binding("z"),
             Step::Binding("t"),
-            bind(0),
-            bind(1),
+            Step::Pat(PatStep::Bind(0, None)),
+            Step::Pat(PatStep::Bind(1, None)),
             PATH,
             Step::Expr(ExprStep::Block(
                 None,
@@ -203,7 +198,7 @@ const CASES: &[Case] = &[
         "let else and items: { let a = e else { M }; item; N }",
         &[
             Step::Binding("a"),
-            bind(0),
+            Step::Pat(PatStep::Bind(0, None)),
             LEAF,
             PATH,
             Step::Expr(ExprStep::Block(None, None, Some(1), &[])),
