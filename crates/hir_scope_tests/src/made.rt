@@ -10,6 +10,7 @@ use std::fmt::Debug;
 use std::test::Fail;
 
 /// A body: its nodes, its formals, and the binding of `self`.
+#[derive(Drop)]
 pub struct Tree {
     pub steps: &'static [Step],
     pub params: &'static [u32],

@@ -289,6 +289,14 @@ const ROWS: &[Row] = &[
 /// Two roots.
 const SIGNATURE: &[Step] = &[PATH, Step::Root(0), PATH, Step::Root(1)];
 
+const OF_SIGNATURE: &[Ask] = &[
+    Ask::Counts(3, 0),
+    Ask::Depth(0, 2),
+    Ask::Depth(1, 2),
+    Ask::Chain(0, &[]),
+    Ask::Unreached(2),
+];
+
 #[test]
 fn chains_names_and_counts_of_bodies(rt: HostRuntime) -> Result<(), Fail> {
     for (i, (tree, questions)) in ROWS.iter().enumerate() {
@@ -302,14 +310,7 @@ fn chains_names_and_counts_of_bodies(rt: HostRuntime) -> Result<(), Fail> {
 #[test]
 fn each_root_of_a_signature_has_a_scope(rt: HostRuntime) -> Result<(), Fail> {
     let scopes = made::signature_scopes(rt.alloc(), SIGNATURE)?;
-    let questions = [
-        Ask::Counts(3, 0),
-        Ask::Depth(0, 2),
-        Ask::Depth(1, 2),
-        Ask::Chain(0, &[]),
-        Ask::Unreached(2),
-    ];
-    let wrong = asks::first_wrong(rt.alloc(), &scopes, &questions)?;
+    let wrong = asks::first_wrong(rt.alloc(), &scopes, OF_SIGNATURE)?;
     assert!(&rt; wrong.is_none());
     Ok(())
 }
