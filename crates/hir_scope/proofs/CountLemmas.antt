@@ -275,7 +275,7 @@ module _ (s : Nodes) where
       omega (arith, a, b, r)
 
   one_frame : (q : ℕ) → length (frame s (q ∷ [])).entries ≡ length (binds s q)
-  one_frame q = frame_entries (q ∷ [])
+  one_frame q = let r = frame_entries (q ∷ []) in omega (arith, r)
 
   task_bound : (x : Task) → sum_by bound_by (task_kids x) ≡ weights_of x + rest_of x
   task_bound (task.Expr id) = refl
