@@ -99,9 +99,9 @@ self_entries : (s : Nodes) (self : Option (Param ℕ)) → SelfIsThere s self �
 self_entries s None h = refl
 self_entries s (Some q) h = one_entry s q.formal h.0
 
-first_chain : (x : Scope) → chain_of (x ∷ []) 0 ≡ frame_of x ∷ []
+first_chain : (b : BodyContents) → chain_of (body_root b ∷ []) 0 ≡ frame_of (body_root b) ∷ []
 unfolding paths
-first_chain x = refl
+first_chain b = refl
 
 module _ (b : BodyContents) where
   abbrev s : Nodes
@@ -115,7 +115,7 @@ module _ (b : BodyContents) where
 
   pub body_whole : future_of s (body_begins b) ≡ exprs_under s (tops_of_body b)
   body_whole =
-      ap (λ (c : Chain). future s (chain_of (body_root b ∷ [])) c c (tasks_of top_calls)) (first_chain (body_root b))
+      ap (λ (c : Chain). future s (chain_of (body_root b ∷ [])) c c (tasks_of top_calls)) (first_chain b)
       ∙ body_future s (chain_of (body_root b ∷ [])) (option_map (λ (q : Param ℕ). q.formal) b.self_param) (formals_of b.params) (last_root b.store)
 
   about_tops : about (tasks_of top_calls) ≡ body.tops b

@@ -64,7 +64,7 @@ ones s x = sum_by one (task_frames s x)
 
 module _ (s : Nodes) where
   -- the tasks of calls open nothing
-  calls_open : (w : Frame → ℕ) (cs : List Call) → sum_by (λ x. sum_by w (task_frames s x)) (tasks_of cs) ≡ 0
+  pub calls_open : (w : Frame → ℕ) (cs : List Call) → sum_by (λ x. sum_by w (task_frames s x)) (tasks_of cs) ≡ 0
   calls_open w [] = refl
   calls_open w (OnExpr x ∷ cs) = let r = calls_open w cs in sum_by-cons (λ y. sum_by w (task_frames s y)) (task.Expr x) (tasks_of cs) ∙ omega (arith, r)
   calls_open w (OnAnonConst x ∷ cs) = let r = calls_open w cs in sum_by-cons (λ y. sum_by w (task_frames s y)) (task.Constant x) (tasks_of cs) ∙ omega (arith, r)

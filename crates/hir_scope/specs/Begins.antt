@@ -1,6 +1,6 @@
 -- Where the walk over a body or a signature begins: its first scopes, and what it has to do. Only contracts within this crate cite it.
-use Rattle.std.specs.Prelude.{◌≡◌, ℕ, ◌<◌, suc, List, [], ◌∷◌, ◌++◌, Some, None, length, option_map, slice_get}
-use Rattle.std.specs.List.{flat_map, replicate}
+use Rattle.std.specs.Prelude.{◌≡◌, ℕ, ◌<◌, suc, List, [], ◌∷◌, ◌++◌, Some, None, length, option_map, slice_get, replicate}
+use Rattle.std.specs.List.{flat_map}
 use Rattle.std.specs.FinMap as map
 use Rattle.hir_forest.specs.Faults.{root_nodes}
 use Rattle.hir_node.specs.ChildCalls.{e, p, opt}
