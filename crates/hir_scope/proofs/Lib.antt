@@ -24,3 +24,4 @@ pub mod TopLemmas
 pub mod UnderLemmas
 pub mod UniqueLemmas
 pub mod WrittenLemmas
+pub mod WholeLemmas
