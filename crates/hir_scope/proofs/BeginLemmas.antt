@@ -21,7 +21,7 @@ use Rattle.hir_items.specs.Signatures.{root_tops, signature_nodes}
 use Rattle.hir_items.specs.declared.formals.Param.{Param}
 use Rattle.hir_scope.specs.declared.tasks.Task.{Task}
 use Rattle.hir_scope.specs.declared.tasks.Task.TheVariants as task
-use Rattle.hir_scope.specs.Begins.{IsSound, root_entries, body_root, body_begins, signature_root, scope_in_root, scopes_in_root, root_tasks, roots_begin, signature_begins}
+use Rattle.hir_scope.specs.Begins.{IsSound, for_none, root_entries, body_root, body_begins, signature_root, scope_in_root, scopes_in_root, root_tasks, roots_begin, signature_begins}
 use Rattle.hir_scope.specs.Built.{tops_of_body, tops_of_signature, limit, BodyIsTooLarge, SignatureIsTooLarge}
 use Rattle.hir_scope.specs.Chains.{Place}
 use Rattle.hir_scope.specs.Counts.{count_if_there, form_scopes, node_entries, body_scope_count, body_entry_count, signature_scope_count, signature_entry_count}
@@ -31,7 +31,7 @@ use Rattle.hir_scope.specs.Machine.{Machine, IsReady, AreThere, LeavesWithin, Ex
 use Rattle.hir_scope.specs.Paths.{paths, path, chain, frame_at}
 use Rattle.hir_scope.specs.Pending.{tasks_of, task_frames, future}
 use Rattle.hir_scope.specs.PlacesUnder.{exprs_under}
-use Rattle.hir_scope.specs.Scopes.{Scope, frame_of, IsBelow, ParentsStandEarlier}
+use Rattle.hir_scope.specs.Scopes.{Scope, Scopes, entry_count, frame_of, IsBelow, ParentsStandEarlier}
 use Rattle.hir_scope.specs.Tops.{root_frame, signature_tops}
 use Rattle.hir_scope.proofs.CountLemmas.{bound_by, calls_open, form_ones, frame_entries, sum_one}
 use Rattle.hir_scope.proofs.EntryLemmas.{entries_of_node, entries_total, no_around, one_entry}
@@ -220,6 +220,30 @@ module _ (s : Nodes) (w : Frame → ℕ) where
       let r = roots_open roots in
       omega (arith, a, b, r)
 
+abbrev one_more : Scopes → Scopes
+one_more x = record { scopes = x.scopes ++ scope_in_root ∷ []; scope_by_expr = x.scope_by_expr }
+
+replicate_more : {X : Type 0} (n : ℕ) (x : X) → replicate n x ++ x ∷ [] ≡ replicate (suc n) x
+replicate_more zero x = refl
+replicate_more (suc n) x = ap (λ xs. x ∷ xs) (replicate_more n x)
+
+-- one root more is to be met, in one scope more
+pub one_root_more : (old new : Machine) (roots : List ℕ) (root id : ℕ) → old ≡ roots_begin roots → id ≡ length old.scopes.scopes
+    → new.scopes ≡ record { scopes = old.scopes.scopes ++ scope_in_root ∷ []; scope_by_expr = old.scopes.scope_by_expr }
+    → new.around ≡ old.around → new.tasks ≡ task.Leave id id ∷ task.Expr root ∷ old.tasks → new ≡ roots_begin (root ∷ roots)
+one_root_more old new roots root id is last scopes around tasks =
+    let begun = roots_begin roots in
+    let long = length-replicate (length roots) scope_in_root in
+    let number : id ≡ suc (length roots) = last ∙ (ap (λ (m : Machine). length m.scopes.scopes) is ∙ omega (arith, long)) in
+    let a = scopes
+        ∙ (ap (λ (m : Machine). one_more m.scopes) is
+        ∙ ap (λ (xs : List Scope). for_none (signature_root ∷ xs)) (replicate_more (length roots) scope_in_root)) in
+    let b = around ∙ ap (λ (m : Machine). m.around) is in
+    let d = tasks
+        ∙ (ap (λ (m : Machine). task.Leave id id ∷ task.Expr root ∷ m.tasks) is
+        ∙ ap (λ (k : ℕ). task.Leave k k ∷ task.Expr root ∷ root_tasks roots) number) in
+    λ i. record { scopes = a i; around = b i; tasks = d i }
+
 bound_roots : (s : Nodes) (roots : List ℕ) → sum_by (bound_by s) (map node.Expr roots) ≡ 0
 bound_roots s [] = refl
 bound_roots s (root ∷ roots) =
@@ -227,7 +251,7 @@ bound_roots s (root ∷ roots) =
     let r = bound_roots s roots in
     omega (arith, a, r)
 
-empty_in_root : (n : ℕ) → sum_by (λ (x : Scope). length x.entries) (replicate n scope_in_root) ≡ 0
+pub empty_in_root : (n : ℕ) → sum_by (λ (x : Scope). length x.entries) (replicate n scope_in_root) ≡ 0
 empty_in_root zero = refl
 empty_in_root (suc n) =
     let a = sum_by-cons (λ (x : Scope). length x.entries) scope_in_root (replicate n scope_in_root) in

@@ -15,6 +15,7 @@ mod resolve;
 mod scope;
 mod scope_chain;
 mod stack;
+mod start;
 mod tasks;
 mod turn;
 mod walk;
