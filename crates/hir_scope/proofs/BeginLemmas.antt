@@ -19,6 +19,8 @@ use Rattle.hir_items.specs.Bodies.{BodyContents, AreBelow, formals_of, last_root
 use Rattle.hir_items.specs.Bodies as body
 use Rattle.hir_items.specs.Signatures.{root_tops, signature_nodes}
 use Rattle.hir_items.specs.declared.formals.Param.{Param}
+use Rattle.hir_scope.specs.declared.scope.ScopeEntry.{ScopeEntry}
+use Rattle.hir_scope.specs.declared.scope.ScopeKind.TheVariants as kind
 use Rattle.hir_scope.specs.declared.tasks.Task.{Task}
 use Rattle.hir_scope.specs.declared.tasks.Task.TheVariants as task
 use Rattle.hir_scope.specs.Begins.{IsSound, for_none, root_entries, body_root, body_begins, signature_root, scope_in_root, scopes_in_root, root_tasks, roots_begin, signature_begins}
@@ -220,42 +222,55 @@ module _ (s : Nodes) (w : Frame → ℕ) where
       let r = roots_open roots in
       omega (arith, a, b, r)
 
-abbrev one_more : Scopes → Scopes
-one_more x = record { scopes = x.scopes ++ scope_in_root ∷ []; scope_by_expr = x.scope_by_expr }
+abbrev one_more : Scopes → Scope → Scopes
+one_more xs x = record { scopes = xs.scopes ++ x ∷ []; scope_by_expr = xs.scope_by_expr }
 
 replicate_more : {X : Type 0} (n : ℕ) (x : X) → replicate n x ++ x ∷ [] ≡ replicate (suc n) x
 replicate_more zero x = refl
 replicate_more (suc n) x = ap (λ xs. x ∷ xs) (replicate_more n x)
-
--- one root more is to be met, in one scope more
-pub one_root_more : (old new : Machine) (roots : List ℕ) (root id : ℕ) → old ≡ roots_begin roots → id ≡ length old.scopes.scopes
-    → new.scopes ≡ record { scopes = old.scopes.scopes ++ scope_in_root ∷ []; scope_by_expr = old.scopes.scope_by_expr }
-    → new.around ≡ old.around → new.tasks ≡ task.Leave id id ∷ task.Expr root ∷ old.tasks → new ≡ roots_begin (root ∷ roots)
-one_root_more old new roots root id is last scopes around tasks =
-    let begun = roots_begin roots in
-    let long = length-replicate (length roots) scope_in_root in
-    let number : id ≡ suc (length roots) = last ∙ (ap (λ (m : Machine). length m.scopes.scopes) is ∙ omega (arith, long)) in
-    let a = scopes
-        ∙ (ap (λ (m : Machine). one_more m.scopes) is
-        ∙ ap (λ (xs : List Scope). for_none (signature_root ∷ xs)) (replicate_more (length roots) scope_in_root)) in
-    let b = around ∙ ap (λ (m : Machine). m.around) is in
-    let d = tasks
-        ∙ (ap (λ (m : Machine). task.Leave id id ∷ task.Expr root ∷ m.tasks) is
-        ∙ ap (λ (k : ℕ). task.Leave k k ∷ task.Expr root ∷ root_tasks roots) number) in
-    λ i. record { scopes = a i; around = b i; tasks = d i }
-
-bound_roots : (s : Nodes) (roots : List ℕ) → sum_by (bound_by s) (map node.Expr roots) ≡ 0
-bound_roots s [] = refl
-bound_roots s (root ∷ roots) =
-    let a = sum_by-cons (bound_by s) (node.Expr root) (map node.Expr roots) in
-    let r = bound_roots s roots in
-    omega (arith, a, r)
 
 pub empty_in_root : (n : ℕ) → sum_by (λ (x : Scope). length x.entries) (replicate n scope_in_root) ≡ 0
 empty_in_root zero = refl
 empty_in_root (suc n) =
     let a = sum_by-cons (λ (x : Scope). length x.entries) scope_in_root (replicate n scope_in_root) in
     let r = empty_in_root n in
+    omega (arith, a, r)
+
+-- one root more is to be met, in one scope more
+pub one_root_more : (old new : Machine) (roots : List ℕ) (root id first : ℕ) (entries : List ScopeEntry) → old ≡ roots_begin roots → id ≡ length old.scopes.scopes → first ≡ 0 → entries ≡ []
+    → new.scopes ≡ record { scopes = old.scopes.scopes ++ record { parent = Some first; kind = kind.None; entries = entries } ∷ []; scope_by_expr = old.scopes.scope_by_expr }
+    → new.around ≡ old.around → new.tasks ≡ task.Leave id id ∷ task.Expr root ∷ old.tasks → new ≡ roots_begin (root ∷ roots)
+one_root_more old new roots root id first entries is last zeroth none scopes around tasks =
+    let long = length-replicate (length roots) scope_in_root in
+    let number : id ≡ suc (length roots) = last ∙ (ap (λ (m : Machine). length m.scopes.scopes) is ∙ omega (arith, long)) in
+    let same : ◌≡◌ {A = Scope} (record { parent = Some first; kind = kind.None; entries = entries }) scope_in_root = λ i. record { parent = Some (zeroth i); kind = kind.None; entries = none i } in
+    let a = scopes
+        ∙ (ap (λ (x : Scope). one_more old.scopes x) same
+        ∙ (ap (λ (m : Machine). one_more m.scopes scope_in_root) is
+        ∙ ap (λ (xs : List Scope). for_none (signature_root ∷ xs)) (replicate_more (length roots) scope_in_root))) in
+    let b = around ∙ ap (λ (m : Machine). m.around) is in
+    let d = tasks
+        ∙ (ap (λ (m : Machine). task.Leave id id ∷ task.Expr root ∷ m.tasks) is
+        ∙ ap (λ (k : ℕ). task.Leave k k ∷ task.Expr root ∷ root_tasks roots) number) in
+    λ i. record { scopes = a i; around = b i; tasks = d i }
+
+-- there is no room for one scope more only where there are many roots
+pub roots_full : (most roots : ℕ) (old : Machine) (met : List ℕ) (entries : List ScopeEntry) → old ≡ roots_begin met → entries ≡ [] → length met < roots
+    → ((most < length old.scopes.scopes + 1) ⊎ (most < entry_count old.scopes.scopes + length entries)) → most < 1 + roots
+roots_full most roots old met entries is none less full =
+    let long = length-replicate (length met) scope_in_root in
+    let a = ap (λ (m : Machine). length m.scopes.scopes) is in
+    let b = ap (λ (m : Machine). entry_count m.scopes.scopes) is in
+    let d = sum_by-cons (λ (x : Scope). length x.entries) signature_root (replicate (length met) scope_in_root) in
+    let e = empty_in_root (length met) in
+    let f = ap (λ (xs : List ScopeEntry). length xs) none in
+    ⊎_elim (λ l. omega (arith, long, a, l, less)) (λ l. omega (arith, b, d, e, f, l)) full
+
+bound_roots : (s : Nodes) (roots : List ℕ) → sum_by (bound_by s) (map node.Expr roots) ≡ 0
+bound_roots s [] = refl
+bound_roots s (root ∷ roots) =
+    let a = sum_by-cons (bound_by s) (node.Expr root) (map node.Expr roots) in
+    let r = bound_roots s roots in
     omega (arith, a, r)
 
 module _ (c : Contents) where
