@@ -1,6 +1,6 @@
 -- What patterns bind, pattern by pattern.
 use Rattle.std.proofs.Common.{◌≡◌, ℕ, ◌+◌, ◌<◌, List, [], ◌∷◌, ◌++◌, map, length, refl, sym, ap, ◌∙◌, append_assoc, false, true, Bool, arith, IsTrue}
-use Rattle.std.specs.Prelude.{slice_get, ◌&&◌, Some, Contains}
+use Rattle.std.specs.Prelude.{◌&&◌}
 use Rattle.std.specs.List.{flat_map, list_all}
 use Rattle.std.proofs.Common.{length-append, Option, rules}
 use Rattle.std.specs.Prelude.{nat_lt, Result, Ok, Err, OnOk}
@@ -12,19 +12,18 @@ use Rattle.hir_faults.specs.Tested.{tested_pat}
 use Rattle.hir_faults.specs.Sound.{IsSoundNode}
 use Rattle.std.proofs.lemmas.List.{append-nil}
 use Rattle.std.proofs.lemmas.List.Concat.{flat_map-append}
-use Rattle.hir_node.specs.ChildCalls.{Call, OnExpr, OnAnonConst, OnPat, OnType, OnLifetime, kid, kids, pat_of_call, child_pats}
+use Rattle.hir_node.specs.ChildCalls.{Call, OnExpr, OnAnonConst, OnPat, OnType, OnLifetime, kids, pat_of_call}
 use Rattle.hir_node.specs.Runs.{Runs, no_call, a_call}
 use Rattle.hir_node.proofs.RunLemmas.{may_freely}
-use Rattle.hir_node.specs.declared.node_id.NodeId.{NodeId}
 use Rattle.hir_node.specs.declared.node_id.NodeId.TheVariants as node
-use Rattle.hir_faults.specs.Nodes.{Nodes, Has, sizes_of, calls_of, kids_of}
+use Rattle.hir_faults.specs.Nodes.{Nodes, sizes_of, calls_of, kids_of}
 use Rattle.hir_faults.specs.Down.{KidsFall}
 use Rattle.hir_expr_store.specs.PatLists.{child_pats_of, pats, bindings_at, bindings_in}
 use Rattle.hir_scope.specs.declared.queue.Queue.{Queue}
 use Rattle.hir_scope.specs.declared.scope.ScopeEntry.{ScopeEntry}
 use Rattle.hir_scope.specs.Frames.{entry_at, binds}
 use Rattle.hir_scope.specs.Machine.{AreThere}
-use Rattle.hir_scope.proofs.ReadyLemmas.{there_all, there_parts, there_join}
+use Rattle.hir_scope.proofs.ReadyLemmas.{there_all}
 
 abbrev pub Asks : Queue ℕ → Call → Queue ℕ → Type 0
 Asks v c w = w.refused ≡ false → (v.refused ≡ false) × (w.items.items ≡ v.items.items ++ pat_of_call c)

@@ -16,15 +16,14 @@ use Rattle.hir_scope.specs.declared.tasks.Task.{Task}
 use Rattle.hir_scope.specs.declared.tasks.Task.TheVariants as task
 use Rattle.hir_scope.specs.Frames.{Frame, Chain, frame, of_kind}
 use Rattle.hir_scope.specs.Forms.{form_at, form_of, pat_form, type_form}
-use Rattle.hir_scope.specs.Chains.{Place}
 use Rattle.hir_scope.specs.PlacesUnder.{place}
 use Rattle.hir_scope.specs.Scopes.{Scopes}
-use Rattle.hir_scope.specs.Pending.{tasks_of, guarded_task, arm_with, leave, form_tasks, opens_here, opens_constant, future, task_frames}
+use Rattle.hir_scope.specs.Pending.{tasks_of, guarded_task, arm_with, leave, form_tasks, opens_here, opens_constant, future, task_kids, task_frames}
 use Rattle.hir_scope.specs.Machine.{Machine, chain_of, about, AreThere, LeavesWithin, IsReady, total, left, node_frames, weight_left, node_turns, task_turns, turns_left, Opened, Moves}
 use Rattle.hir_scope.proofs.ReadyLemmas.{known_met, leaves_met}
 use Rattle.hir_scope.proofs.WeightLemmas.{left_cons, weight_met, turns_met}
 use Rattle.hir_scope.proofs.MetLemmas.{for_constants, future_expr, future_pat, future_type, future_arm}
-use Rattle.hir_scope.proofs.MovingLemmas.{at, opened_then, moves_opened, moves_still}
+use Rattle.hir_scope.proofs.MovingLemmas.{at, moves_opened, moves_still}
 
 module _ (s : Nodes) where
   abbrev frame_weight : (Frame → ℕ) → Task → ℕ
@@ -34,10 +33,10 @@ module _ (s : Nodes) where
   node_weight w n = sum_by w (node_frames s n)
 
   -- what tasks weigh, the first and then the others
-  weight_cons : (w : Frame → ℕ) (t : Task) (ts : List Task) → _
+  weight_cons : (w : Frame → ℕ) (t : Task) (ts : List Task) → weight_left s w (t ∷ ts) ≡ frame_weight w t + (sum_by (total s (node_weight w)) (task_kids t) + weight_left s w ts)
   weight_cons w t ts = left_cons s (node_weight w) (frame_weight w) t ts
 
-  turns_cons : (t : Task) (ts : List Task) → _
+  turns_cons : (t : Task) (ts : List Task) → turns_left s (t ∷ ts) ≡ task_turns t + (sum_by (total s (node_turns s)) (task_kids t) + turns_left s ts)
   turns_cons t ts = left_cons s (node_turns s) task_turns t ts
 
   -- 1. Nodes

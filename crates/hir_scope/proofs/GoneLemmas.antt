@@ -1,7 +1,7 @@
 -- What a walk has done, from its start on.
-use Rattle.std.proofs.Common.{◌≡◌, ℕ, ◌+◌, ◌<◌, ◌≤◌, List, [], ◌∷◌, ◌++◌, length, map, refl, sym, ap, ◌∙◌, append_assoc, subst, arith, length-append, inl, inr, ◌⊎◌, ⊎_elim}
+use Rattle.std.proofs.Common.{◌≡◌, ℕ, ◌+◌, ◌≤◌, List, [], ◌∷◌, ◌++◌, length, map, refl, sym, ap, ◌∙◌, append_assoc, subst, arith, length-append, inl, inr, ⊎_elim}
 use Rattle.std.specs.Prelude.{Result, Ok, Err, IfOk, OnOk}
-use Rattle.std.specs.List.{All, sum_by}
+use Rattle.std.specs.List.{All}
 use Rattle.std.specs.Ordering.{nat_cmp}
 use Rattle.std.specs.FinMap as finmap
 use Rattle.std.proofs.lemmas.List.{append-nil, map-append, length-map}
@@ -10,13 +10,13 @@ use Rattle.hir_node.specs.declared.node_id.NodeId.TheVariants as node
 use Rattle.hir_faults.specs.Nodes.{Nodes}
 use Rattle.hir_scope.specs.declared.tasks.Around.{Around}
 use Rattle.hir_scope.specs.declared.tasks.Task.{Task}
-use Rattle.hir_scope.specs.Frames.{Frame, Chain}
+use Rattle.hir_scope.specs.declared.tasks.Task.TheVariants as task
+use Rattle.hir_scope.specs.Frames.{Chain}
 use Rattle.hir_scope.specs.Forms.{form_of}
 use Rattle.hir_scope.specs.Chains.{Place, within_own}
 use Rattle.hir_scope.specs.PlacesUnder.{place}
-use Rattle.hir_scope.specs.Scopes.{Scope, Scopes, frame_of}
-use Rattle.hir_scope.specs.Pending.{future}
-use Rattle.hir_scope.specs.Machine.{Machine, chain_of, future_of, LeavesWithin, IsReady, one, count_entries, Exceeds, HasFrames, Moves, Given, place_given, write_all, IsRight, Gone, Goes}
+use Rattle.hir_scope.specs.Scopes.{Scope, Scopes}
+use Rattle.hir_scope.specs.Machine.{Machine, chain_of, future_of, IsReady, one, count_entries, Exceeds, HasFrames, Moves, Given, place_given, write_all, IsRight, Gone, Goes}
 use Rattle.hir_scope.proofs.GrownLemmas.{frames_grown}
 use Rattle.hir_scope.proofs.MovingLemmas.{at}
 
@@ -77,13 +77,25 @@ module _ (s : Nodes) where
   pub goes_moved : (old new : Machine) (n : ℕ) → Moves s old new [] → Goes s old new n n
   goes_moved old new n m = record { gone = gone_moved old new n m; shorter = m.shorter }
 
-  pub goes_given : (old new : Machine) (last : Scopes) (id scope : ℕ) (h k : Chain) (n m : ℕ) → Moves s old new (place (node.Expr id) h k ∷ []) →
-      HasFrames new.scopes.scopes scope (within_own (form_of s (node.Expr id)) h) →
-      last ≡ record { scopes = new.scopes.scopes; scope_by_expr = finmap.insert new.scopes.scope_by_expr id scope } → m ≡ n + 1 →
-      Goes s old (at last new.around new.tasks) n m
-  goes_given old new last id scope h k n m moves has e i =
-      let P : ℕ → Type 0 = λ (x : ℕ). Gone s old (at last new.around new.tasks) n x in
-      record { gone = subst P (sym i) (gone_given old new last id scope h k n moves has e); shorter = moves.shorter }
+  -- the same of a task that is known to be this one
+  pub goes_task : (S : Scopes) (a : Around) (t u : Task) (ts : List Task) (new : Machine) (n : ℕ) → t ≡ u → Moves s (at S a (u ∷ ts)) new [] → Goes s (at S a (t ∷ ts)) new n n
+  goes_task S a t u ts new n e m = subst (λ (x : Task). Goes s (at S a (x ∷ ts)) new n n) (sym e) (goes_moved (at S a (u ∷ ts)) new n m)
+
+  pub goes_given : (S : Scopes) (a : Around) (t : Task) (ts : List Task) (mid : Machine) (last : Scopes) (around : Around) (tasks : List Task) (id scope : ℕ) (n m : ℕ) → t ≡ task.Expr id →
+      Moves s (at S a (task.Expr id ∷ ts)) mid (place (node.Expr id) (chain_of S.scopes a.here) (chain_of S.scopes a.constant) ∷ []) →
+      HasFrames mid.scopes.scopes scope (within_own (form_of s (node.Expr id)) (chain_of S.scopes a.here)) →
+      last ≡ record { scopes = mid.scopes.scopes; scope_by_expr = finmap.insert mid.scopes.scope_by_expr id scope } → around ≡ mid.around → tasks ≡ mid.tasks → m ≡ n + 1 →
+      Goes s (at S a (t ∷ ts)) (at last around tasks) n m
+  goes_given S a t ts mid last around tasks id scope n m is moves has e ea et i =
+      let old = at S a (task.Expr id ∷ ts) in
+      let h = chain_of S.scopes a.here in
+      let k = chain_of S.scopes a.constant in
+      let gone : Gone s old (at last mid.around mid.tasks) n m =
+          subst (λ (x : ℕ). Gone s old (at last mid.around mid.tasks) n x) (sym i) (gone_given old mid last id scope h k n moves has e) in
+      let goes : Goes s old (at last mid.around mid.tasks) n m = record { gone = gone; shorter = moves.shorter } in
+      subst (λ (x : Task). Goes s (at S a (x ∷ ts)) (at last around tasks) n m) (sym is)
+      (subst (λ (x : Around). Goes s old (at last x tasks) n m) (sym ea)
+      (subst (λ (x : List Task). Goes s old (at last mid.around x) n m) (sym et) goes))
 
   right_grown : (scopes grown more : List Scope) (gs : List Given) → grown ≡ scopes ++ more → All (IsRight s scopes) gs → All (IsRight s grown) gs
   right_grown scopes grown more gs e h =

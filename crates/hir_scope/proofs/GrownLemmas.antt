@@ -1,5 +1,5 @@
 -- Later scopes change nothing: no chain of an earlier scope, and nothing of what is still to do.
-use Rattle.std.proofs.Common.{◌≡◌, ℕ, zero, suc, ◌+◌, ◌<◌, ◌≤◌, List, [], ◌∷◌, ◌++◌, Option, Some, None, fold, get_or, length, refl, ap, sym, ◌∙◌, arith}
+use Rattle.std.proofs.Common.{◌≡◌, ℕ, zero, suc, ◌+◌, ◌<◌, ◌≤◌, List, [], ◌∷◌, ◌++◌, Option, Some, None, map, fold, get_or, length, refl, ap, ◌∙◌, arith}
 use Rattle.std.specs.Prelude.{⊤}
 use Rattle.std.specs.List.{slice_get, flat_map}
 use Rattle.std.proofs.lemmas.List.{length_push}
@@ -11,10 +11,12 @@ use Rattle.hir_scope.specs.declared.tasks.Task.{Task}
 use Rattle.hir_scope.specs.declared.tasks.Task.TheVariants as task
 use Rattle.hir_scope.specs.Frames.{Frame, Chain, frame, of_kind}
 use Rattle.hir_scope.specs.Leak.{leak}
-use Rattle.hir_scope.specs.Chains.{Place}
-use Rattle.hir_scope.specs.Scopes.{Scope, IsBelow, frame_of}
+use Rattle.hir_scope.specs.Slots.{arm_slots}
+use Rattle.hir_scope.specs.Chains.{Place, place_kid}
+use Rattle.hir_scope.specs.PlacesUnder.{place, exprs_under}
+use Rattle.hir_scope.specs.Scopes.{Scope, frame_of}
 use Rattle.hir_scope.specs.Paths.{path_among, with_path, paths, path, frame_at, chain}
-use Rattle.hir_scope.specs.Pending.{future}
+use Rattle.hir_scope.specs.Pending.{future, arm_with}
 use Rattle.hir_scope.specs.Machine.{chain_of, LeavesWithin, HasFrames}
 use Rattle.hir_scope.proofs.PathLemmas.{path_kept, path_new, length_paths}
 
@@ -127,14 +129,16 @@ leaves_more m n (task.MacroDef id ∷ ts) l h = leaves_more m n ts l h
 pub future_agrees : (s : Nodes) (f g : ℕ → Chain) (n : ℕ) → ((i : ℕ) → i < n → f i ≡ g i) → (h k : Chain) (ts : List Task) → LeavesWithin n ts → future s f h k ts ≡ future s g h k ts
 unfolding future
 future_agrees s f g n agree h k [] l = refl
-future_agrees s f g n agree h k (task.Expr id ∷ ts) l = ap (λ (ps : List Place). _ ++ ps) (future_agrees s f g n agree (leak s (node.Expr id) ++ h) k ts l)
-future_agrees s f g n agree h k (task.Constant id ∷ ts) l = ap (λ (ps : List Place). _ ++ ps) (future_agrees s f g n agree h k ts l)
-future_agrees s f g n agree h k (task.Pat id ∷ ts) l = ap (λ (ps : List Place). _ ++ ps) (future_agrees s f g n agree (leak s (node.Pat id) ++ h) k ts l)
-future_agrees s f g n agree h k (task.TypeRef id ∷ ts) l = ap (λ (ps : List Place). _ ++ ps) (future_agrees s f g n agree h k ts l)
+future_agrees s f g n agree h k (task.Expr id ∷ ts) l = ap (λ (ps : List Place). exprs_under s (place (node.Expr id) h k ∷ []) ++ ps) (future_agrees s f g n agree (leak s (node.Expr id) ++ h) k ts l)
+future_agrees s f g n agree h k (task.Constant id ∷ ts) l = ap (λ (ps : List Place). exprs_under s (place (node.Expr id) k k ∷ []) ++ ps) (future_agrees s f g n agree h k ts l)
+future_agrees s f g n agree h k (task.Pat id ∷ ts) l = ap (λ (ps : List Place). exprs_under s (place (node.Pat id) h k ∷ []) ++ ps) (future_agrees s f g n agree (leak s (node.Pat id) ++ h) k ts l)
+future_agrees s f g n agree h k (task.TypeRef id ∷ ts) l = ap (λ (ps : List Place). exprs_under s (place (node.TypeRef id) k k ∷ []) ++ ps) (future_agrees s f g n agree h k ts l)
 future_agrees s f g n agree h k (task.Bound id ∷ ts) l =
-    ap (λ (ps : List Place). _ ++ ps) (future_agrees s f g n agree (leak s (node.Pat id) ++ (frame s (id ∷ []) ∷ h)) k ts l)
-future_agrees s f g n agree h k (task.Arm p x ∷ ts) l = ap (λ (ps : List Place). _ ++ ps) (future_agrees s f g n agree h k ts l)
-future_agrees s f g n agree h k (task.GuardedArm p y x ∷ ts) l = ap (λ (ps : List Place). _ ++ ps) (future_agrees s f g n agree h k ts l)
+    ap (λ (ps : List Place). exprs_under s (place (node.Pat id) (frame s (id ∷ []) ∷ h) k ∷ []) ++ ps) (future_agrees s f g n agree (leak s (node.Pat id) ++ (frame s (id ∷ []) ∷ h)) k ts l)
+future_agrees s f g n agree h k (task.Arm p x ∷ ts) l =
+    ap (λ (ps : List Place). exprs_under s (map (place_kid h k) (arm_slots s [] (arm_with p x None))) ++ ps) (future_agrees s f g n agree h k ts l)
+future_agrees s f g n agree h k (task.GuardedArm p y x ∷ ts) l =
+    ap (λ (ps : List Place). exprs_under s (map (place_kid h k) (arm_slots s [] (arm_with p x (Some y)))) ++ ps) (future_agrees s f g n agree h k ts l)
 future_agrees s f g n agree h k (task.MacroDef id ∷ ts) l = future_agrees s f g n agree (of_kind (kind.MacroDef id) ∷ h) (of_kind (kind.MacroDef id) ∷ k) ts l
 future_agrees s f g n agree h k (task.Leave a b ∷ ts) l =
     ap (λ (c : Chain). future s f c (f b) ts) (agree a l.0)

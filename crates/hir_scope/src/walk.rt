@@ -2,8 +2,6 @@
 
 ghost use Rattle.std.specs.Prelude.{◌≡◌, ◌<◌, ◌≤◌, ◌+◌, [], ◌∷◌, ◌++◌, Option, length, map, None, Err, IfOk, OnOk, OnErr};
 ghost use Rattle.std.specs.FinMap as finmap;
-ghost use Rattle.hir_node.specs.ChildCalls.{opt};
-ghost use Rattle.hir_node.specs.ChildCalls as calls;
 ghost use Rattle.hir_node.specs.declared.node_id.NodeId.TheVariants as node;
 ghost use Rattle.hir_faults.specs.Nodes.{Nodes};
 ghost use Rattle.hir_scope.specs.Frames.{frame, of_kind};
@@ -11,7 +9,7 @@ ghost use Rattle.hir_scope.specs.Forms.{form_of, expr_form};
 ghost use Rattle.hir_scope.specs.Slots.{own_frame, block_constants, loop_kind};
 ghost use Rattle.hir_scope.specs.Chains.{within_own};
 ghost use Rattle.hir_scope.specs.PlacesUnder.{place};
-ghost use Rattle.hir_scope.specs.Pending.{guarded_task, form_tasks, leave, opens_here, opens_constant};
+ghost use Rattle.hir_scope.specs.Pending.{guarded_task, opens_here, opens_constant};
 ghost use Rattle.hir_scope.specs.Scopes.{frame_of};
 ghost use Rattle.hir_scope.specs.Machine.{machine, state, here_of, constant_of, future_of, AreThere, IsReady, Over, Exceeds, HasFrames, Opened, Moves, Goes, Gone, scope_within};
 
@@ -328,11 +326,9 @@ impl Walk {
 
     /// Meets an anonymous constant.
     fn meet_constant(&mut self, expr: ExprId) -> Result<(), ScopesFault>
-        ensures ok { OnOk result (self.new.tasks
-            ≡ Task.Expr expr ∷ leave self.old.around ∷ self.old.tasks) }
-        ensures here { OnOk result (self.new.around.here ≡ self.old.around.constant) }
-        ensures constant { self.new.around.constant ≡ self.old.around.constant }
-        ensures scopes { self.new.scopes ≡ self.old.scopes }
+        ensures moves { IfOk result (λ _. (s : Nodes)
+            → IsReady s (machine self.old (Task.Constant expr ∷ self.old.tasks))
+            → Moves s (machine self.old (Task.Constant expr ∷ self.old.tasks)) (state self.new) []) }
         ensures memory { OnErr result (result ≡ Err ScopesFault.Memory) }
     {
         let before = self.around;

@@ -5,7 +5,6 @@ use Rattle.hir_node.specs.declared.pat.Pat.{Pat}
 use Rattle.std.specs.Prelude.{Option}
 use Rattle.hir_node.specs.declared.node_id.NodeId.TheVariants as node
 use Rattle.hir_expr_store.specs.PatLists.{child_pats_of, pats}
-use Rattle.hir_scope.specs.declared.scope.ScopeEntry.{ScopeEntry}
 use Rattle.hir_scope.specs.Frames.{binds}
 use Rattle.hir_scope.specs.Machine.{AreThere}
 use Rattle.hir_scope.proofs.BinderLemmas.{children_there, asked_one, fewer_left}

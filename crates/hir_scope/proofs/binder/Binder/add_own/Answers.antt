@@ -1,4 +1,4 @@
-use Rattle.std.proofs.Common.{◌<◌, length, subst, IsTrue}
+use Rattle.std.proofs.Common.{subst}
 use Rattle.hir_node.specs.declared.pat.Pat.{Pat}
 use Rattle.hir_faults.specs.Tested.{tested_pat}
 use Rattle.hir_faults.specs.Sound.{IsSoundNode}

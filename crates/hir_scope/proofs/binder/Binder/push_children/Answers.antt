@@ -1,5 +1,4 @@
-use Rattle.std.proofs.Common.{◌≡◌, ℕ, List, ◌++◌, [], ap, ◌∙◌}
-use Rattle.std.specs.List.{flat_map}
+use Rattle.std.proofs.Common.{ℕ, List, ◌++◌, ap, ◌∙◌}
 use Rattle.hir_node.specs.ChildCalls.{child_pats}
 use Rattle.hir_scope.proofs.BinderLemmas.{asks_all, on_ok}
 use Rattle.hir_scope.proofs.binder.Binder.push_children.Goals as goal

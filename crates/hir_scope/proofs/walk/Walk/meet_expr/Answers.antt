@@ -28,7 +28,7 @@ returns-clause-moves c =
     let s = c.args.store.now.nodes in
     let w = c.args.self.now in
     let fall = c.kids_fall.ensures c.args.store.now c.has_no_fault.ensures in
-    let pushed = c.in_ok-push_in_expr.ensures.ok ∙ ap (λ (o : Option Expr). form_tasks w.around (form_at expr_form o) ++ w.tasks) (sym c.index.ensures) in
+    let pushed = c.in_ok-push_in_expr.ensures.ok ∙ ap (λ (o : Option Expr). form_tasks w.around (form_at expr_form o) ++ w.tasks) (sym c.index-inner.ensures) in
     expr_moves s fall w.scopes w.around c.args.expr w.tasks c.push_in_expr.new.tasks (state c.open_inside.new.self) pushed c.in_ok-open_inside.ensures.opened c.requires.ready
 
 pub returns-clause-scope : goal.returns-clause-scope
@@ -40,5 +40,5 @@ returns-clause-scope c =
     let h = here_of (state w) in
     let o = c.in_ok-open_inside.ensures.opened in
     let around = frames_grown w.scopes.scopes n.scopes.scopes o.more w.around.here h o.grows (record { within = c.requires.ready.here; is = refl }) in
-    let is = c.scope_within.ensures ∙ ap (λ (o : Option Expr). scope_within (form_at expr_form o) n.around.here w.around.here) (sym c.index.ensures) in
+    let is = c.scope_within.ensures ∙ ap (λ (o : Option Expr). scope_within (form_at expr_form o) n.around.here w.around.here) (sym c.index-inner.ensures) in
     subst (λ (i : ℕ). HasFrames n.scopes.scopes i (within_own x h)) (sym is) (own_frames s x n.scopes.scopes n.around.here w.around.here h o.here around)

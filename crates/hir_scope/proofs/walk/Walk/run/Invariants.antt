@@ -1,4 +1,3 @@
-use Rattle.std.proofs.Common.{◌≡◌}
 use Rattle.hir_scope.specs.Machine.{state, Gone, turns_left}
 use Rattle.hir_scope.proofs.walk.Walk.run.Given as goal
 
