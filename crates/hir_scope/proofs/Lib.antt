@@ -1,10 +1,17 @@
+pub mod BinderLemmas
+mod DoneLemmas
 mod FutureLemmas
+mod GoneLemmas
+mod GrownLemmas
 mod KidLemmas
 mod MetLemmas
+mod MovingLemmas
 pub mod PushLemmas
+mod ReadyLemmas
 mod StepLemmas
 mod TaskLemmas
 mod TotalLemmas
+mod WeightLemmas
 pub mod TurnLemmas
 mod Rows
 pub mod FlatLemmas

@@ -7,7 +7,7 @@ use Rattle.std.proofs.lemmas.List.Sorted.{sum_by-IsPermutation}
 use Rattle.hir_node.specs.ChildCalls.{kids}
 use Rattle.hir_node.specs.declared.node_id.NodeId.{NodeId}
 use Rattle.hir_faults.specs.Nodes.{Nodes, Has, kids_of}
-use Rattle.hir_faults.specs.Down.{KidsFall, value, AgreeOn}
+use Rattle.hir_faults.specs.Down.{KidsFall, AgreeOn}
 use Rattle.hir_faults.proofs.DownLemmas.{value_at}
 use Rattle.hir_scope.specs.declared.tasks.Around.{Around}
 use Rattle.hir_scope.specs.declared.tasks.Task.{Task}

@@ -12,7 +12,8 @@ use Rattle.hir_scope.specs.declared.tasks.Task.{Task}
 use Rattle.hir_scope.specs.declared.tasks.Task.TheVariants as task
 use Rattle.hir_scope.specs.declared.walk.Walk.{Walk}
 use Rattle.hir_scope.specs.Frames.{Frame, Chain}
-use Rattle.hir_scope.specs.Forms.{form_of}
+use Rattle.hir_scope.specs.Forms.{ScopingForm, form_of}
+use Rattle.hir_scope.specs.Forms as form
 use Rattle.hir_scope.specs.Chains.{Place, within_own}
 use Rattle.hir_scope.specs.PlacesUnder.{place}
 use Rattle.hir_scope.specs.Pending.{form_tasks, opens_here, opens_constant, future, task_kids, task_frames}
@@ -29,6 +30,10 @@ pub record Machine : Type 0 where
 
 abbrev pub machine : Walk → List Task → Machine
 machine w tasks = record { scopes = w.scopes; around = w.around; tasks = tasks }
+
+-- with all that is still to do
+abbrev pub state : Walk → Machine
+state w = machine w w.tasks
 
 -- the chain of each scope
 abbrev pub chain_of : List Scope → ℕ → Chain
@@ -180,6 +185,18 @@ write_all by_expr (g ∷ gs) = write_all (finmap.insert by_expr g.expr g.scope) 
 abbrev pub IsRight : Nodes → List Scope → Given → Type 0
 IsRight s scopes g = HasFrames scopes g.scope (within_own (form_of s (node.Expr g.expr)) g.here)
 
+-- the scope of an expression: of a block that inside it, of any other the one around it
+abbrev pub scope_within : ScopingForm → ℕ → ℕ → ℕ
+scope_within (form.Block id label statements tail) inside outside = inside
+scope_within (form.If condition then_branch else_branch) inside outside = outside
+scope_within (form.Let pat expr) inside outside = outside
+scope_within (form.Loop label body) inside outside = outside
+scope_within (form.Closure arg_types ret_type args body) inside outside = outside
+scope_within (form.Match scrutinee arms) inside outside = outside
+scope_within (form.Assignment target value) inside outside = outside
+scope_within (form.PatternType type pat) inside outside = outside
+scope_within (form.InTurn calls) inside outside = outside
+
 -- all that was done since a state
 pub record Gone (s : Nodes) (old new : Machine) (before after : ℕ) : Type 0 where
   pub ready : IsReady s new
@@ -193,3 +210,8 @@ pub record Gone (s : Nodes) (old new : Machine) (before after : ℕ) : Type 0 wh
   -- and each scope is kept
   pub more : List Scope
   pub grows : new.scopes.scopes ≡ old.scopes.scopes ++ more
+
+-- the same of one task
+pub record Goes (s : Nodes) (old new : Machine) (before after : ℕ) : Type 0 where
+  pub gone : Gone s old new before after
+  pub shorter : turns_left s new.tasks < turns_left s old.tasks
