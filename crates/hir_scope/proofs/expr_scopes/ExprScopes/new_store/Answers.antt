@@ -6,7 +6,7 @@ use Rattle.hir_scope.proofs.expr_scopes.ExprScopes.new_store.Goals as goal
 pub run-requires : goal.run-requires
 run-requires c =
     let walk = c.in_ok-walk.walk in
-    signature_starts c.args.store.now c.is_sound.ensures c.roots_are_there.ensures (machine walk walk.tasks) c.in_ok-walk.ensures.ok
+    record { ready = signature_starts c.args.store.now c.is_sound.ensures c.roots_are_there.ensures (machine walk walk.tasks) c.in_ok-walk.ensures.ok }
 
 pub returns-in_err-run-clause-full : goal.returns-in_err-run-clause-full
 returns-in_err-run-clause-full c = λ h.
