@@ -9,6 +9,8 @@ mod build;
 #[cfg(test)]
 mod kinds;
 #[cfg(test)]
+mod lookups;
+#[cfg(test)]
 mod made;
 #[cfg(test)]
 mod nodes;
