@@ -30,10 +30,7 @@ pub type Kind = (Option<u32>, Option<u32>, Option<u32>);
 pub const NONE: Kind = (None, None, None);
 
 /// The names that are left after this entry, where it has the first of them.
-fn after<'a>(
-    left: Option<&'a [&'static str]>,
-    entry: &ScopeEntry,
-) -> Option<&'a [&'static str]> {
+fn after<'a>(left: Option<&'a [&'static str]>, entry: &ScopeEntry) -> Option<&'a [&'static str]> {
     match left {
         Some([name, rest @ ..]) if entry.name().as_str() == *name => Some(rest),
         _ => None,

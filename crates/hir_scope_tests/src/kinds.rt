@@ -118,7 +118,16 @@ const CASES: &[Case] = &[
         ],
         &[
             Ask::Kinds(0, &[(None, None, Some(5)), NONE, NONE]),
-            Ask::Kinds(1, &[(None, None, Some(6)), NONE, (None, None, Some(5)), NONE, NONE]),
+            Ask::Kinds(
+                1,
+                &[
+                    (None, None, Some(6)),
+                    NONE,
+                    (None, None, Some(5)),
+                    NONE,
+                    NONE,
+                ],
+            ),
             Ask::Kinds(2, &[(None, None, Some(6)), (None, None, Some(5)), NONE]),
             Ask::Chain(1, &["a", "p"]),
             Ask::Chain(2, &["p"]),

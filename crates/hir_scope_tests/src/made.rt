@@ -18,10 +18,7 @@ pub struct Tree {
 }
 
 /// What was made, or the refusal as a failed test. It is said of any type, so that no large one is laid out here.
-fn opened<T: Drop, E: Debug + Drop>(
-    alloc: Global,
-    outcome: Result<T, E>,
-) -> Result<Box<T>, Fail> {
+fn opened<T: Drop, E: Debug + Drop>(alloc: Global, outcome: Result<T, E>) -> Result<Box<T>, Fail> {
     match outcome {
         Ok(value) => match build::in_a_box(alloc, value) {
             Ok(value) => Ok(value),

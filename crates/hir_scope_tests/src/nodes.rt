@@ -136,10 +136,7 @@ fn path_with(alloc: Global, ty: u32, constant: u32) -> Result<NormalPath, AllocE
 }
 
 /// The arms of these patterns, guards and bodies.
-fn arms(
-    alloc: Global,
-    listed: &[(u32, Option<u32>, u32)],
-) -> Result<Seq<MatchArm>, AllocError> {
+fn arms(alloc: Global, listed: &[(u32, Option<u32>, u32)]) -> Result<Seq<MatchArm>, AllocError> {
     let mut list = Seq::new(alloc);
     for (pat, guard, expr) in listed {
         list.push(MatchArm {
@@ -217,12 +214,7 @@ fn block(
 }
 
 /// The closure of these parts.
-fn closure(
-    alloc: Global,
-    body: u32,
-    args: &[u32],
-    first: Option<u32>,
-) -> Result<Expr, AllocError> {
+fn closure(alloc: Global, body: u32, args: &[u32], first: Option<u32>) -> Result<Expr, AllocError> {
     let pats = ids(alloc, args)?;
     let types = arg_types(alloc, args, id(first))?;
     Ok(Expr::Closure {
@@ -366,11 +358,7 @@ pub fn hygiene(expansion: Option<u32>) -> HygieneId {
 }
 
 /// A binding of this name, written by this expansion.
-pub fn binding(
-    alloc: Global,
-    text: &str,
-    expansion: Option<u32>,
-) -> Result<Binding, AllocError> {
+pub fn binding(alloc: Global, text: &str, expansion: Option<u32>) -> Result<Binding, AllocError> {
     Ok(Binding {
         name: Name::new(alloc, text)?,
         mode: BindingAnnotation::Unannotated,

@@ -205,12 +205,7 @@ const ROWS: &[Row] = &[
                 PATH,
                 Step::Expr(ExprStep::Assign(0, 0)),
                 PATH,
-                Step::Expr(ExprStep::Block(
-                    None,
-                    None,
-                    Some(2),
-                    &[StatementStep::Expr(1)],
-                )),
+                Step::Expr(ExprStep::Block(None, None, Some(2), &[StatementStep::Expr(1)])),
                 Step::Root(3),
             ],
             params: &[],

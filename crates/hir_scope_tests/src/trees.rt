@@ -24,7 +24,11 @@ const CASES: &[Case] = &[
             Step::Expr(ExprStep::Tuple(&[0, 2])),
             Step::Root(3),
         ],
-        &[Ask::Chain(0, &[]), Ask::Chain(1, &["x"]), Ask::Chain(2, &[])],
+        &[
+            Ask::Chain(0, &[]),
+            Ask::Chain(1, &["x"]),
+            Ask::Chain(2, &[]),
+        ],
     ),
     (
         "a loop: loop { let x = (); M }",
