@@ -1,17 +1,29 @@
 //! The scopes of a definition, looked up in the tables.
-ghost use Rattle.std.specs.Option.{option_map};
 ghost use Rattle.hir_base.specs.declared.defs.ExpressionStoreOwnerId.{ExpressionStoreOwnerId};
 ghost use Rattle.hir_base.specs.declared.defs.ExpressionStoreOwnerId.TheVariants as owner;
-ghost use Rattle.hir_defs.specs.Lookups.{signed, embodied, owned};
-ghost use Rattle.hir_scope.specs.Lookups.{AnswersBody, AnswersStore, AnswersOwner};
+ghost use Rattle.hir_scope.specs.Lookups.{AnswersBody, AnswersStore, AnswersOwner, body_in, store_in};
 
 use crate::expr_scopes::ExprScopes;
 use crate::fault::ScopesFault;
 use hir_base::{DefWithBodyId, ExpressionStoreOwnerId, GenericDefId, VariantId};
 use hir_defs::{StoreOf, Tables};
 use hir_expr_store::ExpressionStore;
-use hir_items::{Body, GenericParams};
+use hir_items::Body;
 use std::alloc::Global;
+
+/// The scopes of the store of an owner, as that of a signature.
+fn of_store(
+    alloc: Global,
+    tables: &Tables,
+    owner: ExpressionStoreOwnerId,
+) -> Result<ExprScopes, ScopesFault>
+    ensures { AnswersStore (store_in tables.now owner) result }
+{
+    match ExpressionStore::of(tables, owner) {
+        Ok(store) => ExprScopes::new_store(alloc, store),
+        Err(_) => Err(ScopesFault::Missing),
+    }
+}
 
 impl ExprScopes {
     /// The scopes of the body of a definition.
@@ -22,7 +34,7 @@ impl ExprScopes {
         tables: &Tables,
         def: DefWithBodyId,
     ) -> Result<ExprScopes, ScopesFault>
-        ensures { AnswersBody (option_map (λ e. e.0) (embodied tables.now def)) result }
+        ensures { AnswersBody (body_in tables.now def) result }
     {
         match Body::of(tables, def) {
             Ok(body) => ExprScopes::new_body(alloc, body),
@@ -38,12 +50,9 @@ impl ExprScopes {
         tables: &Tables,
         def: GenericDefId,
     ) -> Result<ExprScopes, ScopesFault>
-        ensures { AnswersStore (option_map (λ e. e.1) (signed tables.now def)) result }
+        ensures { AnswersStore (store_in tables.now (owner.Signature def)) result }
     {
-        match GenericParams::with_store(tables, def) {
-            Ok((_, store)) => ExprScopes::new_store(alloc, store),
-            Err(_) => Err(ScopesFault::Missing),
-        }
+        of_store(alloc, tables, ExpressionStoreOwnerId::Signature(def))
     }
 
     /// The scopes of the fields of a variant.
@@ -54,13 +63,9 @@ impl ExprScopes {
         tables: &Tables,
         variant: VariantId,
     ) -> Result<ExprScopes, ScopesFault>
-        ensures { AnswersStore (option_map (λ e. e.0) (owned tables.now (owner.VariantFields variant))) result }
+        ensures { AnswersStore (store_in tables.now (owner.VariantFields variant)) result }
     {
-        let owner = ExpressionStoreOwnerId::VariantFields(variant);
-        match ExpressionStore::of(tables, owner) {
-            Ok(store) => ExprScopes::new_store(alloc, store),
-            Err(_) => Err(ScopesFault::Missing),
-        }
+        of_store(alloc, tables, ExpressionStoreOwnerId::VariantFields(variant))
     }
 
     /// The scopes of a body, of a signature or of the fields of a variant, by who owns their store.
