@@ -363,27 +363,26 @@ impl Walk {
     {
         store.has_no_fault();
         kids_fall();
-        let before = self.around;
-        self.tasks
-            .push(Task::Leave(before.here, before.constant))?;
-        self.around.here = before.constant;
+        let Around { here, constant } = self.around;
+        self.tasks.push(Task::Leave(here, constant))?;
+        self.around.here = constant;
         self.turn
             .push_in_type(&mut self.tasks, &store[type_ref], self.around)?;
         Ok(())
     }
 
     /// Meets a pattern in a scope of its own, which stays.
-    fn bind(&mut self, store: &ExpressionStore, pat: PatId) -> Result<(), ScopesFault>
+    fn bind(&mut self, store: &ExpressionStore, bound: PatId) -> Result<(), ScopesFault>
         requires ready { IsReady store.now.nodes
-            (machine self.old (Task.Bound pat ∷ self.old.tasks)) }
+            (machine self.old (Task.Bound bound ∷ self.old.tasks)) }
         ensures moves { IfOk result (λ _. Moves store.now.nodes
-            (machine self.old (Task.Bound pat ∷ self.old.tasks)) (state self.new) []) }
+            (machine self.old (Task.Bound bound ∷ self.old.tasks)) (state self.new) []) }
         ensures full { result ≡ Err ScopesFault.Full
-            → Exceeds store.now.nodes (machine self.old (Task.Bound pat ∷ self.old.tasks)) }
+            → Exceeds store.now.nodes (machine self.old (Task.Bound bound ∷ self.old.tasks)) }
         ensures missing { result ≡ Err ScopesFault.Missing → ⊥ }
     {
-        self.tasks.push(Task::Pat(pat))?;
-        self.open(store, &[pat])?;
+        self.tasks.push(Task::Pat(bound))?;
+        self.open(store, &[bound])?;
         Ok(())
     }
 
