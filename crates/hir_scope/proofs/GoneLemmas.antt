@@ -1,10 +1,10 @@
 -- What a walk has done, from its start on.
-use Rattle.std.proofs.Common.{◌≡◌, ℕ, ◌+◌, ◌≤◌, List, [], ◌∷◌, ◌++◌, length, map, refl, sym, ap, ◌∙◌, append_assoc, subst, arith, length-append, inl, inr, ⊎_elim}
+use Rattle.std.proofs.Common.{◌≡◌, ℕ, ◌+◌, List, [], ◌∷◌, ◌++◌, map, refl, sym, ap, ◌∙◌, append_assoc, subst, arith, length-append}
 use Rattle.std.specs.Prelude.{Result, Ok, Err, IfOk, OnOk}
 use Rattle.std.specs.List.{All}
 use Rattle.std.specs.Ordering.{nat_cmp}
 use Rattle.std.specs.FinMap as finmap
-use Rattle.std.proofs.lemmas.List.{append-nil, map-append, length-map}
+use Rattle.std.proofs.lemmas.List.{append-nil, map-append}
 use Rattle.std.proofs.lemmas.List.Elements.{All-nil, All-cons, All-append, All-weaker}
 use Rattle.hir_node.specs.declared.node_id.NodeId.TheVariants as node
 use Rattle.hir_faults.specs.Nodes.{Nodes}
@@ -16,7 +16,7 @@ use Rattle.hir_scope.specs.Forms.{form_of}
 use Rattle.hir_scope.specs.Chains.{Place, within_own}
 use Rattle.hir_scope.specs.PlacesUnder.{place}
 use Rattle.hir_scope.specs.Scopes.{Scope, Scopes}
-use Rattle.hir_scope.specs.Machine.{Machine, chain_of, future_of, IsReady, one, count_entries, Exceeds, HasFrames, Moves, Given, place_given, write_all, IsRight, Gone, Goes}
+use Rattle.hir_scope.specs.Machine.{Machine, chain_of, future_of, IsReady, HasFrames, Moves, Given, place_given, write_all, IsRight, Gone, Goes}
 use Rattle.hir_scope.proofs.GrownLemmas.{frames_grown}
 use Rattle.hir_scope.proofs.MovingLemmas.{at}
 
@@ -91,7 +91,7 @@ module _ (s : Nodes) where
       let h = chain_of S.scopes a.here in
       let k = chain_of S.scopes a.constant in
       let gone : Gone s old (at last mid.around mid.tasks) n m =
-          subst (λ (x : ℕ). Gone s old (at last mid.around mid.tasks) n x) (sym i) (gone_given old mid last id scope h k n moves has e) in
+      subst (λ (x : ℕ). Gone s old (at last mid.around mid.tasks) n x) (sym i) (gone_given old mid last id scope h k n moves has e) in
       let goes : Goes s old (at last mid.around mid.tasks) n m = record { gone = gone; shorter = moves.shorter } in
       subst (λ (x : Task). Goes s (at S a (x ∷ ts)) (at last around tasks) n m) (sym is)
       (subst (λ (x : Around). Goes s old (at last x tasks) n m) (sym ea)
@@ -118,19 +118,6 @@ module _ (s : Nodes) where
         more = a.more ++ b.more;
         grows = b.grows ∙ (ap (λ (xs : List Scope). xs ++ b.more) a.grows ∙ append_assoc old.scopes.scopes a.more b.more);
       }
-
-  -- no more steps than there are expressions
-  pub few_steps : (old new : Machine) (n0 n : ℕ) → Gone s old new n0 n → n ≤ n0 + length (future_of s old)
-  few_steps old new n0 n g =
-      let a = ap (length {A = Place}) g.in_order ∙ length-append (map place_given g.given) (future_of s new) in
-      let b = length-map g.given place_given in
-      omega (arith, g.ticks, a, b)
-
-  pub exceeds_back : (old new : Machine) (n0 n : ℕ) → Gone s old new n0 n → Exceeds s new → Exceeds s old
-  exceeds_back old new n0 n g x =
-      let a = g.weights one in
-      let b = g.weights count_entries in
-      ⊎_elim (λ h. inl (omega (arith, a, h))) (λ h. inr (omega (arith, b, h))) x
 
 -- what a call that is handed on ensures
 pub ok_map : {T E : Type 0} (r : Result T E) (P Q : Type 0) → (P → Q) → IfOk r (λ (x : T). P) → IfOk r (λ (x : T). Q)

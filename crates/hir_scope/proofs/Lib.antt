@@ -18,7 +18,6 @@ pub mod FlatLemmas
 pub mod PathLemmas
 pub mod ResolveLemmas
 pub mod SameLemmas
-pub mod LeakLemmas
 pub mod SlotLemmas
 pub mod StandsLemmas
 pub mod BeginLemmas

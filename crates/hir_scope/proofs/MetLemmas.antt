@@ -55,16 +55,6 @@ module _ (s : Nodes) (fall : KidsFall s) (chain : ℕ → Chain) where
       ∙ (ap (λ (y : ScopingForm). exprs_under s (map (place_kid k k) (slots_of_form s y)) ++ future s chain h k ts) is
       ∙ future_form s chain (for_constants a) x (leave a ∷ ts))
 
-  -- a constant is an expression in the scope of constants
-  pub future_constant : (a : Around) (id : ℕ) (ts : List Task) → let h = chain a.here in let k = chain a.constant in future s chain h k (task.Constant id ∷ ts) ≡ future s chain k k (task.Expr id ∷ leave a ∷ ts)
-  unfolding future
-  future_constant a id ts = refl
-
-  -- a pattern that is bound is met in its frame
-  pub future_bound : (h k : Chain) (id : ℕ) (ts : List Task) → future s chain h k (task.Bound id ∷ ts) ≡ future s chain (frame s (id ∷ []) ∷ h) k (task.Pat id ∷ ts)
-  unfolding future
-  future_bound h k id ts = refl
-
   -- an arm is met in the frame of its pattern, which ends with it
   pub future_arm : (a : Around) (arm : MatchArm) (ts : List Task) → let h = chain a.here in let k = chain a.constant in future s chain h k (arm_task arm ∷ ts) ≡ future s chain (frame s (arm.pat ∷ []) ∷ h) k ((tasks_of (arm_calls arm) ++ leave a ∷ []) ++ ts)
   unfolding future

@@ -55,19 +55,6 @@ opened_constant old new k es g same i h ts l =
           (subst (λ (s : ℕ). HasFrames old.scopes.scopes s (here_of old)) (sym h) (record { within = l; is = refl }));
     }
 
--- nothing was opened
-pub opened_none : (m : Machine) → m.around.here < length m.scopes.scopes → m.around.constant < length m.scopes.scopes → Opened m m [] []
-opened_none m h c =
-    record {
-      more = [];
-      grows = sym (append-nil m.scopes.scopes);
-      same = refl;
-      tasks = refl;
-      frames = λ w. refl;
-      here = record { within = h; is = refl };
-      constant = record { within = c; is = refl };
-    }
-
 frames_sum_grown : (w : Frame → ℕ) (scopes grown more : List Scope) → grown ≡ scopes ++ more → sum_by w (map frame_of grown) ≡ sum_by w (map frame_of scopes) + sum_by w (map frame_of more)
 frames_sum_grown w scopes grown more g =
     ap (λ (xs : List Scope). sum_by w (map frame_of xs)) g ∙ (ap (sum_by w) (map-append frame_of scopes more) ∙ sum_by-append w (map frame_of scopes) (map frame_of more))
@@ -111,6 +98,7 @@ over_new scopes f o =
       ones : (xs : List Scope) → sum_by one (map frame_of xs) ≡ length xs
       ones [] = refl
       ones (x ∷ xs) = let r = ones xs in let a = sum_by-cons one (frame_of x) (map frame_of xs) in omega (arith, r, a)
+
       counts : (xs : List Scope) → sum_by count_entries (map frame_of xs) ≡ entry_count xs
       counts [] = refl
       counts (x ∷ xs) =

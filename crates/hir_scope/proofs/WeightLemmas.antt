@@ -1,8 +1,7 @@
 -- What is still to come, as sums: a node that is met leaves what its tasks weigh, less what it opens itself.
-use Rattle.std.proofs.Common.{◌≡◌, ℕ, ◌+◌, List, [], ◌∷◌, ◌++◌, refl, ap, ◌∙◌, arith}
+use Rattle.std.proofs.Common.{◌≡◌, ℕ, ◌+◌, List, [], ◌∷◌, ◌++◌, refl, arith}
 use Rattle.std.specs.List.{flat_map, sum_by}
 use Rattle.std.proofs.lemmas.List.Sums.{sum_by-append, sum_by-cons}
-use Rattle.std.proofs.lemmas.List.Concat.{flat_map-append}
 use Rattle.hir_node.specs.ChildCalls.{e, opt}
 use Rattle.hir_node.specs.declared.node_id.NodeId.{NodeId}
 use Rattle.hir_faults.specs.Nodes.{Nodes, Has}
@@ -24,12 +23,6 @@ module _ (s : Nodes) (u : NodeId → ℕ) (v : Task → ℕ) where
   left_cons t ts =
       let a = sum_by-cons v t ts in
       let b = sum_by-append (total s u) (task_kids t) (about ts) in
-      omega (arith, a, b)
-
-  pub left_append : (us ts : List Task) → left s u v (us ++ ts) ≡ left s u v us + left s u v ts
-  left_append us ts =
-      let a = sum_by-append v us ts in
-      let b = ap (sum_by (total s u)) (flat_map-append task_kids us ts) ∙ sum_by-append (total s u) (about us) (about ts) in
       omega (arith, a, b)
 
 -- what is left with one scope weighs as much as what is left with another

@@ -150,11 +150,7 @@ impl Walk {
     }
 
     /// Opens the scopes of a block: with an id it stands around constants too.
-    fn open_block(
-        &mut self,
-        id: Option<BlockId>,
-        label: Option<LabelId>,
-    ) -> Result<(), ScopesFault>
+    fn open_block(&mut self, id: Option<BlockId>, label: Option<LabelId>) -> Result<(), ScopesFault>
         requires here { self.old.around.here < length self.old.scopes.scopes }
         requires constant { self.old.around.constant < length self.old.scopes.scopes }
         ensures opened { IfOk result (λ _. Opened (state self.old) (state self.new)
@@ -295,19 +291,13 @@ impl Walk {
         kids_fall();
         let outside = self.around.here;
         let inner = &store[expr];
-        self.turn
-            .push_in_expr(&mut self.tasks, inner, self.around)?;
+        self.turn.push_in_expr(&mut self.tasks, inner, self.around)?;
         self.open_inside(store, expr)?;
         Ok(scope_within(inner, self.around.here, outside))
     }
 
     /// Gives an expression its scope, and counts it.
-    fn give(
-        &mut self,
-        expr: ExprId,
-        scope: ScopeId,
-        steps: &mut Steps,
-    ) -> Result<(), ScopesFault>
+    fn give(&mut self, expr: ExprId, scope: ScopeId, steps: &mut Steps) -> Result<(), ScopesFault>
         requires { scope < length self.old.scopes.scopes }
         ensures ok { OnOk result (self.new.scopes ≡ record {
           scopes = self.old.scopes.scopes;
@@ -332,8 +322,7 @@ impl Walk {
         ensures memory { OnErr result (result ≡ Err ScopesFault.Memory) }
     {
         let before = self.around;
-        self.tasks
-            .push(Task::Leave(before.here, before.constant))?;
+        self.tasks.push(Task::Leave(before.here, before.constant))?;
         self.tasks.push(Task::Expr(expr))?;
         self.around.here = before.constant;
         Ok(())
@@ -363,27 +352,26 @@ impl Walk {
     {
         store.has_no_fault();
         kids_fall();
-        let before = self.around;
-        self.tasks
-            .push(Task::Leave(before.here, before.constant))?;
-        self.around.here = before.constant;
+        let Around { here, constant } = self.around;
+        self.tasks.push(Task::Leave(here, constant))?;
+        self.around.here = constant;
         self.turn
             .push_in_type(&mut self.tasks, &store[type_ref], self.around)?;
         Ok(())
     }
 
     /// Meets a pattern in a scope of its own, which stays.
-    fn bind(&mut self, store: &ExpressionStore, pat: PatId) -> Result<(), ScopesFault>
+    fn bind(&mut self, store: &ExpressionStore, bound: PatId) -> Result<(), ScopesFault>
         requires ready { IsReady store.now.nodes
-            (machine self.old (Task.Bound pat ∷ self.old.tasks)) }
+            (machine self.old (Task.Bound bound ∷ self.old.tasks)) }
         ensures moves { IfOk result (λ _. Moves store.now.nodes
-            (machine self.old (Task.Bound pat ∷ self.old.tasks)) (state self.new) []) }
+            (machine self.old (Task.Bound bound ∷ self.old.tasks)) (state self.new) []) }
         ensures full { result ≡ Err ScopesFault.Full
-            → Exceeds store.now.nodes (machine self.old (Task.Bound pat ∷ self.old.tasks)) }
+            → Exceeds store.now.nodes (machine self.old (Task.Bound bound ∷ self.old.tasks)) }
         ensures missing { result ≡ Err ScopesFault.Missing → ⊥ }
     {
-        self.tasks.push(Task::Pat(pat))?;
-        self.open(store, &[pat])?;
+        self.tasks.push(Task::Pat(bound))?;
+        self.open(store, &[bound])?;
         Ok(())
     }
 
@@ -406,8 +394,7 @@ impl Walk {
         store.has_no_fault();
         kids_fall();
         let before = self.around;
-        self.tasks
-            .push(Task::Leave(before.here, before.constant))?;
+        self.tasks.push(Task::Leave(before.here, before.constant))?;
         self.tasks.push(Task::Expr(expr))?;
         push_expr_opt(&mut self.tasks, guard)?;
         self.tasks.push(Task::Pat(pat))?;

@@ -18,9 +18,9 @@ loop-id-preserved c =
     let was : c.loop-id.self.pats ≡ id ∷ rest = c.in-Some.ensures.some in
     let there = subst (λ (ps : List ℕ). AreThere s (map node.Pat ps)) was c.loop-id.invariant.there in
     let next : c.push_children.new.self.pats ≡ child_pats_of s id ++ rest =
-        c.in_ok-push_children.ensures.next
-        ∙ (ap (λ (ps : List ℕ). child_pats c.index.result.now ++ ps) c.add_own.ensures.pats
-        ∙ ap (λ (o : Option Pat). flat_map pat_of_call (opt pat_calls o) ++ rest) (sym c.index.ensures)) in
+    c.in_ok-push_children.ensures.next
+    ∙ (ap (λ (ps : List ℕ). child_pats c.index.result.now ++ ps) c.add_own.ensures.pats
+    ∙ ap (λ (o : Option Pat). flat_map pat_of_call (opt pat_calls o) ++ rest) (sym c.index.ensures)) in
     let step = c.bindings_in_is.ensures c.args.store.now c.has_no_fault.ensures id there.0 in
     let before = c.loop-id.self.entries.items in
     let one = asked_one s id rest before c.add_own.new.self.entries.items step c.in_ok-add_own.ensures.added in
@@ -41,9 +41,9 @@ loop-id-smaller c =
     let was : c.loop-id.self.pats ≡ id ∷ rest = c.in-Some.ensures.some in
     let there = subst (λ (ps : List ℕ). AreThere s (map node.Pat ps)) was c.loop-id.invariant.there in
     let next : c.push_children.new.self.pats ≡ child_pats_of s id ++ rest =
-        c.in_ok-push_children.ensures.next
-        ∙ (ap (λ (ps : List ℕ). child_pats c.index.result.now ++ ps) c.add_own.ensures.pats
-        ∙ ap (λ (o : Option Pat). flat_map pat_of_call (opt pat_calls o) ++ rest) (sym c.index.ensures)) in
+    c.in_ok-push_children.ensures.next
+    ∙ (ap (λ (ps : List ℕ). child_pats c.index.result.now ++ ps) c.add_own.ensures.pats
+    ∙ ap (λ (o : Option Pat). flat_map pat_of_call (opt pat_calls o) ++ rest) (sym c.index.ensures)) in
     let fewer = fewer_left s id rest (c.pats_is.ensures c.args.store.now c.has_no_fault.ensures id there.0) in
     subst (λ (ps : List ℕ). length (flat_map (pats s) ps) < length (flat_map (pats s) c.loop-id.self.pats)) (sym next)
     (subst (λ (ps : List ℕ). length (flat_map (pats s) (child_pats_of s id ++ rest)) < length (flat_map (pats s) ps)) (sym was) fewer)

@@ -16,10 +16,10 @@ returns-clause-moves c =
     let a = c.args in
     let fall = c.kids_fall.ensures a.store.now c.has_no_fault.ensures in
     let pushed =
-        c.in_ok-push-3.ensures.ok
-        ∙ ap (λ (ts : List Task). task.Pat a.pat ∷ ts) (c.in_ok-push_expr_opt.ensures.ok
-        ∙ ap (λ (ts : List Task). tasks_of (opt e a.guard) ++ ts) (c.in_ok-push-2.ensures.ok
-        ∙ ap (λ (ts : List Task). task.Expr a.expr ∷ ts) c.in_ok-push.ensures.ok)) in
+    c.in_ok-push-3.ensures.ok
+    ∙ ap (λ (ts : List Task). task.Pat a.pat ∷ ts) (c.in_ok-push_expr_opt.ensures.ok
+    ∙ ap (λ (ts : List Task). tasks_of (opt e a.guard) ++ ts) (c.in_ok-push-2.ensures.ok
+    ∙ ap (λ (ts : List Task). task.Expr a.expr ∷ ts) c.in_ok-push.ensures.ok)) in
     arm_moves a.store.now.nodes fall w.scopes w.around a.pat a.expr a.guard w.tasks c.push-3.new.self (state c.open.new.self) pushed c.in_ok-open.ensures.opened c.requires.ready
 
 pub returns-in_err-open-clause-full : goal.returns-in_err-open-clause-full
