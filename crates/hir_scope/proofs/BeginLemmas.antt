@@ -245,13 +245,13 @@ one_root_more old new roots root id first entries is last zeroth none scopes aro
     let number : id ≡ suc (length roots) = last ∙ (ap (λ (m : Machine). length m.scopes.scopes) is ∙ omega (arith, long)) in
     let same : ◌≡◌ {A = Scope} (record { parent = Some first; kind = kind.None; entries = entries }) scope_in_root = λ i. record { parent = Some (zeroth i); kind = kind.None; entries = none i } in
     let a = scopes
-        ∙ (ap (λ (x : Scope). one_more old.scopes x) same
-        ∙ (ap (λ (m : Machine). one_more m.scopes scope_in_root) is
-        ∙ ap (λ (xs : List Scope). for_none (signature_root ∷ xs)) (replicate_more (length roots) scope_in_root))) in
+    ∙ (ap (λ (x : Scope). one_more old.scopes x) same
+    ∙ (ap (λ (m : Machine). one_more m.scopes scope_in_root) is
+    ∙ ap (λ (xs : List Scope). for_none (signature_root ∷ xs)) (replicate_more (length roots) scope_in_root))) in
     let b = around ∙ ap (λ (m : Machine). m.around) is in
     let d = tasks
-        ∙ (ap (λ (m : Machine). task.Leave id id ∷ task.Expr root ∷ m.tasks) is
-        ∙ ap (λ (k : ℕ). task.Leave k k ∷ task.Expr root ∷ root_tasks roots) number) in
+    ∙ (ap (λ (m : Machine). task.Leave id id ∷ task.Expr root ∷ m.tasks) is
+    ∙ ap (λ (k : ℕ). task.Leave k k ∷ task.Expr root ∷ root_tasks roots) number) in
     λ i. record { scopes = a i; around = b i; tasks = d i }
 
 -- there is no room for one scope more only where there are many roots

@@ -122,7 +122,6 @@ node_get (q ∷ ps) (suc k) p e = node_get ps k p e
 module _ (s : Nodes) (fall : KidsFall s)
     (parent : (n m k : NodeId) → Contains (kids_of s n) k → Contains (kids_of s m) k → n ≡ m)
     (apart : (n : NodeId) → Has s n → LieApart s (kids_of s n)) where
-
   lie_once : (ns : List NodeId) → LieApart s ns → (m : NodeId) → sum_by (is m) ns ≤ 1
   lie_once ns h m = once m ns (λ i j a b l e f n o. h i j a b m l e f (subst (Under s m) n itself) (subst (Under s m) o itself))
 

@@ -65,7 +65,11 @@ impl ExprScopes {
     ) -> Result<ExprScopes, ScopesFault>
         ensures { AnswersStore (store_in tables.now (owner.VariantFields variant)) result }
     {
-        of_store(alloc, tables, ExpressionStoreOwnerId::VariantFields(variant))
+        of_store(
+            alloc,
+            tables,
+            ExpressionStoreOwnerId::VariantFields(variant),
+        )
     }
 
     /// The scopes of a body, of a signature or of the fields of a variant, by who owns their store.

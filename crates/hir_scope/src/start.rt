@@ -97,7 +97,10 @@ pub(crate) fn push_formals(
 
 impl Walk {
     /// A walk without scopes. It has room for those of the store's expressions.
-    pub(crate) fn without_scopes(alloc: Global, store: &ExpressionStore) -> Result<Walk, ScopesFault>
+    pub(crate) fn without_scopes(
+        alloc: Global,
+        store: &ExpressionStore,
+    ) -> Result<Walk, ScopesFault>
         ensures scopes { IfOk result (λ walk. walk.scopes ≡ for_none []) }
         ensures around { IfOk result (λ walk. walk.around ≡ at_first) }
         ensures tasks { IfOk result (λ walk. walk.tasks ≡ []) }
@@ -124,7 +127,9 @@ impl Walk {
         let root_scope = walk.scopes.new_scope(None, ScopeKind::None, &mut none)?;
         let mut roots = store.expr_roots();
         while let Some(root) = roots.next_back() {
-            let scope = walk.scopes.new_scope(Some(root_scope), ScopeKind::None, &mut none)?;
+            let scope = walk
+                .scopes
+                .new_scope(Some(root_scope), ScopeKind::None, &mut none)?;
             walk.tasks.push(Task::Expr(root))?;
             walk.tasks.push(Task::Leave(scope, scope))?;
         }
