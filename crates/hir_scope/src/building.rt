@@ -83,11 +83,13 @@ impl ExprScopes {
     ) -> Result<ExprScopes, ScopesFault>
         ensures scopes { IfOk result (AreBodyScopes body.now) }
         ensures once { OnOk result (steps.new ≡ steps.old + expr_count (body_nodes body.now)) }
+        ensures rises { steps.old ≤ steps.new }
         ensures most { OnErr result (steps.new ≤ steps.old + expr_count (body_nodes body.now)) }
         ensures full { result ≡ Err ScopesFault.Full → BodyIsTooLarge body.now }
         ensures missing { result ≡ Err ScopesFault.Missing → ⊥ }
     {
         let store = body.store();
+        // (its contract says that the binding of `self` is in the store)
         let _ = body.self_param();
         is_sound(store);
         tops_of_body_are_there(body);
