@@ -6,9 +6,9 @@ use Rattle.std.specs.List.{flat_map, slice_get, sum_by}
 use Rattle.std.specs.Option.{option_to_list, option_map}
 use Rattle.std.proofs.lemmas.List.{length-map, length-replicate}
 use Rattle.std.proofs.lemmas.Grind.{get_or_default_zero}
-use Rattle.std.proofs.lemmas.List.Sums.{sum_by-append, sum_by-cons}
+use Rattle.std.proofs.lemmas.List.Sums.{sum_by-cons}
 use Rattle.hir_forest.specs.Faults.{root_nodes}
-use Rattle.hir_node.specs.ChildCalls.{Call, OnExpr, OnAnonConst, OnPat, OnType, OnLifetime, e, p, opt, kids}
+use Rattle.hir_node.specs.ChildCalls.{Call, OnExpr, OnAnonConst, OnPat, OnType, OnLifetime, e, p, opt}
 use Rattle.hir_node.specs.declared.node_id.NodeId.{NodeId}
 use Rattle.hir_node.specs.declared.node_id.NodeId.TheVariants as node
 use Rattle.hir_faults.specs.Nodes.{Nodes, Has}
@@ -29,12 +29,11 @@ use Rattle.hir_scope.specs.Chains.{Place}
 use Rattle.hir_scope.specs.Counts.{count_if_there, form_scopes, node_entries, body_scope_count, body_entry_count, signature_scope_count, signature_entry_count}
 use Rattle.hir_scope.specs.Forms.{form_of}
 use Rattle.hir_scope.specs.Frames.{Frame, Chain, entry_at, binds, empty}
-use Rattle.hir_scope.specs.Machine.{Machine, IsReady, AreThere, LeavesWithin, Exceeds, about, chain_of, future_of, left, node_frames, one, count_entries, total, weight, weight_left}
-use Rattle.hir_scope.specs.Paths.{paths, path, chain, frame_at}
+use Rattle.hir_scope.specs.Machine.{Machine, IsReady, AreThere, LeavesWithin, Exceeds, about, chain_of, future_of, node_frames, one, count_entries, total, weight, weight_left}
+use Rattle.hir_scope.specs.Paths.{paths, frame_at}
 use Rattle.hir_scope.specs.Pending.{tasks_of, task_frames, future}
 use Rattle.hir_scope.specs.PlacesUnder.{exprs_under}
 use Rattle.hir_scope.specs.Scopes.{Scope, Scopes, entry_count, frame_of, IsBelow, ParentsStandEarlier}
-use Rattle.hir_scope.specs.Tops.{root_frame, signature_tops}
 use Rattle.hir_scope.proofs.CountLemmas.{bound_by, calls_open, form_ones, frame_entries, sum_one}
 use Rattle.hir_scope.proofs.EntryLemmas.{entries_of_node, entries_total, no_around, one_entry}
 use Rattle.hir_scope.proofs.MemberLemmas.{In, in_contains, contains_in, in_map}

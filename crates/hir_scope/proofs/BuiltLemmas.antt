@@ -1,5 +1,5 @@
 -- What a walk that met all under some tops has made: each reached expression has a scope, with its frames as the scope's chain.
-use Rattle.std.proofs.Common.{◌≡◌, ◌↔◌, ℕ, ◌+◌, List, [], ◌∷◌, ◌++◌, map, length, refl, sym, ap, ◌∙◌, arith, subst, Option, Some, None, append-nil}
+use Rattle.std.proofs.Common.{◌≡◌, ◌↔◌, ℕ, ◌+◌, List, [], ◌++◌, map, length, refl, sym, ap, ◌∙◌, arith, subst, Option, Some, None, append-nil}
 use Rattle.std.specs.Prelude.{IsSome}
 use Rattle.std.specs.FinMap as finmap
 use Rattle.std.proofs.lemmas.List.{length-map}
@@ -9,10 +9,9 @@ use Rattle.hir_faults.specs.Nodes.{Nodes, Has}
 use Rattle.hir_expr_store.specs.Under.{Reached, reached_nodes}
 use Rattle.hir_scope.specs.Begins.{IsSound}
 use Rattle.hir_scope.specs.Built.{ChainsAreFrames, expr_count}
-use Rattle.hir_scope.specs.Chains.{Place, Stands, HasChain, within_own}
+use Rattle.hir_scope.specs.Chains.{Place, Stands, within_own}
 use Rattle.hir_scope.specs.Forms.{form_of}
-use Rattle.hir_scope.specs.Frames.{Chain}
-use Rattle.hir_scope.specs.Machine.{Machine, Given, Gone, HasFrames, IsRight, place_given, write_all, future_of, chain_of}
+use Rattle.hir_scope.specs.Machine.{Machine, Given, Gone, IsRight, place_given, write_all, future_of, chain_of}
 use Rattle.hir_scope.specs.Pending.{future}
 use Rattle.hir_scope.specs.PlacesUnder.{exprs_under}
 use Rattle.hir_scope.proofs.MemberLemmas.{In, in_map, map_in, in_all}

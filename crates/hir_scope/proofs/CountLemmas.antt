@@ -1,5 +1,5 @@
 -- What the frames of a node are, counted: as scopes, by its form; and as entries, by the patterns among its kids.
-use Rattle.std.proofs.Common.{◌≡◌, ℕ, zero, suc, ◌+◌, List, [], ◌∷◌, ◌++◌, map, length, refl, sym, ap, ◌∙◌, arith, append-nil, Option, Some, None, length-append}
+use Rattle.std.proofs.Common.{◌≡◌, ℕ, ◌+◌, List, [], ◌∷◌, ◌++◌, map, length, refl, sym, ap, ◌∙◌, arith, append-nil, Option, Some, None, length-append}
 use Rattle.std.specs.List.{flat_map, sum_by}
 use Rattle.std.proofs.lemmas.List.Sums.{sum_by-append, sum_by-cons}
 use Rattle.std.proofs.lemmas.List.Concat.{flat_map-append}
@@ -10,7 +10,7 @@ use Rattle.hir_path.specs.declared.bound.UseArgRef.TheVariants as use_arg
 use Rattle.hir_path.specs.declared.path.GenericArgs.{GenericArgs}
 use Rattle.hir_path.specs.declared.path.Path.TheVariants as path
 use Rattle.hir_base.specs.declared.mod_path.PathKind.TheVariants.{Plain}
-use Rattle.hir_node.specs.ChildCalls.{Call, OnExpr, OnAnonConst, OnPat, OnType, OnLifetime, e, a, p, t, l, opt, kid, kids, pat_of_call, use_calls, bound_calls, args_calls, path_calls, spread_calls, array_calls, expr_calls, type_calls}
+use Rattle.hir_node.specs.ChildCalls.{Call, OnExpr, OnAnonConst, OnPat, OnType, OnLifetime, e, p, t, l, opt, pat_of_call, use_calls, bound_calls, args_calls, path_calls, spread_calls, array_calls}
 use Rattle.hir_node.specs.declared.expr_types.Array.{Array}
 use Rattle.hir_node.specs.declared.expr_types.Array.TheVariants as array
 use Rattle.hir_node.specs.declared.expr_types.RecordSpread.{RecordSpread}
@@ -31,12 +31,12 @@ use Rattle.hir_scope.specs.declared.tasks.Around.{Around}
 use Rattle.hir_scope.specs.declared.tasks.Task.{Task}
 use Rattle.hir_scope.specs.declared.tasks.Task.TheVariants as task
 use Rattle.hir_scope.specs.Counts.{count_if_there, statement_scopes, form_scopes}
-use Rattle.hir_scope.specs.Frames.{Frame, binds, frame, of_kind, empty}
+use Rattle.hir_scope.specs.Frames.{Frame, binds, frame}
 use Rattle.hir_scope.specs.Forms.{ScopingForm, expr_form, type_form}
 use Rattle.hir_scope.specs.Forms as form
 use Rattle.hir_scope.specs.Machine.{about, one, count_entries}
 use Rattle.hir_scope.specs.Pending.{tasks_of, arm_task, guarded_task, leave, statement_tasks, closure_calls, form_tasks, opens_here, opens_constant, task_kids, task_frames}
-use Rattle.hir_scope.specs.Slots.{own_frame, block_constants, loop_kind}
+use Rattle.hir_scope.specs.Slots.{block_constants}
 use Rattle.hir_scope.proofs.SumLemmas.{sum_flat, sum_plus, sum_same}
 
 -- the frames that a form opens, as it is met and by its tasks

@@ -1,13 +1,13 @@
 -- Each entry is in one frame: what is told of entries over all nodes under a node is what its frames hold, and, of a pattern, what it binds.
-use Rattle.std.proofs.Common.{◌≡◌, ℕ, zero, suc, ◌+◌, ◌<◌, List, [], ◌∷◌, ◌++◌, map, length, refl, sym, ap, ◌∙◌, arith, subst, inl, inr, ⊎_elim, Option, Some, None, Contains, true, Bool, length-append}
+use Rattle.std.proofs.Common.{◌≡◌, ℕ, zero, suc, ◌+◌, ◌<◌, List, [], ◌∷◌, ◌++◌, length, refl, sym, ap, ◌∙◌, arith, subst, inl, inr, ⊎_elim, Option, Some, None, true, length-append}
 use Rattle.std.specs.List.{flat_map, slice_get, sum_by, list_all}
 use Rattle.std.specs.Prelude.{nat_lt}
 use Rattle.std.specs.Cmp.{first_so, second_so}
 use Rattle.std.proofs.lemmas.Bool.{ltb-true}
-use Rattle.std.proofs.lemmas.List.Sums.{sum_by-append, sum_by-cons}
-use Rattle.std.proofs.lemmas.List.Concat.{flat_map-append, length-flat_map}
+use Rattle.std.proofs.lemmas.List.Sums.{sum_by-cons}
+use Rattle.std.proofs.lemmas.List.Concat.{length-flat_map}
 use Rattle.std.proofs.lemmas.List.Sorted.{sum_by-IsPermutation}
-use Rattle.hir_node.specs.ChildCalls.{Call, OnExpr, OnAnonConst, OnPat, OnType, OnLifetime, kid, kids, pat_of_call, expr_calls, pat_calls, type_calls, opt}
+use Rattle.hir_node.specs.ChildCalls.{Call, OnExpr, OnAnonConst, OnPat, OnType, OnLifetime, kids, pat_of_call, pat_calls}
 use Rattle.hir_node.specs.OtherIds.{pat_bindings}
 use Rattle.hir_node.specs.declared.binding.Binding.{Binding}
 use Rattle.hir_node.specs.declared.expr.Expr.{Expr}
@@ -16,7 +16,7 @@ use Rattle.hir_node.specs.declared.type_ref.TypeRef.{TypeRef}
 use Rattle.hir_node.specs.declared.node_id.NodeId.{NodeId}
 use Rattle.hir_node.specs.declared.node_id.NodeId.TheVariants as node
 use Rattle.hir_faults.specs.Down.{rank, KidsFall}
-use Rattle.hir_faults.specs.Nodes.{Nodes, Has, kids_of, calls_of, sizes_of}
+use Rattle.hir_faults.specs.Nodes.{Nodes, Has, kids_of, calls_of}
 use Rattle.hir_faults.specs.Sound.{IsSoundNode}
 use Rattle.hir_faults.specs.Tested.{all_of, tested_pat}
 use Rattle.hir_expr_store.specs.PatLists.{pats, bindings_at, bindings_in, child_pats_of}
@@ -29,10 +29,10 @@ use Rattle.hir_scope.specs.Pending.{form_tasks}
 use Rattle.hir_scope.specs.Slots.{slots}
 use Rattle.hir_scope.specs.declared.tasks.Around.{Around}
 use Rattle.hir_scope.proofs.CountLemmas.{MeetsNone, expr_meets, type_meets, bound_by, form_entries, turn_entries, form_frames}
-use Rattle.hir_scope.proofs.KidLemmas.{met_in_form, kids_of_form}
-use Rattle.hir_scope.proofs.MemberLemmas.{In, in_contains, contains_in, flat_map_in}
+use Rattle.hir_scope.proofs.KidLemmas.{kids_of_form}
+use Rattle.hir_scope.proofs.MemberLemmas.{In, contains_in, flat_map_in}
 use Rattle.hir_scope.proofs.SlotLemmas.{kids_in, slots_kids}
-use Rattle.hir_scope.proofs.SumLemmas.{sum_flat, sum_same, sum_plus}
+use Rattle.hir_scope.proofs.SumLemmas.{sum_same, sum_plus}
 use Rattle.hir_scope.proofs.TaskLemmas.{about_form}
 use Rattle.hir_scope.proofs.TotalLemmas.{total_at}
 

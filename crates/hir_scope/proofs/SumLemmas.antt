@@ -1,5 +1,5 @@
 -- Sums over what is reached, however it is listed: by nodes, by places, or told from each node by its kids.
-use Rattle.std.proofs.Common.{◌≡◌, ℕ, zero, suc, ◌+◌, ◌<◌, List, [], ◌∷◌, ◌++◌, map, length, refl, sym, ap, ◌∙◌, arith, subst, inl, inr, Bool, true, false, cond}
+use Rattle.std.proofs.Common.{◌≡◌, ℕ, zero, suc, ◌+◌, ◌<◌, List, [], ◌∷◌, map, length, refl, sym, ap, ◌∙◌, arith, inl, inr, Bool, true, false, cond}
 use Rattle.std.specs.List.{flat_map, filter, sum_by}
 use Rattle.std.proofs.lemmas.List.Sums.{sum_by-append, sum_by-cons}
 use Rattle.std.proofs.lemmas.List.Sorted.{sum_by-IsPermutation}
@@ -11,7 +11,7 @@ use Rattle.hir_scope.specs.Built.{expr_count}
 use Rattle.hir_scope.specs.Slots.{Slot, slots}
 use Rattle.hir_scope.specs.Chains.{Place, place_kid, places_of_kids}
 use Rattle.hir_scope.specs.PlacesUnder.{places_under, is_expr, exprs_under}
-use Rattle.hir_scope.proofs.MemberLemmas.{In, in_contains, contains_in}
+use Rattle.hir_scope.proofs.MemberLemmas.{In, contains_in}
 use Rattle.hir_scope.proofs.StepLemmas.{under_at}
 use Rattle.hir_scope.proofs.SlotLemmas.{kids_in, slots_kids}
 use Rattle.hir_scope.specs.Machine.{total}

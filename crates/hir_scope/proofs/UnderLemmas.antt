@@ -1,9 +1,9 @@
 -- What is listed under some tops is what stands in a place below them.
-use Rattle.std.proofs.Common.{◌≡◌, ℕ, zero, suc, ◌<◌, List, [], ◌∷◌, ◌↔◌, map, refl, sym, ap, ◌∙◌, arith, subst, inl, inr, ⊎_elim, true, Contains}
+use Rattle.std.proofs.Common.{◌≡◌, ℕ, zero, suc, ◌<◌, List, map, refl, sym, ap, arith, subst, inl, inr, ⊎_elim, Contains}
 use Rattle.std.specs.List.{flat_map}
 use Rattle.hir_node.specs.declared.node_id.NodeId.{NodeId}
 use Rattle.hir_node.specs.declared.node_id.NodeId.TheVariants as node
-use Rattle.hir_faults.specs.Nodes.{Nodes, Has, kids_of}
+use Rattle.hir_faults.specs.Nodes.{Nodes, Has}
 use Rattle.hir_faults.specs.Down.{rank, KidsFall}
 use Rattle.hir_scope.specs.Chains.{Place, places_of_kids, Stands, top, kid}
 use Rattle.hir_scope.specs.PlacesUnder.{places_under, is_expr, exprs_under}

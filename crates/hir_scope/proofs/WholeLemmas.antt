@@ -1,11 +1,11 @@
 -- What the whole walk over a body or a signature has made: its scopes, with the counts of scopes and entries, in a step for each expression.
-use Rattle.std.proofs.Common.{◌≡◌, ℕ, ◌+◌, List, [], ◌∷◌, length, refl, sym, ap, ◌∙◌, subst, ◌<◌, arith, Contains}
+use Rattle.std.proofs.Common.{◌≡◌, ℕ, ◌+◌, List, [], length, refl, sym, ap, ◌∙◌, subst, ◌<◌, arith, Contains}
 use Rattle.std.specs.Prelude.{IfSome}
 use Rattle.hir_node.specs.declared.node_id.NodeId.{NodeId}
 use Rattle.hir_faults.specs.Nodes.{Nodes, Has}
 use Rattle.hir_expr_store.specs.Contents.{Contents}
 use Rattle.hir_items.specs.Bodies.{BodyContents, AreBelow, body_nodes, tops}
-use Rattle.hir_items.specs.Signatures.{root_tops, signature_nodes}
+use Rattle.hir_items.specs.Signatures.{root_tops}
 use Rattle.hir_scope.specs.declared.tasks.Task.{Task}
 use Rattle.hir_scope.specs.Begins.{IsSound, root_entries, body_begins, signature_begins}
 use Rattle.hir_scope.specs.Built.{tops_of_body, tops_of_signature, AreBodyScopes, AreSignatureScopes, BodyIsTooLarge, SignatureIsTooLarge, limit, expr_count}

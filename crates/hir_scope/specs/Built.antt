@@ -1,5 +1,5 @@
 -- The scopes of a body or a signature: which expressions have one, what stands along its chain, and how many scopes and entries there are.
-use Rattle.std.specs.Prelude.{◌≡◌, ◌↔◌, ◌<◌, ◌⊎◌, ℕ, List, Option, Some, IsSome, length}
+use Rattle.std.specs.Prelude.{◌≡◌, ◌↔◌, ◌<◌, ◌⊎◌, ℕ, List, Some, IsSome, length}
 use Rattle.std.specs.List.{filter}
 use Rattle.std.specs.Option.{option_map}
 use Rattle.std.specs.FinMap as map

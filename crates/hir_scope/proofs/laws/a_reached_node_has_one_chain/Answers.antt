@@ -1,4 +1,4 @@
-use Rattle.std.proofs.Common.{sym, subst, length, ap, arith, ◌<◌, ℕ}
+use Rattle.std.proofs.Common.{sym, subst, arith}
 use Rattle.std.proofs.lemmas.List.{length-map}
 use Rattle.hir_forest.specs.Faults.{root_nodes}
 use Rattle.hir_expr_store.specs.Under.{LieApart}

@@ -1,4 +1,4 @@
-use Rattle.std.proofs.Common.{arith, ◌<◌}
+use Rattle.std.proofs.Common.{arith}
 use Rattle.std.proofs.lemmas.List.{length-map}
 use Rattle.hir_forest.specs.Faults.{root_nodes}
 use Rattle.hir_scope.proofs.BeginLemmas.{roots_there}
