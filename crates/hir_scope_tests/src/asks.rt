@@ -70,7 +70,14 @@ fn is_so_deep(scopes: &ExprScopes, expr: ExprId, depth: usize) -> bool {
     let Some(first) = scopes.scope_for(expr) else {
         return false;
     };
-    scopes.scope_chain(Some(first)).count() == depth
+    let mut left = Some(depth);
+    for _ in scopes.scope_chain(Some(first)) {
+        left = match left {
+            Some(n) => n.checked_sub(1),
+            None => None,
+        };
+    }
+    left == Some(0)
 }
 
 /// The binding that the name with this hygiene means at the expression; None where the expression has no scope.

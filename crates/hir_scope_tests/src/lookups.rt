@@ -113,22 +113,43 @@ fn count(outcome: Result<ExprScopes, ScopesFault>) -> Result<usize, ScopesFault>
     Ok(scopes.scope_count())
 }
 
+fn body_of(number: u32) -> DefWithBodyId {
+    DefWithBodyId::FunctionId(FunctionId::from_raw(number))
+}
+
+fn signature_of(number: u32) -> GenericDefId {
+    GenericDefId::TraitId(TraitId::from_raw(number))
+}
+
+fn fields_of(number: u32) -> VariantId {
+    VariantId::StructId(StructId::from_raw(number))
+}
+
+fn owner_of_fields(number: u32) -> ExpressionStoreOwnerId {
+    ExpressionStoreOwnerId::VariantFields(fields_of(number))
+}
+
 /// How many scopes the body of the function, the signature of the trait and the fields of the struct of this number have.
 fn counts(tables: &Tables, alloc: Global, number: u32) -> [Result<usize, ScopesFault>; 6] {
-    let body = DefWithBodyId::FunctionId(FunctionId::from_raw(number));
-    let signature = GenericDefId::TraitId(TraitId::from_raw(number));
-    let variant = VariantId::StructId(StructId::from_raw(number));
     [
-        count(ExprScopes::body_expr_scopes(alloc, tables, body)),
-        count(ExprScopes::of(alloc, tables, body)),
-        count(ExprScopes::sig_expr_scopes(alloc, tables, signature)),
-        count(ExprScopes::of(alloc, tables, signature)),
-        count(ExprScopes::variant_scopes(alloc, tables, variant)),
-        count(ExprScopes::of(
+        count(ExprScopes::body_expr_scopes(
             alloc,
             tables,
-            ExpressionStoreOwnerId::VariantFields(variant),
+            body_of(number),
         )),
+        count(ExprScopes::of(alloc, tables, body_of(number))),
+        count(ExprScopes::sig_expr_scopes(
+            alloc,
+            tables,
+            signature_of(number),
+        )),
+        count(ExprScopes::of(alloc, tables, signature_of(number))),
+        count(ExprScopes::variant_scopes(
+            alloc,
+            tables,
+            fields_of(number),
+        )),
+        count(ExprScopes::of(alloc, tables, owner_of_fields(number))),
     ]
 }
 
