@@ -1,12 +1,7 @@
 pub mod Scripts
 pub mod Making
 pub mod Failing
-pub mod Failures
-pub mod Answering
-pub mod Sections
-pub mod Ending
-pub mod Asked
-pub mod Meanings
-pub mod Writing
+pub mod CourseLemmas
+pub mod WritingLemmas
 pub mod Texts
 pub mod Children

@@ -4,7 +4,7 @@ use Rattle.hir_io.specs.Reads.{Reads}
 use Rattle.hir_run.specs.Made.{made_of}
 use Rattle.hir_run.specs.Stages.{Makes}
 use Rattle.hir_run.proofs.Scripts.{Tells}
-use Rattle.hir_run.proofs.stages.build.Given as goal
+use Rattle.hir_run.proofs.building.build.Given as goal
 
 abbrev pub invariant-loop-lines : goal.invariant-loop-lines
 invariant-loop-lines g l = record {

@@ -6,7 +6,7 @@ use Rattle.hir_run.proofs.Failing.{build_fails, build_line_fails}
 use Rattle.hir_run.specs.Made.{made_of, nothing_made}
 use Rattle.hir_run.proofs.Scripts.{tells_nothing}
 use Rattle.hir_run.proofs.Making.{Makes-none, makes_line, asks_line}
-use Rattle.hir_run.proofs.stages.build.Goals as goal
+use Rattle.hir_run.proofs.building.build.Goals as goal
 
 pub loop-lines-init : goal.loop-lines-init
 loop-lines-init g c = record {
