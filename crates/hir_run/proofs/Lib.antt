@@ -2,6 +2,13 @@ pub mod Scripts
 pub mod Making
 pub mod Failing
 pub mod CourseLemmas
+pub mod QuestionLemmas
+pub mod SectionLemmas
+pub mod AskedLemmas
+pub mod EndingLemmas
+pub mod ClosingLemmas
+pub mod ScriptLemmas
+pub mod MeaningLemmas
 pub mod WritingLemmas
 pub mod Texts
 pub mod Children

@@ -47,3 +47,8 @@ Puts-by old new false false w v bytes (Ok x) e ok err mark = ok
 Puts-by old new false true w v bytes (Ok x) e ok err mark = cc
 Puts-by old new false false w v bytes (Err x) e ok err mark = cc
 Puts-by old new false true w v bytes (Err x) e ok err mark = err
+
+-- the same, by the sink
+pub put_then : {W : Type 0} (contents : W → Option (List ℕ)) (failed : W → Bool) (old mid new : W) (w v u bytes more : List ℕ) → Puts (contents old) (failed old) w (contents mid) (failed mid) v bytes → Puts (contents mid) (failed mid) v (contents new) (failed new) u more → Puts (contents old) (failed old) w (contents new) (failed new) u (bytes ++ more)
+put_then contents failed old mid new w v u bytes more p q =
+    Puts-then (contents old) (contents mid) (contents new) (failed old) (failed mid) (failed new) w v u bytes more p q

@@ -61,6 +61,11 @@ Course = List ℕ → Outcome → Type 0
 abbrev pub writes : List ℕ → Outcome → Course
 writes bytes end text outcome = (text ≡ bytes) × (outcome ≡ end)
 
+-- one course or another
+abbrev pub if_so : Bool → Course → Course → Course
+if_so true course other = course
+if_so false course other = other
+
 -- behind so many good lines comes one that may not stand there, or none
 abbrev pub stops : ℕ → List Line → Course
 stops good [] = writes [] (Ok tt)
@@ -104,7 +109,7 @@ on_body made good script =
 abbrev pub behind_store : Made → ℕ → List Line → Course
 behind_store made good [] = stops good []
 behind_store made good (line ∷ rest) =
-    if asks line then on_body made good (line ∷ rest) else stops good (line ∷ rest)
+    if_so (asks line) (on_body made good (line ∷ rest)) (stops good (line ∷ rest))
 
 -- the section from the first question on: the builder's first fault is looked for, and questions on the store are answered
 abbrev pub on_store : Made → ℕ → List Line → Course
@@ -116,7 +121,7 @@ on_store made good script =
 abbrev pub behind_making : Course → Made → ℕ → List Line → Course
 behind_making idle made good [] = idle
 behind_making idle made good (line ∷ rest) =
-    if asks line then on_store made good (line ∷ rest) else stops good (line ∷ rest)
+    if_so (asks line) (on_store made good (line ∷ rest)) (stops good (line ∷ rest))
 
 -- the lines before the first question
 unfoldable pub making : List Line → List Line

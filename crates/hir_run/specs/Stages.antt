@@ -10,6 +10,8 @@ use Rattle.hir_lines.specs.declared.line.Line.TheVariants.{Blank, Make, Ask, Bad
 use Rattle.hir_lines.specs.declared.line.Maker.{Maker}
 use Rattle.hir_lines.specs.declared.line.Question.{Question}
 use Rattle.hir_lines.specs.Line.{line_of}
+use Rattle.hir_faults.specs.declared.fault.FinishFault.{FinishFault}
+use Rattle.hir_items.specs.declared.body_fault.BodyFault.{BodyFault}
 use Rattle.hir_items.specs.Bodies.{BodyContents, body_fault}
 use Rattle.hir_expr_store.specs.Contents.{Contents}
 use Rattle.hir_store.specs.Building.{Building, contents_of, finish_fault}
@@ -81,13 +83,13 @@ BuildsLine lines old new result = BuildsBy (line_of lines.line) lines.count old 
 abbrev pub Finishes : Building → Result Contents RunFault → Type 0
 Finishes built result =
     Ends (λ store. (store ≡ contents_of built) × finish_fault built None) (λ number. ⊥)
-    (λ fault. (first : _) × (fault ≡ Refused first) × finish_fault built (Some first)) ⊥ ⊥ ⊤ result
+    (λ fault. (first : FinishFault) × (fault ≡ Refused first) × finish_fault built (Some first)) ⊥ ⊥ ⊤ result
 
 -- what the parts of a body give: the body; or they have this first fault, or memory was refused
 abbrev pub IsMadeBody : BodyContents → Result BodyContents RunFault → Type 0
 IsMadeBody parts result =
     Ends (λ body. (body ≡ parts) × body_fault parts None) (λ number. ⊥)
-    (λ fault. (first : _) × (fault ≡ BodyRefused first) × body_fault parts (Some first)) ⊥ ⊥ ⊤ result
+    (λ fault. (first : BodyFault) × (fault ≡ BodyRefused first) × body_fault parts (Some first)) ⊥ ⊥ ⊤ result
 
 -- what a question is answered with: one line, put behind what waits. Or it may not be asked here, and is handed back
 abbrev pub Replies : (Question → Bool) → (Question → List ℕ → Type 0) → Question → Option (List ℕ) → Bool → List ℕ →

@@ -114,9 +114,9 @@ pub(crate) fn answer_lines<A: Answers, R: Source, W: Sink>(
         return Ok(left);
     }
     while next_line(lines, reader, output, writer)? {
-        let left = answer_next(alloc, asked, lines, output, writer)?;
-        if left.is_some() {
-            return Ok(left);
+        let later = answer_next(alloc, asked, lines, output, writer)?;
+        if later.is_some() {
+            return Ok(later);
         }
     }
     Ok(None)

@@ -132,8 +132,8 @@ impl From<RefusedBody> for RunFault {
     ghost from_gives = { λ refused failure. failure ≡ fault_of_body refused.fault };
 
     fn from(refused: RefusedBody) -> RunFault {
-        let fault = refused.fault;
+        let reason = refused.fault;
         drop(refused);
-        RunFault::from(fault)
+        RunFault::from(reason)
     }
 }

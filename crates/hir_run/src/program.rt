@@ -1,7 +1,6 @@
 //! The program: lines in, answers out.
 
-ghost use Rattle.std.specs.Prelude.{◌≡◌, ◌++◌, ℕ, [], false, codes};
-ghost use Rattle.hir_io.specs.LineState.{LineState};
+ghost use Rattle.std.specs.Prelude.{◌≡◌, ◌||◌, ℕ, [], false};
 ghost use Rattle.hir_store.specs.Building.{building_of};
 ghost use Rattle.hir_run.specs.Outcomes.{is_input_failed, is_output_failed};
 ghost use Rattle.hir_run.specs.Run.{RunsTo};
@@ -60,14 +59,18 @@ fn answer_script<R: Source, W: Sink>(
         self_param,
     } = made.into_parts();
     let store = finished(builder)?;
-    let Some(on_store) = first else {
-        return accept(output, writer);
+    let on_store = match first {
+        Some(on_store) => on_store,
+        None => return accept(output, writer),
     };
-    let Some(on_body) = answer_lines(alloc, &store, on_store, lines, reader, output, writer)? else {
-        return Ok(());
+    let left = answer_lines(alloc, &store, on_store, lines, reader, output, writer)?;
+    let on_body = match left {
+        Some(on_body) => on_body,
+        None => return Ok(()),
     };
     let body = ScopedBody::new(alloc, store, params, self_param)?;
-    match answer_lines(alloc, &body, on_body, lines, reader, output, writer)? {
+    let unasked = answer_lines(alloc, &body, on_body, lines, reader, output, writer)?;
+    match unasked {
         None => Ok(()),
         Some(_) => unreachable!(),
     }

@@ -1,11 +1,11 @@
 //! A body with its scopes, and the answers to questions on it.
 
-ghost use Rattle.std.specs.Prelude.{◌≡◌, ◌<◌, ◌∷◌, ◌++◌, Some, codes, length};
-ghost use Rattle.std.specs.Fmt.{decimal};
+ghost use Rattle.std.specs.Prelude.{◌≡◌, ◌<◌, ◌∷◌, ℕ, List, Option, Some, length};
 ghost use Rattle.hir_items.specs.Bodies.{body_of};
+ghost use Rattle.hir_scope.specs.Frames.{Chain};
 ghost use Rattle.hir_scope.specs.Paths.{chain, frame_at};
 ghost use Rattle.hir_scope.specs.Resolution.{resolve, entries_of};
-ghost use Rattle.hir_run.specs.Answer.{IsBodyAnswer, entry_text, names_text, of_source, resolved_text};
+ghost use Rattle.hir_run.specs.Answer.{IsBodyAnswer, IsChainOf, chain_text, names_text, of_source, resolve_text, resolved_text};
 ghost use Rattle.hir_run.specs.Puts.{Puts};
 ghost use Rattle.hir_run.specs.Stages.{IsMadeBody};
 
@@ -35,6 +35,11 @@ impl Model for ScopedBody {
     ghost use Rattle.hir_scope.specs.Built.{AreBodyScopes};
 
     ghost Value = { BodyContents };
+
+    ghost use Rattle.std.specs.Coded.{codes};
+    ghost use Rattle.hir_expr_store.specs.contracts.store.ExpressionStore as stored;
+
+    ghost coded = { Prim.hlevel (codes, stored.the_row.coded) };
 
     ghost view = { λ s. s.body };
 
@@ -87,7 +92,7 @@ fn put_scope<W: Sink>(
     }
 }
 
-/// Puts the names of a chain, innermost first.
+/// Puts the names of a scope's chain, innermost first.
 fn put_chain<W: Sink>(
     scopes: &ExprScopes,
     scope: ScopeId,
@@ -96,10 +101,8 @@ fn put_chain<W: Sink>(
 )
     requires { scope < length scopes.now.scopes }
     ensures { Puts (W.contents writer.old) (W.failed writer.old) output.old (W.contents writer.new)
-        (W.failed writer.new) output.new
-        (codes " =" ++ names_text (entries_of (chain scopes.now.scopes (Some scope)))) }
+        (W.failed writer.new) output.new (names_text (entries_of (chain scopes.now.scopes (Some scope)))) }
 {
-    put(b" =", output, writer);
     for around in scopes.scope_chain(Some(scope)) {
         put_scope(scopes, around, output, writer);
     }
@@ -128,8 +131,6 @@ fn put_resolved<W: Sink>(
 }
 
 impl ScopedBody {
-    ghost use Rattle.std.specs.Prelude.{IfOk, Ok, Err};
-
     /// The body of these parts with its scopes, or why there is none.
     pub(crate) fn new(
         alloc: Global,
@@ -147,16 +148,45 @@ impl ScopedBody {
         }
     }
 
+    /// Puts what is known of an expression: the names of its chain, or that it isn't reached.
+    fn put_known<W: Sink>(&self, id: ExprId, output: &mut OutputBuffer, writer: &mut W)
+        ensures { (known : Option Chain) × IsChainOf self.now id known
+            × Puts (W.contents writer.old) (W.failed writer.old) output.old (W.contents writer.new)
+            (W.failed writer.new) output.new (chain_text known) }
+    {
+        let Some(scope) = self.scopes.scope_for(id) else {
+            put(b" unreached", output, writer);
+            return;
+        };
+        put(b" =", output, writer);
+        put_chain(&self.scopes, scope, output, writer);
+    }
+
+    /// Puts the binding that a name means at an expression, or that the expression isn't reached.
+    fn put_meaning<W: Sink>(
+        &self,
+        id: ExprId,
+        name: &Name,
+        output: &mut OutputBuffer,
+        writer: &mut W,
+    )
+        ensures { (known : Option Chain) × IsChainOf self.now id known
+            × Puts (W.contents writer.old) (W.failed writer.old) output.old (W.contents writer.new)
+            (W.failed writer.new) output.new (resolve_text known name.now) }
+    {
+        match self.scopes.scope_for(id) {
+            Some(scope) => put_resolved(&self.scopes, scope, name, output, writer),
+            None => put(b" unreached", output, writer),
+        }
+    }
+
     fn answer_chain<W: Sink>(&self, id: ExprId, output: &mut OutputBuffer, writer: &mut W)
         ensures { (text : List ℕ) × IsBodyAnswer self.now (BodyQuestion.Chain id) text
             × Puts (W.contents writer.old) (W.failed writer.old) output.old (W.contents writer.new)
             (W.failed writer.new) output.new text }
     {
         put_asked(b"chain ", id, output, writer);
-        match self.scopes.scope_for(id) {
-            Some(scope) => put_chain(&self.scopes, scope, output, writer),
-            None => put(b" unreached", output, writer),
-        }
+        self.put_known(id, output, writer);
         put(b"\n", output, writer);
     }
 
@@ -173,10 +203,7 @@ impl ScopedBody {
     {
         put_asked(b"resolve ", id, output, writer);
         put_name(name, output, writer);
-        match self.scopes.scope_for(id) {
-            Some(scope) => put_resolved(&self.scopes, scope, name, output, writer),
-            None => put(b" unreached", output, writer),
-        }
+        self.put_meaning(id, name, output, writer);
         put(b"\n", output, writer);
     }
 

@@ -69,4 +69,5 @@ returns-clause-builds g c =
     let so_far = c.loop-lines.invariant.so_far in
     let told = c.in_ok-next_line.ensures {u = tt} in
     let ended = rw c.if-branch.false at told.takes in
-    (so_far.0, so_far.1, ReadsAll-end _ _ so_far.0 _ so_far.3 ended.0)
+    let counted = rw c.if-branch.false at told.count in
+    (so_far.0, so_far.1, ReadsAll-end _ _ so_far.0 _ so_far.3 ended.0, omega (arith, so_far.4))

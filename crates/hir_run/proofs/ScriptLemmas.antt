@@ -1,0 +1,100 @@
+-- What a run over its lines comes to, by the part that ends it.
+use Rattle.std.proofs.Common.{◌≡◌, ℕ, List, [], Option, None, Some, Result, Ok, Err, inl, refl, sym, append-nil}
+use Rattle.std.specs.Io.KnownBytes.{Appends}
+use Rattle.hir_io.specs.Text.{lines}
+use Rattle.hir_io.specs.Ends.{IsWrittenUpTo}
+use Rattle.hir_io.specs.LineState.{LineState}
+use Rattle.hir_io.proofs.EndLemmas.{IsWrittenUpTo-start}
+use Rattle.hir_lines.specs.declared.line.Question.{Question}
+use Rattle.hir_expr_store.specs.Contents.{Contents}
+use Rattle.hir_store.specs.Building.{contents_of}
+use Rattle.hir_items.specs.Bodies.{BodyContents, body_of}
+use Rattle.hir_run.specs.declared.fault.RunFault.{RunFault}
+use Rattle.hir_run.specs.declared.fault.RunFault.TheVariants.{OutOfMemory}
+use Rattle.hir_run.specs.Made.{Made, body_parts}
+use Rattle.hir_run.specs.Answer.{IsStoreAnswer, IsAnswer}
+use Rattle.hir_run.specs.Program.{Outcome, any_question, is_of_store, section, stops, behind_store, on_body}
+use Rattle.hir_run.specs.Run.{RunsTo}
+use Rattle.hir_run.specs.Stages.{Builds, Finishes, IsMadeBody, Accepts, Asks, AsksUpTo, RunsUpTo}
+use Rattle.hir_run.proofs.QuestionLemmas.{StandsAt}
+use Rattle.hir_run.proofs.SectionLemmas.{section_done, section_ends, section_left}
+use Rattle.hir_run.proofs.EndingLemmas.{answers-alone, build_ends, built_at, finish_ends, accept_ends, body_ends, store_end, store_bad, stops_end, stops_bad, at_store, at_body, in_body}
+
+nothing_appended : (known : Option (List ℕ)) → Appends known known []
+nothing_appended None = tt
+nothing_appended (Some bytes) = sym (append-nil bytes)
+
+-- memory is refused before any line is read
+pub runs_out_first : (known old remaining : Option (List ℕ)) (count : ℕ) → count ≡ 0 → RunsTo known old remaining old count (Err OutOfMemory)
+runs_out_first None old remaining count none = tt
+runs_out_first (Some input) old remaining count none =
+    ([], lines input, refl, inl none, [], answers-alone [] refl, nothing_appended old)
+
+-- the lines that make end early
+pub script_build : (known rest remaining old : Option (List ℕ)) (ls : LineState) (built : Made) (fault : RunFault) → Builds known rest remaining ls built (Err fault) → RunsUpTo known old remaining old [] ls.count (Err fault)
+script_build None rest remaining old ls built fault b = tt
+script_build (Some input) rest remaining old ls built fault b = build_ends input rest old ls built remaining fault b
+
+-- what was made is refused
+pub script_finish : (known rest remaining old : Option (List ℕ)) (ls : LineState) (built : Made) (first : Option Question) (fault : RunFault) → Builds known rest remaining ls built (Ok first) → Finishes built.built (Err fault) → RunsUpTo known old remaining old [] ls.count (Err fault)
+script_finish None rest remaining old ls built first fault b f = tt
+script_finish (Some input) rest remaining old ls built first fault b f = finish_ends input rest old ls built remaining first fault b f
+
+-- there is no question
+pub script_accept : (known rest remaining old new : Option (List ℕ)) (waiting : List ℕ) (ls : LineState) (built : Made) (store : Contents) (outcome : Outcome) → Builds known rest remaining ls built (Ok None) → Finishes built.built (Ok store) → Accepts old [] new waiting outcome → RunsUpTo known old remaining new waiting ls.count outcome
+script_accept None rest remaining old new waiting ls built store outcome b f a = tt
+script_accept (Some input) rest remaining old new waiting ls built store outcome b f a = accept_ends input rest remaining old new waiting ls built outcome b f.1 a
+
+module _ (rest remaining old : Option (List ℕ)) (ls : LineState) (built : Made) (question : Question) (store : Contents) (f : Finishes built.built (Ok store)) where
+  module _ (input : List ℕ) (b : Builds (Some input) rest remaining ls built (Ok (Some question))) where
+    asked_store : StandsAt input rest ls question (section is_of_store (IsStoreAnswer store) (behind_store built)) []
+    asked_store = rw f.0 (at_store input rest ls question built f.1 (built_at input rest old ls built remaining question b))
+
+    left_store : (rest' new : Option (List ℕ)) (waiting : List ℕ) (ls' : LineState) (left : Question) → AsksUpTo is_of_store (IsStoreAnswer store) rest rest' ls ls' old [] new waiting question (Some left) → (t : List ℕ) × StandsAt input rest' ls' left (on_body built) t × IsWrittenUpTo old new t waiting
+    left_store rest' new waiting ls' left a =
+        let stands = section_left input rest ls question is_of_store (IsStoreAnswer store) (behind_store built) [] asked_store (store_end built) (store_bad built) old old new [] waiting (IsWrittenUpTo-start old []) rest' ls' left a in
+        (stands.0, at_body input rest' ls' left built stands.0 stands.1, stands.2)
+
+  -- the questions on the store end early
+  pub script_store_ends : (known rest' remaining' new : Option (List ℕ)) (waiting : List ℕ) (ls' : LineState) (fault : RunFault) → Builds known rest remaining ls built (Ok (Some question)) → Asks is_of_store (IsStoreAnswer store) rest rest' remaining' ls ls' old [] new waiting question (Err fault) → RunsUpTo known old remaining' new waiting ls'.count (Err fault)
+  script_store_ends None rest' remaining' new waiting ls' fault b a = tt
+  script_store_ends (Some input) rest' remaining' new waiting ls' fault b a =
+      section_ends input rest ls question is_of_store (IsStoreAnswer store) (behind_store built) [] (asked_store input b) (store_end built) (store_bad built) old old new [] waiting (IsWrittenUpTo-start old []) rest' remaining' ls' fault a
+
+  -- no question is on the body
+  pub script_store_done : (known rest' remaining' new : Option (List ℕ)) (waiting : List ℕ) (ls' : LineState) → Builds known rest remaining ls built (Ok (Some question)) → AsksUpTo is_of_store (IsStoreAnswer store) rest rest' ls ls' old [] new waiting question None → RunsUpTo known old remaining' new waiting ls'.count (Ok tt)
+  script_store_done None rest' remaining' new waiting ls' b a = tt
+  script_store_done (Some input) rest' remaining' new waiting ls' b a =
+      section_done input rest ls question is_of_store (IsStoreAnswer store) (behind_store built) [] (asked_store input b) (store_end built) (store_bad built) old old new [] waiting (IsWrittenUpTo-start old []) rest' remaining' ls' a
+
+  module _ (rest' new : Option (List ℕ)) (waiting : List ℕ) (ls' : LineState) (left : Question) (a : AsksUpTo is_of_store (IsStoreAnswer store) rest rest' ls ls' old [] new waiting question (Some left)) where
+    -- the body is refused
+    pub script_body : (known remaining' : Option (List ℕ)) (fault : RunFault) → Builds known rest remaining ls built (Ok (Some question)) → IsMadeBody (body_of store built.params built.self_param) (Err fault) → RunsUpTo known old remaining' new waiting ls'.count (Err fault)
+    script_body None remaining' fault b m = tt
+    script_body (Some input) remaining' fault b m =
+        let stands = left_store input b rest' new waiting ls' left a in
+        body_ends input rest' remaining' ls' left built stands.0 (λ t. IsWrittenUpTo old new t waiting) _ fault stands.1 (rw f.0 at m) stands.2
+
+    module _ (body : BodyContents) (m : IsMadeBody (body_of store built.params built.self_param) (Ok body)) where
+      made_body : IsMadeBody (body_parts built) (Ok body)
+      made_body = rw f.0 at m
+
+      module _ (input : List ℕ) (b : Builds (Some input) rest remaining ls built (Ok (Some question))) where
+        asked_body : (t : List ℕ) × StandsAt input rest' ls' left (section any_question (IsAnswer body) stops) t × IsWrittenUpTo old new t waiting
+        asked_body =
+            let stands = left_store input b rest' new waiting ls' left a in
+            rw made_body.0 (stands.0, in_body input rest' ls' left built stands.0 made_body.1 stands.1, stands.2)
+
+      -- the questions on the body end early
+      pub script_body_ends : (known rest'' remaining'' new' : Option (List ℕ)) (waiting' : List ℕ) (ls'' : LineState) (fault : RunFault) → Builds known rest remaining ls built (Ok (Some question)) → Asks any_question (IsAnswer body) rest' rest'' remaining'' ls' ls'' new waiting new' waiting' left (Err fault) → RunsUpTo known old remaining'' new' waiting' ls''.count (Err fault)
+      script_body_ends None rest'' remaining'' new' waiting' ls'' fault b d = tt
+      script_body_ends (Some input) rest'' remaining'' new' waiting' ls'' fault b d =
+          let stands = asked_body input b in
+          section_ends input rest' ls' left any_question (IsAnswer body) stops stands.0 stands.1 stops_end stops_bad old new new' waiting waiting' stands.2 rest'' remaining'' ls'' fault d
+
+      -- all lines are answered
+      pub script_body_done : (known rest'' remaining'' new' : Option (List ℕ)) (waiting' : List ℕ) (ls'' : LineState) → Builds known rest remaining ls built (Ok (Some question)) → AsksUpTo any_question (IsAnswer body) rest' rest'' ls' ls'' new waiting new' waiting' left None → RunsUpTo known old remaining'' new' waiting' ls''.count (Ok tt)
+      script_body_done None rest'' remaining'' new' waiting' ls'' b d = tt
+      script_body_done (Some input) rest'' remaining'' new' waiting' ls'' b d =
+          let stands = asked_body input b in
+          section_done input rest' ls' left any_question (IsAnswer body) stops stands.0 stands.1 stops_end stops_bad old new new' waiting waiting' stands.2 rest'' remaining'' ls'' d
