@@ -21,6 +21,11 @@ use Rattle.hir_run.specs.Stages.{TakesLine, AsksLine, asked, HaveAnswers, Answer
 use Rattle.hir_run.proofs.Scripts.{says-push}
 use Rattle.hir_run.proofs.WritingLemmas.{IsWrittenUpTo-then, GrowsByFront-then, kept}
 
+-- the end isn't met now, so it wasn't before
+unmet_then : (was now : Bool) → (was ≡ true → now ≡ true) → now ≡ false → was ≡ false
+unmet_then false now stays unmet = refl
+unmet_then true now stays unmet = cc (stays refl)
+
 answers_push : (Is : Question → List ℕ → Type 0) (ls : List Line) (line : Line) (answers text : List ℕ) → AreAnswers Is ls answers → IsLineAnswer Is line text → AreAnswers Is (ls ++ line ∷ []) (answers ++ text)
 answers_push Is [] line answers text are is = rw are (text, [], is, refl, sym (append-nil text))
 answers_push Is (l ∷ ls) line answers text (first, more, at_first, rest, e) is =
@@ -70,19 +75,15 @@ module _ (may : Question → Bool) (Is : Question → List ℕ → Type 0) where
       pub none_left : (new : Option (List ℕ)) (waiting : List ℕ) → IsWrittenUpTo before new was waiting → Answered may Is (asked first texts) old waited new waiting
       none_left new waiting w = answered_kept new waiting w
 
-      open_before : (now : Bool) → (start.at_end ≡ true → now ≡ true) → now ≡ false → start.at_end ≡ false
-      open_before now stays open = by start.at_end stays
-        where
-          by : (then : Bool) → (then ≡ true → now ≡ true) → then ≡ false
-          by false stays = refl
-          by true stays = cc (stays refl)
+      unmet_before : ls.at_end ≡ false → start.at_end ≡ false
+      unmet_before unmet = unmet_then start.at_end ls.at_end stays unmet
 
       -- no line could be had
       pub fails_to_read : (rest remaining new : Option (List ℕ)) (waiting : List ℕ) (ls' : LineState) (fault : LineFault) → ls'.count ≡ ls.count + 0 → NextTakes mid_known rest remaining ls ls' (Err fault) → NextWrites before new was waiting (Err fault) → Asks may Is known rest remaining start ls' old waited new waiting first (Err (fault_of_line fault))
       fails_to_read rest remaining new waiting ls' line.OutOfMemory counted takes writes =
           inl (texts, answered_kept new waiting (was, rw (writes.1) (sym (append-nil was)), writes.0), ReadsFront-now known mid_known texts ls.at_end read, inl (omega (arith, count, counted)))
       fails_to_read rest remaining new waiting ls' line.InputFailed counted takes writes =
-          (texts, answered_kept new waiting (was, rw (writes.1) (sym (append-nil was)), writes.0), open_before ls.at_end stays takes.1, ReadsUntilFailure-now known mid_known remaining texts ls'.pending ls.at_end read takes.1 takes.0)
+          (texts, answered_kept new waiting (was, rw (writes.1) (sym (append-nil was)), writes.0), unmet_before takes.1, ReadsUntilFailure-now known mid_known remaining texts ls'.pending ls.at_end read takes.1 takes.0)
       fails_to_read rest remaining new waiting ls' line.OutputFailed counted takes writes =
           (texts, so_far.0, so_far.1, ReadsFront-now known mid_known texts ls.at_end read, (rw append-nil at (GrowsByFront-then old before new (waited ++ so_far.0) [] was so_far.2 (rw (← append-nil was) at writes.0))), writes.1)
 

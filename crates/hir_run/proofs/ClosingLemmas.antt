@@ -48,7 +48,7 @@ module _ (input : List ℕ) (remaining old mid new : Option (List ℕ)) (waiting
   closes_well (Err (BodyRefused fault)) (text, means, w) a idle = (text, means, closed old mid new text waiting w a)
   closes_well (Err InputFailed) (texts, begun, unread, short, left, text, has, w) a idle =
       (texts, begun, unread, short, left, text, has, closed old mid new text waiting w a)
-  closes_well (Err OutputFailed) (text, of, grows, none) a idle = (text, of, rw (idle none) grows)
+  closes_well (Err OutputFailed) (text, of, (grows, none)) a idle = (text, of, rw (idle none) grows)
   closes_well (Err OutOfMemory) (texts, more, every, at, text, has, w) a idle =
       (texts, more, every, at, text, has, closed old mid new text waiting w a)
 
@@ -59,7 +59,7 @@ module _ (input : List ℕ) (remaining old mid new : Option (List ℕ)) (waiting
   closes_ill (Err (BodyRefused fault)) (text, means, w) g some = (text, inr (_, means), cut old mid new text waiting w g)
   closes_ill (Err InputFailed) (texts, begun, unread, short, left, text, has, w) g some =
       (text, inl (texts, lines (begun ++ unread), first_lines input texts begun unread short, has), cut old mid new text waiting w g)
-  closes_ill (Err OutputFailed) (text, of, grows, none) g some = absurd (some none)
+  closes_ill (Err OutputFailed) (text, of, (grows, none)) g some = absurd (some none)
   closes_ill (Err OutOfMemory) (texts, more, every, at, text, has, w) g some =
       (text, inl (texts, more, every, has), cut old mid new text waiting w g)
 
@@ -72,47 +72,47 @@ closes None remaining old mid new waiting count outcome result r c = tt
 closes (Some input) remaining old mid new waiting count outcome result r c = closes_told input remaining old mid new waiting count outcome result r c
 
 -- a fault is told of a run as it is of a part
-pub reads_as : {X Y : Type 0} (e : RunFault) → is_input_failed {X = X} (Err e) ≡ is_input_failed {X = Y} (Err e)
-reads_as (BadLine n) = refl
-reads_as (Refused fault) = refl
-reads_as (BodyRefused fault) = refl
-reads_as InputFailed = refl
-reads_as OutputFailed = refl
-reads_as OutOfMemory = refl
+pub reads_as : (X Y : Type 0) (e : RunFault) → is_input_failed {X = X} (Err e) ≡ is_input_failed {X = Y} (Err e)
+reads_as X Y (BadLine n) = refl
+reads_as X Y (Refused fault) = refl
+reads_as X Y (BodyRefused fault) = refl
+reads_as X Y InputFailed = refl
+reads_as X Y OutputFailed = refl
+reads_as X Y OutOfMemory = refl
 
-pub writes_as : {X Y : Type 0} (e : RunFault) → is_output_failed {X = X} (Err e) ≡ is_output_failed {X = Y} (Err e)
-writes_as (BadLine n) = refl
-writes_as (Refused fault) = refl
-writes_as (BodyRefused fault) = refl
-writes_as InputFailed = refl
-writes_as OutputFailed = refl
-writes_as OutOfMemory = refl
+pub writes_as : (X Y : Type 0) (e : RunFault) → is_output_failed {X = X} (Err e) ≡ is_output_failed {X = Y} (Err e)
+writes_as X Y (BadLine n) = refl
+writes_as X Y (Refused fault) = refl
+writes_as X Y (BodyRefused fault) = refl
+writes_as X Y InputFailed = refl
+writes_as X Y OutputFailed = refl
+writes_as X Y OutOfMemory = refl
 
 -- the lines that make are read, and nothing is written
-pub build_writes_none : {X : Type 0} (known rest remaining : Option (List ℕ)) (ls : LineState) (built : Made) (e : RunFault) → Builds known rest remaining ls built (Err e) → is_output_failed {X = X} (Err e) ≡ false
-build_writes_none known rest remaining ls built (BadLine n) b = refl
-build_writes_none known rest remaining ls built InputFailed b = refl
-build_writes_none known rest remaining ls built OutOfMemory b = refl
-build_writes_none known rest remaining ls built OutputFailed b = absurd b
-build_writes_none known rest remaining ls built (Refused fault) b = absurd b
-build_writes_none known rest remaining ls built (BodyRefused fault) b = absurd b
+pub build_writes_none : (X : Type 0) (known rest remaining : Option (List ℕ)) (ls : LineState) (built : Made) (e : RunFault) → Builds known rest remaining ls built (Err e) → is_output_failed {X = X} (Err e) ≡ false
+build_writes_none X known rest remaining ls built (BadLine n) b = refl
+build_writes_none X known rest remaining ls built InputFailed b = refl
+build_writes_none X known rest remaining ls built OutOfMemory b = refl
+build_writes_none X known rest remaining ls built OutputFailed b = absurd b
+build_writes_none X known rest remaining ls built (Refused fault) b = absurd b
+build_writes_none X known rest remaining ls built (BodyRefused fault) b = absurd b
 
 -- what was made is tested, and nothing is read or written
-pub finish_reads_none : {X : Type 0} (built : Building) (e : RunFault) → Finishes built (Err e) → (is_input_failed {X = X} (Err e) ≡ false) × (is_output_failed {X = X} (Err e) ≡ false)
-finish_reads_none built (Refused fault) f = (refl, refl)
-finish_reads_none built (BodyRefused fault) f = (refl, refl)
-finish_reads_none built OutOfMemory f = (refl, refl)
-finish_reads_none built (BadLine n) f = absurd f
-finish_reads_none built InputFailed f = absurd f
-finish_reads_none built OutputFailed f = absurd f
+pub finish_reads_none : (X : Type 0) (built : Building) (e : RunFault) → Finishes built (Err e) → (is_input_failed {X = X} (Err e) ≡ false) × (is_output_failed {X = X} (Err e) ≡ false)
+finish_reads_none X built (Refused fault) f = (refl, refl)
+finish_reads_none X built (BodyRefused fault) f = (refl, refl)
+finish_reads_none X built OutOfMemory f = (refl, refl)
+finish_reads_none X built (BadLine n) f = absurd f
+finish_reads_none X built InputFailed f = absurd f
+finish_reads_none X built OutputFailed f = absurd f
 
-pub body_reads_none : {X : Type 0} (parts : BodyContents) (e : RunFault) → IsMadeBody parts (Err e) → (is_input_failed {X = X} (Err e) ≡ false) × (is_output_failed {X = X} (Err e) ≡ false)
-body_reads_none parts (Refused fault) m = (refl, refl)
-body_reads_none parts (BodyRefused fault) m = (refl, refl)
-body_reads_none parts OutOfMemory m = (refl, refl)
-body_reads_none parts (BadLine n) m = absurd m
-body_reads_none parts InputFailed m = absurd m
-body_reads_none parts OutputFailed m = absurd m
+pub body_reads_none : (X : Type 0) (parts : BodyContents) (e : RunFault) → IsMadeBody parts (Err e) → (is_input_failed {X = X} (Err e) ≡ false) × (is_output_failed {X = X} (Err e) ≡ false)
+body_reads_none X parts (Refused fault) m = (refl, refl)
+body_reads_none X parts (BodyRefused fault) m = (refl, refl)
+body_reads_none X parts OutOfMemory m = (refl, refl)
+body_reads_none X parts (BadLine n) m = absurd m
+body_reads_none X parts InputFailed m = absurd m
+body_reads_none X parts OutputFailed m = absurd m
 
 pub accept_reads_none : (old new : Option (List ℕ)) (waiting waiting' : List ℕ) (outcome : Outcome) → Accepts old waiting new waiting' outcome → is_input_failed outcome ≡ false
 accept_reads_none old new waiting waiting' (Ok done) a = refl

@@ -12,12 +12,15 @@ use Rattle.hir_run.specs.Program.{makes, may_ask, asks, front, behind, Outcome, 
 front-all : (p : Line → Bool) (xs ys : List Line) → list_all p xs ≡ true → front p (xs ++ ys) ≡ xs ++ front p ys
 front-all p [] ys all = refl
 front-all p (x ∷ xs) ys all =
-    let tail = front-all p xs ys (second_so _ _ all) in
-    rw (first_so _ _ all) (ap (λ v. x ∷ v) tail)
+    let head : p x ≡ true = first_so (p x) (list_all p xs) all in
+    let tail = front-all p xs ys (second_so (p x) (list_all p xs) all) in
+    rw head (ap (λ v. x ∷ v) tail)
 
 behind-all : (p : Line → Bool) (xs ys : List Line) → list_all p xs ≡ true → behind p (xs ++ ys) ≡ behind p ys
 behind-all p [] ys all = refl
-behind-all p (x ∷ xs) ys all = rw (first_so _ _ all) (behind-all p xs ys (second_so _ _ all))
+behind-all p (x ∷ xs) ys all =
+    let head : p x ≡ true = first_so (p x) (list_all p xs) all in
+    rw head (behind-all p xs ys (second_so (p x) (list_all p xs) all))
 
 -- lines that begin with none that passes
 pub data BeginsOutside (p : Line → Bool) : List Line → Type 0 where
@@ -63,7 +66,9 @@ may_asks may Bad e = e
 
 pub all_asks : (may : Question → Bool) (ls : List Line) → list_all (may_ask may) ls ≡ true → list_all asks ls ≡ true
 all_asks may [] all = refl
-all_asks may (line ∷ rest) all = rw (may_asks may line (first_so _ _ all)) (all_asks may rest (second_so _ _ all))
+all_asks may (line ∷ rest) all =
+    let head : asks line ≡ true = may_asks may line (first_so (may_ask may line) (list_all (may_ask may) rest) all) in
+    rw head (all_asks may rest (second_so (may_ask may line) (list_all (may_ask may) rest) all))
 
 -- what is no question may be asked nowhere
 pub asks_not : (may : Question → Bool) (line : Line) → asks line ≡ false → may_ask may line ≡ false

@@ -60,7 +60,7 @@ module _ (input : List ℕ) (rest : Option (List ℕ)) (old : Option (List ℕ))
   Wrote text = IsWrittenUpTo old old text []
 
   abbrev WroteFront : List ℕ → Type 0
-  WroteFront text = GrowsByFront old old text × ([] ≡ [])
+  WroteFront text = GrowsByFront old old text × (◌≡◌ {A = List ℕ} [] [])
 
   nothing : Wrote []
   nothing = IsWrittenUpTo-start old []
@@ -101,12 +101,12 @@ module _ (input : List ℕ) (rest : Option (List ℕ)) (old : Option (List ℕ))
   pub finish_ends : (remaining : Option (List ℕ)) (first : Option Question) (fault : RunFault) → Builds (Some input) rest remaining ls built (Ok first) → Finishes built.built (Err fault) → EndsWith input Wrote WroteFront remaining ls.count (Err fault)
   finish_ends remaining None (Refused fault) (texts, makes_all, every, count) (first, same, verdict) =
       let is : script_of input ≡ script texts = ap script every in
-      ([], rw (is, same) (meaning-alone (script texts) [] _ makes_all.0 (rw (← makes_all.1) (Some first, verdict, refl, refl))), nothing)
+      ([], rw (is, same) (meaning-alone (script texts) [] _ makes_all.0 (rw (← makes_all.1) (Some first, verdict, (refl, refl)))), nothing)
   finish_ends remaining None (BodyRefused fault) b (first, same, verdict) = cc
   finish_ends remaining None OutOfMemory (texts, makes_all, every, count) f =
       (texts, [], every ∙ sym (append-nil texts), inl count, [], answers-alone (script texts) makes_all.0, nothing)
   finish_ends remaining (Some question) (Refused fault) b (first, same, verdict) =
-      rw same (ends_there input rest ls question (on_store built) [] (built_at remaining question b) Wrote _ nothing (λ good more. (Some first, verdict, refl, refl)))
+      rw same (ends_there input rest ls question (on_store built) [] (built_at remaining question b) Wrote _ nothing (λ good more. (Some first, verdict, (refl, refl))))
   finish_ends remaining (Some question) (BodyRefused fault) b (first, same, verdict) = cc
   finish_ends remaining (Some question) OutOfMemory b f =
       refused_there input rest ls question (on_store built) [] (built_at remaining question b) Wrote WroteFront remaining ls.count nothing refl
@@ -122,7 +122,7 @@ accept_ends input rest remaining old new waiting ls built outcome (texts, makes_
     means : IsMeaning (script_of input) (codes "accepted\n") (Ok tt)
     means =
         let is : script_of input ≡ script texts = ap script every in
-        rw is (meaning-alone (script texts) (codes "accepted\n") (Ok tt) makes_all.0 (rw (← makes_all.1) (None, verdict, refl, refl)))
+        rw is (meaning-alone (script texts) (codes "accepted\n") (Ok tt) makes_all.0 (rw (← makes_all.1) (None, verdict, (refl, refl))))
 
     by : (outcome : Outcome) → Accepts old [] new waiting outcome → EndsWith input (λ text. IsWrittenUpTo old new text waiting) (λ text. GrowsByFront old new text × (waiting ≡ [])) remaining ls.count outcome
     by (Ok done) a = (codes "accepted\n", means, a)
@@ -136,7 +136,7 @@ accept_ends input rest remaining old new waiting ls built outcome (texts, makes_
 -- the parts of a body have a fault, or memory was refused
 pub body_ends : (input : List ℕ) (rest remaining : Option (List ℕ)) (ls : LineState) (question : Question) (built : Made) (text : List ℕ) (Wrote WroteFront : List ℕ → Type 0) (fault : RunFault) → StandsAt input rest ls question (on_body built) text → IsMadeBody (body_parts built) (Err fault) → Wrote text → EndsWith input Wrote WroteFront remaining ls.count (Err fault)
 body_ends input rest remaining ls question built text Wrote WroteFront (BodyRefused fault) at (first, same, verdict) wrote =
-    rw same (ends_there input rest ls question (on_body built) text at Wrote _ wrote (λ good more. (Some first, verdict, refl, refl)))
+    rw same (ends_there input rest ls question (on_body built) text at Wrote _ wrote (λ good more. (Some first, verdict, (refl, refl))))
 body_ends input rest remaining ls question built text Wrote WroteFront (Refused fault) at (first, same, verdict) wrote = cc
 body_ends input rest remaining ls question built text Wrote WroteFront OutOfMemory at m wrote =
     refused_there input rest ls question (on_body built) text at Wrote WroteFront remaining ls.count wrote refl

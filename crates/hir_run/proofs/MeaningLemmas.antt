@@ -1,5 +1,6 @@
 -- A script has one meaning at most, as each of its parts has.
 use Rattle.std.proofs.Common.{◌≡◌, ◌+◌, ℕ, Bool, true, false, List, [], ◌∷◌, ◌++◌, if◌then◌else◌, Option, None, Some, Result, Ok, Err, length, refl, sym, ap, ◌∙◌}
+use Rattle.std.specs.Prelude.{codes}
 use Rattle.hir_faults.specs.declared.fault.FinishFault.{FinishFault}
 use Rattle.hir_lines.specs.declared.line.Line.{Line}
 use Rattle.hir_lines.specs.declared.line.Line.TheVariants.{Blank, Make, Ask, Bad}
@@ -66,8 +67,8 @@ chain_one b one expr (Some x) None p q = absurd (q p.0)
 chain_one b one expr (Some x) (Some y) p q = ap Some (one expr x y p.1 q.1)
 
 body_answer_one : (b : BodyContents) → HasOneChain b → (question : BodyQuestion) (t u : List ℕ) → IsBodyAnswer b question t → IsBodyAnswer b question u → t ≡ u
-body_answer_one b one (ask.Chain e) t u (x, is, s) (y, is', r) = s ∙ ap (λ v. answer_line _ e (chain_text v)) (chain_one b one e x y is is') ∙ sym r
-body_answer_one b one (ask.Resolve e name) t u (x, is, s) (y, is', r) = s ∙ ap (λ v. answer_line _ e (32 ∷ name ++ resolve_text v name)) (chain_one b one e x y is is') ∙ sym r
+body_answer_one b one (ask.Chain e) t u (x, is, s) (y, is', r) = s ∙ ap (λ v. answer_line (codes "chain ") e (chain_text v)) (chain_one b one e x y is is') ∙ sym r
+body_answer_one b one (ask.Resolve e name) t u (x, is, s) (y, is', r) = s ∙ ap (λ v. answer_line (codes "resolve ") e (32 ∷ name ++ resolve_text v name)) (chain_one b one e x y is is') ∙ sym r
 
 store_answer_one : (c : Contents) (question : Question) (t u : List ℕ) → IsStoreAnswer c question t → IsStoreAnswer c question u → t ≡ u
 store_answer_one c (OfStore question) t u p q = p ∙ sym q

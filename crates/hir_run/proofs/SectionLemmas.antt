@@ -84,8 +84,8 @@ module _ (input : List ℕ) (rest : Option (List ℕ)) (ls : LineState) (questio
           ∙ ap (λ v. script at.texts ++ Ask question ∷ (says texts ++ v)) (behind-cons (taken texts) joined.0 line) in
           let means = at.means (says texts ++ tail) (answers ++ []) (Err (BadLine (ls.count + length texts + 1))) (course texts answers have tail [] _ (outside (asks_not may _ not_asked)) (next_bad _ _ _ not_asked)) in
           (text ++ answers, rw (is, number) (rw (append-nil answers) at means), wrote answers written)
-      section_ends rest' remaining ls' InputFailed (texts, (answers, have, written), open, until) =
-          let joined = ReadsUntilFailure-joined (Some input) rest remaining (at.texts ++ at.last ∷ []) texts ls'.pending ls.at_end at.read open until in
+      section_ends rest' remaining ls' InputFailed (texts, (answers, have, written), unmet, until) =
+          let joined = ReadsUntilFailure-joined (Some input) rest remaining (at.texts ++ at.last ∷ []) texts ls'.pending ls.at_end at.read unmet until in
           (taken texts, ls'.pending, joined.0, joined.1, joined.2, text ++ answers, sound_so_far texts answers have, wrote answers written)
       section_ends rest' remaining ls' OutputFailed (texts, answers, have, front, grows, none) =
           let joined = ReadsFront-joined (Some input) rest (at.texts ++ at.last ∷ []) texts ls.at_end at.read front in

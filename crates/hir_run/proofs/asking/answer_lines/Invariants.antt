@@ -4,8 +4,8 @@ use Rattle.hir_io.specs.Reads.{Reads}
 use Rattle.hir_run.specs.Stages.{asked, Answered}
 use Rattle.hir_run.proofs.asking.answer_lines.Given as goal
 
-abbrev pub invariant-loop-lines : goal.invariant-loop-lines
-invariant-loop-lines g l = record {
+abbrev pub invariant-loop-left : goal.invariant-loop-left
+invariant-loop-left g l = record {
   same_read_mark : g.R.Source.failed l.reader ≡ g.R.Source.failed l.fn.reader;
   unfailed : g.W.Sink.failed l.writer ≡ false;
   falls : length l.lines.pending + g.R.Source.allowance l.reader + l.lines.count ≤ length l.fn.lines.pending + g.R.Source.allowance l.fn.reader + l.fn.lines.count;
@@ -15,5 +15,5 @@ invariant-loop-lines g l = record {
       × (l.lines.count ≡ l.fn.lines.count + length texts);
 }
 
-abbrev pub decreases-loop-lines : goal.decreases-loop-lines
-decreases-loop-lines g l = length l.lines.pending + g.R.Source.allowance l.reader
+abbrev pub decreases-loop-left : goal.decreases-loop-left
+decreases-loop-left g l = length l.lines.pending + g.R.Source.allowance l.reader
