@@ -1,5 +1,5 @@
 -- What is answered in a section of questions, line by line.
-use Rattle.std.proofs.Common.{◌≡◌, ◌+◌, ℕ, Bool, true, false, List, [], ◌∷◌, ◌++◌, Option, None, Some, is_some, Result, Ok, Err, length, inl, inr, refl, sym, ap, ◌∙◌, arith, append_assoc, append-nil}
+use Rattle.std.proofs.Common.{◌≡◌, ◌+◌, ℕ, Bool, true, false, List, [], ◌∷◌, ◌++◌, Option, None, Some, is_some, subst, ◌&&◌, Result, Ok, Err, length, inl, inr, refl, sym, ap, ◌∙◌, arith, append_assoc, append-nil}
 use Rattle.std.specs.List.{list_all}
 use Rattle.std.proofs.lemmas.List.Folds.{list_all-append}
 use Rattle.hir_io.specs.declared.next.LineFault.{LineFault}
@@ -31,6 +31,11 @@ answers_push Is [] line answers text are is = rw are (text, [], is, refl, sym (a
 answers_push Is (l ∷ ls) line answers text (first, more, at_first, rest, e) is =
     (first, more ++ text, at_first, answers_push Is ls line more text rest is, ap (λ v. v ++ text) e ∙ append_assoc first more text)
 
+both_so : (a b : Bool) → a ≡ true → b ≡ true → (a && (b && true)) ≡ true
+both_so true true h k = refl
+both_so true false h k = k
+both_so false b h k = h
+
 asked_push : (first : Question) (texts : List (List ℕ)) (text : List ℕ) → asked first (texts ++ text ∷ []) ≡ asked first texts ++ line_of text ∷ []
 asked_push first texts text = ap (λ v. Ask first ∷ v) (says-push texts text)
 
@@ -38,8 +43,8 @@ module _ (may : Question → Bool) (Is : Question → List ℕ → Type 0) where
   -- one more line has an answer
   have_more : (first : Question) (texts : List (List ℕ)) (text : List ℕ) (answers answer : List ℕ) → HaveAnswers may Is (asked first texts) answers → may_ask may (line_of text) ≡ true → IsLineAnswer Is (line_of text) answer → HaveAnswers may Is (asked first (texts ++ text ∷ [])) (answers ++ answer)
   have_more first texts text answers answer have may_be is =
-      rw (asked_push first texts text)
-      (list_all-append (may_ask may) (asked first texts) (line_of text ∷ []) ∙ (rw (have.0, may_be) refl), answers_push Is (asked first texts) (line_of text) answers answer have.1 is)
+      subst (λ (ls : List Line). HaveAnswers may Is ls (answers ++ answer)) (sym (asked_push first texts text))
+      (list_all-append (may_ask may) (asked first texts) (line_of text ∷ []) ∙ both_so (list_all (may_ask may) (asked first texts)) (may_ask may (line_of text)) have.0 may_be, answers_push Is (asked first texts) (line_of text) answers answer have.1 is)
 
   have_first : (first : Question) (text : List ℕ) → may first ≡ true → IsLineAnswer Is (Ask first) text → HaveAnswers may Is (asked first []) text
   have_first first text may_be is = (rw may_be refl, (text, [], is, refl, sym (append-nil text)))

@@ -5,6 +5,11 @@ use Rattle.std.specs.Io.KnownBytes.{Appends}
 use Rattle.std.proofs.Math.Bool.{or-false}
 use Rattle.hir_io.specs.Ends.{GrowsByFront, IsWrittenUpTo}
 use Rattle.hir_io.specs.LineState.{LineState}
+use Rattle.hir_io.specs.declared.next.LineFault.{LineFault}
+use Rattle.hir_io.specs.declared.next.LineFault.TheVariants as line
+use Rattle.hir_io.specs.NextLine.{NextWrites}
+use Rattle.hir_lines.specs.declared.line.Line.{Line}
+use Rattle.hir_run.specs.Faults.{fault_of_line}
 use Rattle.hir_io.specs.Text.{lines, IsCutShort}
 use Rattle.hir_io.proofs.EndLemmas.{Appends-twice}
 use Rattle.hir_io.proofs.TextLemmas.{lines-ended}
@@ -18,7 +23,7 @@ use Rattle.hir_run.specs.Made.{Made}
 use Rattle.hir_run.specs.Outcomes.{is_input_failed, is_output_failed}
 use Rattle.hir_run.specs.Program.{Outcome, HasAnswers, script}
 use Rattle.hir_run.specs.Run.{EndsWith, RunsTo}
-use Rattle.hir_run.specs.Stages.{Builds, Finishes, IsMadeBody, Accepts, RunsUpTo, Closes}
+use Rattle.hir_run.specs.Stages.{Builds, Finishes, IsMadeBody, Accepts, AsksLine, RunsUpTo, Closes}
 use Rattle.hir_run.proofs.WritingLemmas.{GrowsByFront-then}
 
 -- what waited was written too
@@ -126,3 +131,27 @@ accept_reads_none old new waiting waiting' (Err (BodyRefused fault)) a = absurd 
 -- the end of one part, where the part before it had no failure
 pub none_before : (now old : Bool) (failed : Bool) → now ≡ (failed || old) → old ≡ false → now ≡ failed
 none_before now old failed is none = is ∙ ap (λ b. failed || b) none ∙ or-false failed
+
+-- what waits can't be lost behind a failed read
+pub closes_reads : (old new : Option (List ℕ)) (waiting : List ℕ) (outcome result : Outcome) → Closes old new waiting outcome result → (is_input_failed outcome ≡ true → waiting ≡ []) → is_input_failed outcome ≡ is_input_failed result
+closes_reads old new waiting outcome result (inl c) quiet = ap (λ (r : Outcome). is_input_failed r) (sym c.0)
+closes_reads old new waiting outcome result (inr c) quiet =
+    by_mark (is_input_failed outcome) (λ e. c.2 (quiet e)) ∙ ap (λ (r : Outcome). is_input_failed r) (sym c.0)
+  where
+    by_mark : (b : Bool) → (b ≡ true → ⊥) → b ≡ false
+    by_mark true h = absurd (h refl)
+    by_mark false h = refl
+
+-- no line of a section fails to be read
+pub line_reads_none : (X : Type 0) (may : Question → Bool) (Is : Question → List ℕ → Type 0) (line : Line) (number : ℕ) (old new : Option (List ℕ)) (waiting waiting' : List ℕ) (e : RunFault) → AsksLine may Is line number old waiting new waiting' (Err e) → is_input_failed {X = Option Question} (Err e) ≡ true → X
+line_reads_none X may Is line number old new waiting waiting' InputFailed a h = absurd a
+line_reads_none X may Is line number old new waiting waiting' (BadLine n) a h = cc
+line_reads_none X may Is line number old new waiting waiting' (Refused fault) a h = cc
+line_reads_none X may Is line number old new waiting waiting' (BodyRefused fault) a h = cc
+line_reads_none X may Is line number old new waiting waiting' OutputFailed a h = cc
+line_reads_none X may Is line number old new waiting waiting' OutOfMemory a h = cc
+
+pub next_reads : (old new : Option (List ℕ)) (waiting waiting' : List ℕ) (fault : LineFault) → NextWrites old new waiting waiting' (Err fault) → is_input_failed {X = Option Question} (Err (fault_of_line fault)) ≡ true → waiting' ≡ []
+next_reads old new waiting waiting' line.OutOfMemory w h = cc
+next_reads old new waiting waiting' line.InputFailed w h = w.1
+next_reads old new waiting waiting' line.OutputFailed w h = cc

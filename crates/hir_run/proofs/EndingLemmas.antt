@@ -73,7 +73,7 @@ module _ (input : List ℕ) (rest : Option (List ℕ)) (old : Option (List ℕ))
       ∙ ap (λ v. script texts ++ v) (behind-cons texts front.0 text) ∙ ap (λ l. script texts ++ l ∷ behind_texts (texts ++ text ∷ []) front.0) bad in
       let count : n ≡ length (script texts) + 1 = omega (arith, number, script-length texts) in
       ([], rw (is, count) (meaning-bad (script texts) _ all), nothing)
-  build_ends remaining InputFailed (texts, all, unread, short, left) =
+  build_ends remaining InputFailed (texts, all, (unread, short, left)) =
       (texts, ls.pending, unread, short, left, [], answers-alone (script texts) all, nothing)
   build_ends remaining OutOfMemory (texts, all, front, counted) =
       (texts, front.0, front.1, counted, [], answers-alone (script texts) all, nothing)

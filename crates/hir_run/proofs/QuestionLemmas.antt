@@ -48,7 +48,7 @@ stands_on next other leads at = record {
 }
 
 -- a script behind the lines before a question
-asked_script : (texts texts' more : List (List ℕ)) (last : List ℕ) (question : Question) → line_of last ≡ Ask question → list_all asks (says texts') ≡ true
+pub asked_script : (texts texts' more : List (List ℕ)) (last : List ℕ) (question : Question) → line_of last ≡ Ask question → list_all asks (says texts') ≡ true
     → script (((texts ++ last ∷ []) ++ texts') ++ more) ≡ script texts ++ Ask question ∷ (says texts' ++ behind_texts ((texts ++ last ∷ []) ++ texts') more)
 asked_script texts texts' more last question is all =
     let front = texts ++ last ∷ [] in

@@ -7,7 +7,8 @@ use Rattle.hir_io.specs.LineState.{LineState}
 use Rattle.hir_io.proofs.EndLemmas.{IsWrittenUpTo-start}
 use Rattle.hir_lines.specs.declared.line.Question.{Question}
 use Rattle.hir_expr_store.specs.Contents.{Contents}
-use Rattle.hir_store.specs.Building.{contents_of}
+use Rattle.hir_store.specs.Building.{Building, contents_of}
+use Rattle.hir_items.specs.declared.formals.Param.{Param}
 use Rattle.hir_items.specs.Bodies.{BodyContents, body_of}
 use Rattle.hir_run.specs.declared.fault.RunFault.{RunFault}
 use Rattle.hir_run.specs.declared.fault.RunFault.TheVariants.{OutOfMemory}
@@ -31,59 +32,66 @@ runs_out_first (Some input) old remaining count none =
     ([], lines input, refl, inl none, [], answers-alone [] refl, nothing_appended old)
 
 -- the lines that make end early
-pub script_build : (known rest remaining old : Option (List ℕ)) (ls : LineState) (built : Made) (fault : RunFault) → Builds known rest remaining ls built (Err fault) → RunsUpTo known old remaining old [] ls.count (Err fault)
-script_build None rest remaining old ls built fault b = tt
-script_build (Some input) rest remaining old ls built fault b = build_ends input rest old ls built remaining fault b
+pub script_build : (known rest remaining old new : Option (List ℕ)) (waiting : List ℕ) (ls : LineState) (built : Made) (fault : RunFault) → new ≡ old → waiting ≡ [] → Builds known rest remaining ls built (Err fault) → RunsUpTo known old remaining new waiting ls.count (Err fault)
+script_build None rest remaining old new waiting ls built fault same none b = tt
+script_build (Some input) rest remaining old new waiting ls built fault same none b = rw (same, none) (build_ends input rest old ls built remaining fault b)
 
 -- what was made is refused
-pub script_finish : (known rest remaining old : Option (List ℕ)) (ls : LineState) (built : Made) (first : Option Question) (fault : RunFault) → Builds known rest remaining ls built (Ok first) → Finishes built.built (Err fault) → RunsUpTo known old remaining old [] ls.count (Err fault)
-script_finish None rest remaining old ls built first fault b f = tt
-script_finish (Some input) rest remaining old ls built first fault b f = finish_ends input rest old ls built remaining first fault b f
+pub script_finish : (known rest remaining old new : Option (List ℕ)) (waiting : List ℕ) (ls : LineState) (built : Made) (finished : Building) (first : Option Question) (fault : RunFault) → new ≡ old → waiting ≡ [] → finished ≡ built.built → Builds known rest remaining ls built (Ok first) → Finishes finished (Err fault) → RunsUpTo known old remaining new waiting ls.count (Err fault)
+script_finish None rest remaining old new waiting ls built finished first fault same none is b f = tt
+script_finish (Some input) rest remaining old new waiting ls built finished first fault same none is b f =
+    rw (same, none) (finish_ends input rest old ls built remaining first fault b (rw is at f))
 
 -- there is no question
-pub script_accept : (known rest remaining old new : Option (List ℕ)) (waiting : List ℕ) (ls : LineState) (built : Made) (store : Contents) (outcome : Outcome) → Builds known rest remaining ls built (Ok None) → Finishes built.built (Ok store) → Accepts old [] new waiting outcome → RunsUpTo known old remaining new waiting ls.count outcome
-script_accept None rest remaining old new waiting ls built store outcome b f a = tt
-script_accept (Some input) rest remaining old new waiting ls built store outcome b f a = accept_ends input rest remaining old new waiting ls built outcome b f.1 a
+pub script_accept : (known rest remaining old mid new : Option (List ℕ)) (waited waiting : List ℕ) (ls : LineState) (built : Made) (finished : Building) (store : Contents) (outcome : Outcome) → mid ≡ old → waited ≡ [] → finished ≡ built.built → Builds known rest remaining ls built (Ok None) → Finishes finished (Ok store) → Accepts mid waited new waiting outcome → RunsUpTo known old remaining new waiting ls.count outcome
+script_accept None rest remaining old mid new waited waiting ls built finished store outcome same none is b f a = tt
+script_accept (Some input) rest remaining old mid new waited waiting ls built finished store outcome same none is b f a =
+    accept_ends input rest remaining old new waiting ls built outcome b (rw is at f.1) (rw (same, none) at a)
 
-module _ (rest remaining old : Option (List ℕ)) (ls : LineState) (built : Made) (question : Question) (store : Contents) (f : Finishes built.built (Ok store)) where
+module _ (rest remaining old mid : Option (List ℕ)) (waited : List ℕ) (ls : LineState) (built : Made) (finished : Building) (question : Question) (store : Contents) (same : mid ≡ old) (none : waited ≡ []) (is : finished ≡ built.built) (f : Finishes finished (Ok store)) where
+  finishes : Finishes built.built (Ok store)
+  finishes = rw is at f
+
+  nothing_written : IsWrittenUpTo old mid [] waited
+  nothing_written = rw (same, none) (IsWrittenUpTo-start old [])
+
   module _ (input : List ℕ) (b : Builds (Some input) rest remaining ls built (Ok (Some question))) where
     asked_store : StandsAt input rest ls question (section is_of_store (IsStoreAnswer store) (behind_store built)) []
-    asked_store = rw f.0 (at_store input rest ls question built f.1 (built_at input rest old ls built remaining question b))
+    asked_store = rw finishes.0 (at_store input rest ls question built finishes.1 (built_at input rest old ls built remaining question b))
 
-    left_store : (rest' new : Option (List ℕ)) (waiting : List ℕ) (ls' : LineState) (left : Question) → AsksUpTo is_of_store (IsStoreAnswer store) rest rest' ls ls' old [] new waiting question (Some left) → (t : List ℕ) × StandsAt input rest' ls' left (on_body built) t × IsWrittenUpTo old new t waiting
+    left_store : (rest' new : Option (List ℕ)) (waiting : List ℕ) (ls' : LineState) (left : Question) → AsksUpTo is_of_store (IsStoreAnswer store) rest rest' ls ls' mid waited new waiting question (Some left) → (t : List ℕ) × StandsAt input rest' ls' left (on_body built) t × IsWrittenUpTo old new t waiting
     left_store rest' new waiting ls' left a =
-        let stands = section_left input rest ls question is_of_store (IsStoreAnswer store) (behind_store built) [] asked_store (store_end built) (store_bad built) old old new [] waiting (IsWrittenUpTo-start old []) rest' ls' left a in
+        let stands = section_left input rest ls question is_of_store (IsStoreAnswer store) (behind_store built) [] asked_store (store_end built) (store_bad built) old mid new waited waiting nothing_written rest' ls' left a in
         (stands.0, at_body input rest' ls' left built stands.0 stands.1, stands.2)
 
   -- the questions on the store end early
-  pub script_store_ends : (known rest' remaining' new : Option (List ℕ)) (waiting : List ℕ) (ls' : LineState) (fault : RunFault) → Builds known rest remaining ls built (Ok (Some question)) → Asks is_of_store (IsStoreAnswer store) rest rest' remaining' ls ls' old [] new waiting question (Err fault) → RunsUpTo known old remaining' new waiting ls'.count (Err fault)
+  pub script_store_ends : (known rest' remaining' new : Option (List ℕ)) (waiting : List ℕ) (ls' : LineState) (fault : RunFault) → Builds known rest remaining ls built (Ok (Some question)) → Asks is_of_store (IsStoreAnswer store) rest rest' remaining' ls ls' mid waited new waiting question (Err fault) → RunsUpTo known old remaining' new waiting ls'.count (Err fault)
   script_store_ends None rest' remaining' new waiting ls' fault b a = tt
   script_store_ends (Some input) rest' remaining' new waiting ls' fault b a =
-      section_ends input rest ls question is_of_store (IsStoreAnswer store) (behind_store built) [] (asked_store input b) (store_end built) (store_bad built) old old new [] waiting (IsWrittenUpTo-start old []) rest' remaining' ls' fault a
+      section_ends input rest ls question is_of_store (IsStoreAnswer store) (behind_store built) [] (asked_store input b) (store_end built) (store_bad built) old mid new waited waiting nothing_written rest' remaining' ls' fault a
 
   -- no question is on the body
-  pub script_store_done : (known rest' remaining' new : Option (List ℕ)) (waiting : List ℕ) (ls' : LineState) → Builds known rest remaining ls built (Ok (Some question)) → AsksUpTo is_of_store (IsStoreAnswer store) rest rest' ls ls' old [] new waiting question None → RunsUpTo known old remaining' new waiting ls'.count (Ok tt)
+  pub script_store_done : (known rest' remaining' new : Option (List ℕ)) (waiting : List ℕ) (ls' : LineState) → Builds known rest remaining ls built (Ok (Some question)) → AsksUpTo is_of_store (IsStoreAnswer store) rest rest' ls ls' mid waited new waiting question None → RunsUpTo known old remaining' new waiting ls'.count (Ok tt)
   script_store_done None rest' remaining' new waiting ls' b a = tt
   script_store_done (Some input) rest' remaining' new waiting ls' b a =
-      section_done input rest ls question is_of_store (IsStoreAnswer store) (behind_store built) [] (asked_store input b) (store_end built) (store_bad built) old old new [] waiting (IsWrittenUpTo-start old []) rest' remaining' ls' a
+      section_done input rest ls question is_of_store (IsStoreAnswer store) (behind_store built) [] (asked_store input b) (store_end built) (store_bad built) old mid new waited waiting nothing_written rest' remaining' ls' a
 
-  module _ (rest' new : Option (List ℕ)) (waiting : List ℕ) (ls' : LineState) (left : Question) (a : AsksUpTo is_of_store (IsStoreAnswer store) rest rest' ls ls' old [] new waiting question (Some left)) where
+  module _ (rest' new : Option (List ℕ)) (waiting : List ℕ) (ls' : LineState) (left : Question) (a : AsksUpTo is_of_store (IsStoreAnswer store) rest rest' ls ls' mid waited new waiting question (Some left)) (params : List (Param ℕ)) (self_param : Option (Param ℕ)) (same_params : params ≡ built.params) (same_self : self_param ≡ built.self_param) where
     -- the body is refused
-    pub script_body : (known remaining' : Option (List ℕ)) (fault : RunFault) → Builds known rest remaining ls built (Ok (Some question)) → IsMadeBody (body_of store built.params built.self_param) (Err fault) → RunsUpTo known old remaining' new waiting ls'.count (Err fault)
+    pub script_body : (known remaining' : Option (List ℕ)) (fault : RunFault) → Builds known rest remaining ls built (Ok (Some question)) → IsMadeBody (body_of store params self_param) (Err fault) → RunsUpTo known old remaining' new waiting ls'.count (Err fault)
     script_body None remaining' fault b m = tt
     script_body (Some input) remaining' fault b m =
         let stands = left_store input b rest' new waiting ls' left a in
-        body_ends input rest' remaining' ls' left built stands.0 (λ t. IsWrittenUpTo old new t waiting) _ fault stands.1 (rw f.0 at m) stands.2
+        body_ends input rest' remaining' ls' left built stands.0 (λ t. IsWrittenUpTo old new t waiting) _ fault stands.1 (rw (finishes.0, same_params, same_self) at m) stands.2
 
-    module _ (body : BodyContents) (m : IsMadeBody (body_of store built.params built.self_param) (Ok body)) where
+    module _ (body : BodyContents) (m : IsMadeBody (body_of store params self_param) (Ok body)) where
       made_body : IsMadeBody (body_parts built) (Ok body)
-      made_body = rw f.0 at m
+      made_body = rw (finishes.0, same_params, same_self) at m
 
-      module _ (input : List ℕ) (b : Builds (Some input) rest remaining ls built (Ok (Some question))) where
-        asked_body : (t : List ℕ) × StandsAt input rest' ls' left (section any_question (IsAnswer body) stops) t × IsWrittenUpTo old new t waiting
-        asked_body =
-            let stands = left_store input b rest' new waiting ls' left a in
-            rw made_body.0 (stands.0, in_body input rest' ls' left built stands.0 made_body.1 stands.1, stands.2)
+      asked_body : (input : List ℕ) → Builds (Some input) rest remaining ls built (Ok (Some question)) → (t : List ℕ) × StandsAt input rest' ls' left (section any_question (IsAnswer body) stops) t × IsWrittenUpTo old new t waiting
+      asked_body input b =
+          let stands = left_store input b rest' new waiting ls' left a in
+          rw made_body.0 (stands.0, in_body input rest' ls' left built stands.0 made_body.1 stands.1, stands.2)
 
       -- the questions on the body end early
       pub script_body_ends : (known rest'' remaining'' new' : Option (List ℕ)) (waiting' : List ℕ) (ls'' : LineState) (fault : RunFault) → Builds known rest remaining ls built (Ok (Some question)) → Asks any_question (IsAnswer body) rest' rest'' remaining'' ls' ls'' new waiting new' waiting' left (Err fault) → RunsUpTo known old remaining'' new' waiting' ls''.count (Err fault)

@@ -1,6 +1,6 @@
 //! A section of questions: from its first question on, each line is answered, as far as such questions come.
 
-ghost use Rattle.std.specs.Prelude.{◌≡◌, ◌+◌, ◌<◌, ◌^◌, ◌||◌, List, ℕ, Bool, false, length, OnOk, IfOk, OnErr};
+ghost use Rattle.std.specs.Prelude.{◌≡◌, ◌+◌, ◌<◌, ◌^◌, ◌||◌, List, ℕ, Bool, [], true, false, length, OnOk, IfOk, OnErr};
 ghost use Rattle.hir_io.specs.NextLine.{untaken};
 ghost use Rattle.hir_lines.specs.Line.{line_of};
 ghost use Rattle.hir_run.specs.Outcomes.{is_input_failed, is_output_failed};
@@ -106,6 +106,8 @@ pub(crate) fn answer_lines<A: Answers, R: Source, W: Sink>(
         (W.contents writer.old) output.old (W.contents writer.new) output.new first result }
     ensures read_failure { R.failed reader.new ≡ (is_input_failed result || R.failed reader.old) }
     ensures write_failure { W.failed writer.new ≡ is_output_failed result }
+    // A read is made only where nothing waits.
+    ensures quiet { is_input_failed result ≡ true → output.new ≡ [] }
     ensures still_fits { OnOk result
         (lines.new.count + length lines.new.pending + R.allowance reader.new < 2 ^ 64) }
 {

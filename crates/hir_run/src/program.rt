@@ -1,6 +1,6 @@
 //! The program: lines in, answers out.
 
-ghost use Rattle.std.specs.Prelude.{◌≡◌, ◌||◌, ℕ, [], false};
+ghost use Rattle.std.specs.Prelude.{◌≡◌, ◌||◌, ℕ, [], true, false};
 ghost use Rattle.hir_store.specs.Building.{building_of};
 ghost use Rattle.hir_run.specs.Outcomes.{is_input_failed, is_output_failed};
 ghost use Rattle.hir_run.specs.Run.{RunsTo};
@@ -50,6 +50,8 @@ fn answer_script<R: Source, W: Sink>(
         (W.contents writer.new) output.new lines.new.count result }
     ensures input_failed { R.failed reader.new ≡ is_input_failed result }
     ensures output_failed { W.failed writer.new ≡ is_output_failed result }
+    // A read is made only where nothing waits.
+    ensures quiet { is_input_failed result ≡ true → output.new ≡ [] }
 {
     let mut made = Made::new(alloc);
     let first = build(alloc, lines, reader, output, writer, &mut made)?;
