@@ -22,8 +22,8 @@ use Rattle.hir_run.specs.declared.fault.RunFault.TheVariants.{BadLine, Refused, 
 use Rattle.hir_run.specs.Made.{Made, body_parts}
 use Rattle.hir_run.specs.Answer.{IsStoreAnswer, IsAnswer}
 use Rattle.hir_run.specs.Program.{makes, asks, any_question, is_of_store, Outcome, Course, writes, section, stops, behind_store, on_body, on_store, behind_making, accepts, made, making, built_by, Runs, IsMeaning, HasAnswers, says, script, script_of}
-use Rattle.hir_run.specs.Run.{EndsWith, IsComplete, RunsTo}
-use Rattle.hir_run.specs.Stages.{line_behind, Makes, AllMake, Builds, Finishes, IsMadeBody, Accepts, RunsUpTo, Closes}
+use Rattle.hir_run.specs.Run.{EndsWith, IsComplete, IsNextLine, RunsTo}
+use Rattle.hir_run.specs.Stages.{line_behind, IsBehind, Makes, AllMake, Builds, Finishes, IsMadeBody, Accepts, RunsUpTo, Closes}
 use Rattle.hir_run.proofs.Scripts.{script-append, script-length, behind_texts, behind-cons, behind_question}
 use Rattle.hir_run.proofs.CourseLemmas.{BeginsOutside, no_line, outside, runs_behind, means_behind}
 use Rattle.hir_run.proofs.QuestionLemmas.{StandsAt, stands_on, ends_there, refused_there}
@@ -54,6 +54,11 @@ pub from_the_start : (start : LineState) (known rest remaining : Option (List �
 from_the_start start known rest remaining ls built r e b =
     subst (λ (v : Option (List ℕ)). Builds v rest remaining ls built r) (ap (λ (l : LineState). untaken l.pending l.at_end known) e ∙ untaken_all known) b
 
+-- the line behind these is told by the lines from the start
+next_line : (texts : List (List ℕ)) (count : ℕ) → IsBehind 0 texts count → IsNextLine texts count
+next_line texts count (inl e) = inl (omega (arith, e))
+next_line texts count (inr e) = inr (omega (arith, e))
+
 -- nothing was written, and nothing waits
 module _ (input : List ℕ) (rest : Option (List ℕ)) (old : Option (List ℕ)) (ls : LineState) (built : Made) where
   abbrev Wrote : List ℕ → Type 0
@@ -76,7 +81,7 @@ module _ (input : List ℕ) (rest : Option (List ℕ)) (old : Option (List ℕ))
   build_ends remaining InputFailed (texts, all, (unread, short, left)) =
       (texts, ls.pending, unread, short, left, [], answers-alone (script texts) all, nothing)
   build_ends remaining OutOfMemory (texts, all, front, counted) =
-      (texts, front.0, front.1, counted, [], answers-alone (script texts) all, nothing)
+      (texts, front.0, front.1, next_line texts ls.count counted, [], answers-alone (script texts) all, nothing)
   build_ends remaining OutputFailed b = absurd b
   build_ends remaining (Refused fault) b = absurd b
   build_ends remaining (BodyRefused fault) b = absurd b

@@ -1,5 +1,5 @@
 -- What a run over its lines comes to, by the part that ends it.
-use Rattle.std.proofs.Common.{◌≡◌, ℕ, List, [], Option, None, Some, Result, Ok, Err, inl, refl, sym, append-nil}
+use Rattle.std.proofs.Common.{◌≡◌, ℕ, List, [], Option, None, Some, Result, Ok, Err, inl, refl, sym, subst, append-nil}
 use Rattle.std.specs.Io.KnownBytes.{Appends}
 use Rattle.hir_io.specs.Text.{lines}
 use Rattle.hir_io.specs.Ends.{IsWrittenUpTo}
@@ -31,16 +31,28 @@ runs_out_first None old remaining count none = tt
 runs_out_first (Some input) old remaining count none =
     ([], lines input, refl, inl none, [], answers-alone [] refl, nothing_appended old)
 
+-- what holds where nothing is written and nothing waits, at other names
+moved : (input : List ℕ) (old remaining new : Option (List ℕ)) (waiting : List ℕ) (count : ℕ) (outcome : Outcome) → new ≡ old → waiting ≡ [] → RunsUpTo (Some input) old remaining old [] count outcome → RunsUpTo (Some input) old remaining new waiting count outcome
+moved input old remaining new waiting count outcome same none r =
+    subst (λ (v : Option (List ℕ)). RunsUpTo (Some input) old remaining v waiting count outcome) (sym same)
+    (subst (λ (w : List ℕ). RunsUpTo (Some input) old remaining old w count outcome) (sym none) r)
+
+same_parts : (result : Result BodyContents RunFault) (store contents : Contents) (params more : List (Param ℕ)) (self_param other : Option (Param ℕ)) → store ≡ contents → params ≡ more → self_param ≡ other → IsMadeBody (body_of store params self_param) result → IsMadeBody (body_of contents more other) result
+same_parts result store contents params more self_param other s p q m =
+    subst (λ (v : Option (Param ℕ)). IsMadeBody (body_of contents more v) result) q
+    (subst (λ (v : List (Param ℕ)). IsMadeBody (body_of contents v self_param) result) p
+    (subst (λ (v : Contents). IsMadeBody (body_of v params self_param) result) s m))
+
 -- the lines that make end early
 pub script_build : (known rest remaining old new : Option (List ℕ)) (waiting : List ℕ) (ls : LineState) (built : Made) (fault : RunFault) → new ≡ old → waiting ≡ [] → Builds known rest remaining ls built (Err fault) → RunsUpTo known old remaining new waiting ls.count (Err fault)
 script_build None rest remaining old new waiting ls built fault same none b = tt
-script_build (Some input) rest remaining old new waiting ls built fault same none b = rw (same, none) (build_ends input rest old ls built remaining fault b)
+script_build (Some input) rest remaining old new waiting ls built fault same none b = moved input old remaining new waiting ls.count (Err fault) same none (build_ends input rest old ls built remaining fault b)
 
 -- what was made is refused
 pub script_finish : (known rest remaining old new : Option (List ℕ)) (waiting : List ℕ) (ls : LineState) (built : Made) (finished : Building) (first : Option Question) (fault : RunFault) → new ≡ old → waiting ≡ [] → finished ≡ built.built → Builds known rest remaining ls built (Ok first) → Finishes finished (Err fault) → RunsUpTo known old remaining new waiting ls.count (Err fault)
 script_finish None rest remaining old new waiting ls built finished first fault same none is b f = tt
 script_finish (Some input) rest remaining old new waiting ls built finished first fault same none is b f =
-    rw (same, none) (finish_ends input rest old ls built remaining first fault b (rw is at f))
+    moved input old remaining new waiting ls.count (Err fault) same none (finish_ends input rest old ls built remaining first fault b (subst (λ (x : Building). Finishes x (Err fault)) is f))
 
 -- there is no question
 pub script_accept : (known rest remaining old mid new : Option (List ℕ)) (waited waiting : List ℕ) (ls : LineState) (built : Made) (finished : Building) (store : Contents) (outcome : Outcome) → mid ≡ old → waited ≡ [] → finished ≡ built.built → Builds known rest remaining ls built (Ok None) → Finishes finished (Ok store) → Accepts mid waited new waiting outcome → RunsUpTo known old remaining new waiting ls.count outcome
@@ -82,7 +94,7 @@ module _ (rest remaining old mid : Option (List ℕ)) (waited : List ℕ) (ls : 
     script_body None remaining' fault b m = tt
     script_body (Some input) remaining' fault b m =
         let stands = left_store input b rest' new waiting ls' left a in
-        body_ends input rest' remaining' ls' left built stands.0 (λ t. IsWrittenUpTo old new t waiting) _ fault stands.1 (rw (finishes.0, same_params, same_self) at m) stands.2
+        body_ends input rest' remaining' ls' left built stands.0 (λ t. IsWrittenUpTo old new t waiting) _ fault stands.1 (same_parts (Err fault) store (contents_of built.built) params built.params self_param built.self_param finishes.0 same_params same_self m) stands.2
 
     module _ (body : BodyContents) (m : IsMadeBody (body_of store params self_param) (Ok body)) where
       made_body : IsMadeBody (body_parts built) (Ok body)

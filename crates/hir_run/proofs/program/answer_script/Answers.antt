@@ -8,7 +8,8 @@ use Rattle.hir_store.specs.Building.{building_of}
 use Rattle.hir_run.specs.declared.made.Parts.{Parts}
 use Rattle.hir_run.specs.Made.{made_of}
 use Rattle.hir_run.specs.Stages.{Builds}
-use Rattle.hir_run.proofs.ClosingLemmas.{body_reads_none, reads_as, none_before}
+use Rattle.std.proofs.lemmas.Bool.{false≢true}
+use Rattle.hir_run.proofs.ClosingLemmas.{accept_reads_none, body_reads_none, reads_as, none_before}
 use Rattle.hir_run.proofs.EndingLemmas.{from_the_start}
 use Rattle.hir_run.proofs.ScriptLemmas.{script_build, script_finish, script_accept, script_store_ends, script_store_done, script_body, script_body_ends, script_body_done}
 use Rattle.hir_run.proofs.program.answer_script.Goals as goal
@@ -127,3 +128,28 @@ returns-in_err-unasked-clause-input_failed g c =
     let p = err_from_is_err_and c.from_residual-in_err-unasked.result c.from_residual-in_err-unasked.ensures.1 in
     let unread = (c.in_ok-left.ensures {u = tt}).read_failure ∙ (c.in_ok-first.ensures {u = tt}).failure ∙ c.requires.reading in
     rw (p.1, p.2) (none_before _ _ _ c.in_err-unasked.ensures.read_failure unread ∙ reads_as (Option Question) (Unit {0}) c.in_err-unasked.field-0.0)
+
+pub returns-in_err-first-clause-quiet : goal.returns-in_err-first-clause-quiet
+returns-in_err-first-clause-quiet g c = λ failed. (c.in_err-first.ensures {u = tt}).still_quiet.0
+
+pub returns-in_err-store-clause-quiet : goal.returns-in_err-store-clause-quiet
+returns-in_err-store-clause-quiet g c = λ failed. (c.in_ok-first.ensures {u = tt}).still_quiet.0
+
+pub returns-in-None-clause-quiet : goal.returns-in-None-clause-quiet
+returns-in-None-clause-quiet g c = λ failed. absurd (false≢true (sym (accept_reads_none (g.W.Sink.contents c.build.new.writer) (g.W.Sink.contents c.accept.new.writer) c.build.new.output c.accept.new.output c.accept.result c.accept.ensures.accepts) ∙ failed))
+
+pub returns-in_err-left-clause-quiet : goal.returns-in_err-left-clause-quiet
+returns-in_err-left-clause-quiet g c =
+    let p = err_from_is_err_and c.from_residual-in_err-left.result c.from_residual-in_err-left.ensures.1 in
+    rw (p.1, p.2) (λ failed. c.in_err-left.ensures.quiet (reads_as (Option Question) (Unit {0}) c.in_err-left.field-0.0 ∙ failed))
+
+pub returns-in_err-body-clause-quiet : goal.returns-in_err-body-clause-quiet
+returns-in_err-body-clause-quiet g c =
+    let p = err_from_is_err_and c.from_residual-in_err-body.result c.from_residual-in_err-body.ensures.1 in
+    let unread = body_reads_none (Unit {0}) (body_of c.in_ok-store.store c.into_parts-builder.result.params c.into_parts-builder.result.self_param) c.in_err-body.field-0.0 c.in_err-body.ensures in
+    rw (p.1, p.2) (λ failed. absurd (false≢true (sym unread.0 ∙ failed)))
+
+pub returns-in_err-unasked-clause-quiet : goal.returns-in_err-unasked-clause-quiet
+returns-in_err-unasked-clause-quiet g c =
+    let p = err_from_is_err_and c.from_residual-in_err-unasked.result c.from_residual-in_err-unasked.ensures.1 in
+    rw (p.1, p.2) (λ failed. c.in_err-unasked.ensures.quiet (reads_as (Option Question) (Unit {0}) c.in_err-unasked.field-0.0 ∙ failed))
