@@ -15,5 +15,5 @@ loop-around-preserved g c =
 
 pub returns : goal.returns
 returns g c =
-    let end = YieldsList-end (YieldsList-from_first (λ x. x) (λ rest. rest) (path c.args.scopes.now.scopes (Some c.args.scope)) c.scope_chain-around-items.ensures) c.loop-around.yielded _ c.loop-around.yielded_by _ _ c.in-None.is c.next.ensures.steps in
+    let end = YieldsList-end (YieldsList-from_first (λ x. x) (λ rest. rest) (path c.args.scopes.now.scopes (Some c.args.scope)) c.scope_chain-around-items.ensures) c.loop-around.yielded c.loop-around.around-iterator c.loop-around.yielded_by c.next.result c.next.new.self c.in-None.is c.next.ensures.steps in
     rw (sym (map-id c.loop-around.yielded) ∙ end.0) at c.loop-around.invariant
