@@ -1,4 +1,4 @@
-use Rattle.std.proofs.Common.{◌≡◌, List, ℕ, Some, map-id, sym, ◌∙◌}
+use Rattle.std.proofs.Common.{◌≡◌, List, ℕ, Some, map-id, sym, ◌∙◌, arith}
 use Rattle.std.proofs.lemmas.Iterator.Consumers.{YieldsList-end, YieldsList-from_first}
 use Rattle.hir_scope.specs.Paths.{path, frame_at}
 use Rattle.hir_scope.specs.Resolution.{entries_of}
@@ -15,5 +15,7 @@ loop-around-preserved g c =
 
 pub returns : goal.returns
 returns g c =
-    let end = YieldsList-end (YieldsList-from_first (λ x. x) (λ rest. rest) (path c.args.scopes.now.scopes (Some c.args.scope)) c.scope_chain-around-items.ensures) c.loop-around.yielded c.loop-around.around-iterator c.loop-around.yielded_by c.next.result c.next.new.self c.in-None.is c.next.ensures.steps in
+    let around : List ℕ = path c.args.scopes.now.scopes (Some c.args.scope) in
+    let same : c.into_iter-around-iterator.result ≡ around = grind (arith, c.into_iter-around-iterator.ensures.into_iter_gives, c.scope_chain-around-items.ensures) in
+    let end = YieldsList-end (YieldsList-from_first (λ x. x) (λ rest. rest) {s = c.into_iter-around-iterator.result} around same) c.loop-around.yielded c.loop-around.around-iterator c.loop-around.yielded_by c.next.result c.next.new.self c.in-None.is c.next.ensures.steps in
     rw (sym (map-id c.loop-around.yielded) ∙ end.0) at c.loop-around.invariant
