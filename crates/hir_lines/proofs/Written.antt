@@ -13,17 +13,18 @@ use Rattle.hir_lines.specs.declared.line.Line.TheVariants.{Blank, Make, Ask, Bad
 use Rattle.hir_lines.specs.declared.line.Maker.{Maker}
 use Rattle.hir_lines.specs.declared.line.Maker.TheVariants.{Pat as MakePat, «Type» as MakeType, Expr as MakeExpr, Roots}
 use Rattle.hir_lines.specs.declared.line.Question.{Question}
+use Rattle.hir_lines.specs.declared.line.Question.TheVariants.{OfBody}
 use Rattle.hir_lines.specs.Readings.{gives, whole, parts_of}
 use Rattle.hir_lines.specs.Words.{one_of}
 use Rattle.hir_lines.specs.Pats.{pat}
 use Rattle.hir_lines.specs.Types.{type_ref}
 use Rattle.hir_lines.specs.Exprs.{expr}
-use Rattle.hir_lines.specs.Line.{line_of, or_bad, command, line_forms, bind_line, pat_line, type_line, expr_line, self_line, param_line, fn_line, root_line, children_line, root_of_line}
+use Rattle.hir_lines.specs.Line.{line_of, or_bad, command, line_forms, bind_line, pat_line, type_line, expr_line, self_line, param_line, fn_line, root_line, children_line, root_of_line, chain_line, resolve, resolve_line}
 use Rattle.hir_lines.specs.Tokens.{Token, Word, Arm, Stmt, IsWord, IsText}
 use Rattle.hir_lines.specs.PatGrammar.{IsPat, wild}
 use Rattle.hir_lines.specs.TypeGrammar.{IsType, never}
 use Rattle.hir_lines.specs.ExprGrammar.{IsExpr, match_expr, block}
-use Rattle.hir_lines.specs.Grammar.{IsMaker, bind, pat as by_pat, type_ref as by_type, expr as by_expr, self_param, param, fn_name, roots, root, IsQuestion, children, root_of, IsLine}
+use Rattle.hir_lines.specs.Grammar.{IsMaker, bind, pat as by_pat, type_ref as by_type, expr as by_expr, self_param, param, fn_name, roots, root, IsQuestion, children, root_of, chain, resolve as by_resolve, IsLine}
 use Rattle.hir_lines.proofs.Expressions.{accepts_expr, sound_expr}
 use Rattle.hir_lines.proofs.Forms.{Accepts, accept_head, accept_inner, whole_read, whole_found, Sound, sound_one_of, sound_inner, AllSound, no_form, form}
 use Rattle.hir_lines.proofs.Patterns.{accepts_pat, sound_pat}
@@ -53,8 +54,10 @@ accepts_maker root = accept_head line_forms _ root_line refl refl (search accept
 accepts_question : {q : Question} {tokens : List Token} → IsQuestion q tokens → Accepts tokens (one_of line_forms) (Ask q)
 accepts_question children = accept_head line_forms _ children_line refl refl (search accepting)
 accepts_question root_of = accept_head line_forms _ root_of_line refl refl (search accepting)
+accepts_question chain = accept_head line_forms _ chain_line refl refl (search accepting)
+accepts_question by_resolve = accept_head line_forms _ resolve_line refl refl (accept_inner resolve _ _ (λ question. Ask (OfBody question)) (search accepting))
 
-ruleset written = (sounding, bind, self_param, param, fn_name, roots, root, children, root_of)
+ruleset written = (sounding, bind, self_param, param, fn_name, roots, root, children, root_of, chain, by_resolve)
 
 pats_sound : Sound (λ line tokens. IsCommand line (Word (codes "pat") ∷ tokens)) pat_line
 pats_sound = sound_inner IsPat _ pat (λ made. Make (MakePat made)) sound_pat (λ p tokens is. by_pat is)
@@ -62,12 +65,15 @@ pats_sound = sound_inner IsPat _ pat (λ made. Make (MakePat made)) sound_pat (�
 types_sound : Sound (λ line tokens. IsCommand line (Word (codes "type") ∷ tokens)) type_line
 types_sound = sound_inner IsType _ type_ref (λ made. Make (MakeType made)) sound_type (λ t tokens is. by_type is)
 
+resolve_sound : Sound (λ line tokens. IsCommand line (Word (codes "resolve") ∷ tokens)) resolve_line
+resolve_sound = sound_inner (λ question tokens. IsQuestion (OfBody question) (Word (codes "resolve") ∷ tokens)) _ resolve (λ question. Ask (OfBody question)) (search written) (λ question tokens is. is)
+
 exprs_sound : Sound (λ line tokens. IsCommand line (Word (codes "expr") ∷ tokens)) expr_line
 exprs_sound = sound_inner IsExpr _ expr (λ made. Make (MakeExpr made)) sound_expr (λ e tokens is. by_expr is)
 
 forms_sound : AllSound IsCommand line_forms
 forms_sound = form (search written) (form pats_sound (form types_sound (form exprs_sound (form (search written) (form (search written)
-    (form (search written) (form (search written) (form (search written) (form (search written) (form (search written) no_form))))))))))
+    (form (search written) (form (search written) (form (search written) (form (search written) (form (search written) (form (search written) (form resolve_sound no_form))))))))))))
 
 sound_command : Sound IsCommand (one_of line_forms)
 sound_command = sound_one_of IsCommand line_forms forms_sound

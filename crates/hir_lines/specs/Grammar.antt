@@ -8,7 +8,9 @@ use Rattle.hir_lines.specs.declared.line.Line.TheVariants.{Blank, Make, Ask, Bad
 use Rattle.hir_lines.specs.declared.line.Maker.{Maker}
 use Rattle.hir_lines.specs.declared.line.Maker.TheVariants.{Binding, Pat as MakePat, «Type» as MakeType, Expr as MakeExpr, SelfParam, Param, FnName, Roots, Root}
 use Rattle.hir_lines.specs.declared.line.Question.{Question}
-use Rattle.hir_lines.specs.declared.line.Question.TheVariants.{Children, RootOf}
+use Rattle.hir_lines.specs.declared.line.Question.TheVariants.{OfStore, OfBody}
+use Rattle.hir_lines.specs.declared.line.StoreQuestion.TheVariants.{Children, RootOf}
+use Rattle.hir_lines.specs.declared.line.BodyQuestion.TheVariants.{Chain, Resolve}
 use Rattle.hir_lines.specs.Line.{plain_binding}
 use Rattle.hir_lines.specs.Tokens.{Token, Word, Name, Number, IsText}
 use Rattle.hir_lines.specs.PatGrammar.{IsPat}
@@ -31,8 +33,11 @@ pub data IsMaker : Maker → List Token → Type 0 where
 
 -- the words of a question
 pub data IsQuestion : Question → List Token → Type 0 where
-  children : {expr : ℕ} → IsQuestion (Children expr) (Word (codes "children") ∷ Number expr ∷ [])
-  root_of : {expr : ℕ} → IsQuestion (RootOf expr) (Word (codes "root-of") ∷ Number expr ∷ [])
+  children : {expr : ℕ} → IsQuestion (OfStore (Children expr)) (Word (codes "children") ∷ Number expr ∷ [])
+  root_of : {expr : ℕ} → IsQuestion (OfStore (RootOf expr)) (Word (codes "root-of") ∷ Number expr ∷ [])
+  chain : {expr : ℕ} → IsQuestion (OfBody (Chain expr)) (Word (codes "chain") ∷ Number expr ∷ [])
+  resolve : {expr : ℕ} {name : List ℕ} →
+      IsQuestion (OfBody (Resolve expr name)) (Word (codes "resolve") ∷ Number expr ∷ Name name ∷ [])
 
 -- how each line is written; a bad line is any text
 abbrev pub IsLine : Line → List ℕ → Type 0

@@ -7,7 +7,10 @@ use Rattle.hir_node.specs.declared.binding.BindingAnnotation.TheVariants.{Unanno
 use Rattle.hir_lines.specs.declared.line.Line.{Line}
 use Rattle.hir_lines.specs.declared.line.Line.TheVariants.{Blank, Make, Ask, Bad}
 use Rattle.hir_lines.specs.declared.line.Maker.TheVariants.{Binding as MakeBinding, Pat as MakePat, «Type» as MakeType, Expr as MakeExpr, SelfParam, Param, FnName, Roots, Root}
-use Rattle.hir_lines.specs.declared.line.Question.TheVariants.{Children, RootOf}
+use Rattle.hir_lines.specs.declared.line.Question.TheVariants.{OfStore, OfBody}
+use Rattle.hir_lines.specs.declared.line.StoreQuestion.TheVariants.{Children, RootOf}
+use Rattle.hir_lines.specs.declared.line.BodyQuestion.{BodyQuestion}
+use Rattle.hir_lines.specs.declared.line.BodyQuestion.TheVariants.{Chain, Resolve}
 use Rattle.hir_lines.specs.Readings.{Reading, ◌>>=◌, gives, whole, parts_of, space}
 use Rattle.hir_lines.specs.Words.{number, name, one_of}
 use Rattle.hir_lines.specs.Pats.{pat}
@@ -62,12 +65,29 @@ root_line = do
 abbrev pub children_line : Reading Line
 children_line = do
   id ← number
-  gives (Ask (Children id))
+  gives (Ask (OfStore (Children id)))
 
 abbrev pub root_of_line : Reading Line
 root_of_line = do
   id ← number
-  gives (Ask (RootOf id))
+  gives (Ask (OfStore (RootOf id)))
+
+abbrev pub chain_line : Reading Line
+chain_line = do
+  id ← number
+  gives (Ask (OfBody (Chain id)))
+
+-- what a name means at an expression
+abbrev pub resolve : Reading BodyQuestion
+resolve = do
+  id ← number
+  text ← name
+  gives (Resolve id text)
+
+abbrev pub resolve_line : Reading Line
+resolve_line = do
+  question ← resolve
+  gives (Ask (OfBody question))
 
 abbrev pub line_forms : List (List ℕ × Reading Line)
 line_forms =
@@ -82,6 +102,8 @@ line_forms =
     ∷ (codes "root", root_line)
     ∷ (codes "children", children_line)
     ∷ (codes "root-of", root_of_line)
+    ∷ (codes "chain", chain_line)
+    ∷ (codes "resolve", resolve_line)
     ∷ []
 
 -- the words of a line that isn't empty

@@ -15,5 +15,5 @@ mod stop;
 mod types;
 mod words;
 
-pub use line::{Line, Maker, Question};
+pub use line::{BodyQuestion, Line, Maker, Question, StoreQuestion};
 pub use reading::parse;

@@ -33,13 +33,37 @@ impl ExactEq for Maker {
     ghost eq_decides = { makers_decide };
 }
 
-/// A line that asks something.
+/// What is asked of a store alone.
 #[derive(Clone, Copy, PartialEq, Eq)]
-pub enum Question {
+pub enum StoreQuestion {
     /// `children E`: the child expressions.
     Children(ExprId),
     /// `root-of E`: the first root whose end of expressions is past this id.
     RootOf(ExprId),
+}
+
+impl ExactEq for StoreQuestion {
+    ghost eq_decides = { Prim.search exact };
+}
+
+/// What is asked of the body of a store.
+#[derive(Drop, PartialEq, Eq)]
+pub enum BodyQuestion {
+    /// `chain E`: the names that the expression sees, innermost first.
+    Chain(ExprId),
+    /// `resolve E NAME`: the binding that the name means at the expression.
+    Resolve(ExprId, Name),
+}
+
+impl ExactEq for BodyQuestion {
+    ghost eq_decides = { Prim.search exact };
+}
+
+/// A line that asks something.
+#[derive(Drop, PartialEq, Eq)]
+pub enum Question {
+    OfStore(StoreQuestion),
+    OfBody(BodyQuestion),
 }
 
 impl ExactEq for Question {

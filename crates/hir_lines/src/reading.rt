@@ -2,11 +2,11 @@
 
 ghost use Rattle.std.specs.Prelude.{◌≡◌, ◌≢◌, IfOk};
 ghost use Rattle.hir_lines.specs.Grammar.{IsLine};
-ghost use Rattle.hir_lines.specs.Line.{line_of, plain_binding, command};
+ghost use Rattle.hir_lines.specs.Line.{line_of, plain_binding, resolve, command};
 ghost use Rattle.hir_lines.specs.Readings.{Reads, Found, parts_of, space, whole};
 
 use crate::exprs::expr;
-use crate::line::{Line, Maker, Question};
+use crate::line::{BodyQuestion, Line, Maker, Question, StoreQuestion};
 use crate::pats::pat;
 use crate::stop::Stop;
 use crate::types::type_ref;
@@ -27,6 +27,14 @@ fn plain_binding(name: Name) -> Binding
     }
 }
 
+/// The question what a name means at an expression.
+fn resolve(alloc: Global, words: &mut Words<'_>) -> Result<BodyQuestion, Stop>
+    ensures { Reads resolve words.old result words.new }
+{
+    let expr = words.id()?;
+    Ok(BodyQuestion::Resolve(expr, words.name(alloc)?))
+}
+
 /// What the words of a line say.
 #[tactic(auto, unfolding(crate::specs::Line::command))]
 fn command(alloc: Global, words: &mut Words<'_>) -> Result<Line, Stop>
@@ -42,8 +50,16 @@ fn command(alloc: Global, words: &mut Words<'_>) -> Result<Line, Stop>
         "fn" => Ok(Line::Make(Maker::FnName(words.name(alloc)?))),
         "roots" => Ok(Line::Make(Maker::Roots)),
         "root" => Ok(Line::Make(Maker::Root(words.id()?))),
-        "children" => Ok(Line::Ask(Question::Children(words.id()?))),
-        "root-of" => Ok(Line::Ask(Question::RootOf(words.id()?))),
+        "children" => Ok(Line::Ask(Question::OfStore(StoreQuestion::Children(
+            words.id()?,
+        )))),
+        "root-of" => Ok(Line::Ask(Question::OfStore(StoreQuestion::RootOf(
+            words.id()?,
+        )))),
+        "chain" => Ok(Line::Ask(Question::OfBody(BodyQuestion::Chain(
+            words.id()?,
+        )))),
+        "resolve" => Ok(Line::Ask(Question::OfBody(resolve(alloc, words)?))),
         _ => Err(Stop::Bad),
     }
 }

@@ -179,7 +179,7 @@ fn operators_and_statements_have_their_forms(rt: HostRuntime) -> Result<(), Fail
     all_bad(&rt, rt.alloc(), &OPERATORS)
 }
 
-const FORMS: [&[u8]; 36] = [
+const FORMS: [&[u8]; 41] = [
     // Forms have their words alone.
     b"Roots",
     b"root0",
@@ -211,9 +211,14 @@ const FORMS: [&[u8]; 36] = [
     b"children -",
     b"rootof 0",
     b"root-of 0 1",
+    b"chain",
+    b"chain x",
+    b"chain 0 1",
+    b"resolve 0",
+    b"resolve x 0",
+    b"resolve 0 1x",
+    b"resolve 0 x 1",
     // No other lines are known.
-    b"chain 0",
-    b"resolve 0 x",
     b"print",
     b"captures 0",
     b"hygiene 0 0",

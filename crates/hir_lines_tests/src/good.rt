@@ -2,7 +2,7 @@
 
 use crate::says::{id, list, makes, path, says};
 use hir_base::{HygieneId, Name, RangeOp, Seq};
-use hir_lines::{Line, Maker, Question};
+use hir_lines::{BodyQuestion, Line, Maker, Question, StoreQuestion};
 use hir_node::{ArrayType, Binding, BindingAnnotation, ConstRef, ExprId, Pat, PatId, TypeRef};
 use std::alloc::{AllocError, Global};
 use std::test::Fail;
@@ -16,10 +16,21 @@ fn lines_without_names(rt: HostRuntime) -> Result<(), Fail> {
     makes(&rt, alloc, b"self 3", Maker::SelfParam(id(3)))?;
     let param = Maker::Param(id(4294967295));
     makes(&rt, alloc, b"param 4294967295", param)?;
-    let children = Question::Children(id(7));
+    Ok(())
+}
+
+#[test]
+fn questions(rt: HostRuntime) -> Result<(), Fail> {
+    let alloc = rt.alloc();
+    let children = Question::OfStore(StoreQuestion::Children(id(7)));
     says(&rt, alloc, b"children 7", Line::Ask(children))?;
-    let root = Question::RootOf(id(10));
-    says(&rt, alloc, b"root-of 10", Line::Ask(root))
+    let root = Question::OfStore(StoreQuestion::RootOf(id(10)));
+    says(&rt, alloc, b"root-of 10", Line::Ask(root))?;
+    let chain = Question::OfBody(BodyQuestion::Chain(id(0)));
+    says(&rt, alloc, b"chain 0", Line::Ask(chain))?;
+    let name = Name::new(alloc, "x_1")?;
+    let resolve = Question::OfBody(BodyQuestion::Resolve(id(4294967295), name));
+    says(&rt, alloc, b"resolve 4294967295 x_1", Line::Ask(resolve))
 }
 
 #[test]

@@ -7,10 +7,10 @@ use Rattle.hir_io.specs.NextLine.{NextTakes, is_failed_output}
 use Rattle.hir_io.specs.Reads.{Reads}
 use Rattle.hir_io.proofs.ReadLemmas.{ReadsFront-now, ReadsUntilFailure-now}
 use Rattle.hir_run.specs.declared.fault.RunFault.{RunFault}
-use Rattle.hir_run.specs.declared.fault.RunFault.TheVariants.{BadLine, Refused, InputFailed, OutputFailed, OutOfMemory}
+use Rattle.hir_run.specs.declared.fault.RunFault.TheVariants.{BadLine, Refused, BodyRefused, InputFailed, OutputFailed, OutOfMemory}
 use Rattle.hir_lines.specs.declared.line.Line.TheVariants.{Make, Bad}
 use Rattle.hir_run.specs.Made.{Made}
-use Rattle.hir_run.specs.Run.{fault_of_line}
+use Rattle.hir_run.specs.Faults.{fault_of_line}
 use Rattle.hir_run.specs.Stages.{AllMake, Builds, BuildsLine}
 use Rattle.hir_run.proofs.Scripts.{Tells, bad_is, behind_make}
 
@@ -34,3 +34,4 @@ build_line_fails known mid rest rest' remaining before lines old new built texts
 build_line_fails known mid rest rest' remaining before lines old new built texts InputFailed all tells front read count does = absurd does
 build_line_fails known mid rest rest' remaining before lines old new built texts OutputFailed all tells front read count does = absurd does
 build_line_fails known mid rest rest' remaining before lines old new built texts (Refused fault) all tells front read count does = absurd does
+build_line_fails known mid rest rest' remaining before lines old new built texts (BodyRefused fault) all tells front read count does = absurd does

@@ -1,14 +1,31 @@
--- The answers to questions, and how a text is written.
-use Rattle.std.specs.Prelude.{◌≡◌, ℕ, List, [], ◌∷◌, ◌++◌, Option, None, Some, codes, length, nat_lt, if◌then◌else◌, Result, Ok, Err, Bool, ◌||◌, is_err, flat_map}
+-- The answers to questions.
+use Rattle.std.specs.Prelude.{◌≡◌, ℕ, List, [], ◌∷◌, ◌++◌, Option, None, Some, codes, length, nat_lt, if◌then◌else◌, flat_map}
 use Rattle.std.specs.Fmt.{decimal}
+use Rattle.hir_base.specs.declared.edition.Edition.TheVariants.{Edition2015}
+use Rattle.hir_base.specs.declared.hygiene.SyntaxContext.{SyntaxContext}
+use Rattle.hir_base.specs.declared.hygiene.SyntaxContext.TheVariants.{Root as OfSource}
+use Rattle.hir_node.specs.declared.node_id.NodeId.TheVariants as node
 use Rattle.hir_lines.specs.declared.line.Question.{Question}
-use Rattle.hir_lines.specs.declared.line.Question.TheVariants.{Children, RootOf}
+use Rattle.hir_lines.specs.declared.line.Question.TheVariants.{OfStore, OfBody}
+use Rattle.hir_lines.specs.declared.line.StoreQuestion.{StoreQuestion}
+use Rattle.hir_lines.specs.declared.line.StoreQuestion.TheVariants.{Children, RootOf}
+use Rattle.hir_lines.specs.declared.line.BodyQuestion.{BodyQuestion}
+use Rattle.hir_lines.specs.declared.line.BodyQuestion.TheVariants as ask
 use Rattle.hir_forest.specs.declared.roots.Root.{Root}
 use Rattle.hir_faults.specs.Nodes.{Nodes}
 use Rattle.hir_expr_store.specs.RootSearch.{root_for_expr}
 use Rattle.hir_expr_store.specs.Contents.{Contents}
 use Rattle.hir_expr_store.specs.PatLists.{children}
-use Rattle.hir_io.specs.Ends.{GrowsByFront, IsWrittenUpTo}
+use Rattle.hir_items.specs.Bodies.{BodyContents, BodyReaches}
+use Rattle.hir_scope.specs.declared.scope.ScopeEntry.{ScopeEntry}
+use Rattle.hir_scope.specs.Built.{tops_of_body}
+use Rattle.hir_scope.specs.Chains.{HasChain}
+use Rattle.hir_scope.specs.Frames.{Chain}
+use Rattle.hir_scope.specs.Resolution.{resolve, entries_of}
+
+-- an answer: the question's word, the expression, what is known of it, and a line end
+abbrev pub answer_line : List ℕ → ℕ → List ℕ → List ℕ
+answer_line word expr known = word ++ decimal expr ++ known ++ codes "\n"
 
 -- numbers, each after a space
 abbrev pub spaced : List ℕ → List ℕ
@@ -19,44 +36,64 @@ abbrev pub children_text : Nodes → ℕ → List ℕ
 children_text s e =
     if nat_lt e (length s.exprs) then codes " =" ++ spaced (children s e) else codes " unknown"
 
--- the line of an expression and its children
-abbrev pub children_line : Nodes → ℕ → List ℕ
-children_line s e = codes "children " ++ (decimal e ++ children_text s e) ++ codes "\n"
-
 abbrev pub found_text : Option ℕ → List ℕ
 found_text None = codes " none"
-found_text (Some root) = codes " = " ++ decimal root
+found_text (Some id) = codes " = " ++ decimal id
 
 -- the root that an expression belongs to, or that there is none
 abbrev pub root_text : List Root → ℕ → List ℕ
 root_text roots e = found_text (root_for_expr roots e)
 
--- the line of an expression and its root
-abbrev pub root_line : List Root → ℕ → List ℕ
-root_line roots e = codes "root-of " ++ (decimal e ++ root_text roots e) ++ codes "\n"
-
 -- the answer to a question on a store
-abbrev pub answer_to : Contents → Question → List ℕ
-answer_to c (Children e) = children_line c.nodes e
-answer_to c (RootOf e) = root_line c.roots e
+abbrev pub store_answer : Contents → StoreQuestion → List ℕ
+store_answer c (Children e) = answer_line (codes "children ") e (children_text c.nodes e)
+store_answer c (RootOf e) = answer_line (codes "root-of ") e (root_text c.roots e)
 
--- the bytes are written behind those that wait, all but what waits then; after a failure a front of them is, and nothing waits
-abbrev pub Writes : {X E : Type 0} → Option (List ℕ) → List ℕ → Option (List ℕ) → List ℕ → List ℕ →
-    Result X E → Type 0
-Writes contents waiting contents' waiting' bytes (Ok x) =
-    IsWrittenUpTo contents contents' (waiting ++ bytes) waiting'
-Writes contents waiting contents' waiting' bytes (Err e) =
-    GrowsByFront contents contents' (waiting ++ bytes) × (waiting' ≡ [])
+-- An expression of a body has a chain, and only one: the frames around it. Or the body doesn't reach it
+abbrev pub IsChainOf : BodyContents → ℕ → Option Chain → Type 0
+IsChainOf b expr None = BodyReaches b (node.Expr expr) → ⊥
+IsChainOf b expr (Some chain) =
+    BodyReaches b (node.Expr expr) × HasChain b.store.nodes (tops_of_body b) expr chain
 
--- the next bytes are written, unless a write has failed
-abbrev pub WritesNext : {X E : Type 0} → Result X E → Option (List ℕ) → List ℕ → Option (List ℕ) → List ℕ →
-    List ℕ → Result X E → Type 0
-WritesNext (Ok x) contents waiting contents' waiting' bytes result =
-    Writes contents waiting contents' waiting' bytes result
-WritesNext (Err e) contents waiting contents' waiting' bytes result =
-    (result ≡ Err e) × (contents' ≡ contents) × (waiting' ≡ waiting)
+-- the names of entries, each after a space
+abbrev pub entry_text : ScopeEntry → List ℕ
+entry_text entry = 32 ∷ entry.name
 
--- the mark of a failed call after that
-abbrev pub FailsNext : {X E : Type 0} → Result X E → Bool → Bool → Result X E → Type 0
-FailsNext (Ok x) failed failed' result = failed' ≡ (is_err result || failed)
-FailsNext (Err e) failed failed' result = failed' ≡ failed
+abbrev pub names_text : List ScopeEntry → List ℕ
+names_text entries = flat_map entry_text entries
+
+-- the names that an expression sees, the innermost first
+abbrev pub chain_text : Option Chain → List ℕ
+chain_text None = codes " unreached"
+chain_text (Some chain) = codes " =" ++ names_text (entries_of chain)
+
+abbrev pub resolved_text : Option ScopeEntry → List ℕ
+resolved_text None = codes " none"
+resolved_text (Some entry) = codes " = " ++ decimal entry.binding
+
+-- names are asked for as they stand in source text
+abbrev pub of_source : SyntaxContext
+of_source = OfSource Edition2015
+
+-- the binding that a name means at an expression
+abbrev pub resolve_text : Option Chain → List ℕ → List ℕ
+resolve_text None name = codes " unreached"
+resolve_text (Some chain) name = resolved_text (resolve chain name of_source)
+
+-- the text is the answer to a question on a body
+abbrev pub IsBodyAnswer : BodyContents → BodyQuestion → List ℕ → Type 0
+IsBodyAnswer b (ask.Chain e) text =
+    (chain : Option Chain) × IsChainOf b e chain × (text ≡ answer_line (codes "chain ") e (chain_text chain))
+IsBodyAnswer b (ask.Resolve e name) text =
+    (chain : Option Chain) × IsChainOf b e chain
+    × (text ≡ answer_line (codes "resolve ") e (32 ∷ name ++ resolve_text chain name))
+
+-- where only the store was looked at, no question on the body is answered
+abbrev pub IsStoreAnswer : Contents → Question → List ℕ → Type 0
+IsStoreAnswer c (OfStore question) text = text ≡ store_answer c question
+IsStoreAnswer c (OfBody question) text = ⊥
+
+-- where the body was looked at too, both kinds of questions are
+abbrev pub IsAnswer : BodyContents → Question → List ℕ → Type 0
+IsAnswer b (OfStore question) text = text ≡ store_answer b.store question
+IsAnswer b (OfBody question) text = IsBodyAnswer b question text

@@ -1,6 +1,9 @@
 pub mod Made
 pub mod Answer
+pub mod Puts
 pub mod Program
+pub mod Outcomes
 pub mod Run
 pub mod Stages
+pub mod Faults
 pub mod Texts

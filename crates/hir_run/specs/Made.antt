@@ -3,7 +3,9 @@ use Rattle.std.specs.Prelude.{ℕ, List, [], ◌∷◌, ◌++◌, Bool, true, fa
 use Rattle.hir_lines.specs.declared.line.Maker.{Maker}
 use Rattle.hir_lines.specs.declared.line.Maker.TheVariants as make
 use Rattle.hir_faults.specs.Nodes.{Nodes}
-use Rattle.hir_store.specs.Building.{Building, building_of, and_root, some_roots}
+use Rattle.hir_store.specs.Building.{Building, building_of, contents_of, and_root, some_roots}
+use Rattle.hir_items.specs.declared.formals.Param.{Param}
+use Rattle.hir_items.specs.Bodies.{BodyContents, body_of}
 use Rattle.hir_expr_store.specs.SideTables.{no_side_tables}
 use Rattle.hir_run.specs.declared.fault.RunFault.{RunFault}
 use Rattle.hir_run.specs.declared.fault.RunFault.TheVariants.{BadLine, OutOfMemory}
@@ -12,8 +14,8 @@ use Rattle.hir_run.specs.declared.made.Made as code
 -- what is built, the self parameter, the other parameters and the name of the function
 pub record Made : Type 0 where
   pub built : Building
-  pub self_param : Option ℕ
-  pub params : List ℕ
+  pub self_param : Option (Param ℕ)
+  pub params : List (Param ℕ)
   pub name : Option (List ℕ)
 
 abbrev pub no_nodes : Nodes
@@ -36,6 +38,10 @@ made_of m =
 abbrev pub with_nodes : Made → Nodes → Made
 with_nodes m nodes = record m { built = record m.built { nodes = nodes } }
 
+-- a parameter that the body has as the user wrote it
+abbrev pub as_written : ℕ → Param ℕ
+as_written id = record { formal = id; user_written = id }
+
 -- what is made with one more line
 abbrev pub with_line : Made → Maker → Made
 with_line m (make.Binding binding) =
@@ -45,8 +51,8 @@ with_line m (make.Type type_ref) =
     with_nodes m (record m.built.nodes { types = m.built.nodes.types ++ type_ref ∷ [] })
 with_line m (make.Expr expr) =
     with_nodes m (record m.built.nodes { exprs = m.built.nodes.exprs ++ expr ∷ [] })
-with_line m (make.SelfParam id) = record m { self_param = Some id }
-with_line m (make.Param id) = record m { params = m.params ++ id ∷ [] }
+with_line m (make.SelfParam id) = record m { self_param = Some (as_written id) }
+with_line m (make.Param id) = record m { params = m.params ++ as_written id ∷ [] }
 with_line m (make.FnName name) = record m { name = Some name }
 with_line m make.Roots = record m { built = record m.built { roots = some_roots m.built.roots } }
 with_line m (make.Root id) = record m { built = record m.built { roots = and_root m.built id } }
@@ -67,3 +73,7 @@ is_second m (make.Root id) = false
 abbrev pub not_made : Bool → ℕ → RunFault
 not_made true line = BadLine line
 not_made false line = OutOfMemory
+
+-- the parts of the body of what was made
+abbrev pub body_parts : Made → BodyContents
+body_parts m = body_of (contents_of m.built) m.params m.self_param

@@ -1,18 +1,19 @@
 -- What the program writes and how it ends, for the lines that it is given.
-use Rattle.std.specs.Prelude.{◌≡◌, ◌⊎◌, ℕ, ◌+◌, Bool, true, false, ◌&&◌, ◌||◌, if◌then◌else◌, List, [], ◌∷◌, length, Option, None, Some, Result, Ok, Err, filter_map, flat_map, fold, map, codes}
+use Rattle.std.specs.Prelude.{◌≡◌, ℕ, ◌+◌, Bool, true, false, ◌&&◌, ◌||◌, if◌then◌else◌, List, [], ◌∷◌, ◌++◌, length, Option, None, Some, Result, Ok, Err, filter_map, fold, map, codes}
 use Rattle.hir_io.specs.Text.{lines}
 use Rattle.hir_lines.specs.declared.line.Line.{Line}
 use Rattle.hir_lines.specs.declared.line.Line.TheVariants.{Blank, Make, Ask, Bad}
 use Rattle.hir_lines.specs.declared.line.Maker.{Maker}
 use Rattle.hir_lines.specs.declared.line.Maker.TheVariants as make
-use Rattle.hir_run.specs.declared.fault.RunFault.{RunFault}
-use Rattle.hir_run.specs.declared.fault.RunFault.TheVariants.{BadLine, Refused}
-use Rattle.hir_faults.specs.declared.fault.FinishFault.{FinishFault}
-use Rattle.hir_expr_store.specs.Contents.{Contents}
-use Rattle.hir_store.specs.Building.{contents_of, finish_fault}
+use Rattle.hir_lines.specs.declared.line.Question.{Question}
+use Rattle.hir_lines.specs.declared.line.Question.TheVariants.{OfStore, OfBody}
 use Rattle.hir_lines.specs.Line.{line_of}
-use Rattle.hir_run.specs.Made.{Made, nothing_made, with_line}
-use Rattle.hir_run.specs.Answer.{answer_to}
+use Rattle.hir_items.specs.Bodies.{body_fault}
+use Rattle.hir_store.specs.Building.{contents_of, finish_fault}
+use Rattle.hir_run.specs.declared.fault.RunFault.{RunFault}
+use Rattle.hir_run.specs.declared.fault.RunFault.TheVariants.{BadLine, Refused, BodyRefused}
+use Rattle.hir_run.specs.Made.{Made, nothing_made, with_line, body_parts}
+use Rattle.hir_run.specs.Answer.{IsStoreAnswer, IsAnswer}
 
 -- whether a line may stand before the first question
 abbrev pub makes : Line → Bool
@@ -21,12 +22,24 @@ makes (Make maker) = true
 makes (Ask question) = false
 makes Bad = false
 
+-- whether a line may stand where these questions may be asked
+abbrev pub may_ask : (Question → Bool) → Line → Bool
+may_ask may Blank = true
+may_ask may (Make maker) = false
+may_ask may (Ask question) = may question
+may_ask may Bad = false
+
+abbrev pub any_question : Question → Bool
+any_question question = true
+
+-- a question on the store alone
+abbrev pub is_of_store : Question → Bool
+is_of_store (OfStore question) = true
+is_of_store (OfBody question) = false
+
 -- whether a line may stand after a question
 abbrev pub asks : Line → Bool
-asks Blank = true
-asks (Make maker) = false
-asks (Ask question) = true
-asks Bad = false
+asks line = may_ask any_question line
 
 -- the elements before the first that fails the test, and the elements from it on
 abbrev pub front : {X : Type 0} → (X → Bool) → List X → List X
@@ -37,15 +50,82 @@ abbrev pub behind : {X : Type 0} → (X → Bool) → List X → List X
 behind p [] = []
 behind p (x ∷ xs) = if p x then behind p xs else x ∷ xs
 
--- the lines before the first question; the questions; and the lines from the first bad one on
+-- how a run goes: what is written, and how it ends
+abbrev pub Outcome : Type 0
+Outcome = Result (Unit {0}) RunFault
+
+abbrev pub Course : Type 1
+Course = List ℕ → Outcome → Type 0
+
+-- this is written, and the run ends so
+abbrev pub writes : List ℕ → Outcome → Course
+writes bytes end text outcome = (text ≡ bytes) × (outcome ≡ end)
+
+-- one course or another
+abbrev pub if_so : Bool → Course → Course → Course
+if_so true course other = course
+if_so false course other = other
+
+-- behind so many good lines comes one that may not stand there, or none
+abbrev pub stops : ℕ → List Line → Course
+stops good [] = writes [] (Ok tt)
+stops good (bad ∷ rest) = writes [] (Err (BadLine (good + 1)))
+
+-- the run ends with the first fault, if there is one; else it goes on
+abbrev pub fault_or : {F : Type 0} → (F → RunFault) → Course → Option F → Course
+fault_or refusal next None = next
+fault_or refusal next (Some fault) = writes [] (Err (refusal fault))
+
+abbrev pub unless_refused : {F : Type 0} → (Option F → Type 0) → (F → RunFault) → Course → Course
+unless_refused {F} verdict refusal next text outcome =
+    (fault : Option F) × verdict fault × fault_or refusal next fault text outcome
+
+-- the answer of a line: an empty one has none
+abbrev pub IsLineAnswer : (Question → List ℕ → Type 0) → Line → List ℕ → Type 0
+IsLineAnswer Is Blank text = text ≡ []
+IsLineAnswer Is (Make maker) text = ⊥
+IsLineAnswer Is (Ask question) text = Is question text
+IsLineAnswer Is Bad text = ⊥
+
+-- the answers of these lines, in their order
+abbrev pub AreAnswers : (Question → List ℕ → Type 0) → List Line → List ℕ → Type 0
+AreAnswers Is [] text = text ≡ []
+AreAnswers Is (line ∷ rest) text =
+    (first more : List ℕ) × IsLineAnswer Is line first × AreAnswers Is rest more × (text ≡ first ++ more)
+
+-- A section of questions, behind so many good lines: those that may be asked are answered, as far as they come. Then the run goes on
+abbrev pub section : (Question → Bool) → (Question → List ℕ → Type 0) → (ℕ → List Line → Course) → ℕ → List Line → Course
+section may Is next good script text outcome =
+    (answers more : List ℕ) × AreAnswers Is (front (may_ask may) script) answers
+    × next (good + length (front (may_ask may) script)) (behind (may_ask may) script) more outcome
+    × (text ≡ answers ++ more)
+
+-- the section from the first question on the body on: the first fault of the body's parts is looked for, and any question is answered
+abbrev pub on_body : Made → ℕ → List Line → Course
+on_body made good script =
+    unless_refused (body_fault (body_parts made)) BodyRefused
+    (section any_question (IsAnswer (body_parts made)) stops good script)
+
+abbrev pub behind_store : Made → ℕ → List Line → Course
+behind_store made good [] = stops good []
+behind_store made good (line ∷ rest) =
+    if_so (asks line) (on_body made good (line ∷ rest)) (stops good (line ∷ rest))
+
+-- the section from the first question on: the builder's first fault is looked for, and questions on the store are answered
+abbrev pub on_store : Made → ℕ → List Line → Course
+on_store made good script =
+    unless_refused (finish_fault made.built) Refused
+    (section is_of_store (IsStoreAnswer (contents_of made.built)) (behind_store made) good script)
+
+-- behind the lines that make something: this is the course where no line is left
+abbrev pub behind_making : Course → Made → ℕ → List Line → Course
+behind_making idle made good [] = idle
+behind_making idle made good (line ∷ rest) =
+    if_so (asks line) (on_store made good (line ∷ rest)) (stops good (line ∷ rest))
+
+-- the lines before the first question
 unfoldable pub making : List Line → List Line
 making script = front makes script
-
-unfoldable pub asking : List Line → List Line
-asking script = front asks (behind makes script)
-
-unfoldable pub left_over : List Line → List Line
-left_over script = behind asks (behind makes script)
 
 abbrev pub maker_of : Line → Option Maker
 maker_of Blank = None
@@ -61,48 +141,21 @@ built_by script = fold with_line nothing_made (filter_map maker_of script)
 abbrev pub made : List Line → Made
 made script = built_by (making script)
 
-abbrev pub answer : Contents → Line → List ℕ
-answer store Blank = []
-answer store (Make maker) = []
-answer store (Ask question) = answer_to store question
-answer store Bad = []
+-- the course of a script, where this is the course of one without a question and without a bad line
+unfoldable pub Runs : Course → List Line → Course
+Runs idle script = behind_making idle (made script) (length (making script)) (behind makes script)
 
--- the answers, in the order of the questions
-abbrev pub answers : List Line → List ℕ
-answers script = flat_map (answer (contents_of (made script).built)) (asking script)
-
--- nothing is written for a builder that is refused
-abbrev pub unless_refused : Option FinishFault → List ℕ → List ℕ
-unless_refused None text = text
-unless_refused (Some fault) text = []
-
--- its first fault comes before any bad line
-abbrev pub refused_or : Option FinishFault → Result (Unit {0}) RunFault → Result (Unit {0}) RunFault
-refused_or None outcome = outcome
-refused_or (Some fault) outcome = Err (Refused fault)
-
--- behind so many good lines comes a bad one, or none
-abbrev pub ending : ℕ → List Line → Result (Unit {0}) RunFault
-ending good [] = Ok tt
-ending good (bad ∷ rest) = Err (BadLine (good + 1))
-
--- what is written and how the program ends: by the verdict on what so many lines made, the answers, the questions and the lines left over.
--- A bad line before any question comes first, since what was made isn't looked at before a question or the end
-abbrev pub Means : (Option FinishFault → Type 0) → ℕ → List ℕ → List Line → List Line → List ℕ →
-    Result (Unit {0}) RunFault → Type 0
-Means verdict good answers [] (bad ∷ rest) text outcome = (text ≡ []) × (outcome ≡ Err (BadLine (good + 1)))
-Means verdict good answers [] [] text outcome =
-    (fault : Option FinishFault) × verdict fault × (text ≡ unless_refused fault (codes "accepted\n"))
-    × (outcome ≡ refused_or fault (Ok tt))
-Means verdict good answers (question ∷ questions) rest text outcome =
-    (fault : Option FinishFault) × verdict fault × (text ≡ unless_refused fault answers)
-    × (outcome ≡ refused_or fault (ending (good + length (question ∷ questions)) rest))
+-- without a question the builder's first fault is looked for at the end
+abbrev pub accepts : Made → Course
+accepts made = unless_refused (finish_fault made.built) Refused (writes (codes "accepted\n") (Ok tt))
 
 -- the text that a script has written, and its outcome
-unfoldable pub IsMeaning : List Line → List ℕ → Result (Unit {0}) RunFault → Type 0
-IsMeaning script text outcome =
-    Means (finish_fault (made script).built) (length (making script)) (answers script) (asking script)
-    (left_over script) text outcome
+abbrev pub IsMeaning : List Line → Course
+IsMeaning script = Runs (accepts (made script)) script
+
+-- no fault comes in these lines, and this is the text of their answers; it isn't looked at what comes behind them
+abbrev pub HasAnswers : List Line → List ℕ → Type 0
+HasAnswers script text = Runs (writes [] (Ok tt)) script text (Ok tt)
 
 -- whether a line gives the self parameter; the name
 abbrev pub maker_gives_self : Maker → Bool
@@ -161,7 +214,3 @@ script texts = once_each false false (says texts)
 -- the lines that an input spells
 abbrev pub script_of : List ℕ → List Line
 script_of input = script (lines input)
-
--- no fault comes in these lines: none is bad, and what was made has none where there is a question
-abbrev pub IsSound : List Line → Type 0
-IsSound script = (left_over script ≡ []) × ((asking script ≡ []) ⊎ finish_fault (made script).built None)

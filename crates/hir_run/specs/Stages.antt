@@ -1,21 +1,27 @@
--- What the two stages of a run do, over the bytes that are told: lines that make something, then questions.
-use Rattle.std.specs.Prelude.{◌≡◌, ◌⊎◌, ℕ, ◌+◌, true, false, List, [], ◌∷◌, ◌++◌, length, Option, None, Some, Result, Ok, Err, flat_map, codes}
-use Rattle.std.specs.List.{list_all, list_any}
+-- What the parts of a run do, over the bytes that are told: lines that make something, then sections of questions.
+use Rattle.std.specs.Prelude.{◌≡◌, ◌⊎◌, ℕ, ◌+◌, Bool, true, false, List, [], ◌∷◌, ◌++◌, length, Option, None, Some, Result, Ok, Err, IfSome, ⊤, codes}
 use Rattle.std.specs.Io.KnownBytes.{Appends}
-use Rattle.hir_io.specs.Ends.{GrowsByFront, IsWrittenUpTo}
+use Rattle.std.specs.List.{list_all, list_any}
 use Rattle.hir_io.specs.LineState.{LineState}
 use Rattle.hir_io.specs.Reads.{Reads, ReadsAll, ReadsFront, ReadsUntilFailure}
+use Rattle.hir_io.specs.Ends.{GrowsByFront, IsWrittenUpTo}
 use Rattle.hir_lines.specs.declared.line.Line.{Line}
 use Rattle.hir_lines.specs.declared.line.Line.TheVariants.{Blank, Make, Ask, Bad}
 use Rattle.hir_lines.specs.declared.line.Maker.{Maker}
 use Rattle.hir_lines.specs.declared.line.Question.{Question}
-use Rattle.hir_run.specs.declared.fault.RunFault.{RunFault}
-use Rattle.hir_run.specs.declared.fault.RunFault.TheVariants.{BadLine, Refused, InputFailed, OutputFailed, OutOfMemory}
-use Rattle.hir_expr_store.specs.Contents.{Contents}
-use Rattle.hir_run.specs.Made.{Made, is_second, with_line}
 use Rattle.hir_lines.specs.Line.{line_of}
-use Rattle.hir_run.specs.Answer.{answer_to}
-use Rattle.hir_run.specs.Program.{makes, asks, gives_self, gives_name, unless_second, says, script, built_by, answer}
+use Rattle.hir_faults.specs.declared.fault.FinishFault.{FinishFault}
+use Rattle.hir_items.specs.declared.body_fault.BodyFault.{BodyFault}
+use Rattle.hir_items.specs.Bodies.{BodyContents, body_fault}
+use Rattle.hir_expr_store.specs.Contents.{Contents}
+use Rattle.hir_store.specs.Building.{Building, contents_of, finish_fault}
+use Rattle.hir_run.specs.declared.fault.RunFault.{RunFault}
+use Rattle.hir_run.specs.declared.fault.RunFault.TheVariants.{Refused, BodyRefused, OutputFailed}
+use Rattle.hir_run.specs.Made.{Made, is_second, with_line}
+use Rattle.hir_run.specs.Outcomes.{Ends}
+use Rattle.hir_run.specs.Puts.{Puts}
+use Rattle.hir_run.specs.Run.{EndsWith}
+use Rattle.hir_run.specs.Program.{Outcome, makes, may_ask, asks, gives_self, gives_name, unless_second, says, script, built_by, IsLineAnswer, AreAnswers}
 
 -- each of these lines may stand before the first question
 abbrev pub AllMake : List (List ℕ) → Type 0
@@ -31,145 +37,149 @@ line_behind texts text =
     unless_second (list_any gives_self (says texts)) (list_any gives_name (says texts)) (line_of text)
 
 -- memory was refused at the line behind these: it is being read, or it was the last that was taken
-abbrev pub IsNextLine : ℕ → List (List ℕ) → ℕ → Type 0
-IsNextLine before texts count = (count ≡ before + length texts) ⊎ (count ≡ before + length texts + 1)
+abbrev pub IsBehind : ℕ → List (List ℕ) → ℕ → Type 0
+IsBehind before texts count = (count ≡ before + length texts) ⊎ (count ≡ before + length texts + 1)
 
--- the first stage: from the told bytes to those still to be taken and those that the source has left, with the lines and what was built
-abbrev pub Builds : Option (List ℕ) → Option (List ℕ) → Option (List ℕ) → LineState → Made →
-    Result (Option Question) RunFault → Type 0
-Builds known rest remaining lines built (Ok None) =
-    (texts : List (List ℕ)) × Makes texts built × ReadsAll known texts
-Builds known rest remaining lines built (Ok (Some question)) =
+-- nothing was asked, or a question behind these texts
+abbrev pub BuildsUpTo : Option (List ℕ) → Option (List ℕ) → LineState → Made → Option Question → Type 0
+BuildsUpTo known rest lines built None = (texts : List (List ℕ)) × Makes texts built × ReadsAll known texts × (lines.count ≡ length texts)
+BuildsUpTo known rest lines built (Some question) =
     (texts : List (List ℕ)) × (text : List ℕ) × Makes texts built × (line_of text ≡ Ask question)
     × Reads known (texts ++ text ∷ []) rest lines.at_end × (lines.count ≡ length texts + 1)
-Builds known rest remaining lines built (Err (BadLine number)) =
-    (texts : List (List ℕ)) × (text : List ℕ) × AllMake texts × (line_behind texts text ≡ Bad)
-    × ReadsFront known (texts ++ text ∷ []) × (number ≡ length texts + 1)
-Builds known rest remaining lines built (Err InputFailed) =
-    (texts : List (List ℕ)) × AllMake texts × ReadsUntilFailure known texts lines.pending remaining
-Builds known rest remaining lines built (Err OutOfMemory) =
-    (texts : List (List ℕ)) × AllMake texts × ReadsFront known texts × IsNextLine 0 texts lines.count
-Builds known rest remaining lines built (Err (Refused fault)) = ⊥
-Builds known rest remaining lines built (Err OutputFailed) = ⊥
 
--- what the line of this number does in the first stage, to what was made before it
-abbrev pub BuildsBy : Line → ℕ → Made → Made → Result (Option Question) RunFault → Type 0
-BuildsBy line number old new (Ok None) =
+-- the lines that make: from the told bytes to those still to be taken and those that the source has left, with the lines and what was built
+abbrev pub Builds : Option (List ℕ) → Option (List ℕ) → Option (List ℕ) → LineState → Made →
+    Result (Option Question) RunFault → Type 0
+Builds known rest remaining lines built result =
+    Ends (BuildsUpTo known rest lines built)
+    (λ number. (texts : List (List ℕ)) × (text : List ℕ) × AllMake texts × (line_behind texts text ≡ Bad)
+    × ReadsFront known (texts ++ text ∷ []) × (number ≡ length texts + 1))
+    (λ fault. ⊥)
+    ((texts : List (List ℕ)) × AllMake texts × ReadsUntilFailure known texts lines.pending remaining)
+    ⊥
+    ((texts : List (List ℕ)) × AllMake texts × ReadsFront known texts × IsBehind 0 texts lines.count)
+    result
+
+-- the line is empty or makes something; or it asks
+abbrev pub MakesOrAsks : Line → Made → Made → Option Question → Type 0
+MakesOrAsks line old new None =
     ((line ≡ Blank) × (new ≡ old))
     ⊎ ((maker : Maker) × (line ≡ Make maker) × (is_second old maker ≡ false) × (new ≡ with_line old maker))
-BuildsBy line number old new (Ok (Some question)) = (line ≡ Ask question) × (new ≡ old)
-BuildsBy line number old new (Err (BadLine told)) =
-    ((line ≡ Bad) ⊎ ((maker : Maker) × (line ≡ Make maker) × (is_second old maker ≡ true))) × (new ≡ old)
-    × (told ≡ number)
-BuildsBy line number old new (Err OutOfMemory) = new ≡ old
-BuildsBy line number old new (Err InputFailed) = ⊥
-BuildsBy line number old new (Err OutputFailed) = ⊥
-BuildsBy line number old new (Err (Refused fault)) = ⊥
+MakesOrAsks line old new (Some question) = (line ≡ Ask question) × (new ≡ old)
+
+-- what the line of this number does, to what was made before it
+abbrev pub BuildsBy : Line → ℕ → Made → Made → Result (Option Question) RunFault → Type 0
+BuildsBy line number old new result =
+    Ends (MakesOrAsks line old new)
+    (λ told. ((line ≡ Bad) ⊎ ((maker : Maker) × (line ≡ Make maker) × (is_second old maker ≡ true))) × (new ≡ old)
+    × (told ≡ number))
+    (λ fault. ⊥) ⊥ ⊥ (new ≡ old) result
 
 -- what the line that was taken last does there
 abbrev pub BuildsLine : LineState → Made → Made → Result (Option Question) RunFault → Type 0
 BuildsLine lines old new result = BuildsBy (line_of lines.line) lines.count old new result
 
--- these lines may stand after a question
-abbrev pub AllAsk : List (List ℕ) → Type 0
-AllAsk texts = list_all asks (says texts) ≡ true
+-- what a builder gives: its store; or it has this first fault, or memory was refused
+abbrev pub Finishes : Building → Result Contents RunFault → Type 0
+Finishes built result =
+    Ends (λ store. (store ≡ contents_of built) × finish_fault built None) (λ number. ⊥)
+    (λ fault. (first : FinishFault) × (fault ≡ Refused first) × finish_fault built (Some first)) ⊥ ⊥ ⊤ result
 
--- the answers to a question and the lines after it
-abbrev pub answers_from : Contents → Question → List (List ℕ) → List ℕ
-answers_from store question texts = answer_to store question ++ flat_map (answer store) (says texts)
+-- what the parts of a body give: the body; or they have this first fault, or memory was refused
+abbrev pub IsMadeBody : BodyContents → Result BodyContents RunFault → Type 0
+IsMadeBody parts result =
+    Ends (λ body. (body ≡ parts) × body_fault parts None) (λ number. ⊥)
+    (λ fault. (first : BodyFault) × (fault ≡ BodyRefused first) × body_fault parts (Some first)) ⊥ ⊥ ⊤ result
 
--- one answer was written behind what waited, or a front of these
-abbrev pub AnswersOne : Option (List ℕ) → List ℕ → Option (List ℕ) → List ℕ → List ℕ →
-    Result (Unit {0}) RunFault → Type 0
-AnswersOne old waiting new waiting' text (Ok done) = IsWrittenUpTo old new (waiting ++ text) waiting'
-AnswersOne old waiting new waiting' text (Err OutputFailed) =
-    GrowsByFront old new (waiting ++ text) × (waiting' ≡ [])
-AnswersOne old waiting new waiting' text (Err OutOfMemory) = ⊥
-AnswersOne old waiting new waiting' text (Err InputFailed) = ⊥
-AnswersOne old waiting new waiting' text (Err (BadLine number)) = ⊥
-AnswersOne old waiting new waiting' text (Err (Refused fault)) = ⊥
+-- what a question is answered with: one line, put behind what waits. Or it may not be asked here, and is handed back
+abbrev pub Replies : (Question → Bool) → (Question → List ℕ → Type 0) → Question → Option (List ℕ) → Bool → List ℕ →
+    Option (List ℕ) → Bool → List ℕ → Option Question → Type 0
+Replies may Is question old failed waiting new failed' waiting' None =
+    (may question ≡ true) × (text : List ℕ) × Is question text × Puts old failed waiting new failed' waiting' text
+Replies may Is question old failed waiting new failed' waiting' (Some other) =
+    (may question ≡ false) × (other ≡ question) × (new ≡ old) × (failed' ≡ failed) × (waiting' ≡ waiting)
 
--- what the line of this number does behind the first question
-abbrev pub AnswersBy : Option (List ℕ) → List ℕ → Option (List ℕ) → List ℕ → Contents → Line → ℕ →
-    Result (Unit {0}) RunFault → Type 0
-AnswersBy old waiting new waiting' store line number (Ok done) =
-    (asks line ≡ true) × IsWrittenUpTo old new (waiting ++ answer store line) waiting'
-AnswersBy old waiting new waiting' store line number (Err (BadLine told)) =
-    (asks line ≡ false) × (told ≡ number) × (new ≡ old) × (waiting' ≡ waiting)
-AnswersBy old waiting new waiting' store line number (Err OutputFailed) =
-    (asks line ≡ true) × GrowsByFront old new (waiting ++ answer store line) × (waiting' ≡ [])
-AnswersBy old waiting new waiting' store line number (Err OutOfMemory) = (new ≡ old) × (waiting' ≡ waiting)
-AnswersBy old waiting new waiting' store line number (Err InputFailed) = ⊥
-AnswersBy old waiting new waiting' store line number (Err (Refused fault)) = ⊥
+-- where the line of this number may be asked: it was answered, or its question may not be asked here, and is handed back
+abbrev pub TakesLine : (Question → Bool) → (Question → List ℕ → Type 0) → Line → Option (List ℕ) → List ℕ →
+    Option (List ℕ) → List ℕ → Option Question → Type 0
+TakesLine may Is line old waiting new waiting' None =
+    (may_ask may line ≡ true) × (text : List ℕ) × IsLineAnswer Is line text
+    × IsWrittenUpTo old new (waiting ++ text) waiting'
+TakesLine may Is line old waiting new waiting' (Some question) =
+    (may question ≡ false) × (line ≡ Ask question) × (new ≡ old) × (waiting' ≡ waiting)
 
--- what the line that was taken last does there
-abbrev pub AnswersLine : Option (List ℕ) → List ℕ → Option (List ℕ) → List ℕ → Contents → LineState →
-    Result (Unit {0}) RunFault → Type 0
-AnswersLine old waiting new waiting' store lines result =
-    AnswersBy old waiting new waiting' store (line_of lines.line) lines.count result
+-- what a line of this number does in a section of questions
+abbrev pub AsksLine : (Question → Bool) → (Question → List ℕ → Type 0) → Line → ℕ → Option (List ℕ) → List ℕ →
+    Option (List ℕ) → List ℕ → Result (Option Question) RunFault → Type 0
+AsksLine may Is line number old waiting new waiting' result =
+    Ends (TakesLine may Is line old waiting new waiting')
+    (λ told. (asks line ≡ false) × (told ≡ number) × (new ≡ old) × (waiting' ≡ waiting)) (λ fault. ⊥) ⊥
+    ((may_ask may line ≡ true) × (text : List ℕ) × IsLineAnswer Is line text
+    × GrowsByFront old new (waiting ++ text) × (waiting' ≡ []))
+    ((new ≡ old) × (waiting' ≡ waiting)) result
 
--- these lines behind the first question were answered, all but what waits
-abbrev pub AnsweredUpTo : Option (List ℕ) → Option (List ℕ) → List ℕ → Contents → Question → List (List ℕ) →
+-- the lines of a section that begins with a question
+abbrev pub asked : Question → List (List ℕ) → List Line
+asked first texts = Ask first ∷ says texts
+
+-- these lines may be asked, and this is the text of their answers
+abbrev pub HaveAnswers : (Question → Bool) → (Question → List ℕ → Type 0) → List Line → List ℕ → Type 0
+HaveAnswers may Is script text = (list_all (may_ask may) script ≡ true) × AreAnswers Is script text
+
+-- they were answered, all but what waits then
+abbrev pub Answered : (Question → Bool) → (Question → List ℕ → Type 0) → List Line → Option (List ℕ) → List ℕ →
+    Option (List ℕ) → List ℕ → Type 0
+Answered may Is script old waiting new waiting' =
+    (text : List ℕ) × HaveAnswers may Is script text × IsWrittenUpTo old new (waiting ++ text) waiting'
+
+-- all lines that are left were answered; or all before a question that may not be asked here, the first or a later one
+abbrev pub AsksUpTo : (Question → Bool) → (Question → List ℕ → Type 0) → Option (List ℕ) → Option (List ℕ) → LineState →
+    LineState → Option (List ℕ) → List ℕ → Option (List ℕ) → List ℕ → Question → Option Question → Type 0
+AsksUpTo may Is known rest lines lines' old waiting new waiting' first None =
+    (texts : List (List ℕ)) × Answered may Is (asked first texts) old waiting new waiting' × ReadsAll known texts
+    × (lines'.count ≡ lines.count + length texts)
+AsksUpTo may Is known rest lines lines' old waiting new waiting' first (Some question) =
+    (may question ≡ false)
+    × (((question ≡ first) × (new ≡ old) × (waiting' ≡ waiting) × (lines' ≡ lines) × (rest ≡ known))
+    ⊎ ((texts : List (List ℕ)) × (text : List ℕ) × Answered may Is (asked first texts) old waiting new waiting'
+    × (line_of text ≡ Ask question) × Reads known (texts ++ text ∷ []) rest lines'.at_end
+    × (lines.at_end ≡ true → lines'.at_end ≡ true) × (lines'.count ≡ lines.count + length texts + 1)))
+
+-- a section of questions: from the told bytes behind the first question to those still to be taken and those that the source has left
+abbrev pub Asks : (Question → Bool) → (Question → List ℕ → Type 0) → Option (List ℕ) → Option (List ℕ) →
+    Option (List ℕ) → LineState → LineState → Option (List ℕ) → List ℕ → Option (List ℕ) → List ℕ → Question →
+    Result (Option Question) RunFault → Type 0
+Asks may Is known rest remaining lines lines' old waiting new waiting' first result =
+    Ends (AsksUpTo may Is known rest lines lines' old waiting new waiting' first)
+    (λ number. (texts : List (List ℕ)) × (text : List ℕ)
+    × Answered may Is (asked first texts) old waiting new waiting' × (asks (line_of text) ≡ false)
+    × ReadsFront known (texts ++ text ∷ []) × (number ≡ lines.count + length texts + 1))
+    (λ fault. ⊥)
+    ((texts : List (List ℕ)) × Answered may Is (asked first texts) old waiting new waiting'
+    × (lines.at_end ≡ false) × ReadsUntilFailure known texts lines'.pending remaining)
+    ((texts : List (List ℕ)) × (text : List ℕ) × HaveAnswers may Is (asked first texts) text
+    × ReadsFront known texts × GrowsByFront old new (waiting ++ text) × (waiting' ≡ []))
+    (((texts : List (List ℕ)) × Answered may Is (asked first texts) old waiting new waiting'
+    × ReadsFront known texts × IsBehind lines.count texts lines'.count)
+    ⊎ ((new ≡ old) × (waiting' ≡ waiting) × (lines'.count ≡ lines.count)))
+    result
+
+-- that the store is accepted was written, all but what waits, or a front of it
+abbrev pub Accepts : Option (List ℕ) → List ℕ → Option (List ℕ) → List ℕ → Result (Unit {0}) RunFault → Type 0
+Accepts old waiting new waiting' result =
+    Ends (λ done. IsWrittenUpTo old new (waiting ++ codes "accepted\n") waiting') (λ number. ⊥) (λ fault. ⊥) ⊥
+    (GrowsByFront old new (waiting ++ codes "accepted\n") × (waiting' ≡ [])) ⊥ result
+
+-- a run over told bytes, of whose output some may wait
+abbrev pub RunsUpTo : Option (List ℕ) → Option (List ℕ) → Option (List ℕ) → Option (List ℕ) → List ℕ → ℕ → Outcome →
     Type 0
-AnsweredUpTo old new waiting store question texts =
-    AllAsk texts × IsWrittenUpTo old new (answers_from store question texts) waiting
-
--- the second stage, where some answers may wait
-abbrev pub AnswersSome : Option (List ℕ) → Option (List ℕ) → LineState → LineState → Option (List ℕ) →
-    Option (List ℕ) → List ℕ → Contents → Question → Result (Unit {0}) RunFault → Type 0
-AnswersSome known remaining lines lines' old new waiting store question (Ok done) =
-    (texts : List (List ℕ)) × AnsweredUpTo old new waiting store question texts × ReadsAll known texts
-AnswersSome known remaining lines lines' old new waiting store question (Err (BadLine number)) =
-    (texts : List (List ℕ)) × (text : List ℕ) × AnsweredUpTo old new waiting store question texts
-    × (asks (line_of text) ≡ false) × ReadsFront known (texts ++ text ∷ [])
-    × (number ≡ lines.count + length texts + 1)
-AnswersSome known remaining lines lines' old new waiting store question (Err InputFailed) =
-    (texts : List (List ℕ)) × AnsweredUpTo old new waiting store question texts × (waiting ≡ [])
-    × (lines.at_end ≡ false) × ReadsUntilFailure known texts lines'.pending remaining
-AnswersSome known remaining lines lines' old new waiting store question (Err OutputFailed) =
-    (texts : List (List ℕ)) × AllAsk texts × ReadsFront known texts
-    × GrowsByFront old new (answers_from store question texts) × (waiting ≡ [])
-AnswersSome known remaining lines lines' old new waiting store question (Err OutOfMemory) =
-    (texts : List (List ℕ)) × AnsweredUpTo old new waiting store question texts × ReadsFront known texts
-    × IsNextLine lines.count texts lines'.count
-AnswersSome known remaining lines lines' old new waiting store question (Err (Refused fault)) = ⊥
-
--- these lines behind the first question were answered
-abbrev pub Answered : Option (List ℕ) → Option (List ℕ) → Contents → Question → List (List ℕ) → Type 0
-Answered old new store question texts = AllAsk texts × Appends old new (answers_from store question texts)
-
--- the second stage: from the told bytes behind the first question, with every answer written
-abbrev pub Answers : Option (List ℕ) → Option (List ℕ) → LineState → LineState → Option (List ℕ) →
-    Option (List ℕ) → Contents → Question → Result (Unit {0}) RunFault → Type 0
-Answers known remaining lines lines' old new store question (Ok done) =
-    (texts : List (List ℕ)) × Answered old new store question texts × ReadsAll known texts
-Answers known remaining lines lines' old new store question (Err (BadLine number)) =
-    (texts : List (List ℕ)) × (text : List ℕ) × Answered old new store question texts
-    × (asks (line_of text) ≡ false) × ReadsFront known (texts ++ text ∷ [])
-    × (number ≡ lines.count + length texts + 1)
-Answers known remaining lines lines' old new store question (Err InputFailed) =
-    (texts : List (List ℕ)) × Answered old new store question texts × (lines.at_end ≡ false)
-    × ReadsUntilFailure known texts lines'.pending remaining
-Answers known remaining lines lines' old new store question (Err OutputFailed) =
-    (texts : List (List ℕ)) × AllAsk texts × ReadsFront known texts
-    × GrowsByFront old new (answers_from store question texts)
-Answers known remaining lines lines' old new store question (Err OutOfMemory) =
-    (texts : List (List ℕ)) × Answered old new store question texts × ReadsFront known texts
-    × IsNextLine lines.count texts lines'.count
-Answers known remaining lines lines' old new store question (Err (Refused fault)) = ⊥
+RunsUpTo known old remaining new waiting count outcome =
+    IfSome known
+    (λ input. EndsWith input (λ text. IsWrittenUpTo old new text waiting)
+    (λ text. GrowsByFront old new text × (waiting ≡ [])) remaining count outcome)
 
 -- what waited was written and the outcome stays, or a write of something failed
-abbrev pub Closes : Option (List ℕ) → Option (List ℕ) → List ℕ → Result (Unit {0}) RunFault →
-    Result (Unit {0}) RunFault → Type 0
+abbrev pub Closes : Option (List ℕ) → Option (List ℕ) → List ℕ → Outcome → Outcome → Type 0
 Closes old new waiting outcome result =
     ((result ≡ outcome) × Appends old new waiting × (waiting ≡ [] → new ≡ old))
     ⊎ ((result ≡ Err OutputFailed) × GrowsByFront old new waiting × (waiting ≡ [] → ⊥))
-
--- that the store is accepted was written, or a front of it
-abbrev pub Accepts : Option (List ℕ) → Option (List ℕ) → Result (Unit {0}) RunFault → Type 0
-Accepts old new (Ok done) = Appends old new (codes "accepted\n")
-Accepts old new (Err OutputFailed) = GrowsByFront old new (codes "accepted\n")
-Accepts old new (Err OutOfMemory) = ⊥
-Accepts old new (Err InputFailed) = ⊥
-Accepts old new (Err (BadLine number)) = ⊥
-Accepts old new (Err (Refused fault)) = ⊥

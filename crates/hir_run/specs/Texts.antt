@@ -9,7 +9,8 @@ use Rattle.hir_faults.specs.declared.fault.FinishFault.{FinishFault}
 use Rattle.hir_faults.specs.declared.fault.FinishFault.TheVariants as finish
 use Rattle.hir_faults.specs.contracts.fault.FinishFaultDisplay.TheImpl as finish_fault
 use Rattle.hir_run.specs.declared.fault.RunFault.{RunFault}
-use Rattle.hir_run.specs.declared.fault.RunFault.TheVariants.{BadLine, Refused, InputFailed, OutputFailed, OutOfMemory}
+use Rattle.hir_items.specs.FaultTexts.{body_fault_text}
+use Rattle.hir_run.specs.declared.fault.RunFault.TheVariants.{BadLine, Refused, BodyRefused, InputFailed, OutputFailed, OutOfMemory}
 
 -- the kind of an id and its number
 abbrev pub node_text : NodeId → List ℕ
@@ -36,6 +37,7 @@ finish_fault_text finish.Memory = codes "Memory"
 abbrev pub fault_text : RunFault → List ℕ
 fault_text (BadLine number) = codes "bad line " ++ decimal number
 fault_text (Refused fault) = codes "refused " ++ finish_fault_text fault
+fault_text (BodyRefused fault) = codes "refused " ++ body_fault_text fault
 fault_text InputFailed = codes "input failed"
 fault_text OutputFailed = codes "output failed"
 fault_text OutOfMemory = codes "out of memory"
@@ -44,6 +46,7 @@ fault_text OutOfMemory = codes "out of memory"
 abbrev pub displayed : RunFault → Option (List ℕ)
 displayed (BadLine number) = Some (fault_text (BadLine number))
 displayed (Refused fault) = option_append (Some (codes "refused ")) (finish_fault.ghosts.output fault)
+displayed (BodyRefused fault) = Some (fault_text (BodyRefused fault))
 displayed InputFailed = Some (fault_text InputFailed)
 displayed OutputFailed = Some (fault_text OutputFailed)
 displayed OutOfMemory = Some (fault_text OutOfMemory)

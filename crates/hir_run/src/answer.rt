@@ -1,173 +1,159 @@
-//! The answers to questions, written to the output.
+//! The answers to questions on a store.
 
-ghost use Rattle.std.specs.Prelude.{◌≡◌, ◌<◌, ◌||◌, ◌++◌, ◌∷◌, [], true, false, Result, Ok, Err, OnOk, OnErr, length, is_err};
+ghost use Rattle.std.specs.Prelude.{◌∷◌, ◌++◌, ◌<◌, length, codes};
 ghost use Rattle.std.specs.Fmt.{decimal};
-ghost use Rattle.hir_io.specs.Ends.{GrowsByFront, IsWrittenUpTo};
 ghost use Rattle.hir_expr_store.specs.PatLists.{children};
-ghost use Rattle.hir_run.specs.Answer.{answer_to, children_line, children_text, root_line, root_text, spaced, FailsNext, Writes, WritesNext};
+ghost use Rattle.hir_run.specs.Answer.{store_answer, answer_line, children_text, root_text, spaced};
+ghost use Rattle.hir_run.specs.Puts.{Puts};
 
-use hir_io::{EndFailed, OutputBuffer, Sink};
-use hir_lines::Question;
+use crate::asking::Answers;
+use crate::put::{put, put_number, put_spaced};
+use hir_io::{OutputBuffer, Sink};
+use hir_lines::{Question, StoreQuestion};
 use hir_node::ExprId;
 use hir_store::ExpressionStore;
+use std::alloc::AllocError;
 
-/// Writes a number after a space.
-fn write_spaced<W: Sink>(
-    id: ExprId,
-    output: &mut OutputBuffer,
-    writer: &mut W,
-) -> Result<(), EndFailed>
-    ensures writes { Writes (W.contents writer.old) output.old (W.contents writer.new) output.new
-        (32 ∷ decimal id) result }
-    ensures failure { W.failed writer.new ≡ (is_err result || W.failed writer.old) }
-{
-    output.write(b" ", writer)?;
-    output.write_number(id.into_raw(), writer)
-}
-
-/// Writes the children of an expression, each after a space.
-fn write_children<W: Sink>(
+/// Puts the children of an expression, each after a space.
+fn put_children<W: Sink>(
     store: &ExpressionStore,
     id: ExprId,
     output: &mut OutputBuffer,
     writer: &mut W,
-) -> Result<(), EndFailed>
+)
     requires { id < length store.now.nodes.exprs }
-    ensures writes { Writes (W.contents writer.old) output.old (W.contents writer.new) output.new
-        (spaced (children store.now.nodes id)) result }
-    ensures failure { W.failed writer.new ≡ (is_err result || W.failed writer.old) }
+    ensures { Puts (W.contents writer.old) (W.failed writer.old) output.old (W.contents writer.new)
+        (W.failed writer.new) output.new (spaced (children store.now.nodes id)) }
 {
-    let mut outcome = Ok(());
     store.walk_child_exprs(
         id,
         &mut |child: ExprId| -> ()
-            ensures writes { WritesNext outcome.entry (W.contents writer.entry.now) output.entry.now
-                (W.contents writer.exit.now) output.exit.now (32 ∷ decimal child) outcome.exit }
-            ensures failure { FailsNext outcome.entry (W.failed writer.entry.now) (W.failed writer.exit.now)
-                outcome.exit }
+            ensures { Puts (W.contents writer.entry.now) (W.failed writer.entry.now) output.entry.now
+                (W.contents writer.exit.now) (W.failed writer.exit.now) output.exit.now (32 ∷ decimal child) }
         {
-            if outcome.is_ok() {
-                outcome = write_spaced(child, output, writer);
-            }
+            put_spaced(child.into_raw(), output, writer);
         },
     );
-    outcome
 }
 
-/// Writes what is known of an expression: its children, or that it isn't there.
-fn write_found<W: Sink>(
+/// Puts what is known of an expression: its children, or that it isn't there.
+fn put_known<W: Sink>(
     store: &ExpressionStore,
     id: ExprId,
     output: &mut OutputBuffer,
     writer: &mut W,
-) -> Result<(), EndFailed>
-    ensures writes { Writes (W.contents writer.old) output.old (W.contents writer.new) output.new
-        (children_text store.now.nodes id) result }
-    ensures failure { W.failed writer.new ≡ (is_err result || W.failed writer.old) }
+)
+    ensures { Puts (W.contents writer.old) (W.failed writer.old) output.old (W.contents writer.new)
+        (W.failed writer.new) output.new (children_text store.now.nodes id) }
 {
     if !store.has_expr(id) {
-        return output.write(b" unknown", writer);
+        put(b" unknown", output, writer);
+        return;
     }
-    output.write(b" =", writer)?;
-    write_children(store, id, output, writer)
+    put(b" =", output, writer);
+    put_children(store, id, output, writer);
 }
 
-/// Writes the number of an expression, and what is known of it.
-fn write_known<W: Sink>(
+/// Puts the root that an expression belongs to, or that there is none.
+fn put_root<W: Sink>(
     store: &ExpressionStore,
     id: ExprId,
     output: &mut OutputBuffer,
     writer: &mut W,
-) -> Result<(), EndFailed>
-    ensures writes { Writes (W.contents writer.old) output.old (W.contents writer.new) output.new
-        (decimal id ++ children_text store.now.nodes id) result }
-    ensures failure { W.failed writer.new ≡ (is_err result || W.failed writer.old) }
+)
+    ensures { Puts (W.contents writer.old) (W.failed writer.old) output.old (W.contents writer.new)
+        (W.failed writer.new) output.new (root_text store.now.roots id) }
 {
-    output.write_number(id.into_raw(), writer)?;
-    write_found(store, id, output, writer)
+    if !store.covers_expr(id) {
+        put(b" none", output, writer);
+        return;
+    }
+    let root = store.find_root_for_expr(id);
+    put(b" = ", output, writer);
+    put_number(root.into_raw(), output, writer);
 }
 
-/// Answers with the children of an expression.
+/// Puts the first words of an answer: what was asked, and of which expression.
+pub(crate) fn put_asked<W: Sink>(
+    word: &[u8],
+    id: ExprId,
+    output: &mut OutputBuffer,
+    writer: &mut W,
+)
+    ensures { Puts (W.contents writer.old) (W.failed writer.old) output.old (W.contents writer.new)
+        (W.failed writer.new) output.new (word.now ++ decimal id) }
+{
+    put(word, output, writer);
+    put_number(id.into_raw(), output, writer);
+}
+
 fn answer_children<W: Sink>(
     store: &ExpressionStore,
     id: ExprId,
     output: &mut OutputBuffer,
     writer: &mut W,
-) -> Result<(), EndFailed>
-    ensures writes { Writes (W.contents writer.old) output.old (W.contents writer.new) output.new
-        (children_line store.now.nodes id) result }
-    ensures failure { W.failed writer.new ≡ (is_err result || W.failed writer.old) }
+)
+    ensures { Puts (W.contents writer.old) (W.failed writer.old) output.old (W.contents writer.new)
+        (W.failed writer.new) output.new
+        (answer_line (codes "children ") id (children_text store.now.nodes id)) }
 {
-    output.write(b"children ", writer)?;
-    write_known(store, id, output, writer)?;
-    output.write(b"\n", writer)
+    put_asked(b"children ", id, output, writer);
+    put_known(store, id, output, writer);
+    put(b"\n", output, writer);
 }
 
-/// Writes the root that an expression belongs to, or that there is none.
-fn write_root<W: Sink>(
-    store: &ExpressionStore,
-    id: ExprId,
-    output: &mut OutputBuffer,
-    writer: &mut W,
-) -> Result<(), EndFailed>
-    ensures writes { Writes (W.contents writer.old) output.old (W.contents writer.new) output.new
-        (root_text store.now.roots id) result }
-    ensures failure { W.failed writer.new ≡ (is_err result || W.failed writer.old) }
-{
-    if !store.covers_expr(id) {
-        return output.write(b" none", writer);
-    }
-    let root = store.find_root_for_expr(id);
-    output.write(b" = ", writer)?;
-    output.write_number(root.into_raw(), writer)
-}
-
-/// Writes the number of an expression, and its root.
-fn write_with_root<W: Sink>(
-    store: &ExpressionStore,
-    id: ExprId,
-    output: &mut OutputBuffer,
-    writer: &mut W,
-) -> Result<(), EndFailed>
-    ensures writes { Writes (W.contents writer.old) output.old (W.contents writer.new) output.new
-        (decimal id ++ root_text store.now.roots id) result }
-    ensures failure { W.failed writer.new ≡ (is_err result || W.failed writer.old) }
-{
-    output.write_number(id.into_raw(), writer)?;
-    write_root(store, id, output, writer)
-}
-
-/// Answers with the root that an expression belongs to.
 fn answer_root<W: Sink>(
     store: &ExpressionStore,
     id: ExprId,
     output: &mut OutputBuffer,
     writer: &mut W,
-) -> Result<(), EndFailed>
-    ensures writes { Writes (W.contents writer.old) output.old (W.contents writer.new) output.new
-        (root_line store.now.roots id) result }
-    ensures failure { W.failed writer.new ≡ (is_err result || W.failed writer.old) }
+)
+    ensures { Puts (W.contents writer.old) (W.failed writer.old) output.old (W.contents writer.new)
+        (W.failed writer.new) output.new
+        (answer_line (codes "root-of ") id (root_text store.now.roots id)) }
 {
-    output.write(b"root-of ", writer)?;
-    write_with_root(store, id, output, writer)?;
-    output.write(b"\n", writer)
+    put_asked(b"root-of ", id, output, writer);
+    put_root(store, id, output, writer);
+    put(b"\n", output, writer);
 }
 
-/// Answers a question by one line.
-///
-/// After an `Err` a front of what waited and of the answer was written.
-pub(crate) fn answer<W: Sink>(
+/// Answers a question on a store by one line.
+pub(crate) fn answer_store<W: Sink>(
     store: &ExpressionStore,
-    question: Question,
+    question: StoreQuestion,
     output: &mut OutputBuffer,
     writer: &mut W,
-) -> Result<(), EndFailed>
-    ensures writes { Writes (W.contents writer.old) output.old (W.contents writer.new) output.new
-        (answer_to store.now question) result }
-    ensures failure { W.failed writer.new ≡ (is_err result || W.failed writer.old) }
+)
+    ensures { Puts (W.contents writer.old) (W.failed writer.old) output.old (W.contents writer.new)
+        (W.failed writer.new) output.new (store_answer store.now question) }
 {
     match question {
-        Question::Children(id) => answer_children(store, id, output, writer),
-        Question::RootOf(id) => answer_root(store, id, output, writer),
+        StoreQuestion::Children(id) => answer_children(store, id, output, writer),
+        StoreQuestion::RootOf(id) => answer_root(store, id, output, writer),
+    }
+}
+
+/// A store alone answers no question on the body.
+impl Answers for ExpressionStore {
+    ghost use Rattle.hir_run.specs.Program.{is_of_store};
+    ghost use Rattle.hir_run.specs.Answer.{IsStoreAnswer};
+
+    ghost may = { is_of_store };
+
+    ghost Is = { IsStoreAnswer };
+
+    fn answer<W: Sink>(
+        &self,
+        question: Question,
+        output: &mut OutputBuffer,
+        writer: &mut W,
+    ) -> Result<Option<Question>, AllocError> {
+        match question {
+            Question::OfStore(asked) => {
+                answer_store(self, asked, output, writer);
+                Ok(None)
+            }
+            Question::OfBody(asked) => Ok(Some(Question::OfBody(asked))),
+        }
     }
 }

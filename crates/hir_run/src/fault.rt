@@ -4,6 +4,7 @@ ghost use Rattle.std.specs.Prelude.{◌≡◌};
 
 use hir_base::ExactEq;
 use hir_io::LineFault;
+use hir_items::{BodyFault, RefusedBody};
 use hir_store::{FinishFault, Refused};
 use std::fmt;
 use std::mem::drop;
@@ -16,6 +17,8 @@ pub enum RunFault {
     BadLine(u64),
     /// What the lines made was refused.
     Refused(FinishFault),
+    /// The body of what they made was refused.
+    BodyRefused(BodyFault),
     /// A read failed.
     InputFailed,
     /// A write failed.
@@ -34,6 +37,7 @@ impl fmt::Display for RunFault {
         match self {
             RunFault::BadLine(number) => write!(f, "bad line {number}"),
             RunFault::Refused(fault) => write!(f, "refused {fault}"),
+            RunFault::BodyRefused(fault) => write!(f, "refused {fault}"),
             RunFault::InputFailed => f.write_str("input failed"),
             RunFault::OutputFailed => f.write_str("output failed"),
             RunFault::OutOfMemory => f.write_str("out of memory"),
@@ -49,7 +53,7 @@ impl ExactEq for RunFault {
 
 impl From<LineFault> for RunFault {
     ghost use Rattle.std.specs.Prelude.{◌≡◌};
-    ghost use Rattle.hir_run.specs.Run.{fault_of_line};
+    ghost use Rattle.hir_run.specs.Faults.{fault_of_line};
 
     ghost from_gives = { λ fault failure. failure ≡ fault_of_line fault };
 
@@ -64,7 +68,7 @@ impl From<LineFault> for RunFault {
 
 impl From<FinishFault> for RunFault {
     ghost use Rattle.std.specs.Prelude.{◌≡◌};
-    ghost use Rattle.hir_run.specs.Run.{fault_of_finish};
+    ghost use Rattle.hir_run.specs.Faults.{fault_of_finish};
 
     ghost from_gives = { λ fault failure. failure ≡ fault_of_finish fault };
 
@@ -90,7 +94,7 @@ impl From<FinishFault> for RunFault {
 /// The builder that is handed back is dropped.
 impl From<Refused> for RunFault {
     ghost use Rattle.std.specs.Prelude.{◌≡◌};
-    ghost use Rattle.hir_run.specs.Run.{fault_of_finish};
+    ghost use Rattle.hir_run.specs.Faults.{fault_of_finish};
 
     ghost from_gives = { λ refused failure. failure ≡ fault_of_finish refused.fault };
 
@@ -98,5 +102,38 @@ impl From<Refused> for RunFault {
         let fault = refused.fault;
         drop(refused);
         RunFault::from(fault)
+    }
+}
+
+impl From<BodyFault> for RunFault {
+    ghost use Rattle.std.specs.Prelude.{◌≡◌};
+    ghost use Rattle.hir_run.specs.Faults.{fault_of_body};
+
+    ghost from_gives = { λ fault failure. failure ≡ fault_of_body fault };
+
+    fn from(fault: BodyFault) -> RunFault {
+        match fault {
+            BodyFault::Memory => RunFault::OutOfMemory,
+            BodyFault::NoRoot
+            | BodyFault::SelfOutOfRange
+            | BodyFault::ParamOutOfRange(_)
+            | BodyFault::ParamRepeated(_)
+            | BodyFault::ParamUnder(_)
+            | BodyFault::RootInParam => RunFault::BodyRefused(fault),
+        }
+    }
+}
+
+/// The parts that are handed back are dropped.
+impl From<RefusedBody> for RunFault {
+    ghost use Rattle.std.specs.Prelude.{◌≡◌};
+    ghost use Rattle.hir_run.specs.Faults.{fault_of_body};
+
+    ghost from_gives = { λ refused failure. failure ≡ fault_of_body refused.fault };
+
+    fn from(refused: RefusedBody) -> RunFault {
+        let reason = refused.fault;
+        drop(refused);
+        RunFault::from(reason)
     }
 }

@@ -3,13 +3,16 @@
 #![tactic(auto)]
 
 mod answer;
+mod asking;
+mod building;
 mod fault;
 pub mod laws;
 mod made;
 mod program;
+mod put;
 mod reporting;
-mod stages;
+mod scoped_body;
 
 pub use fault::RunFault;
-pub use program::run;
+pub use program::{run, run_lines};
 pub use reporting::report;

@@ -5,6 +5,7 @@ ghost use Rattle.hir_run.specs.Made.{made_of, nothing_made, with_line, is_second
 
 use crate::fault::RunFault;
 use hir_base::{Name, Seq};
+use hir_items::Param;
 use hir_lines::Maker;
 use hir_node::{BindingId, PatId};
 use hir_store::ExpressionStoreBuilder;
@@ -14,9 +15,27 @@ use std::alloc::Global;
 #[derive(Drop)]
 pub(crate) struct Made {
     pub(crate) builder: ExpressionStoreBuilder,
-    self_param: Option<BindingId>,
-    params: Seq<PatId>,
+    self_param: Option<Param<BindingId>>,
+    params: Seq<Param<PatId>>,
     name: Option<Name>,
+}
+
+/// What a body is made of.
+#[derive(Drop)]
+pub(crate) struct Parts {
+    pub(crate) builder: ExpressionStoreBuilder,
+    pub(crate) params: Seq<Param<PatId>>,
+    pub(crate) self_param: Option<Param<BindingId>>,
+}
+
+/// A parameter that the body has as the user wrote it.
+fn as_written<Id: Copy>(id: Id) -> Param<Id>
+    ensures { result ≡ record { formal = id; user_written = id } }
+{
+    Param {
+        formal: id,
+        user_written: id,
+    }
 }
 
 impl Made {
@@ -32,11 +51,25 @@ impl Made {
         }
     }
 
-    /// The builder alone.
-    pub(crate) fn into_builder(self) -> ExpressionStoreBuilder
-        ensures { result ≡ self.builder }
+    /// The builder, the parameters and the self parameter.
+    pub(crate) fn into_parts(self) -> Parts
+        ensures { result ≡ record {
+          builder = self.builder;
+          params = self.params;
+          self_param = self.self_param;
+        } }
     {
-        self.builder
+        let Made {
+            builder,
+            self_param,
+            params,
+            name: _,
+        } = self;
+        Parts {
+            builder,
+            params,
+            self_param,
+        }
     }
 
     /// Adds what the line of this number makes. A second self parameter or a second name is a bad line. After a refusal all is as it was.
@@ -56,10 +89,10 @@ impl Made {
                 if self.self_param.is_some() {
                     return Err(RunFault::BadLine(line));
                 }
-                self.self_param = Some(id);
+                self.self_param = Some(as_written(id));
                 Ok(())
             }
-            Maker::Param(id) => or_memory(self.params.push(id)),
+            Maker::Param(id) => or_memory(self.params.push(as_written(id))),
             Maker::FnName(name) => {
                 if self.name.is_some() {
                     return Err(RunFault::BadLine(line));

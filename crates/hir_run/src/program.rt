@@ -1,31 +1,131 @@
 //! The program: lines in, answers out.
 
-ghost use Rattle.std.specs.Prelude.{◌≡◌, false};
+ghost use Rattle.std.specs.Prelude.{◌≡◌, ◌||◌, ℕ, [], true, false};
 ghost use Rattle.hir_store.specs.Building.{building_of};
-ghost use Rattle.hir_run.specs.Run.{Runs, IsFinished, store_of, is_input_failed, is_output_failed};
+ghost use Rattle.hir_run.specs.Outcomes.{is_input_failed, is_output_failed};
+ghost use Rattle.hir_run.specs.Run.{RunsTo};
+ghost use Rattle.hir_run.specs.Stages.{Accepts, Closes, Finishes, RunsUpTo};
 
+use crate::asking::answer_lines;
+use crate::building::build;
 use crate::fault::RunFault;
-use crate::made::Made;
-use crate::stages::{accept, answer_all, build};
+use crate::made::{Made, Parts};
+use crate::scoped_body::ScopedBody;
 use hir_io::{LineReader, OutputBuffer, Sink, Source};
-use hir_store::{ExpressionStore, ExpressionStoreSourceMap};
+use hir_store::{ExpressionStore, ExpressionStoreBuilder};
 use std::alloc::Global;
-use std::mem::{drop, forget};
 
-/// The store of what was built, with its source map, or why there is none.
-fn finished(made: Made) -> Result<(ExpressionStore, ExpressionStoreSourceMap), RunFault>
-    ensures { IsFinished (building_of made.builder) (store_of result) }
+/// The store of what was built, or why there is none.
+fn finished(builder: ExpressionStoreBuilder) -> Result<ExpressionStore, RunFault>
+    ensures { Finishes (building_of builder) result }
 {
-    Ok(made.into_builder().finish()?)
+    let (store, _) = builder.finish()?;
+    Ok(store)
+}
+
+/// Writes that the store is accepted.
+fn accept<W: Sink>(output: &mut OutputBuffer, writer: &mut W) -> Result<(), RunFault>
+    ensures accepts { Accepts (W.contents writer.old) output.old (W.contents writer.new) output.new result }
+    ensures failure { W.failed writer.new ≡ (is_output_failed result || W.failed writer.old) }
+{
+    match output.write(b"accepted\n", writer) {
+        Ok(()) => Ok(()),
+        Err(_) => Err(RunFault::OutputFailed),
+    }
+}
+
+/// Makes what the lines before the first question make, and answers the questions. What was answered last may still wait.
+fn answer_script<R: Source, W: Sink>(
+    alloc: Global,
+    lines: &mut LineReader,
+    reader: &mut R,
+    output: &mut OutputBuffer,
+    writer: &mut W,
+) -> Result<(), RunFault>
+    requires fresh { lines.old ≡ record { line = []; pending = []; at_end = false; count = 0 } }
+    requires quiet { output.old ≡ [] }
+    requires reading { R.failed reader.old ≡ false }
+    requires writing { W.failed writer.old ≡ false }
+    ensures runs { RunsUpTo (R.remaining reader.old) (W.contents writer.old) (R.remaining reader.new)
+        (W.contents writer.new) output.new lines.new.count result }
+    ensures input_failed { R.failed reader.new ≡ is_input_failed result }
+    ensures output_failed { W.failed writer.new ≡ is_output_failed result }
+    // A read is made only where nothing waits.
+    ensures quiet { is_input_failed result ≡ true → output.new ≡ [] }
+{
+    let mut made = Made::new(alloc);
+    let first = build(alloc, lines, reader, output, writer, &mut made)?;
+    let Parts {
+        builder,
+        params,
+        self_param,
+    } = made.into_parts();
+    let store = finished(builder)?;
+    let on_store = match first {
+        Some(on_store) => on_store,
+        None => return accept(output, writer),
+    };
+    let left = answer_lines(alloc, &store, on_store, lines, reader, output, writer)?;
+    let on_body = match left {
+        Some(on_body) => on_body,
+        None => return Ok(()),
+    };
+    let body = ScopedBody::new(alloc, store, params, self_param)?;
+    let unasked = answer_lines(alloc, &body, on_body, lines, reader, output, writer)?;
+    match unasked {
+        None => Ok(()),
+        Some(_) => unreachable!(),
+    }
+}
+
+/// Writes what waits, before the outcome is told.
+fn close<W: Sink>(
+    outcome: Result<(), RunFault>,
+    output: &mut OutputBuffer,
+    writer: &mut W,
+) -> Result<(), RunFault>
+    ensures closes { Closes (W.contents writer.old) (W.contents writer.new) output.old outcome result }
+    ensures failure { W.failed writer.old ≡ is_output_failed outcome →
+        W.failed writer.new ≡ is_output_failed result }
+{
+    let flushed = output.flush(writer);
+    match flushed {
+        Ok(()) => outcome,
+        Err(_) => Err(RunFault::OutputFailed),
+    }
+}
+
+/// Runs the program as `run` does, on the lines that a fresh reader takes from the source. Afterwards the reader tells how many were taken:
+/// where memory was refused, it was at the last of them, or at the one behind it.
+pub fn run_lines<R: Source, W: Sink>(
+    alloc: Global,
+    lines: &mut LineReader,
+    reader: &mut R,
+    writer: &mut W,
+) -> Result<(), RunFault>
+    requires fresh { lines.old ≡ record { line = []; pending = []; at_end = false; count = 0 } }
+    requires reading { R.failed reader.old ≡ false }
+    requires writing { W.failed writer.old ≡ false }
+    ensures runs { RunsTo (R.remaining reader.old) (W.contents writer.old) (R.remaining reader.new)
+        (W.contents writer.new) lines.new.count result }
+    ensures input_failed { R.failed reader.new ≡ is_input_failed result }
+    ensures output_failed { W.failed writer.new ≡ is_output_failed result }
+{
+    let Ok(mut output) = OutputBuffer::new(alloc) else {
+        return Err(RunFault::OutOfMemory);
+    };
+    let outcome = answer_script(alloc, lines, reader, &mut output, writer);
+    close(outcome, &mut output, writer)
 }
 
 /// Runs the program on the lines that the source gives, and writes its answers to the sink.
 ///
 /// Lines that make something stand before the first question; after it, each line that is none is bad. The answers come in
-/// order up to the first fault; `accepted` where there is neither a question nor a fault. What waits to be written is written
+/// order up to the first fault; `accepted` where there is neither a question nor a fault. What was made is looked at where the
+/// first question comes, or at the end, and its body where the first question on it comes. What waits to be written is written
 /// before each read and before the run ends, so an answer is never held back while more input is awaited. A failed read ends
 /// the run: the answers of the whole lines before are written. A failed write ends it too. Where memory is refused, the answers
-/// of the lines before are written.
+/// of the lines before are written: `run_lines` tells at which line. All memory is given back.
 pub fn run<R: Source, W: Sink>(
     alloc: Global,
     reader: &mut R,
@@ -33,44 +133,13 @@ pub fn run<R: Source, W: Sink>(
 ) -> Result<(), RunFault>
     requires reading { R.failed reader.old ≡ false }
     requires writing { W.failed writer.old ≡ false }
-    ensures runs { Runs (R.remaining reader.old) (W.contents writer.old) (R.remaining reader.new)
-        (W.contents writer.new) result }
+    ensures runs { (count : ℕ) × RunsTo (R.remaining reader.old) (W.contents writer.old) (R.remaining reader.new)
+        (W.contents writer.new) count result }
     ensures input_failed { R.failed reader.new ≡ is_input_failed result }
     ensures output_failed { W.failed writer.new ≡ is_output_failed result }
 {
     let Ok(mut lines) = LineReader::new(alloc) else {
         return Err(RunFault::OutOfMemory);
     };
-    let Ok(mut output) = OutputBuffer::new(alloc) else {
-        return Err(RunFault::OutOfMemory);
-    };
-    let mut made = Made::new(alloc);
-    let first = match build(alloc, &mut lines, reader, &mut output, writer, &mut made) {
-        Ok(first) => first,
-        Err(fault) => {
-            drop(made);
-            return Err(fault);
-        }
-    };
-    // The store is never dropped: the process ends behind a run, and the system takes back all memory at once.
-    let stored = finished(made)?;
-    match first {
-        Some(question) => {
-            let outcome = answer_all(
-                alloc,
-                &stored.0,
-                question,
-                &mut lines,
-                reader,
-                &mut output,
-                writer,
-            );
-            forget(stored);
-            outcome
-        }
-        None => {
-            forget(stored);
-            accept(&mut output, writer)
-        }
-    }
+    run_lines(alloc, &mut lines, reader, writer)
 }

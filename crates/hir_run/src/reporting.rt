@@ -5,11 +5,13 @@ ghost use Rattle.std.specs.Prelude.{◌≡◌, ◌||◌, ◌++◌, codes, false,
 ghost use Rattle.std.specs.Fmt.{decimal};
 ghost use Rattle.std.specs.Io.KnownBytes.{Appends};
 ghost use Rattle.hir_io.specs.Ends.{GrowsByFront};
-ghost use Rattle.hir_run.specs.Run.{status_of};
+ghost use Rattle.hir_run.specs.Faults.{status_of};
+ghost use Rattle.hir_items.specs.FaultTexts.{body_fault_text};
 ghost use Rattle.hir_run.specs.Texts.{fault_text, finish_fault_text, node_text, text_of, WritesText};
 
 use crate::fault::RunFault;
 use hir_io::{EndFailed, Sink, write_all, write_decimal};
+use hir_items::BodyFault;
 use hir_store::{FinishFault, NodeId};
 
 /// Writes words and a number behind them.
@@ -79,6 +81,32 @@ fn write_finish_fault<W: Sink>(fault: FinishFault, errors: &mut W) -> Result<(),
     }
 }
 
+fn write_body_fault<W: Sink>(fault: BodyFault, errors: &mut W) -> Result<(), EndFailed>
+    ensures text { WritesText (W.contents errors.old) (W.contents errors.new) (body_fault_text fault) result }
+    ensures failure { W.failed errors.new ≡ (is_err result || W.failed errors.old) }
+{
+    match fault {
+        BodyFault::NoRoot => write_all(errors, b"NoRoot"),
+        BodyFault::SelfOutOfRange => write_all(errors, b"SelfOutOfRange"),
+        BodyFault::ParamOutOfRange(index) => {
+            write_numbered(b"ParamOutOfRange ", index as u64, errors)
+        }
+        BodyFault::ParamRepeated(index) => write_numbered(b"ParamRepeated ", index as u64, errors),
+        BodyFault::ParamUnder(index) => write_numbered(b"ParamUnder ", index as u64, errors),
+        BodyFault::RootInParam => write_all(errors, b"RootInParam"),
+        BodyFault::Memory => write_all(errors, b"Memory"),
+    }
+}
+
+fn write_body_refusal<W: Sink>(fault: BodyFault, errors: &mut W) -> Result<(), EndFailed>
+    ensures text { WritesText (W.contents errors.old) (W.contents errors.new)
+        (codes "refused " ++ body_fault_text fault) result }
+    ensures failure { W.failed errors.new ≡ (is_err result || W.failed errors.old) }
+{
+    write_all(errors, b"refused ")?;
+    write_body_fault(fault, errors)
+}
+
 fn write_refusal<W: Sink>(fault: FinishFault, errors: &mut W) -> Result<(), EndFailed>
     ensures text { WritesText (W.contents errors.old) (W.contents errors.new)
         (codes "refused " ++ finish_fault_text fault) result }
@@ -95,6 +123,7 @@ fn write_fault<W: Sink>(fault: RunFault, errors: &mut W) -> Result<(), EndFailed
     match fault {
         RunFault::BadLine(number) => write_numbered(b"bad line ", number, errors),
         RunFault::Refused(fault) => write_refusal(fault, errors),
+        RunFault::BodyRefused(fault) => write_body_refusal(fault, errors),
         RunFault::InputFailed => write_all(errors, b"input failed"),
         RunFault::OutputFailed => write_all(errors, b"output failed"),
         RunFault::OutOfMemory => write_all(errors, b"out of memory"),
@@ -119,6 +148,7 @@ fn status(outcome: &Result<(), RunFault>) -> u8
         Ok(()) => 0,
         Err(RunFault::BadLine(_)) => 1,
         Err(RunFault::Refused(_)) => 2,
+        Err(RunFault::BodyRefused(_)) => 2,
         Err(RunFault::InputFailed) => 3,
         Err(RunFault::OutputFailed) => 3,
         Err(RunFault::OutOfMemory) => 4,

@@ -1,4 +1,4 @@
-//! Inputs at the edges of the grammar, of the two stages and of the order of faults, in the form of the worked rows.
+//! Inputs at the edges of the grammar, of the three sections and of the order of faults, in the form of the worked rows.
 
 use crate::again::{Row, compare};
 

@@ -4,6 +4,8 @@
 #[cfg(test)]
 mod again;
 #[cfg(test)]
+mod bodies;
+#[cfg(test)]
 mod chain;
 #[cfg(test)]
 mod ends;

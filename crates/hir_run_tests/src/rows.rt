@@ -235,7 +235,7 @@ const SECOND: [Row; 16] = [
 ];
 
 /// Lines that aren't good, and forms that are no lines.
-const THIRD: [Row; 15] = [
+const THIRD: [Row; 13] = [
     Row {
         name: "carriage_return",
         input: b"bind x\r\n",
@@ -288,20 +288,6 @@ const THIRD: [Row; 15] = [
     Row {
         name: "no_text_third",
         input: b"expr path a\n\nexpr path \xff\nroots\n",
-        output: b"",
-        said: b"bad line 3\n",
-        status: 1,
-    },
-    Row {
-        name: "unknown_chain",
-        input: b"expr path a\nroot 0\nchain 0\n",
-        output: b"",
-        said: b"bad line 3\n",
-        status: 1,
-    },
-    Row {
-        name: "unknown_resolve",
-        input: b"expr path a\nroot 0\nresolve 0 a\n",
         output: b"",
         said: b"bad line 3\n",
         status: 1,

@@ -1,30 +1,15 @@
-use Rattle.std.proofs.Common.{◌++◌, append_assoc}
+use Rattle.std.proofs.Common.{◌++◌}
 use Rattle.std.specs.Prelude.{codes}
 use Rattle.std.specs.Fmt.{decimal}
-use Rattle.std.proofs.lemmas.Result.{err_from_is_err_and}
-use Rattle.hir_io.specs.Ends.{GrowsByFront, IsWrittenUpTo}
 use Rattle.hir_run.specs.Answer.{root_text}
-use Rattle.hir_run.proofs.Writing.{Writes-by, Writes-then, Writes-failed, IsWrittenUpTo-then, GrowsByFront-then}
+use Rattle.hir_run.proofs.WritingLemmas.{put_then}
 use Rattle.hir_run.proofs.answer.answer_root.Goals as goal
 
-pub returns-in_err-write-clause-writes : goal.returns-in_err-write-clause-writes
-returns-in_err-write-clause-writes g c =
-    let p = err_from_is_err_and c.from_residual.result c.from_residual.ensures.1 in
-    let known = decimal c.args.id ++ root_text c.args.store.now.roots c.args.id in
-    rw (p.1, append_assoc (codes "root-of ") known (codes "\n")) (Writes-failed (g.W.Sink.contents c.args.writer.now) (g.W.Sink.contents c.write.new.writer) c.args.output.now c.write.new.self (codes "root-of ") (known ++ codes "\n") c.in_err-write.ensures.err)
-
-pub returns-in_err-write_with_root-clause-writes : goal.returns-in_err-write_with_root-clause-writes
-returns-in_err-write_with_root-clause-writes g c =
-    let p = err_from_is_err_and c.from_residual-in_err-write_with_root.result c.from_residual-in_err-write_with_root.ensures.1 in
-    let known = decimal c.args.id ++ root_text c.args.store.now.roots c.args.id in
-    let front : GrowsByFront (g.W.Sink.contents c.args.writer.now) (g.W.Sink.contents c.write_with_root.new.writer) (c.args.output.now ++ (codes "root-of " ++ known)) =
-    rw append_assoc at (GrowsByFront-then (g.W.Sink.contents c.args.writer.now) (g.W.Sink.contents c.write.new.writer) (g.W.Sink.contents c.write_with_root.new.writer) (c.args.output.now ++ codes "root-of ") known c.write.new.self c.in_ok-write.ensures.bytes c.in_err-write_with_root.ensures.writes.0) in
-    rw p.1 (Writes-failed (g.W.Sink.contents c.args.writer.now) (g.W.Sink.contents c.write_with_root.new.writer) c.args.output.now c.write_with_root.new.output (codes "root-of " ++ known) (codes "\n") (front, c.in_err-write_with_root.ensures.writes.1))
-
-pub returns-clause-writes : goal.returns-clause-writes
-returns-clause-writes g c =
-    let known = decimal c.args.id ++ root_text c.args.store.now.roots c.args.id in
-    let so_far : IsWrittenUpTo (g.W.Sink.contents c.args.writer.now) (g.W.Sink.contents c.write_with_root.new.writer) (c.args.output.now ++ (codes "root-of " ++ known)) c.write_with_root.new.output =
-    rw append_assoc at (IsWrittenUpTo-then (g.W.Sink.contents c.args.writer.now) (g.W.Sink.contents c.write.new.writer) (g.W.Sink.contents c.write_with_root.new.writer) (c.args.output.now ++ codes "root-of ") known c.write.new.self c.write_with_root.new.output c.in_ok-write.ensures.bytes c.in_ok-write_with_root.ensures.writes) in
-    Writes-then (g.W.Sink.contents c.args.writer.now) (g.W.Sink.contents c.write_with_root.new.writer) (g.W.Sink.contents c.write-2.new.writer) c.args.output.now c.write_with_root.new.output c.write-2.new.self (codes "root-of " ++ known) (codes "\n") c.write-2.result so_far
-    (Writes-by (g.W.Sink.contents c.write_with_root.new.writer) (g.W.Sink.contents c.write-2.new.writer) c.write_with_root.new.output c.write-2.new.self (codes "\n") c.write-2.result c.write-2.ensures.bytes c.write-2.ensures.err)
+pub returns : goal.returns
+returns g c =
+    let contents = g.W.Sink.contents in
+    let failed = g.W.Sink.failed in
+    let asked = codes "root-of " ++ decimal c.args.id in
+    let known = root_text c.args.store.now.roots c.args.id in
+    put_then contents failed c.args.writer.now c.put_root.new.writer c.put.new.writer c.args.output.now c.put_root.new.output c.put.new.output (asked ++ known) (codes "\n")
+    (put_then contents failed c.args.writer.now c.put_asked.new.writer c.put_root.new.writer c.args.output.now c.put_asked.new.output c.put_root.new.output asked known c.put_asked.ensures c.put_root.ensures) c.put.ensures

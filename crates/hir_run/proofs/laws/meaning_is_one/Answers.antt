@@ -1,5 +1,5 @@
-use Rattle.hir_run.proofs.Meanings.{IsMeaning-one}
+use Rattle.hir_run.proofs.MeaningLemmas.{IsMeaning-one}
 use Rattle.hir_run.proofs.laws.meaning_is_one.Goals as goal
 
 pub returns : goal.returns
-returns c = IsMeaning-one
+returns c = λ one_chain. IsMeaning-one c.first_fault_is_one.ensures c.first_body_fault_is_one.ensures one_chain

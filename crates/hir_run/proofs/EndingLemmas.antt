@@ -1,0 +1,174 @@
+-- What the parts of a run come to.
+use Rattle.std.proofs.Common.{◌≡◌, ◌+◌, ℕ, Bool, true, false, List, [], ◌∷◌, ◌++◌, Option, None, Some, Result, Ok, Err, length, inl, inr, refl, sym, ap, ◌∙◌, append_assoc, append-nil, arith, subst}
+use Rattle.std.specs.Prelude.{codes, ◌||◌}
+use Rattle.std.specs.List.{list_all}
+use Rattle.std.specs.Io.KnownBytes.{Appends}
+use Rattle.hir_io.specs.Ends.{GrowsByFront, IsWrittenUpTo}
+use Rattle.hir_io.specs.LineState.{LineState}
+use Rattle.hir_io.specs.NextLine.{untaken}
+use Rattle.hir_io.specs.Text.{lines, ended}
+use Rattle.hir_io.proofs.EndLemmas.{Appends-twice, IsWrittenUpTo-start}
+use Rattle.hir_io.proofs.ReadLemmas.{ReadsFront-now}
+use Rattle.hir_io.proofs.TextLemmas.{lines-ended}
+use Rattle.hir_lines.specs.declared.line.Line.{Line}
+use Rattle.hir_lines.specs.declared.line.Line.TheVariants.{Ask, Bad}
+use Rattle.hir_lines.specs.declared.line.Question.{Question}
+use Rattle.hir_lines.specs.Line.{line_of}
+use Rattle.hir_expr_store.specs.Contents.{Contents}
+use Rattle.hir_store.specs.Building.{Building, contents_of, finish_fault}
+use Rattle.hir_items.specs.Bodies.{BodyContents, body_fault}
+use Rattle.hir_run.specs.declared.fault.RunFault.{RunFault}
+use Rattle.hir_run.specs.declared.fault.RunFault.TheVariants.{BadLine, Refused, BodyRefused, InputFailed, OutputFailed, OutOfMemory}
+use Rattle.hir_run.specs.Made.{Made, body_parts}
+use Rattle.hir_run.specs.Answer.{IsStoreAnswer, IsAnswer}
+use Rattle.hir_run.specs.Program.{makes, asks, any_question, is_of_store, Outcome, Course, writes, section, stops, behind_store, on_body, on_store, behind_making, accepts, made, making, built_by, Runs, IsMeaning, HasAnswers, says, script, script_of}
+use Rattle.hir_run.specs.Run.{EndsWith, IsComplete, IsNextLine, RunsTo}
+use Rattle.hir_run.specs.Stages.{line_behind, IsBehind, Makes, AllMake, Builds, Finishes, IsMadeBody, Accepts, RunsUpTo, Closes}
+use Rattle.hir_run.proofs.Scripts.{script-append, script-length, behind_texts, behind-cons, behind_question}
+use Rattle.hir_run.proofs.CourseLemmas.{BeginsOutside, no_line, outside, runs_behind, means_behind}
+use Rattle.hir_run.proofs.QuestionLemmas.{StandsAt, stands_on, ends_there, refused_there}
+use Rattle.hir_run.proofs.WritingLemmas.{IsWrittenUpTo-then, GrowsByFront-then}
+
+-- nothing is asked, and the lines make something
+pub answers-alone : (ls : List Line) → list_all makes ls ≡ true → HasAnswers ls []
+answers-alone ls all =
+    let e : ls ++ [] ≡ ls = append-nil ls in
+    rw e at (runs_behind (writes [] (Ok tt)) ls [] [] (Ok tt) all no_line (refl, refl))
+
+-- a bad line behind them
+meaning-bad : (ls rest : List Line) → list_all makes ls ≡ true → IsMeaning (ls ++ Bad ∷ rest) [] (Err (BadLine (length ls + 1)))
+meaning-bad ls rest all = means_behind ls (Bad ∷ rest) [] _ all (outside refl) (refl, refl)
+
+-- no line behind them
+meaning-alone : (ls : List Line) (text : List ℕ) (outcome : Outcome) → list_all makes ls ≡ true → accepts (built_by ls) text outcome → IsMeaning ls text outcome
+meaning-alone ls text outcome all course =
+    let e : ls ++ [] ≡ ls = append-nil ls in
+    rw e at (means_behind ls [] text outcome all no_line course)
+
+untaken_all : (known : Option (List ℕ)) → untaken [] false known ≡ known
+untaken_all None = refl
+untaken_all (Some rest) = refl
+
+-- a new reader of lines has taken nothing
+pub from_the_start : (start : LineState) (known rest remaining : Option (List ℕ)) (ls : LineState) (built : Made) (r : Result (Option Question) RunFault) → start ≡ record { line = []; pending = []; at_end = false; count = 0 } → Builds (untaken start.pending start.at_end known) rest remaining ls built r → Builds known rest remaining ls built r
+from_the_start start known rest remaining ls built r e b =
+    subst (λ (v : Option (List ℕ)). Builds v rest remaining ls built r) (ap (λ (l : LineState). untaken l.pending l.at_end known) e ∙ untaken_all known) b
+
+-- the line behind these is told by the lines from the start
+next_line : (texts : List (List ℕ)) (count : ℕ) → IsBehind 0 texts count → IsNextLine texts count
+next_line texts count (inl e) = inl (omega (arith, e))
+next_line texts count (inr e) = inr (omega (arith, e))
+
+-- nothing was written, and nothing waits
+module _ (input : List ℕ) (rest : Option (List ℕ)) (old : Option (List ℕ)) (ls : LineState) (built : Made) where
+  abbrev Wrote : List ℕ → Type 0
+  Wrote text = IsWrittenUpTo old old text []
+
+  abbrev WroteFront : List ℕ → Type 0
+  WroteFront text = GrowsByFront old old text × (◌≡◌ {A = List ℕ} [] [])
+
+  nothing : Wrote []
+  nothing = IsWrittenUpTo-start old []
+
+  -- the lines that make end early
+  pub build_ends : (remaining : Option (List ℕ)) (fault : RunFault) → Builds (Some input) rest remaining ls built (Err fault) → EndsWith input Wrote WroteFront remaining ls.count (Err fault)
+  build_ends remaining (BadLine n) (texts, text, all, bad, front, number) =
+      let is : script_of input ≡ script texts ++ Bad ∷ behind_texts (texts ++ text ∷ []) front.0 =
+      ap script (front.1 ∙ append_assoc texts (text ∷ []) front.0) ∙ script-append texts (text ∷ front.0)
+      ∙ ap (λ v. script texts ++ v) (behind-cons texts front.0 text) ∙ ap (λ l. script texts ++ l ∷ behind_texts (texts ++ text ∷ []) front.0) bad in
+      let count : n ≡ length (script texts) + 1 = omega (arith, number, script-length texts) in
+      ([], rw (is, count) (meaning-bad (script texts) _ all), nothing)
+  build_ends remaining InputFailed (texts, all, (unread, short, left)) =
+      (texts, ls.pending, unread, short, left, [], answers-alone (script texts) all, nothing)
+  build_ends remaining OutOfMemory (texts, all, front, counted) =
+      (texts, front.0, front.1, next_line texts ls.count counted, [], answers-alone (script texts) all, nothing)
+  build_ends remaining OutputFailed b = absurd b
+  build_ends remaining (Refused fault) b = absurd b
+  build_ends remaining (BodyRefused fault) b = absurd b
+
+  -- a question was met
+  pub built_at : (remaining : Option (List ℕ)) (question : Question) → Builds (Some input) rest remaining ls built (Ok (Some question)) → StandsAt input rest ls question (on_store built) []
+  built_at remaining question (texts, last, makes_all, is, read, count) =
+      let all = makes_all.0 in
+      let counted : length (script texts) ≡ length texts = script-length texts in
+      record {
+        texts = texts;
+        last = last;
+        read = read;
+        count = count;
+        is = is;
+        sound = answers-alone (script texts) all;
+        means = λ more t outcome c. means_behind (script texts) (Ask question ∷ more) t outcome all (outside refl) (rw (← makes_all.1, counted) c);
+        answers = λ more t outcome c. runs_behind (writes [] (Ok tt)) (script texts) (Ask question ∷ more) t outcome all (outside refl) (rw (← makes_all.1, counted) c);
+      }
+
+  -- what was made is no store
+  pub finish_ends : (remaining : Option (List ℕ)) (first : Option Question) (fault : RunFault) → Builds (Some input) rest remaining ls built (Ok first) → Finishes built.built (Err fault) → EndsWith input Wrote WroteFront remaining ls.count (Err fault)
+  finish_ends remaining None (Refused fault) (texts, makes_all, every, count) (first, same, verdict) =
+      let is : script_of input ≡ script texts = ap script every in
+      ([], rw (is, same) (meaning-alone (script texts) [] _ makes_all.0 (rw (← makes_all.1) (Some first, verdict, (refl, refl)))), nothing)
+  finish_ends remaining None (BodyRefused fault) b (first, same, verdict) = cc
+  finish_ends remaining None OutOfMemory (texts, makes_all, every, count) f =
+      (texts, [], every ∙ sym (append-nil texts), inl count, [], answers-alone (script texts) makes_all.0, nothing)
+  finish_ends remaining (Some question) (Refused fault) b (first, same, verdict) =
+      rw same (ends_there input rest ls question (on_store built) [] (built_at remaining question b) Wrote _ nothing (λ good more. (Some first, verdict, (refl, refl))))
+  finish_ends remaining (Some question) (BodyRefused fault) b (first, same, verdict) = cc
+  finish_ends remaining (Some question) OutOfMemory b f =
+      refused_there input rest ls question (on_store built) [] (built_at remaining question b) Wrote WroteFront remaining ls.count nothing refl
+  finish_ends remaining first (BadLine n) b f = absurd f
+  finish_ends remaining first InputFailed b f = absurd f
+  finish_ends remaining first OutputFailed b f = absurd f
+
+-- there is no question
+pub accept_ends : (input : List ℕ) (rest remaining old new : Option (List ℕ)) (waiting : List ℕ) (ls : LineState) (built : Made) (outcome : Outcome) → Builds (Some input) rest remaining ls built (Ok None) → finish_fault built.built None → Accepts old [] new waiting outcome
+    → EndsWith input (λ text. IsWrittenUpTo old new text waiting) (λ text. GrowsByFront old new text × (waiting ≡ [])) remaining ls.count outcome
+accept_ends input rest remaining old new waiting ls built outcome (texts, makes_all, every, count) verdict a = by outcome a
+  where
+    means : IsMeaning (script_of input) (codes "accepted\n") (Ok tt)
+    means =
+        let is : script_of input ≡ script texts = ap script every in
+        rw is (meaning-alone (script texts) (codes "accepted\n") (Ok tt) makes_all.0 (rw (← makes_all.1) (None, verdict, (refl, refl))))
+
+    by : (outcome : Outcome) → Accepts old [] new waiting outcome → EndsWith input (λ text. IsWrittenUpTo old new text waiting) (λ text. GrowsByFront old new text × (waiting ≡ [])) remaining ls.count outcome
+    by (Ok done) a = (codes "accepted\n", means, a)
+    by (Err OutputFailed) a = (codes "accepted\n", inr (Ok tt, means), a)
+    by (Err (BadLine n)) a = absurd a
+    by (Err (Refused fault)) a = absurd a
+    by (Err (BodyRefused fault)) a = absurd a
+    by (Err InputFailed) a = absurd a
+    by (Err OutOfMemory) a = absurd a
+
+-- the parts of a body have a fault, or memory was refused
+pub body_ends : (input : List ℕ) (rest remaining : Option (List ℕ)) (ls : LineState) (question : Question) (built : Made) (text : List ℕ) (Wrote WroteFront : List ℕ → Type 0) (fault : RunFault) → StandsAt input rest ls question (on_body built) text → IsMadeBody (body_parts built) (Err fault) → Wrote text → EndsWith input Wrote WroteFront remaining ls.count (Err fault)
+body_ends input rest remaining ls question built text Wrote WroteFront (BodyRefused fault) at (first, same, verdict) wrote =
+    rw same (ends_there input rest ls question (on_body built) text at Wrote _ wrote (λ good more. (Some first, verdict, (refl, refl))))
+body_ends input rest remaining ls question built text Wrote WroteFront (Refused fault) at (first, same, verdict) wrote = cc
+body_ends input rest remaining ls question built text Wrote WroteFront OutOfMemory at m wrote =
+    refused_there input rest ls question (on_body built) text at Wrote WroteFront remaining ls.count wrote refl
+body_ends input rest remaining ls question built text Wrote WroteFront (BadLine n) at m wrote = absurd m
+body_ends input rest remaining ls question built text Wrote WroteFront InputFailed at m wrote = absurd m
+body_ends input rest remaining ls question built text Wrote WroteFront OutputFailed at m wrote = absurd m
+
+-- what comes behind the questions on the store: nothing, or a bad line, ends the run; a question on the body goes on
+pub store_end : (built : Made) (n : ℕ) → behind_store built n [] [] (Ok tt)
+store_end built n = (refl, refl)
+
+pub store_bad : (built : Made) (n : ℕ) (bad : Line) (more : List Line) → asks bad ≡ false → behind_store built n (bad ∷ more) [] (Err (BadLine (n + 1)))
+store_bad built n bad more e = rw e (refl, refl)
+
+-- at the first question, of what has no fault
+pub at_store : (input : List ℕ) (rest : Option (List ℕ)) (ls : LineState) (question : Question) (built : Made) → finish_fault built.built None → StandsAt input rest ls question (on_store built) [] → StandsAt input rest ls question (section is_of_store (IsStoreAnswer (contents_of built.built)) (behind_store built)) []
+at_store input rest ls question built verdict at = stands_on (on_store built) _ (λ good more t outcome c. (None, verdict, c)) at
+
+-- at the first question on the body
+pub at_body : (input : List ℕ) (rest : Option (List ℕ)) (ls : LineState) (question : Question) (built : Made) (text : List ℕ) → StandsAt input rest ls question (behind_store built) text → StandsAt input rest ls question (on_body built) text
+at_body input rest ls question built text at = stands_on (behind_store built) _ (λ good more t outcome c. c) at
+
+pub in_body : (input : List ℕ) (rest : Option (List ℕ)) (ls : LineState) (question : Question) (built : Made) (text : List ℕ) → body_fault (body_parts built) None → StandsAt input rest ls question (on_body built) text → StandsAt input rest ls question (section any_question (IsAnswer (body_parts built)) stops) text
+in_body input rest ls question built text verdict at = stands_on (on_body built) _ (λ good more t outcome c. (None, verdict, c)) at
+
+pub stops_end : (n : ℕ) → stops n [] [] (Ok tt)
+stops_end n = (refl, refl)
+
+pub stops_bad : (n : ℕ) (bad : Line) (more : List Line) → asks bad ≡ false → stops n (bad ∷ more) [] (Err (BadLine (n + 1)))
+stops_bad n bad more e = (refl, refl)

@@ -1,0 +1,115 @@
+-- A script has one meaning at most, as each of its parts has.
+use Rattle.std.proofs.Common.{◌≡◌, ◌+◌, ℕ, Bool, true, false, List, [], ◌∷◌, ◌++◌, if◌then◌else◌, Option, None, Some, Result, Ok, Err, length, refl, sym, ap, ◌∙◌}
+use Rattle.std.specs.Prelude.{codes}
+use Rattle.hir_faults.specs.declared.fault.FinishFault.{FinishFault}
+use Rattle.hir_lines.specs.declared.line.Line.{Line}
+use Rattle.hir_lines.specs.declared.line.Line.TheVariants.{Blank, Make, Ask, Bad}
+use Rattle.hir_lines.specs.declared.line.Question.{Question}
+use Rattle.hir_lines.specs.declared.line.Question.TheVariants.{OfStore, OfBody}
+use Rattle.hir_lines.specs.declared.line.BodyQuestion.{BodyQuestion}
+use Rattle.hir_lines.specs.declared.line.BodyQuestion.TheVariants as ask
+use Rattle.hir_expr_store.specs.Contents.{Contents, contents_fault}
+use Rattle.hir_store.specs.Building.{Building, contents_of, finish_fault}
+use Rattle.hir_items.specs.declared.body_fault.BodyFault.{BodyFault}
+use Rattle.hir_items.specs.Bodies.{BodyContents, body_fault}
+use Rattle.hir_scope.specs.Built.{tops_of_body}
+use Rattle.hir_scope.specs.Chains.{HasChain}
+use Rattle.hir_scope.specs.Frames.{Chain}
+use Rattle.hir_run.specs.declared.fault.RunFault.{RunFault}
+use Rattle.hir_run.specs.Made.{Made, body_parts}
+use Rattle.hir_run.specs.Answer.{IsChainOf, IsBodyAnswer, IsStoreAnswer, IsAnswer, answer_line, chain_text, resolve_text}
+use Rattle.hir_run.specs.Program.{Outcome, Course, writes, stops, unless_refused, fault_or, if_so, may_ask, any_question, is_of_store, asks, front, behind, IsLineAnswer, AreAnswers, section, on_body, behind_store, on_store, behind_making, accepts, made, making, Runs, IsMeaning}
+
+-- a course writes one text and ends in one way
+abbrev pub One : Course → Type 0
+One course = (text more : List ℕ) (outcome other : Outcome) → course text outcome → course more other → (text ≡ more) × (outcome ≡ other)
+
+writes_one : (bytes : List ℕ) (end : Outcome) → One (writes bytes end)
+writes_one bytes end text more outcome other m n = (m.0 ∙ sym n.0, m.1 ∙ sym n.1)
+
+stops_one : (good : ℕ) (script : List Line) → One (stops good script)
+stops_one good [] = writes_one [] _
+stops_one good (bad ∷ rest) = writes_one [] _
+
+fault_or_one : {F : Type 0} (refusal : F → RunFault) (next : Course) (verdict : Option F → Type 0) → (verdict None → One next) → (fault : Option F) → verdict fault → One (fault_or refusal next fault)
+fault_or_one refusal next verdict one None v = one v
+fault_or_one refusal next verdict one (Some fault) v = writes_one [] _
+
+unless_one : {F : Type 0} (verdict : Option F → Type 0) (refusal : F → RunFault) (next : Course) → ((f g : Option F) → verdict f → verdict g → f ≡ g) → (verdict None → One next) → One (unless_refused verdict refusal next)
+unless_one verdict refusal next one_fault one text more outcome other (f, v, m) (g, w, n) =
+    fault_or_one refusal next verdict one f v text more outcome other m (rw (one_fault g f w v) at n)
+
+line_answer_one : (Is : Question → List ℕ → Type 0) → ((question : Question) (t u : List ℕ) → Is question t → Is question u → t ≡ u) → (line : Line) (t u : List ℕ) → IsLineAnswer Is line t → IsLineAnswer Is line u → t ≡ u
+line_answer_one Is one Blank t u p q = p ∙ sym q
+line_answer_one Is one (Make maker) t u p q = absurd p
+line_answer_one Is one (Ask question) t u p q = one question t u p q
+line_answer_one Is one Bad t u p q = absurd p
+
+answers_one : (Is : Question → List ℕ → Type 0) → ((question : Question) (t u : List ℕ) → Is question t → Is question u → t ≡ u) → (script : List Line) (t u : List ℕ) → AreAnswers Is script t → AreAnswers Is script u → t ≡ u
+answers_one Is one [] t u p q = p ∙ sym q
+answers_one Is one (line ∷ rest) t u (first, more, is, are, e) (first', more', is', are', e') =
+    e ∙ ap (λ v. v ++ more) (line_answer_one Is one line first first' is is') ∙ ap (λ v. first' ++ v) (answers_one Is one rest more more' are are') ∙ sym e'
+
+section_one : (may : Question → Bool) (Is : Question → List ℕ → Type 0) (next : ℕ → List Line → Course) → ((question : Question) (t u : List ℕ) → Is question t → Is question u → t ≡ u) → ((good : ℕ) (script : List Line) → One (next good script)) → (good : ℕ) (script : List Line) → One (section may Is next good script)
+section_one may Is next one one_next good script text more outcome other (a, t, are, m, e) (b, u, are', n, e') =
+    let same = answers_one Is one (front (may_ask may) script) a b are are' in
+    let ends = one_next (good + length (front (may_ask may) script)) (behind (may_ask may) script) t u outcome other m n in
+    (e ∙ ap (λ v. v ++ t) same ∙ ap (λ v. b ++ v) ends.0 ∙ sym e', ends.1)
+
+-- an expression has one chain
+abbrev pub HasOneChain : BodyContents → Type 0
+HasOneChain b = (expr : ℕ) (x y : Chain) → HasChain b.store.nodes (tops_of_body b) expr x → HasChain b.store.nodes (tops_of_body b) expr y → x ≡ y
+
+chain_one : (b : BodyContents) → HasOneChain b → (expr : ℕ) (x y : Option Chain) → IsChainOf b expr x → IsChainOf b expr y → x ≡ y
+chain_one b one expr None None p q = refl
+chain_one b one expr None (Some y) p q = absurd (p q.0)
+chain_one b one expr (Some x) None p q = absurd (q p.0)
+chain_one b one expr (Some x) (Some y) p q = ap Some (one expr x y p.1 q.1)
+
+body_answer_one : (b : BodyContents) → HasOneChain b → (question : BodyQuestion) (t u : List ℕ) → IsBodyAnswer b question t → IsBodyAnswer b question u → t ≡ u
+body_answer_one b one (ask.Chain e) t u (x, is, s) (y, is', r) = s ∙ ap (λ v. answer_line (codes "chain ") e (chain_text v)) (chain_one b one e x y is is') ∙ sym r
+body_answer_one b one (ask.Resolve e name) t u (x, is, s) (y, is', r) = s ∙ ap (λ v. answer_line (codes "resolve ") e (32 ∷ name ++ resolve_text v name)) (chain_one b one e x y is is') ∙ sym r
+
+store_answer_one : (c : Contents) (question : Question) (t u : List ℕ) → IsStoreAnswer c question t → IsStoreAnswer c question u → t ≡ u
+store_answer_one c (OfStore question) t u p q = p ∙ sym q
+store_answer_one c (OfBody question) t u p q = absurd p
+
+answer_one : (b : BodyContents) → HasOneChain b → (question : Question) (t u : List ℕ) → IsAnswer b question t → IsAnswer b question u → t ≡ u
+answer_one b one (OfStore question) t u p q = p ∙ sym q
+answer_one b one (OfBody question) t u p q = body_answer_one b one question t u p q
+
+sound_contents : (b : Building) → finish_fault b None → contents_fault (contents_of b) None
+unfolding finish_fault
+sound_contents b v = v.1
+
+module _ (finish_one : (b : Building) (f g : Option FinishFault) → finish_fault b f → finish_fault b g → f ≡ g) (body_one : (b : BodyContents) (f g : Option BodyFault) → body_fault b f → body_fault b g → f ≡ g) (one_chain : (b : BodyContents) → contents_fault b.store None → body_fault b None → HasOneChain b) where
+  on_body_one : (made : Made) → finish_fault made.built None → (good : ℕ) (script : List Line) → One (on_body made good script)
+  on_body_one made sound good script =
+      unless_one (body_fault (body_parts made)) _ _ (body_one (body_parts made))
+      (λ v. section_one any_question (IsAnswer (body_parts made)) stops (answer_one (body_parts made) (one_chain (body_parts made) (sound_contents made.built sound) v)) stops_one good script)
+
+  behind_store_one : (made : Made) → finish_fault made.built None → (good : ℕ) (script : List Line) → One (behind_store made good script)
+  behind_store_one made sound good [] = stops_one good []
+  behind_store_one made sound good (line ∷ rest) = by (asks line)
+    where
+      by : (b : Bool) → One (if_so b (on_body made good (line ∷ rest)) (stops good (line ∷ rest)))
+      by true = on_body_one made sound good (line ∷ rest)
+      by false = stops_one good (line ∷ rest)
+
+  on_store_one : (made : Made) (good : ℕ) (script : List Line) → One (on_store made good script)
+  on_store_one made good script =
+      unless_one (finish_fault made.built) _ _ (finish_one made.built)
+      (λ v. section_one is_of_store (IsStoreAnswer (contents_of made.built)) (behind_store made) (store_answer_one (contents_of made.built)) (behind_store_one made v) good script)
+
+  behind_making_one : (idle : Course) → One idle → (made : Made) (good : ℕ) (script : List Line) → One (behind_making idle made good script)
+  behind_making_one idle one made good [] = one
+  behind_making_one idle one made good (line ∷ rest) = by (asks line)
+    where
+      by : (b : Bool) → One (if_so b (on_store made good (line ∷ rest)) (stops good (line ∷ rest)))
+      by true = on_store_one made good (line ∷ rest)
+      by false = stops_one good (line ∷ rest)
+
+  pub IsMeaning-one : (script : List Line) → One (IsMeaning script)
+  unfolding Runs
+  IsMeaning-one script =
+      behind_making_one (accepts (made script)) (unless_one (finish_fault (made script).built) _ _ (finish_one (made script).built) (λ v. writes_one _ _)) (made script) (length (making script)) (behind _ script)

@@ -1,0 +1,85 @@
+-- What a run comes to that stands at a question: the lines before it were taken, and their answers were written.
+use Rattle.std.proofs.Common.{◌≡◌, ◌+◌, ℕ, Bool, true, false, List, [], ◌∷◌, ◌++◌, Option, None, Some, Result, Ok, Err, length, inl, inr, refl, sym, ap, ◌∙◌, append_assoc, append-nil, arith, length-append, subst}
+use Rattle.std.specs.Prelude.{IfSome}
+use Rattle.std.specs.List.{list_all}
+use Rattle.std.specs.Cmp.{second_so}
+use Rattle.std.proofs.lemmas.List.{length-map}
+use Rattle.hir_io.specs.Ends.{GrowsByFront, IsWrittenUpTo}
+use Rattle.hir_io.specs.LineState.{LineState}
+use Rattle.hir_io.specs.Reads.{Reads}
+use Rattle.hir_io.specs.Text.{lines}
+use Rattle.hir_io.proofs.ReadLemmas.{Reads-joined, ReadsAll-joined, ReadsFront-now, ReadsFront-joined, ReadsUntilFailure-joined}
+use Rattle.hir_lines.specs.declared.line.Line.{Line}
+use Rattle.hir_lines.specs.declared.line.Line.TheVariants.{Ask, Bad}
+use Rattle.hir_lines.specs.declared.line.Question.{Question}
+use Rattle.hir_lines.specs.Line.{line_of}
+use Rattle.hir_run.specs.declared.fault.RunFault.{RunFault}
+use Rattle.hir_run.specs.declared.fault.RunFault.TheVariants.{BadLine, Refused, BodyRefused, InputFailed, OutputFailed, OutOfMemory}
+use Rattle.hir_run.specs.Program.{asks, may_ask, Outcome, Course, writes, section, Runs, IsMeaning, HasAnswers, says, script, script_of}
+use Rattle.hir_run.specs.Run.{EndsWith, IsComplete}
+use Rattle.hir_run.specs.Stages.{line_behind, asked, HaveAnswers, Answered, Asks}
+use Rattle.hir_run.proofs.Scripts.{script-append, script-push, script-length, behind_texts, behind-cons, behind-asked, behind-bad, behind_question}
+use Rattle.hir_run.proofs.CourseLemmas.{BeginsOutside, no_line, outside, section_behind, all_asks, asks_not}
+use Rattle.hir_run.proofs.WritingLemmas.{IsWrittenUpTo-then, GrowsByFront-then}
+
+-- the lines before a question, with the text of their answers; from the question on the run goes on by this course
+pub record StandsAt (input : List ℕ) (rest : Option (List ℕ)) (ls : LineState) (question : Question) (next : ℕ → List Line → Course) (text : List ℕ) : Type 0 where
+  pub texts : List (List ℕ)
+  pub last : List ℕ
+  pub read : Reads (Some input) (texts ++ last ∷ []) rest ls.at_end
+  pub count : ls.count ≡ length texts + 1
+  pub is : line_of last ≡ Ask question
+  pub sound : HasAnswers (script texts) text
+  pub means : (more : List Line) (t : List ℕ) (outcome : Outcome) → next (length texts) (Ask question ∷ more) t outcome → IsMeaning (script texts ++ Ask question ∷ more) (text ++ t) outcome
+  pub answers : (more : List Line) (t : List ℕ) (outcome : Outcome) → next (length texts) (Ask question ∷ more) t outcome → Runs (writes [] (Ok tt)) (script texts ++ Ask question ∷ more) (text ++ t) outcome
+
+-- another course leads on to that one
+pub stands_on : {input : List ℕ} {rest : Option (List ℕ)} {ls : LineState} {question : Question} {text : List ℕ} (next other : ℕ → List Line → Course) → ((good : ℕ) (more : List Line) (t : List ℕ) (outcome : Outcome) → other good (Ask question ∷ more) t outcome → next good (Ask question ∷ more) t outcome)
+    → StandsAt input rest ls question next text → StandsAt input rest ls question other text
+stands_on next other leads at = record {
+  texts = at.texts;
+  last = at.last;
+  read = at.read;
+  count = at.count;
+  is = at.is;
+  sound = at.sound;
+  means = λ more t outcome c. at.means more t outcome (leads (length at.texts) more t outcome c);
+  answers = λ more t outcome c. at.answers more t outcome (leads (length at.texts) more t outcome c);
+}
+
+-- a script behind the lines before a question
+pub asked_script : (texts texts' more : List (List ℕ)) (last : List ℕ) (question : Question) → line_of last ≡ Ask question → list_all asks (says texts') ≡ true
+    → script (((texts ++ last ∷ []) ++ texts') ++ more) ≡ script texts ++ Ask question ∷ (says texts' ++ behind_texts ((texts ++ last ∷ []) ++ texts') more)
+asked_script texts texts' more last question is all =
+    let front = texts ++ last ∷ [] in
+    let rest = says texts' ++ behind_texts (front ++ texts') more in
+    ap script (append_assoc front texts' more) ∙ script-append front (texts' ++ more)
+    ∙ ap (λ v. v ++ behind_texts front (texts' ++ more)) (script-push texts last)
+    ∙ ap (λ v. (script texts ++ line_behind texts last ∷ []) ++ v) (behind-asked front texts' more all)
+    ∙ append_assoc (script texts) (line_behind texts last ∷ []) rest
+    ∙ ap (λ l. script texts ++ l ∷ rest) (behind_question texts last question is)
+
+-- the same where nothing is asked behind it
+question_script : (texts more : List (List ℕ)) (last : List ℕ) (question : Question) → line_of last ≡ Ask question → script ((texts ++ last ∷ []) ++ more) ≡ script texts ++ Ask question ∷ behind_texts (texts ++ last ∷ []) more
+question_script texts more last question is =
+    script-append (texts ++ last ∷ []) more ∙ ap (λ v. v ++ behind_texts (texts ++ last ∷ []) more) (script-push texts last)
+    ∙ append_assoc (script texts) (line_behind texts last ∷ []) (behind_texts (texts ++ last ∷ []) more)
+    ∙ ap (λ l. script texts ++ l ∷ behind_texts (texts ++ last ∷ []) more) (behind_question texts last question is)
+
+-- all lines of the input, in those before the question, its own, and those behind
+all_lines : (input : List ℕ) (rest : Option (List ℕ)) (texts : List (List ℕ)) (last : List ℕ) (at_end : Bool) → Reads (Some input) (texts ++ last ∷ []) rest at_end → (more : List (List ℕ)) × (lines input ≡ (texts ++ last ∷ []) ++ more)
+all_lines input rest texts last at_end read = ReadsFront-now (Some input) rest (texts ++ last ∷ []) at_end read
+
+module _ (input : List ℕ) (rest : Option (List ℕ)) (ls : LineState) (question : Question) (next : ℕ → List Line → Course) (text : List ℕ) (at : StandsAt input rest ls question next text) where
+  -- the run ends at the question
+  pub ends_there : (Wrote : List ℕ → Type 0) (outcome : Outcome) → Wrote text → ((good : ℕ) (more : List Line) → next good (Ask question ∷ more) [] outcome) → IsComplete input Wrote outcome
+  ends_there Wrote outcome wrote course =
+      let behind = all_lines input rest at.texts at.last ls.at_end at.read in
+      let whole : script_of input ≡ script at.texts ++ Ask question ∷ behind_texts (at.texts ++ at.last ∷ []) behind.0 = ap script behind.1 ∙ question_script at.texts behind.0 at.last question at.is in
+      (text ++ [], rw whole (at.means _ [] outcome (course _ _)), rw (append-nil text) wrote)
+
+  -- memory is refused there
+  pub refused_there : (Wrote WroteFront : List ℕ → Type 0) (remaining : Option (List ℕ)) (count : ℕ) → Wrote text → count ≡ ls.count → EndsWith input Wrote WroteFront remaining count (Err OutOfMemory)
+  refused_there Wrote WroteFront remaining count wrote counted =
+      let behind = all_lines input rest at.texts at.last ls.at_end at.read in
+      (at.texts, at.last ∷ behind.0, behind.1 ∙ append_assoc at.texts (at.last ∷ []) behind.0, inr (counted ∙ at.count), text, at.sound, wrote)

@@ -1,0 +1,19 @@
+use Rattle.std.proofs.Common.{◌<◌, ◌≤◌, length, sym, ◌∙◌, inl, inr}
+use Rattle.std.specs.Prelude.{codes}
+use Rattle.std.proofs.lemmas.Bool.{cases_lt, false≢true}
+use Rattle.hir_expr_store.specs.PatLists.{children}
+use Rattle.hir_run.specs.Answer.{spaced}
+use Rattle.hir_run.proofs.WritingLemmas.{put_then}
+use Rattle.hir_run.proofs.Children.{children_found, children_unknown}
+use Rattle.hir_run.proofs.answer.put_known.Goals as goal
+
+pub returns-then-not-has_expr : goal.returns-then-not-has_expr
+returns-then-not-has_expr g c =
+    let past : length c.args.store.now.nodes.exprs ≤ c.args.id = elim (cases_lt c.args.id (length c.args.store.now.nodes.exprs)) [ inl there ↦ absurd (false≢true (sym c.if-not-has_expr.true ∙ c.has_expr.ensures.1 there)) | inr past ↦ past ] in
+    rw (children_unknown c.args.store.now.nodes c.args.id past) c.put.ensures
+
+pub returns : goal.returns
+returns g c =
+    let there : c.args.id < length c.args.store.now.nodes.exprs = c.has_expr.ensures.0 c.if-not-has_expr.false in
+    rw (children_found c.args.store.now.nodes c.args.id there)
+    (put_then g.W.Sink.contents g.W.Sink.failed c.args.writer.now c.put-2.new.writer c.put_children.new.writer c.args.output.now c.put-2.new.output c.put_children.new.output (codes " =") (spaced (children c.args.store.now.nodes c.args.id)) c.put-2.ensures c.put_children.ensures)

@@ -1,0 +1,125 @@
+//! A section of questions: from its first question on, each line is answered, as far as such questions come.
+
+ghost use Rattle.std.specs.Prelude.{◌≡◌, ◌+◌, ◌<◌, ◌^◌, ◌||◌, List, ℕ, Bool, [], true, false, length, OnOk, IfOk, OnErr};
+ghost use Rattle.hir_io.specs.NextLine.{untaken};
+ghost use Rattle.hir_lines.specs.Line.{line_of};
+ghost use Rattle.hir_run.specs.Outcomes.{is_input_failed, is_output_failed};
+ghost use Rattle.hir_run.specs.Stages.{Asks, AsksLine, Replies};
+
+use crate::fault::RunFault;
+use hir_io::{LineReader, OutputBuffer, Sink, Source, next_line};
+use hir_lines::{Line, Question, parse};
+use std::alloc::{AllocError, Global};
+use std::mem::drop;
+
+/// What answers questions.
+pub(crate) trait Answers {
+    ghost use Rattle.hir_lines.specs.declared.line.Question.{Question};
+
+    // Whether a question may be asked of it.
+    ghost may: { Question → Bool };
+
+    // What the answers to it are.
+    ghost Is: { Self → Question → List ℕ → Type 0 };
+
+    /// Answers a question by one line, put behind what waits. A question that may not be asked is handed back.
+    ///
+    /// Answers `AllocError` where memory was refused: nothing is put then.
+    fn answer<W: Sink>(
+        &self,
+        question: Question,
+        output: &mut OutputBuffer,
+        writer: &mut W,
+    ) -> Result<Option<Question>, AllocError>
+        ensures replies { IfOk result (Replies may (Is self.now) question (W.contents writer.old) (W.failed writer.old)
+            output.old (W.contents writer.new) (W.failed writer.new) output.new) }
+        ensures memory { OnErr result ((writer.new ≡ writer.old) × (output.new ≡ output.old)) };
+}
+
+/// Answers the line of this number.
+fn answer_line<A: Answers, W: Sink>(
+    asked: &A,
+    line: Line,
+    number: u64,
+    output: &mut OutputBuffer,
+    writer: &mut W,
+) -> Result<Option<Question>, RunFault>
+    requires { W.failed writer.old ≡ false }
+    ensures asks { AsksLine A.may (A.Is asked.now) line number (W.contents writer.old) output.old
+        (W.contents writer.new) output.new result }
+    ensures failure { W.failed writer.new ≡ is_output_failed result }
+{
+    let question = match line {
+        Line::Blank => return Ok(None),
+        Line::Ask(question) => question,
+        Line::Make(maker) => {
+            drop(maker);
+            return Err(RunFault::BadLine(number));
+        }
+        Line::Bad => return Err(RunFault::BadLine(number)),
+    };
+    let Ok(left) = asked.answer(question, output, writer) else {
+        return Err(RunFault::OutOfMemory);
+    };
+    if writer.has_failed() {
+        return Err(RunFault::OutputFailed);
+    }
+    Ok(left)
+}
+
+/// Answers the line that was taken last.
+fn answer_next<A: Answers, W: Sink>(
+    alloc: Global,
+    asked: &A,
+    lines: &LineReader,
+    output: &mut OutputBuffer,
+    writer: &mut W,
+) -> Result<Option<Question>, RunFault>
+    requires { W.failed writer.old ≡ false }
+    ensures asks { AsksLine A.may (A.Is asked.now) (line_of lines.now.line) lines.now.count
+        (W.contents writer.old) output.old (W.contents writer.new) output.new result }
+    ensures failure { W.failed writer.new ≡ is_output_failed result }
+{
+    match parse(alloc, lines.line()) {
+        Ok(line) => answer_line(asked, line, lines.count(), output, writer),
+        Err(_) => Err(RunFault::OutOfMemory),
+    }
+}
+
+/// Answers the first question and those behind it, and gives the first that may not be asked, if there is one. Some of the answers may
+/// still wait.
+pub(crate) fn answer_lines<A: Answers, R: Source, W: Sink>(
+    alloc: Global,
+    asked: &A,
+    first: Question,
+    lines: &mut LineReader,
+    reader: &mut R,
+    output: &mut OutputBuffer,
+    writer: &mut W,
+) -> Result<Option<Question>, RunFault>
+    requires fits { lines.old.count + length lines.old.pending + R.allowance reader.old < 2 ^ 64 }
+    requires unfailed { W.failed writer.old ≡ false }
+    ensures asks { Asks A.may (A.Is asked.now)
+        (untaken lines.old.pending lines.old.at_end (R.remaining reader.old))
+        (untaken lines.new.pending lines.new.at_end (R.remaining reader.new))
+        (R.remaining reader.new) lines.old lines.new
+        (W.contents writer.old) output.old (W.contents writer.new) output.new first result }
+    ensures read_failure { R.failed reader.new ≡ (is_input_failed result || R.failed reader.old) }
+    ensures write_failure { W.failed writer.new ≡ is_output_failed result }
+    // A read is made only where nothing waits.
+    ensures quiet { is_input_failed result ≡ true → output.new ≡ [] }
+    ensures still_fits { OnOk result
+        (lines.new.count + length lines.new.pending + R.allowance reader.new < 2 ^ 64) }
+{
+    let left = answer_line(asked, Line::Ask(first), lines.count(), output, writer)?;
+    if left.is_some() {
+        return Ok(left);
+    }
+    while next_line(lines, reader, output, writer)? {
+        let later = answer_next(alloc, asked, lines, output, writer)?;
+        if later.is_some() {
+            return Ok(later);
+        }
+    }
+    Ok(None)
+}

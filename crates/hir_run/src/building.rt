@@ -1,0 +1,71 @@
+//! The first part of a run: lines that make something, up to the first question.
+
+ghost use Rattle.std.specs.Prelude.{◌≡◌, ◌+◌, ◌<◌, ◌^◌, ◌||◌, [], false, length, OnOk};
+ghost use Rattle.hir_io.specs.NextLine.{untaken};
+ghost use Rattle.hir_run.specs.Made.{made_of, nothing_made};
+ghost use Rattle.hir_run.specs.Outcomes.{is_input_failed};
+ghost use Rattle.hir_run.specs.Stages.{Builds, BuildsBy, BuildsLine};
+
+use crate::fault::RunFault;
+use crate::made::Made;
+use hir_io::{LineReader, OutputBuffer, Sink, Source, next_line};
+use hir_lines::{Line, Question, parse};
+use std::alloc::Global;
+
+/// Makes what the line of this number makes, or gives its question.
+fn build_by(line: Line, number: u64, made: &mut Made) -> Result<Option<Question>, RunFault>
+    ensures { BuildsBy line number (made_of made.old) (made_of made.new) result }
+{
+    match line {
+        Line::Blank => Ok(None),
+        Line::Make(maker) => {
+            made.make(maker, number)?;
+            Ok(None)
+        }
+        Line::Ask(question) => Ok(Some(question)),
+        Line::Bad => Err(RunFault::BadLine(number)),
+    }
+}
+
+/// Makes what the line that was taken last makes, or gives its question.
+fn build_line(
+    alloc: Global,
+    lines: &LineReader,
+    made: &mut Made,
+) -> Result<Option<Question>, RunFault>
+    ensures { BuildsLine lines.now (made_of made.old) (made_of made.new) result }
+{
+    match parse(alloc, lines.line()) {
+        Ok(line) => build_by(line, lines.count(), made),
+        Err(_) => Err(RunFault::OutOfMemory),
+    }
+}
+
+/// Builds by the lines before the first question, and gives that question, if there is one.
+pub(crate) fn build<R: Source, W: Sink>(
+    alloc: Global,
+    lines: &mut LineReader,
+    reader: &mut R,
+    output: &mut OutputBuffer,
+    writer: &mut W,
+    made: &mut Made,
+) -> Result<Option<Question>, RunFault>
+    requires fits { length lines.old.pending + R.allowance reader.old < 2 ^ 64 }
+    requires fresh { (lines.old.count ≡ 0) × (lines.old.at_end ≡ false) × (made_of made.old ≡ nothing_made) }
+    requires quiet { output.old ≡ [] }
+    ensures builds { Builds (untaken lines.old.pending lines.old.at_end (R.remaining reader.old))
+        (untaken lines.new.pending lines.new.at_end (R.remaining reader.new))
+        (R.remaining reader.new) lines.new (made_of made.new) result }
+    ensures still_quiet { (output.new ≡ []) × (writer.new ≡ writer.old) }
+    ensures failure { R.failed reader.new ≡ (is_input_failed result || R.failed reader.old) }
+    ensures still_fits { OnOk result
+        (lines.new.count + length lines.new.pending + R.allowance reader.new < 2 ^ 64) }
+{
+    while next_line(lines, reader, output, writer)? {
+        let question = build_line(alloc, lines, made)?;
+        if question.is_some() {
+            return Ok(question);
+        }
+    }
+    Ok(None)
+}
