@@ -50,15 +50,9 @@ fn command(alloc: Global, words: &mut Words<'_>) -> Result<Line, Stop>
         "fn" => Ok(Line::Make(Maker::FnName(words.name(alloc)?))),
         "roots" => Ok(Line::Make(Maker::Roots)),
         "root" => Ok(Line::Make(Maker::Root(words.id()?))),
-        "children" => Ok(Line::Ask(Question::OfStore(StoreQuestion::Children(
-            words.id()?,
-        )))),
-        "root-of" => Ok(Line::Ask(Question::OfStore(StoreQuestion::RootOf(
-            words.id()?,
-        )))),
-        "chain" => Ok(Line::Ask(Question::OfBody(BodyQuestion::Chain(
-            words.id()?,
-        )))),
+        "children" => Ok(Line::Ask(Question::OfStore(StoreQuestion::Children(words.id()?)))),
+        "root-of" => Ok(Line::Ask(Question::OfStore(StoreQuestion::RootOf(words.id()?)))),
+        "chain" => Ok(Line::Ask(Question::OfBody(BodyQuestion::Chain(words.id()?)))),
         "resolve" => Ok(Line::Ask(Question::OfBody(resolve(alloc, words)?))),
         _ => Err(Stop::Bad),
     }

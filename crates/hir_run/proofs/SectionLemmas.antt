@@ -104,17 +104,20 @@ module _ (input : List ℕ) (rest : Option (List ℕ)) (ls : LineState) (questio
           let handed : may question ≡ false = rw (← is) refuses in
           let goes : (more : List Line) (t : List ℕ) (outcome : Outcome) → next (length at.texts) (Ask question ∷ more) t outcome → section may Is next (length at.texts) (Ask question ∷ more) t outcome =
           λ more t outcome c. section_behind may Is next (length at.texts) [] (Ask question ∷ more) [] t outcome refl refl (outside handed) (rw (add-zero (length at.texts)) c) in
-          rw (is, here, unread, same, waits)
-          (text, record {
-            texts = at.texts;
-            last = at.last;
-            read = at.read;
-            count = at.count;
-            is = at.is;
-            sound = at.sound;
-            means = λ more t outcome c. at.means more t outcome (goes more t outcome c);
-            answers = λ more t outcome c. at.answers more t outcome (goes more t outcome c);
-          }, w)
+          rw (is, here, unread, same, waits) (
+            text,
+            record {
+              texts = at.texts;
+              last = at.last;
+              read = at.read;
+              count = at.count;
+              is = at.is;
+              sound = at.sound;
+              means = λ more t outcome c. at.means more t outcome (goes more t outcome c);
+              answers = λ more t outcome c. at.answers more t outcome (goes more t outcome c);
+            },
+            w,
+          )
       section_left rest' ls' left (refuses, inr (texts, line, (answers, have, written), is, read, stays, counted)) =
           let joined = Reads-joined (Some input) rest rest' (at.texts ++ at.last ∷ []) (texts ++ line ∷ []) ls.at_end ls'.at_end at.read read stays in
           let grouped : (at.texts ++ at.last ∷ []) ++ (texts ++ line ∷ []) ≡ taken texts ++ line ∷ [] = sym (append_assoc (at.texts ++ at.last ∷ []) texts (line ∷ [])) in
@@ -122,14 +125,17 @@ module _ (input : List ℕ) (rest : Option (List ℕ)) (ls : LineState) (questio
           λ more. ap (λ v. script at.texts ++ Ask question ∷ v) (ap (λ v. v ++ Ask left ∷ more) (sym (append-nil (says texts))))
           ∙ sym (append_assoc (script at.texts) (Ask question ∷ (says texts ++ [])) (Ask left ∷ more)) ∙ ap (λ v. v ++ Ask left ∷ more) (sym (alone texts answers have)) in
           let goes : (more : List Line) (t : List ℕ) (outcome : Outcome) → next (length (taken texts)) (Ask left ∷ more) t outcome → section may Is next (length at.texts) (Ask question ∷ (says texts ++ Ask left ∷ more)) (answers ++ t) outcome =
-          λ more t outcome c. course texts answers have (Ask left ∷ more) t outcome (outside refuses) (rw (taken-length texts) at c) in
-          (text ++ answers, record {
-            texts = taken texts;
-            last = line;
-            read = rw grouped at joined;
-            count = omega (arith, counted, taken-length texts);
-            is = is;
-            sound = sound_so_far texts answers have;
-            means = λ more t outcome c. rw (before more, ← append_assoc text answers t) at (at.means (says texts ++ Ask left ∷ more) (answers ++ t) outcome (goes more t outcome c));
-            answers = λ more t outcome c. rw (before more, ← append_assoc text answers t) at (at.answers (says texts ++ Ask left ∷ more) (answers ++ t) outcome (goes more t outcome c));
-          }, wrote answers written)
+          λ more t outcome c. course texts answers have (Ask left ∷ more) t outcome (outside refuses) (rw (taken-length texts) at c) in (
+            text ++ answers,
+            record {
+              texts = taken texts;
+              last = line;
+              read = rw grouped at joined;
+              count = omega (arith, counted, taken-length texts);
+              is = is;
+              sound = sound_so_far texts answers have;
+              means = λ more t outcome c. rw (before more, ← append_assoc text answers t) at (at.means (says texts ++ Ask left ∷ more) (answers ++ t) outcome (goes more t outcome c));
+              answers = λ more t outcome c. rw (before more, ← append_assoc text answers t) at (at.answers (says texts ++ Ask left ∷ more) (answers ++ t) outcome (goes more t outcome c));
+            },
+            wrote answers written,
+          )

@@ -55,12 +55,7 @@ fn put_known<W: Sink>(
 }
 
 /// Puts the root that an expression belongs to, or that there is none.
-fn put_root<W: Sink>(
-    store: &ExpressionStore,
-    id: ExprId,
-    output: &mut OutputBuffer,
-    writer: &mut W,
-)
+fn put_root<W: Sink>(store: &ExpressionStore, id: ExprId, output: &mut OutputBuffer, writer: &mut W)
     ensures { Puts (W.contents writer.old) (W.failed writer.old) output.old (W.contents writer.new)
         (W.failed writer.new) output.new (root_text store.now.roots id) }
 {
@@ -74,12 +69,7 @@ fn put_root<W: Sink>(
 }
 
 /// Puts the first words of an answer: what was asked, and of which expression.
-pub(crate) fn put_asked<W: Sink>(
-    word: &[u8],
-    id: ExprId,
-    output: &mut OutputBuffer,
-    writer: &mut W,
-)
+pub(crate) fn put_asked<W: Sink>(word: &[u8], id: ExprId, output: &mut OutputBuffer, writer: &mut W)
     ensures { Puts (W.contents writer.old) (W.failed writer.old) output.old (W.contents writer.new)
         (W.failed writer.new) output.new (word.now ++ decimal id) }
 {

@@ -132,23 +132,11 @@ fn owner_of_fields(number: u32) -> ExpressionStoreOwnerId {
 /// How many scopes the body of the function, the signature of the trait and the fields of the struct of this number have.
 fn counts(tables: &Tables, alloc: Global, number: u32) -> [Result<usize, ScopesFault>; 6] {
     [
-        count(ExprScopes::body_expr_scopes(
-            alloc,
-            tables,
-            body_of(number),
-        )),
+        count(ExprScopes::body_expr_scopes(alloc, tables, body_of(number))),
         count(ExprScopes::of(alloc, tables, body_of(number))),
-        count(ExprScopes::sig_expr_scopes(
-            alloc,
-            tables,
-            signature_of(number),
-        )),
+        count(ExprScopes::sig_expr_scopes(alloc, tables, signature_of(number))),
         count(ExprScopes::of(alloc, tables, signature_of(number))),
-        count(ExprScopes::variant_scopes(
-            alloc,
-            tables,
-            fields_of(number),
-        )),
+        count(ExprScopes::variant_scopes(alloc, tables, fields_of(number))),
         count(ExprScopes::of(alloc, tables, owner_of_fields(number))),
     ]
 }

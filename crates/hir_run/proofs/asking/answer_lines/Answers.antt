@@ -27,8 +27,13 @@ loop-left-init g c =
       unfailed = told.failure;
       falls = omega arith;
       stays_ended = λ e. e;
-      so_far = ([], first_answered g.A.Answers.may (g.A.Answers.Is c.args.asked.now) (untaken c.args.lines.now.pending c.args.lines.now.at_end (g.R.Source.remaining c.args.reader.now)) c.args.first (g.W.Sink.contents c.args.writer.now) c.args.output.now c.args.lines.now
-      (g.W.Sink.contents c.answer_line.new.writer) c.answer_line.new.output c.in_ok-left.left (sym c.is_some.ensures ∙ c.if-is_some.false) told.asks, Reads-none _ _, omega arith);
+      so_far = (
+        [],
+        first_answered g.A.Answers.may (g.A.Answers.Is c.args.asked.now) (untaken c.args.lines.now.pending c.args.lines.now.at_end (g.R.Source.remaining c.args.reader.now)) c.args.first (g.W.Sink.contents c.args.writer.now) c.args.output.now c.args.lines.now
+            (g.W.Sink.contents c.answer_line.new.writer) c.answer_line.new.output c.in_ok-left.left (sym c.is_some.ensures ∙ c.if-is_some.false) told.asks,
+        Reads-none _ _,
+        omega arith,
+      );
     }
 
 pub returns-in_err-next_line-clause-asks : goal.returns-in_err-next_line-clause-asks
@@ -59,9 +64,14 @@ loop-left-preserved g c =
       unfailed = answered.failure;
       falls = omega (arith, c.loop-left.invariant.falls);
       stays_ended = λ ended. told.stays_ended (c.loop-left.invariant.stays_ended ended);
-      so_far = (so_far.0 ++ text ∷ [], line_answered g.A.Answers.may (g.A.Answers.Is c.args.asked.now) (untaken c.args.lines.now.pending c.args.lines.now.at_end (g.R.Source.remaining c.args.reader.now)) c.args.first (g.W.Sink.contents c.args.writer.now) c.args.output.now c.args.lines.now
-      (g.W.Sink.contents c.loop-left.writer) c.loop-left.output (untaken c.loop-left.lines.pending c.loop-left.lines.at_end (g.R.Source.remaining c.loop-left.reader)) c.loop-left.lines so_far.0 so_far.1 so_far.2 so_far.3 c.loop-left.invariant.stays_ended
-      (g.W.Sink.contents c.next_line.new.writer) (g.W.Sink.contents c.answer_next.new.writer) (untaken c.next_line.new.lines.pending c.next_line.new.lines.at_end (g.R.Source.remaining c.next_line.new.reader)) c.next_line.new.output c.answer_next.new.output c.next_line.new.lines told.writes read count c.in_ok-later.later (sym c.is_some-in-loop-left.ensures ∙ c.if-is_some-2.false) answered.asks, read, omega (arith, count, length-append so_far.0 (text ∷ [])));
+      so_far = (
+        so_far.0 ++ text ∷ [],
+        line_answered g.A.Answers.may (g.A.Answers.Is c.args.asked.now) (untaken c.args.lines.now.pending c.args.lines.now.at_end (g.R.Source.remaining c.args.reader.now)) c.args.first (g.W.Sink.contents c.args.writer.now) c.args.output.now c.args.lines.now
+            (g.W.Sink.contents c.loop-left.writer) c.loop-left.output (untaken c.loop-left.lines.pending c.loop-left.lines.at_end (g.R.Source.remaining c.loop-left.reader)) c.loop-left.lines so_far.0 so_far.1 so_far.2 so_far.3 c.loop-left.invariant.stays_ended
+            (g.W.Sink.contents c.next_line.new.writer) (g.W.Sink.contents c.answer_next.new.writer) (untaken c.next_line.new.lines.pending c.next_line.new.lines.at_end (g.R.Source.remaining c.next_line.new.reader)) c.next_line.new.output c.answer_next.new.output c.next_line.new.lines told.writes read count c.in_ok-later.later (sym c.is_some-in-loop-left.ensures ∙ c.if-is_some-2.false) answered.asks,
+        read,
+        omega (arith, count, length-append so_far.0 (text ∷ [])),
+      );
     }
 
 pub returns-in_err-later-clause-asks : goal.returns-in_err-later-clause-asks
@@ -94,10 +104,14 @@ returns-clause-asks g c =
     let so_far = c.loop-left.invariant.so_far in
     let told = c.in_ok-next_line.ensures {u = tt} in
     let ended = rw c.if-branch.false at told.takes in
-    let counted = rw c.if-branch.false at told.count in
-    (so_far.0, none_left g.A.Answers.may (g.A.Answers.Is c.args.asked.now) (untaken c.args.lines.now.pending c.args.lines.now.at_end (g.R.Source.remaining c.args.reader.now)) c.args.first (g.W.Sink.contents c.args.writer.now) c.args.output.now c.args.lines.now
-    (g.W.Sink.contents c.loop-left.writer) c.loop-left.output (untaken c.loop-left.lines.pending c.loop-left.lines.at_end (g.R.Source.remaining c.loop-left.reader)) c.loop-left.lines so_far.0 so_far.1 so_far.2 so_far.3 c.loop-left.invariant.stays_ended
-    (g.W.Sink.contents c.next_line.new.writer) c.next_line.new.output told.writes, ReadsAll-end _ _ so_far.0 _ so_far.2 ended.0, omega (arith, so_far.3, counted))
+    let counted = rw c.if-branch.false at told.count in (
+      so_far.0,
+      none_left g.A.Answers.may (g.A.Answers.Is c.args.asked.now) (untaken c.args.lines.now.pending c.args.lines.now.at_end (g.R.Source.remaining c.args.reader.now)) c.args.first (g.W.Sink.contents c.args.writer.now) c.args.output.now c.args.lines.now
+          (g.W.Sink.contents c.loop-left.writer) c.loop-left.output (untaken c.loop-left.lines.pending c.loop-left.lines.at_end (g.R.Source.remaining c.loop-left.reader)) c.loop-left.lines so_far.0 so_far.1 so_far.2 so_far.3 c.loop-left.invariant.stays_ended
+          (g.W.Sink.contents c.next_line.new.writer) c.next_line.new.output told.writes,
+      ReadsAll-end _ _ so_far.0 _ so_far.2 ended.0,
+      omega (arith, so_far.3, counted),
+    )
 
 pub returns-in_err-left-clause-quiet : goal.returns-in_err-left-clause-quiet
 returns-in_err-left-clause-quiet g c =

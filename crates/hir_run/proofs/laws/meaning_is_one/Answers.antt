@@ -2,4 +2,5 @@ use Rattle.hir_run.proofs.MeaningLemmas.{IsMeaning-one}
 use Rattle.hir_run.proofs.laws.meaning_is_one.Goals as goal
 
 pub returns : goal.returns
-returns c = λ one_chain. IsMeaning-one c.first_fault_is_one.ensures c.first_body_fault_is_one.ensures one_chain
+returns c =
+    IsMeaning-one c.first_fault_is_one.ensures c.first_body_fault_is_one.ensures c.a_reached_node_has_one_chain.ensures.bodies

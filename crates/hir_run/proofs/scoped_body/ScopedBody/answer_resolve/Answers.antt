@@ -12,6 +12,9 @@ returns g c =
     let m = c.put_meaning.ensures in
     let asked = codes "resolve " ++ decimal c.args.id in
     let known = 32 ∷ c.args.name.now ++ resolve_text m.0 c.args.name.now in
-    let named = put_then contents failed c.put_asked.new.writer c.put_name.new.writer c.put_meaning.new.writer c.put_asked.new.output c.put_name.new.output c.put_meaning.new.output (32 ∷ c.args.name.now) (resolve_text m.0 c.args.name.now) c.put_name.ensures m.2 in
-    (answer_line (codes "resolve ") c.args.id known, (m.0, m.1, refl), put_then contents failed c.args.writer.now c.put_meaning.new.writer c.put.new.writer c.args.output.now c.put_meaning.new.output c.put.new.output (asked ++ known) (codes "\n")
-    (put_then contents failed c.args.writer.now c.put_asked.new.writer c.put_meaning.new.writer c.args.output.now c.put_asked.new.output c.put_meaning.new.output asked known c.put_asked.ensures named) c.put.ensures)
+    let named = put_then contents failed c.put_asked.new.writer c.put_name.new.writer c.put_meaning.new.writer c.put_asked.new.output c.put_name.new.output c.put_meaning.new.output (32 ∷ c.args.name.now) (resolve_text m.0 c.args.name.now) c.put_name.ensures m.2 in (
+      answer_line (codes "resolve ") c.args.id known,
+      (m.0, m.1, refl),
+      put_then contents failed c.args.writer.now c.put_meaning.new.writer c.put.new.writer c.args.output.now c.put_meaning.new.output c.put.new.output (asked ++ known) (codes "\n")
+          (put_then contents failed c.args.writer.now c.put_asked.new.writer c.put_meaning.new.writer c.args.output.now c.put_asked.new.output c.put_meaning.new.output asked known c.put_asked.ensures named) c.put.ensures,
+    )
