@@ -3,7 +3,6 @@ use Rattle.std.proofs.Common.{◌≡◌, ℕ, zero, suc, ◌+◌, ◌<◌, Bool,
 use Rattle.std.specs.List.{flat_map}
 use Rattle.hir_node.specs.declared.node_id.NodeId.{NodeId}
 use Rattle.hir_node.specs.declared.node_id.NodeId.TheVariants as node
-use Rattle.hir_faults.specs.Nodes.{Nodes, Has}
 use Rattle.hir_faults.specs.Down.{rank, value_within, value}
 use Rattle.hir_pretty.specs.Questions.{Setting}
 use Rattle.hir_pretty.specs.Items.{Item, Put, Lacks, Whole, Under, Pattern, TypeItem}
@@ -48,17 +47,17 @@ module _ (s : Setting) (self other : NodeId → List NodePiece) where
 
 module _ (s : Setting) (fall : ItemsFall s) where
   -- a greater depth changes nothing
-  stable : (d e : ℕ) (n : NodeId) → Has s.nodes n → rank s.nodes n < d → rank s.nodes n < e → value_within (pieces_step s) [] d n ≡ value_within (pieces_step s) [] e n
-  stable zero e n h v w = absurd (omega arith)
-  stable (suc d) zero n h v w = absurd (omega arith)
-  stable (suc d) (suc e) n h v w =
+  stable : (d e : ℕ) (n : NodeId) → rank s.nodes n < d → rank s.nodes n < e → value_within (pieces_step s) [] d n ≡ value_within (pieces_step s) [] e n
+  stable zero e n v w = absurd (omega arith)
+  stable (suc d) zero n v w = absurd (omega arith)
+  stable (suc d) (suc e) n v w =
       same_pieces s (value_within (pieces_step s) [] d) (value_within (pieces_step s) [] e) (items_of s n)
-      (nodes_weaker (λ k. Has s.nodes k × (rank s.nodes k < rank s.nodes n)) _ (λ k low. let lower = low.1 in stable d e k low.0 (omega arith) (omega arith)) (items_of s n) (fall n h))
+      (nodes_weaker (λ k. rank s.nodes k < rank s.nodes n) _ (λ k low. stable d e k (omega arith) (omega arith)) (items_of s n) (fall n))
 
   -- the pieces of a node are those of its items
-  pub pieces_at : (n : NodeId) → Has s.nodes n → pieces s n ≡ pieces_step s (pieces s) n
+  pub pieces_at : (n : NodeId) → pieces s n ≡ pieces_step s (pieces s) n
   unfolding pieces value
-  pieces_at n h =
+  pieces_at n =
       same_pieces s (value_within (pieces_step s) [] (rank s.nodes n)) (pieces s) (items_of s n)
-      (nodes_weaker (λ k. Has s.nodes k × (rank s.nodes k < rank s.nodes n)) _
-      (λ k low. let lower = low.1 in stable (rank s.nodes n) (suc (rank s.nodes k)) k low.0 lower (omega arith)) (items_of s n) (fall n h))
+      (nodes_weaker (λ k. rank s.nodes k < rank s.nodes n) _
+      (λ k low. stable (rank s.nodes n) (suc (rank s.nodes k)) k low (omega arith)) (items_of s n) (fall n))

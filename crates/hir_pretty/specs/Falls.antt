@@ -2,7 +2,6 @@
 use Rattle.std.specs.Prelude.{◌<◌, List, [], ◌∷◌, ⊤}
 use Rattle.hir_node.specs.declared.node_id.NodeId.{NodeId}
 use Rattle.hir_node.specs.declared.node_id.NodeId.TheVariants as node
-use Rattle.hir_faults.specs.Nodes.{Has}
 use Rattle.hir_faults.specs.Down.{rank}
 use Rattle.hir_pretty.specs.Questions.{Setting}
 use Rattle.hir_pretty.specs.Items.{Item, Put, Lacks, Whole, Under, Pattern, TypeItem}
@@ -18,6 +17,6 @@ AllNodes P (Under id parent ∷ is) = P (node.Expr id) × AllNodes P is
 AllNodes P (Pattern id ∷ is) = P (node.Pat id) × AllNodes P is
 AllNodes P (TypeItem id ∷ is) = P (node.TypeRef id) × AllNodes P is
 
--- what is printed inside a node is there, and stands lower
+-- what is printed inside a node stands lower
 abbrev pub ItemsFall : Setting → Type 0
-ItemsFall s = (n : NodeId) → Has s.nodes n → AllNodes (λ k. Has s.nodes k × (rank s.nodes k < rank s.nodes n)) (items_of s n)
+ItemsFall s = (n : NodeId) → AllNodes (λ k. rank s.nodes k < rank s.nodes n) (items_of s n)

@@ -8,3 +8,4 @@ pub mod Exprs
 pub mod Pats
 pub mod Pieces
 pub mod Falls
+pub mod Settings

@@ -17,7 +17,7 @@ use Rattle.hir_path.specs.declared.bound.UseArgRef.TheVariants as use_arg
 use Rattle.hir_path.specs.declared.path.GenericArg.{GenericArg}
 use Rattle.hir_path.specs.declared.path.GenericArg.TheVariants as arg
 use Rattle.hir_path.specs.declared.path.GenericArgs.{GenericArgs, GenericArgs-F, fold-GenericArgs}
-use Rattle.hir_path.specs.declared.path.AssociatedTypeBinding.{AssociatedTypeBinding-F}
+use Rattle.hir_path.specs.declared.path.AssociatedTypeBinding.{AssociatedTypeBinding, AssociatedTypeBinding-F, fold-AssociatedTypeBinding}
 use Rattle.hir_path.specs.declared.path.NormalPath.{NormalPath}
 use Rattle.hir_path.specs.declared.path.Path.{Path}
 use Rattle.hir_path.specs.declared.path.Path.TheVariants as path
@@ -68,9 +68,13 @@ each_arg s false (a ∷ more) = arg_items s a ∷ map (arg_items s) more
 abbrev pub turbofish : List Item → List Item
 turbofish args = text (codes "::<") ++ args ++ text (codes ">")
 
+-- the type of an associated type binding
+abbrev pub type_after : Option ℕ → List Item
+type_after type_ref = opt (λ id. text (codes " = ") ++ t id) type_ref
+
 -- an associated type binding, where the items of its own arguments stand in their place
 abbrev pub binding_layer : Setting → AssociatedTypeBinding-F (List Item) (List Item) → List Item
-binding_layer s b = name_items s b.name ++ opt turbofish b.args ++ bounds_after s b.bounds ++ opt (λ id. text (codes " = ") ++ t id) b.type_ref
+binding_layer s b = name_items s b.name ++ opt turbofish b.args ++ bounds_after s b.bounds ++ type_after b.type_ref
 
 -- generic arguments, where the items of each binding stand in its place
 abbrev pub args_layer : Setting → GenericArgs-F (List Item) (List Item) → List Item
@@ -78,6 +82,10 @@ args_layer s x = comma_joined (each_arg s x.has_self_type x.args ++ x.bindings)
 
 abbrev pub args_items : Setting → GenericArgs → List Item
 args_items s = fold-GenericArgs (List Item) (List Item) (binding_layer s) (args_layer s)
+
+-- an associated type binding with its own arguments
+abbrev pub assoc_items : Setting → AssociatedTypeBinding → List Item
+assoc_items s = fold-AssociatedTypeBinding (List Item) (List Item) (binding_layer s) (args_layer s)
 
 -- a name of the tables: as it stands, or a default
 abbrev pub found_name : List ℕ → Result (Option (List ℕ)) Missing → List Item

@@ -1,12 +1,15 @@
 //! Laws that a reader relies on. Each is a function with no body to run: its contract is the law.
-ghost use Rattle.std.specs.Prelude.{◌≡◌};
+ghost use Rattle.std.specs.Prelude.{◌≡◌, None};
 ghost use Rattle.hir_node.specs.declared.node_id.NodeId.{NodeId};
-ghost use Rattle.hir_faults.specs.Nodes.{Has};
+ghost use Rattle.hir_expr_store.specs.Contents.{Contents, contents_fault};
 ghost use Rattle.hir_pretty.specs.Questions.{Setting};
 ghost use Rattle.hir_pretty.specs.Pieces.{pieces, pieces_step};
-ghost use Rattle.hir_pretty.specs.Falls.{ItemsFall};
 
-/// The pieces of a node are those of its items, where what is printed inside a node stands lower.
+/// The pieces of a node of an accepted store are those of its items.
 pub fn pieces_are_their_step()
-    ensures { (s : Setting) → ItemsFall s → (n : NodeId) → Has s.nodes n → pieces s n ≡ pieces_step s (pieces s) n }
-{}
+    ensures { (c : Contents) → contents_fault c None → (s : Setting) → s.nodes ≡ c.nodes → (n : NodeId)
+        → pieces s n ≡ pieces_step s (pieces s) n }
+{
+    hir_expr_store::laws::kids_fall();
+    hir_expr_store::laws::who_has_kids_is_there();
+}
