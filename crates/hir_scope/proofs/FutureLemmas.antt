@@ -50,7 +50,7 @@ module _ (s : Nodes) (chain : ℕ → Chain) where
       ∙ append_assoc (exprs_under s (at ∷ [])) (exprs_under s ps) rest
 
   -- kids in turn are the tasks of their calls
-  future_turn : (h k constants add : Chain) (cs : List Call) (ts : List Task) → exprs_under s (map (place_kid h k) (in_turn s constants add cs)) ++ future s chain ((leaks (leak s) cs ++ add) ++ h) (constants ++ k) ts ≡ future s chain (add ++ h) (constants ++ k) (tasks_of cs ++ ts)
+  pub future_turn : (h k constants add : Chain) (cs : List Call) (ts : List Task) → exprs_under s (map (place_kid h k) (in_turn s constants add cs)) ++ future s chain ((leaks (leak s) cs ++ add) ++ h) (constants ++ k) ts ≡ future s chain (add ++ h) (constants ++ k) (tasks_of cs ++ ts)
   unfolding future
   future_turn h k constants add [] ts = none _
   future_turn h k constants add (OnExpr x ∷ cs) ts =

@@ -1,16 +1,33 @@
+pub mod BinderLemmas
+mod DoneLemmas
 mod FutureLemmas
+mod GoneLemmas
+mod GrownLemmas
 mod KidLemmas
 mod MetLemmas
+mod MovingLemmas
 pub mod PushLemmas
+mod ReadyLemmas
 mod StepLemmas
 mod TaskLemmas
 mod TotalLemmas
+mod WeightLemmas
 pub mod TurnLemmas
 mod Rows
 pub mod FlatLemmas
 pub mod PathLemmas
 pub mod ResolveLemmas
 pub mod SameLemmas
-pub mod LeakLemmas
 pub mod SlotLemmas
 pub mod StandsLemmas
+pub mod BeginLemmas
+pub mod BuiltLemmas
+pub mod CountLemmas
+pub mod EntryLemmas
+pub mod MemberLemmas
+pub mod SumLemmas
+pub mod TopLemmas
+pub mod UnderLemmas
+pub mod UniqueLemmas
+pub mod WrittenLemmas
+pub mod WholeLemmas

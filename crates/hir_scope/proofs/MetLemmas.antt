@@ -17,6 +17,10 @@ use Rattle.hir_scope.specs.Pending.{form_tasks, opens_here, opens_constant, futu
 use Rattle.hir_scope.proofs.FutureLemmas.{future_form, turn_ended, future_arm_task}
 use Rattle.hir_scope.proofs.StepLemmas.{leak_at, exprs_under_expr, exprs_under_pat, exprs_under_type}
 
+-- the scope of constants is around what is in it
+abbrev pub for_constants : Around → Around
+for_constants a = record { here = a.constant; constant = a.constant }
+
 module _ (s : Nodes) (fall : KidsFall s) (chain : ℕ → Chain) where
   -- an expression is met, and then what is inside it
   pub future_expr : (a : Around) (id : ℕ) (x : ScopingForm) (ts : List Task) → Has s (node.Expr id) → form_of s (node.Expr id) ≡ x → let h = chain a.here in let k = chain a.constant in future s chain h k (task.Expr id ∷ ts) ≡ place (node.Expr id) h k ∷ future s chain (opens_here s x ++ h) (opens_constant x ++ k) (form_tasks a x ++ ts)
@@ -41,9 +45,6 @@ module _ (s : Nodes) (fall : KidsFall s) (chain : ℕ → Chain) where
       ∙ (ap (λ (y : ScopingForm). exprs_under s (map (place_kid h k) (slots_of_form s y)) ++ future s chain (leak_of_form s (leak s) y ++ h) k ts) is
       ∙ future_form s chain a x ts))
 
-  abbrev pub for_constants : Around → Around
-  for_constants a = record { here = a.constant; constant = a.constant }
-
   -- a type stands in the scope of constants
   pub future_type : (a : Around) (id : ℕ) (x : ScopingForm) (ts : List Task) → Has s (node.TypeRef id) → form_of s (node.TypeRef id) ≡ x → let h = chain a.here in let k = chain a.constant in future s chain h k (task.TypeRef id ∷ ts) ≡ future s chain (opens_here s x ++ k) (opens_constant x ++ k) (form_tasks (for_constants a) x ++ (leave a ∷ ts))
   unfolding future
@@ -53,16 +54,6 @@ module _ (s : Nodes) (fall : KidsFall s) (chain : ℕ → Chain) where
       ap (λ (ps : List Place). ps ++ future s chain h k ts) (exprs_under_type s fall id k k there)
       ∙ (ap (λ (y : ScopingForm). exprs_under s (map (place_kid k k) (slots_of_form s y)) ++ future s chain h k ts) is
       ∙ future_form s chain (for_constants a) x (leave a ∷ ts))
-
-  -- a constant is an expression in the scope of constants
-  pub future_constant : (a : Around) (id : ℕ) (ts : List Task) → let h = chain a.here in let k = chain a.constant in future s chain h k (task.Constant id ∷ ts) ≡ future s chain k k (task.Expr id ∷ leave a ∷ ts)
-  unfolding future
-  future_constant a id ts = refl
-
-  -- a pattern that is bound is met in its frame
-  pub future_bound : (h k : Chain) (id : ℕ) (ts : List Task) → future s chain h k (task.Bound id ∷ ts) ≡ future s chain (frame s (id ∷ []) ∷ h) k (task.Pat id ∷ ts)
-  unfolding future
-  future_bound h k id ts = refl
 
   -- an arm is met in the frame of its pattern, which ends with it
   pub future_arm : (a : Around) (arm : MatchArm) (ts : List Task) → let h = chain a.here in let k = chain a.constant in future s chain h k (arm_task arm ∷ ts) ≡ future s chain (frame s (arm.pat ∷ []) ∷ h) k ((tasks_of (arm_calls arm) ++ leave a ∷ []) ++ ts)

@@ -38,7 +38,7 @@ in_two xs ys = map-append (λ (x : Slot). x.kid) xs ys
 calls_in_two : (xs ys : List Call) → kids (xs ++ ys) ≡ kids xs ++ kids ys
 calls_in_two xs ys = flat_map-append kid xs ys
 
-turn_kids : (s : Nodes) (constants add : Chain) (cs : List Call) → kids_in (in_turn s constants add cs) ≡ kids cs
+pub turn_kids : (s : Nodes) (constants add : Chain) (cs : List Call) → kids_in (in_turn s constants add cs) ≡ kids cs
 turn_kids s constants add [] = refl
 turn_kids s constants add (c ∷ cs) =
     in_two (call_slot constants add c) (in_turn s constants (leak_of_call (leak s) c ++ add) cs)

@@ -33,7 +33,7 @@ module _ (s : Nodes) where
       (place_kid at.here at.constant r.0, mapped (place_kid at.here at.constant) (slots s at.node) r.0 r.1, r.2)
 
   -- and what has one there is a kid
-  kid_of_place : (at q : Place) → Contains (places_of_kids s at) q → Contains (kids_of s at.node) q.node
+  pub kid_of_place : (at q : Place) → Contains (places_of_kids s at) q → Contains (kids_of s at.node) q.node
   kid_of_place at q c =
       let r = unmapped (place_kid at.here at.constant) (slots s at.node) q c in
       let there = mapped (λ (x : Slot). x.kid) (slots s at.node) r.0 r.1 in
@@ -41,7 +41,7 @@ module _ (s : Nodes) where
       (Contains-permutation (kids_in (slots s at.node)) (kids_of s at.node) r.0.kid
       (IsPermutation-sym (kids_of s at.node) (kids_in (slots s at.node)) (slots_kids s at.node)) there)
 
-  under_kid : (n k r : NodeId) → Contains (kids_of s n) k → Under s n r → Under s k r
+  pub under_kid : (n k r : NodeId) → Contains (kids_of s n) k → Under s n r → Under s k r
   under_kid n k r c itself = below c itself
   under_kid n k r c (below d u) = below d (under_kid n k _ c u)
 

@@ -15,11 +15,9 @@ use Rattle.hir_scope.specs.declared.tasks.Task.{Task}
 use Rattle.hir_scope.specs.declared.tasks.Task.TheVariants as task
 use Rattle.hir_scope.specs.Forms.{ScopingForm}
 use Rattle.hir_scope.specs.Forms as form
+use Rattle.hir_scope.specs.Machine.{about}
 use Rattle.hir_scope.specs.Pending.{tasks_of, arm_task, arm_calls, guarded_task, leave, statement_tasks, closure_calls, form_tasks, task_kids}
 use Rattle.hir_scope.proofs.KidLemmas.{met_in_statement, met_in_form}
-
-abbrev pub about : List Task → List NodeId
-about ts = flat_map task_kids ts
 
 about-append : (xs ys : List Task) → about (xs ++ ys) ≡ about xs ++ about ys
 about-append xs ys = flat_map-append task_kids xs ys
@@ -27,7 +25,7 @@ about-append xs ys = flat_map-append task_kids xs ys
 kids-append : (cs ds : List Call) → kids (cs ++ ds) ≡ kids cs ++ kids ds
 kids-append cs ds = flat_map-append kid cs ds
 
-about_calls : (cs : List Call) → about (tasks_of cs) ≡ kids cs
+pub about_calls : (cs : List Call) → about (tasks_of cs) ≡ kids cs
 about_calls [] = refl
 about_calls (OnExpr x ∷ cs) = ap (λ (ns : List NodeId). node.Expr x ∷ ns) (about_calls cs)
 about_calls (OnAnonConst x ∷ cs) = ap (λ (ns : List NodeId). node.Expr x ∷ ns) (about_calls cs)

@@ -7,7 +7,7 @@ use Rattle.std.proofs.lemmas.List.Sorted.{sum_by-IsPermutation}
 use Rattle.hir_node.specs.ChildCalls.{kids}
 use Rattle.hir_node.specs.declared.node_id.NodeId.{NodeId}
 use Rattle.hir_faults.specs.Nodes.{Nodes, Has, kids_of}
-use Rattle.hir_faults.specs.Down.{KidsFall, value, AgreeOn}
+use Rattle.hir_faults.specs.Down.{KidsFall, AgreeOn}
 use Rattle.hir_faults.proofs.DownLemmas.{value_at}
 use Rattle.hir_scope.specs.declared.tasks.Around.{Around}
 use Rattle.hir_scope.specs.declared.tasks.Task.{Task}
@@ -16,18 +16,8 @@ use Rattle.hir_scope.specs.Slots.{slots}
 use Rattle.hir_scope.specs.Pending.{form_tasks, task_kids}
 use Rattle.hir_scope.proofs.KidLemmas.{met_in_form, kids_of_form}
 use Rattle.hir_scope.proofs.SlotLemmas.{kids_in, slots_kids}
-use Rattle.hir_scope.proofs.TaskLemmas.{about, about_form}
-
-abbrev pub total_step : Nodes → (NodeId → ℕ) → (NodeId → ℕ) → NodeId → ℕ
-total_step s u self n = u n + sum_by self (kids_of s n)
-
--- what a node weighs, with all nodes under it
-unfoldable pub total : Nodes → (NodeId → ℕ) → NodeId → ℕ
-total s u n = value s (total_step s u) 0 n
-
--- what tasks weigh, with all nodes under those that they are about
-abbrev pub left : Nodes → (NodeId → ℕ) → (Task → ℕ) → List Task → ℕ
-left s u v ts = sum_by v ts + sum_by (total s u) (about ts)
+use Rattle.hir_scope.specs.Machine.{about, total_step, total, left}
+use Rattle.hir_scope.proofs.TaskLemmas.{about_form}
 
 sum_reads : (f g : NodeId → ℕ) (ns : List NodeId) → AgreeOn f g ns → sum_by f ns ≡ sum_by g ns
 sum_reads f g [] h = refl

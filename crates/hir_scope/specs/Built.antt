@@ -30,17 +30,17 @@ abbrev pub ChainsAreFrames : Nodes → List Place → Scopes → Type 0
 ChainsAreFrames s tops scopes =
     (expr scope : ℕ) → map.get scopes.scope_by_expr expr ≡ Some scope → HasChain s tops expr (chain scopes.scopes (Some scope))
 
-pub record AreBodyScopes (b : BodyContents) (scopes : Scopes) : Type 0 where
-  pub reached : (expr : ℕ) → IsSome (map.get scopes.scope_by_expr expr) ↔ BodyReaches b (node.Expr expr)
-  pub chains : ChainsAreFrames b.store.nodes (tops_of_body b) scopes
-  pub scopes : length scopes.scopes ≡ body_scope_count b.store.nodes (body_nodes b)
-  pub entries : entry_count scopes.scopes ≡ body_entry_count b.store.nodes b.self_param (body_nodes b)
+pub record AreBodyScopes (b : BodyContents) (result : Scopes) : Type 0 where
+  pub reached : (expr : ℕ) → IsSome (map.get result.scope_by_expr expr) ↔ BodyReaches b (node.Expr expr)
+  pub chains : ChainsAreFrames b.store.nodes (tops_of_body b) result
+  pub scopes : length result.scopes ≡ body_scope_count b.store.nodes (body_nodes b)
+  pub entries : entry_count result.scopes ≡ body_entry_count b.store.nodes b.self_param (body_nodes b)
 
-pub record AreSignatureScopes (c : Contents) (scopes : Scopes) : Type 0 where
-  pub reached : (expr : ℕ) → IsSome (map.get scopes.scope_by_expr expr) ↔ SignatureReaches c (node.Expr expr)
-  pub chains : ChainsAreFrames c.nodes (tops_of_signature c) scopes
-  pub scopes : length scopes.scopes ≡ signature_scope_count c.nodes (length c.roots) (signature_nodes c)
-  pub entries : entry_count scopes.scopes ≡ signature_entry_count c.nodes (signature_nodes c)
+pub record AreSignatureScopes (c : Contents) (result : Scopes) : Type 0 where
+  pub reached : (expr : ℕ) → IsSome (map.get result.scope_by_expr expr) ↔ SignatureReaches c (node.Expr expr)
+  pub chains : ChainsAreFrames c.nodes (tops_of_signature c) result
+  pub scopes : length result.scopes ≡ signature_scope_count c.nodes (length c.roots) (signature_nodes c)
+  pub entries : entry_count result.scopes ≡ signature_entry_count c.nodes (signature_nodes c)
 
 -- how many of these nodes are expressions
 abbrev pub expr_count : List NodeId → ℕ

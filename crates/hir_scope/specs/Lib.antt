@@ -8,8 +8,11 @@ pub mod Resolution
 pub mod Counts
 pub mod PlacesUnder
 pub mod Pending
+pub mod Machine
 pub mod Scopes
 pub mod Paths
 pub mod Flat
 pub mod Built
+pub mod Begins
+pub mod Lookups
 pub mod same

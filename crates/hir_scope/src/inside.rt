@@ -40,14 +40,14 @@ fn push_if(
     condition: ExprId,
     then_branch: ExprId,
     else_branch: Option<ExprId>,
-    around: Around,
+    outer: Around,
 ) -> Result<(), ScopesFault>
-    ensures ok { OnOk result (tasks.new ≡ Task.Expr condition ∷ Task.Expr then_branch ∷ leave around
+    ensures ok { OnOk result (tasks.new ≡ Task.Expr condition ∷ Task.Expr then_branch ∷ leave outer
         ∷ (tasks_of (opt e else_branch) ++ tasks.old)) }
     ensures memory { OnErr result (result ≡ Err ScopesFault.Memory) }
 {
     push_expr_opt(tasks, else_branch)?;
-    tasks.push(Task::Leave(around.here, around.constant))?;
+    tasks.push(Task::Leave(outer.here, outer.constant))?;
     tasks.push(Task::Expr(then_branch))?;
     tasks.push(Task::Expr(condition))?;
     Ok(())

@@ -8,11 +8,17 @@ ghost use Rattle.hir_expr_store.specs.Contents.{Contents, contents_fault};
 ghost use Rattle.hir_expr_store.specs.Under.{Reached};
 ghost use Rattle.hir_scope.specs.Leak.{leak, leak_step};
 ghost use Rattle.hir_scope.specs.Slots.{slots};
-ghost use Rattle.hir_scope.specs.Chains.{Place, Stands};
+ghost use Rattle.hir_scope.specs.Frames.{Chain};
+ghost use Rattle.hir_scope.specs.Built.{tops_of_body, tops_of_signature};
+ghost use Rattle.hir_scope.specs.Chains.{Place, Stands, HasChain};
+ghost use Rattle.hir_items.specs.Bodies.{BodyContents, body_fault};
 ghost use Rattle.hir_scope.specs.Scopes.{Scope, IsIn, ParentsStandEarlier};
 ghost use Rattle.hir_scope.specs.Paths.{path};
 
-use hir_expr_store::laws::kids_fall;
+use hir_expr_store::laws::{
+    kids_fall, kids_lie_apart, one_parent, roots_lie_apart, roots_stand_apart,
+};
+use hir_items::body_laws::{tops_are_there, tops_lie_apart};
 
 /// The leak of a node is what its kind of node leaks, by the leaks of its kids.
 pub fn leak_is_its_step()
@@ -40,3 +46,21 @@ pub fn chains_are_short()
     ensures { (scopes : List Scope) → ParentsStandEarlier scopes → (scope : Option ℕ) → IsIn scopes scope
         → length (path scopes scope) ≤ length scopes }
 {}
+
+/// An expression of a body or of a signature has one chain at most: it stands in one place alone.
+pub fn a_reached_node_has_one_chain()
+    ensures bodies { (b : BodyContents) → contents_fault b.store None → body_fault b None
+        → (expr : ℕ) (x y : Chain) → HasChain b.store.nodes (tops_of_body b) expr x
+        → HasChain b.store.nodes (tops_of_body b) expr y → x ≡ y }
+    ensures signatures { (c : Contents) → contents_fault c None
+        → (expr : ℕ) (x y : Chain) → HasChain c.nodes (tops_of_signature c) expr x
+        → HasChain c.nodes (tops_of_signature c) expr y → x ≡ y }
+{
+    kids_fall();
+    one_parent();
+    kids_lie_apart();
+    tops_are_there();
+    tops_lie_apart();
+    roots_stand_apart();
+    roots_lie_apart();
+}

@@ -2,19 +2,23 @@
 //! `ExprScopes` holds the scopes and answers questions on them; what a scope's chain has to be is told in `specs/`.
 #![tactic(auto)]
 
+mod binder;
 mod building;
 mod expr_scopes;
 mod fault;
 mod inside;
 pub mod laws;
+mod lookups;
 mod pushes;
 mod queue;
 mod resolve;
 mod scope;
 mod scope_chain;
 mod stack;
+mod start;
 mod tasks;
 mod turn;
+mod walk;
 
 pub use expr_scopes::{ExprScopes, ScopeData};
 pub use fault::ScopesFault;

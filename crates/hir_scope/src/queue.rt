@@ -17,7 +17,8 @@ pub(crate) struct Queue<T> {
 impl<T> Queue<T> {
     /// A queue of nothing, which takes its memory from `alloc`, and none now.
     pub(crate) fn new(alloc: Global) -> Queue<T>
-        ensures { result.items.items ≡ [] }
+        ensures items { result.items.items ≡ [] }
+        ensures room { result.refused ≡ false }
     {
         Queue {
             items: Vec::new(alloc),
@@ -29,7 +30,8 @@ impl<T> Queue<T> {
     pub(crate) fn clear(&mut self)
     where
         T: Drop,
-        ensures { self.new.items.items ≡ [] }
+        ensures items { self.new.items.items ≡ [] }
+        ensures room { self.new.refused ≡ false }
     {
         self.items.clear();
         self.refused = false;

@@ -30,6 +30,15 @@ impl<T> Stack<T> {
         }
     }
 
+    /// Takes away all, and keeps the room.
+    pub(crate) fn clear(&mut self)
+    where
+        T: Drop,
+        ensures { self.new ≡ [] }
+    {
+        self.items.clear();
+    }
+
     /// Puts an item on top.
     ///
     /// Answers `Memory` where room for it was refused: nothing has changed then.

@@ -1,0 +1,334 @@
+-- The state in which the walk over a body or a signature begins: it is ready, what it has to do is what is under the tops, and what its
+-- frames and those to come weigh are the counts of scopes and entries.
+use Rattle.std.proofs.Common.{◌≡◌, ◌⊎◌, ℕ, zero, suc, ◌+◌, ◌<◌, ◌≤◌, List, [], ◌∷◌, ◌++◌, map, length, replicate, refl, sym, ap, ◌∙◌, arith, subst, inl, inr, ⊎_elim, Option, Some, None, Contains, length-append}
+use Rattle.std.specs.Prelude.{IfSome, slice_index}
+use Rattle.std.specs.List.{flat_map, slice_get, sum_by}
+use Rattle.std.specs.Option.{option_to_list, option_map}
+use Rattle.std.proofs.lemmas.List.{length-map, length-replicate}
+use Rattle.std.proofs.lemmas.Grind.{get_or_default_zero}
+use Rattle.std.proofs.lemmas.List.Sums.{sum_by-append, sum_by-cons}
+use Rattle.hir_forest.specs.Faults.{root_nodes}
+use Rattle.hir_node.specs.ChildCalls.{Call, OnExpr, OnAnonConst, OnPat, OnType, OnLifetime, e, p, opt, kids}
+use Rattle.hir_node.specs.declared.node_id.NodeId.{NodeId}
+use Rattle.hir_node.specs.declared.node_id.NodeId.TheVariants as node
+use Rattle.hir_faults.specs.Nodes.{Nodes, Has}
+use Rattle.hir_faults.specs.Tested.{all_of}
+use Rattle.hir_expr_store.specs.Contents.{Contents}
+use Rattle.hir_expr_store.specs.Under.{reached_nodes}
+use Rattle.hir_items.specs.Bodies.{BodyContents, AreBelow, formals_of, last_root, body_nodes}
+use Rattle.hir_items.specs.Bodies as body
+use Rattle.hir_items.specs.Signatures.{root_tops, signature_nodes}
+use Rattle.hir_items.specs.declared.formals.Param.{Param}
+use Rattle.hir_scope.specs.declared.scope.ScopeEntry.{ScopeEntry}
+use Rattle.hir_scope.specs.declared.scope.ScopeKind.TheVariants as kind
+use Rattle.hir_scope.specs.declared.tasks.Task.{Task}
+use Rattle.hir_scope.specs.declared.tasks.Task.TheVariants as task
+use Rattle.hir_scope.specs.Begins.{IsSound, for_none, root_entries, body_root, body_begins, signature_root, scope_in_root, scopes_in_root, root_tasks, roots_begin, signature_begins}
+use Rattle.hir_scope.specs.Built.{tops_of_body, tops_of_signature, limit, BodyIsTooLarge, SignatureIsTooLarge}
+use Rattle.hir_scope.specs.Chains.{Place}
+use Rattle.hir_scope.specs.Counts.{count_if_there, form_scopes, node_entries, body_scope_count, body_entry_count, signature_scope_count, signature_entry_count}
+use Rattle.hir_scope.specs.Forms.{form_of}
+use Rattle.hir_scope.specs.Frames.{Frame, Chain, entry_at, binds, empty}
+use Rattle.hir_scope.specs.Machine.{Machine, IsReady, AreThere, LeavesWithin, Exceeds, about, chain_of, future_of, left, node_frames, one, count_entries, total, weight, weight_left}
+use Rattle.hir_scope.specs.Paths.{paths, path, chain, frame_at}
+use Rattle.hir_scope.specs.Pending.{tasks_of, task_frames, future}
+use Rattle.hir_scope.specs.PlacesUnder.{exprs_under}
+use Rattle.hir_scope.specs.Scopes.{Scope, Scopes, entry_count, frame_of, IsBelow, ParentsStandEarlier}
+use Rattle.hir_scope.specs.Tops.{root_frame, signature_tops}
+use Rattle.hir_scope.proofs.CountLemmas.{bound_by, calls_open, form_ones, frame_entries, sum_one}
+use Rattle.hir_scope.proofs.EntryLemmas.{entries_of_node, entries_total, no_around, one_entry}
+use Rattle.hir_scope.proofs.MemberLemmas.{In, in_contains, contains_in, in_map}
+use Rattle.hir_scope.proofs.PathLemmas.{path_step}
+use Rattle.hir_scope.proofs.SumLemmas.{reached_total, sum_same, sum_mapped}
+use Rattle.hir_scope.proofs.TaskLemmas.{about_calls}
+use Rattle.hir_scope.proofs.TopLemmas.{body_future, body_top_nodes, signature_future, signature_top_nodes, top_kids}
+
+all_there : (s : Nodes) (ns : List NodeId) → ((n : NodeId) → In n ns → Has s n) → AreThere s ns
+all_there s [] h = tt
+all_there s (n ∷ ns) h = (h n (inl refl), all_there s ns (λ m i. h m (inr i)))
+
+contained_at : (xs : List ℕ) (x : ℕ) → Contains xs x → (i : ℕ) × (i < length xs) × (slice_index xs i ≡ x)
+contained_at xs x c = (c.0, c.1, sym (get_or_default_zero xs c.0 x c.1) ∙ c.2)
+
+-- the roots of a store are there
+pub roots_there : (s : Nodes) (roots : List ℕ) → ((i : ℕ) → i < length roots → slice_index roots i < length s.exprs) → (n : NodeId) → Contains (map node.Expr roots) n → Has s n
+roots_there s roots h n c =
+    let r = in_map node.Expr n roots (in_contains (map node.Expr roots) n c) in
+    let at = contained_at roots r.0 (contains_in roots r.0 r.1) in
+    subst (Has s) r.2 (subst (λ (x : ℕ). x < length s.exprs) at.2 (h at.0 at.1))
+
+-- 1. What all states weigh
+
+pub scopes_weigh : (scopes : List Scope) → sum_by one (map frame_of scopes) ≡ length scopes
+scopes_weigh scopes = sum_one (map frame_of scopes) ∙ length-map scopes frame_of
+
+pub entries_weigh : (scopes : List Scope) → sum_by count_entries (map frame_of scopes) ≡ sum_by (λ (x : Scope). length x.entries) scopes
+entries_weigh scopes = sum_mapped count_entries frame_of scopes
+
+scopes_total : (s : Nodes) → IsSound s → (nodes : List NodeId) → ((n : NodeId) → In n nodes → Has s n) → sum_by (total s (λ n. sum_by one (node_frames s n))) nodes ≡ sum_by (λ n. form_scopes (form_of s n)) (reached_nodes s nodes)
+scopes_total s sound nodes there =
+    sym (reached_total s sound.fall sound.under (λ n. sum_by one (node_frames s n)) nodes there)
+    ∙ sum_same (λ n. sum_by one (node_frames s n)) (λ n. form_scopes (form_of s n)) (reached_nodes s nodes) (λ n i. form_ones s no_around (form_of s n))
+
+entries_under : (s : Nodes) → IsSound s → (nodes : List NodeId) → ((n : NodeId) → In n nodes → Has s n) → sum_by (bound_by s) nodes + sum_by (total s (entries_of_node s)) nodes ≡ sum_by (node_entries s) (reached_nodes s nodes)
+entries_under s sound nodes there =
+    sym (entries_total s sound.fall sound.pats sound.bindings nodes there)
+    ∙ sym (reached_total s sound.fall sound.under (node_entries s) nodes there)
+
+-- 2. Bodies
+
+calls_leave_none : (n : ℕ) (cs : List Call) → LeavesWithin n (tasks_of cs)
+calls_leave_none n [] = tt
+calls_leave_none n (OnExpr x ∷ cs) = calls_leave_none n cs
+calls_leave_none n (OnAnonConst x ∷ cs) = calls_leave_none n cs
+calls_leave_none n (OnPat x ∷ cs) = calls_leave_none n cs
+calls_leave_none n (OnType x ∷ cs) = calls_leave_none n cs
+calls_leave_none n (OnLifetime x ∷ cs) = calls_leave_none n cs
+
+bound_formals : (s : Nodes) (formals : List ℕ) (last : Option ℕ) → sum_by (bound_by s) (map node.Pat formals ++ option_to_list (option_map node.Expr last)) ≡ sum_by (λ q. length (binds s q)) formals
+bound_formals s [] None = refl
+bound_formals s [] (Some root) = refl
+bound_formals s (x ∷ formals) last =
+    let a = sum_by-cons (bound_by s) (node.Pat x) (map node.Pat formals ++ option_to_list (option_map node.Expr last)) in
+    let b = sum_by-cons (λ q. length (binds s q)) x formals in
+    let r = bound_formals s formals last in
+    omega (arith, a, b, r)
+
+abbrev SelfIsThere : Nodes → Option (Param ℕ) → Type 0
+SelfIsThere s self = IfSome self (AreBelow (length s.bindings))
+
+self_entries : (s : Nodes) (self : Option (Param ℕ)) → SelfIsThere s self → length (all_of (entry_at s) (option_map (λ (q : Param ℕ). q.formal) self)) ≡ count_if_there self
+self_entries s None h = refl
+self_entries s (Some q) h = one_entry s q.formal h.0
+
+first_chain : (b : BodyContents) → chain_of (body_root b ∷ []) 0 ≡ frame_of (body_root b) ∷ []
+unfolding paths
+first_chain b = refl
+
+module _ (b : BodyContents) where
+  abbrev s : Nodes
+  s = b.store.nodes
+
+  abbrev top_calls : List Call
+  top_calls = flat_map p (formals_of b.params) ++ opt e (last_root b.store)
+
+  pub body_same : map (λ (at : Place). at.node) (tops_of_body b) ≡ body.tops b
+  body_same = body_top_nodes s (option_map (λ (q : Param ℕ). q.formal) b.self_param) (formals_of b.params) (last_root b.store)
+
+  pub body_whole : future_of s (body_begins b) ≡ exprs_under s (tops_of_body b)
+  body_whole =
+      ap (λ (c : Chain). future s (chain_of (body_root b ∷ [])) c c (tasks_of top_calls)) (first_chain b)
+      ∙ body_future s (chain_of (body_root b ∷ [])) (option_map (λ (q : Param ℕ). q.formal) b.self_param) (formals_of b.params) (last_root b.store)
+
+  about_tops : about (tasks_of top_calls) ≡ body.tops b
+  about_tops = about_calls top_calls ∙ top_kids (formals_of b.params) (last_root b.store)
+
+  module _ (sound : IsSound s) (there : (n : NodeId) → In n (body.tops b) → Has s n) where
+    pub body_ready : IsReady s (body_begins b)
+    body_ready = record {
+      here = omega arith;
+      constant = omega arith;
+      leaves = calls_leave_none 1 top_calls;
+      known = subst (AreThere s) (sym about_tops) (all_there s (body.tops b) there);
+    }
+
+    body_left : (w : Frame → ℕ) → weight_left s w (tasks_of top_calls) ≡ sum_by (total s (λ n. sum_by w (node_frames s n))) (body.tops b)
+    body_left w =
+        let a = calls_open s w top_calls in
+        let b' = ap (λ (ns : List NodeId). sum_by (total s (λ n. sum_by w (node_frames s n))) ns) about_tops in
+        omega (arith, a, b')
+
+    pub body_scopes_weigh : weight s one (body_begins b) ≡ body_scope_count s (body_nodes b)
+    body_scopes_weigh =
+        let a = scopes_weigh (body_root b ∷ []) in
+        let l = body_left one in
+        let t = scopes_total s sound (body.tops b) there in
+        omega (arith, a, l, t)
+
+    module _ (self : SelfIsThere s b.self_param) where
+      root_length : length (root_entries b) ≡ count_if_there b.self_param + sum_by (bound_by s) (body.tops b)
+      root_length =
+          let a = length-append (all_of (entry_at s) (option_map (λ (q : Param ℕ). q.formal) b.self_param)) (flat_map (binds s) (formals_of b.params)) in
+          let d = self_entries s b.self_param self in
+          let f = frame_entries s (formals_of b.params) in
+          let g = bound_formals s (formals_of b.params) (last_root b.store) in
+          omega (arith, a, d, f, g)
+
+      pub body_entries_weigh : weight s count_entries (body_begins b) ≡ body_entry_count s b.self_param (body_nodes b)
+      body_entries_weigh =
+          let a = entries_weigh (body_root b ∷ []) in
+          let l = body_left count_entries in
+          let t = entries_under s sound (body.tops b) there in
+          let r = root_length in
+          omega (arith, a, l, t, r)
+
+      -- what it may fail by
+      pub body_exceeds : Exceeds s (body_begins b) → BodyIsTooLarge b
+      body_exceeds h =
+          let a = body_scopes_weigh in
+          let d = body_entries_weigh in
+          ⊎_elim (λ l. inl (omega (arith, a, l))) (λ l. inr (omega (arith, d, l))) h
+
+      pub root_exceeds : limit < length (root_entries b) → BodyIsTooLarge b
+      root_exceeds h =
+          let r = root_length in
+          let t = entries_under s sound (body.tops b) there in
+          inr (omega (arith, r, t, h))
+
+-- 3. Signatures
+
+earlier_in_root : (n : ℕ) → ParentsStandEarlier (scopes_in_root n)
+earlier_in_root n zero x e = let same : signature_root ≡ x = cc in subst (λ (y : Scope). IsBelow 0 y.parent) same tt
+earlier_in_root n (suc i) x e = at n i e where
+  at : (m k : ℕ) → slice_get (replicate m scope_in_root) k ≡ Some x → IsBelow (suc i) x.parent
+  at zero k e = absurd cc
+  at (suc m) zero e = let same : scope_in_root ≡ x = cc in subst (λ (y : Scope). IsBelow (suc i) y.parent) same (omega arith)
+  at (suc m) (suc k) e = at m k e
+
+get_in_root : (m k : ℕ) → k < m → slice_get (replicate m scope_in_root) k ≡ Some scope_in_root
+get_in_root zero k h = absurd (omega (arith, h))
+get_in_root (suc m) zero h = refl
+get_in_root (suc m) (suc k) h = get_in_root m k (omega (arith, h))
+
+chain_in_root : (n k : ℕ) → 0 < k → k ≤ n → chain_of (scopes_in_root n) k ≡ empty ∷ empty ∷ []
+chain_in_root n zero h l = absurd (omega (arith, h))
+chain_in_root n (suc k) h l =
+    let scopes = scopes_in_root n in
+    let get = get_in_root n k (omega (arith, l)) in
+    let outer = path_step scopes 0 signature_root (earlier_in_root n) refl in
+    let inner = path_step scopes (suc k) scope_in_root (earlier_in_root n) get in
+    let at : frame_at scopes (suc k) ≡ empty ∷ [] = ap (λ (o : Option Scope). all_of (λ (x : Scope). frame_of x ∷ []) o) get in
+    ap (flat_map (frame_at scopes)) (inner ∙ ap (λ (ks : List ℕ). suc k ∷ ks) outer)
+    ∙ ap (λ (c : Chain). c ++ empty ∷ []) at
+
+about_roots : (roots : List ℕ) → about (root_tasks roots) ≡ map node.Expr roots
+about_roots [] = refl
+about_roots (root ∷ roots) = ap (λ (ns : List NodeId). node.Expr root ∷ ns) (about_roots roots)
+
+roots_leave : (n : ℕ) (roots : List ℕ) → length roots < n → LeavesWithin n (root_tasks roots)
+roots_leave n [] h = tt
+roots_leave n (root ∷ roots) h = (omega (arith, h), omega (arith, h), roots_leave n roots (omega (arith, h)))
+
+module _ (s : Nodes) (w : Frame → ℕ) where
+  abbrev task_weight : Task → ℕ
+  task_weight x = sum_by w (task_frames s x)
+
+  roots_open : (roots : List ℕ) → sum_by task_weight (root_tasks roots) ≡ 0
+  roots_open [] = refl
+  roots_open (root ∷ roots) =
+      let k = suc (length roots) in
+      let a = sum_by-cons task_weight (task.Leave k k) (task.Expr root ∷ root_tasks roots) in
+      let b = sum_by-cons task_weight (task.Expr root) (root_tasks roots) in
+      let r = roots_open roots in
+      omega (arith, a, b, r)
+
+abbrev one_more : Scopes → Scope → Scopes
+one_more xs x = record { scopes = xs.scopes ++ x ∷ []; scope_by_expr = xs.scope_by_expr }
+
+replicate_more : {X : Type 0} (n : ℕ) (x : X) → replicate n x ++ x ∷ [] ≡ replicate (suc n) x
+replicate_more zero x = refl
+replicate_more (suc n) x = ap (λ xs. x ∷ xs) (replicate_more n x)
+
+pub empty_in_root : (n : ℕ) → sum_by (λ (x : Scope). length x.entries) (replicate n scope_in_root) ≡ 0
+empty_in_root zero = refl
+empty_in_root (suc n) =
+    let a = sum_by-cons (λ (x : Scope). length x.entries) scope_in_root (replicate n scope_in_root) in
+    let r = empty_in_root n in
+    omega (arith, a, r)
+
+-- one root more is to be met, in one scope more
+pub one_root_more : (old new : Machine) (roots : List ℕ) (root id first : ℕ) (entries : List ScopeEntry) → old ≡ roots_begin roots → id ≡ length old.scopes.scopes → first ≡ 0 → entries ≡ []
+    → new.scopes ≡ record { scopes = old.scopes.scopes ++ record { parent = Some first; kind = kind.None; entries = entries } ∷ []; scope_by_expr = old.scopes.scope_by_expr }
+    → new.around ≡ old.around → new.tasks ≡ task.Leave id id ∷ task.Expr root ∷ old.tasks → new ≡ roots_begin (root ∷ roots)
+one_root_more old new roots root id first entries is last zeroth none scopes around tasks =
+    let long = length-replicate (length roots) scope_in_root in
+    let number : id ≡ suc (length roots) = last ∙ (ap (λ (m : Machine). length m.scopes.scopes) is ∙ omega (arith, long)) in
+    let same : ◌≡◌ {A = Scope} (record { parent = Some first; kind = kind.None; entries = entries }) scope_in_root = λ i. record { parent = Some (zeroth i); kind = kind.None; entries = none i } in
+    let a = scopes
+    ∙ (ap (λ (x : Scope). one_more old.scopes x) same
+    ∙ (ap (λ (m : Machine). one_more m.scopes scope_in_root) is
+    ∙ ap (λ (xs : List Scope). for_none (signature_root ∷ xs)) (replicate_more (length roots) scope_in_root))) in
+    let b = around ∙ ap (λ (m : Machine). m.around) is in
+    let d = tasks
+    ∙ (ap (λ (m : Machine). task.Leave id id ∷ task.Expr root ∷ m.tasks) is
+    ∙ ap (λ (k : ℕ). task.Leave k k ∷ task.Expr root ∷ root_tasks roots) number) in
+    λ i. record { scopes = a i; around = b i; tasks = d i }
+
+-- there is no room for one scope more only where there are many roots
+pub roots_full : (most roots : ℕ) (old : Machine) (met : List ℕ) (entries : List ScopeEntry) → old ≡ roots_begin met → entries ≡ [] → length met < roots
+    → ((most < length old.scopes.scopes + 1) ⊎ (most < entry_count old.scopes.scopes + length entries)) → most < 1 + roots
+roots_full most roots old met entries is none less full =
+    let long = length-replicate (length met) scope_in_root in
+    let a = ap (λ (m : Machine). length m.scopes.scopes) is in
+    let b = ap (λ (m : Machine). entry_count m.scopes.scopes) is in
+    let d = sum_by-cons (λ (x : Scope). length x.entries) signature_root (replicate (length met) scope_in_root) in
+    let e = empty_in_root (length met) in
+    let f = ap (λ (xs : List ScopeEntry). length xs) none in
+    ⊎_elim (λ l. omega (arith, long, a, l, less)) (λ l. omega (arith, b, d, e, f, l)) full
+
+bound_roots : (s : Nodes) (roots : List ℕ) → sum_by (bound_by s) (map node.Expr roots) ≡ 0
+bound_roots s [] = refl
+bound_roots s (root ∷ roots) =
+    let a = sum_by-cons (bound_by s) (node.Expr root) (map node.Expr roots) in
+    let r = bound_roots s roots in
+    omega (arith, a, r)
+
+module _ (c : Contents) where
+  abbrev t : Nodes
+  t = c.nodes
+
+  abbrev roots : List ℕ
+  roots = root_nodes c.roots
+
+  pub signature_same : map (λ (at : Place). at.node) (tops_of_signature c) ≡ root_tops c
+  signature_same = signature_top_nodes roots
+
+  pub signature_whole : future_of t (signature_begins c) ≡ exprs_under t (tops_of_signature c)
+  signature_whole =
+      let scopes = scopes_in_root (length roots) in
+      signature_future t (chain_of scopes) (chain_of scopes 0) (chain_of scopes 0) roots (λ k l m. chain_in_root (length roots) k l m)
+
+  module _ (sound : IsSound t) (there : (n : NodeId) → In n (root_tops c) → Has t n) where
+    pub signature_ready : IsReady t (signature_begins c)
+    signature_ready =
+        let long = length-replicate (length roots) scope_in_root in
+        record {
+          here = omega arith;
+          constant = omega arith;
+          leaves = roots_leave (suc (length (replicate (length roots) scope_in_root))) roots (omega (arith, long));
+          known = subst (AreThere t) (sym (about_roots roots)) (all_there t (root_tops c) there);
+        }
+
+    roots_left : (w : Frame → ℕ) → weight_left t w (root_tasks roots) ≡ sum_by (total t (λ n. sum_by w (node_frames t n))) (root_tops c)
+    roots_left w =
+        let a = roots_open t w roots in
+        let b = ap (λ (ns : List NodeId). sum_by (total t (λ n. sum_by w (node_frames t n))) ns) (about_roots roots) in
+        omega (arith, a, b)
+
+    pub signature_scopes_weigh : weight t one (signature_begins c) ≡ signature_scope_count t (length c.roots) (signature_nodes c)
+    signature_scopes_weigh =
+        let a = scopes_weigh (scopes_in_root (length roots)) in
+        let long = length-replicate (length roots) scope_in_root in
+        let same = length-map c.roots (λ r. r.node) in
+        let l = roots_left one in
+        let u = scopes_total t sound (root_tops c) there in
+        omega (arith, a, long, same, l, u)
+
+    pub signature_entries_weigh : weight t count_entries (signature_begins c) ≡ signature_entry_count t (signature_nodes c)
+    signature_entries_weigh =
+        let a = entries_weigh (scopes_in_root (length roots)) in
+        let d = sum_by-cons (λ (x : Scope). length x.entries) signature_root (replicate (length roots) scope_in_root) in
+        let f = empty_in_root (length roots) in
+        let l = roots_left count_entries in
+        let u = entries_under t sound (root_tops c) there in
+        let g = bound_roots t roots in
+        omega (arith, a, d, f, l, u, g)
+
+    pub signature_exceeds : Exceeds t (signature_begins c) → SignatureIsTooLarge c
+    signature_exceeds h =
+        let a = signature_scopes_weigh in
+        let d = signature_entries_weigh in
+        ⊎_elim (λ l. inl (omega (arith, a, l))) (λ l. inr (omega (arith, d, l))) h
+
+pub roots_exceed : (c : Contents) → limit < 1 + length c.roots → SignatureIsTooLarge c
+roots_exceed c h = inl (omega (arith, h))

@@ -1,0 +1,399 @@
+-- What the frames of a node are, counted: as scopes, by its form; and as entries, by the patterns among its kids.
+use Rattle.std.proofs.Common.{◌≡◌, ℕ, zero, suc, ◌+◌, List, [], ◌∷◌, ◌++◌, map, length, refl, sym, ap, ◌∙◌, arith, append-nil, Option, Some, None, length-append}
+use Rattle.std.specs.List.{flat_map, sum_by}
+use Rattle.std.proofs.lemmas.List.Sums.{sum_by-append, sum_by-cons}
+use Rattle.std.proofs.lemmas.List.Concat.{flat_map-append}
+use Rattle.hir_path.specs.declared.bound.TypeBound.{TypeBound}
+use Rattle.hir_path.specs.declared.bound.TypeBound.TheVariants as bound
+use Rattle.hir_path.specs.declared.bound.UseArgRef.{UseArgRef}
+use Rattle.hir_path.specs.declared.bound.UseArgRef.TheVariants as use_arg
+use Rattle.hir_path.specs.declared.path.GenericArgs.{GenericArgs}
+use Rattle.hir_path.specs.declared.path.Path.TheVariants as path
+use Rattle.hir_base.specs.declared.mod_path.PathKind.TheVariants.{Plain}
+use Rattle.hir_node.specs.ChildCalls.{Call, OnExpr, OnAnonConst, OnPat, OnType, OnLifetime, e, a, p, t, l, opt, kid, kids, pat_of_call, use_calls, bound_calls, args_calls, path_calls, spread_calls, array_calls, expr_calls, type_calls}
+use Rattle.hir_node.specs.declared.expr_types.Array.{Array}
+use Rattle.hir_node.specs.declared.expr_types.Array.TheVariants as array
+use Rattle.hir_node.specs.declared.expr_types.RecordSpread.{RecordSpread}
+use Rattle.hir_node.specs.declared.expr_types.RecordSpread.TheVariants as spread
+use Rattle.hir_node.specs.declared.expr_types.Item.TheVariants as item
+use Rattle.hir_node.specs.declared.expr_types.MatchArm.{MatchArm}
+use Rattle.hir_node.specs.declared.expr_types.Statement.{Statement}
+use Rattle.hir_node.specs.declared.expr_types.Statement.TheVariants as statement
+use Rattle.hir_node.specs.declared.expr.Expr.{Expr}
+use Rattle.hir_node.specs.declared.expr.Expr.TheVariants as expr
+use Rattle.hir_node.specs.declared.type_ref.TypeRef.{TypeRef}
+use Rattle.hir_node.specs.declared.type_ref.TypeRef.TheVariants as type
+use Rattle.hir_node.specs.declared.node_id.NodeId.{NodeId}
+use Rattle.hir_node.specs.declared.node_id.NodeId.TheVariants as node
+use Rattle.hir_node.proofs.ChildPatLemmas.{none-path, pats-list}
+use Rattle.hir_faults.specs.Nodes.{Nodes}
+use Rattle.hir_scope.specs.declared.tasks.Around.{Around}
+use Rattle.hir_scope.specs.declared.tasks.Task.{Task}
+use Rattle.hir_scope.specs.declared.tasks.Task.TheVariants as task
+use Rattle.hir_scope.specs.Counts.{count_if_there, statement_scopes, form_scopes}
+use Rattle.hir_scope.specs.Frames.{Frame, binds, frame, of_kind, empty}
+use Rattle.hir_scope.specs.Forms.{ScopingForm, expr_form, type_form}
+use Rattle.hir_scope.specs.Forms as form
+use Rattle.hir_scope.specs.Machine.{about, one, count_entries}
+use Rattle.hir_scope.specs.Pending.{tasks_of, arm_task, guarded_task, leave, statement_tasks, closure_calls, form_tasks, opens_here, opens_constant, task_kids, task_frames}
+use Rattle.hir_scope.specs.Slots.{own_frame, block_constants, loop_kind}
+use Rattle.hir_scope.proofs.SumLemmas.{sum_flat, sum_plus, sum_same}
+
+-- the frames that a form opens, as it is met and by its tasks
+abbrev pub form_frames : Nodes → Around → ScopingForm → List Frame
+form_frames s around x = (opens_here s x ++ opens_constant x) ++ flat_map (task_frames s) (form_tasks around x)
+
+pub sum_one : (fs : List Frame) → sum_by one fs ≡ length fs
+sum_one [] = refl
+sum_one (f ∷ fs) =
+    let a = sum_by-cons one f fs in
+    let r = sum_one fs in
+    omega (arith, a, r)
+
+frames_split : (s : Nodes) (w : Frame → ℕ) (around : Around) (x : ScopingForm) → sum_by w (form_frames s around x) ≡ (sum_by w (opens_here s x) + sum_by w (opens_constant x)) + sum_by (λ t. sum_by w (task_frames s t)) (form_tasks around x)
+frames_split s w around x =
+    let a = sum_by-append w (opens_here s x ++ opens_constant x) (flat_map (task_frames s) (form_tasks around x)) in
+    let b = sum_by-append w (opens_here s x) (opens_constant x) in
+    let d = sum_flat w (task_frames s) (form_tasks around x) in
+    omega (arith, a, b, d)
+
+-- 1. As scopes
+
+abbrev ones : Nodes → Task → ℕ
+ones s x = sum_by one (task_frames s x)
+
+module _ (s : Nodes) where
+  -- the tasks of calls open nothing
+  pub calls_open : (w : Frame → ℕ) (cs : List Call) → sum_by (λ x. sum_by w (task_frames s x)) (tasks_of cs) ≡ 0
+  calls_open w [] = refl
+  calls_open w (OnExpr x ∷ cs) = let r = calls_open w cs in sum_by-cons (λ y. sum_by w (task_frames s y)) (task.Expr x) (tasks_of cs) ∙ omega (arith, r)
+  calls_open w (OnAnonConst x ∷ cs) = let r = calls_open w cs in sum_by-cons (λ y. sum_by w (task_frames s y)) (task.Constant x) (tasks_of cs) ∙ omega (arith, r)
+  calls_open w (OnPat x ∷ cs) = let r = calls_open w cs in sum_by-cons (λ y. sum_by w (task_frames s y)) (task.Pat x) (tasks_of cs) ∙ omega (arith, r)
+  calls_open w (OnType x ∷ cs) = let r = calls_open w cs in sum_by-cons (λ y. sum_by w (task_frames s y)) (task.TypeRef x) (tasks_of cs) ∙ omega (arith, r)
+  calls_open w (OnLifetime x ∷ cs) = calls_open w cs
+
+  statement_ones : (x : Statement) → sum_by (ones s) (statement_tasks x) ≡ statement_scopes x
+  statement_ones (statement.Let pat ty x y) =
+      let cs = opt t ty ++ opt e x ++ opt e y in
+      let r = sum_by-append (ones s) (tasks_of cs) (task.Bound pat ∷ []) in
+      let z = calls_open one cs in
+      omega (arith, r, z)
+  statement_ones (statement.Expr x semi) = refl
+  statement_ones (statement.Item (item.MacroDef id)) = refl
+  statement_ones (statement.Item item.Other) = refl
+
+  statements_ones : (xs : List Statement) → sum_by (ones s) (flat_map statement_tasks xs) ≡ sum_by statement_scopes xs
+  statements_ones xs = sum_flat (ones s) statement_tasks xs ∙ sum_same (λ x. sum_by (ones s) (statement_tasks x)) statement_scopes xs (λ x i. statement_ones x)
+
+  guarded_one : (pat expr : ℕ) (guard : Option ℕ) → ones s (guarded_task pat expr guard) ≡ 1
+  guarded_one pat expr None = refl
+  guarded_one pat expr (Some guard) = refl
+
+  arms_ones : (arms : List MatchArm) → sum_by (ones s) (map arm_task arms) ≡ length arms
+  arms_ones [] = refl
+  arms_ones (arm ∷ arms) =
+      let a = sum_by-cons (ones s) (arm_task arm) (map arm_task arms) in
+      let b = guarded_one arm.pat arm.expr arm.guard in
+      let r = arms_ones arms in
+      omega (arith, a, b, r)
+
+  constants_one : (id : Option ℕ) → sum_by one (block_constants id) ≡ count_if_there id
+  constants_one None = refl
+  constants_one (Some id) = refl
+
+  -- the tasks of a form and what it opens as it is met, counted
+  tasks_ones : (around : Around) (x : ScopingForm) → (sum_by one (opens_here s x) + sum_by one (opens_constant x)) + sum_by (ones s) (form_tasks around x) ≡ form_scopes x
+  tasks_ones around (form.If c y f) =
+      let a = sum_by-append (ones s) (tasks_of (e c ++ e y)) (leave around ∷ tasks_of (opt e f)) in
+      let b = sum_by-cons (ones s) (leave around) (tasks_of (opt e f)) in
+      let d = calls_open one (e c ++ e y) in
+      let g = calls_open one (opt e f) in
+      omega (arith, a, b, d, g)
+  tasks_ones around (form.Let pat x) = refl
+  tasks_ones around (form.Block id label xs tail) =
+      let a = sum_by-append (ones s) (flat_map statement_tasks xs) (tasks_of (opt e tail) ++ leave around ∷ []) in
+      let b = sum_by-append (ones s) (tasks_of (opt e tail)) (leave around ∷ []) in
+      let d = statements_ones xs in
+      let g = calls_open one (opt e tail) in
+      let h = constants_one id in
+      omega (arith, a, b, d, g, h)
+  tasks_ones around (form.Loop label body) = refl
+  tasks_ones around (form.Closure types ret args body) =
+      let a = sum_by-append (ones s) (tasks_of (closure_calls types ret args body)) (leave around ∷ []) in
+      let d = calls_open one (closure_calls types ret args body) in
+      omega (arith, a, d)
+  tasks_ones around (form.Match x arms) =
+      let a = sum_by-cons (ones s) (task.Expr x) (map arm_task arms) in
+      let b = arms_ones arms in
+      omega (arith, a, b)
+  tasks_ones around (form.Assignment target value) = refl
+  tasks_ones around (form.PatternType ty pat) = refl
+  tasks_ones around (form.InTurn cs) = let r = calls_open one cs in omega (arith, r)
+
+  -- a node opens as many scopes as its form says
+  pub form_ones : (around : Around) (x : ScopingForm) → sum_by one (form_frames s around x) ≡ form_scopes x
+  form_ones around x = frames_split s one around x ∙ tasks_ones around x
+
+-- 2. No pattern is among the calls of a node that is no scoping form, a pattern aside
+
+abbrev none : List Call → Type 0
+none calls = flat_map pat_of_call calls ≡ []
+
+none-append : (xs ys : List Call) → none xs → none ys → none (xs ++ ys)
+none-append xs ys h k = flat_map-append pat_of_call xs ys ∙ rw (h, k) refl
+
+none-each : {X : Type 0} (calls : X → List Call) → ((x : X) → none (calls x)) → (xs : List X) → none (flat_map calls xs)
+none-each calls h [] = refl
+none-each calls h (x ∷ xs) = none-append (calls x) (flat_map calls xs) (h x) (none-each calls h xs)
+
+none-opt : {X : Type 0} (calls : X → List Call) → ((x : X) → none (calls x)) → (o : Option X) → none (opt calls o)
+none-opt calls h None = refl
+none-opt calls h (Some x) = h x
+
+none-use : (x : UseArgRef) → none (use_calls x)
+none-use (use_arg.Name name) = refl
+none-use (use_arg.Lifetime id) = refl
+
+none-bound : (x : TypeBound) → none (bound_calls x)
+none-bound (bound.Path id modifier) = refl
+none-bound (bound.ForLifetime names id) = refl
+none-bound (bound.Lifetime id) = refl
+none-bound (bound.Use args) = none-each use_calls none-use args
+none-bound bound.Error = refl
+
+-- generic arguments are those of some path
+none-args : (x : GenericArgs) → none (args_calls x)
+none-args x =
+    ap (flat_map pat_of_call) (sym (append-nil (args_calls x ++ []) ∙ append-nil (args_calls x)))
+    ∙ none-path (path.Normal (record { generic_args = Some x ∷ []; type_anchor = None; mod_path = record { kind = Plain; segments = [] } }))
+
+none-array : (x : Array) → none (array_calls x)
+none-array (array.ElementList elements) = none-each e (λ x. refl) elements
+none-array (array.Repeat initializer repeat) = refl
+
+none-spread : (x : RecordSpread) → none (spread_calls x)
+none-spread spread.None = refl
+none-spread spread.FieldDefaults = refl
+none-spread (spread.Expr id) = refl
+
+-- no pattern is among what a form meets in turn
+abbrev pub MeetsNone : ScopingForm → Type 0
+MeetsNone (form.InTurn cs) = none cs
+MeetsNone (form.If c y f) = Unit {0}
+MeetsNone (form.Let pat x) = Unit {0}
+MeetsNone (form.Block id label xs tail) = Unit {0}
+MeetsNone (form.Loop label body) = Unit {0}
+MeetsNone (form.Closure types ret args body) = Unit {0}
+MeetsNone (form.Match x arms) = Unit {0}
+MeetsNone (form.Assignment target value) = Unit {0}
+MeetsNone (form.PatternType ty pat) = Unit {0}
+
+pub expr_meets : (x : Expr) → MeetsNone (expr_form x)
+expr_meets (expr.If c y f) = tt
+expr_meets (expr.Let pat x) = tt
+expr_meets (expr.Block id xs tail label unsafe_) = tt
+expr_meets (expr.Loop body label source) = tt
+expr_meets (expr.Closure args types ret body kind by) = tt
+expr_meets (expr.Match x arms) = tt
+expr_meets (expr.Assignment target value) = tt
+expr_meets (expr.Call callee args) = none-append (e callee) (flat_map e args) refl (none-each e (λ x. refl) args)
+expr_meets (expr.MethodCall receiver name args generic_args) =
+    none-append (e receiver ++ flat_map e args) (opt args_calls generic_args)
+    (none-append (e receiver) (flat_map e args) refl (none-each e (λ x. refl) args)) (none-opt args_calls none-args generic_args)
+expr_meets (expr.Break x label) = none-opt e (λ y. refl) x
+expr_meets (expr.Return x) = none-opt e (λ y. refl) x
+expr_meets (expr.Yield x) = none-opt e (λ y. refl) x
+expr_meets (expr.Yeet x) = none-opt e (λ y. refl) x
+expr_meets (expr.RecordLit path fields spread) =
+    none-append (flat_map (λ field. e field.expr) fields ++ spread_calls spread) (path_calls path)
+    (none-append (flat_map (λ field. e field.expr) fields) (spread_calls spread) (none-each (λ field. e field.expr) (λ x. refl) fields) (none-spread spread)) (none-path path)
+expr_meets (expr.Array x) = none-array x
+expr_meets (expr.Tuple exprs) = none-each e (λ x. refl) exprs
+expr_meets (expr.Path path) = none-path path
+expr_meets (expr.Become x) = refl
+expr_meets (expr.Field x name) = refl
+expr_meets (expr.Await x) = refl
+expr_meets (expr.Ref x rawness mutability) = refl
+expr_meets (expr.UnaryOp x op) = refl
+expr_meets (expr.Cast x type_ref) = refl
+expr_meets (expr.BinaryOp lhs rhs op) = refl
+expr_meets (expr.Index base index) = refl
+expr_meets (expr.Const x) = refl
+expr_meets (expr.OffsetOf offset) = refl
+expr_meets expr.Missing = refl
+expr_meets (expr.Literal literal) = refl
+expr_meets expr.Underscore = refl
+expr_meets (expr.Continue label) = refl
+expr_meets expr.IncludeBytes = refl
+
+pub type_meets : (x : TypeRef) → MeetsNone (type_form x)
+type_meets (type.PatternType ty pat) = tt
+type_meets (type.Tuple types) = none-each t (λ x. refl) types
+type_meets (type.Path path) = none-path path
+type_meets (type.RawPtr id mutability) = refl
+type_meets (type.Reference reference) = none-append (t reference.ty) (opt l reference.lifetime) refl (none-opt l (λ x. refl) reference.lifetime)
+type_meets (type.Array array) = refl
+type_meets (type.Slice id) = refl
+type_meets (type.Fn function) = none-each (λ entry. t entry.1) (λ x. refl) function.params
+type_meets (type.ImplTrait bounds) = none-each bound_calls none-bound bounds
+type_meets (type.DynTrait bounds) = none-each bound_calls none-bound bounds
+type_meets type.Never = refl
+type_meets type.Placeholder = refl
+type_meets (type.TypeParam param) = refl
+type_meets type.Error = refl
+
+-- 3. As entries
+
+module _ (s : Nodes) where
+  -- what a pattern binds, of those among nodes
+  abbrev pub bound_by : NodeId → ℕ
+  bound_by (node.Pat id) = length (binds s id)
+  bound_by (node.Expr id) = 0
+  bound_by (node.TypeRef id) = 0
+
+  abbrev weights_of : Task → ℕ
+  weights_of x = sum_by count_entries (task_frames s x)
+
+  -- what a task's pattern binds in a frame that the task does not open
+  abbrev rest_of : Task → ℕ
+  rest_of (task.Pat id) = length (binds s id)
+  rest_of (task.Expr id) = 0
+  rest_of (task.Constant id) = 0
+  rest_of (task.TypeRef id) = 0
+  rest_of (task.Bound id) = 0
+  rest_of (task.Arm pat expr) = 0
+  rest_of (task.GuardedArm pat guard expr) = 0
+  rest_of (task.MacroDef id) = 0
+  rest_of (task.Leave outer outer_constant) = 0
+
+  pub frame_entries : (ps : List ℕ) → length (frame s ps).entries ≡ sum_by (λ q. length (binds s q)) ps
+  frame_entries [] = refl
+  frame_entries (q ∷ ps) =
+      let a = length-append (binds s q) (flat_map (binds s) ps) in
+      let b = sum_by-cons (λ x. length (binds s x)) q ps in
+      let r = frame_entries ps in
+      omega (arith, a, b, r)
+
+  one_frame : (q : ℕ) → length (frame s (q ∷ [])).entries ≡ length (binds s q)
+  one_frame q = let r = frame_entries (q ∷ []) in omega (arith, r)
+
+  task_bound : (x : Task) → sum_by bound_by (task_kids x) ≡ weights_of x + rest_of x
+  task_bound (task.Expr id) = refl
+  task_bound (task.Constant id) = refl
+  task_bound (task.Pat id) = refl
+  task_bound (task.TypeRef id) = refl
+  task_bound (task.Bound id) = let r = one_frame id in omega (arith, r)
+  task_bound (task.Arm pat expr) = let r = one_frame pat in omega (arith, r)
+  task_bound (task.GuardedArm pat guard expr) = let r = one_frame pat in omega (arith, r)
+  task_bound (task.MacroDef id) = refl
+  task_bound (task.Leave outer outer_constant) = refl
+
+  tasks_bound : (ts : List Task) → sum_by bound_by (about ts) ≡ sum_by weights_of ts + sum_by rest_of ts
+  tasks_bound ts =
+      sum_flat bound_by task_kids ts
+      ∙ (sum_same (λ x. sum_by bound_by (task_kids x)) (λ x. weights_of x + rest_of x) ts (λ x i. task_bound x)
+      ∙ sum_plus weights_of rest_of ts)
+
+  -- of calls, what the patterns among them bind
+  calls_rest : (cs : List Call) → sum_by rest_of (tasks_of cs) ≡ sum_by (λ q. length (binds s q)) (flat_map pat_of_call cs)
+  calls_rest [] = refl
+  calls_rest (OnExpr x ∷ cs) = let r = calls_rest cs in sum_by-cons rest_of (task.Expr x) (tasks_of cs) ∙ omega (arith, r)
+  calls_rest (OnAnonConst x ∷ cs) = let r = calls_rest cs in sum_by-cons rest_of (task.Constant x) (tasks_of cs) ∙ omega (arith, r)
+  calls_rest (OnPat x ∷ cs) =
+      let r = calls_rest cs in
+      let b = sum_by-cons (λ q. length (binds s q)) x (flat_map pat_of_call cs) in
+      sum_by-cons rest_of (task.Pat x) (tasks_of cs) ∙ omega (arith, r, b)
+  calls_rest (OnType x ∷ cs) = let r = calls_rest cs in sum_by-cons rest_of (task.TypeRef x) (tasks_of cs) ∙ omega (arith, r)
+  calls_rest (OnLifetime x ∷ cs) = calls_rest cs
+
+  calls_none : (cs : List Call) → none cs → sum_by rest_of (tasks_of cs) ≡ 0
+  calls_none cs h = calls_rest cs ∙ ap (λ (ps : List ℕ). sum_by (λ q. length (binds s q)) ps) h
+
+  opt_none : (x : Option ℕ) → sum_by rest_of (tasks_of (opt e x)) ≡ 0
+  opt_none x = calls_none (opt e x) (none-opt e (λ y. refl) x)
+
+  statement_rest : (x : Statement) → sum_by rest_of (statement_tasks x) ≡ 0
+  statement_rest (statement.Let pat ty x y) =
+      let cs = opt t ty ++ opt e x ++ opt e y in
+      let z = calls_none cs (none-append (opt t ty ++ opt e x) (opt e y) (none-append (opt t ty) (opt e x) (none-opt t (λ i. refl) ty) (none-opt e (λ i. refl) x)) (none-opt e (λ i. refl) y)) in
+      let r = sum_by-append rest_of (tasks_of cs) (task.Bound pat ∷ []) in
+      omega (arith, r, z)
+  statement_rest (statement.Expr x semi) = refl
+  statement_rest (statement.Item (item.MacroDef id)) = refl
+  statement_rest (statement.Item item.Other) = refl
+
+  statements_rest : (xs : List Statement) → sum_by rest_of (flat_map statement_tasks xs) ≡ 0
+  statements_rest [] = refl
+  statements_rest (x ∷ xs) =
+      let a = sum_by-append rest_of (statement_tasks x) (flat_map statement_tasks xs) in
+      let b = statement_rest x in
+      let r = statements_rest xs in
+      omega (arith, a, b, r)
+
+  guarded_rest : (pat expr : ℕ) (guard : Option ℕ) → rest_of (guarded_task pat expr guard) ≡ 0
+  guarded_rest pat expr None = refl
+  guarded_rest pat expr (Some guard) = refl
+
+  arms_rest : (arms : List MatchArm) → sum_by rest_of (map arm_task arms) ≡ 0
+  arms_rest [] = refl
+  arms_rest (arm ∷ arms) =
+      let a = sum_by-cons rest_of (arm_task arm) (map arm_task arms) in
+      let b = guarded_rest arm.pat arm.expr arm.guard in
+      let r = arms_rest arms in
+      omega (arith, a, b, r)
+
+  constants_empty : (id : Option ℕ) → sum_by count_entries (block_constants id) ≡ 0
+  constants_empty None = refl
+  constants_empty (Some id) = refl
+
+  closure_pats : (types : List (Option ℕ)) (ret : Option ℕ) (args : List ℕ) (body : ℕ) → flat_map pat_of_call (closure_calls types ret args body) ≡ args
+  closure_pats types ret args body =
+      flat_map-append pat_of_call (flat_map (opt t) types ++ opt t ret) (flat_map p args ++ e body)
+      ∙ (ap (λ (ps : List ℕ). ps ++ flat_map pat_of_call (flat_map p args ++ e body)) (none-append (flat_map (opt t) types) (opt t ret) (none-each (opt t) (none-opt t (λ i. refl)) types) (none-opt t (λ i. refl) ret))
+      ∙ (flat_map-append pat_of_call (flat_map p args) (e body) ∙ (ap (λ (ps : List ℕ). ps ++ []) (pats-list args) ∙ append-nil args)))
+
+  -- what the frames hold that are opened as a node is met is what patterns among its tasks bind that open none
+  opens_rest : (around : Around) (x : ScopingForm) → MeetsNone x → sum_by count_entries (opens_here s x) + sum_by count_entries (opens_constant x) ≡ sum_by rest_of (form_tasks around x)
+  opens_rest around (form.If c y f) h =
+      let a = sum_by-append rest_of (tasks_of (e c ++ e y)) (leave around ∷ tasks_of (opt e f)) in
+      let b = sum_by-cons rest_of (leave around) (tasks_of (opt e f)) in
+      let d = calls_none (e c ++ e y) refl in
+      let g = opt_none f in
+      omega (arith, a, b, d, g)
+  opens_rest around (form.Let pat x) h = refl
+  opens_rest around (form.Block id label xs tail) h =
+      let a = sum_by-append rest_of (flat_map statement_tasks xs) (tasks_of (opt e tail) ++ leave around ∷ []) in
+      let b = sum_by-append rest_of (tasks_of (opt e tail)) (leave around ∷ []) in
+      let d = statements_rest xs in
+      let g = opt_none tail in
+      let k = constants_empty id in
+      omega (arith, a, b, d, g, k)
+  opens_rest around (form.Loop label body) h = refl
+  opens_rest around (form.Closure types ret args body) h =
+      let cs = closure_calls types ret args body in
+      let a = sum_by-append rest_of (tasks_of cs) (leave around ∷ []) in
+      let b = calls_rest cs ∙ ap (λ (ps : List ℕ). sum_by (λ q. length (binds s q)) ps) (closure_pats types ret args body) in
+      let d = frame_entries args in
+      omega (arith, a, b, d)
+  opens_rest around (form.Match x arms) h =
+      let a = sum_by-cons rest_of (task.Expr x) (map arm_task arms) in
+      let b = arms_rest arms in
+      omega (arith, a, b)
+  opens_rest around (form.Assignment target value) h = let r = one_frame target in omega (arith, r)
+  opens_rest around (form.PatternType ty pat) h = refl
+  opens_rest around (form.InTurn cs) h = let r = calls_none cs h in omega (arith, r)
+
+  -- so a node's frames hold what the patterns among its kids bind
+  pub form_entries : (around : Around) (x : ScopingForm) → MeetsNone x → sum_by count_entries (form_frames s around x) ≡ sum_by bound_by (about (form_tasks around x))
+  form_entries around x h =
+      let a = frames_split s count_entries around x in
+      let b = opens_rest around x h in
+      let d = tasks_bound (form_tasks around x) in
+      omega (arith, a, b, d)
+
+  -- what is met in turn opens no frame
+  pub turn_entries : (around : Around) (cs : List Call) → sum_by count_entries (form_frames s around (form.InTurn cs)) ≡ 0
+  turn_entries around cs =
+      let a = frames_split s count_entries around (form.InTurn cs) in
+      let r = calls_open s count_entries cs in
+      omega (arith, a, r)

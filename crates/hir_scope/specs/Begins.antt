@@ -1,0 +1,85 @@
+-- Where the walk over a body or a signature begins: its first scopes, and what it has to do. Only contracts within this crate cite it.
+use Rattle.std.specs.Prelude.{◌≡◌, ℕ, ◌<◌, suc, List, [], ◌∷◌, ◌++◌, Some, None, length, option_map, slice_get, replicate}
+use Rattle.std.specs.List.{flat_map}
+use Rattle.std.specs.FinMap as map
+use Rattle.hir_forest.specs.Faults.{root_nodes}
+use Rattle.hir_node.specs.ChildCalls.{e, p, opt}
+use Rattle.hir_node.specs.declared.pat.Pat.{Pat}
+use Rattle.hir_node.specs.declared.node_id.NodeId.{NodeId}
+use Rattle.hir_faults.specs.Down.{KidsFall}
+use Rattle.hir_faults.specs.Nodes.{Nodes, kids_of}
+use Rattle.hir_faults.specs.Sound.{IsSoundNode}
+use Rattle.hir_faults.specs.Tested.{tested_pat}
+use Rattle.hir_expr_store.specs.PatLists.{bindings_at, bindings_in, child_pats_of}
+use Rattle.hir_expr_store.specs.Under.{nodes_under}
+use Rattle.hir_expr_store.specs.Contents.{Contents}
+use Rattle.hir_items.specs.Bodies.{BodyContents, formals_of, last_root}
+use Rattle.hir_scope.specs.declared.scope.ScopeEntry.{ScopeEntry}
+use Rattle.hir_scope.specs.declared.scope.ScopeKind.TheVariants as kind
+use Rattle.hir_scope.specs.declared.tasks.Around.{Around}
+use Rattle.hir_scope.specs.declared.tasks.Task.{Task}
+use Rattle.hir_scope.specs.declared.tasks.Task.TheVariants as task
+use Rattle.hir_scope.specs.Scopes.{Scope, Scopes}
+use Rattle.hir_scope.specs.Tops.{root_frame}
+use Rattle.hir_scope.specs.Pending.{tasks_of}
+use Rattle.hir_scope.specs.Machine.{Machine}
+
+-- what laws tell of nodes without a fault, where a walk over them needs it
+pub record IsSound (s : Nodes) : Type 0 where
+  pub fall : KidsFall s
+  pub under : (n : NodeId) → nodes_under s n ≡ n ∷ flat_map (nodes_under s) (kids_of s n)
+  pub bindings : (id : ℕ) → id < length s.pats → bindings_in s id ≡ bindings_at s id ++ flat_map (bindings_in s) (child_pats_of s id)
+  pub pats : (id : ℕ) (x : Pat) → slice_get s.pats id ≡ Some x → IsSoundNode s (tested_pat x)
+
+-- the first scope is current, also for constants
+abbrev pub at_first : Around
+at_first = record { here = 0; constant = 0 }
+
+-- scopes that no expression has yet
+abbrev pub for_none : List Scope → Scopes
+for_none scopes = record { scopes = scopes; scope_by_expr = map.empty }
+
+-- what the root scope of a body brings in
+abbrev pub root_entries : BodyContents → List ScopeEntry
+root_entries b = (root_frame b.store.nodes (option_map (λ p. p.formal) b.self_param) (formals_of b.params)).entries
+
+abbrev pub body_root : BodyContents → Scope
+body_root b = record { parent = None; kind = kind.None; entries = root_entries b }
+
+abbrev pub formal_tasks : List ℕ → List Task
+formal_tasks formals = tasks_of (flat_map p formals)
+
+-- a body's: the root scope, then the formals and the last root
+abbrev pub body_begins : BodyContents → Machine
+body_begins b = record {
+  scopes = for_none (body_root b ∷ []);
+  around = at_first;
+  tasks = tasks_of (flat_map p (formals_of b.params) ++ opt e (last_root b.store));
+}
+
+-- the root scope of a signature, and that of a root in it
+abbrev pub signature_root : Scope
+signature_root = record { parent = None; kind = kind.None; entries = [] }
+
+abbrev pub scope_in_root : Scope
+scope_in_root = record { parent = Some 0; kind = kind.None; entries = [] }
+
+-- so many scopes within the root scope
+abbrev pub scopes_in_root : ℕ → List Scope
+scopes_in_root n = signature_root ∷ replicate n scope_in_root
+
+-- each root in a scope of its own: the last in the first of these
+abbrev pub root_tasks : List ℕ → List Task
+root_tasks [] = []
+root_tasks (root ∷ roots) = task.Leave (suc (length roots)) (suc (length roots)) ∷ task.Expr root ∷ root_tasks roots
+
+-- a signature's, where these of its roots are to be met
+abbrev pub roots_begin : List ℕ → Machine
+roots_begin roots = record {
+  scopes = for_none (scopes_in_root (length roots));
+  around = at_first;
+  tasks = root_tasks roots;
+}
+
+abbrev pub signature_begins : Contents → Machine
+signature_begins c = roots_begin (root_nodes c.roots)

@@ -1,0 +1,39 @@
+-- The scopes of what the tables have of a definition: none are missing but where there is no entry.
+use Rattle.std.specs.Prelude.{◌≡◌, Option, None, Some, Result, Ok, Err, IfOk}
+use Rattle.std.specs.Option.{option_map}
+use Rattle.hir_base.specs.declared.defs.DefWithBodyId.{DefWithBodyId}
+use Rattle.hir_base.specs.declared.defs.ExpressionStoreOwnerId.{ExpressionStoreOwnerId}
+use Rattle.hir_base.specs.declared.defs.ExpressionStoreOwnerId.TheVariants as owner
+use Rattle.hir_expr_store.specs.Contents.{Contents}
+use Rattle.hir_items.specs.Bodies.{BodyContents}
+use Rattle.hir_defs.specs.Lookups.{Tables, embodied, owned}
+use Rattle.hir_scope.specs.declared.fault.ScopesFault.{ScopesFault}
+use Rattle.hir_scope.specs.declared.fault.ScopesFault.TheVariants as fault
+use Rattle.hir_scope.specs.Scopes.{Scopes}
+use Rattle.hir_scope.specs.Built.{AreBodyScopes, BodyIsTooLarge, AreSignatureScopes, SignatureIsTooLarge}
+
+-- what is answered for the scopes of what was looked up, of which these are scopes, and which may be too large
+abbrev pub Answers : {X : Type 0} → (X → Scopes → Type 0) → (X → Type 0) → Option X → Result Scopes ScopesFault → Type 0
+Answers are_scopes is_too_large None result = result ≡ Err fault.Missing
+Answers are_scopes is_too_large (Some x) result =
+    IfOk result (are_scopes x) × (result ≡ Err fault.Full → is_too_large x) × (result ≡ Err fault.Missing → ⊥)
+
+-- for the scopes of a body, and of the store of a signature or of a variant's fields
+abbrev pub AnswersBody : Option BodyContents → Result Scopes ScopesFault → Type 0
+AnswersBody found result = Answers AreBodyScopes BodyIsTooLarge found result
+
+abbrev pub AnswersStore : Option Contents → Result Scopes ScopesFault → Type 0
+AnswersStore found result = Answers AreSignatureScopes SignatureIsTooLarge found result
+
+-- the body of a definition, and the store of an owner, where the tables have it
+abbrev pub body_in : Tables → DefWithBodyId → Option BodyContents
+body_in t def = option_map (λ e. e.0) (embodied t def)
+
+abbrev pub store_in : Tables → ExpressionStoreOwnerId → Option Contents
+store_in t id = option_map (λ e. e.0) (owned t id)
+
+-- for the scopes of an owner: those of the body where it owns one
+abbrev pub AnswersOwner : Tables → ExpressionStoreOwnerId → Result Scopes ScopesFault → Type 0
+AnswersOwner t (owner.Signature def) result = AnswersStore (store_in t (owner.Signature def)) result
+AnswersOwner t (owner.Body def) result = AnswersBody (body_in t def) result
+AnswersOwner t (owner.VariantFields variant) result = AnswersStore (store_in t (owner.VariantFields variant)) result

@@ -1,0 +1,217 @@
+-- The state of a walk, and how it goes on. Only contracts within this crate cite it.
+use Rattle.std.specs.Prelude.{◌≡◌, ℕ, ◌+◌, ◌<◌, List, [], ◌∷◌, ◌++◌, map, length, ◌⊎◌, Some, ⊤}
+use Rattle.std.specs.List.{All, flat_map, sum_by}
+use Rattle.std.specs.Ordering.{nat_cmp}
+use Rattle.std.specs.FinMap as finmap
+use Rattle.hir_node.specs.declared.node_id.NodeId.{NodeId}
+use Rattle.hir_node.specs.declared.node_id.NodeId.TheVariants as node
+use Rattle.hir_faults.specs.Nodes.{Nodes, Has, kids_of}
+use Rattle.hir_faults.specs.Down.{value}
+use Rattle.hir_scope.specs.declared.tasks.Around.{Around}
+use Rattle.hir_scope.specs.declared.tasks.Task.{Task}
+use Rattle.hir_scope.specs.declared.tasks.Task.TheVariants as task
+use Rattle.hir_scope.specs.declared.walk.Walk.{Walk}
+use Rattle.hir_scope.specs.Frames.{Frame, Chain}
+use Rattle.hir_scope.specs.Forms.{ScopingForm, form_of}
+use Rattle.hir_scope.specs.Forms as form
+use Rattle.hir_scope.specs.Chains.{Place, within_own}
+use Rattle.hir_scope.specs.PlacesUnder.{place}
+use Rattle.hir_scope.specs.Pending.{form_tasks, opens_here, opens_constant, future, task_kids, task_frames}
+use Rattle.hir_scope.specs.Scopes.{Scope, Scopes, frame_of}
+use Rattle.hir_scope.specs.Paths.{chain}
+
+-- 1. The state
+
+-- the scopes so far, those around what is met next, and what is still to do
+pub record Machine : Type 0 where
+  pub scopes : Scopes
+  pub around : Around
+  pub tasks : List Task
+
+abbrev pub machine : Walk → List Task → Machine
+machine w tasks = record { scopes = w.scopes; around = w.around; tasks = tasks }
+
+-- with all that is still to do
+abbrev pub state : Walk → Machine
+state w = machine w w.tasks
+
+-- the chain of each scope
+abbrev pub chain_of : List Scope → ℕ → Chain
+chain_of scopes scope = chain scopes (Some scope)
+
+-- the frames around what is met next, and those around the constants in it
+abbrev pub here_of : Machine → Chain
+here_of m = chain_of m.scopes.scopes m.around.here
+
+abbrev pub constant_of : Machine → Chain
+constant_of m = chain_of m.scopes.scopes m.around.constant
+
+-- the expressions that are still to be given a scope, each in its place
+abbrev pub future_of : Nodes → Machine → List Place
+future_of s m = future s (chain_of m.scopes.scopes) (here_of m) (constant_of m) m.tasks
+
+-- the nodes that tasks are about
+abbrev pub about : List Task → List NodeId
+about tasks = flat_map task_kids tasks
+
+-- the scopes that tasks take back are there
+abbrev pub LeavesWithin : ℕ → List Task → Type 0
+LeavesWithin n [] = ⊤
+LeavesWithin n (task.Leave outer outer_constant ∷ rest) = (outer < n) × (outer_constant < n) × LeavesWithin n rest
+LeavesWithin n (task.Expr id ∷ rest) = LeavesWithin n rest
+LeavesWithin n (task.Constant id ∷ rest) = LeavesWithin n rest
+LeavesWithin n (task.Pat id ∷ rest) = LeavesWithin n rest
+LeavesWithin n (task.TypeRef id ∷ rest) = LeavesWithin n rest
+LeavesWithin n (task.Bound id ∷ rest) = LeavesWithin n rest
+LeavesWithin n (task.Arm pat expr ∷ rest) = LeavesWithin n rest
+LeavesWithin n (task.GuardedArm pat guard expr ∷ rest) = LeavesWithin n rest
+LeavesWithin n (task.MacroDef id ∷ rest) = LeavesWithin n rest
+
+abbrev pub AreThere : Nodes → List NodeId → Type 0
+AreThere s [] = ⊤
+AreThere s (n ∷ ns) = Has s n × AreThere s ns
+
+-- all that the state names is there
+pub record IsReady (s : Nodes) (m : Machine) : Type 0 where
+  pub here : m.around.here < length m.scopes.scopes
+  pub constant : m.around.constant < length m.scopes.scopes
+  pub leaves : LeavesWithin (length m.scopes.scopes) m.tasks
+  pub known : AreThere s (about m.tasks)
+
+-- 2. What is still to come, as sums
+
+-- what a node weighs, with all nodes under it
+abbrev pub total_step : Nodes → (NodeId → ℕ) → (NodeId → ℕ) → NodeId → ℕ
+total_step s u self n = u n + sum_by self (kids_of s n)
+
+unfoldable pub total : Nodes → (NodeId → ℕ) → NodeId → ℕ
+total s u n = value s (total_step s u) 0 n
+
+-- what tasks weigh, with all nodes under those that they are about
+abbrev pub left : Nodes → (NodeId → ℕ) → (Task → ℕ) → List Task → ℕ
+left s u v tasks = sum_by v tasks + sum_by (total s u) (about tasks)
+
+-- the tasks of a node, whatever it is left with
+abbrev pub node_tasks : Nodes → NodeId → List Task
+node_tasks s n = form_tasks (record { here = 0; constant = 0 }) (form_of s n)
+
+-- the frames that a node opens: as it is met, and by its tasks
+abbrev pub node_frames : Nodes → NodeId → List Frame
+node_frames s n = (opens_here s (form_of s n) ++ opens_constant (form_of s n)) ++ flat_map (task_frames s) (node_tasks s n)
+
+-- what frames weigh that are still to be opened
+abbrev pub weight_left : Nodes → (Frame → ℕ) → List Task → ℕ
+weight_left s w tasks = left s (λ n. sum_by w (node_frames s n)) (λ t. sum_by w (task_frames s t)) tasks
+
+-- with those of the scopes
+abbrev pub weight : Nodes → (Frame → ℕ) → Machine → ℕ
+weight s w m = sum_by w (map frame_of m.scopes.scopes) + weight_left s w m.tasks
+
+-- each frame counts as one scope, and as its entries
+abbrev pub one : Frame → ℕ
+one f = 1
+
+abbrev pub count_entries : Frame → ℕ
+count_entries f = length f.entries
+
+-- more frames than there may be scopes, or more entries than there may be
+abbrev pub Over : List Frame → Type 0
+Over frames = (4294967295 < sum_by one frames) ⊎ (4294967295 < sum_by count_entries frames)
+
+-- so with the scopes that are there, and those that are still to come
+abbrev pub Exceeds : Nodes → Machine → Type 0
+Exceeds s m = (4294967295 < weight s one m) ⊎ (4294967295 < weight s count_entries m)
+
+-- the turns of the loop that a task takes, beside those of its nodes
+abbrev pub task_turns : Task → ℕ
+task_turns (task.Expr id) = 0
+task_turns (task.Constant id) = 2
+task_turns (task.Pat id) = 0
+task_turns (task.TypeRef id) = 0
+task_turns (task.Bound id) = 1
+task_turns (task.Arm pat expr) = 2
+task_turns (task.GuardedArm pat guard expr) = 2
+task_turns (task.MacroDef id) = 1
+task_turns (task.Leave outer outer_constant) = 1
+
+abbrev pub node_turns : Nodes → NodeId → ℕ
+node_turns s n = 2 + sum_by task_turns (node_tasks s n)
+
+abbrev pub turns_left : Nodes → List Task → ℕ
+turns_left s tasks = left s (node_turns s) task_turns tasks
+
+-- 3. How it goes on
+
+-- a scope that is there, with these frames as its chain
+pub record HasFrames (scopes : List Scope) (scope : ℕ) (frames : Chain) : Type 0 where
+  pub within : scope < length scopes
+  pub is : chain_of scopes scope ≡ frames
+
+-- scopes were opened over the current scope, and over that of constants
+pub record Opened (old new : Machine) (heres constants : Chain) : Type 0 where
+  pub more : List Scope
+  pub grows : new.scopes.scopes ≡ old.scopes.scopes ++ more
+  pub same : new.scopes.scope_by_expr ≡ old.scopes.scope_by_expr
+  pub tasks : new.tasks ≡ old.tasks
+  pub frames : (w : Frame → ℕ) → sum_by w (map frame_of more) ≡ sum_by w (heres ++ constants)
+  pub here : HasFrames new.scopes.scopes new.around.here (heres ++ here_of old)
+  pub constant : HasFrames new.scopes.scopes new.around.constant (constants ++ constant_of old)
+
+-- from one state to another, with these places met
+pub record Moves (s : Nodes) (old new : Machine) (met : List Place) : Type 0 where
+  pub ready : IsReady s new
+  pub more : List Scope
+  pub grows : new.scopes.scopes ≡ old.scopes.scopes ++ more
+  pub same : new.scopes.scope_by_expr ≡ old.scopes.scope_by_expr
+  pub in_order : future_of s old ≡ met ++ future_of s new
+  pub weights : (w : Frame → ℕ) → weight s w old ≡ weight s w new
+  pub shorter : turns_left s new.tasks < turns_left s old.tasks
+
+-- an expression that was given its scope, with the frames around it
+pub record Given : Type 0 where
+  pub expr : ℕ
+  pub here : Chain
+  pub constant : Chain
+  pub scope : ℕ
+
+abbrev pub place_given : Given → Place
+place_given g = place (node.Expr g.expr) g.here g.constant
+
+abbrev pub write_all : finmap.FinMap nat_cmp ℕ → List Given → finmap.FinMap nat_cmp ℕ
+write_all by_expr [] = by_expr
+write_all by_expr (g ∷ gs) = write_all (finmap.insert by_expr g.expr g.scope) gs
+
+-- the scope is that of the expression's chain
+abbrev pub IsRight : Nodes → List Scope → Given → Type 0
+IsRight s scopes g = HasFrames scopes g.scope (within_own (form_of s (node.Expr g.expr)) g.here)
+
+-- the scope of an expression: of a block that inside it, of any other the one around it
+abbrev pub scope_within : ScopingForm → ℕ → ℕ → ℕ
+scope_within (form.Block id label statements tail) inside outside = inside
+scope_within (form.If condition then_branch else_branch) inside outside = outside
+scope_within (form.Let pat expr) inside outside = outside
+scope_within (form.Loop label body) inside outside = outside
+scope_within (form.Closure arg_types ret_type args body) inside outside = outside
+scope_within (form.Match scrutinee arms) inside outside = outside
+scope_within (form.Assignment target value) inside outside = outside
+scope_within (form.PatternType type pat) inside outside = outside
+scope_within (form.InTurn calls) inside outside = outside
+
+-- all that was done since a state
+pub record Gone (s : Nodes) (old new : Machine) (before after : ℕ) : Type 0 where
+  pub ready : IsReady s new
+  pub given : List Given
+  pub written : new.scopes.scope_by_expr ≡ write_all old.scopes.scope_by_expr given
+  pub in_order : future_of s old ≡ map place_given given ++ future_of s new
+  pub right : All (IsRight s new.scopes.scopes) given
+  -- with one step for each
+  pub ticks : after ≡ before + length given
+  pub weights : (w : Frame → ℕ) → weight s w old ≡ weight s w new
+  -- and each scope is kept
+  pub more : List Scope
+  pub grows : new.scopes.scopes ≡ old.scopes.scopes ++ more
+
+-- the same of one task
+pub record Goes (s : Nodes) (old new : Machine) (before after : ℕ) : Type 0 where
+  pub gone : Gone s old new before after
+  pub shorter : turns_left s new.tasks < turns_left s old.tasks

@@ -1,0 +1,96 @@
+//! The scopes of a definition, looked up in the tables.
+ghost use Rattle.hir_base.specs.declared.defs.ExpressionStoreOwnerId.{ExpressionStoreOwnerId};
+ghost use Rattle.hir_base.specs.declared.defs.ExpressionStoreOwnerId.TheVariants as owner;
+ghost use Rattle.hir_scope.specs.Lookups.{AnswersBody, AnswersStore, AnswersOwner, body_in, store_in};
+
+use crate::expr_scopes::ExprScopes;
+use crate::fault::ScopesFault;
+use hir_base::{DefWithBodyId, ExpressionStoreOwnerId, GenericDefId, VariantId};
+use hir_defs::{StoreOf, Tables};
+use hir_expr_store::ExpressionStore;
+use hir_items::Body;
+use std::alloc::Global;
+
+/// The scopes of the store of an owner, as that of a signature.
+fn of_store(
+    alloc: Global,
+    tables: &Tables,
+    owner: ExpressionStoreOwnerId,
+) -> Result<ExprScopes, ScopesFault>
+    ensures { AnswersStore (store_in tables.now owner) result }
+{
+    match ExpressionStore::of(tables, owner) {
+        Ok(store) => ExprScopes::new_store(alloc, store),
+        Err(_) => Err(ScopesFault::Missing),
+    }
+}
+
+impl ExprScopes {
+    /// The scopes of the body of a definition.
+    ///
+    /// Answers `Missing` exactly where the tables have no body of it, and else what `new_body` answers.
+    pub fn body_expr_scopes(
+        alloc: Global,
+        tables: &Tables,
+        def: DefWithBodyId,
+    ) -> Result<ExprScopes, ScopesFault>
+        ensures { AnswersBody (body_in tables.now def) result }
+    {
+        match Body::of(tables, def) {
+            Ok(body) => ExprScopes::new_body(alloc, body),
+            Err(_) => Err(ScopesFault::Missing),
+        }
+    }
+
+    /// The scopes of the signature of a definition.
+    ///
+    /// Answers `Missing` exactly where the tables have no signature of it, and else what `new_store` answers.
+    pub fn sig_expr_scopes(
+        alloc: Global,
+        tables: &Tables,
+        def: GenericDefId,
+    ) -> Result<ExprScopes, ScopesFault>
+        ensures { AnswersStore (store_in tables.now (owner.Signature def)) result }
+    {
+        of_store(alloc, tables, ExpressionStoreOwnerId::Signature(def))
+    }
+
+    /// The scopes of the fields of a variant.
+    ///
+    /// Answers `Missing` exactly where the tables have no fields of it, and else what `new_store` answers.
+    pub fn variant_scopes(
+        alloc: Global,
+        tables: &Tables,
+        variant: VariantId,
+    ) -> Result<ExprScopes, ScopesFault>
+        ensures { AnswersStore (store_in tables.now (owner.VariantFields variant)) result }
+    {
+        of_store(
+            alloc,
+            tables,
+            ExpressionStoreOwnerId::VariantFields(variant),
+        )
+    }
+
+    /// The scopes of a body, of a signature or of the fields of a variant, by who owns their store.
+    ///
+    /// Answers `Missing` exactly where the tables have no entry of the owner, and else what `new_body` answers for a body, and
+    /// `new_store` for a signature or fields.
+    pub fn of<O: Into<ExpressionStoreOwnerId>>(
+        alloc: Global,
+        tables: &Tables,
+        owner: O,
+    ) -> Result<ExprScopes, ScopesFault>
+        ensures { (id : ExpressionStoreOwnerId) × O.converts owner id × AnswersOwner tables.now id result }
+    {
+        match owner.into() {
+            ExpressionStoreOwnerId::Signature(def) => {
+                ExprScopes::sig_expr_scopes(alloc, tables, def)
+            }
+            ExpressionStoreOwnerId::Body(def) => ExprScopes::body_expr_scopes(alloc, tables, def),
+            ExpressionStoreOwnerId::VariantFields(variant) => {
+                ExprScopes::variant_scopes(alloc, tables, variant)
+            }
+        }
+    }
+}

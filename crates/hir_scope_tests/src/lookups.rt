@@ -1,0 +1,154 @@
+//! The scopes of definitions, looked up in tables: of what is there, and what is answered where it isn't.
+use crate::build::{self, Step};
+use crate::nodes::ExprStep;
+use hir_base::{
+    AdtId, DefWithBodyId, ExpressionStoreOwnerId, FunctionId, GenericDefId, Seq, StructId, TraitId,
+    VariantId,
+};
+use hir_defs::{
+    Body, BodySourceMap, FieldsShape, GenericParams, PlainDef, PlainParts, PlainSignature, Tables,
+    VariantFields, VariantParts,
+};
+use hir_scope::{ExprScopes, ScopesFault};
+use hir_store::{ExpressionStore, ExpressionStoreSourceMap};
+use std::alloc::{AllocError, AllocFailed, Global};
+use std::fmt::Debug;
+use std::test::Fail;
+
+/// A path, which is the root.
+const ONE: &[Step] = &[Step::Expr(ExprStep::Path), Step::Root(0)];
+
+/// Two paths, which are roots.
+const TWO: &[Step] = &[
+    Step::Expr(ExprStep::Path),
+    Step::Root(0),
+    Step::Expr(ExprStep::Path),
+    Step::Root(1),
+];
+
+/// Three paths, which are roots.
+const THREE: &[Step] = &[
+    Step::Expr(ExprStep::Path),
+    Step::Root(0),
+    Step::Expr(ExprStep::Path),
+    Step::Root(1),
+    Step::Expr(ExprStep::Path),
+    Step::Root(2),
+];
+
+/// Whether the value was taken: without it, where it is handed back.
+fn taken<T: Drop>(outcome: Result<(), AllocFailed<T>>) -> Result<(), Fail> {
+    match outcome {
+        Ok(()) => Ok(()),
+        Err(failed) => Err(Fail::from(AllocError::from(failed))),
+    }
+}
+
+/// What was accepted, in boxes; without what is handed back, where it is refused.
+fn in_boxes<T: Drop, U: Drop, R: Debug + Drop>(
+    alloc: Global,
+    outcome: Result<(T, U), R>,
+) -> Result<(Box<T>, Box<U>), Fail> {
+    let (first, second) = outcome?;
+    let first = Box::new(alloc, first)?;
+    Ok((first, Box::new(alloc, second)?))
+}
+
+/// What was accepted, in a box; without what is handed back, where it is refused.
+fn in_a_box<T: Drop, R: Debug + Drop>(
+    alloc: Global,
+    outcome: Result<T, R>,
+) -> Result<Box<T>, Fail> {
+    let value = outcome?;
+    Ok(Box::new(alloc, value)?)
+}
+
+/// The store of these steps, with its source map.
+fn store(
+    alloc: Global,
+    steps: &[Step],
+) -> Result<(Box<ExpressionStore>, Box<ExpressionStoreSourceMap>), Fail> {
+    let builder = build::built(alloc, steps)?;
+    in_boxes(alloc, Box::into_inner(builder).finish())
+}
+
+/// Gives function 4 a body.
+fn add_body(tables: &mut Tables, alloc: Global) -> Result<(), Fail> {
+    let (store, map) = store(alloc, ONE)?;
+    let body = Body::new(alloc, Box::into_inner(store), Seq::new(alloc), None);
+    let body = in_a_box(alloc, body)?;
+    let map = BodySourceMap::new(Box::into_inner(map), None);
+    let id = DefWithBodyId::FunctionId(FunctionId::from_raw(4));
+    taken(tables.add_body(id, Box::into_inner(body), map))
+}
+
+/// Gives trait 4 a signature.
+fn add_signature(tables: &mut Tables, alloc: Global) -> Result<(), Fail> {
+    let (store, map) = store(alloc, TWO)?;
+    let signature = PlainSignature::new(PlainParts {
+        generic_params: GenericParams::empty(alloc),
+        store: Box::into_inner(store),
+    });
+    let signature = in_a_box(alloc, signature)?;
+    let def = PlainDef::Trait(TraitId::from_raw(4));
+    taken(tables.add_plain(def, Box::into_inner(signature), Box::into_inner(map)))
+}
+
+/// Gives struct 4 fields.
+fn add_fields(tables: &mut Tables, alloc: Global) -> Result<(), Fail> {
+    let (store, map) = store(alloc, THREE)?;
+    let fields = VariantFields::new(VariantParts {
+        shape: FieldsShape::Record,
+        fields: Seq::new(alloc),
+        store: Box::into_inner(store),
+    });
+    let fields = in_a_box(alloc, fields)?;
+    let id = VariantId::StructId(StructId::from_raw(4));
+    taken(tables.add_fields(id, Box::into_inner(fields), Box::into_inner(map)))
+}
+
+/// How many scopes there are, or why there are none.
+fn count(outcome: Result<ExprScopes, ScopesFault>) -> Result<usize, ScopesFault> {
+    let scopes = outcome?;
+    Ok(scopes.scope_count())
+}
+
+/// How many scopes the body of the function, the signature of the trait and the fields of the struct of this number have.
+fn counts(tables: &Tables, alloc: Global, number: u32) -> [Result<usize, ScopesFault>; 6] {
+    let body = DefWithBodyId::FunctionId(FunctionId::from_raw(number));
+    let signature = GenericDefId::TraitId(TraitId::from_raw(number));
+    let variant = VariantId::StructId(StructId::from_raw(number));
+    [
+        count(ExprScopes::body_expr_scopes(alloc, tables, body)),
+        count(ExprScopes::of(alloc, tables, body)),
+        count(ExprScopes::sig_expr_scopes(alloc, tables, signature)),
+        count(ExprScopes::of(alloc, tables, signature)),
+        count(ExprScopes::variant_scopes(alloc, tables, variant)),
+        count(ExprScopes::of(
+            alloc,
+            tables,
+            ExpressionStoreOwnerId::VariantFields(variant),
+        )),
+    ]
+}
+
+#[test]
+fn what_is_there_has_scopes(rt: HostRuntime) -> Result<(), Fail> {
+    let mut tables = Box::new(rt.alloc(), Tables::new(rt.alloc()))?;
+    add_body(&mut tables, rt.alloc())?;
+    add_signature(&mut tables, rt.alloc())?;
+    add_fields(&mut tables, rt.alloc())?;
+    assert!(&rt; counts(&tables, rt.alloc(), 4) == [Ok(1), Ok(1), Ok(3), Ok(3), Ok(4), Ok(4)]);
+    Ok(())
+}
+
+#[test]
+fn what_is_not_there_is_missing(rt: HostRuntime) -> Result<(), Fail> {
+    let mut tables = Box::new(rt.alloc(), Tables::new(rt.alloc()))?;
+    add_body(&mut tables, rt.alloc())?;
+    let missing = Err(ScopesFault::Missing);
+    assert!(&rt; counts(&tables, rt.alloc(), 5) == [missing; 6]);
+    let adt = GenericDefId::AdtId(AdtId::StructId(StructId::from_raw(4)));
+    assert!(&rt; count(ExprScopes::sig_expr_scopes(rt.alloc(), &tables, adt)) == missing);
+    Ok(())
+}
