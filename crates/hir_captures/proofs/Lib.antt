@@ -1,0 +1,5 @@
+mod AskLemmas
+mod CodeLemmas
+mod KidLemmas
+mod FoundLemmas
+mod ReadLemmas
