@@ -144,11 +144,40 @@ code_read s fall n a =
 
 -- 3. What tasks name is there
 
-all_there : (s : Nodes) (a : Option ℕ) (cs : List Call) → ((k : NodeId) → Contains (kids cs) k → Has s k) → AreThere s (tasks_of a cs)
-all_there s a [] h = tt
-all_there s a (OnExpr id ∷ cs) h = (h (node.Expr id) (0, omega arith, refl), all_there s a cs (λ k m. h k (suc m.0, omega (arith, m.1), m.2)))
-all_there s None (OnPat id ∷ cs) h = (h (node.Pat id) (0, omega arith, refl), all_there s None cs (λ k m. h k (suc m.0, omega (arith, m.1), m.2)))
-all_there s (Some a) (OnPat id ∷ cs) h = (h (node.Pat id) (0, omega arith, refl), all_there s (Some a) cs (λ k m. h k (suc m.0, omega (arith, m.1), m.2)))
-all_there s a (OnAnonConst id ∷ cs) h = all_there s a cs (λ k m. h k (suc m.0, omega (arith, m.1), m.2))
-all_there s a (OnType id ∷ cs) h = all_there s a cs (λ k m. h k (suc m.0, omega (arith, m.1), m.2))
-all_there s a (OnLifetime id ∷ cs) h = all_there s a cs h
+there_two : (s : Nodes) (xs ys : List Task) → AreThere s xs → AreThere s ys → AreThere s (xs ++ ys)
+there_two s [] ys h k = k
+there_two s (x ∷ xs) ys h k = (h.0, there_two s xs ys h.1 k)
+
+-- the nodes of spots are there
+abbrev HaveNodes : Nodes → List Spot → Type 0
+HaveNodes s [] = Unit {0}
+HaveNodes s (x ∷ xs) = Has s x.node × HaveNodes s xs
+
+-- a node alone
+abbrev itself : Codes
+itself n a = spot n a ∷ []
+
+slots_there : (s : Nodes) (a : Option ℕ) (xs : List Slot) → ((k : NodeId) → Contains (kids_in xs) k → Has s k) → HaveNodes s (flat_map (kid_code itself a) xs)
+slots_there s a [] h = tt
+slots_there s a (x ∷ xs) h = at x.base (slots_there s a xs (λ k m. h k (suc m.0, omega (arith, m.1), m.2))) where
+  at : (b : Base) → HaveNodes s (flat_map (kid_code itself a) xs) → HaveNodes s (in_code b (itself x.kid (of_pattern x.kid a)) ++ flat_map (kid_code itself a) xs)
+  at Here rest = (h x.kid (0, omega arith, refl), rest)
+  at Const rest = rest
+
+tasks_there : (s : Nodes) (a : Option ℕ) (cs : List Call) → HaveNodes s (flat_map (call_code itself a) cs) → AreThere s (tasks_of a cs)
+tasks_there s a [] h = tt
+tasks_there s a (OnExpr id ∷ cs) h = (h.0, tasks_there s a cs h.1)
+tasks_there s None (OnPat id ∷ cs) h = (h.0, tasks_there s None cs h.1)
+tasks_there s (Some a) (OnPat id ∷ cs) h = (h.0, tasks_there s (Some a) cs h.1)
+tasks_there s a (OnAnonConst id ∷ cs) h = tasks_there s a cs h
+tasks_there s a (OnType id ∷ cs) h = tasks_there s a cs h
+tasks_there s a (OnLifetime id ∷ cs) h = tasks_there s a cs h
+
+-- the kids of a node are there
+pub kids_there : (s : Nodes) → KidsFall s → (n : NodeId) (a : Option ℕ) (rest : List Task) → Has s n → AreThere s rest → AreThere s (tasks_of a (met_in_form (form_of s n)) ++ rest)
+unfolding slots
+kids_there s fall n a rest h r =
+    let back = IsPermutation-sym (kids_of s n) (kids_in (slots s n)) (slots_kids s n) in
+    let have = slots_there s a (slots s n) (λ k m. fall.there n h k (Contains-permutation (kids_in (slots s n)) (kids_of s n) k back m)) in
+    there_two s (tasks_of a (met_in_form (form_of s n))) rest
+    (tasks_there s a (met_in_form (form_of s n)) (subst (HaveNodes s) (of_form itself a s (form_of s n)) have)) r

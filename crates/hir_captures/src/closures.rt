@@ -1,5 +1,5 @@
 //! The bindings that a closure captures.
-ghost use Rattle.std.specs.Prelude.{◌≡◌, ◌↔◌, ℕ, Some, Err, IfOk, IsSome, slice_get};
+ghost use Rattle.std.specs.Prelude.{◌≡◌, ◌↔◌, ◌<◌, ℕ, length, Some, Err, IfOk, IfSome, IsSome, slice_get};
 ghost use Rattle.std.specs.FinMap as map;
 ghost use Rattle.hir_node.specs.declared.node_id.NodeId.TheVariants as node;
 ghost use Rattle.hir_items.specs.Bodies.{BodyReaches};
@@ -22,8 +22,10 @@ fn scope_of_closure(
     scopes: &ExprScopes,
     closure: ExprId,
 ) -> Option<ScopeId>
-    ensures some { IsSome result → (result ≡ map.get scopes.now.scope_by_expr closure)
-        × IsClosure (slice_get store.now.nodes.exprs closure) }
+    ensures some { IfSome result (λ scope. map.get scopes.now.scope_by_expr closure ≡ Some scope) }
+    ensures closure { IfSome result (λ scope. IsClosure (slice_get store.now.nodes.exprs closure)) }
+    ensures there { IfSome result (λ scope. scope < length scopes.now.scopes) }
+    ensures has { IfSome result (λ scope. closure < length store.now.nodes.exprs) }
     ensures none { IsSome (map.get scopes.now.scope_by_expr closure)
         → IsClosure (slice_get store.now.nodes.exprs closure) → IsSome result }
 {

@@ -104,7 +104,8 @@ impl Walk {
         }
         self.kids.begin(if_assignment(id, expr));
         self.kids.meet_expr(expr);
-        self.kids.move_to(&mut self.tasks)
+        self.kids.move_to(&mut self.tasks)?;
+        Ok(())
     }
 
     /// Reads a pattern, in the target of this assignment or in none.
@@ -130,7 +131,8 @@ impl Walk {
         }
         self.kids.begin(assignment);
         self.kids.meet_pat(pat);
-        self.kids.move_to(&mut self.tasks)
+        self.kids.move_to(&mut self.tasks)?;
+        Ok(())
     }
 
     /// Reads the node of one task.
