@@ -35,6 +35,14 @@ pub puts_all : {v w : Kids} {cs : List Call} → Runs PutsOne v cs w → Puts v 
 puts_all {v} no_call = puts_none v
 puts_all (a_call {c = c} {cs = cs} step rest) = puts_two (c ∷ []) cs step (puts_all rest)
 
+-- what a run from nothing put stands on top
+pub put_on : (v w : Kids) (cs : List Call) (a : Option ℕ) (rest new : List Task) → Puts v cs w → v.items.items ≡ [] → v.assignment ≡ a → w.refused ≡ false → new ≡ w.items.items ++ rest → new ≡ tasks_of a cs ++ rest
+put_on v w cs a rest new p none is room on =
+    on
+    ∙ ap (λ (xs : List Task). xs ++ rest) ((p.items room).1
+    ∙ (ap (λ (xs : List Task). xs ++ tasks_of v.assignment cs) none
+    ∙ ap (λ (x : Option ℕ). tasks_of x cs) is))
+
 -- types are no code
 no_types : (a : Option ℕ) (types : List (Option ℕ)) (ret : Option ℕ) → tasks_of a (flat_map (opt t) types ++ opt t ret) ≡ []
 no_types a [] None = refl

@@ -12,6 +12,9 @@ use Rattle.hir_node.specs.ChildCalls.{Call, pat_calls}
 use Rattle.hir_node.specs.declared.expr.Expr.{Expr}
 use Rattle.hir_node.specs.declared.expr.Expr.TheVariants as expr
 use Rattle.hir_node.specs.declared.pat.Pat.{Pat}
+use Rattle.hir_node.specs.declared.pat.Pat.TheVariants as pat
+use Rattle.hir_base.specs.declared.hygiene.SyntaxContext.{SyntaxContext}
+use Rattle.hir_path.specs.declared.path.Path.{Path}
 use Rattle.hir_node.specs.declared.node_id.NodeId.{NodeId}
 use Rattle.hir_node.specs.declared.node_id.NodeId.TheVariants as node
 use Rattle.hir_faults.specs.Down.{KidsFall}
@@ -34,6 +37,15 @@ use Rattle.hir_captures.proofs.CodeLemmas.{code_read, kids_there}
 pub no_assignment : (id : ℕ) (x : Expr) → ((target value : ℕ) → x ≡ expr.Assignment target value → ⊥) → None ≡ if_assignment id (Some x)
 no_assignment id (expr.Assignment target value) h = absurd (h target value refl)
 no_assignment id _ h = refl
+
+-- what is no path uses nothing
+pub no_expr_use : (h : SyntaxContext) (id : ℕ) (x : Expr) → ((path : Path) → x ≡ expr.Path path → ⊥) → expr_uses h id (Some x) ≡ []
+no_expr_use h id (expr.Path path) no_path = absurd (no_path path refl)
+no_expr_use h id _ no_path = refl
+
+pub no_pat_use : (h : SyntaxContext) (a : ℕ) (x : Pat) → ((path : Path) → x ≡ pat.Path path → ⊥) → pat_uses h (Some a) (Some x) ≡ []
+no_pat_use h a (pat.Path path) no_path = absurd (no_path path refl)
+no_pat_use h a _ no_path = refl
 
 module _ (c : Contents) (scopes : Scopes) (outermost : ℕ) where
   uses_two : (found : List ℕ) (us vs : List Use) → with_uses scopes outermost found (us ++ vs) ≡ with_uses scopes outermost (with_uses scopes outermost found us) vs
@@ -67,23 +79,20 @@ module _ (c : Contents) (scopes : Scopes) (outermost : ℕ) where
     }
 
   pub read_expr : KidsFall c.nodes → (id : ℕ) (x : Expr) (rest new : List Task) (before after : List ℕ) → slice_get c.nodes.exprs id ≡ Some x → AreThere c.nodes (task.Expr id ∷ rest) →
-      after ≡ with_uses scopes outermost before (expr_uses (hygiene_of c.side_tables (ExprId id)) id (Some x)) →
+      after ≡ with_uses scopes outermost before (uses_at c (node.Expr id) None) →
       new ≡ tasks_of (if_assignment id (Some x)) (met_in_form (expr_form x)) ++ rest → Reads c scopes outermost before (task.Expr id ∷ rest) after new
   read_expr fall id x rest new before after is there found put =
-      read_one fall (task.Expr id) rest new before after there
-      (found ∙ ap (λ (o : Option Expr). with_uses scopes outermost before (expr_uses (hygiene_of c.side_tables (ExprId id)) id o)) (sym is))
+      read_one fall (task.Expr id) rest new before after there found
       (put ∙ ap (λ (o : Option Expr). tasks_of (if_assignment id o) (met_in_form (form_at expr_form o)) ++ rest) (sym is))
 
   pub read_pat : KidsFall c.nodes → (id : ℕ) (x : Pat) (a : Option ℕ) (rest new : List Task) (before after : List ℕ) → slice_get c.nodes.pats id ≡ Some x → AreThere c.nodes (pat_task a id ∷ rest) →
-      after ≡ with_uses scopes outermost before (pat_uses (hygiene_of c.side_tables (PatId id)) a (Some x)) →
+      after ≡ with_uses scopes outermost before (uses_at c (node.Pat id) a) →
       new ≡ tasks_of a (pat_calls x) ++ rest → Reads c scopes outermost before (pat_task a id ∷ rest) after new
   read_pat fall id x None rest new before after is there found put =
-      read_one fall (task.Pat id) rest new before after there
-      (found ∙ ap (λ (o : Option Pat). with_uses scopes outermost before (pat_uses (hygiene_of c.side_tables (PatId id)) None o)) (sym is))
+      read_one fall (task.Pat id) rest new before after there found
       (put ∙ ap (λ (o : Option Pat). tasks_of None (met_in_form (form_at pat_form o)) ++ rest) (sym is))
   read_pat fall id x (Some a) rest new before after is there found put =
-      read_one fall (task.Target id a) rest new before after there
-      (found ∙ ap (λ (o : Option Pat). with_uses scopes outermost before (pat_uses (hygiene_of c.side_tables (PatId id)) (Some a) o)) (sym is))
+      read_one fall (task.Target id a) rest new before after there found
       (put ∙ ap (λ (o : Option Pat). tasks_of (Some a) (met_in_form (form_at pat_form o)) ++ rest) (sym is))
 
 -- one task more was done
@@ -97,7 +106,7 @@ reads_on c scopes outermost old new before after whole r e = (r.there, e ∙ r.f
 chains_are : (b : BodyContents) (scopes : Scopes) → ((x : ℕ) → IsSome (map.get scopes.scope_by_expr x) ↔ BodyReaches b (node.Expr x)) → ChainsAreFrames b.store.nodes (tops_of_body b) scopes → AreChains b (chain_in scopes)
 chains_are b scopes reached chains x r = at (map.get scopes.scope_by_expr x) refl ((reached x).1 r) where
   at : (o : Option ℕ) → map.get scopes.scope_by_expr x ≡ o → IsSome o → HasChain b.store.nodes (tops_of_body b) x (chain scopes.scopes (map.get scopes.scope_by_expr x))
-  at None e h = absurd h
+  at None e h = absurd cc
   at (Some scope) e h = subst (λ (o : Option ℕ). HasChain b.store.nodes (tops_of_body b) x (chain scopes.scopes o)) (sym e) (chains x scope e)
 
 pub are_captures : (b : BodyContents) (scopes : Scopes) (closure scope : ℕ) (found : List ℕ) → ((x : ℕ) → IsSome (map.get scopes.scope_by_expr x) ↔ BodyReaches b (node.Expr x)) → ChainsAreFrames b.store.nodes (tops_of_body b) scopes →

@@ -1,9 +1,11 @@
 //! The walk that reads a closure's code: one loop over what is still to be read.
 #![tactic(auto, using(crate::proofs::ReadLemmas::reads))]
 
-ghost use Rattle.std.specs.Prelude.{◌≡◌, ◌<◌, [], ◌∷◌, length, Some, Err, IfOk, OnOk, OnErr};
-ghost use Rattle.hir_captures.specs.Uses.{if_assignment, use_of, asked_name};
-ghost use Rattle.hir_captures.specs.Pending.{pat_task, AreThere, code_of};
+ghost use Rattle.std.specs.Prelude.{◌≡◌, ◌<◌, ℕ, [], ◌∷◌, length, None, Some, Err, IfOk, OnOk, OnErr};
+ghost use Rattle.hir_scope.specs.Scopes.{Scopes};
+ghost use Rattle.hir_captures.specs.Uses.{if_assignment, use_of, asked_name, uses_at};
+ghost use Rattle.hir_node.specs.declared.node_id.NodeId.TheVariants as node;
+ghost use Rattle.hir_captures.specs.Pending.{AreThere, code_of};
 ghost use Rattle.hir_captures.specs.Reading.{with_uses, with_code, Reads};
 
 use crate::asks::{asked_name, captured};
@@ -83,6 +85,48 @@ impl Walk {
         }
     }
 
+    /// Adds what is captured by an expression itself: it asks where it is a path, in its own chain.
+    fn ask_expr(
+        &mut self,
+        store: &ExpressionStore,
+        scopes: &ExprScopes,
+        outermost: usize,
+        id: ExprId,
+    ) -> Result<(), CapturesFault>
+        requires there { id < length store.now.nodes.exprs }
+        ensures found { OnOk result (self.new.found ≡ with_uses scopes.now outermost self.old.found
+            (uses_at store.now (node.Expr id) None)) }
+        ensures tasks { self.new.tasks ≡ self.old.tasks }
+        ensures memory { OnErr result (result ≡ Err CapturesFault.Memory) }
+    {
+        if let Expr::Path(path) = &store[id] {
+            return self.ask(scopes, outermost, id, path, store.expr_path_hygiene(id));
+        }
+        Ok(())
+    }
+
+    /// Adds what is captured by a pattern in the target of an assignment: it asks where it is a path, in the assignment's chain.
+    fn ask_pat(
+        &mut self,
+        store: &ExpressionStore,
+        scopes: &ExprScopes,
+        outermost: usize,
+        id: PatId,
+        assignment: ExprId,
+    ) -> Result<(), CapturesFault>
+        requires there { id < length store.now.nodes.pats }
+        ensures found { OnOk result (self.new.found ≡ with_uses scopes.now outermost self.old.found
+            (uses_at store.now (node.Pat id) (Some assignment))) }
+        ensures tasks { self.new.tasks ≡ self.old.tasks }
+        ensures memory { OnErr result (result ≡ Err CapturesFault.Memory) }
+    {
+        if let Pat::Path(path) = &store[id] {
+            let hygiene = store.pat_path_hygiene(id);
+            return self.ask(scopes, outermost, assignment, path, hygiene);
+        }
+        Ok(())
+    }
+
     /// Reads an expression: what is in it is to be read next.
     fn read_expr(
         &mut self,
@@ -98,38 +142,49 @@ impl Walk {
     {
         store.has_no_fault();
         kids_fall();
+        self.ask_expr(store, scopes, outermost, id)?;
         let expr = &store[id];
-        if let Expr::Path(path) = expr {
-            self.ask(scopes, outermost, id, path, store.expr_path_hygiene(id))?;
-        }
         self.kids.begin(if_assignment(id, expr));
         self.kids.meet_expr(expr);
         self.kids.move_to(&mut self.tasks)?;
         Ok(())
     }
 
-    /// Reads a pattern, in the target of this assignment or in none.
-    fn read_pat(
-        &mut self,
-        store: &ExpressionStore,
-        scopes: &ExprScopes,
-        outermost: usize,
-        id: PatId,
-        assignment: Option<ExprId>,
-    ) -> Result<(), CapturesFault>
-        requires there { AreThere store.now.nodes (pat_task assignment id ∷ self.old.tasks) }
-        ensures reads { OnOk result (Reads store.now scopes.now outermost
-            self.old.found (pat_task assignment id ∷ self.old.tasks) self.new.found self.new.tasks) }
+    /// Reads a pattern that stands in no target of an assignment: what is in it is to be read next.
+    fn read_pat(&mut self, store: &ExpressionStore, id: PatId) -> Result<(), CapturesFault>
+        requires there { AreThere store.now.nodes (Task.Pat id ∷ self.old.tasks) }
+        ensures reads { OnOk result ((scopes : Scopes) (outermost : ℕ) → Reads store.now scopes outermost
+            self.old.found (Task.Pat id ∷ self.old.tasks) self.new.found self.new.tasks) }
         ensures memory { OnErr result (result ≡ Err CapturesFault.Memory) }
     {
         store.has_no_fault();
         kids_fall();
         let pat = &store[id];
-        if let (Pat::Path(path), Some(assignment)) = (pat, assignment) {
-            let hygiene = store.pat_path_hygiene(id);
-            self.ask(scopes, outermost, assignment, path, hygiene)?;
-        }
-        self.kids.begin(assignment);
+        self.kids.begin(None);
+        self.kids.meet_pat(pat);
+        self.kids.move_to(&mut self.tasks)?;
+        Ok(())
+    }
+
+    /// Reads a pattern in the target of an assignment: what is in it is to be read next.
+    fn read_target(
+        &mut self,
+        store: &ExpressionStore,
+        scopes: &ExprScopes,
+        outermost: usize,
+        id: PatId,
+        assignment: ExprId,
+    ) -> Result<(), CapturesFault>
+        requires there { AreThere store.now.nodes (Task.Target id assignment ∷ self.old.tasks) }
+        ensures reads { OnOk result (Reads store.now scopes.now outermost
+            self.old.found (Task.Target id assignment ∷ self.old.tasks) self.new.found self.new.tasks) }
+        ensures memory { OnErr result (result ≡ Err CapturesFault.Memory) }
+    {
+        store.has_no_fault();
+        kids_fall();
+        self.ask_pat(store, scopes, outermost, id, assignment)?;
+        let pat = &store[id];
+        self.kids.begin(Some(assignment));
         self.kids.meet_pat(pat);
         self.kids.move_to(&mut self.tasks)?;
         Ok(())
@@ -150,9 +205,9 @@ impl Walk {
     {
         match task {
             Task::Expr(id) => self.read_expr(store, scopes, outermost, id),
-            Task::Pat(id) => self.read_pat(store, scopes, outermost, id, None),
+            Task::Pat(id) => self.read_pat(store, id),
             Task::Target(id, assignment) => {
-                self.read_pat(store, scopes, outermost, id, Some(assignment))
+                self.read_target(store, scopes, outermost, id, assignment)
             }
         }
     }
