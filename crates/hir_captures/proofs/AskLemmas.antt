@@ -84,9 +84,9 @@ module _ (n : List ℕ) (h : SyntaxContext) (f : Frame) (fs : Chain) where
   further_in k b e =
       ap (λ (o : Option ScopeEntry). unless_within o (resolve (f ∷ fs) n h)) (first_append n h f.entries (entries_of (take k fs)))
       ∙ at (first_asked n h f.entries) e where
-    at : (o : Option ScopeEntry) → binding_of o ≡ Some b → unless_within (or_else o (resolve (take k fs) n h)) (resolve (f ∷ fs) n h) ≡ None
-    at None e = absurd cc
-    at (Some x) e = refl
+        at : (o : Option ScopeEntry) → binding_of o ≡ Some b → unless_within (or_else o (resolve (take k fs) n h)) (resolve (f ∷ fs) n h) ≡ None
+        at None e = absurd cc
+        at (Some x) e = refl
 
   further_out : (k : ℕ) → binding_of (first_asked n h f.entries) ≡ None → meant_behind k (f ∷ fs) n h ≡ meant_behind (k - 1) fs n h
   further_out k e = at (first_asked n h f.entries) refl k e where
@@ -98,8 +98,8 @@ module _ (n : List ℕ) (h : SyntaxContext) (f : Frame) (fs : Chain) where
         let outer = first_in ∙ ap (λ (o : Option ScopeEntry). or_else o (resolve fs n h)) q in
         ap (λ (o : Option ScopeEntry). unless_within o (resolve (f ∷ fs) n h)) inner ∙ ap (λ (o : Option ScopeEntry). unless_within (resolve (take k fs) n h) o) outer
         ∙ ap (λ (j : ℕ). meant_behind j fs n h) one_less where
-      one_less : k ≡ suc k - 1
-      one_less = omega arith
+          one_less : k ≡ suc k - 1
+          one_less = omega arith
 
 -- what a function tells of the scope that is there
 told : (o : Option Scope) (es : List ScopeEntry) → option_map (λ (x : Scope). x.entries) o ≡ Some es → (s : Scope) × (o ≡ Some s) × (s.entries ≡ es)

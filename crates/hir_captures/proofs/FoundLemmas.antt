@@ -37,11 +37,11 @@ marks_more {X} found marks x v h y =
     ap is_some (map.get-insert nat_cmp_total marks x v y)
     ∙ at (eq_by_cmp nat_cmp y x) (nat_eq x y) (tied y x)
     ∙ sym (list_any-append (λ z. nat_eq z y) found (x ∷ [])) where
-  at : (b c : Bool) → b ≡ c → is_some (cond b (Some v) (map.get marks y)) ≡ (is_listed found y || (c || false))
-  at true true e = sym (or_true (is_listed found y))
-  at true false e = absurd cc
-  at false true e = absurd cc
-  at false false e = h y ∙ sym (or_false (is_listed found y))
+      at : (b c : Bool) → b ≡ c → is_some (cond b (Some v) (map.get marks y)) ≡ (is_listed found y || (c || false))
+      at true true e = sym (or_true (is_listed found y))
+      at true false e = absurd cc
+      at false true e = absurd cc
+      at false false e = h y ∙ sym (or_false (is_listed found y))
 
 pub not_new : (found : List ℕ) (x : ℕ) → is_listed found x ≡ true → with_new found x ≡ found
 not_new found x e = ap (λ b. cond b found (found ++ x ∷ [])) e

@@ -18,14 +18,15 @@ pub puts_two : {u v w : Kids} (cs ds : List Call) → Puts u cs v → Puts v ds 
 puts_two {u} {v} {w} cs ds p q = record {
   assignment = q.assignment ∙ p.assignment;
   items = λ h.
-    let b = q.items h in
-    let a = p.items b.0 in
-    (a.0,
-    b.1
-    ∙ (ap (λ (xs : List Task). xs ++ tasks_of v.assignment ds) a.1
-    ∙ (ap (λ (x : Option ℕ). (u.items.items ++ tasks_of u.assignment cs) ++ tasks_of x ds) p.assignment
-    ∙ (append_assoc u.items.items (tasks_of u.assignment cs) (tasks_of u.assignment ds)
-    ∙ ap (λ (xs : List Task). u.items.items ++ xs) (sym (flat_map-append (task_of u.assignment) cs ds))))));
+      let b = q.items h in
+      let a = p.items b.0 in (
+        a.0,
+        b.1
+            ∙ (ap (λ (xs : List Task). xs ++ tasks_of v.assignment ds) a.1
+            ∙ (ap (λ (x : Option ℕ). (u.items.items ++ tasks_of u.assignment cs) ++ tasks_of x ds) p.assignment
+            ∙ (append_assoc u.items.items (tasks_of u.assignment cs) (tasks_of u.assignment ds)
+            ∙ ap (λ (xs : List Task). u.items.items ++ xs) (sym (flat_map-append (task_of u.assignment) cs ds))))),
+      );
 }
 
 abbrev pub PutsOne : Kids → Call → Kids → Type 0
@@ -71,13 +72,14 @@ goes_on : {u v w : Kids} (all cs rest : List Call) → Goes u all v (cs ++ rest)
 goes_on {u} {v} {w} all cs rest g p = record {
   assignment = p.assignment ∙ g.assignment;
   items = λ h.
-    let b = p.items h in
-    let a = g.items b.0 in
-    (a.0,
-    ap (λ (xs : List Task). xs ++ tasks_of u.assignment rest) b.1
-    ∙ (ap (λ (x : Option ℕ). (v.items.items ++ tasks_of x cs) ++ tasks_of u.assignment rest) g.assignment
-    ∙ (append_assoc v.items.items (tasks_of u.assignment cs) (tasks_of u.assignment rest)
-    ∙ (ap (λ (xs : List Task). v.items.items ++ xs) (sym (flat_map-append (task_of u.assignment) cs rest)) ∙ a.1))));
+      let b = p.items h in
+      let a = g.items b.0 in (
+        a.0,
+        ap (λ (xs : List Task). xs ++ tasks_of u.assignment rest) b.1
+            ∙ (ap (λ (x : Option ℕ). (v.items.items ++ tasks_of x cs) ++ tasks_of u.assignment rest) g.assignment
+            ∙ (append_assoc v.items.items (tasks_of u.assignment cs) (tasks_of u.assignment rest)
+            ∙ (ap (λ (xs : List Task). v.items.items ++ xs) (sym (flat_map-append (task_of u.assignment) cs rest)) ∙ a.1))),
+      );
 }
 
 goes_end : {u v : Kids} (all : List Call) → Goes u all v [] → Puts u all v

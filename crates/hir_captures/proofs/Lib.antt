@@ -3,3 +3,4 @@ mod CodeLemmas
 mod KidLemmas
 mod FoundLemmas
 mod ReadLemmas
+mod Rows

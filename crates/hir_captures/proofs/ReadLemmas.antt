@@ -68,14 +68,14 @@ module _ (c : Contents) (scopes : Scopes) (outermost : ℕ) where
     read_one there found is = record {
       there = subst (AreThere c.nodes) (sym is) (kids_there c.nodes fall (task_node t) (assignment_at c.nodes (task_node t) (task_target t)) rest there.0 there.1);
       finds =
-        ap (with_code c scopes outermost before) code_now
-        ∙ (uses_two before (uses_at c (task_node t) (task_target t)) (flat_map (spot_uses c) (code_of c.nodes put))
-        ∙ (ap (λ (xs : List ℕ). with_code c scopes outermost xs (code_of c.nodes put)) (sym found)
-        ∙ ap (λ (ts : List Task). with_code c scopes outermost after (code_of c.nodes ts)) (sym is)));
+          ap (with_code c scopes outermost before) code_now
+          ∙ (uses_two before (uses_at c (task_node t) (task_target t)) (flat_map (spot_uses c) (code_of c.nodes put))
+          ∙ (ap (λ (xs : List ℕ). with_code c scopes outermost xs (code_of c.nodes put)) (sym found)
+          ∙ ap (λ (ts : List Task). with_code c scopes outermost after (code_of c.nodes ts)) (sym is)));
       shorter =
-        let now = ap (length {A = Spot}) code_now in
-        let left = ap (λ (ts : List Task). length (code_of c.nodes ts)) is in
-        omega (arith, now, left);
+          let now = ap (length {A = Spot}) code_now in
+          let left = ap (λ (ts : List Task). length (code_of c.nodes ts)) is in
+          omega (arith, now, left);
     }
 
   pub read_expr : KidsFall c.nodes → (id : ℕ) (x : Expr) (rest new : List Task) (before after : List ℕ) → slice_get c.nodes.exprs id ≡ Some x → AreThere c.nodes (task.Expr id ∷ rest) →
@@ -116,9 +116,9 @@ are_captures b scopes closure scope found reached chains is e = record {
   chain = chain_in scopes;
   are_chains = chains_are b scopes reached chains;
   are =
-    e
-    ∙ (ap (λ (o : Option ℕ). with_code b.store scopes (length (chain scopes.scopes o)) [] (code_of b.store.nodes (task.Expr closure ∷ []))) (sym is)
-    ∙ ap (with_code b.store scopes (length (chain_in scopes closure)) []) (append-nil (code_under b.store.nodes (node.Expr closure) None)));
+      e
+      ∙ (ap (λ (o : Option ℕ). with_code b.store scopes (length (chain scopes.scopes o)) [] (code_of b.store.nodes (task.Expr closure ∷ []))) (sym is)
+      ∙ ap (with_code b.store scopes (length (chain_in scopes closure)) []) (append-nil (code_under b.store.nodes (node.Expr closure) None)));
 }
 
 pub ruleset reads = (read_expr, read_pat)

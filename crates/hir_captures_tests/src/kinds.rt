@@ -214,10 +214,7 @@ const ROWS: &[Row] = &[
                 Step::Pat(PatStep::Path("a")),
                 LEAF,
                 LEAF,
-                Step::Expr(ExprStep::Block(
-                    None,
-                    &[StatementStep::Let(3, None, Some(1), None)],
-                )),
+                Step::Expr(ExprStep::Block(None, &[StatementStep::Let(3, None, Some(1), None)])),
                 Step::Expr(ExprStep::Match(0, &[(2, None, 2)])),
                 Step::Expr(ExprStep::Closure(3, &[1], None)),
                 Step::Root(4),
@@ -320,10 +317,7 @@ const ROWS: &[Row] = &[
                 BIND_0,
                 A,
                 A,
-                Step::Expr(ExprStep::Block(
-                    Some(1),
-                    &[StatementStep::Let(1, None, Some(0), None)],
-                )),
+                Step::Expr(ExprStep::Block(Some(1), &[StatementStep::Let(1, None, Some(0), None)])),
                 Step::Expr(ExprStep::Closure(2, &[], None)),
                 Step::Root(3),
             ],

@@ -48,7 +48,6 @@ pub fn first_wrong(alloc: Global, rows: &[Row]) -> Result<Option<(&'static str, 
     Ok(None)
 }
 
-
 const ROWS: &[Row] = &[
     (
         "|b| (a, b, a)",

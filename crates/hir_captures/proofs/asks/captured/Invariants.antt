@@ -9,4 +9,4 @@ invariant-loop-scope l =
     (goal.iterator-loop-scope).can_next l.scope-iterator × (goal.iterator-loop-scope).is_finite l.scope-iterator
     × Below (length l.scopes.scopes) l.scope-iterator
     × (meant_behind l.innermost (frames l.scopes.scopes l.scope-iterator) l.name l.hygiene
-      ≡ meant_behind (length (chain l.scopes.scopes (Some l.fn.scope)) - l.outermost) (chain l.scopes.scopes (Some l.fn.scope)) l.name l.hygiene)
+    ≡ meant_behind (length (chain l.scopes.scopes (Some l.fn.scope)) - l.outermost) (chain l.scopes.scopes (Some l.fn.scope)) l.name l.hygiene)

@@ -1,4 +1,4 @@
-use Rattle.std.proofs.Common.{rules, ◌≡◌, ◌∙◌, ap, arith, Some, ℕ, length}
+use Rattle.std.proofs.Common.{◌≡◌, ◌∙◌, ap, arith, Some, ℕ, length}
 use Rattle.hir_scope.specs.Paths.{path}
 use Rattle.hir_captures.proofs.asks.depth.Goals as goal
 

@@ -1,4 +1,4 @@
-use Rattle.std.proofs.Common.{rules, ◌≡◌, ◌∙◌, ap, List, ℕ, ◌∷◌, [], Some, length}
+use Rattle.std.proofs.Common.{◌≡◌, ◌∙◌, ap, List, ℕ, ◌∷◌, [], Some, length}
 use Rattle.hir_expr_store.specs.Contents.{Contents}
 use Rattle.hir_scope.specs.Paths.{chain}
 use Rattle.hir_captures.specs.declared.tasks.Task.{Task}

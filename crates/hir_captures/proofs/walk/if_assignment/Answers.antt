@@ -1,4 +1,4 @@
-use Rattle.std.proofs.Common.{rules, ◌≡◌, sym, ap, Some}
+use Rattle.std.proofs.Common.{sym, ap, Some}
 use Rattle.hir_node.specs.declared.expr.Expr.{Expr}
 use Rattle.hir_captures.specs.Uses.{if_assignment}
 use Rattle.hir_captures.proofs.ReadLemmas.{no_assignment}

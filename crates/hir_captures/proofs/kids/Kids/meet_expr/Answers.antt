@@ -1,4 +1,4 @@
-use Rattle.std.proofs.Common.{rules, ◌≡◌, sym, subst, List, ℕ}
+use Rattle.std.proofs.Common.{sym, subst, List, ℕ}
 use Rattle.std.specs.List.{flat_map}
 use Rattle.hir_node.specs.ChildCalls.{p}
 use Rattle.hir_node.specs.declared.expr.Expr.{Expr}

@@ -1,4 +1,3 @@
-use Rattle.std.proofs.Common.{rules, ◌≡◌, ap}
 use Rattle.std.specs.List.{flat_map}
 use Rattle.hir_captures.specs.Pending.{met_in_statement}
 use Rattle.hir_captures.proofs.KidLemmas.{goes_begin, loop_on, loop_end}

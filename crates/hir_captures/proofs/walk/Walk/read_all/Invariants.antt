@@ -7,7 +7,7 @@ abbrev pub invariant-loop-task : goal.invariant-loop-task
 invariant-loop-task l =
     AreThere l.store.nodes l.self.tasks
     × (with_code l.store l.scopes l.outermost l.initial.self.found (code_of l.store.nodes l.initial.self.tasks)
-      ≡ with_code l.store l.scopes l.outermost l.self.found (code_of l.store.nodes l.self.tasks))
+    ≡ with_code l.store l.scopes l.outermost l.self.found (code_of l.store.nodes l.self.tasks))
 
 abbrev pub decreases-loop-task : goal.decreases-loop-task
 decreases-loop-task l = length (code_of l.store.nodes l.self.tasks)
