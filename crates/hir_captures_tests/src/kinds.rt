@@ -360,6 +360,7 @@ const ROWS: &[Row] = &[
                 Step::Expr(ExprStep::Block(
                     None,
                     &[
+                        StatementStep::Macro(0),
                         StatementStep::Expr(2),
                         StatementStep::Let(2, None, Some(3), Some(4)),
                     ],

@@ -1,9 +1,9 @@
 //! The nodes of the tests, each made of what a step says of it. No builder is lent to what stands here.
 //! Nodes are named by their numbers: the first expression is 0, and so is the first pattern.
-use hir_base::{HygieneId, Idx, ModPath, Name, PathKind, RangeOp, Seq, SyntaxContext};
+use hir_base::{HygieneId, Idx, MacroDefId, ModPath, Name, PathKind, RangeOp, Seq, SyntaxContext};
 use hir_node::{
-    Array, ArrayType, Binding, BindingAnnotation, CaptureBy, ClosureKind, ConstRef, Expr, MatchArm,
-    Pat, Path, Statement, TypeRef, Unsafe,
+    Array, ArrayType, Binding, BindingAnnotation, CaptureBy, ClosureKind, ConstRef, Expr, Item,
+    MatchArm, Pat, Path, Statement, TypeRef, Unsafe,
 };
 use std::alloc::{AllocError, Global};
 
@@ -41,6 +41,8 @@ pub enum StatementStep {
     /// The pattern, the type, the initializer, the else branch.
     Let(u32, Option<u32>, Option<u32>, Option<u32>),
     Expr(u32),
+    /// The definition of the macro of this number.
+    Macro(u32),
 }
 
 /// A pattern.
@@ -119,6 +121,9 @@ fn statement(step: &StatementStep) -> Statement {
             expr: Idx::from_raw(expr),
             has_semi: true,
         },
+        StatementStep::Macro(number) => {
+            Statement::Item(Item::MacroDef(MacroDefId::from_raw(number)))
+        }
     }
 }
 
