@@ -22,7 +22,8 @@ pub(crate) fn asked_name(path: &Path) -> Option<&str>
     match (path.kind(), path.segments()) {
         (PathKind::Plain, [name]) => Some(name.as_str()),
         (PathKind::Super(0), []) => Some("self"),
-        _ => None,
+        (PathKind::Plain | PathKind::Super(_), _) => None,
+        (PathKind::Crate | PathKind::Abs | PathKind::DollarCrate(_), _) => None,
     }
 }
 

@@ -108,30 +108,36 @@ fn arms(alloc: Global, listed: &[(u32, Option<u32>, u32)]) -> Result<Seq<MatchAr
     Ok(list)
 }
 
-/// The statement of this step.
-fn statement(step: &StatementStep) -> Statement {
-    match *step {
-        StatementStep::Let(pat, type_ref, initializer, else_branch) => Statement::Let {
-            pat: Idx::from_raw(pat),
-            type_ref: id(type_ref),
-            initializer: id(initializer),
-            else_branch: id(else_branch),
-        },
-        StatementStep::Expr(expr) => Statement::Expr {
-            expr: Idx::from_raw(expr),
-            has_semi: true,
-        },
-        StatementStep::Macro(number) => {
-            Statement::Item(Item::MacroDef(MacroDefId::from_raw(number)))
+/// A step of a table, which makes a value.
+trait Makes<T> {
+    fn make(&self) -> T;
+}
+
+impl Makes<Statement> for StatementStep {
+    fn make(&self) -> Statement {
+        match *self {
+            StatementStep::Let(pat, type_ref, initializer, else_branch) => Statement::Let {
+                pat: Idx::from_raw(pat),
+                type_ref: id(type_ref),
+                initializer: id(initializer),
+                else_branch: id(else_branch),
+            },
+            StatementStep::Expr(expr) => Statement::Expr {
+                expr: Idx::from_raw(expr),
+                has_semi: true,
+            },
+            StatementStep::Macro(number) => {
+                Statement::Item(Item::MacroDef(MacroDefId::from_raw(number)))
+            }
         }
     }
 }
 
-/// The statements of these steps.
-fn statements(alloc: Global, steps: &[StatementStep]) -> Result<Seq<Statement>, AllocError> {
+/// What these steps make, in their order.
+fn all_made<T: Drop, S: Makes<T>>(alloc: Global, steps: &[S]) -> Result<Seq<T>, AllocError> {
     let mut list = Seq::new(alloc);
     for step in steps {
-        list.push(statement(step))?;
+        list.push(step.make())?;
     }
     Ok(list)
 }
@@ -153,7 +159,7 @@ fn arg_types<T: Copy + Drop>(
 
 /// The block of these parts.
 fn block(alloc: Global, tail: Option<u32>, steps: &[StatementStep]) -> Result<Expr, AllocError> {
-    let statements = statements(alloc, steps)?;
+    let statements = all_made(alloc, steps)?;
     Ok(Expr::Block {
         id: None,
         statements,
