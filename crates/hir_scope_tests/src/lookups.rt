@@ -129,15 +129,41 @@ fn owner_of_fields(number: u32) -> ExpressionStoreOwnerId {
     ExpressionStoreOwnerId::VariantFields(fields_of(number))
 }
 
+type Count = Result<usize, ScopesFault>;
+
+fn in_body(tables: &Tables, alloc: Global, number: u32) -> Count {
+    count(ExprScopes::body_expr_scopes(alloc, tables, body_of(number)))
+}
+
+fn of_body(tables: &Tables, alloc: Global, number: u32) -> Count {
+    count(ExprScopes::of(alloc, tables, body_of(number)))
+}
+
+fn in_signature(tables: &Tables, alloc: Global, number: u32) -> Count {
+    count(ExprScopes::sig_expr_scopes(alloc, tables, signature_of(number)))
+}
+
+fn of_signature(tables: &Tables, alloc: Global, number: u32) -> Count {
+    count(ExprScopes::of(alloc, tables, signature_of(number)))
+}
+
+fn in_fields(tables: &Tables, alloc: Global, number: u32) -> Count {
+    count(ExprScopes::variant_scopes(alloc, tables, fields_of(number)))
+}
+
+fn of_fields(tables: &Tables, alloc: Global, number: u32) -> Count {
+    count(ExprScopes::of(alloc, tables, owner_of_fields(number)))
+}
+
 /// How many scopes the body of the function, the signature of the trait and the fields of the struct of this number have.
-fn counts(tables: &Tables, alloc: Global, number: u32) -> [Result<usize, ScopesFault>; 6] {
+fn counts(tables: &Tables, alloc: Global, number: u32) -> [Count; 6] {
     [
-        count(ExprScopes::body_expr_scopes(alloc, tables, body_of(number))),
-        count(ExprScopes::of(alloc, tables, body_of(number))),
-        count(ExprScopes::sig_expr_scopes(alloc, tables, signature_of(number))),
-        count(ExprScopes::of(alloc, tables, signature_of(number))),
-        count(ExprScopes::variant_scopes(alloc, tables, fields_of(number))),
-        count(ExprScopes::of(alloc, tables, owner_of_fields(number))),
+        in_body(tables, alloc, number),
+        of_body(tables, alloc, number),
+        in_signature(tables, alloc, number),
+        of_signature(tables, alloc, number),
+        in_fields(tables, alloc, number),
+        of_fields(tables, alloc, number),
     ]
 }
 
