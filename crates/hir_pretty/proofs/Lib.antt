@@ -4,3 +4,6 @@ pub mod ArgsItems
 pub mod FallLemmas
 pub mod NodesFall
 pub mod ItemsFall
+pub mod OpenLemmas
+pub mod TurnLemmas
+pub mod PageOfPieces

@@ -9,3 +9,7 @@ pub mod Pats
 pub mod Pieces
 pub mod Falls
 pub mod Settings
+pub mod SameNames
+pub mod Printed
+pub mod Costs
+pub mod Works
