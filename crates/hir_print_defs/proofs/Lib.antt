@@ -1,0 +1,2 @@
+pub mod AddLemmas
+pub mod OtherLemmas
