@@ -59,17 +59,4 @@ left_goes_on {s} {old} {between} {new} {all} {rest} {is} {more} l a e = record {
 pub left_ends : {s : Setting} {old works : List Work} {all rest : List Item} → Left s old all works rest → rest ≡ [] → Adds s old all works
 left_ends {s} {old} {works} {all} {rest} l e = record { meaning = sym (append-nil (meant s works)) ∙ ap (λ xs. meant s works ++ xs) (sym e) ∙ l.same }
 
--- 3. Separators
-
--- the first of a list with separators, what stands behind it, and the rest
-pub joined_step : {X : Type 0} (sep : List Item) (f : X → List Item) (x : X) (xs : List X)
-    → joined sep (map f (x ∷ xs)) ≡ (f x ++ before sep xs) ++ joined sep (map f xs)
-joined_step sep f x [] = sym (append-nil (f x ++ []) ∙ append-nil (f x))
-joined_step sep f x (y ∷ ys) = refl
-
-following_is : (sep : List Item) (xs : List (List Item)) (x : List Item) → x ++ following sep true xs ≡ joined sep (x ∷ xs)
-following_is sep [] x = append-nil x
-following_is sep (y ∷ ys) x = ap (λ zs. x ++ zs) (append_assoc sep y (following sep true ys)) ∙ ap (λ zs. x ++ (sep ++ zs)) (following_is sep ys y)
-    ∙ sym (append_assoc x sep (joined sep (y ∷ ys)))
-
 pub ruleset adding = (adds, adds_none)

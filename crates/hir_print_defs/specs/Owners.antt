@@ -1,6 +1,6 @@
 -- What printing the signature of any definition answers.
 use Rattle.std.specs.Prelude.{◌≡◌, ℕ, false, List, [], ◌∷◌, Option, Some, None, Result, Err, codes}
-use Rattle.std.specs.String.{String}
+use Rattle.std.specs.Prelude.{String}
 use Rattle.std.specs.FinMap as map
 use Rattle.hir_base.specs.declared.defs.AdtId.{AdtId}
 use Rattle.hir_base.specs.declared.defs.AdtId.TheVariants as adt

@@ -1,11 +1,12 @@
 //! Bodies as text.
 #![tactic(auto, using(crate::proofs::AddLemmas::adding))]
 
-ghost use Rattle.std.specs.Prelude.{◌≡◌, ◌++◌, OnOk, map, codes, false};
+ghost use Rattle.std.specs.Prelude.{◌≡◌, ◌++◌, ◌∷◌, OnOk, map, codes, false};
 ghost use Rattle.hir_base.specs.RawWords.{words_of};
 ghost use Rattle.hir_items.specs.Bodies.{formals_of};
 ghost use Rattle.hir_pretty.specs.Settings.{setting};
 ghost use Rattle.hir_pretty.specs.Items.{p, text, comma_joined};
+ghost use Rattle.hir_pretty.specs.Names.{binding_items};
 ghost use Rattle.hir_pretty.specs.Answers.{answers};
 ghost use Rattle.hir_pretty.specs.Printed.{PrintsPieces};
 ghost use Rattle.hir_pretty.specs.Works.{printed};
@@ -32,15 +33,24 @@ fn add_formals(works: &mut Works<'_>, params: &[Param<PatId>]) -> Result<(), All
     Ok(())
 }
 
+/// Adds the binding of `self`, and then the formal patterns.
+fn add_self_first(works: &mut Works<'_>, binding: BindingId, params: &[Param<PatId>]) -> Result<(), AllocError>
+    ensures { OnOk result (AddsAll (listed works.old)
+        (λ s. comma_joined (binding_items s binding ∷ map p (formals_of params.now))) (listed works.new)) }
+{
+    works.add(&[Work::Look(Look::Binding(binding)), before_more(", ", params)])?;
+    add_formals(works, params)
+}
+
 /// Adds the binding of `self`, where there is one, and the formal patterns.
 fn add_all_formals(works: &mut Works<'_>, self_binding: Option<BindingId>, params: &[Param<PatId>]) -> Result<(), AllocError>
     ensures { OnOk result (AddsAll (listed works.old)
         (λ s. comma_joined (formal_params s self_binding (formals_of params.now))) (listed works.new)) }
 {
-    if let Some(binding) = self_binding {
-        works.add(&[Work::Look(Look::Binding(binding)), before_more(", ", params)])?;
+    match self_binding {
+        None => add_formals(works, params),
+        Some(binding) => add_self_first(works, binding, params),
     }
-    add_formals(works, params)
 }
 
 /// Adds the parameters in parentheses.

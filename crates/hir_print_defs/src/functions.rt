@@ -83,7 +83,7 @@ fn add_listed(works: &mut Works<'_>, alloc: Global, places: &[u32], params: &[Ty
 /// Adds the types of arguments, each with `const: ` before it where its place is listed.
 fn add_arguments<'a>(works: &mut Works<'a>, alloc: Global, places: Option<&[u32]>, params: &'a [TypeRefId]) -> Result<(), AllocError>
     ensures { OnOk result (AddsAll (listed works.old)
-        (λ s. arguments (option_map (λ list. list.now) places) params.now) (listed works.new)) }
+        (λ s. arguments (option_map (λ list. list.now) places.entry) params.now) (listed works.new)) }
 {
     match places {
         None => works.add(&[Work::TypePart(TypePart::Joined(params))]),

@@ -1,6 +1,6 @@
 //! Printing a body by calls of the body.
 
-ghost use Rattle.std.specs.Prelude.{◌<◌, ◌≡◌, false, length};
+ghost use Rattle.std.specs.Prelude.{◌<◌, false, length};
 ghost use Rattle.hir_base.specs.RawWords.{words_of};
 ghost use Rattle.hir_node.specs.declared.node_id.NodeId.TheVariants as node;
 ghost use Rattle.hir_items.specs.Bodies.{BodyContents};
