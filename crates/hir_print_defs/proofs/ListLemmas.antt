@@ -2,16 +2,17 @@
 use Rattle.std.proofs.Common.{◌≡◌, ℕ, zero, suc, ◌+◌, ◌-◌, ◌<◌, ◌≤◌, ◌==◌, Bool, true, false, List, [], ◌∷◌, ◌++◌, length, map, take, drop, get_or, Some, None, refl, sym, ap, ap₂, subst, ◌∙◌, append_assoc, append-nil, arith, add-one, codes, take_all, drop-cons}
 use Rattle.std.specs.Prelude.{nat_lt}
 use Rattle.std.specs.List.{enumerate_from, list_any}
-use Rattle.std.proofs.lemmas.Bool.{lt-ltb}
+use Rattle.std.proofs.lemmas.Bool.{lt-ltb, true≢false}
 use Rattle.hir_generics.specs.declared.data.LifetimeParamData.{LifetimeParamData}
+use Rattle.hir_generics.specs.declared.predicate.WherePredicate.{WherePredicate}
 use Rattle.hir_generics.specs.declared.param.TypeOrConstParamData.{TypeOrConstParamData}
 use Rattle.hir_items.specs.declared.formals.Param.{Param}
 use Rattle.hir_items.specs.Bodies.{formals_of}
 use Rattle.hir_pretty.specs.declared.work.Work.{Work}
 use Rattle.hir_pretty.specs.Questions.{Setting}
-use Rattle.hir_pretty.specs.Items.{Item, text, t, p, when, joined, comma_joined}
+use Rattle.hir_pretty.specs.Items.{Item, text, br, into, out, t, p, when, joined, comma_joined}
 use Rattle.hir_print_defs.specs.Added.{meant, Left, before, following, marked_items}
-use Rattle.hir_print_defs.specs.Signatures.{argument_items, is_listed, each_lifetime, each_type_or_const, in_angles}
+use Rattle.hir_print_defs.specs.Signatures.{argument_items, is_listed, each_lifetime, each_type_or_const, in_angles, each_predicate, where_items}
 
 pub left_begins_as : {s : Setting} {old : List Work} {all rest : List Item} → rest ≡ all → Left s old all old rest
 left_begins_as {s} {old} e = record { same = ap (λ xs. meant s old ++ xs) e }
@@ -86,9 +87,14 @@ angles sep front back b xs ys e =
 
 pub some_angles : (s : Setting) (lifetimes : List LifetimeParamData) (types : List TypeOrConstParamData) → (types ≡ [] → lifetimes ≡ [] → ⊥)
     → (let each = each_lifetime s lifetimes ++ each_type_or_const s (enumerate_from 0 types) in text (codes "<") ++ comma_joined each ++ text (codes ">") ≡ in_angles each)
-some_angles s [] [] no = absurd (no refl refl)
-some_angles s [] (y ∷ ys) no = refl
-some_angles s (x ∷ xs) types no = refl
+some_angles s [] [] both = absurd (both refl refl)
+some_angles s [] (y ∷ ys) both = refl
+some_angles s (x ∷ xs) types both = refl
+
+pub some_where : (s : Setting) (predicates : List WherePredicate) (b : Bool) → b ≡ (length predicates == 0) → b ≡ false
+    → text (codes "\nwhere\n") ++ into ++ each_predicate s predicates ++ out ++ br ≡ where_items s predicates
+some_where s [] b e f = absurd (true≢false (sym e ∙ f))
+some_where s (x ∷ xs) b e f = refl
 
 -- 2. Places
 

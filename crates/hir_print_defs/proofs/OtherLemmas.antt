@@ -59,7 +59,7 @@ None≢Some e = absurd (true≢false (ap is_none e))
 pub prints_refused : {Z : Type 0} {s : Setting} {ps : List NodePiece} → PrintsPieces {Z = Z} s ps (Err fault.Memory)
 prints_refused = record { text = tt; missing = λ n e. absurd (None≢Some (ap told e)) }
 
-pub ruleset others = (prints_refused,)
+pub ruleset others = (prints_refused, prints_missing)
 
 -- the pieces written one by one
 ok_of : {E P : Type 0} (r : Result (Unit {0}) E) → MatchResult r (λ _. P) (λ _. Unit {0}) → OnOk r P
