@@ -1,15 +1,13 @@
 -- The text of what isn't printed, and what is missing first.
-use Rattle.std.proofs.Common.{◌≡◌, ℕ, true, false, List, [], ◌∷◌, ◌++◌, Option, Some, None, Result, Ok, Err, codes, refl, sym, ap, ◌∙◌}
+use Rattle.std.proofs.Common.{◌≡◌, ℕ, Bool, true, false, List, [], ◌∷◌, ◌++◌, Option, Some, None, Result, Ok, Err, codes, refl, sym, ap, ◌∙◌}
 
-use Rattle.std.specs.Prelude.{String, string_bytes, is_ok, is_none, MatchResult, OnOk}
-use Rattle.std.specs.Fmt.{decimal}
-use Rattle.std.proofs.lemmas.Result.{on_ok_weaker}
+use Rattle.std.specs.Prelude.{String, string_bytes, is_ok, is_none, IsErr}
 use Rattle.std.proofs.lemmas.Bool.{true≢false}
 use Rattle.std.proofs.lemmas.List.Concat.{flat_map-append}
 use Rattle.hir_expr_store.specs.declared.missing.Missing.{Missing}
 use Rattle.hir_page.specs.Page.{Page, rendered, all_rendered, empty_page, page_text, rendering}
 use Rattle.hir_page.specs.Pieces.{Piece, Text}
-use Rattle.hir_page.specs.Writes.{Writes, written, all_written}
+use Rattle.hir_page.specs.Writes.{Writes, written, refused, all_written}
 use Rattle.hir_page.specs.declared.line_format.LineFormat.TheVariants.{Newline}
 use Rattle.hir_pretty.specs.declared.fault.PrintFault.{PrintFault}
 use Rattle.hir_pretty.specs.declared.fault.PrintFault.TheVariants as fault
@@ -35,13 +33,31 @@ missing_behind (Absent first ∷ ps) m = refl
 pub lacks_behind : (s : Setting) (is : List Item) (m : Missing) → first_missing (printed s (is ++ (Lacks m ∷ []))) ≡ Some (missing_or (first_missing (printed s is)) m)
 lacks_behind s is m = ap first_missing (flat_map-append (item_pieces s (pieces s)) is (Lacks m ∷ [])) ∙ missing_behind (printed s is) m
 
+-- a writer of a page that was led over pieces
+pub page_is : {refuses : Page → Piece → Page → Type 0} {u v : Page} {ps : List Piece} → Writes (λ page piece after. after ≡ rendered piece page) refuses u ps true v → v ≡ all_rendered ps u
+page_is all_written = refl
+page_is {ps = q ∷ ps} (written k more) = page_is more ∙ ap (all_rendered ps) k
+
 -- the text of a definition that isn't printed
-pub other_text : {Z : Type 0} (kind : List ℕ) (id : ℕ) (page : Page) (text : String Z) → page ≡ all_rendered (unimplemented_pieces kind id) (empty_page Newline)
+pub other_text : {Z : Type 0} {refuses : Page → Piece → Page → Type 0} (kind : List ℕ) (id : ℕ) (start page : Page) (text : String Z) → start ≡ empty_page Newline
+    → Writes (λ page piece after. after ≡ rendered piece page) refuses start (unimplemented_pieces kind id) true page
     → string_bytes text ≡ page_text page → PrintsOther kind id (Ok text)
-other_text kind id page text e k s o = record {
-  text = (refl, k ∙ ap page_text e ∙ ap (λ b. rendering (format_of b) (unimplemented_pieces kind id)) (sym o));
+other_text kind id start page text b e k s o = record {
+  text = (refl, k ∙ ap page_text (page_is e ∙ ap (all_rendered (unimplemented_pieces kind id)) b) ∙ ap (λ b. rendering (format_of b) (unimplemented_pieces kind id)) (sym o));
   missing = λ m r. absurd (true≢false (ap is_ok r));
 }
+
+-- what is refused leaves what would follow; what is written whole, and then more; the answer of what was refused
+pub stopped : {W : Type 0} {step refuses : W → Piece → W → Type 0} {u v : W} {q : Piece} (qs : List Piece) → Writes step refuses u (q ∷ []) false v → Writes step refuses u (q ∷ qs) false v
+stopped qs (refused k) = refused k
+
+pub one_then : {W : Type 0} {step refuses : W → Piece → W → Type 0} {u v w : W} {q : Piece} {qs : List Piece} {b : Bool} → Writes step refuses u (q ∷ []) true v → Writes step refuses v qs b w
+    → Writes step refuses u (q ∷ qs) b w
+one_then (written k all_written) more = written k more
+
+pub writes_err : {W A E : Type 0} {step refuses : W → Piece → W → Type 0} {u v : W} {ps : List Piece} (r : Result A E) → IsErr r → Writes step refuses u ps false v → Writes step refuses u ps (is_ok r) v
+writes_err (Ok a) e x = absurd (cc)
+writes_err (Err e) f x = x
 
 -- which definition is missing
 abbrev told : {T : Type 0} → Result T PrintFault → Option Missing
@@ -50,28 +66,13 @@ told (Err (fault.Missing m)) = Some m
 told (Err fault.Memory) = None
 
 -- what is answered of pieces of which one is missing, and where memory was refused
-pub prints_missing : {Z : Type 0} {s : Setting} {ps : List NodePiece} {m : Missing} → first_missing ps ≡ Some m → PrintsPieces {Z = Z} s ps (Err (fault.Missing m))
+pub prints_missing : {Z : Type 0} {s : Setting} {ps : List NodePiece} {m : Missing} → first_missing ps ≡ Some m → PrintsPieces s ps (let answer : Result (String Z) PrintFault = Err (fault.Missing m) in answer)
 prints_missing h = record { text = tt; missing = λ n e. h ∙ ap told e }
 
 None≢Some : {m : Missing} → None ≡ Some m → ⊥
 None≢Some e = absurd (true≢false (ap is_none e))
 
-pub prints_refused : {Z : Type 0} {s : Setting} {ps : List NodePiece} → PrintsPieces {Z = Z} s ps (Err fault.Memory)
+pub prints_refused : {Z : Type 0} {s : Setting} {ps : List NodePiece} → PrintsPieces s ps (let answer : Result (String Z) PrintFault = Err fault.Memory in answer)
 prints_refused = record { text = tt; missing = λ n e. absurd (None≢Some (ap told e)) }
 
-pub ruleset others = (prints_refused, prints_missing)
-
--- the pieces written one by one
-ok_of : {E P : Type 0} (r : Result (Unit {0}) E) → MatchResult r (λ _. P) (λ _. Unit {0}) → OnOk r P
-ok_of (Ok x) m = m
-ok_of (Err e) m = tt
-
-one_written : {W : Type 0} {step refuses : W → Piece → W → Type 0} {u v : W} {q : Piece} → Writes step refuses u (q ∷ []) true v → step u q v
-one_written (written k all_written) = k
-
-pub five_written : {E : Type 0} {refuses : Page → Piece → Page → Type 0} (r : Result (Unit {0}) E) (kind : List ℕ) (id : ℕ) (a b c d e f : Page)
-    → b ≡ rendered (Text (codes "unimplemented ")) a → c ≡ rendered (Text kind) b → d ≡ rendered (Text (codes "(")) c
-    → Writes (λ page piece after. after ≡ rendered piece page) refuses d (Text (decimal id) ∷ []) true e
-    → MatchResult r (λ _. f ≡ rendered (Text (codes ")")) e) (λ _. Unit {0}) → OnOk r (f ≡ all_rendered (unimplemented_pieces kind id) a)
-five_written r kind id a b c d e f g h i j k =
-    on_ok_weaker r (λ l. l ∙ ap (rendered (Text (codes ")"))) (one_written j ∙ ap (rendered (Text (decimal id))) (i ∙ ap (rendered (Text (codes "("))) (h ∙ ap (rendered (Text kind)) g)))) (ok_of r k)
+pub ruleset others = (prints_refused, written, refused, all_written, writes_err)

@@ -1,9 +1,9 @@
 //! Signatures of any definition as text.
 #![tactic(auto, using(crate::proofs::OtherLemmas::others))]
 
-ghost use Rattle.std.specs.Prelude.{◌≡◌, OnOk};
+ghost use Rattle.std.specs.Prelude.{is_ok};
 ghost use Rattle.hir_base.specs.RawWords.{words_of};
-ghost use Rattle.hir_page.specs.Page.{all_rendered};
+ghost use Rattle.hir_page.specs.Writes.{Writes};
 ghost use Rattle.hir_print_defs.specs.Found.{function_found, struct_found};
 ghost use Rattle.hir_print_defs.specs.Owners.{PrintsFunction, PrintsStruct, PrintsOther, PrintsAdt, PrintsSignature};
 ghost use Rattle.hir_print_defs.specs.Added.{unimplemented_pieces};
@@ -17,14 +17,15 @@ use hir_pretty::PrintFault;
 use std::alloc::{AllocError, Global};
 
 /// Writes that the signature of a definition of this kind isn't printed.
-fn write_unimplemented(page: &mut PageBuffer, kind: &str, id: u32) -> Result<(), AllocError>
-    ensures { OnOk result (page.new ≡ all_rendered (unimplemented_pieces kind.now id) page.old) }
+fn write_unimplemented<W: PieceWriter>(writer: &mut W, kind: &str, id: u32) -> Result<(), AllocError>
+    ensures { Writes W.step W.refuses writer.old (unimplemented_pieces kind.now id) (is_ok result) writer.new }
 {
-    page.text("unimplemented ")?;
-    page.text(kind)?;
-    page.text("(")?;
-    write_number(page, id)?;
-    page.text(")")
+    writer.text("unimplemented ")?;
+    writer.text(kind)?;
+    writer.text("(")?;
+    write_number(writer, id)?;
+    writer.text(")")?;
+    Ok(())
 }
 
 /// The text for a definition whose signature isn't printed.
