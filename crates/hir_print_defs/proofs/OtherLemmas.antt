@@ -49,6 +49,7 @@ other_text kind id start page text b e k s o = record {
 
 -- what is refused leaves what would follow; what is written whole, and then more; the answer of what was refused
 pub stopped : {W : Type 0} {step refuses : W → Piece → W → Type 0} {u v : W} {q : Piece} (qs : List Piece) → Writes step refuses u (q ∷ []) false v → Writes step refuses u (q ∷ qs) false v
+stopped qs (written _ more) = elim more [ ]
 stopped qs (refused k) = refused k
 
 pub one_then : {W : Type 0} {step refuses : W → Piece → W → Type 0} {u v w : W} {q : Piece} {qs : List Piece} {b : Bool} → Writes step refuses u (q ∷ []) true v → Writes step refuses v qs b w
