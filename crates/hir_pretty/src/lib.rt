@@ -7,6 +7,7 @@ mod exprs;
 mod fault;
 mod field_pats;
 pub mod laws;
+mod literals;
 mod lookups;
 mod names;
 mod paths;
