@@ -2,6 +2,7 @@
 #![tactic(auto, using(hir_page::proofs::WritesLemmas::writing))]
 
 ghost use Rattle.std.specs.Prelude.{◌∷◌, [], is_ok};
+ghost use Rattle.std.specs.Fmt.{signed_decimal};
 ghost use Rattle.hir_page.specs.Pieces as piece;
 ghost use Rattle.hir_page.specs.Writes.{Writes};
 ghost use Rattle.hir_pretty.specs.Items.{text};
@@ -24,22 +25,33 @@ pub(crate) fn write_literal<W: PieceWriter>(writer: &mut W, literal: &Literal) -
         Literal::CString(bytes) => write_c_string_literal(writer, bytes.as_slice()),
         Literal::Char(c) => write_char_literal(writer, *c),
         Literal::Bool(b) => write_bool(writer, *b),
-        Literal::Int(number, None) => write_number(writer, *number),
-        Literal::Int(number, Some(suffix)) => {
-            write_number(writer, *number)?;
-            write_text(writer, suffix.as_str())
-        }
+        Literal::Int(number, None) => write_int(writer, *number),
+        Literal::Int(number, Some(suffix)) => write_suffixed_int(writer, *number, suffix.as_str()),
         Literal::Uint(number, None) => write_number(writer, *number),
         Literal::Uint(number, Some(suffix)) => {
             write_number(writer, *number)?;
             write_text(writer, suffix.as_str())
         }
-        Literal::Float(number, None) => write_text(writer, ""),
+        Literal::Float(number, None) => write_text(writer, number.as_str()),
         Literal::Float(number, Some(suffix)) => {
-            write_text(writer, "")?;
+            write_text(writer, number.as_str())?;
             write_text(writer, suffix.as_str())
         }
     }
+}
+
+fn write_int<W: PieceWriter>(writer: &mut W, number: i128) -> Result<(), AllocError>
+    ensures { Writes W.step W.refuses writer.old (piece.Text (signed_decimal number) ∷ []) (is_ok result) writer.new }
+{
+    write_number(writer, number)
+}
+
+fn write_suffixed_int<W: PieceWriter>(writer: &mut W, number: i128, suffix: &str) -> Result<(), AllocError>
+    ensures { Writes W.step W.refuses writer.old (piece.Text (signed_decimal number) ∷ piece.Text suffix.now ∷ [])
+        (is_ok result) writer.new }
+{
+    write_int(writer, number)?;
+    write_text(writer, suffix)
 }
 
 fn write_text<W: PieceWriter>(writer: &mut W, shown: &str) -> Result<(), AllocError>

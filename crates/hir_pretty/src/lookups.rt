@@ -4,7 +4,7 @@
 ghost use Rattle.std.specs.Prelude.{◌≡◌, ◌∷◌, [], ◌++◌, List, ℕ, Bool, Ok, OnOk, codes, Some};
 ghost use Rattle.std.specs.Option.{option_copied};
 ghost use Rattle.hir_pretty.specs.Questions.{Setting};
-ghost use Rattle.hir_pretty.specs.Names.{lifetime_items, label_items, binding_items, of_binding, annotation_text, param_items, l};
+ghost use Rattle.hir_pretty.specs.Names.{lifetime_items, label_items, binding_items, of_binding, annotation_text, name_items, param_items, l};
 ghost use Rattle.hir_pretty.specs.Paths.{found_name};
 ghost use Rattle.hir_pretty.specs.Types.{type_param_items};
 ghost use Rattle.hir_pretty.specs.Exprs.{printed_body, coroutine_body};
@@ -14,7 +14,7 @@ use crate::definitions::Definitions;
 use crate::work::{Look, Stack, Work};
 use hir_base::{CrateId, LifetimeParamId, Name, NamedDef, Text, TypeParamId};
 use hir_expr_store::ExpressionStore;
-use hir_node::{Binding, BindingAnnotation, BindingId, ClosureKind, Expr, ExprId, LabelId, LifetimeRef, LifetimeRefId};
+use hir_node::{Binding, BindingAnnotation, BindingId, ClosureKind, Expr, ExprId, Label, LabelId, LifetimeRef, LifetimeRefId};
 use std::alloc::AllocError;
 
 /// A name of the tables as it stands, or a default.
@@ -95,11 +95,17 @@ fn open_lifetime<'a>(stack: &mut Stack<'a>, store: &'a ExpressionStore, id: Life
     Ok(())
 }
 
+fn open_of_label<'a>(stack: &mut Stack<'a>, label: &'a Label) -> Result<(), AllocError>
+    ensures { OnOk result ((s : Setting) → Opens s (listed stack.old) (name_items s label.now.name) 5 (listed stack.new)) }
+{
+    stack.push(&mut [Work::Name(label.name.as_str())])
+}
+
 fn open_label<'a>(stack: &mut Stack<'a>, store: &'a ExpressionStore, id: LabelId) -> Result<(), AllocError>
     ensures { OnOk result (OpensInStore store.now (listed stack.old) (λ s. label_items s id) 5 (listed stack.new)) }
 {
     if store.has_label(id) {
-        stack.push(&mut [Work::Name(store[id].name.as_str())])?;
+        open_of_label(stack, &store[id])?;
         return Ok(());
     }
     Ok(())

@@ -38,9 +38,11 @@ fn open_raw<'a>(stack: &mut Stack<'a>, words: &[Text], name: &'a str) -> Result<
     ensures { OnOk result ((s : Setting) → Opens s (listed stack.old) (flat_map text (raw_parts words.now name.now)) 3 (listed stack.new)) }
 {
     if is_word(words, name) {
-        return stack.push(&mut [Work::Text("r#"), Work::Text(name)]);
+        stack.push(&mut [Work::Text("r#"), Work::Text(name)])?;
+        return Ok(());
     }
-    stack.push(&mut [Work::Text(name)])
+    stack.push(&mut [Work::Text(name)])?;
+    Ok(())
 }
 
 fn open_quoted<'a>(stack: &mut Stack<'a>, words: &[Text], name: &'a str, rest: &'a str) -> Result<(), AllocError>
@@ -48,10 +50,12 @@ fn open_quoted<'a>(stack: &mut Stack<'a>, words: &[Text], name: &'a str, rest: &
     ensures { OnOk result (OpensNamed words.now (listed stack.old) (λ s. name_items s name.now) 4 (listed stack.new)) }
 {
     if rest == "static" {
-        return stack.push(&mut [Work::Text(name)]);
+        stack.push(&mut [Work::Text(name)])?;
+        return Ok(());
     }
     open_raw(stack, words, rest)?;
-    stack.push(&mut [Work::Text("'")])
+    stack.push(&mut [Work::Text("'")])?;
+    Ok(())
 }
 
 /// Puts the parts of a name on the stack.
