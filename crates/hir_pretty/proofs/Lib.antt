@@ -7,3 +7,5 @@ pub mod ItemsFall
 pub mod OpenLemmas
 pub mod TurnLemmas
 pub mod PageOfPieces
+pub mod AnswerLemmas
+pub mod NameLemmas

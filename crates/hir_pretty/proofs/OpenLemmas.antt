@@ -1,11 +1,14 @@
 -- What a stack stands for after works were put on it.
-use Rattle.std.proofs.Common.{◌≡◌, ℕ, ◌+◌, ◌<◌, ◌≤◌, List, [], ◌∷◌, ◌++◌, refl, sym, ap, ◌∙◌, arith, append_assoc, append-nil}
+use Rattle.std.proofs.Common.{◌≡◌, ℕ, ◌+◌, ◌<◌, ◌≤◌, List, [], ◌∷◌, ◌++◌, refl, sym, ap, ◌∙◌, arith, append_assoc, append-nil, Option, Some, None, Bool, true, false, length, subst, inl, inr, slice_get}
+use Rattle.std.specs.Bool.{IsTrue}
+use Rattle.std.proofs.lemmas.Bool.{cases_lt}
+use Rattle.std.proofs.lemmas.Option.{slice_get_past}
 use Rattle.std.specs.List.{flat_map}
 use Rattle.std.proofs.lemmas.List.Concat.{flat_map-append}
 use Rattle.hir_pretty.specs.declared.work.Work.{Work}
 use Rattle.hir_pretty.specs.Questions.{Setting}
-use Rattle.hir_pretty.specs.Items.{Item}
-use Rattle.hir_pretty.specs.Costs.{total}
+use Rattle.hir_pretty.specs.Items.{Item, opt}
+use Rattle.hir_pretty.specs.Costs.{total, opt_cost}
 use Rattle.hir_pretty.specs.Works.{stands_for, pending, stood, stood_after, work_cost, Pushes, Opens}
 
 pub total-append : {X : Type 0} (f : X → ℕ) (xs ys : List X) → total f (xs ++ ys) ≡ total f xs + total f ys
@@ -43,5 +46,26 @@ opens_before {s} {works} {old} {between} {new} {is} {whole} {cost} {most} o p e 
 -- the same items in other words
 pub opens_as : {s : Setting} {old new : List Work} {is others : List Item} {cost more : ℕ} → Opens s old is cost new → is ≡ others → cost ≤ more → Opens s old others more new
 opens_as {s} {old} {new} {is} {others} {cost} {more} o e c = record { stands = o.stands ∙ ap (λ xs. xs ++ pending s old) e; costs = let h = o.costs in omega arith }
+
+-- what is found, and what isn't
+pub opens_at : {X : Type 0} (items : Setting → X → List Item) (cost : X → ℕ) (found : Option X) (x : X) (s : Setting) {old new : List Work} → found ≡ Some x
+    → Opens s old (items s x) (1 + cost x) new → Opens s old (opt (items s) found) (1 + opt_cost cost found) new
+opens_at items cost found x s {old} {new} e o = subst (λ y. Opens s old (opt (items s) y) (1 + opt_cost cost y) new) (sym e) o
+
+pub opens_absent : {X : Type 0} (items : Setting → X → List Item) (cost : X → ℕ) (found : Option X) (s : Setting) {old : List Work} → found ≡ None → Opens s old (opt (items s) found) (1 + opt_cost cost found) old
+opens_absent items cost found s {old} e = subst (λ y. Opens s old (opt (items s) y) (1 + opt_cost cost y) old) (sym e) (opens_none refl (omega arith))
+
+pub opens_found : {X : Type 0} (items : Setting → X → List Item) (found : Option X) (x : X) (s : Setting) (cost : ℕ) {old new : List Work} → found ≡ Some x
+    → Opens s old (items s x) cost new → Opens s old (opt (items s) found) cost new
+opens_found items found x s cost {old} {new} e o = subst (λ y. Opens s old (opt (items s) y) cost new) (sym e) o
+
+pub opens_lost : {X : Type 0} (items : Setting → X → List Item) (found : Option X) (s : Setting) (cost : ℕ) {old : List Work} → found ≡ None → 0 < cost → Opens s old (opt (items s) found) cost old
+opens_lost items found s cost {old} e c = subst (λ y. Opens s old (opt (items s) y) cost old) (sym e) (opens_none refl c)
+
+pub not_there : {X : Type 0} (xs : List X) (id : ℕ) (b : Bool) → (IsTrue b → id < length xs) × (id < length xs → IsTrue b) → b ≡ false → slice_get xs id ≡ None
+not_there xs id b k e = elim (cases_lt id (length xs)) [
+  | inl h ↦ absurd (let yes : b ≡ true = k.1 h in let bad : false ≡ true = sym e ∙ yes in grind arith)
+  | inr h ↦ slice_get_past xs id h
+]
 
 pub ruleset opening = (opens, opens_none)

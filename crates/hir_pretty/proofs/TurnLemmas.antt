@@ -9,6 +9,7 @@ use Rattle.hir_node.specs.declared.node_id.NodeId.{NodeId}
 use Rattle.hir_node.specs.declared.node_id.NodeId.TheVariants as node
 use Rattle.hir_faults.specs.Down.{rank, value_within, value}
 use Rattle.hir_page.specs.Pieces.{Piece, Text}
+use Rattle.hir_page.specs.Literals.{string_literal, char_literal, bytes_literal, c_string_literal}
 use Rattle.hir_page.specs.Writes.{Writes, all_written}
 use Rattle.hir_page.specs.Writes as writes
 use Rattle.hir_pretty.specs.declared.fault.PrintFault.{PrintFault}
@@ -81,10 +82,10 @@ all_put [] = tt
 all_put (piece ∷ ps) = all_put ps
 
 literal_put : (x : Literal) → AllPut (literal_items x)
-literal_put (literal.String text) = all_put _
-literal_put (literal.ByteString bytes) = all_put _
-literal_put (literal.CString bytes) = all_put _
-literal_put (literal.Char c) = all_put _
+literal_put (literal.String text) = all_put (string_literal text)
+literal_put (literal.ByteString bytes) = all_put (bytes_literal bytes)
+literal_put (literal.CString bytes) = all_put (c_string_literal bytes)
+literal_put (literal.Char c) = all_put (char_literal c)
 literal_put (literal.Bool b) = tt
 literal_put (literal.Int n None) = tt
 literal_put (literal.Int n (Some suffix)) = tt
@@ -97,9 +98,29 @@ pub pieces_put : (ps : List Piece) → put_pieces (map Put ps) ≡ ps
 pieces_put [] = refl
 pieces_put (piece ∷ ps) = ap (λ qs. piece ∷ qs) (pieces_put ps)
 
+literal_printed : (s : Setting) (x : Literal) (rest : List Item) → map Layout (put_pieces (literal_items x)) ++ printed s rest ≡ printed s (literal_items x ++ rest)
+literal_printed s x rest = ap (λ ps. ps ++ printed s rest) (sym (put_printed s (literal_items x) (literal_put x))) ∙ sym (printed-append s (literal_items x) rest)
+
+put_weight : (s : Setting) (is : List Item) → AllPut is → total (item_weight (weight s)) is ≡ 0
+put_weight s [] a = refl
+put_weight s (Put piece ∷ is) a = omega (arith, put_weight s is a)
+put_weight s (Lacks missing ∷ is) a = absurd a
+put_weight s (Whole id ∷ is) a = absurd a
+put_weight s (Under id parent ∷ is) a = absurd a
+put_weight s (Pattern id ∷ is) a = absurd a
+put_weight s (TypeItem id ∷ is) a = absurd a
+
+enclosed_printed : (s : Setting) (b : Bool) (id : ℕ) → printed s (enclosed b id) ≡ parenthesized b (pieces s (node.Expr id)) ++ []
+enclosed_printed s false id = refl
+enclosed_printed s true id = sym (append-nil (Layout (Text (codes "(")) ∷ (pieces s (node.Expr id) ++ (Layout (Text (codes ")")) ∷ []))))
+
+enclosed_weight : (s : Setting) (b : Bool) (id : ℕ) → total (item_weight (weight s)) (enclosed b id) ≡ weight s (node.Expr id) + 0
+enclosed_weight s false id = refl
+enclosed_weight s true id = omega arith
+
 -- 3. Turns
 
-module _ {W : Type 0} {step refuses : W → Piece → W → Type 0} {s : Setting} where
+module _ {W : Type 0} {step refuses : W → Piece → W → Type 0} where
   -- pieces that a writer was led over
   on_written : {u v : W} {ps : List Piece} → Writes step refuses u ps true v → (rest : List NodePiece) (f : Option PrintFault) (last : W) → Prints step refuses v rest f last → Prints step refuses u (map Layout ps ++ rest) f last
   on_written all_written rest f last r = r
@@ -109,6 +130,13 @@ module _ {W : Type 0} {step refuses : W → Piece → W → Type 0} {s : Setting
   on_refused (writes.written q k) rest = written q (on_refused k rest)
   on_refused (writes.refused q) rest = refused q
 
+  pub refused_number : {bytes : List ℕ} {u v : W} (rest : List NodePiece) → Writes step refuses u (Text bytes ∷ []) false v → Prints step refuses u (Layout (Text bytes) ∷ rest) (Some fault.Memory) v
+  refused_number rest k = on_refused k rest
+
+  pub refused_literal : (s : Setting) (x : Literal) (old : List Item) {u v : W} → Writes step refuses u (put_pieces (literal_items x)) false v → Prints step refuses u (printed s (literal_items x ++ old)) (Some fault.Memory) v
+  refused_literal s x old {u} {v} k = subst (λ ps. Prints step refuses u ps (Some fault.Memory) v) (literal_printed s x old) (on_refused k (printed s old))
+
+module _ {W : Type 0} {step refuses : W → Piece → W → Type 0} {s : Setting} where
   -- a part gives way to its items
   pub turned_part : {is : List Item} {cost : ℕ} {old new : List Work} {u : W} → Opens s old is cost new → Turned step refuses s is cost old u new u
   turned_part {is} {cost} {old} {new} {u} o = record {
@@ -130,62 +158,32 @@ module _ {W : Type 0} {step refuses : W → Piece → W → Type 0} {s : Setting
       }
 
   -- a node gives way to its items
-  pub turned_whole : {id : ℕ} {old new : List Work} {u : W} → ItemsFall s → Opens s old (items_of s (node.Expr id)) (1 + node_cost s.nodes (node.Expr id)) new → Turned step refuses s (e id) 1 old u new u
+  pub turned_whole : {id : ℕ} {old new : List Work} {u : W} → ItemsFall s → Opens s old (items_of s (node.Expr id)) (1 + node_cost s.nodes (node.Expr id)) new → Turned step refuses s (Whole id ∷ []) 1 old u new u
   turned_whole {id} fall o = turned_as o (sym (pieces_at s fall (node.Expr id)) ∙ sym (append-nil (pieces s (node.Expr id)))) (let w = weight_at s fall (node.Expr id) in omega arith)
 
-  pub turned_pattern : {id : ℕ} {old new : List Work} {u : W} → ItemsFall s → Opens s old (items_of s (node.Pat id)) (1 + node_cost s.nodes (node.Pat id)) new → Turned step refuses s (p id) 1 old u new u
+  pub turned_pattern : {id : ℕ} {old new : List Work} {u : W} → ItemsFall s → Opens s old (items_of s (node.Pat id)) (1 + node_cost s.nodes (node.Pat id)) new → Turned step refuses s (Pattern id ∷ []) 1 old u new u
   turned_pattern {id} fall o = turned_as o (sym (pieces_at s fall (node.Pat id)) ∙ sym (append-nil (pieces s (node.Pat id)))) (let w = weight_at s fall (node.Pat id) in omega arith)
 
-  pub turned_type : {id : ℕ} {old new : List Work} {u : W} → ItemsFall s → Opens s old (items_of s (node.TypeRef id)) (1 + node_cost s.nodes (node.TypeRef id)) new → Turned step refuses s (t id) 1 old u new u
+  pub turned_type : {id : ℕ} {old new : List Work} {u : W} → ItemsFall s → Opens s old (items_of s (node.TypeRef id)) (1 + node_cost s.nodes (node.TypeRef id)) new → Turned step refuses s (TypeItem id ∷ []) 1 old u new u
   turned_type {id} fall o = turned_as o (sym (pieces_at s fall (node.TypeRef id)) ∙ sym (append-nil (pieces s (node.TypeRef id)))) (let w = weight_at s fall (node.TypeRef id) in omega arith)
 
-  enclosed_printed : (b : Bool) (id : ℕ) → printed s (enclosed b id) ≡ parenthesized b (pieces s (node.Expr id)) ++ []
-  enclosed_printed false id = refl
-  enclosed_printed true id = sym (append-nil _)
-
-  enclosed_weight : (b : Bool) (id : ℕ) → total (item_weight (weight s)) (enclosed b id) ≡ weight s (node.Expr id) + 0
-  enclosed_weight false id = refl
-  enclosed_weight true id = omega arith
-
   pub turned_under : {id : ℕ} {parent : ExprPrecedence} {old new : List Work} {u : W} → Opens s old (enclosed (stands_in_parentheses (precedence_found (slice_get s.nodes.exprs id)) parent) id) 5 new
-      → Turned step refuses s (under parent id) 5 old u new u
+      → Turned step refuses s (Under id parent ∷ []) 5 old u new u
   turned_under {id} {parent} o =
       let b = stands_in_parentheses (precedence_found (slice_get s.nodes.exprs id)) parent in
-      turned_as o (enclosed_printed b id) (let w = enclosed_weight b id in omega arith)
+      turned_as o (enclosed_printed s b id) (let w = enclosed_weight s b id in omega arith)
 
   -- a piece, and what a writer was led over
   pub turned_piece : {q : Piece} {old : List Work} {u v : W} → step u q v → Turned step refuses s (Put q ∷ []) 1 old u old v
   turned_piece {q} {old} {u} {v} k = record { leads = λ f last r. written k r; less = omega arith }
 
-  pub turned_number : {bytes : List ℕ} {old : List Work} {u v : W} → Writes step refuses u (Text bytes ∷ []) true v → Turned step refuses s (text bytes) 1 old u old v
+  pub turned_number : {bytes : List ℕ} {old : List Work} {u v : W} → Writes step refuses u (Text bytes ∷ []) true v → Turned step refuses s (Put (Text bytes) ∷ []) 1 old u old v
   turned_number {bytes} {old} k = record { leads = λ f last r. on_written k (printed s (pending s old)) f last r; less = omega arith }
 
-  put_weight : (is : List Item) → AllPut is → total (item_weight (weight s)) is ≡ 0
-  put_weight [] a = refl
-  put_weight (Put piece ∷ is) a = omega (arith, put_weight is a)
-  put_weight (Lacks missing ∷ is) a = absurd a
-  put_weight (Whole id ∷ is) a = absurd a
-  put_weight (Under id parent ∷ is) a = absurd a
-  put_weight (Pattern id ∷ is) a = absurd a
-  put_weight (TypeItem id ∷ is) a = absurd a
-
-  literal_printed : (x : Literal) (rest : List Item) → map Layout (put_pieces (literal_items x)) ++ printed s rest ≡ printed s (literal_items x ++ rest)
-  literal_printed x rest = ap (λ ps. ps ++ printed s rest) (sym (put_printed s (literal_items x) (literal_put x))) ∙ sym (printed-append s (literal_items x) rest)
-
-  pub turned_literal : {x : Literal} {old : List Work} {u v : W} → Writes step refuses u (put_pieces (literal_items x)) true v → Turned step refuses s (literal_items x) 1 old u old v
-  turned_literal {x} {old} {u} k = record {
-    leads = λ f last r. subst (λ ps. Prints step refuses u ps f last) (literal_printed x (pending s old)) (on_written k (printed s (pending s old)) f last r);
-    less = let W = item_weight (weight s) in let w = total-append W (literal_items x) (pending s old) in let z = put_weight (literal_items x) (literal_put x) in omega arith;
+  pub turned_literal : (x : Literal) {old : List Work} {u v : W} → Writes step refuses u (put_pieces (literal_items x)) true v → Turned step refuses s (literal_items x) 1 old u old v
+  turned_literal x {old} {u} k = record {
+    leads = λ f last r. subst (λ ps. Prints step refuses u ps f last) (literal_printed s x (pending s old)) (on_written k (printed s (pending s old)) f last r);
+    less = let W = item_weight (weight s) in let w = total-append W (literal_items x) (pending s old) in let z = put_weight s (literal_items x) (literal_put x) in omega arith;
   }
 
-  -- a refusal
-  pub refused_piece : {q : Piece} {old : List Work} {u v : W} → refuses u q v → Prints step refuses u (printed s ((Put q ∷ []) ++ pending s old)) (Some fault.Memory) v
-  refused_piece k = refused k
-
-  pub refused_number : {bytes : List ℕ} {old : List Work} {u v : W} → Writes step refuses u (Text bytes ∷ []) false v → Prints step refuses u (printed s (text bytes ++ pending s old)) (Some fault.Memory) v
-  refused_number {bytes} {old} k = on_refused k (printed s (pending s old))
-
-  pub refused_literal : {x : Literal} {old : List Work} {u v : W} → Writes step refuses u (put_pieces (literal_items x)) false v → Prints step refuses u (printed s (literal_items x ++ pending s old)) (Some fault.Memory) v
-  refused_literal {x} {old} {u} {v} k = subst (λ ps. Prints step refuses u ps (Some fault.Memory) v) (literal_printed x (pending s old)) (on_refused k (printed s (pending s old)))
-
-pub ruleset turns = (no_room, absent, turned_part, turned_piece, turned_whole, turned_pattern, turned_type, turned_under, turned_number, turned_literal, refused_piece, refused_number, refused_literal)
+pub ruleset turns = (no_room, absent, refused, turned_part, turned_piece, turned_whole, turned_pattern, turned_type, turned_under, turned_number)

@@ -13,3 +13,4 @@ pub mod SameNames
 pub mod Printed
 pub mod Costs
 pub mod Works
+pub mod Answers

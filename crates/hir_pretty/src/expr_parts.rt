@@ -1,21 +1,20 @@
 //! The parts of expressions, put on the stack of what is still to be printed.
 #![tactic(auto, using(crate::proofs::OpenLemmas::opening))]
 
-ghost use Rattle.std.specs.Prelude.{◌≡◌, ◌+◌, ◌*◌, ◌++◌, [], Err, OnOk, OnErr, length, codes};
+ghost use Rattle.std.specs.Prelude.{◌≡◌, ◌+◌, ◌*◌, ◌++◌, [], OnOk, length, codes};
 ghost use Rattle.std.specs.List.{flat_map};
 ghost use Rattle.hir_pretty.specs.Questions.{Setting};
 ghost use Rattle.hir_pretty.specs.Items.{e, text, opt, comma_joined};
 ghost use Rattle.hir_pretty.specs.Exprs.{labelled, to_label, operand, arguments, each_line, arm_items, field_items, spread_items, statement_items, header, params};
 ghost use Rattle.hir_pretty.specs.Works.{listed, Opens, expr_part_items, expr_part_cost};
 
-use crate::fault::PrintFault;
 use crate::work::{ExprPart, Look, Stack, TypePart, Work};
 use hir_base::ExprPrecedence;
 use hir_node::{ClosureKind, ExprId, LabelId, MatchArm, PatId, RecordLitField, RecordSpread, Statement, TypeRefId};
+use std::alloc::AllocError;
 
-fn open_after<'a>(stack: &mut Stack<'a>, before: &'a str, expr: Option<ExprId>) -> Result<(), PrintFault>
-    ensures ok { OnOk result ((s : Setting) → Opens s (listed stack.old) (opt (λ id. text before.now ++ e id) expr) (3) (listed stack.new)) }
-    ensures memory { OnErr result (result ≡ Err PrintFault.Memory) }
+fn open_after<'a>(stack: &mut Stack<'a>, before: &'a str, expr: Option<ExprId>) -> Result<(), AllocError>
+    ensures { OnOk result ((s : Setting) → Opens s (listed stack.old) (opt (λ id. text before.now ++ e id) expr) (3) (listed stack.new)) }
 {
     match expr {
         None => Ok(()),
@@ -23,9 +22,8 @@ fn open_after<'a>(stack: &mut Stack<'a>, before: &'a str, expr: Option<ExprId>) 
     }
 }
 
-fn open_tail(stack: &mut Stack<'_>, expr: Option<ExprId>) -> Result<(), PrintFault>
-    ensures ok { OnOk result ((s : Setting) → Opens s (listed stack.old) (opt e expr) (2) (listed stack.new)) }
-    ensures memory { OnErr result (result ≡ Err PrintFault.Memory) }
+fn open_tail(stack: &mut Stack<'_>, expr: Option<ExprId>) -> Result<(), AllocError>
+    ensures { OnOk result ((s : Setting) → Opens s (listed stack.old) (opt e expr) (2) (listed stack.new)) }
 {
     match expr {
         None => Ok(()),
@@ -33,9 +31,8 @@ fn open_tail(stack: &mut Stack<'_>, expr: Option<ExprId>) -> Result<(), PrintFau
     }
 }
 
-fn open_labelled(stack: &mut Stack<'_>, label: Option<LabelId>) -> Result<(), PrintFault>
-    ensures ok { OnOk result ((s : Setting) → Opens s (listed stack.old) (labelled s label) (7) (listed stack.new)) }
-    ensures memory { OnErr result (result ≡ Err PrintFault.Memory) }
+fn open_labelled(stack: &mut Stack<'_>, label: Option<LabelId>) -> Result<(), AllocError>
+    ensures { OnOk result ((s : Setting) → Opens s (listed stack.old) (labelled s label) (7) (listed stack.new)) }
 {
     match label {
         None => Ok(()),
@@ -43,9 +40,8 @@ fn open_labelled(stack: &mut Stack<'_>, label: Option<LabelId>) -> Result<(), Pr
     }
 }
 
-fn open_to_label(stack: &mut Stack<'_>, label: Option<LabelId>) -> Result<(), PrintFault>
-    ensures ok { OnOk result ((s : Setting) → Opens s (listed stack.old) (to_label s label) (7) (listed stack.new)) }
-    ensures memory { OnErr result (result ≡ Err PrintFault.Memory) }
+fn open_to_label(stack: &mut Stack<'_>, label: Option<LabelId>) -> Result<(), AllocError>
+    ensures { OnOk result ((s : Setting) → Opens s (listed stack.old) (to_label s label) (7) (listed stack.new)) }
 {
     match label {
         None => Ok(()),
@@ -53,9 +49,8 @@ fn open_to_label(stack: &mut Stack<'_>, label: Option<LabelId>) -> Result<(), Pr
     }
 }
 
-fn open_operand(stack: &mut Stack<'_>, expr: Option<ExprId>) -> Result<(), PrintFault>
-    ensures ok { OnOk result ((s : Setting) → Opens s (listed stack.old) (operand expr) (7) (listed stack.new)) }
-    ensures memory { OnErr result (result ≡ Err PrintFault.Memory) }
+fn open_operand(stack: &mut Stack<'_>, expr: Option<ExprId>) -> Result<(), AllocError>
+    ensures { OnOk result ((s : Setting) → Opens s (listed stack.old) (operand expr) (7) (listed stack.new)) }
 {
     match expr {
         None => Ok(()),
@@ -63,9 +58,8 @@ fn open_operand(stack: &mut Stack<'_>, expr: Option<ExprId>) -> Result<(), Print
     }
 }
 
-fn open_arguments<'a>(stack: &mut Stack<'a>, args: &'a [ExprId]) -> Result<(), PrintFault>
-    ensures ok { OnOk result ((s : Setting) → Opens s (listed stack.old) (arguments args.now) (6 + 4 * length args.now) (listed stack.new)) }
-    ensures memory { OnErr result (result ≡ Err PrintFault.Memory) }
+fn open_arguments<'a>(stack: &mut Stack<'a>, args: &'a [ExprId]) -> Result<(), AllocError>
+    ensures { OnOk result ((s : Setting) → Opens s (listed stack.old) (arguments args.now) (6 + 4 * length args.now) (listed stack.new)) }
 {
     match args {
         [] => stack.push(&mut [Work::Text("("), Work::Text(")")]),
@@ -79,9 +73,8 @@ fn open_arguments<'a>(stack: &mut Stack<'a>, args: &'a [ExprId]) -> Result<(), P
     }
 }
 
-fn open_arg_lines<'a>(stack: &mut Stack<'a>, args: &'a [ExprId]) -> Result<(), PrintFault>
-    ensures ok { OnOk result ((s : Setting) → Opens s (listed stack.old) (each_line args.now) (1 + 4 * length args.now) (listed stack.new)) }
-    ensures memory { OnErr result (result ≡ Err PrintFault.Memory) }
+fn open_arg_lines<'a>(stack: &mut Stack<'a>, args: &'a [ExprId]) -> Result<(), AllocError>
+    ensures { OnOk result ((s : Setting) → Opens s (listed stack.old) (each_line args.now) (1 + 4 * length args.now) (listed stack.new)) }
 {
     match args {
         [] => Ok(()),
@@ -94,9 +87,8 @@ fn open_arg_lines<'a>(stack: &mut Stack<'a>, args: &'a [ExprId]) -> Result<(), P
     }
 }
 
-fn open_elements<'a>(stack: &mut Stack<'a>, exprs: &'a [ExprId]) -> Result<(), PrintFault>
-    ensures ok { OnOk result ((s : Setting) → Opens s (listed stack.old) (flat_map (λ id. e id ++ text (codes ", ")) exprs.now) (1 + 3 * length exprs.now) (listed stack.new)) }
-    ensures memory { OnErr result (result ≡ Err PrintFault.Memory) }
+fn open_elements<'a>(stack: &mut Stack<'a>, exprs: &'a [ExprId]) -> Result<(), AllocError>
+    ensures { OnOk result ((s : Setting) → Opens s (listed stack.old) (flat_map (λ id. e id ++ text (codes ", ")) exprs.now) (1 + 3 * length exprs.now) (listed stack.new)) }
 {
     match exprs {
         [] => Ok(()),
@@ -108,9 +100,8 @@ fn open_elements<'a>(stack: &mut Stack<'a>, exprs: &'a [ExprId]) -> Result<(), P
     }
 }
 
-fn open_arms<'a>(stack: &mut Stack<'a>, arms: &'a [MatchArm]) -> Result<(), PrintFault>
-    ensures ok { OnOk result ((s : Setting) → Opens s (listed stack.old) (flat_map arm_items arms.now) (1 + 9 * length arms.now) (listed stack.new)) }
-    ensures memory { OnErr result (result ≡ Err PrintFault.Memory) }
+fn open_arms<'a>(stack: &mut Stack<'a>, arms: &'a [MatchArm]) -> Result<(), AllocError>
+    ensures { OnOk result ((s : Setting) → Opens s (listed stack.old) (flat_map arm_items arms.now) (1 + 9 * length arms.now) (listed stack.new)) }
 {
     match arms {
         [] => Ok(()),
@@ -126,9 +117,8 @@ fn open_arms<'a>(stack: &mut Stack<'a>, arms: &'a [MatchArm]) -> Result<(), Prin
     }
 }
 
-fn open_fields<'a>(stack: &mut Stack<'a>, fields: &'a [RecordLitField]) -> Result<(), PrintFault>
-    ensures ok { OnOk result ((s : Setting) → Opens s (listed stack.old) (flat_map (field_items s) fields.now) (1 + 9 * length fields.now) (listed stack.new)) }
-    ensures memory { OnErr result (result ≡ Err PrintFault.Memory) }
+fn open_fields<'a>(stack: &mut Stack<'a>, fields: &'a [RecordLitField]) -> Result<(), AllocError>
+    ensures { OnOk result ((s : Setting) → Opens s (listed stack.old) (flat_map (field_items s) fields.now) (1 + 9 * length fields.now) (listed stack.new)) }
 {
     match fields {
         [] => Ok(()),
@@ -143,9 +133,8 @@ fn open_fields<'a>(stack: &mut Stack<'a>, fields: &'a [RecordLitField]) -> Resul
     }
 }
 
-fn open_spread(stack: &mut Stack<'_>, spread: RecordSpread) -> Result<(), PrintFault>
-    ensures ok { OnOk result ((s : Setting) → Opens s (listed stack.old) (spread_items spread) (4) (listed stack.new)) }
-    ensures memory { OnErr result (result ≡ Err PrintFault.Memory) }
+fn open_spread(stack: &mut Stack<'_>, spread: RecordSpread) -> Result<(), AllocError>
+    ensures { OnOk result ((s : Setting) → Opens s (listed stack.old) (spread_items spread) (4) (listed stack.new)) }
 {
     match spread {
         RecordSpread::None => Ok(()),
@@ -158,9 +147,8 @@ fn open_spread(stack: &mut Stack<'_>, spread: RecordSpread) -> Result<(), PrintF
     }
 }
 
-fn open_statements<'a>(stack: &mut Stack<'a>, statements: &'a [Statement]) -> Result<(), PrintFault>
-    ensures ok { OnOk result ((s : Setting) → Opens s (listed stack.old) (flat_map statement_items statements.now) (1 + 14 * length statements.now) (listed stack.new)) }
-    ensures memory { OnErr result (result ≡ Err PrintFault.Memory) }
+fn open_statements<'a>(stack: &mut Stack<'a>, statements: &'a [Statement]) -> Result<(), AllocError>
+    ensures { OnOk result ((s : Setting) → Opens s (listed stack.old) (flat_map statement_items statements.now) (1 + 14 * length statements.now) (listed stack.new)) }
 {
     match statements {
         [] => Ok(()),
@@ -168,9 +156,8 @@ fn open_statements<'a>(stack: &mut Stack<'a>, statements: &'a [Statement]) -> Re
     }
 }
 
-fn open_statement<'a>(stack: &mut Stack<'a>, first: &'a Statement, rest: &'a [Statement]) -> Result<(), PrintFault>
-    ensures ok { OnOk result ((s : Setting) → Opens s (listed stack.old) (statement_items first.now ++ flat_map statement_items rest.now) (15 + 14 * length rest.now) (listed stack.new)) }
-    ensures memory { OnErr result (result ≡ Err PrintFault.Memory) }
+fn open_statement<'a>(stack: &mut Stack<'a>, first: &'a Statement, rest: &'a [Statement]) -> Result<(), AllocError>
+    ensures { OnOk result ((s : Setting) → Opens s (listed stack.old) (statement_items first.now ++ flat_map statement_items rest.now) (15 + 14 * length rest.now) (listed stack.new)) }
 {
     match first {
         Statement::Let {
@@ -198,9 +185,8 @@ fn open_statement<'a>(stack: &mut Stack<'a>, first: &'a Statement, rest: &'a [St
     }
 }
 
-fn open_bars<'a>(stack: &mut Stack<'a>, args: &'a [PatId], types: &'a [Option<TypeRefId>], ret: Option<TypeRefId>) -> Result<(), PrintFault>
-    ensures ok { OnOk result ((s : Setting) → Opens s (listed stack.old) (header ClosureKind.Closure (params args.now types.now) ret) (8 + 6 * length args.now) (listed stack.new)) }
-    ensures memory { OnErr result (result ≡ Err PrintFault.Memory) }
+fn open_bars<'a>(stack: &mut Stack<'a>, args: &'a [PatId], types: &'a [Option<TypeRefId>], ret: Option<TypeRefId>) -> Result<(), AllocError>
+    ensures { OnOk result ((s : Setting) → Opens s (listed stack.old) (header ClosureKind.Closure (params args.now types.now) ret) (8 + 6 * length args.now) (listed stack.new)) }
 {
     stack.push(&mut [
         Work::Text("|"),
@@ -211,9 +197,8 @@ fn open_bars<'a>(stack: &mut Stack<'a>, args: &'a [PatId], types: &'a [Option<Ty
     ])
 }
 
-fn open_header<'a>(stack: &mut Stack<'a>, kind: ClosureKind, args: &'a [PatId], types: &'a [Option<TypeRefId>], ret: Option<TypeRefId>) -> Result<(), PrintFault>
-    ensures ok { OnOk result ((s : Setting) → Opens s (listed stack.old) (header kind (params args.now types.now) ret) (8 + 6 * length args.now) (listed stack.new)) }
-    ensures memory { OnErr result (result ≡ Err PrintFault.Memory) }
+fn open_header<'a>(stack: &mut Stack<'a>, kind: ClosureKind, args: &'a [PatId], types: &'a [Option<TypeRefId>], ret: Option<TypeRefId>) -> Result<(), AllocError>
+    ensures { OnOk result ((s : Setting) → Opens s (listed stack.old) (header kind (params args.now types.now) ret) (8 + 6 * length args.now) (listed stack.new)) }
 {
     match kind {
         ClosureKind::Closure => open_bars(stack, args, types, ret),
@@ -223,9 +208,8 @@ fn open_header<'a>(stack: &mut Stack<'a>, kind: ClosureKind, args: &'a [PatId], 
     }
 }
 
-fn open_params<'a>(stack: &mut Stack<'a>, args: &'a [PatId], types: &'a [Option<TypeRefId>]) -> Result<(), PrintFault>
-    ensures ok { OnOk result ((s : Setting) → Opens s (listed stack.old) (comma_joined (params args.now types.now)) (1 + 6 * length args.now) (listed stack.new)) }
-    ensures memory { OnErr result (result ≡ Err PrintFault.Memory) }
+fn open_params<'a>(stack: &mut Stack<'a>, args: &'a [PatId], types: &'a [Option<TypeRefId>]) -> Result<(), AllocError>
+    ensures { OnOk result ((s : Setting) → Opens s (listed stack.old) (comma_joined (params args.now types.now)) (1 + 6 * length args.now) (listed stack.new)) }
 {
     match (args, types) {
         ([], _) => Ok(()),
@@ -248,9 +232,8 @@ fn open_params<'a>(stack: &mut Stack<'a>, args: &'a [PatId], types: &'a [Option<
 }
 
 /// Puts the items of a part of an expression on the stack.
-pub(crate) fn open_expr_part<'a>(stack: &mut Stack<'a>, part: &ExprPart<'a>) -> Result<(), PrintFault>
-    ensures ok { OnOk result ((s : Setting) → Opens s (listed stack.old) (expr_part_items s part.now) (expr_part_cost part.now) (listed stack.new)) }
-    ensures memory { OnErr result (result ≡ Err PrintFault.Memory) }
+pub(crate) fn open_expr_part<'a>(stack: &mut Stack<'a>, part: &ExprPart<'a>) -> Result<(), AllocError>
+    ensures { OnOk result ((s : Setting) → Opens s (listed stack.old) (expr_part_items s part.now) (expr_part_cost part.now) (listed stack.new)) }
 {
     match part {
         ExprPart::After(before, expr) => open_after(stack, *before, *expr),

@@ -1,24 +1,23 @@
 //! Expressions, put on the stack of what is still to be printed, part by part.
 #![tactic(auto, using(crate::proofs::OpenLemmas::opening))]
 
-ghost use Rattle.std.specs.Prelude.{◌≡◌, ◌+◌, ◌*◌, ◌++◌, Err, OnOk, OnErr, length, codes};
+ghost use Rattle.std.specs.Prelude.{◌≡◌, ◌+◌, ◌*◌, ◌++◌, OnOk, length, codes};
 ghost use Rattle.hir_pretty.specs.Questions.{Setting};
 ghost use Rattle.hir_pretty.specs.Items.{e, sp, text, under, when};
 ghost use Rattle.hir_pretty.specs.Exprs.{labelled, operand, raw_keyword, operator_items, array_items, unsafe_items, inside_block, coroutine_keyword, movability_keyword, closure_head, capture_keyword, expr_items};
 ghost use Rattle.hir_pretty.specs.Costs.{args_cost, path_cost, opt_cost, expr_cost};
 ghost use Rattle.hir_pretty.specs.Works.{listed, Opens};
 
-use crate::fault::PrintFault;
 use crate::work::{ExprPart, Look, PathPart, Stack, Work};
 use hir_base::{BinaryOp, ExprPrecedence, Name, UnaryOp};
 use hir_node::{
     Array, Boxed, CaptureBy, ClosureKind, CoroutineKind, Expr, ExprId, GenericArgs, LabelId, MatchArm, Movability, Mutability, PatId, Path,
     Rawness, RecordLitField, RecordSpread, Statement, TypeRefId, Unsafe,
 };
+use std::alloc::AllocError;
 
-fn open_offset_of<'a>(stack: &mut Stack<'a>, container: TypeRefId, fields: &'a [Name]) -> Result<(), PrintFault>
-    ensures ok { OnOk result ((s : Setting) → Opens s (listed stack.old) (expr_items s (Expr.OffsetOf record { container = container; fields = fields.now })) (21 + 6 * length fields.now) (listed stack.new)) }
-    ensures memory { OnErr result (result ≡ Err PrintFault.Memory) }
+fn open_offset_of<'a>(stack: &mut Stack<'a>, container: TypeRefId, fields: &'a [Name]) -> Result<(), AllocError>
+    ensures { OnOk result ((s : Setting) → Opens s (listed stack.old) (expr_items s (Expr.OffsetOf record { container = container; fields = fields.now })) (21 + 6 * length fields.now) (listed stack.new)) }
 {
     stack.push(&mut [
         Work::Text("builtin#offset_of("),
@@ -29,9 +28,8 @@ fn open_offset_of<'a>(stack: &mut Stack<'a>, container: TypeRefId, fields: &'a [
     ])
 }
 
-fn open_if(stack: &mut Stack<'_>, condition: ExprId, then_branch: ExprId, else_branch: Option<ExprId>) -> Result<(), PrintFault>
-    ensures ok { OnOk result ((s : Setting) → Opens s (listed stack.old) (expr_items s (Expr.If condition then_branch else_branch)) (21) (listed stack.new)) }
-    ensures memory { OnErr result (result ≡ Err PrintFault.Memory) }
+fn open_if(stack: &mut Stack<'_>, condition: ExprId, then_branch: ExprId, else_branch: Option<ExprId>) -> Result<(), AllocError>
+    ensures { OnOk result ((s : Setting) → Opens s (listed stack.old) (expr_items s (Expr.If condition then_branch else_branch)) (21) (listed stack.new)) }
 {
     stack.push(&mut [
         Work::Text("if "),
@@ -42,9 +40,8 @@ fn open_if(stack: &mut Stack<'_>, condition: ExprId, then_branch: ExprId, else_b
     ])
 }
 
-fn open_let(stack: &mut Stack<'_>, pat: PatId, expr: ExprId) -> Result<(), PrintFault>
-    ensures ok { OnOk result ((s : Setting) → Opens s (listed stack.old) (expr_items s (Expr.Let pat expr)) (21) (listed stack.new)) }
-    ensures memory { OnErr result (result ≡ Err PrintFault.Memory) }
+fn open_let(stack: &mut Stack<'_>, pat: PatId, expr: ExprId) -> Result<(), AllocError>
+    ensures { OnOk result ((s : Setting) → Opens s (listed stack.old) (expr_items s (Expr.Let pat expr)) (21) (listed stack.new)) }
 {
     stack.push(&mut [
         Work::Text("let "),
@@ -54,9 +51,8 @@ fn open_let(stack: &mut Stack<'_>, pat: PatId, expr: ExprId) -> Result<(), Print
     ])
 }
 
-fn open_loop(stack: &mut Stack<'_>, body: ExprId, label: Option<LabelId>) -> Result<(), PrintFault>
-    ensures ok { OnOk result ((s : Setting) → Opens s (listed stack.old) (labelled s label ++ text (codes "loop ") ++ e body) (21) (listed stack.new)) }
-    ensures memory { OnErr result (result ≡ Err PrintFault.Memory) }
+fn open_loop(stack: &mut Stack<'_>, body: ExprId, label: Option<LabelId>) -> Result<(), AllocError>
+    ensures { OnOk result ((s : Setting) → Opens s (listed stack.old) (labelled s label ++ text (codes "loop ") ++ e body) (21) (listed stack.new)) }
 {
     stack.push(&mut [
         Work::Expr(ExprPart::Labelled(label)),
@@ -65,9 +61,8 @@ fn open_loop(stack: &mut Stack<'_>, body: ExprId, label: Option<LabelId>) -> Res
     ])
 }
 
-fn open_call<'a>(stack: &mut Stack<'a>, callee: ExprId, args: &'a [ExprId]) -> Result<(), PrintFault>
-    ensures ok { OnOk result ((s : Setting) → Opens s (listed stack.old) (expr_items s (Expr.Call callee args.now)) (21 + 4 * length args.now) (listed stack.new)) }
-    ensures memory { OnErr result (result ≡ Err PrintFault.Memory) }
+fn open_call<'a>(stack: &mut Stack<'a>, callee: ExprId, args: &'a [ExprId]) -> Result<(), AllocError>
+    ensures { OnOk result ((s : Setting) → Opens s (listed stack.old) (expr_items s (Expr.Call callee args.now)) (21 + 4 * length args.now) (listed stack.new)) }
 {
     stack.push(&mut [
         Work::Under(callee, ExprPrecedence::Postfix),
@@ -75,9 +70,8 @@ fn open_call<'a>(stack: &mut Stack<'a>, callee: ExprId, args: &'a [ExprId]) -> R
     ])
 }
 
-fn open_method_call<'a>(stack: &mut Stack<'a>, receiver: ExprId, name: &'a Name, args: &'a [ExprId], generic_args: &'a Option<Boxed<GenericArgs>>) -> Result<(), PrintFault>
-    ensures ok { OnOk result ((s : Setting) → Opens s (listed stack.old) (expr_items s (Expr.MethodCall receiver name.now args.now generic_args.now)) (21 + 4 * length args.now + opt_cost args_cost generic_args.now) (listed stack.new)) }
-    ensures memory { OnErr result (result ≡ Err PrintFault.Memory) }
+fn open_method_call<'a>(stack: &mut Stack<'a>, receiver: ExprId, name: &'a Name, args: &'a [ExprId], generic_args: &'a Option<Boxed<GenericArgs>>) -> Result<(), AllocError>
+    ensures { OnOk result ((s : Setting) → Opens s (listed stack.old) (expr_items s (Expr.MethodCall receiver name.now args.now generic_args.now)) (21 + 4 * length args.now + opt_cost args_cost generic_args.now) (listed stack.new)) }
 {
     match generic_args {
         None => stack.push(&mut [
@@ -96,9 +90,8 @@ fn open_method_call<'a>(stack: &mut Stack<'a>, receiver: ExprId, name: &'a Name,
     }
 }
 
-fn open_match<'a>(stack: &mut Stack<'a>, expr: ExprId, arms: &'a [MatchArm]) -> Result<(), PrintFault>
-    ensures ok { OnOk result ((s : Setting) → Opens s (listed stack.old) (expr_items s (Expr.Match expr arms.now)) (21 + 9 * length arms.now) (listed stack.new)) }
-    ensures memory { OnErr result (result ≡ Err PrintFault.Memory) }
+fn open_match<'a>(stack: &mut Stack<'a>, expr: ExprId, arms: &'a [MatchArm]) -> Result<(), AllocError>
+    ensures { OnOk result ((s : Setting) → Opens s (listed stack.old) (expr_items s (Expr.Match expr arms.now)) (21 + 9 * length arms.now) (listed stack.new)) }
 {
     stack.push(&mut [
         Work::Text("match "),
@@ -112,9 +105,8 @@ fn open_match<'a>(stack: &mut Stack<'a>, expr: ExprId, arms: &'a [MatchArm]) -> 
     ])
 }
 
-fn open_continue(stack: &mut Stack<'_>, label: Option<LabelId>) -> Result<(), PrintFault>
-    ensures ok { OnOk result ((s : Setting) → Opens s (listed stack.old) (expr_items s (Expr.Continue label)) (21) (listed stack.new)) }
-    ensures memory { OnErr result (result ≡ Err PrintFault.Memory) }
+fn open_continue(stack: &mut Stack<'_>, label: Option<LabelId>) -> Result<(), AllocError>
+    ensures { OnOk result ((s : Setting) → Opens s (listed stack.old) (expr_items s (Expr.Continue label)) (21) (listed stack.new)) }
 {
     stack.push(&mut [
         Work::Text("continue"),
@@ -122,9 +114,8 @@ fn open_continue(stack: &mut Stack<'_>, label: Option<LabelId>) -> Result<(), Pr
     ])
 }
 
-fn open_break(stack: &mut Stack<'_>, expr: Option<ExprId>, label: Option<LabelId>) -> Result<(), PrintFault>
-    ensures ok { OnOk result ((s : Setting) → Opens s (listed stack.old) (expr_items s (Expr.Break expr label)) (21) (listed stack.new)) }
-    ensures memory { OnErr result (result ≡ Err PrintFault.Memory) }
+fn open_break(stack: &mut Stack<'_>, expr: Option<ExprId>, label: Option<LabelId>) -> Result<(), AllocError>
+    ensures { OnOk result ((s : Setting) → Opens s (listed stack.old) (expr_items s (Expr.Break expr label)) (21) (listed stack.new)) }
 {
     stack.push(&mut [
         Work::Text("break"),
@@ -133,9 +124,8 @@ fn open_break(stack: &mut Stack<'_>, expr: Option<ExprId>, label: Option<LabelId
     ])
 }
 
-fn open_keyword<'a>(stack: &mut Stack<'a>, keyword: &'a str, expr: Option<ExprId>) -> Result<(), PrintFault>
-    ensures ok { OnOk result ((s : Setting) → Opens s (listed stack.old) (text keyword.now ++ operand expr) (21) (listed stack.new)) }
-    ensures memory { OnErr result (result ≡ Err PrintFault.Memory) }
+fn open_keyword<'a>(stack: &mut Stack<'a>, keyword: &'a str, expr: Option<ExprId>) -> Result<(), AllocError>
+    ensures { OnOk result ((s : Setting) → Opens s (listed stack.old) (text keyword.now ++ operand expr) (21) (listed stack.new)) }
 {
     stack.push(&mut [
         Work::Text(keyword),
@@ -143,9 +133,8 @@ fn open_keyword<'a>(stack: &mut Stack<'a>, keyword: &'a str, expr: Option<ExprId
     ])
 }
 
-fn open_yeet(stack: &mut Stack<'_>, expr: Option<ExprId>) -> Result<(), PrintFault>
-    ensures ok { OnOk result ((s : Setting) → Opens s (listed stack.old) (expr_items s (Expr.Yeet expr)) (21) (listed stack.new)) }
-    ensures memory { OnErr result (result ≡ Err PrintFault.Memory) }
+fn open_yeet(stack: &mut Stack<'_>, expr: Option<ExprId>) -> Result<(), AllocError>
+    ensures { OnOk result ((s : Setting) → Opens s (listed stack.old) (expr_items s (Expr.Yeet expr)) (21) (listed stack.new)) }
 {
     stack.push(&mut [
         Work::Text("do"),
@@ -155,9 +144,8 @@ fn open_yeet(stack: &mut Stack<'_>, expr: Option<ExprId>) -> Result<(), PrintFau
     ])
 }
 
-fn open_record_lit<'a>(stack: &mut Stack<'a>, path: &'a Path, fields: &'a [RecordLitField], spread: RecordSpread) -> Result<(), PrintFault>
-    ensures ok { OnOk result ((s : Setting) → Opens s (listed stack.old) (expr_items s (Expr.RecordLit path.now fields.now spread)) (21 + 9 * length fields.now + path_cost path.now) (listed stack.new)) }
-    ensures memory { OnErr result (result ≡ Err PrintFault.Memory) }
+fn open_record_lit<'a>(stack: &mut Stack<'a>, path: &'a Path, fields: &'a [RecordLitField], spread: RecordSpread) -> Result<(), AllocError>
+    ensures { OnOk result ((s : Setting) → Opens s (listed stack.old) (expr_items s (Expr.RecordLit path.now fields.now spread)) (21 + 9 * length fields.now + path_cost path.now) (listed stack.new)) }
 {
     stack.push(&mut [
         Work::Path(PathPart::Whole(path)),
@@ -170,9 +158,8 @@ fn open_record_lit<'a>(stack: &mut Stack<'a>, path: &'a Path, fields: &'a [Recor
     ])
 }
 
-fn open_field<'a>(stack: &mut Stack<'a>, expr: ExprId, name: &'a Name) -> Result<(), PrintFault>
-    ensures ok { OnOk result ((s : Setting) → Opens s (listed stack.old) (expr_items s (Expr.Field expr name.now)) (21) (listed stack.new)) }
-    ensures memory { OnErr result (result ≡ Err PrintFault.Memory) }
+fn open_field<'a>(stack: &mut Stack<'a>, expr: ExprId, name: &'a Name) -> Result<(), AllocError>
+    ensures { OnOk result ((s : Setting) → Opens s (listed stack.old) (expr_items s (Expr.Field expr name.now)) (21) (listed stack.new)) }
 {
     stack.push(&mut [
         Work::Under(expr, ExprPrecedence::Postfix),
@@ -181,9 +168,8 @@ fn open_field<'a>(stack: &mut Stack<'a>, expr: ExprId, name: &'a Name) -> Result
     ])
 }
 
-fn open_await(stack: &mut Stack<'_>, expr: ExprId) -> Result<(), PrintFault>
-    ensures ok { OnOk result ((s : Setting) → Opens s (listed stack.old) (expr_items s (Expr.Await expr)) (21) (listed stack.new)) }
-    ensures memory { OnErr result (result ≡ Err PrintFault.Memory) }
+fn open_await(stack: &mut Stack<'_>, expr: ExprId) -> Result<(), AllocError>
+    ensures { OnOk result ((s : Setting) → Opens s (listed stack.old) (expr_items s (Expr.Await expr)) (21) (listed stack.new)) }
 {
     stack.push(&mut [
         Work::Under(expr, ExprPrecedence::Postfix),
@@ -191,9 +177,8 @@ fn open_await(stack: &mut Stack<'_>, expr: ExprId) -> Result<(), PrintFault>
     ])
 }
 
-fn open_cast(stack: &mut Stack<'_>, expr: ExprId, type_ref: TypeRefId) -> Result<(), PrintFault>
-    ensures ok { OnOk result ((s : Setting) → Opens s (listed stack.old) (expr_items s (Expr.Cast expr type_ref)) (21) (listed stack.new)) }
-    ensures memory { OnErr result (result ≡ Err PrintFault.Memory) }
+fn open_cast(stack: &mut Stack<'_>, expr: ExprId, type_ref: TypeRefId) -> Result<(), AllocError>
+    ensures { OnOk result ((s : Setting) → Opens s (listed stack.old) (expr_items s (Expr.Cast expr type_ref)) (21) (listed stack.new)) }
 {
     stack.push(&mut [
         Work::Under(expr, ExprPrecedence::Cast),
@@ -211,9 +196,8 @@ fn raw_keyword(rawness: Rawness) -> &'static str
     }
 }
 
-fn open_ref(stack: &mut Stack<'_>, expr: ExprId, rawness: Rawness, mutability: Mutability) -> Result<(), PrintFault>
-    ensures ok { OnOk result ((s : Setting) → Opens s (listed stack.old) (expr_items s (Expr.Ref expr rawness mutability)) (21) (listed stack.new)) }
-    ensures memory { OnErr result (result ≡ Err PrintFault.Memory) }
+fn open_ref(stack: &mut Stack<'_>, expr: ExprId, rawness: Rawness, mutability: Mutability) -> Result<(), AllocError>
+    ensures { OnOk result ((s : Setting) → Opens s (listed stack.old) (expr_items s (Expr.Ref expr rawness mutability)) (21) (listed stack.new)) }
 {
     stack.push(&mut [
         Work::Text("&"),
@@ -223,9 +207,8 @@ fn open_ref(stack: &mut Stack<'_>, expr: ExprId, rawness: Rawness, mutability: M
     ])
 }
 
-fn open_unary(stack: &mut Stack<'_>, expr: ExprId, op: UnaryOp) -> Result<(), PrintFault>
-    ensures ok { OnOk result ((s : Setting) → Opens s (listed stack.old) (expr_items s (Expr.UnaryOp expr op)) (21) (listed stack.new)) }
-    ensures memory { OnErr result (result ≡ Err PrintFault.Memory) }
+fn open_unary(stack: &mut Stack<'_>, expr: ExprId, op: UnaryOp) -> Result<(), AllocError>
+    ensures { OnOk result ((s : Setting) → Opens s (listed stack.old) (expr_items s (Expr.UnaryOp expr op)) (21) (listed stack.new)) }
 {
     stack.push(&mut [
         Work::Text(op.as_str()),
@@ -243,9 +226,8 @@ fn operator_text(op: Option<BinaryOp>) -> &'static str
     }
 }
 
-fn open_binary(stack: &mut Stack<'_>, lhs: ExprId, rhs: ExprId, op: Option<BinaryOp>, own: ExprPrecedence) -> Result<(), PrintFault>
-    ensures ok { OnOk result ((s : Setting) → Opens s (listed stack.old) (under own lhs ++ sp ++ operator_items op ++ sp ++ under own rhs) (21) (listed stack.new)) }
-    ensures memory { OnErr result (result ≡ Err PrintFault.Memory) }
+fn open_binary(stack: &mut Stack<'_>, lhs: ExprId, rhs: ExprId, op: Option<BinaryOp>, own: ExprPrecedence) -> Result<(), AllocError>
+    ensures { OnOk result ((s : Setting) → Opens s (listed stack.old) (under own lhs ++ sp ++ operator_items op ++ sp ++ under own rhs) (21) (listed stack.new)) }
 {
     stack.push(&mut [
         Work::Under(lhs, own),
@@ -256,9 +238,8 @@ fn open_binary(stack: &mut Stack<'_>, lhs: ExprId, rhs: ExprId, op: Option<Binar
     ])
 }
 
-fn open_index(stack: &mut Stack<'_>, base: ExprId, index: ExprId) -> Result<(), PrintFault>
-    ensures ok { OnOk result ((s : Setting) → Opens s (listed stack.old) (expr_items s (Expr.Index base index)) (21) (listed stack.new)) }
-    ensures memory { OnErr result (result ≡ Err PrintFault.Memory) }
+fn open_index(stack: &mut Stack<'_>, base: ExprId, index: ExprId) -> Result<(), AllocError>
+    ensures { OnOk result ((s : Setting) → Opens s (listed stack.old) (expr_items s (Expr.Index base index)) (21) (listed stack.new)) }
 {
     stack.push(&mut [
         Work::Under(base, ExprPrecedence::Postfix),
@@ -268,9 +249,8 @@ fn open_index(stack: &mut Stack<'_>, base: ExprId, index: ExprId) -> Result<(), 
     ])
 }
 
-fn open_tuple<'a>(stack: &mut Stack<'a>, exprs: &'a [ExprId]) -> Result<(), PrintFault>
-    ensures ok { OnOk result ((s : Setting) → Opens s (listed stack.old) (expr_items s (Expr.Tuple exprs.now)) (21 + 3 * length exprs.now) (listed stack.new)) }
-    ensures memory { OnErr result (result ≡ Err PrintFault.Memory) }
+fn open_tuple<'a>(stack: &mut Stack<'a>, exprs: &'a [ExprId]) -> Result<(), AllocError>
+    ensures { OnOk result ((s : Setting) → Opens s (listed stack.old) (expr_items s (Expr.Tuple exprs.now)) (21 + 3 * length exprs.now) (listed stack.new)) }
 {
     stack.push(&mut [
         Work::Text("("),
@@ -279,9 +259,8 @@ fn open_tuple<'a>(stack: &mut Stack<'a>, exprs: &'a [ExprId]) -> Result<(), Prin
     ])
 }
 
-fn open_list<'a>(stack: &mut Stack<'a>, elements: &'a [ExprId]) -> Result<(), PrintFault>
-    ensures ok { OnOk result ((s : Setting) → Opens s (listed stack.old) (array_items (Array.ElementList elements.now)) (21 + 3 * length elements.now) (listed stack.new)) }
-    ensures memory { OnErr result (result ≡ Err PrintFault.Memory) }
+fn open_list<'a>(stack: &mut Stack<'a>, elements: &'a [ExprId]) -> Result<(), AllocError>
+    ensures { OnOk result ((s : Setting) → Opens s (listed stack.old) (array_items (Array.ElementList elements.now)) (21 + 3 * length elements.now) (listed stack.new)) }
 {
     match elements {
         [] => stack.push(&mut [Work::Text("[]")]),
@@ -296,9 +275,8 @@ fn open_list<'a>(stack: &mut Stack<'a>, elements: &'a [ExprId]) -> Result<(), Pr
     }
 }
 
-fn open_repeat(stack: &mut Stack<'_>, initializer: ExprId, repeat: ExprId) -> Result<(), PrintFault>
-    ensures ok { OnOk result ((s : Setting) → Opens s (listed stack.old) (array_items (Array.Repeat initializer repeat)) (21) (listed stack.new)) }
-    ensures memory { OnErr result (result ≡ Err PrintFault.Memory) }
+fn open_repeat(stack: &mut Stack<'_>, initializer: ExprId, repeat: ExprId) -> Result<(), AllocError>
+    ensures { OnOk result ((s : Setting) → Opens s (listed stack.old) (array_items (Array.Repeat initializer repeat)) (21) (listed stack.new)) }
 {
     stack.push(&mut [
         Work::Text("["),
@@ -312,9 +290,8 @@ fn open_repeat(stack: &mut Stack<'_>, initializer: ExprId, repeat: ExprId) -> Re
     ])
 }
 
-fn open_array<'a>(stack: &mut Stack<'a>, array: &'a Array) -> Result<(), PrintFault>
-    ensures ok { OnOk result ((s : Setting) → Opens s (listed stack.old) (expr_items s (Expr.Array array.now)) (1 + expr_cost (Expr.Array array.now)) (listed stack.new)) }
-    ensures memory { OnErr result (result ≡ Err PrintFault.Memory) }
+fn open_array<'a>(stack: &mut Stack<'a>, array: &'a Array) -> Result<(), AllocError>
+    ensures { OnOk result ((s : Setting) → Opens s (listed stack.old) (expr_items s (Expr.Array array.now)) (1 + expr_cost (Expr.Array array.now)) (listed stack.new)) }
 {
     match array {
         Array::ElementList { elements } => open_list(stack, elements.as_slice()),
@@ -325,9 +302,8 @@ fn open_array<'a>(stack: &mut Stack<'a>, array: &'a Array) -> Result<(), PrintFa
     }
 }
 
-fn open_const(stack: &mut Stack<'_>, id: ExprId) -> Result<(), PrintFault>
-    ensures ok { OnOk result ((s : Setting) → Opens s (listed stack.old) (expr_items s (Expr.Const id)) (21) (listed stack.new)) }
-    ensures memory { OnErr result (result ≡ Err PrintFault.Memory) }
+fn open_const(stack: &mut Stack<'_>, id: ExprId) -> Result<(), AllocError>
+    ensures { OnOk result ((s : Setting) → Opens s (listed stack.old) (expr_items s (Expr.Const id)) (21) (listed stack.new)) }
 {
     stack.push(&mut [
         Work::Text("const { /* "),
@@ -339,9 +315,8 @@ fn open_const(stack: &mut Stack<'_>, id: ExprId) -> Result<(), PrintFault>
     ])
 }
 
-fn open_assignment(stack: &mut Stack<'_>, target: PatId, value: ExprId) -> Result<(), PrintFault>
-    ensures ok { OnOk result ((s : Setting) → Opens s (listed stack.old) (expr_items s (Expr.Assignment target value)) (21) (listed stack.new)) }
-    ensures memory { OnErr result (result ≡ Err PrintFault.Memory) }
+fn open_assignment(stack: &mut Stack<'_>, target: PatId, value: ExprId) -> Result<(), AllocError>
+    ensures { OnOk result ((s : Setting) → Opens s (listed stack.old) (expr_items s (Expr.Assignment target value)) (21) (listed stack.new)) }
 {
     stack.push(&mut [
         Work::Pattern(target),
@@ -360,9 +335,8 @@ fn is_unsafe(unsafe_: Unsafe) -> bool
     }
 }
 
-fn open_inside<'a>(stack: &mut Stack<'a>, statements: &'a [Statement], tail: Option<ExprId>) -> Result<(), PrintFault>
-    ensures ok { OnOk result ((s : Setting) → Opens s (listed stack.old) (inside_block statements.now tail ++ text (codes "}")) (8 + 14 * length statements.now) (listed stack.new)) }
-    ensures memory { OnErr result (result ≡ Err PrintFault.Memory) }
+fn open_inside<'a>(stack: &mut Stack<'a>, statements: &'a [Statement], tail: Option<ExprId>) -> Result<(), AllocError>
+    ensures { OnOk result ((s : Setting) → Opens s (listed stack.old) (inside_block statements.now tail ++ text (codes "}")) (8 + 14 * length statements.now) (listed stack.new)) }
 {
     match (statements, tail) {
         ([], None) => stack.push(&mut [Work::Text("}")]),
@@ -384,9 +358,8 @@ fn open_inside<'a>(stack: &mut Stack<'a>, statements: &'a [Statement], tail: Opt
     }
 }
 
-fn open_block<'a>(stack: &mut Stack<'a>, statements: &'a [Statement], tail: Option<ExprId>, label: Option<LabelId>, unsafe_: Unsafe) -> Result<(), PrintFault>
-    ensures ok { OnOk result ((s : Setting) → Opens s (listed stack.old) (sp ++ labelled s label ++ unsafe_items unsafe_ ++ text (codes "{") ++ inside_block statements.now tail ++ text (codes "}")) (21 + 14 * length statements.now) (listed stack.new)) }
-    ensures memory { OnErr result (result ≡ Err PrintFault.Memory) }
+fn open_block<'a>(stack: &mut Stack<'a>, statements: &'a [Statement], tail: Option<ExprId>, label: Option<LabelId>, unsafe_: Unsafe) -> Result<(), AllocError>
+    ensures { OnOk result ((s : Setting) → Opens s (listed stack.old) (sp ++ labelled s label ++ unsafe_items unsafe_ ++ text (codes "{") ++ inside_block statements.now tail ++ text (codes "}")) (21 + 14 * length statements.now) (listed stack.new)) }
 {
     open_inside(stack, statements, tail)?;
     stack.push(&mut [
@@ -436,9 +409,8 @@ fn capture_keyword(capture: CaptureBy) -> &'static str
     }
 }
 
-fn open_closure<'a>(stack: &mut Stack<'a>, args: &'a [PatId], arg_types: &'a [Option<TypeRefId>], ret_type: Option<TypeRefId>, body: ExprId, kind: ClosureKind, capture: CaptureBy) -> Result<(), PrintFault>
-    ensures ok { OnOk result ((s : Setting) → Opens s (listed stack.old) (expr_items s (Expr.Closure args.now arg_types.now ret_type body kind capture)) (21 + 6 * length args.now) (listed stack.new)) }
-    ensures memory { OnErr result (result ≡ Err PrintFault.Memory) }
+fn open_closure<'a>(stack: &mut Stack<'a>, args: &'a [PatId], arg_types: &'a [Option<TypeRefId>], ret_type: Option<TypeRefId>, body: ExprId, kind: ClosureKind, capture: CaptureBy) -> Result<(), AllocError>
+    ensures { OnOk result ((s : Setting) → Opens s (listed stack.old) (expr_items s (Expr.Closure args.now arg_types.now ret_type body kind capture)) (21 + 6 * length args.now) (listed stack.new)) }
 {
     stack.push(&mut [
         Work::Text(closure_head(kind)),
@@ -449,9 +421,8 @@ fn open_closure<'a>(stack: &mut Stack<'a>, args: &'a [PatId], arg_types: &'a [Op
 }
 
 /// Puts the items of an expression on the stack.
-pub(crate) fn open_expr<'a>(stack: &mut Stack<'a>, expr: &'a Expr) -> Result<(), PrintFault>
-    ensures ok { OnOk result ((s : Setting) → Opens s (listed stack.old) (expr_items s expr.now) (1 + expr_cost expr.now) (listed stack.new)) }
-    ensures memory { OnErr result (result ≡ Err PrintFault.Memory) }
+pub(crate) fn open_expr<'a>(stack: &mut Stack<'a>, expr: &'a Expr) -> Result<(), AllocError>
+    ensures { OnOk result ((s : Setting) → Opens s (listed stack.old) (expr_items s expr.now) (1 + expr_cost expr.now) (listed stack.new)) }
 {
     match expr {
         Expr::Missing => stack.push(&mut [Work::Text("\u{fffd}")]),

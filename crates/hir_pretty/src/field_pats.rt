@@ -1,20 +1,20 @@
 //! The parts of patterns, put on the stack of what is still to be printed. What a field is printed as asks the store.
 #![tactic(auto, using(crate::proofs::OpenLemmas::opening))]
 
-ghost use Rattle.std.specs.Prelude.{◌≡◌, ◌+◌, ◌*◌, ◌++◌, ◌∷◌, [], Bool, List, ℕ, Some, Err, OnOk, OnErr, length, slice_get, codes};
+ghost use Rattle.std.specs.Prelude.{◌≡◌, ◌+◌, ◌*◌, ◌++◌, ◌∷◌, [], Bool, List, ℕ, Some, OnOk, length, slice_get, codes};
 ghost use Rattle.hir_expr_store.specs.Contents.{Contents};
 ghost use Rattle.hir_pretty.specs.Questions.{Questions};
 ghost use Rattle.hir_pretty.specs.Settings.{setting};
 ghost use Rattle.hir_pretty.specs.Pats.{is_printed_as, is_short, field_pattern, field_patterns};
 ghost use Rattle.hir_pretty.specs.Works.{listed, Opens, pat_part_items, pat_part_cost};
 
-use crate::fault::PrintFault;
 use crate::names::same_printed;
 use crate::pats::{open_elements, open_joined, open_range_end, open_with_rest};
 use crate::work::{PatPart, Stack, Work};
 use hir_base::Text;
 use hir_expr_store::ExpressionStore;
 use hir_node::{Binding, BindingAnnotation, BindingId, Pat, RecordFieldPat};
+use std::alloc::AllocError;
 
 /// Whether a binding is printed as this name is.
 fn is_printed_as(words: &[Text], name: &str, binding: &Binding) -> bool
@@ -58,10 +58,9 @@ fn is_short(store: &ExpressionStore, words: &[Text], field: &RecordFieldPat) -> 
     false
 }
 
-fn open_field<'a>(stack: &mut Stack<'a>, store: &ExpressionStore, words: &[Text], field: &'a RecordFieldPat) -> Result<(), PrintFault>
-    ensures ok { OnOk result ((tables : Questions) (one_line : Bool) → let s = setting store.now tables words.now one_line in
+fn open_field<'a>(stack: &mut Stack<'a>, store: &ExpressionStore, words: &[Text], field: &'a RecordFieldPat) -> Result<(), AllocError>
+    ensures { OnOk result ((tables : Questions) (one_line : Bool) → let s = setting store.now tables words.now one_line in
         Opens s (listed stack.old) (field_pattern s field.now) 7 (listed stack.new)) }
-    ensures memory { OnErr result (result ≡ Err PrintFault.Memory) }
 {
     if is_short(store, words, field) {
         return stack.push(&mut [Work::Name(field.name.as_str())]);
@@ -74,10 +73,9 @@ fn open_field<'a>(stack: &mut Stack<'a>, store: &ExpressionStore, words: &[Text]
 }
 
 /// The last field, with what stands after it.
-fn open_last_field<'a>(stack: &mut Stack<'a>, one_line: bool, field: &'a RecordFieldPat, rest: bool) -> Result<(), PrintFault>
-    ensures ok { OnOk result ((store : Contents) (tables : Questions) (words : List (List ℕ)) → let s = setting store tables words one_line in
+fn open_last_field<'a>(stack: &mut Stack<'a>, one_line: bool, field: &'a RecordFieldPat, rest: bool) -> Result<(), AllocError>
+    ensures { OnOk result ((store : Contents) (tables : Questions) (words : List (List ℕ)) → let s = setting store tables words one_line in
         Opens s (listed stack.old) (field_patterns s rest (field.now ∷ [])) 11 (listed stack.new)) }
-    ensures memory { OnErr result (result ≡ Err PrintFault.Memory) }
 {
     if rest {
         return stack.push(&mut [
@@ -96,10 +94,9 @@ fn open_last_field<'a>(stack: &mut Stack<'a>, one_line: bool, field: &'a RecordF
     ])
 }
 
-fn open_fields<'a>(stack: &mut Stack<'a>, one_line: bool, fields: &'a [RecordFieldPat], rest: bool) -> Result<(), PrintFault>
-    ensures ok { OnOk result ((store : Contents) (tables : Questions) (words : List (List ℕ)) → let s = setting store tables words one_line in
+fn open_fields<'a>(stack: &mut Stack<'a>, one_line: bool, fields: &'a [RecordFieldPat], rest: bool) -> Result<(), AllocError>
+    ensures { OnOk result ((store : Contents) (tables : Questions) (words : List (List ℕ)) → let s = setting store tables words one_line in
         Opens s (listed stack.old) (field_patterns s rest fields.now) (1 + 10 * length fields.now) (listed stack.new)) }
-    ensures memory { OnErr result (result ≡ Err PrintFault.Memory) }
 {
     match fields {
         [] => Ok(()),
@@ -120,10 +117,9 @@ pub(crate) fn open_pat_part<'a>(
     words: &[Text],
     one_line: bool,
     part: &PatPart<'a>,
-) -> Result<(), PrintFault>
-    ensures ok { OnOk result ((tables : Questions) → let s = setting store.now tables words.now one_line in
+) -> Result<(), AllocError>
+    ensures { OnOk result ((tables : Questions) → let s = setting store.now tables words.now one_line in
         Opens s (listed stack.old) (pat_part_items s part.now) (pat_part_cost part.now) (listed stack.new)) }
-    ensures memory { OnErr result (result ≡ Err PrintFault.Memory) }
 {
     match part {
         PatPart::RangeEnd(expr) => open_range_end(stack, *expr),

@@ -1,7 +1,7 @@
 //! Names as they are printed: with `r#` where the edition's words list them.
 #![tactic(auto, using(crate::proofs::OpenLemmas::opening))]
 
-ghost use Rattle.std.specs.Prelude.{◌≡◌, ◌≢◌, ◌∷◌, ◌++◌, true, List, ℕ, Err, OnOk, OnErr, MatchOption};
+ghost use Rattle.std.specs.Prelude.{◌≡◌, ◌≢◌, ◌∷◌, ◌++◌, true, List, ℕ, OnOk, MatchOption};
 ghost use Rattle.std.specs.List.{flat_map};
 ghost use Rattle.hir_pretty.specs.Questions.{Setting};
 ghost use Rattle.hir_pretty.specs.Items.{text};
@@ -9,9 +9,9 @@ ghost use Rattle.hir_pretty.specs.Names.{is_word, raw_parts, name_items, same_te
 ghost use Rattle.hir_pretty.specs.SameNames.{marked, printed_name, parts_text, IsUnquoted};
 ghost use Rattle.hir_pretty.specs.Works.{listed, Opens, OpensNamed};
 
-use crate::fault::PrintFault;
 use crate::work::{Stack, Work};
 use hir_base::Text;
+use std::alloc::AllocError;
 
 /// Whether the word is among these.
 fn is_word(words: &[Text], name: &str) -> bool
@@ -34,32 +34,33 @@ fn without_quote(name: &str) -> Option<&str>
     name.strip_prefix('\'')
 }
 
-fn open_raw<'a>(stack: &mut Stack<'a>, words: &[Text], name: &'a str) -> Result<(), PrintFault>
-    ensures ok { OnOk result ((s : Setting) → Opens s (listed stack.old) (flat_map text (raw_parts words.now name.now)) 3 (listed stack.new)) }
-    ensures memory { OnErr result (result ≡ Err PrintFault.Memory) }
+fn open_raw<'a>(stack: &mut Stack<'a>, words: &[Text], name: &'a str) -> Result<(), AllocError>
+    ensures { OnOk result ((s : Setting) → Opens s (listed stack.old) (flat_map text (raw_parts words.now name.now)) 3 (listed stack.new)) }
 {
     if is_word(words, name) {
-        return stack.push(&mut [Work::Text("r#"), Work::Text(name)]);
+        stack.push(&mut [Work::Text("r#"), Work::Text(name)])?;
+        return Ok(());
     }
-    stack.push(&mut [Work::Text(name)])
+    stack.push(&mut [Work::Text(name)])?;
+    Ok(())
 }
 
-fn open_quoted<'a>(stack: &mut Stack<'a>, words: &[Text], name: &'a str, rest: &'a str) -> Result<(), PrintFault>
+fn open_quoted<'a>(stack: &mut Stack<'a>, words: &[Text], name: &'a str, rest: &'a str) -> Result<(), AllocError>
     requires { name.now ≡ 39 ∷ rest.now }
-    ensures ok { OnOk result (OpensNamed words.now (listed stack.old) (λ s. name_items s name.now) 4 (listed stack.new)) }
-    ensures memory { OnErr result (result ≡ Err PrintFault.Memory) }
+    ensures { OnOk result (OpensNamed words.now (listed stack.old) (λ s. name_items s name.now) 4 (listed stack.new)) }
 {
     if rest == "static" {
-        return stack.push(&mut [Work::Text(name)]);
+        stack.push(&mut [Work::Text(name)])?;
+        return Ok(());
     }
     open_raw(stack, words, rest)?;
-    stack.push(&mut [Work::Text("'")])
+    stack.push(&mut [Work::Text("'")])?;
+    Ok(())
 }
 
 /// Puts the parts of a name on the stack.
-pub(crate) fn open_name<'a>(stack: &mut Stack<'a>, words: &[Text], name: &'a str) -> Result<(), PrintFault>
-    ensures ok { OnOk result (OpensNamed words.now (listed stack.old) (λ s. name_items s name.now) 4 (listed stack.new)) }
-    ensures memory { OnErr result (result ≡ Err PrintFault.Memory) }
+pub(crate) fn open_name<'a>(stack: &mut Stack<'a>, words: &[Text], name: &'a str) -> Result<(), AllocError>
+    ensures { OnOk result (OpensNamed words.now (listed stack.old) (λ s. name_items s name.now) 4 (listed stack.new)) }
 {
     match without_quote(name) {
         None => open_raw(stack, words, name),

@@ -1,7 +1,7 @@
 //! Paths and generic arguments, put on the stack of what is still to be printed, part by part.
 #![tactic(auto, using(crate::proofs::OpenLemmas::opening))]
 
-ghost use Rattle.std.specs.Prelude.{◌≡◌, ◌+◌, ◌*◌, ◌++◌, [], Err, OnOk, OnErr, length, map, codes};
+ghost use Rattle.std.specs.Prelude.{◌≡◌, ◌+◌, ◌*◌, ◌++◌, [], OnOk, length, map, codes};
 ghost use Rattle.hir_pretty.specs.Questions.{Setting};
 ghost use Rattle.hir_pretty.specs.Items.{text, opt, joined, comma_joined};
 ghost use Rattle.hir_pretty.specs.Names.{name_items};
@@ -9,14 +9,13 @@ ghost use Rattle.hir_pretty.specs.Paths.{bounds_after, arg_items, args_items, as
 ghost use Rattle.hir_pretty.specs.Costs.{bounds_cost, args_cost, assoc_cost, rest_cost, turbofish_cost, segments_cost, kind_cost, path_cost};
 ghost use Rattle.hir_pretty.specs.Works.{listed, Opens, path_part_items, path_part_cost};
 
-use crate::fault::PrintFault;
 use crate::work::{Look, PathPart, Stack, TypePart, Work};
 use hir_base::{ExprPrecedence, LangItemTarget, Name, NamedDef, PathKind};
 use hir_node::{AssociatedTypeBinding, GenericArg, GenericArgs, NormalPath, Path, TypeBound};
+use std::alloc::AllocError;
 
-fn open_path<'a>(stack: &mut Stack<'a>, path: &'a Path) -> Result<(), PrintFault>
-    ensures ok { OnOk result ((s : Setting) → Opens s (listed stack.old) (path_items s path.now) (path_cost path.now) (listed stack.new)) }
-    ensures memory { OnErr result (result ≡ Err PrintFault.Memory) }
+fn open_path<'a>(stack: &mut Stack<'a>, path: &'a Path) -> Result<(), AllocError>
+    ensures { OnOk result ((s : Setting) → Opens s (listed stack.old) (path_items s path.now) (path_cost path.now) (listed stack.new)) }
 {
     match path {
         Path::BarePath(path) => stack.push(&mut [
@@ -38,9 +37,8 @@ fn colons_first(kind: PathKind) -> bool
     }
 }
 
-fn open_normal<'a>(stack: &mut Stack<'a>, path: &'a NormalPath) -> Result<(), PrintFault>
-    ensures ok { OnOk result ((s : Setting) → Opens s (listed stack.old) (anchored s path.now.mod_path (start_items s path.now.type_anchor path.now.mod_path.kind) path.now.generic_args) (5 + kind_cost path.now.mod_path.kind + segments_cost path.now.mod_path.segments path.now.generic_args) (listed stack.new)) }
-    ensures memory { OnErr result (result ≡ Err PrintFault.Memory) }
+fn open_normal<'a>(stack: &mut Stack<'a>, path: &'a NormalPath) -> Result<(), AllocError>
+    ensures { OnOk result ((s : Setting) → Opens s (listed stack.old) (anchored s path.now.mod_path (start_items s path.now.type_anchor path.now.mod_path.kind) path.now.generic_args) (5 + kind_cost path.now.mod_path.kind + segments_cost path.now.mod_path.segments path.now.generic_args) (listed stack.new)) }
 {
     let after = colons_first(path.mod_path.kind());
     let lists = path.generic_args.as_slice();
@@ -58,9 +56,8 @@ fn open_normal<'a>(stack: &mut Stack<'a>, path: &'a NormalPath) -> Result<(), Pr
     }
 }
 
-fn open_lang_item<'a>(stack: &mut Stack<'a>, target: LangItemTarget, name: &'a Option<Name>) -> Result<(), PrintFault>
-    ensures ok { OnOk result ((s : Setting) → Opens s (listed stack.old) (path_items s (Path.LangItem target name.now)) (20) (listed stack.new)) }
-    ensures memory { OnErr result (result ≡ Err PrintFault.Memory) }
+fn open_lang_item<'a>(stack: &mut Stack<'a>, target: LangItemTarget, name: &'a Option<Name>) -> Result<(), AllocError>
+    ensures { OnOk result ((s : Setting) → Opens s (listed stack.old) (path_items s (Path.LangItem target name.now)) (20) (listed stack.new)) }
 {
     match name {
         None => stack.push(&mut [
@@ -78,9 +75,8 @@ fn open_lang_item<'a>(stack: &mut Stack<'a>, target: LangItemTarget, name: &'a O
     }
 }
 
-fn open_kind(stack: &mut Stack<'_>, kind: PathKind) -> Result<(), PrintFault>
-    ensures ok { OnOk result ((s : Setting) → Opens s (listed stack.old) (kind_items s kind) (kind_cost kind) (listed stack.new)) }
-    ensures memory { OnErr result (result ≡ Err PrintFault.Memory) }
+fn open_kind(stack: &mut Stack<'_>, kind: PathKind) -> Result<(), AllocError>
+    ensures { OnOk result ((s : Setting) → Opens s (listed stack.old) (kind_items s kind) (kind_cost kind) (listed stack.new)) }
 {
     match kind {
         PathKind::Plain => Ok(()),
@@ -91,9 +87,8 @@ fn open_kind(stack: &mut Stack<'_>, kind: PathKind) -> Result<(), PrintFault>
     }
 }
 
-fn open_supers(stack: &mut Stack<'_>, n: u8) -> Result<(), PrintFault>
-    ensures ok { OnOk result ((s : Setting) → Opens s (listed stack.old) (supers n) (2 + 2 * n) (listed stack.new)) }
-    ensures memory { OnErr result (result ≡ Err PrintFault.Memory) }
+fn open_supers(stack: &mut Stack<'_>, n: u8) -> Result<(), AllocError>
+    ensures { OnOk result ((s : Setting) → Opens s (listed stack.old) (supers n) (2 + 2 * n) (listed stack.new)) }
 {
     if n == 0 {
         return stack.push(&mut [Work::Text("self")]);
@@ -104,9 +99,8 @@ fn open_supers(stack: &mut Stack<'_>, n: u8) -> Result<(), PrintFault>
     stack.push(&mut [Work::Text("super::"), Work::Path(PathPart::Supers(n - 1))])
 }
 
-fn open_target(stack: &mut Stack<'_>, target: LangItemTarget) -> Result<(), PrintFault>
-    ensures ok { OnOk result ((s : Setting) → Opens s (listed stack.old) (target_items s target) (5) (listed stack.new)) }
-    ensures memory { OnErr result (result ≡ Err PrintFault.Memory) }
+fn open_target(stack: &mut Stack<'_>, target: LangItemTarget) -> Result<(), AllocError>
+    ensures { OnOk result ((s : Setting) → Opens s (listed stack.old) (target_items s target) (5) (listed stack.new)) }
 {
     match target {
         LangItemTarget::ImplId(id) => stack.push(&mut [
@@ -128,9 +122,8 @@ fn open_target(stack: &mut Stack<'_>, target: LangItemTarget) -> Result<(), Prin
     }
 }
 
-fn open_segments<'a>(stack: &mut Stack<'a>, after: bool, names: &'a [Name], lists: &'a [Option<GenericArgs>]) -> Result<(), PrintFault>
-    ensures ok { OnOk result ((s : Setting) → Opens s (listed stack.old) (segments_from s after names.now lists.now) (segments_cost names.now lists.now) (listed stack.new)) }
-    ensures memory { OnErr result (result ≡ Err PrintFault.Memory) }
+fn open_segments<'a>(stack: &mut Stack<'a>, after: bool, names: &'a [Name], lists: &'a [Option<GenericArgs>]) -> Result<(), AllocError>
+    ensures { OnOk result ((s : Setting) → Opens s (listed stack.old) (segments_from s after names.now lists.now) (segments_cost names.now lists.now) (listed stack.new)) }
 {
     match (names, lists) {
         ([], _) => Ok(()),
@@ -148,9 +141,8 @@ fn open_segments<'a>(stack: &mut Stack<'a>, after: bool, names: &'a [Name], list
     }
 }
 
-fn open_names<'a>(stack: &mut Stack<'a>, between: &'a str, names: &'a [Name]) -> Result<(), PrintFault>
-    ensures ok { OnOk result ((s : Setting) → Opens s (listed stack.old) (joined (text between.now) (map (name_items s) names.now)) (1 + 6 * length names.now) (listed stack.new)) }
-    ensures memory { OnErr result (result ≡ Err PrintFault.Memory) }
+fn open_names<'a>(stack: &mut Stack<'a>, between: &'a str, names: &'a [Name]) -> Result<(), AllocError>
+    ensures { OnOk result ((s : Setting) → Opens s (listed stack.old) (joined (text between.now) (map (name_items s) names.now)) (1 + 6 * length names.now) (listed stack.new)) }
 {
     match names {
         [] => Ok(()),
@@ -163,9 +155,8 @@ fn open_names<'a>(stack: &mut Stack<'a>, between: &'a str, names: &'a [Name]) ->
     }
 }
 
-fn open_turbofish<'a>(stack: &mut Stack<'a>, args: &'a Option<GenericArgs>) -> Result<(), PrintFault>
-    ensures ok { OnOk result ((s : Setting) → Opens s (listed stack.old) (opt (λ a. turbofish (args_items s a)) args.now) (turbofish_cost args.now) (listed stack.new)) }
-    ensures memory { OnErr result (result ≡ Err PrintFault.Memory) }
+fn open_turbofish<'a>(stack: &mut Stack<'a>, args: &'a Option<GenericArgs>) -> Result<(), AllocError>
+    ensures { OnOk result ((s : Setting) → Opens s (listed stack.old) (opt (λ a. turbofish (args_items s a)) args.now) (turbofish_cost args.now) (listed stack.new)) }
 {
     match args {
         None => Ok(()),
@@ -173,9 +164,8 @@ fn open_turbofish<'a>(stack: &mut Stack<'a>, args: &'a Option<GenericArgs>) -> R
     }
 }
 
-fn open_fish<'a>(stack: &mut Stack<'a>, args: &'a GenericArgs) -> Result<(), PrintFault>
-    ensures ok { OnOk result ((s : Setting) → Opens s (listed stack.old) (turbofish (args_items s args.now)) (3 + args_cost args.now) (listed stack.new)) }
-    ensures memory { OnErr result (result ≡ Err PrintFault.Memory) }
+fn open_fish<'a>(stack: &mut Stack<'a>, args: &'a GenericArgs) -> Result<(), AllocError>
+    ensures { OnOk result ((s : Setting) → Opens s (listed stack.old) (turbofish (args_items s args.now)) (3 + args_cost args.now) (listed stack.new)) }
 {
     stack.push(&mut [
         Work::Text("::<"),
@@ -184,16 +174,14 @@ fn open_fish<'a>(stack: &mut Stack<'a>, args: &'a GenericArgs) -> Result<(), Pri
     ])
 }
 
-fn open_args<'a>(stack: &mut Stack<'a>, args: &'a GenericArgs) -> Result<(), PrintFault>
-    ensures ok { OnOk result ((s : Setting) → Opens s (listed stack.old) (args_items s args.now) (args_cost args.now) (listed stack.new)) }
-    ensures memory { OnErr result (result ≡ Err PrintFault.Memory) }
+fn open_args<'a>(stack: &mut Stack<'a>, args: &'a GenericArgs) -> Result<(), AllocError>
+    ensures { OnOk result ((s : Setting) → Opens s (listed stack.old) (args_items s args.now) (args_cost args.now) (listed stack.new)) }
 {
     open_each(stack, args.has_self_type, args.args.as_slice(), args.bindings.as_slice())
 }
 
-fn open_each<'a>(stack: &mut Stack<'a>, has_self_type: bool, args: &'a [GenericArg], bindings: &'a [AssociatedTypeBinding]) -> Result<(), PrintFault>
-    ensures ok { OnOk result ((s : Setting) → Opens s (listed stack.old) (comma_joined (each_arg s has_self_type args.now ++ map (assoc_items s) bindings.now)) (2 + rest_cost args.now (map assoc_cost bindings.now)) (listed stack.new)) }
-    ensures memory { OnErr result (result ≡ Err PrintFault.Memory) }
+fn open_each<'a>(stack: &mut Stack<'a>, has_self_type: bool, args: &'a [GenericArg], bindings: &'a [AssociatedTypeBinding]) -> Result<(), AllocError>
+    ensures { OnOk result ((s : Setting) → Opens s (listed stack.old) (comma_joined (each_arg s has_self_type args.now ++ map (assoc_items s) bindings.now)) (2 + rest_cost args.now (map assoc_cost bindings.now)) (listed stack.new)) }
 {
     match args {
         [] => stack.push(&mut [Work::Path(PathPart::ArgsRest(args, bindings))]),
@@ -209,9 +197,8 @@ fn open_each<'a>(stack: &mut Stack<'a>, has_self_type: bool, args: &'a [GenericA
     }
 }
 
-fn open_args_rest<'a>(stack: &mut Stack<'a>, args: &'a [GenericArg], bindings: &'a [AssociatedTypeBinding]) -> Result<(), PrintFault>
-    ensures ok { OnOk result ((s : Setting) → Opens s (listed stack.old) (comma_joined (map (arg_items s) args.now ++ map (assoc_items s) bindings.now)) (rest_cost args.now (map assoc_cost bindings.now)) (listed stack.new)) }
-    ensures memory { OnErr result (result ≡ Err PrintFault.Memory) }
+fn open_args_rest<'a>(stack: &mut Stack<'a>, args: &'a [GenericArg], bindings: &'a [AssociatedTypeBinding]) -> Result<(), AllocError>
+    ensures { OnOk result ((s : Setting) → Opens s (listed stack.old) (comma_joined (map (arg_items s) args.now ++ map (assoc_items s) bindings.now)) (rest_cost args.now (map assoc_cost bindings.now)) (listed stack.new)) }
 {
     match args {
         [] => open_assocs(stack, bindings),
@@ -228,9 +215,8 @@ fn open_args_rest<'a>(stack: &mut Stack<'a>, args: &'a [GenericArg], bindings: &
     }
 }
 
-fn open_assocs<'a>(stack: &mut Stack<'a>, bindings: &'a [AssociatedTypeBinding]) -> Result<(), PrintFault>
-    ensures ok { OnOk result ((s : Setting) → Opens s (listed stack.old) (comma_joined (map (assoc_items s) bindings.now)) (rest_cost [] (map assoc_cost bindings.now)) (listed stack.new)) }
-    ensures memory { OnErr result (result ≡ Err PrintFault.Memory) }
+fn open_assocs<'a>(stack: &mut Stack<'a>, bindings: &'a [AssociatedTypeBinding]) -> Result<(), AllocError>
+    ensures { OnOk result ((s : Setting) → Opens s (listed stack.old) (comma_joined (map (assoc_items s) bindings.now)) (rest_cost [] (map assoc_cost bindings.now)) (listed stack.new)) }
 {
     match bindings {
         [] => Ok(()),
@@ -243,9 +229,8 @@ fn open_assocs<'a>(stack: &mut Stack<'a>, bindings: &'a [AssociatedTypeBinding])
     }
 }
 
-fn open_arg(stack: &mut Stack<'_>, arg: GenericArg) -> Result<(), PrintFault>
-    ensures ok { OnOk result ((s : Setting) → Opens s (listed stack.old) (arg_items s arg) (8) (listed stack.new)) }
-    ensures memory { OnErr result (result ≡ Err PrintFault.Memory) }
+fn open_arg(stack: &mut Stack<'_>, arg: GenericArg) -> Result<(), AllocError>
+    ensures { OnOk result ((s : Setting) → Opens s (listed stack.old) (arg_items s arg) (8) (listed stack.new)) }
 {
     match arg {
         GenericArg::Ty(id) => stack.push(&mut [Work::Type(id)]),
@@ -254,9 +239,8 @@ fn open_arg(stack: &mut Stack<'_>, arg: GenericArg) -> Result<(), PrintFault>
     }
 }
 
-fn open_assoc<'a>(stack: &mut Stack<'a>, binding: &'a AssociatedTypeBinding) -> Result<(), PrintFault>
-    ensures ok { OnOk result ((s : Setting) → Opens s (listed stack.old) (assoc_items s binding.now) (assoc_cost binding.now) (listed stack.new)) }
-    ensures memory { OnErr result (result ≡ Err PrintFault.Memory) }
+fn open_assoc<'a>(stack: &mut Stack<'a>, binding: &'a AssociatedTypeBinding) -> Result<(), AllocError>
+    ensures { OnOk result ((s : Setting) → Opens s (listed stack.old) (assoc_items s binding.now) (assoc_cost binding.now) (listed stack.new)) }
 {
     stack.push(&mut [
         Work::Name(binding.name.as_str()),
@@ -266,9 +250,8 @@ fn open_assoc<'a>(stack: &mut Stack<'a>, binding: &'a AssociatedTypeBinding) -> 
     ])
 }
 
-fn open_bounds_after<'a>(stack: &mut Stack<'a>, bounds: &'a [TypeBound]) -> Result<(), PrintFault>
-    ensures ok { OnOk result ((s : Setting) → Opens s (listed stack.old) (bounds_after s bounds.now) (2 + bounds_cost bounds.now) (listed stack.new)) }
-    ensures memory { OnErr result (result ≡ Err PrintFault.Memory) }
+fn open_bounds_after<'a>(stack: &mut Stack<'a>, bounds: &'a [TypeBound]) -> Result<(), AllocError>
+    ensures { OnOk result ((s : Setting) → Opens s (listed stack.old) (bounds_after s bounds.now) (2 + bounds_cost bounds.now) (listed stack.new)) }
 {
     match bounds {
         [] => Ok(()),
@@ -277,9 +260,8 @@ fn open_bounds_after<'a>(stack: &mut Stack<'a>, bounds: &'a [TypeBound]) -> Resu
 }
 
 /// Puts the items of a part of a path on the stack.
-pub(crate) fn open_path_part<'a>(stack: &mut Stack<'a>, part: &PathPart<'a>) -> Result<(), PrintFault>
-    ensures ok { OnOk result ((s : Setting) → Opens s (listed stack.old) (path_part_items s part.now) (path_part_cost part.now) (listed stack.new)) }
-    ensures memory { OnErr result (result ≡ Err PrintFault.Memory) }
+pub(crate) fn open_path_part<'a>(stack: &mut Stack<'a>, part: &PathPart<'a>) -> Result<(), AllocError>
+    ensures { OnOk result ((s : Setting) → Opens s (listed stack.old) (path_part_items s part.now) (path_part_cost part.now) (listed stack.new)) }
 {
     match part {
         PathPart::Whole(path) => open_path(stack, *path),

@@ -1,7 +1,7 @@
 //! Patterns, put on the stack of what is still to be printed, part by part.
 #![tactic(auto, using(crate::proofs::OpenLemmas::opening))]
 
-ghost use Rattle.std.specs.Prelude.{◌≡◌, ◌+◌, ◌*◌, ◌++◌, Some, Err, OnOk, OnErr, length, map, codes};
+ghost use Rattle.std.specs.Prelude.{◌≡◌, ◌+◌, ◌*◌, ◌++◌, Some, OnOk, length, map, codes};
 ghost use Rattle.std.specs.List.{flat_map};
 ghost use Rattle.hir_pretty.specs.Questions.{Setting};
 ghost use Rattle.hir_pretty.specs.Items.{p, text, under, opt, joined, comma_joined};
@@ -10,14 +10,13 @@ ghost use Rattle.hir_pretty.specs.Pats.{with_rest, in_parentheses, pat_items};
 ghost use Rattle.hir_pretty.specs.Costs.{path_cost, pat_cost};
 ghost use Rattle.hir_pretty.specs.Works.{listed, Opens, pat_part_items, pat_part_cost};
 
-use crate::fault::PrintFault;
 use crate::work::{Look, PatPart, PathPart, Stack, Work};
 use hir_base::{ExprPrecedence, RangeOp};
 use hir_node::{BindingId, ExprId, Pat, PatId, Path, RecordFieldPat};
+use std::alloc::AllocError;
 
-pub(crate) fn open_range_end(stack: &mut Stack<'_>, expr: Option<ExprId>) -> Result<(), PrintFault>
-    ensures ok { OnOk result ((s : Setting) → Opens s (listed stack.old) (opt (under ExprPrecedence.Shift) expr) (6) (listed stack.new)) }
-    ensures memory { OnErr result (result ≡ Err PrintFault.Memory) }
+pub(crate) fn open_range_end(stack: &mut Stack<'_>, expr: Option<ExprId>) -> Result<(), AllocError>
+    ensures { OnOk result ((s : Setting) → Opens s (listed stack.old) (opt (under ExprPrecedence.Shift) expr) (6) (listed stack.new)) }
 {
     match expr {
         None => Ok(()),
@@ -25,9 +24,8 @@ pub(crate) fn open_range_end(stack: &mut Stack<'_>, expr: Option<ExprId>) -> Res
     }
 }
 
-pub(crate) fn open_elements<'a>(stack: &mut Stack<'a>, pats: &'a [PatId]) -> Result<(), PrintFault>
-    ensures ok { OnOk result ((s : Setting) → Opens s (listed stack.old) (flat_map (λ id. p id ++ text (codes ", ")) pats.now) (1 + 3 * length pats.now) (listed stack.new)) }
-    ensures memory { OnErr result (result ≡ Err PrintFault.Memory) }
+pub(crate) fn open_elements<'a>(stack: &mut Stack<'a>, pats: &'a [PatId]) -> Result<(), AllocError>
+    ensures { OnOk result ((s : Setting) → Opens s (listed stack.old) (flat_map (λ id. p id ++ text (codes ", ")) pats.now) (1 + 3 * length pats.now) (listed stack.new)) }
 {
     match pats {
         [] => Ok(()),
@@ -39,9 +37,8 @@ pub(crate) fn open_elements<'a>(stack: &mut Stack<'a>, pats: &'a [PatId]) -> Res
     }
 }
 
-pub(crate) fn open_joined<'a>(stack: &mut Stack<'a>, between: &'a str, pats: &'a [PatId]) -> Result<(), PrintFault>
-    ensures ok { OnOk result ((s : Setting) → Opens s (listed stack.old) (joined (text between.now) (map p pats.now)) (1 + 3 * length pats.now) (listed stack.new)) }
-    ensures memory { OnErr result (result ≡ Err PrintFault.Memory) }
+pub(crate) fn open_joined<'a>(stack: &mut Stack<'a>, between: &'a str, pats: &'a [PatId]) -> Result<(), AllocError>
+    ensures { OnOk result ((s : Setting) → Opens s (listed stack.old) (joined (text between.now) (map p pats.now)) (1 + 3 * length pats.now) (listed stack.new)) }
 {
     match pats {
         [] => Ok(()),
@@ -54,9 +51,8 @@ pub(crate) fn open_joined<'a>(stack: &mut Stack<'a>, between: &'a str, pats: &'a
     }
 }
 
-pub(crate) fn open_with_rest<'a>(stack: &mut Stack<'a>, pats: &'a [PatId], at: u32) -> Result<(), PrintFault>
-    ensures ok { OnOk result ((s : Setting) → Opens s (listed stack.old) (comma_joined (with_rest (Some at) (map p pats.now))) (4 + 3 * length pats.now) (listed stack.new)) }
-    ensures memory { OnErr result (result ≡ Err PrintFault.Memory) }
+pub(crate) fn open_with_rest<'a>(stack: &mut Stack<'a>, pats: &'a [PatId], at: u32) -> Result<(), AllocError>
+    ensures { OnOk result ((s : Setting) → Opens s (listed stack.old) (comma_joined (with_rest (Some at) (map p pats.now))) (4 + 3 * length pats.now) (listed stack.new)) }
 {
     match pats {
         [] => stack.push(&mut [Work::Text("..")]),
@@ -77,9 +73,8 @@ pub(crate) fn open_with_rest<'a>(stack: &mut Stack<'a>, pats: &'a [PatId], at: u
     }
 }
 
-fn open_parentheses<'a>(stack: &mut Stack<'a>, pats: &'a [PatId], rest: Option<u32>) -> Result<(), PrintFault>
-    ensures ok { OnOk result ((s : Setting) → Opens s (listed stack.old) (in_parentheses rest pats.now) (7 + 3 * length pats.now) (listed stack.new)) }
-    ensures memory { OnErr result (result ≡ Err PrintFault.Memory) }
+fn open_parentheses<'a>(stack: &mut Stack<'a>, pats: &'a [PatId], rest: Option<u32>) -> Result<(), AllocError>
+    ensures { OnOk result ((s : Setting) → Opens s (listed stack.old) (in_parentheses rest pats.now) (7 + 3 * length pats.now) (listed stack.new)) }
 {
     match rest {
         None => stack.push(&mut [
@@ -95,17 +90,15 @@ fn open_parentheses<'a>(stack: &mut Stack<'a>, pats: &'a [PatId], rest: Option<u
     }
 }
 
-fn open_tuple_struct<'a>(stack: &mut Stack<'a>, path: &'a Path, pats: &'a [PatId], rest: Option<u32>) -> Result<(), PrintFault>
-    ensures ok { OnOk result ((s : Setting) → Opens s (listed stack.old) (path_items s path.now ++ in_parentheses rest pats.now) (8 + 3 * length pats.now + path_cost path.now) (listed stack.new)) }
-    ensures memory { OnErr result (result ≡ Err PrintFault.Memory) }
+fn open_tuple_struct<'a>(stack: &mut Stack<'a>, path: &'a Path, pats: &'a [PatId], rest: Option<u32>) -> Result<(), AllocError>
+    ensures { OnOk result ((s : Setting) → Opens s (listed stack.old) (path_items s path.now ++ in_parentheses rest pats.now) (8 + 3 * length pats.now + path_cost path.now) (listed stack.new)) }
 {
     open_parentheses(stack, pats, rest)?;
     stack.push(&mut [Work::Path(PathPart::Whole(path))])
 }
 
-fn open_record<'a>(stack: &mut Stack<'a>, path: &'a Path, fields: &'a [RecordFieldPat], rest: bool) -> Result<(), PrintFault>
-    ensures ok { OnOk result ((s : Setting) → Opens s (listed stack.old) (pat_items s (Pat.Record path.now fields.now rest)) (21 + 10 * length fields.now + path_cost path.now) (listed stack.new)) }
-    ensures memory { OnErr result (result ≡ Err PrintFault.Memory) }
+fn open_record<'a>(stack: &mut Stack<'a>, path: &'a Path, fields: &'a [RecordFieldPat], rest: bool) -> Result<(), AllocError>
+    ensures { OnOk result ((s : Setting) → Opens s (listed stack.old) (pat_items s (Pat.Record path.now fields.now rest)) (21 + 10 * length fields.now + path_cost path.now) (listed stack.new)) }
 {
     if rest {
         return stack.push(&mut [
@@ -129,9 +122,8 @@ fn open_record<'a>(stack: &mut Stack<'a>, path: &'a Path, fields: &'a [RecordFie
     ])
 }
 
-fn open_range(stack: &mut Stack<'_>, start: Option<ExprId>, end: Option<ExprId>, range_type: RangeOp) -> Result<(), PrintFault>
-    ensures ok { OnOk result ((s : Setting) → Opens s (listed stack.old) (pat_items s (Pat.Range start end range_type)) (21) (listed stack.new)) }
-    ensures memory { OnErr result (result ≡ Err PrintFault.Memory) }
+fn open_range(stack: &mut Stack<'_>, start: Option<ExprId>, end: Option<ExprId>, range_type: RangeOp) -> Result<(), AllocError>
+    ensures { OnOk result ((s : Setting) → Opens s (listed stack.old) (pat_items s (Pat.Range start end range_type)) (21) (listed stack.new)) }
 {
     stack.push(&mut [
         Work::Pat(PatPart::RangeEnd(start)),
@@ -140,9 +132,8 @@ fn open_range(stack: &mut Stack<'_>, start: Option<ExprId>, end: Option<ExprId>,
     ])
 }
 
-fn open_slice<'a>(stack: &mut Stack<'a>, prefix: &'a [PatId], slice: Option<PatId>, suffix: &'a [PatId]) -> Result<(), PrintFault>
-    ensures ok { OnOk result ((s : Setting) → Opens s (listed stack.old) (pat_items s (Pat.Slice prefix.now slice suffix.now)) (21 + 3 * length prefix.now + 3 * length suffix.now) (listed stack.new)) }
-    ensures memory { OnErr result (result ≡ Err PrintFault.Memory) }
+fn open_slice<'a>(stack: &mut Stack<'a>, prefix: &'a [PatId], slice: Option<PatId>, suffix: &'a [PatId]) -> Result<(), AllocError>
+    ensures { OnOk result ((s : Setting) → Opens s (listed stack.old) (pat_items s (Pat.Slice prefix.now slice suffix.now)) (21 + 3 * length prefix.now + 3 * length suffix.now) (listed stack.new)) }
 {
     match slice {
         None => stack.push(&mut [
@@ -162,9 +153,8 @@ fn open_slice<'a>(stack: &mut Stack<'a>, prefix: &'a [PatId], slice: Option<PatI
     }
 }
 
-fn open_bind(stack: &mut Stack<'_>, id: BindingId, subpat: Option<PatId>) -> Result<(), PrintFault>
-    ensures ok { OnOk result ((s : Setting) → Opens s (listed stack.old) (pat_items s (Pat.Bind id subpat)) (21) (listed stack.new)) }
-    ensures memory { OnErr result (result ≡ Err PrintFault.Memory) }
+fn open_bind(stack: &mut Stack<'_>, id: BindingId, subpat: Option<PatId>) -> Result<(), AllocError>
+    ensures { OnOk result ((s : Setting) → Opens s (listed stack.old) (pat_items s (Pat.Bind id subpat)) (21) (listed stack.new)) }
 {
     match subpat {
         None => stack.push(&mut [Work::Look(Look::Binding(id))]),
@@ -178,9 +168,8 @@ fn open_bind(stack: &mut Stack<'_>, id: BindingId, subpat: Option<PatId>) -> Res
 }
 
 /// Puts the items of a pattern on the stack.
-pub(crate) fn open_pat<'a>(stack: &mut Stack<'a>, pat: &'a Pat) -> Result<(), PrintFault>
-    ensures ok { OnOk result ((s : Setting) → Opens s (listed stack.old) (pat_items s pat.now) (1 + pat_cost pat.now) (listed stack.new)) }
-    ensures memory { OnErr result (result ≡ Err PrintFault.Memory) }
+pub(crate) fn open_pat<'a>(stack: &mut Stack<'a>, pat: &'a Pat) -> Result<(), AllocError>
+    ensures { OnOk result ((s : Setting) → Opens s (listed stack.old) (pat_items s pat.now) (1 + pat_cost pat.now) (listed stack.new)) }
 {
     match pat {
         Pat::Missing => stack.push(&mut [Work::Text("\u{fffd}")]),

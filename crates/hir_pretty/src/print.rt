@@ -38,7 +38,7 @@ pub(crate) fn write_works<'a, D: Definitions, W: PieceWriter>(
     let mut stack = Stack::new(alloc);
     match stack.push(works) {
         Ok(()) => {}
-        Err(fault) => return Err(fault),
+        Err(_) => return Err(PrintFault::Memory),
     }
     while let Some(work) = stack.pop() {
         match turn(store, tables, words, one_line, &work, &mut stack, writer) {

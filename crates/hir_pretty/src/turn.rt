@@ -1,23 +1,22 @@
 //! A turn of the printer's loop: a piece is written, a node or a part gives way to its items.
 #![tactic(auto, using(crate::proofs::TurnLemmas::turns))]
 
-ghost use Rattle.std.specs.Prelude.{◌≡◌, ◌+◌, ◌++◌, ◌∷◌, [], Bool, List, ℕ, Err, Some, None, OnOk, OnErr, IfErr, codes, is_ok, slice_get};
+ghost use Rattle.std.specs.Prelude.{◌≡◌, ◌+◌, ◌++◌, ◌∷◌, [], Bool, List, ℕ, Some, None, OnOk, IfErr, codes, slice_get};
 ghost use Rattle.hir_node.specs.declared.node_id.NodeId.TheVariants as node;
-ghost use Rattle.hir_page.specs.Writes.{Writes};
 ghost use Rattle.hir_pretty.specs.Questions.{Setting};
 ghost use Rattle.hir_pretty.specs.Settings.{setting};
 ghost use Rattle.hir_pretty.specs.Items.{text, when};
-ghost use Rattle.hir_pretty.specs.Literals.{literal_items, bool_text};
 ghost use Rattle.hir_pretty.specs.Pieces.{items_of, is_chain, stands_in_parentheses, precedence_found};
 ghost use Rattle.hir_pretty.specs.Falls.{ItemsFall};
 ghost use Rattle.hir_pretty.specs.Costs.{node_cost};
-ghost use Rattle.hir_pretty.specs.Works.{listed, Opens, OpensInStore, Turned, Prints, enclosed, stands_for, work_cost, pending, printed, put_pieces};
+ghost use Rattle.hir_pretty.specs.Works.{listed, Opens, OpensInStore, Turned, Prints, enclosed, stands_for, work_cost, pending, printed};
 
 use crate::definitions::Definitions;
 use crate::expr_parts::open_expr_part;
 use crate::exprs::open_expr;
 use crate::fault::PrintFault;
 use crate::field_pats::open_pat_part;
+use crate::literals::write_literal;
 use crate::lookups::open_look;
 use crate::names::open_name;
 use crate::paths::open_path_part;
@@ -27,86 +26,39 @@ use crate::types::open_type;
 use crate::work::{Stack, Work};
 use hir_base::{ExprPrecedence, Text};
 use hir_expr_store::ExpressionStore;
-use hir_node::{ExprId, Literal, PatId, TypeRefId};
-use hir_page::{
-    PieceWriter, write_bytes_literal, write_c_string_literal, write_char_literal, write_number, write_string_literal,
-};
+use hir_node::{ExprId, PatId, TypeRefId};
+use hir_page::{PieceWriter, write_number};
 use std::alloc::AllocError;
 
-/// Writes a literal.
-fn write_literal<W: PieceWriter>(writer: &mut W, literal: &Literal) -> Result<(), AllocError>
-    ensures { Writes W.step W.refuses writer.old (put_pieces (literal_items literal.now)) (is_ok result) writer.new }
-{
-    match literal {
-        Literal::String(text) => write_string_literal(writer, text.as_str()),
-        Literal::ByteString(bytes) => write_bytes_literal(writer, bytes.as_slice()),
-        Literal::CString(bytes) => write_c_string_literal(writer, bytes.as_slice()),
-        Literal::Char(c) => write_char_literal(writer, *c),
-        Literal::Bool(b) => write_bool(writer, *b),
-        Literal::Int(number, suffix) => {
-            write_number(writer, *number)?;
-            match suffix {
-                None => Ok(()),
-                Some(suffix) => writer.text(suffix.as_str()),
-            }
-        }
-        Literal::Uint(number, suffix) => {
-            write_number(writer, *number)?;
-            match suffix {
-                None => Ok(()),
-                Some(suffix) => writer.text(suffix.as_str()),
-            }
-        }
-        Literal::Float(number, suffix) => {
-            writer.text("")?;
-            match suffix {
-                None => Ok(()),
-                Some(suffix) => writer.text(suffix.as_str()),
-            }
-        }
-    }
-}
-
-fn write_bool<W: PieceWriter>(writer: &mut W, b: bool) -> Result<(), AllocError>
-    ensures { Writes W.step W.refuses writer.old (put_pieces (text (bool_text b))) (is_ok result) writer.new }
-{
-    if b {
-        writer.text("true")?;
-        return Ok(());
-    }
-    writer.text("false")?;
-    Ok(())
-}
-
-fn open_expr_at<'a>(stack: &mut Stack<'a>, store: &'a ExpressionStore, id: ExprId) -> Result<(), PrintFault>
-    ensures ok { OnOk result (OpensInStore store.now (listed stack.old) (λ s. items_of s (node.Expr id))
+fn open_expr_at<'a>(stack: &mut Stack<'a>, store: &'a ExpressionStore, id: ExprId) -> Result<(), AllocError>
+    ensures { OnOk result (OpensInStore store.now (listed stack.old) (λ s. items_of s (node.Expr id))
         (1 + node_cost store.now.nodes (node.Expr id)) (listed stack.new)) }
-    ensures memory { OnErr result (result ≡ Err PrintFault.Memory) }
 {
     if store.has_expr(id) {
-        return open_expr(stack, &store[id]);
+        open_expr(stack, &store[id])?;
+        return Ok(());
     }
     Ok(())
 }
 
-fn open_pat_at<'a>(stack: &mut Stack<'a>, store: &'a ExpressionStore, id: PatId) -> Result<(), PrintFault>
-    ensures ok { OnOk result (OpensInStore store.now (listed stack.old) (λ s. items_of s (node.Pat id))
+fn open_pat_at<'a>(stack: &mut Stack<'a>, store: &'a ExpressionStore, id: PatId) -> Result<(), AllocError>
+    ensures { OnOk result (OpensInStore store.now (listed stack.old) (λ s. items_of s (node.Pat id))
         (1 + node_cost store.now.nodes (node.Pat id)) (listed stack.new)) }
-    ensures memory { OnErr result (result ≡ Err PrintFault.Memory) }
 {
     if store.has_pat(id) {
-        return open_pat(stack, &store[id]);
+        open_pat(stack, &store[id])?;
+        return Ok(());
     }
     Ok(())
 }
 
-fn open_type_at<'a>(stack: &mut Stack<'a>, store: &'a ExpressionStore, id: TypeRefId) -> Result<(), PrintFault>
-    ensures ok { OnOk result (OpensInStore store.now (listed stack.old) (λ s. items_of s (node.TypeRef id))
+fn open_type_at<'a>(stack: &mut Stack<'a>, store: &'a ExpressionStore, id: TypeRefId) -> Result<(), AllocError>
+    ensures { OnOk result (OpensInStore store.now (listed stack.old) (λ s. items_of s (node.TypeRef id))
         (1 + node_cost store.now.nodes (node.TypeRef id)) (listed stack.new)) }
-    ensures memory { OnErr result (result ≡ Err PrintFault.Memory) }
 {
     if store.has_type(id) {
-        return open_type(stack, &store[id]);
+        open_type(stack, &store[id])?;
+        return Ok(());
     }
     Ok(())
 }
@@ -130,10 +82,9 @@ fn is_chain(child: ExprPrecedence, parent: ExprPrecedence) -> bool
     )
 }
 
-fn open_under<'a>(stack: &mut Stack<'a>, store: &ExpressionStore, id: ExprId, parent: ExprPrecedence) -> Result<(), PrintFault>
-    ensures ok { OnOk result ((s : Setting) → Opens s (listed stack.old)
+fn open_under<'a>(stack: &mut Stack<'a>, store: &ExpressionStore, id: ExprId, parent: ExprPrecedence) -> Result<(), AllocError>
+    ensures { OnOk result ((s : Setting) → Opens s (listed stack.old)
         (enclosed (stands_in_parentheses (precedence_found (slice_get store.now.nodes.exprs id)) parent) id) 5 (listed stack.new)) }
-    ensures memory { OnErr result (result ≡ Err PrintFault.Memory) }
 {
     let child = precedence_at(store, id);
     if child.needs_parentheses_in(parent) && !is_chain(child, parent) {
@@ -142,9 +93,8 @@ fn open_under<'a>(stack: &mut Stack<'a>, store: &ExpressionStore, id: ExprId, pa
     stack.push(&mut [Work::Whole(id)])
 }
 
-fn open_text_if<'a>(stack: &mut Stack<'a>, holds: bool, shown: &'a str) -> Result<(), PrintFault>
-    ensures ok { OnOk result ((s : Setting) → Opens s (listed stack.old) (when holds (text shown.now)) 2 (listed stack.new)) }
-    ensures memory { OnErr result (result ≡ Err PrintFault.Memory) }
+fn open_text_if<'a>(stack: &mut Stack<'a>, holds: bool, shown: &'a str) -> Result<(), AllocError>
+    ensures { OnOk result ((s : Setting) → Opens s (listed stack.old) (when holds (text shown.now)) 2 (listed stack.new)) }
 {
     if holds {
         return stack.push(&mut [Work::Text(shown)]);
@@ -199,16 +149,49 @@ pub(crate) fn turn<'a, D: Definitions, W: PieceWriter>(
             Ok(()) => Ok(()),
             Err(_) => Err(PrintFault::Memory),
         },
-        Work::Name(name) => open_name(stack, words, *name),
-        Work::Whole(id) => open_expr_at(stack, store, *id),
-        Work::Under(id, parent) => open_under(stack, store, *id, *parent),
-        Work::Pattern(id) => open_pat_at(stack, store, *id),
-        Work::Type(id) => open_type_at(stack, store, *id),
-        Work::TextIf(holds, text) => open_text_if(stack, *holds, *text),
-        Work::Look(look) => open_look(stack, store, tables, *look),
-        Work::Expr(part) => open_expr_part(stack, part),
-        Work::Pat(part) => open_pat_part(stack, store, words, one_line, part),
-        Work::TypePart(part) => open_type_part(stack, part),
-        Work::Path(part) => open_path_part(stack, part),
+        Work::Name(name) => match open_name(stack, words, *name) {
+            Ok(()) => Ok(()),
+            Err(_) => Err(PrintFault::Memory),
+        },
+        Work::Whole(id) => match open_expr_at(stack, store, *id) {
+            Ok(()) => Ok(()),
+            Err(_) => Err(PrintFault::Memory),
+        },
+        Work::Under(id, parent) => match open_under(stack, store, *id, *parent) {
+            Ok(()) => Ok(()),
+            Err(_) => Err(PrintFault::Memory),
+        },
+        Work::Pattern(id) => match open_pat_at(stack, store, *id) {
+            Ok(()) => Ok(()),
+            Err(_) => Err(PrintFault::Memory),
+        },
+        Work::Type(id) => match open_type_at(stack, store, *id) {
+            Ok(()) => Ok(()),
+            Err(_) => Err(PrintFault::Memory),
+        },
+        Work::TextIf(holds, text) => match open_text_if(stack, *holds, *text) {
+            Ok(()) => Ok(()),
+            Err(_) => Err(PrintFault::Memory),
+        },
+        Work::Look(look) => match open_look(stack, store, tables, *look) {
+            Ok(()) => Ok(()),
+            Err(_) => Err(PrintFault::Memory),
+        },
+        Work::Expr(part) => match open_expr_part(stack, part) {
+            Ok(()) => Ok(()),
+            Err(_) => Err(PrintFault::Memory),
+        },
+        Work::Pat(part) => match open_pat_part(stack, store, words, one_line, part) {
+            Ok(()) => Ok(()),
+            Err(_) => Err(PrintFault::Memory),
+        },
+        Work::TypePart(part) => match open_type_part(stack, part) {
+            Ok(()) => Ok(()),
+            Err(_) => Err(PrintFault::Memory),
+        },
+        Work::Path(part) => match open_path_part(stack, part) {
+            Ok(()) => Ok(()),
+            Err(_) => Err(PrintFault::Memory),
+        },
     }
 }

@@ -1,7 +1,7 @@
 //! The parts of types, put on the stack of what is still to be printed: types one after another, bounds, names after `for`.
 #![tactic(auto, using(crate::proofs::OpenLemmas::opening))]
 
-ghost use Rattle.std.specs.Prelude.{◌≡◌, ◌+◌, ◌*◌, ◌++◌, List, ℕ, Err, OnOk, OnErr, length, map, codes};
+ghost use Rattle.std.specs.Prelude.{◌≡◌, ◌+◌, ◌*◌, ◌++◌, List, ℕ, OnOk, length, map, codes};
 ghost use Rattle.hir_pretty.specs.Questions.{Setting};
 ghost use Rattle.hir_pretty.specs.Items.{t, text, opt, comma_joined};
 ghost use Rattle.hir_pretty.specs.Paths.{for_names, use_items, bound_items, bounds_items};
@@ -9,14 +9,13 @@ ghost use Rattle.hir_pretty.specs.Types.{extern_items};
 ghost use Rattle.hir_pretty.specs.Costs.{bound_cost, bounds_cost, opt_cost};
 ghost use Rattle.hir_pretty.specs.Works.{listed, Opens, front_items, type_part_items, type_part_cost};
 
-use crate::fault::PrintFault;
 use crate::work::{Look, PathPart, Stack, TypePart, Work};
 use hir_base::{ExternAbi, Name, Seq};
 use hir_node::{PathId, TraitBoundModifier, TypeBound, TypeRefId, UseArgRef};
+use std::alloc::AllocError;
 
-fn open_after<'a>(stack: &mut Stack<'a>, before: &'a str, type_ref: Option<TypeRefId>) -> Result<(), PrintFault>
-    ensures ok { OnOk result ((s : Setting) → Opens s (listed stack.old) (opt (λ id. text before.now ++ t id) type_ref) (3) (listed stack.new)) }
-    ensures memory { OnErr result (result ≡ Err PrintFault.Memory) }
+fn open_after<'a>(stack: &mut Stack<'a>, before: &'a str, type_ref: Option<TypeRefId>) -> Result<(), AllocError>
+    ensures { OnOk result ((s : Setting) → Opens s (listed stack.old) (opt (λ id. text before.now ++ t id) type_ref) (3) (listed stack.new)) }
 {
     match type_ref {
         None => Ok(()),
@@ -24,9 +23,8 @@ fn open_after<'a>(stack: &mut Stack<'a>, before: &'a str, type_ref: Option<TypeR
     }
 }
 
-fn open_joined<'a>(stack: &mut Stack<'a>, types: &'a [TypeRefId]) -> Result<(), PrintFault>
-    ensures ok { OnOk result ((s : Setting) → Opens s (listed stack.old) (comma_joined (map t types.now)) (1 + 3 * length types.now) (listed stack.new)) }
-    ensures memory { OnErr result (result ≡ Err PrintFault.Memory) }
+fn open_joined<'a>(stack: &mut Stack<'a>, types: &'a [TypeRefId]) -> Result<(), AllocError>
+    ensures { OnOk result ((s : Setting) → Opens s (listed stack.old) (comma_joined (map t types.now)) (1 + 3 * length types.now) (listed stack.new)) }
 {
     match types {
         [] => Ok(()),
@@ -39,9 +37,8 @@ fn open_joined<'a>(stack: &mut Stack<'a>, types: &'a [TypeRefId]) -> Result<(), 
     }
 }
 
-fn open_params<'a>(stack: &mut Stack<'a>, params: &'a [(Option<Name>, TypeRefId)]) -> Result<(), PrintFault>
-    ensures ok { OnOk result ((s : Setting) → Opens s (listed stack.old) (front_items params.now) (1 + 3 * length params.now) (listed stack.new)) }
-    ensures memory { OnErr result (result ≡ Err PrintFault.Memory) }
+fn open_params<'a>(stack: &mut Stack<'a>, params: &'a [(Option<Name>, TypeRefId)]) -> Result<(), AllocError>
+    ensures { OnOk result ((s : Setting) → Opens s (listed stack.old) (front_items params.now) (1 + 3 * length params.now) (listed stack.new)) }
 {
     match params {
         [] => Ok(()),
@@ -55,9 +52,8 @@ fn open_params<'a>(stack: &mut Stack<'a>, params: &'a [(Option<Name>, TypeRefId)
     }
 }
 
-fn open_for<'a>(stack: &mut Stack<'a>, names: &'a [Name]) -> Result<(), PrintFault>
-    ensures ok { OnOk result ((s : Setting) → Opens s (listed stack.old) (for_names s names.now) (4 + 6 * length names.now) (listed stack.new)) }
-    ensures memory { OnErr result (result ≡ Err PrintFault.Memory) }
+fn open_for<'a>(stack: &mut Stack<'a>, names: &'a [Name]) -> Result<(), AllocError>
+    ensures { OnOk result ((s : Setting) → Opens s (listed stack.old) (for_names s names.now) (4 + 6 * length names.now) (listed stack.new)) }
 {
     stack.push(&mut [
         Work::Text("for<"),
@@ -66,9 +62,8 @@ fn open_for<'a>(stack: &mut Stack<'a>, names: &'a [Name]) -> Result<(), PrintFau
     ])
 }
 
-fn open_binder<'a>(stack: &mut Stack<'a>, names: &'a Option<Seq<Name>>) -> Result<(), PrintFault>
-    ensures ok { OnOk result ((s : Setting) → Opens s (listed stack.old) (opt (for_names s) names.now) (4 + opt_cost (λ (ns : List (List ℕ)). 6 * length ns) names.now) (listed stack.new)) }
-    ensures memory { OnErr result (result ≡ Err PrintFault.Memory) }
+fn open_binder<'a>(stack: &mut Stack<'a>, names: &'a Option<Seq<Name>>) -> Result<(), AllocError>
+    ensures { OnOk result ((s : Setting) → Opens s (listed stack.old) (opt (for_names s) names.now) (4 + opt_cost (λ (ns : List (List ℕ)). 6 * length ns) names.now) (listed stack.new)) }
 {
     match names {
         None => Ok(()),
@@ -76,9 +71,8 @@ fn open_binder<'a>(stack: &mut Stack<'a>, names: &'a Option<Seq<Name>>) -> Resul
     }
 }
 
-fn open_extern<'a>(stack: &mut Stack<'a>, abi: &'a ExternAbi) -> Result<(), PrintFault>
-    ensures ok { OnOk result ((s : Setting) → Opens s (listed stack.old) (extern_items abi.now) (4) (listed stack.new)) }
-    ensures memory { OnErr result (result ≡ Err PrintFault.Memory) }
+fn open_extern<'a>(stack: &mut Stack<'a>, abi: &'a ExternAbi) -> Result<(), AllocError>
+    ensures { OnOk result ((s : Setting) → Opens s (listed stack.old) (extern_items abi.now) (4) (listed stack.new)) }
 {
     match abi {
         ExternAbi::Rust => Ok(()),
@@ -90,16 +84,14 @@ fn open_extern<'a>(stack: &mut Stack<'a>, abi: &'a ExternAbi) -> Result<(), Prin
     }
 }
 
-fn open_abi<'a>(stack: &mut Stack<'a>, abi: &'a str) -> Result<(), PrintFault>
-    ensures ok { OnOk result ((s : Setting) → Opens s (listed stack.old) (text (codes "extern ") ++ text abi.now ++ text (codes " ")) (4) (listed stack.new)) }
-    ensures memory { OnErr result (result ≡ Err PrintFault.Memory) }
+fn open_abi<'a>(stack: &mut Stack<'a>, abi: &'a str) -> Result<(), AllocError>
+    ensures { OnOk result ((s : Setting) → Opens s (listed stack.old) (text (codes "extern ") ++ text abi.now ++ text (codes " ")) (4) (listed stack.new)) }
 {
     stack.push(&mut [Work::Text("extern "), Work::Text(abi), Work::Text(" ")])
 }
 
-fn open_bounds<'a>(stack: &mut Stack<'a>, bounds: &'a [TypeBound]) -> Result<(), PrintFault>
-    ensures ok { OnOk result ((s : Setting) → Opens s (listed stack.old) (bounds_items s bounds.now) (bounds_cost bounds.now) (listed stack.new)) }
-    ensures memory { OnErr result (result ≡ Err PrintFault.Memory) }
+fn open_bounds<'a>(stack: &mut Stack<'a>, bounds: &'a [TypeBound]) -> Result<(), AllocError>
+    ensures { OnOk result ((s : Setting) → Opens s (listed stack.old) (bounds_items s bounds.now) (bounds_cost bounds.now) (listed stack.new)) }
 {
     match bounds {
         [] => Ok(()),
@@ -112,9 +104,8 @@ fn open_bounds<'a>(stack: &mut Stack<'a>, bounds: &'a [TypeBound]) -> Result<(),
     }
 }
 
-fn open_path_bound(stack: &mut Stack<'_>, id: PathId, modifier: TraitBoundModifier) -> Result<(), PrintFault>
-    ensures ok { OnOk result ((s : Setting) → Opens s (listed stack.old) (bound_items s (TypeBound.Path id modifier)) (8) (listed stack.new)) }
-    ensures memory { OnErr result (result ≡ Err PrintFault.Memory) }
+fn open_path_bound(stack: &mut Stack<'_>, id: PathId, modifier: TraitBoundModifier) -> Result<(), AllocError>
+    ensures { OnOk result ((s : Setting) → Opens s (listed stack.old) (bound_items s (TypeBound.Path id modifier)) (8) (listed stack.new)) }
 {
     match modifier {
         TraitBoundModifier::None => stack.push(&mut [Work::Type(id.type_ref())]),
@@ -122,9 +113,8 @@ fn open_path_bound(stack: &mut Stack<'_>, id: PathId, modifier: TraitBoundModifi
     }
 }
 
-fn open_for_bound<'a>(stack: &mut Stack<'a>, names: &'a [Name], id: PathId) -> Result<(), PrintFault>
-    ensures ok { OnOk result ((s : Setting) → Opens s (listed stack.old) (bound_items s (TypeBound.ForLifetime names.now id)) (8 + 6 * length names.now) (listed stack.new)) }
-    ensures memory { OnErr result (result ≡ Err PrintFault.Memory) }
+fn open_for_bound<'a>(stack: &mut Stack<'a>, names: &'a [Name], id: PathId) -> Result<(), AllocError>
+    ensures { OnOk result ((s : Setting) → Opens s (listed stack.old) (bound_items s (TypeBound.ForLifetime names.now id)) (8 + 6 * length names.now) (listed stack.new)) }
 {
     stack.push(&mut [
         Work::Text("for<"),
@@ -134,9 +124,8 @@ fn open_for_bound<'a>(stack: &mut Stack<'a>, names: &'a [Name], id: PathId) -> R
     ])
 }
 
-fn open_bound<'a>(stack: &mut Stack<'a>, bound: &'a TypeBound) -> Result<(), PrintFault>
-    ensures ok { OnOk result ((s : Setting) → Opens s (listed stack.old) (bound_items s bound.now) (bound_cost bound.now) (listed stack.new)) }
-    ensures memory { OnErr result (result ≡ Err PrintFault.Memory) }
+fn open_bound<'a>(stack: &mut Stack<'a>, bound: &'a TypeBound) -> Result<(), AllocError>
+    ensures { OnOk result ((s : Setting) → Opens s (listed stack.old) (bound_items s bound.now) (bound_cost bound.now) (listed stack.new)) }
 {
     match bound {
         TypeBound::Path(id, modifier) => open_path_bound(stack, *id, *modifier),
@@ -151,9 +140,8 @@ fn open_bound<'a>(stack: &mut Stack<'a>, bound: &'a TypeBound) -> Result<(), Pri
     }
 }
 
-fn open_use_args<'a>(stack: &mut Stack<'a>, args: &'a [UseArgRef]) -> Result<(), PrintFault>
-    ensures ok { OnOk result ((s : Setting) → Opens s (listed stack.old) (comma_joined (map (use_items s) args.now)) (1 + 9 * length args.now) (listed stack.new)) }
-    ensures memory { OnErr result (result ≡ Err PrintFault.Memory) }
+fn open_use_args<'a>(stack: &mut Stack<'a>, args: &'a [UseArgRef]) -> Result<(), AllocError>
+    ensures { OnOk result ((s : Setting) → Opens s (listed stack.old) (comma_joined (map (use_items s) args.now)) (1 + 9 * length args.now) (listed stack.new)) }
 {
     match args {
         [] => Ok(()),
@@ -162,9 +150,8 @@ fn open_use_args<'a>(stack: &mut Stack<'a>, args: &'a [UseArgRef]) -> Result<(),
     }
 }
 
-fn open_last_use<'a>(stack: &mut Stack<'a>, arg: &'a UseArgRef) -> Result<(), PrintFault>
-    ensures ok { OnOk result ((s : Setting) → Opens s (listed stack.old) (use_items s arg.now) (9) (listed stack.new)) }
-    ensures memory { OnErr result (result ≡ Err PrintFault.Memory) }
+fn open_last_use<'a>(stack: &mut Stack<'a>, arg: &'a UseArgRef) -> Result<(), AllocError>
+    ensures { OnOk result ((s : Setting) → Opens s (listed stack.old) (use_items s arg.now) (9) (listed stack.new)) }
 {
     match arg {
         UseArgRef::Name(name) => stack.push(&mut [Work::Name(name.as_str())]),
@@ -172,9 +159,8 @@ fn open_last_use<'a>(stack: &mut Stack<'a>, arg: &'a UseArgRef) -> Result<(), Pr
     }
 }
 
-fn open_use<'a>(stack: &mut Stack<'a>, first: &'a UseArgRef, rest: &'a [UseArgRef]) -> Result<(), PrintFault>
-    ensures ok { OnOk result ((s : Setting) → Opens s (listed stack.old) (use_items s first.now ++ text (codes ", ") ++ comma_joined (map (use_items s) rest.now)) (10 + 9 * length rest.now) (listed stack.new)) }
-    ensures memory { OnErr result (result ≡ Err PrintFault.Memory) }
+fn open_use<'a>(stack: &mut Stack<'a>, first: &'a UseArgRef, rest: &'a [UseArgRef]) -> Result<(), AllocError>
+    ensures { OnOk result ((s : Setting) → Opens s (listed stack.old) (use_items s first.now ++ text (codes ", ") ++ comma_joined (map (use_items s) rest.now)) (10 + 9 * length rest.now) (listed stack.new)) }
 {
     match first {
         UseArgRef::Name(name) => stack.push(&mut [
@@ -191,9 +177,8 @@ fn open_use<'a>(stack: &mut Stack<'a>, first: &'a UseArgRef, rest: &'a [UseArgRe
 }
 
 /// Puts the items of a part of a type on the stack.
-pub(crate) fn open_type_part<'a>(stack: &mut Stack<'a>, part: &TypePart<'a>) -> Result<(), PrintFault>
-    ensures ok { OnOk result ((s : Setting) → Opens s (listed stack.old) (type_part_items s part.now) (type_part_cost part.now) (listed stack.new)) }
-    ensures memory { OnErr result (result ≡ Err PrintFault.Memory) }
+pub(crate) fn open_type_part<'a>(stack: &mut Stack<'a>, part: &TypePart<'a>) -> Result<(), AllocError>
+    ensures { OnOk result ((s : Setting) → Opens s (listed stack.old) (type_part_items s part.now) (type_part_cost part.now) (listed stack.new)) }
 {
     match part {
         TypePart::After(before, type_ref) => open_after(stack, *before, *type_ref),

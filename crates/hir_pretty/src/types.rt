@@ -1,21 +1,20 @@
 //! Types, put on the stack of what is still to be printed, part by part.
 #![tactic(auto, using(crate::proofs::OpenLemmas::opening))]
 
-ghost use Rattle.std.specs.Prelude.{◌≡◌, ◌+◌, ◌*◌, ◌++◌, ◌&&◌, ℕ, List, Option, Err, OnOk, OnErr, length, map, codes};
+ghost use Rattle.std.specs.Prelude.{◌≡◌, ◌+◌, ◌*◌, ◌++◌, ◌&&◌, ℕ, List, Option, OnOk, length, map, codes};
 ghost use Rattle.hir_pretty.specs.Questions.{Setting};
 ghost use Rattle.hir_pretty.specs.Items.{t, text, opt, when};
 ghost use Rattle.hir_pretty.specs.Types.{signature_items, fn_items, type_items};
 ghost use Rattle.hir_pretty.specs.Costs.{type_cost};
 ghost use Rattle.hir_pretty.specs.Works.{listed, Opens, front_items};
 
-use crate::fault::PrintFault;
 use crate::work::{Look, PathPart, Stack, TypePart, Work};
 use hir_base::{ExprPrecedence, Name};
 use hir_node::{FnType, RefType, TypeRef, TypeRefId};
+use std::alloc::AllocError;
 
-fn open_fn<'a>(stack: &mut Stack<'a>, function: &'a FnType) -> Result<(), PrintFault>
-    ensures ok { OnOk result ((s : Setting) → Opens s (listed stack.old) (fn_items s function.now) (1 + type_cost (TypeRef.Fn function.now)) (listed stack.new)) }
-    ensures memory { OnErr result (result ≡ Err PrintFault.Memory) }
+fn open_fn<'a>(stack: &mut Stack<'a>, function: &'a FnType) -> Result<(), AllocError>
+    ensures { OnOk result ((s : Setting) → Opens s (listed stack.old) (fn_items s function.now) (1 + type_cost (TypeRef.Fn function.now)) (listed stack.new)) }
 {
     open_signature(stack, function.params.as_slice(), function.is_varargs)?;
     stack.push(&mut [
@@ -25,9 +24,8 @@ fn open_fn<'a>(stack: &mut Stack<'a>, function: &'a FnType) -> Result<(), PrintF
     ])
 }
 
-fn open_signature<'a>(stack: &mut Stack<'a>, params: &'a [(Option<Name>, TypeRefId)], is_varargs: bool) -> Result<(), PrintFault>
-    ensures ok { OnOk result ((s : Setting) → Opens s (listed stack.old) (signature_items is_varargs (map (λ (entry : Option (List ℕ) × ℕ). entry.1) params.now)) (9 + 3 * length params.now) (listed stack.new)) }
-    ensures memory { OnErr result (result ≡ Err PrintFault.Memory) }
+fn open_signature<'a>(stack: &mut Stack<'a>, params: &'a [(Option<Name>, TypeRefId)], is_varargs: bool) -> Result<(), AllocError>
+    ensures { OnOk result ((s : Setting) → Opens s (listed stack.old) (signature_items is_varargs (map (λ (entry : Option (List ℕ) × ℕ). entry.1) params.now)) (9 + 3 * length params.now) (listed stack.new)) }
 {
     match params {
         [] => open_ends(stack, params, is_varargs, false, None),
@@ -36,9 +34,8 @@ fn open_signature<'a>(stack: &mut Stack<'a>, params: &'a [(Option<Name>, TypeRef
     }
 }
 
-fn open_ends<'a>(stack: &mut Stack<'a>, params: &'a [(Option<Name>, TypeRefId)], is_varargs: bool, has_params: bool, ret: Option<TypeRefId>) -> Result<(), PrintFault>
-    ensures ok { OnOk result ((s : Setting) → Opens s (listed stack.old) (text (codes "fn(") ++ front_items params.now ++ when (is_varargs && has_params) (text (codes ", ")) ++ when is_varargs (text (codes "...")) ++ text (codes ") -> ") ++ opt t ret) (9 + 3 * length params.now) (listed stack.new)) }
-    ensures memory { OnErr result (result ≡ Err PrintFault.Memory) }
+fn open_ends<'a>(stack: &mut Stack<'a>, params: &'a [(Option<Name>, TypeRefId)], is_varargs: bool, has_params: bool, ret: Option<TypeRefId>) -> Result<(), AllocError>
+    ensures { OnOk result ((s : Setting) → Opens s (listed stack.old) (text (codes "fn(") ++ front_items params.now ++ when (is_varargs && has_params) (text (codes ", ")) ++ when is_varargs (text (codes "...")) ++ text (codes ") -> ") ++ opt t ret) (9 + 3 * length params.now) (listed stack.new)) }
 {
     match ret {
         None => stack.push(&mut [
@@ -59,9 +56,8 @@ fn open_ends<'a>(stack: &mut Stack<'a>, params: &'a [(Option<Name>, TypeRefId)],
     }
 }
 
-fn open_reference<'a>(stack: &mut Stack<'a>, reference: &'a RefType) -> Result<(), PrintFault>
-    ensures ok { OnOk result ((s : Setting) → Opens s (listed stack.old) (type_items s (TypeRef.Reference reference.now)) (21) (listed stack.new)) }
-    ensures memory { OnErr result (result ≡ Err PrintFault.Memory) }
+fn open_reference<'a>(stack: &mut Stack<'a>, reference: &'a RefType) -> Result<(), AllocError>
+    ensures { OnOk result ((s : Setting) → Opens s (listed stack.old) (type_items s (TypeRef.Reference reference.now)) (21) (listed stack.new)) }
 {
     match reference.lifetime {
         None => stack.push(&mut [
@@ -80,9 +76,8 @@ fn open_reference<'a>(stack: &mut Stack<'a>, reference: &'a RefType) -> Result<(
 }
 
 /// Puts the items of a type on the stack.
-pub(crate) fn open_type<'a>(stack: &mut Stack<'a>, type_ref: &'a TypeRef) -> Result<(), PrintFault>
-    ensures ok { OnOk result ((s : Setting) → Opens s (listed stack.old) (type_items s type_ref.now) (1 + type_cost type_ref.now) (listed stack.new)) }
-    ensures memory { OnErr result (result ≡ Err PrintFault.Memory) }
+pub(crate) fn open_type<'a>(stack: &mut Stack<'a>, type_ref: &'a TypeRef) -> Result<(), AllocError>
+    ensures { OnOk result ((s : Setting) → Opens s (listed stack.old) (type_items s type_ref.now) (1 + type_cost type_ref.now) (listed stack.new)) }
 {
     match type_ref {
         TypeRef::Never => stack.push(&mut [Work::Text("!")]),

@@ -1,15 +1,14 @@
 //! What is still to be printed: pieces, nodes, what is looked up, and the rest of lists. And the stack of it.
 
-ghost use Rattle.std.specs.Prelude.{◌≡◌, [], ◌∷◌, ◌++◌, None, Err, OnOk, OnErr, IfSome};
+ghost use Rattle.std.specs.Prelude.{◌≡◌, [], ◌∷◌, ◌++◌, None, OnOk, IfSome};
 
-use crate::fault::PrintFault;
 use hir_base::{CrateId, ExprPrecedence, ExternAbi, LangItemTarget, LifetimeParamId, Name, NamedDef, PathKind, TypeParamId};
 use hir_expr_store::Missing;
 use hir_node::{
     AssociatedTypeBinding, BindingId, ClosureKind, ExprId, GenericArg, GenericArgs, LabelId, LifetimeRefId, Literal, MatchArm, PatId,
     Path, RecordFieldPat, RecordLitField, RecordSpread, Statement, TypeBound, TypeRefId, UseArgRef,
 };
-use std::alloc::Global;
+use std::alloc::{AllocError, Global};
 
 /// What is still to be printed.
 #[derive(Clone, Copy)]
@@ -155,16 +154,13 @@ impl<'a> Stack<'a> {
 
     /// Puts works on top, the first above. Room is asked for once.
     ///
-    /// Answers `Memory` where it was refused.
-    pub(crate) fn push(&mut self, works: &mut [Work<'a>]) -> Result<(), PrintFault>
-        ensures ok { OnOk result (Pushes works.old (listed self.old) (listed self.new)) }
-        ensures memory { OnErr result (result ≡ Err PrintFault.Memory) }
-    {
+    /// Answers an error where it was refused.
+    pub(crate) fn push(&mut self, works: &mut [Work<'a>]) -> Result<(), AllocError>
+        ensures { OnOk result (Pushes works.old (listed self.old) (listed self.new)) }
+        {
         works.reverse();
-        match self.works.extend_from_slice(works) {
-            Ok(()) => Ok(()),
-            Err(_) => Err(PrintFault::Memory),
-        }
+        self.works.extend_from_slice(works)?;
+        Ok(())
     }
 
     /// Takes the top.
