@@ -309,7 +309,7 @@ fn open_const(stack: &mut Stack<'_>, id: ExprId) -> Result<(), AllocError>
         Work::Text("const { /* "),
         Work::Text("ExprId"),
         Work::Text("("),
-        Work::Number(id.into_raw()),
+        Work::Number(u64::from(id.into_raw())),
         Work::Text(")"),
         Work::Text(" */ }"),
     ])

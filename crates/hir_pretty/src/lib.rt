@@ -24,3 +24,5 @@ pub use calls::{print_expr_hir, print_pat_hir, print_path};
 pub use definitions::Definitions;
 pub use fault::PrintFault;
 pub use hir_page::LineFormat;
+pub use print::print_works;
+pub use work::{ExprPart, Look, PatPart, PathPart, TypePart, Work};

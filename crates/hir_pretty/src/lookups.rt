@@ -50,7 +50,7 @@ fn open_param_name<'a>(stack: &mut Stack<'a>, number: u32, found: Option<&'a Nam
     ensures { OnOk result ((s : Setting) → Opens s (listed stack.old) (type_param_items s number (Ok (option_copied found.entry))) 5 (listed stack.new)) }
 {
     match found {
-        None => stack.push(&mut [Work::Text("Param["), Work::Number(number), Work::Text("]")]),
+        None => stack.push(&mut [Work::Text("Param["), Work::Number(u64::from(number)), Work::Text("]")]),
         Some(name) => stack.push(&mut [Work::Name(name.as_str())]),
     }
 }

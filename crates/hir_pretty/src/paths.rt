@@ -106,7 +106,7 @@ fn open_target(stack: &mut Stack<'_>, target: LangItemTarget) -> Result<(), Allo
         LangItemTarget::ImplId(id) => stack.push(&mut [
             Work::Text("ImplId"),
             Work::Text("("),
-            Work::Number(id.into_raw()),
+            Work::Number(u64::from(id.into_raw())),
             Work::Text(")"),
         ]),
         LangItemTarget::EnumId(id) => stack.push(&mut [Work::Look(Look::NameOf(NamedDef::EnumId(id)))]),

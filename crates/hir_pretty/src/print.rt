@@ -60,7 +60,7 @@ fn line_format(one_line: bool) -> LineFormat
 }
 
 /// The text of what works stand for, the first first.
-pub(crate) fn print_works<'a, D: Definitions>(
+pub fn print_works<'a, D: Definitions>(
     alloc: Global,
     store: &'a ExpressionStore,
     tables: &'a D,

@@ -12,7 +12,7 @@ use std::alloc::{AllocError, Global};
 
 /// What is still to be printed.
 #[derive(Clone, Copy)]
-pub(crate) enum Work<'a> {
+pub enum Work<'a> {
     Text(&'a str),
     Space,
     Break,
@@ -21,7 +21,7 @@ pub(crate) enum Work<'a> {
     /// A definition that is missing.
     Lacks(Missing),
     /// A number in decimal.
-    Number(u32),
+    Number(u64),
     Literal(&'a Literal),
     /// A name, with `r#` where the edition's words list it.
     Name(&'a str),
@@ -42,7 +42,7 @@ pub(crate) enum Work<'a> {
 
 /// What is looked up in the tables and in the store.
 #[derive(Clone, Copy)]
-pub(crate) enum Look {
+pub enum Look {
     NameOf(NamedDef),
     CrateName(CrateId),
     TypeParam(TypeParamId),
@@ -56,7 +56,7 @@ pub(crate) enum Look {
 
 /// Parts of expressions.
 #[derive(Clone, Copy)]
-pub(crate) enum ExprPart<'a> {
+pub enum ExprPart<'a> {
     /// A text and an expression, where there is one.
     After(&'a str, Option<ExprId>),
     /// An expression, where there is one.
@@ -81,7 +81,7 @@ pub(crate) enum ExprPart<'a> {
 
 /// Parts of patterns.
 #[derive(Clone, Copy)]
-pub(crate) enum PatPart<'a> {
+pub enum PatPart<'a> {
     /// An end of a range, where there is one.
     RangeEnd(Option<ExprId>),
     Elements(&'a [PatId]),
@@ -96,7 +96,7 @@ pub(crate) enum PatPart<'a> {
 
 /// Parts of types.
 #[derive(Clone, Copy)]
-pub(crate) enum TypePart<'a> {
+pub enum TypePart<'a> {
     /// A text and a type, where there is one.
     After(&'a str, Option<TypeRefId>),
     Joined(&'a [TypeRefId]),
@@ -112,7 +112,7 @@ pub(crate) enum TypePart<'a> {
 
 /// Parts of paths.
 #[derive(Clone, Copy)]
-pub(crate) enum PathPart<'a> {
+pub enum PathPart<'a> {
     Whole(&'a Path),
     Kind(PathKind),
     /// So many times `super`.
