@@ -43,3 +43,15 @@ result_last v (y ∷ []) x e l = absurd (omega arith)
 result_last v (y ∷ z ∷ xs) x e l =
     ap (λ is. text (codes "fn(") ++ front_items (y ∷ z ∷ xs) ++ when (v && true) (text (codes ", ")) ++ when v (text (codes "...")) ++ text (codes ") -> ") ++ is) (last_at (y ∷ z ∷ xs) x (length (y ∷ z ∷ xs) - 1) (omega arith) e)
     ∙ ap (λ is. is ++ text (codes ") -> ") ++ last (types_of (y ∷ z ∷ xs))) (dots_after v (text (codes "fn(") ++ front_items (y ∷ z ∷ xs)) y.1 (front (types_of (z ∷ xs))))
+
+-- the parameters of a list of one, and of two
+pub front_one : (xs : List (Option (List ℕ) × ℕ)) → 0 < length xs → length xs < 2 → front_items xs ≡ []
+front_one [] l m = refl
+front_one (x ∷ []) l m = refl
+front_one (x ∷ y ∷ xs) l m = absurd (omega arith)
+
+pub front_two : (xs : List (Option (List ℕ) × ℕ)) (x : Option (List ℕ) × ℕ) → x ≡ get_or xs 0 x → 1 < length xs → length xs < 3 → t x.1 ≡ front_items xs
+front_two [] x e l m = absurd (omega arith)
+front_two (a ∷ []) x e l m = absurd (omega arith)
+front_two (a ∷ b ∷ []) x e l m = ap (λ (z : Option (List ℕ) × ℕ). t z.1) e
+front_two (a ∷ b ∷ c ∷ xs) x e l m = absurd (omega arith)
