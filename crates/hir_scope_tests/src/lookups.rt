@@ -1,10 +1,7 @@
 //! The scopes of definitions, looked up in tables: of what is there, and what is answered where it isn't.
 use crate::build::{self, Step};
 use crate::nodes::ExprStep;
-use hir_base::{
-    AdtId, DefWithBodyId, ExpressionStoreOwnerId, FunctionId, GenericDefId, Seq, StructId, TraitId,
-    VariantId,
-};
+use hir_base::{AdtId, DefWithBodyId, FunctionId, GenericDefId, Seq, StructId, TraitId, VariantId};
 use hir_defs::{
     Body, BodySourceMap, FieldsShape, GenericParams, PlainDef, PlainParts, PlainSignature, Tables,
     VariantFields, VariantParts,
@@ -125,10 +122,6 @@ fn fields_of(number: u32) -> VariantId {
     VariantId::StructId(StructId::from_raw(number))
 }
 
-fn owner_of_fields(number: u32) -> ExpressionStoreOwnerId {
-    ExpressionStoreOwnerId::VariantFields(fields_of(number))
-}
-
 type Count = Result<usize, ScopesFault>;
 
 fn in_body(tables: &Tables, alloc: Global, number: u32) -> Count {
@@ -143,27 +136,17 @@ fn in_signature(tables: &Tables, alloc: Global, number: u32) -> Count {
     count(ExprScopes::sig_expr_scopes(alloc, tables, signature_of(number)))
 }
 
-fn of_signature(tables: &Tables, alloc: Global, number: u32) -> Count {
-    count(ExprScopes::of(alloc, tables, signature_of(number)))
-}
-
 fn in_fields(tables: &Tables, alloc: Global, number: u32) -> Count {
     count(ExprScopes::variant_scopes(alloc, tables, fields_of(number)))
 }
 
-fn of_fields(tables: &Tables, alloc: Global, number: u32) -> Count {
-    count(ExprScopes::of(alloc, tables, owner_of_fields(number)))
-}
-
 /// How many scopes the body of the function, the signature of the trait and the fields of the struct of this number have.
-fn counts(tables: &Tables, alloc: Global, number: u32) -> [Count; 6] {
+fn counts(tables: &Tables, alloc: Global, number: u32) -> [Count; 4] {
     [
         in_body(tables, alloc, number),
         of_body(tables, alloc, number),
         in_signature(tables, alloc, number),
-        of_signature(tables, alloc, number),
         in_fields(tables, alloc, number),
-        of_fields(tables, alloc, number),
     ]
 }
 
@@ -173,7 +156,7 @@ fn what_is_there_has_scopes(rt: HostRuntime) -> Result<(), Fail> {
     add_body(&mut tables, rt.alloc())?;
     add_signature(&mut tables, rt.alloc())?;
     add_fields(&mut tables, rt.alloc())?;
-    assert!(&rt; counts(&tables, rt.alloc(), 4) == [Ok(1), Ok(1), Ok(3), Ok(3), Ok(4), Ok(4)]);
+    assert!(&rt; counts(&tables, rt.alloc(), 4) == [Ok(1), Ok(1), Ok(3), Ok(4)]);
     Ok(())
 }
 
@@ -182,7 +165,7 @@ fn what_is_not_there_is_missing(rt: HostRuntime) -> Result<(), Fail> {
     let mut tables = Box::new(rt.alloc(), Tables::new(rt.alloc()))?;
     add_body(&mut tables, rt.alloc())?;
     let missing = Err(ScopesFault::Missing);
-    assert!(&rt; counts(&tables, rt.alloc(), 5) == [missing; 6]);
+    assert!(&rt; counts(&tables, rt.alloc(), 5) == [missing; 4]);
     let adt = GenericDefId::AdtId(AdtId::StructId(StructId::from_raw(4)));
     assert!(&rt; count(ExprScopes::sig_expr_scopes(rt.alloc(), &tables, adt)) == missing);
     Ok(())
