@@ -28,6 +28,13 @@ impl FloatTypeWrapper {
     {
         FloatTypeWrapper(text)
     }
+
+    /// The text of the number.
+    pub fn as_str(&self) -> &str
+        ensures { result.now ≡ self.now }
+    {
+        self.0.as_str()
+    }
 }
 
 /// The text of the number, as it is.

@@ -9,3 +9,8 @@ pub mod Pats
 pub mod Pieces
 pub mod Falls
 pub mod Settings
+pub mod SameNames
+pub mod Printed
+pub mod Costs
+pub mod Works
+pub mod Answers

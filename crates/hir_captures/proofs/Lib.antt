@@ -1,0 +1,6 @@
+mod AskLemmas
+mod CodeLemmas
+mod KidLemmas
+mod FoundLemmas
+mod ReadLemmas
+mod Rows

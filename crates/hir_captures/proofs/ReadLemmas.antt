@@ -1,0 +1,124 @@
+-- Reading a node leaves what is to be found as it was.
+use Rattle.std.proofs.Common.{◌≡◌, ℕ, ◌<◌, List, [], ◌∷◌, ◌++◌, Option, Some, None, fold, length, refl, sym, ap, ◌∙◌, subst, arith}
+use Rattle.std.specs.Prelude.{IsSome, ◌↔◌}
+use Rattle.std.specs.List.{flat_map, filter_map, slice_get}
+use Rattle.std.specs.FinMap as map
+use Rattle.std.proofs.lemmas.List.{append-nil}
+use Rattle.std.proofs.lemmas.List.Elements.{filter_map-append}
+use Rattle.std.proofs.lemmas.List.Concat.{flat_map-append}
+use Rattle.std.proofs.lemmas.List.Sums.{fold-append}
+use Rattle.hir_path.specs.declared.ids.ExprOrPatId.TheVariants.{ExprId, PatId}
+use Rattle.hir_node.specs.ChildCalls.{Call, pat_calls}
+use Rattle.hir_node.specs.declared.expr.Expr.{Expr}
+use Rattle.hir_node.specs.declared.expr.Expr.TheVariants as expr
+use Rattle.hir_node.specs.declared.pat.Pat.{Pat}
+use Rattle.hir_node.specs.declared.pat.Pat.TheVariants as pat
+use Rattle.hir_base.specs.declared.hygiene.SyntaxContext.{SyntaxContext}
+use Rattle.hir_path.specs.declared.path.Path.{Path}
+use Rattle.hir_node.specs.declared.node_id.NodeId.{NodeId}
+use Rattle.hir_node.specs.declared.node_id.NodeId.TheVariants as node
+use Rattle.hir_faults.specs.Down.{KidsFall}
+use Rattle.hir_expr_store.specs.Contents.{Contents}
+use Rattle.hir_expr_store.specs.SideTables.{hygiene_of}
+use Rattle.hir_scope.specs.Forms.{ScopingForm, form_of, form_at, expr_form, pat_form}
+use Rattle.hir_scope.specs.Scopes.{Scopes}
+use Rattle.hir_scope.specs.Paths.{chain}
+use Rattle.hir_scope.specs.Chains.{HasChain}
+use Rattle.hir_scope.specs.Built.{ChainsAreFrames, tops_of_body}
+use Rattle.hir_items.specs.Bodies.{BodyContents, BodyReaches}
+use Rattle.hir_captures.specs.declared.tasks.Task.{Task}
+use Rattle.hir_captures.specs.declared.tasks.Task.TheVariants as task
+use Rattle.hir_captures.specs.Captures.{with_new, AreChains, AreCaptures}
+use Rattle.hir_captures.specs.Pending.{met_in_form, pat_task, tasks_of, task_node, task_target, code_of, AreThere}
+use Rattle.hir_captures.specs.Reading.{chain_in, captured_in, with_uses, with_code, Reads}
+use Rattle.hir_captures.specs.Uses.{Spot, Use, uses_in, spot, if_assignment, assignment_at, expr_uses, pat_uses, uses_at, spot_uses, code_under}
+use Rattle.hir_captures.proofs.CodeLemmas.{code_read, kids_there}
+
+pub no_assignment : (id : ℕ) (x : Expr) → ((target value : ℕ) → x ≡ expr.Assignment target value → ⊥) → None ≡ if_assignment id (Some x)
+no_assignment id (expr.Assignment target value) h = absurd (h target value refl)
+no_assignment id _ h = refl
+
+-- what is no path uses nothing
+pub no_expr_use : (h : SyntaxContext) (id : ℕ) (x : Expr) → ((path : Path) → x ≡ expr.Path path → ⊥) → expr_uses h id (Some x) ≡ []
+no_expr_use h id (expr.Path path) no_path = absurd (no_path path refl)
+no_expr_use h id _ no_path = refl
+
+pub no_pat_use : (h : SyntaxContext) (a : ℕ) (x : Pat) → ((path : Path) → x ≡ pat.Path path → ⊥) → pat_uses h (Some a) (Some x) ≡ []
+no_pat_use h a (pat.Path path) no_path = absurd (no_path path refl)
+no_pat_use h a _ no_path = refl
+
+module _ (c : Contents) (scopes : Scopes) (outermost : ℕ) where
+  uses_two : (found : List ℕ) (us vs : List Use) → with_uses scopes outermost found (us ++ vs) ≡ with_uses scopes outermost (with_uses scopes outermost found us) vs
+  uses_two found us vs =
+      ap (fold with_new found) (filter_map-append (captured_in scopes outermost) us vs)
+      ∙ fold-append with_new found (filter_map (captured_in scopes outermost) us) (filter_map (captured_in scopes outermost) vs)
+
+  module _ (fall : KidsFall c.nodes) (t : Task) (rest new : List Task) (before after : List ℕ) where
+    abbrev put : List Task
+    put = tasks_of (assignment_at c.nodes (task_node t) (task_target t)) (met_in_form (form_of c.nodes (task_node t))) ++ rest
+
+    code_now : code_of c.nodes (t ∷ rest) ≡ spot (task_node t) (task_target t) ∷ code_of c.nodes put
+    code_now =
+        let kids = tasks_of (assignment_at c.nodes (task_node t) (task_target t)) (met_in_form (form_of c.nodes (task_node t))) in
+        ap (λ (xs : List Spot). xs ++ code_of c.nodes rest) (code_read c.nodes fall (task_node t) (task_target t))
+        ∙ ap (λ (xs : List Spot). spot (task_node t) (task_target t) ∷ xs) (sym (flat_map-append (λ (x : Task). code_under c.nodes (task_node x) (task_target x)) kids rest))
+
+    -- one node is read
+    read_one : AreThere c.nodes (t ∷ rest) → after ≡ with_uses scopes outermost before (uses_at c (task_node t) (task_target t)) → new ≡ put → Reads c scopes outermost before (t ∷ rest) after new
+    read_one there found is = record {
+      there = subst (AreThere c.nodes) (sym is) (kids_there c.nodes fall (task_node t) (assignment_at c.nodes (task_node t) (task_target t)) rest there.0 there.1);
+      finds =
+          ap (with_code c scopes outermost before) code_now
+          ∙ (uses_two before (uses_at c (task_node t) (task_target t)) (flat_map (spot_uses c) (code_of c.nodes put))
+          ∙ (ap (λ (xs : List ℕ). with_code c scopes outermost xs (code_of c.nodes put)) (sym found)
+          ∙ ap (λ (ts : List Task). with_code c scopes outermost after (code_of c.nodes ts)) (sym is)));
+      shorter =
+          let now = ap (length {A = Spot}) code_now in
+          let left = ap (λ (ts : List Task). length (code_of c.nodes ts)) is in
+          omega (arith, now, left);
+    }
+
+  pub read_expr : KidsFall c.nodes → (id : ℕ) (x : Expr) (rest new : List Task) (before after : List ℕ) → slice_get c.nodes.exprs id ≡ Some x → AreThere c.nodes (task.Expr id ∷ rest) →
+      after ≡ with_uses scopes outermost before (uses_at c (node.Expr id) None) →
+      new ≡ tasks_of (if_assignment id (Some x)) (met_in_form (expr_form x)) ++ rest → Reads c scopes outermost before (task.Expr id ∷ rest) after new
+  read_expr fall id x rest new before after is there found put =
+      read_one fall (task.Expr id) rest new before after there found
+      (put ∙ ap (λ (o : Option Expr). tasks_of (if_assignment id o) (met_in_form (form_at expr_form o)) ++ rest) (sym is))
+
+  pub read_pat : KidsFall c.nodes → (id : ℕ) (x : Pat) (a : Option ℕ) (rest new : List Task) (before after : List ℕ) → slice_get c.nodes.pats id ≡ Some x → AreThere c.nodes (pat_task a id ∷ rest) →
+      after ≡ with_uses scopes outermost before (uses_at c (node.Pat id) a) →
+      new ≡ tasks_of a (pat_calls x) ++ rest → Reads c scopes outermost before (pat_task a id ∷ rest) after new
+  read_pat fall id x None rest new before after is there found put =
+      read_one fall (task.Pat id) rest new before after there found
+      (put ∙ ap (λ (o : Option Pat). tasks_of None (met_in_form (form_at pat_form o)) ++ rest) (sym is))
+  read_pat fall id x (Some a) rest new before after is there found put =
+      read_one fall (task.Target id a) rest new before after there found
+      (put ∙ ap (λ (o : Option Pat). tasks_of (Some a) (met_in_form (form_at pat_form o)) ++ rest) (sym is))
+
+-- one task more was done
+pub reads_on : (c : Contents) (scopes : Scopes) (outermost : ℕ) (old new : List Task) (before after whole : List ℕ) → Reads c scopes outermost before old after new → whole ≡ with_code c scopes outermost before (code_of c.nodes old) →
+    AreThere c.nodes new × (whole ≡ with_code c scopes outermost after (code_of c.nodes new))
+reads_on c scopes outermost old new before after whole r e = (r.there, e ∙ r.finds)
+
+-- 2. The whole
+
+-- each reached expression has a scope, along which its frames stand
+chains_are : (b : BodyContents) (scopes : Scopes) → ((x : ℕ) → IsSome (map.get scopes.scope_by_expr x) ↔ BodyReaches b (node.Expr x)) → ChainsAreFrames b.store.nodes (tops_of_body b) scopes → AreChains b (chain_in scopes)
+chains_are b scopes reached chains x r = at (map.get scopes.scope_by_expr x) refl ((reached x).1 r) where
+  at : (o : Option ℕ) → map.get scopes.scope_by_expr x ≡ o → IsSome o → HasChain b.store.nodes (tops_of_body b) x (chain scopes.scopes (map.get scopes.scope_by_expr x))
+  at None e h = absurd cc
+  at (Some scope) e h = subst (λ (o : Option ℕ). HasChain b.store.nodes (tops_of_body b) x (chain scopes.scopes o)) (sym e) (chains x scope e)
+
+pub are_captures : (b : BodyContents) (scopes : Scopes) (closure scope : ℕ) (found : List ℕ) → ((x : ℕ) → IsSome (map.get scopes.scope_by_expr x) ↔ BodyReaches b (node.Expr x)) → ChainsAreFrames b.store.nodes (tops_of_body b) scopes →
+    map.get scopes.scope_by_expr closure ≡ Some scope → found ≡ with_code b.store scopes (length (chain scopes.scopes (Some scope))) [] (code_of b.store.nodes (task.Expr closure ∷ [])) → AreCaptures b closure found
+unfolding uses_in
+are_captures b scopes closure scope found reached chains is e = record {
+  chain = chain_in scopes;
+  are_chains = chains_are b scopes reached chains;
+  are =
+      e
+      ∙ (ap (λ (o : Option ℕ). with_code b.store scopes (length (chain scopes.scopes o)) [] (code_of b.store.nodes (task.Expr closure ∷ []))) (sym is)
+      ∙ ap (with_code b.store scopes (length (chain_in scopes closure)) []) (append-nil (code_under b.store.nodes (node.Expr closure) None)));
+}
+
+pub ruleset reads = (read_expr, read_pat)

@@ -1,0 +1,60 @@
+-- The captures of a closure: the bindings from outside that its code uses, in the order of their first use, each once.
+use Rattle.std.specs.Prelude.{◌≡◌, ℕ, ◌-◌, ⊤, List, [], ◌∷◌, ◌++◌, Option, Some, None, if◌then◌else◌, fold, take, length, filter_map, slice_get, ◌==◌}
+use Rattle.std.specs.List.{list_any}
+use Rattle.std.specs.Option.{option_map}
+use Rattle.hir_base.specs.declared.hygiene.SyntaxContext.{SyntaxContext}
+use Rattle.hir_node.specs.declared.expr.Expr.{Expr}
+use Rattle.hir_node.specs.declared.expr.Expr.TheVariants as expr
+use Rattle.hir_node.specs.declared.node_id.NodeId.TheVariants as node
+use Rattle.hir_expr_store.specs.Contents.{Contents}
+use Rattle.hir_items.specs.Bodies.{BodyContents, BodyReaches}
+use Rattle.hir_scope.specs.Built.{tops_of_body}
+use Rattle.hir_scope.specs.Chains.{HasChain}
+use Rattle.hir_scope.specs.Frames.{Chain}
+use Rattle.hir_scope.specs.Resolution.{resolve}
+use Rattle.hir_scope.specs.declared.scope.ScopeEntry.{ScopeEntry}
+use Rattle.hir_captures.specs.Uses.{Use, uses_in}
+
+-- the binding that a name means, but where it means one further in
+abbrev pub unless_within : Option ScopeEntry → Option ScopeEntry → Option ℕ
+unless_within None found = option_map (λ (entry : ScopeEntry). entry.binding) found
+unless_within (Some entry) found = None
+
+-- the binding that a name means along a chain, but where the entry stands in its innermost frames, of which there are so many
+abbrev pub meant_behind : ℕ → Chain → List ℕ → SyntaxContext → Option ℕ
+meant_behind innermost chain name hygiene = unless_within (resolve (take innermost chain) name hygiene) (resolve chain name hygiene)
+
+-- What a use captures: the binding that it resolves to, where the entry stands in the closure's part of the chain. The closure's own chain
+-- are the outermost frames; those within them stand between the use and the closure.
+abbrev pub captured : (ℕ → Chain) → ℕ → Use → Option ℕ
+captured chain closure use_ =
+    meant_behind (length (chain use_.expr) - length (chain closure)) (chain use_.expr) use_.name use_.hygiene
+
+-- each number of a list once, where it comes first
+abbrev pub with_new : List ℕ → ℕ → List ℕ
+with_new found x = if list_any (λ y. y == x) found then found else found ++ x ∷ []
+
+abbrev pub each_once : List ℕ → List ℕ
+each_once xs = fold with_new [] xs
+
+-- the captures of a closure, by the chain of each expression
+abbrev pub captures_by : (ℕ → Chain) → Contents → ℕ → List ℕ
+captures_by chain c closure = each_once (filter_map (captured chain closure) (uses_in c closure))
+
+-- each expression that the body reaches has this chain
+abbrev pub AreChains : BodyContents → (ℕ → Chain) → Type 0
+AreChains b chain = (expr : ℕ) → BodyReaches b (node.Expr expr) → HasChain b.store.nodes (tops_of_body b) expr (chain expr)
+
+pub record AreCaptures (b : BodyContents) (closure : ℕ) (captures : List ℕ) : Type 0 where
+  pub chain : ℕ → Chain
+  pub are_chains : AreChains b chain
+  pub are : captures ≡ captures_by chain b.store closure
+
+-- the expression is there, and is a closure
+abbrev pub IsClosure : Option Expr → Type 0
+IsClosure (Some (expr.Closure args arg_types ret_type body kind capture)) = ⊤
+IsClosure found = ⊥
+
+-- the expression is a closure that the body reaches
+abbrev pub IsReachedClosure : BodyContents → ℕ → Type 0
+IsReachedClosure b id = IsClosure (slice_get b.store.nodes.exprs id) × BodyReaches b (node.Expr id)

@@ -1,0 +1,109 @@
+-- The uses of variables in a closure's code: the paths of one name that stand there and in no constant, in the order in which they are met.
+use Rattle.std.specs.Prelude.{ℕ, zero, List, [], ◌∷◌, ◌++◌, Option, Some, None, codes, slice_get}
+use Rattle.std.specs.List.{flat_map}
+use Rattle.hir_base.specs.declared.hygiene.SyntaxContext.{SyntaxContext}
+use Rattle.hir_base.specs.declared.mod_path.PathKind.{PathKind}
+use Rattle.hir_base.specs.declared.mod_path.PathKind.TheVariants.{Plain, Super}
+use Rattle.hir_path.specs.declared.ids.ExprOrPatId.TheVariants.{ExprId, PatId}
+use Rattle.hir_path.specs.declared.path.Path.{Path}
+use Rattle.hir_path.specs.declared.path.Path.TheVariants as path
+use Rattle.hir_node.specs.declared.expr.Expr.{Expr}
+use Rattle.hir_node.specs.declared.expr.Expr.TheVariants as expr
+use Rattle.hir_node.specs.declared.pat.Pat.{Pat}
+use Rattle.hir_node.specs.declared.pat.Pat.TheVariants as pat
+use Rattle.hir_node.specs.declared.node_id.NodeId.{NodeId}
+use Rattle.hir_node.specs.declared.node_id.NodeId.TheVariants as node
+use Rattle.hir_faults.specs.Nodes.{Nodes}
+use Rattle.hir_faults.specs.Down.{value}
+use Rattle.hir_expr_store.specs.Contents.{Contents}
+use Rattle.hir_expr_store.specs.SideTables.{hygiene_of}
+use Rattle.hir_scope.specs.Slots.{Base, Here, Const, Slot, slots}
+
+-- 1. The code of a closure
+
+-- a node of the code, and the assignment in whose target it is a pattern, where it is one
+pub record Spot : Type 0 where
+  pub node : NodeId
+  pub assignment : Option ℕ
+
+-- an assignment's pattern is its target
+abbrev pub if_assignment : ℕ → Option Expr → Option ℕ
+if_assignment id (Some (expr.Assignment target value)) = Some id
+if_assignment id found = None
+
+-- the assignment in whose target a node's patterns stand: the node itself, or that in whose target it stands
+abbrev pub assignment_at : Nodes → NodeId → Option ℕ → Option ℕ
+assignment_at s (node.Expr id) assignment = if_assignment id (slice_get s.exprs id)
+assignment_at s (node.Pat id) assignment = assignment
+assignment_at s (node.TypeRef id) assignment = None
+
+-- only patterns stand in targets: an expression in one begins anew
+abbrev pub of_pattern : NodeId → Option ℕ → Option ℕ
+of_pattern (node.Pat id) assignment = assignment
+of_pattern (node.Expr id) assignment = None
+of_pattern (node.TypeRef id) assignment = None
+
+abbrev pub spot : NodeId → Option ℕ → Spot
+spot n assignment = record { node = n; assignment = assignment }
+
+-- what stands among the constants is no code of the closure
+abbrev pub in_code : Base → List Spot → List Spot
+in_code Here spots = spots
+in_code Const spots = []
+
+-- the code of a kid, by its slot
+abbrev pub kid_code : (NodeId → Option ℕ → List Spot) → Option ℕ → Slot → List Spot
+kid_code self assignment slot = in_code slot.base (self slot.kid (of_pattern slot.kid assignment))
+
+-- a node, and the code of its kids in the order in which scopes are made
+abbrev pub code_step : Nodes → (NodeId → Option ℕ → List Spot) → NodeId → Option ℕ → List Spot
+code_step s self n assignment = spot n assignment ∷ flat_map (kid_code self (assignment_at s n assignment)) (slots s n)
+
+-- the code under a node, itself first
+unfoldable pub code_under : Nodes → NodeId → Option ℕ → List Spot
+code_under s n assignment = value s (code_step s) (λ assignment. []) n assignment
+
+-- 2. What is used in it
+
+-- A path that may name a variable asks for a name: one segment alone for itself, and `self` for `self`.
+abbrev pub name_asked : PathKind → List (List ℕ) → Option (List ℕ)
+name_asked Plain (name ∷ []) = Some name
+name_asked (Super zero) [] = Some (codes "self")
+name_asked kind names = None
+
+abbrev pub asked_name : Path → Option (List ℕ)
+asked_name (path.BarePath p) = name_asked p.kind p.segments
+asked_name (path.Normal n) = None
+asked_name (path.LangItem target name) = None
+
+-- a use: the name and the hygiene that are asked for, and the expression in whose chain they are asked for
+pub record Use : Type 0 where
+  pub name : List ℕ
+  pub hygiene : SyntaxContext
+  pub expr : ℕ
+
+abbrev pub use_of : SyntaxContext → ℕ → Option (List ℕ) → List Use
+use_of hygiene expr None = []
+use_of hygiene expr (Some name) = record { name = name; hygiene = hygiene; expr = expr } ∷ []
+
+-- an expression that is a path asks in its own chain
+abbrev pub expr_uses : SyntaxContext → ℕ → Option Expr → List Use
+expr_uses hygiene id (Some (expr.Path path)) = use_of hygiene id (asked_name path)
+expr_uses hygiene id found = []
+
+-- a pattern that is a path asks where it stands in the target of an assignment, in the chain of the assignment
+abbrev pub pat_uses : SyntaxContext → Option ℕ → Option Pat → List Use
+pat_uses hygiene (Some assignment) (Some (pat.Path path)) = use_of hygiene assignment (asked_name path)
+pat_uses hygiene assignment found = []
+
+abbrev pub uses_at : Contents → NodeId → Option ℕ → List Use
+uses_at c (node.Expr id) assignment = expr_uses (hygiene_of c.side_tables (ExprId id)) id (slice_get c.nodes.exprs id)
+uses_at c (node.Pat id) assignment = pat_uses (hygiene_of c.side_tables (PatId id)) assignment (slice_get c.nodes.pats id)
+uses_at c (node.TypeRef id) assignment = []
+
+abbrev pub spot_uses : Contents → Spot → List Use
+spot_uses c spot = uses_at c spot.node spot.assignment
+
+-- the uses in a closure
+unfoldable pub uses_in : Contents → ℕ → List Use
+uses_in c closure = flat_map (spot_uses c) (code_under c.nodes (node.Expr closure) None)

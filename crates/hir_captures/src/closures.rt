@@ -1,0 +1,76 @@
+//! The bindings that a closure captures.
+ghost use Rattle.std.specs.Prelude.{◌≡◌, ◌↔◌, ◌<◌, ℕ, length, Some, Err, IfOk, IfSome, IsSome, slice_get};
+ghost use Rattle.std.specs.FinMap as map;
+ghost use Rattle.hir_node.specs.declared.node_id.NodeId.TheVariants as node;
+ghost use Rattle.hir_items.specs.Bodies.{BodyReaches};
+ghost use Rattle.hir_scope.specs.Built.{ChainsAreFrames, tops_of_body};
+ghost use Rattle.hir_captures.specs.Captures.{AreCaptures, IsClosure, IsReachedClosure};
+
+use crate::asks::depth;
+use crate::fault::CapturesFault;
+use crate::tasks::Task;
+use crate::walk::Walk;
+use hir_expr_store::ExpressionStore;
+use hir_items::Body;
+use hir_node::{BindingId, Expr, ExprId};
+use hir_scope::{ExprScopes, ScopeId};
+use std::alloc::Global;
+
+/// The scope of an expression, where it is a closure.
+fn scope_of_closure(
+    store: &ExpressionStore,
+    scopes: &ExprScopes,
+    closure: ExprId,
+) -> Option<ScopeId>
+    ensures some { IfSome result (λ scope. map.get scopes.now.scope_by_expr closure ≡ Some scope) }
+    ensures closure { IfSome result (λ scope. IsClosure (slice_get store.now.nodes.exprs closure)) }
+    ensures there { IfSome result (λ scope. scope < length scopes.now.scopes) }
+    ensures has { IfSome result (λ scope. closure < length store.now.nodes.exprs) }
+    ensures none { IsSome (map.get scopes.now.scope_by_expr closure)
+        → IsClosure (slice_get store.now.nodes.exprs closure) → IsSome result }
+{
+    if !store.has_expr(closure) {
+        return None;
+    }
+    if let Expr::Closure {
+        args: _,
+        arg_types: _,
+        ret_type: _,
+        body: _,
+        closure_kind: _,
+        capture_by: _,
+    } = &store[closure]
+    {
+        return scopes.scope_for(closure);
+    }
+    None
+}
+
+/// The bindings that a closure captures: those of outside that its code uses, in the order of their first use, each once. What stands in
+/// a constant or a type isn't the closure's code.
+///
+/// Answers `NotAClosure` exactly where the expression is no closure that the body reaches, also where it isn't there, and `Memory` where
+/// room was refused. `scopes` have to be those of the body, as `ExprScopes::new_body` makes them. It takes time in the number of nodes
+/// under the closure and the scopes and entries of the chains in which names are asked for, and doesn't recurse.
+pub fn captures(
+    alloc: Global,
+    body: &Body,
+    scopes: &ExprScopes,
+    closure: ExprId,
+) -> Result<Vec<BindingId>, CapturesFault>
+    requires reached { (expr : ℕ) → IsSome (map.get scopes.now.scope_by_expr expr)
+        ↔ BodyReaches body.now (node.Expr expr) }
+    requires chains { ChainsAreFrames body.now.store.nodes (tops_of_body body.now) scopes.now }
+    ensures captures { IfOk result (λ found. AreCaptures body.now closure found.items) }
+    ensures closure { IfOk result (λ found. IsReachedClosure body.now closure) }
+    ensures no_closure { result ≡ Err CapturesFault.NotAClosure ↔ (IsReachedClosure body.now closure → ⊥) }
+{
+    let store = body.store();
+    let Some(scope) = scope_of_closure(store, scopes, closure) else {
+        return Err(CapturesFault::NotAClosure);
+    };
+    let mut walk = Walk::new(alloc, store.bindings().len())?;
+    walk.tasks.push(Task::Expr(closure))?;
+    walk.read_all(store, scopes, depth(scopes, scope))?;
+    Ok(walk.found.into_bindings())
+}

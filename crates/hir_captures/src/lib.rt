@@ -1,0 +1,13 @@
+//! Captured variables: the bindings from outside that a closure's code uses.
+#![tactic(auto)]
+
+mod asks;
+mod closures;
+mod fault;
+mod found;
+mod kids;
+mod tasks;
+mod walk;
+
+pub use closures::captures;
+pub use fault::CapturesFault;

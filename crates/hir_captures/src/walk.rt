@@ -1,0 +1,232 @@
+//! The walk that reads a closure's code: one loop over what is still to be read.
+#![tactic(auto, using(crate::proofs::ReadLemmas::reads))]
+
+ghost use Rattle.std.specs.Prelude.{◌≡◌, ◌<◌, ℕ, [], ◌∷◌, length, None, Some, Err, IfOk, OnOk, OnErr};
+ghost use Rattle.hir_scope.specs.Scopes.{Scopes};
+ghost use Rattle.hir_captures.specs.Uses.{if_assignment, use_of, asked_name, uses_at};
+ghost use Rattle.hir_node.specs.declared.node_id.NodeId.TheVariants as node;
+ghost use Rattle.hir_captures.specs.Pending.{AreThere, code_of};
+ghost use Rattle.hir_captures.specs.Reading.{with_uses, with_code, Reads};
+
+use crate::asks::{asked_name, captured};
+use crate::fault::CapturesFault;
+use crate::found::Found;
+use crate::kids::Kids;
+use crate::tasks::{Task, Tasks};
+use hir_base::HygieneId;
+use hir_expr_store::ExpressionStore;
+use hir_expr_store::laws::kids_fall;
+use hir_node::{Expr, ExprId, Pat, PatId, Path};
+use hir_scope::ExprScopes;
+use std::alloc::Global;
+
+/// A walk: what was found, and what is still to be read.
+#[derive(Drop)]
+pub(crate) struct Walk {
+    pub(crate) found: Found,
+    pub(crate) tasks: Tasks,
+    /// Room for the kids of a node.
+    kids: Kids,
+}
+
+/// The assignment in whose target the patterns of an expression stand: itself, where it is one.
+fn if_assignment(id: ExprId, expr: &Expr) -> Option<ExprId>
+    ensures { result ≡ if_assignment id (Some expr.now) }
+{
+    if let Expr::Assignment {
+        target: _,
+        value: _,
+    } = expr
+    {
+        return Some(id);
+    }
+    None
+}
+
+impl Walk {
+    /// A walk that has nothing to read yet, with room for the marks of so many bindings.
+    ///
+    /// Answers `Memory` where that room was refused.
+    pub(crate) fn new(alloc: Global, bindings: usize) -> Result<Walk, CapturesFault>
+        ensures found { IfOk result (λ walk. walk.found ≡ []) }
+        ensures tasks { IfOk result (λ walk. walk.tasks ≡ []) }
+        ensures memory { OnErr result (result ≡ Err CapturesFault.Memory) }
+    {
+        Ok(Walk {
+            found: Found::new(alloc, bindings)?,
+            tasks: Tasks::new(alloc),
+            kids: Kids::new(alloc),
+        })
+    }
+
+    /// Adds what is captured by a path, where it may name a variable: it is asked in the chain of this expression.
+    fn ask(
+        &mut self,
+        scopes: &ExprScopes,
+        outermost: usize,
+        expr: ExprId,
+        path: &Path,
+        hygiene: HygieneId,
+    ) -> Result<(), CapturesFault>
+        ensures found { OnOk result (self.new.found ≡ with_uses scopes.now outermost self.old.found
+            (use_of hygiene expr (asked_name path.now))) }
+        ensures tasks { self.new.tasks ≡ self.old.tasks }
+        ensures memory { OnErr result (result ≡ Err CapturesFault.Memory) }
+    {
+        let Some(name) = asked_name(path) else {
+            return Ok(());
+        };
+        let Some(scope) = scopes.scope_for(expr) else {
+            return Ok(());
+        };
+        match captured(scopes, scope, name, hygiene, outermost) {
+            Some(binding) => self.found.add(binding),
+            None => Ok(()),
+        }
+    }
+
+    /// Adds what is captured by an expression itself: it asks where it is a path, in its own chain.
+    fn ask_expr(
+        &mut self,
+        store: &ExpressionStore,
+        scopes: &ExprScopes,
+        outermost: usize,
+        id: ExprId,
+    ) -> Result<(), CapturesFault>
+        requires there { id < length store.now.nodes.exprs }
+        ensures found { OnOk result (self.new.found ≡ with_uses scopes.now outermost self.old.found
+            (uses_at store.now (node.Expr id) None)) }
+        ensures tasks { self.new.tasks ≡ self.old.tasks }
+        ensures memory { OnErr result (result ≡ Err CapturesFault.Memory) }
+    {
+        if let Expr::Path(path) = &store[id] {
+            return self.ask(scopes, outermost, id, path, store.expr_path_hygiene(id));
+        }
+        Ok(())
+    }
+
+    /// Adds what is captured by a pattern in the target of an assignment: it asks where it is a path, in the assignment's chain.
+    fn ask_pat(
+        &mut self,
+        store: &ExpressionStore,
+        scopes: &ExprScopes,
+        outermost: usize,
+        id: PatId,
+        assignment: ExprId,
+    ) -> Result<(), CapturesFault>
+        requires there { id < length store.now.nodes.pats }
+        ensures found { OnOk result (self.new.found ≡ with_uses scopes.now outermost self.old.found
+            (uses_at store.now (node.Pat id) (Some assignment))) }
+        ensures tasks { self.new.tasks ≡ self.old.tasks }
+        ensures memory { OnErr result (result ≡ Err CapturesFault.Memory) }
+    {
+        if let Pat::Path(path) = &store[id] {
+            let hygiene = store.pat_path_hygiene(id);
+            return self.ask(scopes, outermost, assignment, path, hygiene);
+        }
+        Ok(())
+    }
+
+    /// Reads an expression: what is in it is to be read next.
+    fn read_expr(
+        &mut self,
+        store: &ExpressionStore,
+        scopes: &ExprScopes,
+        outermost: usize,
+        id: ExprId,
+    ) -> Result<(), CapturesFault>
+        requires there { AreThere store.now.nodes (Task.Expr id ∷ self.old.tasks) }
+        ensures reads { OnOk result (Reads store.now scopes.now outermost
+            self.old.found (Task.Expr id ∷ self.old.tasks) self.new.found self.new.tasks) }
+        ensures memory { OnErr result (result ≡ Err CapturesFault.Memory) }
+    {
+        store.has_no_fault();
+        kids_fall();
+        self.ask_expr(store, scopes, outermost, id)?;
+        let expr = &store[id];
+        self.kids.begin(if_assignment(id, expr));
+        self.kids.meet_expr(expr);
+        self.kids.move_to(&mut self.tasks)?;
+        Ok(())
+    }
+
+    /// Reads a pattern that stands in no target of an assignment: what is in it is to be read next.
+    fn read_pat(&mut self, store: &ExpressionStore, id: PatId) -> Result<(), CapturesFault>
+        requires there { AreThere store.now.nodes (Task.Pat id ∷ self.old.tasks) }
+        ensures reads { OnOk result ((scopes : Scopes) (outermost : ℕ) → Reads store.now scopes outermost
+            self.old.found (Task.Pat id ∷ self.old.tasks) self.new.found self.new.tasks) }
+        ensures memory { OnErr result (result ≡ Err CapturesFault.Memory) }
+    {
+        store.has_no_fault();
+        kids_fall();
+        let pat = &store[id];
+        self.kids.begin(None);
+        self.kids.meet_pat(pat);
+        self.kids.move_to(&mut self.tasks)?;
+        Ok(())
+    }
+
+    /// Reads a pattern in the target of an assignment: what is in it is to be read next.
+    fn read_target(
+        &mut self,
+        store: &ExpressionStore,
+        scopes: &ExprScopes,
+        outermost: usize,
+        id: PatId,
+        assignment: ExprId,
+    ) -> Result<(), CapturesFault>
+        requires there { AreThere store.now.nodes (Task.Target id assignment ∷ self.old.tasks) }
+        ensures reads { OnOk result (Reads store.now scopes.now outermost
+            self.old.found (Task.Target id assignment ∷ self.old.tasks) self.new.found self.new.tasks) }
+        ensures memory { OnErr result (result ≡ Err CapturesFault.Memory) }
+    {
+        store.has_no_fault();
+        kids_fall();
+        self.ask_pat(store, scopes, outermost, id, assignment)?;
+        let pat = &store[id];
+        self.kids.begin(Some(assignment));
+        self.kids.meet_pat(pat);
+        self.kids.move_to(&mut self.tasks)?;
+        Ok(())
+    }
+
+    /// Reads the node of one task.
+    fn read(
+        &mut self,
+        store: &ExpressionStore,
+        scopes: &ExprScopes,
+        outermost: usize,
+        task: Task,
+    ) -> Result<(), CapturesFault>
+        requires there { AreThere store.now.nodes (task ∷ self.old.tasks) }
+        ensures reads { OnOk result (Reads store.now scopes.now outermost
+            self.old.found (task ∷ self.old.tasks) self.new.found self.new.tasks) }
+        ensures memory { OnErr result (result ≡ Err CapturesFault.Memory) }
+    {
+        match task {
+            Task::Expr(id) => self.read_expr(store, scopes, outermost, id),
+            Task::Pat(id) => self.read_pat(store, id),
+            Task::Target(id, assignment) => {
+                self.read_target(store, scopes, outermost, id, assignment)
+            }
+        }
+    }
+
+    /// Reads all that is still to be read. The closure's own chain has so many scopes.
+    pub(crate) fn read_all(
+        &mut self,
+        store: &ExpressionStore,
+        scopes: &ExprScopes,
+        outermost: usize,
+    ) -> Result<(), CapturesFault>
+        requires there { AreThere store.now.nodes self.old.tasks }
+        ensures found { OnOk result (self.new.found ≡ with_code store.now scopes.now outermost
+            self.old.found (code_of store.now.nodes self.old.tasks)) }
+        ensures memory { OnErr result (result ≡ Err CapturesFault.Memory) }
+    {
+        while let Some(task) = self.tasks.pop() {
+            self.read(store, scopes, outermost, task)?;
+        }
+        Ok(())
+    }
+}

@@ -1,0 +1,301 @@
+//! The nodes of the tests, each made of what a step says of it. No builder is lent to what stands here.
+//! Nodes are named by their numbers: the first expression is 0, and so is the first pattern.
+use hir_base::{HygieneId, Idx, MacroDefId, ModPath, Name, PathKind, RangeOp, Seq, SyntaxContext};
+use hir_node::{
+    Array, ArrayType, Binding, BindingAnnotation, CaptureBy, ClosureKind, ConstRef, Expr, Item,
+    MatchArm, Pat, Path, Statement, TypeRef, Unsafe,
+};
+use std::alloc::{AllocError, Global};
+
+/// An expression.
+pub enum ExprStep {
+    /// A literal, or anything else without kids.
+    Leaf,
+    /// A path of one name.
+    Path(&'static str),
+    /// A path that begins this number of modules further up, with this name where there is one: `self` for 0.
+    Above(u8, Option<&'static str>),
+    Tuple(&'static [u32]),
+    /// `[a; n]`
+    Repeat(u32, u32),
+    /// `let pattern = expression`
+    Let(u32, u32),
+    /// The condition, then, else.
+    If(u32, u32, Option<u32>),
+    /// The target, the value.
+    Assign(u32, u32),
+    /// `const {}`
+    Const(u32),
+    /// The arms are patterns, guards and bodies.
+    Match(u32, &'static [(u32, Option<u32>, u32)]),
+    /// The body, the arguments; the first has this type.
+    Closure(u32, &'static [u32], Option<u32>),
+    /// The tail, the statements.
+    Block(Option<u32>, &'static [StatementStep]),
+    /// `expression as type`
+    Cast(u32, u32),
+}
+
+/// A statement.
+pub enum StatementStep {
+    /// The pattern, the type, the initializer, the else branch.
+    Let(u32, Option<u32>, Option<u32>, Option<u32>),
+    Expr(u32),
+    /// The definition of the macro of this number.
+    Macro(u32),
+}
+
+/// A pattern.
+pub enum PatStep {
+    /// `_`
+    Wild,
+    /// The pattern that brings this binding into scope, and the one that stands after its `@`.
+    Bind(u32, Option<u32>),
+    Tuple(&'static [u32]),
+    /// `a(..)`
+    Some(&'static [u32]),
+    /// `expression..=`
+    RangeFrom(u32),
+    /// An expression as the target of an assignment.
+    Expr(u32),
+    /// A path of one name.
+    Path(&'static str),
+}
+
+/// A type.
+pub enum TypeStep {
+    Never,
+    /// `[type; constant]`
+    Array(u32, u32),
+}
+
+/// The ids of these numbers.
+fn ids<K>(alloc: Global, numbers: &[u32]) -> Result<Seq<Idx<K>>, AllocError> {
+    let mut list = Seq::new(alloc);
+    for number in numbers {
+        list.push(Idx::from_raw(*number))?;
+    }
+    Ok(list)
+}
+
+/// The id of this number, where there is one.
+fn id<K>(number: Option<u32>) -> Option<Idx<K>> {
+    match number {
+        Some(number) => Some(Idx::from_raw(number)),
+        None => None,
+    }
+}
+
+/// The path of these parts.
+fn path(alloc: Global, kind: PathKind, name: Option<&str>) -> Result<Path, AllocError> {
+    let mut names = Seq::new(alloc);
+    if let Some(text) = name {
+        names.push(Name::new(alloc, text)?)?;
+    }
+    Ok(Path::BarePath(ModPath::from_segments(kind, names)))
+}
+
+/// The arms of these patterns, guards and bodies.
+fn arms(alloc: Global, listed: &[(u32, Option<u32>, u32)]) -> Result<Seq<MatchArm>, AllocError> {
+    let mut list = Seq::new(alloc);
+    for (pat, guard, expr) in listed {
+        list.push(MatchArm {
+            pat: Idx::from_raw(*pat),
+            guard: id(*guard),
+            expr: Idx::from_raw(*expr),
+        })?;
+    }
+    Ok(list)
+}
+
+/// A step of a table, which makes a value.
+trait Makes<T> {
+    fn make(&self) -> T;
+}
+
+impl Makes<Statement> for StatementStep {
+    fn make(&self) -> Statement {
+        match *self {
+            StatementStep::Let(pat, type_ref, initializer, else_branch) => Statement::Let {
+                pat: Idx::from_raw(pat),
+                type_ref: id(type_ref),
+                initializer: id(initializer),
+                else_branch: id(else_branch),
+            },
+            StatementStep::Expr(expr) => Statement::Expr {
+                expr: Idx::from_raw(expr),
+                has_semi: true,
+            },
+            StatementStep::Macro(number) => {
+                Statement::Item(Item::MacroDef(MacroDefId::from_raw(number)))
+            }
+        }
+    }
+}
+
+/// What these steps make, in their order.
+fn all_made<T: Drop, S: Makes<T>>(alloc: Global, steps: &[S]) -> Result<Seq<T>, AllocError> {
+    let mut list = Seq::new(alloc);
+    for step in steps {
+        list.push(step.make())?;
+    }
+    Ok(list)
+}
+
+/// The types of so many arguments, of which the first is this one.
+fn arg_types<T: Copy + Drop>(
+    alloc: Global,
+    args: &[u32],
+    first: Option<T>,
+) -> Result<Seq<Option<T>>, AllocError> {
+    let mut list = Seq::new(alloc);
+    let mut next = first;
+    for _ in args {
+        list.push(next)?;
+        next = None;
+    }
+    Ok(list)
+}
+
+/// The block of these parts.
+fn block(alloc: Global, tail: Option<u32>, steps: &[StatementStep]) -> Result<Expr, AllocError> {
+    let statements = all_made(alloc, steps)?;
+    Ok(Expr::Block {
+        id: None,
+        statements,
+        tail: id(tail),
+        label: None,
+        unsafe_: Unsafe::No,
+    })
+}
+
+/// The closure of these parts.
+fn closure(alloc: Global, body: u32, args: &[u32], first: Option<u32>) -> Result<Expr, AllocError> {
+    let pats = ids(alloc, args)?;
+    let types = arg_types(alloc, args, id(first))?;
+    Ok(Expr::Closure {
+        args: pats,
+        arg_types: types,
+        ret_type: None,
+        body: Idx::from_raw(body),
+        closure_kind: ClosureKind::Closure,
+        capture_by: CaptureBy::Ref,
+    })
+}
+
+/// The expression of this step.
+pub fn expr(alloc: Global, step: &ExprStep) -> Result<Expr, AllocError> {
+    match *step {
+        ExprStep::Leaf => Ok(Expr::Missing),
+        ExprStep::Path(name) => path(alloc, PathKind::Plain, Some(name)).map(Expr::Path),
+        ExprStep::Above(modules, name) => {
+            path(alloc, PathKind::Super(modules), name).map(Expr::Path)
+        }
+        ExprStep::Tuple(exprs) => {
+            let exprs = ids(alloc, exprs)?;
+            Ok(Expr::Tuple { exprs })
+        }
+        ExprStep::Repeat(initializer, repeat) => Ok(Expr::Array(Array::Repeat {
+            initializer: Idx::from_raw(initializer),
+            repeat: Idx::from_raw(repeat),
+        })),
+        ExprStep::Let(pat, expr) => Ok(Expr::Let {
+            pat: Idx::from_raw(pat),
+            expr: Idx::from_raw(expr),
+        }),
+        ExprStep::If(condition, then_branch, else_branch) => Ok(Expr::If {
+            condition: Idx::from_raw(condition),
+            then_branch: Idx::from_raw(then_branch),
+            else_branch: id(else_branch),
+        }),
+        ExprStep::Assign(target, value) => Ok(Expr::Assignment {
+            target: Idx::from_raw(target),
+            value: Idx::from_raw(value),
+        }),
+        ExprStep::Const(body) => Ok(Expr::Const(Idx::from_raw(body))),
+        ExprStep::Match(expr, listed) => {
+            let arms = arms(alloc, listed)?;
+            Ok(Expr::Match {
+                expr: Idx::from_raw(expr),
+                arms,
+            })
+        }
+        ExprStep::Closure(body, args, first) => closure(alloc, body, args, first),
+        ExprStep::Block(tail, steps) => block(alloc, tail, steps),
+        ExprStep::Cast(expr, ty) => Ok(Expr::Cast {
+            expr: Idx::from_raw(expr),
+            type_ref: Idx::from_raw(ty),
+        }),
+    }
+}
+
+/// `a(..)`
+fn some(alloc: Global, args: &[u32]) -> Result<Pat, AllocError> {
+    let path = path(alloc, PathKind::Plain, Some("a"))?;
+    let args = ids(alloc, args)?;
+    Ok(Pat::TupleStruct {
+        path,
+        args,
+        ellipsis: None,
+    })
+}
+
+/// The pattern of this step.
+pub fn pat(alloc: Global, step: &PatStep) -> Result<Pat, AllocError> {
+    match *step {
+        PatStep::Wild => Ok(Pat::Wild),
+        PatStep::Bind(binding, inner) => Ok(Pat::Bind {
+            id: Idx::from_raw(binding),
+            subpat: id(inner),
+        }),
+        PatStep::Tuple(args) => {
+            let args = ids(alloc, args)?;
+            Ok(Pat::Tuple {
+                args,
+                ellipsis: None,
+            })
+        }
+        PatStep::Some(args) => some(alloc, args),
+        PatStep::RangeFrom(start) => Ok(Pat::Range {
+            start: Some(Idx::from_raw(start)),
+            end: None,
+            range_type: RangeOp::Inclusive,
+        }),
+        PatStep::Expr(expr) => Ok(Pat::Expr(Idx::from_raw(expr))),
+        PatStep::Path(name) => path(alloc, PathKind::Plain, Some(name)).map(Pat::Path),
+    }
+}
+
+/// The type of this step.
+pub fn type_ref(alloc: Global, step: &TypeStep) -> Result<TypeRef, AllocError> {
+    match *step {
+        TypeStep::Never => Ok(TypeRef::Never),
+        TypeStep::Array(ty, len) => {
+            let array = ArrayType {
+                ty: Idx::from_raw(ty),
+                len: ConstRef {
+                    expr: Idx::from_raw(len),
+                },
+            };
+            Ok(TypeRef::Array(array))
+        }
+    }
+}
+
+/// The hygiene of the expansion of this number, or the root's.
+pub fn hygiene(expansion: Option<u32>) -> HygieneId {
+    match expansion {
+        Some(number) => HygieneId::new(SyntaxContext::Expansion(number)),
+        None => HygieneId::ROOT,
+    }
+}
+
+/// A binding of this name, written by this expansion.
+pub fn binding(alloc: Global, text: &str, expansion: Option<u32>) -> Result<Binding, AllocError> {
+    Ok(Binding {
+        name: Name::new(alloc, text)?,
+        mode: BindingAnnotation::Unannotated,
+        problems: None,
+        hygiene: hygiene(expansion),
+    })
+}

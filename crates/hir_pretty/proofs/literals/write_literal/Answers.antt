@@ -1,0 +1,22 @@
+use Rattle.std.proofs.Common.{◌≡◌, ◌∷◌, []}
+use Rattle.hir_base.specs.OpTexts.{uint_text}
+use Rattle.hir_page.specs.Pieces.{Text}
+use Rattle.hir_page.specs.Literals.{string_literal, bytes_literal, c_string_literal}
+use Rattle.hir_page.proofs.WritesLemmas.{writes_then, writes_stopped, writes_err}
+use Rattle.hir_pretty.specs.Items.{text, opt}
+use Rattle.hir_pretty.specs.Works.{put_pieces}
+use Rattle.hir_pretty.proofs.TurnLemmas.{pieces_put}
+use Rattle.hir_pretty.proofs.literals.write_literal.Goals as goal
+
+pub returns-in_err-write_number-in-Uint-default-Some : goal.returns-in_err-write_number-in-Uint-default-Some
+returns-in_err-write_number-in-Uint-default-Some g c =
+    rw c.in-Uint-default-Some.is (writes_err _ c.from_residual.ensures.0 (writes_stopped (put_pieces (opt (λ s. text (uint_text s)) c.in-Uint-default-Some.field-1)) c.in_err-write_number-in-Uint-default-Some.ensures))
+
+pub returns-in-String : goal.returns-in-String
+returns-in-String g c = rw (c.in-String.is, pieces_put (string_literal c.in-String.text)) (rw c.as_str.ensures at c.write_string_literal.ensures)
+
+pub returns-in-ByteString : goal.returns-in-ByteString
+returns-in-ByteString g c = rw (c.in-ByteString.is, pieces_put (bytes_literal c.in-ByteString.bytes)) (rw c.as_slice.ensures at c.write_bytes_literal.ensures)
+
+pub returns-in-CString : goal.returns-in-CString
+returns-in-CString g c = rw (c.in-CString.is, pieces_put (c_string_literal c.in-CString.bytes)) (rw c.as_slice-in-CString.ensures at c.write_c_string_literal.ensures)

@@ -1,0 +1,173 @@
+//! What is still to be printed: pieces, nodes, what is looked up, and the rest of lists. And the stack of it.
+
+ghost use Rattle.std.specs.Prelude.{◌≡◌, [], ◌∷◌, ◌++◌, None, OnOk, IfSome};
+
+use hir_base::{CrateId, ExprPrecedence, ExternAbi, LangItemTarget, LifetimeParamId, Name, NamedDef, PathKind, TypeParamId};
+use hir_expr_store::Missing;
+use hir_node::{
+    AssociatedTypeBinding, BindingId, ClosureKind, ExprId, GenericArg, GenericArgs, LabelId, LifetimeRefId, Literal, MatchArm, PatId,
+    Path, RecordFieldPat, RecordLitField, RecordSpread, Statement, TypeBound, TypeRefId, UseArgRef,
+};
+use std::alloc::{AllocError, Global};
+
+/// What is still to be printed.
+#[derive(Clone, Copy)]
+pub enum Work<'a> {
+    Text(&'a str),
+    Space,
+    Break,
+    Indent,
+    Outdent,
+    /// A definition that is missing.
+    Lacks(Missing),
+    /// A number in decimal.
+    Number(u64),
+    Literal(&'a Literal),
+    /// A name, with `r#` where the edition's words list it.
+    Name(&'a str),
+    /// An expression without a parent.
+    Whole(ExprId),
+    /// An expression under a precedence.
+    Under(ExprId, ExprPrecedence),
+    Pattern(PatId),
+    Type(TypeRefId),
+    /// A text, where the condition holds.
+    TextIf(bool, &'a str),
+    Look(Look),
+    Expr(ExprPart<'a>),
+    Pat(PatPart<'a>),
+    TypePart(TypePart<'a>),
+    Path(PathPart<'a>),
+}
+
+/// What is looked up in the tables and in the store.
+#[derive(Clone, Copy)]
+pub enum Look {
+    NameOf(NamedDef),
+    CrateName(CrateId),
+    TypeParam(TypeParamId),
+    LifetimeParam(LifetimeParamId),
+    Lifetime(LifetimeRefId),
+    Label(LabelId),
+    Binding(BindingId),
+    /// What is printed as the body of a closure of this kind.
+    ClosureBody(ClosureKind, ExprId),
+}
+
+/// Parts of expressions.
+#[derive(Clone, Copy)]
+pub enum ExprPart<'a> {
+    /// A text and an expression, where there is one.
+    After(&'a str, Option<ExprId>),
+    /// An expression, where there is one.
+    Tail(Option<ExprId>),
+    /// A label before a loop or a block.
+    Labelled(Option<LabelId>),
+    /// A label after `continue` or `break`.
+    ToLabel(Option<LabelId>),
+    /// An expression after a keyword.
+    Operand(Option<ExprId>),
+    Arguments(&'a [ExprId]),
+    ArgLines(&'a [ExprId]),
+    Elements(&'a [ExprId]),
+    Arms(&'a [MatchArm]),
+    Fields(&'a [RecordLitField]),
+    Spread(RecordSpread),
+    Statements(&'a [Statement]),
+    /// The parameters of a closure of this kind, with their types, and the type of the result.
+    Header(ClosureKind, &'a [PatId], &'a [Option<TypeRefId>], Option<TypeRefId>),
+    Params(&'a [PatId], &'a [Option<TypeRefId>]),
+}
+
+/// Parts of patterns.
+#[derive(Clone, Copy)]
+pub enum PatPart<'a> {
+    /// An end of a range, where there is one.
+    RangeEnd(Option<ExprId>),
+    Elements(&'a [PatId]),
+    /// Patterns with a text between them.
+    Joined(&'a str, &'a [PatId]),
+    /// Patterns with a rest in this place.
+    WithRest(&'a [PatId], u32),
+    /// The fields of a record, which a rest may follow.
+    Fields(&'a [RecordFieldPat], bool),
+    Field(&'a RecordFieldPat),
+}
+
+/// Parts of types.
+#[derive(Clone, Copy)]
+pub enum TypePart<'a> {
+    /// A text and a type, where there is one.
+    After(&'a str, Option<TypeRefId>),
+    Joined(&'a [TypeRefId]),
+    /// The types of a function's parameters: all but the last, which is the result's.
+    Params(&'a [(Option<Name>, TypeRefId)]),
+    /// Names after `for`, where there are any.
+    Binder(&'a Option<hir_base::Seq<Name>>),
+    Extern(&'a ExternAbi),
+    Bounds(&'a [TypeBound]),
+    Bound(&'a TypeBound),
+    UseArgs(&'a [UseArgRef]),
+}
+
+/// Parts of paths.
+#[derive(Clone, Copy)]
+pub enum PathPart<'a> {
+    Whole(&'a Path),
+    Kind(PathKind),
+    /// So many times `super`.
+    Supers(u8),
+    Target(LangItemTarget),
+    /// Segments with their arguments; whether `::` stands before the first.
+    Segments(bool, &'a [Name], &'a [Option<GenericArgs>]),
+    /// Names with a text between them.
+    Names(&'a str, &'a [Name]),
+    /// Arguments in `::<` and `>`, where there are any.
+    Turbofish(&'a Option<GenericArgs>),
+    /// Arguments in `::<` and `>`.
+    Fish(&'a GenericArgs),
+    Args(&'a GenericArgs),
+    ArgsRest(&'a [GenericArg], &'a [AssociatedTypeBinding]),
+    Arg(GenericArg),
+    Assoc(&'a AssociatedTypeBinding),
+    /// Bounds after `: `, where there are any.
+    BoundsAfter(&'a [TypeBound]),
+}
+
+/// What is still to be printed, the next on top.
+#[derive(Drop)]
+pub(crate) struct Stack<'a> {
+    works: Vec<Work<'a>>,
+}
+
+impl<'a> Stack<'a> {
+    ghost use Rattle.hir_pretty.specs.Works.{listed, Pushes};
+
+    /// A stack of nothing, which takes its memory from `alloc`, and none now.
+    pub(crate) fn new(alloc: Global) -> Stack<'a>
+        ensures { listed result ≡ [] }
+    {
+        Stack {
+            works: Vec::new(alloc),
+        }
+    }
+
+    /// Puts works on top, the first above. Room is asked for once.
+    ///
+    /// Answers an error where it was refused.
+    pub(crate) fn push(&mut self, works: &mut [Work<'a>]) -> Result<(), AllocError>
+        ensures { OnOk result (Pushes works.old (listed self.old) (listed self.new)) }
+        {
+        works.reverse();
+        self.works.extend_from_slice(works)?;
+        Ok(())
+    }
+
+    /// Takes the top.
+    pub(crate) fn pop(&mut self) -> Option<Work<'a>>
+        ensures some { IfSome result (λ work. listed self.old ≡ work ∷ listed self.new) }
+        ensures none { result ≡ None → listed self.old ≡ [] }
+    {
+        self.works.pop()
+    }
+}

@@ -1,0 +1,4 @@
+pub mod AddLemmas
+pub mod ListLemmas
+pub mod OtherLemmas
+mod WorkedRows

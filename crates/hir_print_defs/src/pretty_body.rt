@@ -1,0 +1,103 @@
+//! Printing a body by calls of the body.
+
+ghost use Rattle.std.specs.Prelude.{◌<◌, false, length};
+ghost use Rattle.hir_base.specs.RawWords.{words_of};
+ghost use Rattle.hir_node.specs.declared.node_id.NodeId.TheVariants as node;
+ghost use Rattle.hir_items.specs.Bodies.{BodyContents};
+ghost use Rattle.hir_pretty.specs.Settings.{setting};
+ghost use Rattle.hir_pretty.specs.Pieces.{pieces};
+ghost use Rattle.hir_pretty.specs.Answers.{answers};
+ghost use Rattle.hir_pretty.specs.Printed.{PrintsPieces};
+ghost use Rattle.hir_pretty.specs.Works.{printed};
+ghost use Rattle.hir_print_defs.specs.Bodies.{body_items};
+ghost use Rattle.hir_print_defs.specs.Found.{parents};
+
+use crate::bodies::print_body_hir;
+use hir_base::{DefWithBodyId, Edition, ExpressionStoreOwnerId};
+use hir_defs::{Body, Tables};
+use hir_node::{ExprId, PatId};
+use hir_pretty::{PrintFault, print_expr_hir, print_pat_hir};
+use std::alloc::Global;
+
+/// What prints a body, and the expressions and patterns of it.
+pub trait PrettyBody {
+    // what the body is made of
+    ghost contents: { Self → BodyContents };
+
+    /// The text of the body, as `print_body_hir` gives it.
+    fn pretty_print(
+        &self,
+        alloc: Global,
+        tables: &Tables,
+        owner: DefWithBodyId,
+        edition: Edition,
+    ) -> Result<String, PrintFault>
+        ensures { let b = contents self.now in
+            let s = setting b.store (answers tables.now) (words_of tables.now.words edition) false in
+            PrintsPieces s (printed s (body_items s (parents tables.now) owner b)) result };
+
+    /// The text of an expression of the body, as `print_expr_hir` gives it. The expression has to be there: `has_expr` of the store
+    /// tests it.
+    fn pretty_print_expr(
+        &self,
+        alloc: Global,
+        tables: &Tables,
+        owner: DefWithBodyId,
+        expr: ExprId,
+        edition: Edition,
+    ) -> Result<String, PrintFault>
+        requires { expr < length (contents self.now).store.nodes.exprs }
+        ensures { let s = setting (contents self.now).store (answers tables.now) (words_of tables.now.words edition) false in
+            PrintsPieces s (pieces s (node.Expr expr)) result };
+
+    /// The text of a pattern of the body, as `print_pat_hir` gives it. The pattern has to be there: `has_pat` of the store tests it.
+    fn pretty_print_pat(
+        &self,
+        alloc: Global,
+        tables: &Tables,
+        owner: ExpressionStoreOwnerId,
+        pat: PatId,
+        oneline: bool,
+        edition: Edition,
+    ) -> Result<String, PrintFault>
+        requires { pat < length (contents self.now).store.nodes.pats }
+        ensures { let s = setting (contents self.now).store (answers tables.now) (words_of tables.now.words edition) oneline in
+            PrintsPieces s (pieces s (node.Pat pat)) result };
+}
+
+impl PrettyBody for Body {
+    ghost contents = { λ b. b };
+
+    fn pretty_print(
+        &self,
+        alloc: Global,
+        tables: &Tables,
+        owner: DefWithBodyId,
+        edition: Edition,
+    ) -> Result<String, PrintFault> {
+        print_body_hir(alloc, tables, self, owner, edition)
+    }
+
+    fn pretty_print_expr(
+        &self,
+        alloc: Global,
+        tables: &Tables,
+        owner: DefWithBodyId,
+        expr: ExprId,
+        edition: Edition,
+    ) -> Result<String, PrintFault> {
+        print_expr_hir(alloc, tables, self.store(), owner.into(), expr, edition)
+    }
+
+    fn pretty_print_pat(
+        &self,
+        alloc: Global,
+        tables: &Tables,
+        owner: ExpressionStoreOwnerId,
+        pat: PatId,
+        oneline: bool,
+        edition: Edition,
+    ) -> Result<String, PrintFault> {
+        print_pat_hir(alloc, tables, self.store(), owner, pat, oneline, edition)
+    }
+}
