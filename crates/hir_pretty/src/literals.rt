@@ -2,7 +2,7 @@
 #![tactic(auto, using(hir_page::proofs::WritesLemmas::writing))]
 
 ghost use Rattle.std.specs.Prelude.{◌∷◌, [], is_ok};
-ghost use Rattle.std.specs.Fmt.{signed_decimal};
+ghost use Rattle.std.specs.Fmt.{decimal, signed_decimal};
 ghost use Rattle.hir_page.specs.Pieces as piece;
 ghost use Rattle.hir_page.specs.Writes.{Writes};
 ghost use Rattle.hir_pretty.specs.Items.{text};
@@ -28,15 +28,9 @@ pub(crate) fn write_literal<W: PieceWriter>(writer: &mut W, literal: &Literal) -
         Literal::Int(number, None) => write_int(writer, *number),
         Literal::Int(number, Some(suffix)) => write_suffixed_int(writer, *number, suffix.as_str()),
         Literal::Uint(number, None) => write_number(writer, *number),
-        Literal::Uint(number, Some(suffix)) => {
-            write_number(writer, *number)?;
-            write_text(writer, suffix.as_str())
-        }
+        Literal::Uint(number, Some(suffix)) => write_suffixed_uint(writer, *number, suffix.as_str()),
         Literal::Float(number, None) => write_text(writer, number.as_str()),
-        Literal::Float(number, Some(suffix)) => {
-            write_text(writer, number.as_str())?;
-            write_text(writer, suffix.as_str())
-        }
+        Literal::Float(number, Some(suffix)) => write_both(writer, number.as_str(), suffix.as_str()),
     }
 }
 
@@ -51,6 +45,22 @@ fn write_suffixed_int<W: PieceWriter>(writer: &mut W, number: i128, suffix: &str
         (is_ok result) writer.new }
 {
     write_int(writer, number)?;
+    write_text(writer, suffix)
+}
+
+fn write_suffixed_uint<W: PieceWriter>(writer: &mut W, number: u128, suffix: &str) -> Result<(), AllocError>
+    ensures { Writes W.step W.refuses writer.old (piece.Text (decimal number) ∷ piece.Text suffix.now ∷ [])
+        (is_ok result) writer.new }
+{
+    write_number(writer, number)?;
+    write_text(writer, suffix)
+}
+
+fn write_both<W: PieceWriter>(writer: &mut W, number: &str, suffix: &str) -> Result<(), AllocError>
+    ensures { Writes W.step W.refuses writer.old (piece.Text number.now ∷ piece.Text suffix.now ∷ [])
+        (is_ok result) writer.new }
+{
+    write_text(writer, number)?;
     write_text(writer, suffix)
 }
 

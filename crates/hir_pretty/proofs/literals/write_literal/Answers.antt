@@ -8,10 +8,6 @@ use Rattle.hir_pretty.specs.Works.{put_pieces}
 use Rattle.hir_pretty.proofs.TurnLemmas.{pieces_put}
 use Rattle.hir_pretty.proofs.literals.write_literal.Goals as goal
 
-pub returns-in_err-write_number-in-Uint-default-Some : goal.returns-in_err-write_number-in-Uint-default-Some
-returns-in_err-write_number-in-Uint-default-Some g c =
-    rw c.in-Uint-default-Some.is (writes_err _ c.from_residual.ensures.0 (writes_stopped (put_pieces (opt (λ s. text (uint_text s)) c.in-Uint-default-Some.field-1)) c.in_err-write_number-in-Uint-default-Some.ensures))
-
 pub returns-in-String : goal.returns-in-String
 returns-in-String g c = rw (c.in-String.is, pieces_put (string_literal c.in-String.text)) (rw c.as_str.ensures at c.write_string_literal.ensures)
 
@@ -20,3 +16,6 @@ returns-in-ByteString g c = rw (c.in-ByteString.is, pieces_put (bytes_literal c.
 
 pub returns-in-CString : goal.returns-in-CString
 returns-in-CString g c = rw (c.in-CString.is, pieces_put (c_string_literal c.in-CString.bytes)) (rw c.as_slice-in-CString.ensures at c.write_c_string_literal.ensures)
+
+pub returns-in-Int-default-Some : goal.returns-in-Int-default-Some
+returns-in-Int-default-Some g c = rw c.in-Int-default-Some.is (rw c.as_str-in-Int-default-Some.ensures at c.write_suffixed_int.ensures)
