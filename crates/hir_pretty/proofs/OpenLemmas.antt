@@ -39,7 +39,7 @@ pub opens_before : {s : Setting} {works old between new : List Work} {is whole :
     → stood s works ++ is ≡ whole → total work_cost works + cost ≤ most → Opens s old whole most new
 opens_before {s} {works} {old} {between} {new} {is} {whole} {cost} {most} o p e c = record {
   stands = ap (pending s) p.is ∙ flat_map-append (stands_for s) works between ∙ ap (λ xs. flat_map (stands_for s) works ++ xs) o.stands
-    ∙ sym (append_assoc (flat_map (stands_for s) works) is (pending s old)) ∙ ap (λ xs. xs ++ pending s old) (ap (λ xs. xs ++ is) (stood_is s works) ∙ e);
+      ∙ sym (append_assoc (flat_map (stands_for s) works) is (pending s old)) ∙ ap (λ xs. xs ++ pending s old) (ap (λ xs. xs ++ is) (stood_is s works) ∙ e);
   costs = let k = ap (total work_cost) p.is ∙ total-append work_cost works between in let h = o.costs in omega arith;
 }
 

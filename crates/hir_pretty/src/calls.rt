@@ -35,7 +35,14 @@ pub fn print_expr_hir(
     ensures { let s = setting store.now (answers tables.now) (words_of tables.now.words edition) false in
         PrintsPieces s (pieces s (node.Expr expr)) result }
 {
-    print_works(alloc, store, tables, tables.raw_words(edition), false, &mut [Work::Whole(expr)])
+    print_works(
+        alloc,
+        store,
+        tables,
+        tables.raw_words(edition),
+        false,
+        &mut [Work::Whole(expr)],
+    )
 }
 
 /// The text of a pattern of the store, in one line or in lines. The pattern has to be there: `has_pat` tests it. What owns the store makes
@@ -56,7 +63,14 @@ pub fn print_pat_hir(
     ensures { let s = setting store.now (answers tables.now) (words_of tables.now.words edition) oneline in
         PrintsPieces s (pieces s (node.Pat pat)) result }
 {
-    print_works(alloc, store, tables, tables.raw_words(edition), oneline, &mut [Work::Pattern(pat)])
+    print_works(
+        alloc,
+        store,
+        tables,
+        tables.raw_words(edition),
+        oneline,
+        &mut [Work::Pattern(pat)],
+    )
 }
 
 /// The text of a path whose types, lifetimes and constants are of the store, in lines: `path_is_sound` of the store tests it.

@@ -10,10 +10,17 @@ ghost use Rattle.hir_pretty.specs.Works.{listed, Opens, expr_part_items, expr_pa
 
 use crate::work::{ExprPart, Look, Stack, TypePart, Work};
 use hir_base::ExprPrecedence;
-use hir_node::{ClosureKind, ExprId, LabelId, MatchArm, PatId, RecordLitField, RecordSpread, Statement, TypeRefId};
+use hir_node::{
+    ClosureKind, ExprId, LabelId, MatchArm, PatId, RecordLitField, RecordSpread, Statement,
+    TypeRefId,
+};
 use std::alloc::AllocError;
 
-fn open_after<'a>(stack: &mut Stack<'a>, before: &'a str, expr: Option<ExprId>) -> Result<(), AllocError>
+fn open_after<'a>(
+    stack: &mut Stack<'a>,
+    before: &'a str,
+    expr: Option<ExprId>,
+) -> Result<(), AllocError>
     ensures { OnOk result ((s : Setting) → Opens s (listed stack.old) (opt (λ id. text before.now ++ e id) expr) (3) (listed stack.new)) }
 {
     match expr {
@@ -156,7 +163,11 @@ fn open_statements<'a>(stack: &mut Stack<'a>, statements: &'a [Statement]) -> Re
     }
 }
 
-fn open_statement<'a>(stack: &mut Stack<'a>, first: &'a Statement, rest: &'a [Statement]) -> Result<(), AllocError>
+fn open_statement<'a>(
+    stack: &mut Stack<'a>,
+    first: &'a Statement,
+    rest: &'a [Statement],
+) -> Result<(), AllocError>
     ensures { OnOk result ((s : Setting) → Opens s (listed stack.old) (statement_items first.now ++ flat_map statement_items rest.now) (15 + 14 * length rest.now) (listed stack.new)) }
 {
     match first {
@@ -185,7 +196,12 @@ fn open_statement<'a>(stack: &mut Stack<'a>, first: &'a Statement, rest: &'a [St
     }
 }
 
-fn open_bars<'a>(stack: &mut Stack<'a>, args: &'a [PatId], types: &'a [Option<TypeRefId>], ret: Option<TypeRefId>) -> Result<(), AllocError>
+fn open_bars<'a>(
+    stack: &mut Stack<'a>,
+    args: &'a [PatId],
+    types: &'a [Option<TypeRefId>],
+    ret: Option<TypeRefId>,
+) -> Result<(), AllocError>
     ensures { OnOk result ((s : Setting) → Opens s (listed stack.old) (header ClosureKind.Closure (params args.now types.now) ret) (8 + 6 * length args.now) (listed stack.new)) }
 {
     stack.push(&mut [
@@ -197,7 +213,13 @@ fn open_bars<'a>(stack: &mut Stack<'a>, args: &'a [PatId], types: &'a [Option<Ty
     ])
 }
 
-fn open_header<'a>(stack: &mut Stack<'a>, kind: ClosureKind, args: &'a [PatId], types: &'a [Option<TypeRefId>], ret: Option<TypeRefId>) -> Result<(), AllocError>
+fn open_header<'a>(
+    stack: &mut Stack<'a>,
+    kind: ClosureKind,
+    args: &'a [PatId],
+    types: &'a [Option<TypeRefId>],
+    ret: Option<TypeRefId>,
+) -> Result<(), AllocError>
     ensures { OnOk result ((s : Setting) → Opens s (listed stack.old) (header kind (params args.now types.now) ret) (8 + 6 * length args.now) (listed stack.new)) }
 {
     match kind {
@@ -208,7 +230,11 @@ fn open_header<'a>(stack: &mut Stack<'a>, kind: ClosureKind, args: &'a [PatId], 
     }
 }
 
-fn open_params<'a>(stack: &mut Stack<'a>, args: &'a [PatId], types: &'a [Option<TypeRefId>]) -> Result<(), AllocError>
+fn open_params<'a>(
+    stack: &mut Stack<'a>,
+    args: &'a [PatId],
+    types: &'a [Option<TypeRefId>],
+) -> Result<(), AllocError>
     ensures { OnOk result ((s : Setting) → Opens s (listed stack.old) (comma_joined (params args.now types.now)) (1 + 6 * length args.now) (listed stack.new)) }
 {
     match (args, types) {
@@ -232,7 +258,10 @@ fn open_params<'a>(stack: &mut Stack<'a>, args: &'a [PatId], types: &'a [Option<
 }
 
 /// Puts the items of a part of an expression on the stack.
-pub(crate) fn open_expr_part<'a>(stack: &mut Stack<'a>, part: &ExprPart<'a>) -> Result<(), AllocError>
+pub(crate) fn open_expr_part<'a>(
+    stack: &mut Stack<'a>,
+    part: &ExprPart<'a>,
+) -> Result<(), AllocError>
     ensures { OnOk result ((s : Setting) → Opens s (listed stack.old) (expr_part_items s part.now) (expr_part_cost part.now) (listed stack.new)) }
 {
     match part {

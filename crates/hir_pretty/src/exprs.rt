@@ -11,12 +11,17 @@ ghost use Rattle.hir_pretty.specs.Works.{listed, Opens};
 use crate::work::{ExprPart, Look, PathPart, Stack, Work};
 use hir_base::{BinaryOp, ExprPrecedence, Name, UnaryOp};
 use hir_node::{
-    Array, Boxed, CaptureBy, ClosureKind, CoroutineKind, Expr, ExprId, GenericArgs, LabelId, MatchArm, Movability, Mutability, PatId, Path,
-    Rawness, RecordLitField, RecordSpread, Statement, TypeRefId, Unsafe,
+    Array, Boxed, CaptureBy, ClosureKind, CoroutineKind, Expr, ExprId, GenericArgs, LabelId,
+    MatchArm, Movability, Mutability, PatId, Path, Rawness, RecordLitField, RecordSpread,
+    Statement, TypeRefId, Unsafe,
 };
 use std::alloc::AllocError;
 
-fn open_offset_of<'a>(stack: &mut Stack<'a>, container: TypeRefId, fields: &'a [Name]) -> Result<(), AllocError>
+fn open_offset_of<'a>(
+    stack: &mut Stack<'a>,
+    container: TypeRefId,
+    fields: &'a [Name],
+) -> Result<(), AllocError>
     ensures { OnOk result ((s : Setting) → Opens s (listed stack.old) (expr_items s (Expr.OffsetOf record { container = container; fields = fields.now })) (21 + 6 * length fields.now) (listed stack.new)) }
 {
     stack.push(&mut [
@@ -28,7 +33,12 @@ fn open_offset_of<'a>(stack: &mut Stack<'a>, container: TypeRefId, fields: &'a [
     ])
 }
 
-fn open_if(stack: &mut Stack<'_>, condition: ExprId, then_branch: ExprId, else_branch: Option<ExprId>) -> Result<(), AllocError>
+fn open_if(
+    stack: &mut Stack<'_>,
+    condition: ExprId,
+    then_branch: ExprId,
+    else_branch: Option<ExprId>,
+) -> Result<(), AllocError>
     ensures { OnOk result ((s : Setting) → Opens s (listed stack.old) (expr_items s (Expr.If condition then_branch else_branch)) (21) (listed stack.new)) }
 {
     stack.push(&mut [
@@ -61,7 +71,11 @@ fn open_loop(stack: &mut Stack<'_>, body: ExprId, label: Option<LabelId>) -> Res
     ])
 }
 
-fn open_call<'a>(stack: &mut Stack<'a>, callee: ExprId, args: &'a [ExprId]) -> Result<(), AllocError>
+fn open_call<'a>(
+    stack: &mut Stack<'a>,
+    callee: ExprId,
+    args: &'a [ExprId],
+) -> Result<(), AllocError>
     ensures { OnOk result ((s : Setting) → Opens s (listed stack.old) (expr_items s (Expr.Call callee args.now)) (21 + 4 * length args.now) (listed stack.new)) }
 {
     stack.push(&mut [
@@ -70,7 +84,13 @@ fn open_call<'a>(stack: &mut Stack<'a>, callee: ExprId, args: &'a [ExprId]) -> R
     ])
 }
 
-fn open_method_call<'a>(stack: &mut Stack<'a>, receiver: ExprId, name: &'a Name, args: &'a [ExprId], generic_args: &'a Option<Boxed<GenericArgs>>) -> Result<(), AllocError>
+fn open_method_call<'a>(
+    stack: &mut Stack<'a>,
+    receiver: ExprId,
+    name: &'a Name,
+    args: &'a [ExprId],
+    generic_args: &'a Option<Boxed<GenericArgs>>,
+) -> Result<(), AllocError>
     ensures { OnOk result ((s : Setting) → Opens s (listed stack.old) (expr_items s (Expr.MethodCall receiver name.now args.now generic_args.now)) (21 + 4 * length args.now + opt_cost args_cost generic_args.now) (listed stack.new)) }
 {
     match generic_args {
@@ -90,7 +110,11 @@ fn open_method_call<'a>(stack: &mut Stack<'a>, receiver: ExprId, name: &'a Name,
     }
 }
 
-fn open_match<'a>(stack: &mut Stack<'a>, expr: ExprId, arms: &'a [MatchArm]) -> Result<(), AllocError>
+fn open_match<'a>(
+    stack: &mut Stack<'a>,
+    expr: ExprId,
+    arms: &'a [MatchArm],
+) -> Result<(), AllocError>
     ensures { OnOk result ((s : Setting) → Opens s (listed stack.old) (expr_items s (Expr.Match expr arms.now)) (21 + 9 * length arms.now) (listed stack.new)) }
 {
     stack.push(&mut [
@@ -108,13 +132,14 @@ fn open_match<'a>(stack: &mut Stack<'a>, expr: ExprId, arms: &'a [MatchArm]) -> 
 fn open_continue(stack: &mut Stack<'_>, label: Option<LabelId>) -> Result<(), AllocError>
     ensures { OnOk result ((s : Setting) → Opens s (listed stack.old) (expr_items s (Expr.Continue label)) (21) (listed stack.new)) }
 {
-    stack.push(&mut [
-        Work::Text("continue"),
-        Work::Expr(ExprPart::ToLabel(label)),
-    ])
+    stack.push(&mut [Work::Text("continue"), Work::Expr(ExprPart::ToLabel(label))])
 }
 
-fn open_break(stack: &mut Stack<'_>, expr: Option<ExprId>, label: Option<LabelId>) -> Result<(), AllocError>
+fn open_break(
+    stack: &mut Stack<'_>,
+    expr: Option<ExprId>,
+    label: Option<LabelId>,
+) -> Result<(), AllocError>
     ensures { OnOk result ((s : Setting) → Opens s (listed stack.old) (expr_items s (Expr.Break expr label)) (21) (listed stack.new)) }
 {
     stack.push(&mut [
@@ -124,13 +149,14 @@ fn open_break(stack: &mut Stack<'_>, expr: Option<ExprId>, label: Option<LabelId
     ])
 }
 
-fn open_keyword<'a>(stack: &mut Stack<'a>, keyword: &'a str, expr: Option<ExprId>) -> Result<(), AllocError>
+fn open_keyword<'a>(
+    stack: &mut Stack<'a>,
+    keyword: &'a str,
+    expr: Option<ExprId>,
+) -> Result<(), AllocError>
     ensures { OnOk result ((s : Setting) → Opens s (listed stack.old) (text keyword.now ++ operand expr) (21) (listed stack.new)) }
 {
-    stack.push(&mut [
-        Work::Text(keyword),
-        Work::Expr(ExprPart::Operand(expr)),
-    ])
+    stack.push(&mut [Work::Text(keyword), Work::Expr(ExprPart::Operand(expr))])
 }
 
 fn open_yeet(stack: &mut Stack<'_>, expr: Option<ExprId>) -> Result<(), AllocError>
@@ -144,7 +170,12 @@ fn open_yeet(stack: &mut Stack<'_>, expr: Option<ExprId>) -> Result<(), AllocErr
     ])
 }
 
-fn open_record_lit<'a>(stack: &mut Stack<'a>, path: &'a Path, fields: &'a [RecordLitField], spread: RecordSpread) -> Result<(), AllocError>
+fn open_record_lit<'a>(
+    stack: &mut Stack<'a>,
+    path: &'a Path,
+    fields: &'a [RecordLitField],
+    spread: RecordSpread,
+) -> Result<(), AllocError>
     ensures { OnOk result ((s : Setting) → Opens s (listed stack.old) (expr_items s (Expr.RecordLit path.now fields.now spread)) (21 + 9 * length fields.now + path_cost path.now) (listed stack.new)) }
 {
     stack.push(&mut [
@@ -196,7 +227,12 @@ fn raw_keyword(rawness: Rawness) -> &'static str
     }
 }
 
-fn open_ref(stack: &mut Stack<'_>, expr: ExprId, rawness: Rawness, mutability: Mutability) -> Result<(), AllocError>
+fn open_ref(
+    stack: &mut Stack<'_>,
+    expr: ExprId,
+    rawness: Rawness,
+    mutability: Mutability,
+) -> Result<(), AllocError>
     ensures { OnOk result ((s : Setting) → Opens s (listed stack.old) (expr_items s (Expr.Ref expr rawness mutability)) (21) (listed stack.new)) }
 {
     stack.push(&mut [
@@ -226,7 +262,13 @@ fn operator_text(op: Option<BinaryOp>) -> &'static str
     }
 }
 
-fn open_binary(stack: &mut Stack<'_>, lhs: ExprId, rhs: ExprId, op: Option<BinaryOp>, own: ExprPrecedence) -> Result<(), AllocError>
+fn open_binary(
+    stack: &mut Stack<'_>,
+    lhs: ExprId,
+    rhs: ExprId,
+    op: Option<BinaryOp>,
+    own: ExprPrecedence,
+) -> Result<(), AllocError>
     ensures { OnOk result ((s : Setting) → Opens s (listed stack.old) (under own lhs ++ sp ++ operator_items op ++ sp ++ under own rhs) (21) (listed stack.new)) }
 {
     stack.push(&mut [
@@ -335,7 +377,11 @@ fn is_unsafe(unsafe_: Unsafe) -> bool
     }
 }
 
-fn open_inside<'a>(stack: &mut Stack<'a>, statements: &'a [Statement], tail: Option<ExprId>) -> Result<(), AllocError>
+fn open_inside<'a>(
+    stack: &mut Stack<'a>,
+    statements: &'a [Statement],
+    tail: Option<ExprId>,
+) -> Result<(), AllocError>
     ensures { OnOk result ((s : Setting) → Opens s (listed stack.old) (inside_block statements.now tail ++ text (codes "}")) (8 + 14 * length statements.now) (listed stack.new)) }
 {
     match (statements, tail) {
@@ -358,7 +404,13 @@ fn open_inside<'a>(stack: &mut Stack<'a>, statements: &'a [Statement], tail: Opt
     }
 }
 
-fn open_block<'a>(stack: &mut Stack<'a>, statements: &'a [Statement], tail: Option<ExprId>, label: Option<LabelId>, unsafe_: Unsafe) -> Result<(), AllocError>
+fn open_block<'a>(
+    stack: &mut Stack<'a>,
+    statements: &'a [Statement],
+    tail: Option<ExprId>,
+    label: Option<LabelId>,
+    unsafe_: Unsafe,
+) -> Result<(), AllocError>
     ensures { OnOk result ((s : Setting) → Opens s (listed stack.old) (sp ++ labelled s label ++ unsafe_items unsafe_ ++ text (codes "{") ++ inside_block statements.now tail ++ text (codes "}")) (21 + 14 * length statements.now) (listed stack.new)) }
 {
     open_inside(stack, statements, tail)?;
@@ -409,7 +461,15 @@ fn capture_keyword(capture: CaptureBy) -> &'static str
     }
 }
 
-fn open_closure<'a>(stack: &mut Stack<'a>, args: &'a [PatId], arg_types: &'a [Option<TypeRefId>], ret_type: Option<TypeRefId>, body: ExprId, kind: ClosureKind, capture: CaptureBy) -> Result<(), AllocError>
+fn open_closure<'a>(
+    stack: &mut Stack<'a>,
+    args: &'a [PatId],
+    arg_types: &'a [Option<TypeRefId>],
+    ret_type: Option<TypeRefId>,
+    body: ExprId,
+    kind: ClosureKind,
+    capture: CaptureBy,
+) -> Result<(), AllocError>
     ensures { OnOk result ((s : Setting) → Opens s (listed stack.old) (expr_items s (Expr.Closure args.now arg_types.now ret_type body kind capture)) (21 + 6 * length args.now) (listed stack.new)) }
 {
     stack.push(&mut [

@@ -58,7 +58,12 @@ fn is_short(store: &ExpressionStore, words: &[Text], field: &RecordFieldPat) -> 
     false
 }
 
-fn open_field<'a>(stack: &mut Stack<'a>, store: &ExpressionStore, words: &[Text], field: &'a RecordFieldPat) -> Result<(), AllocError>
+fn open_field<'a>(
+    stack: &mut Stack<'a>,
+    store: &ExpressionStore,
+    words: &[Text],
+    field: &'a RecordFieldPat,
+) -> Result<(), AllocError>
     ensures { OnOk result ((tables : Questions) (one_line : Bool) → let s = setting store.now tables words.now one_line in
         Opens s (listed stack.old) (field_pattern s field.now) 7 (listed stack.new)) }
 {
@@ -73,7 +78,12 @@ fn open_field<'a>(stack: &mut Stack<'a>, store: &ExpressionStore, words: &[Text]
 }
 
 /// The last field, with what stands after it.
-fn open_last_field<'a>(stack: &mut Stack<'a>, one_line: bool, field: &'a RecordFieldPat, rest: bool) -> Result<(), AllocError>
+fn open_last_field<'a>(
+    stack: &mut Stack<'a>,
+    one_line: bool,
+    field: &'a RecordFieldPat,
+    rest: bool,
+) -> Result<(), AllocError>
     ensures { OnOk result ((store : Contents) (tables : Questions) (words : List (List ℕ)) → let s = setting store tables words one_line in
         Opens s (listed stack.old) (field_patterns s rest (field.now ∷ [])) 11 (listed stack.new)) }
 {
@@ -94,7 +104,12 @@ fn open_last_field<'a>(stack: &mut Stack<'a>, one_line: bool, field: &'a RecordF
     ])
 }
 
-fn open_fields<'a>(stack: &mut Stack<'a>, one_line: bool, fields: &'a [RecordFieldPat], rest: bool) -> Result<(), AllocError>
+fn open_fields<'a>(
+    stack: &mut Stack<'a>,
+    one_line: bool,
+    fields: &'a [RecordFieldPat],
+    rest: bool,
+) -> Result<(), AllocError>
     ensures { OnOk result ((store : Contents) (tables : Questions) (words : List (List ℕ)) → let s = setting store tables words one_line in
         Opens s (listed stack.old) (field_patterns s rest fields.now) (1 + 10 * length fields.now) (listed stack.new)) }
 {

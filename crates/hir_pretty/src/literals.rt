@@ -11,12 +11,16 @@ ghost use Rattle.hir_pretty.specs.Works.{put_pieces};
 
 use hir_node::Literal;
 use hir_page::{
-    PieceWriter, write_bytes_literal, write_c_string_literal, write_char_literal, write_number, write_string_literal,
+    PieceWriter, write_bytes_literal, write_c_string_literal, write_char_literal, write_number,
+    write_string_literal,
 };
 use std::alloc::AllocError;
 
 /// Writes a literal.
-pub(crate) fn write_literal<W: PieceWriter>(writer: &mut W, literal: &Literal) -> Result<(), AllocError>
+pub(crate) fn write_literal<W: PieceWriter>(
+    writer: &mut W,
+    literal: &Literal,
+) -> Result<(), AllocError>
     ensures { Writes W.step W.refuses writer.old (put_pieces (literal_items literal.now)) (is_ok result) writer.new }
 {
     match literal {
@@ -28,9 +32,17 @@ pub(crate) fn write_literal<W: PieceWriter>(writer: &mut W, literal: &Literal) -
         Literal::Int(number, None) => write_int(writer, *number),
         Literal::Int(number, Some(suffix)) => write_suffixed_int(writer, *number, suffix.as_str()),
         Literal::Uint(number, None) => write_number(writer, *number),
-        Literal::Uint(number, Some(suffix)) => write_suffixed_uint(writer, *number, suffix.as_str()),
+        Literal::Uint(number, Some(suffix)) => write_suffixed_uint(
+            writer,
+            *number,
+            suffix.as_str(),
+        ),
         Literal::Float(number, None) => write_text(writer, number.as_str()),
-        Literal::Float(number, Some(suffix)) => write_both(writer, number.as_str(), suffix.as_str()),
+        Literal::Float(number, Some(suffix)) => write_both(
+            writer,
+            number.as_str(),
+            suffix.as_str(),
+        ),
     }
 }
 
@@ -40,7 +52,11 @@ fn write_int<W: PieceWriter>(writer: &mut W, number: i128) -> Result<(), AllocEr
     write_number(writer, number)
 }
 
-fn write_suffixed_int<W: PieceWriter>(writer: &mut W, number: i128, suffix: &str) -> Result<(), AllocError>
+fn write_suffixed_int<W: PieceWriter>(
+    writer: &mut W,
+    number: i128,
+    suffix: &str,
+) -> Result<(), AllocError>
     ensures { Writes W.step W.refuses writer.old (piece.Text (signed_decimal number) ∷ piece.Text suffix.now ∷ [])
         (is_ok result) writer.new }
 {
@@ -48,7 +64,11 @@ fn write_suffixed_int<W: PieceWriter>(writer: &mut W, number: i128, suffix: &str
     write_text(writer, suffix)
 }
 
-fn write_suffixed_uint<W: PieceWriter>(writer: &mut W, number: u128, suffix: &str) -> Result<(), AllocError>
+fn write_suffixed_uint<W: PieceWriter>(
+    writer: &mut W,
+    number: u128,
+    suffix: &str,
+) -> Result<(), AllocError>
     ensures { Writes W.step W.refuses writer.old (piece.Text (decimal number) ∷ piece.Text suffix.now ∷ [])
         (is_ok result) writer.new }
 {

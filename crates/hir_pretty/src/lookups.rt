@@ -14,11 +14,18 @@ use crate::definitions::Definitions;
 use crate::work::{Look, Stack, Work};
 use hir_base::{CrateId, LifetimeParamId, Name, NamedDef, Text, TypeParamId};
 use hir_expr_store::ExpressionStore;
-use hir_node::{Binding, BindingAnnotation, BindingId, ClosureKind, Expr, ExprId, Label, LabelId, LifetimeRef, LifetimeRefId};
+use hir_node::{
+    Binding, BindingAnnotation, BindingId, ClosureKind, Expr, ExprId, Label, LabelId, LifetimeRef,
+    LifetimeRefId,
+};
 use std::alloc::AllocError;
 
 /// A name of the tables as it stands, or a default.
-fn open_found<'a>(stack: &mut Stack<'a>, default: &'a str, found: Option<&'a Text>) -> Result<(), AllocError>
+fn open_found<'a>(
+    stack: &mut Stack<'a>,
+    default: &'a str,
+    found: Option<&'a Text>,
+) -> Result<(), AllocError>
     ensures { OnOk result ((s : Setting) → Opens s (listed stack.old) (found_name default.now (Ok (option_copied found.entry))) 2 (listed stack.new)) }
 {
     match found {
@@ -27,7 +34,11 @@ fn open_found<'a>(stack: &mut Stack<'a>, default: &'a str, found: Option<&'a Tex
     }
 }
 
-fn open_def_name<'a, D: Definitions>(stack: &mut Stack<'a>, tables: &'a D, def: NamedDef) -> Result<(), AllocError>
+fn open_def_name<'a, D: Definitions>(
+    stack: &mut Stack<'a>,
+    tables: &'a D,
+    def: NamedDef,
+) -> Result<(), AllocError>
     ensures { OnOk result (OpensAsked (D.answers tables.now) (listed stack.old) (λ s. look_items s (Look.NameOf def)) 2 (listed stack.new)) }
 {
     match tables.def_name(def) {
@@ -36,7 +47,11 @@ fn open_def_name<'a, D: Definitions>(stack: &mut Stack<'a>, tables: &'a D, def: 
     }
 }
 
-fn open_crate_name<'a, D: Definitions>(stack: &mut Stack<'a>, tables: &'a D, id: CrateId) -> Result<(), AllocError>
+fn open_crate_name<'a, D: Definitions>(
+    stack: &mut Stack<'a>,
+    tables: &'a D,
+    id: CrateId,
+) -> Result<(), AllocError>
     ensures { OnOk result (OpensAsked (D.answers tables.now) (listed stack.old) (λ s. look_items s (Look.CrateName id)) 2 (listed stack.new)) }
 {
     match tables.name_of_crate(id) {
@@ -46,16 +61,28 @@ fn open_crate_name<'a, D: Definitions>(stack: &mut Stack<'a>, tables: &'a D, id:
 }
 
 /// A type parameter by its name, or by its number.
-fn open_param_name<'a>(stack: &mut Stack<'a>, number: u32, found: Option<&'a Name>) -> Result<(), AllocError>
+fn open_param_name<'a>(
+    stack: &mut Stack<'a>,
+    number: u32,
+    found: Option<&'a Name>,
+) -> Result<(), AllocError>
     ensures { OnOk result ((s : Setting) → Opens s (listed stack.old) (type_param_items s number (Ok (option_copied found.entry))) 5 (listed stack.new)) }
 {
     match found {
-        None => stack.push(&mut [Work::Text("Param["), Work::Number(u64::from(number)), Work::Text("]")]),
+        None => stack.push(&mut [
+            Work::Text("Param["),
+            Work::Number(u64::from(number)),
+            Work::Text("]"),
+        ]),
         Some(name) => stack.push(&mut [Work::Name(name.as_str())]),
     }
 }
 
-fn open_type_param<'a, D: Definitions>(stack: &mut Stack<'a>, tables: &'a D, id: TypeParamId) -> Result<(), AllocError>
+fn open_type_param<'a, D: Definitions>(
+    stack: &mut Stack<'a>,
+    tables: &'a D,
+    id: TypeParamId,
+) -> Result<(), AllocError>
     ensures { OnOk result (OpensAsked (D.answers tables.now) (listed stack.old) (λ s. look_items s (Look.TypeParam id)) 5 (listed stack.new)) }
 {
     match tables.type_param(id) {
@@ -64,7 +91,11 @@ fn open_type_param<'a, D: Definitions>(stack: &mut Stack<'a>, tables: &'a D, id:
     }
 }
 
-fn open_lifetime_param<'a, D: Definitions>(stack: &mut Stack<'a>, tables: &'a D, id: LifetimeParamId) -> Result<(), AllocError>
+fn open_lifetime_param<'a, D: Definitions>(
+    stack: &mut Stack<'a>,
+    tables: &'a D,
+    id: LifetimeParamId,
+) -> Result<(), AllocError>
     ensures { OnOk result (OpensAsked (D.answers tables.now) (listed stack.old) (λ s. look_items s (Look.LifetimeParam id)) 5 (listed stack.new)) }
 {
     match tables.lifetime_param(id) {
@@ -85,7 +116,11 @@ fn open_lifetime_ref<'a>(stack: &mut Stack<'a>, lifetime: &'a LifetimeRef) -> Re
     }
 }
 
-fn open_lifetime<'a>(stack: &mut Stack<'a>, store: &'a ExpressionStore, id: LifetimeRefId) -> Result<(), AllocError>
+fn open_lifetime<'a>(
+    stack: &mut Stack<'a>,
+    store: &'a ExpressionStore,
+    id: LifetimeRefId,
+) -> Result<(), AllocError>
     ensures { OnOk result (OpensInStore store.now (listed stack.old) (λ s. l s id) 7 (listed stack.new)) }
 {
     if store.has_lifetime(id) {
@@ -101,7 +136,11 @@ fn open_of_label<'a>(stack: &mut Stack<'a>, label: &'a Label) -> Result<(), Allo
     stack.push(&mut [Work::Name(label.name.as_str())])
 }
 
-fn open_label<'a>(stack: &mut Stack<'a>, store: &'a ExpressionStore, id: LabelId) -> Result<(), AllocError>
+fn open_label<'a>(
+    stack: &mut Stack<'a>,
+    store: &'a ExpressionStore,
+    id: LabelId,
+) -> Result<(), AllocError>
     ensures { OnOk result (OpensInStore store.now (listed stack.old) (λ s. label_items s id) 5 (listed stack.new)) }
 {
     if store.has_label(id) {
@@ -131,7 +170,11 @@ fn open_of_binding<'a>(stack: &mut Stack<'a>, binding: &'a Binding) -> Result<()
     ])
 }
 
-fn open_binding<'a>(stack: &mut Stack<'a>, store: &'a ExpressionStore, id: BindingId) -> Result<(), AllocError>
+fn open_binding<'a>(
+    stack: &mut Stack<'a>,
+    store: &'a ExpressionStore,
+    id: BindingId,
+) -> Result<(), AllocError>
     ensures { OnOk result (OpensInStore store.now (listed stack.old) (λ s. binding_items s id) 6 (listed stack.new)) }
 {
     if store.has_binding(id) {
@@ -163,7 +206,9 @@ fn printed_body(store: &ExpressionStore, kind: ClosureKind, body: ExprId) -> Exp
     ensures { result ≡ printed_body store.now.nodes kind body }
 {
     match kind {
-        ClosureKind::Closure | ClosureKind::OldCoroutine(_) | ClosureKind::Coroutine { kind: _, source: _ } => body,
+        ClosureKind::Closure
+        | ClosureKind::OldCoroutine(_)
+        | ClosureKind::Coroutine { kind: _, source: _ } => body,
         ClosureKind::CoroutineClosure(_) => {
             if store.has_expr(body) {
                 return coroutine_body(&store[body], body);
@@ -190,6 +235,8 @@ pub(crate) fn open_look<'a, D: Definitions>(
         Look::Lifetime(id) => open_lifetime(stack, store, id),
         Look::Label(id) => open_label(stack, store, id),
         Look::Binding(id) => open_binding(stack, store, id),
-        Look::ClosureBody(kind, body) => stack.push(&mut [Work::Whole(printed_body(store, kind, body))]),
+        Look::ClosureBody(kind, body) => stack.push(&mut [Work::Whole(printed_body(
+            store, kind, body,
+        ))]),
     }
 }

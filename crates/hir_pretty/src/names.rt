@@ -45,7 +45,12 @@ fn open_raw<'a>(stack: &mut Stack<'a>, words: &[Text], name: &'a str) -> Result<
     Ok(())
 }
 
-fn open_quoted<'a>(stack: &mut Stack<'a>, words: &[Text], name: &'a str, rest: &'a str) -> Result<(), AllocError>
+fn open_quoted<'a>(
+    stack: &mut Stack<'a>,
+    words: &[Text],
+    name: &'a str,
+    rest: &'a str,
+) -> Result<(), AllocError>
     requires { name.now ≡ 39 ∷ rest.now }
     ensures { OnOk result (OpensNamed words.now (listed stack.old) (λ s. name_items s name.now) 4 (listed stack.new)) }
 {
@@ -59,7 +64,11 @@ fn open_quoted<'a>(stack: &mut Stack<'a>, words: &[Text], name: &'a str, rest: &
 }
 
 /// Puts the parts of a name on the stack.
-pub(crate) fn open_name<'a>(stack: &mut Stack<'a>, words: &[Text], name: &'a str) -> Result<(), AllocError>
+pub(crate) fn open_name<'a>(
+    stack: &mut Stack<'a>,
+    words: &[Text],
+    name: &'a str,
+) -> Result<(), AllocError>
     ensures { OnOk result (OpensNamed words.now (listed stack.old) (λ s. name_items s name.now) 4 (listed stack.new)) }
 {
     match without_quote(name) {
@@ -81,8 +90,16 @@ fn parts_of<'a>(words: &[Text], name: &'a str) -> Parts<'a>
     ensures unquoted { IsUnquoted result.is_quoted result.is_raw result.rest.now }
 {
     match without_quote(name) {
-        None => Parts { is_quoted: false, is_raw: is_word(words, name), rest: name },
-        Some(rest) => Parts { is_quoted: true, is_raw: rest != "static" && is_word(words, rest), rest },
+        None => Parts {
+            is_quoted: false,
+            is_raw: is_word(words, name),
+            rest: name,
+        },
+        Some(rest) => Parts {
+            is_quoted: true,
+            is_raw: rest != "static" && is_word(words, rest),
+            rest,
+        },
     }
 }
 
@@ -115,5 +132,6 @@ pub(crate) fn same_printed(words: &[Text], name: &str, other: &str) -> bool
 {
     let name = parts_of(words, name);
     let other = parts_of(words, other);
-    name.is_quoted == other.is_quoted && same_marked(name.is_raw, name.rest, other.is_raw, other.rest)
+    name.is_quoted == other.is_quoted
+        && same_marked(name.is_raw, name.rest, other.is_raw, other.rest)
 }

@@ -56,7 +56,11 @@ fn open_normal<'a>(stack: &mut Stack<'a>, path: &'a NormalPath) -> Result<(), Al
     }
 }
 
-fn open_lang_item<'a>(stack: &mut Stack<'a>, target: LangItemTarget, name: &'a Option<Name>) -> Result<(), AllocError>
+fn open_lang_item<'a>(
+    stack: &mut Stack<'a>,
+    target: LangItemTarget,
+    name: &'a Option<Name>,
+) -> Result<(), AllocError>
     ensures { OnOk result ((s : Setting) → Opens s (listed stack.old) (path_items s (Path.LangItem target name.now)) (20) (listed stack.new)) }
 {
     match name {
@@ -109,20 +113,45 @@ fn open_target(stack: &mut Stack<'_>, target: LangItemTarget) -> Result<(), Allo
             Work::Number(u64::from(id.into_raw())),
             Work::Text(")"),
         ]),
-        LangItemTarget::EnumId(id) => stack.push(&mut [Work::Look(Look::NameOf(NamedDef::EnumId(id)))]),
-        LangItemTarget::FunctionId(id) => stack.push(&mut [Work::Look(Look::NameOf(NamedDef::FunctionId(id)))]),
-        LangItemTarget::StaticId(id) => stack.push(&mut [Work::Look(Look::NameOf(NamedDef::StaticId(id)))]),
-        LangItemTarget::StructId(id) => stack.push(&mut [Work::Look(Look::NameOf(NamedDef::StructId(id)))]),
-        LangItemTarget::UnionId(id) => stack.push(&mut [Work::Look(Look::NameOf(NamedDef::UnionId(id)))]),
-        LangItemTarget::TypeAliasId(id) => stack.push(&mut [Work::Look(Look::NameOf(NamedDef::TypeAliasId(id)))]),
-        LangItemTarget::TraitId(id) => stack.push(&mut [Work::Look(Look::NameOf(NamedDef::TraitId(id)))]),
-        LangItemTarget::EnumVariantId(id) => stack.push(&mut [Work::Look(Look::NameOf(NamedDef::EnumVariantId(id)))]),
-        LangItemTarget::ConstId(id) => stack.push(&mut [Work::Look(Look::NameOf(NamedDef::ConstId(id)))]),
-        LangItemTarget::MacroId(id) => stack.push(&mut [Work::Look(Look::NameOf(NamedDef::MacroId(id)))]),
+        LangItemTarget::EnumId(id) => stack.push(&mut [Work::Look(Look::NameOf(NamedDef::EnumId(
+            id,
+        )))]),
+        LangItemTarget::FunctionId(id) => stack.push(&mut [Work::Look(Look::NameOf(
+            NamedDef::FunctionId(id),
+        ))]),
+        LangItemTarget::StaticId(id) => stack.push(&mut [Work::Look(Look::NameOf(NamedDef::StaticId(
+            id,
+        )))]),
+        LangItemTarget::StructId(id) => stack.push(&mut [Work::Look(Look::NameOf(NamedDef::StructId(
+            id,
+        )))]),
+        LangItemTarget::UnionId(id) => stack.push(&mut [Work::Look(Look::NameOf(NamedDef::UnionId(
+            id,
+        )))]),
+        LangItemTarget::TypeAliasId(id) => stack.push(&mut [Work::Look(Look::NameOf(
+            NamedDef::TypeAliasId(id),
+        ))]),
+        LangItemTarget::TraitId(id) => stack.push(&mut [Work::Look(Look::NameOf(NamedDef::TraitId(
+            id,
+        )))]),
+        LangItemTarget::EnumVariantId(id) => stack.push(&mut [Work::Look(Look::NameOf(
+            NamedDef::EnumVariantId(id),
+        ))]),
+        LangItemTarget::ConstId(id) => stack.push(&mut [Work::Look(Look::NameOf(NamedDef::ConstId(
+            id,
+        )))]),
+        LangItemTarget::MacroId(id) => stack.push(&mut [Work::Look(Look::NameOf(NamedDef::MacroId(
+            id,
+        )))]),
     }
 }
 
-fn open_segments<'a>(stack: &mut Stack<'a>, after: bool, names: &'a [Name], lists: &'a [Option<GenericArgs>]) -> Result<(), AllocError>
+fn open_segments<'a>(
+    stack: &mut Stack<'a>,
+    after: bool,
+    names: &'a [Name],
+    lists: &'a [Option<GenericArgs>],
+) -> Result<(), AllocError>
     ensures { OnOk result ((s : Setting) → Opens s (listed stack.old) (segments_from s after names.now lists.now) (segments_cost names.now lists.now) (listed stack.new)) }
 {
     match (names, lists) {
@@ -141,7 +170,11 @@ fn open_segments<'a>(stack: &mut Stack<'a>, after: bool, names: &'a [Name], list
     }
 }
 
-fn open_names<'a>(stack: &mut Stack<'a>, between: &'a str, names: &'a [Name]) -> Result<(), AllocError>
+fn open_names<'a>(
+    stack: &mut Stack<'a>,
+    between: &'a str,
+    names: &'a [Name],
+) -> Result<(), AllocError>
     ensures { OnOk result ((s : Setting) → Opens s (listed stack.old) (joined (text between.now) (map (name_items s) names.now)) (1 + 6 * length names.now) (listed stack.new)) }
 {
     match names {
@@ -155,7 +188,10 @@ fn open_names<'a>(stack: &mut Stack<'a>, between: &'a str, names: &'a [Name]) ->
     }
 }
 
-fn open_turbofish<'a>(stack: &mut Stack<'a>, args: &'a Option<GenericArgs>) -> Result<(), AllocError>
+fn open_turbofish<'a>(
+    stack: &mut Stack<'a>,
+    args: &'a Option<GenericArgs>,
+) -> Result<(), AllocError>
     ensures { OnOk result ((s : Setting) → Opens s (listed stack.old) (opt (λ a. turbofish (args_items s a)) args.now) (turbofish_cost args.now) (listed stack.new)) }
 {
     match args {
@@ -177,10 +213,20 @@ fn open_fish<'a>(stack: &mut Stack<'a>, args: &'a GenericArgs) -> Result<(), All
 fn open_args<'a>(stack: &mut Stack<'a>, args: &'a GenericArgs) -> Result<(), AllocError>
     ensures { OnOk result ((s : Setting) → Opens s (listed stack.old) (args_items s args.now) (args_cost args.now) (listed stack.new)) }
 {
-    open_each(stack, args.has_self_type, args.args.as_slice(), args.bindings.as_slice())
+    open_each(
+        stack,
+        args.has_self_type,
+        args.args.as_slice(),
+        args.bindings.as_slice(),
+    )
 }
 
-fn open_each<'a>(stack: &mut Stack<'a>, has_self_type: bool, args: &'a [GenericArg], bindings: &'a [AssociatedTypeBinding]) -> Result<(), AllocError>
+fn open_each<'a>(
+    stack: &mut Stack<'a>,
+    has_self_type: bool,
+    args: &'a [GenericArg],
+    bindings: &'a [AssociatedTypeBinding],
+) -> Result<(), AllocError>
     ensures { OnOk result ((s : Setting) → Opens s (listed stack.old) (comma_joined (each_arg s has_self_type args.now ++ map (assoc_items s) bindings.now)) (2 + rest_cost args.now (map assoc_cost bindings.now)) (listed stack.new)) }
 {
     match args {
@@ -197,7 +243,11 @@ fn open_each<'a>(stack: &mut Stack<'a>, has_self_type: bool, args: &'a [GenericA
     }
 }
 
-fn open_args_rest<'a>(stack: &mut Stack<'a>, args: &'a [GenericArg], bindings: &'a [AssociatedTypeBinding]) -> Result<(), AllocError>
+fn open_args_rest<'a>(
+    stack: &mut Stack<'a>,
+    args: &'a [GenericArg],
+    bindings: &'a [AssociatedTypeBinding],
+) -> Result<(), AllocError>
     ensures { OnOk result ((s : Setting) → Opens s (listed stack.old) (comma_joined (map (arg_items s) args.now ++ map (assoc_items s) bindings.now)) (rest_cost args.now (map assoc_cost bindings.now)) (listed stack.new)) }
 {
     match args {
@@ -215,7 +265,10 @@ fn open_args_rest<'a>(stack: &mut Stack<'a>, args: &'a [GenericArg], bindings: &
     }
 }
 
-fn open_assocs<'a>(stack: &mut Stack<'a>, bindings: &'a [AssociatedTypeBinding]) -> Result<(), AllocError>
+fn open_assocs<'a>(
+    stack: &mut Stack<'a>,
+    bindings: &'a [AssociatedTypeBinding],
+) -> Result<(), AllocError>
     ensures { OnOk result ((s : Setting) → Opens s (listed stack.old) (comma_joined (map (assoc_items s) bindings.now)) (rest_cost [] (map assoc_cost bindings.now)) (listed stack.new)) }
 {
     match bindings {
@@ -235,11 +288,17 @@ fn open_arg(stack: &mut Stack<'_>, arg: GenericArg) -> Result<(), AllocError>
     match arg {
         GenericArg::Ty(id) => stack.push(&mut [Work::Type(id)]),
         GenericArg::Lifetime(id) => stack.push(&mut [Work::Look(Look::Lifetime(id))]),
-        GenericArg::Const(constant) => stack.push(&mut [Work::Under(constant.expr, ExprPrecedence::Unambiguous)]),
+        GenericArg::Const(constant) => stack.push(&mut [Work::Under(
+            constant.expr,
+            ExprPrecedence::Unambiguous,
+        )]),
     }
 }
 
-fn open_assoc<'a>(stack: &mut Stack<'a>, binding: &'a AssociatedTypeBinding) -> Result<(), AllocError>
+fn open_assoc<'a>(
+    stack: &mut Stack<'a>,
+    binding: &'a AssociatedTypeBinding,
+) -> Result<(), AllocError>
     ensures { OnOk result ((s : Setting) → Opens s (listed stack.old) (assoc_items s binding.now) (assoc_cost binding.now) (listed stack.new)) }
 {
     stack.push(&mut [
@@ -260,7 +319,10 @@ fn open_bounds_after<'a>(stack: &mut Stack<'a>, bounds: &'a [TypeBound]) -> Resu
 }
 
 /// Puts the items of a part of a path on the stack.
-pub(crate) fn open_path_part<'a>(stack: &mut Stack<'a>, part: &PathPart<'a>) -> Result<(), AllocError>
+pub(crate) fn open_path_part<'a>(
+    stack: &mut Stack<'a>,
+    part: &PathPart<'a>,
+) -> Result<(), AllocError>
     ensures { OnOk result ((s : Setting) → Opens s (listed stack.old) (path_part_items s part.now) (path_part_cost part.now) (listed stack.new)) }
 {
     match part {

@@ -37,7 +37,11 @@ pub(crate) fn open_elements<'a>(stack: &mut Stack<'a>, pats: &'a [PatId]) -> Res
     }
 }
 
-pub(crate) fn open_joined<'a>(stack: &mut Stack<'a>, between: &'a str, pats: &'a [PatId]) -> Result<(), AllocError>
+pub(crate) fn open_joined<'a>(
+    stack: &mut Stack<'a>,
+    between: &'a str,
+    pats: &'a [PatId],
+) -> Result<(), AllocError>
     ensures { OnOk result ((s : Setting) → Opens s (listed stack.old) (joined (text between.now) (map p pats.now)) (1 + 3 * length pats.now) (listed stack.new)) }
 {
     match pats {
@@ -51,7 +55,11 @@ pub(crate) fn open_joined<'a>(stack: &mut Stack<'a>, between: &'a str, pats: &'a
     }
 }
 
-pub(crate) fn open_with_rest<'a>(stack: &mut Stack<'a>, pats: &'a [PatId], at: u32) -> Result<(), AllocError>
+pub(crate) fn open_with_rest<'a>(
+    stack: &mut Stack<'a>,
+    pats: &'a [PatId],
+    at: u32,
+) -> Result<(), AllocError>
     ensures { OnOk result ((s : Setting) → Opens s (listed stack.old) (comma_joined (with_rest (Some at) (map p pats.now))) (4 + 3 * length pats.now) (listed stack.new)) }
 {
     match pats {
@@ -73,7 +81,11 @@ pub(crate) fn open_with_rest<'a>(stack: &mut Stack<'a>, pats: &'a [PatId], at: u
     }
 }
 
-fn open_parentheses<'a>(stack: &mut Stack<'a>, pats: &'a [PatId], rest: Option<u32>) -> Result<(), AllocError>
+fn open_parentheses<'a>(
+    stack: &mut Stack<'a>,
+    pats: &'a [PatId],
+    rest: Option<u32>,
+) -> Result<(), AllocError>
     ensures { OnOk result ((s : Setting) → Opens s (listed stack.old) (in_parentheses rest pats.now) (7 + 3 * length pats.now) (listed stack.new)) }
 {
     match rest {
@@ -90,14 +102,24 @@ fn open_parentheses<'a>(stack: &mut Stack<'a>, pats: &'a [PatId], rest: Option<u
     }
 }
 
-fn open_tuple_struct<'a>(stack: &mut Stack<'a>, path: &'a Path, pats: &'a [PatId], rest: Option<u32>) -> Result<(), AllocError>
+fn open_tuple_struct<'a>(
+    stack: &mut Stack<'a>,
+    path: &'a Path,
+    pats: &'a [PatId],
+    rest: Option<u32>,
+) -> Result<(), AllocError>
     ensures { OnOk result ((s : Setting) → Opens s (listed stack.old) (path_items s path.now ++ in_parentheses rest pats.now) (8 + 3 * length pats.now + path_cost path.now) (listed stack.new)) }
 {
     open_parentheses(stack, pats, rest)?;
     stack.push(&mut [Work::Path(PathPart::Whole(path))])
 }
 
-fn open_record<'a>(stack: &mut Stack<'a>, path: &'a Path, fields: &'a [RecordFieldPat], rest: bool) -> Result<(), AllocError>
+fn open_record<'a>(
+    stack: &mut Stack<'a>,
+    path: &'a Path,
+    fields: &'a [RecordFieldPat],
+    rest: bool,
+) -> Result<(), AllocError>
     ensures { OnOk result ((s : Setting) → Opens s (listed stack.old) (pat_items s (Pat.Record path.now fields.now rest)) (21 + 10 * length fields.now + path_cost path.now) (listed stack.new)) }
 {
     if rest {
@@ -122,7 +144,12 @@ fn open_record<'a>(stack: &mut Stack<'a>, path: &'a Path, fields: &'a [RecordFie
     ])
 }
 
-fn open_range(stack: &mut Stack<'_>, start: Option<ExprId>, end: Option<ExprId>, range_type: RangeOp) -> Result<(), AllocError>
+fn open_range(
+    stack: &mut Stack<'_>,
+    start: Option<ExprId>,
+    end: Option<ExprId>,
+    range_type: RangeOp,
+) -> Result<(), AllocError>
     ensures { OnOk result ((s : Setting) → Opens s (listed stack.old) (pat_items s (Pat.Range start end range_type)) (21) (listed stack.new)) }
 {
     stack.push(&mut [
@@ -132,7 +159,12 @@ fn open_range(stack: &mut Stack<'_>, start: Option<ExprId>, end: Option<ExprId>,
     ])
 }
 
-fn open_slice<'a>(stack: &mut Stack<'a>, prefix: &'a [PatId], slice: Option<PatId>, suffix: &'a [PatId]) -> Result<(), AllocError>
+fn open_slice<'a>(
+    stack: &mut Stack<'a>,
+    prefix: &'a [PatId],
+    slice: Option<PatId>,
+    suffix: &'a [PatId],
+) -> Result<(), AllocError>
     ensures { OnOk result ((s : Setting) → Opens s (listed stack.old) (pat_items s (Pat.Slice prefix.now slice suffix.now)) (21 + 3 * length prefix.now + 3 * length suffix.now) (listed stack.new)) }
 {
     match slice {

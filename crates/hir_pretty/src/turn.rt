@@ -30,7 +30,11 @@ use hir_node::{ExprId, PatId, TypeRefId};
 use hir_page::{PieceWriter, write_number};
 use std::alloc::AllocError;
 
-fn open_expr_at<'a>(stack: &mut Stack<'a>, store: &'a ExpressionStore, id: ExprId) -> Result<(), AllocError>
+fn open_expr_at<'a>(
+    stack: &mut Stack<'a>,
+    store: &'a ExpressionStore,
+    id: ExprId,
+) -> Result<(), AllocError>
     ensures { OnOk result (OpensInStore store.now (listed stack.old) (λ s. items_of s (node.Expr id))
         (1 + node_cost store.now.nodes (node.Expr id)) (listed stack.new)) }
 {
@@ -41,7 +45,11 @@ fn open_expr_at<'a>(stack: &mut Stack<'a>, store: &'a ExpressionStore, id: ExprI
     Ok(())
 }
 
-fn open_pat_at<'a>(stack: &mut Stack<'a>, store: &'a ExpressionStore, id: PatId) -> Result<(), AllocError>
+fn open_pat_at<'a>(
+    stack: &mut Stack<'a>,
+    store: &'a ExpressionStore,
+    id: PatId,
+) -> Result<(), AllocError>
     ensures { OnOk result (OpensInStore store.now (listed stack.old) (λ s. items_of s (node.Pat id))
         (1 + node_cost store.now.nodes (node.Pat id)) (listed stack.new)) }
 {
@@ -52,7 +60,11 @@ fn open_pat_at<'a>(stack: &mut Stack<'a>, store: &'a ExpressionStore, id: PatId)
     Ok(())
 }
 
-fn open_type_at<'a>(stack: &mut Stack<'a>, store: &'a ExpressionStore, id: TypeRefId) -> Result<(), AllocError>
+fn open_type_at<'a>(
+    stack: &mut Stack<'a>,
+    store: &'a ExpressionStore,
+    id: TypeRefId,
+) -> Result<(), AllocError>
     ensures { OnOk result (OpensInStore store.now (listed stack.old) (λ s. items_of s (node.TypeRef id))
         (1 + node_cost store.now.nodes (node.TypeRef id)) (listed stack.new)) }
 {
@@ -82,7 +94,12 @@ fn is_chain(child: ExprPrecedence, parent: ExprPrecedence) -> bool
     )
 }
 
-fn open_under<'a>(stack: &mut Stack<'a>, store: &ExpressionStore, id: ExprId, parent: ExprPrecedence) -> Result<(), AllocError>
+fn open_under<'a>(
+    stack: &mut Stack<'a>,
+    store: &ExpressionStore,
+    id: ExprId,
+    parent: ExprPrecedence,
+) -> Result<(), AllocError>
     ensures { OnOk result ((s : Setting) → Opens s (listed stack.old)
         (enclosed (stands_in_parentheses (precedence_found (slice_get store.now.nodes.exprs id)) parent) id) 5 (listed stack.new)) }
 {

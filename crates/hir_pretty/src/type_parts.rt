@@ -14,7 +14,11 @@ use hir_base::{ExternAbi, Name, Seq};
 use hir_node::{PathId, TraitBoundModifier, TypeBound, TypeRefId, UseArgRef};
 use std::alloc::AllocError;
 
-fn open_after<'a>(stack: &mut Stack<'a>, before: &'a str, type_ref: Option<TypeRefId>) -> Result<(), AllocError>
+fn open_after<'a>(
+    stack: &mut Stack<'a>,
+    before: &'a str,
+    type_ref: Option<TypeRefId>,
+) -> Result<(), AllocError>
     ensures { OnOk result ((s : Setting) → Opens s (listed stack.old) (opt (λ id. text before.now ++ t id) type_ref) (3) (listed stack.new)) }
 {
     match type_ref {
@@ -37,7 +41,10 @@ fn open_joined<'a>(stack: &mut Stack<'a>, types: &'a [TypeRefId]) -> Result<(), 
     }
 }
 
-fn open_params<'a>(stack: &mut Stack<'a>, params: &'a [(Option<Name>, TypeRefId)]) -> Result<(), AllocError>
+fn open_params<'a>(
+    stack: &mut Stack<'a>,
+    params: &'a [(Option<Name>, TypeRefId)],
+) -> Result<(), AllocError>
     ensures { OnOk result ((s : Setting) → Opens s (listed stack.old) (front_items params.now) (1 + 3 * length params.now) (listed stack.new)) }
 {
     match params {
@@ -104,7 +111,11 @@ fn open_bounds<'a>(stack: &mut Stack<'a>, bounds: &'a [TypeBound]) -> Result<(),
     }
 }
 
-fn open_path_bound(stack: &mut Stack<'_>, id: PathId, modifier: TraitBoundModifier) -> Result<(), AllocError>
+fn open_path_bound(
+    stack: &mut Stack<'_>,
+    id: PathId,
+    modifier: TraitBoundModifier,
+) -> Result<(), AllocError>
     ensures { OnOk result ((s : Setting) → Opens s (listed stack.old) (bound_items s (TypeBound.Path id modifier)) (8) (listed stack.new)) }
 {
     match modifier {
@@ -113,7 +124,11 @@ fn open_path_bound(stack: &mut Stack<'_>, id: PathId, modifier: TraitBoundModifi
     }
 }
 
-fn open_for_bound<'a>(stack: &mut Stack<'a>, names: &'a [Name], id: PathId) -> Result<(), AllocError>
+fn open_for_bound<'a>(
+    stack: &mut Stack<'a>,
+    names: &'a [Name],
+    id: PathId,
+) -> Result<(), AllocError>
     ensures { OnOk result ((s : Setting) → Opens s (listed stack.old) (bound_items s (TypeBound.ForLifetime names.now id)) (8 + 6 * length names.now) (listed stack.new)) }
 {
     stack.push(&mut [
@@ -159,7 +174,11 @@ fn open_last_use<'a>(stack: &mut Stack<'a>, arg: &'a UseArgRef) -> Result<(), Al
     }
 }
 
-fn open_use<'a>(stack: &mut Stack<'a>, first: &'a UseArgRef, rest: &'a [UseArgRef]) -> Result<(), AllocError>
+fn open_use<'a>(
+    stack: &mut Stack<'a>,
+    first: &'a UseArgRef,
+    rest: &'a [UseArgRef],
+) -> Result<(), AllocError>
     ensures { OnOk result ((s : Setting) → Opens s (listed stack.old) (use_items s first.now ++ text (codes ", ") ++ comma_joined (map (use_items s) rest.now)) (10 + 9 * length rest.now) (listed stack.new)) }
 {
     match first {
@@ -177,7 +196,10 @@ fn open_use<'a>(stack: &mut Stack<'a>, first: &'a UseArgRef, rest: &'a [UseArgRe
 }
 
 /// Puts the items of a part of a type on the stack.
-pub(crate) fn open_type_part<'a>(stack: &mut Stack<'a>, part: &TypePart<'a>) -> Result<(), AllocError>
+pub(crate) fn open_type_part<'a>(
+    stack: &mut Stack<'a>,
+    part: &TypePart<'a>,
+) -> Result<(), AllocError>
     ensures { OnOk result ((s : Setting) → Opens s (listed stack.old) (type_part_items s part.now) (type_part_cost part.now) (listed stack.new)) }
 {
     match part {

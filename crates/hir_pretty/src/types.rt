@@ -24,7 +24,11 @@ fn open_fn<'a>(stack: &mut Stack<'a>, function: &'a FnType) -> Result<(), AllocE
     ])
 }
 
-fn open_signature<'a>(stack: &mut Stack<'a>, params: &'a [(Option<Name>, TypeRefId)], is_varargs: bool) -> Result<(), AllocError>
+fn open_signature<'a>(
+    stack: &mut Stack<'a>,
+    params: &'a [(Option<Name>, TypeRefId)],
+    is_varargs: bool,
+) -> Result<(), AllocError>
     ensures { OnOk result ((s : Setting) → Opens s (listed stack.old) (signature_items is_varargs (map (λ (entry : Option (List ℕ) × ℕ). entry.1) params.now)) (9 + 3 * length params.now) (listed stack.new)) }
 {
     match params {
@@ -34,7 +38,13 @@ fn open_signature<'a>(stack: &mut Stack<'a>, params: &'a [(Option<Name>, TypeRef
     }
 }
 
-fn open_ends<'a>(stack: &mut Stack<'a>, params: &'a [(Option<Name>, TypeRefId)], is_varargs: bool, has_params: bool, ret: Option<TypeRefId>) -> Result<(), AllocError>
+fn open_ends<'a>(
+    stack: &mut Stack<'a>,
+    params: &'a [(Option<Name>, TypeRefId)],
+    is_varargs: bool,
+    has_params: bool,
+    ret: Option<TypeRefId>,
+) -> Result<(), AllocError>
     ensures { OnOk result ((s : Setting) → Opens s (listed stack.old) (text (codes "fn(") ++ front_items params.now ++ when (is_varargs && has_params) (text (codes ", ")) ++ when is_varargs (text (codes "...")) ++ text (codes ") -> ") ++ opt t ret) (9 + 3 * length params.now) (listed stack.new)) }
 {
     match ret {

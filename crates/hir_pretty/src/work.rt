@@ -2,11 +2,15 @@
 
 ghost use Rattle.std.specs.Prelude.{◌≡◌, [], ◌∷◌, ◌++◌, None, OnOk, IfSome};
 
-use hir_base::{CrateId, ExprPrecedence, ExternAbi, LangItemTarget, LifetimeParamId, Name, NamedDef, PathKind, TypeParamId};
+use hir_base::{
+    CrateId, ExprPrecedence, ExternAbi, LangItemTarget, LifetimeParamId, Name, NamedDef, PathKind,
+    TypeParamId,
+};
 use hir_expr_store::Missing;
 use hir_node::{
-    AssociatedTypeBinding, BindingId, ClosureKind, ExprId, GenericArg, GenericArgs, LabelId, LifetimeRefId, Literal, MatchArm, PatId,
-    Path, RecordFieldPat, RecordLitField, RecordSpread, Statement, TypeBound, TypeRefId, UseArgRef,
+    AssociatedTypeBinding, BindingId, ClosureKind, ExprId, GenericArg, GenericArgs, LabelId,
+    LifetimeRefId, Literal, MatchArm, PatId, Path, RecordFieldPat, RecordLitField, RecordSpread,
+    Statement, TypeBound, TypeRefId, UseArgRef,
 };
 use std::alloc::{AllocError, Global};
 
@@ -157,7 +161,7 @@ impl<'a> Stack<'a> {
     /// Answers an error where it was refused.
     pub(crate) fn push(&mut self, works: &mut [Work<'a>]) -> Result<(), AllocError>
         ensures { OnOk result (Pushes works.old (listed self.old) (listed self.new)) }
-        {
+    {
         works.reverse();
         self.works.extend_from_slice(works)?;
         Ok(())

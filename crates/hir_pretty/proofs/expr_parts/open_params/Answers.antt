@@ -14,5 +14,5 @@ returns-else-is_empty-2 c =
     let more_types = some_rest c.args.types.now (sym c.is_empty-else-is_empty.ensures ∙ c.if-is_empty-2.false) in
     on_ok_weaker c.push-in-len1-up-len1-up.result
     (λ o s. opens o (params_more c.args.args.now c.args.types.now c.arg-item.result c.type_ref-item.result c.arg-item.is c.type_ref-item.is more more_types)
-        (let k = length_rest c.args.args.now (omega arith) in omega arith))
+    (let k = length_rest c.args.args.now (omega arith) in omega arith))
     c.push-in-len1-up-len1-up.ensures

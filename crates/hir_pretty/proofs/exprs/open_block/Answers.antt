@@ -8,9 +8,9 @@ use Rattle.hir_pretty.proofs.exprs.open_block.Goals as goal
 pub returns : goal.returns
 returns c = on_ok_weaker c.push.result
     (λ p s.
-        let inside = inside_block c.args.statements.now c.args.tail in
-        opens_before (c.in_ok-open_inside.ensures s) p
-        (ap (λ u. sp ++ labelled s c.args.label ++ u ++ text (codes "{") ++ (inside ++ text (codes "}"))) c.is_unsafe.ensures
-            ∙ sym (append_assoc (sp ++ labelled s c.args.label ++ unsafe_items c.args.unsafe_ ++ text (codes "{")) inside (text (codes "}"))))
-        (omega arith))
+    let inside = inside_block c.args.statements.now c.args.tail in
+    opens_before (c.in_ok-open_inside.ensures s) p
+    (ap (λ u. sp ++ labelled s c.args.label ++ u ++ text (codes "{") ++ (inside ++ text (codes "}"))) c.is_unsafe.ensures
+    ∙ sym (append_assoc (sp ++ labelled s c.args.label ++ unsafe_items c.args.unsafe_ ++ text (codes "{")) inside (text (codes "}"))))
+    (omega arith))
     c.push.ensures

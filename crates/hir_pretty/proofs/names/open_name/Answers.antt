@@ -10,5 +10,5 @@ use Rattle.hir_pretty.proofs.names.open_name.Goals as goal
 pub returns-in-None : goal.returns-in-None
 returns-in-None c = on_ok_weaker c.open_raw.result
     (λ o store tables one_line. opens_as (o (setting store tables c.args.words.now one_line))
-        (ap (flat_map text) (sym (unquoted c.args.words.now c.args.name.now c.in-None.ensures))) (omega arith))
+    (ap (flat_map text) (sym (unquoted c.args.words.now c.args.name.now c.in-None.ensures))) (omega arith))
     c.open_raw.ensures

@@ -10,7 +10,7 @@ use Rattle.hir_pretty.proofs.names.open_quoted.Goals as goal
 pub returns-then-eq : goal.returns-then-eq
 returns-then-eq c = λ store tables one_line. opens c.in_ok-push.ensures
     (ap (λ xs. flat_map text (xs ∷ [])) c.requires
-        ∙ sym (ap (flat_map text) (ap (name_parts c.args.words.now) c.requires ∙ quoted_static c.args.words.now c.args.rest.now (sym c.eq.ensures ∙ c.if-eq.true))))
+    ∙ sym (ap (flat_map text) (ap (name_parts c.args.words.now) c.requires ∙ quoted_static c.args.words.now c.args.rest.now (sym c.eq.ensures ∙ c.if-eq.true))))
     (omega arith)
 
 pub returns : goal.returns

@@ -15,5 +15,5 @@ returns-in-len1 c = on_ok_weaker c.open_last_use.result
 pub returns-in-len1-up : goal.returns-in-len1-up
 returns-in-len1-up c = on_ok_weaker c.open_use.result
     (λ o s. opens_as (o s) (joined_more (text (codes ", ")) (use_items s) c.args.args.now c.first-item.result c.first-item.is (omega arith))
-        (let k = length_rest c.args.args.now (omega arith) in omega arith))
+    (let k = length_rest c.args.args.now (omega arith) in omega arith))
     c.open_use.ensures
