@@ -1,5 +1,8 @@
-use Rattle.std.proofs.Common.{◌≡◌, refl, arith}
+use Rattle.std.proofs.Common.{◌≡◌, ◌++◌, ◌∙◌, ap, refl, arith}
 use Rattle.std.proofs.lemmas.Result.{on_ok_weaker}
+use Rattle.hir_node.specs.Precedence.{precedence}
+use Rattle.hir_pretty.specs.Items.{sp, under}
+use Rattle.hir_pretty.specs.Exprs.{operator_items}
 use Rattle.hir_pretty.proofs.OpenLemmas.{opens_as}
 use Rattle.hir_pretty.proofs.exprs.open_expr.Goals as goal
 
@@ -61,7 +64,12 @@ pub returns-in-UnaryOp : goal.returns-in-UnaryOp
 returns-in-UnaryOp c = rw c.in-UnaryOp.is (on_ok_weaker c.open_unary.result (λ o s. opens_as (o s) refl (omega arith)) c.open_unary.ensures)
 
 pub returns-in-BinaryOp : goal.returns-in-BinaryOp
-returns-in-BinaryOp c = rw c.in-BinaryOp.is (on_ok_weaker c.open_binary.result (λ o s. opens_as (o s) refl (omega arith)) c.open_binary.ensures)
+returns-in-BinaryOp c = rw c.in-BinaryOp.is (on_ok_weaker c.open_binary.result
+    (λ o s. opens_as (o s)
+        (ap (λ own. under own c.in-BinaryOp.lhs ++ sp ++ operator_items c.in-BinaryOp.op ++ sp ++ under own c.in-BinaryOp.rhs)
+            (c.precedence.ensures ∙ ap precedence c.in-BinaryOp.is))
+        (omega arith))
+    c.open_binary.ensures)
 
 pub returns-in-Index : goal.returns-in-Index
 returns-in-Index c = rw c.in-Index.is (on_ok_weaker c.open_index.result (λ o s. opens_as (o s) refl (omega arith)) c.open_index.ensures)
