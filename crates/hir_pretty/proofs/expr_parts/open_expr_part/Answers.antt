@@ -1,4 +1,3 @@
-use Rattle.std.proofs.Common.{◌≡◌}
 use Rattle.hir_pretty.proofs.expr_parts.open_expr_part.Goals as goal
 
 pub returns-in-After : goal.returns-in-After

@@ -1,4 +1,3 @@
-use Rattle.std.proofs.Common.{◌≡◌}
 use Rattle.hir_pretty.proofs.expr_parts.open_header.Goals as goal
 
 pub returns-in-Closure : goal.returns-in-Closure

@@ -1,4 +1,4 @@
-use Rattle.std.proofs.Common.{◌≡◌, ◌<◌, refl, slice_get}
+use Rattle.std.proofs.Common.{refl}
 use Rattle.hir_pretty.proofs.OpenLemmas.{not_there}
 use Rattle.hir_pretty.proofs.field_pats.binds_name.Goals as goal
 

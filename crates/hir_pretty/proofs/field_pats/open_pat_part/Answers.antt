@@ -1,4 +1,3 @@
-use Rattle.std.proofs.Common.{◌≡◌}
 use Rattle.std.proofs.lemmas.Result.{on_ok_weaker}
 use Rattle.hir_pretty.specs.Settings.{setting}
 use Rattle.hir_pretty.proofs.field_pats.open_pat_part.Goals as goal

@@ -1,4 +1,3 @@
-use Rattle.std.proofs.Common.{◌≡◌}
 use Rattle.hir_page.specs.Writes.{all_written, written}
 use Rattle.hir_pretty.proofs.literals.write_bool.Goals as goal
 

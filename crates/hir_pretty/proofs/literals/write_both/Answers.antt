@@ -1,6 +1,6 @@
 use Rattle.std.proofs.Common.{◌∷◌, []}
 use Rattle.hir_page.specs.Pieces.{Text}
-use Rattle.hir_page.proofs.WritesLemmas.{writes_then, writes_stopped, writes_err}
+use Rattle.hir_page.proofs.WritesLemmas.{writes_stopped, writes_err}
 use Rattle.hir_pretty.proofs.literals.write_both.Goals as goal
 
 pub returns-in_err-write_text : goal.returns-in_err-write_text

@@ -1,10 +1,6 @@
-use Rattle.std.proofs.Common.{◌≡◌, ◌∷◌, []}
-use Rattle.hir_base.specs.OpTexts.{uint_text}
-use Rattle.hir_page.specs.Pieces.{Text}
+use Rattle.std.proofs.Common.{arith}
+use Rattle.std.proofs.lemmas.Int.{ints, to_z-of_z}
 use Rattle.hir_page.specs.Literals.{string_literal, bytes_literal, c_string_literal}
-use Rattle.hir_page.proofs.WritesLemmas.{writes_then, writes_stopped, writes_err}
-use Rattle.hir_pretty.specs.Items.{text, opt}
-use Rattle.hir_pretty.specs.Works.{put_pieces}
 use Rattle.hir_pretty.proofs.TurnLemmas.{pieces_put}
 use Rattle.hir_pretty.proofs.literals.write_literal.Goals as goal
 
@@ -18,4 +14,4 @@ pub returns-in-CString : goal.returns-in-CString
 returns-in-CString g c = rw (c.in-CString.is, pieces_put (c_string_literal c.in-CString.bytes)) (rw c.as_slice-in-CString.ensures at c.write_c_string_literal.ensures)
 
 pub returns-in-Int-default-Some : goal.returns-in-Int-default-Some
-returns-in-Int-default-Some g c = rw c.in-Int-default-Some.is (rw c.as_str-in-Int-default-Some.ensures at c.write_suffixed_int.ensures)
+returns-in-Int-default-Some g c = search (arith, ints, to_z-of_z, c.write_suffixed_int.ensures)

@@ -1,4 +1,4 @@
-use Rattle.std.proofs.Common.{◌≡◌, ◌<◌, slice_get, arith}
+use Rattle.std.proofs.Common.{slice_get, arith}
 use Rattle.hir_pretty.specs.Settings.{setting}
 use Rattle.hir_pretty.specs.Names.{of_binding}
 use Rattle.hir_pretty.proofs.OpenLemmas.{opens_found, opens_lost, not_there}

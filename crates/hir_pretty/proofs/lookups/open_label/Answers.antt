@@ -1,4 +1,4 @@
-use Rattle.std.proofs.Common.{◌≡◌, ◌<◌, slice_get, arith}
+use Rattle.std.proofs.Common.{slice_get, arith}
 use Rattle.hir_pretty.specs.Settings.{setting}
 use Rattle.hir_node.specs.declared.binding.Label.{Label}
 use Rattle.hir_pretty.specs.Names.{name_items}
