@@ -37,4 +37,4 @@ with_rest_more (y ∷ ys) x (suc n) e l m =
 pub supers_more : (n : ℕ) → 1 < n → text (codes "super::") ++ supers (n - 1) ≡ supers n
 supers_more zero l = absurd (omega arith)
 supers_more (suc zero) l = absurd (omega arith)
-supers_more (suc (suc n)) l = ap (λ k. text (codes "super::") ++ supers k) (omega arith)
+supers_more (suc (suc n)) l = let less : suc (suc n) - 1 ≡ suc n = omega arith in ap (λ k. text (codes "super::") ++ supers k) less
