@@ -3,6 +3,8 @@
 #![tactic(auto)]
 
 #[cfg(test)]
+mod around;
+#[cfg(test)]
 mod build;
 #[cfg(test)]
 mod kinds;
@@ -12,3 +14,5 @@ mod made;
 mod nodes;
 #[cfg(test)]
 mod rows;
+#[cfg(test)]
+mod targets;

@@ -2,10 +2,21 @@
 //! Nodes are named by their numbers: the first expression is 0, and so is the first pattern.
 use hir_base::{HygieneId, Idx, MacroDefId, ModPath, Name, PathKind, RangeOp, Seq, SyntaxContext};
 use hir_node::{
-    Array, ArrayType, Binding, BindingAnnotation, CaptureBy, ClosureKind, ConstRef, Expr, Item,
-    MatchArm, Pat, Path, Statement, TypeRef, Unsafe,
+    Array, ArrayType, Binding, BindingAnnotation, CaptureBy, ClosureKind, ConstRef, CoroutineKind,
+    CoroutineSource, Expr, Item, MatchArm, Pat, Path, Statement, TypeRef, Unsafe,
 };
 use std::alloc::{AllocError, Global};
+
+/// How a path begins.
+pub enum Start {
+    Plain,
+    /// `crate`
+    Crate,
+    /// `::`
+    Abs,
+    /// This number of modules further up: `self` for 0.
+    Super(u8),
+}
 
 /// An expression.
 pub enum ExprStep {
@@ -13,8 +24,8 @@ pub enum ExprStep {
     Leaf,
     /// A path of one name.
     Path(&'static str),
-    /// A path that begins this number of modules further up, with this name where there is one: `self` for 0.
-    Above(u8, Option<&'static str>),
+    /// A path of these names; `self` has none.
+    Names(Start, &'static [&'static str]),
     Tuple(&'static [u32]),
     /// `[a; n]`
     Repeat(u32, u32),
@@ -30,6 +41,8 @@ pub enum ExprStep {
     Match(u32, &'static [(u32, Option<u32>, u32)]),
     /// The body, the arguments; the first has this type.
     Closure(u32, &'static [u32], Option<u32>),
+    /// `async` before this body.
+    Async(u32),
     /// The tail, the statements.
     Block(Option<u32>, &'static [StatementStep]),
     /// `expression as type`
@@ -60,6 +73,8 @@ pub enum PatStep {
     Expr(u32),
     /// A path of one name.
     Path(&'static str),
+    /// A path of these names; `self` has none.
+    Names(Start, &'static [&'static str]),
 }
 
 /// A type.
@@ -68,6 +83,12 @@ pub enum TypeStep {
     /// `[type; constant]`
     Array(u32, u32),
 }
+
+/// What an `async` block is: a coroutine.
+const ASYNC_BLOCK: ClosureKind = ClosureKind::Coroutine {
+    kind: CoroutineKind::Async,
+    source: CoroutineSource::Block,
+};
 
 /// The ids of these numbers.
 fn ids<K>(alloc: Global, numbers: &[u32]) -> Result<Seq<Idx<K>>, AllocError> {
@@ -87,9 +108,15 @@ fn id<K>(number: Option<u32>) -> Option<Idx<K>> {
 }
 
 /// The path of these parts.
-fn path(alloc: Global, kind: PathKind, name: Option<&str>) -> Result<Path, AllocError> {
+fn path(alloc: Global, start: &Start, texts: &[&str]) -> Result<Path, AllocError> {
+    let kind = match *start {
+        Start::Plain => PathKind::Plain,
+        Start::Crate => PathKind::Crate,
+        Start::Abs => PathKind::Abs,
+        Start::Super(modules) => PathKind::Super(modules),
+    };
     let mut names = Seq::new(alloc);
-    if let Some(text) = name {
+    for text in texts {
         names.push(Name::new(alloc, text)?)?;
     }
     Ok(Path::BarePath(ModPath::from_segments(kind, names)))
@@ -170,7 +197,13 @@ fn block(alloc: Global, tail: Option<u32>, steps: &[StatementStep]) -> Result<Ex
 }
 
 /// The closure of these parts.
-fn closure(alloc: Global, body: u32, args: &[u32], first: Option<u32>) -> Result<Expr, AllocError> {
+fn closure(
+    alloc: Global,
+    closure_kind: ClosureKind,
+    body: u32,
+    args: &[u32],
+    first: Option<u32>,
+) -> Result<Expr, AllocError> {
     let pats = ids(alloc, args)?;
     let types = arg_types(alloc, args, id(first))?;
     Ok(Expr::Closure {
@@ -178,7 +211,7 @@ fn closure(alloc: Global, body: u32, args: &[u32], first: Option<u32>) -> Result
         arg_types: types,
         ret_type: None,
         body: Idx::from_raw(body),
-        closure_kind: ClosureKind::Closure,
+        closure_kind,
         capture_by: CaptureBy::Ref,
     })
 }
@@ -187,10 +220,8 @@ fn closure(alloc: Global, body: u32, args: &[u32], first: Option<u32>) -> Result
 pub fn expr(alloc: Global, step: &ExprStep) -> Result<Expr, AllocError> {
     match *step {
         ExprStep::Leaf => Ok(Expr::Missing),
-        ExprStep::Path(name) => path(alloc, PathKind::Plain, Some(name)).map(Expr::Path),
-        ExprStep::Above(modules, name) => {
-            path(alloc, PathKind::Super(modules), name).map(Expr::Path)
-        }
+        ExprStep::Path(name) => path(alloc, &Start::Plain, &[name]).map(Expr::Path),
+        ExprStep::Names(ref start, names) => path(alloc, start, names).map(Expr::Path),
         ExprStep::Tuple(exprs) => {
             let exprs = ids(alloc, exprs)?;
             Ok(Expr::Tuple { exprs })
@@ -220,7 +251,10 @@ pub fn expr(alloc: Global, step: &ExprStep) -> Result<Expr, AllocError> {
                 arms,
             })
         }
-        ExprStep::Closure(body, args, first) => closure(alloc, body, args, first),
+        ExprStep::Closure(body, args, first) => {
+            closure(alloc, ClosureKind::Closure, body, args, first)
+        }
+        ExprStep::Async(body) => closure(alloc, ASYNC_BLOCK, body, &[], None),
         ExprStep::Block(tail, steps) => block(alloc, tail, steps),
         ExprStep::Cast(expr, ty) => Ok(Expr::Cast {
             expr: Idx::from_raw(expr),
@@ -231,7 +265,7 @@ pub fn expr(alloc: Global, step: &ExprStep) -> Result<Expr, AllocError> {
 
 /// `a(..)`
 fn some(alloc: Global, args: &[u32]) -> Result<Pat, AllocError> {
-    let path = path(alloc, PathKind::Plain, Some("a"))?;
+    let path = path(alloc, &Start::Plain, &["a"])?;
     let args = ids(alloc, args)?;
     Ok(Pat::TupleStruct {
         path,
@@ -262,7 +296,8 @@ pub fn pat(alloc: Global, step: &PatStep) -> Result<Pat, AllocError> {
             range_type: RangeOp::Inclusive,
         }),
         PatStep::Expr(expr) => Ok(Pat::Expr(Idx::from_raw(expr))),
-        PatStep::Path(name) => path(alloc, PathKind::Plain, Some(name)).map(Pat::Path),
+        PatStep::Path(name) => path(alloc, &Start::Plain, &[name]).map(Pat::Path),
+        PatStep::Names(ref start, names) => path(alloc, start, names).map(Pat::Path),
     }
 }
 

@@ -1,7 +1,7 @@
 //! Bodies whose captures are known beforehand.
 use crate::build::Step;
 use crate::made::{self, Tree};
-use crate::nodes::{ExprStep, PatStep};
+use crate::nodes::{ExprStep, PatStep, Start};
 use hir_node::BindingId;
 use std::alloc::Global;
 use std::test::Fail;
@@ -161,9 +161,9 @@ const ROWS: &[Row] = &[
                 Step::Binding("self"),
                 Step::Binding("a"),
                 Step::Pat(PatStep::Bind(1, None)),
-                Step::Expr(ExprStep::Above(0, None)),
-                Step::Expr(ExprStep::Above(1, None)),
-                Step::Expr(ExprStep::Above(0, Some("a"))),
+                Step::Expr(ExprStep::Names(Start::Super(0), &[])),
+                Step::Expr(ExprStep::Names(Start::Super(1), &[])),
+                Step::Expr(ExprStep::Names(Start::Super(0), &["a"])),
                 Step::Expr(ExprStep::Tuple(&[0, 1, 2])),
                 Step::Expr(ExprStep::Closure(3, &[], None)),
                 Step::Root(4),

@@ -1,7 +1,8 @@
 -- The paths of scopes: a scope's path is its id on its parent's path.
 use Rattle.std.proofs.Common.{◌≡◌, ℕ, zero, suc, ◌+◌, ◌<◌, ◌≤◌, List, [], ◌∷◌, ◌++◌, Option, Some, None, fold, get_or, length, refl, ap, sym, ◌∙◌, subst, arith, append_assoc}
-use Rattle.std.specs.List.{slice_get}
+use Rattle.std.specs.List.{slice_get, All}
 use Rattle.std.proofs.lemmas.List.{get_or_append_left, get_or_at, length_push}
+use Rattle.std.proofs.lemmas.List.Elements.{All-nil, All-cons}
 use Rattle.std.proofs.lemmas.Grind.{fold-append}
 use Rattle.hir_scope.specs.Scopes.{Scope, IsBelow, IsIn, ParentsStandEarlier}
 use Rattle.hir_scope.specs.Paths.{path_among, with_path, paths, path}
@@ -74,3 +75,16 @@ path_short scopes earlier (suc n) (Some s) l h =
 -- a path has at most as many members as there are scopes
 pub path_fits : (scopes : List Scope) → ParentsStandEarlier scopes → (o : Option ℕ) → IsIn scopes o → length (path scopes o) ≤ length scopes
 path_fits scopes earlier o h = path_short scopes earlier (length scopes) o (omega arith) h
+
+path_there : (scopes : List Scope) → ParentsStandEarlier scopes → (n : ℕ) (o : Option ℕ) → n ≤ length scopes → IsBelow n o → All (λ x. x < length scopes) (path scopes o)
+path_there scopes earlier n None l h = All-nil (λ x. x < length scopes)
+path_there scopes earlier zero (Some s) l h = absurd (omega (arith, h))
+path_there scopes earlier (suc n) (Some s) l h =
+    let x = read scopes s (omega (arith, l, h)) in
+    let outer = path_there scopes earlier n x.0.parent (omega (arith, l)) (weaker s n x.0.parent (omega (arith, h)) (earlier s x.0 x.1)) in
+    subst (All (λ y. y < length scopes)) (sym (path_step scopes s x.0 earlier x.1))
+    (All-cons (λ y. y < length scopes) s (path scopes x.0.parent) (omega (arith, l, h)) outer)
+
+-- each member of a path is there
+pub path_members : (scopes : List Scope) → ParentsStandEarlier scopes → (o : Option ℕ) → IsIn scopes o → All (λ x. x < length scopes) (path scopes o)
+path_members scopes earlier o h = path_there scopes earlier (length scopes) o (omega arith) h

@@ -1,7 +1,8 @@
 //! Laws that a reader relies on, and that no call's contract says.
 //! Each is a function that does nothing: its contract is the law.
 
-ghost use Rattle.std.specs.Prelude.{◌≡◌, ◌≤◌, ℕ, None, List, Option, IsPermutation, length, map};
+ghost use Rattle.std.specs.Prelude.{◌≡◌, ◌<◌, ◌≤◌, ◌∷◌, ℕ, None, Some, List, Option, IsPermutation, length, map, slice_get};
+ghost use Rattle.std.specs.List.{All};
 ghost use Rattle.hir_node.specs.declared.node_id.NodeId.{NodeId};
 ghost use Rattle.hir_faults.specs.Nodes.{Nodes, Has, kids_of};
 ghost use Rattle.hir_expr_store.specs.Contents.{Contents, contents_fault};
@@ -45,6 +46,14 @@ pub fn what_is_reached_stands()
 pub fn chains_are_short()
     ensures { (scopes : List Scope) → ParentsStandEarlier scopes → (scope : Option ℕ) → IsIn scopes scope
         → length (path scopes scope) ≤ length scopes }
+{}
+
+/// A scope comes first of itself and those around it, and after it come its parent and those around that. All of them are there.
+pub fn a_chain_goes_outward()
+    ensures step { (scopes : List Scope) → ParentsStandEarlier scopes → (scope : ℕ) (found : Scope)
+        → slice_get scopes scope ≡ Some found → path scopes (Some scope) ≡ scope ∷ path scopes found.parent }
+    ensures there { (scopes : List Scope) → ParentsStandEarlier scopes → (scope : Option ℕ) → IsIn scopes scope
+        → All (λ member. member < length scopes) (path scopes scope) }
 {}
 
 /// An expression of a body or of a signature has one chain at most: it stands in one place alone.
