@@ -1,43 +1,26 @@
 -- A name is looked for scope by scope: what it means is captured where the scopes within are behind.
-use Rattle.std.proofs.Common.{◌≡◌, ℕ, zero, suc, ◌<◌, ◌≤◌, ◌-◌, Bool, true, false, cond, List, [], ◌∷◌, ◌++◌, Option, Some, None, take, length, refl, ap, sym, ◌∙◌, subst, arith}
+use Rattle.std.proofs.Common.{◌≡◌, ℕ, zero, suc, ◌<◌, ◌-◌, Bool, true, false, cond, List, [], ◌∷◌, ◌++◌, Option, Some, None, take, length, refl, ap, sym, ◌∙◌, subst, arith}
 use Rattle.std.specs.Prelude.{option_map}
-use Rattle.std.specs.List.{slice_get, flat_map}
+use Rattle.std.specs.List.{slice_get, flat_map, AllByRecursion}
 use Rattle.hir_base.specs.declared.hygiene.SyntaxContext.{SyntaxContext}
 use Rattle.hir_faults.specs.Tested.{all_of}
 use Rattle.hir_scope.specs.declared.scope.ScopeEntry.{ScopeEntry}
 use Rattle.hir_scope.specs.Frames.{Frame, Chain}
-use Rattle.hir_scope.specs.Scopes.{Scope, IsBelow, IsIn, ParentsStandEarlier, frame_of}
-use Rattle.hir_scope.specs.Paths.{path, frame_at, chain}
+use Rattle.hir_scope.specs.Scopes.{Scope, frame_of}
+use Rattle.hir_scope.specs.Paths.{frame_at}
 use Rattle.hir_scope.specs.Resolution.{is_asked, first_asked, entries_of, resolve}
-use Rattle.hir_scope.proofs.PathLemmas.{path_step}
 use Rattle.hir_captures.specs.Captures.{unless_within, meant_behind}
 
 -- 1. Scopes of a chain
 
--- each of these numbers is below another
-abbrev pub Below : ℕ → List ℕ → Type 0
-Below m [] = Unit {0}
-Below m (x ∷ xs) = (x < m) × Below m xs
-
-weaker : (m n : ℕ) (o : Option ℕ) → m ≤ n → IsBelow m o → IsBelow n o
-weaker m n None l h = tt
-weaker m n (Some s) l h = omega (arith, l, h)
+-- each of these scopes is there
+abbrev pub AllThere : List Scope → List ℕ → Type 0
+AllThere scopes ids = AllByRecursion (λ (s : ℕ). s < length scopes) ids
 
 read : (scopes : List Scope) (s : ℕ) → s < length scopes → (x : Scope) × (slice_get scopes s ≡ Some x)
 read [] s h = absurd (omega (arith, h))
 read (x ∷ scopes) zero h = (x, refl)
 read (x ∷ scopes) (suc s) h = read scopes s (omega (arith, h))
-
-path_there : (scopes : List Scope) → ParentsStandEarlier scopes → (n : ℕ) (o : Option ℕ) → n ≤ length scopes → IsBelow n o → Below (length scopes) (path scopes o)
-path_there scopes earlier n None l h = tt
-path_there scopes earlier zero (Some s) l h = absurd (omega (arith, h))
-path_there scopes earlier (suc n) (Some s) l h =
-    let x = read scopes s (omega (arith, l, h)) in
-    subst (Below (length scopes)) (sym (path_step scopes s x.0 earlier x.1))
-    (omega (arith, l, h), path_there scopes earlier n x.0.parent (omega (arith, l)) (weaker s n x.0.parent (omega (arith, h)) (earlier s x.0 x.1)))
-
-pub scopes_there : (scopes : List Scope) (s : ℕ) → ParentsStandEarlier scopes → s < length scopes → Below (length scopes) (path scopes (Some s))
-scopes_there scopes s earlier h = path_there scopes earlier (length scopes) (Some s) (omega arith) h
 
 abbrev pub frames : List Scope → List ℕ → Chain
 frames scopes ids = flat_map (frame_at scopes) ids
@@ -45,14 +28,11 @@ frames scopes ids = flat_map (frame_at scopes) ids
 one_frame : (scopes : List Scope) (s : ℕ) (x : Scope) (ids : List ℕ) → slice_get scopes s ≡ Some x → frames scopes (s ∷ ids) ≡ frame_of x ∷ frames scopes ids
 one_frame scopes s x ids e = ap (λ (o : Option Scope). all_of (λ (y : Scope). frame_of y ∷ []) o ++ frames scopes ids) e
 
-as_many : (scopes : List Scope) (ids : List ℕ) → Below (length scopes) ids → length (frames scopes ids) ≡ length ids
+pub as_many : (scopes : List Scope) (ids : List ℕ) → AllThere scopes ids → length (frames scopes ids) ≡ length ids
 as_many scopes [] h = refl
 as_many scopes (s ∷ ids) h =
     let x = read scopes s h.0 in
     ap (length {A = Frame}) (one_frame scopes s x.0 ids x.1) ∙ ap suc (as_many scopes ids h.1)
-
-pub chain_length : (scopes : List Scope) (s : ℕ) → ParentsStandEarlier scopes → s < length scopes → length (chain scopes (Some s)) ≡ length (path scopes (Some s))
-chain_length scopes s earlier h = as_many scopes (path scopes (Some s)) (scopes_there scopes s earlier h)
 
 -- 2. What a name means
 
@@ -140,6 +120,4 @@ module _ (scopes : List Scope) (before : List ℕ) (s : ℕ) (ids : List ℕ) (e
   pub answer_later : found ≡ None → meant_behind (k - 1) (frames scopes ids) n h ≡ answer
   answer_later q = sym (found_later scopes s ids es n h e k (sym is ∙ q)) ∙ means_here
 
-pub ruleset asks = (scopes_there, chain_length)
-
-pub ruleset looks = (scopes_there, answer_behind, answer_within, answer_later)
+pub ruleset looks = (answer_behind, answer_within, answer_later)

@@ -1,59 +1,88 @@
 -- The code under a node is the node, and then the code of its kids in the order of its slots: that of the tasks that reading it puts.
-use Rattle.std.proofs.Common.{◌≡◌, ℕ, List, [], ◌∷◌, ◌++◌, Option, Some, None, map, refl, sym, ap, ◌∙◌, append_assoc, Contains, arith, subst, zero, suc}
+use Rattle.std.proofs.Common.{◌≡◌, ◌<◌, ℕ, List, [], ◌∷◌, ◌++◌, Option, Some, None, map, refl, sym, ap, ◌∙◌, append_assoc, Contains, arith, subst, zero, suc}
 use Rattle.std.specs.List.{flat_map}
+use Rattle.std.specs.List.Sorted.{IsPermutation}
 use Rattle.std.proofs.Math.Path.{fun_ext}
 use Rattle.std.proofs.lemmas.List.{append-nil}
 use Rattle.std.proofs.lemmas.List.Concat.{flat_map-append}
 use Rattle.std.proofs.lemmas.List.Sorted.{IsPermutation-sym, Contains-permutation}
-use Rattle.hir_node.specs.ChildCalls.{Call, OnExpr, OnAnonConst, OnPat, OnType, OnLifetime, e, p, t, opt, kid, kids}
+use Rattle.hir_node.specs.ChildCalls.{Call, OnExpr, OnAnonConst, OnPat, OnType, OnLifetime, e, p, t, opt}
 use Rattle.hir_node.specs.declared.expr_types.MatchArm.{MatchArm}
 use Rattle.hir_node.specs.declared.expr_types.Statement.{Statement}
 use Rattle.hir_node.specs.declared.expr_types.Statement.TheVariants as statement
 use Rattle.hir_node.specs.declared.node_id.NodeId.{NodeId}
 use Rattle.hir_node.specs.declared.node_id.NodeId.TheVariants as node
 use Rattle.hir_faults.specs.Nodes.{Nodes, Has, kids_of}
-use Rattle.hir_faults.specs.Down.{KidsFall, AgreeOn, AsksKids}
-use Rattle.hir_faults.proofs.DownLemmas.{value_at, agree_from_members}
+use Rattle.hir_faults.specs.Down.{rank, KidsFall, value_within, value, AgreeOn, AsksKids}
 use Rattle.hir_scope.specs.Frames.{Chain, frame, of_kind, empty}
 use Rattle.hir_scope.specs.Forms.{ScopingForm, form_of}
 use Rattle.hir_scope.specs.Forms as form
 use Rattle.hir_scope.specs.Leak.{leak_of_call, leaks, leak}
 use Rattle.hir_scope.specs.Slots.{Base, Here, Const, Slot, call_slot, in_turn, made, made_for_constants, statement_slots, block_slots, arm_slots, slots_of_form, slots, own_frame, block_constants, loop_kind}
-use Rattle.hir_scope.proofs.SlotLemmas.{kids_in, slots_kids}
 use Rattle.hir_captures.specs.declared.tasks.Task.{Task}
-use Rattle.hir_captures.specs.declared.tasks.Task.TheVariants as task
-use Rattle.hir_captures.specs.Pending.{met_in_statement, met_in_arm, met_in_form, task_of, tasks_of, task_node, task_target, code_of, AreThere}
+use Rattle.hir_captures.specs.Pending.{met_in_statement, met_in_arm, met_in_form, tasks_of, code_of, AreThere}
 use Rattle.hir_captures.specs.Uses.{Spot, spot, in_code, of_pattern, kid_code, assignment_at, code_step, code_under}
 
 -- 1. The code under a node
 
-agree_at : {A : Type 0} (f g : NodeId → A) (xs : List NodeId) → AgreeOn f g xs → (x : NodeId) → Contains xs x → f x ≡ g x
-agree_at f g [] h x (k, lt, is) = absurd (omega (arith, lt))
-agree_at f g (y ∷ xs) h x (zero, lt, is) = subst (λ z. f z ≡ g z) is h.0
-agree_at f g (y ∷ xs) h x (suc k, lt, is) = agree_at f g xs h.1 x (k, omega (arith, lt), is)
+abbrev pub kids_in : List Slot → List NodeId
+kids_in xs = map (λ (x : Slot). x.kid) xs
 
-abbrev Codes : Type 0
+-- what laws say of the nodes of a store
+pub record Laws (s : Nodes) : Type 0 where
+  pub fall : KidsFall s
+  pub parents : (n k : NodeId) → Contains (kids_of s n) k → Has s n
+  pub kids : (n : NodeId) → IsPermutation (kids_of s n) (kids_in (slots s n))
+
+abbrev pub Codes : Type 0
 Codes = NodeId → Option ℕ → List Spot
 
-on_slots : (f g : Codes) (s : Nodes) (n : NodeId) → AgreeOn f g (kids_of s n) → AgreeOn f g (kids_in (slots s n))
-on_slots f g s n h =
-    let back = IsPermutation-sym (kids_of s n) (kids_in (slots s n)) (slots_kids s n) in
-    agree_from_members f g (kids_in (slots s n)) (λ x m. agree_at f g (kids_of s n) h x (Contains-permutation (kids_in (slots s n)) (kids_of s n) x back m))
+module _ (f g : Codes) where
+  agree_at : (xs : List NodeId) → AgreeOn f g xs → (x : NodeId) → Contains xs x → f x ≡ g x
+  agree_at [] h x (k, lt, is) = absurd (omega (arith, lt))
+  agree_at (y ∷ xs) h x (zero, lt, is) = subst (λ z. f z ≡ g z) is h.0
+  agree_at (y ∷ xs) h x (suc k, lt, is) = agree_at xs h.1 x (k, omega (arith, lt), is)
 
-slots_read : (f g : Codes) (a : Option ℕ) (xs : List Slot) → AgreeOn f g (kids_in xs) → flat_map (kid_code f a) xs ≡ flat_map (kid_code g a) xs
-slots_read f g a [] h = refl
-slots_read f g a (x ∷ xs) h =
-    let first = ap (λ (w : Option ℕ → List Spot). in_code x.base (w (of_pattern x.kid a))) h.0 in
-    let rest = slots_read f g a xs h.1 in
-    cc
+  agree_on : (xs : List NodeId) → ((x : NodeId) → Contains xs x → f x ≡ g x) → AgreeOn f g xs
+  agree_on [] h = tt
+  agree_on (x ∷ xs) h = (h x (0, omega arith, refl), agree_on xs (λ y c. h y (suc c.0, omega (arith, c.1), c.2)))
 
-code_asks : (s : Nodes) → AsksKids s (code_step s)
-code_asks s f g n h =
-    fun_ext (λ a. ap (λ (xs : List Spot). spot n a ∷ xs) (slots_read f g (assignment_at s n a) (slots s n) (on_slots f g s n h)))
+  slots_read : (a : Option ℕ) (xs : List Slot) → AgreeOn f g (kids_in xs) → flat_map (kid_code f a) xs ≡ flat_map (kid_code g a) xs
+  slots_read a [] h = refl
+  slots_read a (x ∷ xs) h =
+      let first = ap (λ (w : Option ℕ → List Spot). in_code x.base (w (of_pattern x.kid a))) h.0 in
+      let rest = slots_read a xs h.1 in
+      cc
 
-pub code_at : (s : Nodes) → KidsFall s → (n : NodeId) (a : Option ℕ) → code_under s n a ≡ spot n a ∷ flat_map (kid_code (code_under s) (assignment_at s n a)) (slots s n)
-unfolding code_under
-code_at s fall n a = ap (λ (w : Option ℕ → List Spot). w a) (value_at s fall (code_step s) (λ assignment. []) (code_asks s) n)
+module _ (s : Nodes) (laws : Laws s) where
+  pub kid_there : (n k : NodeId) → Contains (kids_in (slots s n)) k → Contains (kids_of s n) k
+  kid_there n k m = Contains-permutation (kids_in (slots s n)) (kids_of s n) k (IsPermutation-sym (kids_of s n) (kids_in (slots s n)) (laws.kids n)) m
+
+  code_asks : AsksKids s (code_step s)
+  code_asks f g n h =
+      let same = agree_on f g (kids_in (slots s n)) (λ x m. agree_at f g (kids_of s n) h x (kid_there n x m)) in
+      fun_ext (λ a. ap (λ (xs : List Spot). spot n a ∷ xs) (slots_read f g (assignment_at s n a) (slots s n) same))
+
+  abbrev within : ℕ → Codes
+  within depth = value_within (code_step s) (λ assignment. []) depth
+
+  -- a greater depth changes nothing
+  stable : (d e : ℕ) (n : NodeId) → rank s n < d → rank s n < e → within d n ≡ within e n
+  stable zero e n v w = absurd (omega arith)
+  stable (suc d) zero n v w = absurd (omega arith)
+  stable (suc d) (suc e) n v w =
+      code_asks (within d) (within e) n (agree_on (within d) (within e) (kids_of s n) (λ k m.
+      let low = laws.fall.lower n (laws.parents n k m) k m in
+      stable d e k (omega arith) (omega arith)))
+
+  -- the code under a node is its step's, at the code under its kids
+  pub code_at : (n : NodeId) (a : Option ℕ) → code_under s n a ≡ code_step s (code_under s) n a
+  unfolding code_under value
+  code_at n a =
+      ap (λ (w : Option ℕ → List Spot). w a)
+      (code_asks (within (rank s n)) (code_under s) n (agree_on (within (rank s n)) (code_under s) (kids_of s n) (λ k m.
+      let low = laws.fall.lower n (laws.parents n k m) k m in
+      stable (rank s n) (suc (rank s k)) k low (omega arith))))
 
 -- 2. The code of kids, by their calls
 
@@ -135,10 +164,10 @@ task_code s a (OnType id ∷ cs) = task_code s a cs
 task_code s a (OnLifetime id ∷ cs) = task_code s a cs
 
 -- reading a node leaves the code of its kids
-pub code_read : (s : Nodes) → KidsFall s → (n : NodeId) (a : Option ℕ) → code_under s n a ≡ spot n a ∷ code_of s (tasks_of (assignment_at s n a) (met_in_form (form_of s n)))
+pub code_read : (s : Nodes) → Laws s → (n : NodeId) (a : Option ℕ) → code_under s n a ≡ spot n a ∷ code_of s (tasks_of (assignment_at s n a) (met_in_form (form_of s n)))
 unfolding slots
-code_read s fall n a =
-    code_at s fall n a
+code_read s laws n a =
+    code_at s laws n a
     ∙ ap (λ (xs : List Spot). spot n a ∷ xs)
     (of_form (code_under s) (assignment_at s n a) s (form_of s n) ∙ sym (task_code s (assignment_at s n a) (met_in_form (form_of s n))))
 
@@ -174,10 +203,9 @@ tasks_there s a (OnType id ∷ cs) h = tasks_there s a cs h
 tasks_there s a (OnLifetime id ∷ cs) h = tasks_there s a cs h
 
 -- the kids of a node are there
-pub kids_there : (s : Nodes) → KidsFall s → (n : NodeId) (a : Option ℕ) (rest : List Task) → Has s n → AreThere s rest → AreThere s (tasks_of a (met_in_form (form_of s n)) ++ rest)
+pub kids_there : (s : Nodes) → Laws s → (n : NodeId) (a : Option ℕ) (rest : List Task) → Has s n → AreThere s rest → AreThere s (tasks_of a (met_in_form (form_of s n)) ++ rest)
 unfolding slots
-kids_there s fall n a rest h r =
-    let back = IsPermutation-sym (kids_of s n) (kids_in (slots s n)) (slots_kids s n) in
-    let have = slots_there s a (slots s n) (λ k m. fall.there n h k (Contains-permutation (kids_in (slots s n)) (kids_of s n) k back m)) in
+kids_there s laws n a rest h r =
+    let have = slots_there s a (slots s n) (λ k m. laws.fall.there n h k (kid_there s laws n k m)) in
     there_two s (tasks_of a (met_in_form (form_of s n))) rest
     (tasks_there s a (met_in_form (form_of s n)) (subst (HaveNodes s) (of_form itself a s (form_of s n)) have)) r

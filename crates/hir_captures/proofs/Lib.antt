@@ -3,4 +3,5 @@ mod CodeLemmas
 mod KidLemmas
 mod FoundLemmas
 mod ReadLemmas
+mod WithinLemmas
 mod Rows

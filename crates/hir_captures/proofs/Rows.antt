@@ -1,18 +1,13 @@
 -- Worked examples, computed: what each closure of a body captures.
-use Rattle.std.specs.Prelude.{◌≡◌, true, false, ℕ, zero, suc, List, [], ◌∷◌, Bool, Option, Some, None, refl, codes, ◌==◌, if◌then◌else◌}
+use Rattle.std.specs.Prelude.{◌≡◌, false, ℕ, List, [], ◌∷◌, Bool, Option, Some, None, refl, codes, ◌==◌, if◌then◌else◌}
 use Rattle.std.specs.List.{filter, flat_map, filter_map, slice_get}
-use Rattle.std.specs.Cmp.Lexicographic.{slice_cmp}
-use Rattle.std.specs.Ordering.{nat_cmp, eq_by_cmp}
-use Rattle.std.proofs.Common.{ap, ◌∙◌, ◌++◌, cond}
+use Rattle.std.proofs.Common.{ap, ◌∙◌, ◌++◌}
 use Rattle.std.proofs.Math.Path.{fun_ext}
-use Rattle.std.proofs.lemmas.Cmp.{nat_list_cmp_total}
-use Rattle.std.specs.FinMap as map
 use Rattle.hir_base.specs.declared.edition.Edition.TheVariants.{Edition2015}
 use Rattle.hir_base.specs.declared.hygiene.SyntaxContext.{SyntaxContext}
 use Rattle.hir_base.specs.declared.hygiene.SyntaxContext.TheVariants.{Root, Expansion}
 use Rattle.hir_base.specs.declared.mod_path.PathKind.{PathKind}
 use Rattle.hir_base.specs.declared.mod_path.PathKind.TheVariants.{Plain, Super}
-use Rattle.hir_path.specs.Keys.{expr_or_pat_code}
 use Rattle.hir_path.specs.declared.ids.ExprOrPatId.{ExprOrPatId}
 use Rattle.hir_path.specs.declared.ids.ExprOrPatId.TheVariants.{ExprId, PatId}
 use Rattle.hir_path.specs.declared.path.Path.{Path}
@@ -24,7 +19,6 @@ use Rattle.hir_node.specs.declared.expr.Expr.TheVariants as expr
 use Rattle.hir_node.specs.declared.expr_types.Array.TheVariants as array
 use Rattle.hir_node.specs.declared.expr_types.CaptureBy.TheVariants as capture
 use Rattle.hir_node.specs.declared.expr_types.ClosureKind.TheVariants as closure
-use Rattle.hir_node.specs.declared.expr_types.MatchArm.{MatchArm}
 use Rattle.hir_node.specs.declared.pat.Pat.{Pat}
 use Rattle.hir_node.specs.declared.pat.Pat.TheVariants as pat
 use Rattle.hir_node.specs.declared.node_id.NodeId.{NodeId}
@@ -34,7 +28,7 @@ use Rattle.hir_faults.specs.Nodes.{Nodes}
 use Rattle.hir_faults.specs.Down.{rank, value}
 use Rattle.hir_expr_store.specs.Contents.{Contents}
 use Rattle.hir_expr_store.specs.PatLists.{pats}
-use Rattle.hir_expr_store.specs.SideTables.{no_side_tables, hygiene_of}
+use Rattle.hir_expr_store.specs.SideTables.{hygiene_of}
 use Rattle.hir_expr_store.specs.declared.side_tables.SideTables.{SideTables}
 use Rattle.hir_scope.specs.Frames.{Chain}
 use Rattle.hir_scope.specs.Leak.{leak}

@@ -58,3 +58,7 @@ IsClosure found = ⊥
 -- the expression is a closure that the body reaches
 abbrev pub IsReachedClosure : BodyContents → ℕ → Type 0
 IsReachedClosure b id = IsClosure (slice_get b.store.nodes.exprs id) × BodyReaches b (node.Expr id)
+
+-- these are some frames put on that chain
+abbrev pub IsOn : Chain → Chain → Type 0
+IsOn outer chain = (more : Chain) × (chain ≡ more ++ outer)

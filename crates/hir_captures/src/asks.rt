@@ -1,6 +1,4 @@
 //! What a path asks for, and what is captured by it.
-#![tactic(auto, using(crate::proofs::AskLemmas::asks))]
-
 ghost use Rattle.std.specs.Prelude.{◌≡◌, ◌<◌, ◌-◌, length, option_map, Some};
 ghost use Rattle.hir_scope.specs.Paths.{chain};
 ghost use Rattle.hir_scope.specs.Resolution.{first_asked};
@@ -9,7 +7,7 @@ ghost use Rattle.hir_captures.specs.Captures.{meant_behind};
 
 use hir_base::{HygieneId, PathKind};
 use hir_node::{BindingId, Path};
-use hir_scope::laws::chains_are_short;
+use hir_scope::laws::{a_chain_goes_outward, chains_are_short};
 use hir_scope::{ExprScopes, ScopeEntry, ScopeId};
 
 /// The name that a path asks for, where it may name a variable: that of an identifier, and `self` of the path `self`.
@@ -45,6 +43,7 @@ pub(crate) fn depth(scopes: &ExprScopes, scope: ScopeId) -> usize
     ensures { result ≡ length (chain scopes.now.scopes (Some scope)) }
 {
     scopes.parents_stand_earlier();
+    a_chain_goes_outward();
     chains_are_short();
     let _ = scopes.scope_count();
     let mut depth = 0;
@@ -69,6 +68,7 @@ pub(crate) fn captured(
         (chain scopes.now.scopes (Some scope)) name.now hygiene }
 {
     scopes.parents_stand_earlier();
+    a_chain_goes_outward();
     let mut innermost = depth(scopes, scope).saturating_sub(outermost);
     for scope in scopes.scope_chain(Some(scope)) {
         if let Some(binding) = first_asked(scopes.entries(scope), name, hygiene) {

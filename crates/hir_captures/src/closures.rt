@@ -51,7 +51,8 @@ fn scope_of_closure(
 ///
 /// Answers `NotAClosure` exactly where the expression is no closure that the body reaches, also where it isn't there, and `Memory` where
 /// room was refused. `scopes` have to be those of the body, as `ExprScopes::new_body` makes them. It takes time in the number of nodes
-/// under the closure and the scopes and entries of the chains in which names are asked for, and doesn't recurse.
+/// under the closure, the bindings of the store, and the scopes and entries of the chains in which names are asked for, and doesn't
+/// recurse.
 pub fn captures(
     alloc: Global,
     body: &Body,

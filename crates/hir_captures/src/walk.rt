@@ -15,9 +15,10 @@ use crate::kids::Kids;
 use crate::tasks::{Task, Tasks};
 use hir_base::HygieneId;
 use hir_expr_store::ExpressionStore;
-use hir_expr_store::laws::kids_fall;
+use hir_expr_store::laws::{kids_fall, who_has_kids_is_there};
 use hir_node::{Expr, ExprId, Pat, PatId, Path};
 use hir_scope::ExprScopes;
+use hir_scope::laws::slots_hold_the_kids;
 use std::alloc::Global;
 
 /// A walk: what was found, and what is still to be read.
@@ -142,6 +143,8 @@ impl Walk {
     {
         store.has_no_fault();
         kids_fall();
+        who_has_kids_is_there();
+        slots_hold_the_kids();
         self.ask_expr(store, scopes, outermost, id)?;
         let expr = &store[id];
         self.kids.begin(if_assignment(id, expr));
@@ -159,6 +162,8 @@ impl Walk {
     {
         store.has_no_fault();
         kids_fall();
+        who_has_kids_is_there();
+        slots_hold_the_kids();
         let pat = &store[id];
         self.kids.begin(None);
         self.kids.meet_pat(pat);
@@ -182,6 +187,8 @@ impl Walk {
     {
         store.has_no_fault();
         kids_fall();
+        who_has_kids_is_there();
+        slots_hold_the_kids();
         self.ask_pat(store, scopes, outermost, id, assignment)?;
         let pat = &store[id];
         self.kids.begin(Some(assignment));

@@ -1,7 +1,24 @@
-use Rattle.std.proofs.Common.{◌∙◌, ap, subst, ℕ, length}
-use Rattle.hir_captures.proofs.AskLemmas.{Below, frames, answer_behind, answer_within, answer_later}
+use Rattle.std.proofs.Common.{◌≡◌, ◌<◌, ◌-◌, ◌∙◌, ap, sym, subst, ℕ, List, Some, length}
+use Rattle.std.proofs.lemmas.List.Elements.{recursion_from_All}
+use Rattle.hir_scope.specs.Paths.{path, chain}
+use Rattle.hir_captures.proofs.AskLemmas.{AllThere, frames, answer_behind, answer_within, answer_later}
 use Rattle.hir_captures.specs.Captures.{meant_behind}
 use Rattle.hir_captures.proofs.asks.captured.Goals as goal
+
+pub loop-scope-init : goal.loop-scope-init
+loop-scope-init c =
+    let scopes = c.args.scopes.now.scopes in
+    let along = path scopes (Some c.args.scope) in
+    let within = length (chain scopes (Some c.args.scope)) - c.args.outermost in
+    let there = c.a_chain_goes_outward.ensures.there scopes c.parents_stand_earlier.ensures.parents (Some c.args.scope) c.requires in
+    let is : c.into_iter-scope-iterator.result ≡ along = c.into_iter-scope-iterator.ensures.into_iter_gives ∙ c.scope_chain-scope-items.ensures in
+    let count : c.saturating_sub-innermost.result ≡ within = c.saturating_sub-innermost.ensures ∙ ap (λ (n : ℕ). n - c.args.outermost) c.depth.ensures in (
+      tt,
+      tt,
+      subst (AllThere scopes) (sym is) (recursion_from_All (λ (s : ℕ). s < length scopes) along there),
+      ap (λ (k : ℕ). meant_behind k (frames scopes c.into_iter-scope-iterator.result) c.args.name.now c.args.hygiene) count
+          ∙ ap (λ (xs : List ℕ). meant_behind within (frames scopes xs) c.args.name.now c.args.hygiene) is,
+    )
 
 pub returns-then-innermost-eq0 : goal.returns-then-innermost-eq0
 returns-then-innermost-eq0 c =
@@ -15,7 +32,7 @@ returns-else-innermost-eq0 c =
 
 pub loop-scope-preserved : goal.loop-scope-preserved
 loop-scope-preserved c =
-    let below = subst (Below (length c.args.scopes.now.scopes)) c.in-Some.ensures.steps c.loop-scope.invariant.2 in (
+    let below = subst (AllThere c.args.scopes.now.scopes) c.in-Some.ensures.steps c.loop-scope.invariant.2 in (
       tt,
       tt,
       below.1,

@@ -2,6 +2,7 @@ use Rattle.std.proofs.Common.{◌∙◌, ap, List, ◌++◌, Some}
 use Rattle.hir_node.specs.ChildCalls.{pat_calls}
 use Rattle.hir_captures.specs.declared.tasks.Task.{Task}
 use Rattle.hir_captures.specs.Pending.{tasks_of}
+use Rattle.hir_captures.proofs.CodeLemmas.{Laws}
 use Rattle.hir_captures.proofs.KidLemmas.{put_on}
 use Rattle.hir_captures.proofs.ReadLemmas.{read_pat}
 use Rattle.hir_captures.proofs.walk.Walk.read_target.Goals as goal
@@ -9,10 +10,15 @@ use Rattle.hir_captures.proofs.walk.Walk.read_target.Goals as goal
 pub returns-clause-reads : goal.returns-clause-reads
 returns-clause-reads c =
     let store = c.args.store.now in
+    let laws : Laws store.nodes = record {
+      fall = c.kids_fall.ensures store c.has_no_fault.ensures;
+      parents = c.who_has_kids_is_there.ensures store.nodes;
+      kids = c.slots_hold_the_kids.ensures store.nodes;
+    } in
     let x = c.index-pat.result.now in
     let moved = c.in_ok-move_to.ensures.ok in
     let put = put_on c.begin.new.self c.meet_pat.new.self (pat_calls x) (Some c.args.assignment) c.ask_pat.new.self.tasks c.move_to.new.tasks
     c.meet_pat.ensures c.begin.ensures.items c.begin.ensures.assignment moved.0 moved.1 in
-    read_pat store c.args.scopes.now c.args.outermost (c.kids_fall.ensures store c.has_no_fault.ensures) c.args.id x (Some c.args.assignment) c.args.self.now.tasks c.move_to.new.tasks c.args.self.now.found c.ask_pat.new.self.found
+    read_pat store c.args.scopes.now c.args.outermost laws c.args.id x (Some c.args.assignment) c.args.self.now.tasks c.move_to.new.tasks c.args.self.now.found c.ask_pat.new.self.found
     c.index-pat.ensures c.requires.there c.in_ok-ask_pat.ensures.found
     (put ∙ ap (λ (ts : List Task). tasks_of (Some c.args.assignment) (pat_calls x) ++ ts) c.ask_pat.ensures.tasks)

@@ -1,0 +1,48 @@
+//! Laws that a reader relies on. Each is a function that does nothing: its contract is the law.
+ghost use Rattle.std.specs.Prelude.{◌≡◌, ℕ, List, None, Option};
+ghost use Rattle.std.specs.List.{All};
+ghost use Rattle.hir_node.specs.declared.node_id.NodeId.{NodeId};
+ghost use Rattle.hir_expr_store.specs.Contents.{Contents, contents_fault};
+ghost use Rattle.hir_items.specs.Bodies.{BodyContents, body_fault};
+ghost use Rattle.hir_scope.specs.Frames.{Chain};
+ghost use Rattle.hir_captures.specs.Captures.{AreCaptures, AreChains, IsOn, IsReachedClosure};
+ghost use Rattle.hir_captures.specs.Uses.{code_step, code_under, uses_in};
+
+use hir_expr_store::laws::{kids_fall, kids_of_reached_are_reached, who_has_kids_is_there};
+use hir_scope::laws::{a_reached_node_has_one_chain, slots_hold_the_kids};
+
+/// The code under a node is the node, and then the code under its kids, in the order in which scopes are made.
+pub fn code_is_its_step()
+    ensures { (c : Contents) → contents_fault c None → (n : NodeId) (assignment : Option ℕ)
+        → code_under c.nodes n assignment ≡ code_step c.nodes (code_under c.nodes) n assignment }
+{
+    kids_fall();
+    who_has_kids_is_there();
+    slots_hold_the_kids();
+}
+
+/// The chain of each use in a closure of a body is some frames put on the closure's own.
+pub fn uses_stand_on_their_closure()
+    ensures { (b : BodyContents) → contents_fault b.store None → body_fault b None
+        → (closure : ℕ) → IsReachedClosure b closure → (chain : ℕ → Chain) → AreChains b chain
+        → All (λ one. IsOn (chain closure) (chain one.expr)) (uses_in b.store closure) }
+{
+    kids_fall();
+    who_has_kids_is_there();
+    slots_hold_the_kids();
+    kids_of_reached_are_reached();
+    a_reached_node_has_one_chain();
+}
+
+/// A closure of a body has one list of captures.
+pub fn captures_are_one()
+    ensures { (b : BodyContents) → contents_fault b.store None → body_fault b None
+        → (closure : ℕ) → IsReachedClosure b closure → (xs ys : List ℕ)
+        → AreCaptures b closure xs → AreCaptures b closure ys → xs ≡ ys }
+{
+    kids_fall();
+    who_has_kids_is_there();
+    slots_hold_the_kids();
+    kids_of_reached_are_reached();
+    a_reached_node_has_one_chain();
+}
