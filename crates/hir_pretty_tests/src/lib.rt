@@ -1,0 +1,20 @@
+//! The tests of `hir_pretty`, through the public surface, as a user would call it: stores built of tables, and their printed texts.
+//! A test in which a growth is refused ends with that error.
+#![tactic(auto)]
+
+#[cfg(test)]
+mod exprs_of;
+#[cfg(test)]
+mod memory;
+#[cfg(test)]
+mod paths_of;
+#[cfg(test)]
+mod pats_of;
+#[cfg(test)]
+mod rows;
+#[cfg(test)]
+mod tables_of;
+#[cfg(test)]
+mod tree;
+#[cfg(test)]
+mod types_of;
