@@ -3,6 +3,10 @@
 #![tactic(auto)]
 
 #[cfg(test)]
+mod blocks;
+#[cfg(test)]
+mod exprs;
+#[cfg(test)]
 mod exprs_of;
 #[cfg(test)]
 mod memory;
