@@ -4,8 +4,12 @@ use crate::exprs_of::{
     ArmOf, BLOCK, BlockOf, CLOSURE, ClosureOf, ExprOf, FieldOf, LitOf, SpreadOf, StatementOf,
 };
 use crate::paths_of::PathOf;
+use crate::pats_of::PatOf;
 use crate::tables_of::none;
 use crate::tree::{self, Tree};
+use hir_base::Idx;
+use hir_defs::Tables;
+use std::alloc::Global;
 use std::test::Fail;
 
 const A: ExprOf = ExprOf::Name("a");
@@ -353,6 +357,95 @@ fn blocks_and_matches(rt: HostRuntime) -> Result<(), Fail> {
     let tables = none(rt.alloc())?;
     for (exprs, wanted) in CASES {
         let found = tree::expr_text(rt.alloc(), &tables, &Tree { exprs, ..BESIDE })?;
+        assert_eq!(&rt; found.as_str(), *wanted);
+    }
+    Ok(())
+}
+
+/// Expressions, and what the last is printed as in a pattern in one line.
+const ONE_LINE: &[ExprCase] = &[
+    (&[A, ExprOf::Match(0, &[])], "match a { } "),
+    (
+        &[A, B, C, ExprOf::Match(0, &[ArmOf(1, Some(1), 2)])],
+        "match a { _ if b => c, } ",
+    ),
+    (&[A, B, ExprOf::Call(0, &[1])], "a( b, )"),
+    (&[A, ExprOf::Call(0, &[])], "a()"),
+    (&[A, ExprOf::List(&[0])], "[ a, ]"),
+    (&[A, B, ExprOf::Repeat(0, 1)], "[ a; b ]"),
+    (
+        &[ExprOf::Record(PathOf::Name("S"), &[], SpreadOf::None)],
+        "S{ }",
+    ),
+    (
+        &[
+            A,
+            ExprOf::Record(PathOf::Name("S"), &[FieldOf("f", 0)], SpreadOf::Defaults),
+        ],
+        "S{ f: a, .. }",
+    ),
+    (&[EMPTY], "{}"),
+    (
+        &[
+            A,
+            B,
+            C,
+            ExprOf::Block(BlockOf {
+                statements: &[
+                    StatementOf::Let(1, None, Some(0), None),
+                    StatementOf::Expr(1, true),
+                    StatementOf::Expr(2, false),
+                ],
+                ..BLOCK
+            }),
+        ],
+        "{ let _ = a; b; c }",
+    ),
+    (
+        &[ExprOf::Block(BlockOf {
+            statements: &[StatementOf::Item],
+            ..BLOCK
+        })],
+        "{ }",
+    ),
+    (
+        &[
+            A,
+            ExprOf::Block(WITH_TAIL),
+            ExprOf::Block(BlockOf {
+                tail: Some(1),
+                ..BLOCK
+            }),
+        ],
+        "{ { a } }",
+    ),
+    (
+        &[ExprOf::Name("a\nb"), ExprOf::Block(WITH_TAIL)],
+        "{ a\nb }",
+    ),
+    (&[ExprOf::Name("a\n"), ExprOf::Block(WITH_TAIL)], "{ a\n }"),
+    (&[A, ExprOf::Name("b\n"), ExprOf::Repeat(0, 1)], "[ a; b ]"),
+];
+
+/// The text of the last expression, where it is a pattern that is printed in one line.
+fn one_line_text(alloc: Global, tables: &Tables, exprs: &[ExprOf]) -> Result<String, Fail> {
+    let pats = &[PatOf::Expr(tree::last(exprs.len())), PatOf::Wild];
+    let store = tree::store(
+        alloc,
+        &Tree {
+            exprs,
+            pats,
+            ..BESIDE
+        },
+    )?;
+    Ok(tree::of_pat(alloc, tables, &store, Idx::from_raw(0), true)??)
+}
+
+#[test]
+fn in_one_line(rt: HostRuntime) -> Result<(), Fail> {
+    let tables = none(rt.alloc())?;
+    for (exprs, wanted) in ONE_LINE {
+        let found = one_line_text(rt.alloc(), &tables, exprs)?;
         assert_eq!(&rt; found.as_str(), *wanted);
     }
     Ok(())

@@ -13,6 +13,7 @@ use hir_node::{
 use std::alloc::{AllocError, Global};
 
 /// A literal.
+#[derive(Drop)]
 pub enum LitOf {
     Text(&'static str),
     Bytes(&'static [u8]),
@@ -25,6 +26,7 @@ pub enum LitOf {
 }
 
 /// An expression. Nodes are named by their numbers.
+#[derive(Drop)]
 pub enum ExprOf {
     Missing,
     Underscore,
@@ -71,6 +73,7 @@ pub enum ExprOf {
 }
 
 /// A block.
+#[derive(Drop)]
 pub struct BlockOf {
     pub id: Option<u32>,
     pub statements: &'static [StatementOf],
@@ -89,6 +92,7 @@ pub const BLOCK: BlockOf = BlockOf {
 };
 
 /// A statement.
+#[derive(Drop)]
 pub enum StatementOf {
     /// The pattern, the type, the initializer, the else branch.
     Let(u32, Option<u32>, Option<u32>, Option<u32>),
@@ -101,12 +105,15 @@ pub enum StatementOf {
 }
 
 /// An arm of a match: the pattern, the guard, the body.
+#[derive(Drop)]
 pub struct ArmOf(pub u32, pub Option<u32>, pub u32);
 
 /// A field's name and its value.
+#[derive(Drop)]
 pub struct FieldOf(pub &'static str, pub u32);
 
 /// What stands after the fields.
+#[derive(Drop)]
 pub enum SpreadOf {
     None,
     Defaults,
@@ -114,6 +121,7 @@ pub enum SpreadOf {
 }
 
 /// A closure.
+#[derive(Drop)]
 pub struct ClosureOf {
     pub args: &'static [u32],
     pub arg_types: &'static [ArgTypeOf],
@@ -124,6 +132,7 @@ pub struct ClosureOf {
 }
 
 /// The type of an argument, where it has one.
+#[derive(Drop)]
 pub struct ArgTypeOf(pub Option<u32>);
 
 /// `|| expression 0`

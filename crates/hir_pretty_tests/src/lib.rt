@@ -13,6 +13,8 @@ mod memory;
 #[cfg(test)]
 mod paths_of;
 #[cfg(test)]
+mod pats;
+#[cfg(test)]
 mod pats_of;
 #[cfg(test)]
 mod rows;

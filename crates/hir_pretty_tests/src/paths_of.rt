@@ -12,6 +12,7 @@ use hir_node::{
 use std::alloc::{AllocError, Global};
 
 /// A path.
+#[derive(Drop)]
 pub enum PathOf {
     /// A plain path of one name.
     Name(&'static str),
@@ -25,6 +26,7 @@ pub enum PathOf {
 }
 
 /// Where a path begins.
+#[derive(Drop)]
 pub enum KindOf {
     Plain,
     Super(u8),
@@ -35,6 +37,7 @@ pub enum KindOf {
 }
 
 /// An item of the language: the definition of this number.
+#[derive(Drop)]
 pub enum LangOf {
     Impl(u32),
     Enum(u32),
@@ -52,9 +55,11 @@ pub enum LangOf {
 }
 
 /// A name and its arguments.
+#[derive(Drop)]
 pub struct SegmentOf(pub &'static str, pub Option<ArgsOf>);
 
 /// Generic arguments.
+#[derive(Drop)]
 pub struct ArgsOf {
     pub args: &'static [ArgOf],
     pub has_self_type: bool,
@@ -71,6 +76,7 @@ pub const NO_ARGS: ArgsOf = ArgsOf {
 };
 
 /// A generic argument.
+#[derive(Drop)]
 pub enum ArgOf {
     Ty(u32),
     Lifetime(u32),
@@ -78,6 +84,7 @@ pub enum ArgOf {
 }
 
 /// What is said of an associated type.
+#[derive(Drop)]
 pub struct ItemOf {
     pub name: &'static str,
     pub args: Option<InnerOf>,
@@ -94,12 +101,15 @@ pub const ITEM: ItemOf = ItemOf {
 };
 
 /// The arguments of an associated type itself: arguments, and the types of associated types.
+#[derive(Drop)]
 pub struct InnerOf(pub &'static [ArgOf], pub &'static [InnerItemOf]);
 
 /// The type that an associated type is.
+#[derive(Drop)]
 pub struct InnerItemOf(pub &'static str, pub u32);
 
 /// A bound.
+#[derive(Drop)]
 pub enum BoundOf {
     Path(u32),
     /// A path behind `?`.
@@ -111,6 +121,7 @@ pub enum BoundOf {
 }
 
 /// What `use` lists.
+#[derive(Drop)]
 pub enum UseOf {
     Name(&'static str),
     Lifetime(u32),

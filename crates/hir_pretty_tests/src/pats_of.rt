@@ -6,9 +6,11 @@ use hir_node::{Binding, BindingAnnotation, Mutability, Pat, RecordFieldPat};
 use std::alloc::{AllocError, Global};
 
 /// A binding of this name, with these words before it.
+#[derive(Drop)]
 pub struct BindingOf(pub &'static str, pub BindingAnnotation);
 
 /// A pattern. Nodes are named by their numbers.
+#[derive(Drop)]
 pub enum PatOf {
     Missing,
     Rest,
@@ -33,6 +35,7 @@ pub enum PatOf {
 }
 
 /// A field's name and its pattern.
+#[derive(Drop)]
 pub struct FieldOf(pub &'static str, pub u32);
 
 impl Written<Binding> for BindingOf {

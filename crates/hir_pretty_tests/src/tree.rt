@@ -110,7 +110,7 @@ pub fn of_path(
 }
 
 /// The number of the last of so many.
-fn last(count: usize) -> u32 {
+pub fn last(count: usize) -> u32 {
     match u32::try_from(count) {
         Ok(count) => count.wrapping_sub(1),
         Err(_) => 0,

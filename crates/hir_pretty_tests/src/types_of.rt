@@ -11,6 +11,7 @@ use hir_node::{
 use std::alloc::{AllocError, Global};
 
 /// A lifetime.
+#[derive(Drop)]
 pub enum LifetimeOf {
     Named(&'static str),
     Static,
@@ -25,9 +26,11 @@ pub enum LifetimeOf {
 }
 
 /// A label of this name.
+#[derive(Drop)]
 pub struct LabelOf(pub &'static str);
 
 /// A type.
+#[derive(Drop)]
 pub enum TypeOf {
     Never,
     Placeholder,
@@ -53,6 +56,7 @@ pub enum TypeOf {
 }
 
 /// The type of a function.
+#[derive(Drop)]
 pub struct FnOf {
     /// The lifetimes after `for`, where it is there.
     pub binder: Option<ForOf>,
@@ -65,6 +69,7 @@ pub struct FnOf {
 }
 
 /// Lifetimes after `for`.
+#[derive(Drop)]
 pub struct ForOf(pub &'static [&'static str]);
 
 /// `fn() -> type 0`, with nothing else.
@@ -78,12 +83,15 @@ pub const FN: FnOf = FnOf {
 };
 
 /// A parameter: its name, where it has one, and its type.
+#[derive(Drop)]
 pub struct ParamOf(pub Option<NameOf>, pub u32);
 
 /// A name.
+#[derive(Drop)]
 pub struct NameOf(pub &'static str);
 
 /// A calling convention.
+#[derive(Drop)]
 pub enum AbiOf {
     Rust,
     C,
