@@ -11,6 +11,8 @@ mod exprs_of;
 #[cfg(test)]
 mod memory;
 #[cfg(test)]
+mod paths;
+#[cfg(test)]
 mod paths_of;
 #[cfg(test)]
 mod pats;
@@ -22,5 +24,7 @@ mod rows;
 mod tables_of;
 #[cfg(test)]
 mod tree;
+#[cfg(test)]
+mod types;
 #[cfg(test)]
 mod types_of;

@@ -103,7 +103,7 @@ fn add_enum(tables: &mut Tables, alloc: Global) -> Result<(), Fail> {
     let generic_params = params(
         alloc,
         &[TypeParamOf(Some(NameOf("T"))), TypeParamOf(None)],
-        &[NameOf("'a")],
+        &[NameOf("'p")],
     )?;
     let store = tree::store(alloc, &BARE)?;
     let signature = PlainSignature::new(PlainParts {
@@ -133,7 +133,7 @@ fn add_struct(tables: &mut Tables, alloc: Global) -> Result<(), Fail> {
     taken(tables.add_struct(StructId::from_raw(0), signature, Box::into_inner(sources)))
 }
 
-/// Tables in which enum 0 has the parameters `'a`, `T` and a type without a name, and struct 0 has none.
+/// Tables in which enum 0 has the parameters `'p`, `T` and a type without a name, and struct 0 has none.
 pub fn signed(alloc: Global) -> Result<Box<Tables>, Fail> {
     let mut tables = none(alloc)?;
     add_enum(&mut tables, alloc)?;
