@@ -9,7 +9,11 @@ mod exprs;
 #[cfg(test)]
 mod exprs_of;
 #[cfg(test)]
+mod literals;
+#[cfg(test)]
 mod memory;
+#[cfg(test)]
+mod names;
 #[cfg(test)]
 mod paths;
 #[cfg(test)]
