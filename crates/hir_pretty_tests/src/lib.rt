@@ -15,6 +15,8 @@ mod memory;
 #[cfg(test)]
 mod names;
 #[cfg(test)]
+mod operators;
+#[cfg(test)]
 mod paths;
 #[cfg(test)]
 mod paths_of;
