@@ -3,6 +3,8 @@
 #![tactic(auto)]
 
 #[cfg(test)]
+mod absent;
+#[cfg(test)]
 mod blocks;
 #[cfg(test)]
 mod exprs;
