@@ -517,7 +517,7 @@ const PATS: &[AbsentCase] = &[
     },
 ];
 
-fn struct_1() -> Missing {
+pub fn struct_1() -> Missing {
     Missing::Name(NamedDef::StructId(StructId::from_raw(1)))
 }
 
@@ -574,7 +574,7 @@ fn the_first_in_patterns(rt: HostRuntime) -> Result<(), Fail> {
 }
 
 /// A definition of each kind, struct 1 and function 0.
-const BOTH: Tree<'static> = Tree {
+pub const BOTH: Tree<'static> = Tree {
     exprs: &[
         E1,
         ExprOf::Path(PathOf::Lang(LangOf::Function(0), None)),

@@ -7,9 +7,13 @@ mod absent;
 #[cfg(test)]
 mod blocks;
 #[cfg(test)]
+mod deep;
+#[cfg(test)]
 mod exprs;
 #[cfg(test)]
 mod exprs_of;
+#[cfg(test)]
+mod growths;
 #[cfg(test)]
 mod literals;
 #[cfg(test)]

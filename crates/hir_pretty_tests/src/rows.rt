@@ -9,7 +9,7 @@ use hir_base::Edition;
 use hir_node::{BindingAnnotation, GenericArgsParentheses};
 use std::test::Fail;
 
-const EXPRS: &[Case] = &[
+pub const EXPRS: &[Case] = &[
     (
         Tree {
             exprs: &[
@@ -130,7 +130,7 @@ const A_B: &[BindingOf] = &[
 ];
 
 /// In one line.
-const PATS: &[Case] = &[
+pub const PATS: &[Case] = &[
     (
         Tree {
             bindings: A_B,
@@ -201,7 +201,7 @@ fn patterns(rt: HostRuntime) -> Result<(), Fail> {
 }
 
 /// The types `A`, `B`, `C` and `(A, B)`.
-const ABC: Tree<'static> = Tree {
+pub const ABC: Tree<'static> = Tree {
     types: &[
         TypeOf::Name("A"),
         TypeOf::Name("B"),
@@ -212,7 +212,7 @@ const ABC: Tree<'static> = Tree {
 };
 
 /// `Fn::<(A, B), Output = C>`
-const FN_PATH: PathOf = PathOf::Normal(
+pub const FN_PATH: PathOf = PathOf::Normal(
     KindOf::Plain,
     &[SegmentOf(
         "Fn",
@@ -230,7 +230,7 @@ const FN_PATH: PathOf = PathOf::Normal(
 );
 
 /// Function 0 as an item of the language, and `new` in it.
-const NEW: PathOf = PathOf::Lang(LangOf::Function(0), Some("new"));
+pub const NEW: PathOf = PathOf::Lang(LangOf::Function(0), Some("new"));
 
 #[test]
 fn paths(rt: HostRuntime) -> Result<(), Fail> {
