@@ -3,9 +3,8 @@
 use crate::absent::{BOTH, struct_1};
 use crate::memory::{Written, add, first, in_a_box, misses, push};
 use crate::paths_of::{PathOf, one_name};
-use crate::rows;
 use crate::tables_of::{none, usual};
-use crate::tree;
+use crate::{rows, tree};
 use hir_base::{Edition, Idx, Seq};
 use hir_defs::Tables;
 use hir_node::{Expr, ExprId, PatId, Path};
@@ -21,7 +20,12 @@ fn is_refused(printed: &Result<String, PrintFault>) -> bool {
 }
 
 /// The text of an expression, printed again where memory was refused.
-fn expr_text(alloc: Global, tables: &Tables, store: &ExpressionStore, expr: ExprId) -> Result<String, Fail> {
+fn expr_text(
+    alloc: Global,
+    tables: &Tables,
+    store: &ExpressionStore,
+    expr: ExprId,
+) -> Result<String, Fail> {
     let printed = tree::of_expr(alloc, tables, store, expr, Edition::Edition2021)?;
     if is_refused(&printed) {
         return Ok(tree::of_expr(alloc, tables, store, expr, Edition::Edition2021)??);
@@ -29,7 +33,12 @@ fn expr_text(alloc: Global, tables: &Tables, store: &ExpressionStore, expr: Expr
     Ok(printed?)
 }
 
-fn pat_text(alloc: Global, tables: &Tables, store: &ExpressionStore, pat: PatId) -> Result<String, Fail> {
+fn pat_text(
+    alloc: Global,
+    tables: &Tables,
+    store: &ExpressionStore,
+    pat: PatId,
+) -> Result<String, Fail> {
     let printed = tree::of_pat(alloc, tables, store, pat, true)?;
     if is_refused(&printed) {
         return Ok(tree::of_pat(alloc, tables, store, pat, true)??);
@@ -37,7 +46,12 @@ fn pat_text(alloc: Global, tables: &Tables, store: &ExpressionStore, pat: PatId)
     Ok(printed?)
 }
 
-fn path_text(alloc: Global, tables: &Tables, store: &ExpressionStore, path: &Path) -> Result<String, Fail> {
+fn path_text(
+    alloc: Global,
+    tables: &Tables,
+    store: &ExpressionStore,
+    path: &Path,
+) -> Result<String, Fail> {
     let printed = tree::of_path(alloc, tables, store, path, Edition::Edition2021)?;
     if is_refused(&printed) {
         return Ok(tree::of_path(alloc, tables, store, path, Edition::Edition2021)??);
@@ -210,7 +224,13 @@ fn a_tuple_of_paths(rt: HostRuntime) -> Result<(), Fail> {
     let a = rt.alloc();
     let store = tuple_of_paths(a)?;
     let tables = none(a)?;
-    let printed = tree::of_expr(a, &tables, &store, Idx::from_raw(COUNT), Edition::Edition2021)?;
+    let printed = tree::of_expr(
+        a,
+        &tables,
+        &store,
+        Idx::from_raw(COUNT),
+        Edition::Edition2021,
+    )?;
     if is_refused(&printed) {
         eprintln!(rt; "{REFUSED}")?;
     }

@@ -13,7 +13,13 @@ mod exprs;
 #[cfg(test)]
 mod exprs_of;
 #[cfg(test)]
+mod first_absent;
+#[cfg(test)]
+mod forms;
+#[cfg(test)]
 mod growths;
+#[cfg(test)]
+mod lang_items;
 #[cfg(test)]
 mod literals;
 #[cfg(test)]
