@@ -22,8 +22,17 @@ pub const E1: ExprOf = ExprOf::Path(P1);
 
 pub const X: ExprOf = ExprOf::Name("x");
 
+fn structure(number: u32) -> NamedDef {
+    NamedDef::StructId(StructId::from_raw(number))
+}
+
+fn function(number: u32) -> NamedDef {
+    NamedDef::FunctionId(FunctionId::from_raw(number))
+}
+
+/// The name of struct 1.
 pub fn struct_1() -> Missing {
-    Missing::Name(NamedDef::StructId(StructId::from_raw(1)))
+    Missing::Name(structure(1))
 }
 
 /// Whether this is the first that the last expression misses.
@@ -41,17 +50,17 @@ pub fn expr_misses(
     )
 }
 
-/// Whether this is the first that the last pattern misses, in lines and in one line.
+/// Whether this is the first that the last pattern misses, in one line or in lines.
 pub fn pat_misses(
     alloc: Global,
     tables: &Tables,
     tree: &Tree<'_>,
+    oneline: bool,
     wanted: Missing,
 ) -> Result<bool, Fail> {
     let store = tree::store(alloc, tree)?;
     let pat = Idx::from_raw(tree::last(tree.pats.len()));
-    let in_lines = misses(tree::of_pat(alloc, tables, &store, pat, false)?, wanted)?;
-    Ok(in_lines && misses(tree::of_pat(alloc, tables, &store, pat, true)?, wanted)?)
+    misses(tree::of_pat(alloc, tables, &store, pat, oneline)?, wanted)
 }
 
 /// A definition of each kind, struct 1 and function 0.
@@ -67,22 +76,14 @@ pub const BOTH: Tree<'static> = Tree {
 #[test]
 fn names(rt: HostRuntime) -> Result<(), Fail> {
     let a = rt.alloc();
-    let of_function = NamedDef::FunctionId(FunctionId::from_raw(0));
-    let of_struct = NamedDef::StructId(StructId::from_raw(1));
     let empty = none(a)?;
-    let one = named(a, &[(of_struct, Some("S"))])?;
-    let other = named(
-        a,
-        &[
-            (of_function, Some("f")),
-            (NamedDef::FunctionId(FunctionId::from_raw(1)), Some("g")),
-        ],
-    )?;
-    let both = named(a, &[(of_struct, None), (of_function, Some("f"))])?;
+    let one = named(a, &[(structure(1), Some("S"))])?;
+    let other = named(a, &[(function(0), Some("f")), (function(1), Some("g"))])?;
+    let both = named(a, &[(structure(1), None), (function(0), Some("f"))])?;
     let found = [
-        expr_misses(a, &empty, &BOTH, Missing::Name(of_struct))?,
-        expr_misses(a, &one, &BOTH, Missing::Name(of_function))?,
-        expr_misses(a, &other, &BOTH, Missing::Name(of_struct))?,
+        expr_misses(a, &empty, &BOTH, struct_1())?,
+        expr_misses(a, &one, &BOTH, Missing::Name(function(0)))?,
+        expr_misses(a, &other, &BOTH, struct_1())?,
     ];
     let text = tree::expr_text(a, &both, &BOTH)?;
     assert_eq!(&rt; found, [true; 3]);

@@ -110,12 +110,19 @@ fn exprs(alloc: Global, step: &Step, depth: u32) -> Result<(Box<ExpressionStore>
     Ok((store, last))
 }
 
-/// Adds a text so many times.
-fn repeat(text: &mut String, part: &str, times: u32) -> Result<(), AllocError> {
+fn repeat_each(text: &mut String, part: &str, times: u32) -> Result<(), AllocError> {
     for _ in 0..times {
         text.push_str(part)?;
     }
     Ok(())
+}
+
+/// Adds a text so many times: thousands at once.
+fn repeat(text: &mut String, alloc: Global, part: &str, times: u32) -> Result<(), AllocError> {
+    let mut thousand = String::new(alloc);
+    repeat_each(&mut thousand, part, 1000)?;
+    repeat_each(text, thousand.as_str(), times / 1000)?;
+    repeat_each(text, part, times % 1000)
 }
 
 /// So many times what stands before, a text, and so many times what stands behind.
@@ -126,9 +133,9 @@ pub fn around(
     behind: (&str, u32),
 ) -> Result<String, AllocError> {
     let mut text = String::new(alloc);
-    repeat(&mut text, before.0, before.1)?;
+    repeat(&mut text, alloc, before.0, before.1)?;
     text.push_str(inside)?;
-    repeat(&mut text, behind.0, behind.1)?;
+    repeat(&mut text, alloc, behind.0, behind.1)?;
     Ok(text)
 }
 
@@ -188,7 +195,7 @@ const LINES: u32 = 1000;
 
 /// A line at this level.
 fn add_line(text: &mut String, level: u32, line: &str) -> Result<(), AllocError> {
-    repeat(text, "    ", level)?;
+    repeat_each(text, "    ", level)?;
     text.push_str(line)?;
     Ok(())
 }

@@ -522,8 +522,10 @@ fn the_first_in_patterns(rt: HostRuntime) -> Result<(), Fail> {
     let tables = none(rt.alloc())?;
     let mut number = 0u32;
     for tree in PATS {
-        let holds = pat_misses(rt.alloc(), &tables, tree, struct_1())?;
-        assert!(&rt; holds, "{number}");
+        let in_lines = pat_misses(rt.alloc(), &tables, tree, false, struct_1())?;
+        assert!(&rt; in_lines, "{number}");
+        let in_one_line = pat_misses(rt.alloc(), &tables, tree, true, struct_1())?;
+        assert!(&rt; in_one_line, "{number}");
         number = number.wrapping_add(1);
     }
     Ok(())

@@ -68,19 +68,26 @@ fn add(text: &mut String, operand: &str, child: u8, parent: u8) -> Result<(), Al
     Ok(())
 }
 
-/// The text of this form, whose operands have these texts, and bind so tightly.
+/// The text of an operand, and how tightly it binds.
+#[derive(Drop)]
+struct Operand<'a> {
+    text: &'a str,
+    own: u8,
+}
+
+/// The text of this form, with these operands.
 fn text_of(
     alloc: Global,
     form: &Form,
-    first: (&str, u8),
-    second: (&str, u8),
+    first: &Operand<'_>,
+    second: &Operand<'_>,
 ) -> Result<String, AllocError> {
     let mut text = String::new(alloc);
     text.push_str(form.texts[0])?;
-    add(&mut text, first.0, first.1, form.first)?;
+    add(&mut text, first.text, first.own, form.first)?;
     text.push_str(form.texts[1])?;
     if let Some(parent) = form.second {
-        add(&mut text, second.0, second.1, parent)?;
+        add(&mut text, second.text, second.own, parent)?;
     }
     text.push_str(form.texts[2])?;
     Ok(text)
@@ -111,14 +118,25 @@ fn found(alloc: Global, outer: &Form, inner: &Form, is_first: bool) -> Result<St
     )
 }
 
-fn wanted(alloc: Global, outer: &Form, inner: &Form, is_first: bool) -> Result<String, AllocError> {
-    let text = text_of(alloc, inner, ("a", UNAMBIGUOUS), ("b", UNAMBIGUOUS))?;
-    let under = (text.as_str(), inner.own);
-    let beside = ("c", UNAMBIGUOUS);
-    if is_first {
-        return text_of(alloc, outer, under, beside);
+/// A name.
+fn name(text: &str) -> Operand<'_> {
+    Operand {
+        text,
+        own: UNAMBIGUOUS,
     }
-    text_of(alloc, outer, beside, under)
+}
+
+fn wanted(alloc: Global, outer: &Form, inner: &Form, is_first: bool) -> Result<String, AllocError> {
+    let text = text_of(alloc, inner, &name("a"), &name("b"))?;
+    let under = Operand {
+        text: text.as_str(),
+        own: inner.own,
+    };
+    let beside = name("c");
+    if is_first {
+        return text_of(alloc, outer, &under, &beside);
+    }
+    text_of(alloc, outer, &beside, &under)
 }
 
 #[test]

@@ -307,15 +307,13 @@ fn target(written: &LangOf) -> LangItemTarget {
 fn lang(
     alloc: Global,
     target: LangItemTarget,
-    text: Option<&'static str>,
+    name: Option<&'static str>,
 ) -> Result<Path, AllocError> {
-    match text {
-        Some(text) => {
-            let name = Name::new(alloc, text)?;
-            Ok(Path::LangItem(target, Some(name)))
-        }
-        None => Ok(Path::LangItem(target, None)),
-    }
+    let name = match name {
+        Some(text) => Some(Name::new(alloc, text)?),
+        None => None,
+    };
+    Ok(Path::LangItem(target, name))
 }
 
 impl Written<Path> for PathOf {
