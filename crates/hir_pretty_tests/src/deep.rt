@@ -1,5 +1,5 @@
 //! Trees 1,000,000 deep: nothing recurses on the depth of a tree.
-use crate::memory::{add, first, in_a_box, push};
+use crate::memory::{add, in_a_box, push};
 use crate::tables_of::none;
 use crate::tree;
 use hir_base::{Arena, ArithOp, BinaryOp, Edition, Idx, LogicOp, ModPath, Name, PathKind, Seq};
@@ -106,7 +106,7 @@ fn exprs(alloc: Global, step: &Step, depth: u32) -> Result<(Box<ExpressionStore>
     let last = add_levels(&mut builder.exprs, alloc, step, depth)?;
     add(&mut builder.pats, Pat::Expr(Idx::from_raw(last)))?;
     builder.begin_roots();
-    let store = first(alloc, Box::into_inner(builder).finish())?;
+    let store = tree::finished(alloc, builder)?;
     Ok((store, last))
 }
 
@@ -235,7 +235,7 @@ fn type_text(alloc: Global) -> Result<String, Fail> {
     };
     add(&mut builder.exprs, cast)?;
     builder.begin_roots();
-    let store = first(alloc, Box::into_inner(builder).finish())?;
+    let store = tree::finished(alloc, builder)?;
     let tables = none(alloc)?;
     Ok(tree::of_expr(
         alloc,
@@ -266,7 +266,7 @@ fn pat_text(alloc: Global) -> Result<String, Fail> {
         )?;
     }
     builder.begin_roots();
-    let store = first(alloc, Box::into_inner(builder).finish())?;
+    let store = tree::finished(alloc, builder)?;
     let tables = none(alloc)?;
     Ok(tree::of_pat(alloc, &tables, &store, Idx::from_raw(DEPTH), false)??)
 }

@@ -1,7 +1,7 @@
 //! Refused growths of printing. With ample memory each text is the whole one. Where a growth of a printing is refused, it answers `Memory`,
 //! and the same printing is made again. The loop over the growths is `scripts/refused-growths`.
 use crate::absent::{BOTH, struct_1};
-use crate::memory::{Written, add, first, in_a_box, misses, push};
+use crate::memory::{Written, add, in_a_box, misses, push};
 use crate::paths_of::{PathOf, one_name};
 use crate::tables_of::{none, usual};
 use crate::{rows, tree};
@@ -213,7 +213,7 @@ fn tuple_of_paths(alloc: Global) -> Result<Box<ExpressionStore>, Fail> {
     }
     add(&mut builder.exprs, Expr::Tuple { exprs })?;
     builder.begin_roots();
-    first(alloc, Box::into_inner(builder).finish())
+    tree::finished(alloc, builder)
 }
 
 /// Said where a growth of this printing was refused: so a search tells how many growths it asks for.

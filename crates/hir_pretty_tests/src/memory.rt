@@ -85,7 +85,7 @@ pub fn first<T: Drop, U: Drop, R: Debug + Drop>(
     outcome: Result<(T, U), R>,
 ) -> Result<Box<T>, Fail> {
     let (first, _) = outcome?;
-    Ok(Box::new(alloc, first)?)
+    Ok(in_a_box(alloc, first)?)
 }
 
 /// The second of what was accepted, in a box.
@@ -94,7 +94,7 @@ pub fn second<T: Drop, U: Drop, R: Debug + Drop>(
     outcome: Result<(T, U), R>,
 ) -> Result<Box<U>, Fail> {
     let (_, second) = outcome?;
-    Ok(Box::new(alloc, second)?)
+    Ok(in_a_box(alloc, second)?)
 }
 
 /// Whether a printing misses this first.

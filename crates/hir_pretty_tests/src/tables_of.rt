@@ -96,7 +96,12 @@ fn params(
 }
 
 fn no_sources(alloc: Global) -> Result<Box<ExpressionStoreSourceMap>, Fail> {
-    second(alloc, ExpressionStoreBuilder::new(alloc).finish())
+    second(
+        alloc,
+        ExpressionStoreBuilder::new(alloc)
+            .finish()
+            .map_err(tree::fault_of),
+    )
 }
 
 fn add_enum(tables: &mut Tables, alloc: Global) -> Result<(), Fail> {

@@ -8,7 +8,7 @@ use hir_base::{AdtId, Edition, EnumId, ExpressionStoreOwnerId, GenericDefId, Idx
 use hir_defs::Tables;
 use hir_node::{ExprId, PatId, Path};
 use hir_pretty::{PrintFault, print_expr_hir, print_pat_hir, print_path};
-use hir_store::{ExpressionStore, ExpressionStoreBuilder};
+use hir_store::{ExpressionStore, ExpressionStoreBuilder, FinishFault, Refused};
 use std::alloc::Global;
 use std::test::Fail;
 
@@ -47,11 +47,24 @@ fn build(builder: &mut ExpressionStoreBuilder, alloc: Global, tree: &Tree<'_>) -
     Ok(())
 }
 
+/// Why a builder is refused, without the builder.
+pub fn fault_of(refused: Refused) -> FinishFault {
+    refused.fault
+}
+
+/// The store that this builder makes, in a box.
+pub fn finished(
+    alloc: Global,
+    builder: Box<ExpressionStoreBuilder>,
+) -> Result<Box<ExpressionStore>, Fail> {
+    first(alloc, Box::into_inner(builder).finish().map_err(fault_of))
+}
+
 /// The store of this tree. In a box, since it is dropped wherever a later call fails.
 pub fn store(alloc: Global, tree: &Tree<'_>) -> Result<Box<ExpressionStore>, Fail> {
     let mut builder = in_a_box(alloc, ExpressionStoreBuilder::new(alloc))?;
     build(&mut builder, alloc, tree)?;
-    first(alloc, Box::into_inner(builder).finish())
+    finished(alloc, builder)
 }
 
 /// Who owns the stores: it makes no difference to what is printed.
