@@ -1,4 +1,4 @@
-use Rattle.std.proofs.Common.{◌≡◌, false, subst, append-nil}
+use Rattle.std.proofs.Common.{false, subst, append-nil}
 use Rattle.hir_base.specs.RawWords.{words_of}
 use Rattle.hir_node.specs.declared.node_id.NodeId.TheVariants as node
 use Rattle.hir_pretty.specs.Settings.{setting}
@@ -10,4 +10,4 @@ use Rattle.hir_pretty.proofs.calls.print_expr_hir.Goals as goal
 pub returns : goal.returns
 returns c =
     let s = setting c.args.store.now (answers c.args.tables.now) (words_of c.args.tables.now.words c.args.edition) false in
-    subst (λ ps. PrintsPieces s ps c.print_works.result) (append-nil (pieces s (node.Expr c.args.expr))) (rw c.raw_words.ensures at c.print_works.ensures)
+    subst (λ ps. PrintsPieces s ps c.print_in.result) (append-nil (pieces s (node.Expr c.args.expr))) c.print_in.ensures

@@ -1,4 +1,4 @@
-use Rattle.std.proofs.Common.{◌≡◌, false, ap, subst, append-nil}
+use Rattle.std.proofs.Common.{false, ap, subst, append-nil}
 use Rattle.hir_base.specs.RawWords.{words_of}
 use Rattle.hir_pretty.specs.Settings.{setting}
 use Rattle.hir_pretty.specs.Paths.{path_items}
@@ -10,4 +10,4 @@ use Rattle.hir_pretty.proofs.calls.print_path.Goals as goal
 pub returns : goal.returns
 returns c =
     let s = setting c.args.store.now (answers c.args.tables.now) (words_of c.args.tables.now.words c.args.edition) false in
-    subst (λ ps. PrintsPieces s ps c.print_works.result) (ap (printed s) (append-nil (path_items s c.args.path.now))) (rw c.raw_words.ensures at c.print_works.ensures)
+    subst (λ ps. PrintsPieces s ps c.print_in.result) (ap (printed s) (append-nil (path_items s c.args.path.now))) c.print_in.ensures
