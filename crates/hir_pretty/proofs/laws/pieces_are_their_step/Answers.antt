@@ -1,4 +1,4 @@
-use Rattle.std.proofs.Common.{◌≡◌, sym, subst}
+use Rattle.std.proofs.Common.{sym, subst}
 use Rattle.hir_faults.specs.Down.{KidsFall}
 use Rattle.hir_pretty.proofs.StepLemmas.{pieces_at}
 use Rattle.hir_pretty.proofs.ItemsFall.{items_fall}

@@ -1,4 +1,4 @@
-use Rattle.std.proofs.Common.{◌≡◌, sym, arith}
+use Rattle.std.proofs.Common.{sym, arith}
 use Rattle.std.proofs.lemmas.Result.{on_ok_weaker}
 use Rattle.hir_pretty.proofs.OpenLemmas.{opens}
 use Rattle.hir_pretty.proofs.ArgsItems.{assoc_items_is}

@@ -1,4 +1,3 @@
-use Rattle.std.proofs.Common.{◌≡◌}
 use Rattle.hir_pretty.proofs.paths.open_path_part.Goals as goal
 
 pub returns-in-Whole : goal.returns-in-Whole

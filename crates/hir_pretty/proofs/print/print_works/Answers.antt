@@ -1,4 +1,4 @@
-use Rattle.std.proofs.Common.{◌≡◌, ap, ◌∙◌}
+use Rattle.std.proofs.Common.{ap, ◌∙◌}
 use Rattle.std.specs.List.{flat_map}
 use Rattle.hir_page.specs.Page.{page_text, all_rendered, empty_page}
 use Rattle.hir_pretty.specs.Settings.{setting}

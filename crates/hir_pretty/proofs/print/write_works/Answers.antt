@@ -1,7 +1,6 @@
-use Rattle.std.proofs.Common.{◌≡◌, ◌++◌, refl, ap, sym, subst, ◌∙◌, arith, append-nil, Some, None}
-use Rattle.std.specs.List.{flat_map}
+use Rattle.std.proofs.Common.{◌++◌, refl, ap, sym, subst, ◌∙◌, arith, append-nil, Some, None}
 use Rattle.hir_pretty.specs.Settings.{setting}
-use Rattle.hir_pretty.specs.Works.{Prints, ended, no_room, printed, pending, listed, stack_cost}
+use Rattle.hir_pretty.specs.Works.{Prints, ended, no_room, printed, pending, stack_cost}
 use Rattle.hir_pretty.proofs.print.write_works.Goals as goal
 
 pub loop-work-init : goal.loop-work-init

@@ -1,4 +1,4 @@
-use Rattle.std.proofs.Common.{◌≡◌, slice_get}
+use Rattle.std.proofs.Common.{slice_get}
 use Rattle.hir_pretty.specs.Settings.{setting}
 use Rattle.hir_pretty.specs.Exprs.{expr_items}
 use Rattle.hir_pretty.specs.Costs.{expr_cost}

@@ -1,4 +1,4 @@
-use Rattle.std.proofs.Common.{◌≡◌, slice_get}
+use Rattle.std.proofs.Common.{slice_get}
 use Rattle.hir_pretty.specs.Settings.{setting}
 use Rattle.hir_pretty.specs.Pats.{pat_items}
 use Rattle.hir_pretty.specs.Costs.{pat_cost}

@@ -1,4 +1,3 @@
-use Rattle.std.proofs.Common.{◌≡◌}
 use Rattle.hir_pretty.specs.Settings.{setting}
 use Rattle.hir_pretty.specs.Works.{listed, pending}
 use Rattle.hir_pretty.proofs.TurnLemmas.{turned_part, turned_piece, turned_whole, turned_pattern, turned_type, turned_under, turned_number, turned_literal, refused_number, refused_literal}

@@ -1,4 +1,3 @@
-use Rattle.std.proofs.Common.{◌≡◌}
 use Rattle.hir_pretty.proofs.type_parts.open_bound.Goals as goal
 
 pub returns-in-Path : goal.returns-in-Path

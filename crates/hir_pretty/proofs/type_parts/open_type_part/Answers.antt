@@ -1,4 +1,3 @@
-use Rattle.std.proofs.Common.{◌≡◌}
 use Rattle.hir_pretty.proofs.type_parts.open_type_part.Goals as goal
 
 pub returns-in-After : goal.returns-in-After
