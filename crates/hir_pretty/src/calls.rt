@@ -32,7 +32,14 @@ fn print_in<'a>(
     ensures { let s = setting store.now (answers tables.now) (words_of tables.now.words edition) one_line in
         PrintsPieces s (printed s (flat_map (stands_for s) works.old)) result }
 {
-    print_works(alloc, store, tables, tables.raw_words(edition), one_line, works)
+    print_works(
+        alloc,
+        store,
+        tables,
+        tables.raw_words(edition),
+        one_line,
+        works,
+    )
 }
 
 /// The text of an expression of the store, in lines. The expression has to be there: `has_expr` tests it. What owns the store makes no
@@ -52,7 +59,14 @@ pub fn print_expr_hir(
     ensures { let s = setting store.now (answers tables.now) (words_of tables.now.words edition) false in
         PrintsPieces s (pieces s (node.Expr expr)) result }
 {
-    print_in(alloc, store, tables, edition, false, &mut [Work::Whole(expr)])
+    print_in(
+        alloc,
+        store,
+        tables,
+        edition,
+        false,
+        &mut [Work::Whole(expr)],
+    )
 }
 
 /// The text of a pattern of the store, in one line or in lines. The pattern has to be there: `has_pat` tests it. What owns the store makes
@@ -73,7 +87,14 @@ pub fn print_pat_hir(
     ensures { let s = setting store.now (answers tables.now) (words_of tables.now.words edition) oneline in
         PrintsPieces s (pieces s (node.Pat pat)) result }
 {
-    print_in(alloc, store, tables, edition, oneline, &mut [Work::Pattern(pat)])
+    print_in(
+        alloc,
+        store,
+        tables,
+        edition,
+        oneline,
+        &mut [Work::Pattern(pat)],
+    )
 }
 
 /// The text of a path whose types, lifetimes and constants are of the store, in lines: `path_is_sound` of the store tests it.
@@ -91,5 +112,12 @@ pub fn print_path(
     ensures { let s = setting store.now (answers tables.now) (words_of tables.now.words edition) false in
         PrintsPieces s (path_pieces s path.now) result }
 {
-    print_in(alloc, store, tables, edition, false, &mut [Work::Path(PathPart::Whole(path))])
+    print_in(
+        alloc,
+        store,
+        tables,
+        edition,
+        false,
+        &mut [Work::Path(PathPart::Whole(path))],
+    )
 }

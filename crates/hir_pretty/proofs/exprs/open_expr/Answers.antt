@@ -66,9 +66,9 @@ returns-in-UnaryOp c = rw c.in-UnaryOp.is (on_ok_weaker c.open_unary.result (λ 
 pub returns-in-BinaryOp : goal.returns-in-BinaryOp
 returns-in-BinaryOp c = rw c.in-BinaryOp.is (on_ok_weaker c.open_binary.result
     (λ o s. opens_as (o s)
-        (ap (λ own. under own c.in-BinaryOp.lhs ++ sp ++ operator_items c.in-BinaryOp.op ++ sp ++ under own c.in-BinaryOp.rhs)
-            (c.precedence.ensures ∙ ap precedence c.in-BinaryOp.is))
-        (omega arith))
+    (ap (λ own. under own c.in-BinaryOp.lhs ++ sp ++ operator_items c.in-BinaryOp.op ++ sp ++ under own c.in-BinaryOp.rhs)
+    (c.precedence.ensures ∙ ap precedence c.in-BinaryOp.is))
+    (omega arith))
     c.open_binary.ensures)
 
 pub returns-in-Index : goal.returns-in-Index

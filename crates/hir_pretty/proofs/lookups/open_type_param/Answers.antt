@@ -9,9 +9,9 @@ use Rattle.hir_pretty.proofs.lookups.open_type_param.Goals as goal
 pub returns-in-Ok : goal.returns-in-Ok
 returns-in-Ok g c = on_ok_weaker c.open_param_name.result
     (λ o store words one_line.
-        let s = setting store (g.D.Definitions.answers c.args.tables.now) words one_line in
-        opens_as (o s)
-            (ap (λ n. type_param_items s n (Ok (option_copied c.in-Ok.found))) (c.into_raw.ensures ∙ c.local_id.ensures)
-                ∙ ap (type_param_items s c.args.id.local_id) (sym c.in-Ok.ensures.found))
-            (omega arith))
+    let s = setting store (g.D.Definitions.answers c.args.tables.now) words one_line in
+    opens_as (o s)
+    (ap (λ n. type_param_items s n (Ok (option_copied c.in-Ok.found))) (c.into_raw.ensures ∙ c.local_id.ensures)
+    ∙ ap (type_param_items s c.args.id.local_id) (sym c.in-Ok.ensures.found))
+    (omega arith))
     c.open_param_name.ensures
