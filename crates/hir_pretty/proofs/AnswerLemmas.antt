@@ -1,7 +1,6 @@
 -- What the tables answer of parameters that are there, and of those that aren't.
-use Rattle.std.proofs.Common.{◌≡◌, ℕ, ◌<◌, Bool, true, false, List, length, Option, Some, None, ap, ◌∙◌, slice_get}
+use Rattle.std.proofs.Common.{◌≡◌, Option, Some, None, ap}
 use Rattle.std.specs.Prelude.{Ok, Err}
-use Rattle.std.specs.Bool.{IsTrue}
 use Rattle.std.specs.Option.{option_map}
 use Rattle.hir_expr_store.specs.declared.missing.Missing.{Missing}
 use Rattle.hir_pretty.specs.Answers.{found_or}

@@ -7,7 +7,7 @@ use Rattle.std.specs.List.{flat_map}
 use Rattle.hir_node.specs.ChildCalls.{Call, bound_calls, arg_calls, args_calls, binding_calls}
 use Rattle.hir_node.specs.ChildCalls as calls
 use Rattle.hir_pretty.specs.Questions.{Setting}
-use Rattle.hir_pretty.specs.Items.{Item, text, t, opt, comma_joined}
+use Rattle.hir_pretty.specs.Items.{Item, opt, comma_joined}
 use Rattle.hir_pretty.specs.Names.{name_items}
 use Rattle.hir_pretty.specs.Paths.{binding_layer, args_layer, args_items, assoc_items, each_arg, turbofish, bounds_after, type_after}
 

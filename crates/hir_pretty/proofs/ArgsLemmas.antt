@@ -1,5 +1,5 @@
 -- Generic arguments and bindings, joined, by the first argument and the rest.
-use Rattle.std.proofs.Common.{◌≡◌, ℕ, ◌+◌, ◌<◌, List, [], ◌∷◌, ◌++◌, refl, ap, ◌∙◌, arith, length, get_or, map}
+use Rattle.std.proofs.Common.{◌≡◌, ◌+◌, ◌<◌, List, [], ◌∷◌, ◌++◌, refl, ap, ◌∙◌, arith, length, get_or, map}
 use Rattle.hir_pretty.specs.Items.{Item, joined}
 use Rattle.hir_pretty.proofs.FirstLemmas.{rest, rest_is}
 

@@ -1,15 +1,7 @@
 -- What is printed inside a node stands lower than the node.
-use Rattle.std.proofs.Common.{◌≡◌, ℕ, zero, suc, ◌+◌, ◌<◌, Bool, true, false, List, [], ◌∷◌, ◌++◌, map, take, drop, codes, Option, Some, None, refl, sym, ap, ◌∙◌, subst, arith, length, slice_get, Contains, not}
+use Rattle.std.proofs.Common.{◌≡◌, ℕ, zero, suc, Bool, true, false, List, [], ◌∷◌, ◌++◌, map, take, drop, codes, Option, Some, None, refl, sym, ap, ◌∙◌, subst, arith, slice_get, Contains}
 use Rattle.std.specs.Prelude.{⊤, Result, Ok, Err}
 use Rattle.std.specs.List.{flat_map}
-use Rattle.std.specs.Option.{option_to_list}
-use Rattle.hir_base.specs.ModPath.{ModPath}
-use Rattle.hir_base.specs.declared.mod_path.PathKind.{PathKind}
-use Rattle.hir_base.specs.declared.mod_path.PathKind.TheVariants as kind
-use Rattle.hir_base.specs.declared.defs.LangItemTarget.{LangItemTarget}
-use Rattle.hir_base.specs.declared.defs.LangItemTarget.TheVariants as target
-use Rattle.hir_base.specs.declared.defs.NamedDef.TheVariants as named
-use Rattle.hir_base.specs.declared.operators.BinaryOp.{BinaryOp}
 use Rattle.hir_path.specs.declared.bound.TypeBound.{TypeBound}
 use Rattle.hir_path.specs.declared.bound.TypeBound.TheVariants as bound
 use Rattle.hir_path.specs.declared.bound.TraitBoundModifier.{TraitBoundModifier}
@@ -21,8 +13,6 @@ use Rattle.hir_path.specs.declared.path.GenericArg.TheVariants as arg
 use Rattle.hir_path.specs.declared.path.GenericArgs.{GenericArgs, GenericArgs-F, out-GenericArgs, roll-GenericArgs, out-roll-GenericArgs, ind-GenericArgs}
 use Rattle.hir_path.specs.declared.path.AssociatedTypeBinding.{AssociatedTypeBinding, AssociatedTypeBinding-F, out-AssociatedTypeBinding, roll-AssociatedTypeBinding, out-roll-AssociatedTypeBinding}
 use Rattle.hir_path.specs.declared.path.AssociatedTypeBinding.TheShapes.{former-AssociatedTypeBinding-args}
-use Rattle.hir_path.specs.declared.path.Path.{Path}
-use Rattle.hir_path.specs.declared.path.Path.TheVariants as path
 use Rattle.hir_node.specs.ChildCalls.{Call, OnExpr, OnAnonConst, OnPat, OnType, OnLifetime, kid, kids, bound_calls, use_calls, arg_calls, args_calls, binding_calls, path_calls, normal_path_calls, spread_calls, array_calls, arm_calls, statement_calls, expr_calls, pat_calls, type_calls}
 use Rattle.hir_node.specs.ChildCalls as calls
 use Rattle.hir_node.specs.declared.node_id.NodeId.{NodeId}
@@ -31,10 +21,10 @@ use Rattle.hir_node.specs.declared.type_ref.LifetimeRef.{LifetimeRef}
 use Rattle.hir_node.specs.declared.type_ref.LifetimeRef.TheVariants as lifetime
 use Rattle.hir_expr_store.specs.declared.missing.Missing.{Missing}
 use Rattle.hir_pretty.specs.Questions.{Setting}
-use Rattle.hir_pretty.specs.Items.{Item, Put, Lacks, Whole, Under, Pattern, TypeItem, text, e, p, t, opt, when, joined, comma_joined}
+use Rattle.hir_pretty.specs.Items.{Item, Put, text, t, opt, joined, comma_joined}
 use Rattle.hir_page.specs.Pieces.{Piece}
 use Rattle.hir_pretty.specs.Names.{name_parts, name_items, l, lifetime_items, param_items}
-use Rattle.hir_pretty.specs.Paths.{for_names, modifier_items, use_items, bound_items, bounds_items, bounds_after, arg_items, each_arg, turbofish, args_items, assoc_items, found_name, type_after}
+use Rattle.hir_pretty.specs.Paths.{for_names, modifier_items, use_items, bound_items, bounds_items, bounds_after, arg_items, each_arg, turbofish, args_items, assoc_items, type_after}
 use Rattle.hir_pretty.specs.Falls.{AllNodes}
 use Rattle.hir_pretty.proofs.StepLemmas.{nodes_append}
 use Rattle.hir_pretty.proofs.ArgsItems.{args_items_is, assoc_items_is, args_calls_is, binding_calls_is}

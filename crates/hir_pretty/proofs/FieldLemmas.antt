@@ -1,5 +1,5 @@
 -- The items of the only field of a record pattern.
-use Rattle.std.proofs.Common.{◌≡◌, ℕ, ◌<◌, Bool, List, [], ◌∷◌, sym, ap, arith, length, get_or}
+use Rattle.std.proofs.Common.{◌≡◌, ◌<◌, Bool, List, [], ◌∷◌, ap, arith, length, get_or}
 use Rattle.hir_node.specs.declared.pat.RecordFieldPat.{RecordFieldPat}
 use Rattle.hir_pretty.specs.Questions.{Setting}
 use Rattle.hir_pretty.specs.Pats.{field_patterns}

@@ -1,5 +1,5 @@
 -- What is printed inside a node of an accepted store stands lower than the node.
-use Rattle.std.proofs.Common.{◌≡◌, ◌<◌, Contains, slice_get, arith}
+use Rattle.std.proofs.Common.{◌<◌, Contains, slice_get, arith}
 use Rattle.hir_node.specs.ChildCalls.{expr_calls, pat_calls, type_calls}
 use Rattle.hir_node.specs.declared.node_id.NodeId.{NodeId}
 use Rattle.hir_node.specs.declared.node_id.NodeId.TheVariants as node
@@ -9,8 +9,7 @@ use Rattle.hir_pretty.specs.Questions.{Setting}
 use Rattle.hir_pretty.specs.Exprs.{expr_items}
 use Rattle.hir_pretty.specs.Pats.{pat_items}
 use Rattle.hir_pretty.specs.Types.{type_items}
-use Rattle.hir_pretty.specs.Pieces.{items_of}
-use Rattle.hir_pretty.specs.Falls.{AllNodes, ItemsFall}
+use Rattle.hir_pretty.specs.Falls.{ItemsFall}
 use Rattle.hir_pretty.proofs.FallLemmas.{AllCalls, all_of_kids, opt_falls}
 use Rattle.hir_pretty.proofs.NodesFall.{expr_falls, pat_falls, type_falls}
 

@@ -1,5 +1,5 @@
 -- Joined items by those of the first member and of the rest.
-use Rattle.std.proofs.Common.{◌≡◌, ℕ, zero, suc, Some, ◌+◌, ◌-◌, ◌<◌, Bool, true, false, List, [], ◌∷◌, ◌++◌, codes, refl, ap, ◌∙◌, arith, length, drop, get_or, map}
+use Rattle.std.proofs.Common.{◌≡◌, ℕ, zero, suc, Some, ◌-◌, ◌<◌, List, [], ◌∷◌, ◌++◌, codes, refl, ap, ◌∙◌, arith, length, get_or, map}
 use Rattle.hir_pretty.specs.Items.{Item, text, p, joined, comma_joined}
 use Rattle.hir_pretty.specs.Pats.{with_rest}
 use Rattle.hir_pretty.specs.Paths.{supers}

@@ -1,6 +1,6 @@
 -- What is printed inside an expression, a pattern or a type is among its child calls, or stands under one of them.
-use Rattle.std.proofs.Common.{◌≡◌, ℕ, zero, suc, Bool, true, false, List, [], ◌∷◌, ◌++◌, map, take, drop, codes, Option, Some, None, refl, sym, ap, ◌∙◌, subst, slice_get}
-use Rattle.std.specs.Prelude.{⊤, not, Result, Ok, Err}
+use Rattle.std.proofs.Common.{ℕ, zero, suc, Bool, true, false, List, [], ◌∷◌, ◌++◌, map, take, drop, codes, Option, Some, None, sym, ap, ◌∙◌, subst, slice_get}
+use Rattle.std.specs.Prelude.{not, Result, Ok, Err}
 use Rattle.std.specs.List.{flat_map}
 use Rattle.std.specs.Option.{option_to_list}
 use Rattle.std.proofs.lemmas.List.Concat.{flat_map-append}
@@ -49,11 +49,11 @@ use Rattle.hir_page.specs.Literals.{string_literal, char_literal, bytes_literal,
 use Rattle.hir_pretty.specs.Questions.{Setting}
 use Rattle.hir_pretty.specs.Items.{Item, text, sp, br, into, out, e, under, p, t, opt, when, joined, comma_joined}
 use Rattle.hir_pretty.specs.Names.{name_items, label_items, binding_items, of_binding, l}
-use Rattle.hir_pretty.specs.Paths.{found_name, target_items, supers, kind_items, colons_first, segments_from, anchored, start_items, turbofish, args_items, path_items, for_names, bounds_items}
+use Rattle.hir_pretty.specs.Paths.{found_name, target_items, supers, kind_items, colons_first, segments_from, start_items, turbofish, args_items, path_items, for_names}
 use Rattle.hir_pretty.specs.Literals.{literal_items}
 use Rattle.hir_pretty.specs.Exprs.{labelled, to_label, operand, each_line, in_lines, arguments, arm_items, field_items, spread_items, statement_items, unsafe_items, inside_block, params, header, coroutine_body, of_coroutine, printed_body, array_items, expr_items}
 use Rattle.hir_pretty.specs.Pats.{with_rest, in_parentheses, is_short, field_pattern, after_last, field_patterns, pat_items}
-use Rattle.hir_pretty.specs.Types.{type_param_items, extern_items, varargs_items, front, last, signature_items, fn_items, type_items}
+use Rattle.hir_pretty.specs.Types.{type_param_items, extern_items, varargs_items, front, last, signature_items, type_items}
 use Rattle.hir_pretty.specs.Falls.{AllNodes}
 use Rattle.hir_pretty.proofs.StepLemmas.{nodes_append}
 use Rattle.hir_pretty.proofs.FallLemmas.{AllCalls, AllLists, first_calls, last_calls, each_falls, map_falls, opt_falls, joined_falls, lists_append, lists_take, lists_drop, name_falls, names_fall, puts_fall, none_falls, lifetime_falls, for_falls, bounds_fall, fish_falls}

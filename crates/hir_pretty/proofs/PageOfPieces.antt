@@ -1,12 +1,11 @@
 -- What a page holds after pieces were printed on it.
-use Rattle.std.proofs.Common.{◌≡◌, List, [], ◌∷◌, Option, Some, None, refl, ap, ◌∙◌, subst}
+use Rattle.std.proofs.Common.{◌≡◌, List, ◌∷◌, Some, None, refl, ap, ◌∙◌}
 use Rattle.hir_page.specs.Pieces.{Piece}
 use Rattle.hir_page.specs.Page.{Page, rendered, all_rendered}
 use Rattle.hir_expr_store.specs.declared.missing.Missing.{Missing}
-use Rattle.hir_pretty.specs.declared.fault.PrintFault.{PrintFault}
 use Rattle.hir_pretty.specs.declared.fault.PrintFault.TheVariants as fault
-use Rattle.hir_pretty.specs.Pieces.{NodePiece, Layout, Absent, first_missing, layout}
-use Rattle.hir_pretty.specs.Works.{Prints, ended, written, absent, refused, no_room}
+use Rattle.hir_pretty.specs.Pieces.{NodePiece, Layout, first_missing, layout}
+use Rattle.hir_pretty.specs.Works.{Prints, ended, written, absent}
 
 abbrev Step : Page → Piece → Page → Type 0
 Step page piece after = after ≡ rendered piece page

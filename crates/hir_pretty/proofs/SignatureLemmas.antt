@@ -1,7 +1,7 @@
 -- The items of a function type by its parameters and its result.
-use Rattle.std.proofs.Common.{◌≡◌, ℕ, zero, suc, ◌+◌, ◌-◌, ◌<◌, Bool, true, false, List, [], ◌∷◌, ◌++◌, codes, Option, Some, None, refl, ap, ◌∙◌, arith, length, get_or, map, append_assoc, append-nil}
+use Rattle.std.proofs.Common.{◌≡◌, ℕ, zero, suc, ◌-◌, ◌<◌, Bool, true, false, List, [], ◌∷◌, ◌++◌, codes, Option, Some, None, refl, ap, ◌∙◌, arith, length, get_or, map, append_assoc, append-nil}
 use Rattle.std.specs.Prelude.{◌&&◌}
-use Rattle.hir_pretty.specs.Items.{Item, text, t, opt, when, comma_joined}
+use Rattle.hir_pretty.specs.Items.{Item, text, t, opt, when}
 use Rattle.hir_pretty.specs.Types.{front, last, varargs_items, signature_items}
 use Rattle.hir_pretty.specs.Works.{front_items}
 

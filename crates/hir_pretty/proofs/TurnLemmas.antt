@@ -1,6 +1,6 @@
 -- A turn of the loop, by what its work is.
-use Rattle.std.proofs.Common.{◌≡◌, ℕ, zero, suc, ◌+◌, ◌<◌, ◌≤◌, Bool, true, false, List, [], ◌∷◌, ◌++◌, map, codes, Option, Some, None, refl, sym, ap, ap₂, subst, ◌∙◌, arith, append-nil}
-use Rattle.std.specs.List.{flat_map, slice_get}
+use Rattle.std.proofs.Common.{◌≡◌, ℕ, zero, suc, ◌+◌, ◌<◌, ◌≤◌, Bool, true, false, List, [], ◌∷◌, ◌++◌, map, codes, Option, Some, None, refl, sym, ap, subst, ◌∙◌, arith, append-nil}
+use Rattle.std.specs.List.{slice_get}
 use Rattle.std.proofs.lemmas.List.Concat.{flat_map-append}
 use Rattle.hir_base.specs.declared.prec.ExprPrecedence.{ExprPrecedence}
 use Rattle.hir_node.specs.declared.literal.Literal.{Literal}
@@ -16,9 +16,9 @@ use Rattle.hir_pretty.specs.declared.fault.PrintFault.{PrintFault}
 use Rattle.hir_pretty.specs.declared.fault.PrintFault.TheVariants as fault
 use Rattle.hir_pretty.specs.declared.work.Work.{Work}
 use Rattle.hir_pretty.specs.Questions.{Setting}
-use Rattle.hir_pretty.specs.Items.{Item, Put, Lacks, Whole, Under, Pattern, TypeItem, text, e, under, p, t}
+use Rattle.hir_pretty.specs.Items.{Item, Put, Lacks, Whole, Under, Pattern, TypeItem, text, e}
 use Rattle.hir_pretty.specs.Literals.{literal_items}
-use Rattle.hir_pretty.specs.Pieces.{NodePiece, Layout, Absent, items_of, item_pieces, pieces, parenthesized, stands_in_parentheses, precedence_found}
+use Rattle.hir_pretty.specs.Pieces.{NodePiece, Layout, items_of, item_pieces, pieces, parenthesized, stands_in_parentheses, precedence_found}
 use Rattle.hir_pretty.specs.Falls.{AllNodes, ItemsFall}
 use Rattle.hir_pretty.specs.Costs.{total, node_cost}
 use Rattle.hir_pretty.specs.Works.{stands_for, pending, work_cost, Opens, item_weight, weight_step, weight, stack_cost, printed, Prints, ended, written, absent, refused, no_room, Turned, enclosed, put_pieces}

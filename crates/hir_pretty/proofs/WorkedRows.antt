@@ -1,6 +1,6 @@
 -- Worked shapes: trees, and the texts that their pieces give.
-use Rattle.std.proofs.Common.{◌≡◌, ℕ, Bool, true, false, List, [], ◌∷◌, Option, Some, None, refl, codes, pos, ◌++◌}
-use Rattle.std.specs.Prelude.{Result, Ok, Err}
+use Rattle.std.proofs.Common.{◌≡◌, ℕ, Bool, true, false, List, [], ◌∷◌, Some, None, refl, codes}
+use Rattle.std.specs.Prelude.{Ok, Err}
 use Rattle.hir_base.specs.declared.hygiene.SyntaxContext.TheVariants as context
 use Rattle.hir_base.specs.declared.edition.Edition.TheVariants as edition
 use Rattle.hir_forest.specs.Height.{height}
@@ -13,7 +13,6 @@ use Rattle.hir_node.specs.declared.literal.Literal.TheVariants as literal
 use Rattle.hir_node.specs.declared.expr_types.Statement.TheVariants as statement
 use Rattle.hir_node.specs.declared.expr_types.Item.TheVariants as item
 use Rattle.hir_node.specs.declared.expr_types.Unsafe.TheVariants as unsafety
-use Rattle.hir_base.specs.declared.mod_path.PathKind.{PathKind}
 use Rattle.hir_base.specs.declared.mod_path.PathKind.TheVariants as kind
 use Rattle.hir_base.specs.declared.operators.ArithOp.TheVariants as arith
 use Rattle.hir_base.specs.declared.operators.LogicOp.TheVariants as logic
@@ -33,10 +32,9 @@ use Rattle.hir_node.specs.declared.pat.Pat.TheVariants as pat
 use Rattle.hir_node.specs.declared.type_ref.TypeRef.{TypeRef}
 use Rattle.hir_node.specs.declared.type_ref.TypeRef.TheVariants as type
 use Rattle.hir_expr_store.specs.declared.missing.Missing.TheVariants as missing
-use Rattle.hir_faults.specs.Nodes.{Nodes}
-use Rattle.hir_faults.specs.Down.{value, rank, value_within}
+use Rattle.hir_faults.specs.Down.{value, rank}
 use Rattle.hir_pretty.specs.Questions.{Questions, Setting}
-use Rattle.hir_pretty.specs.Pieces.{NodePiece, pieces, path_pieces, first_missing, text_of}
+use Rattle.hir_pretty.specs.Pieces.{pieces, path_pieces, first_missing, text_of}
 
 -- tables that hold nothing
 abbrev no_tables : Questions

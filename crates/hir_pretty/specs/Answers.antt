@@ -3,11 +3,9 @@ use Rattle.std.specs.Prelude.{ℕ, List, [], ◌∷◌, Option, Some, None, Resu
 use Rattle.std.specs.Option.{option_map}
 use Rattle.std.specs.FinMap as map
 use Rattle.hir_base.specs.Keys.{named_code}
-use Rattle.hir_base.specs.declared.defs.NamedDef.{NamedDef}
 use Rattle.hir_base.specs.declared.params.TypeOrConstParamId.{TypeOrConstParamId}
 use Rattle.hir_base.specs.declared.params.LifetimeParamId.{LifetimeParamId}
 use Rattle.hir_generics.specs.Params.{name_of}
-use Rattle.hir_generics.specs.declared.param.TypeOrConstParamData.{TypeOrConstParamData}
 use Rattle.hir_generics.specs.declared.data.LifetimeParamData.{LifetimeParamData}
 use Rattle.hir_expr_store.specs.declared.missing.Missing.{Missing}
 use Rattle.hir_expr_store.specs.declared.missing.Missing.TheVariants as missing

@@ -1,12 +1,9 @@
 -- What expressions are printed as.
-use Rattle.std.specs.Prelude.{ℕ, Bool, true, false, List, [], ◌∷◌, ◌++◌, map, Option, Some, None, codes, slice_get}
+use Rattle.std.specs.Prelude.{ℕ, Bool, List, [], ◌∷◌, ◌++◌, map, Option, Some, None, codes, slice_get}
 use Rattle.std.specs.List.{flat_map}
-use Rattle.std.specs.Fmt.{decimal}
 use Rattle.hir_base.specs.OpTexts.{binary_text, unary_text}
 use Rattle.hir_base.specs.declared.operators.BinaryOp.{BinaryOp}
-use Rattle.hir_base.specs.declared.prec.ExprPrecedence.{ExprPrecedence}
 use Rattle.hir_base.specs.declared.prec.ExprPrecedence.TheVariants.{Jump, Assign, Prefix, Postfix, Cast}
-use Rattle.hir_path.specs.declared.path.GenericArgs.{GenericArgs}
 use Rattle.hir_node.specs.Precedence.{of_operator}
 use Rattle.hir_node.specs.Keywords.{ref_keyword}
 use Rattle.hir_node.specs.declared.type_ref.Rawness.{Rawness}

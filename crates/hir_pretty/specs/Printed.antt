@@ -1,5 +1,5 @@
 -- What every printing answers.
-use Rattle.std.specs.Prelude.{◌≡◌, ℕ, List, Option, Some, None, Result, Ok, Err, IfOk, String, string_bytes}
+use Rattle.std.specs.Prelude.{◌≡◌, List, Some, None, Result, Err, IfOk, String, string_bytes}
 use Rattle.hir_expr_store.specs.declared.missing.Missing.{Missing}
 use Rattle.hir_pretty.specs.declared.fault.PrintFault.{PrintFault}
 use Rattle.hir_pretty.specs.declared.fault.PrintFault.TheVariants as fault

@@ -1,10 +1,8 @@
 -- What types are printed as.
-use Rattle.std.specs.Prelude.{ℕ, ◌-◌, Bool, true, false, List, [], ◌∷◌, ◌++◌, map, length, take, drop, Option, Some, None, Result, Ok, Err, codes}
-use Rattle.std.specs.List.{flat_map}
+use Rattle.std.specs.Prelude.{ℕ, Bool, true, false, List, [], ◌∷◌, ◌++◌, map, Option, Some, None, Result, Ok, Err, codes}
 use Rattle.hir_base.specs.declared.abi.ExternAbi.{ExternAbi}
 use Rattle.hir_base.specs.declared.abi.ExternAbi.TheVariants as abi
 use Rattle.hir_base.specs.Abi.{abi_text}
-use Rattle.hir_base.specs.declared.params.TypeOrConstParamId.{TypeOrConstParamId}
 use Rattle.hir_base.specs.declared.prec.ExprPrecedence.TheVariants.{Unambiguous}
 use Rattle.hir_node.specs.declared.type_ref.FnType.{FnType}
 use Rattle.hir_node.specs.declared.type_ref.TypeRef.{TypeRef}
@@ -12,7 +10,7 @@ use Rattle.hir_node.specs.declared.type_ref.TypeRef.TheVariants as type
 use Rattle.hir_node.specs.Keywords.{ref_keyword, ptr_keyword}
 use Rattle.hir_expr_store.specs.declared.missing.Missing.{Missing}
 use Rattle.hir_pretty.specs.Questions.{Setting}
-use Rattle.hir_pretty.specs.Items.{Item, Lacks, text, under, p, t, opt, when, comma_joined, numbered}
+use Rattle.hir_pretty.specs.Items.{Item, Lacks, text, under, p, t, opt, when, comma_joined}
 use Rattle.hir_pretty.specs.Names.{name_items, l}
 use Rattle.hir_pretty.specs.Paths.{path_items, bounds_items, for_names}
 use Rattle.std.specs.Fmt.{decimal}

@@ -6,7 +6,7 @@ use Rattle.hir_base.specs.declared.prec.ExprPrecedence.TheVariants.{Shift}
 use Rattle.hir_node.specs.declared.node_id.NodeId.{NodeId}
 use Rattle.hir_node.specs.declared.node_id.NodeId.TheVariants as node
 use Rattle.hir_faults.specs.Down.{value}
-use Rattle.hir_page.specs.Pieces.{Piece, Text, SoftSpace, Break, Indent, Outdent}
+use Rattle.hir_page.specs.Pieces.{Piece}
 use Rattle.hir_pretty.specs.declared.work.Work.{Work}
 use Rattle.hir_pretty.specs.declared.work.Work.TheVariants as work
 use Rattle.hir_pretty.specs.declared.work.Stack.{Stack}

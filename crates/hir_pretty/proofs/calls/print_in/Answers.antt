@@ -1,4 +1,3 @@
-use Rattle.std.proofs.Common.{◌≡◌}
 use Rattle.hir_pretty.proofs.calls.print_in.Goals as goal
 
 pub returns : goal.returns

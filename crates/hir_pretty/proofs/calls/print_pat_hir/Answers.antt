@@ -1,4 +1,4 @@
-use Rattle.std.proofs.Common.{false, subst, append-nil}
+use Rattle.std.proofs.Common.{subst, append-nil}
 use Rattle.hir_base.specs.RawWords.{words_of}
 use Rattle.hir_node.specs.declared.node_id.NodeId.TheVariants as node
 use Rattle.hir_pretty.specs.Settings.{setting}

@@ -1,4 +1,4 @@
-use Rattle.std.proofs.Common.{◌≡◌, refl, arith}
+use Rattle.std.proofs.Common.{refl, arith}
 use Rattle.std.proofs.lemmas.Result.{on_ok_weaker}
 use Rattle.hir_pretty.proofs.OpenLemmas.{opens_as}
 use Rattle.hir_pretty.proofs.pats.open_pat.Goals as goal

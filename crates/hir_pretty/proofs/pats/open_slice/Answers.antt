@@ -1,4 +1,4 @@
-use Rattle.std.proofs.Common.{◌≡◌, codes, arith}
+use Rattle.std.proofs.Common.{codes, arith}
 use Rattle.std.proofs.lemmas.Result.{on_ok_weaker}
 use Rattle.hir_pretty.specs.Items.{text}
 use Rattle.hir_pretty.proofs.OpenLemmas.{opens}
