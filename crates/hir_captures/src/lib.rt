@@ -6,6 +6,7 @@ mod closures;
 mod fault;
 mod found;
 mod kids;
+pub mod laws;
 mod tasks;
 mod walk;
 
