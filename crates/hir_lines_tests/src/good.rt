@@ -62,9 +62,19 @@ fn plain_binding(name: Name, hygiene: HygieneId) -> Maker {
 fn bindings_and_the_function(rt: HostRuntime) -> Result<(), Fail> {
     let alloc = rt.alloc();
     let name = Name::new(alloc, "self_1")?;
-    makes(&rt, alloc, b"bind self_1", plain_binding(name, HygieneId::ROOT))?;
+    makes(
+        &rt,
+        alloc,
+        b"bind self_1",
+        plain_binding(name, HygieneId::ROOT),
+    )?;
     let name = Name::new(alloc, "x")?;
-    makes(&rt, alloc, b"bind x 4294967295", plain_binding(name, expanded(4294967295)))?;
+    makes(
+        &rt,
+        alloc,
+        b"bind x 4294967295",
+        plain_binding(name, expanded(4294967295)),
+    )?;
     let made = Name::new(alloc, "_")?;
     makes(&rt, alloc, b"fn _", Maker::FnName(made))
 }
