@@ -1,6 +1,6 @@
 -- What a closure's code asks for is asked for in the chains of what is reached, so by one chain of each the captures are one list.
-use Rattle.std.proofs.Common.{◌≡◌, ℕ, ◌<◌, zero, suc, List, [], ◌∷◌, ◌++◌, Option, Some, None, map, length, refl, sym, ap, ◌∙◌, subst, arith, Contains}
-use Rattle.std.specs.Prelude.{◌-◌, fold}
+use Rattle.std.proofs.Common.{◌≡◌, ℕ, ◌<◌, zero, suc, List, [], ◌∷◌, ◌++◌, Option, Some, None, length, refl, sym, ap, ◌∙◌, subst, arith, Contains}
+use Rattle.std.specs.Prelude.{◌-◌}
 use Rattle.std.specs.List.{flat_map, filter_map, slice_get}
 use Rattle.std.proofs.lemmas.List.Sorted.{IsPermutation-sym, Contains-permutation}
 use Rattle.hir_base.specs.declared.hygiene.SyntaxContext.{SyntaxContext}
@@ -11,7 +11,7 @@ use Rattle.hir_node.specs.declared.pat.Pat.{Pat}
 use Rattle.hir_node.specs.declared.pat.Pat.TheVariants as pat
 use Rattle.hir_node.specs.declared.node_id.NodeId.{NodeId}
 use Rattle.hir_node.specs.declared.node_id.NodeId.TheVariants as node
-use Rattle.hir_faults.specs.Nodes.{Nodes, Has, kids_of}
+use Rattle.hir_faults.specs.Nodes.{kids_of}
 use Rattle.hir_faults.specs.Down.{KidsFall, rank}
 use Rattle.hir_faults.proofs.DownLemmas.{parent_there}
 use Rattle.hir_expr_store.specs.Contents.{Contents}
@@ -23,7 +23,7 @@ use Rattle.hir_scope.specs.Frames.{Chain}
 use Rattle.hir_scope.specs.Slots.{Base, Here, Const, Slot, slots}
 use Rattle.hir_scope.proofs.SlotLemmas.{kids_in, slots_kids}
 use Rattle.hir_captures.specs.Captures.{meant_behind, captured, each_once, AreCaptures}
-use Rattle.hir_captures.specs.Uses.{Spot, spot, Use, use_of, if_assignment, assignment_at, of_pattern, in_code, kid_code, code_under, asked_name, expr_uses, pat_uses, uses_at, spot_uses, uses_in}
+use Rattle.hir_captures.specs.Uses.{Spot, Use, use_of, if_assignment, assignment_at, of_pattern, in_code, kid_code, code_under, asked_name, expr_uses, pat_uses, uses_at, spot_uses, uses_in}
 use Rattle.hir_captures.proofs.CodeLemmas.{code_at}
 
 module _ (c : Contents) (fall : KidsFall c.nodes) (Is : NodeId → Type 0) (down : (n k : NodeId) → Is n → Contains (kids_of c.nodes n) k → Is k) where
