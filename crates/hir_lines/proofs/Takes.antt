@@ -1,15 +1,18 @@
 -- What each take accepts, and that what it reads is written so.
 use Rattle.std.proofs.Common.{◌≡◌, ℕ, List, [], ◌∷◌, Option, None, Some, refl, sym, ◌∙◌}
+use Rattle.std.specs.List.{AllZip}
 use Rattle.std.specs.Prelude.{ℤ}
 use Rattle.std.specs.Option.{option_map, option_and_then}
+use Rattle.hir_base.specs.declared.hygiene.SyntaxContext.{SyntaxContext}
+use Rattle.hir_base.specs.declared.hygiene.SyntaxContext.TheVariants.{Expansion}
 use Rattle.hir_base.specs.declared.operators.BinaryOp.{BinaryOp}
 use Rattle.hir_path.specs.declared.path.Path.{Path}
 use Rattle.hir_lines.specs.Numerals.{number_of, int_of}
 use Rattle.hir_lines.specs.Names.{name_of}
 use Rattle.hir_lines.specs.Operators.{op_of}
 use Rattle.hir_lines.specs.Readings.{Reading, ◌>>=◌, gives}
-use Rattle.hir_lines.specs.Words.{number, optional, list, name, path, plain, int, op, optional_of, list_of}
-use Rattle.hir_lines.specs.Tokens.{Token, Name, Number, Optional, Numbers, Integer, Operator}
+use Rattle.hir_lines.specs.Words.{number, optional, list, name, path, plain, int, op, of_source, expansion, hygiene, optional_of, list_of}
+use Rattle.hir_lines.specs.Tokens.{Token, Name, Number, Optional, Numbers, Integer, Operator, IsWord}
 use Rattle.hir_lines.proofs.Forms.{Accepts, accept_first, accept_end, Sound, sound_first, sound_end}
 use Rattle.hir_lines.proofs.Spellings.{number_reads, number_spells, optional_reads, optional_spells, list_reads, list_spells, name_reads, name_spells, op_reads, op_spells}
 use Rattle.hir_lines.proofs.Signs.{int_reads, int_spells}
@@ -45,7 +48,35 @@ path_is_name {Y} next (word ∷ words) = by_word (name_of word) where
 pub accept_path : {Y : Type 0} {text : List ℕ} {y : Y} {tokens : List Token} (next : Path → Reading Y) → Accepts tokens (next (plain text)) y → Accepts (Name text ∷ tokens) (path >>= next) y
 accept_path next rest = record { reads = λ words h. path_is_name next words ∙ (accept_name (λ text. next (plain text)) rest).reads words h }
 
-pub ruleset accepting = (accept_end, accept_number, accept_optional, accept_list, accept_name, accept_path, accept_int, accept_op)
+-- a macro expansion is read as its number
+expansion_is_number : {Y : Type 0} (next : SyntaxContext → Reading Y) (words : List (List ℕ)) → (expansion >>= next) words ≡ (number >>= λ n. next (Expansion n)) words
+expansion_is_number next [] = refl
+expansion_is_number {Y} next (word ∷ words) = by_word (number_of word) where
+  by_word : (found : Option ℕ) →
+      option_and_then (λ (f : SyntaxContext × List (List ℕ)). next f.0 f.1) (option_and_then (λ (f : ℕ × List (List ℕ)). gives (Expansion f.0) f.1) (option_map (λ x. (x, words)) found))
+      ≡ option_and_then (λ (f : ℕ × List (List ℕ)). next (Expansion f.0) f.1) (option_map (λ x. (x, words)) found)
+  by_word None = refl
+  by_word (Some n) = refl
+
+pub accept_expansion : {Y : Type 0} {n : ℕ} {y : Y} {tokens : List Token} (next : SyntaxContext → Reading Y) → Accepts tokens (next (Expansion n)) y → Accepts (Number n ∷ tokens) (expansion >>= next) y
+accept_expansion next rest = record { reads = λ words h. expansion_is_number next words ∙ (accept_number (λ n. next (Expansion n)) rest).reads words h }
+
+source_read : {Y : Type 0} {y : Y} (next : SyntaxContext → Reading Y) → Accepts [] (next of_source) y → (words : List (List ℕ)) → AllZip IsWord [] words → (hygiene >>= next) words ≡ Some (y, [])
+source_read next rest [] h = rest.reads [] h
+source_read next rest (word ∷ words) h = absurd h
+
+pub accept_source : {Y : Type 0} {y : Y} (next : SyntaxContext → Reading Y) → Accepts [] (next of_source) y → Accepts [] (hygiene >>= next) y
+accept_source next rest = record { reads = source_read next rest }
+
+expanded_read : {Y : Type 0} {n : ℕ} {y : Y} {tokens : List Token} (next : SyntaxContext → Reading Y) → Accepts tokens (next (Expansion n)) y →
+    (words : List (List ℕ)) → AllZip IsWord (Number n ∷ tokens) words → (hygiene >>= next) words ≡ Some (y, [])
+expanded_read next rest [] h = absurd h
+expanded_read next rest (word ∷ words) h = (accept_expansion next rest).reads (word ∷ words) h
+
+pub accept_expanded : {Y : Type 0} {n : ℕ} {y : Y} {tokens : List Token} (next : SyntaxContext → Reading Y) → Accepts tokens (next (Expansion n)) y → Accepts (Number n ∷ tokens) (hygiene >>= next) y
+accept_expanded next rest = record { reads = expanded_read next rest }
+
+pub ruleset accepting = (accept_end, accept_number, accept_optional, accept_list, accept_name, accept_path, accept_int, accept_op, accept_expansion, accept_source, accept_expanded)
 
 pub sound_number : {Y : Type 0} (Is : Y → List Token → Type 0) (next : ℕ → Reading Y) → ((n : ℕ) → Sound (λ y tokens. Is y (Number n ∷ tokens)) (next n)) → Sound Is (number >>= next)
 sound_number Is next = sound_first number_of Number Is next number_spells
@@ -68,4 +99,15 @@ sound_op Is next = sound_first op_of Operator Is next op_spells
 pub sound_path : {Y : Type 0} (Is : Y → List Token → Type 0) (next : Path → Reading Y) → ((text : List ℕ) → Sound (λ y tokens. Is y (Name text ∷ tokens)) (next (plain text))) → Sound Is (path >>= next)
 sound_path Is next rest = record { written = λ words y e. (sound_name Is (λ text. next (plain text)) rest).written words y (sym (path_is_name next words) ∙ e) }
 
-pub ruleset sounding = (sound_end, sound_number, sound_optional, sound_list, sound_name, sound_path, sound_int, sound_op)
+pub sound_expansion : {Y : Type 0} (Is : Y → List Token → Type 0) (next : SyntaxContext → Reading Y) → ((n : ℕ) → Sound (λ y tokens. Is y (Number n ∷ tokens)) (next (Expansion n))) → Sound Is (expansion >>= next)
+sound_expansion Is next rest = record { written = λ words y e. (sound_number Is (λ n. next (Expansion n)) rest).written words y (sym (expansion_is_number next words) ∙ e) }
+
+hygiene_written : {Y : Type 0} (Is : Y → List Token → Type 0) (next : SyntaxContext → Reading Y) → Sound Is (next of_source) → ((n : ℕ) → Sound (λ y tokens. Is y (Number n ∷ tokens)) (next (Expansion n))) →
+    (words : List (List ℕ)) (y : Y) → (hygiene >>= next) words ≡ Some (y, []) → (tokens : List Token) × Is y tokens × AllZip IsWord tokens words
+hygiene_written Is next source rest [] y e = source.written [] y e
+hygiene_written Is next source rest (word ∷ words) y e = (sound_expansion Is next rest).written (word ∷ words) y e
+
+pub sound_hygiene : {Y : Type 0} (Is : Y → List Token → Type 0) (next : SyntaxContext → Reading Y) → Sound Is (next of_source) → ((n : ℕ) → Sound (λ y tokens. Is y (Number n ∷ tokens)) (next (Expansion n))) → Sound Is (hygiene >>= next)
+sound_hygiene Is next source rest = record { written = hygiene_written Is next source rest }
+
+pub ruleset sounding = (sound_end, sound_number, sound_optional, sound_list, sound_name, sound_path, sound_int, sound_op, sound_expansion, sound_hygiene)

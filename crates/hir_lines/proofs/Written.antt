@@ -14,17 +14,17 @@ use Rattle.hir_lines.specs.declared.line.Maker.{Maker}
 use Rattle.hir_lines.specs.declared.line.Maker.TheVariants.{Pat as MakePat, «Type» as MakeType, Expr as MakeExpr, Roots}
 use Rattle.hir_lines.specs.declared.line.Question.{Question}
 use Rattle.hir_lines.specs.declared.line.Question.TheVariants.{OfBody}
-use Rattle.hir_lines.specs.Readings.{gives, whole, parts_of}
+use Rattle.hir_lines.specs.Readings.{Reading, ◌>>=◌, gives, whole, parts_of}
 use Rattle.hir_lines.specs.Words.{one_of}
 use Rattle.hir_lines.specs.Pats.{pat}
 use Rattle.hir_lines.specs.Types.{type_ref}
 use Rattle.hir_lines.specs.Exprs.{expr}
-use Rattle.hir_lines.specs.Line.{line_of, or_bad, command, line_forms, bind_line, pat_line, type_line, expr_line, self_line, param_line, fn_line, root_line, children_line, root_of_line, chain_line, resolve, resolve_line}
+use Rattle.hir_lines.specs.Line.{line_of, or_bad, command, line_forms, bind, bind_line, pat_line, type_line, expr_line, expr_hygiene, hygiene_line, pat_hygiene, pat_hygiene_line, self_line, param_line, fn_line, root_line, children_line, root_of_line, chain_line, resolve, resolve_line, captures_line}
 use Rattle.hir_lines.specs.Tokens.{Token, Word, Arm, Stmt, IsWord, IsText}
 use Rattle.hir_lines.specs.PatGrammar.{IsPat, wild}
 use Rattle.hir_lines.specs.TypeGrammar.{IsType, never}
 use Rattle.hir_lines.specs.ExprGrammar.{IsExpr, match_expr, block}
-use Rattle.hir_lines.specs.Grammar.{IsMaker, bind, pat as by_pat, type_ref as by_type, expr as by_expr, self_param, param, fn_name, roots, root, IsQuestion, children, root_of, chain, resolve as by_resolve, IsLine}
+use Rattle.hir_lines.specs.Grammar.{IsMaker, bind as by_bind, bind_expanded, pat as by_pat, type_ref as by_type, expr as by_expr, expr_hygiene as by_expr_hygiene, pat_hygiene as by_pat_hygiene, self_param, param, fn_name, roots, root, IsQuestion, children, root_of, chain, resolve as by_resolve, resolve_expanded, captures, IsLine}
 use Rattle.hir_lines.proofs.Expressions.{accepts_expr, sound_expr}
 use Rattle.hir_lines.proofs.Forms.{Accepts, accept_head, accept_inner, whole_read, whole_found, Sound, sound_one_of, sound_inner, AllSound, no_form, form}
 use Rattle.hir_lines.proofs.Patterns.{accepts_pat, sound_pat}
@@ -41,10 +41,13 @@ IsCommand (Ask question) tokens = IsQuestion question tokens
 IsCommand Bad tokens = ⊥
 
 accepts_maker : {m : Maker} {tokens : List Token} → IsMaker m tokens → Accepts tokens (one_of line_forms) (Make m)
-accepts_maker bind = accept_head line_forms _ bind_line refl refl (search accepting)
+accepts_maker by_bind = accept_head line_forms _ bind_line refl refl (accept_inner bind _ _ (λ made. Make made) (search accepting))
+accepts_maker bind_expanded = accept_head line_forms _ bind_line refl refl (accept_inner bind _ _ (λ made. Make made) (search accepting))
 accepts_maker (by_pat is) = accept_head line_forms _ pat_line refl refl (accept_inner pat _ _ (λ made. Make (MakePat made)) (accepts_pat is))
 accepts_maker (by_type is) = accept_head line_forms _ type_line refl refl (accept_inner type_ref _ _ (λ made. Make (MakeType made)) (accepts_type is))
 accepts_maker (by_expr is) = accept_head line_forms _ expr_line refl refl (accept_inner expr _ _ (λ made. Make (MakeExpr made)) (accepts_expr is))
+accepts_maker by_expr_hygiene = accept_head line_forms _ hygiene_line refl refl (accept_inner expr_hygiene _ _ (λ made. Make made) (search accepting))
+accepts_maker by_pat_hygiene = accept_head line_forms _ pat_hygiene_line refl refl (accept_inner pat_hygiene _ _ (λ made. Make made) (search accepting))
 accepts_maker self_param = accept_head line_forms _ self_line refl refl (search accepting)
 accepts_maker param = accept_head line_forms _ param_line refl refl (search accepting)
 accepts_maker fn_name = accept_head line_forms _ fn_line refl refl (search accepting)
@@ -56,8 +59,23 @@ accepts_question children = accept_head line_forms _ children_line refl refl (se
 accepts_question root_of = accept_head line_forms _ root_of_line refl refl (search accepting)
 accepts_question chain = accept_head line_forms _ chain_line refl refl (search accepting)
 accepts_question by_resolve = accept_head line_forms _ resolve_line refl refl (accept_inner resolve _ _ (λ question. Ask (OfBody question)) (search accepting))
+accepts_question resolve_expanded = accept_head line_forms _ resolve_line refl refl (accept_inner resolve _ _ (λ question. Ask (OfBody question)) (search accepting))
+accepts_question captures = accept_head line_forms _ captures_line refl refl (search accepting)
 
-ruleset written = (sounding, bind, self_param, param, fn_name, roots, root, children, root_of, chain, by_resolve)
+ruleset written = (sounding, by_bind, bind_expanded, by_expr_hygiene, by_pat_hygiene, self_param, param, fn_name, roots, root, children, root_of, chain, by_resolve, resolve_expanded, captures)
+
+-- what makes or asks, of its own words behind their head
+makers_sound : (head : List ℕ) (made : Reading Maker) → Sound (λ maker tokens. IsMaker maker (Word head ∷ tokens)) made → Sound (λ line tokens. IsCommand line (Word head ∷ tokens)) (made >>= λ maker. gives (Make maker))
+makers_sound head made sound = sound_inner (λ maker tokens. IsMaker maker (Word head ∷ tokens)) _ made (λ maker. Make maker) sound (λ maker tokens is. is)
+
+bind_sound : Sound (λ line tokens. IsCommand line (Word (codes "bind") ∷ tokens)) bind_line
+bind_sound = makers_sound (codes "bind") bind (search written)
+
+expr_hygiene_sound : Sound (λ line tokens. IsCommand line (Word (codes "hygiene") ∷ tokens)) hygiene_line
+expr_hygiene_sound = makers_sound (codes "hygiene") expr_hygiene (search written)
+
+pat_hygiene_sound : Sound (λ line tokens. IsCommand line (Word (codes "pat-hygiene") ∷ tokens)) pat_hygiene_line
+pat_hygiene_sound = makers_sound (codes "pat-hygiene") pat_hygiene (search written)
 
 pats_sound : Sound (λ line tokens. IsCommand line (Word (codes "pat") ∷ tokens)) pat_line
 pats_sound = sound_inner IsPat _ pat (λ made. Make (MakePat made)) sound_pat (λ p tokens is. by_pat is)
@@ -72,8 +90,9 @@ exprs_sound : Sound (λ line tokens. IsCommand line (Word (codes "expr") ∷ tok
 exprs_sound = sound_inner IsExpr _ expr (λ made. Make (MakeExpr made)) sound_expr (λ e tokens is. by_expr is)
 
 forms_sound : AllSound IsCommand line_forms
-forms_sound = form (search written) (form pats_sound (form types_sound (form exprs_sound (form (search written) (form (search written)
-    (form (search written) (form (search written) (form (search written) (form (search written) (form (search written) (form (search written) (form resolve_sound no_form))))))))))))
+forms_sound = form bind_sound (form pats_sound (form types_sound (form exprs_sound (form expr_hygiene_sound (form pat_hygiene_sound
+    (form (search written) (form (search written) (form (search written) (form (search written) (form (search written) (form (search written) (form (search written)
+    (form (search written) (form resolve_sound (form (search written) no_form)))))))))))))))
 
 sound_command : Sound IsCommand (one_of line_forms)
 sound_command = sound_one_of IsCommand line_forms forms_sound

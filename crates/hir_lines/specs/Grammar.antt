@@ -1,17 +1,20 @@
 -- The lines as they are written.
 use Rattle.std.specs.Prelude.{◌≡◌, ℕ, List, [], ◌∷◌, codes, ⊤}
+use Rattle.hir_base.specs.declared.hygiene.SyntaxContext.TheVariants.{Expansion}
+use Rattle.hir_path.specs.declared.ids.ExprOrPatId.TheVariants.{ExprId, PatId}
 use Rattle.hir_node.specs.declared.expr.Expr.{Expr}
 use Rattle.hir_node.specs.declared.pat.Pat.{Pat}
 use Rattle.hir_node.specs.declared.type_ref.TypeRef.{TypeRef}
 use Rattle.hir_lines.specs.declared.line.Line.{Line}
 use Rattle.hir_lines.specs.declared.line.Line.TheVariants.{Blank, Make, Ask, Bad}
 use Rattle.hir_lines.specs.declared.line.Maker.{Maker}
-use Rattle.hir_lines.specs.declared.line.Maker.TheVariants.{Binding, Pat as MakePat, «Type» as MakeType, Expr as MakeExpr, SelfParam, Param, FnName, Roots, Root}
+use Rattle.hir_lines.specs.declared.line.Maker.TheVariants.{Binding, Pat as MakePat, «Type» as MakeType, Expr as MakeExpr, Hygiene, SelfParam, Param, FnName, Roots, Root}
 use Rattle.hir_lines.specs.declared.line.Question.{Question}
 use Rattle.hir_lines.specs.declared.line.Question.TheVariants.{OfStore, OfBody}
 use Rattle.hir_lines.specs.declared.line.StoreQuestion.TheVariants.{Children, RootOf}
-use Rattle.hir_lines.specs.declared.line.BodyQuestion.TheVariants.{Chain, Resolve}
+use Rattle.hir_lines.specs.declared.line.BodyQuestion.TheVariants.{Chain, Resolve, Captures}
 use Rattle.hir_lines.specs.Line.{plain_binding}
+use Rattle.hir_lines.specs.Words.{of_source}
 use Rattle.hir_lines.specs.Tokens.{Token, Word, Name, Number, IsText}
 use Rattle.hir_lines.specs.PatGrammar.{IsPat}
 use Rattle.hir_lines.specs.TypeGrammar.{IsType}
@@ -19,12 +22,22 @@ use Rattle.hir_lines.specs.ExprGrammar.{IsExpr}
 
 -- the words of a line that makes something
 pub data IsMaker : Maker → List Token → Type 0 where
-  bind : {name : List ℕ} → IsMaker (Binding (plain_binding name)) (Word (codes "bind") ∷ Name name ∷ [])
+  bind : {name : List ℕ} →
+      IsMaker (Binding (plain_binding name of_source)) (Word (codes "bind") ∷ Name name ∷ [])
+  bind_expanded : {name : List ℕ} {expansion : ℕ} →
+      IsMaker (Binding (plain_binding name (Expansion expansion)))
+      (Word (codes "bind") ∷ Name name ∷ Number expansion ∷ [])
   pat : {p : Pat} {tokens : List Token} → IsPat p tokens → IsMaker (MakePat p) (Word (codes "pat") ∷ tokens)
   type_ref : {t : TypeRef} {tokens : List Token} → IsType t tokens →
       IsMaker (MakeType t) (Word (codes "type") ∷ tokens)
   expr : {e : Expr} {tokens : List Token} → IsExpr e tokens →
       IsMaker (MakeExpr e) (Word (codes "expr") ∷ tokens)
+  expr_hygiene : {expr expansion : ℕ} →
+      IsMaker (Hygiene (ExprId expr) (Expansion expansion))
+      (Word (codes "hygiene") ∷ Number expr ∷ Number expansion ∷ [])
+  pat_hygiene : {pat expansion : ℕ} →
+      IsMaker (Hygiene (PatId pat) (Expansion expansion))
+      (Word (codes "pat-hygiene") ∷ Number pat ∷ Number expansion ∷ [])
   self_param : {binding : ℕ} → IsMaker (SelfParam binding) (Word (codes "self") ∷ Number binding ∷ [])
   param : {pat : ℕ} → IsMaker (Param pat) (Word (codes "param") ∷ Number pat ∷ [])
   fn_name : {name : List ℕ} → IsMaker (FnName name) (Word (codes "fn") ∷ Name name ∷ [])
@@ -37,7 +50,11 @@ pub data IsQuestion : Question → List Token → Type 0 where
   root_of : {expr : ℕ} → IsQuestion (OfStore (RootOf expr)) (Word (codes "root-of") ∷ Number expr ∷ [])
   chain : {expr : ℕ} → IsQuestion (OfBody (Chain expr)) (Word (codes "chain") ∷ Number expr ∷ [])
   resolve : {expr : ℕ} {name : List ℕ} →
-      IsQuestion (OfBody (Resolve expr name)) (Word (codes "resolve") ∷ Number expr ∷ Name name ∷ [])
+      IsQuestion (OfBody (Resolve expr name of_source)) (Word (codes "resolve") ∷ Number expr ∷ Name name ∷ [])
+  resolve_expanded : {expr : ℕ} {name : List ℕ} {expansion : ℕ} →
+      IsQuestion (OfBody (Resolve expr name (Expansion expansion)))
+      (Word (codes "resolve") ∷ Number expr ∷ Name name ∷ Number expansion ∷ [])
+  captures : {expr : ℕ} → IsQuestion (OfBody (Captures expr)) (Word (codes "captures") ∷ Number expr ∷ [])
 
 -- how each line is written; a bad line is any text
 abbrev pub IsLine : Line → List ℕ → Type 0

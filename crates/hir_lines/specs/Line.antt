@@ -1,31 +1,38 @@
 -- What a line says, by its words.
 use Rattle.std.specs.Prelude.{ℕ, List, [], ◌∷◌, Option, None, Some, codes}
-use Rattle.hir_base.specs.declared.edition.Edition.TheVariants.{Edition2015}
-use Rattle.hir_base.specs.declared.hygiene.SyntaxContext.TheVariants.{Root as OfSource}
+use Rattle.hir_base.specs.declared.hygiene.SyntaxContext.{SyntaxContext}
+use Rattle.hir_path.specs.declared.ids.ExprOrPatId.TheVariants.{ExprId, PatId}
 use Rattle.hir_node.specs.declared.binding.Binding.{Binding}
 use Rattle.hir_node.specs.declared.binding.BindingAnnotation.TheVariants.{Unannotated}
 use Rattle.hir_lines.specs.declared.line.Line.{Line}
 use Rattle.hir_lines.specs.declared.line.Line.TheVariants.{Blank, Make, Ask, Bad}
-use Rattle.hir_lines.specs.declared.line.Maker.TheVariants.{Binding as MakeBinding, Pat as MakePat, «Type» as MakeType, Expr as MakeExpr, SelfParam, Param, FnName, Roots, Root}
+use Rattle.hir_lines.specs.declared.line.Maker.{Maker}
+use Rattle.hir_lines.specs.declared.line.Maker.TheVariants.{Binding as MakeBinding, Pat as MakePat, «Type» as MakeType, Expr as MakeExpr, Hygiene, SelfParam, Param, FnName, Roots, Root}
 use Rattle.hir_lines.specs.declared.line.Question.TheVariants.{OfStore, OfBody}
 use Rattle.hir_lines.specs.declared.line.StoreQuestion.TheVariants.{Children, RootOf}
 use Rattle.hir_lines.specs.declared.line.BodyQuestion.{BodyQuestion}
-use Rattle.hir_lines.specs.declared.line.BodyQuestion.TheVariants.{Chain, Resolve}
+use Rattle.hir_lines.specs.declared.line.BodyQuestion.TheVariants.{Chain, Resolve, Captures}
 use Rattle.hir_lines.specs.Readings.{Reading, ◌>>=◌, gives, whole, parts_of, space}
-use Rattle.hir_lines.specs.Words.{number, name, one_of}
+use Rattle.hir_lines.specs.Words.{number, name, expansion, hygiene, one_of}
 use Rattle.hir_lines.specs.Pats.{pat}
 use Rattle.hir_lines.specs.Types.{type_ref}
 use Rattle.hir_lines.specs.Exprs.{expr}
 
--- a binding of source text, with no word before its name
-abbrev pub plain_binding : List ℕ → Binding
-plain_binding text =
-    record { name = text; mode = Unannotated; problems = None; hygiene = OfSource Edition2015 }
+-- a binding with no word before its name
+abbrev pub plain_binding : List ℕ → SyntaxContext → Binding
+plain_binding text context =
+    record { name = text; mode = Unannotated; problems = None; hygiene = context }
+
+abbrev pub bind : Reading Maker
+bind = do
+  text ← name
+  context ← hygiene
+  gives (MakeBinding (plain_binding text context))
 
 abbrev pub bind_line : Reading Line
 bind_line = do
-  text ← name
-  gives (Make (MakeBinding (plain_binding text)))
+  made ← bind
+  gives (Make made)
 
 abbrev pub pat_line : Reading Line
 pat_line = do
@@ -41,6 +48,30 @@ abbrev pub expr_line : Reading Line
 expr_line = do
   made ← expr
   gives (Make (MakeExpr made))
+
+-- the hygiene of the path that an expression is
+abbrev pub expr_hygiene : Reading Maker
+expr_hygiene = do
+  id ← number
+  context ← expansion
+  gives (Hygiene (ExprId id) context)
+
+abbrev pub hygiene_line : Reading Line
+hygiene_line = do
+  made ← expr_hygiene
+  gives (Make made)
+
+-- the hygiene of the path that a pattern is
+abbrev pub pat_hygiene : Reading Maker
+pat_hygiene = do
+  id ← number
+  context ← expansion
+  gives (Hygiene (PatId id) context)
+
+abbrev pub pat_hygiene_line : Reading Line
+pat_hygiene_line = do
+  made ← pat_hygiene
+  gives (Make made)
 
 abbrev pub self_line : Reading Line
 self_line = do
@@ -82,12 +113,18 @@ abbrev pub resolve : Reading BodyQuestion
 resolve = do
   id ← number
   text ← name
-  gives (Resolve id text)
+  context ← hygiene
+  gives (Resolve id text context)
 
 abbrev pub resolve_line : Reading Line
 resolve_line = do
   question ← resolve
   gives (Ask (OfBody question))
+
+abbrev pub captures_line : Reading Line
+captures_line = do
+  id ← number
+  gives (Ask (OfBody (Captures id)))
 
 abbrev pub line_forms : List (List ℕ × Reading Line)
 line_forms =
@@ -95,6 +132,8 @@ line_forms =
     ∷ (codes "pat", pat_line)
     ∷ (codes "type", type_line)
     ∷ (codes "expr", expr_line)
+    ∷ (codes "hygiene", hygiene_line)
+    ∷ (codes "pat-hygiene", pat_hygiene_line)
     ∷ (codes "self", self_line)
     ∷ (codes "param", param_line)
     ∷ (codes "fn", fn_line)
@@ -104,6 +143,7 @@ line_forms =
     ∷ (codes "root-of", root_of_line)
     ∷ (codes "chain", chain_line)
     ∷ (codes "resolve", resolve_line)
+    ∷ (codes "captures", captures_line)
     ∷ []
 
 -- the words of a line that isn't empty

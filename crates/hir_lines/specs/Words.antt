@@ -2,6 +2,9 @@
 use Rattle.std.specs.Prelude.{ℕ, ℤ, if◌then◌else◌, List, [], ◌∷◌, Option, None, Some, codes}
 use Rattle.std.specs.Option.{option_map}
 use Rattle.std.specs.Str.{bytes_eq}
+use Rattle.hir_base.specs.declared.edition.Edition.TheVariants.{Edition2015}
+use Rattle.hir_base.specs.declared.hygiene.SyntaxContext.{SyntaxContext}
+use Rattle.hir_base.specs.declared.hygiene.SyntaxContext.TheVariants.{Root as OfSource, Expansion}
 use Rattle.hir_base.specs.declared.operators.BinaryOp.{BinaryOp}
 use Rattle.hir_base.specs.declared.mod_path.PathKind.TheVariants.{Plain}
 use Rattle.hir_path.specs.declared.path.Path.{Path}
@@ -45,6 +48,21 @@ int = first_word int_of
 
 abbrev pub op : Reading BinaryOp
 op = first_word op_of
+
+-- the hygiene of source text
+abbrev pub of_source : SyntaxContext
+of_source = OfSource Edition2015
+
+-- the hygiene of the macro expansion with this number
+abbrev pub expansion : Reading SyntaxContext
+expansion = do
+  n ← number
+  gives (Expansion n)
+
+-- where no word is left, the hygiene of source text
+abbrev pub hygiene : Reading SyntaxContext
+hygiene [] = gives of_source []
+hygiene (word ∷ words) = expansion (word ∷ words)
 
 -- the reading, where there is one
 abbrev pub by : {X : Type 0} → Option (Reading X) → Reading X

@@ -1,8 +1,8 @@
 //! What a line says.
 ghost use Rattle.hir_base.specs.Exact.{exact};
 
-use hir_base::{ExactEq, Name};
-use hir_node::{Binding, BindingId, Expr, ExprId, Pat, PatId, TypeRef};
+use hir_base::{ExactEq, HygieneId, Name};
+use hir_node::{Binding, BindingId, Expr, ExprId, ExprOrPatId, Pat, PatId, TypeRef};
 
 /// A line that makes something.
 #[derive(Drop, PartialEq, Eq)]
@@ -15,6 +15,8 @@ pub enum Maker {
     Type(TypeRef),
     /// `expr ..`: the expression.
     Expr(Expr),
+    /// `hygiene E N`, `pat-hygiene P N`: the hygiene of the path that the expression or the pattern is.
+    Hygiene(ExprOrPatId, HygieneId),
     /// `self B`: the self parameter, by its binding.
     SelfParam(BindingId),
     /// `param P`: the next parameter, by its pattern.
@@ -51,12 +53,16 @@ impl ExactEq for StoreQuestion {
 pub enum BodyQuestion {
     /// `chain E`: the names that the expression sees, innermost first.
     Chain(ExprId),
-    /// `resolve E NAME`: the binding that the name means at the expression.
-    Resolve(ExprId, Name),
+    /// `resolve E NAME`, `resolve E NAME N`: the binding that the name of this hygiene means at the expression.
+    Resolve(ExprId, Name, HygieneId),
+    /// `captures E`: the bindings that the closure captures.
+    Captures(ExprId),
 }
 
 impl ExactEq for BodyQuestion {
-    ghost eq_decides = { Prim.search exact };
+    ghost use Rattle.hir_lines.specs.same.SameLines.{body_questions_decide};
+
+    ghost eq_decides = { body_questions_decide };
 }
 
 /// A line that asks something.
@@ -67,7 +73,9 @@ pub enum Question {
 }
 
 impl ExactEq for Question {
-    ghost eq_decides = { Prim.search exact };
+    ghost use Rattle.hir_lines.specs.same.SameLines.{questions_decide};
+
+    ghost eq_decides = { questions_decide };
 }
 
 /// What a line says.

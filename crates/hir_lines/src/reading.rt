@@ -2,7 +2,7 @@
 
 ghost use Rattle.std.specs.Prelude.{◌≡◌, ◌≢◌, IfOk};
 ghost use Rattle.hir_lines.specs.Grammar.{IsLine};
-ghost use Rattle.hir_lines.specs.Line.{line_of, plain_binding, resolve, command};
+ghost use Rattle.hir_lines.specs.Line.{line_of, plain_binding, bind, expr_hygiene, pat_hygiene, resolve, command};
 ghost use Rattle.hir_lines.specs.Readings.{Reads, Found, parts_of, space, whole};
 
 use crate::exprs::expr;
@@ -12,19 +12,44 @@ use crate::stop::Stop;
 use crate::types::type_ref;
 use crate::words::Words;
 use hir_base::{HygieneId, Name};
-use hir_node::{Binding, BindingAnnotation};
+use hir_node::{Binding, BindingAnnotation, ExprOrPatId};
 use std::alloc::{AllocError, Global};
 
-/// A binding of source text, with no word before its name.
-fn plain_binding(name: Name) -> Binding
-    ensures { result ≡ plain_binding name }
+/// A binding with no word before its name.
+fn plain_binding(name: Name, hygiene: HygieneId) -> Binding
+    ensures { result ≡ plain_binding name hygiene }
 {
     Binding {
         name,
         mode: BindingAnnotation::Unannotated,
         problems: None,
-        hygiene: HygieneId::ROOT,
+        hygiene,
     }
+}
+
+/// A binding.
+fn bind(alloc: Global, words: &mut Words<'_>) -> Result<Maker, Stop>
+    ensures { Reads bind words.old result words.new }
+{
+    let name = words.name(alloc)?;
+    let hygiene = words.hygiene()?;
+    Ok(Maker::Binding(plain_binding(name, hygiene)))
+}
+
+/// The hygiene of the path that an expression is.
+fn expr_hygiene(words: &mut Words<'_>) -> Result<Maker, Stop>
+    ensures { Reads expr_hygiene words.old result words.new }
+{
+    let id = ExprOrPatId::ExprId(words.id()?);
+    Ok(Maker::Hygiene(id, words.expansion()?))
+}
+
+/// The hygiene of the path that a pattern is.
+fn pat_hygiene(words: &mut Words<'_>) -> Result<Maker, Stop>
+    ensures { Reads pat_hygiene words.old result words.new }
+{
+    let id = ExprOrPatId::PatId(words.id()?);
+    Ok(Maker::Hygiene(id, words.expansion()?))
 }
 
 /// The question what a name means at an expression.
@@ -32,7 +57,9 @@ fn resolve(alloc: Global, words: &mut Words<'_>) -> Result<BodyQuestion, Stop>
     ensures { Reads resolve words.old result words.new }
 {
     let expr = words.id()?;
-    Ok(BodyQuestion::Resolve(expr, words.name(alloc)?))
+    let name = words.name(alloc)?;
+    let hygiene = words.hygiene()?;
+    Ok(BodyQuestion::Resolve(expr, name, hygiene))
 }
 
 /// What the words of a line say.
@@ -41,10 +68,12 @@ fn command(alloc: Global, words: &mut Words<'_>) -> Result<Line, Stop>
     ensures { Reads command words.old result words.new }
 {
     match words.keyword()? {
-        "bind" => Ok(Line::Make(Maker::Binding(plain_binding(words.name(alloc)?)))),
+        "bind" => Ok(Line::Make(bind(alloc, words)?)),
         "pat" => Ok(Line::Make(Maker::Pat(pat(alloc, words)?))),
         "type" => Ok(Line::Make(Maker::Type(type_ref(alloc, words)?))),
         "expr" => Ok(Line::Make(Maker::Expr(expr(alloc, words)?))),
+        "hygiene" => Ok(Line::Make(expr_hygiene(words)?)),
+        "pat-hygiene" => Ok(Line::Make(pat_hygiene(words)?)),
         "self" => Ok(Line::Make(Maker::SelfParam(words.id()?))),
         "param" => Ok(Line::Make(Maker::Param(words.id()?))),
         "fn" => Ok(Line::Make(Maker::FnName(words.name(alloc)?))),
@@ -54,6 +83,7 @@ fn command(alloc: Global, words: &mut Words<'_>) -> Result<Line, Stop>
         "root-of" => Ok(Line::Ask(Question::OfStore(StoreQuestion::RootOf(words.id()?)))),
         "chain" => Ok(Line::Ask(Question::OfBody(BodyQuestion::Chain(words.id()?)))),
         "resolve" => Ok(Line::Ask(Question::OfBody(resolve(alloc, words)?))),
+        "captures" => Ok(Line::Ask(Question::OfBody(BodyQuestion::Captures(words.id()?)))),
         _ => Err(Stop::Bad),
     }
 }

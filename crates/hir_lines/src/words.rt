@@ -3,13 +3,13 @@
 ghost use Rattle.std.specs.Prelude.{None, Some, ◌≡◌, ◌∷◌, [], MatchResult, IsTrue, ◌↔◌, position, false};
 ghost use Rattle.hir_lines.specs.Numerals.{is_digit};
 ghost use Rattle.hir_lines.specs.Readings.{parts_of, parts_left, is_byte, alone, Found, Reads, first_word, each};
-ghost use Rattle.hir_lines.specs.Words.{number, optional, list, keyword, name, path, int, op};
+ghost use Rattle.hir_lines.specs.Words.{number, optional, list, keyword, name, path, int, op, expansion, hygiene};
 
 use crate::names::{ascii as ascii_text, name as name_text};
 use crate::numerals::{first_number, int as int_text, number as number_text};
 use crate::operators::op as op_text;
 use crate::stop::Stop;
-use hir_base::{BinaryOp, Idx, Name, Seq};
+use hir_base::{BinaryOp, HygieneId, Idx, Name, Seq, SyntaxContext};
 use hir_node::Path;
 use std::alloc::Global;
 use std::marker::Model;
@@ -169,6 +169,23 @@ impl<'a> Words<'a> {
             Some(op) => Ok(op),
             None => Err(Stop::Bad),
         }
+    }
+
+    /// Takes the next word, if it is the number of a macro expansion: the hygiene of that expansion.
+    pub fn expansion(&mut self) -> Result<HygieneId, Stop>
+        ensures { Reads expansion self.old result self.new }
+    {
+        Ok(HygieneId::new(SyntaxContext::Expansion(self.number()?)))
+    }
+
+    /// Takes the next word, if it is the number of a macro expansion; where no word is left, the hygiene is that of source text.
+    pub fn hygiene(&mut self) -> Result<HygieneId, Stop>
+        ensures { Reads hygiene self.old result self.new }
+    {
+        if self.is_empty() {
+            return Ok(HygieneId::ROOT);
+        }
+        self.expansion()
     }
 
     /// The value, if no word is left.

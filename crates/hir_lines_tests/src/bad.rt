@@ -98,7 +98,7 @@ fn lists_options_and_arms_have_their_parts(rt: HostRuntime) -> Result<(), Fail> 
     all_bad(&rt, rt.alloc(), &LISTS)
 }
 
-const NAMES: [&[u8]; 28] = [
+const NAMES: [&[u8]; 27] = [
     // Names are letters digits and underscores.
     b"bind",
     b"bind ",
@@ -107,7 +107,6 @@ const NAMES: [&[u8]; 28] = [
     b"bind x.y",
     b"bind \xc3\xa9",
     b"bind x\xff",
-    b"bind x 1",
     b"fn",
     b"fn a b",
     b"type path a::b",
@@ -179,7 +178,7 @@ fn operators_and_statements_have_their_forms(rt: HostRuntime) -> Result<(), Fail
     all_bad(&rt, rt.alloc(), &OPERATORS)
 }
 
-const FORMS: [&[u8]; 41] = [
+const FORMS: [&[u8]; 36] = [
     // Forms have their words alone.
     b"Roots",
     b"root0",
@@ -217,15 +216,45 @@ const FORMS: [&[u8]; 41] = [
     b"resolve 0",
     b"resolve x 0",
     b"resolve 0 1x",
-    b"resolve 0 x 1",
-    // No other lines are known.
-    b"print",
-    b"captures 0",
-    b"hygiene 0 0",
-    b"pat-hygiene 0 0",
 ];
 
 #[test]
 fn lines_have_the_words_of_their_form(rt: HostRuntime) -> Result<(), Fail> {
     all_bad(&rt, rt.alloc(), &FORMS)
+}
+
+const HYGIENES: [&[u8]; 26] = [
+    // The hygiene of a name is the number of an expansion.
+    b"bind x ",
+    b"bind x -",
+    b"bind x 01",
+    b"bind x y",
+    b"bind x 4294967296",
+    b"bind x 1 2",
+    b"bind x  1",
+    b"resolve 0 x ",
+    b"resolve 0 x -",
+    b"resolve 0 x y",
+    b"resolve 0 x 1 2",
+    b"resolve 0 x 4294967296",
+    b"hygiene",
+    b"hygiene 0",
+    b"hygiene 0 ",
+    b"hygiene 0 -",
+    b"hygiene 0 0 0",
+    b"hygiene - 0",
+    b"pat-hygiene 0",
+    b"pat-hygiene 0 x",
+    b"pat_hygiene 0 0",
+    // No other lines are known.
+    b"print",
+    b"captures",
+    b"captures -",
+    b"captures 0 0",
+    b"captures x",
+];
+
+#[test]
+fn hygienes_are_numbers_of_expansions(rt: HostRuntime) -> Result<(), Fail> {
+    all_bad(&rt, rt.alloc(), &HYGIENES)
 }

@@ -1,9 +1,11 @@
 //! What each form of a line makes or asks, but for expressions.
 
 use crate::says::{id, list, makes, path, says};
-use hir_base::{HygieneId, Name, RangeOp, Seq};
+use hir_base::{HygieneId, Name, RangeOp, Seq, SyntaxContext};
 use hir_lines::{BodyQuestion, Line, Maker, Question, StoreQuestion};
-use hir_node::{ArrayType, Binding, BindingAnnotation, ConstRef, ExprId, Pat, PatId, TypeRef};
+use hir_node::{
+    ArrayType, Binding, BindingAnnotation, ConstRef, ExprId, ExprOrPatId, Pat, PatId, TypeRef,
+};
 use std::alloc::{AllocError, Global};
 use std::test::Fail;
 
@@ -28,23 +30,62 @@ fn questions(rt: HostRuntime) -> Result<(), Fail> {
     says(&rt, alloc, b"root-of 10", Line::Ask(root))?;
     let chain = Question::OfBody(BodyQuestion::Chain(id(0)));
     says(&rt, alloc, b"chain 0", Line::Ask(chain))?;
+    let captures = Question::OfBody(BodyQuestion::Captures(id(4)));
+    says(&rt, alloc, b"captures 4", Line::Ask(captures))
+}
+
+fn expanded(number: u32) -> HygieneId {
+    HygieneId::new(SyntaxContext::Expansion(number))
+}
+
+#[test]
+fn names_are_asked_for_by_their_hygiene(rt: HostRuntime) -> Result<(), Fail> {
+    let alloc = rt.alloc();
     let name = Name::new(alloc, "x_1")?;
-    let resolve = Question::OfBody(BodyQuestion::Resolve(id(4294967295), name));
-    says(&rt, alloc, b"resolve 4294967295 x_1", Line::Ask(resolve))
+    let resolve = Question::OfBody(BodyQuestion::Resolve(id(4294967295), name, HygieneId::ROOT));
+    says(&rt, alloc, b"resolve 4294967295 x_1", Line::Ask(resolve))?;
+    let name = Name::new(alloc, "x")?;
+    let resolve = Question::OfBody(BodyQuestion::Resolve(id(0), name, expanded(0)));
+    says(&rt, alloc, b"resolve 0 x 0", Line::Ask(resolve))
+}
+
+fn plain_binding(name: Name, hygiene: HygieneId) -> Maker {
+    Maker::Binding(Binding {
+        name,
+        mode: BindingAnnotation::Unannotated,
+        problems: None,
+        hygiene,
+    })
 }
 
 #[test]
 fn bindings_and_the_function(rt: HostRuntime) -> Result<(), Fail> {
     let alloc = rt.alloc();
-    let made = Binding {
-        name: Name::new(alloc, "self_1")?,
-        mode: BindingAnnotation::Unannotated,
-        problems: None,
-        hygiene: HygieneId::ROOT,
-    };
-    makes(&rt, alloc, b"bind self_1", Maker::Binding(made))?;
+    let name = Name::new(alloc, "self_1")?;
+    makes(
+        &rt,
+        alloc,
+        b"bind self_1",
+        plain_binding(name, HygieneId::ROOT),
+    )?;
+    let name = Name::new(alloc, "x")?;
+    makes(
+        &rt,
+        alloc,
+        b"bind x 4294967295",
+        plain_binding(name, expanded(4294967295)),
+    )?;
     let made = Name::new(alloc, "_")?;
     makes(&rt, alloc, b"fn _", Maker::FnName(made))
+}
+
+#[test]
+fn hygienes_of_paths(rt: HostRuntime) -> Result<(), Fail> {
+    let alloc = rt.alloc();
+    let of_expr = Maker::Hygiene(ExprOrPatId::ExprId(id(7)), expanded(2));
+    makes(&rt, alloc, b"hygiene 7 2", of_expr)?;
+    let of_pat = Maker::Hygiene(ExprOrPatId::PatId(id(7)), expanded(0));
+    makes(&rt, alloc, b"pat-hygiene 7 0", of_pat)
 }
 
 const PATTERNS: [&[u8]; 12] = [

@@ -12,12 +12,13 @@ use Rattle.hir_expr_store.specs.Contents.{Contents, contents_fault}
 use Rattle.hir_store.specs.Building.{Building, contents_of, finish_fault}
 use Rattle.hir_items.specs.declared.body_fault.BodyFault.{BodyFault}
 use Rattle.hir_items.specs.Bodies.{BodyContents, body_fault}
+use Rattle.hir_captures.specs.Captures.{AreCaptures, IsReachedClosure}
 use Rattle.hir_scope.specs.Built.{tops_of_body}
 use Rattle.hir_scope.specs.Chains.{HasChain}
 use Rattle.hir_scope.specs.Frames.{Chain}
 use Rattle.hir_run.specs.declared.fault.RunFault.{RunFault}
 use Rattle.hir_run.specs.Made.{Made, body_parts}
-use Rattle.hir_run.specs.Answer.{IsChainOf, IsBodyAnswer, IsStoreAnswer, IsAnswer, answer_line, chain_text, resolve_text}
+use Rattle.hir_run.specs.Answer.{IsChainOf, AreCapturesOf, IsBodyAnswer, IsStoreAnswer, IsAnswer, answer_line, asked_text, chain_text, resolve_text, captures_text}
 use Rattle.hir_run.specs.Program.{Outcome, Course, writes, stops, unless_refused, fault_or, if_so, may_ask, any_question, is_of_store, asks, front, behind, IsLineAnswer, AreAnswers, section, on_body, behind_store, on_store, behind_making, accepts, made, making, Runs, IsMeaning}
 
 -- a course writes one text and ends in one way
@@ -66,27 +67,38 @@ chain_one b one expr None (Some y) p q = absurd (p q.0)
 chain_one b one expr (Some x) None p q = absurd (q p.0)
 chain_one b one expr (Some x) (Some y) p q = ap Some (one expr x y p.1 q.1)
 
-body_answer_one : (b : BodyContents) → HasOneChain b → (question : BodyQuestion) (t u : List ℕ) → IsBodyAnswer b question t → IsBodyAnswer b question u → t ≡ u
-body_answer_one b one (ask.Chain e) t u (x, is, s) (y, is', r) = s ∙ ap (λ v. answer_line (codes "chain ") e (chain_text v)) (chain_one b one e x y is is') ∙ sym r
-body_answer_one b one (ask.Resolve e name) t u (x, is, s) (y, is', r) = s ∙ ap (λ v. answer_line (codes "resolve ") e (32 ∷ name ++ resolve_text v name)) (chain_one b one e x y is is') ∙ sym r
+-- a closure that is reached has one list of captures
+abbrev pub HasOneCapture : BodyContents → Type 0
+HasOneCapture b = (closure : ℕ) → IsReachedClosure b closure → (x y : List ℕ) → AreCaptures b closure x → AreCaptures b closure y → x ≡ y
+
+captures_one : (b : BodyContents) → HasOneCapture b → (expr : ℕ) (x y : Option (List ℕ)) → AreCapturesOf b expr x → AreCapturesOf b expr y → x ≡ y
+captures_one b one expr None None p q = refl
+captures_one b one expr None (Some y) p q = absurd (p q.0)
+captures_one b one expr (Some x) None p q = absurd (q p.0)
+captures_one b one expr (Some x) (Some y) p q = ap Some (one expr p.0 x y p.1 q.1)
+
+body_answer_one : (b : BodyContents) → HasOneChain b → HasOneCapture b → (question : BodyQuestion) (t u : List ℕ) → IsBodyAnswer b question t → IsBodyAnswer b question u → t ≡ u
+body_answer_one b one alone (ask.Chain e) t u (x, is, s) (y, is', r) = s ∙ ap (λ v. answer_line (codes "chain ") e (chain_text v)) (chain_one b one e x y is is') ∙ sym r
+body_answer_one b one alone (ask.Resolve e name hygiene) t u (x, is, s) (y, is', r) = s ∙ ap (λ v. answer_line (codes "resolve ") e (asked_text name hygiene ++ resolve_text v name hygiene)) (chain_one b one e x y is is') ∙ sym r
+body_answer_one b one alone (ask.Captures e) t u (x, is, s) (y, is', r) = s ∙ ap (λ v. answer_line (codes "captures ") e (captures_text v)) (captures_one b alone e x y is is') ∙ sym r
 
 store_answer_one : (c : Contents) (question : Question) (t u : List ℕ) → IsStoreAnswer c question t → IsStoreAnswer c question u → t ≡ u
 store_answer_one c (OfStore question) t u p q = p ∙ sym q
 store_answer_one c (OfBody question) t u p q = absurd p
 
-answer_one : (b : BodyContents) → HasOneChain b → (question : Question) (t u : List ℕ) → IsAnswer b question t → IsAnswer b question u → t ≡ u
-answer_one b one (OfStore question) t u p q = p ∙ sym q
-answer_one b one (OfBody question) t u p q = body_answer_one b one question t u p q
+answer_one : (b : BodyContents) → HasOneChain b → HasOneCapture b → (question : Question) (t u : List ℕ) → IsAnswer b question t → IsAnswer b question u → t ≡ u
+answer_one b one alone (OfStore question) t u p q = p ∙ sym q
+answer_one b one alone (OfBody question) t u p q = body_answer_one b one alone question t u p q
 
 sound_contents : (b : Building) → finish_fault b None → contents_fault (contents_of b) None
 unfolding finish_fault
 sound_contents b v = v.1
 
-module _ (finish_one : (b : Building) (f g : Option FinishFault) → finish_fault b f → finish_fault b g → f ≡ g) (body_one : (b : BodyContents) (f g : Option BodyFault) → body_fault b f → body_fault b g → f ≡ g) (one_chain : (b : BodyContents) → contents_fault b.store None → body_fault b None → HasOneChain b) where
+module _ (finish_one : (b : Building) (f g : Option FinishFault) → finish_fault b f → finish_fault b g → f ≡ g) (body_one : (b : BodyContents) (f g : Option BodyFault) → body_fault b f → body_fault b g → f ≡ g) (one_chain : (b : BodyContents) → contents_fault b.store None → body_fault b None → HasOneChain b) (one_capture : (b : BodyContents) → contents_fault b.store None → body_fault b None → HasOneCapture b) where
   on_body_one : (made : Made) → finish_fault made.built None → (good : ℕ) (script : List Line) → One (on_body made good script)
   on_body_one made sound good script =
       unless_one (body_fault (body_parts made)) _ _ (body_one (body_parts made))
-      (λ v. section_one any_question (IsAnswer (body_parts made)) stops (answer_one (body_parts made) (one_chain (body_parts made) (sound_contents made.built sound) v)) stops_one good script)
+      (λ v. section_one any_question (IsAnswer (body_parts made)) stops (answer_one (body_parts made) (one_chain (body_parts made) (sound_contents made.built sound) v) (one_capture (body_parts made) (sound_contents made.built sound) v)) stops_one good script)
 
   behind_store_one : (made : Made) → finish_fault made.built None → (good : ℕ) (script : List Line) → One (behind_store made good script)
   behind_store_one made sound good [] = stops_one good []

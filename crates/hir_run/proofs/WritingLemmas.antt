@@ -72,6 +72,11 @@ pub spaced_then : {W : Type 0} (contents : W → Option (List ℕ)) (failed : W 
 spaced_then contents failed old mid new w v u numbers n p q =
     rw (spaced-more numbers n) (put_then contents failed old mid new w v u (spaced numbers) (32 ∷ decimal n) p q)
 
+-- one number more of a list
+pub numbers_more : (xs : List ℕ) (i x : ℕ) → i < length xs → x ≡ get_or xs i x → spaced (take (i + 1) xs) ≡ spaced (take i xs) ++ (32 ∷ decimal x)
+numbers_more xs i x there is =
+    ap spaced (take_more xs i x there) ∙ spaced-more (take i xs) (get_or xs i x) ∙ ap (λ n. spaced (take i xs) ++ (32 ∷ decimal n)) (sym is)
+
 -- the names of one entry more
 pub names_more : (xs : List ScopeEntry) (i : ℕ) (x : ScopeEntry) → i < length xs → x ≡ get_or xs i x → names_text (take (i + 1) xs) ≡ names_text (take i xs) ++ entry_text x
 names_more xs i x there is =

@@ -1,9 +1,8 @@
 -- The answers to questions.
 use Rattle.std.specs.Prelude.{◌≡◌, ℕ, List, [], ◌∷◌, ◌++◌, Option, None, Some, codes, length, nat_lt, if◌then◌else◌, flat_map}
 use Rattle.std.specs.Fmt.{decimal}
-use Rattle.hir_base.specs.declared.edition.Edition.TheVariants.{Edition2015}
 use Rattle.hir_base.specs.declared.hygiene.SyntaxContext.{SyntaxContext}
-use Rattle.hir_base.specs.declared.hygiene.SyntaxContext.TheVariants.{Root as OfSource}
+use Rattle.hir_base.specs.declared.hygiene.SyntaxContext.TheVariants.{Root, Expansion}
 use Rattle.hir_node.specs.declared.node_id.NodeId.TheVariants as node
 use Rattle.hir_lines.specs.declared.line.Question.{Question}
 use Rattle.hir_lines.specs.declared.line.Question.TheVariants.{OfStore, OfBody}
@@ -11,7 +10,7 @@ use Rattle.hir_lines.specs.declared.line.StoreQuestion.{StoreQuestion}
 use Rattle.hir_lines.specs.declared.line.StoreQuestion.TheVariants.{Children, RootOf}
 use Rattle.hir_lines.specs.declared.line.BodyQuestion.{BodyQuestion}
 use Rattle.hir_lines.specs.declared.line.BodyQuestion.TheVariants as ask
-use Rattle.hir_forest.specs.declared.roots.Root.{Root}
+use Rattle.hir_forest.specs.declared.roots.Root as forest
 use Rattle.hir_faults.specs.Nodes.{Nodes}
 use Rattle.hir_expr_store.specs.RootSearch.{root_for_expr}
 use Rattle.hir_expr_store.specs.Contents.{Contents}
@@ -22,6 +21,7 @@ use Rattle.hir_scope.specs.Built.{tops_of_body}
 use Rattle.hir_scope.specs.Chains.{HasChain}
 use Rattle.hir_scope.specs.Frames.{Chain}
 use Rattle.hir_scope.specs.Resolution.{resolve, entries_of}
+use Rattle.hir_captures.specs.Captures.{AreCaptures, IsReachedClosure}
 
 -- an answer: the question's word, the expression, what is known of it, and a line end
 abbrev pub answer_line : List ℕ → ℕ → List ℕ → List ℕ
@@ -41,7 +41,7 @@ found_text None = codes " none"
 found_text (Some id) = codes " = " ++ decimal id
 
 -- the root that an expression belongs to, or that there is none
-abbrev pub root_text : List Root → ℕ → List ℕ
+abbrev pub root_text : List forest.Root → ℕ → List ℕ
 root_text roots e = found_text (root_for_expr roots e)
 
 -- the answer to a question on a store
@@ -71,22 +71,39 @@ abbrev pub resolved_text : Option ScopeEntry → List ℕ
 resolved_text None = codes " none"
 resolved_text (Some entry) = codes " = " ++ decimal entry.binding
 
--- names are asked for as they stand in source text
-abbrev pub of_source : SyntaxContext
-of_source = OfSource Edition2015
+-- the binding that a name of this hygiene means at an expression
+abbrev pub resolve_text : Option Chain → List ℕ → SyntaxContext → List ℕ
+resolve_text None name hygiene = codes " unreached"
+resolve_text (Some chain) name hygiene = resolved_text (resolve chain name hygiene)
 
--- the binding that a name means at an expression
-abbrev pub resolve_text : Option Chain → List ℕ → List ℕ
-resolve_text None name = codes " unreached"
-resolve_text (Some chain) name = resolved_text (resolve chain name of_source)
+-- the words by which a name was asked for, each after a space: itself and, where it isn't one of source text, its expansion
+abbrev pub expansion_text : SyntaxContext → List ℕ
+expansion_text (Root edition) = []
+expansion_text (Expansion number) = 32 ∷ decimal number
+
+abbrev pub asked_text : List ℕ → SyntaxContext → List ℕ
+asked_text name hygiene = 32 ∷ name ++ expansion_text hygiene
+
+-- A closure that a body reaches has captures; no other expression has
+abbrev pub AreCapturesOf : BodyContents → ℕ → Option (List ℕ) → Type 0
+AreCapturesOf b expr None = IsReachedClosure b expr → ⊥
+AreCapturesOf b expr (Some bindings) = IsReachedClosure b expr × AreCaptures b expr bindings
+
+-- the bindings that a closure captures
+abbrev pub captures_text : Option (List ℕ) → List ℕ
+captures_text None = codes " no closure"
+captures_text (Some bindings) = codes " =" ++ spaced bindings
 
 -- the text is the answer to a question on a body
 abbrev pub IsBodyAnswer : BodyContents → BodyQuestion → List ℕ → Type 0
 IsBodyAnswer b (ask.Chain e) text =
     (chain : Option Chain) × IsChainOf b e chain × (text ≡ answer_line (codes "chain ") e (chain_text chain))
-IsBodyAnswer b (ask.Resolve e name) text =
+IsBodyAnswer b (ask.Resolve e name hygiene) text =
     (chain : Option Chain) × IsChainOf b e chain
-    × (text ≡ answer_line (codes "resolve ") e (32 ∷ name ++ resolve_text chain name))
+    × (text ≡ answer_line (codes "resolve ") e (asked_text name hygiene ++ resolve_text chain name hygiene))
+IsBodyAnswer b (ask.Captures e) text =
+    (bindings : Option (List ℕ)) × AreCapturesOf b e bindings
+    × (text ≡ answer_line (codes "captures ") e (captures_text bindings))
 
 -- where only the store was looked at, no question on the body is answered
 abbrev pub IsStoreAnswer : Contents → Question → List ℕ → Type 0

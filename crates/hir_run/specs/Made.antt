@@ -1,11 +1,16 @@
 -- What lines have made so far: what is built, and what a body of it will have besides.
 use Rattle.std.specs.Prelude.{ℕ, List, [], ◌∷◌, ◌++◌, Bool, true, false, Option, None, Some, is_some}
+use Rattle.std.specs.FinMap as map
+use Rattle.hir_base.specs.declared.hygiene.SyntaxContext.{SyntaxContext}
+use Rattle.hir_path.specs.declared.ids.ExprOrPatId.{ExprOrPatId}
+use Rattle.hir_path.specs.Keys.{expr_or_pat_code}
 use Rattle.hir_lines.specs.declared.line.Maker.{Maker}
 use Rattle.hir_lines.specs.declared.line.Maker.TheVariants as make
 use Rattle.hir_faults.specs.Nodes.{Nodes}
 use Rattle.hir_store.specs.Building.{Building, building_of, contents_of, and_root, some_roots}
 use Rattle.hir_items.specs.declared.formals.Param.{Param}
 use Rattle.hir_items.specs.Bodies.{BodyContents, body_of}
+use Rattle.hir_expr_store.specs.declared.side_tables.SideTables.{SideTables}
 use Rattle.hir_expr_store.specs.SideTables.{no_side_tables}
 use Rattle.hir_run.specs.declared.fault.RunFault.{RunFault}
 use Rattle.hir_run.specs.declared.fault.RunFault.TheVariants.{BadLine, OutOfMemory}
@@ -38,6 +43,11 @@ made_of m =
 abbrev pub with_nodes : Made → Nodes → Made
 with_nodes m nodes = record m { built = record m.built { nodes = nodes } }
 
+-- the same with this hygiene of a path, in the place of what was said of it before
+abbrev pub with_hygiene : SideTables → ExprOrPatId → SyntaxContext → SideTables
+with_hygiene tables id hygiene =
+    record tables { hygiene = map.insert tables.hygiene (expr_or_pat_code id) hygiene }
+
 -- a parameter that the body has as the user wrote it
 abbrev pub as_written : ℕ → Param ℕ
 as_written id = record { formal = id; user_written = id }
@@ -51,6 +61,8 @@ with_line m (make.Type type_ref) =
     with_nodes m (record m.built.nodes { types = m.built.nodes.types ++ type_ref ∷ [] })
 with_line m (make.Expr expr) =
     with_nodes m (record m.built.nodes { exprs = m.built.nodes.exprs ++ expr ∷ [] })
+with_line m (make.Hygiene id hygiene) =
+    record m { built = record m.built { side_tables = with_hygiene m.built.side_tables id hygiene } }
 with_line m (make.SelfParam id) = record m { self_param = Some (as_written id) }
 with_line m (make.Param id) = record m { params = m.params ++ as_written id ∷ [] }
 with_line m (make.FnName name) = record m { name = Some name }
@@ -65,6 +77,7 @@ is_second m (make.Binding binding) = false
 is_second m (make.Pat pat) = false
 is_second m (make.Type type_ref) = false
 is_second m (make.Expr expr) = false
+is_second m (make.Hygiene id hygiene) = false
 is_second m (make.Param id) = false
 is_second m make.Roots = false
 is_second m (make.Root id) = false

@@ -6,13 +6,13 @@ ghost use Rattle.hir_expr_store.specs.PatLists.{children};
 ghost use Rattle.hir_run.specs.Answer.{store_answer, answer_line, children_text, root_text, spaced};
 ghost use Rattle.hir_run.specs.Puts.{Puts};
 
-use crate::asking::Answers;
+use crate::asking::{Answers, MemoryRefused};
 use crate::put::{put, put_number, put_spaced};
 use hir_io::{OutputBuffer, Sink};
 use hir_lines::{Question, StoreQuestion};
 use hir_node::ExprId;
 use hir_store::ExpressionStore;
-use std::alloc::AllocError;
+use std::alloc::Global;
 
 /// Puts the children of an expression, each after a space.
 fn put_children<W: Sink>(
@@ -134,10 +134,11 @@ impl Answers for ExpressionStore {
 
     fn answer<W: Sink>(
         &self,
+        _alloc: Global,
         question: Question,
         output: &mut OutputBuffer,
         writer: &mut W,
-    ) -> Result<Option<Question>, AllocError> {
+    ) -> Result<Option<Question>, MemoryRefused> {
         match question {
             Question::OfStore(asked) => {
                 answer_store(self, asked, output, writer);

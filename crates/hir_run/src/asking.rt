@@ -9,8 +9,12 @@ ghost use Rattle.hir_run.specs.Stages.{Asks, AsksLine, Replies};
 use crate::fault::RunFault;
 use hir_io::{LineReader, OutputBuffer, Sink, Source, next_line};
 use hir_lines::{Line, Question, parse};
-use std::alloc::{AllocError, Global};
+use std::alloc::Global;
 use std::mem::drop;
+
+/// Memory was refused.
+#[derive(Drop)]
+pub(crate) struct MemoryRefused;
 
 /// What answers questions.
 pub(crate) trait Answers {
@@ -24,13 +28,14 @@ pub(crate) trait Answers {
 
     /// Answers a question by one line, put behind what waits. A question that may not be asked is handed back.
     ///
-    /// Answers `AllocError` where memory was refused: nothing is put then.
+    /// Answers `MemoryRefused` where memory was refused: nothing is put then.
     fn answer<W: Sink>(
         &self,
+        alloc: Global,
         question: Question,
         output: &mut OutputBuffer,
         writer: &mut W,
-    ) -> Result<Option<Question>, AllocError>
+    ) -> Result<Option<Question>, MemoryRefused>
         ensures replies { IfOk result (Replies may (Is self.now) question (W.contents writer.old) (W.failed writer.old)
             output.old (W.contents writer.new) (W.failed writer.new) output.new) }
         ensures memory { OnErr result ((writer.new ≡ writer.old) × (output.new ≡ output.old)) };
@@ -38,6 +43,7 @@ pub(crate) trait Answers {
 
 /// Answers the line of this number.
 fn answer_line<A: Answers, W: Sink>(
+    alloc: Global,
     asked: &A,
     line: Line,
     number: u64,
@@ -58,7 +64,7 @@ fn answer_line<A: Answers, W: Sink>(
         }
         Line::Bad => return Err(RunFault::BadLine(number)),
     };
-    let Ok(left) = asked.answer(question, output, writer) else {
+    let Ok(left) = asked.answer(alloc, question, output, writer) else {
         return Err(RunFault::OutOfMemory);
     };
     if writer.has_failed() {
@@ -81,7 +87,7 @@ fn answer_next<A: Answers, W: Sink>(
     ensures failure { W.failed writer.new ≡ is_output_failed result }
 {
     match parse(alloc, lines.line()) {
-        Ok(line) => answer_line(asked, line, lines.count(), output, writer),
+        Ok(line) => answer_line(alloc, asked, line, lines.count(), output, writer),
         Err(_) => Err(RunFault::OutOfMemory),
     }
 }
@@ -111,7 +117,7 @@ pub(crate) fn answer_lines<A: Answers, R: Source, W: Sink>(
     ensures still_fits { OnOk result
         (lines.new.count + length lines.new.pending + R.allowance reader.new < 2 ^ 64) }
 {
-    let left = answer_line(asked, Line::Ask(first), lines.count(), output, writer)?;
+    let left = answer_line(alloc, asked, Line::Ask(first), lines.count(), output, writer)?;
     if left.is_some() {
         return Ok(left);
     }

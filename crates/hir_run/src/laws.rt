@@ -4,6 +4,7 @@ ghost use Rattle.std.specs.Prelude.{◌≡◌, ℕ, List};
 ghost use Rattle.hir_lines.specs.declared.line.Line.{Line};
 ghost use Rattle.hir_run.specs.Program.{Outcome, IsMeaning};
 
+use hir_captures::laws::captures_are_one;
 use hir_items::body_laws::first_body_fault_is_one;
 use hir_scope::laws::a_reached_node_has_one_chain;
 use hir_store::laws::first_fault_is_one;
@@ -16,4 +17,5 @@ pub fn meaning_is_one()
     first_fault_is_one();
     first_body_fault_is_one();
     a_reached_node_has_one_chain();
+    captures_are_one();
 }

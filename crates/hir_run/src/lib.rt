@@ -5,6 +5,7 @@
 mod answer;
 mod asking;
 mod building;
+mod captured;
 mod fault;
 pub mod laws;
 mod made;

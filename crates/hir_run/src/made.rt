@@ -85,6 +85,7 @@ impl Made {
             Maker::Pat(pat) => or_memory(self.builder.alloc_pat(pat)),
             Maker::Type(type_ref) => or_memory(self.builder.alloc_type(type_ref)),
             Maker::Expr(expr) => or_memory(self.builder.alloc_expr(expr)),
+            Maker::Hygiene(id, hygiene) => or_memory(self.builder.set_hygiene(id, hygiene)),
             Maker::SelfParam(id) => {
                 if self.self_param.is_some() {
                     return Err(RunFault::BadLine(line));

@@ -1,26 +1,28 @@
 //! A body with its scopes, and the answers to questions on it.
 
-ghost use Rattle.std.specs.Prelude.{◌≡◌, ◌<◌, ◌∷◌, ℕ, List, Option, Some, length};
+ghost use Rattle.std.specs.Prelude.{◌≡◌, ◌<◌, ◌∷◌, ℕ, List, Option, Some, OnOk, OnErr, length};
 ghost use Rattle.hir_items.specs.Bodies.{body_of};
 ghost use Rattle.hir_scope.specs.Frames.{Chain};
 ghost use Rattle.hir_scope.specs.Paths.{chain, frame_at};
 ghost use Rattle.hir_scope.specs.Resolution.{resolve, entries_of};
-ghost use Rattle.hir_run.specs.Answer.{IsBodyAnswer, IsChainOf, chain_text, names_text, of_source, resolve_text, resolved_text};
+ghost use Rattle.hir_run.specs.Answer.{IsBodyAnswer, IsChainOf, asked_text, chain_text, expansion_text, names_text, resolve_text, resolved_text};
 ghost use Rattle.hir_run.specs.Puts.{Puts};
 ghost use Rattle.hir_run.specs.Stages.{IsMadeBody};
 
 use crate::answer::{answer_store, put_asked};
-use crate::asking::Answers;
+use crate::asking::{Answers, MemoryRefused};
+use crate::captured::{put_captures, put_no_closure};
 use crate::fault::RunFault;
-use crate::put::{put, put_number};
-use hir_base::{HygieneId, Name, Seq};
+use crate::put::{put, put_number, put_spaced};
+use hir_base::{HygieneId, Name, Seq, SyntaxContext};
+use hir_captures::{CapturesFault, captures};
 use hir_io::{OutputBuffer, Sink};
 use hir_items::{Body, Param};
 use hir_lines::{BodyQuestion, Question};
 use hir_node::{BindingId, ExprId, PatId};
 use hir_scope::{ExprScopes, ScopeEntry, ScopeId, ScopesFault};
 use hir_store::ExpressionStore;
-use std::alloc::{AllocError, Global};
+use std::alloc::Global;
 use std::marker::Model;
 
 /// A body with its scopes, seen as the body.
@@ -108,20 +110,46 @@ fn put_chain<W: Sink>(
     }
 }
 
+/// Puts the number of an expansion behind a space, and nothing for source text.
+fn put_expansion<W: Sink>(hygiene: HygieneId, output: &mut OutputBuffer, writer: &mut W)
+    ensures { Puts (W.contents writer.old) (W.failed writer.old) output.old (W.contents writer.new)
+        (W.failed writer.new) output.new (expansion_text hygiene) }
+{
+    match hygiene.syntax_context() {
+        SyntaxContext::Root(_) => {}
+        SyntaxContext::Expansion(number) => put_spaced(number, output, writer),
+    }
+}
+
+/// Puts the words by which a name was asked for.
+fn put_asked_name<W: Sink>(
+    name: &Name,
+    hygiene: HygieneId,
+    output: &mut OutputBuffer,
+    writer: &mut W,
+)
+    ensures { Puts (W.contents writer.old) (W.failed writer.old) output.old (W.contents writer.new)
+        (W.failed writer.new) output.new (asked_text name.now hygiene) }
+{
+    put_name(name, output, writer);
+    put_expansion(hygiene, output, writer);
+}
+
 /// Puts the binding that a name means in a scope, or that there is none.
 fn put_resolved<W: Sink>(
     scopes: &ExprScopes,
     scope: ScopeId,
     name: &Name,
+    hygiene: HygieneId,
     output: &mut OutputBuffer,
     writer: &mut W,
 )
     requires { scope < length scopes.now.scopes }
     ensures { Puts (W.contents writer.old) (W.failed writer.old) output.old (W.contents writer.new)
         (W.failed writer.new) output.new
-        (resolved_text (resolve (chain scopes.now.scopes (Some scope)) name.now of_source)) }
+        (resolved_text (resolve (chain scopes.now.scopes (Some scope)) name.now hygiene)) }
 {
-    match scopes.resolve_name_in_scope(scope, name, HygieneId::ROOT) {
+    match scopes.resolve_name_in_scope(scope, name, hygiene) {
         Some(entry) => {
             put(b" = ", output, writer);
             put_number(entry.binding().into_raw(), output, writer);
@@ -167,15 +195,16 @@ impl ScopedBody {
         &self,
         id: ExprId,
         name: &Name,
+        hygiene: HygieneId,
         output: &mut OutputBuffer,
         writer: &mut W,
     )
         ensures { (known : Option Chain) × IsChainOf self.now id known
             × Puts (W.contents writer.old) (W.failed writer.old) output.old (W.contents writer.new)
-            (W.failed writer.new) output.new (resolve_text known name.now) }
+            (W.failed writer.new) output.new (resolve_text known name.now hygiene) }
     {
         match self.scopes.scope_for(id) {
-            Some(scope) => put_resolved(&self.scopes, scope, name, output, writer),
+            Some(scope) => put_resolved(&self.scopes, scope, name, hygiene, output, writer),
             None => put(b" unreached", output, writer),
         }
     }
@@ -194,33 +223,70 @@ impl ScopedBody {
         &self,
         id: ExprId,
         name: &Name,
+        hygiene: HygieneId,
         output: &mut OutputBuffer,
         writer: &mut W,
     )
-        ensures { (text : List ℕ) × IsBodyAnswer self.now (BodyQuestion.Resolve id name.now) text
+        ensures { (text : List ℕ) × IsBodyAnswer self.now (BodyQuestion.Resolve id name.now hygiene) text
             × Puts (W.contents writer.old) (W.failed writer.old) output.old (W.contents writer.new)
             (W.failed writer.new) output.new text }
     {
         put_asked(b"resolve ", id, output, writer);
-        put_name(name, output, writer);
-        self.put_meaning(id, name, output, writer);
+        put_asked_name(name, hygiene, output, writer);
+        self.put_meaning(id, name, hygiene, output, writer);
         put(b"\n", output, writer);
     }
 
+    fn answer_captures<W: Sink>(
+        &self,
+        alloc: Global,
+        id: ExprId,
+        output: &mut OutputBuffer,
+        writer: &mut W,
+    ) -> Result<(), MemoryRefused>
+        ensures ok { OnOk result ((text : List ℕ) × IsBodyAnswer self.now (BodyQuestion.Captures id) text
+            × Puts (W.contents writer.old) (W.failed writer.old) output.old (W.contents writer.new)
+            (W.failed writer.new) output.new text) }
+        ensures memory { OnErr result ((writer.new ≡ writer.old) × (output.new ≡ output.old)) }
+    {
+        match captures(alloc, &self.body, &self.scopes, id) {
+            Ok(bindings) => {
+                put_captures(id, &bindings, output, writer);
+                Ok(())
+            }
+            Err(CapturesFault::NotAClosure) => {
+                put_no_closure(id, output, writer);
+                Ok(())
+            }
+            Err(CapturesFault::Memory) => Err(MemoryRefused),
+        }
+    }
+
     /// Answers a question on a body by one line.
+    ///
+    /// Answers `MemoryRefused` where memory was refused: nothing is put then.
     fn answer_body<W: Sink>(
         &self,
+        alloc: Global,
         question: BodyQuestion,
         output: &mut OutputBuffer,
         writer: &mut W,
-    )
-        ensures { (text : List ℕ) × IsBodyAnswer self.now question text
+    ) -> Result<(), MemoryRefused>
+        ensures ok { OnOk result ((text : List ℕ) × IsBodyAnswer self.now question text
             × Puts (W.contents writer.old) (W.failed writer.old) output.old (W.contents writer.new)
-            (W.failed writer.new) output.new text }
+            (W.failed writer.new) output.new text) }
+        ensures memory { OnErr result ((writer.new ≡ writer.old) × (output.new ≡ output.old)) }
     {
         match question {
-            BodyQuestion::Chain(id) => self.answer_chain(id, output, writer),
-            BodyQuestion::Resolve(id, name) => self.answer_resolve(id, &name, output, writer),
+            BodyQuestion::Chain(id) => {
+                self.answer_chain(id, output, writer);
+                Ok(())
+            }
+            BodyQuestion::Resolve(id, name, hygiene) => {
+                self.answer_resolve(id, &name, hygiene, output, writer);
+                Ok(())
+            }
+            BodyQuestion::Captures(id) => self.answer_captures(alloc, id, output, writer),
         }
     }
 }
@@ -236,13 +302,14 @@ impl Answers for ScopedBody {
 
     fn answer<W: Sink>(
         &self,
+        alloc: Global,
         question: Question,
         output: &mut OutputBuffer,
         writer: &mut W,
-    ) -> Result<Option<Question>, AllocError> {
+    ) -> Result<Option<Question>, MemoryRefused> {
         match question {
             Question::OfStore(asked) => answer_store(self.body.store(), asked, output, writer),
-            Question::OfBody(asked) => self.answer_body(asked, output, writer),
+            Question::OfBody(asked) => self.answer_body(alloc, asked, output, writer)?,
         }
         Ok(None)
     }

@@ -77,7 +77,7 @@ const CHAINS: [Row; 10] = [
 ];
 
 /// Bodies that are refused, and lines that are bad.
-const REFUSED: [Row; 15] = [
+const REFUSED: [Row; 14] = [
     Row {
         name: "no_root",
         input: b"expr path f\nroots\nchain 0\n",
@@ -174,13 +174,6 @@ const REFUSED: [Row; 15] = [
         input: b"expr path a\nroot 0\nchain 0\nresolve 0 a\nroots\nchain 0\n",
         output: b"chain 0 =\nresolve 0 a none\n",
         said: b"bad line 5\n",
-        status: 1,
-    },
-    Row {
-        name: "resolve_with_a_number",
-        input: b"expr path a\nroot 0\nresolve 0 a 1\n",
-        output: b"",
-        said: b"bad line 3\n",
         status: 1,
     },
 ];

@@ -14,6 +14,8 @@ mod fakes;
 #[cfg(test)]
 mod growths;
 #[cfg(test)]
+mod hygiene;
+#[cfg(test)]
 mod inputs;
 #[cfg(test)]
 mod reports;

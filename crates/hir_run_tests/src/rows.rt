@@ -235,7 +235,7 @@ const SECOND: [Row; 16] = [
 ];
 
 /// Lines that aren't good, and forms that are no lines.
-const THIRD: [Row; 13] = [
+const THIRD: [Row; 9] = [
     Row {
         name: "carriage_return",
         input: b"bind x\r\n",
@@ -295,34 +295,6 @@ const THIRD: [Row; 13] = [
     Row {
         name: "unknown_print",
         input: b"expr path a\nroot 0\nprint\n",
-        output: b"",
-        said: b"bad line 3\n",
-        status: 1,
-    },
-    Row {
-        name: "unknown_bind_n",
-        input: b"bind x 1\n",
-        output: b"",
-        said: b"bad line 1\n",
-        status: 1,
-    },
-    Row {
-        name: "unknown_hygiene",
-        input: b"expr path a\nhygiene 0 1\n",
-        output: b"",
-        said: b"bad line 2\n",
-        status: 1,
-    },
-    Row {
-        name: "unknown_pat_hygiene",
-        input: b"expr path a\npat-hygiene 0 1\n",
-        output: b"",
-        said: b"bad line 2\n",
-        status: 1,
-    },
-    Row {
-        name: "unknown_captures",
-        input: b"expr path a\nroot 0\ncaptures 0\n",
         output: b"",
         said: b"bad line 3\n",
         status: 1,

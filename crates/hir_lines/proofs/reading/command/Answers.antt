@@ -8,11 +8,6 @@ pub returns-in-roots : goal.returns-in-roots
 unfolding command
 returns-in-roots c = behind line_forms c.args.words.now (codes "roots") _ c.in_ok-keyword.ensures c.in-roots.is refl
 
-pub returns-in_err-name-in-bind : goal.returns-in_err-name-in-bind
-unfolding command
-returns-in_err-name-in-bind c =
-    read_on line_forms c.args.words.now c.name.new.self (codes "bind") _ c.from_residual-in_err-name-in-bind.result c.in_ok-keyword.ensures c.in-bind.is refl (search rules)
-
 pub returns-in_err-pat-in-pat : goal.returns-in_err-pat-in-pat
 unfolding command
 returns-in_err-pat-in-pat c =
@@ -41,7 +36,7 @@ returns-in_err-id-in-param c =
 pub returns-in_err-name-in-fn : goal.returns-in_err-name-in-fn
 unfolding command
 returns-in_err-name-in-fn c =
-    read_on line_forms c.args.words.now c.name-in-fn.new.self (codes "fn") _ c.from_residual-in_err-name-in-fn.result c.in_ok-keyword.ensures c.in-fn.is refl (search rules)
+    read_on line_forms c.args.words.now c.name.new.self (codes "fn") _ c.from_residual-in_err-name-in-fn.result c.in_ok-keyword.ensures c.in-fn.is refl (search rules)
 
 pub returns-in_err-id-in-root : goal.returns-in_err-id-in-root
 unfolding command
@@ -53,14 +48,10 @@ unfolding command
 returns-in_err-id-in-children c =
     read_on line_forms c.args.words.now c.id-in-children.new.self (codes "children") _ c.from_residual-in_err-id-in-children.result c.in_ok-keyword.ensures c.in-children.is refl (search rules)
 
-pub returns-in_err-id-in-text : goal.returns-in_err-id-in-text
+pub returns-in_err-id-in-text-2 : goal.returns-in_err-id-in-text-2
 unfolding command
-returns-in_err-id-in-text c =
-    read_on line_forms c.args.words.now c.id-in-text.new.self (codes "root-of") _ c.from_residual-in_err-id-in-text.result c.in_ok-keyword.ensures c.in-text.is refl (search rules)
-
-pub returns-in_ok-name-in-bind : goal.returns-in_ok-name-in-bind
-unfolding command
-returns-in_ok-name-in-bind c = behind line_forms c.args.words.now (codes "bind") _ c.in_ok-keyword.ensures c.in-bind.is refl ∙ search rules
+returns-in_err-id-in-text-2 c =
+    read_on line_forms c.args.words.now c.id-in-text-2.new.self (codes "root-of") _ c.from_residual-in_err-id-in-text-2.result c.in_ok-keyword.ensures c.in-text-2.is refl (search rules)
 
 pub returns-in_ok-pat-in-pat : goal.returns-in_ok-pat-in-pat
 unfolding command
@@ -94,6 +85,33 @@ pub returns-in_ok-id-in-children : goal.returns-in_ok-id-in-children
 unfolding command
 returns-in_ok-id-in-children c = behind line_forms c.args.words.now (codes "children") _ c.in_ok-keyword.ensures c.in-children.is refl ∙ search rules
 
-pub returns-in_ok-id-in-text : goal.returns-in_ok-id-in-text
+pub returns-in_ok-id-in-text-2 : goal.returns-in_ok-id-in-text-2
 unfolding command
-returns-in_ok-id-in-text c = behind line_forms c.args.words.now (codes "root-of") _ c.in_ok-keyword.ensures c.in-text.is refl ∙ search rules
+returns-in_ok-id-in-text-2 c = behind line_forms c.args.words.now (codes "root-of") _ c.in_ok-keyword.ensures c.in-text-2.is refl ∙ search rules
+
+pub returns-in_err-bind-in-bind : goal.returns-in_err-bind-in-bind
+unfolding command
+returns-in_err-bind-in-bind c =
+    read_on line_forms c.args.words.now c.bind.new.words (codes "bind") _ c.from_residual-in_err-bind-in-bind.result c.in_ok-keyword.ensures c.in-bind.is refl (search rules)
+
+pub returns-in_ok-bind-in-bind : goal.returns-in_ok-bind-in-bind
+unfolding command
+returns-in_ok-bind-in-bind c = behind line_forms c.args.words.now (codes "bind") _ c.in_ok-keyword.ensures c.in-bind.is refl ∙ search rules
+
+pub returns-in_err-expr_hygiene-in-hygiene : goal.returns-in_err-expr_hygiene-in-hygiene
+unfolding command
+returns-in_err-expr_hygiene-in-hygiene c =
+    read_on line_forms c.args.words.now c.expr_hygiene.new.words (codes "hygiene") _ c.from_residual-in_err-expr_hygiene-in-hygiene.result c.in_ok-keyword.ensures c.in-hygiene.is refl (search rules)
+
+pub returns-in_ok-expr_hygiene-in-hygiene : goal.returns-in_ok-expr_hygiene-in-hygiene
+unfolding command
+returns-in_ok-expr_hygiene-in-hygiene c = behind line_forms c.args.words.now (codes "hygiene") _ c.in_ok-keyword.ensures c.in-hygiene.is refl ∙ search rules
+
+pub returns-in_err-pat_hygiene-in-text : goal.returns-in_err-pat_hygiene-in-text
+unfolding command
+returns-in_err-pat_hygiene-in-text c =
+    read_on line_forms c.args.words.now c.pat_hygiene.new.words (codes "pat-hygiene") _ c.from_residual-in_err-pat_hygiene-in-text.result c.in_ok-keyword.ensures c.in-text.is refl (search rules)
+
+pub returns-in_ok-pat_hygiene-in-text : goal.returns-in_ok-pat_hygiene-in-text
+unfolding command
+returns-in_ok-pat_hygiene-in-text c = behind line_forms c.args.words.now (codes "pat-hygiene") _ c.in_ok-keyword.ensures c.in-text.is refl ∙ search rules
