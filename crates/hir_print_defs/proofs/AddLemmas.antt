@@ -31,7 +31,7 @@ pub adds_more : {s : Setting} {works old between new : List Work} {is all : List
     → stood_after s is works ≡ all → Adds s old all new
 adds_more {s} {works} {old} {between} {new} {is} {all} a p e = record {
   meaning = ap (meant s) p.is ∙ flat_map-append (stands_for s) between works ∙ ap (λ xs. xs ++ flat_map (stands_for s) works) a.meaning
-    ∙ append_assoc (meant s old) is (flat_map (stands_for s) works) ∙ ap (λ xs. meant s old ++ xs) (stood_is-after s is works ∙ e);
+      ∙ append_assoc (meant s old) is (flat_map (stands_for s) works) ∙ ap (λ xs. meant s old ++ xs) (stood_is-after s is works ∙ e);
 }
 
 -- items behind others

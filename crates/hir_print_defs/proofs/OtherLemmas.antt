@@ -1,6 +1,5 @@
 -- The text of what isn't printed, and what is missing first.
 use Rattle.std.proofs.Common.{◌≡◌, ℕ, Bool, true, false, List, [], ◌∷◌, ◌++◌, Option, Some, None, Result, Ok, Err, codes, refl, sym, ap, ◌∙◌}
-
 use Rattle.std.specs.Prelude.{String, string_bytes, is_ok, is_none, IsErr}
 use Rattle.std.proofs.lemmas.Bool.{true≢false}
 use Rattle.std.proofs.lemmas.List.Concat.{flat_map-append}

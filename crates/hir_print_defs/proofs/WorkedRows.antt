@@ -123,10 +123,10 @@ unfolding pieces value rank height digits
 of_variant = refl
 
 method : body_text (body.FunctionId 0) (record {
-    store = store (var (codes "x") ∷ expr.Block None [] (Some 0) None unsafety.No ∷ []) [] (binding (codes "self") ∷ []) (root 1 ∷ []);
-    params = [];
-    self_param = Some (record { formal = 0; user_written = 0 });
-  }) ≡ codes "fn foo(self) {\n    x\n}"
+  store = store (var (codes "x") ∷ expr.Block None [] (Some 0) None unsafety.No ∷ []) [] (binding (codes "self") ∷ []) (root 1 ∷ []);
+  params = [];
+  self_param = Some (record { formal = 0; user_written = 0 });
+}) ≡ codes "fn foo(self) {\n    x\n}"
 unfolding pieces value rank height digits
 method = refl
 
@@ -142,10 +142,10 @@ unfolding pieces value rank height digits
 no_enum = refl
 
 fields : (let c = store [] (type_named (codes "u32") ∷ []) [] [] in let s = setting tables c in text_of s (printed s (variant_items s of_enum_0 (variant.StructId 0) (record {
-    shape = shape.Record;
-    fields = record { name = codes "a"; type_ref = 0; visibility = visibility.Public; is_unsafe = false; default_value = None } ∷ [];
-    store = c;
-  })))) ≡ codes "struct S {\npub a: u32,\n}\n"
+  shape = shape.Record;
+  fields = record { name = codes "a"; type_ref = 0; visibility = visibility.Public; is_unsafe = false; default_value = None } ∷ [];
+  store = c;
+})))) ≡ codes "struct S {\npub a: u32,\n}\n"
 unfolding pieces value rank height digits
 fields = refl
 
@@ -154,12 +154,12 @@ unfolding pieces value rank height digits
 no_fields = refl
 
 tuple_struct : (let c = store [] [] [] [] in let s = setting tables c in text_of s (printed s (struct_items s None (record {
-    name = codes "S";
-    generic_params = empty;
-    store = c;
-    is_fundamental = false;
-    shape = shape.Tuple;
-  })))) ≡ codes "struct S(...)\n;\n"
+  name = codes "S";
+  generic_params = empty;
+  store = c;
+  is_fundamental = false;
+  shape = shape.Tuple;
+})))) ≡ codes "struct S(...)\n;\n"
 unfolding pieces value rank height digits
 tuple_struct = refl
 
@@ -182,36 +182,42 @@ abbrev second_param : TypeRef
 second_param = type.TypeParam (record { parent = generic.FunctionId 0; local_id = 1 })
 
 impl_trait : (let c = store [] (second_param ∷ second_param ∷ type_named (codes "Trait") ∷ []) [] [] in let s = setting tables c in
-  text_of s (printed s (function_items s (function c (record {
-    type_or_consts = param.TypeParamData (record { name = Some (codes "T"); default = None; provenance = provenance.TypeParamList })
-      ∷ param.TypeParamData (record { name = None; default = None; provenance = provenance.ArgumentImplTrait }) ∷ [];
-    lifetimes = [];
-    predicates = predicate.TypeBound None 1 (bound.Path 2 modifier.None) ∷ [];
-  }) (0 ∷ []))))) ≡ codes "fn impl_trait_args<T, Param[1]>(Param[1])\nwhere\n    Param[1]: Trait\n {...}\n"
+    text_of s (printed s (function_items s (function c (record {
+      type_or_consts = param.TypeParamData (record { name = Some (codes "T"); default = None; provenance = provenance.TypeParamList })
+          ∷ param.TypeParamData (record { name = None; default = None; provenance = provenance.ArgumentImplTrait }) ∷ [];
+      lifetimes = [];
+      predicates = predicate.TypeBound None 1 (bound.Path 2 modifier.None) ∷ [];
+    }) (0 ∷ []))))) ≡ codes "fn impl_trait_args<T, Param[1]>(Param[1])\nwhere\n    Param[1]: Trait\n {...}\n"
 unfolding pieces value rank height digits
 impl_trait = refl
 
 flags_and_places : (let c = store [] (type_named (codes "A") ∷ type_named (codes "B") ∷ []) [] [] in let s = setting tables c in
-  text_of s (printed s (function_items s (record (function c empty (0 ∷ 1 ∷ [])) {
-    name = codes "a"; abi = abi.C; is_const = true; is_async = true; is_unsafe = true; legacy_const_indices = Some (1 ∷ []) }))))
-  ≡ codes "const async unsafe extern \"C\" fn a(A, const: B) {...}\n"
+    text_of s (printed s (function_items s (record (function c empty (0 ∷ 1 ∷ [])) {
+      name = codes "a";
+      abi = abi.C;
+      is_const = true;
+      is_async = true;
+      is_unsafe = true;
+      legacy_const_indices = Some (1 ∷ []);
+    }))))
+    ≡ codes "const async unsafe extern \"C\" fn a(A, const: B) {...}\n"
 unfolding pieces value rank height digits
 flags_and_places = refl
 
 all_of_a_struct : (let c = store (expr.Literal (literal.Int (pos 3) None) ∷ []) (type_named (codes "usize") ∷ type.Tuple [] ∷ type_named (codes "T") ∷ type_named (codes "Clone") ∷ []) [] [] in
-  let s = setting tables c in text_of s (printed s (struct_items s (Some (record { c = true; align = Some 8; pack = None })) (record {
-    name = codes "S";
-    generic_params = record {
-      type_or_consts = param.TypeParamData (record { name = Some (codes "T"); default = None; provenance = provenance.TypeParamList })
-        ∷ param.ConstParamData (record { name = codes "C"; ty = 0; default = Some (record { expr = 0 }) })
-        ∷ param.TypeParamData (record { name = Some (codes "X"); default = Some 1; provenance = provenance.TypeParamList }) ∷ [];
-      lifetimes = record { name = codes "'a"; bound_type = bound_type.EarlyBound } ∷ [];
-      predicates = predicate.TypeBound None 2 (bound.Path 3 modifier.None) ∷ [];
-    };
-    store = c;
-    is_fundamental = true;
-    shape = shape.Unit;
-  })))) ≡ codes "#[repr(C)]\n#[repr(align(8))]\n#[fundamental]\nstruct S<'a, T, const C: usize = 3, X = ()>\nwhere\n    T: Clone\n;\n"
+    let s = setting tables c in text_of s (printed s (struct_items s (Some (record { c = true; align = Some 8; pack = None })) (record {
+      name = codes "S";
+      generic_params = record {
+        type_or_consts = param.TypeParamData (record { name = Some (codes "T"); default = None; provenance = provenance.TypeParamList })
+            ∷ param.ConstParamData (record { name = codes "C"; ty = 0; default = Some (record { expr = 0 }) })
+            ∷ param.TypeParamData (record { name = Some (codes "X"); default = Some 1; provenance = provenance.TypeParamList }) ∷ [];
+        lifetimes = record { name = codes "'a"; bound_type = bound_type.EarlyBound } ∷ [];
+        predicates = predicate.TypeBound None 2 (bound.Path 3 modifier.None) ∷ [];
+      };
+      store = c;
+      is_fundamental = true;
+      shape = shape.Unit;
+    })))) ≡ codes "#[repr(C)]\n#[repr(align(8))]\n#[fundamental]\nstruct S<'a, T, const C: usize = 3, X = ()>\nwhere\n    T: Clone\n;\n"
 unfolding pieces value rank height digits
 all_of_a_struct = refl
 

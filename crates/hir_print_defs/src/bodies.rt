@@ -34,16 +34,27 @@ fn add_formals(works: &mut Works<'_>, params: &[Param<PatId>]) -> Result<(), All
 }
 
 /// Adds the binding of `self`, and then the formal patterns.
-fn add_self_first(works: &mut Works<'_>, binding: BindingId, params: &[Param<PatId>]) -> Result<(), AllocError>
+fn add_self_first(
+    works: &mut Works<'_>,
+    binding: BindingId,
+    params: &[Param<PatId>],
+) -> Result<(), AllocError>
     ensures { OnOk result (AddsAll (listed works.old)
         (λ s. comma_joined (binding_items s binding ∷ map p (formals_of params.now))) (listed works.new)) }
 {
-    works.add(&[Work::Look(Look::Binding(binding)), before_more(", ", params)])?;
+    works.add(&[
+        Work::Look(Look::Binding(binding)),
+        before_more(", ", params),
+    ])?;
     add_formals(works, params)
 }
 
 /// Adds the binding of `self`, where there is one, and the formal patterns.
-fn add_all_formals(works: &mut Works<'_>, self_binding: Option<BindingId>, params: &[Param<PatId>]) -> Result<(), AllocError>
+fn add_all_formals(
+    works: &mut Works<'_>,
+    self_binding: Option<BindingId>,
+    params: &[Param<PatId>],
+) -> Result<(), AllocError>
     ensures { OnOk result (AddsAll (listed works.old)
         (λ s. comma_joined (formal_params s self_binding (formals_of params.now))) (listed works.new)) }
 {
@@ -54,7 +65,11 @@ fn add_all_formals(works: &mut Works<'_>, self_binding: Option<BindingId>, param
 }
 
 /// Adds the parameters in parentheses.
-fn add_in_parentheses(works: &mut Works<'_>, self_binding: Option<BindingId>, params: &[Param<PatId>]) -> Result<(), AllocError>
+fn add_in_parentheses(
+    works: &mut Works<'_>,
+    self_binding: Option<BindingId>,
+    params: &[Param<PatId>],
+) -> Result<(), AllocError>
     ensures { OnOk result (AddsAll (listed works.old)
         (λ s. text (codes "(") ++ comma_joined (formal_params s self_binding (formals_of params.now)) ++ text (codes ") "))
         (listed works.new)) }
@@ -76,7 +91,9 @@ fn add_params(
 {
     match owner {
         DefWithBodyId::FunctionId(_) => add_in_parentheses(works, self_binding, params),
-        DefWithBodyId::StaticId(_) | DefWithBodyId::ConstId(_) | DefWithBodyId::VariantId(_) => Ok(()),
+        DefWithBodyId::StaticId(_) | DefWithBodyId::ConstId(_) | DefWithBodyId::VariantId(_) => Ok(
+            (),
+        ),
     }
 }
 
@@ -100,7 +117,12 @@ fn formal_self(body: &Body) -> Option<BindingId>
     }
 }
 
-fn add_body<'a>(works: &mut Works<'a>, tables: &'a Tables, body: &'a Body, owner: &DefWithBodyId) -> Result<(), AllocError>
+fn add_body<'a>(
+    works: &mut Works<'a>,
+    tables: &'a Tables,
+    body: &'a Body,
+    owner: &DefWithBodyId,
+) -> Result<(), AllocError>
     ensures { OnOk result (AddsAsked (answers tables.now) (listed works.old)
         (λ s. body_items s (parents tables.now) owner.now body.now) (listed works.new)) }
 {

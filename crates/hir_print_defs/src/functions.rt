@@ -73,7 +73,12 @@ fn add_marked(works: &mut Works<'_>, marks: &[bool], params: &[TypeRefId]) -> Re
     Ok(())
 }
 
-fn add_listed(works: &mut Works<'_>, alloc: Global, places: &[u32], params: &[TypeRefId]) -> Result<(), AllocError>
+fn add_listed(
+    works: &mut Works<'_>,
+    alloc: Global,
+    places: &[u32],
+    params: &[TypeRefId],
+) -> Result<(), AllocError>
     ensures { OnOk result (AddsAll (listed works.old) (λ s. arguments (Some places.now) params.now) (listed works.new)) }
 {
     let marks = marks_of(alloc, places, params.len())?;
@@ -81,7 +86,12 @@ fn add_listed(works: &mut Works<'_>, alloc: Global, places: &[u32], params: &[Ty
 }
 
 /// Adds the types of arguments, each with `const: ` before it where its place is listed.
-fn add_arguments<'a>(works: &mut Works<'a>, alloc: Global, places: Option<&[u32]>, params: &'a [TypeRefId]) -> Result<(), AllocError>
+fn add_arguments<'a>(
+    works: &mut Works<'a>,
+    alloc: Global,
+    places: Option<&[u32]>,
+    params: &'a [TypeRefId],
+) -> Result<(), AllocError>
     ensures { OnOk result (AddsAll (listed works.old)
         (λ s. arguments (option_map (λ list. list.now) places.entry) params.now) (listed works.new)) }
 {
@@ -113,18 +123,31 @@ fn add_front<'a>(works: &mut Works<'a>, signature: &'a FunctionSignature) -> Res
 }
 
 /// Adds the arguments and the return type.
-fn add_types<'a>(works: &mut Works<'a>, alloc: Global, signature: &'a FunctionSignature) -> Result<(), AllocError>
+fn add_types<'a>(
+    works: &mut Works<'a>,
+    alloc: Global,
+    signature: &'a FunctionSignature,
+) -> Result<(), AllocError>
     ensures { OnOk result (AddsAll (listed works.old) (λ s. function_types signature.now) (listed works.new)) }
 {
     works.add(&[Work::Text("(")])?;
-    add_arguments(works, alloc, signature.legacy_const_indices(), signature.params())?;
+    add_arguments(
+        works,
+        alloc,
+        signature.legacy_const_indices(),
+        signature.params(),
+    )?;
     works.add(&[
         Work::Text(")"),
         Work::TypePart(TypePart::After(" -> ", signature.ret_type())),
     ])
 }
 
-fn add_function<'a>(works: &mut Works<'a>, alloc: Global, signature: &'a FunctionSignature) -> Result<(), AllocError>
+fn add_function<'a>(
+    works: &mut Works<'a>,
+    alloc: Global,
+    signature: &'a FunctionSignature,
+) -> Result<(), AllocError>
     ensures { OnOk result (AddsAll (listed works.old) (λ s. function_items s signature.now) (listed works.new)) }
 {
     add_front(works, signature)?;

@@ -10,16 +10,27 @@ ghost use Rattle.hir_print_defs.specs.Signatures.{type_name, generic_param_items
 
 use crate::works::{Works, before_more};
 use hir_base::Name;
-use hir_defs::{ConstParamData, GenericParams, LifetimeParamData, TypeOrConstParamData, TypeParamData, WherePredicate};
+use hir_defs::{
+    ConstParamData, GenericParams, LifetimeParamData, TypeOrConstParamData, TypeParamData,
+    WherePredicate,
+};
 use hir_node::ConstRef;
 use hir_pretty::{Look, TypePart, Work};
 use std::alloc::AllocError;
 
-fn add_type_name<'a>(works: &mut Works<'a>, at: u32, name: Option<&'a Name>) -> Result<(), AllocError>
+fn add_type_name<'a>(
+    works: &mut Works<'a>,
+    at: u32,
+    name: Option<&'a Name>,
+) -> Result<(), AllocError>
     ensures { OnOk result (AddsAll (listed works.old) (λ s. type_name s at (option_copied name.entry)) (listed works.new)) }
 {
     match name {
-        None => works.add(&[Work::Text("Param["), Work::Number(u64::from(at)), Work::Text("]")]),
+        None => works.add(&[
+            Work::Text("Param["),
+            Work::Number(u64::from(at)),
+            Work::Text("]"),
+        ]),
         Some(name) => works.add(&[Work::Name(name.as_str())]),
     }
 }
@@ -43,7 +54,11 @@ fn add_default(works: &mut Works<'_>, default: Option<ConstRef>) -> Result<(), A
 }
 
 /// Adds a constant with its type and its default.
-fn add_const<'a>(works: &mut Works<'a>, at: u32, param: &'a ConstParamData) -> Result<(), AllocError>
+fn add_const<'a>(
+    works: &mut Works<'a>,
+    at: u32,
+    param: &'a ConstParamData,
+) -> Result<(), AllocError>
     ensures { OnOk result (AddsAll (listed works.old)
         (λ s. generic_param_items s at (TypeOrConstParamData.ConstParamData param.now)) (listed works.new)) }
 {
@@ -56,7 +71,11 @@ fn add_const<'a>(works: &mut Works<'a>, at: u32, param: &'a ConstParamData) -> R
     add_default(works, param.default)
 }
 
-fn add_type_or_const<'a>(works: &mut Works<'a>, at: u32, param: &'a TypeOrConstParamData) -> Result<(), AllocError>
+fn add_type_or_const<'a>(
+    works: &mut Works<'a>,
+    at: u32,
+    param: &'a TypeOrConstParamData,
+) -> Result<(), AllocError>
     ensures { OnOk result (AddsAll (listed works.old) (λ s. generic_param_items s at param.now) (listed works.new)) }
 {
     match param {
@@ -72,14 +91,21 @@ fn add_lifetimes<'a>(works: &mut Works<'a>, params: &'a GenericParams) -> Result
 {
     let mut after = false;
     for (_, lifetime) in params.iter_lt() {
-        works.add(&[Work::TextIf(after, ", "), Work::Name(lifetime.name.as_str())])?;
+        works.add(&[
+            Work::TextIf(after, ", "),
+            Work::Name(lifetime.name.as_str()),
+        ])?;
         after = true;
     }
     Ok(())
 }
 
 /// Adds types and constants in their places, each behind `, `; the first only where something stands before it.
-fn add_types_and_consts<'a>(works: &mut Works<'a>, params: &'a GenericParams, first: bool) -> Result<(), AllocError>
+fn add_types_and_consts<'a>(
+    works: &mut Works<'a>,
+    params: &'a GenericParams,
+    first: bool,
+) -> Result<(), AllocError>
     ensures { OnOk result (AddsAll (listed works.old)
         (λ s. following (text (codes ", ")) first (each_type_or_const s (enumerate_from 0 params.now.type_or_consts))) (listed works.new)) }
 {
@@ -104,7 +130,10 @@ fn add_in_angles<'a>(works: &mut Works<'a>, params: &'a GenericParams) -> Result
 }
 
 /// Adds all parameters in `<` and `>`, where there are any.
-pub(crate) fn add_generics<'a>(works: &mut Works<'a>, params: &'a GenericParams) -> Result<(), AllocError>
+pub(crate) fn add_generics<'a>(
+    works: &mut Works<'a>,
+    params: &'a GenericParams,
+) -> Result<(), AllocError>
     ensures { OnOk result (AddsAll (listed works.old) (λ s. generics_items s params.now) (listed works.new)) }
 {
     if params.is_empty() {
@@ -136,7 +165,10 @@ fn add_predicate<'a>(works: &mut Works<'a>, predicate: &'a WherePredicate) -> Re
     }
 }
 
-fn add_each_predicate<'a>(works: &mut Works<'a>, predicates: &'a [WherePredicate]) -> Result<(), AllocError>
+fn add_each_predicate<'a>(
+    works: &mut Works<'a>,
+    predicates: &'a [WherePredicate],
+) -> Result<(), AllocError>
     ensures { OnOk result (AddsAll (listed works.old) (λ s. each_predicate s predicates.now) (listed works.new)) }
 {
     let mut left = predicates;
@@ -149,7 +181,10 @@ fn add_each_predicate<'a>(works: &mut Works<'a>, predicates: &'a [WherePredicate
 }
 
 /// Adds what is asked, each on a line of its own behind `where`, where something is asked.
-pub(crate) fn add_where<'a>(works: &mut Works<'a>, predicates: &'a [WherePredicate]) -> Result<(), AllocError>
+pub(crate) fn add_where<'a>(
+    works: &mut Works<'a>,
+    predicates: &'a [WherePredicate],
+) -> Result<(), AllocError>
     ensures { OnOk result (AddsAll (listed works.old) (λ s. where_items s predicates.now) (listed works.new)) }
 {
     if predicates.is_empty() {

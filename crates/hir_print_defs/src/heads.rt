@@ -49,7 +49,12 @@ fn name_of<'a>(tables: &'a Tables, def: NamedDef) -> Work<'a>
     name_or(tables, def, "<missing>")
 }
 
-fn add_enum<'a>(works: &mut Works<'a>, tables: &'a Tables, id: EnumVariantId, parent: EnumId) -> Result<(), AllocError>
+fn add_enum<'a>(
+    works: &mut Works<'a>,
+    tables: &'a Tables,
+    id: EnumVariantId,
+    parent: EnumId,
+) -> Result<(), AllocError>
     ensures { OnOk result (AddsAsked (answers tables.now) (listed works.old) (λ s. of_enum s id (Ok parent)) (listed works.new)) }
 {
     works.add(&[
@@ -61,7 +66,11 @@ fn add_enum<'a>(works: &mut Works<'a>, tables: &'a Tables, id: EnumVariantId, pa
 }
 
 /// Adds the names of the variant's enum and of the variant. The enum is looked up first.
-fn add_variant_name<'a>(works: &mut Works<'a>, tables: &'a Tables, id: EnumVariantId) -> Result<(), AllocError>
+fn add_variant_name<'a>(
+    works: &mut Works<'a>,
+    tables: &'a Tables,
+    id: EnumVariantId,
+) -> Result<(), AllocError>
     ensures { OnOk result (AddsAsked (answers tables.now) (listed works.old) (λ s. variant_name s (parents tables.now) id) (listed works.new)) }
 {
     match tables.variant_parent(id) {
@@ -71,11 +80,18 @@ fn add_variant_name<'a>(works: &mut Works<'a>, tables: &'a Tables, id: EnumVaria
 }
 
 /// Adds what a body begins with. A constant without a name is `_`.
-pub(crate) fn add_body_head<'a>(works: &mut Works<'a>, tables: &'a Tables, owner: &DefWithBodyId) -> Result<(), AllocError>
+pub(crate) fn add_body_head<'a>(
+    works: &mut Works<'a>,
+    tables: &'a Tables,
+    owner: &DefWithBodyId,
+) -> Result<(), AllocError>
     ensures { OnOk result (AddsAsked (answers tables.now) (listed works.old) (λ s. body_head s (parents tables.now) owner.now) (listed works.new)) }
 {
     match owner {
-        DefWithBodyId::FunctionId(id) => works.add(&[Work::Text("fn "), name_of(tables, NamedDef::FunctionId(*id))]),
+        DefWithBodyId::FunctionId(id) => works.add(&[
+            Work::Text("fn "),
+            name_of(tables, NamedDef::FunctionId(*id)),
+        ]),
         DefWithBodyId::StaticId(id) => works.add(&[
             Work::Text("static "),
             name_of(tables, NamedDef::StaticId(*id)),
@@ -91,13 +107,23 @@ pub(crate) fn add_body_head<'a>(works: &mut Works<'a>, tables: &'a Tables, owner
 }
 
 /// Adds what a struct, a union or a variant begins with.
-pub(crate) fn add_variant_head<'a>(works: &mut Works<'a>, tables: &'a Tables, owner: &VariantId) -> Result<(), AllocError>
+pub(crate) fn add_variant_head<'a>(
+    works: &mut Works<'a>,
+    tables: &'a Tables,
+    owner: &VariantId,
+) -> Result<(), AllocError>
     ensures { OnOk result (AddsAsked (answers tables.now) (listed works.old) (λ s. variant_head s (parents tables.now) owner.now) (listed works.new)) }
 {
     match owner {
         VariantId::EnumVariantId(id) => add_variant_name(works, tables, *id),
-        VariantId::StructId(id) => works.add(&[Work::Text("struct "), name_of(tables, NamedDef::StructId(*id))]),
-        VariantId::UnionId(id) => works.add(&[Work::Text("union "), name_of(tables, NamedDef::UnionId(*id))]),
+        VariantId::StructId(id) => works.add(&[
+            Work::Text("struct "),
+            name_of(tables, NamedDef::StructId(*id)),
+        ]),
+        VariantId::UnionId(id) => works.add(&[
+            Work::Text("union "),
+            name_of(tables, NamedDef::UnionId(*id)),
+        ]),
     }
 }
 

@@ -17,7 +17,11 @@ use hir_pretty::PrintFault;
 use std::alloc::{AllocError, Global};
 
 /// Writes that the signature of a definition of this kind isn't printed.
-fn write_unimplemented<W: PieceWriter>(writer: &mut W, kind: &str, id: u32) -> Result<(), AllocError>
+fn write_unimplemented<W: PieceWriter>(
+    writer: &mut W,
+    kind: &str,
+    id: u32,
+) -> Result<(), AllocError>
     ensures { Writes W.step W.refuses writer.old (unimplemented_pieces kind.now id) (is_ok result) writer.new }
 {
     writer.text("unimplemented ")?;
@@ -39,7 +43,12 @@ fn print_other(alloc: Global, kind: &str, id: u32) -> Result<String, PrintFault>
     }
 }
 
-fn print_function_of(alloc: Global, tables: &Tables, id: FunctionId, edition: Edition) -> Result<String, PrintFault>
+fn print_function_of(
+    alloc: Global,
+    tables: &Tables,
+    id: FunctionId,
+    edition: Edition,
+) -> Result<String, PrintFault>
     ensures { PrintsFunction tables.now (words_of tables.now.words edition) id (function_found tables.now id) result }
 {
     match tables.function_signature(id) {
@@ -48,7 +57,12 @@ fn print_function_of(alloc: Global, tables: &Tables, id: FunctionId, edition: Ed
     }
 }
 
-fn print_struct_of(alloc: Global, tables: &Tables, id: StructId, edition: Edition) -> Result<String, PrintFault>
+fn print_struct_of(
+    alloc: Global,
+    tables: &Tables,
+    id: StructId,
+    edition: Edition,
+) -> Result<String, PrintFault>
     ensures { PrintsStruct tables.now (words_of tables.now.words edition) id (struct_found tables.now id) result }
 {
     match tables.struct_signature(id) {
@@ -57,7 +71,12 @@ fn print_struct_of(alloc: Global, tables: &Tables, id: StructId, edition: Editio
     }
 }
 
-fn print_adt(alloc: Global, tables: &Tables, owner: AdtId, edition: Edition) -> Result<String, PrintFault>
+fn print_adt(
+    alloc: Global,
+    tables: &Tables,
+    owner: AdtId,
+    edition: Edition,
+) -> Result<String, PrintFault>
     ensures { PrintsAdt tables.now (words_of tables.now.words edition) owner result }
 {
     match owner {
@@ -72,7 +91,12 @@ fn print_adt(alloc: Global, tables: &Tables, owner: AdtId, edition: Edition) -> 
 ///
 /// Answers `Missing` of the signature where the tables have none of the function or of the struct, or else of the first definition outside
 /// that the text names and that the tables don't have; and `Memory` where memory was refused. Nothing is left of a text that was begun.
-pub fn print_signature(alloc: Global, tables: &Tables, owner: GenericDefId, edition: Edition) -> Result<String, PrintFault>
+pub fn print_signature(
+    alloc: Global,
+    tables: &Tables,
+    owner: GenericDefId,
+    edition: Edition,
+) -> Result<String, PrintFault>
     ensures { PrintsSignature tables.now (words_of tables.now.words edition) owner result }
 {
     match owner {

@@ -20,7 +20,11 @@ use hir_defs::{FieldsShape, Repr, StructSignature, Tables};
 use hir_pretty::{PrintFault, Work};
 use std::alloc::{AllocError, Global};
 
-fn add_attribute_if(works: &mut Works<'_>, holds: bool, attribute: &'static str) -> Result<(), AllocError>
+fn add_attribute_if(
+    works: &mut Works<'_>,
+    holds: bool,
+    attribute: &'static str,
+) -> Result<(), AllocError>
     ensures { OnOk result (AddsAll (listed works.old) (λ s. when holds (text attribute.now ++ br)) (listed works.new)) }
 {
     if holds {
@@ -30,7 +34,11 @@ fn add_attribute_if(works: &mut Works<'_>, holds: bool, attribute: &'static str)
 }
 
 /// Adds an attribute with so many bytes, where there are any.
-fn add_bytes(works: &mut Works<'_>, before: &'static str, bytes: Option<u64>) -> Result<(), AllocError>
+fn add_bytes(
+    works: &mut Works<'_>,
+    before: &'static str,
+    bytes: Option<u64>,
+) -> Result<(), AllocError>
     ensures { OnOk result (AddsAll (listed works.old)
         (λ s. opt (λ n. text before.now ++ text (decimal n) ++ text (codes "))]") ++ br) bytes) (listed works.new)) }
 {
@@ -82,7 +90,11 @@ fn add_end(works: &mut Works<'_>, shape: FieldsShape) -> Result<(), AllocError>
 }
 
 /// Adds the attributes, the name and the parameters.
-fn add_front<'a>(works: &mut Works<'a>, repr: Option<Repr>, signature: &'a StructSignature) -> Result<(), AllocError>
+fn add_front<'a>(
+    works: &mut Works<'a>,
+    repr: Option<Repr>,
+    signature: &'a StructSignature,
+) -> Result<(), AllocError>
     ensures { OnOk result (AddsAll (listed works.old) (λ s. struct_front s repr signature.now) (listed works.new)) }
 {
     add_repr_opt(works, repr)?;
@@ -91,7 +103,11 @@ fn add_front<'a>(works: &mut Works<'a>, repr: Option<Repr>, signature: &'a Struc
     add_generics(works, signature.generic_params())
 }
 
-fn add_struct<'a>(works: &mut Works<'a>, repr: Option<Repr>, signature: &'a StructSignature) -> Result<(), AllocError>
+fn add_struct<'a>(
+    works: &mut Works<'a>,
+    repr: Option<Repr>,
+    signature: &'a StructSignature,
+) -> Result<(), AllocError>
     ensures { OnOk result (AddsAll (listed works.old) (λ s. struct_items s repr signature.now) (listed works.new)) }
 {
     add_front(works, repr, signature)?;

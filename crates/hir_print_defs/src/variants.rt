@@ -36,7 +36,11 @@ fn add_behind<'a>(works: &mut Works<'a>, word: &'a str, names: &'a [Name]) -> Re
     ])
 }
 
-fn add_behind_supers<'a>(works: &mut Works<'a>, times: u8, names: &'a [Name]) -> Result<(), AllocError>
+fn add_behind_supers<'a>(
+    works: &mut Works<'a>,
+    times: u8,
+    names: &'a [Name],
+) -> Result<(), AllocError>
     ensures { OnOk result (AddsAll (listed works.old)
         (λ s. joined (text (codes "::")) (supers times ∷ map (name_items s) names.now)) (listed works.new)) }
 {
@@ -51,7 +55,10 @@ fn add_absolute<'a>(works: &mut Works<'a>, names: &'a [Name]) -> Result<(), Allo
     ensures { OnOk result (AddsAll (listed works.old)
         (λ s. joined (text (codes "::")) ([] ∷ map (name_items s) names.now)) (listed works.new)) }
 {
-    works.add(&[before_more("::", names), Work::Path(PathPart::Names("::", names))])
+    works.add(&[
+        before_more("::", names),
+        Work::Path(PathPart::Names("::", names)),
+    ])
 }
 
 /// Adds the path of a module: where it begins, and its names.
@@ -77,7 +84,10 @@ fn add_in_module<'a>(works: &mut Works<'a>, path: &'a ModPath) -> Result<(), All
     works.add(&[Work::Text(") ")])
 }
 
-fn add_visibility<'a>(works: &mut Works<'a>, visibility: &'a RawVisibility) -> Result<(), AllocError>
+fn add_visibility<'a>(
+    works: &mut Works<'a>,
+    visibility: &'a RawVisibility,
+) -> Result<(), AllocError>
     ensures { OnOk result (AddsAll (listed works.old) (λ s. visibility_items s visibility.now) (listed works.new)) }
 {
     match visibility {
@@ -135,7 +145,11 @@ fn add_end(works: &mut Works<'_>, shape: FieldsShape) -> Result<(), AllocError>
 }
 
 /// Adds fields, and what stands around them.
-fn add_fields<'a>(works: &mut Works<'a>, shape: FieldsShape, fields: &'a [FieldData]) -> Result<(), AllocError>
+fn add_fields<'a>(
+    works: &mut Works<'a>,
+    shape: FieldsShape,
+    fields: &'a [FieldData],
+) -> Result<(), AllocError>
     ensures { OnOk result (AddsAll (listed works.old) (λ s. fields_items s shape fields.now) (listed works.new)) }
 {
     add_begin(works, shape)?;
@@ -143,7 +157,12 @@ fn add_fields<'a>(works: &mut Works<'a>, shape: FieldsShape, fields: &'a [FieldD
     add_end(works, shape)
 }
 
-fn add_variant<'a>(works: &mut Works<'a>, tables: &'a Tables, owner: &VariantId, fields: &'a VariantFields) -> Result<(), AllocError>
+fn add_variant<'a>(
+    works: &mut Works<'a>,
+    tables: &'a Tables,
+    owner: &VariantId,
+    fields: &'a VariantFields,
+) -> Result<(), AllocError>
     ensures { OnOk result (AddsAsked (answers tables.now) (listed works.old)
         (λ s. variant_items s (parents tables.now) owner.now fields.now) (listed works.new)) }
 {

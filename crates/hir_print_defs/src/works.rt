@@ -29,7 +29,9 @@ impl<'a> Works<'a> {
     pub(crate) fn new(alloc: Global) -> Works<'a>
         ensures { listed result ≡ [] }
     {
-        Works { list: Vec::new(alloc) }
+        Works {
+            list: Vec::new(alloc),
+        }
     }
 
     /// Puts works behind the others. Room is asked for once.
@@ -51,7 +53,14 @@ impl<'a> Works<'a> {
         ensures { let s = setting store.now (answers tables.now) (words_of tables.now.words edition) false in
             PrintsPieces s (printed s (meant s (listed self.old))) result }
     {
-        print_works(alloc, store, tables, tables.raw_words(edition), false, &mut self.list)
+        print_works(
+            alloc,
+            store,
+            tables,
+            tables.raw_words(edition),
+            false,
+            &mut self.list,
+        )
     }
 }
 

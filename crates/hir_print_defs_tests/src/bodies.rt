@@ -3,8 +3,8 @@ use crate::made::{body, named};
 use crate::memory::{misses, reads};
 use crate::nodes::{BARE, BindingOf, ExprOf, PatOf, StatementOf, Tree};
 use hir_base::{
-    ArithOp, BinaryOp, ConstId, DefWithBodyId, Edition, EnumId, EnumVariantId, ExpressionStoreOwnerId, FunctionId, Idx, LogicOp, NamedDef,
-    StaticId,
+    ArithOp, BinaryOp, ConstId, DefWithBodyId, Edition, EnumId, EnumVariantId,
+    ExpressionStoreOwnerId, FunctionId, Idx, LogicOp, NamedDef, StaticId,
 };
 use hir_defs::Tables;
 use hir_expr_store::Missing;
@@ -61,7 +61,12 @@ const ASSIGN: Tree = Tree {
 /// `()` with the parameters `(a, R..=)` and `b`.
 const PARAMS: Tree = Tree {
     bindings: &[BindingOf("a"), BindingOf("b")],
-    pats: &[PatOf::Bind(0), PatOf::RangeFrom(0), PatOf::Tuple(&[0, 1]), PatOf::Bind(1)],
+    pats: &[
+        PatOf::Bind(0),
+        PatOf::RangeFrom(0),
+        PatOf::Tuple(&[0, 1]),
+        PatOf::Bind(1),
+    ],
     exprs: &[ExprOf::Path("R"), ExprOf::Unit],
     root: Some(1),
     ..BARE
@@ -126,7 +131,10 @@ fn variant() -> DefWithBodyId {
 
 /// Tables in which function 0 has this name, or none.
 fn of_function(alloc: Global, name: Option<&'static str>) -> Result<Box<Tables>, Fail> {
-    named(alloc, &[(NamedDef::FunctionId(FunctionId::from_raw(0)), name)])
+    named(
+        alloc,
+        &[(NamedDef::FunctionId(FunctionId::from_raw(0)), name)],
+    )
 }
 
 /// Whether the body of this tree reads so, as that of function 0.
@@ -139,7 +147,10 @@ fn function_reads(
     wanted: &str,
 ) -> Result<bool, Fail> {
     let body = body(alloc, tree, params, has_self)?;
-    reads(print_body_hir(alloc, tables, &body, function(), Edition::Edition2021), wanted)
+    reads(
+        print_body_hir(alloc, tables, &body, function(), Edition::Edition2021),
+        wanted,
+    )
 }
 
 #[test]
@@ -149,10 +160,38 @@ fn functions(rt: HostRuntime) -> Result<(), Fail> {
     let f = of_function(a, Some("f"))?;
     let nameless = of_function(a, None)?;
     let found = [
-        function_reads(a, &foo, &LET, &[0], false, "fn foo(x) {\n    let x = &x;\n    x\n}")?,
-        function_reads(a, &f, &IF_LET, &[], false, "fn f() if let p = a && M1 {} else {\n    M2\n}")?,
-        function_reads(a, &nameless, &ASSIGN, &[], false, "fn <missing>() {\n    x = M;\n    W\n}")?,
-        function_reads(a, &nameless, &PARAMS, &[2, 3], false, "fn <missing>((a, R..=), b) ()")?,
+        function_reads(
+            a,
+            &foo,
+            &LET,
+            &[0],
+            false,
+            "fn foo(x) {\n    let x = &x;\n    x\n}",
+        )?,
+        function_reads(
+            a,
+            &f,
+            &IF_LET,
+            &[],
+            false,
+            "fn f() if let p = a && M1 {} else {\n    M2\n}",
+        )?,
+        function_reads(
+            a,
+            &nameless,
+            &ASSIGN,
+            &[],
+            false,
+            "fn <missing>() {\n    x = M;\n    W\n}",
+        )?,
+        function_reads(
+            a,
+            &nameless,
+            &PARAMS,
+            &[2, 3],
+            false,
+            "fn <missing>((a, R..=), b) ()",
+        )?,
         function_reads(a, &foo, &METHOD, &[], true, "fn foo(self) {\n    x\n}")?,
         function_reads(a, &foo, &METHOD, &[0], true, "fn foo(self, x) {\n    x\n}")?,
         function_reads(a, &f, &MINUS, &[], false, "fn f() (a - b) - c")?,
@@ -173,7 +212,10 @@ fn of_values(alloc: Global) -> Result<Box<Tables>, Fail> {
             (NamedDef::ConstId(ConstId::from_raw(0)), None),
             (NamedDef::StaticId(StaticId::from_raw(0)), Some("S")),
             (NamedDef::EnumId(EnumId::from_raw(0)), Some("E")),
-            (NamedDef::EnumVariantId(EnumVariantId::from_raw(0)), Some("V")),
+            (
+                NamedDef::EnumVariantId(EnumVariantId::from_raw(0)),
+                Some("V"),
+            ),
         ],
     )?;
     tables.add_variant_parent(EnumVariantId::from_raw(0), EnumId::from_raw(0))?;
@@ -190,9 +232,18 @@ fn values(rt: HostRuntime) -> Result<(), Fail> {
     let constant = DefWithBodyId::ConstId(ConstId::from_raw(0));
     let of_static = DefWithBodyId::StaticId(StaticId::from_raw(0));
     let found = [
-        reads(print_body_hir(a, &tables, &x, constant, edition), "const _ = x;")?,
-        reads(print_body_hir(a, &tables, &x, of_static, edition), "static S = x;")?,
-        reads(print_body_hir(a, &tables, &one, variant(), edition), "enum E::V1")?,
+        reads(
+            print_body_hir(a, &tables, &x, constant, edition),
+            "const _ = x;",
+        )?,
+        reads(
+            print_body_hir(a, &tables, &x, of_static, edition),
+            "static S = x;",
+        )?,
+        reads(
+            print_body_hir(a, &tables, &one, variant(), edition),
+            "enum E::V1",
+        )?,
     ];
     drop(tables);
     drop(x);
@@ -216,10 +267,22 @@ fn what_is_missing_first(rt: HostRuntime) -> Result<(), Fail> {
     let no_name = Missing::Name(NamedDef::EnumVariantId(EnumVariantId::from_raw(0)));
     let no_function = Missing::Name(NamedDef::FunctionId(FunctionId::from_raw(0)));
     let found = [
-        misses(print_body_hir(a, &empty, &one, variant(), edition), no_variant)?,
-        misses(print_body_hir(a, &parent_alone, &one, variant(), edition), no_enum)?,
-        misses(print_body_hir(a, &enum_named, &one, variant(), edition), no_name)?,
-        misses(print_body_hir(a, &empty, &one, function(), edition), no_function)?,
+        misses(
+            print_body_hir(a, &empty, &one, variant(), edition),
+            no_variant,
+        )?,
+        misses(
+            print_body_hir(a, &parent_alone, &one, variant(), edition),
+            no_enum,
+        )?,
+        misses(
+            print_body_hir(a, &enum_named, &one, variant(), edition),
+            no_name,
+        )?,
+        misses(
+            print_body_hir(a, &empty, &one, function(), edition),
+            no_function,
+        )?,
     ];
     drop(empty);
     drop(parent_alone);
@@ -243,9 +306,18 @@ fn calls_of_a_body(rt: HostRuntime) -> Result<(), Fail> {
         return Ok(());
     }
     let found = [
-        reads(body.pretty_print(a, &tables, function(), edition), "fn f(x) {\n    let x = &x;\n    x\n}")?,
-        reads(body.pretty_print_expr(a, &tables, function(), expr, edition), "&x")?,
-        reads(body.pretty_print_pat(a, &tables, owner, pat, true, edition), "x")?,
+        reads(
+            body.pretty_print(a, &tables, function(), edition),
+            "fn f(x) {\n    let x = &x;\n    x\n}",
+        )?,
+        reads(
+            body.pretty_print_expr(a, &tables, function(), expr, edition),
+            "&x",
+        )?,
+        reads(
+            body.pretty_print_pat(a, &tables, owner, pat, true, edition),
+            "x",
+        )?,
     ];
     drop(tables);
     drop(body);

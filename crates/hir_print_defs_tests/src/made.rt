@@ -4,8 +4,8 @@ use crate::nodes::{self, Tree};
 use crate::params::{self, Listed};
 use hir_base::{ExternAbi, Idx, Name, NamedDef, Seq, Text};
 use hir_defs::{
-    Body, FieldData, FieldsShape, FunctionParts, FunctionSignature, Param, RawVisibility, StructParts, StructSignature, Tables,
-    VariantFields, VariantParts,
+    Body, FieldData, FieldsShape, FunctionParts, FunctionSignature, Param, RawVisibility,
+    StructParts, StructSignature, Tables, VariantFields, VariantParts,
 };
 use hir_node::PatId;
 use std::alloc::{AllocError, Global};
@@ -19,7 +19,10 @@ fn text(alloc: Global, name: Option<&'static str>) -> Result<Option<Text>, Alloc
 }
 
 /// Tables in which these definitions have these names, and nothing else.
-pub fn named(alloc: Global, entries: &[(NamedDef, Option<&'static str>)]) -> Result<Box<Tables>, Fail> {
+pub fn named(
+    alloc: Global,
+    entries: &[(NamedDef, Option<&'static str>)],
+) -> Result<Box<Tables>, Fail> {
     let mut tables = in_a_box(alloc, Tables::new(alloc))?;
     for (def, name) in entries {
         let name = text(alloc, *name)?;
@@ -32,7 +35,13 @@ fn formals(alloc: Global, numbers: &[u32]) -> Result<Seq<Param<PatId>>, AllocErr
     let mut formals = Seq::new(alloc);
     for number in numbers {
         let id = Idx::from_raw(*number);
-        push(&mut formals, Param { formal: id, user_written: id })?;
+        push(
+            &mut formals,
+            Param {
+                formal: id,
+                user_written: id,
+            },
+        )?;
     }
     Ok(formals)
 }
@@ -42,7 +51,14 @@ pub fn body(alloc: Global, tree: &Tree, params: &[u32], has_self: bool) -> Resul
     let store = nodes::store(alloc, tree)?;
     let params = formals(alloc, params)?;
     let id = Idx::from_raw(0);
-    let self_param = if has_self { Some(Param { formal: id, user_written: id }) } else { None };
+    let self_param = if has_self {
+        Some(Param {
+            formal: id,
+            user_written: id,
+        })
+    } else {
+        None
+    };
     let body = Body::new(alloc, Box::into_inner(store), params, self_param)?;
     Ok(in_a_box(alloc, body)?)
 }

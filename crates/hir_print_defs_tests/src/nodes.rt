@@ -1,12 +1,13 @@
 //! The nodes of the stores that are printed, each written as its case.
 use crate::memory::{Written, add_all, first, in_a_box, names, push, taken};
 use hir_base::{
-    AdtId, BinaryOp, ExternAbi, FunctionId, GenericDefId, HygieneId, Idx, ModPath, Name, PathKind, RangeOp, Seq, StructId, TypeOrConstParamId,
-    TypeParamId,
+    AdtId, BinaryOp, ExternAbi, FunctionId, GenericDefId, HygieneId, Idx, ModPath, Name, PathKind,
+    RangeOp, Seq, StructId, TypeOrConstParamId, TypeParamId,
 };
 use hir_node::{
-    AssociatedTypeBinding, Binding, BindingAnnotation, Boxed, Expr, FnType, GenericArg, GenericArgs, GenericArgsParentheses, LifetimeRef,
-    Literal, Mutability, Pat, Path, PathId, Rawness, Statement, TraitBoundModifier, TypeBound, TypeRef, Unsafe,
+    AssociatedTypeBinding, Binding, BindingAnnotation, Boxed, Expr, FnType, GenericArg,
+    GenericArgs, GenericArgsParentheses, LifetimeRef, Literal, Mutability, Pat, Path, PathId,
+    Rawness, Statement, TraitBoundModifier, TypeBound, TypeRef, Unsafe,
 };
 use hir_store::{ExpressionStore, ExpressionStoreBuilder};
 use std::alloc::{AllocError, Global};
@@ -131,7 +132,10 @@ impl Written<Pat> for PatOf {
             }),
             PatOf::Tuple(args) => {
                 let args = ids(alloc, args)?;
-                Ok(Pat::Tuple { args, ellipsis: None })
+                Ok(Pat::Tuple {
+                    args,
+                    ellipsis: None,
+                })
             }
         }
     }
@@ -184,7 +188,9 @@ impl Written<Expr> for ExprOf {
                 Ok(Expr::Path(path))
             }
             ExprOf::Int(number) => Ok(Expr::Literal(Literal::Int(*number, None))),
-            ExprOf::Unit => Ok(Expr::Tuple { exprs: Seq::new(alloc) }),
+            ExprOf::Unit => Ok(Expr::Tuple {
+                exprs: Seq::new(alloc),
+            }),
             ExprOf::Ref(expr) => Ok(Expr::Ref {
                 expr: Idx::from_raw(*expr),
                 rawness: Rawness::Ref,
@@ -254,7 +260,10 @@ fn lifetime_arg(alloc: Global, lifetime: Option<u32>) -> Result<Seq<GenericArg>,
     Ok(args)
 }
 
-fn item(alloc: Global, item: &(&'static str, u32)) -> Result<Seq<AssociatedTypeBinding>, AllocError> {
+fn item(
+    alloc: Global,
+    item: &(&'static str, u32),
+) -> Result<Seq<AssociatedTypeBinding>, AllocError> {
     let name = Name::new(alloc, item.0)?;
     let binding = AssociatedTypeBinding {
         name,
@@ -279,7 +288,11 @@ fn args(alloc: Global, written: &ArgsOf) -> Result<GenericArgs, AllocError> {
 }
 
 /// A list for each segment, the arguments in the last.
-fn of_last(alloc: Global, written: &ArgsOf, segments: usize) -> Result<Seq<Option<GenericArgs>>, AllocError> {
+fn of_last(
+    alloc: Global,
+    written: &ArgsOf,
+    segments: usize,
+) -> Result<Seq<Option<GenericArgs>>, AllocError> {
     let mut lists = Seq::new(alloc);
     for _ in 1..segments {
         push(&mut lists, None)?;
@@ -288,7 +301,12 @@ fn of_last(alloc: Global, written: &ArgsOf, segments: usize) -> Result<Seq<Optio
     Ok(lists)
 }
 
-fn path_with(alloc: Global, kind: PathKind, segments: &[&'static str], written: &ArgsOf) -> Result<TypeRef, AllocError> {
+fn path_with(
+    alloc: Global,
+    kind: PathKind,
+    segments: &[&'static str],
+    written: &ArgsOf,
+) -> Result<TypeRef, AllocError> {
     let lists = of_last(alloc, written, segments.len())?;
     let segments = names(alloc, segments)?;
     let path = ModPath::from_segments(kind, segments);
@@ -325,12 +343,23 @@ impl Written<TypeRef> for TypeOf {
                 let path = plain_path(alloc, text)?;
                 Ok(TypeRef::Path(path))
             }
-            TypeOf::Absolute(segments, written) => path_with(alloc, PathKind::Abs, segments, written),
+            TypeOf::Absolute(segments, written) => path_with(
+                alloc,
+                PathKind::Abs,
+                segments,
+                written,
+            ),
             TypeOf::With(text, written) => path_with(alloc, PathKind::Plain, &[*text], written),
             TypeOf::Unit => Ok(TypeRef::Tuple(Seq::new(alloc))),
             TypeOf::Fn(ret) => function_type(alloc, *ret),
-            TypeOf::OfFunction(number) => Ok(type_param(GenericDefId::FunctionId(FunctionId::from_raw(0)), *number)),
-            TypeOf::OfStruct(number) => Ok(type_param(GenericDefId::AdtId(AdtId::StructId(StructId::from_raw(0))), *number)),
+            TypeOf::OfFunction(number) => Ok(type_param(
+                GenericDefId::FunctionId(FunctionId::from_raw(0)),
+                *number,
+            )),
+            TypeOf::OfStruct(number) => Ok(type_param(
+                GenericDefId::AdtId(AdtId::StructId(StructId::from_raw(0))),
+                *number,
+            )),
             TypeOf::Impl(bound) => {
                 let mut bounds = Seq::new(alloc);
                 push(&mut bounds, bound.made(alloc)?)?;

@@ -5,7 +5,8 @@ use crate::nodes::{BARE, BoundOf, Tree, TypeOf};
 use crate::params::{Entry, Listed, NONE, Predicate};
 use crate::variants::no_sources;
 use hir_base::{
-    AdtId, ConstId, Edition, EnumId, FunctionId, GenericDefId, ImplId, StaticId, StructId, TraitId, TypeAliasId, UnionId,
+    AdtId, ConstId, Edition, EnumId, FunctionId, GenericDefId, ImplId, StaticId, StructId, TraitId,
+    TypeAliasId, UnionId,
 };
 use hir_defs::{FieldsShape, Tables};
 use hir_expr_store::Missing;
@@ -17,7 +18,11 @@ use std::test::Fail;
 const IMPL_TRAIT: FunctionOf = FunctionOf {
     name: "impl_trait_args",
     tree: Tree {
-        types: &[TypeOf::OfFunction(1), TypeOf::OfFunction(1), TypeOf::Path("Trait")],
+        types: &[
+            TypeOf::OfFunction(1),
+            TypeOf::OfFunction(1),
+            TypeOf::Path("Trait"),
+        ],
         ..BARE
     },
     generics: Listed {
@@ -36,8 +41,16 @@ fn signed(alloc: Global) -> Result<Box<Tables>, Fail> {
     let of_struct = structure(alloc, &BARE, &NONE, FieldsShape::Tuple, false)?;
     let sources = no_sources(alloc)?;
     let others = no_sources(alloc)?;
-    taken(tables.add_function(FunctionId::from_raw(0), Box::into_inner(of_function), Box::into_inner(sources)))?;
-    taken(tables.add_struct(StructId::from_raw(0), Box::into_inner(of_struct), Box::into_inner(others)))?;
+    taken(tables.add_function(
+        FunctionId::from_raw(0),
+        Box::into_inner(of_function),
+        Box::into_inner(sources),
+    ))?;
+    taken(tables.add_struct(
+        StructId::from_raw(0),
+        Box::into_inner(of_struct),
+        Box::into_inner(others),
+    ))?;
     Ok(tables)
 }
 
@@ -57,9 +70,18 @@ fn signatures_of_tables(rt: HostRuntime) -> Result<(), Fail> {
             print_signature(a, &tables, of_0, edition),
             "fn impl_trait_args<T, Param[1]>(Param[1])\nwhere\n    Param[1]: Trait\n {...}\n",
         )?,
-        reads(print_signature(a, &tables, structure_of(0), edition), "struct S(...)\n;\n")?,
-        misses(print_signature(a, &tables, of_2, edition), Missing::Signature(of_2))?,
-        misses(print_signature(a, &tables, structure_of(2), edition), Missing::Signature(structure_of(2)))?,
+        reads(
+            print_signature(a, &tables, structure_of(0), edition),
+            "struct S(...)\n;\n",
+        )?,
+        misses(
+            print_signature(a, &tables, of_2, edition),
+            Missing::Signature(of_2),
+        )?,
+        misses(
+            print_signature(a, &tables, structure_of(2), edition),
+            Missing::Signature(structure_of(2)),
+        )?,
     ];
     drop(tables);
     assert!(&rt; found == [true; 4]);
@@ -79,13 +101,34 @@ fn other_definitions(rt: HostRuntime) -> Result<(), Fail> {
     let of_trait = GenericDefId::TraitId(TraitId::from_raw(3));
     let of_alias = GenericDefId::TypeAliasId(TypeAliasId::from_raw(4));
     let found = [
-        reads(print_signature(a, &tables, of_enum, edition), "unimplemented EnumId(5)")?,
-        reads(print_signature(a, &tables, of_union, edition), "unimplemented UnionId(0)")?,
-        reads(print_signature(a, &tables, of_const, edition), "unimplemented ConstId(1)")?,
-        reads(print_signature(a, &tables, of_impl, edition), "unimplemented ImplId(4294967295)")?,
-        reads(print_signature(a, &tables, of_static, edition), "unimplemented StaticId(2)")?,
-        reads(print_signature(a, &tables, of_trait, edition), "unimplemented TraitId(3)")?,
-        reads(print_signature(a, &tables, of_alias, edition), "unimplemented TypeAliasId(4)")?,
+        reads(
+            print_signature(a, &tables, of_enum, edition),
+            "unimplemented EnumId(5)",
+        )?,
+        reads(
+            print_signature(a, &tables, of_union, edition),
+            "unimplemented UnionId(0)",
+        )?,
+        reads(
+            print_signature(a, &tables, of_const, edition),
+            "unimplemented ConstId(1)",
+        )?,
+        reads(
+            print_signature(a, &tables, of_impl, edition),
+            "unimplemented ImplId(4294967295)",
+        )?,
+        reads(
+            print_signature(a, &tables, of_static, edition),
+            "unimplemented StaticId(2)",
+        )?,
+        reads(
+            print_signature(a, &tables, of_trait, edition),
+            "unimplemented TraitId(3)",
+        )?,
+        reads(
+            print_signature(a, &tables, of_alias, edition),
+            "unimplemented TypeAliasId(4)",
+        )?,
     ];
     drop(tables);
     assert!(&rt; found == [true; 7]);

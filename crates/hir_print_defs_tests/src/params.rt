@@ -3,8 +3,8 @@ use crate::memory::{Written, arena, in_a_box, list, names};
 use crate::nodes::BoundOf;
 use hir_base::{Idx, Name};
 use hir_defs::{
-    ConstParamData, GenericParams, LifetimeBoundType, LifetimeParamData, TypeOrConstParamData, TypeParamData, TypeParamProvenance,
-    WherePredicate,
+    ConstParamData, GenericParams, LifetimeBoundType, LifetimeParamData, TypeOrConstParamData,
+    TypeParamData, TypeParamProvenance, WherePredicate,
 };
 use hir_node::ConstRef;
 use std::alloc::{AllocError, Global};
@@ -66,7 +66,9 @@ impl Written<TypeOrConstParamData> for Entry {
                 let name = Name::new(alloc, text)?;
                 let default = match default {
                     None => None,
-                    Some(expr) => Some(ConstRef { expr: Idx::from_raw(*expr) }),
+                    Some(expr) => Some(ConstRef {
+                        expr: Idx::from_raw(*expr),
+                    }),
                 };
                 Ok(TypeOrConstParamData::ConstParamData(ConstParamData {
                     name,

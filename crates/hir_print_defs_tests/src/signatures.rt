@@ -3,7 +3,9 @@ use crate::made::{Abi, FunctionOf, PLAIN, function, named, structure};
 use crate::memory::{misses, reads};
 use crate::nodes::{ArgsOf, BARE, BoundOf, ExprOf, LifetimeOf, Tree, TypeOf};
 use crate::params::{Entry, Lifetime, Listed, NONE, Predicate};
-use hir_base::{AdtId, Edition, FunctionId, GenericDefId, Idx, StructId, TypeOrConstParamId, TypeParamId};
+use hir_base::{
+    AdtId, Edition, FunctionId, GenericDefId, Idx, StructId, TypeOrConstParamId, TypeParamId,
+};
 use hir_defs::{FieldsShape, Repr};
 use hir_expr_store::Missing;
 use hir_print_defs::{print_function, print_struct};
@@ -15,7 +17,10 @@ fn function_reads(alloc: Global, written: &FunctionOf, wanted: &str) -> Result<b
     let tables = named(alloc, &[])?;
     let signature = function(alloc, written)?;
     let id = FunctionId::from_raw(0);
-    reads(print_function(alloc, &tables, id, &signature, Edition::Edition2021), wanted)
+    reads(
+        print_function(alloc, &tables, id, &signature, Edition::Edition2021),
+        wanted,
+    )
 }
 
 /// `const async unsafe extern "C" fn a() -> impl ::core::future::Future::<Output = ()>`
@@ -24,7 +29,13 @@ const FUTURE: FunctionOf = FunctionOf {
     tree: Tree {
         types: &[
             TypeOf::Unit,
-            TypeOf::Absolute(&["core", "future", "Future"], ArgsOf { lifetime: None, item: ("Output", 0) }),
+            TypeOf::Absolute(
+                &["core", "future", "Future"],
+                ArgsOf {
+                    lifetime: None,
+                    item: ("Output", 0),
+                },
+            ),
             TypeOf::Impl(BoundOf::Path(1)),
         ],
         ..BARE
@@ -84,14 +95,70 @@ fn functions(rt: HostRuntime) -> Result<(), Fail> {
 fn flags_and_conventions(rt: HostRuntime) -> Result<(), Fail> {
     let a = rt.alloc();
     let found = [
-        function_reads(a, &FunctionOf { is_const: true, ..PLAIN }, "const fn f() {...}\n")?,
-        function_reads(a, &FunctionOf { is_async: true, ..PLAIN }, "async fn f() {...}\n")?,
-        function_reads(a, &FunctionOf { is_unsafe: true, ..PLAIN }, "unsafe fn f() {...}\n")?,
-        function_reads(a, &FunctionOf { is_explicit_safe: true, ..PLAIN }, "safe fn f() {...}\n")?,
-        function_reads(a, &FunctionOf { abi: Abi::CUnwind, ..PLAIN }, "extern \"C-unwind\" fn f() {...}\n")?,
-        function_reads(a, &FunctionOf { abi: Abi::System, ..PLAIN }, "extern \"system\" fn f() {...}\n")?,
-        function_reads(a, &FunctionOf { abi: Abi::SystemUnwind, ..PLAIN }, "extern \"system-unwind\" fn f() {...}\n")?,
-        function_reads(a, &FunctionOf { abi: Abi::Named("win64"), ..PLAIN }, "extern \"win64\" fn f() {...}\n")?,
+        function_reads(
+            a,
+            &FunctionOf {
+                is_const: true,
+                ..PLAIN
+            },
+            "const fn f() {...}\n",
+        )?,
+        function_reads(
+            a,
+            &FunctionOf {
+                is_async: true,
+                ..PLAIN
+            },
+            "async fn f() {...}\n",
+        )?,
+        function_reads(
+            a,
+            &FunctionOf {
+                is_unsafe: true,
+                ..PLAIN
+            },
+            "unsafe fn f() {...}\n",
+        )?,
+        function_reads(
+            a,
+            &FunctionOf {
+                is_explicit_safe: true,
+                ..PLAIN
+            },
+            "safe fn f() {...}\n",
+        )?,
+        function_reads(
+            a,
+            &FunctionOf {
+                abi: Abi::CUnwind,
+                ..PLAIN
+            },
+            "extern \"C-unwind\" fn f() {...}\n",
+        )?,
+        function_reads(
+            a,
+            &FunctionOf {
+                abi: Abi::System,
+                ..PLAIN
+            },
+            "extern \"system\" fn f() {...}\n",
+        )?,
+        function_reads(
+            a,
+            &FunctionOf {
+                abi: Abi::SystemUnwind,
+                ..PLAIN
+            },
+            "extern \"system-unwind\" fn f() {...}\n",
+        )?,
+        function_reads(
+            a,
+            &FunctionOf {
+                abi: Abi::Named("win64"),
+                ..PLAIN
+            },
+            "extern \"win64\" fn f() {...}\n",
+        )?,
     ];
     assert!(&rt; found == [true; 8]);
     Ok(())
@@ -125,7 +192,13 @@ const OF_ALL: Tree = Tree {
         TypeOf::Path("i32"),
         TypeOf::Fn(6),
         TypeOf::Path("Boo"),
-        TypeOf::With("Trait", ArgsOf { lifetime: Some(0), item: ("Item", 8) }),
+        TypeOf::With(
+            "Trait",
+            ArgsOf {
+                lifetime: Some(0),
+                item: ("Item", 8),
+            },
+        ),
     ],
     exprs: &[ExprOf::Int(3)],
     root: Some(0),
@@ -154,22 +227,72 @@ fn struct_reads(
         tables.add_repr(id, repr)?;
     }
     let signature = structure(alloc, written.0, written.1, shape, is_fundamental)?;
-    reads(print_struct(alloc, &tables, id, &signature, Edition::Edition2021), wanted)
+    reads(
+        print_struct(alloc, &tables, id, &signature, Edition::Edition2021),
+        wanted,
+    )
 }
 
 #[test]
 fn structs(rt: HostRuntime) -> Result<(), Fail> {
     let a = rt.alloc();
-    let c = Repr { c: true, align: None, pack: None };
-    let align = Repr { c: false, align: Some(16), pack: None };
-    let pack = Repr { c: true, align: None, pack: Some(18446744073709551615) };
+    let c = Repr {
+        c: true,
+        align: None,
+        pack: None,
+    };
+    let align = Repr {
+        c: false,
+        align: Some(16),
+        pack: None,
+    };
+    let pack = Repr {
+        c: true,
+        align: None,
+        pack: Some(18446744073709551615),
+    };
     let none = (&BARE, &NONE);
     let found = [
-        struct_reads(a, none, FieldsShape::Tuple, false, None, "struct S(...)\n;\n")?,
-        struct_reads(a, none, FieldsShape::Record, false, None, "struct S {...}\n")?,
-        struct_reads(a, none, FieldsShape::Unit, true, None, "#[fundamental]\nstruct S;\n")?,
-        struct_reads(a, none, FieldsShape::Unit, false, Some(c), "#[repr(C)]\nstruct S;\n")?,
-        struct_reads(a, none, FieldsShape::Unit, false, Some(align), "#[repr(align(16))]\nstruct S;\n")?,
+        struct_reads(
+            a,
+            none,
+            FieldsShape::Tuple,
+            false,
+            None,
+            "struct S(...)\n;\n",
+        )?,
+        struct_reads(
+            a,
+            none,
+            FieldsShape::Record,
+            false,
+            None,
+            "struct S {...}\n",
+        )?,
+        struct_reads(
+            a,
+            none,
+            FieldsShape::Unit,
+            true,
+            None,
+            "#[fundamental]\nstruct S;\n",
+        )?,
+        struct_reads(
+            a,
+            none,
+            FieldsShape::Unit,
+            false,
+            Some(c),
+            "#[repr(C)]\nstruct S;\n",
+        )?,
+        struct_reads(
+            a,
+            none,
+            FieldsShape::Unit,
+            false,
+            Some(align),
+            "#[repr(align(16))]\nstruct S;\n",
+        )?,
         struct_reads(
             a,
             none,
@@ -186,7 +309,14 @@ fn structs(rt: HostRuntime) -> Result<(), Fail> {
             None,
             "struct S<'a, 'b, T, const C: usize = 3, X = ()>\nwhere\n    T: Clone,\n    X: Default,\n    for<'a, 'c> fn() -> i32: for<'b> Trait::<'a, Item = Boo>\n;\n",
         )?,
-        struct_reads(a, (&OF_ALL, &OUTLIVES), FieldsShape::Unit, false, None, "struct S<'a, 'b>\nwhere\n    'a: 'b\n;\n")?,
+        struct_reads(
+            a,
+            (&OF_ALL, &OUTLIVES),
+            FieldsShape::Unit,
+            false,
+            None,
+            "struct S<'a, 'b>\nwhere\n    'a: 'b\n;\n",
+        )?,
     ];
     assert!(&rt; found == [true; 8]);
     Ok(())
@@ -208,7 +338,13 @@ fn what_a_signature_misses(rt: HostRuntime) -> Result<(), Fail> {
     let tables = named(a, &[])?;
     let signature = function(a, &OF_STRUCT)?;
     let parent = GenericDefId::AdtId(AdtId::StructId(StructId::from_raw(0)));
-    let printed = print_function(a, &tables, FunctionId::from_raw(0), &signature, Edition::Edition2021);
+    let printed = print_function(
+        a,
+        &tables,
+        FunctionId::from_raw(0),
+        &signature,
+        Edition::Edition2021,
+    );
     let found = misses(printed, Missing::Signature(parent))?;
     drop(tables);
     drop(signature);

@@ -3,7 +3,8 @@ use crate::made::named;
 use crate::memory::{first, in_a_box, misses, names, push, reads, taken};
 use crate::nodes::{self, BARE, Tree, TypeOf};
 use hir_base::{
-    CrateId, Edition, EnumId, EnumVariantId, Idx, ModPath, Name, NamedDef, PathKind, Seq, StructId, UnionId, VariantId,
+    CrateId, Edition, EnumId, EnumVariantId, Idx, ModPath, Name, NamedDef, PathKind, Seq, StructId,
+    UnionId, VariantId,
 };
 use hir_defs::{FieldData, FieldsShape, RawVisibility, Tables, VariantFields, VariantParts};
 use hir_expr_store::Missing;
@@ -14,7 +15,12 @@ use std::test::Fail;
 
 /// The type `u32`.
 const U32: Tree = Tree {
-    types: &[TypeOf::Path("u32"), TypeOf::Path("u32"), TypeOf::Path("u32"), TypeOf::Path("u32")],
+    types: &[
+        TypeOf::Path("u32"),
+        TypeOf::Path("u32"),
+        TypeOf::Path("u32"),
+        TypeOf::Path("u32"),
+    ],
     ..BARE
 };
 
@@ -80,7 +86,13 @@ pub fn no_sources(alloc: Global) -> Result<Box<ExpressionStoreSourceMap>, Fail> 
 }
 
 /// Gives the variant these fields.
-fn add(tables: &mut Tables, alloc: Global, id: VariantId, shape: FieldsShape, written: &[Field]) -> Result<(), Fail> {
+fn add(
+    tables: &mut Tables,
+    alloc: Global,
+    id: VariantId,
+    shape: FieldsShape,
+    written: &[Field],
+) -> Result<(), Fail> {
     let fields = made(alloc, shape, written)?;
     let sources = no_sources(alloc)?;
     taken(tables.add_fields(id, Box::into_inner(fields), Box::into_inner(sources)))
@@ -105,23 +117,53 @@ fn shapes(rt: HostRuntime) -> Result<(), Fail> {
             (NamedDef::StructId(StructId::from_raw(1)), None),
             (NamedDef::UnionId(UnionId::from_raw(0)), Some("U")),
             (NamedDef::EnumId(EnumId::from_raw(0)), Some("E")),
-            (NamedDef::EnumVariantId(EnumVariantId::from_raw(0)), Some("V")),
+            (
+                NamedDef::EnumVariantId(EnumVariantId::from_raw(0)),
+                Some("V"),
+            ),
         ],
     )?;
     tables.add_variant_parent(EnumVariantId::from_raw(0), EnumId::from_raw(0))?;
-    add(&mut tables, a, structure(0), FieldsShape::Record, &[(Seen::Public, false, "a")])?;
+    add(
+        &mut tables,
+        a,
+        structure(0),
+        FieldsShape::Record,
+        &[(Seen::Public, false, "a")],
+    )?;
     add(&mut tables, a, structure(1), FieldsShape::Unit, &[])?;
-    add(&mut tables, a, union, FieldsShape::Record, &[(Seen::Crate, false, "a"), (Seen::Itself, true, "b")])?;
-    add(&mut tables, a, variant(), FieldsShape::Tuple, &[(Seen::Public, false, "0")])?;
+    add(
+        &mut tables,
+        a,
+        union,
+        FieldsShape::Record,
+        &[(Seen::Crate, false, "a"), (Seen::Itself, true, "b")],
+    )?;
+    add(
+        &mut tables,
+        a,
+        variant(),
+        FieldsShape::Tuple,
+        &[(Seen::Public, false, "0")],
+    )?;
     let edition = Edition::Edition2021;
     let found = [
-        reads(print_variant_body_hir(a, &tables, structure(0), edition), "struct S {\npub a: u32,\n}\n")?,
-        reads(print_variant_body_hir(a, &tables, structure(1), edition), "struct <missing>;\n")?,
+        reads(
+            print_variant_body_hir(a, &tables, structure(0), edition),
+            "struct S {\npub a: u32,\n}\n",
+        )?,
+        reads(
+            print_variant_body_hir(a, &tables, structure(1), edition),
+            "struct <missing>;\n",
+        )?,
         reads(
             print_variant_body_hir(a, &tables, union, edition),
             "union U {\npub(crate) a: u32,\npub(self) unsafe b: u32,\n}\n",
         )?,
-        reads(print_variant_body_hir(a, &tables, variant(), edition), "enum E::V(\npub 0: u32,\n);\n")?,
+        reads(
+            print_variant_body_hir(a, &tables, variant(), edition),
+            "enum E::V(\npub 0: u32,\n);\n",
+        )?,
     ];
     drop(tables);
     assert!(&rt; found == [true; 4]);
@@ -130,20 +172,52 @@ fn shapes(rt: HostRuntime) -> Result<(), Fail> {
 
 /// Whether the one field of struct 0 that is seen so reads so.
 fn seen_reads(alloc: Global, seen: Seen, wanted: &str) -> Result<bool, Fail> {
-    let mut tables = named(alloc, &[(NamedDef::StructId(StructId::from_raw(0)), Some("S"))])?;
-    add(&mut tables, alloc, structure(0), FieldsShape::Record, &[(seen, false, "a")])?;
-    reads(print_variant_body_hir(alloc, &tables, structure(0), Edition::Edition2021), wanted)
+    let mut tables = named(
+        alloc,
+        &[(NamedDef::StructId(StructId::from_raw(0)), Some("S"))],
+    )?;
+    add(
+        &mut tables,
+        alloc,
+        structure(0),
+        FieldsShape::Record,
+        &[(seen, false, "a")],
+    )?;
+    reads(
+        print_variant_body_hir(alloc, &tables, structure(0), Edition::Edition2021),
+        wanted,
+    )
 }
 
 #[test]
 fn paths_of_modules(rt: HostRuntime) -> Result<(), Fail> {
     let a = rt.alloc();
     let found = [
-        seen_reads(a, Seen::In(PathKind::Plain, &["a", "b"]), "struct S {\npub(in a::b) a: u32,\n}\n")?,
-        seen_reads(a, Seen::In(PathKind::Super(0), &[]), "struct S {\npub(in self) a: u32,\n}\n")?,
-        seen_reads(a, Seen::In(PathKind::Super(2), &["b"]), "struct S {\npub(in super::super::b) a: u32,\n}\n")?,
-        seen_reads(a, Seen::In(PathKind::Crate, &["b"]), "struct S {\npub(in crate::b) a: u32,\n}\n")?,
-        seen_reads(a, Seen::In(PathKind::Abs, &["b"]), "struct S {\npub(in ::b) a: u32,\n}\n")?,
+        seen_reads(
+            a,
+            Seen::In(PathKind::Plain, &["a", "b"]),
+            "struct S {\npub(in a::b) a: u32,\n}\n",
+        )?,
+        seen_reads(
+            a,
+            Seen::In(PathKind::Super(0), &[]),
+            "struct S {\npub(in self) a: u32,\n}\n",
+        )?,
+        seen_reads(
+            a,
+            Seen::In(PathKind::Super(2), &["b"]),
+            "struct S {\npub(in super::super::b) a: u32,\n}\n",
+        )?,
+        seen_reads(
+            a,
+            Seen::In(PathKind::Crate, &["b"]),
+            "struct S {\npub(in crate::b) a: u32,\n}\n",
+        )?,
+        seen_reads(
+            a,
+            Seen::In(PathKind::Abs, &["b"]),
+            "struct S {\npub(in ::b) a: u32,\n}\n",
+        )?,
         seen_reads(
             a,
             Seen::In(PathKind::DollarCrate(CrateId::from_raw(0)), &["b"]),
@@ -166,10 +240,22 @@ fn what_is_missing_first(rt: HostRuntime) -> Result<(), Fail> {
     let no_variant = Missing::Variant(EnumVariantId::from_raw(0));
     let no_enum = Missing::Name(NamedDef::EnumId(EnumId::from_raw(0)));
     let found = [
-        misses(print_variant_body_hir(a, &empty, structure(0), edition), no_name)?,
-        misses(print_variant_body_hir(a, &struct_named, structure(0), edition), Missing::Fields(structure(0)))?,
-        misses(print_variant_body_hir(a, &empty, variant(), edition), no_variant)?,
-        misses(print_variant_body_hir(a, &parent_alone, variant(), edition), no_enum)?,
+        misses(
+            print_variant_body_hir(a, &empty, structure(0), edition),
+            no_name,
+        )?,
+        misses(
+            print_variant_body_hir(a, &struct_named, structure(0), edition),
+            Missing::Fields(structure(0)),
+        )?,
+        misses(
+            print_variant_body_hir(a, &empty, variant(), edition),
+            no_variant,
+        )?,
+        misses(
+            print_variant_body_hir(a, &parent_alone, variant(), edition),
+            no_enum,
+        )?,
     ];
     drop(empty);
     drop(struct_named);

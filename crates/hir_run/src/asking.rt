@@ -117,7 +117,14 @@ pub(crate) fn answer_lines<A: Answers, R: Source, W: Sink>(
     ensures still_fits { OnOk result
         (lines.new.count + length lines.new.pending + R.allowance reader.new < 2 ^ 64) }
 {
-    let left = answer_line(alloc, asked, Line::Ask(first), lines.count(), output, writer)?;
+    let left = answer_line(
+        alloc,
+        asked,
+        Line::Ask(first),
+        lines.count(),
+        output,
+        writer,
+    )?;
     if left.is_some() {
         return Ok(left);
     }

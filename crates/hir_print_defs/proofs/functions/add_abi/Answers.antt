@@ -1,4 +1,3 @@
-
 use Rattle.hir_print_defs.proofs.functions.add_abi.Goals as goal
 
 pub returns-in-C : goal.returns-in-C

@@ -1,4 +1,3 @@
-
 use Rattle.hir_print_defs.proofs.structs.add_repr_opt.Goals as goal
 
 pub returns-in-Some : goal.returns-in-Some
