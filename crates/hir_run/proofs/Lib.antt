@@ -1,5 +1,7 @@
 pub mod Scripts
 pub mod Making
+mod OfLinesLemmas
+mod OutsideLemmas
 pub mod Failing
 pub mod CourseLemmas
 pub mod QuestionLemmas

@@ -10,6 +10,7 @@ use crate::asking::answer_lines;
 use crate::building::build;
 use crate::fault::RunFault;
 use crate::made::{Made, Parts};
+use crate::named_body::NamedBody;
 use crate::scoped_body::ScopedBody;
 use hir_io::{LineReader, OutputBuffer, Sink, Source};
 use hir_store::{ExpressionStore, ExpressionStoreBuilder};
@@ -59,6 +60,7 @@ fn answer_script<R: Source, W: Sink>(
         builder,
         params,
         self_param,
+        name,
     } = made.into_parts();
     let store = finished(builder)?;
     let on_store = match first {
@@ -71,7 +73,8 @@ fn answer_script<R: Source, W: Sink>(
         None => return Ok(()),
     };
     let body = ScopedBody::new(alloc, store, params, self_param)?;
-    let unasked = answer_lines(alloc, &body, on_body, lines, reader, output, writer)?;
+    let named = NamedBody { body, name };
+    let unasked = answer_lines(alloc, &named, on_body, lines, reader, output, writer)?;
     match unasked {
         None => Ok(()),
         Some(_) => unreachable!(),

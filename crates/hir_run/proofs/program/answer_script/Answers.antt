@@ -97,8 +97,9 @@ returns-in_err-unasked-clause-runs g c =
     let left = rw c.in-Some-left.is at (c.in_ok-left.ensures {u = tt}).asks in
     let params : c.into_parts-builder.result.params ≡ (made_of c.build.new.made).params = ap (λ (p : Parts). p.params) c.into_parts-builder.ensures in
     let self_param : c.into_parts-builder.result.self_param ≡ (made_of c.build.new.made).self_param = ap (λ (p : Parts). p.self_param) c.into_parts-builder.ensures in
+    let name : c.into_parts-builder.result.name ≡ (made_of c.build.new.made).name = ap (λ (p : Parts). p.name) c.into_parts-builder.ensures in
     rw (p.1, p.2) (script_body_ends (untaken c.build.new.lines.pending c.build.new.lines.at_end (g.R.Source.remaining c.build.new.reader)) (g.R.Source.remaining c.build.new.reader) (g.W.Sink.contents c.args.writer.now) (g.W.Sink.contents c.build.new.writer) c.build.new.output c.build.new.lines (made_of c.build.new.made) (building_of c.into_parts-builder.result.builder) c.in-Some.on_store c.in_ok-store.store same none finished (c.in_ok-store.ensures {u = tt})
-    (untaken c.answer_lines.new.lines.pending c.answer_lines.new.lines.at_end (g.R.Source.remaining c.answer_lines.new.reader)) (g.W.Sink.contents c.answer_lines.new.writer) c.answer_lines.new.output c.answer_lines.new.lines c.in-Some-left.on_body left c.into_parts-builder.result.params c.into_parts-builder.result.self_param params self_param c.in_ok-body.body (c.in_ok-body.ensures {u = tt})
+    (untaken c.answer_lines.new.lines.pending c.answer_lines.new.lines.at_end (g.R.Source.remaining c.answer_lines.new.reader)) (g.W.Sink.contents c.answer_lines.new.writer) c.answer_lines.new.output c.answer_lines.new.lines c.in-Some-left.on_body left c.into_parts-builder.result.params c.into_parts-builder.result.self_param params self_param c.in_ok-body.body (c.in_ok-body.ensures {u = tt}) c.into_parts-builder.result.name name
     (g.R.Source.remaining c.args.reader.now) (untaken c.answer_lines-2.new.lines.pending c.answer_lines-2.new.lines.at_end (g.R.Source.remaining c.answer_lines-2.new.reader)) (g.R.Source.remaining c.answer_lines-2.new.reader) (g.W.Sink.contents c.answer_lines-2.new.writer) c.answer_lines-2.new.output c.answer_lines-2.new.lines c.in_err-unasked.field-0.0 met c.in_err-unasked.ensures.asks)
 
 pub returns-clause-runs : goal.returns-clause-runs
@@ -112,9 +113,10 @@ returns-clause-runs g c =
     let left = rw c.in-Some-left.is at (c.in_ok-left.ensures {u = tt}).asks in
     let params : c.into_parts-builder.result.params ≡ (made_of c.build.new.made).params = ap (λ (p : Parts). p.params) c.into_parts-builder.ensures in
     let self_param : c.into_parts-builder.result.self_param ≡ (made_of c.build.new.made).self_param = ap (λ (p : Parts). p.self_param) c.into_parts-builder.ensures in
+    let name : c.into_parts-builder.result.name ≡ (made_of c.build.new.made).name = ap (λ (p : Parts). p.name) c.into_parts-builder.ensures in
     let asked = rw c.in-None-unasked.is at (c.in_ok-unasked.ensures {u = tt}).asks in
     script_body_done (untaken c.build.new.lines.pending c.build.new.lines.at_end (g.R.Source.remaining c.build.new.reader)) (g.R.Source.remaining c.build.new.reader) (g.W.Sink.contents c.args.writer.now) (g.W.Sink.contents c.build.new.writer) c.build.new.output c.build.new.lines (made_of c.build.new.made) (building_of c.into_parts-builder.result.builder) c.in-Some.on_store c.in_ok-store.store same none finished (c.in_ok-store.ensures {u = tt})
-    (untaken c.answer_lines.new.lines.pending c.answer_lines.new.lines.at_end (g.R.Source.remaining c.answer_lines.new.reader)) (g.W.Sink.contents c.answer_lines.new.writer) c.answer_lines.new.output c.answer_lines.new.lines c.in-Some-left.on_body left c.into_parts-builder.result.params c.into_parts-builder.result.self_param params self_param c.in_ok-body.body (c.in_ok-body.ensures {u = tt})
+    (untaken c.answer_lines.new.lines.pending c.answer_lines.new.lines.at_end (g.R.Source.remaining c.answer_lines.new.reader)) (g.W.Sink.contents c.answer_lines.new.writer) c.answer_lines.new.output c.answer_lines.new.lines c.in-Some-left.on_body left c.into_parts-builder.result.params c.into_parts-builder.result.self_param params self_param c.in_ok-body.body (c.in_ok-body.ensures {u = tt}) c.into_parts-builder.result.name name
     (g.R.Source.remaining c.args.reader.now) (untaken c.answer_lines-2.new.lines.pending c.answer_lines-2.new.lines.at_end (g.R.Source.remaining c.answer_lines-2.new.reader)) (g.R.Source.remaining c.answer_lines-2.new.reader) (g.W.Sink.contents c.answer_lines-2.new.writer) c.answer_lines-2.new.output c.answer_lines-2.new.lines met asked
 
 pub returns-in_err-body-clause-input_failed : goal.returns-in_err-body-clause-input_failed
