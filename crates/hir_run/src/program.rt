@@ -13,6 +13,7 @@ use crate::made::{Made, Parts};
 use crate::named_body::NamedBody;
 use crate::scoped_body::ScopedBody;
 use hir_io::{LineReader, OutputBuffer, Sink, Source};
+use hir_lines::laws::said_is_written;
 use hir_store::{ExpressionStore, ExpressionStoreBuilder};
 use std::alloc::Global;
 
@@ -72,6 +73,7 @@ fn answer_script<R: Source, W: Sink>(
         Some(on_body) => on_body,
         None => return Ok(()),
     };
+    said_is_written();
     let body = ScopedBody::new(alloc, store, params, self_param)?;
     let named = NamedBody { body, name };
     let unasked = answer_lines(alloc, &named, on_body, lines, reader, output, writer)?;
