@@ -1,4 +1,4 @@
-use Rattle.std.proofs.Common.{None, Some, refl}
+use Rattle.std.proofs.Common.{◌≡◌, Some, refl}
 use Rattle.std.specs.Prelude.{codes}
 use Rattle.hir_run.specs.Answer.{answer_line, captures_text}
 use Rattle.hir_run.proofs.scoped_body.ScopedBody.answer_captures.Goals as goal
@@ -12,4 +12,5 @@ captures-requires-clause-chains g c = c.self.invariant.0.chains
 pub returns-in-Ok-clause-ok : goal.returns-in-Ok-clause-ok
 returns-in-Ok-clause-ok g c =
     let found = c.in-Ok.bindings.items in
-    rw (← c.self.view_is) (answer_line (codes "captures ") c.args.id (captures_text (Some found)), (Some found, (c.in-Ok.ensures.closure, c.in-Ok.ensures.captures), refl), c.put_captures.ensures)
+    let same : c.deref.result.now ≡ found = c.deref.ensures in
+    rw (← c.self.view_is) (answer_line (codes "captures ") c.args.id (captures_text (Some found)), (Some found, (c.in-Ok.ensures.closure, c.in-Ok.ensures.captures), refl), rw same at c.put_captures.ensures)
