@@ -14,7 +14,7 @@ use std::alloc::Global;
 
 /// A copy of a name, where there is one.
 fn name_text(alloc: Global, name: Option<&Name>) -> Result<Option<Text>, MemoryRefused>
-    ensures { IfOk result (λ text. text ≡ option_copied name) }
+    ensures { IfOk result (λ text. text ≡ option_copied name.entry) }
 {
     let Some(name) = name else {
         return Ok(None);
@@ -27,7 +27,7 @@ fn name_text(alloc: Global, name: Option<&Name>) -> Result<Option<Text>, MemoryR
 
 /// Tables that have the name of function 0, or that it has none, and nothing else.
 fn tables_of(alloc: Global, name: Option<&Name>) -> Result<Tables, MemoryRefused>
-    ensures { IfOk result (λ tables. tables ≡ tables_of (option_copied name)) }
+    ensures { IfOk result (λ tables. tables ≡ tables_of (option_copied name.entry)) }
 {
     let text = name_text(alloc, name)?;
     let mut tables = Tables::new(alloc);
@@ -46,7 +46,7 @@ pub(crate) fn print_body(
     name: Option<&Name>,
 ) -> Result<String, MemoryRefused>
     requires { AreOfLines body.now.store.nodes }
-    ensures { IfOk result (λ text. string_bytes text ≡ body_text (option_copied name) body.now) }
+    ensures { IfOk result (λ text. string_bytes text ≡ body_text (option_copied name.entry) body.now) }
 {
     let tables = tables_of(alloc, name)?;
     let function = DefWithBodyId::FunctionId(FunctionId::from_raw(0));

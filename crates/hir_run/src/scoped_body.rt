@@ -286,7 +286,7 @@ impl ScopedBody {
     ) -> Result<(), MemoryRefused>
         ensures ok { OnOk result (Puts (W.contents writer.old) (W.failed writer.old) output.old
             (W.contents writer.new) (W.failed writer.new) output.new
-            (print_text (option_copied name) self.now)) }
+            (print_text (option_copied name.entry) self.now)) }
         ensures memory { OnErr result ((writer.new ≡ writer.old) × (output.new ≡ output.old)) }
     {
         let text = print_body(alloc, &self.body, name)?;
