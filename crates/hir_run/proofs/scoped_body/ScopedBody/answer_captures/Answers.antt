@@ -12,5 +12,5 @@ captures-requires-clause-chains g c = c.self.invariant.0.chains
 pub returns-in-Ok-clause-ok : goal.returns-in-Ok-clause-ok
 returns-in-Ok-clause-ok g c =
     let found = c.in-Ok.bindings.items in
-    let same : c.deref.result.now ≡ found = c.deref.ensures in
+    let same : c.deref.result.now ≡ found = c.deref.ensures.value in
     rw (← c.self.view_is) (answer_line (codes "captures ") c.args.id (captures_text (Some found)), (Some found, (c.in-Ok.ensures.closure, c.in-Ok.ensures.captures), refl), rw same at c.put_captures.ensures)
