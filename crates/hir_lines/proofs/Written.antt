@@ -14,6 +14,7 @@ use Rattle.hir_lines.specs.declared.line.Maker.{Maker}
 use Rattle.hir_lines.specs.declared.line.Maker.TheVariants.{Pat as MakePat, «Type» as MakeType, Expr as MakeExpr, Roots}
 use Rattle.hir_lines.specs.declared.line.Question.{Question}
 use Rattle.hir_lines.specs.declared.line.Question.TheVariants.{OfBody}
+use Rattle.hir_lines.specs.declared.line.BodyQuestion.TheVariants.{Print}
 use Rattle.hir_lines.specs.Readings.{Reading, ◌>>=◌, gives, whole, parts_of}
 use Rattle.hir_lines.specs.Words.{one_of}
 use Rattle.hir_lines.specs.Pats.{pat}
@@ -24,7 +25,7 @@ use Rattle.hir_lines.specs.Tokens.{Token, Word, Arm, Stmt, IsWord, IsText}
 use Rattle.hir_lines.specs.PatGrammar.{IsPat, wild}
 use Rattle.hir_lines.specs.TypeGrammar.{IsType, never}
 use Rattle.hir_lines.specs.ExprGrammar.{IsExpr, match_expr, block}
-use Rattle.hir_lines.specs.Grammar.{IsMaker, bind as by_bind, bind_expanded, pat as by_pat, type_ref as by_type, expr as by_expr, expr_hygiene as by_expr_hygiene, pat_hygiene as by_pat_hygiene, self_param, param, fn_name, roots, root, IsQuestion, children, root_of, chain, resolve as by_resolve, resolve_expanded, captures, IsLine}
+use Rattle.hir_lines.specs.Grammar.{IsMaker, bind as by_bind, bind_expanded, pat as by_pat, type_ref as by_type, expr as by_expr, expr_hygiene as by_expr_hygiene, pat_hygiene as by_pat_hygiene, self_param, param, fn_name, roots, root, IsQuestion, children, root_of, chain, resolve as by_resolve, resolve_expanded, print, captures, IsLine}
 use Rattle.hir_lines.proofs.Expressions.{accepts_expr, sound_expr}
 use Rattle.hir_lines.proofs.Forms.{Accepts, accept_head, accept_inner, whole_read, whole_found, Sound, sound_one_of, sound_inner, AllSound, no_form, form}
 use Rattle.hir_lines.proofs.Patterns.{accepts_pat, sound_pat}
@@ -60,9 +61,10 @@ accepts_question root_of = accept_head line_forms _ root_of_line refl refl (sear
 accepts_question chain = accept_head line_forms _ chain_line refl refl (search accepting)
 accepts_question by_resolve = accept_head line_forms _ resolve_line refl refl (accept_inner resolve _ _ (λ question. Ask (OfBody question)) (search accepting))
 accepts_question resolve_expanded = accept_head line_forms _ resolve_line refl refl (accept_inner resolve _ _ (λ question. Ask (OfBody question)) (search accepting))
+accepts_question print = accept_head line_forms _ (gives (Ask (OfBody Print))) refl refl (search accepting)
 accepts_question captures = accept_head line_forms _ captures_line refl refl (search accepting)
 
-ruleset written = (sounding, by_bind, bind_expanded, by_expr_hygiene, by_pat_hygiene, self_param, param, fn_name, roots, root, children, root_of, chain, by_resolve, resolve_expanded, captures)
+ruleset written = (sounding, by_bind, bind_expanded, by_expr_hygiene, by_pat_hygiene, self_param, param, fn_name, roots, root, children, root_of, chain, by_resolve, resolve_expanded, print, captures)
 
 -- what makes or asks, of its own words behind their head
 makers_sound : (head : List ℕ) (made : Reading Maker) → Sound (λ maker tokens. IsMaker maker (Word head ∷ tokens)) made → Sound (λ line tokens. IsCommand line (Word head ∷ tokens)) (made >>= λ maker. gives (Make maker))
@@ -92,7 +94,7 @@ exprs_sound = sound_inner IsExpr _ expr (λ made. Make (MakeExpr made)) sound_ex
 forms_sound : AllSound IsCommand line_forms
 forms_sound = form bind_sound (form pats_sound (form types_sound (form exprs_sound (form expr_hygiene_sound (form pat_hygiene_sound
     (form (search written) (form (search written) (form (search written) (form (search written) (form (search written) (form (search written) (form (search written)
-    (form (search written) (form resolve_sound (form (search written) no_form)))))))))))))))
+    (form (search written) (form resolve_sound (form (search written) (form (search written) no_form))))))))))))))))
 
 sound_command : Sound IsCommand (one_of line_forms)
 sound_command = sound_one_of IsCommand line_forms forms_sound

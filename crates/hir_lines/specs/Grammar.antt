@@ -12,7 +12,7 @@ use Rattle.hir_lines.specs.declared.line.Maker.TheVariants.{Binding, Pat as Make
 use Rattle.hir_lines.specs.declared.line.Question.{Question}
 use Rattle.hir_lines.specs.declared.line.Question.TheVariants.{OfStore, OfBody}
 use Rattle.hir_lines.specs.declared.line.StoreQuestion.TheVariants.{Children, RootOf}
-use Rattle.hir_lines.specs.declared.line.BodyQuestion.TheVariants.{Chain, Resolve, Captures}
+use Rattle.hir_lines.specs.declared.line.BodyQuestion.TheVariants.{Chain, Resolve, Print, Captures}
 use Rattle.hir_lines.specs.Line.{plain_binding}
 use Rattle.hir_lines.specs.Words.{of_source}
 use Rattle.hir_lines.specs.Tokens.{Token, Word, Name, Number, IsText}
@@ -54,6 +54,7 @@ pub data IsQuestion : Question → List Token → Type 0 where
   resolve_expanded : {expr : ℕ} {name : List ℕ} {expansion : ℕ} →
       IsQuestion (OfBody (Resolve expr name (Expansion expansion)))
       (Word (codes "resolve") ∷ Number expr ∷ Name name ∷ Number expansion ∷ [])
+  print : IsQuestion (OfBody Print) (Word (codes "print") ∷ [])
   captures : {expr : ℕ} → IsQuestion (OfBody (Captures expr)) (Word (codes "captures") ∷ Number expr ∷ [])
 
 -- how each line is written; a bad line is any text

@@ -11,7 +11,7 @@ use Rattle.hir_lines.specs.declared.line.Maker.TheVariants.{Binding as MakeBindi
 use Rattle.hir_lines.specs.declared.line.Question.TheVariants.{OfStore, OfBody}
 use Rattle.hir_lines.specs.declared.line.StoreQuestion.TheVariants.{Children, RootOf}
 use Rattle.hir_lines.specs.declared.line.BodyQuestion.{BodyQuestion}
-use Rattle.hir_lines.specs.declared.line.BodyQuestion.TheVariants.{Chain, Resolve, Captures}
+use Rattle.hir_lines.specs.declared.line.BodyQuestion.TheVariants.{Chain, Resolve, Print, Captures}
 use Rattle.hir_lines.specs.Readings.{Reading, ◌>>=◌, gives, whole, parts_of, space}
 use Rattle.hir_lines.specs.Words.{number, name, expansion, hygiene, one_of}
 use Rattle.hir_lines.specs.Pats.{pat}
@@ -143,6 +143,7 @@ line_forms =
     ∷ (codes "root-of", root_of_line)
     ∷ (codes "chain", chain_line)
     ∷ (codes "resolve", resolve_line)
+    ∷ (codes "print", gives (Ask (OfBody Print)))
     ∷ (codes "captures", captures_line)
     ∷ []
 

@@ -55,6 +55,8 @@ pub enum BodyQuestion {
     Chain(ExprId),
     /// `resolve E NAME`, `resolve E NAME N`: the binding that the name of this hygiene means at the expression.
     Resolve(ExprId, Name, HygieneId),
+    /// `print`: the body, printed as that of a function.
+    Print,
     /// `captures E`: the bindings that the closure captures.
     Captures(ExprId),
 }

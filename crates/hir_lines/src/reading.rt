@@ -83,6 +83,7 @@ fn command(alloc: Global, words: &mut Words<'_>) -> Result<Line, Stop>
         "root-of" => Ok(Line::Ask(Question::OfStore(StoreQuestion::RootOf(words.id()?)))),
         "chain" => Ok(Line::Ask(Question::OfBody(BodyQuestion::Chain(words.id()?)))),
         "resolve" => Ok(Line::Ask(Question::OfBody(resolve(alloc, words)?))),
+        "print" => Ok(Line::Ask(Question::OfBody(BodyQuestion::Print))),
         "captures" => Ok(Line::Ask(Question::OfBody(BodyQuestion::Captures(words.id()?)))),
         _ => Err(Stop::Bad),
     }

@@ -223,7 +223,7 @@ fn lines_have_the_words_of_their_form(rt: HostRuntime) -> Result<(), Fail> {
     all_bad(&rt, rt.alloc(), &FORMS)
 }
 
-const HYGIENES: [&[u8]; 26] = [
+const HYGIENES: [&[u8]; 27] = [
     // The hygiene of a name is the number of an expansion.
     b"bind x ",
     b"bind x -",
@@ -246,8 +246,9 @@ const HYGIENES: [&[u8]; 26] = [
     b"pat-hygiene 0",
     b"pat-hygiene 0 x",
     b"pat_hygiene 0 0",
-    // No other lines are known.
-    b"print",
+    // The body is printed as a whole.
+    b"print 0",
+    b"print ",
     b"captures",
     b"captures -",
     b"captures 0 0",

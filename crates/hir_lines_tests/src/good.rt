@@ -30,6 +30,8 @@ fn questions(rt: HostRuntime) -> Result<(), Fail> {
     says(&rt, alloc, b"root-of 10", Line::Ask(root))?;
     let chain = Question::OfBody(BodyQuestion::Chain(id(0)));
     says(&rt, alloc, b"chain 0", Line::Ask(chain))?;
+    let print = Question::OfBody(BodyQuestion::Print);
+    says(&rt, alloc, b"print", Line::Ask(print))?;
     let captures = Question::OfBody(BodyQuestion::Captures(id(4)));
     says(&rt, alloc, b"captures 4", Line::Ask(captures))
 }

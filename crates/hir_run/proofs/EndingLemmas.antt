@@ -164,7 +164,7 @@ at_store input rest ls question built verdict at = stands_on (on_store built) _ 
 pub at_body : (input : List ℕ) (rest : Option (List ℕ)) (ls : LineState) (question : Question) (built : Made) (text : List ℕ) → StandsAt input rest ls question (behind_store built) text → StandsAt input rest ls question (on_body built) text
 at_body input rest ls question built text at = stands_on (behind_store built) _ (λ good more t outcome c. c) at
 
-pub in_body : (input : List ℕ) (rest : Option (List ℕ)) (ls : LineState) (question : Question) (built : Made) (text : List ℕ) → body_fault (body_parts built) None → StandsAt input rest ls question (on_body built) text → StandsAt input rest ls question (section any_question (IsAnswer (body_parts built)) stops) text
+pub in_body : (input : List ℕ) (rest : Option (List ℕ)) (ls : LineState) (question : Question) (built : Made) (text : List ℕ) → body_fault (body_parts built) None → StandsAt input rest ls question (on_body built) text → StandsAt input rest ls question (section any_question (IsAnswer built.name (body_parts built)) stops) text
 in_body input rest ls question built text verdict at = stands_on (on_body built) _ (λ good more t outcome c. (None, verdict, c)) at
 
 pub stops_end : (n : ℕ) → stops n [] [] (Ok tt)

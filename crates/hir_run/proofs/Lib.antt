@@ -1,5 +1,8 @@
 pub mod Scripts
 pub mod Making
+mod OfLinesLemmas
+mod OutsideLemmas
+mod PrintedLemmas
 pub mod Failing
 pub mod CourseLemmas
 pub mod QuestionLemmas

@@ -77,18 +77,19 @@ captures_one b one expr None (Some y) p q = absurd (p q.0)
 captures_one b one expr (Some x) None p q = absurd (q p.0)
 captures_one b one expr (Some x) (Some y) p q = ap Some (one expr p.0 x y p.1 q.1)
 
-body_answer_one : (b : BodyContents) → HasOneChain b → HasOneCapture b → (question : BodyQuestion) (t u : List ℕ) → IsBodyAnswer b question t → IsBodyAnswer b question u → t ≡ u
-body_answer_one b one alone (ask.Chain e) t u (x, is, s) (y, is', r) = s ∙ ap (λ v. answer_line (codes "chain ") e (chain_text v)) (chain_one b one e x y is is') ∙ sym r
-body_answer_one b one alone (ask.Resolve e name hygiene) t u (x, is, s) (y, is', r) = s ∙ ap (λ v. answer_line (codes "resolve ") e (asked_text name hygiene ++ resolve_text v name hygiene)) (chain_one b one e x y is is') ∙ sym r
-body_answer_one b one alone (ask.Captures e) t u (x, is, s) (y, is', r) = s ∙ ap (λ v. answer_line (codes "captures ") e (captures_text v)) (captures_one b alone e x y is is') ∙ sym r
+body_answer_one : (function : Option (List ℕ)) (b : BodyContents) → HasOneChain b → HasOneCapture b → (question : BodyQuestion) (t u : List ℕ) → IsBodyAnswer function b question t → IsBodyAnswer function b question u → t ≡ u
+body_answer_one function b one alone (ask.Chain e) t u (x, is, s) (y, is', r) = s ∙ ap (λ v. answer_line (codes "chain ") e (chain_text v)) (chain_one b one e x y is is') ∙ sym r
+body_answer_one function b one alone (ask.Resolve e name hygiene) t u (x, is, s) (y, is', r) = s ∙ ap (λ v. answer_line (codes "resolve ") e (asked_text name hygiene ++ resolve_text v name hygiene)) (chain_one b one e x y is is') ∙ sym r
+body_answer_one function b one alone ask.Print t u p q = p ∙ sym q
+body_answer_one function b one alone (ask.Captures e) t u (x, is, s) (y, is', r) = s ∙ ap (λ v. answer_line (codes "captures ") e (captures_text v)) (captures_one b alone e x y is is') ∙ sym r
 
 store_answer_one : (c : Contents) (question : Question) (t u : List ℕ) → IsStoreAnswer c question t → IsStoreAnswer c question u → t ≡ u
 store_answer_one c (OfStore question) t u p q = p ∙ sym q
 store_answer_one c (OfBody question) t u p q = absurd p
 
-answer_one : (b : BodyContents) → HasOneChain b → HasOneCapture b → (question : Question) (t u : List ℕ) → IsAnswer b question t → IsAnswer b question u → t ≡ u
-answer_one b one alone (OfStore question) t u p q = p ∙ sym q
-answer_one b one alone (OfBody question) t u p q = body_answer_one b one alone question t u p q
+answer_one : (function : Option (List ℕ)) (b : BodyContents) → HasOneChain b → HasOneCapture b → (question : Question) (t u : List ℕ) → IsAnswer function b question t → IsAnswer function b question u → t ≡ u
+answer_one function b one alone (OfStore question) t u p q = p ∙ sym q
+answer_one function b one alone (OfBody question) t u p q = body_answer_one function b one alone question t u p q
 
 sound_contents : (b : Building) → finish_fault b None → contents_fault (contents_of b) None
 unfolding finish_fault
@@ -98,7 +99,7 @@ module _ (finish_one : (b : Building) (f g : Option FinishFault) → finish_faul
   on_body_one : (made : Made) → finish_fault made.built None → (good : ℕ) (script : List Line) → One (on_body made good script)
   on_body_one made sound good script =
       unless_one (body_fault (body_parts made)) _ _ (body_one (body_parts made))
-      (λ v. section_one any_question (IsAnswer (body_parts made)) stops (answer_one (body_parts made) (one_chain (body_parts made) (sound_contents made.built sound) v) (one_capture (body_parts made) (sound_contents made.built sound) v)) stops_one good script)
+      (λ v. section_one any_question (IsAnswer made.name (body_parts made)) stops (answer_one made.name (body_parts made) (one_chain (body_parts made) (sound_contents made.built sound) v) (one_capture (body_parts made) (sound_contents made.built sound) v)) stops_one good script)
 
   behind_store_one : (made : Made) → finish_fault made.built None → (good : ℕ) (script : List Line) → One (behind_store made good script)
   behind_store_one made sound good [] = stops_one good []

@@ -96,25 +96,25 @@ module _ (rest remaining old mid : Option (List ℕ)) (waited : List ℕ) (ls : 
         let stands = left_store input b rest' new waiting ls' left a in
         body_ends input rest' remaining' ls' left built stands.0 (λ t. IsWrittenUpTo old new t waiting) _ fault stands.1 (same_parts (Err fault) store (contents_of built.built) params built.params self_param built.self_param finishes.0 same_params same_self m) stands.2
 
-    module _ (body : BodyContents) (m : IsMadeBody (body_of store params self_param) (Ok body)) where
+    module _ (body : BodyContents) (m : IsMadeBody (body_of store params self_param) (Ok body)) (name : Option (List ℕ)) (same_name : name ≡ built.name) where
       made_body : IsMadeBody (body_parts built) (Ok body)
       made_body = rw (finishes.0, same_params, same_self) at m
 
-      asked_body : (input : List ℕ) → Builds (Some input) rest remaining ls built (Ok (Some question)) → (t : List ℕ) × StandsAt input rest' ls' left (section any_question (IsAnswer body) stops) t × IsWrittenUpTo old new t waiting
+      asked_body : (input : List ℕ) → Builds (Some input) rest remaining ls built (Ok (Some question)) → (t : List ℕ) × StandsAt input rest' ls' left (section any_question (IsAnswer name body) stops) t × IsWrittenUpTo old new t waiting
       asked_body input b =
           let stands = left_store input b rest' new waiting ls' left a in
-          rw made_body.0 (stands.0, in_body input rest' ls' left built stands.0 made_body.1 stands.1, stands.2)
+          rw (made_body.0, same_name) (stands.0, in_body input rest' ls' left built stands.0 made_body.1 stands.1, stands.2)
 
       -- the questions on the body end early
-      pub script_body_ends : (known rest'' remaining'' new' : Option (List ℕ)) (waiting' : List ℕ) (ls'' : LineState) (fault : RunFault) → Builds known rest remaining ls built (Ok (Some question)) → Asks any_question (IsAnswer body) rest' rest'' remaining'' ls' ls'' new waiting new' waiting' left (Err fault) → RunsUpTo known old remaining'' new' waiting' ls''.count (Err fault)
+      pub script_body_ends : (known rest'' remaining'' new' : Option (List ℕ)) (waiting' : List ℕ) (ls'' : LineState) (fault : RunFault) → Builds known rest remaining ls built (Ok (Some question)) → Asks any_question (IsAnswer name body) rest' rest'' remaining'' ls' ls'' new waiting new' waiting' left (Err fault) → RunsUpTo known old remaining'' new' waiting' ls''.count (Err fault)
       script_body_ends None rest'' remaining'' new' waiting' ls'' fault b d = tt
       script_body_ends (Some input) rest'' remaining'' new' waiting' ls'' fault b d =
           let stands = asked_body input b in
-          section_ends input rest' ls' left any_question (IsAnswer body) stops stands.0 stands.1 stops_end stops_bad old new new' waiting waiting' stands.2 rest'' remaining'' ls'' fault d
+          section_ends input rest' ls' left any_question (IsAnswer name body) stops stands.0 stands.1 stops_end stops_bad old new new' waiting waiting' stands.2 rest'' remaining'' ls'' fault d
 
       -- all lines are answered
-      pub script_body_done : (known rest'' remaining'' new' : Option (List ℕ)) (waiting' : List ℕ) (ls'' : LineState) → Builds known rest remaining ls built (Ok (Some question)) → AsksUpTo any_question (IsAnswer body) rest' rest'' ls' ls'' new waiting new' waiting' left None → RunsUpTo known old remaining'' new' waiting' ls''.count (Ok tt)
+      pub script_body_done : (known rest'' remaining'' new' : Option (List ℕ)) (waiting' : List ℕ) (ls'' : LineState) → Builds known rest remaining ls built (Ok (Some question)) → AsksUpTo any_question (IsAnswer name body) rest' rest'' ls' ls'' new waiting new' waiting' left None → RunsUpTo known old remaining'' new' waiting' ls''.count (Ok tt)
       script_body_done None rest'' remaining'' new' waiting' ls'' b d = tt
       script_body_done (Some input) rest'' remaining'' new' waiting' ls'' b d =
           let stands = asked_body input b in
-          section_done input rest' ls' left any_question (IsAnswer body) stops stands.0 stands.1 stops_end stops_bad old new new' waiting waiting' stands.2 rest'' remaining'' ls'' d
+          section_done input rest' ls' left any_question (IsAnswer name body) stops stands.0 stands.1 stops_end stops_bad old new new' waiting waiting' stands.2 rest'' remaining'' ls'' d

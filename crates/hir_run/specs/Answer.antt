@@ -22,6 +22,8 @@ use Rattle.hir_scope.specs.Chains.{HasChain}
 use Rattle.hir_scope.specs.Frames.{Chain}
 use Rattle.hir_scope.specs.Resolution.{resolve, entries_of}
 use Rattle.hir_captures.specs.Captures.{AreCaptures, IsReachedClosure}
+use Rattle.hir_run.specs.declared.named_body.NamedBody.{NamedBody}
+use Rattle.hir_run.specs.Printed.{print_text}
 
 -- an answer: the question's word, the expression, what is known of it, and a line end
 abbrev pub answer_line : List ℕ → ℕ → List ℕ → List ℕ
@@ -94,16 +96,27 @@ abbrev pub captures_text : Option (List ℕ) → List ℕ
 captures_text None = codes " no closure"
 captures_text (Some bindings) = codes " =" ++ spaced bindings
 
--- the text is the answer to a question on a body
-abbrev pub IsBodyAnswer : BodyContents → BodyQuestion → List ℕ → Type 0
-IsBodyAnswer b (ask.Chain e) text =
+-- the text is the answer to `chain`, to `resolve`, to `captures`
+abbrev pub IsChainAnswer : BodyContents → ℕ → List ℕ → Type 0
+IsChainAnswer b e text =
     (chain : Option Chain) × IsChainOf b e chain × (text ≡ answer_line (codes "chain ") e (chain_text chain))
-IsBodyAnswer b (ask.Resolve e name hygiene) text =
+
+abbrev pub IsResolveAnswer : BodyContents → ℕ → List ℕ → SyntaxContext → List ℕ → Type 0
+IsResolveAnswer b e name hygiene text =
     (chain : Option Chain) × IsChainOf b e chain
     × (text ≡ answer_line (codes "resolve ") e (asked_text name hygiene ++ resolve_text chain name hygiene))
-IsBodyAnswer b (ask.Captures e) text =
+
+abbrev pub IsCapturesAnswer : BodyContents → ℕ → List ℕ → Type 0
+IsCapturesAnswer b e text =
     (bindings : Option (List ℕ)) × AreCapturesOf b e bindings
     × (text ≡ answer_line (codes "captures ") e (captures_text bindings))
+
+-- the text is the answer to a question on a body, which is that of the function of this name
+abbrev pub IsBodyAnswer : Option (List ℕ) → BodyContents → BodyQuestion → List ℕ → Type 0
+IsBodyAnswer function b (ask.Chain e) text = IsChainAnswer b e text
+IsBodyAnswer function b (ask.Resolve e name hygiene) text = IsResolveAnswer b e name hygiene text
+IsBodyAnswer function b ask.Print text = text ≡ print_text function b
+IsBodyAnswer function b (ask.Captures e) text = IsCapturesAnswer b e text
 
 -- where only the store was looked at, no question on the body is answered
 abbrev pub IsStoreAnswer : Contents → Question → List ℕ → Type 0
@@ -111,6 +124,10 @@ IsStoreAnswer c (OfStore question) text = text ≡ store_answer c question
 IsStoreAnswer c (OfBody question) text = ⊥
 
 -- where the body was looked at too, both kinds of questions are
-abbrev pub IsAnswer : BodyContents → Question → List ℕ → Type 0
-IsAnswer b (OfStore question) text = text ≡ store_answer b.store question
-IsAnswer b (OfBody question) text = IsBodyAnswer b question text
+abbrev pub IsAnswer : Option (List ℕ) → BodyContents → Question → List ℕ → Type 0
+IsAnswer function b (OfStore question) text = text ≡ store_answer b.store question
+IsAnswer function b (OfBody question) text = IsBodyAnswer function b question text
+
+-- the same, of a body with the name
+abbrev pub IsAnswerOf : NamedBody → Question → List ℕ → Type 0
+IsAnswerOf named question text = IsAnswer named.name named.body question text

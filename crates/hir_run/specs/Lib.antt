@@ -1,5 +1,7 @@
 pub mod Made
 pub mod Answer
+pub mod OfLines
+pub mod Printed
 pub mod Puts
 pub mod Program
 pub mod Outcomes

@@ -104,7 +104,7 @@ section may Is next good script text outcome =
 abbrev pub on_body : Made → ℕ → List Line → Course
 on_body made good script =
     unless_refused (body_fault (body_parts made)) BodyRefused
-    (section any_question (IsAnswer (body_parts made)) stops good script)
+    (section any_question (IsAnswer made.name (body_parts made)) stops good script)
 
 abbrev pub behind_store : Made → ℕ → List Line → Course
 behind_store made good [] = stops good []

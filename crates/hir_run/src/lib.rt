@@ -9,6 +9,8 @@ mod captured;
 mod fault;
 pub mod laws;
 mod made;
+mod named_body;
+mod printed;
 mod program;
 mod put;
 mod reporting;

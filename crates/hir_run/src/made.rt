@@ -20,12 +20,13 @@ pub(crate) struct Made {
     name: Option<Name>,
 }
 
-/// What a body is made of.
+/// What a body is made of, and the name of its function.
 #[derive(Drop)]
 pub(crate) struct Parts {
     pub(crate) builder: ExpressionStoreBuilder,
     pub(crate) params: Seq<Param<PatId>>,
     pub(crate) self_param: Option<Param<BindingId>>,
+    pub(crate) name: Option<Name>,
 }
 
 /// A parameter that the body has as the user wrote it.
@@ -51,24 +52,26 @@ impl Made {
         }
     }
 
-    /// The builder, the parameters and the self parameter.
+    /// The builder, the parameters, the self parameter and the name.
     pub(crate) fn into_parts(self) -> Parts
         ensures { result ≡ record {
           builder = self.builder;
           params = self.params;
           self_param = self.self_param;
+          name = self.name;
         } }
     {
         let Made {
             builder,
             self_param,
             params,
-            name: _,
+            name,
         } = self;
         Parts {
             builder,
             params,
             self_param,
+            name,
         }
     }
 

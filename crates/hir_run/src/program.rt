@@ -10,8 +10,10 @@ use crate::asking::answer_lines;
 use crate::building::build;
 use crate::fault::RunFault;
 use crate::made::{Made, Parts};
+use crate::named_body::NamedBody;
 use crate::scoped_body::ScopedBody;
 use hir_io::{LineReader, OutputBuffer, Sink, Source};
+use hir_lines::laws::said_is_written;
 use hir_store::{ExpressionStore, ExpressionStoreBuilder};
 use std::alloc::Global;
 
@@ -59,6 +61,7 @@ fn answer_script<R: Source, W: Sink>(
         builder,
         params,
         self_param,
+        name,
     } = made.into_parts();
     let store = finished(builder)?;
     let on_store = match first {
@@ -70,8 +73,10 @@ fn answer_script<R: Source, W: Sink>(
         Some(on_body) => on_body,
         None => return Ok(()),
     };
+    said_is_written();
     let body = ScopedBody::new(alloc, store, params, self_param)?;
-    let unasked = answer_lines(alloc, &body, on_body, lines, reader, output, writer)?;
+    let named = NamedBody { body, name };
+    let unasked = answer_lines(alloc, &named, on_body, lines, reader, output, writer)?;
     match unasked {
         None => Ok(()),
         Some(_) => unreachable!(),

@@ -5,20 +5,23 @@ ghost use Rattle.hir_items.specs.Bodies.{body_of};
 ghost use Rattle.hir_scope.specs.Frames.{Chain};
 ghost use Rattle.hir_scope.specs.Paths.{chain, frame_at};
 ghost use Rattle.hir_scope.specs.Resolution.{resolve, entries_of};
-ghost use Rattle.hir_run.specs.Answer.{IsBodyAnswer, IsChainOf, asked_text, chain_text, expansion_text, names_text, resolve_text, resolved_text};
+ghost use Rattle.hir_run.specs.Answer.{IsChainAnswer, IsResolveAnswer, IsCapturesAnswer, IsChainOf, asked_text, chain_text, expansion_text, names_text, resolve_text, resolved_text};
+ghost use Rattle.std.specs.Option.{option_copied};
+ghost use Rattle.hir_run.specs.OfLines.{AreOfLines};
+ghost use Rattle.hir_run.specs.Printed.{print_text};
 ghost use Rattle.hir_run.specs.Puts.{Puts};
 ghost use Rattle.hir_run.specs.Stages.{IsMadeBody};
 
-use crate::answer::{answer_store, put_asked};
-use crate::asking::{Answers, MemoryRefused};
+use crate::answer::put_asked;
+use crate::asking::MemoryRefused;
 use crate::captured::{put_captures, put_no_closure};
 use crate::fault::RunFault;
+use crate::printed::print_body;
 use crate::put::{put, put_number, put_spaced};
 use hir_base::{HygieneId, Name, Seq, SyntaxContext};
 use hir_captures::{CapturesFault, captures};
 use hir_io::{OutputBuffer, Sink};
 use hir_items::{Body, Param};
-use hir_lines::{BodyQuestion, Question};
 use hir_node::{BindingId, ExprId, PatId};
 use hir_scope::{ExprScopes, ScopeEntry, ScopeId, ScopesFault};
 use hir_store::ExpressionStore;
@@ -35,6 +38,7 @@ pub(crate) struct ScopedBody {
 impl Model for ScopedBody {
     ghost use Rattle.hir_items.specs.Bodies.{BodyContents};
     ghost use Rattle.hir_scope.specs.Built.{AreBodyScopes};
+    ghost use Rattle.hir_run.specs.OfLines.{AreOfLines};
 
     ghost Value = { BodyContents };
 
@@ -45,7 +49,7 @@ impl Model for ScopedBody {
 
     ghost view = { λ s. s.body };
 
-    ghost invariant = { λ s. AreBodyScopes s.body s.scopes };
+    ghost invariant = { λ s. AreBodyScopes s.body s.scopes × AreOfLines s.body.store.nodes };
 }
 
 /// The body of these parts, or why there is none.
@@ -166,6 +170,7 @@ impl ScopedBody {
         params: Seq<Param<PatId>>,
         self_param: Option<Param<BindingId>>,
     ) -> Result<ScopedBody, RunFault>
+        requires { AreOfLines store.nodes }
         ensures { IsMadeBody (body_of store params self_param) result }
     {
         let body = made_body(alloc, store, params, self_param)?;
@@ -174,6 +179,13 @@ impl ScopedBody {
             Err(ScopesFault::Missing) => unreachable!(),
             Err(ScopesFault::Full | ScopesFault::Memory) => Err(RunFault::OutOfMemory),
         }
+    }
+
+    /// The store of the body.
+    pub(crate) fn store(&self) -> &ExpressionStore
+        ensures { result.now ≡ self.now.store }
+    {
+        self.body.store()
     }
 
     /// Puts what is known of an expression: the names of its chain, or that it isn't reached.
@@ -209,8 +221,13 @@ impl ScopedBody {
         }
     }
 
-    fn answer_chain<W: Sink>(&self, id: ExprId, output: &mut OutputBuffer, writer: &mut W)
-        ensures { (text : List ℕ) × IsBodyAnswer self.now (BodyQuestion.Chain id) text
+    pub(crate) fn answer_chain<W: Sink>(
+        &self,
+        id: ExprId,
+        output: &mut OutputBuffer,
+        writer: &mut W,
+    )
+        ensures { (text : List ℕ) × IsChainAnswer self.now id text
             × Puts (W.contents writer.old) (W.failed writer.old) output.old (W.contents writer.new)
             (W.failed writer.new) output.new text }
     {
@@ -219,7 +236,7 @@ impl ScopedBody {
         put(b"\n", output, writer);
     }
 
-    fn answer_resolve<W: Sink>(
+    pub(crate) fn answer_resolve<W: Sink>(
         &self,
         id: ExprId,
         name: &Name,
@@ -227,7 +244,7 @@ impl ScopedBody {
         output: &mut OutputBuffer,
         writer: &mut W,
     )
-        ensures { (text : List ℕ) × IsBodyAnswer self.now (BodyQuestion.Resolve id name.now hygiene) text
+        ensures { (text : List ℕ) × IsResolveAnswer self.now id name.now hygiene text
             × Puts (W.contents writer.old) (W.failed writer.old) output.old (W.contents writer.new)
             (W.failed writer.new) output.new text }
     {
@@ -237,14 +254,14 @@ impl ScopedBody {
         put(b"\n", output, writer);
     }
 
-    fn answer_captures<W: Sink>(
+    pub(crate) fn answer_captures<W: Sink>(
         &self,
         alloc: Global,
         id: ExprId,
         output: &mut OutputBuffer,
         writer: &mut W,
     ) -> Result<(), MemoryRefused>
-        ensures ok { OnOk result ((text : List ℕ) × IsBodyAnswer self.now (BodyQuestion.Captures id) text
+        ensures ok { OnOk result ((text : List ℕ) × IsCapturesAnswer self.now id text
             × Puts (W.contents writer.old) (W.failed writer.old) output.old (W.contents writer.new)
             (W.failed writer.new) output.new text) }
         ensures memory { OnErr result ((writer.new ≡ writer.old) × (output.new ≡ output.old)) }
@@ -262,55 +279,24 @@ impl ScopedBody {
         }
     }
 
-    /// Answers a question on a body by one line.
+    /// Answers the text of the body, printed as that of function 0 with this name, and a line end.
     ///
     /// Answers `MemoryRefused` where memory was refused: nothing is put then.
-    fn answer_body<W: Sink>(
+    pub(crate) fn answer_print<W: Sink>(
         &self,
         alloc: Global,
-        question: BodyQuestion,
+        name: Option<&Name>,
         output: &mut OutputBuffer,
         writer: &mut W,
     ) -> Result<(), MemoryRefused>
-        ensures ok { OnOk result ((text : List ℕ) × IsBodyAnswer self.now question text
-            × Puts (W.contents writer.old) (W.failed writer.old) output.old (W.contents writer.new)
-            (W.failed writer.new) output.new text) }
+        ensures ok { OnOk result (Puts (W.contents writer.old) (W.failed writer.old) output.old
+            (W.contents writer.new) (W.failed writer.new) output.new
+            (print_text (option_copied name.entry) self.now)) }
         ensures memory { OnErr result ((writer.new ≡ writer.old) × (output.new ≡ output.old)) }
     {
-        match question {
-            BodyQuestion::Chain(id) => {
-                self.answer_chain(id, output, writer);
-                Ok(())
-            }
-            BodyQuestion::Resolve(id, name, hygiene) => {
-                self.answer_resolve(id, &name, hygiene, output, writer);
-                Ok(())
-            }
-            BodyQuestion::Captures(id) => self.answer_captures(alloc, id, output, writer),
-        }
-    }
-}
-
-/// With its scopes a body answers any question.
-impl Answers for ScopedBody {
-    ghost use Rattle.hir_run.specs.Program.{any_question};
-    ghost use Rattle.hir_run.specs.Answer.{IsAnswer};
-
-    ghost may = { any_question };
-
-    ghost Is = { IsAnswer };
-
-    fn answer<W: Sink>(
-        &self,
-        alloc: Global,
-        question: Question,
-        output: &mut OutputBuffer,
-        writer: &mut W,
-    ) -> Result<Option<Question>, MemoryRefused> {
-        match question {
-            Question::OfStore(asked) => answer_store(self.body.store(), asked, output, writer),
-            Question::OfBody(asked) => self.answer_body(alloc, asked, output, writer)?,
-        }
-        Ok(None)
+        let text = print_body(alloc, &self.body, name)?;
+        put(text.as_str().as_bytes(), output, writer);
+        put(b"\n", output, writer);
+        Ok(())
     }
 }

@@ -18,6 +18,8 @@ mod hygiene;
 #[cfg(test)]
 mod inputs;
 #[cfg(test)]
+mod printed;
+#[cfg(test)]
 mod reports;
 #[cfg(test)]
 mod rows;

@@ -235,7 +235,7 @@ const SECOND: [Row; 16] = [
 ];
 
 /// Lines that aren't good, and forms that are no lines.
-const THIRD: [Row; 9] = [
+const THIRD: [Row; 8] = [
     Row {
         name: "carriage_return",
         input: b"bind x\r\n",
@@ -288,13 +288,6 @@ const THIRD: [Row; 9] = [
     Row {
         name: "no_text_third",
         input: b"expr path a\n\nexpr path \xff\nroots\n",
-        output: b"",
-        said: b"bad line 3\n",
-        status: 1,
-    },
-    Row {
-        name: "unknown_print",
-        input: b"expr path a\nroot 0\nprint\n",
         output: b"",
         said: b"bad line 3\n",
         status: 1,

@@ -42,7 +42,8 @@ body_questions_decide x y = values_decide of_body.enum x y (
     (then _ _ (λ a b. search exact)
     (then _ _ (also _ _ unsigned_Decides (also _ _ names_decide (last _ hygienes_decide)))
     (then _ _ (λ a b. search exact)
-    (λ c d. absurd c)))) _ _)
+    (then _ _ (λ a b. search exact)
+    (λ c d. absurd c))))) _ _)
 
 pub questions_decide : (x y : Question) → Decides (question.ghosts.eq x y) (x ≡ y)
 questions_decide x y = values_decide questions.enum x y (

@@ -1,11 +1,11 @@
-use Rattle.std.proofs.Common.{◌≡◌, ◌+◌, length, ◌++◌, ◌∷◌, [], sym, ◌∙◌, arith, length-append, refl}
+use Rattle.std.proofs.Common.{◌≡◌, ◌+◌, length, ◌++◌, ◌∷◌, [], Bool, true, false, List, ℕ, Option, sym, ◌∙◌, arith, length-append, refl}
 use Rattle.std.proofs.lemmas.Result.{err_from_is_err_and}
 use Rattle.hir_io.specs.NextLine.{untaken}
 use Rattle.hir_io.proofs.ReadLemmas.{Reads-none, Reads-more, ReadsAll-end}
 use Rattle.hir_run.proofs.AskedLemmas.{first_answered, first_left, first_fails, none_left, fails_to_read, line_answered, line_left, line_fails}
 use Rattle.hir_lines.specs.declared.line.Line.TheVariants.{Ask}
 use Rattle.hir_lines.specs.Line.{line_of}
-use Rattle.hir_run.proofs.ClosingLemmas.{line_reads_none, next_reads}
+use Rattle.hir_run.proofs.ClosingLemmas.{line_reads_none, next_reads, reads_as}
 use Rattle.hir_run.proofs.asking.answer_lines.Goals as goal
 
 pub returns-in_err-left-clause-asks : goal.returns-in_err-left-clause-asks

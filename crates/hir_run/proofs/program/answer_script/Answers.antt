@@ -11,6 +11,7 @@ use Rattle.hir_run.specs.Stages.{Builds}
 use Rattle.std.proofs.lemmas.Bool.{false≢true}
 use Rattle.hir_run.proofs.ClosingLemmas.{accept_reads_none, body_reads_none, reads_as, none_before}
 use Rattle.hir_run.proofs.EndingLemmas.{from_the_start}
+use Rattle.hir_run.proofs.OfLinesLemmas.{built_of_lines, of_built}
 use Rattle.hir_run.proofs.ScriptLemmas.{script_build, script_finish, script_accept, script_store_ends, script_store_done, script_body, script_body_ends, script_body_done}
 use Rattle.hir_run.proofs.program.answer_script.Goals as goal
 
@@ -97,8 +98,9 @@ returns-in_err-unasked-clause-runs g c =
     let left = rw c.in-Some-left.is at (c.in_ok-left.ensures {u = tt}).asks in
     let params : c.into_parts-builder.result.params ≡ (made_of c.build.new.made).params = ap (λ (p : Parts). p.params) c.into_parts-builder.ensures in
     let self_param : c.into_parts-builder.result.self_param ≡ (made_of c.build.new.made).self_param = ap (λ (p : Parts). p.self_param) c.into_parts-builder.ensures in
+    let name : c.into_parts-builder.result.name ≡ (made_of c.build.new.made).name = ap (λ (p : Parts). p.name) c.into_parts-builder.ensures in
     rw (p.1, p.2) (script_body_ends (untaken c.build.new.lines.pending c.build.new.lines.at_end (g.R.Source.remaining c.build.new.reader)) (g.R.Source.remaining c.build.new.reader) (g.W.Sink.contents c.args.writer.now) (g.W.Sink.contents c.build.new.writer) c.build.new.output c.build.new.lines (made_of c.build.new.made) (building_of c.into_parts-builder.result.builder) c.in-Some.on_store c.in_ok-store.store same none finished (c.in_ok-store.ensures {u = tt})
-    (untaken c.answer_lines.new.lines.pending c.answer_lines.new.lines.at_end (g.R.Source.remaining c.answer_lines.new.reader)) (g.W.Sink.contents c.answer_lines.new.writer) c.answer_lines.new.output c.answer_lines.new.lines c.in-Some-left.on_body left c.into_parts-builder.result.params c.into_parts-builder.result.self_param params self_param c.in_ok-body.body (c.in_ok-body.ensures {u = tt})
+    (untaken c.answer_lines.new.lines.pending c.answer_lines.new.lines.at_end (g.R.Source.remaining c.answer_lines.new.reader)) (g.W.Sink.contents c.answer_lines.new.writer) c.answer_lines.new.output c.answer_lines.new.lines c.in-Some-left.on_body left c.into_parts-builder.result.params c.into_parts-builder.result.self_param params self_param c.in_ok-body.body (c.in_ok-body.ensures {u = tt}) c.into_parts-builder.result.name name
     (g.R.Source.remaining c.args.reader.now) (untaken c.answer_lines-2.new.lines.pending c.answer_lines-2.new.lines.at_end (g.R.Source.remaining c.answer_lines-2.new.reader)) (g.R.Source.remaining c.answer_lines-2.new.reader) (g.W.Sink.contents c.answer_lines-2.new.writer) c.answer_lines-2.new.output c.answer_lines-2.new.lines c.in_err-unasked.field-0.0 met c.in_err-unasked.ensures.asks)
 
 pub returns-clause-runs : goal.returns-clause-runs
@@ -112,9 +114,10 @@ returns-clause-runs g c =
     let left = rw c.in-Some-left.is at (c.in_ok-left.ensures {u = tt}).asks in
     let params : c.into_parts-builder.result.params ≡ (made_of c.build.new.made).params = ap (λ (p : Parts). p.params) c.into_parts-builder.ensures in
     let self_param : c.into_parts-builder.result.self_param ≡ (made_of c.build.new.made).self_param = ap (λ (p : Parts). p.self_param) c.into_parts-builder.ensures in
+    let name : c.into_parts-builder.result.name ≡ (made_of c.build.new.made).name = ap (λ (p : Parts). p.name) c.into_parts-builder.ensures in
     let asked = rw c.in-None-unasked.is at (c.in_ok-unasked.ensures {u = tt}).asks in
     script_body_done (untaken c.build.new.lines.pending c.build.new.lines.at_end (g.R.Source.remaining c.build.new.reader)) (g.R.Source.remaining c.build.new.reader) (g.W.Sink.contents c.args.writer.now) (g.W.Sink.contents c.build.new.writer) c.build.new.output c.build.new.lines (made_of c.build.new.made) (building_of c.into_parts-builder.result.builder) c.in-Some.on_store c.in_ok-store.store same none finished (c.in_ok-store.ensures {u = tt})
-    (untaken c.answer_lines.new.lines.pending c.answer_lines.new.lines.at_end (g.R.Source.remaining c.answer_lines.new.reader)) (g.W.Sink.contents c.answer_lines.new.writer) c.answer_lines.new.output c.answer_lines.new.lines c.in-Some-left.on_body left c.into_parts-builder.result.params c.into_parts-builder.result.self_param params self_param c.in_ok-body.body (c.in_ok-body.ensures {u = tt})
+    (untaken c.answer_lines.new.lines.pending c.answer_lines.new.lines.at_end (g.R.Source.remaining c.answer_lines.new.reader)) (g.W.Sink.contents c.answer_lines.new.writer) c.answer_lines.new.output c.answer_lines.new.lines c.in-Some-left.on_body left c.into_parts-builder.result.params c.into_parts-builder.result.self_param params self_param c.in_ok-body.body (c.in_ok-body.ensures {u = tt}) c.into_parts-builder.result.name name
     (g.R.Source.remaining c.args.reader.now) (untaken c.answer_lines-2.new.lines.pending c.answer_lines-2.new.lines.at_end (g.R.Source.remaining c.answer_lines-2.new.reader)) (g.R.Source.remaining c.answer_lines-2.new.reader) (g.W.Sink.contents c.answer_lines-2.new.writer) c.answer_lines-2.new.output c.answer_lines-2.new.lines met asked
 
 pub returns-in_err-body-clause-input_failed : goal.returns-in_err-body-clause-input_failed
@@ -153,3 +156,20 @@ pub returns-in_err-unasked-clause-quiet : goal.returns-in_err-unasked-clause-qui
 returns-in_err-unasked-clause-quiet g c =
     let p = err_from_is_err_and c.from_residual-in_err-unasked.result c.from_residual-in_err-unasked.ensures.1 in
     rw (p.1, p.2) (λ failed. c.in_err-unasked.ensures.quiet (reads_as (Option Question) (Unit {0}) c.in_err-unasked.field-0.0 ∙ failed))
+
+pub returns-in_err-first-clause-input_failed : goal.returns-in_err-first-clause-input_failed
+returns-in_err-first-clause-input_failed g c =
+    let p = err_from_is_err_and c.from_residual.result c.from_residual.ensures.1 in
+    rw (p.1, p.2) (none_before _ _ _ (c.in_err-first.ensures {u = tt}).failure c.requires.reading ∙ reads_as (Option Question) (Unit {0}) c.in_err-first.field-0.0)
+
+pub new-requires : goal.new-requires
+new-requires g c =
+    let told = c.in_ok-first.ensures {u = tt} in
+    let known = g.R.Source.remaining c.args.reader.now in
+    let rest = untaken c.build.new.lines.pending c.build.new.lines.at_end (g.R.Source.remaining c.build.new.reader) in
+    let remaining = g.R.Source.remaining c.build.new.reader in
+    let builds : Builds known rest remaining c.build.new.lines (made_of c.build.new.made) (Ok c.in_ok-first.first) =
+    from_the_start c.args.lines.now known rest remaining c.build.new.lines (made_of c.build.new.made) (Ok c.in_ok-first.first) c.requires.fresh told.builds in
+    let of_lines = built_of_lines c.said_is_written.ensures known rest remaining c.build.new.lines (made_of c.build.new.made) c.in_ok-first.first builds in
+    let finished : building_of c.into_parts-builder.result.builder ≡ (made_of c.build.new.made).built = ap (λ (p : Parts). building_of p.builder) c.into_parts-builder.ensures in
+    of_built (building_of c.into_parts-builder.result.builder) (made_of c.build.new.made).built c.in_ok-store.store finished (c.in_ok-store.ensures {u = tt}) of_lines

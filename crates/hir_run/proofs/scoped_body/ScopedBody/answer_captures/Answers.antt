@@ -4,10 +4,10 @@ use Rattle.hir_run.specs.Answer.{answer_line, captures_text}
 use Rattle.hir_run.proofs.scoped_body.ScopedBody.answer_captures.Goals as goal
 
 pub captures-requires-clause-reached : goal.captures-requires-clause-reached
-captures-requires-clause-reached g c = c.self.invariant.reached
+captures-requires-clause-reached g c = c.self.invariant.0.reached
 
 pub captures-requires-clause-chains : goal.captures-requires-clause-chains
-captures-requires-clause-chains g c = c.self.invariant.chains
+captures-requires-clause-chains g c = c.self.invariant.0.chains
 
 pub returns-in-Ok-clause-ok : goal.returns-in-Ok-clause-ok
 returns-in-Ok-clause-ok g c =

@@ -1,0 +1,90 @@
+-- What lines make are nodes of lines.
+use Rattle.std.proofs.Common.{◌≡◌, ℕ, zero, suc, Bool, true, false, ◌⊎◌, inl, inr, List, [], ◌∷◌, ◌++◌, if◌then◌else◌, ◌&&◌, ◌||◌, Option, Some, None, Ok, refl, sym, ap, ◌∙◌, subst, map, fold}
+use Rattle.std.specs.Prelude.{slice_get, filter_map}
+use Rattle.std.specs.List.{cons_option}
+use Rattle.hir_node.specs.declared.expr.Expr.{Expr}
+use Rattle.hir_node.specs.declared.pat.Pat.{Pat}
+use Rattle.hir_node.specs.declared.type_ref.TypeRef.{TypeRef}
+use Rattle.hir_io.specs.LineState.{LineState}
+use Rattle.hir_faults.specs.Nodes.{Nodes}
+use Rattle.hir_lines.specs.declared.line.Line.{Line}
+use Rattle.hir_lines.specs.declared.line.Line.TheVariants.{Blank, Make, Ask, Bad}
+use Rattle.hir_lines.specs.declared.line.Maker.{Maker}
+use Rattle.hir_lines.specs.declared.line.Question.{Question}
+use Rattle.hir_lines.specs.Grammar.{IsLine, IsMaker}
+use Rattle.hir_lines.specs.Grammar as line
+use Rattle.hir_lines.specs.Line.{line_of}
+use Rattle.hir_lines.specs.Tokens.{Token}
+use Rattle.hir_run.specs.Made.{Made, nothing_made, with_line}
+use Rattle.hir_run.specs.OfLines.{IsExprOfLine, IsPatOfLine, IsTypeOfLine, AreOfLines}
+use Rattle.hir_run.specs.Program.{maker_of, built_by, gives_self, gives_name, unless_second, once_each, says, script}
+use Rattle.hir_expr_store.specs.Contents.{Contents}
+use Rattle.hir_store.specs.Building.{Building}
+use Rattle.hir_run.specs.Stages.{Builds, Finishes}
+
+-- an item of a list with one more is one of the list, or the one more
+pushed : {X : Type 0} (xs : List X) (x : X) (i : ℕ) (y : X) → slice_get (xs ++ x ∷ []) i ≡ Some y → (slice_get xs i ≡ Some y) ⊎ (x ≡ y)
+pushed [] x zero y e = inr (cc)
+pushed [] x (suc i) y e = cc
+pushed (z ∷ xs) x zero y e = inl e
+pushed (z ∷ xs) x (suc i) y e = pushed xs x i y e
+
+more : {X : Type 0} (P : X → Type 0) (xs : List X) (x : X) → ((i : ℕ) (y : X) → slice_get xs i ≡ Some y → P y) → P x → (i : ℕ) (y : X) → slice_get (xs ++ x ∷ []) i ≡ Some y → P y
+more P xs x all here i y e = by (pushed xs x i y e) where
+  by : (slice_get xs i ≡ Some y) ⊎ (x ≡ y) → P y
+  by (inl there) = all i y there
+  by (inr same) = subst P same here
+
+with_more : (m : Made) {maker : Maker} {tokens : List Token} → AreOfLines m.built.nodes → IsMaker maker tokens → AreOfLines (with_line m maker).built.nodes
+with_more m h line.bind = record { exprs = h.exprs; pats = h.pats; types = h.types }
+with_more m h line.bind_expanded = record { exprs = h.exprs; pats = h.pats; types = h.types }
+with_more m h (line.pat {p = x} {tokens = tokens} is) = record { exprs = h.exprs; pats = more IsPatOfLine m.built.nodes.pats x h.pats (tokens, is); types = h.types }
+with_more m h (line.type_ref {t = x} {tokens = tokens} is) = record { exprs = h.exprs; pats = h.pats; types = more IsTypeOfLine m.built.nodes.types x h.types (tokens, is) }
+with_more m h (line.expr {e = x} {tokens = tokens} is) = record { exprs = more IsExprOfLine m.built.nodes.exprs x h.exprs (tokens, is); pats = h.pats; types = h.types }
+with_more m h line.expr_hygiene = h
+with_more m h line.pat_hygiene = h
+with_more m h line.self_param = h
+with_more m h line.param = h
+with_more m h line.fn_name = h
+with_more m h line.roots = h
+with_more m h line.root = h
+
+-- what is written in a text
+written : ((text : List ℕ) → IsLine (line_of text) text) → (text : List ℕ) (maker : Maker) → line_of text ≡ Make maker → (tokens : List Token) × IsMaker maker tokens
+written said text maker e = let is = subst (λ (l : Line). IsLine l text) e (said text) in (is.0, is.1)
+
+unless_make : (b : Bool) (line : Line) (maker : Maker) → (if b then Bad else line) ≡ Make maker → line ≡ Make maker
+unless_make true line maker e = cc
+unless_make false line maker e = e
+
+module _ (said : (text : List ℕ) → IsLine (line_of text) text) where
+  one_made : (text : List ℕ) (has_self has_name : Bool) (m : Made) → AreOfLines m.built.nodes → (makers : List Maker)
+      → ((n : Made) → AreOfLines n.built.nodes → AreOfLines (fold with_line n makers).built.nodes)
+      → AreOfLines (fold with_line m (cons_option (maker_of (unless_second has_self has_name (line_of text))) makers)).built.nodes
+  one_made text has_self has_name m h makers rest = by (unless_second has_self has_name (line_of text)) refl where
+    by : (line : Line) → unless_second has_self has_name (line_of text) ≡ line → AreOfLines (fold with_line m (cons_option (maker_of line) makers)).built.nodes
+    by Blank e = rest m h
+    by (Make maker) e =
+        let is = written said text maker (unless_make _ (line_of text) maker e) in
+        rest (with_line m maker) (with_more m h is.1)
+    by (Ask question) e = rest m h
+    by Bad e = rest m h
+
+  each_made : (texts : List (List ℕ)) (has_self has_name : Bool) (m : Made) → AreOfLines m.built.nodes → AreOfLines (fold with_line m (filter_map maker_of (once_each has_self has_name (says texts)))).built.nodes
+  each_made [] has_self has_name m h = h
+  each_made (text ∷ texts) has_self has_name m h =
+      let self_too = has_self || gives_self (line_of text) in
+      let name_too = has_name || gives_name (line_of text) in
+      one_made text has_self has_name m h (filter_map maker_of (once_each self_too name_too (says texts))) (λ n k. each_made texts self_too name_too n k)
+
+  made_of_lines : (texts : List (List ℕ)) → AreOfLines (built_by (script texts)).built.nodes
+  unfolding built_by
+  made_of_lines texts = each_made texts false false nothing_made (record { exprs = λ id x e. cc; pats = λ id x e. cc; types = λ id x e. cc })
+
+  pub built_of_lines : (known rest remaining : Option (List ℕ)) (ls : LineState) (built : Made) (first : Option Question) → Builds known rest remaining ls built (Ok first) → AreOfLines built.built.nodes
+  built_of_lines known rest remaining ls built None b = rw b.1.1 (made_of_lines b.0)
+  built_of_lines known rest remaining ls built (Some question) b = rw b.2.1 (made_of_lines b.0)
+
+-- so are those of the store that is made of it
+pub of_built : (given built : Building) (store : Contents) → given ≡ built → Finishes given (Ok store) → AreOfLines built.nodes → AreOfLines store.nodes
+of_built given built store e f h = subst (λ (c : Contents). AreOfLines c.nodes) (sym f.0) (subst (λ (b : Building). AreOfLines b.nodes) (sym e) h)
