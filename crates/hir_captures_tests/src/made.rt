@@ -3,7 +3,7 @@ use crate::build::{self, Step};
 use hir_base::{ArenaFault, Idx, Seq};
 use hir_captures::CapturesFault;
 use hir_items::{Body, Param};
-use hir_node::{BindingId, PatId};
+use hir_node::{BindingId, ExprId, PatId};
 use hir_scope::ExprScopes;
 use hir_store::ExpressionStore;
 use std::alloc::{AllocError, Global};
@@ -74,13 +74,25 @@ pub fn body(alloc: Global, tree: &Tree) -> Result<Box<Body>, Fail> {
     )
 }
 
-/// What is answered for the captures of this expression in this tree: the numbers of the bindings, or none where it is no closure.
-pub fn captures(alloc: Global, tree: &Tree, closure: u32) -> Result<Option<Vec<BindingId>>, Fail> {
-    let body = body(alloc, tree)?;
-    let scopes = opened(alloc, ExprScopes::new_body(alloc, &body))?;
-    match hir_captures::captures(alloc, &body, &scopes, Idx::from_raw(closure)) {
+/// What is answered for the captures of this expression in this body: the numbers of the bindings, or none where it is no closure.
+fn captures_in(
+    alloc: Global,
+    body: &Body,
+    closure: ExprId,
+) -> Result<Option<Vec<BindingId>>, Fail> {
+    let scopes = match ExprScopes::new_body(alloc, body) {
+        Ok(scopes) => scopes,
+        Err(fault) => return Err(Fail::from(fault)),
+    };
+    match hir_captures::captures(alloc, body, &scopes, closure) {
         Ok(found) => Ok(Some(found)),
         Err(CapturesFault::NotAClosure) => Ok(None),
         Err(CapturesFault::Memory) => Err(Fail::from(CapturesFault::Memory)),
     }
+}
+
+/// The same of this tree.
+pub fn captures(alloc: Global, tree: &Tree, closure: u32) -> Result<Option<Vec<BindingId>>, Fail> {
+    let body = body(alloc, tree)?;
+    captures_in(alloc, &body, Idx::from_raw(closure))
 }
