@@ -89,7 +89,10 @@ pub fn reads(printed: Result<String, PrintFault>, wanted: &str) -> Result<bool, 
 /// Whether a printing misses this first.
 pub fn misses(printed: Result<String, PrintFault>, wanted: Missing) -> Result<bool, Fail> {
     match printed {
-        Ok(_) => Ok(false),
+        Ok(text) => {
+            drop(text);
+            Ok(false)
+        }
         Err(PrintFault::Missing(missing)) => Ok(missing == wanted),
         Err(PrintFault::Memory) => Err(Fail::from(PrintFault::Memory)),
     }

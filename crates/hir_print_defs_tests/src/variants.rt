@@ -34,16 +34,21 @@ enum Seen {
 }
 
 /// A field: from where it may be seen, whether it is unsafe, and its name.
-type Field = (Seen, bool, &'static str);
+#[derive(Drop)]
+struct Field {
+    seen: Seen,
+    is_unsafe: bool,
+    name: &'static str,
+}
 
-fn visibility(alloc: Global, seen: Seen) -> Result<RawVisibility, AllocError> {
+fn visibility(alloc: Global, seen: &Seen) -> Result<RawVisibility, AllocError> {
     match seen {
         Seen::Public => Ok(RawVisibility::Public),
         Seen::Crate => Ok(RawVisibility::PubCrate),
         Seen::Itself => Ok(RawVisibility::PubSelf),
         Seen::In(kind, segments) => {
-            let segments = names(alloc, segments)?;
-            Ok(RawVisibility::Module(ModPath::from_segments(kind, segments)))
+            let segments = names(alloc, *segments)?;
+            Ok(RawVisibility::Module(ModPath::from_segments(*kind, segments)))
         }
     }
 }
@@ -52,14 +57,14 @@ fn visibility(alloc: Global, seen: Seen) -> Result<RawVisibility, AllocError> {
 fn list(alloc: Global, written: &[Field]) -> Result<Seq<FieldData>, AllocError> {
     let mut fields = Seq::new(alloc);
     let mut at = 0u32;
-    for (seen, is_unsafe, text) in written {
-        let name = Name::new(alloc, text)?;
-        let visibility = visibility(alloc, *seen)?;
+    for shown in written {
+        let name = Name::new(alloc, shown.name)?;
+        let visibility = visibility(alloc, &shown.seen)?;
         let field = FieldData {
             name,
             type_ref: Idx::from_raw(at),
             visibility,
-            is_unsafe: *is_unsafe,
+            is_unsafe: shown.is_unsafe,
             default_value: None,
         };
         push(&mut fields, field)?;
@@ -129,7 +134,11 @@ fn shapes(rt: HostRuntime) -> Result<(), Fail> {
         a,
         structure(0),
         FieldsShape::Record,
-        &[(Seen::Public, false, "a")],
+        &[Field {
+            seen: Seen::Public,
+            is_unsafe: false,
+            name: "a",
+        }],
     )?;
     add(&mut tables, a, structure(1), FieldsShape::Unit, &[])?;
     add(
@@ -137,14 +146,29 @@ fn shapes(rt: HostRuntime) -> Result<(), Fail> {
         a,
         union,
         FieldsShape::Record,
-        &[(Seen::Crate, false, "a"), (Seen::Itself, true, "b")],
+        &[
+            Field {
+                seen: Seen::Crate,
+                is_unsafe: false,
+                name: "a",
+            },
+            Field {
+                seen: Seen::Itself,
+                is_unsafe: true,
+                name: "b",
+            },
+        ],
     )?;
     add(
         &mut tables,
         a,
         variant(),
         FieldsShape::Tuple,
-        &[(Seen::Public, false, "0")],
+        &[Field {
+            seen: Seen::Public,
+            is_unsafe: false,
+            name: "0",
+        }],
     )?;
     let edition = Edition::Edition2021;
     let found = [
@@ -170,8 +194,8 @@ fn shapes(rt: HostRuntime) -> Result<(), Fail> {
     Ok(())
 }
 
-/// Whether the one field of struct 0 that is seen so reads so.
-fn seen_reads(alloc: Global, seen: Seen, wanted: &str) -> Result<bool, Fail> {
+/// Whether struct 0 with this one field reads so.
+fn field_reads(alloc: Global, written: &[Field], wanted: &str) -> Result<bool, Fail> {
     let mut tables = named(
         alloc,
         &[(NamedDef::StructId(StructId::from_raw(0)), Some("S"))],
@@ -181,7 +205,7 @@ fn seen_reads(alloc: Global, seen: Seen, wanted: &str) -> Result<bool, Fail> {
         alloc,
         structure(0),
         FieldsShape::Record,
-        &[(seen, false, "a")],
+        written,
     )?;
     reads(
         print_variant_body_hir(alloc, &tables, structure(0), Edition::Edition2021),
@@ -189,40 +213,55 @@ fn seen_reads(alloc: Global, seen: Seen, wanted: &str) -> Result<bool, Fail> {
     )
 }
 
+const A_B: [Field; 1] = [Field {
+    seen: Seen::In(PathKind::Plain, &["a", "b"]),
+    is_unsafe: false,
+    name: "a",
+}];
+
+const SELF: [Field; 1] = [Field {
+    seen: Seen::In(PathKind::Super(0), &[]),
+    is_unsafe: false,
+    name: "a",
+}];
+
+const SUPERS: [Field; 1] = [Field {
+    seen: Seen::In(PathKind::Super(2), &["b"]),
+    is_unsafe: false,
+    name: "a",
+}];
+
+const CRATE: [Field; 1] = [Field {
+    seen: Seen::In(PathKind::Crate, &["b"]),
+    is_unsafe: false,
+    name: "a",
+}];
+
+const ABS: [Field; 1] = [Field {
+    seen: Seen::In(PathKind::Abs, &["b"]),
+    is_unsafe: false,
+    name: "a",
+}];
+
 #[test]
 fn paths_of_modules(rt: HostRuntime) -> Result<(), Fail> {
     let a = rt.alloc();
+    let of_crate = [Field {
+        seen: Seen::In(PathKind::DollarCrate(CrateId::from_raw(0)), &["b"]),
+        is_unsafe: false,
+        name: "a",
+    }];
     let found = [
-        seen_reads(
+        field_reads(a, &A_B, "struct S {\npub(in a::b) a: u32,\n}\n")?,
+        field_reads(a, &SELF, "struct S {\npub(in self) a: u32,\n}\n")?,
+        field_reads(
             a,
-            Seen::In(PathKind::Plain, &["a", "b"]),
-            "struct S {\npub(in a::b) a: u32,\n}\n",
-        )?,
-        seen_reads(
-            a,
-            Seen::In(PathKind::Super(0), &[]),
-            "struct S {\npub(in self) a: u32,\n}\n",
-        )?,
-        seen_reads(
-            a,
-            Seen::In(PathKind::Super(2), &["b"]),
+            &SUPERS,
             "struct S {\npub(in super::super::b) a: u32,\n}\n",
         )?,
-        seen_reads(
-            a,
-            Seen::In(PathKind::Crate, &["b"]),
-            "struct S {\npub(in crate::b) a: u32,\n}\n",
-        )?,
-        seen_reads(
-            a,
-            Seen::In(PathKind::Abs, &["b"]),
-            "struct S {\npub(in ::b) a: u32,\n}\n",
-        )?,
-        seen_reads(
-            a,
-            Seen::In(PathKind::DollarCrate(CrateId::from_raw(0)), &["b"]),
-            "struct S {\npub(in $crate::b) a: u32,\n}\n",
-        )?,
+        field_reads(a, &CRATE, "struct S {\npub(in crate::b) a: u32,\n}\n")?,
+        field_reads(a, &ABS, "struct S {\npub(in ::b) a: u32,\n}\n")?,
+        field_reads(a, &of_crate, "struct S {\npub(in $crate::b) a: u32,\n}\n")?,
     ];
     assert!(&rt; found == [true; 6]);
     Ok(())
