@@ -167,12 +167,28 @@ impl StatementOf {
     }
 }
 
-fn statements(alloc: Global, written: &[StatementOf]) -> Result<Seq<Statement>, AllocError> {
-    let mut statements = Seq::new(alloc);
-    for statement in written {
-        push(&mut statements, statement.made())?;
+/// What makes a value, and takes no memory.
+trait Makes<T> {
+    fn make(&self) -> T;
+}
+
+impl Makes<Statement> for StatementOf {
+    fn make(&self) -> Statement {
+        self.made()
     }
-    Ok(statements)
+}
+
+/// All that is made. It is said of any type, so that no statement is laid out here.
+fn all_made<T: Drop, S: Makes<T>>(alloc: Global, written: &[S]) -> Result<Seq<T>, AllocError> {
+    let mut list = Seq::new(alloc);
+    for one in written {
+        list.push(one.make())?;
+    }
+    Ok(list)
+}
+
+fn statements(alloc: Global, written: &[StatementOf]) -> Result<Seq<Statement>, AllocError> {
+    all_made(alloc, written)
 }
 
 fn plain_path(alloc: Global, text: &'static str) -> Result<Path, AllocError> {
