@@ -1,0 +1,108 @@
+//! Calls that take memory, without what they hand back where it is refused.
+//! What is said here of any type is proved once, and lays out no type, however large it is.
+use hir_base::{Arena, Name, Seq};
+use hir_expr_store::Missing;
+use hir_print_defs::PrintFault;
+use std::alloc::{AllocError, AllocFailed, Global};
+use std::fmt::Debug;
+use std::test::Fail;
+
+/// What is written in a test for a `T`.
+pub trait Written<T> {
+    /// What is written.
+    fn made(&self, alloc: Global) -> Result<T, AllocError>;
+}
+
+pub fn in_a_box<T: Drop>(alloc: Global, value: T) -> Result<Box<T>, AllocError> {
+    Ok(Box::new(alloc, value)?)
+}
+
+pub fn push<T: Drop>(seq: &mut Seq<T>, item: T) -> Result<(), AllocError> {
+    Ok(seq.push(item)?)
+}
+
+/// Adds the item, or says why it can't be: without it, where it is handed back.
+fn add<K, T: Drop>(arena: &mut Arena<K, T>, item: T) -> Result<(), Fail> {
+    match arena.alloc(item) {
+        Ok(_) => Ok(()),
+        Err((fault, _)) => Err(Fail::from(fault)),
+    }
+}
+
+/// Adds what is written.
+pub fn add_all<K, T: Drop, W: Written<T>>(
+    arena: &mut Arena<K, T>,
+    alloc: Global,
+    written: &[W],
+) -> Result<(), Fail> {
+    for written in written {
+        add(arena, written.made(alloc)?)?;
+    }
+    Ok(())
+}
+
+/// The arena of what is written. In a box, so that what is dropped is a pointer.
+pub fn arena<K, T: Drop, W: Written<T>>(
+    alloc: Global,
+    written: &[W],
+) -> Result<Box<Arena<K, T>>, Fail> {
+    let mut arena = in_a_box(alloc, Arena::new(alloc))?;
+    add_all(&mut arena, alloc, written)?;
+    Ok(arena)
+}
+
+/// The list of what is written.
+pub fn list<T: Drop, W: Written<T>>(alloc: Global, written: &[W]) -> Result<Box<Seq<T>>, Fail> {
+    let mut list = in_a_box(alloc, Seq::new(alloc))?;
+    for written in written {
+        push(&mut list, written.made(alloc)?)?;
+    }
+    Ok(list)
+}
+
+/// Whether the value was taken: without it, where it is handed back.
+pub fn taken<T: Drop>(outcome: Result<(), AllocFailed<T>>) -> Result<(), Fail> {
+    match outcome {
+        Ok(()) => Ok(()),
+        Err(failed) => Err(Fail::from(AllocError::from(failed))),
+    }
+}
+
+/// The first of what was accepted, in a box; without what is handed back, where it is refused.
+pub fn first<T: Drop, U: Drop, R: Debug + Drop>(
+    alloc: Global,
+    outcome: Result<(T, U), R>,
+) -> Result<Box<T>, Fail> {
+    let (first, _) = outcome?;
+    Ok(Box::new(alloc, first)?)
+}
+
+/// What a printing gave: whether its text is this one. Without a text, the first that is missing.
+pub fn reads(printed: Result<String, PrintFault>, wanted: &str) -> Result<bool, Fail> {
+    match printed {
+        Ok(text) => Ok(text.as_str() == wanted),
+        Err(PrintFault::Missing(_)) => Ok(false),
+        Err(PrintFault::Memory) => Err(Fail::from(PrintFault::Memory)),
+    }
+}
+
+/// Whether a printing misses this first.
+pub fn misses(printed: Result<String, PrintFault>, wanted: Missing) -> Result<bool, Fail> {
+    match printed {
+        Ok(text) => {
+            drop(text);
+            Ok(false)
+        }
+        Err(PrintFault::Missing(missing)) => Ok(missing == wanted),
+        Err(PrintFault::Memory) => Err(Fail::from(PrintFault::Memory)),
+    }
+}
+
+/// The list of these names.
+pub fn names(alloc: Global, texts: &[&'static str]) -> Result<Seq<Name>, AllocError> {
+    let mut names = Seq::new(alloc);
+    for text in texts {
+        push(&mut names, Name::new(alloc, text)?)?;
+    }
+    Ok(names)
+}
