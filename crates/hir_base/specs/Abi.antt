@@ -3,7 +3,7 @@ use Rattle.std.specs.Prelude.{ℕ, List, codes}
 use Rattle.hir_base.specs.declared.abi.ExternAbi.{ExternAbi}
 use Rattle.hir_base.specs.declared.abi.ExternAbi.TheVariants.{Rust, C, CUnwind, System, SystemUnwind, Named}
 
--- what stands in quotes after `extern`
+-- the text in quotes after `extern`
 abbrev pub abi_text : ExternAbi → List ℕ
 abi_text Rust = codes "Rust"
 abi_text C = codes "C"

@@ -52,7 +52,7 @@ abbrev pub cmp_text : CmpOp → List ℕ
 cmp_text (Eq negated) = equality_text negated
 cmp_text (Ord ordering strict) = ordering_text ordering strict
 
--- `=`, after the operator where there is one
+-- `=`, after the operator if there is one
 abbrev pub assignment_text : Option ArithOp → List ℕ
 assignment_text None = codes "="
 assignment_text (Some op) = arith_text op ++ codes "="

@@ -5,7 +5,7 @@ ghost use Rattle.hir_base.specs.Abi.{abi_text};
 
 use crate::{ExactEq, Text, TryClone};
 
-/// The calling convention that stands after `extern`. The Rust Reference lists them under "ABI".
+/// A calling convention, as it is written after `extern`. The Rust Reference lists them under "ABI".
 #[derive(Drop, Clone, PartialEq, Eq, Hash)]
 pub enum ExternAbi {
     /// `"Rust"`
@@ -23,7 +23,7 @@ pub enum ExternAbi {
 }
 
 impl ExternAbi {
-    /// The text that stands in quotes after `extern`.
+    /// The text in quotes after `extern`.
     pub fn as_str(&self) -> &str
         ensures { result.now ≡ abi_text self.now }
     {

@@ -1,5 +1,5 @@
 //! Arenas: lists of items that are named by their numbers.
-//! Items are put in last and never taken out, so an id stays good for as long as its arena.
+//! Items are added at the end and never removed, so an id stays valid as long as its arena.
 ghost use Rattle.std.specs.Prelude.{◌≡◌, ◌<◌, ◌≤◌, [], ◌∷◌, ◌++◌, length, slice_get, IfOk, IfErr, IsTrue, ◌↔◌, Some};
 ghost use Rattle.std.specs.Borrow.{sem};
 ghost use Rattle.std.specs.List.{enumerate_from};
@@ -11,10 +11,10 @@ use std::marker::{Model, PhantomData};
 use std::ops::{Index, IndexMut};
 use thiserror::Error;
 
-/// The number of items that an arena may hold: one for each `u32` but the last.
+/// The most items that an arena can hold: one for each `u32` but the last.
 pub const MOST_ITEMS: usize = 4294967295;
 
-/// Why an arena took no item.
+/// Why an arena couldn't take an item.
 #[derive(Clone, Copy, Debug, Drop, PartialEq, Eq, Error)]
 pub enum ArenaFault {
     /// Memory for one more item was refused.
@@ -31,7 +31,7 @@ impl ExactEq for ArenaFault {
     ghost eq_decides = { Prim.search exact };
 }
 
-/// A list of items, each named by an id of the kind `K` that is its place from 0.
+/// A list of items, each named by an id of the kind `K` that is its index from 0.
 #[derive(Drop)]
 #[derive_where(Clone, PartialEq, Eq, Hash; T)]
 pub struct Arena<K, T> {
@@ -67,10 +67,10 @@ impl<K, T> Arena<K, T> {
         }
     }
 
-    /// Puts the item last and answers its id.
+    /// Adds the item at the end and answers its id.
     ///
-    /// Answers `Memory` where room for it was refused, and `Full` exactly where the arena holds `MOST_ITEMS` items. Either hands
-    /// the item back, and the arena is unchanged.
+    /// `Memory` if room for it was refused, `Full` exactly if the arena holds `MOST_ITEMS` items. Either hands the item back, and
+    /// the arena is unchanged.
     pub fn alloc(&mut self, item: T) -> Result<Idx<K>, (ArenaFault, T)>
         ensures ok { IfOk result (λ id. (id ≡ length self.old) × (self.new ≡ self.old ++ item ∷ [])) }
         ensures err { IfErr result (λ refused. (refused.1 ≡ item) × (self.new ≡ self.old)) }
@@ -117,7 +117,7 @@ impl<K, T> Arena<K, T> {
         self.items.as_slice()
     }
 
-    /// The ids and the items in their order. It can be taken from both ends.
+    /// The ids and the items in order, from either end.
     #[tactic(auto, using(crate::proofs::Numbered::numbered))]
     pub fn iter(&self) -> ArenaIter<'_, K, T>
         ensures items { result ≡ enumerate_from 0 self.now }
@@ -127,7 +127,7 @@ impl<K, T> Arena<K, T> {
     }
 }
 
-/// The item with an id, which the arena has to have: `has` tests it.
+/// The item with an id, which the arena must have: `has` tests that.
 impl<K, T> Index<Idx<K>> for Arena<K, T> {
     type Output = T;
 
@@ -140,7 +140,7 @@ impl<K, T> Index<Idx<K>> for Arena<K, T> {
     }
 }
 
-/// The item with an id, to be written: what is written stands in its place, and no other item changes.
+/// The item with an id, to write to: a write replaces it and changes no other item.
 impl<K, T> IndexMut<Idx<K>> for Arena<K, T> {
     ghost use Rattle.hir_base.specs.Arena.{lends_item};
 

@@ -1,7 +1,7 @@
-//! The kinds of syntax nodes that pointers speak of. They are markers: no value of them exists.
+//! The kinds of syntax nodes that pointers point to. They are markers: no value of them exists.
 //! `Widens` says which kind is part of which.
 
-/// Kinds of which each node of the kind `K` is one as well.
+/// A wider kind: each node of the kind `K` is also of this kind.
 pub trait Widens<K> {}
 
 /// The kind of an expression.
@@ -37,7 +37,7 @@ pub enum MacroCall {}
 /// The kind of an `.await` expression.
 pub enum AwaitExpr {}
 
-/// The kind of a macro call in the place of an expression.
+/// The kind of a macro call in expression position.
 pub enum MacroExpr {}
 
 impl Widens<MacroExpr> for Expr {}

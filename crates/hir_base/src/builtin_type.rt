@@ -1,4 +1,4 @@
-//! The numbers of the language, by their suffixes.
+//! The number types of the language, by their suffixes.
 ghost use Rattle.hir_base.specs.Exact.{exact};
 
 use crate::{ExactEq, TryClone};

@@ -1,4 +1,4 @@
-//! Sums of ids: what may own, define or name something, by kind.
+//! Enums of ids: what may own, define or name something, by kind.
 //! Each variant holds the id of its name; the three owners of expression stores convert into `ExpressionStoreOwnerId`.
 ghost use Rattle.std.specs.Prelude.{◌≡◌};
 ghost use Rattle.hir_base.specs.Exact.{exact};
@@ -131,7 +131,7 @@ impl From<VariantId> for ExpressionStoreOwnerId {
     }
 }
 
-/// A macro, by the way that it is written.
+/// A macro, by how it is written.
 #[derive(Clone, Copy, PartialEq, Eq, Hash)]
 pub enum MacroId {
     Macro2Id(Macro2Id),

@@ -1,4 +1,4 @@
-//! Editions of the language, and the words that each makes raw.
+//! Editions of the language, and the words that each writes with `r#`.
 ghost use Rattle.std.specs.Prelude.{◌≡◌};
 ghost use Rattle.hir_base.specs.Exact.{exact};
 ghost use Rattle.hir_base.specs.RawWords.{words_of, with_words, no_words};
@@ -57,7 +57,7 @@ impl RawWords {
         }
     }
 
-    /// Gives the edition these words, in place of the ones that it had. The other editions keep theirs.
+    /// Replaces the words of this edition. The other editions keep theirs.
     pub fn set_words(&mut self, edition: Edition, words: Seq<Text>)
         ensures { self.new ≡ with_words self.old edition words }
     {

@@ -24,7 +24,7 @@ pub trait TryClone: Clone {
 
     /// A second value, the same as this one.
     ///
-    /// Answers an error where memory for it was refused.
+    /// Answers an error if memory for it was refused.
     final fn try_clone(&self) -> Result<Self, AllocError>
         ensures { IfOk result (λ copy. copy ≡ self.now) }
     {

@@ -23,8 +23,8 @@ impl TryClone for SyntaxContext {
     ghost clone_is_same = { Prim.search exact };
 }
 
-/// The hygiene of a name, seen as its context. All source text has one hygiene, whatever its edition: its context is never a root of
-/// another edition than 2015.
+/// The hygiene of a name, seen as its context. All source text has one hygiene, whatever its edition: a context that is a root is
+/// always that of edition 2015.
 #[derive(Clone, Copy, PartialEq, Eq, Hash)]
 pub struct HygieneId {
     ctx: SyntaxContext,
@@ -62,14 +62,14 @@ impl HygieneId {
         }
     }
 
-    /// The context that the hygiene stands for.
+    /// The context of the hygiene.
     pub fn syntax_context(self) -> SyntaxContext
         ensures { result ≡ self }
     {
         self.ctx
     }
 
-    /// Whether it is that of source text, `ROOT`.
+    /// Whether it is `ROOT`, the hygiene of source text.
     pub fn is_root(self) -> bool
         ensures test { result ≡ is_root self }
         ensures source { IsTrue result ↔ (self ≡ SyntaxContext.Root Edition.Edition2015) }

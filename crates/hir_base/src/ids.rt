@@ -1,5 +1,5 @@
 //! Numbered ids: those of definitions, blocks, macro calls, crates and files.
-//! Each is a number with a kind, given out by whoever lowers source code; nothing here checks that it was.
+//! Each is a number with a kind. Whoever lowers source code gives it out; nothing here checks that.
 ghost use Rattle.std.specs.Prelude.{◌≡◌, Some};
 ghost use Rattle.std.specs.Ordering.{nat_cmp};
 ghost use Rattle.std.specs.Cmp.Rules.{comparing};
@@ -9,7 +9,7 @@ use crate::{ExactEq, TryClone};
 use std::cmp::Ordering;
 use std::marker::{Model, PhantomData};
 
-/// The number of a thing of the kind `K`. `K` is a marker of the module `kinds`: nothing is asked of it.
+/// The number of a thing of the kind `K`. `K` is a marker of the module `kinds`, with no bounds.
 #[derive(Drop)]
 #[derive_where(Clone, Copy, PartialEq, Eq, Hash, Debug)]
 pub struct Id<K> {
@@ -113,10 +113,10 @@ pub type TypeAliasId = Id<kinds::TypeAlias>;
 /// The number of a block expression that holds items.
 pub type BlockId = Id<kinds::Block>;
 
-/// The number of a definition of a macro, as an expansion names it.
+/// The number of a macro definition, as an expansion names it.
 pub type MacroDefId = Id<kinds::MacroDef>;
 
-/// The number of a call of a macro.
+/// The number of a macro call.
 pub type MacroCallId = Id<kinds::MacroCall>;
 
 /// The number of a crate.

@@ -6,7 +6,7 @@ ghost use Rattle.std.proofs.Common.{rules};
 use crate::{ExactEq, TryClone};
 use std::marker::{Model, PhantomData};
 
-/// The number of an item of the kind `K`, from 0. `K` is a marker: nothing is asked of it.
+/// The number of an item of the kind `K`, from 0. `K` is a marker, with no bounds.
 #[derive(Drop)]
 #[derive_where(Clone, Copy, PartialEq, Eq, PartialOrd, Ord, Hash, Debug)]
 pub struct Idx<K> {
@@ -44,7 +44,7 @@ impl<K> Idx<K> {
     }
 }
 
-/// The id 0, with which a small vector of ids fills the places that it has not used.
+/// The id 0: a small vector of ids fills its unused places with it.
 impl<K> Default for Idx<K> {
     ghost is_default = { λ id. id ≡ 0 };
 

@@ -1,4 +1,4 @@
-//! Laws that a reader relies on, and that no call's contract says.
+//! Laws that a reader relies on, and that no call's contract states.
 //! Each but the last is a function with no body to run: its contract is the law, proved for every value.
 ghost use Rattle.std.specs.Prelude.{◌≡◌, ℕ};
 ghost use Rattle.std.specs.Ordering.{nat_cmp};
@@ -7,29 +7,29 @@ ghost use Rattle.hir_base.specs.Laws.{OrderAgrees};
 use crate::{BlockId, Idx, PathKind};
 use std::hash::Hash;
 
-/// Ids are ordered as their numbers, whatever their kind is.
+/// Ids are ordered by their numbers, whatever their kind.
 pub fn idx_order_is_that_of_numbers<K>()
     ensures total { (x y : ℕ) → ⟦<Idx<K> as Ord>⟧.cmp x y ≡ nat_cmp x y }
     ensures partial { (x y : ℕ) → ⟦<Idx<K> as PartialOrd>⟧.partial_cmp x y ≡ Some (nat_cmp x y) }
 {}
 
-/// Ids are equal exactly where they are one number, exactly where they compare as equal, and then hash alike, whatever their kind is.
+/// Ids are equal exactly if their numbers are, exactly if they compare as equal, and then they hash alike, whatever their kind.
 pub fn idx_order_agrees_with_eq_and_hash<K>()
     ensures { OrderAgrees ⟦<Idx<K> as PartialEq>⟧.eq ⟦<Idx<K> as Ord>⟧.cmp ⟦<Idx<K> as Hash>⟧.hash_input }
 {}
 
-/// Blocks are ordered as their numbers.
+/// Blocks are ordered by their numbers.
 pub fn block_order_is_that_of_numbers()
     ensures total { (x y : ℕ) → ⟦<BlockId as Ord>⟧.cmp x y ≡ nat_cmp x y }
     ensures partial { (x y : ℕ) → ⟦<BlockId as PartialOrd>⟧.partial_cmp x y ≡ Some (nat_cmp x y) }
 {}
 
-/// Blocks are equal exactly where they are one number, exactly where they compare as equal, and then hash alike.
+/// Blocks are equal exactly if their numbers are, exactly if they compare as equal, and then they hash alike.
 pub fn block_order_agrees_with_eq_and_hash()
     ensures { OrderAgrees ⟦<BlockId as PartialEq>⟧.eq ⟦<BlockId as Ord>⟧.cmp ⟦<BlockId as Hash>⟧.hash_input }
 {}
 
-/// The kind of paths that begin with `self` is `Super` of no module. (A clause can't name such a constant, so it is the answer here.)
+/// The kind of paths that begin with `self` is `Super(0)`. (A clause can't name such a constant, so this function answers it.)
 pub fn kind_of_self() -> PathKind
     ensures { result ≡ PathKind.Super 0 }
 {

@@ -1,5 +1,5 @@
 //! The vocabulary of the layers above: ids, arenas, maps, lists, texts, names, pointers into source and operators.
-//! Each type is seen by contracts as what it means: an id as its number, an arena as its list, a text as its bytes.
+//! Contracts see each type as what it means: an id as its number, an arena as its list, a text as its bytes.
 #![tactic(auto)]
 
 mod abi;

@@ -71,7 +71,7 @@ impl ModPath {
         self.kind
     }
 
-    /// The names of the path, first to last. What its kind says is none of them.
+    /// The names of the path, first to last. The prefix that its kind says, as `crate`, isn't one of them.
     pub fn segments(&self) -> &[Name]
         ensures { result.now ≡ self.now.segments }
     {
@@ -85,7 +85,7 @@ impl ModPath {
         self.as_ident().is_some()
     }
 
-    /// The name of a path that is an identifier.
+    /// The name, if the path is an identifier.
     pub fn as_ident(&self) -> Option<&Name>
         ensures { option_map (λ name. name.now) result ≡ ident_of self.now }
     {

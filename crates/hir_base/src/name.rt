@@ -23,9 +23,9 @@ impl Model for Name {
 }
 
 impl Name {
-    /// The name with this text, in one piece of memory of the text's length.
+    /// The name with this text, in one allocation of the text's length.
     ///
-    /// Answers an error where that memory was refused.
+    /// Answers an error if that memory was refused.
     pub fn new(alloc: Global, text: &str) -> Result<Name, AllocError>
         ensures { IfOk result (λ name. name ≡ text.now) }
     {
@@ -41,9 +41,9 @@ impl Name {
         Name { text }
     }
 
-    /// The name of what source code left without one: `[missing name]`.
+    /// The name of what has none in source code: `[missing name]`.
     ///
-    /// Answers an error where memory for it was refused.
+    /// Answers an error if memory for it was refused.
     pub fn missing(alloc: Global) -> Result<Name, AllocError>
         ensures { IfOk result (λ name. name ≡ codes "[missing name]") }
     {

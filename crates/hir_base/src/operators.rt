@@ -3,7 +3,7 @@ ghost use Rattle.hir_base.specs.Exact.{exact};
 
 use crate::{ExactEq, TryClone};
 
-/// Operators on numbers and bits. Each may also stand before `=`.
+/// Operators on numbers and bits. Each may also come before `=`.
 #[derive(Clone, Copy, PartialEq, Eq, Hash)]
 pub enum ArithOp {
     /// `+`
@@ -36,7 +36,7 @@ impl TryClone for ArithOp {
     ghost clone_is_same = { Prim.search exact };
 }
 
-/// Operators on truth values that may leave their right side out.
+/// Short-circuiting operators on truth values.
 #[derive(Clone, Copy, PartialEq, Eq, Hash)]
 pub enum LogicOp {
     /// `&&`
@@ -53,7 +53,7 @@ impl TryClone for LogicOp {
     ghost clone_is_same = { Prim.search exact };
 }
 
-/// Which side of a comparison is asked to be the smaller.
+/// Which side of a comparison has to be the smaller.
 #[derive(Clone, Copy, PartialEq, Eq, Hash)]
 pub enum Ordering {
     /// `<` and `<=`
@@ -73,9 +73,9 @@ impl TryClone for Ordering {
 /// Comparisons.
 #[derive(Clone, Copy, PartialEq, Eq, Hash)]
 pub enum CmpOp {
-    /// `==`, and `!=` where it is negated.
+    /// `==`, or `!=` if it is negated.
     Eq { negated: bool },
-    /// `<` and `>` where it is strict, else `<=` and `>=`.
+    /// `<` and `>` if it is strict, else `<=` and `>=`.
     Ord { ordering: Ordering, strict: bool },
 }
 
@@ -93,7 +93,7 @@ pub enum BinaryOp {
     LogicOp(LogicOp),
     ArithOp(ArithOp),
     CmpOp(CmpOp),
-    /// `=`, after the operator where there is one.
+    /// `=`, after the operator if there is one.
     Assignment { op: Option<ArithOp> },
 }
 

@@ -1,4 +1,4 @@
-//! Precedence of expressions, from the one that binds least to the one that binds most.
+//! Precedence of expressions, from the one that binds least to the one that binds tightest.
 //! The order is that of the Rust Reference, "Expression precedence".
 ghost use Rattle.std.specs.Prelude.{◌≡◌};
 ghost use Rattle.hir_base.specs.Exact.{exact};
@@ -38,14 +38,14 @@ pub enum ExprPrecedence {
     Prefix,
     /// Calls, fields, indexes, `.await` and `?` after an expression.
     Postfix,
-    /// Paths, literals, blocks and whatever else stands by itself.
+    /// Paths, literals, blocks and whatever else is complete by itself.
     Unambiguous,
 }
 
 impl ExprPrecedence {
     ghost use Rattle.hir_base.specs.Precedence.{level, needs_parentheses};
 
-    /// Whether an expression of this precedence, as a child of one of the precedence `parent`, has to stand in parentheses.
+    /// Whether an expression of this precedence needs parentheses as a child of one of the precedence `parent`.
     pub fn needs_parentheses_in(self, parent: ExprPrecedence) -> bool
         ensures { result ≡ needs_parentheses self parent }
     {

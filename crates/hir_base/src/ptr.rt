@@ -1,5 +1,5 @@
 //! Pointers into source files, and what a source is: a pointer and its file.
-//! A pointer is the kind and the range of a syntax node, and says by its type what kind of node is meant.
+//! A pointer is the kind and the range of a syntax node; its type says what kind of node it points to.
 ghost use Rattle.std.specs.Prelude.{◌≡◌};
 ghost use Rattle.hir_base.specs.Exact.{exact};
 
@@ -9,7 +9,7 @@ use crate::{ExactEq, TryClone};
 use either::Either;
 use std::marker::{Model, PhantomData};
 
-/// A part of a file, in bytes from its start: from `start`, and up to but without `end`.
+/// A part of a file, in bytes from the file's start: from `start` up to, but not including, `end`.
 #[derive(Clone, Copy, PartialEq, Eq, Hash)]
 pub struct TextRange {
     pub start: u32,
@@ -24,7 +24,7 @@ impl TryClone for TextRange {
     ghost clone_is_same = { Prim.search exact };
 }
 
-/// A syntax node, named by what it is and where it stands.
+/// A syntax node, named by its kind and its range.
 #[derive(Clone, Copy, PartialEq, Eq, Hash)]
 pub struct SyntaxNodePtr {
     /// The number of the node's syntax kind, as the parser gives it.
@@ -71,7 +71,7 @@ impl<K> AstPtr<K> {
         }
     }
 
-    /// The node, without what kind it is.
+    /// The node, without the marker of its kind.
     pub fn syntax_node_ptr(self) -> SyntaxNodePtr
         ensures { result ≡ self }
     {
@@ -104,7 +104,7 @@ impl<K> TryClone for AstPtr<K> {
     ghost clone_is_same = { Prim.search exact };
 }
 
-/// A value and the file that it speaks of.
+/// A value and the file that it is about.
 #[derive(Clone, Copy, PartialEq, Eq, Hash)]
 pub struct InFile<T> {
     /// The file, or what a macro call expanded to.
@@ -120,7 +120,7 @@ impl<T: TryClone> TryClone for InFile<T> {
     ghost clone_is_same = { Prim.search (exact, T.clone_is_same) };
 }
 
-/// That no syntax stands behind a node: lowering made it up.
+/// The error that a node has no syntax: lowering made it up.
 #[derive(Drop, PartialEq, Eq)]
 pub struct SyntheticSyntax;
 

@@ -1,5 +1,5 @@
 //! Lists: a `Vec` that contracts see as the list of its items.
-//! A `Vec` itself also has a capacity, so two of the same items may differ to a contract; two `Seq`s may not.
+//! A contract also sees the capacity of a `Vec`, so two with the same items can differ; two `Seq`s can't.
 ghost use Rattle.std.specs.Prelude.{◌≡◌, ◌<◌, [], ◌∷◌, ◌++◌, length, slice_get, IfOk, IsOk, OnOk, OnErr, IfErr, IsTrue, ◌↔◌, Some};
 ghost use Rattle.std.specs.Option.{option_copied};
 ghost use Rattle.std.specs.Borrow.{sem};
@@ -19,7 +19,7 @@ use std::slice::Iter;
 
 /// A `Vec` that contracts see as the list of its items.
 ///
-/// It is made from the `Vec` and gives it back without memory.
+/// Converting from the `Vec` and back takes no memory.
 #[derive(Drop)]
 pub struct Seq<T> {
     items: Vec<T>,
@@ -37,7 +37,7 @@ impl<T> Model for Seq<T> {
 }
 
 impl<T> Seq<T> {
-    /// A list with no items, which takes its memory from `alloc`, and none now.
+    /// A list with no items. It takes its memory from `alloc`, and none yet.
     pub fn new(alloc: Global) -> Seq<T>
         ensures { result ≡ [] }
     {
@@ -46,9 +46,9 @@ impl<T> Seq<T> {
         }
     }
 
-    /// A list with no items and with room for this number of them.
+    /// A list with no items and with room for `capacity` of them.
     ///
-    /// Answers an error where memory for that room was refused.
+    /// Answers an error if memory for that room was refused.
     pub fn with_capacity(alloc: Global, capacity: usize) -> Result<Seq<T>, AllocError>
         ensures ok { IfOk result (λ seq. seq ≡ []) }
         ensures none_wanted { capacity ≡ 0 → IsOk result }
@@ -94,14 +94,14 @@ impl<T> Seq<T> {
         self.items.is_empty()
     }
 
-    /// The item in this place from 0, where there is one.
+    /// The item at this index, if there is one.
     pub fn get(&self, at: usize) -> Option<&T>
         ensures { option_copied result ≡ slice_get self.now at }
     {
         self.items.get(at)
     }
 
-    /// The items in their order. It can be taken from both ends.
+    /// The items in order, from either end.
     pub fn iter(&self) -> Iter<'_, T>
         ensures rest { iter_rest result ≡ self.now }
         ensures runs { IterYieldsInOrder T }
@@ -110,9 +110,9 @@ impl<T> Seq<T> {
         self.as_slice().iter()
     }
 
-    /// Puts the item last.
+    /// Adds the item at the end.
     ///
-    /// Answers an error where room for it was refused: the item is handed back and the list is unchanged.
+    /// Answers an error if room for it was refused: the item is handed back and the list is unchanged.
     pub fn push(&mut self, item: T) -> Result<(), AllocFailed<T>>
         ensures ok { OnOk result (self.new ≡ self.old ++ item ∷ []) }
         ensures err { OnErr result (self.new ≡ self.old) }
@@ -122,7 +122,7 @@ impl<T> Seq<T> {
     }
 }
 
-/// The item in a place, which has to be below the length.
+/// The item at an index, which must be below the length.
 impl<T> Index<usize> for Seq<T> {
     type Output = T;
 
@@ -135,7 +135,7 @@ impl<T> Index<usize> for Seq<T> {
     }
 }
 
-/// The item in a place, to be written: no other item changes.
+/// The item at an index, to write to: no other item changes.
 impl<T> IndexMut<usize> for Seq<T> {
     ghost use Rattle.hir_base.specs.Seq.{lends_item};
 

@@ -1,12 +1,12 @@
-//! A count of steps that contracts alone see: it takes no bytes, and counting does nothing at run time.
+//! A count of steps that only contracts see: it takes no bytes, and counting does nothing at run time.
 ghost use Rattle.std.specs.Prelude.{◌≡◌, ◌+◌, ℕ};
 
 use std::marker::Model;
 
-/// How many steps were taken, seen as that number.
+/// A count of steps, seen as that number.
 ///
-/// It serves contracts that say how much a call does, as how many ends a search reads. A caller makes a count by `new` and lends it to
-/// such a call: what the number is afterwards stands in the call's contract, and nothing reads it at run time.
+/// It is for contracts that say how much a call does, as how many ends a search reads. A caller makes a count by `new` and passes it
+/// to such a call by `&mut`: the call's contract says what the number is afterwards, and nothing reads it at run time.
 #[derive(Drop)]
 pub struct Steps {
     ghost count: { ℕ },
@@ -31,7 +31,7 @@ impl Steps {
         Steps::none()
     }
 
-    /// Takes a step: the number rises by one.
+    /// Counts a step: the number rises by one.
     pub fn tick(&mut self)
         ensures { self.new ≡ self.old + 1 }
     {

@@ -1,5 +1,5 @@
-//! Maps under keys of ours, which may be any: hash tables with a fixed seed.
-//! They take memory for their entries alone, whatever the keys are.
+//! Maps whose keys are any values of our own types: hash tables with a fixed seed.
+//! They take memory only for their entries, whatever the keys are.
 ghost use Rattle.std.specs.Prelude.{◌≡◌, ◌↔◌, ◌==◌, List, ℕ, IsTrue, OnOk, OnErr, IfErr, IfOk};
 ghost use Rattle.std.specs.Bool.{Decides};
 ghost use Rattle.std.specs.Option.{option_copied, option_copied_mut};
@@ -17,7 +17,7 @@ use std::collections::HashMap;
 use std::hash::Hash;
 use std::marker::Model;
 
-/// Keys that a list of numbers tells apart: equal keys have one code, and no others do.
+/// Keys with a code, a list of numbers: two keys have the same code exactly if they are equal.
 pub trait Keyed: Eq + Hash {
     ghost code: { Self → List ℕ };
 
@@ -43,7 +43,7 @@ impl<K: Keyed, V> Model for Table<K, V> {
 }
 
 impl<K: Keyed, V> Table<K, V> {
-    /// A table with no entries, which takes its memory from `alloc`, and none now.
+    /// A table with no entries. It takes its memory from `alloc`, and none yet.
     pub fn new(alloc: Global) -> Table<K, V>
         ensures { result ≡ map.empty }
     {
@@ -67,7 +67,7 @@ impl<K: Keyed, V> Table<K, V> {
         self.entries.is_empty()
     }
 
-    /// The entries, each once, in an order that nobody may rely on.
+    /// The entries, each once, in no promised order.
     pub fn iter(&self) -> TableIter<'_, K, V>
         ensures { IsPermutation (coded K.code result) (map.entries self.now) }
     {
@@ -79,7 +79,7 @@ impl<K: Keyed, V> Table<K, V> {
 impl<K: Keyed, V> Table<K, V> {
     ghost use Rattle.hir_base.specs.TableLends.{lends_value};
 
-    /// The value of this key, to be written, if it has one: no other entry changes.
+    /// The value of this key, to write to, if it has one: no other entry changes.
     pub fn get_mut(&mut self, key: &K) -> Option<&mut V>
         ensures* writes_back { sem 𝓛 (lends_value K.row V.row K.Keyed self.entry (K.code key.now) result) }
         ensures value { option_copied_mut result ≡ map.get self.old (K.code key.now) }
@@ -89,9 +89,9 @@ impl<K: Keyed, V> Table<K, V> {
 }
 
 impl<K: Keyed + Drop, V: Drop> Table<K, V> {
-    /// Gives the key this value, and answers the one that it had.
+    /// Gives the key this value, and answers the previous one.
     ///
-    /// Answers an error where room for one more entry was refused: key and value are handed back and the table is unchanged.
+    /// Answers an error if room for one more entry was refused: key and value are handed back and the table is unchanged.
     pub fn insert(&mut self, key: K, value: V) -> Result<Option<V>, AllocFailed<(K, V)>>
         ensures ok { OnOk result (self.new ≡ map.insert self.old (K.code key) value) }
         ensures old { IfOk result (λ old. old ≡ map.get self.old (K.code key)) }
@@ -101,9 +101,9 @@ impl<K: Keyed + Drop, V: Drop> Table<K, V> {
         self.entries.insert(key, value)
     }
 
-    /// Gives the key this value, in the place of the one that it had.
+    /// Gives the key this value, in place of the previous one.
     ///
-    /// Answers an error where room for one more entry was refused: key and value are handed back and the table is unchanged.
+    /// Answers an error if room for one more entry was refused: key and value are handed back and the table is unchanged.
     pub fn put(&mut self, key: K, value: V) -> Result<(), AllocFailed<(K, V)>>
         ensures ok { OnOk result (self.new ≡ map.insert self.old (K.code key) value) }
         ensures err { OnErr result (self.new ≡ self.old) }

@@ -1,5 +1,5 @@
 //! Texts: a `String` that contracts see as its bytes.
-//! A `String` itself also has a capacity, so two of the same text may differ to a contract; two `Text`s may not.
+//! A contract also sees the capacity of a `String`, so two with the same text can differ; two `Text`s can't.
 ghost use Rattle.std.specs.Prelude.{◌≡◌, IfOk};
 ghost use Rattle.std.specs.String.{string_bytes};
 ghost use Rattle.std.specs.Cmp.Lexicographic.{pointwise};
@@ -15,7 +15,7 @@ use std::marker::Model;
 
 /// A `String` that contracts see as its bytes.
 ///
-/// It is made from the `String` and gives it back without memory.
+/// Converting from the `String` and back takes no memory.
 #[derive(Drop)]
 pub struct Text {
     text: String,
@@ -46,9 +46,9 @@ impl Text {
         text
     }
 
-    /// A copy of the text, in one piece of memory of its length.
+    /// A copy of the text, in one allocation of its length.
     ///
-    /// Answers an error where that memory was refused.
+    /// Answers an error if that memory was refused.
     pub fn from_str(alloc: Global, text: &str) -> Result<Text, AllocError>
         ensures { IfOk result (λ t. t ≡ text.now) }
     {

@@ -15,17 +15,17 @@ use Rattle.hir_scope.specs.Resolution.{resolve}
 use Rattle.hir_scope.specs.declared.scope.ScopeEntry.{ScopeEntry}
 use Rattle.hir_captures.specs.Uses.{Use, uses_in}
 
--- the binding that a name means, but where it means one further in
+-- the binding that a name means, unless it means one further in
 abbrev pub unless_within : Option ScopeEntry → Option ScopeEntry → Option ℕ
 unless_within None found = option_map (λ (entry : ScopeEntry). entry.binding) found
 unless_within (Some entry) found = None
 
--- the binding that a name means along a chain, but where the entry stands in its innermost frames, of which there are so many
+-- the binding that a name means along a chain, unless the entry is in its innermost frames, of which there are this many
 abbrev pub meant_behind : ℕ → Chain → List ℕ → SyntaxContext → Option ℕ
 meant_behind innermost chain name hygiene = unless_within (resolve (take innermost chain) name hygiene) (resolve chain name hygiene)
 
--- What a use captures: the binding that it resolves to, where the entry stands in the closure's part of the chain. The closure's own chain
--- are the outermost frames; those within them stand between the use and the closure.
+-- What a use captures: the binding that it resolves to, where the entry is in the closure's part of the chain. The closure's own chain
+-- is the outermost frames; those within them are between the use and the closure.
 abbrev pub captured : (ℕ → Chain) → ℕ → Use → Option ℕ
 captured chain closure use_ =
     meant_behind (length (chain use_.expr) - length (chain closure)) (chain use_.expr) use_.name use_.hygiene

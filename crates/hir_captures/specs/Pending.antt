@@ -40,7 +40,7 @@ abbrev pub pat_task : Option ℕ → ℕ → Task
 pat_task None id = task.Pat id
 pat_task (Some assignment) id = task.Target id assignment
 
--- the tasks of a call: constants and types are no code
+-- the tasks of a call: constants and types aren't code
 abbrev pub task_of : Option ℕ → Call → List Task
 task_of assignment (OnExpr id) = task.Expr id ∷ []
 task_of assignment (OnPat id) = pat_task assignment id ∷ []

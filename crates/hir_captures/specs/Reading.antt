@@ -15,7 +15,7 @@ use Rattle.hir_captures.specs.Uses.{Spot, Use, spot_uses}
 abbrev pub chain_in : Scopes → ℕ → Chain
 chain_in scopes expr = chain scopes.scopes (map.get scopes.scope_by_expr expr)
 
--- what a use captures, by the scopes, where the closure's own chain has so many frames
+-- what a use captures, by the scopes, where the closure's own chain has this many frames
 abbrev pub captured_in : Scopes → ℕ → Use → Option ℕ
 captured_in scopes outermost use_ =
     meant_behind (length (chain_in scopes use_.expr) - outermost) (chain_in scopes use_.expr) use_.name use_.hygiene

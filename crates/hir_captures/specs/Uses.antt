@@ -1,4 +1,4 @@
--- The uses of variables in a closure's code: the paths of one name that stand there and in no constant, in the order in which they are met.
+-- The uses of variables in a closure's code: the paths of one name in it and in no constant, in the order in which they are met.
 use Rattle.std.specs.Prelude.{ℕ, zero, List, [], ◌∷◌, Option, Some, None, codes, slice_get}
 use Rattle.std.specs.List.{flat_map}
 use Rattle.hir_base.specs.declared.hygiene.SyntaxContext.{SyntaxContext}
@@ -31,13 +31,13 @@ abbrev pub if_assignment : ℕ → Option Expr → Option ℕ
 if_assignment id (Some (expr.Assignment target value)) = Some id
 if_assignment id found = None
 
--- the assignment in whose target a node's patterns stand: the node itself, or that in whose target it stands
+-- the assignment in whose target a node's patterns are: the node itself, or that in whose target it is
 abbrev pub assignment_at : Nodes → NodeId → Option ℕ → Option ℕ
 assignment_at s (node.Expr id) assignment = if_assignment id (slice_get s.exprs id)
 assignment_at s (node.Pat id) assignment = assignment
 assignment_at s (node.TypeRef id) assignment = None
 
--- only patterns stand in targets: an expression in one begins anew
+-- only patterns are in targets: an expression in one begins anew
 abbrev pub of_pattern : NodeId → Option ℕ → Option ℕ
 of_pattern (node.Pat id) assignment = assignment
 of_pattern (node.Expr id) assignment = None
@@ -46,7 +46,7 @@ of_pattern (node.TypeRef id) assignment = None
 abbrev pub spot : NodeId → Option ℕ → Spot
 spot n assignment = record { node = n; assignment = assignment }
 
--- what stands among the constants is no code of the closure
+-- what is among the constants isn't code of the closure
 abbrev pub in_code : Base → List Spot → List Spot
 in_code Here spots = spots
 in_code Const spots = []
@@ -76,7 +76,7 @@ asked_name (path.BarePath p) = name_asked p.kind p.segments
 asked_name (path.Normal n) = None
 asked_name (path.LangItem target name) = None
 
--- a use: the name and the hygiene that are asked for, and the expression in whose chain they are asked for
+-- a use: the name and the hygiene that it asks for, and the expression in whose chain they are looked up
 pub record Use : Type 0 where
   pub name : List ℕ
   pub hygiene : SyntaxContext
@@ -91,7 +91,7 @@ abbrev pub expr_uses : SyntaxContext → ℕ → Option Expr → List Use
 expr_uses hygiene id (Some (expr.Path path)) = use_of hygiene id (asked_name path)
 expr_uses hygiene id found = []
 
--- a pattern that is a path asks where it stands in the target of an assignment, in the chain of the assignment
+-- a pattern that is a path asks where it is in the target of an assignment, in the chain of the assignment
 abbrev pub pat_uses : SyntaxContext → Option ℕ → Option Pat → List Use
 pat_uses hygiene (Some assignment) (Some (pat.Path path)) = use_of hygiene assignment (asked_name path)
 pat_uses hygiene assignment found = []

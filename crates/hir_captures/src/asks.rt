@@ -1,4 +1,4 @@
-//! What a path asks for, and what is captured by it.
+//! The name that a path asks for, and the binding that it captures.
 ghost use Rattle.std.specs.Prelude.{◌≡◌, ◌<◌, ◌-◌, length, option_map, Some};
 ghost use Rattle.hir_scope.specs.Paths.{chain};
 ghost use Rattle.hir_scope.specs.Resolution.{first_asked};
@@ -53,8 +53,8 @@ pub(crate) fn depth(scopes: &ExprScopes, scope: ScopeId) -> usize
     depth
 }
 
-/// What is captured by a use of this name and hygiene in this scope: the binding that it resolves to, where the entry stands in one of
-/// the outermost scopes of the chain, of which there are so many.
+/// The binding that a use of this name and hygiene in this scope captures: the one that it resolves to, where the entry is in one of
+/// the outermost scopes of the chain, of which there are this many.
 #[tactic(auto, using(crate::proofs::AskLemmas::looks))]
 pub(crate) fn captured(
     scopes: &ExprScopes,

@@ -46,13 +46,13 @@ fn scope_of_closure(
     None
 }
 
-/// The bindings that a closure captures: those of outside that its code uses, in the order of their first use, each once. What stands in
+/// The bindings that a closure captures: those of outside that its code uses, in the order of their first use, each once. What is in
 /// a constant or a type isn't the closure's code.
 ///
-/// Answers `NotAClosure` exactly where the expression is no closure that the body reaches, also where it isn't there, and `Memory` where
-/// room was refused. `scopes` have to be those of the body, as `ExprScopes::new_body` makes them. It takes time in the number of nodes
-/// under the closure, the bindings of the store, and the scopes and entries of the chains in which names are asked for, and doesn't
-/// recurse.
+/// Answers `NotAClosure` exactly where the expression isn't a closure that the body reaches, also where it isn't there, and `Memory`
+/// where room was refused. `scopes` have to be those of the body, as `ExprScopes::new_body` makes them. It takes time in the number of
+/// nodes under the closure, the bindings of the store, and the scopes and entries of the chains in which names are looked up, and
+/// doesn't recurse.
 pub fn captures(
     alloc: Global,
     body: &Body,

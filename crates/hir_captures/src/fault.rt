@@ -7,7 +7,7 @@ use thiserror::Error;
 /// Why the captures of an expression were not answered. Its text is its name.
 #[derive(Clone, Copy, Debug, Drop, PartialEq, Eq, Error)]
 pub enum CapturesFault {
-    /// The expression is no closure that the body reaches.
+    /// The expression isn't a closure that the body reaches.
     #[error("NotAClosure")]
     NotAClosure,
     /// Memory was refused.

@@ -30,7 +30,7 @@ impl Model for Found {
 }
 
 impl Found {
-    /// None, with room for the marks of so many bindings.
+    /// No bindings, with room for the marks of this many.
     ///
     /// Answers `Memory` where that room was refused.
     pub(crate) fn new(alloc: Global, bindings: usize) -> Result<Found, CapturesFault>
@@ -46,7 +46,7 @@ impl Found {
         })
     }
 
-    /// Adds a binding as the last, where it isn't there yet.
+    /// Appends a binding, where it isn't there yet.
     ///
     /// Answers `Memory` where room for it was refused.
     pub(crate) fn add(&mut self, binding: BindingId) -> Result<(), CapturesFault>

@@ -1,4 +1,4 @@
-//! The kids of a node, in the order in which scopes are made, on their way to the stack.
+//! The kids of a node for the stack, in the order in which scopes are made.
 #![tactic(auto, using(crate::proofs::KidLemmas::kids))]
 
 ghost use Rattle.std.specs.Prelude.{◌≡◌, [], ◌∷◌, ◌++◌, false, Err, OnOk, OnErr};
@@ -14,17 +14,17 @@ use hir_node::{
 };
 use std::alloc::Global;
 
-/// The kids of a node that are code: those in types and constants are none.
+/// The kids of a node that are code: those in types and constants aren't.
 #[derive(Drop)]
 pub(crate) struct Kids {
     pub(crate) items: Vec<Task>,
     /// Whether room for one was refused. What is in `items` means nothing then.
     pub(crate) refused: bool,
-    /// The assignment in whose target the node's patterns stand, where they stand in one.
+    /// The assignment in whose target the node's patterns are, where they are in one.
     pub(crate) assignment: Option<ExprId>,
 }
 
-/// What is called is to be read in its turn.
+/// Each call is read later, in its turn.
 impl StoreVisitor for Kids {
     ghost step = { λ v c w. Puts v (c ∷ []) w };
 
@@ -47,7 +47,7 @@ impl StoreVisitor for Kids {
 }
 
 impl Kids {
-    /// No kids. It takes its memory from `alloc`, and none now.
+    /// No kids yet. It allocates from `alloc`, and nothing now.
     pub(crate) fn new(alloc: Global) -> Kids {
         Kids {
             items: Vec::new(alloc),
@@ -56,7 +56,7 @@ impl Kids {
         }
     }
 
-    /// Takes away all, and keeps the room. The next node's patterns stand in the target of this assignment, or in none.
+    /// Removes all kids, and keeps the capacity. The next node's patterns are in the target of this assignment, or in none.
     pub(crate) fn begin(&mut self, assignment: Option<ExprId>)
         ensures items { self.new.items.items ≡ [] }
         ensures room { self.new.refused ≡ false }
@@ -67,7 +67,7 @@ impl Kids {
         self.assignment = assignment;
     }
 
-    /// Adds a kid as the last.
+    /// Appends a kid.
     fn push(&mut self, task: Task)
         ensures same { self.new.assignment ≡ self.old.assignment }
         ensures added { self.new.refused ≡ false → (self.old.refused ≡ false)
@@ -80,7 +80,7 @@ impl Kids {
 
     /// Moves the kids on top of the stack, the first on top.
     ///
-    /// Answers `Memory` where room was refused, here or for a kid before.
+    /// Answers `Memory` where room was refused, here or for an earlier kid.
     pub(crate) fn move_to(&mut self, tasks: &mut Tasks) -> Result<(), CapturesFault>
         ensures ok { OnOk result ((self.old.refused ≡ false)
             × (tasks.new ≡ self.old.items.items ++ tasks.old)) }
@@ -168,7 +168,7 @@ impl Kids {
     }
 
     /// Meets what is in an expression, by its scoping form.
-    // One arm a form: split, the function would name variants twice.
+    // One arm for each form: split, the function would name variants twice.
     pub(crate) fn meet_expr(&mut self, expr: &Expr)
         ensures { Puts self.old (met_in_form (expr_form expr.now)) self.new }
     {

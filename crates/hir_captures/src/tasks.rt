@@ -7,7 +7,7 @@ use std::alloc::Global;
 use std::marker::Model;
 
 /// A node of a closure's code that is still to be read.
-// Flat, ids alone: the prover cannot build a function that is lent a list of values with records or options in them.
+// Flat, ids alone: the prover cannot build a function that borrows a list of values with records or options in them.
 #[derive(Clone, Copy)]
 pub(crate) enum Task {
     /// An expression.
@@ -34,7 +34,7 @@ impl Model for Tasks {
 }
 
 impl Tasks {
-    /// A stack of nothing, which takes its memory from `alloc`, and none now.
+    /// An empty stack, which allocates from `alloc`, and nothing now.
     pub(crate) fn new(alloc: Global) -> Tasks
         ensures { result ≡ [] }
     {
@@ -43,7 +43,7 @@ impl Tasks {
         }
     }
 
-    /// Puts a task on top.
+    /// Pushes a task.
     ///
     /// Answers `Memory` where room for it was refused: nothing has changed then.
     pub(crate) fn push(&mut self, task: Task) -> Result<(), CapturesFault>
@@ -57,7 +57,7 @@ impl Tasks {
         }
     }
 
-    /// Takes the top.
+    /// Pops the top.
     pub(crate) fn pop(&mut self) -> Option<Task>
         ensures some { IfSome result (λ task. self.old ≡ task ∷ self.new) }
         ensures none { result ≡ None → self.old ≡ [] }

@@ -30,7 +30,7 @@ pub(crate) struct Walk {
     kids: Kids,
 }
 
-/// The assignment in whose target the patterns of an expression stand: itself, where it is one.
+/// The assignment in whose target the patterns of an expression are: itself, where it is one.
 fn if_assignment(id: ExprId, expr: &Expr) -> Option<ExprId>
     ensures { result ≡ if_assignment id (Some expr.now) }
 {
@@ -45,7 +45,7 @@ fn if_assignment(id: ExprId, expr: &Expr) -> Option<ExprId>
 }
 
 impl Walk {
-    /// A walk that has nothing to read yet, with room for the marks of so many bindings.
+    /// A walk that has nothing to read yet, with room for the marks of this many bindings.
     ///
     /// Answers `Memory` where that room was refused.
     pub(crate) fn new(alloc: Global, bindings: usize) -> Result<Walk, CapturesFault>
@@ -60,7 +60,7 @@ impl Walk {
         })
     }
 
-    /// Adds what is captured by a path, where it may name a variable: it is asked in the chain of this expression.
+    /// Adds what a path captures, where it may name a variable: it is resolved in the chain of this expression.
     fn ask(
         &mut self,
         scopes: &ExprScopes,
@@ -86,7 +86,7 @@ impl Walk {
         }
     }
 
-    /// Adds what is captured by an expression itself: it asks where it is a path, in its own chain.
+    /// Adds what an expression itself captures: where it is a path, it asks in its own chain.
     fn ask_expr(
         &mut self,
         store: &ExpressionStore,
@@ -106,7 +106,7 @@ impl Walk {
         Ok(())
     }
 
-    /// Adds what is captured by a pattern in the target of an assignment: it asks where it is a path, in the assignment's chain.
+    /// Adds what a pattern in the target of an assignment captures: where it is a path, it asks in the assignment's chain.
     fn ask_pat(
         &mut self,
         store: &ExpressionStore,
@@ -128,7 +128,7 @@ impl Walk {
         Ok(())
     }
 
-    /// Reads an expression: what is in it is to be read next.
+    /// Reads an expression: what is in it comes next.
     fn read_expr(
         &mut self,
         store: &ExpressionStore,
@@ -153,7 +153,7 @@ impl Walk {
         Ok(())
     }
 
-    /// Reads a pattern that stands in no target of an assignment: what is in it is to be read next.
+    /// Reads a pattern that is in no target of an assignment: what is in it comes next.
     fn read_pat(&mut self, store: &ExpressionStore, id: PatId) -> Result<(), CapturesFault>
         requires there { AreThere store.now.nodes (Task.Pat id ∷ self.old.tasks) }
         ensures reads { OnOk result ((scopes : Scopes) (outermost : ℕ) → Reads store.now scopes outermost
@@ -171,7 +171,7 @@ impl Walk {
         Ok(())
     }
 
-    /// Reads a pattern in the target of an assignment: what is in it is to be read next.
+    /// Reads a pattern in the target of an assignment: what is in it comes next.
     fn read_target(
         &mut self,
         store: &ExpressionStore,
@@ -219,7 +219,7 @@ impl Walk {
         }
     }
 
-    /// Reads all that is still to be read. The closure's own chain has so many scopes.
+    /// Reads all that is still to be read. The closure's own chain has this many scopes.
     pub(crate) fn read_all(
         &mut self,
         store: &ExpressionStore,

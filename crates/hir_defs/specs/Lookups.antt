@@ -34,7 +34,7 @@ Tables =
     TablesOf
     FunctionParts StructParts PlainParts VariantParts BodyContents ExpressionStoreSourceMap BodySourceMap
 
--- what the signature of a function, of a struct and of another definition is looked up for
+-- what a lookup answers from the signature of a function, of a struct and of another definition
 abbrev pub function_entry : FunctionParts × ExpressionStoreSourceMap → Signed
 function_entry e = (e.0.generic_params, e.0.store, e.1)
 
@@ -54,7 +54,7 @@ of_adt structs plains (adt.EnumId id) = option_map plain_entry (map.get plains (
 of_adt structs plains (adt.StructId id) = option_map struct_entry (map.get structs (id ∷ []))
 of_adt structs plains (adt.UnionId id) = option_map plain_entry (map.get plains (plain_code (plain.Union id)))
 
--- of a definition
+-- what a lookup answers of a definition
 abbrev pub signed : Tables → GenericDefId → Option Signed
 signed t (generic.AdtId id) = of_adt t.structs t.plains id
 signed t (generic.ConstId id) = option_map value_entry (map.get t.plains (plain_code (plain.Const id)))

@@ -1,6 +1,6 @@
-//! Outside definitions: the tables of what is known of them, and what is looked up there.
+//! Outside definitions: the tables of what is known of them, and lookups there.
 //!
-//! What a body, generic parameters and a signature are stands in `hir_items`, which is named again here.
+//! `hir_items`, which is re-exported here, says what a body, generic parameters and a signature are.
 #![tactic(auto)]
 
 mod lookups;

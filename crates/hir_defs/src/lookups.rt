@@ -1,6 +1,6 @@
 //! The signature and the body of a definition, and the store of an owner, looked up in the tables.
 //!
-//! The private lookups are lent one table, since what is lent all of them is dear to prove.
+//! The private lookups borrow one table, since a function that borrows all of them is costly to prove.
 
 ghost use Rattle.std.specs.Prelude.{◌≡◌, ◌∷◌, [], Option, None, Some, IfOk, IfErr};
 ghost use Rattle.std.specs.Option.{option_map};
@@ -72,7 +72,7 @@ fn of_plain<'a>(
     Ok((signature.generic_params(), signature.store(), source_map))
 }
 
-/// Of a constant or a static, which has no parameters.
+/// The entry of a constant or a static, which has no parameters.
 fn of_value<'a>(
     plains: &'a Table<PlainDef, (PlainSignature, ExpressionStoreSourceMap)>,
     no_generics: &'a NoGenerics,
@@ -137,7 +137,7 @@ impl Bodies for Tables {
     }
 }
 
-/// Looking up a store by who owns it.
+/// Looks up a store by its owner.
 pub trait StoreOf {
     // what the tables have for an owner
     ghost entry: { Tables → ExpressionStoreOwnerId → Option (Self × ExpressionStoreSourceMap) };

@@ -1,4 +1,4 @@
-//! What has no generic parameters, kept so that a reference to them can be lent.
+//! Empty generic parameters, kept so that they can be borrowed.
 
 ghost use Rattle.std.specs.Prelude.{◌≡◌};
 ghost use Rattle.hir_items.specs.Generics.{empty};
@@ -7,7 +7,7 @@ use hir_items::GenericParams;
 use std::alloc::Global;
 use std::marker::Model;
 
-/// Generic parameters of which there are none.
+/// Empty generic parameters.
 #[derive(Drop)]
 pub(crate) struct NoGenerics {
     none: GenericParams,
@@ -29,7 +29,7 @@ impl NoGenerics {
         }
     }
 
-    /// No parameters.
+    /// The empty parameters.
     pub(crate) fn params(&self) -> &GenericParams
         ensures { result.now ≡ empty }
     {

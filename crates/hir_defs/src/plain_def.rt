@@ -1,4 +1,4 @@
-//! The definitions of which a signature keeps the generic parameters alone, and how structs lie in memory.
+//! The definitions whose signature keeps only the generic parameters, and how structs lie in memory.
 
 ghost use Rattle.std.specs.Prelude.{◌≡◌};
 ghost use Rattle.hir_base.specs.Exact.{exact};
@@ -9,7 +9,7 @@ use hir_base::{
     TypeAliasId, UnionId,
 };
 
-/// A definition of which a signature keeps the generic parameters alone.
+/// A definition whose signature keeps only the generic parameters.
 #[derive(Clone, Copy, PartialEq, Eq, Hash)]
 pub enum PlainDef {
     Enum(EnumId),

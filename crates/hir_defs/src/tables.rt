@@ -51,7 +51,7 @@ pub struct TablesOf<F, S, P, V, B, M, N> {
     pub(crate) no_generics: NoGenerics,
 }
 
-/// Its parts go one after the other. It stands here, so that it is proved once, and is a call wherever a value is dropped.
+/// Drops its parts one after the other. It is here so that it is proved once, and is a call wherever a value is dropped.
 impl<F: Drop, S: Drop, P: Drop, V: Drop, B: Drop, M: Drop, N: Drop> Drop
     for TablesOf<F, S, P, V, B, M, N> {
     fn drop(self) {
@@ -73,7 +73,7 @@ impl<F: Drop, S: Drop, P: Drop, V: Drop, B: Drop, M: Drop, N: Drop> Drop
 
 /// The value of this key. Answers `wanted`, as what is missing, where it has none.
 ///
-/// It is lent one table, since what is lent all of them is dear to prove.
+/// It borrows one table, since a function that borrows all of them is costly to prove.
 pub(crate) fn entry<'a, K: Keyed, V>(
     table: &'a Table<K, V>,
     key: &K,
@@ -109,7 +109,7 @@ impl<F: Drop, S: Drop, P: Drop, V: Drop, B: Drop, M: Drop, N: Drop> TablesOf<F, 
         }
     }
 
-    /// Gives the definition this name, or says that it has none.
+    /// Records the name of the definition, or that it has none.
     ///
     /// Where memory for the entry is refused, it is handed back and nothing has changed.
     pub fn add_name(
@@ -125,7 +125,7 @@ impl<F: Drop, S: Drop, P: Drop, V: Drop, B: Drop, M: Drop, N: Drop> TablesOf<F, 
         self.names.put(def, name)
     }
 
-    /// Says of which enum the variant is.
+    /// Records the enum of the variant.
     ///
     /// Where memory for the entry is refused, it is handed back and nothing has changed.
     pub fn add_variant_parent(
@@ -141,7 +141,7 @@ impl<F: Drop, S: Drop, P: Drop, V: Drop, B: Drop, M: Drop, N: Drop> TablesOf<F, 
         self.variant_parents.put(variant, parent)
     }
 
-    /// Gives the crate this name, or says that it has none.
+    /// Records the name of the crate, or that it has none.
     ///
     /// Where memory for the entry is refused, it is handed back and nothing has changed.
     pub fn add_crate_name(
@@ -157,7 +157,7 @@ impl<F: Drop, S: Drop, P: Drop, V: Drop, B: Drop, M: Drop, N: Drop> TablesOf<F, 
         self.crate_names.put(id, name)
     }
 
-    /// Says how the struct lies in memory.
+    /// Records how the struct lies in memory.
     ///
     /// Where memory for the entry is refused, it is handed back and nothing has changed.
     pub fn add_repr(
@@ -274,7 +274,7 @@ impl<F: Drop, S: Drop, P: Drop, V: Drop, B: Drop, M: Drop, N: Drop> TablesOf<F, 
         self.words.words(edition)
     }
 
-    /// How the struct lies in memory, where that was said.
+    /// How the struct lies in memory, where that was recorded.
     pub fn repr(&self, id: StructId) -> Option<Repr>
         ensures { result ≡ map.get self.now.reprs (id ∷ []) }
     {
@@ -295,7 +295,7 @@ impl<F: Drop, S: Drop, P: Drop, V: Drop, B: Drop, M: Drop, N: Drop> TablesOf<F, 
         Ok(found.as_ref())
     }
 
-    /// The enum that the variant is of.
+    /// The enum of the variant.
     ///
     /// Answers `Missing::Variant` of the variant where the tables don't say of which enum it is.
     pub fn variant_parent(&self, variant: EnumVariantId) -> Result<EnumId, Missing>

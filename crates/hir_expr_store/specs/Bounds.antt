@@ -1,4 +1,4 @@
--- The path of a bound in a store, with what stands before it.
+-- The path of a bound in a store, with its modifier.
 use Rattle.std.specs.Prelude.{Option, None, option_map, IsTrue}
 use Rattle.std.specs.List.{list_all}
 use Rattle.hir_path.specs.declared.path.Path.{Path}
@@ -9,7 +9,7 @@ use Rattle.hir_path.specs.declared.bound.TraitBoundModifier.TheVariants as modif
 use Rattle.hir_faults.specs.Tested.{path_at, is_path_at, bound_paths}
 use Rattle.hir_faults.specs.Nodes.{Nodes}
 
--- the path that a bound names; after `for<..>` nothing stands before it
+-- the path that a bound names, with its modifier; after `for<..>` it has none
 abbrev pub bound_path : TypeBound → Nodes → Option (Path × TraitBoundModifier)
 bound_path (bound.Path id before) s = option_map (λ path. (path, before)) (path_at s.types id)
 bound_path (bound.ForLifetime names id) s = option_map (λ path. (path, modifier.None)) (path_at s.types id)

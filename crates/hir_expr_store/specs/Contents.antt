@@ -7,7 +7,7 @@ use Rattle.hir_faults.specs.Faults.{Rooted, rooted_fault}
 use Rattle.hir_expr_store.specs.declared.side_tables.SideTables.{SideTables}
 use Rattle.hir_expr_store.specs.SideTables.{no_side_tables}
 
--- the nodes and what they name, the roots, and what was said of them besides
+-- the nodes and what they name, the roots, and the side tables
 pub record Contents : Type 0 where
   pub nodes : Nodes
   pub roots : List Root
@@ -16,14 +16,14 @@ pub record Contents : Type 0 where
 abbrev pub no_nodes : Nodes
 no_nodes = record { exprs = []; pats = []; types = []; bindings = []; labels = []; lifetimes = [] }
 
--- of nothing
+-- the contents of an empty store
 abbrev pub no_contents : Contents
 no_contents = record { nodes = no_nodes; roots = []; side_tables = no_side_tables }
 
--- without what was said besides
+-- without the side tables
 abbrev pub rooted_of : Contents → Rooted
 rooted_of c = record { nodes = c.nodes; roots = c.roots }
 
--- the first fault: what was said besides has none
+-- the first fault: the side tables have none
 abbrev pub contents_fault : Contents → Option FinishFault → Type 0
 contents_fault c = rooted_fault (rooted_of c)

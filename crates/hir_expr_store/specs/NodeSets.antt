@@ -14,7 +14,7 @@ pub record Marked : Type 0 where
 abbrev pub IsIn : Marked → NodeId → Type 0
 IsIn set n = Marks set.marks (place set.sizes n)
 
--- the set has this node more, and no other
+-- this node is added to the set, and no other
 pub record Gains (old : Marked) (added : NodeId) (new : Marked) : Type 0 where
   pub sizes : new.sizes ≡ old.sizes
   pub members : (n : NodeId) → HasNode old.sizes n → IsIn new n ↔ (IsIn old n ⊎ (n ≡ added))

@@ -1,4 +1,4 @@
--- What is said of a store's nodes besides: who owns a binding, what hygiene a path has, which blocks may hold items.
+-- The side tables of a store: who owns a binding, what hygiene a path has, which blocks may hold items.
 use Rattle.std.specs.Prelude.{ℕ, [], Option, Some, None}
 use Rattle.std.specs.FinMap as map
 use Rattle.hir_base.specs.declared.edition.Edition.TheVariants.{Edition2015}
@@ -21,6 +21,6 @@ abbrev or_root : Option SyntaxContext → SyntaxContext
 or_root None = Root Edition2015
 or_root (Some context) = context
 
--- the hygiene of the path that an expression or a pattern is: that of source text where nothing was said
+-- the hygiene of the path that an expression or a pattern is: that of source text where none was set
 abbrev pub hygiene_of : SideTables → ExprOrPatId → SyntaxContext
 hygiene_of side_tables id = or_root (map.get side_tables.hygiene (expr_or_pat_code id))

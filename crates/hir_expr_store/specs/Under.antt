@@ -1,4 +1,4 @@
--- What lies under a node, told by going down from a node to its kids.
+-- What lies under a node, defined by going down from a node to its kids.
 use Rattle.std.specs.Prelude.{◌≡◌, ◌<◌, ℕ, List, [], ◌∷◌, Some, slice_get, Contains}
 use Rattle.std.specs.List.{flat_map}
 use Rattle.hir_node.specs.declared.node_id.NodeId.{NodeId}
@@ -30,6 +30,6 @@ nodes_step s self n = n ∷ flat_map self (kids_of s n)
 unfoldable pub nodes_under : Nodes → NodeId → List NodeId
 nodes_under s n = value s (nodes_step s) [] n
 
--- the nodes that are reached from these, each top's behind those of the tops before it
+-- the nodes that are reached from these: those of each top after those of the tops before it
 abbrev pub reached_nodes : Nodes → List NodeId → List NodeId
 reached_nodes s tops = flat_map (nodes_under s) tops

@@ -11,7 +11,7 @@ use std::collections::BTreeMap;
 use std::iter::FusedIterator;
 use std::marker::Model;
 
-/// Blocks with their maps, seen as the list of those that are left. Each block is known to have a map.
+/// An iterator over blocks with their maps. A contract sees it as the list of those that are left. Each block has a map.
 #[derive(Drop)]
 pub struct Blocks<'a, M> {
     blocks: &'a [BlockId],

@@ -1,11 +1,11 @@
-//! Two values of which the second may be refused.
+//! A pair of values, the second of which may be an error.
 ghost use Rattle.std.specs.Prelude.{◌≡◌, Err, IfErr, IfOk, Ok};
 
 use std::alloc::AllocError;
 
-/// Both values, where there is a second one; else the first is dropped.
+/// Both values, if there is a second one; else its error, and the first is dropped.
 ///
-/// The first is moved whole. A `?` beside it would take it apart once more, which is dear to prove where it is large.
+/// The first is moved whole. A `?` next to it would take it apart once more, which is costly to prove when it is large.
 pub(crate) fn both<A: Drop, B>(
     first: A,
     second: Result<B, AllocError>,

@@ -8,15 +8,15 @@ ghost use Rattle.hir_faults.specs.Nodes.{Nodes};
 use crate::store::ExpressionStore;
 use hir_node::{Path, TraitBoundModifier, TypeBound};
 
-/// What a bound is asked of its store.
+/// Finds the path of a bound in its store.
 pub trait TypeBoundExt {
     // what the bound names as a path is one
     ghost fits: { Self → Nodes → Type 0 };
 
-    // the path that it names, with what stands before it
+    // the path that it names, with its modifier
     ghost path_in: { Self → Nodes → Option (Path × TraitBoundModifier) };
 
-    /// The path of a trait and what stands before it; nothing stands before one after `for<..>`. `None` for a bound that is no trait.
+    /// The path of a trait and its modifier, which is `TraitBoundModifier::None` after `for<..>`. `None` for a bound that isn't a trait.
     ///
     /// What the bound names as a path has to be one in the store: in a bound of the store's own nodes it is, else `has_path` tests it.
     fn as_path<'a>(&self, store: &'a ExpressionStore) -> Option<(&'a Path, TraitBoundModifier)>

@@ -6,7 +6,7 @@ use crate::store::ExpressionStore;
 use hir_node::ExprId;
 
 impl ExpressionStore {
-    /// The coroutine that an `async` closure becomes, which stands one expression before it. The closure can't be expression 0.
+    /// The coroutine that an `async` closure becomes, which is one expression before it. The closure can't be expression 0.
     pub fn coroutine_for_closure(coroutine_closure: ExprId) -> ExprId
         requires { 0 < coroutine_closure }
         ensures { result ≡ coroutine_closure - 1 }
@@ -14,7 +14,7 @@ impl ExpressionStore {
         ExprId::from_raw(coroutine_closure.into_raw() - 1)
     }
 
-    /// The `async` closure of a coroutine, which stands one expression behind it. The coroutine can't be expression 4,294,967,295.
+    /// The `async` closure of a coroutine, which is one expression after it. The coroutine can't be expression 4,294,967,295.
     pub fn closure_for_coroutine(coroutine: ExprId) -> ExprId
         requires { coroutine < 4294967295 }
         ensures { result ≡ coroutine + 1 }

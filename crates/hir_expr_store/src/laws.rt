@@ -1,5 +1,5 @@
-//! Laws that a reader relies on, and that no call's contract says.
-//! Each is a function with no body to run: its contract is the law. `ExpressionStore::has_no_fault` tells that a store has no fault.
+//! Laws that a reader relies on and that no call's contract states.
+//! Each is a function with no body to run: its contract is the law. `ExpressionStore::has_no_fault` says that a store has no fault.
 
 ghost use Rattle.std.specs.Prelude.{◌≡◌, ◌≢◌, ◌⊎◌, ◌↔◌, ◌≤◌, ◌<◌, ◌+◌, ◌++◌, ◌∷◌, ℕ, Bool, List, Option, None, Some, IsTrue, length, map, slice_get, Contains};
 ghost use Rattle.std.specs.List.{flat_map, list_all, AllPairs};
@@ -42,12 +42,12 @@ pub fn contents_are_a_forest()
     ensures { (c : Contents) → contents_fault c None → IsForest (graph c.nodes) }
 {}
 
-/// A number falls from each node to its kids, which are there.
+/// Each kid of a node is there, and has a lower rank than the node.
 pub fn kids_fall()
     ensures { (c : Contents) → contents_fault c None → KidsFall c.nodes }
 {}
 
-/// That number is at most the number of nodes, of any nodes.
+/// A rank is at most the number of nodes. This holds of any nodes.
 pub fn ranks_are_bounded()
     ensures { (s : Nodes) (n : NodeId) → rank s n ≤ length s.exprs + length s.pats + length s.types }
 {}
@@ -127,7 +127,7 @@ pub fn kids_lie_apart()
         → LieApart c.nodes (kids_of c.nodes n) }
 {}
 
-/// Two nodes with a common kid are one.
+/// Two nodes with a common kid are the same.
 pub fn one_parent()
     ensures { (c : Contents) → contents_fault c None → (n m k : NodeId)
         → Contains (kids_of c.nodes n) k → Contains (kids_of c.nodes m) k → n ≡ m }
@@ -144,7 +144,7 @@ pub fn nodes_under_is()
         → nodes_under c.nodes n ≡ n ∷ flat_map (nodes_under c.nodes) (kids_of c.nodes n) }
 {}
 
-/// The reached nodes are listed, and no others: by the list each sum and each count over what is reached is stated.
+/// The reached nodes are listed, and no others. Sums and counts over what is reached are stated by this list.
 pub fn reached_is_listed()
     ensures { (c : Contents) → contents_fault c None → (tops : List NodeId) (n : NodeId)
         → Contains (reached_nodes c.nodes tops) n ↔ Reached c.nodes tops n }
@@ -233,22 +233,22 @@ pub fn paths_of_bounds_are_there()
     ensures asked { (s : Nodes) (x : TypeBound) → IsTrue (bound_fits s x) → BoundFits x s }
 {}
 
-/// Values of nodes that are told by the values of their kids, as a list that a node begins and its kids go on. An `impl` for a type of
-/// its own names the values and the step, and proves that the step asks for the kids alone.
+/// Values of nodes that are computed from the values of their kids, as a list that a node begins and its kids go on. An `impl` for a
+/// type of its own names the values and the step, and proves that the step asks only for the kids.
 pub trait ToldByKids {
-    // what is told of a node
+    // the type of the values
     ghost Told: { Type 0 };
 
-    // the value of a node, by the values that the first function gives to others
+    // the value of a node, by the values that the function gives to others
     ghost step: { Nodes → (NodeId → Told) → NodeId → Told };
 
-    // what stands below the lowest node; no value of a store's nodes depends on it
+    // the value below the lowest node; no value of a store's nodes depends on it
     ghost nothing: { Told };
 
     ghost asks_kids: { (s : Nodes) → AsksKids s (step s) };
 }
 
-/// The value of a node is what the step tells of it by the values of its kids.
+/// The value of a node is what the step computes from the values of its kids.
 pub fn value_is<V: ToldByKids>()
     ensures { (c : Contents) → contents_fault c None → (n : NodeId)
         → value c.nodes (V.step c.nodes) V.nothing n

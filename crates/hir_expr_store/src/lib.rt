@@ -1,5 +1,5 @@
-//! The accepted store: expressions, patterns, types and what they name, which are a well-formed forest, with its roots and what was said
-//! of its nodes besides. It is read, walked and searched here; the builder that makes it stands above.
+//! The accepted store: expressions, patterns, types and what they name, which are a well-formed forest, with its roots and side
+//! tables. It is read, walked and searched here; the builder that makes it is in `hir_store`.
 #![tactic(auto)]
 
 mod blocks;

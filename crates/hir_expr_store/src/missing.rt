@@ -1,4 +1,4 @@
-//! A definition outside of a store that a caller asked for, and that nobody told of.
+//! What a caller asked for about a definition outside of a store, and nobody provided.
 ghost use Rattle.hir_base.specs.Exact.{exact};
 
 use hir_base::{
@@ -8,7 +8,7 @@ use hir_base::{
 use std::fmt;
 use thiserror::Error;
 
-/// What is missing of the definitions outside, with the id asked. The text is the kind alone.
+/// What is missing about a definition outside of a store, with its id. The text is the kind alone.
 #[derive(Clone, Copy, Drop, PartialEq, Eq, Error)]
 pub enum Missing {
     /// Whether the definition has a name, and which.
@@ -40,7 +40,7 @@ pub enum Missing {
     DefMap(BlockId),
 }
 
-/// Its text: the ids that it holds have none.
+/// Writes its text: the ids that it holds have none.
 impl fmt::Debug for Missing {
     fn fmt<W: fmt::Write>(&self, f: &mut fmt::Formatter<W>) -> fmt::Result {
         fmt::Display::fmt(self, f)

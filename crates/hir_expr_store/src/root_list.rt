@@ -8,7 +8,7 @@ use smallvec::SmallVec;
 use std::alloc::{AllocError, AllocFailed, Global};
 use std::marker::Model;
 
-/// Roots in order, of which the first takes no memory, seen as the list of them.
+/// Roots in order. The first takes no memory. A contract sees the list of them.
 #[derive(Drop)]
 pub struct RootList {
     list: SmallVec<Root, 1>,
@@ -78,7 +78,7 @@ impl RootList {
         self.list.as_slice()
     }
 
-    /// Puts the root last. After a refusal the list is unchanged, and the root is handed back.
+    /// Adds the root at the end. If memory is refused, the list is unchanged and the root is handed back.
     pub fn push(&mut self, root: Root) -> Result<(), AllocFailed<Root>>
         ensures ok { OnOk result (self.new ≡ self.old ++ root ∷ []) }
         ensures err { OnErr result (self.new ≡ self.old) }

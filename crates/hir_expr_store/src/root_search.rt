@@ -7,7 +7,7 @@ use hir_base::Steps;
 use hir_forest::{Ends, Root};
 use hir_node::ExprId;
 
-/// Of what the end of a root counts.
+/// What the end of a root counts.
 #[derive(Clone, Copy)]
 pub(crate) enum EndOf {
     Exprs,
@@ -36,7 +36,7 @@ fn read_end(kind: EndOf, roots: &[Root], i: usize, steps: &mut Steps) -> u32
     end_of(kind, roots[i].ends)
 }
 
-/// How many roots stand before the first whose end exceeds the id.
+/// How many roots are before the first whose end exceeds the id.
 fn count_before(kind: EndOf, roots: &[Root], id: u32, steps: &mut Steps) -> usize
     requires { EndsRise kind roots.now }
     ensures before { (i : ℕ) → i < result → end_at kind roots.now i ≤ id }

@@ -1,4 +1,4 @@
-//! What is said of a store's nodes besides: owners of bindings, hygiene of paths, and blocks that may hold items.
+//! The side tables of a store: owners of bindings, hygiene of paths, and blocks that may hold items.
 
 ghost use Rattle.std.specs.Prelude.{◌≡◌};
 
@@ -7,10 +7,10 @@ use hir_base::{BlockId, ExactEq, HygieneId, Seq, Table, TryClone};
 use hir_node::{BindingId, ExprId, ExprOrPatId};
 use std::alloc::{AllocError, Global};
 
-/// What is said of nodes besides. Nothing of it is checked: ids may be of nodes that aren't there.
+/// Side tables: binding owners, path hygiene, blocks. `finish` doesn't check them: ids may be of nodes that aren't there.
 #[derive(Drop, PartialEq, Eq)]
 pub struct SideTables {
-    /// Who owns a binding, where the body itself doesn't.
+    /// The owner of a binding, where it isn't the body itself.
     pub owners: Table<BindingId, ExprId>,
     /// The hygiene of an expression or a pattern that is a path.
     pub hygiene: Table<ExprOrPatId, HygieneId>,
@@ -21,7 +21,7 @@ pub struct SideTables {
 impl SideTables {
     ghost use Rattle.hir_expr_store.specs.SideTables.{no_side_tables};
 
-    /// Nothing said. It takes no memory.
+    /// Empty side tables. They take no memory.
     pub fn new(alloc: Global) -> SideTables
         ensures { result ≡ no_side_tables }
     {

@@ -38,7 +38,7 @@ pub struct ExpressionStore {
     side_tables: SideTables,
 }
 
-/// Its parts go one after the other. It stands here, so that it is proved once, and is a call wherever a value is dropped.
+/// Drops its parts one after the other. It is here so that it is proved once, and is a call wherever a value is dropped.
 impl Drop for ExpressionStore {
     fn drop(self) {
         let ExpressionStore {
@@ -104,7 +104,7 @@ impl Model for ExpressionStore {
     } None };
 }
 
-/// What a store is made of: the nodes and what they name, the roots, and what was said of the nodes besides.
+/// The parts of a store: the nodes and what they name, the roots, and the side tables.
 #[derive(Drop)]
 pub struct StoreParts {
     pub exprs: Arena<ExprKind, Expr>,
@@ -124,7 +124,7 @@ impl ExpressionStore {
     ghost use Rattle.hir_faults.specs.Sizes.{Few};
     ghost use Rattle.hir_expr_store.specs.StoreParts.{contents_of_parts};
 
-    /// A store of parts without a fault, which a caller has to prove: a builder tests it once.
+    /// A store of these parts. A caller has to prove that they have no fault: a builder tests it once.
     pub fn new(parts: StoreParts) -> ExpressionStore
         requires { contents_fault (contents_of_parts parts) None }
         ensures { result ≡ contents_of_parts parts }
@@ -151,7 +151,7 @@ impl ExpressionStore {
         }
     }
 
-    /// A store of nothing. It takes no memory.
+    /// An empty store. It takes no memory.
     pub fn empty(alloc: Global) -> ExpressionStore
         ensures { result ≡ no_contents }
     {
@@ -181,7 +181,7 @@ impl ExpressionStore {
         self.roots.as_slice()
     }
 
-    /// What is said of the nodes besides.
+    /// The side tables.
     pub(crate) fn side_tables(&self) -> &SideTables
         ensures { result.now ≡ self.now.side_tables }
     {
@@ -203,7 +203,7 @@ impl ExpressionStore {
         }
     }
 
-    /// How many of each there are.
+    /// How many items each arena has.
     pub(crate) fn sizes(&self) -> Sizes
         ensures sizes { result ≡ sizes_of self.now.nodes }
         ensures few { Few result }

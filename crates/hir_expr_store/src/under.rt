@@ -69,9 +69,9 @@ impl NodeSet {
 }
 
 impl ExpressionStore {
-    /// No nodes.
+    /// The empty set.
     ///
-    /// Refused only where memory for a mark for each node is.
+    /// It fails only when memory for a mark for each node is refused.
     pub fn no_nodes(&self, alloc: Global) -> Result<NodeSet, AllocError>
         ensures sizes { IfOk result (λ set. set.sizes ≡ sizes_of self.now.nodes) }
         ensures none { IfOk result (λ set. (n : NodeId) → IsIn set n → ⊥) }
@@ -85,7 +85,7 @@ impl ExpressionStore {
 
     /// The nodes that lie properly under one of these, which are nodes of this store.
     ///
-    /// It takes time in the number of nodes and doesn't recurse. Refused only where memory for its tables is.
+    /// It takes time in the number of nodes and doesn't recurse. It fails only when memory for its tables is refused.
     pub fn under(&self, alloc: Global, tops: &NodeSet) -> Result<NodeSet, AllocError>
         requires { tops.now.sizes ≡ sizes_of self.now.nodes }
         ensures sizes { IfOk result (λ found. found.sizes ≡ sizes_of self.now.nodes) }

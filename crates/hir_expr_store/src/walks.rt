@@ -1,5 +1,5 @@
 //! Walks over the patterns of a pattern and over the child expressions of an expression, for every closure that may always be called.
-//! They take no memory. They recurse over patterns alone, as deep as patterns stand in patterns: no expression, type or path is entered.
+//! They take no memory. They recurse over patterns alone, as deep as patterns are nested: no expression, type or path is entered.
 
 ghost use Rattle.std.specs.Prelude.{◌≡◌, ◌<◌, IsTrue, length};
 ghost use Rattle.std.specs.List.{FoldsTo, flat_map};

@@ -1,15 +1,15 @@
--- Going down a store: a number that falls from each node to its kids, and definitions that tell a node's value by its kids' values.
+-- Going down a store: a number that falls from each node to its kids, and definitions of a node's value by its kids' values.
 use Rattle.std.specs.Prelude.{◌≡◌, ◌<◌, ℕ, zero, suc, List, [], ◌∷◌, ⊤, Contains}
 use Rattle.hir_forest.specs.Height.{height}
 use Rattle.hir_node.specs.declared.node_id.NodeId.{NodeId}
 use Rattle.hir_faults.specs.Sizes.{place}
 use Rattle.hir_faults.specs.Nodes.{Nodes, sizes_of, Has, kids_of, graph}
 
--- how many nodes stand on the longest way down from a node
+-- how many nodes are on the longest way down from a node
 unfoldable pub rank : Nodes → NodeId → ℕ
 rank s n = height (graph s) (place (sizes_of s) n)
 
--- each kid of a node that is there is there, and stands lower
+-- each kid of a node that is there is there, and has a lower rank
 pub record KidsFall (s : Nodes) : Type 0 where
   pub there : (n : NodeId) → Has s n → (k : NodeId) → Contains (kids_of s n) k → Has s k
   pub lower : (n : NodeId) → Has s n → (k : NodeId) → Contains (kids_of s n) k → rank s k < rank s n
@@ -23,11 +23,11 @@ value_within step none (suc depth) n = step (value_within step none depth) n
 unfoldable pub value : {A : Type 0} → Nodes → ((NodeId → A) → NodeId → A) → A → NodeId → A
 value s step none n = value_within step none (suc (rank s n)) n
 
--- two ways to tell values agree on each of these nodes
+-- two functions give each of these nodes the same value
 abbrev pub AgreeOn : {A : Type 0} → (NodeId → A) → (NodeId → A) → List NodeId → Type 0
 AgreeOn self other [] = ⊤
 AgreeOn self other (k ∷ ks) = (self k ≡ other k) × AgreeOn self other ks
 
--- the step asks for the values of a node's kids alone
+-- the step asks only for the values of a node's kids
 abbrev pub AsksKids : {A : Type 0} → Nodes → ((NodeId → A) → NodeId → A) → Type 0
 AsksKids s step = (self other : NodeId → _) (n : NodeId) → AgreeOn self other (kids_of s n) → step self n ≡ step other n

@@ -53,7 +53,7 @@ first_bad_node s =
     before first_of (sizes_of s) s.types node.Pat (map tested_pat s.pats)
     before first_of (sizes_of s) s.types node.TypeRef (map tested_type s.types)
 
--- a fault of the graph, told of the nodes
+-- a fault of the graph, with the node in place of its row number
 abbrev pub told : Sizes → ForestFault → FinishFault
 told sizes (forest.SharedChild n) = SharedChild (node_at sizes n)
 told sizes (forest.Cycle n) = Cycle (node_at sizes n)

@@ -1,4 +1,4 @@
--- What the code's references to what a node holds are.
+-- What a node holds, read from the code's references to it.
 use Rattle.std.specs.Option.{option_copied}
 use Rattle.hir_faults.specs.declared.held.Holds.{Holds}
 use Rattle.hir_faults.specs.Tested.{Held}

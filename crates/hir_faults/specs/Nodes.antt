@@ -12,7 +12,7 @@ use Rattle.hir_node.specs.declared.node_id.NodeId.TheVariants as node
 use Rattle.hir_faults.specs.declared.sizes.Sizes.{Sizes}
 use Rattle.hir_faults.specs.Sizes.{HasNode, places}
 
--- expressions, patterns and types, and what they name besides
+-- expressions, patterns and types, and bindings, labels and lifetimes
 pub record Nodes : Type 0 where
   pub exprs : List Expr
   pub pats : List Pat

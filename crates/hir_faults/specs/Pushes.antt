@@ -9,7 +9,7 @@ use Rattle.hir_faults.specs.Sizes.{Few, places}
 abbrev pub CanPush : Kids → Type 0
 CanPush v = (0 < length v.rows) × Few v.sizes
 
--- the last row has these kids more, unless a growth was refused
+-- these kids are added to the last row, unless a growth was refused
 pub record Pushed (v : Kids) (kids : List ℕ) (w : Kids) : Type 0 where
   pub sizes : w.sizes ≡ v.sizes
   pub rows : length w.rows ≡ length v.rows

@@ -1,4 +1,4 @@
--- What a node is tested by: its child calls, the other ids that it names, and what it holds: a path, generic arguments, bounds.
+-- What is tested of a node: its child calls, the other ids that it names, and what it holds: a path, generic arguments, bounds.
 use Rattle.std.specs.Prelude.{ℕ, Bool, true, false, ◌&&◌, eqb, nat_lt, List, [], ◌∷◌, ◌++◌, Option, Some, None, length, slice_get, flat_map, is_some}
 use Rattle.std.specs.Option.{option_and_then}
 use Rattle.std.specs.List.{list_all}
@@ -128,7 +128,7 @@ type_returns (type.DynTrait bounds) = true
 type_returns (type.TypeParam param) = true
 type_returns (type.PatternType id pat) = true
 
--- what a node is tested by
+-- what is tested of a node
 pub record Tested : Type 0 where
   pub calls : List Call
   pub bindings : List ℕ

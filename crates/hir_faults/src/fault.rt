@@ -19,25 +19,25 @@ pub enum FinishFault {
     /// The node names an expression, a pattern, a binding, a label, a type or a lifetime that isn't there.
     #[error("IdOutOfRange {0}")]
     IdOutOfRange(NodeId),
-    /// A bound in the node names as a path a type that is none.
+    /// A bound in the node names as a path a type that isn't one.
     #[error("NotAPath {0}")]
     NotAPath(NodeId),
     /// The node is a function type with an empty list: it lacks the return type.
     #[error("NoReturnType {0}")]
     NoReturnType(NodeId),
-    /// Generic arguments in the node are said to begin with a self type, and are empty.
+    /// Generic arguments in the node have `has_self_type`, and are empty.
     #[error("NoSelfArgument {0}")]
     NoSelfArgument(NodeId),
-    /// A `Normal` path in the node hasn't one list of arguments for each segment.
+    /// A `Normal` path in the node doesn't have one list of arguments for each segment.
     #[error("ArgumentLists {0}")]
     ArgumentLists(NodeId),
     /// The first edge whose child is the child of an earlier edge leads to this node.
     #[error("SharedChild {0}")]
     SharedChild(NodeId),
-    /// The least node whose chain of parents doesn't end: it lies on a cycle, or hangs on one.
+    /// The least node whose chain of parents doesn't end: it is on a cycle, or below one.
     #[error("Cycle {0}")]
     Cycle(NodeId),
-    /// The root is no expression of the arena.
+    /// The root isn't an expression of the arena.
     #[error("RootOutOfRange {0}")]
     RootOutOfRange(usize),
     /// An earlier root is the same.

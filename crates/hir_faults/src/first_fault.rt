@@ -19,7 +19,7 @@ use hir_forest::{ForestFault, Root, first_fault};
 use hir_node::{ExprId, NodeId, PatId, TypeRef, TypeRefId};
 use std::alloc::{AllocError, Global};
 
-/// Whether the id, where there is one, is one of so many.
+/// Whether the id, if there is one, is less than the count.
 fn is_below<K>(id: Option<Idx<K>>, count: usize) -> bool
     ensures { result ≡ list_all (λ n. nat_lt n count) (option_to_list id) }
 {
@@ -29,7 +29,7 @@ fn is_below<K>(id: Option<Idx<K>>, count: usize) -> bool
     }
 }
 
-/// Whether each id is there that the node names.
+/// Whether each id that the node names is there.
 fn names_there<N: TestedNode>(node: &N, sizes: Sizes) -> bool
     ensures { result ≡ names_there sizes (N.tested node.now) }
 {
@@ -94,7 +94,7 @@ fn node_at(sizes: Sizes, n: usize) -> NodeId
     NodeId::TypeRef(TypeRefId::from_raw((n - (sizes.exprs + sizes.pats)) as u32))
 }
 
-/// A fault of the graph, told of the nodes.
+/// Turns a fault of the graph, which has a row number, into a fault of that node. A fault of a root keeps its index.
 fn tell(sizes: Sizes, roots: usize, fault: ForestFault) -> FinishFault
     requires few { Few sizes }
     requires within { IsWithin (sizes.exprs + sizes.pats + sizes.types) roots fault }
@@ -110,7 +110,7 @@ fn tell(sizes: Sizes, roots: usize, fault: ForestFault) -> FinishFault
     }
 }
 
-/// The first fault of one node.
+/// The first fault of a single node: of an expression, then of a pattern, then of a type.
 fn first_bad_node(nodes: &NodeSlices<'_>) -> Option<FinishFault>
     requires { Few (sizes_of (nodes_in nodes.now)) }
     ensures { first_bad_node (nodes_in nodes.now) result }
@@ -144,8 +144,8 @@ fn first_graph_fault(
 
 /// The first fault of the nodes with these roots: of a node, then of the graph, then of a root. `None` where there is none.
 ///
-/// It takes time in the number of nodes, edges and roots, and doesn't recurse, but for associated type bindings that are nested in
-/// one path. Refused only where memory for its tables is.
+/// It takes time in the number of nodes, edges and roots. It recurses only into associated type bindings that are nested in one path.
+/// It fails only when memory for its tables is refused.
 pub fn first_fault_of(
     alloc: Global,
     nodes: &NodeSlices<'_>,

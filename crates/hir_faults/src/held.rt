@@ -1,5 +1,5 @@
 //! What a node holds that has to be right in itself: a path, generic arguments, bounds.
-//! The tests of generic arguments call themselves, on the arguments of an associated type binding: as deep as these are nested.
+//! The tests of generic arguments recurse into the arguments of associated type bindings, as deep as these are nested.
 
 ghost use Rattle.std.specs.Prelude.{◌≡◌, flat_map};
 ghost use Rattle.std.specs.Option.{option_copied};
@@ -9,7 +9,7 @@ ghost use Rattle.hir_faults.specs.Holds.{held_of};
 
 use hir_node::{AssociatedTypeBinding, GenericArg, GenericArgs, Path, PathId, TypeBound, TypeRef};
 
-/// The path that a type is. `None` for a type that is none.
+/// The path that a type is. `None` for a type that isn't a path.
 pub fn as_path(type_ref: &TypeRef) -> Option<&Path>
     ensures { option_copied result ≡ path_of type_ref.now }
 {
@@ -52,7 +52,7 @@ pub(crate) fn bound_names_path(types: &[TypeRef], bound: &TypeBound) -> bool
     }
 }
 
-/// Whether what bounds name as paths are paths.
+/// Whether each type that bounds name as a path is one.
 pub(crate) fn bounds_name_paths(types: &[TypeRef], bounds: &[TypeBound]) -> bool
     ensures { result ≡ list_all (is_path_at types.now) (flat_map bound_paths bounds.now) }
 {
@@ -64,7 +64,7 @@ pub(crate) fn bounds_name_paths(types: &[TypeRef], bounds: &[TypeBound]) -> bool
     true
 }
 
-/// Whether what generic arguments name as paths are paths.
+/// Whether each type that generic arguments name as a path is one.
 #[cycle(args_name_paths)]
 pub(crate) fn args_name_paths(types: &[TypeRef], args: &GenericArgs) -> bool
     ensures { result ≡ list_all (is_path_at types.now) (args_paths args.now) }
@@ -89,14 +89,14 @@ fn binding_names_paths(types: &[TypeRef], binding: &AssociatedTypeBinding) -> bo
     bounds_name_paths(types, binding.bounds.as_slice())
 }
 
-/// Whether the arguments begin with a self type where they are said to.
+/// Whether the arguments aren't empty, if they have `has_self_type`.
 fn gives_self(has_self_type: bool, args: &[GenericArg]) -> bool
     ensures { result ≡ self_given has_self_type args.now }
 {
     !has_self_type || !args.is_empty()
 }
 
-/// Whether each list of arguments that is said to begin with a self type isn't empty.
+/// Whether each list of arguments that has `has_self_type` isn't empty.
 #[cycle(args_give_self)]
 pub(crate) fn args_give_self(args: &GenericArgs) -> bool
     ensures { result ≡ args_give_self args.now }
@@ -130,7 +130,7 @@ pub(crate) struct Holds<'a> {
     pub bounds: &'a [TypeBound],
 }
 
-/// Whether what the arguments of one segment name as paths are paths.
+/// Whether each type that the arguments of one segment name as a path is one.
 fn segment_names_paths(types: &[TypeRef], args: &Option<GenericArgs>) -> bool
     ensures { result ≡ list_all (is_path_at types.now) (all_of args_paths args.now) }
 {
@@ -140,7 +140,7 @@ fn segment_names_paths(types: &[TypeRef], args: &Option<GenericArgs>) -> bool
     }
 }
 
-/// Whether what the arguments of segments name as paths are paths.
+/// Whether each type that the arguments of segments name as a path is one.
 fn segments_name_paths(types: &[TypeRef], lists: &[Option<GenericArgs>]) -> bool
     ensures { result ≡ list_all (is_path_at types.now) (flat_map (all_of args_paths) lists.now) }
 {
@@ -152,7 +152,7 @@ fn segments_name_paths(types: &[TypeRef], lists: &[Option<GenericArgs>]) -> bool
     true
 }
 
-/// Whether what a path names as paths are paths.
+/// Whether each type that a path names as a path is one.
 pub(crate) fn path_names_paths(types: &[TypeRef], path: &Path) -> bool
     ensures { result ≡ list_all (is_path_at types.now) (path_paths path.now) }
 {
@@ -162,7 +162,7 @@ pub(crate) fn path_names_paths(types: &[TypeRef], path: &Path) -> bool
     }
 }
 
-/// Whether the arguments of one segment are right where they are said to begin with a self type.
+/// Whether each list that has `has_self_type` in the arguments of one segment isn't empty.
 fn segment_gives_self(args: &Option<GenericArgs>) -> bool
     ensures { result ≡ option_all args_give_self args.now }
 {
@@ -217,7 +217,7 @@ impl Holds<'_> {
         bounds_name_paths(types, self.bounds)
     }
 
-    /// Whether each list that is said to begin with a self type isn't empty.
+    /// Whether each list that has `has_self_type` isn't empty.
     pub fn gives_self(&self) -> bool
         ensures { result ≡ gives_self (held_of self.now) }
     {

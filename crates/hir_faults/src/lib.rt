@@ -1,5 +1,5 @@
-//! The faults of nodes with their roots: which node names what isn't there, holds what is wrong in itself, or stands in no forest.
-//! A store is made of nodes that have none. Here is what a fault is, the search for the first one, and the tests that a store too is asked.
+//! The faults of nodes with their roots: which node names what isn't there, holds what is wrong in itself, or isn't in a forest.
+//! A store's nodes have none. Here are the faults, the search for the first one, and the tests that a store also has.
 #![tactic(auto)]
 
 mod fault;

@@ -1,4 +1,4 @@
-//! The nodes of a builder or a store, borrowed, and what they are asked.
+//! The borrowed nodes of a builder or a store, and queries on them.
 
 ghost use Rattle.std.specs.Prelude.{◌≡◌, IfOk};
 ghost use Rattle.std.specs.List.{list_all};
@@ -17,7 +17,7 @@ use hir_forest::{Ends, Rows};
 use hir_node::{Binding, Expr, Label, LifetimeRef, Pat, Path, PathId, TypeBound, TypeRef};
 use std::alloc::{AllocError, Global};
 
-/// The nodes of a builder or a store, and what they name besides.
+/// The nodes of a builder or a store, with its bindings, labels and lifetimes.
 #[derive(Clone, Copy)]
 pub struct NodeSlices<'a> {
     pub exprs: &'a [Expr],
@@ -57,7 +57,7 @@ impl NodeSlices<'_> {
 
     /// The kids of all nodes: the rows of the expressions, then of the patterns, then of the types.
     ///
-    /// It takes time in the number of nodes and edges. Refused only where memory for the table is.
+    /// It takes time in the number of nodes and edges. It fails only when memory for the table is refused.
     pub fn rows(&self, alloc: Global) -> Result<Rows, AllocError>
         requires { Few (sizes_of (nodes_in self.now)) }
         ensures { IfOk result (λ rows. rows ≡ graph (nodes_in self.now)) }

@@ -1,4 +1,4 @@
-//! Whether all is there that a visitor is called with.
+//! Tests whether everything that a visitor is called with is there.
 
 ghost use Rattle.std.specs.Prelude.{◌≡◌};
 ghost use Rattle.std.specs.List.{list_all};
@@ -12,7 +12,7 @@ use hir_node::{
     ExprId, LifetimeRefId, PatId, Path, StoreVisitor, StoreVisitorExt, TypeBound, TypeRefId,
 };
 
-/// Whether all that it was called with is there.
+/// Whether everything that it was called with is there.
 #[derive(Drop)]
 struct InRange {
     sizes: Sizes,
@@ -43,7 +43,7 @@ impl StoreVisitor for InRange {
     }
 }
 
-/// Whether each call that the node gives a visitor is made with what is there.
+/// Whether each id that the node passes to a visitor is there.
 pub(crate) fn calls_there<N: TestedNode>(node: &N, sizes: Sizes) -> bool
     ensures { result ≡ list_all (is_there sizes) (N.tested node.now).calls }
 {
@@ -52,7 +52,7 @@ pub(crate) fn calls_there<N: TestedNode>(node: &N, sizes: Sizes) -> bool
     ids.holds
 }
 
-/// Whether each call that the path gives a visitor is made with what is there.
+/// Whether each id that the path passes to a visitor is there.
 pub(crate) fn path_there(path: &Path, sizes: Sizes) -> bool
     ensures { result ≡ list_all (is_there sizes) (path_calls path.now) }
 {
@@ -61,7 +61,7 @@ pub(crate) fn path_there(path: &Path, sizes: Sizes) -> bool
     ids.holds
 }
 
-/// Whether each call that the bound gives a visitor is made with what is there.
+/// Whether each id that the bound passes to a visitor is there.
 pub(crate) fn bound_there(bound: &TypeBound, sizes: Sizes) -> bool
     ensures { result ≡ list_all (is_there sizes) (bound_calls bound.now) }
 {

@@ -1,6 +1,6 @@
-//! How many items the arenas have, and the one row in which all nodes stand: expressions, then patterns, then types.
+//! How many items the arenas have, and the one row of all nodes: expressions, then patterns, then types.
 
-/// How many of each there are.
+/// How many items each arena has.
 #[derive(Clone, Copy, Drop)]
 pub struct Sizes {
     pub exprs: usize,

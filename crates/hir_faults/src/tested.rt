@@ -1,5 +1,5 @@
-//! Nodes of the three sorts, as they are tested: how a fault names each, the visit of its children, and what else is looked at.
-//! Each field of a node stands in the matches, so that who adds one has to look here.
+//! How nodes of the three sorts are tested: how a fault names each, the visit of its children, and what else is tested.
+//! The matches name each field of a node, so that whoever adds one has to look here.
 
 ghost use Rattle.std.specs.Prelude.{◌≡◌, ℕ, Option};
 ghost use Rattle.std.specs.Option.{option_to_list};
@@ -15,7 +15,7 @@ use hir_node::{
     TypeBound, TypeRef, TypeRefId,
 };
 
-/// Nothing is held.
+/// Holds nothing.
 fn nothing<'a>() -> Holds<'a>
     ensures { held_of result ≡ nothing }
 {
@@ -26,7 +26,7 @@ fn nothing<'a>() -> Holds<'a>
     }
 }
 
-/// A path is held.
+/// Holds a path.
 fn a_path(path: &Path) -> Holds<'_>
     ensures { held_of result ≡ a_path path.now }
 {
@@ -37,7 +37,7 @@ fn a_path(path: &Path) -> Holds<'_>
     }
 }
 
-/// Generic arguments are held, where there are some.
+/// Holds generic arguments, if there are some.
 fn some_args(args: &Option<Boxed<GenericArgs>>) -> Holds<'_>
     ensures { held_of result ≡ some_args args.now }
 {
@@ -48,7 +48,7 @@ fn some_args(args: &Option<Boxed<GenericArgs>>) -> Holds<'_>
     }
 }
 
-/// Bounds are held.
+/// Holds bounds.
 fn some_bounds(bounds: &[TypeBound]) -> Holds<'_>
     ensures { held_of result ≡ some_bounds bounds.now }
 {
@@ -61,13 +61,13 @@ fn some_bounds(bounds: &[TypeBound]) -> Holds<'_>
 
 /// A node of one sort, as it is tested.
 pub(crate) trait TestedNode {
-    // what it is tested by
+    // what is tested of it
     ghost tested: { Self → Tested };
 
-    // how a fault names the node of a number
+    // how a fault names the node with this number
     ghost name: { ℕ → NodeId };
 
-    /// How a fault names the node of a number.
+    /// The id by which a fault names the node with this number.
     fn name(n: u32) -> NodeId
         ensures { result ≡ name n };
 

@@ -1,4 +1,4 @@
--- A graph of nodes numbered from 0, told by the list of each node's kids, and when it is a forest.
+-- A graph of nodes numbered from 0, given by the list of each node's kids, and when it is a forest.
 -- An edge leads from a node to one of its kids; edges go in order by parent, and then by place among its kids.
 use Rattle.std.specs.Prelude.{◌≡◌, ℕ, zero, suc, ◌<◌, ◌↔◌, Bool, true, false, List, [], length, take, slice_index, slice_index_or, Contains}
 use Rattle.std.specs.List.{concat}
@@ -28,7 +28,7 @@ LiesUnder g c r = (k : ℕ) × Climbs g (suc k) c r
 abbrev pub HasOneParent : List (List ℕ) → Type 0
 HasOneParent g = (p q c : ℕ) → IsKid g p c → IsKid g q c → p ≡ q
 
--- no child stands twice among the children of all edges
+-- no child is twice among the children of all edges
 abbrev pub HasEachOnce : List (List ℕ) → Type 0
 HasEachOnce g = (e : ℕ) → e < length (concat g) → Contains (take e (concat g)) (slice_index (concat g) e) → ⊥
 

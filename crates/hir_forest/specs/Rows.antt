@@ -1,4 +1,4 @@
--- The rows of a table that keeps the items of all rows in one list, and beside it the places where the rows begin.
+-- The rows of a table that keeps the items of all rows in one list, and next to it the places where the rows begin.
 use Rattle.std.specs.Prelude.{◌≡◌, ℕ, suc, ◌-◌, ◌<◌, ◌≤◌, List, [], ◌∷◌, ◌++◌, length, take, drop, slice_index}
 use Rattle.hir_forest.specs.declared.rows.Rows.TheInside.{Inside}
 

@@ -12,7 +12,7 @@ use crate::walk::Walk;
 use crate::{Ends, ForestFault, Root, Rows};
 use std::alloc::{AllocError, Global};
 
-/// Marks each child. The fault is a child that is marked already.
+/// Marks each child. A child that is already marked is a fault.
 fn mark_children(children: &[usize], marked: &mut [bool]) -> Option<ForestFault>
     requires within { All (λ c. c < length marked.old) children.now }
     requires unmarked { MarksAll marked.old [] }
@@ -54,7 +54,7 @@ fn first_unmet(unmet: &[bool]) -> Option<ForestFault>
 }
 
 /// The first fault of a root, where the nodes under a listed root are known. The roots that are still
-/// to come are marked at the start, and each mark goes when its root comes.
+/// to come are marked at the start, and each mark is removed when its root comes.
 fn first_root_fault(
     lengths: Ends,
     roots: &[Root],
@@ -91,12 +91,12 @@ fn first_root_fault(
     None
 }
 
-/// The first fault of a graph and its roots, or `None` where the graph is a forest and each root
-/// may stand where it does. A fault's number is that of a row, or the index of a root.
+/// The first fault of a graph and its roots, or `None` if the graph is a forest and the
+/// roots are right. A fault's number is that of a row, or the index of a root.
 ///
 /// `lengths` has the lengths of the three arenas; nodes below `lengths.exprs` may be roots, so there
-/// are at least as many rows. Each kid must have a row. It takes time in the number of rows, kids and
-/// roots, and four tables with an item for each row. Refused only where memory for these is.
+/// are at least as many rows. Each kid must have a row. It takes time linear in rows, kids and roots,
+/// and four tables with an item for each row. `AllocError` only if memory for these is refused.
 pub fn first_fault(
     alloc: Global,
     rows: &Rows,

@@ -1,5 +1,5 @@
 //! What is true of every graph, its faults and its roots, as contracts of functions that do nothing.
-//! A crate above cites a law by its definition's name and needs nothing of the insides.
+//! A crate above cites a law by its definition's name and needs nothing of its proof.
 
 ghost use Rattle.std.specs.Prelude.{◌≡◌, ℕ, ◌<◌, ◌≤◌, List, [], ◌∷◌, ◌++◌, Option, None, Some, All, length};
 ghost use Rattle.std.specs.Bool.{Decides};
@@ -11,7 +11,7 @@ ghost use Rattle.hir_forest.specs.Height.{height};
 
 use crate::roots::{Ends, ForestFault, Root};
 
-/// Ends, roots and faults are equal exactly where all their fields are.
+/// Ends, roots and faults are equal exactly if all their fields are.
 pub fn roots_are_compared_by_all_fields()
     ensures ends { (x y : Ends) → Decides (⟦<Ends as PartialEq>⟧.eq x y) (x ≡ y) }
     ensures roots { (x y : Root) → Decides (⟦<Root as PartialEq>⟧.eq x y) (x ≡ y) }
@@ -54,7 +54,7 @@ pub fn ways_are_short()
         → (k c p : ℕ) → c < length g → Climbs g k c p → k < length g }
 {}
 
-/// Kids that are added to the last row in parts are added in one, a new row takes them all, and no row is made.
+/// Adding kids to the last row in parts is adding them at once, a new row takes them all, and no row is added.
 pub fn kid_rows_add_up()
     ensures more { (rows : List (List ℕ)) (some more : List ℕ)
         → with_kids (with_kids rows some) more ≡ with_kids rows (some ++ more) }

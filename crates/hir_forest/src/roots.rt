@@ -33,8 +33,8 @@ pub struct Root {
     pub ends: Ends,
 }
 
-/// What can be wrong with a graph and its roots, in the order in which faults are looked for: those of roots are those of the first
-/// root in the list that has one, and then the first in this order.
+/// What can be wrong with a graph and its roots, in the order in which `first_fault` looks for faults. Of the roots it takes
+/// the first in the list that has a fault, and then that root's first fault in this order.
 ///
 /// `SharedChild` and `Cycle` have the number of a node, the others the index of a root in the list.
 #[derive(Clone, Copy, PartialEq, Eq, Drop)]
@@ -42,7 +42,7 @@ pub enum ForestFault {
     /// The node is the child of two edges; it is the child of the first edge whose child is one of an earlier edge.
     SharedChild(usize),
     /// No number of steps to a parent leads from the node to one without a parent; it is the least such node.
-    /// It lies on a cycle or hangs on one.
+    /// It is on a cycle or hangs on one.
     Cycle(usize),
     /// The root's number is not below the number of expressions.
     RootOutOfRange(usize),

@@ -39,7 +39,7 @@ impl Rows {
 
     /// No rows, with room for `rows` rows that have `kids` kids together.
     ///
-    /// Refused only where memory for the room is.
+    /// `AllocError` only if memory for the room is refused.
     pub fn with_capacity(alloc: Global, rows: usize, kids: usize) -> Result<Rows, AllocError>
         ensures { IfOk result (λ table. table ≡ []) }
     {
@@ -51,7 +51,7 @@ impl Rows {
 
     /// Adds a row without kids.
     ///
-    /// Where memory is refused, nothing has changed.
+    /// If memory is refused, nothing has changed.
     pub fn begin_row(&mut self) -> Result<(), AllocError>
         ensures ok { OnOk result (self.new ≡ self.old ++ [] ∷ []) }
         ensures err { OnErr result (self.new ≡ self.old) }
@@ -62,7 +62,7 @@ impl Rows {
 
     /// Adds a kid at the end of the last row. There must be a row.
     ///
-    /// Where memory is refused, nothing has changed.
+    /// If memory is refused, nothing has changed.
     pub fn push_kid(&mut self, kid: usize) -> Result<(), AllocError>
         requires { 0 < length self.old }
         ensures ok { OnOk result (self.new ≡ with_kids self.old (kid ∷ [])) }

@@ -20,7 +20,7 @@ pub(crate) struct Walk {
 }
 
 impl Walk {
-    /// The nodes without a parent are met and wait.
+    /// Starts a walk: the nodes without a parent are met and wait.
     pub(crate) fn start(alloc: Global, has_parent: Vec<bool>) -> Result<Walk, AllocError>
         ensures { IfOk result (λ walk. Starts has_parent.items (reach_of walk)) }
     {
@@ -85,7 +85,7 @@ fn mark_all(children: &[usize], marked: &mut [bool])
 /// Which nodes of a forest lie properly under a marked node, as a table by number. A marked node is
 /// under none unless it lies under another one.
 ///
-/// Refused only where memory for the tables is.
+/// `AllocError` only if memory for the tables is refused.
 pub fn nodes_under(alloc: Global, rows: &Rows, marked: &[bool]) -> Result<Vec<bool>, AllocError>
     requires forest { IsForest rows.now }
     requires marked { length marked.now ≡ length rows.now }

@@ -12,7 +12,7 @@ pub enum TypeParamProvenance {
     TypeParamList,
     /// It is the `Self` of a trait.
     TraitSelf,
-    /// It is an `impl Trait` in the place of an argument's type.
+    /// It is an `impl Trait` in argument position.
     ArgumentImplTrait,
 }
 
@@ -27,9 +27,9 @@ impl TryClone for TypeParamProvenance {
 /// A parameter that is a type.
 #[derive(Drop, Clone, PartialEq, Eq, Hash)]
 pub struct TypeParamData {
-    /// Its name. An `impl Trait` in the place of an argument's type has none.
+    /// Its name. An `impl Trait` in argument position has none.
     pub name: Option<Name>,
-    /// What it is where no argument is given.
+    /// What it is if no argument is given.
     pub default: Option<TypeRefId>,
     pub provenance: TypeParamProvenance,
 }
@@ -106,7 +106,7 @@ pub struct ConstParamData {
     pub name: Name,
     /// The type of the constant.
     pub ty: TypeRefId,
-    /// What it is where no argument is given.
+    /// What it is if no argument is given.
     pub default: Option<ConstRef>,
 }
 

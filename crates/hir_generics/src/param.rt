@@ -16,7 +16,7 @@ pub enum TypeOrConstParamData {
 impl TypeOrConstParamData {
     ghost use Rattle.hir_generics.specs.Params.{name_of, has_default, type_of, const_of, is_trait_self};
 
-    /// Its name, where it has one.
+    /// Its name, if it has one.
     pub fn name(&self) -> Option<&Name>
         ensures { option_copied result ≡ name_of self.now }
     {
@@ -26,7 +26,7 @@ impl TypeOrConstParamData {
         }
     }
 
-    /// Whether it says what it is where no argument is given.
+    /// Whether it has a default.
     pub fn has_default(&self) -> bool
         ensures { result ≡ has_default self.now }
     {
@@ -36,7 +36,7 @@ impl TypeOrConstParamData {
         }
     }
 
-    /// The type parameter, where it is one.
+    /// The type parameter, if it is one.
     pub fn type_param(&self) -> Option<&TypeParamData>
         ensures { option_copied result ≡ type_of self.now }
     {
@@ -46,7 +46,7 @@ impl TypeOrConstParamData {
         }
     }
 
-    /// The constant parameter, where it is one.
+    /// The constant parameter, if it is one.
     pub fn const_param(&self) -> Option<&ConstParamData>
         ensures { option_copied result ≡ const_of self.now }
     {
@@ -115,7 +115,7 @@ pub enum GenericParamData {
 impl GenericParamData {
     ghost use Rattle.hir_generics.specs.Params.{any_name_of, any_type_of, any_const_of, any_lifetime_of};
 
-    /// Its name, where it has one.
+    /// Its name, if it has one.
     pub fn name(&self) -> Option<&Name>
         ensures { option_copied result ≡ any_name_of self.now }
     {
@@ -126,7 +126,7 @@ impl GenericParamData {
         }
     }
 
-    /// The type parameter, where it is one.
+    /// The type parameter, if it is one.
     pub fn type_param(&self) -> Option<&TypeParamData>
         ensures { option_copied result ≡ any_type_of self.now }
     {
@@ -136,7 +136,7 @@ impl GenericParamData {
         }
     }
 
-    /// The constant parameter, where it is one.
+    /// The constant parameter, if it is one.
     pub fn const_param(&self) -> Option<&ConstParamData>
         ensures { option_copied result ≡ any_const_of self.now }
     {
@@ -146,7 +146,7 @@ impl GenericParamData {
         }
     }
 
-    /// The lifetime parameter, where it is one.
+    /// The lifetime parameter, if it is one.
     pub fn lifetime_param(&self) -> Option<&LifetimeParamData>
         ensures { option_copied result ≡ any_lifetime_of self.now }
     {

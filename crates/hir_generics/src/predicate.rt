@@ -1,16 +1,16 @@
-//! What a `where` clause asks.
+//! The predicates of `where` clauses.
 ghost use Rattle.std.specs.Prelude.{◌≡◌};
 ghost use Rattle.hir_base.specs.Exact.{exact};
 
 use hir_base::{ExactEq, Name, Seq, TryClone};
 use hir_path::{LifetimeRefId, TypeBound, TypeRefId};
 
-/// One thing that a `where` clause asks. `where T: Foo + Bar` asks two.
+/// One predicate of a `where` clause. `where T: Foo + Bar` has two.
 #[derive(Drop, Clone, PartialEq, Eq, Hash)]
 pub enum WherePredicate {
     /// A type meets a bound.
     TypeBound {
-        /// The lifetimes of a `for<..>` before it, where one is written.
+        /// The lifetimes of a `for<..>` before it, if there is one.
         lifetimes: Option<Seq<Name>>,
         target: TypeRefId,
         bound: TypeBound,

@@ -1,13 +1,13 @@
--- What calls of a source or a sink do to the bytes that it tells.
+-- What calls of a source or a sink do to the bytes that it shows.
 use Rattle.std.specs.Prelude.{◌≡◌, ℕ, List, ◌++◌, Option, None, Some}
 use Rattle.std.specs.Io.KnownBytes.{Appends}
 
--- what a failed call leaves: the told bytes as they were, or told no more
+-- what a failed call leaves: the shown bytes as they were, or no longer shown
 abbrev pub IsKeptOrUntold : Option (List ℕ) → Option (List ℕ) → Type 0
 IsKeptOrUntold old None = Unit {0}
 IsKeptOrUntold old (Some bytes) = old ≡ Some bytes
 
--- told bytes grew by some front of these bytes, or are told no more
+-- the shown bytes grew by a prefix of these bytes, or are no longer shown
 abbrev pub GrowsByFront : Option (List ℕ) → Option (List ℕ) → List ℕ → Type 0
 GrowsByFront None new bytes = Unit {0}
 GrowsByFront (Some xs) None bytes = Unit {0}

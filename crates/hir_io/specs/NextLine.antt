@@ -1,4 +1,4 @@
--- What asking for the next line does: to the lines, to the bytes that the source tells, and to the output that waits.
+-- What asking for the next line does: to the lines, to the bytes that the source shows, and to the output that waits.
 use Rattle.std.specs.Prelude.{◌≡◌, ℕ, Bool, true, false, List, [], ◌++◌, Option, None, Some, Result, Ok, Err, IfSome}
 use Rattle.std.specs.Io.KnownBytes.{Appends, IsAtEnd, Keeps}
 use Rattle.hir_io.specs.declared.next.LineFault.{LineFault}
@@ -7,19 +7,19 @@ use Rattle.hir_io.specs.Ends.{GrowsByFront, IsWrittenUpTo}
 use Rattle.hir_io.specs.Text.{HasNoLineEnd, TakesLine}
 use Rattle.hir_io.specs.LineState.{LineState}
 
--- the bytes that are still to be taken, where told: those pending, and behind them what the source has left, unless its end was met
+-- the bytes that are still to be taken, if shown: those pending, and after them what the source has left, unless its end was met
 abbrev pub untaken : List ℕ → Bool → Option (List ℕ) → Option (List ℕ)
 untaken pending at_end None = None
 untaken pending true (Some rest) = Some pending
 untaken pending false (Some rest) = Some (pending ++ rest)
 
--- the first line was taken from the told bytes
+-- the first line was taken from the shown bytes
 abbrev pub TakesTold : Option (List ℕ) → Option (List ℕ) → List ℕ → Bool → Type 0
 TakesTold None new line at_end = Unit {0}
 TakesTold (Some text) None line at_end = ⊥
 TakesTold (Some text) (Some rest) line at_end = TakesLine text rest line at_end
 
--- the told bytes are the beginning of a line, and those that weren't read
+-- the shown bytes are the beginning of a line, and those that weren't read
 abbrev pub IsBegunLine : Option (List ℕ) → Option (List ℕ) → List ℕ → Type 0
 IsBegunLine None remaining begun = Unit {0}
 IsBegunLine (Some text) remaining begun =

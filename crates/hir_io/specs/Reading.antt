@@ -17,7 +17,7 @@ Takes old new Line =
 Takes old new More = (new ≡ old) × (old.at_end ≡ false) × HasNoLineEnd old.pending
 Takes old new End = (new ≡ old) × (old.at_end ≡ true) × (old.pending ≡ [])
 
--- the line taken last is lent no more
+-- without the line taken last
 abbrev pub without_line : LineState → LineState
 without_line old = record old { line = [] }
 
@@ -26,7 +26,7 @@ abbrev pub with_bytes : LineState → List ℕ → LineState
 with_bytes old bytes =
     record { line = []; pending = old.pending ++ bytes; at_end = eqb (length bytes) 0; count = old.count }
 
--- what one read does to the lines, and to the bytes that the source tells
+-- what one read does to the lines, and to the bytes that the source shows
 abbrev pub Fills : LineState → LineState → Option (List ℕ) → Option (List ℕ) → Result (Unit {0}) FillFault →
     Type 0
 Fills old new remaining remaining' (Ok done) =

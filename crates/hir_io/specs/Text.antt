@@ -22,13 +22,13 @@ ended line = line ++ 10 ∷ []
 abbrev pub HasNoLineEnd : List ℕ → Type 0
 HasNoLineEnd bytes = All (λ b. is_line_end b ≡ false) bytes
 
--- the place of the first line end
+-- the index of the first line end
 abbrev pub IsFirstLineEnd : List ℕ → Option ℕ → Type 0
 IsFirstLineEnd bytes None = HasNoLineEnd bytes
 IsFirstLineEnd bytes (Some i) =
     (i < length bytes) × HasNoLineEnd (take i bytes) × (bytes ≡ take i bytes ++ 10 ∷ drop (i + 1) bytes)
 
--- the first line of a text, and the text behind it; only where no more bytes can come is a line without its end one
+-- the first line of a text, and the text after it; only if no more bytes can come is a line without its end one
 abbrev pub TakesLine : List ℕ → List ℕ → List ℕ → Bool → Type 0
 TakesLine text rest line at_end =
     HasNoLineEnd line

@@ -1,4 +1,4 @@
-//! Sources and sinks: where bytes are read from and written to, what they tell of them, and writing all of some bytes.
+//! Sources and sinks: where bytes are read from and written to, what they show of them, and how to write a whole slice.
 
 ghost use Rattle.std.specs.Prelude.{◌≡◌, ◌+◌, ◌≤◌, ◌<◌, ◌^◌, ◌||◌, [], List, ℕ, Bool, Option, IfOk, IsOk, OnErr, OnOk, take, length, is_err};
 ghost use Rattle.std.specs.Fmt.{decimal};
@@ -27,10 +27,10 @@ impl fmt::Display for EndFailed {
 
 /// Where bytes are read from.
 ///
-/// A source means the bytes that it has left, where it tells them, and whether a call has failed. It also means a number below
-/// 2^64 that falls by each byte read, so that reading ends and lines can be counted in 64 bits.
+/// A contract sees a source as the bytes that it has left, if it shows them, whether a call has failed, and a number below 2^64
+/// that falls by each byte read, so that reading ends and lines can be counted in 64 bits.
 pub trait Source {
-    // The bytes that are left to read, where they are told.
+    // The bytes that are left to read, if they are shown.
     ghost remaining: { Self → Option (List ℕ) };
 
     // Whether a call has failed.
@@ -39,8 +39,8 @@ pub trait Source {
     // A number that falls by each byte that is read.
     ghost allowance: { Self → ℕ };
 
-    /// Reads some bytes into the front of the buffer, and says how many. They are none only at the end, or where there is no
-    /// room. After an `Err` the bytes left are as before or told no more, and `has_failed` is true from then on.
+    /// Reads some bytes into the front of the buffer, and answers how many: none only at the end, or if there is no room.
+    /// After an `Err` the bytes left are as before or no longer shown, and `has_failed` is true from then on.
     fn read(&mut self, buffer: &mut [u8]) -> Result<usize, EndFailed>
         ensures count { IfOk result (λ n. n ≤ length buffer.new) }
         ensures bytes { IfOk result
@@ -60,16 +60,16 @@ pub trait Source {
 
 /// Where bytes are written to.
 ///
-/// A sink means the bytes that were written to it, where it tells them, and whether a call has failed.
+/// A contract sees a sink as the bytes that were written to it, if it shows them, and whether a call has failed.
 pub trait Sink {
-    // The bytes that were written, where they are told.
+    // The bytes that were written, if they are shown.
     ghost contents: { Self → Option (List ℕ) };
 
     // Whether a call has failed.
     ghost failed: { Self → Bool };
 
-    /// Writes some bytes from the front of the buffer, at least one where there are any, and says how many. After an `Err`
-    /// what was written is as before or told no more, and `has_failed` is true from then on.
+    /// Writes some bytes from the front of the buffer, at least one if there are any, and answers how many. After an
+    /// `Err` what was written is as before or no longer shown, and `has_failed` is true from then on.
     fn write(&mut self, buffer: &[u8]) -> Result<usize, EndFailed>
         ensures count { IfOk result (λ n. n ≤ length buffer.now) }
         ensures progress { IfOk result (λ n. 0 < length buffer.now → 0 < n) }
@@ -83,7 +83,7 @@ pub trait Sink {
         ensures { result ≡ failed self.now };
 }
 
-/// Writes all the bytes. After an `Err` some front of them was written. Where there are none, the writer isn't called.
+/// Writes all the bytes. After an `Err` a prefix of them was written. If there are none, the writer isn't called.
 pub fn write_all<W: Sink>(writer: &mut W, bytes: &[u8]) -> Result<(), EndFailed>
     ensures bytes { OnOk result (Appends (W.contents writer.old) (W.contents writer.new) bytes.now) }
     ensures err { OnErr result (GrowsByFront (W.contents writer.old) (W.contents writer.new) bytes.now) }
@@ -98,7 +98,7 @@ pub fn write_all<W: Sink>(writer: &mut W, bytes: &[u8]) -> Result<(), EndFailed>
     Ok(())
 }
 
-/// Writes a number in decimal. After an `Err` some front of its digits was written.
+/// Writes a number in decimal. After an `Err` a prefix of its digits was written.
 pub fn write_decimal<W: Sink>(writer: &mut W, number: u64) -> Result<(), EndFailed>
     ensures bytes { OnOk result (Appends (W.contents writer.old) (W.contents writer.new) (decimal number)) }
     ensures err { OnErr result

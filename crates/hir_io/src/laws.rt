@@ -8,7 +8,7 @@ use crate::lines::{FillFault, Taken};
 use crate::next::LineFault;
 use crate::std_end::Attempt;
 
-/// What the calls of this crate answer, and why they fail, is equal exactly where all fields are.
+/// Answers and faults of this crate are equal exactly if all their fields are.
 pub fn answers_are_compared_by_all_fields()
     ensures failures { (x y : EndFailed) → Decides (⟦<EndFailed as PartialEq>⟧.eq x y) (x ≡ y) }
     ensures fills { (x y : FillFault) → Decides (⟦<FillFault as PartialEq>⟧.eq x y) (x ≡ y) }

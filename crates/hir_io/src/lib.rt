@@ -1,4 +1,4 @@
-//! Where the program's bytes come from and where they go: sources and sinks, the lines of a source, output that waits, and
+//! Where the program's bytes come from and where they go: sources and sinks, the lines of a source, buffered output, and
 //! asking for the next line.
 #![tactic(auto)]
 

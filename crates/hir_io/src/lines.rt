@@ -1,4 +1,4 @@
-//! The lines of a source, which is read block by block: a line that lies whole in the buffer is lent from it and never copied.
+//! The lines of a source, which is read block by block: a line that is whole in the buffer is borrowed from it and never copied.
 
 ghost use Rattle.hir_io.specs.Text.{IsFirstLineEnd};
 ghost use Rattle.std.specs.Prelude.{◌≡◌, ◌+◌, ◌-◌, ◌*◌, ◌≤◌, ◌<◌, ◌^◌, ◌||◌, [], false, IfOk, OnOk, OnErr, length, take, slice_range, vec_len, List, ℕ};
@@ -10,10 +10,10 @@ use std::fmt;
 use std::marker::Model;
 use thiserror::Error;
 
-/// How many bytes are asked for at least.
+/// How many bytes a read asks for at least.
 const BLOCK: usize = 65536;
 
-/// What taking a line met.
+/// What `take_line` found.
 #[derive(Clone, Copy, PartialEq, Eq)]
 pub enum Taken {
     /// A line was taken.
@@ -51,7 +51,7 @@ impl fmt::Display for FillFault {
 /// Takes the lines of a source.
 ///
 /// It is seen as the line taken last, the bytes that were read and not yet taken, whether the end was met, and how many lines
-/// were taken. A line is lent from the buffer, which grows only where a line is longer.
+/// were taken. A line is borrowed from the buffer, which grows only for a longer line.
 #[derive(Drop)]
 pub struct LineReader {
     bytes: Vec<u8>,
@@ -84,7 +84,7 @@ impl Model for LineReader {
         × HasNoLineEnd (slice_range r.bytes.items r.start r.scanned) };
 }
 
-/// The place of the first line end.
+/// The index of the first line end.
 fn find_line_end(bytes: &[u8]) -> Option<usize>
     ensures { IsFirstLineEnd bytes.now result }
 {
@@ -95,7 +95,7 @@ fn find_line_end(bytes: &[u8]) -> Option<usize>
     memchr(b'\n', bytes)
 }
 
-/// Moves the bytes from `start` to `filled` to the front, with room for a block behind them.
+/// Moves the bytes from `start` to `filled` to the front, with room for a block after them.
 fn make_room(bytes: &mut Vec<u8>, start: usize, filled: usize) -> Result<(), AllocError>
     requires in_order { (start ≤ filled) × (filled ≤ vec_len bytes.old) }
     requires has_block { 65536 ≤ vec_len bytes.old }
@@ -116,9 +116,9 @@ fn make_room(bytes: &mut Vec<u8>, start: usize, filled: usize) -> Result<(), All
 impl LineReader {
     ghost use Rattle.hir_io.specs.Reading.{Takes, Fills, is_failed_read};
 
-    /// A reader of which no line was taken, with room for one block.
+    /// A reader that has taken no line, with room for one block.
     ///
-    /// `AllocError` where that memory was refused.
+    /// `AllocError` if that memory was refused.
     pub fn new(alloc: Global) -> Result<Self, AllocError>
         ensures { IfOk result (λ r. r ≡ record { line = []; pending = []; at_end = false; count = 0 }) }
     {
@@ -134,7 +134,7 @@ impl LineReader {
         })
     }
 
-    /// The line that was taken last, without its end; none before the first, and none once more bytes were asked for.
+    /// The line taken last, without its end; empty before the first, and once more bytes were asked for.
     pub fn line(&self) -> &[u8]
         ensures { result.now ≡ self.now.line }
     {
@@ -180,10 +180,10 @@ impl LineReader {
         }
     }
 
-    /// Reads once, behind the pending bytes, for a block at least. A read of no bytes is the end of the input.
+    /// Reads once, after the pending bytes, and asks for a block at least. A read of no bytes is the end of the input.
     ///
-    /// `OutOfMemory` where the buffer had to grow and couldn't: nothing was read. `InputFailed` where the read failed. After
-    /// either the pending bytes are as before, and the call may be made again.
+    /// `OutOfMemory` if the buffer had to grow and couldn't: nothing was read. `InputFailed` if the read failed. After either
+    /// the pending bytes are as before, and the call can be retried.
     pub fn fill<R: Source>(&mut self, reader: &mut R) -> Result<(), FillFault>
         ensures fills { Fills self.old self.new (R.remaining reader.old) (R.remaining reader.new) result }
         ensures unread { result ≡ Err FillFault.OutOfMemory → reader.new ≡ reader.old }

@@ -1,4 +1,4 @@
-//! Asking for the next line, where what waits is written before each read: who asks one question and waits gets its answer.
+//! Asking for the next line. Waiting output is written before each read: who asks one question and waits gets its answer.
 
 ghost use Rattle.std.specs.Prelude.{◌≡◌, ◌+◌, ◌≤◌, ◌<◌, ◌^◌, ◌||◌, ◌⊎◌, [], true, false, length, cond};
 ghost use Rattle.hir_io.specs.Text.{HasNoLineEnd};
@@ -10,14 +10,14 @@ use crate::output::OutputBuffer;
 use std::fmt;
 use thiserror::Error;
 
-/// Why the next line can't be had.
+/// Why the next line can't be taken.
 #[derive(Clone, Copy, Debug, Drop, PartialEq, Eq, Error)]
 pub enum LineFault {
     /// Memory for a longer line was refused.
     OutOfMemory,
     /// A read failed.
     InputFailed,
-    /// What waited couldn't be written.
+    /// The waiting output couldn't be written.
     OutputFailed,
 }
 
@@ -37,12 +37,11 @@ impl fmt::Display for LineFault {
     }
 }
 
-/// Takes the next line, and says whether there is one. A read is made only where no whole line is pending, and what waits is
-/// written before it.
+/// Takes the next line, and answers whether there is one. It reads only if no whole line is pending, and first writes what waits.
 ///
-/// `InputFailed` where a read failed: the pending bytes are the beginning of a line. `OutputFailed` where what waited couldn't
-/// be written: a front of it was. `OutOfMemory` where memory for a longer line was refused. After the first and the last what
-/// waited is written, after each nothing waits, and no byte that was read is lost.
+/// `InputFailed` if a read failed: the pending bytes are the beginning of a line. `OutputFailed` if what waited couldn't be
+/// written: a prefix of it was. `OutOfMemory` if memory for a longer line was refused. After the first and the last what waited
+/// is written, after each nothing waits, and no byte that was read is lost.
 pub fn next_line<R: Source, W: Sink>(
     lines: &mut LineReader,
     reader: &mut R,
@@ -60,7 +59,7 @@ pub fn next_line<R: Source, W: Sink>(
         ≤ length lines.old.pending + R.allowance reader.old }
     ensures input_failure { R.failed reader.new ≡ (is_failed_input result || R.failed reader.old) }
     ensures output_failure { W.failed writer.new ≡ (is_failed_output result || W.failed writer.old) }
-    // Where nothing waits the writer isn't called.
+    // If nothing waits, the writer isn't called.
     ensures idle { output.old ≡ [] →
         (is_failed_output result ≡ false) × (writer.new ≡ writer.old) × (output.new ≡ []) }
     ensures read_late { ((reader.new ≡ reader.old) × (writer.new ≡ writer.old) × (output.new ≡ output.old))

@@ -1,4 +1,4 @@
-//! Output that waits, so that many short writes become few calls of a sink. Its memory is taken once, at the start.
+//! Buffered output, so that many short writes become few calls of a sink. It takes its memory once, at the start.
 
 ghost use Rattle.std.specs.Prelude.{◌≡◌, ◌+◌, ◌≤◌, ◌||◌, ◌++◌, [], true, length, IfOk, OnOk, OnErr, IsOk, is_err, cond};
 ghost use Rattle.std.specs.Fmt.{decimal};
@@ -10,7 +10,7 @@ use itoa::Buffer;
 use std::alloc::{AllocError, Global};
 use std::marker::Model;
 
-/// How many bytes wait at most.
+/// How many bytes can wait at most.
 const CAPACITY: usize = 65536;
 
 /// The bytes that wait to be written, seen as a list. Writing needs no memory.
@@ -30,9 +30,9 @@ impl Model for OutputBuffer {
 }
 
 impl OutputBuffer {
-    /// A buffer in which nothing waits, with all its memory.
+    /// An empty buffer, with all its memory.
     ///
-    /// `AllocError` where that memory was refused.
+    /// `AllocError` if that memory was refused.
     pub fn new(alloc: Global) -> Result<Self, AllocError>
         ensures { IfOk result (λ b. b ≡ []) }
     {
@@ -41,7 +41,7 @@ impl OutputBuffer {
         })
     }
 
-    /// Adds bytes to those that wait, where they fit, and says whether they did.
+    /// Adds bytes to those that wait, if they fit, and answers whether they did.
     fn hold(&mut self, bytes: &[u8]) -> bool
         ensures added { self.new ≡ self.old ++ cond result bytes.now [] }
         ensures fits { length self.old + length bytes.now ≤ CAPACITY → result ≡ true }
@@ -50,10 +50,10 @@ impl OutputBuffer {
             && self.bytes.extend_from_slice(bytes).is_ok()
     }
 
-    /// Adds bytes to those that wait. Where they would be more than 65,536, what waits is written first; where they fit the
+    /// Adds bytes to those that wait. If they would be more than 65,536, it first writes what waits; if they fit, the
     /// writer isn't called.
     ///
-    /// After an `Err` a front of what waited and of these bytes was written, and nothing waits.
+    /// After an `Err` a prefix of what waited followed by these bytes was written, and nothing waits.
     pub fn write<W: Sink>(&mut self, bytes: &[u8], writer: &mut W) -> Result<(), EndFailed>
         ensures bytes { OnOk result
             (IsWrittenUpTo (W.contents writer.old) (W.contents writer.new) (self.old ++ bytes.now) self.new) }
@@ -90,9 +90,9 @@ impl OutputBuffer {
         self.write(digits.format(number).as_bytes(), writer)
     }
 
-    /// Writes all that waits. Where nothing waits, the writer isn't called.
+    /// Writes all that waits. If nothing waits, the writer isn't called.
     ///
-    /// After an `Err` a front of it was written. After either nothing waits.
+    /// After an `Err` a prefix of it was written. Either way nothing waits afterwards.
     pub fn flush<W: Sink>(&mut self, writer: &mut W) -> Result<(), EndFailed>
         ensures empty { self.new ≡ [] }
         ensures bytes { OnOk result (Appends (W.contents writer.old) (W.contents writer.new) self.old) }

@@ -1,5 +1,5 @@
 //! The readers and writers of the standard library as sources and sinks: which of their answers count as failed, and how often
-//! an interrupted call is made again.
+//! an interrupted call is retried.
 
 ghost use Rattle.std.specs.Prelude.{◌≡◌, ◌-◌, ◌^◌, false};
 ghost use Rattle.hir_io.specs.StdEnd.{ReadMeans, WriteMeans};
@@ -7,7 +7,7 @@ ghost use Rattle.hir_io.specs.StdEnd.{ReadMeans, WriteMeans};
 use crate::ends::{EndFailed, Sink, Source};
 use std::io::{ErrorKind, Read, Result as IoResult, Write};
 
-/// How often in a row an interrupted call is made again.
+/// How often in a row an interrupted call is retried.
 const RETRIES: u32 = 1000;
 
 /// What the answer of one std call means for a source or a sink.
@@ -15,13 +15,13 @@ const RETRIES: u32 = 1000;
 pub enum Attempt {
     /// The call took so many bytes.
     Done(usize),
-    /// The call was interrupted, and may be made again.
+    /// The call was interrupted, and can be retried.
     Again,
     /// The call counts as failed.
     Failed,
 }
 
-/// What the answer of a std read means, where at most `left` bytes may still be read: more of them count as failed, and so does
+/// What the answer of a std read means, if at most `left` bytes may still be read: more of them count as failed, and so does
 /// each error but an interruption.
 pub fn read_attempt(answer: IoResult<usize>, left: u64) -> Attempt
     ensures { ReadMeans answer left result }
@@ -69,9 +69,9 @@ pub fn write_attempt(answer: IoResult<usize>, asked: usize) -> Attempt
 
 /// A reader or a writer of the standard library, as a source or a sink.
 ///
-/// An interrupted call is made again, at most 1,000 times in a row; one interruption more is a failed call. So is a read of more
-/// bytes than the number allows, which is at first the greatest `u64`, and a write that takes none of some bytes. Once a call has
-/// failed the end tells its bytes no more, since std doesn't say what an error leaves.
+/// An interrupted call is retried, at most 1,000 times in a row; one interruption more is a failed call. So is a read of more
+/// bytes than the allowance, which is at first the greatest `u64`, and a write that takes none of some bytes. Once a call has
+/// failed, the end no longer shows its bytes, since std doesn't say what an error leaves.
 #[derive(Drop)]
 pub struct StdEnd<T> {
     inner: T,

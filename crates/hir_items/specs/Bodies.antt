@@ -43,7 +43,7 @@ tops_of params root = map node.Pat (formals_of params) ++ node.Expr root ∷ []
 abbrev pub tops : BodyContents → List NodeId
 tops b = map node.Pat (formals_of b.params) ++ option_to_list (option_map node.Expr (last_root b.store))
 
--- the body reaches the node: it lies under a formal or under the last root
+-- the body reaches the node: it is under a formal or under the last root
 abbrev pub BodyReaches : BodyContents → NodeId → Type 0
 BodyReaches b n = Reached b.store.nodes (tops b) n
 
@@ -55,7 +55,7 @@ body_nodes b = reached_nodes b.store.nodes (tops b)
 abbrev pub AreBelow : ℕ → Param ℕ → Type 0
 AreBelow limit p = (p.formal < limit) × (p.user_written < limit)
 
--- a pattern of parameter i is not among so many patterns
+-- a pattern of parameter i is not among this many patterns
 abbrev pub range_fault : ℕ → List (Param ℕ) → ℕ → Option BodyFault → Type 0
 range_fault limit params i =
     ParamOutOfRange i
@@ -69,8 +69,8 @@ repeated_fault formals i = ParamRepeated i unless (Contains (take i formals) (sl
 abbrev pub under_fault : (NodeId → Type 0) → List ℕ → ℕ → Option BodyFault → Type 0
 under_fault IsUnder formals i = ParamUnder i unless (IsUnder (node.Pat (slice_index formals i)) → ⊥)
 
--- formals and the last root do not lie apart: a formal repeats, lies under another formal or the last root, or the last
--- root lies under a formal
+-- formals and the last root do not lie apart: a formal repeats, is under another formal or the last root, or the last
+-- root is under a formal
 unfoldable pub apart_fault : Nodes → List (Param ℕ) → ℕ → Option BodyFault → Type 0
 apart_fault s params root =
     first_below (length params) (repeated_fault (formals_of params))
@@ -95,7 +95,7 @@ body_fault b = fault_at_root b (last_root b.store)
 abbrev pub IsAnySelf : BodyContents → ℕ → Type 0
 IsAnySelf b id = (p : Param ℕ) × (b.self_param ≡ Some p) × ((p.formal ≡ id) ⊎ (p.user_written ≡ id))
 
--- the set has these nodes more, and no other
+-- the set gains these nodes, and no other
 abbrev pub GainsAll : Marked → List NodeId → Marked → Type 0
 GainsAll old added new =
     (new.sizes ≡ old.sizes)

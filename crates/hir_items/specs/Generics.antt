@@ -14,7 +14,7 @@ use Rattle.hir_generics.specs.declared.param.TypeOrConstParamData.{TypeOrConstPa
 use Rattle.hir_generics.specs.declared.param.TypeOrConstParamData.TheVariants.{TypeParamData, ConstParamData}
 use Rattle.hir_generics.specs.declared.predicate.WherePredicate.{WherePredicate}
 
--- the parameters that are types or constants, those that are lifetimes, and what is asked of them
+-- the parameters that are types or constants, those that are lifetimes, and the predicates on them
 pub record Generics : Type 0 where
   pub type_or_consts : List TypeOrConstParamData
   pub lifetimes : List LifetimeParamData

@@ -1,4 +1,4 @@
--- What is handed back of a body that is refused.
+-- What a refused body hands back.
 use Rattle.std.specs.Prelude.{ℕ, List, Option}
 use Rattle.hir_expr_store.specs.Contents.{Contents}
 use Rattle.hir_items.specs.declared.body.RefusedBody.{RefusedBody}

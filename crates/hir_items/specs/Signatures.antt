@@ -28,7 +28,7 @@ use Rattle.hir_items.specs.declared.signatures.PlainParts.{PlainParts}
 abbrev pub root_tops : Contents → List NodeId
 root_tops c = map node.Expr (root_nodes c.roots)
 
--- the signature reaches the node: it lies under a root
+-- the signature reaches the node: it is under a root
 abbrev pub SignatureReaches : Contents → NodeId → Type 0
 SignatureReaches c n = Reached c.nodes (root_tops c) n
 
@@ -69,7 +69,7 @@ generics_there s g =
 abbrev pub generics_name_paths : Nodes → Generics → Bool
 generics_name_paths s g = list_all (λ w. list_all (is_path_at s.types) (predicate_paths w)) g.predicates
 
--- an id isn't there, or else what is named as a path is none
+-- an id isn't there, or else what is named as a path isn't one
 unfoldable pub ids_fault : Bool → Bool → Option SignatureFault → Type 0
 ids_fault there paths = (IdOutOfRange unless IsTrue there) before (NotAPath unless IsTrue paths)
 

@@ -12,13 +12,13 @@ use hir_node::{BindingId, ExprId, PatId};
 use std::alloc::{AllocError, Global};
 use std::marker::Model;
 
-/// The body of a function, a constant, a static or an enum variant: what stands in its store, the patterns of its parameters and the
-/// binding of its `self`. It has no fault: there is a root, what the parameters name is there, and no formal and not the last root lies
-/// under another of them.
+/// The body of a function, a constant, a static or an enum variant: what is in its store, the patterns of its parameters and the
+/// binding of its `self`. It has no fault: there is a root, what the parameters name is there, and neither a formal nor the last
+/// root is under another of them.
 ///
 /// The last root is what the body evaluates to. Earlier roots are expressions in the patterns of parameters, whose types are inferred by
-/// themselves: in `fn f(Wrap::<{ 1 + 1 }>(x): Wrap<2>) -> u8 { x }` the roots are `{ 1 + 1 }`, which lies under the formal pattern, and
-/// then `{ x }`. A body is *reached* from its formals and its last root: an earlier root that lies under no formal isn't.
+/// themselves: in `fn f(Wrap::<{ 1 + 1 }>(x): Wrap<2>) -> u8 { x }` the roots are `{ 1 + 1 }`, which is under the formal pattern, and
+/// then `{ x }`. A body is *reached* from its formals and its last root: an earlier root that is under no formal isn't.
 #[derive(PartialEq, Eq)]
 pub struct Body {
     store: ExpressionStore,
@@ -26,7 +26,7 @@ pub struct Body {
     self_param: Option<Param<BindingId>>,
 }
 
-/// Its parts go one after the other. It stands here, so that it is proved once, and is a call wherever a value is dropped.
+/// Drops the parts one after the other. It is written out so that it is proved once, and each drop of a value calls it.
 impl Drop for Body {
     fn drop(self) {
         let Body {
@@ -103,7 +103,7 @@ impl UntestedBody {
         }
     }
 
-    /// What it was made of, handed back.
+    /// Hands the parts back with this fault.
     fn refused(self, fault: BodyFault) -> RefusedBody
         ensures { result ≡ refused_body fault self.store self.params self.self_param }
     {
@@ -122,8 +122,8 @@ impl UntestedBody {
 }
 
 impl Body {
-    /// The body of these parts where they have no fault. Else the first fault, or `Memory` where a growth was refused, and the parts as
-    /// they were.
+    /// Makes a body of these parts where they have no fault. Else answers the first fault, or `Memory` where a growth was refused, and
+    /// hands the parts back as they were.
     ///
     /// It takes time in the number of nodes and parameters, and doesn't recurse.
     pub fn new(

@@ -23,9 +23,9 @@ pub enum BodyFault {
     ParamOutOfRange(usize),
     /// The parameter's formal pattern is that of an earlier one.
     ParamRepeated(usize),
-    /// The parameter's formal pattern lies properly under another formal, or under the last root.
+    /// The parameter's formal pattern is properly under another formal, or under the last root.
     ParamUnder(usize),
-    /// The last root lies under a formal.
+    /// The last root is under a formal.
     RootInParam,
     /// Memory for the test was refused. It may come in place of any answer.
     Memory,
@@ -65,7 +65,7 @@ pub(crate) fn last_root(store: &ExpressionStore) -> Option<ExprId>
     store.expr_roots().next_back()
 }
 
-/// The first fault of formals that are there and of the last root: one that repeats, or lies under another.
+/// The first fault of formals that are there and of the last root: one that repeats, or is under another.
 fn first_meeting(
     alloc: Global,
     store: &ExpressionStore,

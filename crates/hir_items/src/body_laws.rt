@@ -1,6 +1,6 @@
-//! Laws of bodies that a reader relies on, and that no call's contract says.
-//! Each is a function that does nothing: its contract is the law. `Body::has_no_fault` and `ExpressionStore::has_no_fault` tell what
-//! they ask for. Where one follows from laws of stores, it calls these.
+//! Laws of bodies that a reader relies on, and that no call's contract states.
+//! Each is a function that does nothing: its contract is the law. `Body::has_no_fault` and `ExpressionStore::has_no_fault` give what
+//! they require. Where one follows from laws of stores, it calls these.
 
 ghost use Rattle.std.specs.Prelude.{◌≡◌, ◌≢◌, ◌⊎◌, ◌↔◌, Option, None, Contains};
 ghost use Rattle.std.specs.Bool.{Decides};
@@ -20,7 +20,7 @@ use hir_expr_store::laws::{
     under_two_is_under_one, what_is_reached_is_there,
 };
 
-/// The parts of a body have one first fault at most: a body is accepted exactly where there is none.
+/// The parts of a body have at most one first fault: a body is accepted exactly where there is none.
 pub fn first_body_fault_is_one()
     ensures { (b : BodyContents) (f g : Option BodyFault) → body_fault b f → body_fault b g → f ≡ g }
 {}
@@ -33,7 +33,7 @@ pub fn tops_are_there()
     roots_stand_apart();
 }
 
-/// The formals and the last root of a body lie apart: nothing lies under two of them.
+/// The formals and the last root of a body are apart: nothing is under two of them.
 pub fn tops_lie_apart()
     ensures { (b : BodyContents) → contents_fault b.store None → body_fault b None
         → LieApart b.store.nodes (tops b) }
@@ -51,8 +51,8 @@ pub fn what_a_body_reaches_is_there()
     what_is_reached_is_there();
 }
 
-/// What a body reaches is listed, and nothing else, each node once; so each node is reached or it isn't. By the list each sum and each
-/// count over what a body reaches is stated.
+/// `body_nodes` lists what a body reaches, and nothing else, each node once; so each node is reached or it isn't. Each sum and each
+/// count over what a body reaches is over this list.
 pub fn what_a_body_reaches_is_listed()
     ensures listed { (b : BodyContents) → contents_fault b.store None
         → (n : NodeId) → Contains (body_nodes b) n ↔ BodyReaches b n }
@@ -67,7 +67,8 @@ pub fn what_a_body_reaches_is_listed()
     reached_is_decided();
 }
 
-/// Source maps of bodies are equal exactly where the compared parts of their stores' source maps are the same, and where `self` stands.
+/// Source maps of bodies are equal exactly where the compared parts of their stores' source maps and the sources of
+/// `self` are the same.
 pub fn source_maps_are_compared_by_their_parts()
     ensures { (x y : BodySourceMap) → Decides (⟦<BodySourceMap as PartialEq>⟧.eq x y)
         ((compared x.store ≡ compared y.store) × (x.self_param_syntax ≡ y.self_param_syntax)) }

@@ -12,7 +12,7 @@ pub struct BodySourceMap {
     self_param_syntax: Option<InFile<SelfParamPtr>>,
 }
 
-/// Its parts go one after the other. It stands here, so that it is proved once, and is a call wherever a value is dropped.
+/// Drops the parts one after the other. It is written out so that it is proved once, and each drop of a value calls it.
 impl Drop for BodySourceMap {
     fn drop(self) {
         let BodySourceMap {
@@ -23,7 +23,7 @@ impl Drop for BodySourceMap {
 }
 
 impl BodySourceMap {
-    /// The source map of a body whose store has this one, and whose `self` stands there.
+    /// The source map of a body: that of its store, and the source of its `self`.
     pub fn new(
         store: ExpressionStoreSourceMap,
         self_param_syntax: Option<InFile<SelfParamPtr>>,
@@ -43,7 +43,7 @@ impl BodySourceMap {
         &self.store
     }
 
-    /// Where `self` stands, where there is one.
+    /// The source of `self`, where there is one.
     pub fn self_param_syntax(&self) -> Option<InFile<SelfParamPtr>>
         ensures { result ≡ self.now.self_param_syntax }
     {

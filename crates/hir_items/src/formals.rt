@@ -1,4 +1,4 @@
-//! Formal parameters, and the tests of them one by one.
+//! Formal parameters, and the tests of each.
 
 ghost use Rattle.std.specs.Prelude.{◌≡◌, ◌<◌, ◌↔◌, All, IfNone, IfSome, IsTrue, length, map};
 ghost use Rattle.hir_base.specs.Exact.{exact};
@@ -18,9 +18,9 @@ use hir_node::{BindingId, PatId};
 /// The two differ where a body copies its parameters into local variables, as that of an `async fn` does.
 #[derive(Clone, Copy, PartialEq, Eq)]
 pub struct Param<Id> {
-    /// The parameter itself: the id that the analysis of a body is about.
+    /// The parameter itself: the id that the analysis of a body uses.
     pub formal: Id,
-    /// What the user wrote: the id that an editor is about.
+    /// What the user wrote: the id that an editor uses.
     pub user_written: Id,
 }
 
@@ -64,7 +64,7 @@ pub(crate) fn first_out_of_range(
     None
 }
 
-/// Puts the formals into a set that has none of them. The fault is a formal that is in it already.
+/// Adds the formals to a set that has none of them. The fault is a formal that is in it already.
 pub(crate) fn add_formals(params: &[Param<PatId>], set: &mut NodeSet) -> Option<BodyFault>
     requires there { All (λ p. p.formal < set.old.sizes.pats) params.now }
     requires none { (n : NodeId) → IsIn set.old n → ⊥ }
@@ -80,7 +80,7 @@ pub(crate) fn add_formals(params: &[Param<PatId>], set: &mut NodeSet) -> Option<
     None
 }
 
-/// The first formal that is among the nodes that lie under others.
+/// The first formal that is among the nodes under others.
 pub(crate) fn first_under(params: &[Param<PatId>], under: &NodeSet) -> Option<BodyFault>
     requires there { All (λ p. p.formal < under.now.sizes.pats) params.now }
     ensures { first_below (length params.now) (under_fault (IsIn under.now) (formals_of params.now)) result }

@@ -1,4 +1,4 @@
-//! The generic parameters of a definition, and what its `where` clause asks of them.
+//! The generic parameters of a definition, and the predicates of its `where` clause.
 //! Early bound lifetimes are counted once, when the value is made.
 ghost use Rattle.std.specs.Prelude.{◌≡◌, ◌+◌, ◌<◌, ◌≤◌, [], ◌↔◌, IsTrue, length, slice_get, Some};
 ghost use Rattle.std.specs.List.{enumerate_from};
@@ -26,7 +26,7 @@ pub struct GenericParams {
     early_bound_lifetimes_len: usize,
 }
 
-/// Its parts go one after the other. It stands here, so that it is proved once, and is a call wherever a value is dropped.
+/// Drops the parts one after the other. It is written out so that it is proved once, and each drop of a value calls it.
 impl Drop for GenericParams {
     fn drop(self) {
         let GenericParams {
@@ -87,7 +87,7 @@ fn is_const_named(param: &TypeOrConstParamData, name: &Name) -> bool
 }
 
 impl GenericParams {
-    /// These parameters and predicates. The early bound among the lifetimes are counted, in one pass.
+    /// Makes generic parameters of these lists. It counts the early bound lifetimes, in one pass.
     pub fn new(
         type_or_consts: Arena<TypeOrConstParamKind, TypeOrConstParamData>,
         lifetimes: Arena<LifetimeParamKind, LifetimeParamData>,
@@ -205,28 +205,28 @@ impl GenericParams {
         self.where_predicates.as_slice()
     }
 
-    /// The types and constants with their ids, in their order. It can be taken from both ends.
+    /// The types and constants with their ids, in their order. The iterator is double-ended.
     pub fn iter_type_or_consts(&self) -> ArenaIter<'_, TypeOrConstParamKind, TypeOrConstParamData>
         ensures { result ≡ enumerate_from 0 self.now.type_or_consts }
     {
         self.type_or_consts.iter()
     }
 
-    /// The lifetimes with their ids, in their order. It can be taken from both ends.
+    /// The lifetimes with their ids, in their order. The iterator is double-ended.
     pub fn iter_lt(&self) -> ArenaIter<'_, LifetimeParamKind, LifetimeParamData>
         ensures { result ≡ enumerate_from 0 self.now.lifetimes }
     {
         self.lifetimes.iter()
     }
 
-    /// The early bound lifetimes with their ids, in their order. It can be taken from both ends.
+    /// The early bound lifetimes with their ids, in their order. The iterator is double-ended.
     pub fn iter_early_bound_lt(&self) -> BoundLifetimes<'_>
         ensures { result ≡ entries_bound EarlyBound self.now.lifetimes }
     {
         BoundLifetimes::new(&self.lifetimes, LifetimeBoundType::EarlyBound)
     }
 
-    /// The late bound lifetimes with their ids, in their order. It can be taken from both ends.
+    /// The late bound lifetimes with their ids, in their order. The iterator is double-ended.
     pub fn iter_late_bound_lt(&self) -> BoundLifetimes<'_>
         ensures { result ≡ entries_bound LateBound self.now.lifetimes }
     {
@@ -275,7 +275,7 @@ impl GenericParams {
         None
     }
 
-    /// The id of the `Self` of a trait, which has no other name than its place: parameter 0, where that is one.
+    /// The id of the `Self` of a trait, which only its place names: parameter 0, where that is `Self`.
     pub fn trait_self_param(&self) -> Option<LocalTypeOrConstParamId>
         ensures { result ≡ self_of_trait self.now.type_or_consts }
     {
@@ -294,8 +294,8 @@ impl GenericParams {
         LocalTypeOrConstParamId::from_raw(0)
     }
 
-    /// How many earlier lifetimes are bound as the one with this id is, and whether it is late bound. None where no lifetime has
-    /// the id.
+    /// How many earlier lifetimes are bound as the one with this id is, and whether it is late bound. `None` where no lifetime
+    /// has the id.
     ///
     /// Early bound and late bound lifetimes are numbered apart. This takes time in the number of earlier lifetimes.
     pub fn lifetime_param_idx(

@@ -1,4 +1,4 @@
-//! The generic parameters of a definition, and its body, looked up in what keeps them.
+//! Looks up the generic parameters and the body of a definition.
 
 ghost use Rattle.std.specs.Prelude.{◌≡◌, Option, None, Some, IfOk, IfErr};
 ghost use Rattle.std.specs.Option.{option_map};
@@ -24,14 +24,14 @@ pub type SignatureEntry<'a> = (
 /// The body of a definition, and where it comes from.
 pub type BodyEntry<'a> = (&'a Body, &'a BodySourceMap);
 
-/// What keeps the signatures of definitions.
+/// Holds the signatures of definitions.
 pub trait Signatures {
-    // what is kept of a definition
+    // what is held for a definition
     ghost signed: { Self → GenericDefId → Option Signed };
 
     /// The generic parameters of the definition, the store that they name, and where that comes from.
     ///
-    /// Answers `Missing::Signature` of the definition where there is no signature of it.
+    /// Answers `Missing::Signature` of the definition where it has no signature.
     fn signature_of(&self, def: GenericDefId) -> Result<SignatureEntry<'_>, Missing>
         ensures found { IfOk result (λ found.
             signed self.now def ≡ Some (found.0.now, found.1.now, found.2.now)) }
@@ -39,14 +39,14 @@ pub trait Signatures {
             (absent ≡ missing.Signature def) × (signed self.now def ≡ None)) };
 }
 
-/// What keeps the bodies of definitions.
+/// Holds the bodies of definitions.
 pub trait Bodies {
-    // what is kept of a definition
+    // what is held for a definition
     ghost embodied: { Self → DefWithBodyId → Option Embodied };
 
     /// The body of the definition, and where it comes from.
     ///
-    /// Answers `Missing::Body` of the definition where there is none of it.
+    /// Answers `Missing::Body` of the definition where it has no body.
     fn body_of(&self, def: DefWithBodyId) -> Result<BodyEntry<'_>, Missing>
         ensures found { IfOk result (λ found. embodied self.now def ≡ Some (found.0.now, found.1.now)) }
         ensures absent { IfErr result (λ absent.
@@ -57,7 +57,7 @@ pub trait Bodies {
 impl GenericParams {
     /// The parameters of the definition.
     ///
-    /// Answers `Missing::Signature` of the definition where there is no signature of it.
+    /// Answers `Missing::Signature` of the definition where it has no signature.
     pub fn of<T: Signatures>(tables: &T, def: GenericDefId) -> Result<&GenericParams, Missing>
         ensures found { IfOk result (λ found.
             option_map (λ entry. entry.0) (T.signed tables.now def) ≡ Some found.now) }
@@ -70,7 +70,7 @@ impl GenericParams {
 
     /// The parameters of the definition, and the store that they name.
     ///
-    /// Answers `Missing::Signature` of the definition where there is no signature of it.
+    /// Answers `Missing::Signature` of the definition where it has no signature.
     pub fn with_store<T: Signatures>(
         tables: &T,
         def: GenericDefId,
@@ -86,7 +86,7 @@ impl GenericParams {
 
     /// The parameters of the definition, the store that they name, and where that comes from.
     ///
-    /// Answers `Missing::Signature` of the definition where there is no signature of it.
+    /// Answers `Missing::Signature` of the definition where it has no signature.
     pub fn with_source_map<T: Signatures>(
         tables: &T,
         def: GenericDefId,
@@ -104,7 +104,7 @@ impl GenericParams {
 impl Body {
     /// The body of the definition.
     ///
-    /// Answers `Missing::Body` of the definition where there is none of it.
+    /// Answers `Missing::Body` of the definition where it has no body.
     pub fn of<T: Bodies>(tables: &T, def: DefWithBodyId) -> Result<&Body, Missing>
         ensures found { IfOk result (λ found.
             option_map (λ entry. entry.0) (T.embodied tables.now def) ≡ Some found.now) }
@@ -117,7 +117,7 @@ impl Body {
 
     /// The body of the definition, and where it comes from.
     ///
-    /// Answers `Missing::Body` of the definition where there is none of it.
+    /// Answers `Missing::Body` of the definition where it has no body.
     pub fn with_source_map<T: Bodies>(
         tables: &T,
         def: DefWithBodyId,

@@ -30,7 +30,7 @@ fn has_lifetime(store: &ExpressionStore, id: LifetimeRefId) -> bool
     store.has_lifetime(id)
 }
 
-/// Whether the type is there, if there is one to ask for.
+/// Whether the type, if any, is there.
 pub(crate) fn has_type_opt(store: &ExpressionStore, id: Option<TypeRefId>) -> bool
     ensures { result ≡ all_there store.now.nodes (opt t id) }
 {
@@ -40,7 +40,7 @@ pub(crate) fn has_type_opt(store: &ExpressionStore, id: Option<TypeRefId>) -> bo
     }
 }
 
-/// Whether the expression is there, if there is one to ask for.
+/// Whether the expression, if any, is there.
 fn has_expr_opt(store: &ExpressionStore, id: Option<ExprId>) -> bool
     ensures { result ≡ all_there store.now.nodes (opt a id) }
 {

@@ -10,9 +10,9 @@ use std::fmt::{self, Display};
 pub enum SignatureFault {
     /// An id of the lists, the return type, the parameters or the predicates isn't in the store.
     IdOutOfRange,
-    /// A bound of a predicate names as a path a type that is none.
+    /// A bound of a predicate names as a path a type that isn't one.
     NotAPath,
-    /// Memory was refused. The tests take none, so no maker answers it.
+    /// Memory was refused. The tests take none, so no constructor answers it.
     Memory,
 }
 
@@ -48,7 +48,7 @@ pub struct RefusedSignature<P> {
     pub parts: P,
 }
 
-/// The first fault, where it is known whether all ids are there, and whether what is named as a path is one.
+/// The first fault, by whether all ids are there and whether what is named as a path is one.
 pub(crate) fn ids_fault(there: bool, paths: bool) -> Option<SignatureFault>
     ensures { ids_fault there paths result }
 {

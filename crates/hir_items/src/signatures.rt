@@ -26,7 +26,7 @@ impl ExactEq for FieldsShape {
     ghost eq_decides = { shapes_decide };
 }
 
-/// From where a field may be seen.
+/// Where a field is visible.
 #[derive(Drop, PartialEq, Eq)]
 pub enum RawVisibility {
     /// `pub(in path)`, or private: from this module.
@@ -53,7 +53,7 @@ pub struct FieldData {
     pub visibility: RawVisibility,
     /// Whether it is an `unsafe` field.
     pub is_unsafe: bool,
-    /// What it is where a record literal leaves it out.
+    /// Its default where a record literal leaves it out.
     pub default_value: Option<ExprId>,
 }
 
@@ -63,7 +63,7 @@ impl ExactEq for FieldData {
     ghost eq_decides = { fields_decide };
 }
 
-/// What the signature of a function is made of.
+/// The parts of the signature of a function.
 #[derive(Drop, PartialEq, Eq)]
 pub struct FunctionParts {
     /// Its name.
@@ -86,7 +86,7 @@ pub struct FunctionParts {
     pub is_unsafe: bool,
     /// Whether it is written `safe`.
     pub is_explicit_safe: bool,
-    /// The places of the arguments that are given to constant parameters, where there are such.
+    /// The places of the arguments for constant parameters, where there are any.
     pub legacy_const_indices: Option<Seq<u32>>,
 }
 
@@ -116,7 +116,7 @@ pub struct FunctionSignature {
     function: FunctionParts,
 }
 
-/// Its parts go one after the other. It stands here, so that it is proved once, and is a call wherever a value is dropped.
+/// Drops the parts one after the other. It is written out so that it is proved once, and each drop of a value calls it.
 impl Drop for FunctionSignature {
     fn drop(self) {
         let FunctionSignature { function } = self;
@@ -149,7 +149,7 @@ impl Model for FunctionSignature {
 }
 
 impl FunctionSignature {
-    /// The signature of these parts. Else their first fault, and the parts as they were. It takes no memory.
+    /// Makes a signature of these parts, or answers their first fault and the parts as they were. It takes no memory.
     pub fn new(parts: FunctionParts) -> Result<FunctionSignature, RefusedSignature<FunctionParts>>
         ensures ok { IfOk result (λ made. (made ≡ parts) × function_fault parts None) }
         ensures err { IfErr result (λ refused.
@@ -231,7 +231,7 @@ impl FunctionSignature {
         self.function.is_explicit_safe
     }
 
-    /// The places of the arguments that are given to constant parameters, where there are such.
+    /// The places of the arguments for constant parameters, where there are any.
     pub fn legacy_const_indices(&self) -> Option<&[u32]>
         ensures { option_map (λ list. list.now) result ≡ self.now.legacy_const_indices }
     {
@@ -240,7 +240,7 @@ impl FunctionSignature {
     }
 }
 
-/// What the signature of a struct is made of.
+/// The parts of the signature of a struct.
 #[derive(Drop, PartialEq, Eq)]
 pub struct StructParts {
     /// Its name.
@@ -279,7 +279,7 @@ pub struct StructSignature {
     structure: StructParts,
 }
 
-/// Its parts go one after the other. It stands here, so that it is proved once, and is a call wherever a value is dropped.
+/// Drops the parts one after the other. It is written out so that it is proved once, and each drop of a value calls it.
 impl Drop for StructSignature {
     fn drop(self) {
         let StructSignature { structure } = self;
@@ -312,7 +312,7 @@ impl Model for StructSignature {
 }
 
 impl StructSignature {
-    /// The signature of these parts. Else their first fault, and the parts as they were. It takes no memory.
+    /// Makes a signature of these parts, or answers their first fault and the parts as they were. It takes no memory.
     pub fn new(parts: StructParts) -> Result<StructSignature, RefusedSignature<StructParts>>
         ensures ok { IfOk result (λ made. (made ≡ parts) × struct_fault parts None) }
         ensures err { IfErr result (λ refused.
@@ -360,7 +360,7 @@ impl StructSignature {
     }
 }
 
-/// What the signature of a struct, a union or a variant of an enum, as its fields is made of.
+/// The parts of the fields of a struct, a union or a variant of an enum.
 #[derive(Drop, PartialEq, Eq)]
 pub struct VariantParts {
     /// How the fields are written.
@@ -386,13 +386,13 @@ impl VariantParts {
     }
 }
 
-/// The signature of a struct, a union or a variant of an enum, as its fields.
+/// The fields of a struct, a union or a variant of an enum.
 #[derive(PartialEq, Eq)]
 pub struct VariantFields {
     variant: VariantParts,
 }
 
-/// Its parts go one after the other. It stands here, so that it is proved once, and is a call wherever a value is dropped.
+/// Drops the parts one after the other. It is written out so that it is proved once, and each drop of a value calls it.
 impl Drop for VariantFields {
     fn drop(self) {
         let VariantFields { variant } = self;
@@ -425,7 +425,7 @@ impl Model for VariantFields {
 }
 
 impl VariantFields {
-    /// The signature of these parts. Else their first fault, and the parts as they were. It takes no memory.
+    /// Makes a signature of these parts, or answers their first fault and the parts as they were. It takes no memory.
     pub fn new(parts: VariantParts) -> Result<VariantFields, RefusedSignature<VariantParts>>
         ensures ok { IfOk result (λ made. (made ≡ parts) × fields_fault parts None) }
         ensures err { IfErr result (λ refused.
@@ -459,7 +459,7 @@ impl VariantFields {
     }
 }
 
-/// What the signature of a definition of which only the generic parameters are kept is made of.
+/// The parts of a signature that keeps only the generic parameters of a definition.
 #[derive(Drop, PartialEq, Eq)]
 pub struct PlainParts {
     /// Its generic parameters.
@@ -486,13 +486,13 @@ impl PlainParts {
     }
 }
 
-/// The signature of a definition of which only the generic parameters are kept.
+/// The signature of a definition, with only its generic parameters.
 #[derive(PartialEq, Eq)]
 pub struct PlainSignature {
     plain: PlainParts,
 }
 
-/// Its parts go one after the other. It stands here, so that it is proved once, and is a call wherever a value is dropped.
+/// Drops the parts one after the other. It is written out so that it is proved once, and each drop of a value calls it.
 impl Drop for PlainSignature {
     fn drop(self) {
         let PlainSignature { plain } = self;
@@ -525,7 +525,7 @@ impl Model for PlainSignature {
 }
 
 impl PlainSignature {
-    /// The signature of these parts. Else their first fault, and the parts as they were. It takes no memory.
+    /// Makes a signature of these parts, or answers their first fault and the parts as they were. It takes no memory.
     pub fn new(parts: PlainParts) -> Result<PlainSignature, RefusedSignature<PlainParts>>
         ensures ok { IfOk result (λ made. (made ≡ parts) × plain_fault parts None) }
         ensures err { IfErr result (λ refused.

@@ -1,4 +1,4 @@
--- The arms of a match and the statements of a block. Each is one word, whose parts are parted by colons.
+-- The arms of a match and the statements of a block. Each is one word, whose parts are separated by colons.
 use Rattle.std.specs.Prelude.{ℕ, true, false, List, [], ◌∷◌, Option, codes}
 use Rattle.hir_node.specs.declared.expr_types.MatchArm.{MatchArm}
 use Rattle.hir_node.specs.declared.expr_types.Statement.{Statement}

@@ -93,7 +93,7 @@ match_expr = do
   arms ← each arm_of
   gives (Match expr arms)
 
--- the types of arguments that have none
+-- no type for each argument
 abbrev pub untyped : List ℕ → List (Option ℕ)
 untyped args = map (λ _. None) args
 

@@ -156,7 +156,7 @@ abbrev pub or_bad : Option Line → Line
 or_bad None = Bad
 or_bad (Some line) = line
 
--- what a line says; its words are parted by one space each
+-- what a line says; its words have one space between them
 unfoldable pub line_of : List ℕ → Line
 line_of [] = Blank
 line_of (b ∷ bs) = or_bad (whole command (parts_of space (b ∷ bs)))

@@ -1,4 +1,4 @@
--- Keywords and names, as they stand in a line.
+-- Keywords and names, as they are written in a line.
 use Rattle.std.specs.Prelude.{ℕ, Bool, not, ◌&&◌, ◌||◌, eqb, nat_le, if◌then◌else◌, List, Option, None, Some, length, slice_index}
 use Rattle.std.specs.Char.{is_ascii}
 use Rattle.std.specs.List.{list_all}

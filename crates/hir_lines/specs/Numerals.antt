@@ -1,15 +1,15 @@
--- Numbers, as they stand in a line.
+-- Numbers, as they are written in a line.
 use Rattle.std.specs.Prelude.{ℕ, ◌+◌, ◌-◌, ◌*◌, ◌^◌, ℤ, pos, neg_ℤ, Bool, not, ◌&&◌, eqb, nat_lt, nat_le, if◌then◌else◌, List, Option, None, Some, fold, length, drop, slice_index}
 use Rattle.std.specs.List.{list_all, prefix_len}
 
 abbrev pub is_digit : ℕ → Bool
 is_digit b = nat_le 48 b && nat_le b 57
 
--- how many digits stand in front
+-- how many leading digits there are
 abbrev pub digits_len : List ℕ → ℕ
 digits_len text = prefix_len is_digit text
 
--- what digits stand for
+-- the value of digits
 abbrev pub value : List ℕ → ℕ
 value digits = fold (λ n b. 10 * n + (b - 48)) 0 digits
 
@@ -17,7 +17,7 @@ value digits = fold (λ n b. 10 * n + (b - 48)) 0 digits
 abbrev pub has_needless_zero : List ℕ → Bool
 has_needless_zero text = nat_lt 1 (length text) && eqb (slice_index text 0) 48
 
--- one digit or more, and no needless zero
+-- one digit or more, and no leading zero
 abbrev pub is_numeral : List ℕ → Bool
 is_numeral text = not (eqb (length text) 0) && (not (has_needless_zero text) && list_all is_digit text)
 

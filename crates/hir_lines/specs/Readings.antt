@@ -7,7 +7,7 @@ use Rattle.std.specs.Borrow.{Bor}
 use Rattle.hir_lines.specs.declared.stop.Stop.{Stop}
 use Rattle.hir_lines.specs.declared.stop.Stop.TheVariants.{Bad}
 
--- what parts the words of a line, the parts of an arm or a statement, and the numbers of a list
+-- the separators of the words of a line, the parts of an arm or a statement, and the numbers of a list
 abbrev pub space : ℕ
 space = 32
 
@@ -20,7 +20,7 @@ comma = 44
 abbrev pub is_byte : ℕ → ℕ → Bool
 is_byte c b = eqb b c
 
--- the parts of a text, parted by one separator each
+-- the parts of a text, between its separators
 abbrev pub parts_of : ℕ → List ℕ → List (List ℕ)
 parts_of separator text = slice_split (is_byte separator) text
 
@@ -46,7 +46,7 @@ abbrev pub first_word : {X : Type 0} → (List ℕ → Option X) → Reading X
 first_word read [] = None
 first_word read (word ∷ words) = option_map (λ x. (x, words)) (read word)
 
--- what stands beside the word, in a table of words
+-- the entry of the word in a table of words
 abbrev pub look_up : {X : Type 0} → List (List ℕ × X) → List ℕ → Option X
 look_up [] word = None
 look_up (entry ∷ entries) word = if bytes_eq word entry.0 then Some entry.1 else look_up entries word

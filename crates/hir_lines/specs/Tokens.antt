@@ -33,7 +33,7 @@ abbrev pub IsOptional : Option ℕ → List ℕ → Type 0
 IsOptional None word = word ≡ codes "-"
 IsOptional (Some n) word = IsNumber n word
 
--- numbers parted by commas, or a dash for none
+-- numbers separated by commas, or a dash for none
 abbrev pub IsNumbers : List ℕ → List ℕ → Type 0
 IsNumbers [] word = word ≡ codes "-"
 IsNumbers (n ∷ ns) word =
@@ -43,7 +43,7 @@ IsNumbers (n ∷ ns) word =
 abbrev pub IsInteger : ℤ → List ℕ → Type 0
 IsInteger z word = FitsSigned w128 z × ((word ≡ signed_decimal z) ⊎ ((z ≡ pos 0) × (word ≡ codes "-0")))
 
--- the parts of an arm or a statement, parted by colons
+-- the parts of an arm or a statement, separated by colons
 abbrev pub colons : List (List ℕ) → List ℕ
 colons parts = join_with_byte colon parts
 
@@ -76,7 +76,7 @@ IsWord (Operator op) word = word ≡ op_text op
 IsWord (Arm arm) word = IsArm arm word
 IsWord (Stmt statement) word = IsStatement statement word
 
--- the text of words that say this, parted by one space each
+-- the text of words that say this, with one space between them
 abbrev pub IsText : List Token → List ℕ → Type 0
 IsText tokens text =
     (words : List (List ℕ)) × AllZip IsWord tokens words × (text ≡ join_with_byte space words)

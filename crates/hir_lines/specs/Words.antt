@@ -18,7 +18,7 @@ use Rattle.hir_lines.specs.Readings.{Reading, ◌>>=◌, gives, first_word, look
 unfoldable pub optional_of : List ℕ → Option (Option ℕ)
 optional_of word = if bytes_eq word (codes "-") then Some None else option_map (λ n. Some n) (number_of word)
 
--- numbers parted by commas, or a dash for none
+-- numbers separated by commas, or a dash for none
 unfoldable pub list_of : List ℕ → Option (List ℕ)
 list_of word = if bytes_eq word (codes "-") then Some [] else all_of number_of (parts_of comma word)
 

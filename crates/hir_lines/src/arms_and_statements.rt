@@ -1,4 +1,4 @@
-//! The arms of a match and the statements of a block: each is one word, whose parts are parted by colons.
+//! The arms of a match and the statements of a block: each is one word, whose parts are separated by colons.
 
 ghost use Rattle.hir_lines.specs.Readings.{Reads, Found};
 ghost use Rattle.hir_lines.specs.ArmsAndStatements.{arm_of, statement_of};

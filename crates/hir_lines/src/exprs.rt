@@ -158,7 +158,7 @@ fn closure(alloc: Global, words: &mut Words<'_>) -> Result<Expr, Stop>
     })
 }
 
-/// The types of arguments that have none.
+/// No type for each argument.
 fn untyped(alloc: Global, args: &[PatId]) -> Result<Seq<Option<TypeRefId>>, AllocError>
     ensures { IfOk result (λ types. types ≡ untyped args.now) }
 {

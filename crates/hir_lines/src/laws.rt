@@ -5,18 +5,18 @@ ghost use Rattle.hir_lines.specs.declared.line.Line.{Line};
 ghost use Rattle.hir_lines.specs.Grammar.{IsLine};
 ghost use Rattle.hir_lines.specs.Line.{line_of};
 
-/// A text is one line at most, but for a bad line, which is any text.
+/// A text is at most one line, except that a bad line may be any text.
 pub fn line_is_one()
     ensures { (text : List ℕ) (line other : Line) → line ≢ Line.Bad → other ≢ Line.Bad → IsLine line text →
         IsLine other text → line ≡ other }
 {}
 
-/// What a text says is written so.
+/// The line that a text says is written as that text.
 pub fn said_is_written()
     ensures { (text : List ℕ) → IsLine (line_of text) text }
 {}
 
-/// What is written as a line says that line.
+/// A text that a line is written as says that line.
 pub fn written_is_said()
     ensures { (text : List ℕ) (line : Line) → line ≢ Line.Bad → IsLine line text → line_of text ≡ line }
 {}

@@ -1,5 +1,5 @@
 //! The lines that the program knows: how each is written, and what it says.
-//! Lines are words parted by one space; what a form of words makes is one short function of takes from the words.
+//! A line is words separated by one space; each form of words is one short function, which takes the words one by one.
 #![tactic(auto)]
 
 mod arms_and_statements;

@@ -23,7 +23,7 @@ pub enum Maker {
     Param(PatId),
     /// `fn NAME`: the name of the function.
     FnName(Name),
-    /// `roots`: a list of roots is begun, where there is none.
+    /// `roots`: begins the list of roots, where there is no list yet.
     Roots,
     /// `root E`: one more root.
     Root(ExprId),
@@ -35,7 +35,7 @@ impl ExactEq for Maker {
     ghost eq_decides = { makers_decide };
 }
 
-/// What is asked of a store alone.
+/// A question on a store alone.
 #[derive(Clone, Copy, PartialEq, Eq)]
 pub enum StoreQuestion {
     /// `children E`: the child expressions.
@@ -48,7 +48,7 @@ impl ExactEq for StoreQuestion {
     ghost eq_decides = { Prim.search exact };
 }
 
-/// What is asked of the body of a store.
+/// A question on the body of a store.
 #[derive(Drop, PartialEq, Eq)]
 pub enum BodyQuestion {
     /// `chain E`: the names that the expression sees, innermost first.

@@ -1,4 +1,4 @@
-//! Keywords and names as they stand in a line.
+//! Keywords and names as they are written in a line.
 
 ghost use Rattle.std.specs.Prelude.{◌≡◌, IfSome, IfNone, true, false};
 ghost use Rattle.std.specs.List.{list_all};

@@ -1,4 +1,4 @@
-//! Numbers as they stand in a line.
+//! Numbers as they are written in a line.
 
 ghost use Rattle.std.specs.Prelude.{None, Some, ◌≡◌, ◌^◌, IfSome, IfNone, MatchOption, take, false};
 ghost use Rattle.std.specs.List.{list_all};
@@ -6,7 +6,7 @@ ghost use Rattle.hir_lines.specs.Numerals.{number_of, int_of, has_minus, without
 ghost use Rattle.hir_lines.specs.Readings.{parts_of, parts_left};
 ghost use Rattle.hir_lines.specs.Words.{number};
 
-/// What the digits in front stand for, if it is below 2 ^ 32, and how many they are.
+/// The value of the leading digits, if it is below 2 ^ 32, and how many they are.
 fn leading_digits(text: &[u8]) -> Option<(u32, usize)>
     ensures some { IfSome result
         (λ found. (found.1 ≡ digits_len text.now)
@@ -23,7 +23,7 @@ fn leading_digits(text: &[u8]) -> Option<(u32, usize)>
     Some((value, end))
 }
 
-/// Whether a zero stands before another byte.
+/// Whether the text is a zero before another byte.
 fn has_needless_zero(text: &[u8]) -> bool
     ensures { result ≡ has_needless_zero text.now }
 {
@@ -36,14 +36,14 @@ fn are_digits(text: &[u8]) -> bool
     text.iter().all(|b| b.is_ascii_digit())
 }
 
-/// Whether the text is one digit or more, without a needless zero.
+/// Whether the text is one digit or more, without a leading zero.
 fn is_numeral(text: &[u8]) -> bool
     ensures { result ≡ is_numeral text.now }
 {
     !text.is_empty() && !has_needless_zero(text) && are_digits(text)
 }
 
-/// The number that the digits in front are, and how many they are.
+/// The number that the leading digits are, and how many they are.
 fn leading_number(text: &[u8]) -> Option<(u32, usize)>
     ensures some { IfSome result
         (λ found. (found.1 ≡ digits_len text.now) × (number_of (take found.1 text.now) ≡ Some found.0)) }
@@ -74,7 +74,7 @@ fn has_minus(text: &[u8]) -> bool
     !text.is_empty() && text[0] == b'-'
 }
 
-/// What stands behind a minus, where there is one.
+/// The text after a minus, where there is one.
 fn without_minus(text: &[u8]) -> &[u8]
     ensures { result.now ≡ without_minus text.now }
 {

@@ -1,4 +1,4 @@
-//! Operators as they stand in a line.
+//! Operators as they are written in a line.
 
 ghost use Rattle.std.specs.Prelude.{◌≡◌};
 ghost use Rattle.hir_lines.specs.Operators.{op_of};

@@ -2,7 +2,7 @@
 
 use std::alloc::{AllocError, AllocFailed};
 
-/// Why a line isn't read on.
+/// Why the reading of a line stops.
 #[derive(Drop)]
 pub enum Stop {
     /// No line has these words.

@@ -14,7 +14,7 @@ use hir_node::Path;
 use std::alloc::Global;
 use std::marker::Model;
 
-/// The parts of a text that are left, parted by one byte.
+/// The parts of a text that are left, separated by one byte.
 #[derive(Drop)]
 pub struct Words<'a> {
     rest: Option<&'a [u8]>,
@@ -34,7 +34,7 @@ impl<'a> Model for Words<'a> {
 }
 
 impl<'a> Words<'a> {
-    /// The parts of a text, parted by one separator each.
+    /// The parts of a text, between its separators.
     pub fn new(text: &'a [u8], separator: u8) -> Words<'a>
         requires { is_digit separator ≡ false }
         ensures { result ≡ parts_of separator text.now }
@@ -215,7 +215,7 @@ pub trait Word: Sized {
 
     ghost said: { List ℕ → Option Self };
 
-    /// Takes the next word, if it says such a thing.
+    /// Takes the next word, if it says a value of this type.
     fn take(words: &mut Words<'_>) -> Result<Self, Stop>
         ensures { Reads (first_word said) words.old result words.new };
 }
@@ -230,7 +230,7 @@ impl<K> Word for Idx<K> {
     }
 }
 
-/// Takes all the words that are left, if each says such a thing.
+/// Takes all the words that are left, if each says a value of this type.
 pub fn each<T: Word + Drop>(alloc: Global, words: &mut Words<'_>) -> Result<Seq<T>, Stop>
     ensures { Reads (each T.said) words.old result words.new }
 {

@@ -1,5 +1,5 @@
 -- The child calls of a node: what a visitor is called with, in which order. One clause a variant. An absent part gives no call.
--- From them come the kids of a node, and beside them stand the other ids that a node names.
+-- The kids of a node come from them. The other ids that a node names are in `OtherIds`.
 use Rattle.std.specs.Prelude.{ℕ, List, [], ◌∷◌, ◌++◌, Option, Some, None}
 use Rattle.std.specs.List.{flat_map}
 use Rattle.hir_path.specs.declared.bound.TypeBound.{TypeBound}
@@ -77,11 +77,11 @@ arg_calls (arg.Ty id) = t id
 arg_calls (arg.Lifetime id) = l id
 arg_calls (arg.Const constant) = a constant.expr
 
--- an associated type binding, where the calls of its own arguments stand in their place: these, its type, its bounds
+-- an associated type binding, with calls in place of its own arguments: these, its type, its bounds
 abbrev pub binding_layer : AssociatedTypeBinding-F (List Call) (List Call) → List Call
 binding_layer b = opt (λ calls. calls) b.args ++ opt t b.type_ref ++ flat_map bound_calls b.bounds
 
--- generic arguments, where the calls of each binding stand in its place: each argument, then each binding
+-- generic arguments, with calls in place of each binding: each argument, then each binding
 abbrev pub args_layer : GenericArgs-F (List Call) (List Call) → List Call
 args_layer x = flat_map arg_calls x.args ++ flat_map (λ calls. calls) x.bindings
 
@@ -103,7 +103,7 @@ path_calls (path.BarePath mod_path) = []
 path_calls (path.Normal normal) = normal_path_calls normal
 path_calls (path.LangItem target name) = []
 
--- what stands after the fields of a record literal
+-- what comes after the fields of a record literal
 abbrev pub spread_calls : RecordSpread → List Call
 spread_calls spread.None = []
 spread_calls spread.FieldDefaults = []

@@ -1,4 +1,4 @@
--- The words that mutability is written by.
+-- The keywords of mutability.
 use Rattle.std.specs.Prelude.{ℕ, List, codes}
 use Rattle.hir_node.specs.declared.type_ref.Mutability.{Mutability}
 use Rattle.hir_node.specs.declared.type_ref.Mutability.TheVariants.{Shared, Mut}

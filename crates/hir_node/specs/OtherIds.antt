@@ -1,4 +1,4 @@
--- The ids that a node names and that are no child calls: the binding of a pattern, and the label of an expression.
+-- The ids that a node names and that aren't child calls: the binding of a pattern, and the label of an expression.
 use Rattle.std.specs.Prelude.{ℕ, List, [], ◌∷◌}
 use Rattle.std.specs.Option.{option_to_list}
 use Rattle.hir_node.specs.declared.pat.Pat.{Pat}

@@ -80,7 +80,7 @@ pub struct Binding {
     pub name: Name,
     pub mode: BindingAnnotation,
     pub problems: Option<BindingProblems>,
-    /// Which macro expansion, if any, its name was written by.
+    /// The macro expansion, if any, that wrote its name.
     pub hygiene: HygieneId,
 }
 

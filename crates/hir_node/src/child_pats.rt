@@ -1,4 +1,4 @@
-//! The child patterns of a pattern, one after another: they are listed here, and nowhere else in the code.
+//! An iterator over the child patterns of a pattern: the code lists them here, and nowhere else.
 ghost use Rattle.std.specs.Prelude.{◌≡◌, ⊤};
 ghost use Rattle.std.specs.Iterator.{YieldsFirst, item_count};
 
@@ -8,9 +8,9 @@ use std::alloc::AllocError;
 use std::iter::FusedIterator;
 use std::marker::Model;
 
-/// The child patterns of a pattern, seen as the list of those that are left.
+/// An iterator over the child patterns of a pattern. A contract sees it as the list of those that are left.
 ///
-/// What a pattern holds is yielded in this order: a list, the fields of a record, one pattern, another list. Each may be empty.
+/// It yields what a pattern holds in this order: a list, the fields of a record, one pattern, another list. Each may be empty.
 #[derive(Drop)]
 pub struct ChildPats<'a> {
     front: &'a [PatId],
@@ -84,7 +84,7 @@ impl Pat {
             middle: None,
             back: &[],
         };
-        // Each field is named, so that a new one is looked at.
+        // Each field is named, so that a new one can't be overlooked.
         match self {
             Pat::Missing | Pat::Rest | Pat::Wild | Pat::NotNull => {}
             Pat::Range {

@@ -14,7 +14,7 @@ use hir_path::Boxed;
 
 impl Expr {
     /// Calls the visitor with each child, in the order of the child calls.
-    // One arm a variant: split, the function would name variants twice. Each field is named, so that a new one is looked at.
+    // One arm a variant: split, the function would name variants twice. Each field is named, so that a new one can't be overlooked.
     pub fn visit_children<V: StoreVisitor>(&self, visitor: &mut V)
         requires { MayRun V.may V.step visitor.old (expr_calls self.now) }
         ensures { Runs V.step visitor.old (expr_calls self.now) visitor.new }

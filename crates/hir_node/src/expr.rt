@@ -147,7 +147,7 @@ impl Expr {
     pub fn precedence(&self) -> ExprPrecedence
         ensures { result ≡ precedence self.now }
     {
-        // Here and wherever a node is taken apart each field is named, so that a new one is looked at.
+        // Here and wherever a node is destructured each field is named, so that a new one can't be overlooked.
         match self {
             Expr::Array(_)
             | Expr::Block {
@@ -225,7 +225,7 @@ impl Expr {
     }
 }
 
-/// That of an expression with this operator between its two sides.
+/// The precedence of an expression with this operator between its two sides.
 fn binary_precedence(op: Option<BinaryOp>) -> ExprPrecedence
     ensures { result ≡ of_operator op }
 {
@@ -239,7 +239,7 @@ fn binary_precedence(op: Option<BinaryOp>) -> ExprPrecedence
     }
 }
 
-/// That of an expression with this operator on numbers or bits.
+/// The precedence of an expression with this operator on numbers or bits.
 fn arith_precedence(op: ArithOp) -> ExprPrecedence
     ensures { result ≡ of_arith op }
 {
@@ -389,7 +389,7 @@ impl Clone for Expr {
     }
 }
 
-/// A second method call with these parts.
+/// A method call with copies of these parts.
 fn clone_method_call(
     receiver: ExprId,
     method_name: &Name,
@@ -406,7 +406,7 @@ fn clone_method_call(
     })
 }
 
-/// A second record literal with these parts.
+/// A record literal with copies of these parts.
 fn clone_record_lit(
     path: &Path,
     fields: &Seq<RecordLitField>,
@@ -414,7 +414,7 @@ fn clone_record_lit(
 ) -> Result<Expr, AllocError>
     ensures { IfOk result (λ copy. copy ≡ Expr.RecordLit path.now fields.now spread) }
 {
-    // The fields first: where the path can't be had, what is dropped isn't a path.
+    // The fields first: where the path can't be cloned, what is dropped isn't a path.
     Ok(Expr::RecordLit {
         fields: fields.try_clone()?,
         path: path.try_clone()?,
@@ -422,7 +422,7 @@ fn clone_record_lit(
     })
 }
 
-/// Second lists of the parameters of a closure and of their types.
+/// Copies of the lists of a closure's parameters and of their types.
 fn clone_params(
     args: &Seq<PatId>,
     arg_types: &Seq<Option<TypeRefId>>,

@@ -1,11 +1,11 @@
-//! The types that expressions are made of: statements, match arms, fields, and what says of which kind a loop, a closure or an array is.
+//! The types that expressions are made of: statements, match arms, fields, and the kinds of loops, closures and arrays.
 ghost use Rattle.std.specs.Prelude.{◌≡◌};
 ghost use Rattle.hir_base.specs.Exact.{exact};
 
 use hir_base::{ExactEq, MacroDefId, Name, Seq, TryClone};
 use hir_path::{ExprId, PatId, TypeRefId};
 
-/// What stands after the fields of a record literal.
+/// What comes after the fields of a record literal.
 #[derive(Clone, Copy, PartialEq, Eq)]
 pub enum RecordSpread {
     /// Nothing.
@@ -97,7 +97,7 @@ pub enum ClosureKind {
     Closure,
     /// A coroutine of the old form, a closure that yields.
     OldCoroutine(Movability),
-    /// A coroutine: an expression of this kind makes it where it stands.
+    /// A coroutine: an expression of this kind makes it in place.
     Coroutine {
         kind: CoroutineKind,
         source: CoroutineSource,

@@ -1,4 +1,4 @@
-//! Laws that a reader relies on, and that no call's contract says.
+//! Laws that a reader relies on and that no call's contract states.
 //! Each is a function with no body to run: its contract is the law, proved for every value.
 ghost use Rattle.std.specs.Prelude.{◌≡◌, ◌++◌};
 ghost use Rattle.std.specs.List.{flat_map};

@@ -1,4 +1,4 @@
-//! The nodes of lowered bodies and signatures: expressions, patterns and types. Paths and ids are those of `hir_path`, named again.
+//! The nodes of lowered bodies and signatures: expressions, patterns and types. Paths and ids are re-exported from `hir_path`.
 //! A node names others by their ids alone; which it names, and in which order, is the one table `ChildCalls` of the specs.
 #![tactic(auto)]
 

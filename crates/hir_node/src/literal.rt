@@ -54,7 +54,7 @@ impl TryClone for FloatTypeWrapper {
     ghost clone_is_same = { Prim.search exact };
 }
 
-/// A literal. A number may have its type written behind it.
+/// A literal. A number may have its type written after it.
 #[derive(Drop, Clone, PartialEq, Eq)]
 pub enum Literal {
     String(Text),
@@ -71,7 +71,7 @@ pub enum Literal {
 impl Literal {
     ghost use Rattle.hir_node.specs.Literals.{negated};
 
-    /// An `Int` with its sign turned; the least number stays as it is. `None` for every other literal.
+    /// Negates an `Int`; the least number stays as it is. `None` for every other literal.
     pub fn negate(self) -> Option<Literal>
         ensures { result ≡ negated self }
     {

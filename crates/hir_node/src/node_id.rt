@@ -32,7 +32,7 @@ impl fmt::Display for NodeId {
     }
 }
 
-/// The same text.
+/// Writes the same text.
 impl fmt::Debug for NodeId {
     ghost use Rattle.hir_node.specs.NodeText.{node_text};
 

@@ -36,14 +36,14 @@ pub enum Pat {
     NotNull,
     Tuple {
         args: Seq<PatId>,
-        /// The place of `..` among the arguments, where it stands.
+        /// The place of `..` among the arguments, if there is one.
         ellipsis: Option<u32>,
     },
     Or(Seq<PatId>),
     Record {
         path: Path,
         args: Seq<RecordFieldPat>,
-        /// Whether `..` stands last.
+        /// Whether `..` comes last.
         ellipsis: bool,
     },
     Range {
@@ -53,17 +53,17 @@ pub enum Pat {
     },
     Slice {
         prefix: Seq<PatId>,
-        /// What stands between the first items and the last.
+        /// What is between the first items and the last.
         slice: Option<PatId>,
         suffix: Seq<PatId>,
     },
     /// A constant, or a variant without fields. On the left of an assignment it may also be a variable, as the `a` of `(a, b) = c`.
     Path(Path),
-    /// A literal, as the `1` and the `-2` of `match x { 1 | -2 => .. }`. It may stand wherever a pattern may; its expression is an
+    /// A literal, as the `1` and the `-2` of `match x { 1 | -2 => .. }`. It may be wherever a pattern may; its expression is an
     /// `Expr::Literal`, with the sign of a negative number in it.
     Lit(ExprId),
-    /// An expression that is assigned to. It stands on the left of an assignment alone, in the pattern that is its `target`: the `*b`
-    /// of `(a, *b) = (1, 2)` is the second argument of a `Tuple`. A store takes it anywhere.
+    /// An expression that is assigned to. It is only on the left of an assignment, in the pattern that is its `target`: the `*b`
+    /// of `(a, *b) = (1, 2)` is the second argument of a `Tuple`. A store accepts it anywhere.
     Expr(ExprId),
     Bind {
         id: BindingId,
@@ -73,7 +73,7 @@ pub enum Pat {
     TupleStruct {
         path: Path,
         args: Seq<PatId>,
-        /// The place of `..` among the arguments, where it stands.
+        /// The place of `..` among the arguments, if there is one.
         ellipsis: Option<u32>,
     },
     Ref {
@@ -162,11 +162,11 @@ impl Clone for Pat {
     }
 }
 
-/// A second record pattern with these parts.
+/// A record pattern with copies of these parts.
 fn clone_record(path: &Path, args: &Seq<RecordFieldPat>, ellipsis: bool) -> Result<Pat, AllocError>
     ensures { IfOk result (λ copy. copy ≡ Pat.Record path.now args.now ellipsis) }
 {
-    // The list first: where the path can't be had, what is dropped isn't a path.
+    // The list first: where the path can't be cloned, what is dropped isn't a path.
     Ok(Pat::Record {
         args: args.try_clone()?,
         path: path.try_clone()?,
@@ -174,7 +174,7 @@ fn clone_record(path: &Path, args: &Seq<RecordFieldPat>, ellipsis: bool) -> Resu
     })
 }
 
-/// A second tuple struct pattern with these parts.
+/// A tuple struct pattern with copies of these parts.
 fn clone_tuple_struct(
     path: &Path,
     args: &Seq<PatId>,
@@ -182,7 +182,7 @@ fn clone_tuple_struct(
 ) -> Result<Pat, AllocError>
     ensures { IfOk result (λ copy. copy ≡ Pat.TupleStruct path.now args.now ellipsis) }
 {
-    // The list first: where the path can't be had, what is dropped isn't a path.
+    // The list first: where the path can't be cloned, what is dropped isn't a path.
     Ok(Pat::TupleStruct {
         args: args.try_clone()?,
         path: path.try_clone()?,

@@ -31,7 +31,7 @@ impl Mutability {
         }
     }
 
-    /// What stands after `&`: nothing or `mut `, with a space.
+    /// What is written after `&`: nothing or `mut `, with a space.
     pub fn as_keyword_for_ref(self) -> &'static str
         ensures { result.now ≡ ref_keyword self }
     {
@@ -41,7 +41,7 @@ impl Mutability {
         }
     }
 
-    /// What stands after `*`: `const ` or `mut `, with a space.
+    /// What is written after `*`: `const ` or `mut `, with a space.
     pub fn as_keyword_for_ptr(self) -> &'static str
         ensures { result.now ≡ ptr_keyword self }
     {
@@ -193,7 +193,7 @@ impl TryClone for ArrayType {
 /// The type of a reference.
 #[derive(Drop, Clone, PartialEq, Eq, Hash)]
 pub struct RefType {
-    /// The type of what it leads to.
+    /// The type of what it refers to.
     pub ty: TypeRefId,
     pub lifetime: Option<LifetimeRefId>,
     pub mutability: Mutability,

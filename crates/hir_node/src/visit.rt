@@ -1,4 +1,4 @@
-//! What a visitor visits: whatever stands in a node and gives calls, and the one loop over a list of such.
+//! What a visitor visits: the parts of a node that make calls, and the one loop over a list of them.
 #![tactic(auto, using(crate::proofs::RunLemmas::runs))]
 
 ghost use Rattle.std.specs.Prelude.{List};
@@ -14,7 +14,7 @@ use crate::visitor::{
 use hir_base::Name;
 use hir_path::{ExprId, GenericArg, GenericArgs, PatId, TypeBound, TypeRefId, UseArgRef};
 
-/// What stands in a node and gives calls.
+/// A part of a node that makes calls.
 pub(crate) trait Visit {
     // its calls, in order
     ghost calls: { Self → List Call };

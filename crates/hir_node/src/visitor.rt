@@ -1,4 +1,4 @@
-//! Visitors of nodes, and the calls on them that the parts of nodes give.
+//! Visitors of nodes, and the calls that the parts of nodes make on them.
 #![tactic(auto, using(crate::proofs::RunLemmas::runs))]
 
 ghost use Rattle.std.specs.Prelude.{◌≡◌, List};
@@ -12,9 +12,9 @@ use hir_path::{
     TypeBound, TypeRefId, UseArgRef,
 };
 
-/// What is called at the children of a node.
+/// A visitor, which is called with each child of a node.
 ///
-/// An implementation states what each call does to it, by `step`, and when a call may be made, by `may`: always, where it doesn't say.
+/// An implementation states by `step` what each call does to it, and by `may` when a call may be made: by default always.
 pub trait StoreVisitor {
     // what has to hold of the value for a call to be made
     ghost may: { Self → Call → Type 0 } = { λ _ _. Unit {0} };
@@ -74,7 +74,7 @@ impl<V: StoreVisitor> StoreVisitor for &mut V {
     }
 }
 
-/// What every visitor can be called with beside single ids: parts that may be absent, lists, bounds, generic arguments and paths.
+/// The other calls that every visitor has: with parts that may be absent, lists, bounds, generic arguments and paths.
 /// Each runs the child calls of what it is given, in their order.
 pub trait StoreVisitorExt: StoreVisitor {
     /// The bound: the type that is its path, or its lifetimes.
@@ -152,7 +152,7 @@ pub trait StoreVisitorExt: StoreVisitor {
         }
     }
 
-    /// Generic arguments, as `visit_generic_args` has them.
+    /// Generic arguments, as `visit_generic_args` visits them.
     fn on_generic_args(&mut self, args: &GenericArgs)
         requires { MayRun Self.may Self.step self.old (args_calls args.now) }
         ensures { Runs Self.step self.old (args_calls args.now) self.new }
@@ -195,7 +195,7 @@ pub trait StoreVisitorExt: StoreVisitor {
 
 impl<V: StoreVisitor> StoreVisitorExt for V {}
 
-/// What a bound `use<..>` lists: nothing for a name.
+/// One entry of a bound `use<..>`: a lifetime is one call, a name none.
 pub(crate) fn visit_use_arg<V: StoreVisitor>(visitor: &mut V, arg: &UseArgRef)
     requires { MayRun V.may V.step visitor.old (use_calls arg.now) }
     ensures { Runs V.step visitor.old (use_calls arg.now) visitor.new }
@@ -221,8 +221,8 @@ pub(crate) fn visit_generic_arg<V: StoreVisitor>(visitor: &mut V, arg: &GenericA
 /// Calls the visitor with each argument, and then for each associated type binding with its own generic arguments, its type and its
 /// bounds.
 ///
-/// It recurses as deep as bindings stand within the arguments of bindings, `A<B<C = ..> = ..>`. A type that an argument, a binding or a
-/// bound names is one call `on_type`, and isn't entered.
+/// It recurses as deep as bindings are nested in the arguments of bindings, `A<B<C = ..> = ..>`. A type that an argument, a binding
+/// or a bound names is one call `on_type`, and isn't entered.
 #[cycle(visit_generic_args)]
 pub fn visit_generic_args<V: StoreVisitor>(visitor: &mut V, args: &GenericArgs)
     requires { MayRun V.may V.step visitor.old (args_calls args.now) }

@@ -19,7 +19,7 @@ lines_of = continued ([], [])
 abbrev pub HasNoEnd : List ℕ → Type 0
 HasNoEnd cs = (i : ℕ) → i < length cs → slice_index cs i ≢ 10
 
--- before the length stand the text's characters but the trailing spaces
+-- up to the length are the text's characters but the trailing spaces
 pub record IsTrimmedLen (text : List ℕ) (len : ℕ) : Type 0 where
   pub within : len ≤ length text
   pub spaces : drop len text ≡ replicate (length text - len) 32

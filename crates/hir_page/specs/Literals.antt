@@ -17,23 +17,23 @@ two_digits n = Text (digit_char (n / 16) ∷ []) ∷ Text (digit_char (n % 16) �
 abbrev pub hexadecimal : ℕ → List Piece
 hexadecimal n = if nat_lt n 16 then Text (digit_char n ∷ []) ∷ [] else two_digits n
 
--- a character without a short escape: an ASCII control as \u{..}, any other as it stands
+-- a character without a short escape: an ASCII control as \u{..}, any other as it is
 abbrev pub control_escape : ℕ → List Piece
 control_escape c = Text (codes "\\u{") ∷ (hexadecimal c ++ (Text (codes "}") ∷ []))
 
 abbrev pub long_escape : ℕ → List Piece
 long_escape c = if is_ascii_control c then control_escape c else Text (encode_utf8 c) ∷ []
 
--- a byte without a short escape: printable ASCII as it stands, any other as \x..
+-- a byte without a short escape: printable ASCII as it is, any other as \x..
 abbrev pub byte_escape : ℕ → List Piece
 byte_escape b = if nat_lt b 32 || nat_lt 126 b then Text (codes "\\x") ∷ two_digits b else Text (b ∷ []) ∷ []
 
--- the short escape, where there is one
+-- the short escape, if there is one
 abbrev pub escaped_by : List ℕ → List Piece → List Piece
 escaped_by [] long = long
 escaped_by (c ∷ cs) long = Text (c ∷ cs) ∷ []
 
--- a single quote in a string stands as it is, and a byte 0 is \x00
+-- a single quote in a string is written as it is, and a byte 0 is \x00
 abbrev pub escape_in_string : ℕ → List ℕ
 escape_in_string c = if c == 39 then [] else short_escape c
 

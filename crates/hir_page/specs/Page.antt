@@ -57,7 +57,7 @@ format_after_end Oneline = Oneline
 format_after_end Newline = Indentation
 format_after_end Indentation = Indentation
 
--- four spaces a level
+-- four spaces for each level
 abbrev pub indented : Page → Page
 indented p = record p { last = p.last ++ replicate (4 * p.level) 32 }
 
@@ -74,7 +74,7 @@ begun_in Indentation p = indented (parted p)
 abbrev pub begun : Page → Page
 begun p = begun_in p.format p
 
--- a character of text: a line end begins an empty line, and any other stands in the last line
+-- a character of text: a line end begins an empty line, and any other goes into the last line
 abbrev pub put : ℕ → Page → Page
 put c p = let q = begun p in
     if c == 10 then record q { above = q.last ∷ q.above; last = []; format = format_after_end p.format }
@@ -88,7 +88,7 @@ put_all (c ∷ cs) p = put_all cs (put c p)
 abbrev pub spaced : Page → Page
 spaced p = if is_empty_line p.last then p else (if ends_in_space p.last then p else record p { last = p.last ++ (32 ∷ []) })
 
--- a break in lines: nothing after a blank line; else the line's trailing spaces go, and a line end is put
+-- a break in lines: nothing after a blank line; else the line's trailing spaces are removed, and a line end is added
 abbrev pub line_ended : Page → Page
 line_ended p = if is_blank p.last then p else put 10 (record p { last = trimmed p.last })
 

@@ -12,7 +12,7 @@ use std::marker::Model;
 /// A page of text, written piece by piece. Contracts see it as its lines, its level and its format.
 ///
 /// No step goes over the text again: the length without trailing spaces is kept, and the indentation is a text of spaces that
-/// grows and shrinks with the level. A step fails only where memory for the text or the indentation was refused.
+/// grows and shrinks with the level. A step fails only if memory for the text or the indentation was refused.
 #[derive(Drop)]
 pub struct PageBuffer {
     text: String,
@@ -93,7 +93,7 @@ impl PageBuffer {
         Ok(())
     }
 
-    /// Adds four spaces a level.
+    /// Adds four spaces for each level.
     fn indent_line(&mut self) -> Result<(), AllocError>
         ensures { OnOk result (self.new ≡ indented self.old) }
     {
@@ -111,7 +111,7 @@ impl PageBuffer {
         Ok(())
     }
 
-    /// Begins a line where the next text has to.
+    /// Begins a line, and indents it, if the next text has to begin one.
     fn begin(&mut self) -> Result<(), AllocError>
         ensures { OnOk result (self.new ≡ begun self.old) }
     {
@@ -148,7 +148,7 @@ impl PageBuffer {
         Ok(())
     }
 
-    /// Takes the last line's trailing spaces away.
+    /// Removes the last line's trailing spaces.
     fn trim(&mut self)
         ensures { self.new ≡ record self.old { last = trimmed self.old.last } }
     {
@@ -213,7 +213,7 @@ impl PageBuffer {
         }
     }
 
-    /// Makes the level one more.
+    /// Raises the level by one.
     fn raise_level(&mut self) -> Result<(), AllocError>
         ensures { OnOk result (self.new ≡ record self.old { level = self.old.level + 1 }) }
     {
@@ -221,7 +221,7 @@ impl PageBuffer {
         Ok(())
     }
 
-    /// Makes the level one less, unless it is 0.
+    /// Lowers the level by one, unless it is 0.
     fn lower_level(&mut self)
         ensures { self.new ≡ record self.old { level = self.old.level - 1 } }
     {
@@ -231,7 +231,7 @@ impl PageBuffer {
         }
     }
 
-    /// Takes empty last lines away. It looks back over what it takes away, and over the spaces before it.
+    /// Removes empty last lines. It looks back over what it removes, and over the spaces before it.
     fn cut_empty_lines(&mut self)
         ensures { self.new ≡ without_empty_lines self.old }
     {
@@ -316,7 +316,7 @@ fn trimmed_len(text: &[u8]) -> usize
     len
 }
 
-/// Takes the line ends away from the end of a text.
+/// Removes the line ends at the end of a text.
 fn cut_line_ends(text: &mut String)
     ensures { IsCutText (string_bytes text.old) (string_bytes text.new) }
 {

@@ -128,7 +128,7 @@ fn write_byte_escape<W: PieceWriter>(writer: &mut W, byte: u8) -> Result<(), All
     Ok(())
 }
 
-/// Writes a character by its short escape, where there is one.
+/// Writes a character by its short escape, if there is one.
 fn write_escaped<W: PieceWriter>(writer: &mut W, escape: &str, c: char) -> Result<(), AllocError>
     ensures { Writes W.step W.refuses writer.old (escaped_by escape.now (long_escape c))
         (is_ok result) writer.new }

@@ -7,8 +7,8 @@ use std::alloc::AllocError;
 
 /// Writes pieces.
 ///
-/// An implementation says by `step` what each piece makes of it, and by `refuses` what stands after a refused growth. What is
-/// written through these calls is proved once, for every implementation.
+/// An implementation says by `step` what each piece makes of it, and by `refuses` what is left when memory is refused. What code
+/// writes through these calls is proved once, for every implementation.
 pub trait PieceWriter {
     // relates the value before a piece, the piece, and the value after it
     ghost step: { Self → Piece → Self → Type 0 };
@@ -21,7 +21,7 @@ pub trait PieceWriter {
         ensures { MatchResult result (λ _. step self.old (piece.Text text.now) self.new)
             (λ _. refuses self.old (piece.Text text.now) self.new) };
 
-    /// Writes a soft space: a space, where there is none and no line begins.
+    /// Writes a soft space: a space, unless there is one or a line begins.
     fn soft_space(&mut self) -> Result<(), AllocError>
         ensures { MatchResult result (λ _. step self.old piece.SoftSpace self.new)
             (λ _. refuses self.old piece.SoftSpace self.new) };
@@ -36,7 +36,7 @@ pub trait PieceWriter {
         ensures { MatchResult result (λ _. step self.old piece.Indent self.new)
             (λ _. refuses self.old piece.Indent self.new) };
 
-    /// Lowers the level and takes empty last lines away.
+    /// Lowers the level and removes empty last lines.
     fn outdent(&mut self) -> Result<(), AllocError>
         ensures { MatchResult result (λ _. step self.old piece.Outdent self.new)
             (λ _. refuses self.old piece.Outdent self.new) };

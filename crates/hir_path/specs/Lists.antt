@@ -5,6 +5,6 @@ use Rattle.std.specs.Prelude.{ℕ, ◌-◌, List, length, take, slice_get, Optio
 abbrev pub all_but : {X : Type 0} → ℕ → List X → List X
 all_but n xs = take (length xs - n) xs
 
--- the last member, where there is one
+-- the last member, if there is one
 abbrev pub last_of : {X : Type 0} → List X → Option X
 last_of xs = slice_get xs (length xs - 1)

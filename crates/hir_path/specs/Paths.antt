@@ -57,7 +57,7 @@ without_anchor path lists = record { generic_args = lists; type_anchor = None; m
 abbrev pub one_name : List ℕ → Path
 one_name name = BarePath (record { kind = Plain; segments = name ∷ [] })
 
--- the path with this anchor and these arguments: a bare one, where it has none of them
+-- the path with this anchor and these arguments: a bare one, if it has neither
 abbrev pub path_with : Option ℕ → ModPath → List (Option GenericArgs) → Path
 path_with None path lists = cond (no_args lists) (BarePath path) (Normal (without_anchor path lists))
 path_with (Some anchor) path lists =
@@ -71,13 +71,13 @@ but_last path = record { kind = path.kind; segments = all_but 1 path.segments }
 abbrev pub shorter : Option ℕ → ModPath → List (Option GenericArgs) → Path
 shorter anchor path lists = path_with anchor (but_last path) (all_but 1 lists)
 
--- nothing for an ident and where there are no segments, else the shorter path
+-- nothing for an ident and if there are no segments, else the shorter path
 abbrev pub qualified : Option (List ℕ) → List (List ℕ) → Path → Option Path
 qualified (Some name) names path = None
 qualified None [] path = None
 qualified None (name ∷ names) path = Some path
 
--- what stands before the last segment
+-- the path before the last segment
 abbrev pub qualifier : Path → Option Path
 qualifier (BarePath path) = qualified (ident_of path) path.segments (shorter None path [])
 qualifier (Normal normal) =

@@ -12,16 +12,16 @@ pub record Segments : Type 0 where
   pub names : List (List ℕ)
   pub lists : Option (List (Option GenericArgs))
 
--- one segment: its name, and its arguments where it has some
+-- one segment: its name, and its arguments if it has any
 pub record Segment : Type 0 where
   pub name : List ℕ
   pub args : Option GenericArgs
 
--- what a segment that the code hands out is
+-- a segment of the code, as a contract sees it
 abbrev pub segment_of : PathSegment → Segment
 segment_of s = record { name = s.name.now; args = option_copied s.args_and_bindings }
 
--- what a view that the code hands out is
+-- a view of the code, as a contract sees it
 abbrev pub seen : PathSegments → Segments
 seen s = record { names = s.segments.now; lists = option_copied s.generic_args }
 
@@ -29,7 +29,7 @@ seen s = record { names = s.segments.now; lists = option_copied s.generic_args }
 abbrev pub empty : Segments
 empty = record { names = []; lists = None }
 
--- each name with the arguments in its place, and with none where there is no such place
+-- each name with the arguments in its place, and with none if there is no such place
 abbrev pub zipped : List (List ℕ) → List (Option GenericArgs) → List Segment
 zipped [] lists = []
 zipped (name ∷ names) [] = record { name = name; args = None } ∷ zipped names []
@@ -43,7 +43,7 @@ or_none (Some lists) = lists
 abbrev pub items : Segments → List Segment
 items s = zipped s.names (or_none s.lists)
 
--- the members from the n-th on, where the list has so many
+-- the members from the n-th on, if the list has so many
 abbrev pub past : {X : Type 0} → ℕ → Option (List X) → Option (List X)
 past n None = None
 past n (Some xs) = cond (nat_le n (length xs)) (Some (drop n xs)) None

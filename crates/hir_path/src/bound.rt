@@ -1,4 +1,4 @@
-//! What generic arguments and bounds are made of: constants, paths named by the types that they are, and bounds.
+//! The parts of generic arguments and bounds: constants, the ids of types that are paths, and bounds.
 ghost use Rattle.std.specs.Prelude.{◌≡◌};
 ghost use Rattle.hir_base.specs.Exact.{exact};
 
@@ -96,7 +96,7 @@ impl TryClone for UseArgRef {
     ghost clone_is_same = { Prim.search exact };
 }
 
-/// What stands before the trait of a bound.
+/// The modifier before the trait of a bound.
 #[derive(Clone, Copy, PartialEq, Eq, Hash)]
 pub enum TraitBoundModifier {
     None,

@@ -1,5 +1,5 @@
 //! Values on the heap: a `Box` that contracts see as the value in it.
-//! A `Box` itself also has an allocator, so two of the same value may differ to a contract; two `Boxed`s may not.
+//! A contract also sees the allocator of a `Box`, so two with the same value can differ; two `Boxed`s can't.
 ghost use Rattle.std.specs.Prelude.{◌≡◌, IfOk, IfErr};
 
 use hir_base::{ExactEq, TryClone};
@@ -9,7 +9,7 @@ use std::marker::Model;
 
 /// A `Box` that contracts see as its value.
 ///
-/// It is made from the `Box` and gives it back without memory.
+/// Converting from the `Box` and back takes no memory.
 #[derive(Drop)]
 pub struct Boxed<T> {
     inner: Box<T>,
@@ -24,9 +24,9 @@ impl<T> Model for Boxed<T> {
 }
 
 impl<T> Boxed<T> {
-    /// The value, put on the heap.
+    /// Puts the value on the heap.
     ///
-    /// Answers an error where memory for it was refused, and hands the value back.
+    /// Answers an error if memory for it was refused, and hands the value back.
     pub fn new(alloc: Global, value: T) -> Result<Boxed<T>, AllocFailed<T>>
         ensures ok { IfOk result (λ b. b ≡ value) }
         ensures value_returned { IfErr result (λ failed. failed.value ≡ value) }
@@ -51,14 +51,14 @@ impl<T> Boxed<T> {
         inner
     }
 
-    /// The value, to be read.
+    /// Borrows the value.
     pub fn get(&self) -> &T
         ensures { result.now ≡ self.now }
     {
         &self.inner
     }
 
-    /// The value, taken off the heap.
+    /// Takes the value off the heap.
     pub fn into_inner(self) -> T
         ensures { result ≡ self }
     {

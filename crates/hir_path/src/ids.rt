@@ -50,7 +50,7 @@ pub enum ExprOrPatId {
 }
 
 impl ExprOrPatId {
-    /// The id of an expression, where it is one.
+    /// The id, if it is that of an expression.
     pub fn as_expr(self) -> Option<ExprId>
         ensures { result ≡ expr_of self }
     {
@@ -70,7 +70,7 @@ impl ExprOrPatId {
         }
     }
 
-    /// The id of a pattern, where it is one.
+    /// The id, if it is that of a pattern.
     pub fn as_pat(self) -> Option<PatId>
         ensures { result ≡ pat_of self }
     {

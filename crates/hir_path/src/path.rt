@@ -1,5 +1,5 @@
 //! Paths with their generic arguments, as `crate::foo` or `<Type as Trait>::bar::<u8>`.
-//! The views of a path's segments stand in `segments`.
+//! The views of a path's segments are in `segments`.
 ghost use Rattle.std.specs.Prelude.{◌≡◌, ◌↔◌, IfOk, IfErr, IsTrue, length, [], ◌∷◌, None};
 ghost use Rattle.std.specs.Option.{option_copied};
 ghost use Rattle.hir_base.specs.Exact.{exact};
@@ -20,8 +20,7 @@ pub enum Path {
     BarePath(ModPath),
     /// A path with generic arguments or a type anchor, as `Vec::<u8>::new`: one list of arguments for each segment.
     Normal(Boxed<NormalPath>),
-    /// An item of the language, by what it is, and perhaps one name in it. Lowering makes these, where the path to the item might be
-    /// private.
+    /// A lang item, and perhaps one name in it. Lowering makes these, where the path to the item might be private.
     LangItem(LangItemTarget, Option<Name>),
 }
 
@@ -40,10 +39,9 @@ impl Path {
     ghost use Rattle.hir_path.specs.Paths.{kind_of, anchor_of, lists_of, mod_path_of, segments_of, without_anchor, one_name, path_with, qualifier, IsSelfType};
     ghost use Rattle.hir_path.specs.Segments.{OneListEach, seen};
 
-    /// The path with these arguments for its segments, of which there has to be one list for each: a `BarePath` where no segment
-    /// has arguments.
+    /// The path with these arguments, which must be one list for each segment: a `BarePath` if no segment has arguments.
     ///
-    /// Answers an error where memory was refused: the parts are handed back.
+    /// Answers an error if memory was refused: the parts are handed back.
     pub fn from_known_path(
         alloc: Global,
         path: ModPath,
@@ -72,7 +70,7 @@ impl Path {
 
     /// The plain path of one name.
     ///
-    /// Answers an error where memory was refused: the name is handed back.
+    /// Answers an error if memory was refused: the name is handed back.
     pub fn from_name(alloc: Global, name: Name) -> Result<Path, AllocFailed<Name>>
         ensures ok { IfOk result (λ made. made ≡ one_name name) }
         ensures value_returned { IfErr result (λ failed. failed.value ≡ name) }
@@ -85,7 +83,7 @@ impl Path {
         Ok(Path::BarePath(ModPath::from_segments(PathKind::Plain, names)))
     }
 
-    /// Where the path begins: at `Abs` for an item of the language.
+    /// Where the path begins: at `Abs` for a lang item.
     pub fn kind(&self) -> PathKind
         ensures { result ≡ kind_of self.now }
     {
@@ -96,7 +94,7 @@ impl Path {
         }
     }
 
-    /// The type that the path begins at, where it has one.
+    /// The type that the path begins at, if it has one.
     pub fn type_anchor(&self) -> Option<TypeRefId>
         ensures { result ≡ anchor_of self.now }
     {
@@ -106,7 +104,7 @@ impl Path {
         }
     }
 
-    /// The arguments of the segments, where the path is `Normal`.
+    /// The arguments of the segments, if the path is `Normal`.
     pub fn generic_args(&self) -> Option<&[Option<GenericArgs>]>
         ensures { option_copied result ≡ lists_of self.now }
     {
@@ -116,7 +114,7 @@ impl Path {
         }
     }
 
-    /// The segments: of an item of the language its name, where it has one.
+    /// The segments. That of a lang item is its name, if it has one.
     pub fn segments(&self) -> PathSegments<'_>
         ensures { seen result ≡ segments_of self.now }
     {
@@ -130,7 +128,7 @@ impl Path {
         }
     }
 
-    /// The path without anchor and arguments. An item of the language has none.
+    /// The path without anchor and arguments. `None` for a lang item.
     pub fn mod_path(&self) -> Option<&ModPath>
         ensures { option_copied result ≡ mod_path_of self.now }
     {
@@ -141,11 +139,11 @@ impl Path {
         }
     }
 
-    /// What stands before the last segment: the path without that segment and its arguments, a `BarePath` where no anchor and no
-    /// arguments are left. `None` for an item of the language, for an identifier, behind an anchor too, and where there are no
-    /// segments. A `Normal` path has to have one list of arguments for each segment: an empty list of lists beside one segment won't do.
+    /// The path before the last segment: without that segment and its arguments, and a `BarePath` if no anchor and no arguments
+    /// are left. `None` for a lang item, for an identifier, even behind an anchor, and if there are no segments. A `Normal` path
+    /// must have one list of arguments for each segment: an empty list of lists won't do for one segment.
     ///
-    /// Answers an error where memory was refused.
+    /// Answers an error if memory was refused.
     pub fn qualifier(&self, alloc: Global) -> Result<Option<Path>, AllocError>
         requires one_list_each { OneListEach (segments_of self.now) }
         ensures { IfOk result (λ found. found ≡ qualifier self.now) }
@@ -189,7 +187,7 @@ impl Path {
         }
     }
 
-    /// The path with these parts: a `BarePath` where it has neither an anchor nor arguments.
+    /// The path with these parts: a `BarePath` if it has neither an anchor nor arguments.
     fn with(alloc: Global, path: NormalPath) -> Result<Path, AllocFailed<NormalPath>>
         ensures ok { IfOk result (λ made. made ≡ path_with path.type_anchor path.mod_path path.generic_args) }
         ensures value_returned { IfErr result (λ failed. failed.value ≡ path) }
@@ -201,7 +199,7 @@ impl Path {
     }
 }
 
-/// Whether no place has arguments.
+/// Whether no segment has arguments.
 fn has_no_args(lists: &[Option<GenericArgs>]) -> bool
     ensures { result ≡ no_args lists.now }
 {
@@ -215,7 +213,7 @@ fn without_last(alloc: Global, path: &ModPath) -> Result<ModPath, AllocError>
     Ok(ModPath::from_segments(path.kind(), all_but_last(alloc, path.segments())?))
 }
 
-/// Copies of the items but the last.
+/// Copies of all items but the last.
 fn all_but_last<T: TryClone + Drop>(alloc: Global, items: &[T]) -> Result<Seq<T>, AllocError>
     ensures { IfOk result (λ made. made ≡ all_but 1 items.now) }
 {
@@ -226,10 +224,10 @@ fn all_but_last<T: TryClone + Drop>(alloc: Global, items: &[T]) -> Result<Seq<T>
 /// A path with generic arguments or a type anchor.
 ///
 /// There is one list of arguments for each segment. A list may be absent, but its place isn't left out: `Vec::<u8>::new` has the lists
-/// `[Some([u8]), None]`. A store refuses a path with fewer or more places than segments, as one with no place beside one segment.
+/// `[Some([u8]), None]`. A store refuses a path with fewer or more places than segments, as one with no place for one segment.
 #[derive(Drop, Clone, PartialEq, Eq, Hash)]
 pub struct NormalPath {
-    /// In the place of each segment its arguments, where it has some.
+    /// For each segment its arguments, if it has any.
     pub generic_args: Seq<Option<GenericArgs>>,
     /// The type that the path begins at, as the `T` of `<T>::f`.
     pub type_anchor: Option<TypeRefId>,
@@ -271,14 +269,15 @@ impl TryClone for GenericArgsParentheses {
 #[derive(Drop, PartialEq, Eq, Hash)]
 pub struct GenericArgs {
     pub args: Seq<GenericArg>,
-    /// Whether the first argument is the type that a trait is asked of, as the `T` of `<T as Trait>`.
+    /// Whether the first argument is the self type of a trait, as the `T` of `<T as Trait>`.
     pub has_self_type: bool,
-    /// What is said of associated types.
+    /// The bindings and bounds of associated types.
     pub bindings: Seq<AssociatedTypeBinding>,
     pub parenthesized: GenericArgsParentheses,
 }
 
-/// What is said of one associated type, as the `Item = T` of `Iterator<Item = T>` or the `Item: Debug` of `Iterator<Item: Debug>`.
+/// The binding or bounds of one associated type, as the `Item = T` of `Iterator<Item = T>` or the `Item: Debug` of
+/// `Iterator<Item: Debug>`.
 #[cycle(generic_args)]
 #[derive(Drop, PartialEq, Eq, Hash)]
 pub struct AssociatedTypeBinding {
@@ -286,7 +285,7 @@ pub struct AssociatedTypeBinding {
     pub name: Name,
     /// The arguments of the associated type itself, as the `'a` of `Lend<Item<'a> = &'a T>`.
     pub args: Option<GenericArgs>,
-    /// The type that it is: the `T` of `Item = T`. Absent where bounds alone are said of it, as in `Item: Debug`.
+    /// The type that it is: the `T` of `Item = T`. `None` if it only has bounds, as in `Item: Debug`.
     pub type_ref: Option<TypeRefId>,
     /// The bounds that it has: the `Debug` of `Item: Debug`. Empty for `Item = T`.
     pub bounds: Seq<TypeBound>,

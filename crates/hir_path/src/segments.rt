@@ -9,7 +9,7 @@ use crate::path::GenericArgs;
 use crate::segments_iter::PathSegmentsIter;
 use hir_base::Name;
 
-/// One segment of a path: its name, and its arguments where it has some.
+/// One segment of a path: its name, and its arguments if it has any.
 #[derive(Clone, Copy, PartialEq, Eq, Hash)]
 pub struct PathSegment<'a> {
     pub name: &'a Name,
@@ -17,7 +17,7 @@ pub struct PathSegment<'a> {
 }
 
 impl<'a> PathSegment<'a> {
-    /// A segment with this name and no arguments. Where a segment is missing, the name is `Name::missing()`.
+    /// A segment with this name and no arguments. For a missing segment, the name is `Name::missing()`.
     pub fn missing(name: &'a Name) -> PathSegment<'a>
         ensures { segment_of result ≡ record { name = name.now; args = None } }
     {
@@ -75,14 +75,14 @@ impl<'a> PathSegments<'a> {
         self.segments.len()
     }
 
-    /// The first segment, where there is one.
+    /// The first segment, if there is one.
     pub fn first(&self) -> Option<PathSegment<'a>>
         ensures { option_map segment_of result ≡ slice_get (items (seen self.now)) 0 }
     {
         self.get(0)
     }
 
-    /// The last segment, where there is one.
+    /// The last segment, if there is one.
     pub fn last(&self) -> Option<PathSegment<'a>>
         ensures { option_map segment_of result ≡ last_of (items (seen self.now)) }
     {
@@ -93,7 +93,7 @@ impl<'a> PathSegments<'a> {
         self.get(count - 1)
     }
 
-    /// The segment in this place from 0, where there is one.
+    /// The segment at this index, if there is one.
     pub fn get(&self, idx: usize) -> Option<PathSegment<'a>>
         ensures { option_map segment_of result ≡ slice_get (items (seen self.now)) idx }
     {
@@ -106,14 +106,14 @@ impl<'a> PathSegments<'a> {
         }
     }
 
-    /// The segments in their order.
+    /// The segments in order.
     pub fn iter(&self) -> PathSegmentsIter<'a>
         ensures { left result ≡ items (seen self.now) }
     {
         PathSegmentsIter::new(self.segments, self.generic_args.unwrap_or(&[]))
     }
 
-    /// The segments without the first `len`. Where there are fewer names, no names are left; where there are fewer lists of
+    /// The segments without the first `len`. If there are fewer names, no names are left; if there are fewer lists of
     /// arguments, or none, no lists are left, not even an empty list of them.
     pub fn skip(&self, len: usize) -> PathSegments<'a>
         ensures { seen result ≡ skip len (seen self.now) }
@@ -124,7 +124,7 @@ impl<'a> PathSegments<'a> {
         }
     }
 
-    /// The first `len` segments, or all where there are fewer.
+    /// The first `len` segments, or all if there are fewer.
     pub fn take(&self, len: usize) -> PathSegments<'a>
         ensures { seen result ≡ first len (seen self.now) }
     {
@@ -161,7 +161,7 @@ impl<'a> PathSegments<'a> {
     }
 }
 
-/// The arguments in a place, where there are lists, and this many of them, and it has some.
+/// The arguments at an index: `None` if there are no lists, too few of them, or no arguments at this index.
 fn args_at<'a>(lists: Option<&'a [Option<GenericArgs>]>, idx: usize) -> Option<&'a GenericArgs>
     ensures { option_copied result ≡ get_or (or_none (option_copied lists.entry)) idx None }
 {

@@ -97,7 +97,7 @@ abbrev pub unsafe_items : Unsafe → List Item
 unsafe_items unsafety.Yes = text (codes "unsafe ")
 unsafe_items unsafety.No = []
 
--- what stands between the braces of a block
+-- what is between the braces of a block
 abbrev pub inside_block : List Statement → Option ℕ → List Item
 inside_block [] None = []
 inside_block [] (Some tail) = into ++ e tail ++ br ++ out

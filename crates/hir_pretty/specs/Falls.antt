@@ -1,4 +1,4 @@
--- The nodes among the items of a node, and that they stand lower.
+-- The nodes among the items of a node, and that they are lower.
 use Rattle.std.specs.Prelude.{◌<◌, List, [], ◌∷◌, ⊤}
 use Rattle.hir_node.specs.declared.node_id.NodeId.{NodeId}
 use Rattle.hir_node.specs.declared.node_id.NodeId.TheVariants as node
@@ -7,7 +7,7 @@ use Rattle.hir_pretty.specs.Questions.{Setting}
 use Rattle.hir_pretty.specs.Items.{Item, Put, Lacks, Whole, Under, Pattern, TypeItem}
 use Rattle.hir_pretty.specs.Pieces.{items_of}
 
--- each node among these items is such
+-- each node among these items has this property
 abbrev pub AllNodes : (NodeId → Type 0) → List Item → Type 0
 AllNodes P [] = ⊤
 AllNodes P (Put piece ∷ is) = AllNodes P is
@@ -17,6 +17,6 @@ AllNodes P (Under id parent ∷ is) = P (node.Expr id) × AllNodes P is
 AllNodes P (Pattern id ∷ is) = P (node.Pat id) × AllNodes P is
 AllNodes P (TypeItem id ∷ is) = P (node.TypeRef id) × AllNodes P is
 
--- what is printed inside a node stands lower
+-- what is printed inside a node is lower
 abbrev pub ItemsFall : Setting → Type 0
 ItemsFall s = (n : NodeId) → AllNodes (λ k. rank s.nodes k < rank s.nodes n) (items_of s n)

@@ -21,11 +21,11 @@ abbrev pub is_word : List (List ℕ) → List ℕ → Bool
 is_word [] name = false
 is_word (word ∷ words) name = same_text word name || is_word words name
 
--- a word of the edition stands after `r#`
+-- a word of the edition is printed after `r#`
 abbrev pub raw_parts : List (List ℕ) → List ℕ → List (List ℕ)
 raw_parts words name = if is_word words name then codes "r#" ∷ name ∷ [] else name ∷ []
 
--- The parts of a printed name. A leading `'` comes first and isn't looked up, and `'static` stands as it is.
+-- The parts of a printed name. A leading `'` comes first and isn't looked up, and `'static` is printed as it is.
 abbrev pub name_parts : List (List ℕ) → List ℕ → List (List ℕ)
 name_parts words [] = raw_parts words []
 name_parts words (c ∷ cs) = if c == 39 then (if same_text cs (codes "static") then (c ∷ cs) ∷ [] else (c ∷ []) ∷ raw_parts words cs) else raw_parts words (c ∷ cs)

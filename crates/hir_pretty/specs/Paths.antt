@@ -70,11 +70,11 @@ turbofish args = text (codes "::<") ++ args ++ text (codes ">")
 abbrev pub type_after : Option ℕ → List Item
 type_after type_ref = opt (λ id. text (codes " = ") ++ t id) type_ref
 
--- an associated type binding, where the items of its own arguments stand in their place
+-- an associated type binding, where the items of its own arguments are in their place
 abbrev pub binding_layer : Setting → AssociatedTypeBinding-F (List Item) (List Item) → List Item
 binding_layer s b = name_items s b.name ++ opt turbofish b.args ++ bounds_after s b.bounds ++ type_after b.type_ref
 
--- generic arguments, where the items of each binding stand in its place
+-- generic arguments, where the items of each binding are in its place
 abbrev pub args_layer : Setting → GenericArgs-F (List Item) (List Item) → List Item
 args_layer s x = comma_joined (each_arg s x.has_self_type x.args ++ x.bindings)
 
@@ -85,7 +85,7 @@ args_items s = fold-GenericArgs (List Item) (List Item) (binding_layer s) (args_
 abbrev pub assoc_items : Setting → AssociatedTypeBinding → List Item
 assoc_items s = fold-AssociatedTypeBinding (List Item) (List Item) (binding_layer s) (args_layer s)
 
--- a name of the tables: as it stands, or a default
+-- a name of the tables: as it is, or a default
 abbrev pub found_name : List ℕ → Result (Option (List ℕ)) Missing → List Item
 found_name default (Ok (Some name)) = text name
 found_name default (Ok None) = text default
@@ -104,7 +104,7 @@ target_items s (target.EnumVariantId id) = found_name (codes "<missing>") (s.tab
 target_items s (target.ConstId id) = found_name (codes "<missing>") (s.tables.name (named.ConstId id))
 target_items s (target.MacroId id) = found_name (codes "<missing>") (s.tables.name (named.MacroId id))
 
--- so many times `super`, joined by `::`
+-- `super`, this many times, joined by `::`
 abbrev pub supers : ℕ → List Item
 supers zero = text (codes "self")
 supers (suc zero) = text (codes "super")
@@ -118,7 +118,7 @@ kind_items s Crate = text (codes "crate")
 kind_items s Abs = []
 kind_items s (DollarCrate id) = found_name (codes "$crate") (s.tables.crate_name id)
 
--- whether `::` stands before the first segment
+-- whether `::` is before the first segment
 abbrev pub colons_first : PathKind → Bool
 colons_first Plain = false
 colons_first (Super n) = true
@@ -126,7 +126,7 @@ colons_first Crate = true
 colons_first Abs = true
 colons_first (DollarCrate id) = true
 
--- each segment with its arguments; `::` stands before it where it is not the first, or where `after` says so
+-- each segment with its arguments; `::` is before it where it is not the first, or where `after` says so
 abbrev pub segments_from : Setting → Bool → List (List ℕ) → List (Option GenericArgs) → List Item
 segments_from s after [] lists = []
 segments_from s after (name ∷ names) [] = when after (text (codes "::")) ++ name_items s name ++ segments_from s true names []

@@ -43,7 +43,7 @@ is_short s name found = false
 abbrev pub field_pattern : Setting → RecordFieldPat → List Item
 field_pattern s field = name_items s field.name ++ when (not (is_short s field.name (slice_get s.nodes.pats field.pat))) (text (codes ": ") ++ p field.pat)
 
--- what stands after the last field: in one line, with no rest after it, a space in place of a comma
+-- what is after the last field: in one line, with no rest after it, a space in place of a comma
 abbrev pub after_last : Setting → Bool → List Item
 after_last s true = text (codes ",") ++ br
 after_last s false = elim s.one_line [ true ↦ text (codes " ") | false ↦ text (codes ",") ++ br ]

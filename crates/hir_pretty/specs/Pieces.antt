@@ -33,7 +33,7 @@ items_of s (node.Expr id) = opt (expr_items s) (slice_get s.nodes.exprs id)
 items_of s (node.Pat id) = opt (pat_items s) (slice_get s.nodes.pats id)
 items_of s (node.TypeRef id) = opt (type_items s) (slice_get s.nodes.types id)
 
--- `||` under `||` and `&&` under `&&` stand without parentheses
+-- `||` under `||` and `&&` under `&&` are without parentheses
 abbrev pub is_chain : ExprPrecedence → ExprPrecedence → Bool
 is_chain LOr LOr = true
 is_chain LAnd LAnd = true

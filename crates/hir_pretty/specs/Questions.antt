@@ -6,14 +6,14 @@ use Rattle.hir_base.specs.declared.params.LifetimeParamId.{LifetimeParamId}
 use Rattle.hir_expr_store.specs.declared.missing.Missing.{Missing}
 use Rattle.hir_faults.specs.Nodes.{Nodes}
 
--- What is asked of the tables. A name, a crate's name and that of a type parameter may be there and be none.
+-- What is asked of the tables. A definition, a crate and a type parameter may be there and have no name.
 pub record Questions : Type 0 where
   pub name : NamedDef → Result (Option (List ℕ)) Missing
   pub crate_name : ℕ → Result (Option (List ℕ)) Missing
   pub type_param : TypeOrConstParamId → Result (Option (List ℕ)) Missing
   pub lifetime_param : LifetimeParamId → Result (List ℕ) Missing
 
--- a store, tables, the words that are written with `r#`, and whether all stands in one line
+-- a store, tables, the words that are written with `r#`, and whether all is in one line
 pub record Setting : Type 0 where
   pub nodes : Nodes
   pub tables : Questions

@@ -277,7 +277,7 @@ OpensNamed words old is cost new = (store : Contents) (tables : Questions) (one_
 abbrev pub OpensWith : Contents → Questions → List Work → (Setting → List Item) → ℕ → List Work → Type 0
 OpensWith store tables old is cost new = (words : List (List ℕ)) (one_line : Bool) → Opens (setting store tables words one_line) old (is (setting store tables words one_line)) cost new
 
--- an expression in parentheses, where it stands in them
+-- an expression, in parentheses where it needs them
 abbrev pub enclosed : Bool → ℕ → List Item
 enclosed false id = e id
 enclosed true id = text (codes "(") ++ e id ++ text (codes ")")

@@ -1,4 +1,4 @@
-//! What prints an expression, a pattern and a path of a store.
+//! The calls that print an expression, a pattern and a path of a store.
 
 ghost use Rattle.std.specs.Prelude.{◌<◌, true, false, IsTrue, length};
 ghost use Rattle.std.specs.List.{flat_map};
@@ -46,7 +46,7 @@ fn print_in<'a>(
 /// difference to the text.
 ///
 /// Answers `Missing` of the first definition outside that the text names and that the tables don't have, and `Memory` where memory was
-/// refused. Nothing is left of a text that was begun.
+/// refused. A text that was begun is dropped.
 pub fn print_expr_hir(
     alloc: Global,
     tables: &Tables,
@@ -73,7 +73,7 @@ pub fn print_expr_hir(
 /// no difference to the text.
 ///
 /// Answers `Missing` of the first definition outside that the text names and that the tables don't have, and `Memory` where memory was
-/// refused. Nothing is left of a text that was begun.
+/// refused. A text that was begun is dropped.
 pub fn print_pat_hir(
     alloc: Global,
     tables: &Tables,
@@ -100,7 +100,7 @@ pub fn print_pat_hir(
 /// The text of a path whose types, lifetimes and constants are of the store, in lines: `path_is_sound` of the store tests it.
 ///
 /// Answers `Missing` of the first definition outside that the text names and that the tables don't have, and `Memory` where memory was
-/// refused. Nothing is left of a text that was begun.
+/// refused. A text that was begun is dropped.
 pub fn print_path(
     alloc: Global,
     tables: &Tables,

@@ -41,10 +41,10 @@ fn is_short_pat(store: &ExpressionStore, words: &[Text], name: &str, pat: &Pat) 
     ensures { (tables : Questions) (one_line : Bool) → result
         ≡ is_short (setting store.now tables words.now one_line) name.now (Some pat.now) }
 {
-    match pat {
-        Pat::Bind { id, subpat: None } => binds_name(store, words, name, *id),
-        _ => false,
+    if let Pat::Bind { id, subpat: None } = pat {
+        return binds_name(store, words, name, *id);
     }
+    false
 }
 
 /// Whether a field's pattern binds its name, so that the name alone is printed.

@@ -15,7 +15,7 @@ pub fn pieces_are_their_step()
     hir_expr_store::laws::who_has_kids_is_there();
 }
 
-/// What is printed inside a node of an accepted store stands lower than the node.
+/// What is printed inside a node of an accepted store is lower than the node.
 pub fn items_fall()
     ensures { (c : Contents) → contents_fault c None → (s : Setting) → s.nodes ≡ c.nodes → ItemsFall s }
 {

@@ -188,17 +188,18 @@ fn open_binding<'a>(
 fn coroutine_body(expr: &Expr, id: ExprId) -> ExprId
     ensures { result ≡ coroutine_body (Some expr.now) id }
 {
-    match expr {
-        Expr::Closure {
-            args: _,
-            arg_types: _,
-            ret_type: _,
-            body,
-            closure_kind: ClosureKind::Coroutine { kind: _, source: _ },
-            capture_by: _,
-        } => *body,
-        _ => id,
+    if let Expr::Closure {
+        args: _,
+        arg_types: _,
+        ret_type: _,
+        body,
+        closure_kind: ClosureKind::Coroutine { kind: _, source: _ },
+        capture_by: _,
+    } = expr
+    {
+        return *body;
     }
+    id
 }
 
 /// What is printed as the body of a closure of this kind.

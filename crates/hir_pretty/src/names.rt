@@ -27,7 +27,7 @@ fn is_word(words: &[Text], name: &str) -> bool
     false
 }
 
-/// What stands behind a leading `'`.
+/// The text after a leading `'`.
 fn without_quote(name: &str) -> Option<&str>
     ensures { MatchOption result ((rest : List ℕ) → name.now ≢ 39 ∷ rest) (λ rest. name.now ≡ 39 ∷ rest.now) }
 {
@@ -77,7 +77,7 @@ pub(crate) fn open_name<'a>(
     }
 }
 
-/// What is printed of a name behind a leading `'`, or of one without.
+/// What is printed of a name after a leading `'`, or of one without.
 #[derive(Clone, Copy)]
 struct Parts<'a> {
     is_quoted: bool,
@@ -103,7 +103,7 @@ fn parts_of<'a>(words: &[Text], name: &'a str) -> Parts<'a>
     }
 }
 
-/// Whether two texts are one, each behind `r#` where it is raw.
+/// Whether two texts are equal, each with `r#` before it where it is raw.
 fn same_marked(is_raw: bool, text: &str, other_is_raw: bool, other: &str) -> bool
     ensures { result ≡ same_text (marked is_raw text.now) (marked other_is_raw other.now) }
 {

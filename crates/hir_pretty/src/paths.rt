@@ -27,7 +27,7 @@ fn open_path<'a>(stack: &mut Stack<'a>, path: &'a Path) -> Result<(), AllocError
     }
 }
 
-/// Whether `::` stands before the first segment of a path of this kind.
+/// Whether `::` is before the first segment of a path of this kind.
 fn colons_first(kind: PathKind) -> bool
     ensures { result ≡ colons_first kind }
 {

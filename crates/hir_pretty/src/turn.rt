@@ -84,7 +84,7 @@ fn precedence_at(store: &ExpressionStore, id: ExprId) -> ExprPrecedence
     ExprPrecedence::Unambiguous
 }
 
-/// `||` under `||` and `&&` under `&&` stand without parentheses.
+/// `||` under `||` and `&&` under `&&` are without parentheses.
 fn is_chain(child: ExprPrecedence, parent: ExprPrecedence) -> bool
     ensures { result ≡ is_chain child parent }
 {

@@ -119,10 +119,10 @@ pub enum TypePart<'a> {
 pub enum PathPart<'a> {
     Whole(&'a Path),
     Kind(PathKind),
-    /// So many times `super`.
+    /// `super`, this many times.
     Supers(u8),
     Target(LangItemTarget),
-    /// Segments with their arguments; whether `::` stands before the first.
+    /// Segments with their arguments; whether `::` is before the first.
     Segments(bool, &'a [Name], &'a [Option<GenericArgs>]),
     /// Names with a text between them.
     Names(&'a str, &'a [Name]),
@@ -147,7 +147,7 @@ pub(crate) struct Stack<'a> {
 impl<'a> Stack<'a> {
     ghost use Rattle.hir_pretty.specs.Works.{listed, Pushes};
 
-    /// A stack of nothing, which takes its memory from `alloc`, and none now.
+    /// An empty stack, which allocates from `alloc`, and nothing now.
     pub(crate) fn new(alloc: Global) -> Stack<'a>
         ensures { listed result ≡ [] }
     {
@@ -156,9 +156,9 @@ impl<'a> Stack<'a> {
         }
     }
 
-    /// Puts works on top, the first above. Room is asked for once.
+    /// Pushes works, the first on top. It reserves room once.
     ///
-    /// Answers an error where it was refused.
+    /// Answers an error where that room was refused.
     pub(crate) fn push(&mut self, works: &mut [Work<'a>]) -> Result<(), AllocError>
         ensures { OnOk result (Pushes works.old (listed self.old) (listed self.new)) }
     {
@@ -167,7 +167,7 @@ impl<'a> Stack<'a> {
         Ok(())
     }
 
-    /// Takes the top.
+    /// Pops the top.
     pub(crate) fn pop(&mut self) -> Option<Work<'a>>
         ensures some { IfSome result (λ work. listed self.old ≡ work ∷ listed self.new) }
         ensures none { result ≡ None → listed self.old ≡ [] }

@@ -35,12 +35,12 @@ abbrev pub AddsAsked : Questions → List Work → (Setting → List Item) → L
 AddsAsked tables old items new =
     (store : Contents) (words : List (List ℕ)) (one_line : Bool) → let s = setting store tables words one_line in Adds s old (items s) new
 
--- a separator, where something stands behind it
+-- a separator, where something follows it
 abbrev pub before : {X : Type 0} → List Item → List X → List Item
 before separator [] = []
 before separator (x ∷ xs) = separator
 
--- each behind a separator, the first only where something stands before it
+-- each after a separator, the first only where something is before it
 abbrev pub following : List Item → Bool → List (List Item) → List Item
 following separator after [] = []
 following separator after (x ∷ xs) = when after separator ++ x ++ following separator true xs

@@ -37,7 +37,7 @@ body_head s parents (body.VariantId id) = variant_name s parents id
 abbrev pub formal_params : Setting → Option ℕ → List ℕ → List (List Item)
 formal_params s self_binding formals = map (binding_items s) (option_to_list self_binding) ++ map p formals
 
--- a function alone has parameters
+-- only a function has parameters
 abbrev pub body_params : Setting → Option ℕ → List ℕ → DefWithBodyId → List Item
 body_params s self_binding formals (body.FunctionId id) =
     text (codes "(") ++ comma_joined (formal_params s self_binding formals) ++ text (codes ") ")

@@ -60,7 +60,7 @@ abbrev pub predicate_items : Setting → WherePredicate → List Item
 predicate_items s (predicate.TypeBound lifetimes target bound) = opt (for_names s) lifetimes ++ t target ++ text (codes ": ") ++ bound_items s bound
 predicate_items s (predicate.Lifetime target bound) = l s target ++ text (codes ": ") ++ l s bound
 
--- predicates stand on lines of their own
+-- predicates are on lines of their own
 abbrev pub each_predicate : Setting → List WherePredicate → List Item
 each_predicate s predicates = joined (text (codes ",\n")) (map (predicate_items s) predicates)
 

@@ -53,7 +53,7 @@ variant_head s parents (variant.StructId id) = text (codes "struct ") ++ found_n
 variant_head s parents (variant.EnumVariantId id) = variant_name s parents id
 variant_head s parents (variant.UnionId id) = text (codes "union ") ++ found_name (codes "<missing>") (s.tables.name (named.UnionId id))
 
--- what stands before the fields, and behind them
+-- what is before the fields, and after them
 abbrev pub fields_begin : FieldsShape → List Item
 fields_begin shape.Record = text (codes " {") ++ br
 fields_begin shape.Tuple = text (codes "(") ++ br

@@ -79,7 +79,7 @@ fn add_in_parentheses(
     works.add(&[Work::Text(") ")])
 }
 
-/// Adds the parameters, which a function alone has.
+/// Adds the parameters, which only a function has.
 fn add_params(
     works: &mut Works<'_>,
     owner: &DefWithBodyId,
@@ -97,7 +97,7 @@ fn add_params(
     }
 }
 
-/// Adds what stands behind the last root.
+/// Adds what follows the last root.
 fn add_end(works: &mut Works<'_>, owner: &DefWithBodyId) -> Result<(), AllocError>
     ensures { OnOk result (AddsAll (listed works.old) (λ s. body_end owner.now) (listed works.new)) }
 {
@@ -107,7 +107,7 @@ fn add_end(works: &mut Works<'_>, owner: &DefWithBodyId) -> Result<(), AllocErro
     }
 }
 
-/// The binding that `self` is, where there is one.
+/// The binding of `self`, where there is one.
 fn formal_self(body: &Body) -> Option<BindingId>
     ensures { result ≡ formal_self body.now.self_param }
 {
@@ -138,7 +138,7 @@ fn add_body<'a>(
 /// function's, and what it evaluates to. The enum of a variant is looked up first, then both names.
 ///
 /// Answers `Missing` of the first definition outside that the text names and that the tables don't have, and `Memory` where memory was
-/// refused. Nothing is left of a text that was begun.
+/// refused. A text that was begun is dropped.
 pub fn print_body_hir(
     alloc: Global,
     tables: &Tables,

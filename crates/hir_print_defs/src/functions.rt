@@ -42,7 +42,7 @@ fn add_abi<'a>(works: &mut Works<'a>, abi: &'a ExternAbi) -> Result<(), AllocErr
     }
 }
 
-/// For each of so many places whether it is listed.
+/// Says for each of this many places whether it is listed.
 fn marks_of(alloc: Global, places: &[u32], count: usize) -> Result<Vec<bool>, AllocError>
     ensures length { IfOk result (λ marks. length marks.items ≡ count) }
     ensures marks { IfOk result (λ marks. (i : ℕ) → i < count → get_or marks.items i false ≡ list_any (λ place. place == i) places.now) }
@@ -159,7 +159,7 @@ fn add_function<'a>(
 /// The text of a function's signature, in lines. The signature says all; which function has it makes no difference to the text.
 ///
 /// Answers `Missing` of the first definition outside that the text names and that the tables don't have, and `Memory` where memory was
-/// refused. Nothing is left of a text that was begun.
+/// refused. A text that was begun is dropped.
 pub fn print_function(
     alloc: Global,
     tables: &Tables,

@@ -1,4 +1,4 @@
-//! Generic parameters and what is asked of them.
+//! Generic parameters and the predicates on them.
 #![tactic(auto, using(crate::proofs::AddLemmas::adding))]
 
 ghost use Rattle.std.specs.Prelude.{◌++◌, OnOk, codes, false};
@@ -100,7 +100,7 @@ fn add_lifetimes<'a>(works: &mut Works<'a>, params: &'a GenericParams) -> Result
     Ok(())
 }
 
-/// Adds types and constants in their places, each behind `, `; the first only where something stands before it.
+/// Adds types and constants in their places, each after `, `; the first only where something is before it.
 fn add_types_and_consts<'a>(
     works: &mut Works<'a>,
     params: &'a GenericParams,
@@ -142,7 +142,7 @@ pub(crate) fn add_generics<'a>(
     add_in_angles(works, params)
 }
 
-/// Adds what is asked.
+/// Adds a predicate.
 fn add_predicate<'a>(works: &mut Works<'a>, predicate: &'a WherePredicate) -> Result<(), AllocError>
     ensures { OnOk result (AddsAll (listed works.old) (λ s. predicate_items s predicate.now) (listed works.new)) }
 {
@@ -180,7 +180,7 @@ fn add_each_predicate<'a>(
     Ok(())
 }
 
-/// Adds what is asked, each on a line of its own behind `where`, where something is asked.
+/// Adds the predicates, each on a line of its own after `where`, where there are any.
 pub(crate) fn add_where<'a>(
     works: &mut Works<'a>,
     predicates: &'a [WherePredicate],

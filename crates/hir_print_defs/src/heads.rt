@@ -22,7 +22,7 @@ use hir_expr_store::Missing;
 use hir_pretty::Work;
 use std::alloc::AllocError;
 
-/// A name as it stands, or a default.
+/// A name as it is, or a default.
 fn text_or<'a>(default: &'a str, name: Option<&'a Text>) -> Work<'a>
     ensures { (s : Setting) → stands_for s result ≡ found_name default.now (Ok (option_copied name.entry)) }
 {
@@ -32,7 +32,7 @@ fn text_or<'a>(default: &'a str, name: Option<&'a Text>) -> Work<'a>
     }
 }
 
-/// The name of a definition, or a default where it has none, or that nothing is known of it.
+/// The name of a definition, a default where it has none, or its fault where nothing is known of it.
 fn name_or<'a>(tables: &'a Tables, def: NamedDef, default: &'a str) -> Work<'a>
     ensures { (s : Setting) → stands_for s result ≡ found_name default.now ((answers tables.now).name def) }
 {
@@ -139,7 +139,7 @@ pub(crate) fn missing_in_head(tables: &Tables, owner: &VariantId) -> Option<Miss
     }
 }
 
-/// That nothing is known of the name.
+/// The fault where nothing is known of the name.
 fn missing_name(tables: &Tables, def: NamedDef) -> Option<Missing>
     ensures { result ≡ error_of ((answers tables.now).name def) }
 {

@@ -1,4 +1,4 @@
-//! Printing a body by calls of the body.
+//! Methods of a body that print it.
 
 ghost use Rattle.std.specs.Prelude.{◌<◌, false, length};
 ghost use Rattle.hir_base.specs.RawWords.{words_of};
@@ -19,9 +19,9 @@ use hir_node::{ExprId, PatId};
 use hir_pretty::{PrintFault, print_expr_hir, print_pat_hir};
 use std::alloc::Global;
 
-/// What prints a body, and the expressions and patterns of it.
+/// Prints a body, and its expressions and patterns.
 pub trait PrettyBody {
-    // what the body is made of
+    // the parts of the body
     ghost contents: { Self → BodyContents };
 
     /// The text of the body, as `print_body_hir` gives it.

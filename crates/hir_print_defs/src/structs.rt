@@ -33,7 +33,7 @@ fn add_attribute_if(
     Ok(())
 }
 
-/// Adds an attribute with so many bytes, where there are any.
+/// Adds an attribute with this many bytes, where there are any.
 fn add_bytes(
     works: &mut Works<'_>,
     before: &'static str,
@@ -116,10 +116,10 @@ fn add_struct<'a>(
     add_end(works, signature.shape())
 }
 
-/// The text of a struct's signature, in lines, behind what the tables have of how the struct lies in memory.
+/// The text of a struct's signature, in lines, after what the tables have of its representation in memory.
 ///
 /// Answers `Missing` of the first definition outside that the text names and that the tables don't have, and `Memory` where memory was
-/// refused. Nothing is left of a text that was begun.
+/// refused. A text that was begun is dropped.
 pub fn print_struct(
     alloc: Global,
     tables: &Tables,

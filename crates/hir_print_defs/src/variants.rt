@@ -24,7 +24,7 @@ use hir_expr_store::Missing;
 use hir_pretty::{PathPart, PrintFault, Work};
 use std::alloc::{AllocError, Global};
 
-/// Adds names, with `::` between them, behind a word that stands for where a path begins.
+/// Adds names, with `::` between them, after a word for where a path begins.
 fn add_behind<'a>(works: &mut Works<'a>, word: &'a str, names: &'a [Name]) -> Result<(), AllocError>
     ensures { OnOk result (AddsAll (listed works.old)
         (λ s. joined (text (codes "::")) (text word.now ∷ map (name_items s) names.now)) (listed works.new)) }
@@ -144,7 +144,7 @@ fn add_end(works: &mut Works<'_>, shape: FieldsShape) -> Result<(), AllocError>
     }
 }
 
-/// Adds fields, and what stands around them.
+/// Adds fields, and what is around them.
 fn add_fields<'a>(
     works: &mut Works<'a>,
     shape: FieldsShape,
@@ -189,7 +189,7 @@ fn print_fields(
     works.print(alloc, fields.store(), tables, edition)
 }
 
-/// The fields that the tables have. Else the first that is missing: in the head, or the fields.
+/// The fields that the tables have, or the first that is missing: in the head, or the fields.
 fn fields_of<'a>(tables: &'a Tables, owner: &VariantId) -> Result<&'a VariantFields, Missing>
     ensures found { IfOk result (λ fields. fields_found tables.now owner.now ≡ Some fields.now) }
     ensures absent { IfErr result (λ missing. (fields_found tables.now owner.now ≡ None) × LacksFields (answers tables.now) (parents tables.now) owner.now missing) }
@@ -207,7 +207,7 @@ fn fields_of<'a>(tables: &'a Tables, owner: &VariantId) -> Result<&'a VariantFie
 /// up first, then the names, and then the fields.
 ///
 /// Answers `Missing` of the first definition outside that the text names and that the tables don't have, and `Memory` where memory was
-/// refused. Nothing is left of a text that was begun.
+/// refused. A text that was begun is dropped.
 pub fn print_variant_body_hir(
     alloc: Global,
     tables: &Tables,

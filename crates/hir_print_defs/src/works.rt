@@ -25,7 +25,7 @@ pub(crate) struct Works<'a> {
 impl<'a> Works<'a> {
     ghost use Rattle.hir_print_defs.specs.Added.{listed, meant, Follows};
 
-    /// Nothing, which takes its memory from `alloc`, and none now.
+    /// An empty list, which allocates from `alloc`, and nothing now.
     pub(crate) fn new(alloc: Global) -> Works<'a>
         ensures { listed result ≡ [] }
     {
@@ -34,7 +34,7 @@ impl<'a> Works<'a> {
         }
     }
 
-    /// Puts works behind the others. Room is asked for once.
+    /// Appends works. It reserves room once.
     pub(crate) fn add(&mut self, works: &[Work<'a>]) -> Result<(), AllocError>
         ensures { OnOk result (Follows works.now (listed self.old) (listed self.new)) }
     {
@@ -64,7 +64,7 @@ impl<'a> Works<'a> {
     }
 }
 
-/// A separator, where something stands behind it.
+/// A separator, where something follows it.
 pub(crate) fn before_more<'a, T>(separator: &'a str, rest: &[T]) -> Work<'a>
     ensures { (s : Setting) → stands_for s result ≡ before (text separator.now) rest.now }
 {

@@ -118,12 +118,12 @@ IsBodyAnswer function b (ask.Resolve e name hygiene) text = IsResolveAnswer b e 
 IsBodyAnswer function b ask.Print text = text ≡ print_text function b
 IsBodyAnswer function b (ask.Captures e) text = IsCapturesAnswer b e text
 
--- where only the store was looked at, no question on the body is answered
+-- where only the store was tested, no question on the body is answered
 abbrev pub IsStoreAnswer : Contents → Question → List ℕ → Type 0
 IsStoreAnswer c (OfStore question) text = text ≡ store_answer c question
 IsStoreAnswer c (OfBody question) text = ⊥
 
--- where the body was looked at too, both kinds of questions are
+-- where the body was tested too, both kinds of questions are answered
 abbrev pub IsAnswer : Option (List ℕ) → BodyContents → Question → List ℕ → Type 0
 IsAnswer function b (OfStore question) text = text ≡ store_answer b.store question
 IsAnswer function b (OfBody question) text = IsBodyAnswer function b question text

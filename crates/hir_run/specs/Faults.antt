@@ -9,7 +9,7 @@ use Rattle.hir_items.specs.declared.body_fault.BodyFault.TheVariants as body
 use Rattle.hir_run.specs.declared.fault.RunFault.{RunFault}
 use Rattle.hir_run.specs.declared.fault.RunFault.TheVariants.{BadLine, Refused, BodyRefused, InputFailed, OutputFailed, OutOfMemory}
 
--- where a line can't be had
+-- where a line can't be read
 abbrev pub fault_of_line : LineFault → RunFault
 fault_of_line line.OutOfMemory = OutOfMemory
 fault_of_line line.InputFailed = InputFailed

@@ -1,4 +1,4 @@
--- What lines have made so far: what is built, and what a body of it will have besides.
+-- What lines have made so far: what is built, and the other parts of its body.
 use Rattle.std.specs.Prelude.{ℕ, List, [], ◌∷◌, ◌++◌, Bool, true, false, Option, None, Some, is_some}
 use Rattle.std.specs.FinMap as map
 use Rattle.hir_base.specs.declared.hygiene.SyntaxContext.{SyntaxContext}
@@ -43,7 +43,7 @@ made_of m =
 abbrev pub with_nodes : Made → Nodes → Made
 with_nodes m nodes = record m { built = record m.built { nodes = nodes } }
 
--- the same with this hygiene of a path, in the place of what was said of it before
+-- the same with this hygiene of a path, in place of the one that it had before
 abbrev pub with_hygiene : SideTables → ExprOrPatId → SyntaxContext → SideTables
 with_hygiene tables id hygiene =
     record tables { hygiene = map.insert tables.hygiene (expr_or_pat_code id) hygiene }

@@ -15,14 +15,14 @@ use Rattle.hir_run.specs.declared.fault.RunFault.TheVariants.{BadLine, Refused, 
 use Rattle.hir_run.specs.Made.{Made, nothing_made, with_line, body_parts}
 use Rattle.hir_run.specs.Answer.{IsStoreAnswer, IsAnswer}
 
--- whether a line may stand before the first question
+-- whether a line may come before the first question
 abbrev pub makes : Line → Bool
 makes Blank = true
 makes (Make maker) = true
 makes (Ask question) = false
 makes Bad = false
 
--- whether a line may stand where these questions may be asked
+-- whether a line may come where these questions may be asked
 abbrev pub may_ask : (Question → Bool) → Line → Bool
 may_ask may Blank = true
 may_ask may (Make maker) = false
@@ -37,7 +37,7 @@ abbrev pub is_of_store : Question → Bool
 is_of_store (OfStore question) = true
 is_of_store (OfBody question) = false
 
--- whether a line may stand after a question
+-- whether a line may come after a question
 abbrev pub asks : Line → Bool
 asks line = may_ask any_question line
 
@@ -57,7 +57,7 @@ Outcome = Result (Unit {0}) RunFault
 abbrev pub Course : Type 1
 Course = List ℕ → Outcome → Type 0
 
--- this is written, and the run ends so
+-- this is written, and the run ends in this way
 abbrev pub writes : List ℕ → Outcome → Course
 writes bytes end text outcome = (text ≡ bytes) × (outcome ≡ end)
 
@@ -66,7 +66,7 @@ abbrev pub if_so : Bool → Course → Course → Course
 if_so true course other = course
 if_so false course other = other
 
--- behind so many good lines comes one that may not stand there, or none
+-- after this many good lines comes one that may not come there, or no line
 abbrev pub stops : ℕ → List Line → Course
 stops good [] = writes [] (Ok tt)
 stops good (bad ∷ rest) = writes [] (Err (BadLine (good + 1)))
@@ -93,7 +93,7 @@ AreAnswers Is [] text = text ≡ []
 AreAnswers Is (line ∷ rest) text =
     (first more : List ℕ) × IsLineAnswer Is line first × AreAnswers Is rest more × (text ≡ first ++ more)
 
--- A section of questions, behind so many good lines: those that may be asked are answered, as far as they come. Then the run goes on
+-- A section of questions, after this many good lines: those that may be asked are answered, as far as they come. Then the run goes on
 abbrev pub section : (Question → Bool) → (Question → List ℕ → Type 0) → (ℕ → List Line → Course) → ℕ → List Line → Course
 section may Is next good script text outcome =
     (answers more : List ℕ) × AreAnswers Is (front (may_ask may) script) answers
@@ -153,7 +153,7 @@ accepts made = unless_refused (finish_fault made.built) Refused (writes (codes "
 abbrev pub IsMeaning : List Line → Course
 IsMeaning script = Runs (accepts (made script)) script
 
--- no fault comes in these lines, and this is the text of their answers; it isn't looked at what comes behind them
+-- no fault comes in these lines, and this is the text of their answers; what comes after them is not looked at
 abbrev pub HasAnswers : List Line → List ℕ → Type 0
 HasAnswers script text = Runs (writes [] (Ok tt)) script text (Ok tt)
 

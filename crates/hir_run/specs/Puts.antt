@@ -1,4 +1,4 @@
--- Text that is put behind what waits to be written. A sink that has failed is written no more.
+-- Text that is put behind what waits to be written. Nothing more is written to a sink that has failed.
 use Rattle.std.specs.Prelude.{◌≡◌, ℕ, List, [], ◌++◌, Option, Bool, true, false}
 use Rattle.hir_io.specs.Ends.{GrowsByFront, IsWrittenUpTo}
 

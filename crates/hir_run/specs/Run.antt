@@ -8,7 +8,7 @@ use Rattle.hir_run.specs.declared.fault.RunFault.TheVariants.{BadLine}
 use Rattle.hir_run.specs.Outcomes.{Ends}
 use Rattle.hir_run.specs.Program.{Outcome, script, script_of, IsMeaning, HasAnswers}
 
--- the program's own output and ending. What it means that a text was written is told apart
+-- the program's own output and ending. What it means that a text was written is defined elsewhere
 abbrev pub IsComplete : List ℕ → (List ℕ → Type 0) → Outcome → Type 0
 IsComplete input Wrote outcome = (text : List ℕ) × IsMeaning (script_of input) text outcome × Wrote text
 
@@ -31,7 +31,7 @@ IsOutputCutShort input WroteFront =
     × (AreFirstAnswers input text ⊎ ((outcome : Outcome) × IsMeaning (script_of input) text outcome))
     × WroteFront text
 
--- so many lines were taken where memory was refused behind these: one more is being read, or was taken last
+-- this many lines were taken where memory was refused after these: one more is being read, or was taken last
 abbrev pub IsNextLine : List (List ℕ) → ℕ → Type 0
 IsNextLine texts count = (count ≡ length texts) ⊎ (count ≡ length texts + 1)
 
@@ -41,14 +41,14 @@ IsWithoutMemory input Wrote count =
     (texts more : List (List ℕ)) × (lines input ≡ texts ++ more) × IsNextLine texts count
     × (text : List ℕ) × HasAnswers (script texts) text × Wrote text
 
--- how a run over this input ends, where so many lines were taken
+-- how a run over this input ends, where this many lines were taken
 abbrev pub EndsWith : List ℕ → (List ℕ → Type 0) → (List ℕ → Type 0) → Option (List ℕ) → ℕ → Outcome → Type 0
 EndsWith input Wrote WroteFront remaining count outcome =
     Ends (λ done. IsComplete input Wrote (Ok done)) (λ number. IsComplete input Wrote (Err (BadLine number)))
     (λ fault. IsComplete input Wrote (Err fault)) (IsInputCutShort input Wrote remaining)
     (IsOutputCutShort input WroteFront) (IsWithoutMemory input Wrote count) outcome
 
--- what a run does over the bytes that its source tells, where so many lines were taken, to those that its sink tells
+-- what a run does over the bytes that its source tells, where this many lines were taken, to those that its sink tells
 abbrev pub RunsTo : Option (List ℕ) → Option (List ℕ) → Option (List ℕ) → Option (List ℕ) → ℕ → Outcome → Type 0
 RunsTo known old remaining new count outcome =
     IfSome known (λ input. EndsWith input (Appends old new) (GrowsByFront old new) remaining count outcome)

@@ -23,7 +23,7 @@ use Rattle.hir_run.specs.Puts.{Puts}
 use Rattle.hir_run.specs.Run.{EndsWith}
 use Rattle.hir_run.specs.Program.{Outcome, makes, may_ask, asks, gives_self, gives_name, unless_second, says, script, built_by, IsLineAnswer, AreAnswers}
 
--- each of these lines may stand before the first question
+-- each of these lines may come before the first question
 abbrev pub AllMake : List (List ℕ) → Type 0
 AllMake texts = list_all makes (script texts) ≡ true
 

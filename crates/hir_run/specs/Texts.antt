@@ -1,4 +1,4 @@
--- What is written of the end of a run: the text of each fault.
+-- What is written about the end of a run: the text of each fault.
 use Rattle.std.specs.Prelude.{ℕ, List, [], ◌∷◌, ◌++◌, Option, Some, Result, Ok, Err, codes}
 use Rattle.std.specs.Fmt.{decimal, option_append}
 use Rattle.std.specs.Io.KnownBytes.{Appends}

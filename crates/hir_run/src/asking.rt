@@ -16,11 +16,11 @@ use std::mem::drop;
 #[derive(Drop)]
 pub(crate) struct MemoryRefused;
 
-/// What answers questions.
+/// Answers questions.
 pub(crate) trait Answers {
     ghost use Rattle.hir_lines.specs.declared.line.Question.{Question};
 
-    // Whether a question may be asked of it.
+    // Which questions may be asked of it.
     ghost may: { Question → Bool };
 
     // What the answers to it are.
@@ -92,7 +92,7 @@ fn answer_next<A: Answers, W: Sink>(
     }
 }
 
-/// Answers the first question and those behind it, and gives the first that may not be asked, if there is one. Some of the answers may
+/// Answers the first question and those after it, and gives the first that may not be asked, if there is one. Some of the answers may
 /// still wait.
 pub(crate) fn answer_lines<A: Answers, R: Source, W: Sink>(
     alloc: Global,

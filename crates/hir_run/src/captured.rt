@@ -1,4 +1,4 @@
-//! The lines of what closures capture.
+//! The lines that say what closures capture.
 
 ghost use Rattle.std.specs.Prelude.{Some, None, codes};
 ghost use Rattle.hir_run.specs.Answer.{answer_line, captures_text, spaced};
@@ -36,7 +36,7 @@ pub(crate) fn put_captures<W: Sink>(
     put(b"\n", output, writer);
 }
 
-/// Puts the line of an expression that is no closure that the body reaches.
+/// Puts the line of an expression that isn't a closure that the body reaches.
 pub(crate) fn put_no_closure<W: Sink>(id: ExprId, output: &mut OutputBuffer, writer: &mut W)
     ensures { Puts (W.contents writer.old) (W.failed writer.old) output.old (W.contents writer.new)
         (W.failed writer.new) output.new (answer_line (codes "captures ") id (captures_text None)) }

@@ -13,11 +13,11 @@ use thiserror::Error;
 /// How the program fails.
 #[derive(Clone, Copy, Debug, Drop, PartialEq, Eq, Error)]
 pub enum RunFault {
-    /// The line of this number, from 1, is none that may stand there.
+    /// The line of this number, from 1, may not come there.
     BadLine(u64),
-    /// What the lines made was refused.
+    /// The builder was refused.
     Refused(FinishFault),
-    /// The body of what they made was refused.
+    /// The body was refused.
     BodyRefused(BodyFault),
     /// A read failed.
     InputFailed,
@@ -27,7 +27,7 @@ pub enum RunFault {
     OutOfMemory,
 }
 
-/// What `report` writes of it, without the line end.
+/// The text that `report` writes of it, without the line end.
 impl fmt::Display for RunFault {
     ghost use Rattle.hir_run.specs.Texts.{displayed};
 

@@ -9,7 +9,7 @@ use hir_items::body_laws::first_body_fault_is_one;
 use hir_scope::laws::a_reached_node_has_one_chain;
 use hir_store::laws::first_fault_is_one;
 
-/// A script has one text and one outcome at most.
+/// A script has at most one text and one outcome.
 pub fn meaning_is_one()
     ensures { (script : List Line) (text more : List ℕ) (outcome other : Outcome)
         → IsMeaning script text outcome → IsMeaning script more other → (text ≡ more) × (outcome ≡ other) }

@@ -1,4 +1,4 @@
-//! What the making lines have made so far: a builder, and what a body of it will have besides.
+//! What the lines have made so far: a builder, and the other parts of its body.
 
 ghost use Rattle.std.specs.Prelude.{◌≡◌, false, Ok, Err, OnOk, OnErr};
 ghost use Rattle.hir_run.specs.Made.{made_of, nothing_made, with_line, is_second, not_made};
@@ -20,7 +20,7 @@ pub(crate) struct Made {
     name: Option<Name>,
 }
 
-/// What a body is made of, and the name of its function.
+/// The parts of a body, and the name of its function.
 #[derive(Drop)]
 pub(crate) struct Parts {
     pub(crate) builder: ExpressionStoreBuilder,
@@ -40,7 +40,7 @@ fn as_written<Id: Copy>(id: Id) -> Param<Id>
 }
 
 impl Made {
-    /// Nothing.
+    /// Nothing made yet.
     pub(crate) fn new(alloc: Global) -> Made
         ensures { made_of result ≡ nothing_made }
     {
@@ -75,7 +75,7 @@ impl Made {
         }
     }
 
-    /// Adds what the line of this number makes. A second self parameter or a second name is a bad line. After a refusal all is as it was.
+    /// Adds what the line of this number makes. A second self parameter or a second name is a bad line. A refusal changes nothing.
     pub(crate) fn make(&mut self, maker: Maker, line: u64) -> Result<(), RunFault>
         ensures ok { OnOk result
             ((is_second (made_of self.old) maker ≡ false)
@@ -113,7 +113,7 @@ impl Made {
     }
 }
 
-/// What was refused for want of memory, or because an arena is full, ends the run.
+/// A refusal of memory, or of an item by a full arena, ends the run.
 fn or_memory<T: Drop, E: Drop>(outcome: Result<T, E>) -> Result<(), RunFault>
     ensures ok { OnOk outcome (result ≡ Ok tt) }
     ensures err { OnErr outcome (result ≡ Err RunFault.OutOfMemory) }

@@ -36,7 +36,7 @@ fn accept<W: Sink>(output: &mut OutputBuffer, writer: &mut W) -> Result<(), RunF
     }
 }
 
-/// Makes what the lines before the first question make, and answers the questions. What was answered last may still wait.
+/// Makes what the lines before the first question make, and answers the questions. The last answers may still wait.
 fn answer_script<R: Source, W: Sink>(
     alloc: Global,
     lines: &mut LineReader,
@@ -83,7 +83,7 @@ fn answer_script<R: Source, W: Sink>(
     }
 }
 
-/// Writes what waits, before the outcome is told.
+/// Writes what waits, before the outcome is answered.
 fn close<W: Sink>(
     outcome: Result<(), RunFault>,
     output: &mut OutputBuffer,
@@ -125,8 +125,8 @@ pub fn run_lines<R: Source, W: Sink>(
 
 /// Runs the program on the lines that the source gives, and writes its answers to the sink.
 ///
-/// Lines that make something stand before the first question; after it, each line that is none is bad. The answers come in
-/// order up to the first fault; `accepted` where there is neither a question nor a fault. What was made is looked at where the
+/// Lines that make something come before the first question; after it, each line but a question or an empty one is bad. The answers
+/// come in order up to the first fault; `accepted` where there is neither a question nor a fault. What was made is tested where the
 /// first question comes, or at the end, and its body where the first question on it comes. What waits to be written is written
 /// before each read and before the run ends, so an answer is never held back while more input is awaited. A failed read ends
 /// the run: the answers of the whole lines before are written. A failed write ends it too. Where memory is refused, the answers

@@ -1,4 +1,4 @@
-//! Writing text that waits, as far as the sink hasn't failed: who puts several pieces looks for a failure once, behind the last.
+//! Puts text behind what waits, unless the sink has failed: to put several pieces, test for a failure once, after the last.
 
 ghost use Rattle.std.specs.Prelude.{◌∷◌};
 ghost use Rattle.std.specs.Fmt.{decimal};

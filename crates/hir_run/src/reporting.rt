@@ -1,4 +1,4 @@
-//! What the program writes of its own end, without memory: each piece of the text is a write of its own, so that it is known
+//! Writes how the program ended, without taking memory: each piece of the text is a write of its own, so that it is known
 //! what a failed write leaves.
 
 ghost use Rattle.std.specs.Prelude.{◌≡◌, ◌||◌, ◌++◌, codes, false, is_err};
@@ -157,7 +157,7 @@ fn status(outcome: &Result<(), RunFault>) -> u8
 
 /// Writes how the program failed, if it did, as one line, and answers its exit status: 0 without a fault, 1 for a bad line, 2 for
 /// a refusal, 3 for a failed read or write, 4 where memory was refused. Takes no memory. Where a write fails, a front of the
-/// line was written and the status is the same: whether one has failed is what the sink says.
+/// line was written and the status is the same: the sink says whether one has failed.
 pub fn report<W: Sink>(outcome: &Result<(), RunFault>, errors: &mut W) -> u8
     ensures status { result ≡ status_of outcome.now }
     ensures whole { W.failed errors.new ≡ false →

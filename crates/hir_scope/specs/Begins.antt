@@ -24,7 +24,7 @@ use Rattle.hir_scope.specs.Tops.{root_frame}
 use Rattle.hir_scope.specs.Pending.{tasks_of}
 use Rattle.hir_scope.specs.Machine.{Machine}
 
--- what laws tell of nodes without a fault, where a walk over them needs it
+-- what the laws say of nodes without a fault, where a walk over them needs it
 pub record IsSound (s : Nodes) : Type 0 where
   pub fall : KidsFall s
   pub under : (n : NodeId) → nodes_under s n ≡ n ∷ flat_map (nodes_under s) (kids_of s n)
@@ -64,7 +64,7 @@ signature_root = record { parent = None; kind = kind.None; entries = [] }
 abbrev pub scope_in_root : Scope
 scope_in_root = record { parent = Some 0; kind = kind.None; entries = [] }
 
--- so many scopes within the root scope
+-- this many scopes within the root scope
 abbrev pub scopes_in_root : ℕ → List Scope
 scopes_in_root n = signature_root ∷ replicate n scope_in_root
 

@@ -1,4 +1,5 @@
--- The scopes of a body or a signature: which expressions have one, what stands along its chain, and how many scopes and entries there are.
+-- The scopes of a body or a signature: which expressions have one, the frames along its chain, and how many scopes and
+-- entries there are.
 use Rattle.std.specs.Prelude.{◌≡◌, ◌↔◌, ◌<◌, ◌⊎◌, ℕ, List, Some, IsSome, length}
 use Rattle.std.specs.List.{filter}
 use Rattle.std.specs.Option.{option_map}
@@ -25,7 +26,7 @@ tops_of_body b = body_tops b.store.nodes (option_map (λ p. p.formal) b.self_par
 abbrev pub tops_of_signature : Contents → List Place
 tops_of_signature c = signature_tops (root_nodes c.roots)
 
--- along the chain of each expression's scope stand the lexical frames around the expression
+-- along the chain of each expression's scope are the lexical frames around the expression
 abbrev pub ChainsAreFrames : Nodes → List Place → Scopes → Type 0
 ChainsAreFrames s tops scopes =
     (expr scope : ℕ) → map.get scopes.scope_by_expr expr ≡ Some scope → HasChain s tops expr (chain scopes.scopes (Some scope))
@@ -50,7 +51,7 @@ expr_count nodes = length (filter is_expr nodes)
 abbrev pub limit : ℕ
 limit = 4294967295
 
--- the body wants more scopes or more entries than there may be
+-- the body needs more scopes or more entries than there may be
 abbrev pub BodyIsTooLarge : BodyContents → Type 0
 BodyIsTooLarge b =
     (limit < body_scope_count b.store.nodes (body_nodes b))

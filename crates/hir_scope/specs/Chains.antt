@@ -1,4 +1,4 @@
--- The chain of an expression: the lexical frames around it, innermost first, told by going down from some tops in their places.
+-- The chain of an expression: the lexical frames around it, innermost first, found by going down from some tops in their places.
 use Rattle.std.specs.Prelude.{◌≡◌, ℕ, List, ◌∷◌, ◌++◌, map, Contains}
 use Rattle.hir_node.specs.declared.node_id.NodeId.{NodeId}
 use Rattle.hir_node.specs.declared.node_id.NodeId.TheVariants as node

@@ -52,7 +52,7 @@ body_scope_count s reached = 1 + sum_by (λ n. form_scopes (form_of s n)) reache
 abbrev pub body_entry_count : {Self : Type 0} → Nodes → Option Self → List NodeId → ℕ
 body_entry_count s self_param reached = count_if_there self_param + sum_by (node_entries s) reached
 
--- over the nodes that a signature with so many roots reaches: the root scope, one for each root, and those that the nodes open
+-- over the nodes that a signature with this many roots reaches: the root scope, one for each root, and those that the nodes open
 abbrev pub signature_scope_count : Nodes → ℕ → List NodeId → ℕ
 signature_scope_count s roots reached = 1 + roots + sum_by (λ n. form_scopes (form_of s n)) reached
 

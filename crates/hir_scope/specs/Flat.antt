@@ -21,7 +21,7 @@ abbrev pub FollowEachOther : ℕ → List ScopeData → ℕ → Type 0
 FollowEachOther from [] last = from ≡ last
 FollowEachOther from (range ∷ rest) last = (range.start ≡ from) × (from ≤ range.end) × FollowEachOther range.end rest last
 
--- the ranges fill the list, each scope stands in one that comes before it or in none, and the scope of each expression is there
+-- the ranges fill the list, each scope's parent, if any, comes before it, and the scope of each expression is there
 pub record IsFlat (entries : List ScopeEntry) (scopes : List ScopeData) (scope_by_expr : finmap.FinMap nat_cmp ℕ) : Type 0 where
   pub fill : FollowEachOther 0 scopes (length entries)
   pub parents : (i : ℕ) (range : ScopeData) → slice_get scopes i ≡ Some range → IsBelow i range.parent

@@ -1,4 +1,4 @@
--- The leak of a node: the frames that outlive it, and stand around what is met after it.
+-- The leak of a node: the frames that outlive it, and are around what is met after it.
 use Rattle.std.specs.Prelude.{List, [], ◌∷◌, ◌++◌}
 use Rattle.hir_node.specs.ChildCalls.{Call, OnExpr, OnAnonConst, OnPat, OnType, OnLifetime, e, opt}
 use Rattle.hir_node.specs.declared.node_id.NodeId.{NodeId}
@@ -17,12 +17,12 @@ leak_of_call leak (OnAnonConst id) = []
 leak_of_call leak (OnType id) = []
 leak_of_call leak (OnLifetime id) = []
 
--- what the kids of calls leak: the later ones first, as their frames stand further in
+-- what the kids of calls leak: the later ones first, as their frames are further in
 abbrev pub leaks : (NodeId → Chain) → List Call → Chain
 leaks leak [] = []
 leaks leak (c ∷ cs) = leaks leak cs ++ leak_of_call leak c
 
--- A `let` in a condition leaks its own frame: what its pattern leaks stands within it, what its expression leaks around it.
+-- A `let` in a condition leaks its own frame: what its pattern leaks is within it, what its expression leaks around it.
 -- Of an `if` only the else branch leaks, of a match the scrutinee, of an assignment the value. A block, a loop, a closure, a type leak
 -- nothing. Any other node leaks what its kids leak.
 abbrev pub leak_of_form : Nodes → (NodeId → Chain) → ScopingForm → Chain

@@ -1,4 +1,4 @@
--- The scopes of what the tables have of a definition: none are missing but where there is no entry.
+-- The scopes of what the tables have of a definition: they are missing only where there is no entry.
 use Rattle.std.specs.Prelude.{◌≡◌, Option, None, Some, Result, Err, IfOk}
 use Rattle.std.specs.Option.{option_map}
 use Rattle.hir_base.specs.declared.defs.DefWithBodyId.{DefWithBodyId}

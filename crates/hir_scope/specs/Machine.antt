@@ -122,7 +122,7 @@ Over frames = (4294967295 < sum_by one frames) ⊎ (4294967295 < sum_by count_en
 abbrev pub Exceeds : Nodes → Machine → Type 0
 Exceeds s m = (4294967295 < weight s one m) ⊎ (4294967295 < weight s count_entries m)
 
--- the turns of the loop that a task takes, beside those of its nodes
+-- the turns of the loop that a task takes, apart from those of its nodes
 abbrev pub task_turns : Task → ℕ
 task_turns (task.Expr id) = 0
 task_turns (task.Constant id) = 2
@@ -185,7 +185,7 @@ write_all by_expr (g ∷ gs) = write_all (finmap.insert by_expr g.expr g.scope) 
 abbrev pub IsRight : Nodes → List Scope → Given → Type 0
 IsRight s scopes g = HasFrames scopes g.scope (within_own (form_of s (node.Expr g.expr)) g.here)
 
--- the scope of an expression: of a block that inside it, of any other the one around it
+-- the scope of an expression: of a block the one inside it, of any other the one around it
 abbrev pub scope_within : ScopingForm → ℕ → ℕ → ℕ
 scope_within (form.Block id label statements tail) inside outside = inside
 scope_within (form.If condition then_branch else_branch) inside outside = outside

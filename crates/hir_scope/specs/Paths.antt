@@ -1,4 +1,4 @@
--- The path of a scope: its id and those of the scopes around it, innermost first. Along it stand the frames of the scope's chain.
+-- The path of a scope: its id and those of the scopes around it, innermost first. Along it are the frames of the scope's chain.
 use Rattle.std.specs.Prelude.{ℕ, List, [], ◌∷◌, ◌++◌, Option, Some, None, fold, length, slice_get, slice_index_or}
 use Rattle.std.specs.List.{flat_map}
 use Rattle.hir_faults.specs.Tested.{all_of}

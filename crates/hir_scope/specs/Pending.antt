@@ -61,7 +61,7 @@ leave around = task.Leave around.here around.constant
 abbrev pub closure_calls : List (Option ℕ) → Option ℕ → List ℕ → ℕ → List Call
 closure_calls arg_types ret_type args body = (flat_map (opt t) arg_types ++ opt t ret_type) ++ (flat_map p args ++ e body)
 
--- the tasks of what is inside a node, which is left with `around`
+-- the tasks of what is inside a node; leaving it restores `around`
 abbrev pub form_tasks : Around → ScopingForm → List Task
 form_tasks around (form.If condition then_branch else_branch) =
     tasks_of (e condition ++ e then_branch) ++ (leave around ∷ tasks_of (opt e else_branch))

@@ -1,4 +1,4 @@
--- What stands under a node in its place, as a list.
+-- What is under a node in its place, as a list.
 use Rattle.std.specs.Prelude.{List, [], ◌∷◌, Bool, true, false}
 use Rattle.std.specs.List.{flat_map, filter}
 use Rattle.hir_node.specs.declared.node_id.NodeId.{NodeId}
@@ -11,7 +11,7 @@ use Rattle.hir_scope.specs.Chains.{Place, places_of_kids}
 abbrev pub place : NodeId → Chain → Chain → Place
 place n here constant = record { node = n; here = here; constant = constant }
 
--- a node in its place, and what stands under its kids, in the order in which scopes are made
+-- a node in its place, and what is under its kids, in the order in which scopes are made
 abbrev pub under_step : Nodes → (NodeId → Chain → Chain → List Place) → NodeId → Chain → Chain → List Place
 under_step s self n here constant =
     place n here constant ∷ flat_map (λ at. self at.node at.here at.constant) (places_of_kids s (place n here constant))

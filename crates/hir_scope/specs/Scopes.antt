@@ -1,4 +1,4 @@
--- Scopes as a caller sees them: a list of scopes, each with the scope that it stands in, and the scope of each expression.
+-- Scopes as a caller sees them: a list of scopes, each with its parent, and the scope of each expression.
 use Rattle.std.specs.Prelude.{◌≡◌, ℕ, ◌<◌, List, Option, Some, None, length, slice_get, ⊤}
 use Rattle.std.specs.List.{sum_by}
 use Rattle.std.specs.Ordering.{nat_cmp}
@@ -33,7 +33,7 @@ IsBelow n (Some scope) = scope < n
 abbrev pub IsIn : List Scope → Option ℕ → Type 0
 IsIn scopes scope = IsBelow (length scopes) scope
 
--- each scope stands in one that comes before it, or in none
+-- each scope's parent, if any, comes before it
 abbrev pub ParentsStandEarlier : List Scope → Type 0
 ParentsStandEarlier scopes = (i : ℕ) (s : Scope) → slice_get scopes i ≡ Some s → IsBelow i s.parent
 

@@ -31,7 +31,7 @@ pub record Slot : Type 0 where
   -- the frames put on the chain of constants
   pub constants : Chain
 
--- the slot of a call's kid: a type or an anonymous constant stands on the chain of constants, and sees none of the frames added
+-- the slot of a call's kid: a type or an anonymous constant is on the chain of constants, and sees none of the frames added
 abbrev pub call_slot : Chain → Chain → Call → List Slot
 call_slot constants add (OnExpr id) = record { kid = node.Expr id; base = Here; add = add; constants = constants } ∷ []
 call_slot constants add (OnPat id) = record { kid = node.Pat id; base = Here; add = add; constants = constants } ∷ []
@@ -87,7 +87,7 @@ statement_slots s constants add (statement.Let pat type_ref initializer else_bra
 statement_slots s constants add (statement.Expr expr has_semi) = in_turn s constants add (e expr)
 statement_slots s constants add (statement.Item item) = []
 
--- each statement stands on what those before it made, and the tail on what all made
+-- each statement is on what those before it made, and the tail on what all made
 abbrev pub block_slots : Nodes → Chain → Chain → List Statement → Option ℕ → List Slot
 block_slots s constants add [] tail = in_turn s constants add (opt e tail)
 block_slots s constants add (x ∷ xs) tail =

@@ -13,12 +13,12 @@ use Rattle.hir_scope.specs.Chains.{Place, place_kid}
 abbrev pub root_frame : Nodes → Option ℕ → List ℕ → Frame
 root_frame s self_binding formals = plain (all_of (entry_at s) self_binding ++ flat_map (binds s) formals)
 
--- The formals of a body and then its last root, in turn, over the root frame. It alone stands around constants.
+-- The formals of a body and then its last root, in turn, over the root frame. Only that frame is around constants.
 unfoldable pub body_tops : Nodes → Option ℕ → List ℕ → Option ℕ → List Place
 body_tops s self_binding formals last_root =
     let root = root_frame s self_binding formals ∷ [] in
     map (place_kid [] []) (in_turn s root root (flat_map p formals ++ opt e last_root))
 
--- Each root of a signature, over an empty frame of its own on the empty root frame. Both stand around constants too.
+-- Each root of a signature, over an empty frame of its own on the empty root frame. Both are around constants too.
 unfoldable pub signature_tops : List ℕ → List Place
 signature_tops roots = map (λ root. record { node = node.Expr root; here = empty ∷ empty ∷ []; constant = empty ∷ empty ∷ [] }) roots

@@ -1,2 +1,2 @@
--- Proofs alone, that `==` decides whether two values are the same: they stand here, since code cites them.
+-- Proofs alone, that `==` decides whether two values are the same: they are here because code cites them.
 pub mod SameScopes

@@ -19,7 +19,7 @@ use hir_expr_store::laws::{bindings_in_is, kids_fall, nodes_are_sound, pats_is};
 use hir_node::{BindingId, ExprId, LifetimeRefId, Pat, PatId, StoreVisitor, TypeRefId};
 use std::alloc::Global;
 
-/// A pattern that is called is to be asked in its turn; other nodes bind nothing.
+/// Each child pattern is visited later, in its turn; other nodes bind nothing.
 impl StoreVisitor for Queue<PatId> {
     ghost step = { λ v c w. w.refused ≡ false → (v.refused ≡ false)
         × (w.items.items ≡ v.items.items ++ pat_of_call c) };
@@ -37,7 +37,7 @@ impl StoreVisitor for Queue<PatId> {
     fn on_lifetime(&mut self, _lifetime: LifetimeRefId) {}
 }
 
-/// The entries of what patterns bind, and room for those patterns that are still to be asked.
+/// The entries of what patterns bind, and the stack of the patterns that are still to be visited.
 #[derive(Drop)]
 pub(crate) struct Binder {
     pub(crate) entries: Vec<ScopeEntry>,
@@ -46,7 +46,7 @@ pub(crate) struct Binder {
 }
 
 impl Binder {
-    /// No entries. It takes its memory from `alloc`, and none now.
+    /// No entries yet. It allocates from `alloc`, and nothing now.
     pub(crate) fn new(alloc: Global) -> Binder
         ensures { result.entries.items ≡ [] }
     {
@@ -57,14 +57,14 @@ impl Binder {
         }
     }
 
-    /// Takes away all entries, and keeps the room.
+    /// Removes all entries, and keeps the capacity.
     pub(crate) fn clear(&mut self)
         ensures { self.new.entries.items ≡ [] }
     {
         self.entries.clear();
     }
 
-    /// Adds the entry of a binding as the last.
+    /// Appends the entry of a binding.
     pub(crate) fn add_binding(
         &mut self,
         store: &ExpressionStore,
@@ -143,7 +143,7 @@ impl Binder {
         }
     }
 
-    /// Puts the child patterns of a pattern on those that are still to be asked, the first on top.
+    /// Pushes the child patterns of a pattern on those that are still to be visited, the first on top.
     fn push_children(&mut self, pat: &Pat) -> Result<(), ScopesFault>
         ensures next { OnOk result (self.new.pats ≡ child_pats pat.now ++ self.old.pats) }
         ensures same { self.new.entries ≡ self.old.entries }
@@ -154,7 +154,7 @@ impl Binder {
         self.turn.move_to(&mut self.pats)
     }
 
-    /// Asks all patterns that are still to be asked.
+    /// Visits all patterns that are still to be visited.
     fn add_left(&mut self, store: &ExpressionStore) -> Result<(), ScopesFault>
         requires { AreThere store.now.nodes (map node.Pat self.old.pats) }
         ensures added { OnOk result (self.new.entries.items

@@ -62,9 +62,9 @@ impl Walk {
 }
 
 impl ExprScopes {
-    /// The scopes of a body: each expression that the body reaches, from its formals and its last root, is given its scope, and no other.
+    /// The scopes of a body: each expression that the body reaches, from its formals and its last root, gets its scope, and no other.
     ///
-    /// Answers `Full` only where the body needs more than 4,294,967,295 scopes or entries, and `Memory` where room was refused. It takes
+    /// Answers `Full` only where the body needs more than 2^32 - 1 scopes or entries, and `Memory` where room was refused. It takes
     /// time in the number of nodes and entries, and doesn't recurse.
     pub fn new_body(alloc: Global, body: &Body) -> Result<ExprScopes, ScopesFault>
         ensures scopes { IfOk result (AreBodyScopes body.now) }
@@ -75,7 +75,7 @@ impl ExprScopes {
         ExprScopes::new_body_counted(alloc, body, &mut steps)
     }
 
-    /// The same, and a step for each expression that is given its scope: each that the body reaches is given it once.
+    /// The same, counting a step for each expression that gets its scope: each that the body reaches gets it once.
     pub fn new_body_counted(
         alloc: Global,
         body: &Body,
@@ -98,9 +98,9 @@ impl ExprScopes {
         Ok(walk.scopes)
     }
 
-    /// The scopes of a signature: each expression under a root of its store is given its scope, and no other.
+    /// The scopes of a signature: each expression under a root of its store gets its scope, and no other.
     ///
-    /// Answers `Full` only where more than 4,294,967,295 scopes or entries are needed, and `Memory` where room was refused. It takes
+    /// Answers `Full` only where more than 2^32 - 1 scopes or entries are needed, and `Memory` where room was refused. It takes
     /// time in the number of nodes and entries, and doesn't recurse.
     pub fn new_store(alloc: Global, store: &ExpressionStore) -> Result<ExprScopes, ScopesFault>
         ensures scopes { IfOk result (AreSignatureScopes store.now) }

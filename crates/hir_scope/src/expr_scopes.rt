@@ -10,7 +10,7 @@ use hir_node::{ExprId, ExprKind, LabelId};
 use std::alloc::Global;
 use std::marker::Model;
 
-/// A scope: the scope that it stands in, what it is, and the range of its entries in the list of all.
+/// A scope: its parent, its kind, and the range of its entries in the list of all.
 #[derive(Clone, Copy, PartialEq, Eq)]
 pub struct ScopeData {
     parent: Option<ScopeId>,
@@ -25,9 +25,9 @@ impl ExactEq for ScopeData {
     ghost eq_decides = { Prim.search exact };
 }
 
-/// Scopes, each with the scope that it stands in, which was made before it; and the scope of each expression that has one.
+/// Scopes, each with its parent, which was made before it; and the scope of each expression that has one.
 ///
-/// The entries of all scopes stand in one list, in the order of the scopes.
+/// The entries of all scopes are in one list, in the order of the scopes.
 #[derive(Drop)]
 pub struct ExprScopes {
     scopes: Vec<ScopeData>,
@@ -55,14 +55,14 @@ impl Model for ExprScopes {
     ghost invariant = { λ s. IsFlat s.entries.items s.scopes.items s.scope_by_expr };
 }
 
-/// How many scopes there may be, and how many entries in all.
+/// The most scopes that there may be, and the most entries in all.
 const LIMIT: usize = 4_294_967_295;
 
 impl ExprScopes {
     ghost use Rattle.hir_scope.specs.Scopes.{Scope, entry_count, block_of, label_of, macro_def_of, IsIn, ParentsStandEarlier};
     ghost use Rattle.hir_scope.specs.Paths.{path};
 
-    /// No scopes, with room for the scopes of this number of expressions.
+    /// No scopes yet, with room for the scopes of this number of expressions.
     ///
     /// Answers `Memory` where that room was refused.
     pub(crate) fn with_exprs(alloc: Global, exprs: usize) -> Result<ExprScopes, ScopesFault>
@@ -151,7 +151,7 @@ impl ExprScopes {
         }
     }
 
-    /// The scope that a scope stands in.
+    /// The parent of a scope, where it has one.
     pub(crate) fn parent(&self, scope: ScopeId) -> Option<ScopeId>
         requires { scope < length self.now.scopes }
         ensures is { option_map (λ s. s.parent) (slice_get self.now.scopes scope) ≡ Some result }
@@ -160,7 +160,7 @@ impl ExprScopes {
         self.scopes[scope.into_raw() as usize].parent
     }
 
-    /// Tells a proof that each scope stands in one that was made before it, and that the scope of each expression is there. It does
+    /// Tells a proof that each scope's parent was made before it, and that the scope of each expression is there. It does
     /// nothing.
     pub fn parents_stand_earlier(&self)
         ensures parents { ParentsStandEarlier self.now.scopes }
@@ -251,7 +251,7 @@ impl ExprScopes {
         }
     }
 
-    /// A scope and those around it, innermost first; of no scope none. The scope has to be there: `has_scope` tests it.
+    /// A scope and those around it, innermost first; no scope for `None`. The scope has to be there: `has_scope` tests it.
     pub fn scope_chain(&self, scope: Option<ScopeId>) -> ScopeChain<'_>
         requires { IsIn self.now.scopes scope }
         ensures { result ≡ path self.now.scopes scope }

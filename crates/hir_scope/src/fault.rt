@@ -7,10 +7,10 @@ use thiserror::Error;
 /// Why the scopes of a body or a signature were not made. Its text is its name.
 #[derive(Clone, Copy, Debug, Drop, PartialEq, Eq, Error)]
 pub enum ScopesFault {
-    /// The tables hold no body, signature or fields of the definition that was asked for.
+    /// The tables hold no body, signature or fields of this definition.
     #[error("Missing")]
     Missing,
-    /// More than 4,294,967,295 scopes, or more than 4,294,967,295 entries, are needed.
+    /// More than 2^32 - 1 scopes, or more than 2^32 - 1 entries, are needed.
     #[error("Full")]
     Full,
     /// Memory was refused.

@@ -1,4 +1,4 @@
-//! What is inside an expression, a pattern or a type, put on the stack by the node's scoping form.
+//! Puts what is inside an expression, a pattern or a type on the stack, by the node's scoping form.
 #![tactic(auto, using(crate::proofs::PushLemmas::insides))]
 
 ghost use Rattle.std.specs.Prelude.{◌≡◌, [], ◌∷◌, ◌++◌, Err, OnOk, OnErr};
@@ -34,7 +34,7 @@ fn push_closure(
     Ok(())
 }
 
-/// Puts what is inside an `if` on the stack, the first on top: only the else branch stands outside its scope.
+/// Puts what is inside an `if` on the stack, the first on top: only the else branch is outside its scope.
 fn push_if(
     tasks: &mut Stack<Task>,
     condition: ExprId,
@@ -54,8 +54,8 @@ fn push_if(
 }
 
 impl Queue<Task> {
-    /// Puts what is inside an expression on the stack, the first on top. `around` is what the expression is left with.
-    // One arm a form: split, the function would name variants twice.
+    /// Puts what is inside an expression on the stack, the first on top. Leaving the expression restores `around`.
+    // One arm for each form: split, the function would name variants twice.
     pub(crate) fn push_in_expr(
         &mut self,
         tasks: &mut Stack<Task>,
@@ -175,7 +175,7 @@ impl Queue<Task> {
         self.push_pat(tasks, pat)
     }
 
-    /// Puts what is inside a type on the stack, the first on top. `around` is what the type is left with.
+    /// Puts what is inside a type on the stack, the first on top. Leaving the type restores `around`.
     pub(crate) fn push_in_type(
         &mut self,
         tasks: &mut Stack<Task>,

@@ -1,4 +1,4 @@
-//! Laws that a reader relies on, and that no call's contract says.
+//! Laws that a reader relies on, and that no call's contract states.
 //! Each is a function that does nothing: its contract is the law.
 
 ghost use Rattle.std.specs.Prelude.{◌≡◌, ◌<◌, ◌≤◌, ◌∷◌, ℕ, None, Some, List, Option, IsPermutation, length, map, slice_get};
@@ -42,13 +42,13 @@ pub fn what_is_reached_stands()
         → Reached s (map (λ at. at.node) tops) at.node }
 {}
 
-/// A scope and those around it are at most as many as there are scopes.
+/// The path of a scope has at most as many members as there are scopes.
 pub fn chains_are_short()
     ensures { (scopes : List Scope) → ParentsStandEarlier scopes → (scope : Option ℕ) → IsIn scopes scope
         → length (path scopes scope) ≤ length scopes }
 {}
 
-/// A scope comes first of itself and those around it, and after it come its parent and those around that. All of them are there.
+/// The path of a scope is the scope, and then the path of its parent. All scopes on it are there.
 pub fn a_chain_goes_outward()
     ensures step { (scopes : List Scope) → ParentsStandEarlier scopes → (scope : ℕ) (found : Scope)
         → slice_get scopes scope ≡ Some found → path scopes (Some scope) ≡ scope ∷ path scopes found.parent }
@@ -56,7 +56,7 @@ pub fn a_chain_goes_outward()
         → All (λ member. member < length scopes) (path scopes scope) }
 {}
 
-/// An expression of a body or of a signature has one chain at most: it stands in one place alone.
+/// An expression of a body or of a signature has at most one chain: it is in one place only.
 pub fn a_reached_node_has_one_chain()
     ensures bodies { (b : BodyContents) → contents_fault b.store None → body_fault b None
         → (expr : ℕ) (x y : Chain) → HasChain b.store.nodes (tops_of_body b) expr x

@@ -1,5 +1,5 @@
 //! Lexical scopes: which bindings each expression of a body or signature sees.
-//! `ExprScopes` holds the scopes and answers questions on them; what a scope's chain has to be is told in `specs/`.
+//! `ExprScopes` holds the scopes and answers questions on them; `specs/` defines what a scope's chain has to be.
 #![tactic(auto)]
 
 mod binder;

@@ -11,7 +11,7 @@ use hir_expr_store::ExpressionStore;
 use hir_items::Body;
 use std::alloc::Global;
 
-/// The scopes of the store of an owner, as that of a signature.
+/// The scopes of an owner's store, made as for a signature.
 fn of_store(
     alloc: Global,
     tables: &Tables,
@@ -28,7 +28,7 @@ fn of_store(
 impl ExprScopes {
     /// The scopes of the body of a definition.
     ///
-    /// Answers `Missing` exactly where the tables have no body of it, and else what `new_body` answers.
+    /// Answers `Missing` exactly where the tables have no body of it, and otherwise what `new_body` answers.
     pub fn body_expr_scopes(
         alloc: Global,
         tables: &Tables,
@@ -44,7 +44,7 @@ impl ExprScopes {
 
     /// The scopes of the signature of a definition.
     ///
-    /// Answers `Missing` exactly where the tables have no signature of it, and else what `new_store` answers.
+    /// Answers `Missing` exactly where the tables have no signature of it, and otherwise what `new_store` answers.
     pub fn sig_expr_scopes(
         alloc: Global,
         tables: &Tables,
@@ -57,7 +57,7 @@ impl ExprScopes {
 
     /// The scopes of the fields of a variant.
     ///
-    /// Answers `Missing` exactly where the tables have no fields of it, and else what `new_store` answers.
+    /// Answers `Missing` exactly where the tables have no fields of it, and otherwise what `new_store` answers.
     pub fn variant_scopes(
         alloc: Global,
         tables: &Tables,
@@ -74,7 +74,7 @@ impl ExprScopes {
 
     /// The scopes of a body, of a signature or of the fields of a variant, by who owns their store.
     ///
-    /// Answers `Missing` exactly where the tables have no entry of the owner, and else what `new_body` answers for a body, and
+    /// Answers `Missing` exactly where the tables have no entry of the owner, and otherwise what `new_body` answers for a body, and
     /// `new_store` for a signature or fields.
     pub fn of<O: Into<ExpressionStoreOwnerId>>(
         alloc: Global,

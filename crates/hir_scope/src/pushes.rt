@@ -1,4 +1,4 @@
-//! What is inside a node, put on the stack of what a walk has still to do.
+//! Puts what is inside a node on the stack of a walk's tasks.
 #![tactic(auto, using(crate::proofs::PushLemmas::pushes))]
 
 ghost use Rattle.std.specs.Prelude.{◌≡◌, List, [], ◌∷◌, ◌++◌, Err, OnOk, OnErr, map};
@@ -144,7 +144,7 @@ pub(crate) fn push_statements(
     Ok(())
 }
 
-/// Puts what is inside a block on the stack, the first on top. `around` is what it is left with.
+/// Puts what is inside a block on the stack, the first on top. Leaving it restores `around`.
 pub(crate) fn push_block(
     tasks: &mut Stack<Task>,
     statements: &[Statement],

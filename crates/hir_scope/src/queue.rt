@@ -1,4 +1,4 @@
-//! Items on their way to a stack, in the order in which they shall come off it.
+//! A queue of items for a stack, in the order in which they come off it.
 
 ghost use Rattle.std.specs.Prelude.{◌≡◌, [], ◌∷◌, ◌++◌, false, Err, OnOk, OnErr};
 
@@ -6,7 +6,7 @@ use crate::fault::ScopesFault;
 use crate::stack::Stack;
 use std::alloc::Global;
 
-/// Items on their way to a stack.
+/// A queue of items for a stack.
 #[derive(Drop)]
 pub(crate) struct Queue<T> {
     pub(crate) items: Vec<T>,
@@ -15,7 +15,7 @@ pub(crate) struct Queue<T> {
 }
 
 impl<T> Queue<T> {
-    /// A queue of nothing, which takes its memory from `alloc`, and none now.
+    /// An empty queue, which allocates from `alloc`, and nothing now.
     pub(crate) fn new(alloc: Global) -> Queue<T>
         ensures items { result.items.items ≡ [] }
         ensures room { result.refused ≡ false }
@@ -26,7 +26,7 @@ impl<T> Queue<T> {
         }
     }
 
-    /// Takes away all, and keeps the room.
+    /// Removes all items, and keeps the capacity.
     pub(crate) fn clear(&mut self)
     where
         T: Drop,
@@ -37,7 +37,7 @@ impl<T> Queue<T> {
         self.refused = false;
     }
 
-    /// Adds an item as the last.
+    /// Appends an item.
     pub(crate) fn push(&mut self, item: T)
     where
         T: Drop,
@@ -51,7 +51,7 @@ impl<T> Queue<T> {
 
     /// Moves the items on top of the stack, the first on top.
     ///
-    /// Answers `Memory` where room was refused, here or for an item before.
+    /// Answers `Memory` where room was refused, here or for an earlier item.
     pub(crate) fn move_to(&mut self, stack: &mut Stack<T>) -> Result<(), ScopesFault>
     where
         T: Drop,

@@ -30,7 +30,7 @@ impl ExprScopes {
     /// The first entry with this name and this hygiene, scope by scope from this one outward. The scope has to be there: `has_scope`
     /// tests it.
     ///
-    /// Hygienes are compared as they are: what a macro's definition makes known is not looked into.
+    /// Hygienes are compared as they are: definitions of macros are not consulted.
     pub fn resolve_name_in_scope(
         &self,
         scope: ScopeId,

@@ -38,7 +38,7 @@ impl ScopeEntry {
         &self.name
     }
 
-    /// Which macro expansion, if any, the name was written by.
+    /// Which macro expansion, if any, wrote the name.
     pub fn hygiene(&self) -> HygieneId
         ensures { result ≡ self.now.hygiene }
     {
@@ -57,16 +57,16 @@ impl ExactEq for ScopeEntry {
     ghost eq_decides = { Prim.search exact };
 }
 
-/// What a scope is, besides the bindings that it brings in.
+/// The kind of a scope, apart from the bindings that it brings in.
 #[derive(Clone, Copy, PartialEq, Eq)]
 pub enum ScopeKind {
-    /// The scope of bindings alone.
+    /// A scope of bindings alone.
     None,
-    /// That of a block which may hold items of its own.
+    /// A block that may hold items of its own.
     Block { id: BlockId, label: Option<LabelId> },
-    /// That of a labeled loop, or of a labeled block without an id.
+    /// A labeled loop, or a labeled block without an id.
     Label(LabelId),
-    /// From a macro's definition on, its macro is known.
+    /// What follows the definition of a macro: the macro is known from there on.
     MacroDef(MacroDefId),
 }
 

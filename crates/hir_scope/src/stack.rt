@@ -21,7 +21,7 @@ impl<T> Model for Stack<T> {
 }
 
 impl<T> Stack<T> {
-    /// A stack of nothing, which takes its memory from `alloc`, and none now.
+    /// An empty stack, which allocates from `alloc`, and nothing now.
     pub(crate) fn new(alloc: Global) -> Stack<T>
         ensures { result ≡ [] }
     {
@@ -30,7 +30,7 @@ impl<T> Stack<T> {
         }
     }
 
-    /// Takes away all, and keeps the room.
+    /// Removes all items, and keeps the capacity.
     pub(crate) fn clear(&mut self)
     where
         T: Drop,
@@ -39,7 +39,7 @@ impl<T> Stack<T> {
         self.items.clear();
     }
 
-    /// Puts an item on top.
+    /// Pushes an item.
     ///
     /// Answers `Memory` where room for it was refused: nothing has changed then.
     pub(crate) fn push(&mut self, item: T) -> Result<(), ScopesFault>
@@ -55,7 +55,7 @@ impl<T> Stack<T> {
         }
     }
 
-    /// Takes the top.
+    /// Pops the top.
     pub(crate) fn pop(&mut self) -> Option<T>
         ensures some { IfSome result (λ item. self.old ≡ item ∷ self.new) }
         ensures none { result ≡ None → self.old ≡ [] }

@@ -26,7 +26,7 @@ use hir_items::Param;
 use hir_node::{BindingId, PatId};
 use std::alloc::Global;
 
-/// Tells a proof what laws tell of the store's nodes, and does nothing.
+/// Tells a proof what the laws say of the store's nodes, and does nothing.
 pub(crate) fn is_sound(store: &ExpressionStore)
     ensures { IsSound store.now.nodes }
 {
@@ -116,7 +116,7 @@ impl Walk {
         Ok(Walk::new(alloc, scopes, around))
     }
 
-    /// The walk over a signature, before its first step: a scope for each root stands in the root scope, which is empty.
+    /// The walk over a signature, before its first step: a scope for each root in the root scope, which is empty.
     pub(crate) fn over_roots(alloc: Global, store: &ExpressionStore) -> Result<Walk, ScopesFault>
         ensures ok { IfOk result (λ walk. machine walk walk.tasks ≡ signature_begins store.now) }
         ensures full { result ≡ Err ScopesFault.Full → MOST_ITEMS < 1 + length store.now.roots }

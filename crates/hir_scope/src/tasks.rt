@@ -13,7 +13,7 @@ pub(crate) struct Around {
 }
 
 /// What a walk has still to do.
-// Flat, ids alone: the prover cannot build a function that is lent a list of values with records or options in them.
+// Flat, ids alone: the prover cannot build a function that borrows a list of values with records or options in them.
 #[derive(Clone, Copy)]
 pub(crate) enum Task {
     /// An expression, in the current scope.
@@ -32,6 +32,6 @@ pub(crate) enum Task {
     GuardedArm(PatId, ExprId, ExprId),
     /// A macro's definition: a scope for what follows, and one for the constants in it.
     MacroDef(MacroDefId),
-    /// Takes back the scopes that were current before: the one around, and the one around constants.
+    /// Restores the scopes that were current before: the one around, and the one around constants.
     Leave(ScopeId, ScopeId),
 }

@@ -11,7 +11,7 @@ use crate::stack::Stack;
 use crate::tasks::Task;
 use hir_node::{Expr, ExprId, LifetimeRefId, Pat, PatId, StoreVisitor, TypeRef, TypeRefId};
 
-/// What is called is to be done in its turn.
+/// Each call becomes a task, done in its turn.
 impl StoreVisitor for Queue<Task> {
     ghost step = { λ v c w. w.refused ≡ false → (v.refused ≡ false)
         × (w.items.items ≡ v.items.items ++ task_of c) };

@@ -33,7 +33,7 @@ pub(crate) struct Walk {
     pub(crate) scopes: ExprScopes,
     pub(crate) around: Around,
     pub(crate) tasks: Stack<Task>,
-    /// What patterns bind, on its way to a scope.
+    /// The entries of what patterns bind, until a scope takes them.
     pub(crate) binder: Binder,
     /// Room for the tasks of a node that meets its kids in turn.
     turn: Queue<Task>,
@@ -48,7 +48,7 @@ fn loop_kind(label: Option<LabelId>) -> ScopeKind
     }
 }
 
-/// The scope of an expression: of a block that inside it, of any other the one around it.
+/// The scope of an expression: of a block the one inside it, of any other the one around it.
 fn scope_within(expr: &Expr, inside: ScopeId, outside: ScopeId) -> ScopeId
     ensures { result ≡ scope_within (expr_form expr.now) inside outside }
 {
@@ -66,7 +66,7 @@ fn scope_within(expr: &Expr, inside: ScopeId, outside: ScopeId) -> ScopeId
 }
 
 impl Walk {
-    /// A walk that has nothing to do yet. It takes its memory from `alloc`, and none now.
+    /// A walk that has nothing to do yet. It allocates from `alloc`, and nothing now.
     pub(crate) fn new(alloc: Global, scopes: ExprScopes, around: Around) -> Walk
         ensures scopes { result.scopes ≡ scopes }
         ensures around { result.around ≡ around }
@@ -149,7 +149,7 @@ impl Walk {
         self.open_here(ScopeKind::None)
     }
 
-    /// Opens the scopes of a block: with an id it stands around constants too.
+    /// Opens the scopes of a block: with an id, around its constants too.
     fn open_block(&mut self, id: Option<BlockId>, label: Option<LabelId>) -> Result<(), ScopesFault>
         requires here { self.old.around.here < length self.old.scopes.scopes }
         requires constant { self.old.around.constant < length self.old.scopes.scopes }
@@ -275,7 +275,7 @@ impl Walk {
         }
     }
 
-    /// Meets an expression, and answers its scope: what is inside it is what is to be done next.
+    /// Meets an expression, and answers its scope: what is inside it comes next.
     fn meet_expr(&mut self, store: &ExpressionStore, expr: ExprId) -> Result<ScopeId, ScopesFault>
         requires ready { IsReady store.now.nodes (machine self.old (Task.Expr expr ∷ self.old.tasks)) }
         ensures moves { IfOk result (λ _. Moves store.now.nodes

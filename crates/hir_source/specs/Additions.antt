@@ -99,7 +99,7 @@ abbrev pub with_diagnostic : SourceMapBuilder → ExpressionStoreDiagnostics →
 with_diagnostic b diagnostic =
     record b { exprs = record b.exprs { diagnostics = b.exprs.diagnostics ++ diagnostic ∷ [] } }
 
--- the maps of a builder: the expression part exactly where nodes are kept or there is an expansion or a
+-- the maps of a builder: the expression part exactly if nodes are kept or there is an expansion or a
 -- diagnostic
 abbrev pub finished : Bool → SourceMapBuilder → ExpressionStoreSourceMap
 finished keeps_nodes b =

@@ -1,4 +1,4 @@
--- What a source map answers: the entry of a map, where the part that has the map is kept.
+-- What a source map answers: the entry of a map, if the part that has the map is kept.
 use Rattle.std.specs.Prelude.{ℕ, List, [], Option, Some, None, Result, Ok, Err}
 use Rattle.std.specs.FinMap as map
 use Rattle.hir_base.specs.Table.{by_code}

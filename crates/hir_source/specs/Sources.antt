@@ -57,7 +57,7 @@ list_or_none (Some list) = list
 abbrev pub patterns_of : map.FinMap by_code (List ℕ) → ℕ → List ℕ
 patterns_of definitions binding = list_or_none (map.get definitions (id_key binding))
 
--- the definitions with one more of this binding, behind its others
+-- the definitions with one more of this binding, after its others
 abbrev pub and_definition : map.FinMap by_code (List ℕ) → ℕ → ℕ → map.FinMap by_code (List ℕ)
 and_definition definitions binding pat =
     map.insert definitions (id_key binding) (patterns_of definitions binding ++ pat ∷ [])

@@ -11,7 +11,7 @@ use smallvec::SmallVec;
 use std::alloc::{AllocFailed, Global};
 use std::marker::Model;
 
-/// Patterns in order, of which the first four take no memory, seen as the list of them.
+/// A list of patterns, seen as that list. The first four take no memory.
 #[derive(Drop)]
 pub(crate) struct Definitions {
     list: SmallVec<PatId, 4>,
@@ -60,7 +60,7 @@ impl Definitions {
         self.list.as_slice()
     }
 
-    /// Puts the pattern last. After a refusal the list is unchanged, and the pattern is handed back.
+    /// Adds the pattern at the end. If memory is refused, the list is unchanged and the pattern is handed back.
     pub(crate) fn push(&mut self, pat: PatId) -> Result<(), AllocFailed<PatId>>
         ensures ok { OnOk result (self.new ≡ self.old ++ pat ∷ []) }
         ensures err { OnErr result (self.new ≡ self.old) }

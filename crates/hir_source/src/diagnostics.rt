@@ -1,4 +1,4 @@
-//! What lowering complains about, beside the nodes that it made.
+//! The diagnostics of lowering, which it gives in addition to nodes.
 ghost use Rattle.hir_base.specs.Exact.{exact};
 
 use hir_base::{
@@ -29,7 +29,7 @@ impl TryClone for MissingBodyItemKind {
     ghost clone_is_same = { Prim.search exact };
 }
 
-/// What lowering found wrong, each with the node of which it speaks.
+/// What lowering found wrong, each with the node that it is about.
 #[derive(Drop, PartialEq, Eq)]
 pub enum ExpressionStoreDiagnostics {
     /// Code that a `cfg` leaves out.
@@ -46,7 +46,7 @@ pub enum ExpressionStoreDiagnostics {
         /// The path of the macro.
         path: ModPath,
     },
-    /// A label that stands beyond a function's, a closure's or a constant's edge.
+    /// A label beyond the edge of a function, a closure or a constant.
     UnreachableLabel {
         node: InFile<LifetimePtr>,
         /// The label.
@@ -55,10 +55,10 @@ pub enum ExpressionStoreDiagnostics {
     /// An `.await` where nothing is asynchronous.
     AwaitOutsideOfAsync {
         node: InFile<AstPtr<ast::AwaitExpr>>,
-        /// Where it stands instead.
+        /// Where it is instead.
         location: Text,
     },
-    /// A label that no loop or block around has.
+    /// A label that no enclosing loop or block has.
     UndeclaredLabel {
         node: InFile<LifetimePtr>,
         /// The label.
@@ -68,7 +68,7 @@ pub enum ExpressionStoreDiagnostics {
     PatternArgInExternFn {
         node: InFile<PatPtr>,
     },
-    /// A struct expression with a base, assigned to.
+    /// A struct expression with a base, on the left of an assignment.
     FruInDestructuringAssignment {
         node: InFile<ExprPtr>,
     },

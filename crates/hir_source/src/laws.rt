@@ -1,4 +1,4 @@
-//! Laws that a reader relies on, and that no call's contract says.
+//! Laws that a reader relies on, and that no call's contract states.
 //! Each is a function with no body to run: its contract is the law, proved for every value.
 
 ghost use Rattle.std.specs.Prelude.{◌≡◌, ℕ, Bool, IsTrue, is_some};
@@ -15,14 +15,14 @@ ghost use Rattle.hir_source.specs.Compared.{compared};
 use crate::source_map::ExpressionStoreSourceMap;
 use crate::source_map_builder::SourceMapBuilder;
 
-/// Source maps are equal exactly where their compared parts are the same, and so equality is an equivalence.
+/// Source maps are equal exactly if their compared parts are the same, and so equality is an equivalence.
 pub fn equality_is_of_the_compared_part()
     ensures decides { (x y : ExpressionStoreSourceMap)
         → Decides (⟦<ExpressionStoreSourceMap as PartialEq>⟧.eq x y) (compared x ≡ compared y) }
     ensures equivalence { IsEquivalence ⟦<ExpressionStoreSourceMap as PartialEq>⟧.eq }
 {}
 
-/// What is said of the way from a source to its node changes no equality, whether or not the expression part is kept.
+/// An entry from a source to its node changes no equality, whether or not the expression part is kept.
 pub fn forward_maps_may_differ()
     ensures exprs { (b : SourceMapBuilder) (keeps_nodes : Bool) (source : Source) (id : ExprOrPatId)
         → IsTrue (⟦<ExpressionStoreSourceMap as PartialEq>⟧.eq
@@ -41,8 +41,8 @@ pub fn forward_maps_may_differ()
         (finished keeps_nodes (with_lifetime b source id)) (finished keeps_nodes b)) }
 {}
 
-/// Equal source maps both keep their expression parts or neither does, know the same source of each node, and have the same expansions
-/// and diagnostics: where one of these differs, the maps aren't equal.
+/// Of equal source maps both keep their expression parts or neither does, and both have the same source of each node, the same
+/// expansions and the same diagnostics: if one of these differs, the maps aren't equal.
 pub fn equal_maps_know_the_same_sources()
     ensures kept { (x y : ExpressionStoreSourceMap)
         → IsTrue (⟦<ExpressionStoreSourceMap as PartialEq>⟧.eq x y) → is_some x.exprs ≡ is_some y.exprs }
@@ -67,7 +67,7 @@ pub fn equal_maps_know_the_same_sources()
         → IsTrue (⟦<ExpressionStoreSourceMap as PartialEq>⟧.eq x y) → diagnostics_of x ≡ diagnostics_of y }
 {}
 
-/// Builders of source maps are equal exactly where all their maps are the same, those from sources to nodes among them.
+/// Builders of source maps are equal exactly if all their maps are the same, also those from sources to nodes.
 pub fn builders_are_compared_by_all_maps()
     ensures { (x y : SourceMapBuilder)
         → Decides (⟦<SourceMapBuilder as PartialEq>⟧.eq x y) (HasSameMaps x y) }

@@ -1,4 +1,4 @@
-//! The maps of a finished store, which are read: from nodes to their sources and back, expansions and diagnostics.
+//! The read-only maps of a finished store: from nodes to their sources and back, expansions and diagnostics.
 
 ghost use Rattle.std.specs.Prelude.{◌≡◌, ◌↔◌, IsTrue, IsSome, Some};
 ghost use Rattle.std.specs.List.Sorted.{IsPermutation};
@@ -29,7 +29,7 @@ pub struct ExpressionStoreSourceMap {
     pub(crate) types: TypeSources,
 }
 
-/// Its parts go one after the other. It stands here, so that it is proved once, and is a call wherever a value is dropped.
+/// Drops its parts one after the other. It is written out so that it is proved once, and is a call wherever a value is dropped.
 impl Drop for ExpressionStoreSourceMap {
     fn drop(self) {
         let ExpressionStoreSourceMap { exprs, types } = self;
@@ -41,7 +41,7 @@ impl ExpressionStoreSourceMap {
 
     /// Where the expression or the pattern came from.
     ///
-    /// Answers `SyntheticSyntax` where that was not said: lowering made up the node, say. So do the next three calls.
+    /// Answers `SyntheticSyntax` if there is no entry: lowering made up the node, say. So do the next three calls.
     pub fn expr_or_pat_syntax(&self, id: ExprOrPatId) -> Result<ExprOrPatSource, SyntheticSyntax>
         ensures { result ≡ or_synthetic (expr_or_pat_source self.now id) }
     {
@@ -77,7 +77,7 @@ impl ExpressionStoreSourceMap {
         source.copied().ok_or(SyntheticSyntax)
     }
 
-    /// What the expression in source became: an expression, or a pattern where it is assigned to.
+    /// What the expression in source became: an expression, or a pattern if it is assigned to.
     pub fn node_expr(&self, node: InFile<ExprPtr>) -> Option<ExprOrPatId>
         ensures { result ≡ expr_at self.now node }
     {
@@ -109,7 +109,7 @@ impl ExpressionStoreSourceMap {
         self.exprs.as_ref()?.label_map.get(&source).copied()
     }
 
-    /// What the macro call that stands as an expression became.
+    /// What the macro call in expression position became.
     pub fn macro_expansion_expr(&self, node: InFile<AstPtr<ast::MacroExpr>>) -> Option<ExprOrPatId>
         ensures { result ≡ expr_at self.now node }
     {
@@ -134,14 +134,14 @@ impl ExpressionStoreSourceMap {
         self.node_macro_file(node)
     }
 
-    /// All macro calls with what they expanded to, in an order that nobody may rely on.
+    /// All macro calls with what they expanded to, in no promised order.
     pub fn macro_calls(&self) -> MacroCalls<'_>
         ensures { IsPermutation (coded source_key result) (map.entries (expansions_of self.now)) }
     {
         MacroCalls::new(self.expansions())
     }
 
-    /// All macro calls with what they expanded to, as references, in an order that nobody may rely on.
+    /// All macro calls with what they expanded to, as references, in no promised order.
     pub fn expansions(&self) -> Expansions<'_>
         ensures { IsPermutation (coded source_key result) (map.entries (expansions_of self.now)) }
     {
@@ -161,7 +161,7 @@ impl ExpressionStoreSourceMap {
         }
     }
 
-    /// A source of the label, which has to be there: `has_label_syntax` tests it.
+    /// A source of the label, which must be there: `has_label_syntax` tests that.
     pub fn label_syntax(&self, label: LabelId) -> LabelSource
         requires { IsSome (label_source self.now label) }
         ensures { Some result ≡ label_source self.now label }
@@ -176,7 +176,7 @@ impl ExpressionStoreSourceMap {
         }
     }
 
-    /// Whether there is a source of the field of which the expression is the value.
+    /// Whether there is a source of the field whose value is the expression.
     pub fn has_field_syntax(&self, expr: ExprId) -> bool
         ensures { IsTrue result ↔ IsSome (field_source self.now expr) }
     {
@@ -186,7 +186,7 @@ impl ExpressionStoreSourceMap {
         }
     }
 
-    /// A source of the field of which the expression is the value, which has to be there: `has_field_syntax` tests it.
+    /// A source of the field whose value is the expression. It must be there: `has_field_syntax` tests that.
     pub fn field_syntax(&self, expr: ExprId) -> FieldSource
         requires { IsSome (field_source self.now expr) }
         ensures { Some result ≡ field_source self.now expr }
@@ -211,7 +211,7 @@ impl ExpressionStoreSourceMap {
         }
     }
 
-    /// A source of the field that holds the pattern, which has to be there: `has_pat_field_syntax` tests it.
+    /// A source of the field that holds the pattern. It must be there: `has_pat_field_syntax` tests that.
     pub fn pat_field_syntax(&self, pat: PatId) -> PatFieldSource
         requires { IsSome (pat_field_source self.now pat) }
         ensures { Some result ≡ pat_field_source self.now pat }
@@ -226,7 +226,7 @@ impl ExpressionStoreSourceMap {
         }
     }
 
-    /// The patterns that define the binding, in the order in which they were added. There are none where the expression part isn't kept.
+    /// The patterns that define the binding, in the order in which they were added: none if the expression part isn't kept.
     pub fn patterns_for_binding(&self, binding: BindingId) -> &[PatId]
         ensures { result.now ≡ patterns_for self.now binding }
     {
@@ -251,7 +251,7 @@ impl ExpressionStoreSourceMap {
     }
 }
 
-/// Whether what is compared of two expression parts is equal.
+/// Whether the compared parts of two expression parts are equal.
 fn same_exprs(x: &ExprSources, y: &ExprSources) -> bool
     ensures { result ≡ same_exprs ⟦<ExprOrPatSource as PartialEq>⟧.eq ⟦<MacroCallId as PartialEq>⟧.eq
         ⟦<ExpressionStoreDiagnostics as PartialEq>⟧.eq x.now y.now }
@@ -263,7 +263,7 @@ fn same_exprs(x: &ExprSources, y: &ExprSources) -> bool
         && x.diagnostics == y.diagnostics
 }
 
-/// Source maps are equal where their compared parts are: whether the expression part is kept, where expressions, patterns, labels, types
+/// Source maps are equal if their compared parts are: whether the expression part is kept, where expressions, patterns, labels, types
 /// and lifetimes came from, the expansions and the diagnostics. The maps from sources to nodes follow from these, and may differ.
 impl PartialEq for ExpressionStoreSourceMap {
     ghost use Rattle.hir_source.specs.Compared.{same_compared};

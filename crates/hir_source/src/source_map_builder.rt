@@ -15,7 +15,7 @@ use hir_base::{
 use hir_path::{BindingId, ExprId, ExprOrPatId, LabelId, LifetimeRefId, PatId, TypeRefId};
 use std::alloc::{AllocFailed, Global};
 
-/// Where nodes come from, as far as it was said. Nothing is checked: ids may be of nodes that aren't there.
+/// Where nodes come from, as far as entries were added. Nothing is checked: ids may be of nodes that don't exist.
 #[derive(PartialEq, Eq)]
 pub struct SourceMapBuilder {
     pub(crate) exprs: ExprSources,
@@ -23,7 +23,7 @@ pub struct SourceMapBuilder {
     pub(crate) alloc: Global,
 }
 
-/// Its parts go one after the other. It stands here, so that it is proved once, and is a call wherever a value is dropped.
+/// Drops its parts one after the other. It is written out so that it is proved once, and is a call wherever a value is dropped.
 impl Drop for SourceMapBuilder {
     fn drop(self) {
         let SourceMapBuilder {
@@ -37,7 +37,7 @@ impl Drop for SourceMapBuilder {
 impl SourceMapBuilder {
     ghost use Rattle.hir_source.specs.Additions.{no_sources, with_expr, with_expr_back, with_pat, with_pat_back, with_label, with_label_back, with_type, with_type_back, with_lifetime, with_lifetime_back, with_field_back, with_pat_field_back, with_expansion, with_definition, with_diagnostic, finished};
 
-    /// Maps without entries, which take their memory from `alloc`, and none now.
+    /// Maps without entries. They take their memory from `alloc`, and none yet.
     pub fn new(alloc: Global) -> SourceMapBuilder
         ensures { result ≡ no_sources alloc }
     {
@@ -48,10 +48,10 @@ impl SourceMapBuilder {
         }
     }
 
-    /// This source became this expression, or this pattern where it is assigned to.
+    /// Records that this source became this expression, or this pattern if it is assigned to.
     ///
-    /// It takes the place of what was said of the same key before. Where room for one more entry was refused, key and value are handed back
-    /// and the maps are as they were. So it is with the other calls that add something.
+    /// The entry replaces an earlier one of the same key. If room for one more entry was refused, key and value are handed back and
+    /// the maps are unchanged. So it is with the other calls that add something.
     pub fn map_expr(
         &mut self,
         source: ExprSource,
@@ -64,7 +64,7 @@ impl SourceMapBuilder {
         self.exprs.expr_map.put(source, expr)
     }
 
-    /// The expression came from this source.
+    /// Records that the expression came from this source.
     pub fn map_expr_back(
         &mut self,
         expr: ExprId,
@@ -77,7 +77,7 @@ impl SourceMapBuilder {
         self.exprs.expr_map_back.put(expr, source)
     }
 
-    /// This source became this pattern, or this expression.
+    /// Records that this source became this pattern, or this expression.
     pub fn map_pat(
         &mut self,
         source: PatSource,
@@ -90,7 +90,7 @@ impl SourceMapBuilder {
         self.exprs.pat_map.put(source, pat)
     }
 
-    /// The pattern came from this source.
+    /// Records that the pattern came from this source.
     pub fn map_pat_back(
         &mut self,
         pat: PatId,
@@ -103,7 +103,7 @@ impl SourceMapBuilder {
         self.exprs.pat_map_back.put(pat, source)
     }
 
-    /// This source became this label.
+    /// Records that this source became this label.
     pub fn map_label(
         &mut self,
         source: LabelSource,
@@ -116,7 +116,7 @@ impl SourceMapBuilder {
         self.exprs.label_map.put(source, label)
     }
 
-    /// The label came from this source.
+    /// Records that the label came from this source.
     pub fn map_label_back(
         &mut self,
         label: LabelId,
@@ -129,7 +129,7 @@ impl SourceMapBuilder {
         self.exprs.label_map_back.put(label, source)
     }
 
-    /// This source became this type.
+    /// Records that this source became this type.
     pub fn map_type(
         &mut self,
         source: TypeSource,
@@ -142,7 +142,7 @@ impl SourceMapBuilder {
         self.types.type_map.put(source, type_ref)
     }
 
-    /// The type came from this source.
+    /// Records that the type came from this source.
     pub fn map_type_back(
         &mut self,
         type_ref: TypeRefId,
@@ -155,7 +155,7 @@ impl SourceMapBuilder {
         self.types.type_map_back.put(type_ref, source)
     }
 
-    /// This source became this lifetime.
+    /// Records that this source became this lifetime.
     pub fn map_lifetime(
         &mut self,
         source: LifetimeSource,
@@ -168,7 +168,7 @@ impl SourceMapBuilder {
         self.types.lifetime_map.put(source, lifetime)
     }
 
-    /// The lifetime came from this source.
+    /// Records that the lifetime came from this source.
     pub fn map_lifetime_back(
         &mut self,
         lifetime: LifetimeRefId,
@@ -181,7 +181,7 @@ impl SourceMapBuilder {
         self.types.lifetime_map_back.put(lifetime, source)
     }
 
-    /// The field of which the expression is the value came from this source.
+    /// Records that the field whose value is the expression came from this source.
     pub fn map_field_back(
         &mut self,
         expr: ExprId,
@@ -194,7 +194,7 @@ impl SourceMapBuilder {
         self.exprs.field_map_back.put(expr, source)
     }
 
-    /// The field that holds the pattern came from this source.
+    /// Records that the field that holds the pattern came from this source.
     pub fn map_pat_field_back(
         &mut self,
         pat: PatId,
@@ -207,7 +207,7 @@ impl SourceMapBuilder {
         self.exprs.pat_field_map_back.put(pat, source)
     }
 
-    /// The macro call has this expansion.
+    /// Records that the macro call has this expansion.
     pub fn add_expansion(
         &mut self,
         call: InFile<MacroCallPtr>,
@@ -220,7 +220,7 @@ impl SourceMapBuilder {
         self.exprs.expansions.put(call, expansion)
     }
 
-    /// The pattern defines the binding, beside the patterns that were said to before.
+    /// Adds the pattern to those that define the binding.
     pub fn add_definition(
         &mut self,
         binding: BindingId,
@@ -233,7 +233,7 @@ impl SourceMapBuilder {
         define(self.alloc, &mut self.exprs.definitions, binding, pat)
     }
 
-    /// Adds a diagnostic behind the others.
+    /// Adds a diagnostic after the others.
     pub fn push_diagnostic(
         &mut self,
         diagnostic: ExpressionStoreDiagnostics,
@@ -245,10 +245,10 @@ impl SourceMapBuilder {
         self.exprs.diagnostics.push(diagnostic)
     }
 
-    /// The maps, to be read from now on.
+    /// Finishes the maps, which are read from now on.
     ///
-    /// The expression part, which is all but the maps of types and lifetimes, is kept exactly where the store keeps nodes of it, or where
-    /// there is an expansion or a diagnostic. Else it is dropped with its entries.
+    /// The expression part, which is all but the maps of types and lifetimes, is kept exactly if the store keeps nodes of it, or if
+    /// there is an expansion or a diagnostic. Otherwise it is dropped with its entries.
     pub fn finish(self, keeps_nodes: bool) -> ExpressionStoreSourceMap
         ensures { result ≡ finished keeps_nodes self }
     {
@@ -266,7 +266,7 @@ impl SourceMapBuilder {
     }
 }
 
-/// Puts the pattern last among those that define the binding.
+/// Adds the pattern after the others that define the binding.
 fn define(
     alloc: Global,
     definitions: &mut Table<BindingId, Definitions>,

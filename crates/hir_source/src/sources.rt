@@ -1,4 +1,4 @@
-//! The two parts of a source map: the maps of expressions with all that belongs to them, and the maps of types and lifetimes.
+//! The two parts of a source map: the maps of expressions and all that belongs to them, and the maps of types and lifetimes.
 
 ghost use Rattle.std.specs.Prelude.{◌≡◌};
 
@@ -14,7 +14,7 @@ use std::alloc::Global;
 /// Where expressions, patterns, labels and bindings come from, what macro calls expanded to, and the diagnostics.
 #[derive(PartialEq, Eq)]
 pub(crate) struct ExprSources {
-    /// An expression in source can become a pattern, where it is assigned to.
+    /// An expression in source can become a pattern, if it is assigned to.
     pub(crate) expr_map: Table<ExprSource, ExprOrPatId>,
     pub(crate) expr_map_back: Table<ExprId, ExprOrPatSource>,
     pub(crate) pat_map: Table<PatSource, ExprOrPatId>,
@@ -22,14 +22,14 @@ pub(crate) struct ExprSources {
     pub(crate) label_map: Table<LabelSource, LabelId>,
     pub(crate) label_map_back: Table<LabelId, LabelSource>,
     pub(crate) definitions: Table<BindingId, Definitions>,
-    /// The field of a struct expression goes by the expression that is its value.
+    /// The key of a field of a struct expression is the expression that is its value.
     pub(crate) field_map_back: Table<ExprId, FieldSource>,
     pub(crate) pat_field_map_back: Table<PatId, PatFieldSource>,
     pub(crate) expansions: Table<InFile<MacroCallPtr>, MacroCallId>,
     pub(crate) diagnostics: Seq<ExpressionStoreDiagnostics>,
 }
 
-/// Its parts go one after the other. It stands here, so that it is proved once, and is a call wherever a value is dropped.
+/// Drops its parts one after the other. It is written out so that it is proved once, and is a call wherever a value is dropped.
 impl Drop for ExprSources {
     fn drop(self) {
         let ExprSources {
@@ -57,7 +57,7 @@ pub(crate) struct TypeSources {
     pub(crate) lifetime_map_back: Table<LifetimeRefId, LifetimeSource>,
 }
 
-/// Its parts go one after the other. It stands here, so that it is proved once, and is a call wherever a value is dropped.
+/// Drops its parts one after the other. It is written out so that it is proved once, and is a call wherever a value is dropped.
 impl Drop for TypeSources {
     fn drop(self) {
         let TypeSources {

@@ -14,13 +14,13 @@ use Rattle.hir_expr_store.specs.Contents.{Contents, contents_fault}
 use Rattle.hir_source.specs.Additions.{HasSameMaps, no_sources}
 use Rattle.hir_store.specs.declared.builder.ExpressionStoreBuilder.{ExpressionStoreBuilder}
 
--- the nodes and what they name, the roots where a list of them was begun, and what was said besides
+-- the nodes and what they name, the roots where a list of them was begun, and the side tables
 pub record Building : Type 0 where
   pub nodes : Nodes
   pub roots : Option (List Root)
   pub side_tables : SideTables
 
--- a builder of nothing, which takes its memory from here
+-- an empty builder, which takes its memory from here
 abbrev pub empty_builder : Global → ExpressionStoreBuilder
 empty_builder alloc = record { exprs = []; pats = []; bindings = []; labels = []; lifetimes = []; types = []; binding_owners = map.empty; hygiene = map.empty; block_scopes = []; source_map = no_sources alloc; roots = None; alloc = alloc }
 
@@ -34,7 +34,7 @@ side_tables_of b = record { owners = b.binding_owners; hygiene = b.hygiene; bloc
 abbrev pub building_of : ExpressionStoreBuilder → Building
 building_of b = record { nodes = nodes_of b; roots = b.roots; side_tables = side_tables_of b }
 
--- two builders have the same nodes, roots and side_tables, and the same maps of sources
+-- two builders have the same nodes, roots and side tables, and the same maps of sources
 abbrev pub HasTheSame : ExpressionStoreBuilder → ExpressionStoreBuilder → Type 0
 HasTheSame b c = (building_of b ≡ building_of c) × HasSameMaps b.source_map c.source_map
 
@@ -46,7 +46,7 @@ roots_or_none (Some roots) = roots
 abbrev pub has_exprs : Nodes → Bool
 has_exprs s = not (nat_eq (length s.exprs) 0) || not (nat_eq (length s.labels) 0) || not (nat_eq (length s.pats) 0) || not (nat_eq (length s.bindings) 0)
 
--- the side_tables where the expression part is kept, and else none
+-- the side tables where the expression part is kept, and else empty ones
 abbrev pub kept_side_tables : Bool → SideTables → SideTables
 kept_side_tables kept side_tables = cond kept side_tables no_side_tables
 

@@ -39,7 +39,7 @@ pub struct ExpressionStoreBuilder {
     pub(crate) alloc: Global,
 }
 
-/// Its parts go one after the other. It stands here, so that it is proved once, and is a call wherever a value is dropped.
+/// Drops its parts one after the other. It is here so that it is proved once, and is a call wherever a value is dropped.
 impl Drop for ExpressionStoreBuilder {
     fn drop(self) {
         let ExpressionStoreBuilder {
@@ -69,7 +69,7 @@ pub struct Refused {
 }
 
 impl ExpressionStoreBuilder {
-    /// A builder of nothing, which takes its memory from `alloc`, and none now.
+    /// An empty builder, which takes its memory from `alloc`, and none now.
     pub fn new(alloc: Global) -> ExpressionStoreBuilder
         ensures { result ≡ empty_builder alloc }
     {
@@ -91,8 +91,8 @@ impl ExpressionStoreBuilder {
 
     /// Adds an expression and answers its id, the number of expressions before it.
     ///
-    /// Answers `Memory` where room for it was refused, and `Full` exactly where there are `MOST_ITEMS`. Either hands the expression
-    /// back, and the builder is as it was. So do the other calls that add something.
+    /// `Full` when there are `MOST_ITEMS`, and only then; `Memory` when memory for it is refused. Either hands the expression back and
+    /// leaves the builder as it was. So do the other calls that add something.
     pub fn alloc_expr(&mut self, expr: Expr) -> Result<ExprId, (ArenaFault, Expr)>
         ensures ok { IfOk result (λ id. (id ≡ length self.old.exprs)
             × (self.new ≡ record self.old { exprs = self.old.exprs ++ expr ∷ [] })) }
@@ -178,7 +178,7 @@ impl ExpressionStoreBuilder {
     }
 
     /// Lists a root, with the lengths of the arenas of expressions, patterns and bindings at this moment as its ends; a list is begun
-    /// where there is none. After a refusal the builder is as it was, and the id is handed back.
+    /// where there is none. If memory is refused, the builder is as it was and the id is handed back.
     pub fn push_root(&mut self, expr: ExprId) -> Result<(), AllocFailed<ExprId>>
         ensures ok { OnOk result (self.new
             ≡ record self.old { roots = and_root (building_of self.old) expr }) }
@@ -207,9 +207,9 @@ impl ExpressionStoreBuilder {
         }
     }
 
-    /// The path that the expression or the pattern is was written with this hygiene. It takes the place of what was said before.
+    /// Sets the hygiene of the path that the expression or the pattern is, in place of an earlier one.
     ///
-    /// Where room for one more entry was refused, id and hygiene are handed back and the builder is as it was.
+    /// If memory for one more entry is refused, id and hygiene are handed back and the builder is as it was.
     pub fn set_hygiene(
         &mut self,
         id: ExprOrPatId,
@@ -223,7 +223,7 @@ impl ExpressionStoreBuilder {
         self.hygiene.insert(id, hygiene).map(|_| ())
     }
 
-    /// Lists a block that may hold items, behind the others. After a refusal the builder is as it was, and the block is handed back.
+    /// Lists a block that may hold items, after the others. If memory is refused, the builder is as it was and the block is handed back.
     pub fn add_block_scope(&mut self, block: BlockId) -> Result<(), AllocFailed<BlockId>>
         ensures ok { OnOk result (self.new
             ≡ record self.old { block_scopes = self.old.block_scopes ++ block ∷ [] }) }
@@ -298,7 +298,7 @@ impl ExpressionStoreBuilder {
     }
 }
 
-/// What is said of nodes besides, where they are kept; else nothing.
+/// The side tables, where they are kept; else empty ones.
 fn kept_side_tables(alloc: Global, kept: bool, side_tables: SideTables) -> SideTables
     ensures { result ≡ kept_side_tables kept side_tables }
 {

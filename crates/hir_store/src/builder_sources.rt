@@ -1,4 +1,4 @@
-//! What a builder is told of where its nodes come from: each call adds one entry to one map of its source map.
+//! Recording in a builder where its nodes come from: each call adds one entry to one map of its source map.
 
 ghost use Rattle.std.specs.Prelude.{◌≡◌, OnOk, OnErr, IfErr};
 ghost use Rattle.hir_source.specs.Additions.{with_expr, with_expr_back, with_pat, with_pat_back, with_label, with_label_back, with_type, with_type_back, with_lifetime, with_lifetime_back, with_field_back, with_pat_field_back, with_expansion, with_definition, with_diagnostic};
@@ -13,10 +13,10 @@ use hir_source::ExpressionStoreDiagnostics;
 use std::alloc::AllocFailed;
 
 impl ExpressionStoreBuilder {
-    /// This source became this expression, or this pattern where it is assigned to.
+    /// Records that this source became this expression, or this pattern where it is assigned to.
     ///
-    /// It takes the place of what was said of the same key before. Where room for one more entry was refused, key and value are handed back
-    /// and the builder is as it was. So it is with the other calls that add to the source map.
+    /// It replaces an earlier entry of the same key. If memory for one more entry is refused, key and value are handed back and the
+    /// builder is as it was. So it is with the other calls that add to the source map.
     pub fn map_expr(
         &mut self,
         source: ExprSource,
@@ -30,7 +30,7 @@ impl ExpressionStoreBuilder {
         self.source_map.map_expr(source, expr)
     }
 
-    /// The expression came from this source.
+    /// Records that the expression came from this source.
     pub fn map_expr_back(
         &mut self,
         expr: ExprId,
@@ -44,7 +44,7 @@ impl ExpressionStoreBuilder {
         self.source_map.map_expr_back(expr, source)
     }
 
-    /// This source became this pattern, or this expression.
+    /// Records that this source became this pattern, or this expression.
     pub fn map_pat(
         &mut self,
         source: PatSource,
@@ -58,7 +58,7 @@ impl ExpressionStoreBuilder {
         self.source_map.map_pat(source, pat)
     }
 
-    /// The pattern came from this source.
+    /// Records that the pattern came from this source.
     pub fn map_pat_back(
         &mut self,
         pat: PatId,
@@ -72,7 +72,7 @@ impl ExpressionStoreBuilder {
         self.source_map.map_pat_back(pat, source)
     }
 
-    /// This source became this label.
+    /// Records that this source became this label.
     pub fn map_label(
         &mut self,
         source: LabelSource,
@@ -86,7 +86,7 @@ impl ExpressionStoreBuilder {
         self.source_map.map_label(source, label)
     }
 
-    /// The label came from this source.
+    /// Records that the label came from this source.
     pub fn map_label_back(
         &mut self,
         label: LabelId,
@@ -100,7 +100,7 @@ impl ExpressionStoreBuilder {
         self.source_map.map_label_back(label, source)
     }
 
-    /// This source became this type.
+    /// Records that this source became this type.
     pub fn map_type(
         &mut self,
         source: TypeSource,
@@ -114,7 +114,7 @@ impl ExpressionStoreBuilder {
         self.source_map.map_type(source, type_ref)
     }
 
-    /// The type came from this source.
+    /// Records that the type came from this source.
     pub fn map_type_back(
         &mut self,
         type_ref: TypeRefId,
@@ -128,7 +128,7 @@ impl ExpressionStoreBuilder {
         self.source_map.map_type_back(type_ref, source)
     }
 
-    /// This source became this lifetime.
+    /// Records that this source became this lifetime.
     pub fn map_lifetime(
         &mut self,
         source: LifetimeSource,
@@ -142,7 +142,7 @@ impl ExpressionStoreBuilder {
         self.source_map.map_lifetime(source, lifetime)
     }
 
-    /// The lifetime came from this source.
+    /// Records that the lifetime came from this source.
     pub fn map_lifetime_back(
         &mut self,
         lifetime: LifetimeRefId,
@@ -156,7 +156,7 @@ impl ExpressionStoreBuilder {
         self.source_map.map_lifetime_back(lifetime, source)
     }
 
-    /// The field of which the expression is the value came from this source.
+    /// Records that the field whose value is the expression came from this source.
     pub fn map_field_back(
         &mut self,
         expr: ExprId,
@@ -170,7 +170,7 @@ impl ExpressionStoreBuilder {
         self.source_map.map_field_back(expr, source)
     }
 
-    /// The field that holds the pattern came from this source.
+    /// Records that the field that holds the pattern came from this source.
     pub fn map_pat_field_back(
         &mut self,
         pat: PatId,
@@ -184,7 +184,7 @@ impl ExpressionStoreBuilder {
         self.source_map.map_pat_field_back(pat, source)
     }
 
-    /// The macro call has this expansion.
+    /// Records that the macro call has this expansion.
     pub fn add_expansion(
         &mut self,
         call: InFile<MacroCallPtr>,
@@ -198,7 +198,7 @@ impl ExpressionStoreBuilder {
         self.source_map.add_expansion(call, expansion)
     }
 
-    /// The pattern defines the binding, beside the patterns that were said to before.
+    /// Records that the pattern defines the binding, in addition to those recorded before.
     pub fn add_definition(
         &mut self,
         binding: BindingId,
@@ -212,7 +212,7 @@ impl ExpressionStoreBuilder {
         self.source_map.add_definition(binding, pat)
     }
 
-    /// Adds a diagnostic behind the others.
+    /// Adds a diagnostic after the others.
     pub fn push_diagnostic(
         &mut self,
         diagnostic: ExpressionStoreDiagnostics,

@@ -49,8 +49,8 @@ impl ExpressionStoreBuilder {
     /// Nodes under no root are accepted and kept; so are a binding that several patterns name, and labels and lifetimes that several
     /// nodes name. Owners, hygiene, blocks and sources are not checked. The store keeps its expression part, which is all but types and
     /// lifetimes, exactly where an expression, a label, a pattern or a binding exists, and the source map keeps its own exactly there and
-    /// where an expansion or a diagnostic exists; a part that isn't kept is dropped with its entries. It takes time in the number of nodes, edges and roots, and doesn't recurse, but for associated type bindings that
-    /// are nested in one path.
+    /// where an expansion or a diagnostic exists; a part that isn't kept is dropped with its entries. It takes time in the number of
+    /// nodes, edges and roots. It recurses only into associated type bindings that are nested in one path.
     pub fn finish(self) -> Result<(ExpressionStore, ExpressionStoreSourceMap), Refused>
         ensures ok { IfOk result (λ made. (made.0 ≡ contents_of (building_of self))
             × finish_fault (building_of self) None) }

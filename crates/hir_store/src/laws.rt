@@ -1,4 +1,4 @@
-//! Laws that a reader relies on, and that no call's contract says, with those of accepted stores.
+//! Laws that a reader relies on and that no call's contract states, with those of accepted stores.
 //! Each is a function with no body to run: its contract is the law.
 
 ghost use Rattle.std.specs.Prelude.{◌≡◌, Option};
@@ -21,7 +21,7 @@ pub fn first_fault_is_one()
     ensures { (b : Building) (f g : Option FinishFault) → finish_fault b f → finish_fault b g → f ≡ g }
 {}
 
-/// Builders are equal exactly where they have the same nodes, roots and side_tables, and the same maps of sources.
+/// Builders are equal exactly where they have the same nodes, roots and side tables, and the same maps of sources.
 pub fn builders_are_compared_by_all_that_they_have()
     ensures { (x y : ExpressionStoreBuilder)
         → Decides (⟦<ExpressionStoreBuilder as PartialEq>⟧.eq x y) (HasTheSame x y) }

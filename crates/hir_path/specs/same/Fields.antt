@@ -9,6 +9,6 @@ and_decides a b p q join left right = (
   λ r. let at_a = p.1 (left r) in let at_b = q.1 (right r) in rw (at_a, at_b),
 )
 
--- two fields, of which nothing else is asked
+-- two fields, with no other condition
 pub both : {P Q : Type 0} (a b : Bool) → Decides a P → Decides b Q → Decides (a && b) (P × Q)
 both a b p q = and_decides a b p q (λ x y. (x, y)) (λ r. r.0) (λ r. r.1)

@@ -21,7 +21,7 @@ use Rattle.hir_path.specs.contracts.path.GenericArgsPartialEq.TheImpl.Laws as ar
 use Rattle.hir_path.specs.contracts.path.AssociatedTypeBindingPartialEq.TheImpl as binding
 use Rattle.hir_path.specs.contracts.path.AssociatedTypeBindingPartialEq.TheImpl.Laws as binding_laws
 
--- x, and that a test decides of each y whether it is x
+-- x, with a test that decides for each y whether it is x
 abbrev Told : {X : Type 0} → (X → X → Bool) → Type 0
 Told {X} E = (x : X) × ((y : X) → Decides (E x y) (x ≡ y))
 
@@ -63,7 +63,7 @@ same_args x y a h b p = λ i. record { args = a i; has_self_type = h i; bindings
 opened_args : (x y : GenericArgs) → out-GenericArgs x ≡ out-GenericArgs y → x ≡ y
 opened_args x y e = sym (roll-out-GenericArgs x) ∙ ap roll-GenericArgs e ∙ roll-out-GenericArgs y
 
--- generic arguments, where their bindings are told apart
+-- generic arguments, where a test decides whether their bindings are the same
 args_step : (x y : GenericArgs) → Decides (pointwise binding.ghosts.eq (out-GenericArgs x).bindings (out-GenericArgs y).bindings) ((out-GenericArgs x).bindings ≡ (out-GenericArgs y).bindings) → Decides (args.ghosts.eq x y) (x ≡ y)
 args_step x y bindings =
     let u = out-GenericArgs x in
@@ -86,7 +86,7 @@ opened_binding x y e = sym (roll-out-AssociatedTypeBinding x) ∙ ap roll-Associ
 types_decide : (x y : Option ℕ) → Decides (option_eq eqb x y) (x ≡ y)
 types_decide x y = search exact
 
--- an associated type binding, where its own arguments are told apart
+-- an associated type binding, where a test decides whether its own arguments are the same
 binding_step : (x y : AssociatedTypeBinding) → Decides (option_eq args.ghosts.eq (out-AssociatedTypeBinding x).args (out-AssociatedTypeBinding y).args) ((out-AssociatedTypeBinding x).args ≡ (out-AssociatedTypeBinding y).args) → Decides (binding.ghosts.eq x y) (x ≡ y)
 binding_step x y inner =
     let u = out-AssociatedTypeBinding x in

@@ -45,7 +45,7 @@ types_decide p q =
     (λ e i. (e i).type_map)
     (λ e. (λ i. (e i).type_map_back, (λ i. (e i).lifetime_map, λ i. (e i).lifetime_map_back)))
 
--- two handles to the memory are never told apart
+-- two handles to the memory always compare as equal
 handles_decide : Decides true (true ≡ true)
 handles_decide = (λ h. refl, λ e. refl)
 

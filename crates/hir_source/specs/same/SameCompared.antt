@@ -27,14 +27,14 @@ in_words d to from = (λ h. to (d.0 h), λ q. d.1 (from q))
 same_value : {X : Type 0} (x y : X) → Some x ≡ Some y → x ≡ y
 same_value x y e = cc
 
--- a test of optional values that decides whether what f says of them is the same
+-- a test of optional values that decides whether f gives the same for them
 options : {X Y : Type 0} {E : X → X → Bool} (f : X → Y) → ((x y : X) → Decides (E x y) (f x ≡ f y)) → (x y : Option X) → Decides (option_eq E x y) (option_map f x ≡ option_map f y)
 options f d None None = (λ h. refl, λ e. refl)
 options f d None (Some y) = (λ h. absurd (cc), λ e. absurd (cc))
 options f d (Some x) None = (λ h. absurd (cc), λ e. absurd (cc))
 options f d (Some x) (Some y) = (λ h i. Some ((d x y).0 h i), λ e. (d x y).1 (same_value _ _ e))
 
--- a test that decides whether f says the same of two values is an equivalence
+-- a test that decides whether f gives the same for two values is an equivalence
 equivalence : {X Y : Type 0} {E : X → X → Bool} (f : X → Y) → ((x y : X) → Decides (E x y) (f x ≡ f y)) → IsEquivalence E
 equivalence {E = E} f d = record {
   refl = λ x. (d x x).1 refl;
