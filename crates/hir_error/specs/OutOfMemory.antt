@@ -1,5 +1,5 @@
 -- Which errors are want of memory.
-use Rattle.std.specs.Prelude.{List, [], ◌∷◌, ◌∈◌}
+use Rattle.std.specs.Prelude.{◌≡◌}
 use Rattle.hir_base.specs.declared.arena.ArenaFault.TheVariants as arena
 use Rattle.hir_faults.specs.declared.fault.FinishFault.TheVariants as finish
 use Rattle.hir_items.specs.declared.body_fault.BodyFault.TheVariants as body
@@ -8,11 +8,15 @@ use Rattle.hir_scope.specs.declared.fault.ScopesFault.TheVariants as scopes
 use Rattle.hir_pretty.specs.declared.fault.PrintFault.TheVariants as print
 use Rattle.hir_captures.specs.declared.fault.CapturesFault.TheVariants as captures
 use Rattle.hir_error.specs.declared.error.HirError.{HirError}
-use Rattle.hir_error.specs.declared.error.HirError.TheVariants.{Arena, Store, Body, Signature, Scopes, Print, Captures}
+use Rattle.hir_error.specs.declared.error.HirError.TheVariants as error
 
--- each refusal may be want of memory, but for a missing definition
-abbrev pub wants_of_memory : List HirError
-wants_of_memory = Arena arena.Memory ∷ Store finish.Memory ∷ Body body.Memory ∷ Signature signature.Memory ∷ Scopes scopes.Memory ∷ Print print.Memory ∷ Captures captures.Memory ∷ []
-
-abbrev pub IsOutOfMemory : HirError → Type {0}
-IsOutOfMemory error = error ∈ wants_of_memory
+-- the refusal that the error is of is want of memory; a missing definition never is
+abbrev pub IsOutOfMemory : HirError → Type 0
+IsOutOfMemory (error.Arena fault) = fault ≡ arena.Memory
+IsOutOfMemory (error.Store fault) = fault ≡ finish.Memory
+IsOutOfMemory (error.Body fault) = fault ≡ body.Memory
+IsOutOfMemory (error.Signature fault) = fault ≡ signature.Memory
+IsOutOfMemory (error.Missing definition) = ⊥
+IsOutOfMemory (error.Scopes fault) = fault ≡ scopes.Memory
+IsOutOfMemory (error.Print fault) = fault ≡ print.Memory
+IsOutOfMemory (error.Captures fault) = fault ≡ captures.Memory

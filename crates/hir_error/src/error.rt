@@ -1,6 +1,6 @@
 //! The error that each refusal turns into.
 
-ghost use Rattle.std.specs.Prelude.{IsTrue, ◌↔◌};
+ghost use Rattle.std.specs.Prelude.{◌↔◌, IsTrue};
 ghost use Rattle.hir_error.specs.OutOfMemory.{IsOutOfMemory};
 
 use hir_base::{ArenaFault, ExactEq};
@@ -49,14 +49,14 @@ impl HirError {
         ensures { IsTrue result ↔ IsOutOfMemory self }
     {
         match self {
-            HirError::Arena(fault) => fault == ArenaFault::Memory,
-            HirError::Store(fault) => fault == FinishFault::Memory,
-            HirError::Body(fault) => fault == BodyFault::Memory,
-            HirError::Signature(fault) => fault == SignatureFault::Memory,
+            HirError::Arena(fault) => fault.is_same(&ArenaFault::Memory),
+            HirError::Store(fault) => fault.is_same(&FinishFault::Memory),
+            HirError::Body(fault) => fault.is_same(&BodyFault::Memory),
+            HirError::Signature(fault) => fault.is_same(&SignatureFault::Memory),
             HirError::Missing(_) => false,
-            HirError::Scopes(fault) => fault == ScopesFault::Memory,
-            HirError::Print(fault) => fault == PrintFault::Memory,
-            HirError::Captures(fault) => fault == CapturesFault::Memory,
+            HirError::Scopes(fault) => fault.is_same(&ScopesFault::Memory),
+            HirError::Print(fault) => fault.is_same(&PrintFault::Memory),
+            HirError::Captures(fault) => fault.is_same(&CapturesFault::Memory),
         }
     }
 }

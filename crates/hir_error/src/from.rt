@@ -1,5 +1,9 @@
 //! What each refusal turns into.
 
+ghost use Rattle.std.specs.Prelude.{◌≡◌};
+ghost use Rattle.hir_base.specs.declared.arena.ArenaFault.TheVariants.{Memory};
+ghost use Rattle.hir_error.specs.declared.error.HirError.TheVariants as error;
+
 use crate::HirError;
 use hir_base::ArenaFault;
 use hir_captures::CapturesFault;
@@ -11,10 +15,7 @@ use hir_store::{FinishFault, Refused};
 use std::alloc::{AllocError, AllocFailed};
 
 impl From<ArenaFault> for HirError {
-    ghost use Rattle.std.specs.Prelude.{◌≡◌};
-    ghost use Rattle.hir_error.specs.declared.error.HirError.TheVariants.{Arena};
-
-    ghost from_gives = { λ fault error. error ≡ Arena fault };
+    ghost from_gives = { λ fault made. made ≡ error.Arena fault };
 
     fn from(fault: ArenaFault) -> HirError {
         HirError::Arena(fault)
@@ -22,10 +23,7 @@ impl From<ArenaFault> for HirError {
 }
 
 impl From<FinishFault> for HirError {
-    ghost use Rattle.std.specs.Prelude.{◌≡◌};
-    ghost use Rattle.hir_error.specs.declared.error.HirError.TheVariants.{Store};
-
-    ghost from_gives = { λ fault error. error ≡ Store fault };
+    ghost from_gives = { λ fault made. made ≡ error.Store fault };
 
     fn from(fault: FinishFault) -> HirError {
         HirError::Store(fault)
@@ -33,10 +31,7 @@ impl From<FinishFault> for HirError {
 }
 
 impl From<BodyFault> for HirError {
-    ghost use Rattle.std.specs.Prelude.{◌≡◌};
-    ghost use Rattle.hir_error.specs.declared.error.HirError.TheVariants.{Body};
-
-    ghost from_gives = { λ fault error. error ≡ Body fault };
+    ghost from_gives = { λ fault made. made ≡ error.Body fault };
 
     fn from(fault: BodyFault) -> HirError {
         HirError::Body(fault)
@@ -44,10 +39,7 @@ impl From<BodyFault> for HirError {
 }
 
 impl From<SignatureFault> for HirError {
-    ghost use Rattle.std.specs.Prelude.{◌≡◌};
-    ghost use Rattle.hir_error.specs.declared.error.HirError.TheVariants.{Signature};
-
-    ghost from_gives = { λ fault error. error ≡ Signature fault };
+    ghost from_gives = { λ fault made. made ≡ error.Signature fault };
 
     fn from(fault: SignatureFault) -> HirError {
         HirError::Signature(fault)
@@ -55,10 +47,7 @@ impl From<SignatureFault> for HirError {
 }
 
 impl From<Missing> for HirError {
-    ghost use Rattle.std.specs.Prelude.{◌≡◌};
-    ghost use Rattle.hir_error.specs.declared.error.HirError.TheVariants.{Missing};
-
-    ghost from_gives = { λ fault error. error ≡ Missing fault };
+    ghost from_gives = { λ fault made. made ≡ error.Missing fault };
 
     fn from(fault: Missing) -> HirError {
         HirError::Missing(fault)
@@ -66,10 +55,7 @@ impl From<Missing> for HirError {
 }
 
 impl From<ScopesFault> for HirError {
-    ghost use Rattle.std.specs.Prelude.{◌≡◌};
-    ghost use Rattle.hir_error.specs.declared.error.HirError.TheVariants.{Scopes};
-
-    ghost from_gives = { λ fault error. error ≡ Scopes fault };
+    ghost from_gives = { λ fault made. made ≡ error.Scopes fault };
 
     fn from(fault: ScopesFault) -> HirError {
         HirError::Scopes(fault)
@@ -77,10 +63,7 @@ impl From<ScopesFault> for HirError {
 }
 
 impl From<PrintFault> for HirError {
-    ghost use Rattle.std.specs.Prelude.{◌≡◌};
-    ghost use Rattle.hir_error.specs.declared.error.HirError.TheVariants.{Print};
-
-    ghost from_gives = { λ fault error. error ≡ Print fault };
+    ghost from_gives = { λ fault made. made ≡ error.Print fault };
 
     fn from(fault: PrintFault) -> HirError {
         HirError::Print(fault)
@@ -88,10 +71,7 @@ impl From<PrintFault> for HirError {
 }
 
 impl From<CapturesFault> for HirError {
-    ghost use Rattle.std.specs.Prelude.{◌≡◌};
-    ghost use Rattle.hir_error.specs.declared.error.HirError.TheVariants.{Captures};
-
-    ghost from_gives = { λ fault error. error ≡ Captures fault };
+    ghost from_gives = { λ fault made. made ≡ error.Captures fault };
 
     fn from(fault: CapturesFault) -> HirError {
         HirError::Captures(fault)
@@ -99,11 +79,7 @@ impl From<CapturesFault> for HirError {
 }
 
 impl From<AllocError> for HirError {
-    ghost use Rattle.std.specs.Prelude.{◌≡◌};
-    ghost use Rattle.hir_error.specs.declared.error.HirError.TheVariants.{Arena};
-    ghost use Rattle.hir_base.specs.declared.arena.ArenaFault.TheVariants.{Memory};
-
-    ghost from_gives = { λ _ error. error ≡ Arena Memory };
+    ghost from_gives = { λ _ made. made ≡ error.Arena Memory };
 
     fn from(_: AllocError) -> HirError {
         HirError::Arena(ArenaFault::Memory)
@@ -112,23 +88,16 @@ impl From<AllocError> for HirError {
 
 /// The value that is handed back is dropped.
 impl<T: Drop> From<AllocFailed<T>> for HirError {
-    ghost use Rattle.std.specs.Prelude.{◌≡◌};
-    ghost use Rattle.hir_error.specs.declared.error.HirError.TheVariants.{Arena};
-    ghost use Rattle.hir_base.specs.declared.arena.ArenaFault.TheVariants.{Memory};
-
-    ghost from_gives = { λ _ error. error ≡ Arena Memory };
+    ghost from_gives = { λ _ made. made ≡ error.Arena Memory };
 
     fn from(_: AllocFailed<T>) -> HirError {
-        HirError::Arena(ArenaFault::Memory)
+        HirError::from(ArenaFault::Memory)
     }
 }
 
 /// The item that is handed back is dropped.
 impl<T: Drop> From<(ArenaFault, T)> for HirError {
-    ghost use Rattle.std.specs.Prelude.{◌≡◌};
-    ghost use Rattle.hir_error.specs.declared.error.HirError.TheVariants.{Arena};
-
-    ghost from_gives = { λ refused error. error ≡ Arena refused.0 };
+    ghost from_gives = { λ refused made. made ≡ error.Arena refused.0 };
 
     fn from(refused: (ArenaFault, T)) -> HirError {
         HirError::Arena(refused.0)
@@ -137,10 +106,7 @@ impl<T: Drop> From<(ArenaFault, T)> for HirError {
 
 /// The builder that is handed back is dropped.
 impl From<Refused> for HirError {
-    ghost use Rattle.std.specs.Prelude.{◌≡◌};
-    ghost use Rattle.hir_error.specs.declared.error.HirError.TheVariants.{Store};
-
-    ghost from_gives = { λ refused error. error ≡ Store refused.fault };
+    ghost from_gives = { λ refused made. made ≡ error.Store refused.fault };
 
     fn from(refused: Refused) -> HirError {
         HirError::Store(refused.fault)
@@ -149,10 +115,7 @@ impl From<Refused> for HirError {
 
 /// The parts that are handed back are dropped.
 impl From<RefusedBody> for HirError {
-    ghost use Rattle.std.specs.Prelude.{◌≡◌};
-    ghost use Rattle.hir_error.specs.declared.error.HirError.TheVariants.{Body};
-
-    ghost from_gives = { λ refused error. error ≡ Body refused.fault };
+    ghost from_gives = { λ refused made. made ≡ error.Body refused.fault };
 
     fn from(refused: RefusedBody) -> HirError {
         HirError::Body(refused.fault)
@@ -161,10 +124,7 @@ impl From<RefusedBody> for HirError {
 
 /// The parts that are handed back are dropped.
 impl<P: Drop> From<RefusedSignature<P>> for HirError {
-    ghost use Rattle.std.specs.Prelude.{◌≡◌};
-    ghost use Rattle.hir_error.specs.declared.error.HirError.TheVariants.{Signature};
-
-    ghost from_gives = { λ refused error. error ≡ Signature refused.fault };
+    ghost from_gives = { λ refused made. made ≡ error.Signature refused.fault };
 
     fn from(refused: RefusedSignature<P>) -> HirError {
         HirError::Signature(refused.fault)
