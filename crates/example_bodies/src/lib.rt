@@ -5,4 +5,6 @@ mod bodies;
 mod parts;
 
 pub use bodies::{closures, names};
-pub use parts::{assign, bind, block, body, closure, let_statement, local, statement, tuple};
+pub use parts::{
+    assign, bind, block, body, closure, let_statement, local, params, statement, tuple,
+};

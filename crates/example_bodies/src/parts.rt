@@ -111,21 +111,26 @@ pub fn block(
     })?)
 }
 
-/// The body of a function with these parameters, which evaluates `value`.
-pub fn body(
-    alloc: Global,
-    mut builder: ExpressionStoreBuilder,
-    params: &[PatId],
-    value: ExprId,
-) -> Result<Body, HirError> {
-    builder.push_root(value)?;
-    let (store, _) = builder.finish()?;
-    let mut list = Seq::with_capacity(alloc, params.len())?;
-    for &pat in params {
-        list.push(Param {
+/// The parameters of a function that are these patterns, as the user wrote them.
+pub fn params(alloc: Global, pats: &[PatId]) -> Result<Seq<Param<PatId>>, HirError> {
+    let mut params = Seq::with_capacity(alloc, pats.len())?;
+    for &pat in pats {
+        params.push(Param {
             formal: pat,
             user_written: pat,
         })?;
     }
-    Ok(Body::new(alloc, store, list, None)?)
+    Ok(params)
+}
+
+/// The body of a function with these parameters, which evaluates `value`.
+pub fn body(
+    alloc: Global,
+    mut builder: ExpressionStoreBuilder,
+    pats: &[PatId],
+    value: ExprId,
+) -> Result<Body, HirError> {
+    builder.push_root(value)?;
+    let (store, _sources) = builder.finish()?;
+    Ok(Body::new(alloc, store, params(alloc, pats)?, None)?)
 }

@@ -1,6 +1,12 @@
 //! Finds what each closure of a body captures.
 #![tactic(auto)]
 
+ghost use Rattle.std.specs.Prelude.{◌↔◌, ℕ, IsSome};
+ghost use Rattle.std.specs.FinMap as map;
+ghost use Rattle.hir_node.specs.declared.node_id.NodeId.TheVariants as node;
+ghost use Rattle.hir_items.specs.Bodies.{BodyReaches};
+ghost use Rattle.hir_scope.specs.Built.{ChainsAreFrames, tops_of_body};
+
 use example_bodies::closures;
 use hir_captures::{CapturesFault, captures};
 use hir_error::HirError;
@@ -17,11 +23,9 @@ struct Captured {
 }
 
 /// What each closure of the body captures, in the order of their ids. An expression that the body doesn't reach isn't among them.
-fn captured(
-    alloc: Global,
-    body: &Body,
-    scopes: &ExprScopes,
-) -> Result<Vec<Captured>, HirError>
+fn captured(alloc: Global, body: &Body, scopes: &ExprScopes) -> Result<Vec<Captured>, HirError>
+    requires reached { (expr : ℕ) → IsSome (map.get scopes.now.scope_by_expr expr) ↔ BodyReaches body.now (node.Expr expr) }
+    requires chains { ChainsAreFrames body.now.store.nodes (tops_of_body body.now) scopes.now }
 {
     let mut found = Vec::new(alloc);
     for (closure, _) in body.store().exprs() {

@@ -1,11 +1,17 @@
-//! A tour: a body is built by calls, finished, walked, searched, resolved in and printed.
+//! A tour: a body is built by calls, finished, printed, walked and searched, and the name `x` is resolved at each expression.
 #![tactic(auto)]
 
-use example_bodies::{bind, let_statement, local};
-use hir_base::{DefWithBodyId, Edition, FunctionId, HygieneId, Name, NamedDef, Seq, Text};
-use hir_defs::{Body, Param, Tables};
+ghost use Rattle.std.specs.Prelude.{◌≡◌, ◌<◌, length, option_map};
+ghost use Rattle.std.specs.FinMap as map;
+ghost use Rattle.hir_expr_store.specs.RootSearch.{root_for_expr};
+ghost use Rattle.hir_scope.specs.Paths.{chain};
+ghost use Rattle.hir_scope.specs.Resolution.{resolve};
+
+use example_bodies::{bind, block, let_statement, local, params};
+use hir_base::{DefWithBodyId, Edition, FunctionId, HygieneId, Name, NamedDef, Text};
+use hir_defs::{Body, Tables};
 use hir_error::HirError;
-use hir_node::{BindingId, Expr, ExprId, Mutability, Rawness, Unsafe};
+use hir_node::{BindingId, Expr, ExprId, Mutability, Rawness};
 use hir_print_defs::print_body_hir;
 use hir_scope::ExprScopes;
 use hir_store::{ExpressionStore, ExpressionStoreBuilder};
@@ -23,51 +29,14 @@ fn build(alloc: Global) -> Result<Body, HirError> {
         mutability: Mutability::Shared,
     })?;
     let inner = local(alloc, &mut builder, "x")?;
-    let block = builder.alloc_expr(Expr::Block {
-        id: None,
-        statements: Seq::from_vec(vec![in alloc; let_statement(shadow, by_ref)]?),
-        tail: Some(inner),
-        label: None,
-        unsafe_: Unsafe::No,
-    })?;
-    builder.push_root(block)?;
-    let (store, _) = builder.finish()?;
-    let params = Seq::from_vec(vec![in alloc;
-        Param {
-            formal: param,
-            user_written: param,
-        }
-    ]?);
-    Ok(Body::new(alloc, store, params, None)?)
+    let statements = vec![in alloc; let_statement(shadow, by_ref)]?;
+    let root = block(&mut builder, statements, inner)?;
+    builder.push_root(root)?;
+    let (store, _sources) = builder.finish()?;
+    Ok(Body::new(alloc, store, params(alloc, &[param])?, None)?)
 }
 
-/// The child expressions of an expression, in their order.
-fn children(
-    alloc: Global,
-    store: &ExpressionStore,
-    expr: ExprId,
-) -> Result<Vec<ExprId>, HirError>
-    requires { expr < length store.now.nodes.exprs }
-{
-    let mut found = Vec::new(alloc);
-    let mut pushed = Ok(());
-    store.walk_child_exprs(expr, &mut |child| {
-        if pushed.is_ok() {
-            pushed = found.push(child);
-        }
-    });
-    pushed?;
-    Ok(found)
-}
-
-/// The binding that a name means at an expression, where it means one.
-fn meaning(scopes: &ExprScopes, expr: ExprId, name: &Name) -> Option<BindingId> {
-    let scope = scopes.scope_for(expr)?;
-    let entry = scopes.resolve_name_in_scope(scope, name, HygieneId::ROOT)?;
-    Some(entry.binding())
-}
-
-/// The text of a function with this body.
+/// The text of a function with this name and this body.
 fn text(alloc: Global, name: &str, body: &Body) -> Result<String, HirError> {
     let id = FunctionId::from_raw(0);
     let mut tables = Tables::new(alloc);
@@ -76,24 +45,64 @@ fn text(alloc: Global, name: &str, body: &Body) -> Result<String, HirError> {
     Ok(print_body_hir(alloc, &tables, body, owner, Edition::Edition2021)?)
 }
 
+/// The child expressions of an expression, in order.
+fn children(alloc: Global, store: &ExpressionStore, expr: ExprId) -> Result<Vec<ExprId>, HirError>
+    requires { expr < length store.now.nodes.exprs }
+{
+    let mut found = Vec::new(alloc);
+    let mut pushed = Ok(());
+    store.walk_child_exprs(
+        expr,
+        &mut |child: ExprId| {
+            if pushed.is_ok() {
+                pushed = found.push(child);
+            }
+        },
+    );
+    pushed?;
+    Ok(found)
+}
+
+/// The root that an expression was made for, where there is one.
+fn root_of(store: &ExpressionStore, expr: ExprId) -> Option<ExprId>
+    ensures { result ≡ root_for_expr store.now.roots expr }
+{
+    if store.covers_expr(expr) {
+        Some(store.find_root_for_expr(expr))
+    } else {
+        None
+    }
+}
+
+/// The binding that a name of source text means at an expression, where it means one.
+fn meaning_at(scopes: &ExprScopes, expr: ExprId, name: &Name) -> Option<BindingId>
+    ensures { result ≡ option_map (λ entry. entry.binding)
+        (resolve (chain scopes.now.scopes (map.get scopes.now.scope_by_expr expr)) name.now HygieneId.ROOT) }
+{
+    let scope = scopes.scope_for(expr)?;
+    let entry = scopes.resolve_name_in_scope(scope, name, HygieneId::ROOT)?;
+    Some(entry.binding())
+}
+
 fn main(rt: HostRuntime) -> anyhow::Result<()> {
     let alloc = rt.alloc();
     let body = build(alloc)?;
+    println!(rt; "{}", text(alloc, "f", &body)?)?;
     let store = body.store();
-    let root = body.root_expr();
-    for child in &children(alloc, store, root)? {
-        println!(rt; "child of the root: {}", child.into_raw())?;
+    for child in &children(alloc, store, body.root_expr())? {
+        println!(rt; "expression {} is a child of the root", child.into_raw())?;
     }
     let scopes = ExprScopes::new_body(alloc, &body)?;
     let x = Name::new(alloc, "x")?;
     for (id, _) in store.exprs() {
-        if store.covers_expr(id) {
-            println!(rt; "root of {}: {}", id.into_raw(), store.find_root_for_expr(id).into_raw())?;
-        }
-        if let Some(binding) = meaning(&scopes, id, &x) {
-            println!(rt; "x at {}: binding {}", id.into_raw(), binding.into_raw())?;
+        if let (Some(root), Some(binding)) = (root_of(store, id), meaning_at(&scopes, id, &x)) {
+            println!(rt;
+                "expression {} is under root {}, and x is binding {} there",
+                id.into_raw(),
+                root.into_raw(),
+                binding.into_raw()
+            )?;
         }
     }
-    println!(rt; "{}", text(alloc, "f", &body)?)?;
     Ok(())
 }

@@ -6,14 +6,14 @@ use hir_base::{ArenaMap, HygieneId, Name};
 use hir_error::HirError;
 use hir_items::Body;
 use hir_node::{BindingId, BindingKind, Expr, ExprId, Pat, PatId, Path};
-use hir_scope::{ExprScopes, ScopeId};
+use hir_scope::ExprScopes;
 use hir_store::ExpressionStore;
 use std::alloc::Global;
 
-/// The bindings that some path resolves to.
-type Used = ArenaMap<BindingKind, ()>;
+/// A set of bindings.
+type Bindings = ArenaMap<BindingKind, ()>;
 
-/// The name that a path asks for in a scope: that of a path of one name, without arguments.
+/// The name that a path asks for in scopes: that of a path of one name, without arguments.
 fn name_of(path: &Path) -> Option<&Name> {
     match path {
         Path::BarePath(path) => path.as_ident(),
@@ -21,65 +21,60 @@ fn name_of(path: &Path) -> Option<&Name> {
     }
 }
 
-/// The binding that a path means in the scope, if any. The scope has to be there, as one that `scope_for` answers is.
+/// The binding that a path means at an expression, where it means one.
 fn binding_of(
     scopes: &ExprScopes,
-    scope: ScopeId,
+    at: ExprId,
     path: &Path,
     hygiene: HygieneId,
-) -> Option<BindingId>
-    requires { scope < length scopes.now.scopes }
-{
+) -> Option<BindingId> {
+    let scope = scopes.scope_for(at)?;
     let entry = scopes.resolve_name_in_scope(scope, name_of(path)?, hygiene)?;
     Some(entry.binding())
 }
 
-/// The patterns of a pattern that are paths.
-fn targets(
-    alloc: Global,
-    store: &ExpressionStore,
-    target: PatId,
-) -> Result<Vec<PatId>, HirError> {
+/// The patterns in the target of an assignment, of which each path is a variable that is assigned to; none of another expression.
+fn targets(alloc: Global, store: &ExpressionStore, expr: &Expr) -> Result<Vec<PatId>, HirError> {
     let mut found = Vec::new(alloc);
-    if store.has_pat(target) {
-        let mut pushed = Ok(());
-        store.walk_pats(target, &mut |pat: PatId| {
-            if pushed.is_ok() {
-                pushed = found.push(pat);
-            }
-        });
-        pushed?;
+    let mut pushed = Ok(());
+    if let Expr::Assignment { target, value: _ } = expr
+        && store.has_pat(*target)
+    {
+        store.walk_pats(
+            *target,
+            &mut |pat: PatId| {
+                if pushed.is_ok() {
+                    pushed = found.push(pat);
+                }
+            },
+        );
     }
+    pushed?;
     Ok(found)
 }
 
-/// The bindings that the paths of the body resolve to, of expressions and of targets of assignments.
-fn used(alloc: Global, store: &ExpressionStore, scopes: &ExprScopes) -> Result<Used, HirError> {
+/// The bindings that paths mean: expressions, and variables that are assigned to.
+fn used(alloc: Global, store: &ExpressionStore, scopes: &ExprScopes) -> Result<Bindings, HirError> {
     let mut used = ArenaMap::with_capacity(alloc, store.bindings().len())?;
     for (id, expr) in store.exprs() {
-        let Some(scope) = scopes.scope_for(id) else {
-            continue;
-        };
-        if let Expr::Path(path) = expr {
-            if let Some(binding) = binding_of(scopes, scope, path, store.expr_path_hygiene(id)) {
+        if let Expr::Path(path) = expr
+            && let Some(binding) = binding_of(scopes, id, path, store.expr_path_hygiene(id))
+        {
+            used.insert(binding, ())?;
+        }
+        for &pat in &targets(alloc, store, expr)? {
+            if store.has_pat(pat)
+                && let Pat::Path(path) = &store[pat]
+                && let Some(binding) = binding_of(scopes, id, path, store.pat_path_hygiene(pat))
+            {
                 used.insert(binding, ())?;
-            }
-        } else if let Expr::Assignment { target, value: _ } = expr {
-            for &pat in &targets(alloc, store, *target)? {
-                if store.has_pat(pat)
-                    && let Pat::Path(path) = &store[pat]
-                    && let Some(binding) =
-                        binding_of(scopes, scope, path, store.pat_path_hygiene(pat))
-                {
-                    used.insert(binding, ())?;
-                }
             }
         }
     }
     Ok(used)
 }
 
-/// The bindings that no path resolves to, but for those of `self`, which a method has to take.
+/// The bindings that no path means. Those of `self` aren't among them, since a method has to take `self`.
 fn unused(alloc: Global, body: &Body, scopes: &ExprScopes) -> Result<Vec<BindingId>, HirError> {
     let used = used(alloc, body.store(), scopes)?;
     let mut unused = Vec::new(alloc);
