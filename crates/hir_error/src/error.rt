@@ -62,7 +62,7 @@ impl HirError {
 }
 
 impl ExactEq for HirError {
-    ghost use Rattle.hir_base.specs.Exact.{exact};
+    ghost use Rattle.hir_error.specs.same.SameErrors.{errors_decide};
 
-    ghost eq_decides = { Prim.search exact };
+    ghost eq_decides = { errors_decide };
 }
