@@ -68,7 +68,7 @@ fn below_the_root(body: &Body) -> Counts {
 
 #[test]
 fn walks(rt: HostRuntime) -> Result<(), Fail> {
-    let (body, _sources) = built(rt.alloc())?;
+    let body = built(rt.alloc())?;
     let children = count_children(body.store());
     let bindings = count_bindings(body.store());
     let counts = below_the_root(&body);

@@ -1,0 +1,108 @@
+//! A tour: a body is built by calls, finished, printed, walked and searched, and the name `x` is resolved at each expression.
+#![tactic(auto)]
+
+ghost use Rattle.std.specs.Prelude.{◌≡◌, ◌<◌, length, option_map};
+ghost use Rattle.std.specs.FinMap as map;
+ghost use Rattle.hir_expr_store.specs.RootSearch.{root_for_expr};
+ghost use Rattle.hir_scope.specs.Paths.{chain};
+ghost use Rattle.hir_scope.specs.Resolution.{resolve};
+
+use example_bodies::{bind, block, let_statement, local, params};
+use hir_base::{DefWithBodyId, Edition, FunctionId, HygieneId, Name, NamedDef, Text};
+use hir_defs::{Body, Tables};
+use hir_error::HirError;
+use hir_node::{BindingId, Expr, ExprId, Mutability, Rawness};
+use hir_print_defs::print_body_hir;
+use hir_scope::ExprScopes;
+use hir_store::{ExpressionStore, ExpressionStoreBuilder};
+use std::alloc::Global;
+
+/// The body of `fn f(x) { let x = &x; x }`.
+fn build(alloc: Global) -> Result<Body, HirError> {
+    let mut builder = ExpressionStoreBuilder::new(alloc);
+    let param = bind(alloc, &mut builder, "x")?;
+    let shadow = bind(alloc, &mut builder, "x")?;
+    let outer = local(alloc, &mut builder, "x")?;
+    let by_ref = builder.alloc_expr(Expr::Ref {
+        expr: outer,
+        rawness: Rawness::Ref,
+        mutability: Mutability::Shared,
+    })?;
+    let inner = local(alloc, &mut builder, "x")?;
+    let statements = vec![in alloc; let_statement(shadow, by_ref)]?;
+    let root = block(&mut builder, statements, inner)?;
+    builder.push_root(root)?;
+    let (store, _sources) = builder.finish()?;
+    Ok(Body::new(alloc, store, params(alloc, &[param])?, None)?)
+}
+
+/// The text of a function with this name and this body.
+fn text(alloc: Global, name: &str, body: &Body) -> Result<String, HirError> {
+    let id = FunctionId::from_raw(0);
+    let mut tables = Tables::new(alloc);
+    tables.add_name(NamedDef::FunctionId(id), Some(Text::from_str(alloc, name)?))?;
+    let owner = DefWithBodyId::FunctionId(id);
+    Ok(print_body_hir(alloc, &tables, body, owner, Edition::Edition2021)?)
+}
+
+/// The child expressions of an expression, in order.
+fn children(alloc: Global, store: &ExpressionStore, expr: ExprId) -> Result<Vec<ExprId>, HirError>
+    requires { expr < length store.now.nodes.exprs }
+{
+    let mut found = Vec::new(alloc);
+    let mut pushed = Ok(());
+    store.walk_child_exprs(
+        expr,
+        &mut |child: ExprId| {
+            if pushed.is_ok() {
+                pushed = found.push(child);
+            }
+        },
+    );
+    pushed?;
+    Ok(found)
+}
+
+/// The root that an expression was made for, where there is one.
+fn root_of(store: &ExpressionStore, expr: ExprId) -> Option<ExprId>
+    ensures { result ≡ root_for_expr store.now.roots expr }
+{
+    if store.covers_expr(expr) {
+        Some(store.find_root_for_expr(expr))
+    } else {
+        None
+    }
+}
+
+/// The binding that a name of source text means at an expression, where it means one.
+fn meaning_at(scopes: &ExprScopes, expr: ExprId, name: &Name) -> Option<BindingId>
+    ensures { result ≡ option_map (λ entry. entry.binding)
+        (resolve (chain scopes.now.scopes (map.get scopes.now.scope_by_expr expr)) name.now HygieneId.ROOT) }
+{
+    let scope = scopes.scope_for(expr)?;
+    let entry = scopes.resolve_name_in_scope(scope, name, HygieneId::ROOT)?;
+    Some(entry.binding())
+}
+
+fn main(rt: HostRuntime) -> anyhow::Result<()> {
+    let alloc = rt.alloc();
+    let body = build(alloc)?;
+    println!(rt; "{}", text(alloc, "f", &body)?)?;
+    let store = body.store();
+    for child in &children(alloc, store, body.root_expr())? {
+        println!(rt; "expression {} is a child of the root", child.into_raw())?;
+    }
+    let scopes = ExprScopes::new_body(alloc, &body)?;
+    let x = Name::new(alloc, "x")?;
+    for (id, _) in store.exprs() {
+        if let (Some(root), Some(binding)) = (root_of(store, id), meaning_at(&scopes, id, &x)) {
+            println!(rt;
+                "expression {} is under root {}, and x is binding {} there",
+                id.into_raw(),
+                root.into_raw(),
+                binding.into_raw()
+            )?;
+        }
+    }
+    Ok(())
+}

@@ -1,0 +1,99 @@
+//! Finds the bindings of a body that no path resolves to: a check for unused variables.
+#![tactic(auto)]
+
+use example_bodies::names;
+use hir_base::{ArenaMap, HygieneId, Name};
+use hir_error::HirError;
+use hir_items::Body;
+use hir_node::{BindingId, BindingKind, Expr, ExprId, Pat, PatId, Path};
+use hir_scope::ExprScopes;
+use hir_store::ExpressionStore;
+use std::alloc::Global;
+
+/// A set of bindings.
+type Bindings = ArenaMap<BindingKind, ()>;
+
+/// The name that a path asks for in scopes: that of a path of one name, without arguments.
+fn name_of(path: &Path) -> Option<&Name> {
+    match path {
+        Path::BarePath(path) => path.as_ident(),
+        Path::Normal(_) | Path::LangItem(_, _) => None,
+    }
+}
+
+/// The binding that a path means at an expression, where it means one.
+fn binding_of(
+    scopes: &ExprScopes,
+    at: ExprId,
+    path: &Path,
+    hygiene: HygieneId,
+) -> Option<BindingId> {
+    let scope = scopes.scope_for(at)?;
+    let entry = scopes.resolve_name_in_scope(scope, name_of(path)?, hygiene)?;
+    Some(entry.binding())
+}
+
+/// The patterns in the target of an assignment, of which each path is a variable that is assigned to; none of another expression.
+fn targets(alloc: Global, store: &ExpressionStore, expr: &Expr) -> Result<Vec<PatId>, HirError> {
+    let mut found = Vec::new(alloc);
+    let mut pushed = Ok(());
+    if let Expr::Assignment { target, value: _ } = expr
+        && store.has_pat(*target)
+    {
+        store.walk_pats(
+            *target,
+            &mut |pat: PatId| {
+                if pushed.is_ok() {
+                    pushed = found.push(pat);
+                }
+            },
+        );
+    }
+    pushed?;
+    Ok(found)
+}
+
+/// The bindings that paths mean: expressions, and variables that are assigned to.
+fn used(alloc: Global, store: &ExpressionStore, scopes: &ExprScopes) -> Result<Bindings, HirError> {
+    let mut used = ArenaMap::with_capacity(alloc, store.bindings().len())?;
+    for (id, expr) in store.exprs() {
+        if let Expr::Path(path) = expr
+            && let Some(binding) = binding_of(scopes, id, path, store.expr_path_hygiene(id))
+        {
+            used.insert(binding, ())?;
+        }
+        for &pat in &targets(alloc, store, expr)? {
+            if store.has_pat(pat)
+                && let Pat::Path(path) = &store[pat]
+                && let Some(binding) = binding_of(scopes, id, path, store.pat_path_hygiene(pat))
+            {
+                used.insert(binding, ())?;
+            }
+        }
+    }
+    Ok(used)
+}
+
+/// The bindings that no path means. Those of `self` aren't among them, since a method has to take `self`.
+fn unused(alloc: Global, body: &Body, scopes: &ExprScopes) -> Result<Vec<BindingId>, HirError> {
+    let used = used(alloc, body.store(), scopes)?;
+    let mut unused = Vec::new(alloc);
+    for (id, _) in body.store().bindings() {
+        if used.get(id).is_none() && !body.is_any_self_param(id) {
+            unused.push(id)?;
+        }
+    }
+    Ok(unused)
+}
+
+fn main(rt: HostRuntime) -> anyhow::Result<()> {
+    let alloc = rt.alloc();
+    let body = names(alloc)?;
+    let scopes = ExprScopes::new_body(alloc, &body)?;
+    for &id in &unused(alloc, &body, &scopes)? {
+        if body.store().has_binding(id) {
+            println!(rt; "`{}` isn't used", body.store()[id].name.as_str())?;
+        }
+    }
+    Ok(())
+}

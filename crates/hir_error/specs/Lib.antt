@@ -1,0 +1,2 @@
+pub mod OutOfMemory
+pub mod same

@@ -1,0 +1,22 @@
+-- Which errors are want of memory.
+use Rattle.std.specs.Prelude.{◌≡◌}
+use Rattle.hir_base.specs.declared.arena.ArenaFault.TheVariants as arena
+use Rattle.hir_faults.specs.declared.fault.FinishFault.TheVariants as finish
+use Rattle.hir_items.specs.declared.body_fault.BodyFault.TheVariants as body
+use Rattle.hir_items.specs.declared.signature_fault.SignatureFault.TheVariants as signature
+use Rattle.hir_scope.specs.declared.fault.ScopesFault.TheVariants as scopes
+use Rattle.hir_pretty.specs.declared.fault.PrintFault.TheVariants as print
+use Rattle.hir_captures.specs.declared.fault.CapturesFault.TheVariants as captures
+use Rattle.hir_error.specs.declared.error.HirError.{HirError}
+use Rattle.hir_error.specs.declared.error.HirError.TheVariants as error
+
+-- the refusal that the error is of is want of memory; a missing definition never is
+abbrev pub IsOutOfMemory : HirError → Type 0
+IsOutOfMemory (error.Arena fault) = fault ≡ arena.Memory
+IsOutOfMemory (error.Store fault) = fault ≡ finish.Memory
+IsOutOfMemory (error.Body fault) = fault ≡ body.Memory
+IsOutOfMemory (error.Signature fault) = fault ≡ signature.Memory
+IsOutOfMemory (error.Missing definition) = ⊥
+IsOutOfMemory (error.Scopes fault) = fault ≡ scopes.Memory
+IsOutOfMemory (error.Print fault) = fault ≡ print.Memory
+IsOutOfMemory (error.Captures fault) = fault ≡ captures.Memory

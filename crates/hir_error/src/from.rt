@@ -1,0 +1,132 @@
+//! What each refusal turns into.
+
+ghost use Rattle.std.specs.Prelude.{◌≡◌};
+ghost use Rattle.hir_base.specs.declared.arena.ArenaFault.TheVariants.{Memory};
+ghost use Rattle.hir_error.specs.declared.error.HirError.TheVariants as error;
+
+use crate::HirError;
+use hir_base::ArenaFault;
+use hir_captures::CapturesFault;
+use hir_expr_store::Missing;
+use hir_items::{BodyFault, RefusedBody, RefusedSignature, SignatureFault};
+use hir_pretty::PrintFault;
+use hir_scope::ScopesFault;
+use hir_store::{FinishFault, Refused};
+use std::alloc::{AllocError, AllocFailed};
+
+impl From<ArenaFault> for HirError {
+    ghost from_gives = { λ fault made. made ≡ error.Arena fault };
+
+    fn from(fault: ArenaFault) -> HirError {
+        HirError::Arena(fault)
+    }
+}
+
+impl From<FinishFault> for HirError {
+    ghost from_gives = { λ fault made. made ≡ error.Store fault };
+
+    fn from(fault: FinishFault) -> HirError {
+        HirError::Store(fault)
+    }
+}
+
+impl From<BodyFault> for HirError {
+    ghost from_gives = { λ fault made. made ≡ error.Body fault };
+
+    fn from(fault: BodyFault) -> HirError {
+        HirError::Body(fault)
+    }
+}
+
+impl From<SignatureFault> for HirError {
+    ghost from_gives = { λ fault made. made ≡ error.Signature fault };
+
+    fn from(fault: SignatureFault) -> HirError {
+        HirError::Signature(fault)
+    }
+}
+
+impl From<Missing> for HirError {
+    ghost from_gives = { λ fault made. made ≡ error.Missing fault };
+
+    fn from(fault: Missing) -> HirError {
+        HirError::Missing(fault)
+    }
+}
+
+impl From<ScopesFault> for HirError {
+    ghost from_gives = { λ fault made. made ≡ error.Scopes fault };
+
+    fn from(fault: ScopesFault) -> HirError {
+        HirError::Scopes(fault)
+    }
+}
+
+impl From<PrintFault> for HirError {
+    ghost from_gives = { λ fault made. made ≡ error.Print fault };
+
+    fn from(fault: PrintFault) -> HirError {
+        HirError::Print(fault)
+    }
+}
+
+impl From<CapturesFault> for HirError {
+    ghost from_gives = { λ fault made. made ≡ error.Captures fault };
+
+    fn from(fault: CapturesFault) -> HirError {
+        HirError::Captures(fault)
+    }
+}
+
+impl From<AllocError> for HirError {
+    ghost from_gives = { λ _ made. made ≡ error.Arena Memory };
+
+    fn from(_: AllocError) -> HirError {
+        HirError::Arena(ArenaFault::Memory)
+    }
+}
+
+/// The value that is handed back is dropped.
+impl<T: Drop> From<AllocFailed<T>> for HirError {
+    ghost from_gives = { λ _ made. made ≡ error.Arena Memory };
+
+    fn from(_: AllocFailed<T>) -> HirError {
+        HirError::from(ArenaFault::Memory)
+    }
+}
+
+/// The item that is handed back is dropped.
+impl<T: Drop> From<(ArenaFault, T)> for HirError {
+    ghost from_gives = { λ refused made. made ≡ error.Arena refused.0 };
+
+    fn from(refused: (ArenaFault, T)) -> HirError {
+        HirError::Arena(refused.0)
+    }
+}
+
+/// The builder that is handed back is dropped.
+impl From<Refused> for HirError {
+    ghost from_gives = { λ refused made. made ≡ error.Store refused.fault };
+
+    fn from(refused: Refused) -> HirError {
+        HirError::Store(refused.fault)
+    }
+}
+
+/// The parts that are handed back are dropped.
+impl From<RefusedBody> for HirError {
+    ghost from_gives = { λ refused made. made ≡ error.Body refused.fault };
+
+    fn from(refused: RefusedBody) -> HirError {
+        HirError::Body(refused.fault)
+    }
+}
+
+/// The parts that are handed back are dropped.
+impl<P: Drop> From<RefusedSignature<P>> for HirError {
+    ghost from_gives = { λ refused made. made ≡ error.Signature refused.fault };
+
+    fn from(refused: RefusedSignature<P>) -> HirError {
+        HirError::Signature(refused.fault)
+    }
+}
