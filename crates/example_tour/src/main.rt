@@ -74,13 +74,18 @@ fn root_of(store: &ExpressionStore, expr: ExprId) -> Option<ExprId>
     }
 }
 
-/// The binding that a name of source text means at an expression, where it means one.
-fn meaning_at(scopes: &ExprScopes, expr: ExprId, name: &Name) -> Option<BindingId>
+/// The binding that a name of this hygiene means at an expression, where it means one.
+fn meaning_at(
+    scopes: &ExprScopes,
+    expr: ExprId,
+    name: &Name,
+    hygiene: HygieneId,
+) -> Option<BindingId>
     ensures { result ≡ option_map (λ entry. entry.binding)
-        (resolve (chain scopes.now.scopes (map.get scopes.now.scope_by_expr expr)) name.now HygieneId.ROOT) }
+        (resolve (chain scopes.now.scopes (map.get scopes.now.scope_by_expr expr)) name.now hygiene) }
 {
     let scope = scopes.scope_for(expr)?;
-    let entry = scopes.resolve_name_in_scope(scope, name, HygieneId::ROOT)?;
+    let entry = scopes.resolve_name_in_scope(scope, name, hygiene)?;
     Some(entry.binding())
 }
 
@@ -95,7 +100,10 @@ fn main(rt: HostRuntime) -> anyhow::Result<()> {
     let scopes = ExprScopes::new_body(alloc, &body)?;
     let x = Name::new(alloc, "x")?;
     for (id, _) in store.exprs() {
-        if let (Some(root), Some(binding)) = (root_of(store, id), meaning_at(&scopes, id, &x)) {
+        if let (Some(root), Some(binding)) = (
+            root_of(store, id),
+            meaning_at(&scopes, id, &x, HygieneId::ROOT),
+        ) {
             println!(rt;
                 "expression {} is under root {}, and x is binding {} there",
                 id.into_raw(),
