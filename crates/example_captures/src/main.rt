@@ -17,20 +17,24 @@ use std::alloc::Global;
 
 /// A closure, and the bindings from outside that its code uses, in the order of their first use.
 #[derive(Drop)]
-struct Captured {
+struct ClosureCaptures {
     closure: ExprId,
     bindings: Vec<BindingId>,
 }
 
 /// What each closure of the body captures, in the order of their ids. An expression that the body doesn't reach isn't among them.
-fn captured(alloc: Global, body: &Body, scopes: &ExprScopes) -> Result<Vec<Captured>, HirError>
+fn captures_by_closure(
+    alloc: Global,
+    body: &Body,
+    scopes: &ExprScopes,
+) -> Result<Vec<ClosureCaptures>, HirError>
     requires reached { (expr : ℕ) → IsSome (map.get scopes.now.scope_by_expr expr) ↔ BodyReaches body.now (node.Expr expr) }
     requires chains { ChainsAreFrames body.now.store.nodes (tops_of_body body.now) scopes.now }
 {
     let mut found = Vec::new(alloc);
     for (closure, _) in body.store().exprs() {
         match captures(alloc, body, scopes, closure) {
-            Ok(bindings) => found.push(Captured { closure, bindings })?,
+            Ok(bindings) => found.push(ClosureCaptures { closure, bindings })?,
             Err(CapturesFault::NotAClosure) => {}
             Err(fault) => return Err(fault.into()),
         }
@@ -42,9 +46,9 @@ fn main(rt: HostRuntime) -> anyhow::Result<()> {
     let alloc = rt.alloc();
     let body = closures(alloc)?;
     let scopes = ExprScopes::new_body(alloc, &body)?;
-    for captured in &captured(alloc, &body, &scopes)? {
-        println!(rt; "closure {} captures", captured.closure.into_raw())?;
-        for &binding in &captured.bindings {
+    for found in &captures_by_closure(alloc, &body, &scopes)? {
+        println!(rt; "closure {} captures", found.closure.into_raw())?;
+        for &binding in &found.bindings {
             if body.store().has_binding(binding) {
                 println!(rt; "    {}", body.store()[binding].name.as_str())?;
             }
