@@ -12,7 +12,7 @@ use std::alloc::{AllocError, AllocFailed, Global};
 use std::hash::{Hash, Hasher};
 use std::marker::Model;
 
-// Where the text of a name lies.
+// Where the text of a name lies: in the value, or in memory of its own.
 #[derive(Drop)]
 enum Place {
     Inside(ShortText),
@@ -72,9 +72,7 @@ impl Name {
         })
     }
 
-    /// The name of what has none in source code: `[missing name]`.
-    ///
-    /// Answers an error if memory for it was refused.
+    /// The name of what has none in source code: `[missing name]`. It is short, and never refused.
     pub fn missing(alloc: Global) -> Result<Name, AllocError>
         ensures { IfOk result (λ name. name ≡ codes "[missing name]") }
     {
