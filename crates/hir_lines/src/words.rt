@@ -2,7 +2,7 @@
 
 ghost use Rattle.std.specs.Prelude.{None, Some, ◌≡◌, ◌∷◌, [], MatchResult, IsTrue, ◌↔◌, position, false};
 ghost use Rattle.hir_lines.specs.Numerals.{is_digit};
-ghost use Rattle.hir_lines.specs.Readings.{parts_of, parts_left, is_byte, alone, Found, Reads, first_word, each};
+ghost use Rattle.hir_lines.specs.Readings.{parts_of, parts_left, is_byte, alone, Found, HasWord, Reads, first_word, each};
 ghost use Rattle.hir_lines.specs.Words.{number, optional, list, keyword, name, path, int, op, expansion, hygiene};
 
 use crate::names::{ascii as ascii_text, name as name_text};
@@ -188,14 +188,22 @@ impl<'a> Words<'a> {
         self.expansion()
     }
 
+    /// Refuses words that are left.
+    pub fn end(&self) -> Result<(), Stop>
+        ensures { MatchResult result (λ done. self.now ≡ []) (λ why. HasWord self.now) }
+    {
+        match self.rest {
+            Some(_) => Err(Stop::Bad),
+            None => Ok(()),
+        }
+    }
+
     /// The value, if no word is left.
     pub fn alone<T: Drop>(&self, value: T) -> Result<T, Stop>
         ensures { Found (alone value self.now) result }
     {
-        match self.rest {
-            Some(_) => Err(Stop::Bad),
-            None => Ok(value),
-        }
+        self.end()?;
+        Ok(value)
     }
 
     /// Whether no word is left.

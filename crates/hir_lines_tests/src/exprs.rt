@@ -3,7 +3,7 @@
 
 use crate::says::{id, list, path, says};
 use hir_base::{BlockId, MacroDefId, Seq};
-use hir_lines::{Line, Maker};
+use crate::kept::{Line, Maker};
 use hir_node::{
     Array, CaptureBy, ClosureKind, Expr, Item, Literal, LoopSource, MatchArm, Mutability, Rawness,
     Statement, Unsafe,

@@ -2,7 +2,8 @@
 
 use crate::says::{id, list, makes, path, says};
 use hir_base::{HygieneId, Name, RangeOp, Seq, SyntaxContext};
-use hir_lines::{BodyQuestion, Line, Maker, Question, StoreQuestion};
+use crate::kept::{Line, Maker};
+use hir_lines::{BodyQuestion, Question, StoreQuestion};
 use hir_node::{
     ArrayType, Binding, BindingAnnotation, ConstRef, ExprId, ExprOrPatId, Pat, PatId, TypeRef,
 };

@@ -2,7 +2,7 @@
 
 use crate::says::{id, makes};
 use hir_base::{ArithOp, BinaryOp, CmpOp, LogicOp, Ordering};
-use hir_lines::Maker;
+use crate::kept::Maker;
 use hir_node::Expr;
 use std::test::Fail;
 

@@ -1,9 +1,7 @@
 use Rattle.std.proofs.Common.{◌≡◌, ◌≢◌, sym, ◌∙◌}
 use Rattle.std.proofs.lemmas.Result.{IfOk-weaker}
-use Rattle.hir_lines.specs.declared.line.Line.{Line}
-use Rattle.hir_lines.specs.declared.line.Line.TheVariants.{Bad}
+use Rattle.hir_lines.specs.Line.{Line, Bad, line_of}
 use Rattle.hir_lines.specs.Grammar.{IsLine}
-use Rattle.hir_lines.specs.Line.{line_of}
 use Rattle.hir_lines.proofs.Written.{reads, is_written}
 use Rattle.hir_lines.proofs.reading.parse.Goals as goal
 
