@@ -18,6 +18,7 @@ use std::alloc::{AllocError, Global};
 
 /// Makes the expression of the words behind `expr`.
 #[tactic(auto, unfolding(crate::specs::Exprs::expr))]
+#[inline(always)]
 pub fn expr<B: Builder>(
     alloc: Global,
     words: &mut Words<'_>,
@@ -48,6 +49,7 @@ pub fn expr<B: Builder>(
 }
 
 /// Adds the expression, if no word is left.
+#[inline(always)]
 fn put<B: Builder>(words: &Words<'_>, builder: &mut B, expr: Expr) -> Result<(), Stop>
     ensures { Puts B.add make.Expr (gives expr) words.now builder.old builder.new result }
 {

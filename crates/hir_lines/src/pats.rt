@@ -14,6 +14,7 @@ use std::alloc::Global;
 
 /// Makes the pattern of the words behind `pat`.
 #[tactic(auto, unfolding(crate::specs::Pats::pat))]
+#[inline(always)]
 pub fn pat<B: Builder>(
     alloc: Global,
     words: &mut Words<'_>,
@@ -37,6 +38,7 @@ pub fn pat<B: Builder>(
 }
 
 /// Adds the pattern, if no word is left.
+#[inline(always)]
 fn put<B: Builder>(words: &Words<'_>, builder: &mut B, pat: Pat) -> Result<(), Stop>
     ensures { Puts B.add make.Pat (gives pat) words.now builder.old builder.new result }
 {

@@ -23,6 +23,7 @@ use hir_node::{Binding, BindingAnnotation, ExprOrPatId};
 use std::alloc::Global;
 
 /// A binding with no word before its name.
+#[inline(always)]
 fn plain_binding(name: Name, hygiene: HygieneId) -> Binding
     ensures { result ≡ plain_binding name hygiene }
 {
@@ -35,6 +36,7 @@ fn plain_binding(name: Name, hygiene: HygieneId) -> Binding
 }
 
 /// Makes a binding.
+#[inline(always)]
 fn bind<B: Builder>(
     alloc: Global,
     words: &mut Words<'_>,
@@ -185,6 +187,7 @@ fn captures(words: &mut Words<'_>) -> Result<Question, Stop>
 }
 
 /// A line that makes something asks nothing.
+#[inline(always)]
 fn makes(outcome: Result<(), Stop>) -> Result<Option<Question>, Stop>
     ensures { MatchResult outcome (λ done. result ≡ Ok None) (λ why. result ≡ Err why) }
 {
@@ -201,6 +204,7 @@ fn asks(outcome: Result<Question, Stop>) -> Result<Option<Question>, Stop>
 
 /// Takes the words of a line.
 #[tactic(auto, unfolding(crate::specs::Line::command))]
+#[inline(always)]
 fn command<B: Builder>(
     alloc: Global,
     words: &mut Words<'_>,
@@ -231,6 +235,7 @@ fn command<B: Builder>(
 }
 
 #[tactic(auto, unfolding(crate::specs::Line::line_of))]
+#[inline(always)]
 fn line<B: Builder>(alloc: Global, text: &[u8], builder: &mut B) -> Result<Option<Question>, Stop>
     ensures { Takes B.add (line_of text.now) builder.old builder.new result }
 {
@@ -244,6 +249,7 @@ fn line<B: Builder>(alloc: Global, text: &[u8], builder: &mut B) -> Result<Optio
 /// Takes a line: the builder gets what it makes, and its question is answered, where it asks.
 ///
 /// `Bad` where no line is written so, or the builder answers so; `Memory` where memory was refused. After either nothing was added.
+#[inline(always)]
 pub fn take<B: Builder>(
     alloc: Global,
     text: &[u8],

@@ -13,6 +13,7 @@ use hir_lines::{Question, Stop, take};
 use std::alloc::Global;
 
 /// Makes what the line that was taken last makes, or gives its question.
+#[inline(always)]
 fn build_line(
     alloc: Global,
     lines: &LineReader,

@@ -81,10 +81,12 @@ impl Builder for Made {
 
     ghost add = { and_maker };
 
+    #[inline(always)]
     fn binding(&mut self, binding: Binding) -> Result<(), Stop> {
         or_memory(self.builder.alloc_binding(binding))
     }
 
+    #[inline(always)]
     fn pat(&mut self, pat: Pat) -> Result<(), Stop> {
         or_memory(self.builder.alloc_pat(pat))
     }
@@ -93,6 +95,7 @@ impl Builder for Made {
         or_memory(self.builder.alloc_type(type_ref))
     }
 
+    #[inline(always)]
     fn expr(&mut self, expr: Expr) -> Result<(), Stop> {
         or_memory(self.builder.alloc_expr(expr))
     }
@@ -132,6 +135,7 @@ impl Builder for Made {
 }
 
 /// A refusal of memory, or of an item by a full arena.
+#[inline(always)]
 fn or_memory<T: Drop, E: Drop>(outcome: Result<T, E>) -> Result<(), Stop>
     ensures ok { OnOk outcome (result ≡ Ok tt) }
     ensures err { OnErr outcome (result ≡ Err Stop.Memory) }
