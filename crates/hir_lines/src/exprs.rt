@@ -19,11 +19,7 @@ use std::alloc::{AllocError, Global};
 /// Makes the expression of the words behind `expr`.
 #[tactic(auto, unfolding(crate::specs::Exprs::expr))]
 #[inline(always)]
-pub fn expr<B: Builder>(
-    alloc: Global,
-    words: &mut Words<'_>,
-    builder: &mut B,
-) -> Result<(), Stop>
+pub fn expr<B: Builder>(alloc: Global, words: &mut Words<'_>, builder: &mut B) -> Result<(), Stop>
     ensures { Puts B.add make.Expr expr words.old builder.old builder.new result }
 {
     match words.word()? {
@@ -57,11 +53,7 @@ fn put<B: Builder>(words: &Words<'_>, builder: &mut B, expr: Expr) -> Result<(),
     builder.expr(expr)
 }
 
-fn path<B: Builder>(
-    alloc: Global,
-    words: &mut Words<'_>,
-    builder: &mut B,
-) -> Result<(), Stop>
+fn path<B: Builder>(alloc: Global, words: &mut Words<'_>, builder: &mut B) -> Result<(), Stop>
     ensures { Puts B.add make.Expr path_expr words.old builder.old builder.new result }
 {
     let path = words.path(alloc)?;
@@ -75,11 +67,7 @@ fn int<B: Builder>(words: &mut Words<'_>, builder: &mut B) -> Result<(), Stop>
     put(words, builder, Expr::Literal(Literal::Int(n, None)))
 }
 
-fn call<B: Builder>(
-    alloc: Global,
-    words: &mut Words<'_>,
-    builder: &mut B,
-) -> Result<(), Stop>
+fn call<B: Builder>(alloc: Global, words: &mut Words<'_>, builder: &mut B) -> Result<(), Stop>
     ensures { Puts B.add make.Expr call_expr words.old builder.old builder.new result }
 {
     let call = Expr::Call {
@@ -89,22 +77,14 @@ fn call<B: Builder>(
     put(words, builder, call)
 }
 
-fn tuple<B: Builder>(
-    alloc: Global,
-    words: &mut Words<'_>,
-    builder: &mut B,
-) -> Result<(), Stop>
+fn tuple<B: Builder>(alloc: Global, words: &mut Words<'_>, builder: &mut B) -> Result<(), Stop>
     ensures { Puts B.add make.Expr tuple_expr words.old builder.old builder.new result }
 {
     let exprs = words.list(alloc)?;
     put(words, builder, Expr::Tuple { exprs })
 }
 
-fn array<B: Builder>(
-    alloc: Global,
-    words: &mut Words<'_>,
-    builder: &mut B,
-) -> Result<(), Stop>
+fn array<B: Builder>(alloc: Global, words: &mut Words<'_>, builder: &mut B) -> Result<(), Stop>
     ensures { Puts B.add make.Expr array_expr words.old builder.old builder.new result }
 {
     let elements = words.list(alloc)?;
@@ -193,11 +173,7 @@ fn constant<B: Builder>(words: &mut Words<'_>, builder: &mut B) -> Result<(), St
     put(words, builder, Expr::Const(body))
 }
 
-fn match_expr<B: Builder>(
-    alloc: Global,
-    words: &mut Words<'_>,
-    builder: &mut B,
-) -> Result<(), Stop>
+fn match_expr<B: Builder>(alloc: Global, words: &mut Words<'_>, builder: &mut B) -> Result<(), Stop>
     ensures { Puts B.add make.Expr match_expr words.old builder.old builder.new result }
 {
     let match_expr = Expr::Match {
@@ -207,11 +183,7 @@ fn match_expr<B: Builder>(
     put(words, builder, match_expr)
 }
 
-fn closure<B: Builder>(
-    alloc: Global,
-    words: &mut Words<'_>,
-    builder: &mut B,
-) -> Result<(), Stop>
+fn closure<B: Builder>(alloc: Global, words: &mut Words<'_>, builder: &mut B) -> Result<(), Stop>
     ensures { Puts B.add make.Expr closure_expr words.old builder.old builder.new result }
 {
     let body = words.id()?;
@@ -239,11 +211,7 @@ fn untyped(alloc: Global, args: &[PatId]) -> Result<Seq<Option<TypeRefId>>, Allo
     Ok(types)
 }
 
-fn block<B: Builder>(
-    alloc: Global,
-    words: &mut Words<'_>,
-    builder: &mut B,
-) -> Result<(), Stop>
+fn block<B: Builder>(alloc: Global, words: &mut Words<'_>, builder: &mut B) -> Result<(), Stop>
     ensures { Puts B.add make.Expr block_expr words.old builder.old builder.new result }
 {
     let id = words.optional()?.map(BlockId::from_raw);

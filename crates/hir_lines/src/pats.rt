@@ -15,11 +15,7 @@ use std::alloc::Global;
 /// Makes the pattern of the words behind `pat`.
 #[tactic(auto, unfolding(crate::specs::Pats::pat))]
 #[inline(always)]
-pub fn pat<B: Builder>(
-    alloc: Global,
-    words: &mut Words<'_>,
-    builder: &mut B,
-) -> Result<(), Stop>
+pub fn pat<B: Builder>(alloc: Global, words: &mut Words<'_>, builder: &mut B) -> Result<(), Stop>
     ensures { Puts B.add make.Pat pat words.old builder.old builder.new result }
 {
     match words.word()? {
@@ -56,11 +52,7 @@ fn bind<B: Builder>(words: &mut Words<'_>, builder: &mut B) -> Result<(), Stop>
     put(words, builder, bind)
 }
 
-fn tuple<B: Builder>(
-    alloc: Global,
-    words: &mut Words<'_>,
-    builder: &mut B,
-) -> Result<(), Stop>
+fn tuple<B: Builder>(alloc: Global, words: &mut Words<'_>, builder: &mut B) -> Result<(), Stop>
     ensures { Puts B.add make.Pat tuple_pat words.old builder.old builder.new result }
 {
     let tuple = Pat::Tuple {
@@ -70,11 +62,7 @@ fn tuple<B: Builder>(
     put(words, builder, tuple)
 }
 
-fn or_pat<B: Builder>(
-    alloc: Global,
-    words: &mut Words<'_>,
-    builder: &mut B,
-) -> Result<(), Stop>
+fn or_pat<B: Builder>(alloc: Global, words: &mut Words<'_>, builder: &mut B) -> Result<(), Stop>
     ensures { Puts B.add make.Pat or_pat words.old builder.old builder.new result }
 {
     let alternatives = words.list(alloc)?;

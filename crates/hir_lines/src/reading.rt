@@ -37,11 +37,7 @@ fn plain_binding(name: Name, hygiene: HygieneId) -> Binding
 
 /// Makes a binding.
 #[inline(always)]
-fn bind<B: Builder>(
-    alloc: Global,
-    words: &mut Words<'_>,
-    builder: &mut B,
-) -> Result<(), Stop>
+fn bind<B: Builder>(alloc: Global, words: &mut Words<'_>, builder: &mut B) -> Result<(), Stop>
     ensures { Puts B.add (λ maker. maker) bind words.old builder.old builder.new result }
 {
     let name = words.name(alloc)?;
@@ -51,11 +47,7 @@ fn bind<B: Builder>(
 }
 
 /// Makes a type.
-fn make_type<B: Builder>(
-    alloc: Global,
-    words: &mut Words<'_>,
-    builder: &mut B,
-) -> Result<(), Stop>
+fn make_type<B: Builder>(alloc: Global, words: &mut Words<'_>, builder: &mut B) -> Result<(), Stop>
     ensures { Puts B.add make.TypeRef type_ref words.old builder.old builder.new result }
 {
     let made = type_ref(alloc, words)?;
@@ -102,11 +94,7 @@ fn param<B: Builder>(words: &mut Words<'_>, builder: &mut B) -> Result<(), Stop>
 }
 
 /// Sets the name of the function.
-fn fn_name<B: Builder>(
-    alloc: Global,
-    words: &mut Words<'_>,
-    builder: &mut B,
-) -> Result<(), Stop>
+fn fn_name<B: Builder>(alloc: Global, words: &mut Words<'_>, builder: &mut B) -> Result<(), Stop>
     ensures { Puts B.add make.FnName name words.old builder.old builder.new result }
 {
     let name = words.name(alloc)?;

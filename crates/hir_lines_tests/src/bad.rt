@@ -1,7 +1,7 @@
 //! Texts that are nearly lines, and are none. They stand in a few tables: one table of them all would be far dearer to prove.
 
-use crate::says::says;
 use crate::kept::Line;
+use crate::says::says;
 use std::alloc::Global;
 use std::process::Abort;
 use std::test::Fail;
