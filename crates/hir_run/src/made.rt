@@ -81,12 +81,10 @@ impl Builder for Made {
 
     ghost add = { and_maker };
 
-    #[inline(always)]
     fn binding(&mut self, binding: Binding) -> Result<(), Stop> {
         or_memory(self.builder.alloc_binding(binding))
     }
 
-    #[inline(always)]
     fn pat(&mut self, pat: Pat) -> Result<(), Stop> {
         or_memory(self.builder.alloc_pat(pat))
     }
@@ -95,7 +93,6 @@ impl Builder for Made {
         or_memory(self.builder.alloc_type(type_ref))
     }
 
-    #[inline(always)]
     fn expr(&mut self, expr: Expr) -> Result<(), Stop> {
         or_memory(self.builder.alloc_expr(expr))
     }
