@@ -2,11 +2,13 @@
 #![tactic(auto)]
 
 mod buffer;
+mod laws;
 mod line_format;
 mod literals;
 mod piece_writer;
 
 pub use buffer::PageBuffer;
+pub use laws::formats_are_compared_by_kind;
 pub use line_format::LineFormat;
 pub use literals::{
     write_bytes_literal, write_c_string_literal, write_char_literal, write_number,
