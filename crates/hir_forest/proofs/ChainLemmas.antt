@@ -107,7 +107,7 @@ under_root g listed limit roots is c = (
 -- the way from a node as far as it has been marked, up to the node at which the walk is
 pub record MarksWay (parents : List (Option ℕ)) (node at : ℕ) (old now : List Bool) : Type 0 where
   pub within : at < length parents
-  pub node : Marks now node ⊎ (at ≡ node)
+  pub first : Marks now node ⊎ (at ≡ node)
   pub stays : (c : ℕ) → Marks old c → Marks now c
   pub way : (g : List (List ℕ)) → HasParents g parents → IsOnChain g node at
   pub fresh : (g : List (List ℕ)) → HasParents g parents → (c : ℕ) → Marks now c → Marks old c ⊎ IsOnChain g node c
@@ -115,7 +115,7 @@ pub record MarksWay (parents : List (Option ℕ)) (node at : ℕ) (old now : Lis
 pub way_start : (parents : List (Option ℕ)) (node : ℕ) (old : List Bool) → node < length parents → MarksWay parents node node old old
 way_start parents node old h = record {
   within = h;
-  node = inr refl;
+  first = inr refl;
   stays = λ c m. m;
   way = λ g k. (zero, refl);
   fresh = λ g k c m. inl m;
@@ -123,7 +123,7 @@ way_start parents node old h = record {
 
 module _ (parents : List (Option ℕ)) (node at : ℕ) (old now : List Bool) (s : MarksWay parents node at old now) (in' : at < length now) where
   pub node_marked : Marks (set now at true) node
-  node_marked = ⊎_elim (λ m. Marks-kept now at node in' m) (λ e. subst (Marks (set now at true)) e (Marks-here now at in')) s.node
+  node_marked = ⊎_elim (λ m. Marks-kept now at node in' m) (λ e. subst (Marks (set now at true)) e (Marks-here now at in')) s.first
 
   pub still_marked : (c : ℕ) → Marks old c → Marks (set now at true) c
   still_marked c m = Marks-kept now at c in' (s.stays c m)
@@ -134,7 +134,7 @@ module _ (parents : List (Option ℕ)) (node at : ℕ) (old now : List Bool) (s 
   pub way_next : (parent : ℕ) → get_or parents at None ≡ Some parent → parent < length parents → MarksWay parents node parent old (set now at true)
   way_next parent is low = record {
     within = low;
-    node = inl node_marked;
+    first = inl node_marked;
     stays = still_marked;
     way = λ g h. (let w = s.way g h in (suc w.0, extend g w.0 node at parent w.1 (has_kid g parents h at parent is)));
     fresh = on_way;

@@ -28,7 +28,7 @@ impl Model for Parents {
 
     ghost view = { λ p. record { rows = p.rows; parents = p.table; shared = p.shared } };
 
-    ghost invariant = { λ p. p.rows ≤ length p.table };
+    ghost invariant = { λ p. (p.rows ≤ length p.table) × (length p.table ≤ 18446744073709551615) };
 }
 
 impl Parents {

@@ -30,7 +30,7 @@ pub returns : goal.returns
 returns c =
     let s = c.loop-marked.invariant in
     record {
-      node = ⊎_elim (λ m. m) (λ e. subst (Marks c.loop-marked.marked) e c.loop-marked-test.false) s.node;
+      node = ⊎_elim (λ m. m) (λ e. subst (Marks c.loop-marked.marked) e c.loop-marked-test.false) s.first;
       stays = s.stays;
       fresh = s.fresh;
     }

@@ -34,5 +34,5 @@ loop-preserved c = record {
 pub returns : goal.returns
 returns c = λ g h e clear. (
   λ t. absurd (false≢true t),
-  λ m. absurd (too_long g c.args.parents.now h c.loop.counter c.args.node c.loop.at (c.loop.invariant.climbs g h) c.requires.node (omega (arith, c.loop-test.false, c.len.ensures)) e),
+  λ m. absurd (too_long g c.args.parents.now h c.loop.counter c.args.node c.loop.at (c.loop.invariant.climbs g h) c.requires.node (omega (arith, c.loop-test.false, c.len-end.ensures)) e),
 )
