@@ -12,7 +12,7 @@ loop-node-init c = record {
 pub returns-then-not-chain_ends : goal.returns-then-not-chain_ends
 returns-then-not-chain_ends c = λ g h. (
   c.loop-node.node,
-  omega (arith, c.loop-node-test.true, c.len-end.ensures, h.nodes),
+  omega (arith, c.loop-node-test.true, c.len-node-end.ensures, h.nodes),
   (refl, λ ends. false≢true (sym c.if-not-chain_ends.true ∙ (c.chain_ends.ensures g h (c.loop-node.invariant.marked g h)).1 ends)),
   λ j lt. c.loop-node.invariant.before g h j lt,
 )
@@ -28,4 +28,4 @@ loop-node-preserved c = record {
 }
 
 pub returns : goal.returns
-returns c = λ g h n lt. c.loop-node.invariant.before g h n (omega (arith, c.loop-node-test.false, c.len-end.ensures, h.nodes))
+returns c = λ g h n lt. c.loop-node.invariant.before g h n (omega (arith, c.loop-node-test.false, c.len-node-end.ensures, h.nodes))

@@ -14,8 +14,8 @@ row_within g n h = All-weaker (Contains (get_or g n [])) (λ c. c < length g) (�
 pub begin_row-requires : goal.begin_row-requires
 begin_row-requires c =
     let rows = c.loop-node.invariant.noted.rows in
-    let taken = length-take-le c.loop-node.node c.args.rows.now (omega (arith, c.loop-node-test.true, c.len-end.ensures)) in
-    omega (arith, c.loop-node.invariant.room, c.loop-node-test.true, c.len-end.ensures)
+    let taken = length-take-le c.loop-node.node c.args.rows.now (omega (arith, c.loop-node-test.true, c.len-node-end.ensures)) in
+    omega (arith, c.loop-node.invariant.room, c.loop-node-test.true, c.len-node-end.ensures)
 
 pub add_kids-requires-clause-within : goal.add_kids-requires-clause-within
 add_kids-requires-clause-within c =
@@ -26,7 +26,7 @@ pub loop-node-preserved : goal.loop-node-preserved
 loop-node-preserved c =
     let g = c.args.rows.now in
     let n = c.loop-node.node in
-    let low : n < length g = omega (arith, c.loop-node-test.true, c.len-end.ensures) in
+    let low : n < length g = omega (arith, c.loop-node-test.true, c.len-node-end.ensures) in
     let kids = rw c.row.ensures at (c.add_kids.ensures.noted (take n g ++ [] ∷ []) (c.begin_row.ensures.noted (take n g) c.loop-node.invariant.noted)) in
     record {
       noted = subst (λ (rows : List (List ℕ)). IsParentageOf rows c.add_kids.new.parents) (with_kids-row g n low) kids;
@@ -35,6 +35,6 @@ loop-node-preserved c =
 
 pub returns : goal.returns
 returns c = record {
-  noted = rw (take_all c.loop-node.node c.args.rows.now (omega (arith, c.loop-node-test.false, c.len-end.ensures))) at c.loop-node.invariant.noted;
+  noted = rw (take_all c.loop-node.node c.args.rows.now (omega (arith, c.loop-node-test.false, c.len-node-end.ensures))) at c.loop-node.invariant.noted;
   room = c.loop-node.invariant.room;
 }
