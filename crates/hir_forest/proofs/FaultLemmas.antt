@@ -17,7 +17,8 @@ shared_fault-first g lengths roots f h = inl h
 pub later_fault : (g : List (List ℕ)) (lengths : Ends) (roots : List Root) → first_below (length (concat g)) (edge_fault (concat g)) None → (a : Option ForestFault)
     → (first_below (length g) (cycle_fault (ChainEnds g)) before first_below (length roots) (root_fault (LiesUnderRoot g lengths.exprs (root_nodes roots)) lengths roots)) a → forest_fault g lengths roots a
 unfolding forest_fault
-later_fault g lengths roots none a h = before-second _ _ none a h
+later_fault g lengths roots none a h =
+    before-second (first_below (length (concat g)) (edge_fault (concat g))) (first_below (length g) (cycle_fault (ChainEnds g)) before first_below (length roots) (root_fault (LiesUnderRoot g lengths.exprs (root_nodes roots)) lengths roots)) none a h
 
 root_fault-one : (U : ℕ → Type 0) (lengths : Ends) (roots : List Root) (i : ℕ) → IsOne (root_fault U lengths roots i)
 root_fault-one U lengths roots i =

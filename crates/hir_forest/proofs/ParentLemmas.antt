@@ -180,12 +180,12 @@ module _ (g : List (List ℕ)) (t : Parentage) (h : IsParentageOf g t) (kid : �
 
   -- the kid has a parent
   pushed_again_by : (o v : Option ℕ) → t.shared ≡ o → get_or t.parents kid None ≡ v → is_some v ≡ true → IsParentageOf (with_kids g (kid ∷ [])) record t { shared = option_or o (Some kid) }
-  pushed_again_by o None is has yes = absurd (false≢true yes)
-  pushed_again_by None (Some q) is has yes = pushed_known q has is
-  pushed_again_by (Some child) (Some q) is has yes = pushed_later child is record t { shared = Some child } refl refl
+  pushed_again_by o None is has there = absurd (false≢true there)
+  pushed_again_by None (Some q) is has there = pushed_known q has is
+  pushed_again_by (Some child) (Some q) is has there = pushed_later child is record t { shared = Some child } refl refl
 
   pub pushed_again : is_some (get_or t.parents kid None) ≡ true → IsParentageOf (with_kids g (kid ∷ [])) record t { shared = option_or t.shared (Some kid) }
-  pushed_again yes = pushed_again_by t.shared (get_or t.parents kid None) refl refl yes
+  pushed_again there = pushed_again_by t.shared (get_or t.parents kid None) refl refl there
 
   -- the kid has none
   pushed_first_by : (o v : Option ℕ) → t.shared ≡ o → get_or t.parents kid None ≡ v → is_some v ≡ false → kid < length t.parents → IsParentageOf (with_kids g (kid ∷ [])) record t { parents = set t.parents kid (Some (t.rows - 1)) }
@@ -218,7 +218,7 @@ none_yet parents n is = record {
     all_none : (c : ℕ) → get_or parents c None ≡ None
     all_none c = elim (cases_lt c n) [
       | inl h ↦ subst (λ (l : List (Option ℕ)). get_or l c None ≡ None) (sym is) (get_or-replicate n c None None h)
-      | inr h ↦ get_or_past parents c None (omega (arith, ap length is, length-replicate n (None {A = ℕ})))
+      | inr h ↦ get_or_past parents c None (let n_is : length (replicate {A = Option ℕ} n None) ≡ n = length-replicate n None in let long : length parents ≡ length (replicate {A = Option ℕ} n None) = ap length is in omega arith)
     ]
 
 -- where no child is shared
@@ -238,8 +238,8 @@ all_zero (suc n) = ap (λ rest. None ∷ rest) (all_zero n)
 
 pub zeros_name : (n : ℕ) → NameNodes (replicate n 0)
 zeros_name n i = elim (cases_lt i n) [
-  | inl h ↦ let z : get_or (replicate n 0) i 0 ≡ 0 = get_or-replicate n i 0 0 h in omega arith
-  | inr h ↦ let z : get_or (replicate n 0) i 0 ≡ 0 = get_or_past (replicate n 0) i 0 (omega (arith, length-replicate n 0)) in omega arith
+  | inl h ↦ let z : get_or (replicate {A = ℕ} n 0) i 0 ≡ 0 = get_or-replicate n i 0 0 h in omega arith
+  | inr h ↦ let z : get_or (replicate {A = ℕ} n 0) i 0 ≡ 0 = get_or_past (replicate n 0) i 0 (omega (arith, length-replicate n 0)) in omega arith
 ]
 
 pub name_set : (numbers : List ℕ) (node parent : ℕ) → NameNodes numbers → node < length numbers → parent < length numbers → NameNodes (set numbers node (parent + 1))
