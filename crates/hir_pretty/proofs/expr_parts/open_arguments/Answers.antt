@@ -10,6 +10,6 @@ use Rattle.hir_pretty.proofs.expr_parts.open_arguments.Goals as goal
 pub returns-in-len1-up : goal.returns-in-len1-up
 returns-in-len1-up c = on_ok_weaker c.push-in-len1-up-2.result
     (λ p s.
-    opens_before (opens_then (opens_works c.in_ok-push-in-len1-up.ensures) (c.in_ok-open_arg_lines.ensures s) refl (omega arith)) p
+    opens_before (opens_then (opens_works c.in_ok-push-in-len1-up.ensures) (c.in_ok-open_arg_lines.ensures s)) p
     (two_around (text (codes "(") ++ into) (each_line c.args.args.now) (Put Outdent) (Put (Text (codes ")"))) ∙ some_arguments c.args.args.now (omega arith)) (omega arith))
     c.push-in-len1-up-2.ensures

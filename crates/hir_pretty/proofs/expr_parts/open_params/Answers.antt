@@ -3,7 +3,7 @@ use Rattle.std.proofs.lemmas.Result.{on_ok_weaker}
 use Rattle.std.proofs.lemmas.Grind.{common_steps}
 use Rattle.hir_pretty.specs.Items.{text, comma_joined}
 use Rattle.hir_pretty.specs.Exprs.{params}
-use Rattle.hir_pretty.proofs.OpenLemmas.{opens_as, opens_none, opens_then, opens_works}
+use Rattle.hir_pretty.proofs.OpenLemmas.{opens_none, opens_then, opens_works, opens_as}
 use Rattle.hir_pretty.proofs.FirstLemmas.{rest, typed, no_rest, params_none, params_one, params_more, some_rest, length_rest}
 use Rattle.hir_pretty.proofs.expr_parts.open_params.Goals as goal
 
@@ -27,7 +27,7 @@ returns-else-is_empty-2 c =
     let more = some_rest c.args.args.now (sym c.is_empty.ensures ∙ c.if-is_empty.false) in
     let more_types = some_rest c.args.types.now (sym c.is_empty-else-is_empty.ensures ∙ c.if-is_empty-2.false) in
     on_ok_weaker c.open_param-2.result
-    (λ o s. opens_then (opens_works c.in_ok-push.ensures) (o s)
+    (λ o s. opens_as (opens_then (opens_works c.in_ok-push.ensures) (o s))
     (sym (append_assoc (typed c.arg-item.result c.type_ref-item.result) (text (codes ", ")) (comma_joined (params (rest c.args.args.now) (rest c.args.types.now))))
     ∙ params_more c.args.args.now c.args.types.now c.arg-item.result c.type_ref-item.result c.arg-item.is c.type_ref-item.is more more_types)
     (let k = length_rest c.args.args.now (omega arith) in omega arith))

@@ -18,8 +18,8 @@ returns-in-Let c = rw c.in-Let.is (on_ok_weaker c.push-2.result
     let more = flat_map statement_items c.args.rest.now in
     let last = text (codes ";") ++ br ++ more in
     opens_before
-    (opens_then (opens_then (opens_then (opens_works c.in_ok-push.ensures) (c.in_ok-open_after.ensures s) refl (omega arith)) (c.in_ok-open_after-2.ensures s) refl (omega arith))
-    (c.in_ok-open_after-3.ensures s) refl (omega arith))
+    (opens_then (opens_then (opens_then (opens_works c.in_ok-push.ensures) (c.in_ok-open_after.ensures s)) (c.in_ok-open_after-2.ensures s))
+    (c.in_ok-open_after-3.ensures s))
     q
     (sym (append_assoc before type_ref (initializer ++ (else_branch ++ last))) ∙ sym (append_assoc (before ++ type_ref) initializer (else_branch ++ last))
     ∙ sym (append_assoc (before ++ type_ref ++ initializer) else_branch last)

@@ -1,6 +1,6 @@
 use Rattle.std.proofs.Common.{◌++◌, ◌∙◌, codes, refl, sym, append_assoc, arith}
 use Rattle.std.proofs.lemmas.Result.{on_ok_weaker}
-use Rattle.hir_pretty.proofs.OpenLemmas.{opens_before, opens_then}
+use Rattle.hir_pretty.proofs.OpenLemmas.{opens_before, opens_put, opens_then}
 use Rattle.hir_pretty.specs.Items.{sp, text}
 use Rattle.hir_pretty.specs.Exprs.{labelled, unsafe_items, inside_block}
 use Rattle.hir_pretty.proofs.exprs.open_block.Goals as goal
@@ -14,7 +14,7 @@ returns c = on_ok_weaker c.push-2.result
     let rest = inside ++ text (codes "}") in
     let brace = text (codes "{") in
     opens_before
-    (opens_then (opens_then (opens_before (c.in_ok-open_inside.ensures s) c.in_ok-push.ensures refl (omega arith)) (c.in_ok-open_unsafe.ensures s) refl (omega arith)) (c.in_ok-open_labelled.ensures s) refl (omega arith))
+    (opens_then (opens_then (opens_put (c.in_ok-open_inside.ensures s) c.in_ok-push.ensures) (c.in_ok-open_unsafe.ensures s)) (c.in_ok-open_labelled.ensures s))
     p
     (sym (append_assoc sp label (unsafe_ ++ (brace ++ rest))) ∙ sym (append_assoc (sp ++ label) unsafe_ (brace ++ rest)) ∙ sym (append_assoc (sp ++ label ++ unsafe_) brace rest)
     ∙ sym (append_assoc (sp ++ label ++ unsafe_ ++ brace) inside (text (codes "}"))))

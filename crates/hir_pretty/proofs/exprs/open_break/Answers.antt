@@ -5,4 +5,4 @@ use Rattle.hir_pretty.proofs.exprs.open_break.Goals as goal
 
 pub returns : goal.returns
 returns c = on_ok_weaker c.push.result
-    (λ p s. opens_before (opens_then (c.in_ok-open_operand.ensures s) (c.in_ok-open_to_label.ensures s) refl (omega arith)) p refl (omega arith)) c.push.ensures
+    (λ p s. opens_before (opens_then (c.in_ok-open_operand.ensures s) (c.in_ok-open_to_label.ensures s)) p refl (omega arith)) c.push.ensures

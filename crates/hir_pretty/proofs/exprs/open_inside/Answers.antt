@@ -13,7 +13,7 @@ returns-in-len1-up c = on_ok_weaker c.push-in-len1-up-2.result
     (λ p s.
     let statements = flat_map statement_items c.args.statements.now in
     let tail = opt e c.args.tail in
-    opens_before (opens_then (opens_then (opens_works c.in_ok-push-in-len1-up.ensures) (c.in_ok-open_tail.ensures s) refl (omega arith)) (c.in_ok-open_statements.ensures s) refl (omega arith)) p
+    opens_before (opens_then (opens_then (opens_works c.in_ok-push-in-len1-up.ensures) (c.in_ok-open_tail.ensures s)) (c.in_ok-open_statements.ensures s)) p
     (sym (append_assoc into statements (tail ++ (Put Break ∷ Put Outdent ∷ Put (Text (codes "}")) ∷ []))) ∙ three_around (into ++ statements) tail (Put Break) (Put Outdent) (Put (Text (codes "}")))
     ∙ ap (λ is. is ++ text (codes "}")) (some_statements c.args.statements.now c.args.tail (omega arith))) (omega arith))
     c.push-in-len1-up-2.ensures

@@ -12,6 +12,6 @@ pub returns : goal.returns
 returns c = on_ok_weaker c.push-2.result
     (λ p s.
     let before = text (codes "match ") ++ e c.args.expr ++ text (codes " {") ++ into in
-    opens_before (opens_then (opens_works c.in_ok-push.ensures) (c.in_ok-open_arms.ensures s) refl (omega arith)) p
+    opens_before (opens_then (opens_works c.in_ok-push.ensures) (c.in_ok-open_arms.ensures s)) p
     (three_around before (flat_map arm_items c.args.arms.now) (Put Outdent) (Put (Text (codes "}"))) (Put Break)) (omega arith))
     c.push-2.ensures

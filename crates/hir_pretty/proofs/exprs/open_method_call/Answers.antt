@@ -12,6 +12,6 @@ pub returns : goal.returns
 returns c = on_ok_weaker c.push.result
     (λ p s.
     let before = under Postfix c.args.receiver ++ text (codes ".") ++ name_items s c.args.name.now in
-    opens_before (opens_then (c.in_ok-open_arguments.ensures s) (c.in_ok-open_method_args.ensures s) refl (omega arith)) p
+    opens_before (opens_then (c.in_ok-open_arguments.ensures s) (c.in_ok-open_method_args.ensures s)) p
     (sym (append_assoc before (opt (λ a. turbofish (args_items s a)) c.args.generic_args.now) (arguments c.args.args.now))) (omega arith))
     (rw c.as_str.ensures at c.push.ensures)

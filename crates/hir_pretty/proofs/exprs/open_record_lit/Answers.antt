@@ -1,6 +1,6 @@
 use Rattle.std.proofs.Common.{◌++◌, ◌∷◌, [], codes, refl, sym, ◌∙◌, append_assoc, arith}
 use Rattle.std.proofs.lemmas.Result.{on_ok_weaker}
-use Rattle.hir_pretty.proofs.OpenLemmas.{opens_before, opens_then, opens_works}
+use Rattle.hir_pretty.proofs.OpenLemmas.{opens_put, opens_then, opens_works, opens_as}
 use Rattle.std.specs.List.{flat_map}
 use Rattle.hir_page.specs.Pieces.{Text, Indent, Outdent}
 use Rattle.hir_pretty.specs.Items.{Put, text, into, out}
@@ -17,10 +17,11 @@ returns c = on_ok_weaker c.open_path.result
     let spread = spread_items c.args.spread in
     let last = out ++ text (codes "}") in
     let before = path ++ text (codes "{") ++ into in
-    opens_then
-    (opens_before (opens_then (opens_then (opens_works c.in_ok-push.ensures) (c.in_ok-open_spread.ensures s) refl (omega arith)) (c.in_ok-open_fields.ensures s) refl (omega arith))
-    c.in_ok-push-2.ensures refl (omega arith))
-    (o s)
+    opens_as
+    (opens_then
+    (opens_put (opens_then (opens_then (opens_works c.in_ok-push.ensures) (c.in_ok-open_spread.ensures s)) (c.in_ok-open_fields.ensures s))
+    c.in_ok-push-2.ensures)
+    (o s))
     (two_before path (Put (Text (codes "{"))) (Put Indent) (fields ++ (spread ++ last)) ∙ sym (append_assoc before fields (spread ++ last)) ∙ sym (append_assoc (before ++ fields) spread last)
     ∙ two_last (before ++ fields ++ spread) (Put Outdent) (Put (Text (codes "}"))))
     (omega arith))

@@ -5,4 +5,4 @@ use Rattle.hir_pretty.proofs.exprs.open_tuple.Goals as goal
 
 pub returns : goal.returns
 returns c = on_ok_weaker c.push-2.result
-    (λ p s. opens_before (opens_then (opens_works c.in_ok-push.ensures) (c.in_ok-open_elements.ensures s) refl (omega arith)) p refl (omega arith)) c.push-2.ensures
+    (λ p s. opens_before (opens_then (opens_works c.in_ok-push.ensures) (c.in_ok-open_elements.ensures s)) p refl (omega arith)) c.push-2.ensures

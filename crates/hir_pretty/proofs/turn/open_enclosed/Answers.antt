@@ -8,5 +8,5 @@ pub returns : goal.returns
 returns c = on_ok_weaker c.push-2.result
     (λ p tables words one_line.
     let s = setting c.args.store.now tables words one_line in
-    opens_before (opens_then (opens_works c.in_ok-push.ensures) (c.in_ok-open_expr_at.ensures tables words one_line) refl (omega arith)) p refl (omega arith))
+    opens_before (opens_then (opens_works c.in_ok-push.ensures) (c.in_ok-open_expr_at.ensures tables words one_line)) p refl (omega arith))
     c.push-2.ensures
