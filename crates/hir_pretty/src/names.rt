@@ -30,10 +30,7 @@ fn is_word(words: &[Text], name: &str) -> bool
 fn without_quote(name: &str) -> Option<&str>
     ensures { MatchOption result ((rest : List ℕ) → name.now ≢ 39 ∷ rest) (λ rest. name.now ≡ 39 ∷ rest.now) }
 {
-    match name.as_bytes() {
-        [b'\'', ..] => name.strip_prefix('\''),
-        [] | [_, ..] => None,
-    }
+    name.strip_prefix('\'')
 }
 
 /// Writes a name with `r#` before it.
