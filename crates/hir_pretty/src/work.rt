@@ -58,7 +58,7 @@ pub enum Look {
     ClosureBody(ClosureKind, ExprId),
 }
 
-/// Parts of expressions.
+/// Parts of expressions: the rests of their lists.
 #[derive(Clone, Copy)]
 pub enum ExprPart<'a> {
     ArgLines(&'a [ExprId]),
@@ -145,7 +145,7 @@ impl<'a> Stack<'a> {
 
     /// Pushes works, the first on top.
     ///
-    /// Answers an error where room was refused.
+    /// Answers an error where room was refused; then the last of them may be on the stack.
     #[inline(always)]
     pub(crate) fn push<const N: usize>(&mut self, works: [Work<'a>; N]) -> Result<(), AllocError>
         ensures { OnOk result (Pushes works (listed self.old) (listed self.new)) }
@@ -158,7 +158,7 @@ impl<'a> Stack<'a> {
         Ok(())
     }
 
-    /// Pushes works, the first on top. It reserves room once, and turns them round.
+    /// Pushes works, the first on top. It reserves room once, and turns the works round.
     ///
     /// Answers an error where that room was refused.
     pub(crate) fn push_all(&mut self, works: &mut [Work<'a>]) -> Result<(), AllocError>
