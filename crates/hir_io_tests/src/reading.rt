@@ -33,15 +33,13 @@ fn echo<R: Source, W: Sink>(
 type Ran = (Result<u64, LineFault>, bool, (u64, bool), (u64, bool));
 
 /// Echoes all lines of a source, and says how that ran where the sink should have this echo.
-fn run(
-    alloc: Global,
-    mut reader: Given,
-    mut writer: Kept,
-    echoed: &[u8],
-) -> Result<Ran, AllocError> {
+fn run(alloc: Global, mut reader: Given, mut writer: Kept, echoed: &[u8]) -> Result<Ran, Fail> {
     let mut lines = LineReader::new(alloc)?;
     let mut output = OutputBuffer::new(alloc)?;
     let ended = echo(&mut lines, &mut reader, &mut output, &mut writer);
+    if ended == Err(LineFault::OutOfMemory) {
+        return Err(Fail::from(LineFault::OutOfMemory));
+    }
     let reads = (reader.calls, reader.has_failed());
     let writes = (writer.calls, writer.has_failed());
     Ok((ended, writer.bytes() == echoed, reads, writes))
