@@ -8,6 +8,8 @@ mod exprs;
 #[cfg(test)]
 mod good;
 #[cfg(test)]
+mod kept;
+#[cfg(test)]
 mod ops;
 #[cfg(test)]
 mod says;

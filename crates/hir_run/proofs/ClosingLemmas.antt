@@ -8,12 +8,12 @@ use Rattle.hir_io.specs.LineState.{LineState}
 use Rattle.hir_io.specs.declared.next.LineFault.{LineFault}
 use Rattle.hir_io.specs.declared.next.LineFault.TheVariants as line
 use Rattle.hir_io.specs.NextLine.{NextWrites}
-use Rattle.hir_lines.specs.declared.line.Line.{Line}
+use Rattle.hir_lines.specs.Line.{Line}
 use Rattle.hir_run.specs.Faults.{fault_of_line}
 use Rattle.hir_io.specs.Text.{lines, IsCutShort}
 use Rattle.hir_io.proofs.EndLemmas.{Appends-twice}
 use Rattle.hir_io.proofs.TextLemmas.{lines-ended}
-use Rattle.hir_lines.specs.declared.line.Question.{Question}
+use Rattle.hir_lines.specs.declared.question.Question.{Question}
 use Rattle.hir_store.specs.Building.{Building}
 use Rattle.hir_items.specs.Bodies.{BodyContents}
 use Rattle.hir_expr_store.specs.Contents.{Contents}

@@ -2,7 +2,7 @@ use Rattle.std.proofs.Common.{◌≡◌, List, ℕ, Option, None, Some, Result, 
 use Rattle.std.proofs.lemmas.Result.{err_from_is_err_and}
 use Rattle.hir_io.specs.LineState.{LineState}
 use Rattle.hir_io.specs.NextLine.{untaken}
-use Rattle.hir_lines.specs.declared.line.Question.{Question}
+use Rattle.hir_lines.specs.declared.question.Question.{Question}
 use Rattle.hir_items.specs.Bodies.{body_of}
 use Rattle.hir_store.specs.Building.{building_of}
 use Rattle.hir_run.specs.declared.made.Parts.{Parts}
