@@ -1,6 +1,7 @@
 pub mod HeldLemmas
 pub mod RangeLemmas
 pub mod RowLemmas
+pub mod EdgeLemmas
 pub mod FaultLemmas
 pub mod SoundLemmas
 pub mod DownLemmas
