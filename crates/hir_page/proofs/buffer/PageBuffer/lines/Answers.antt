@@ -2,7 +2,7 @@ use Rattle.std.proofs.Common.{◌∷◌, sym, ap, ◌∙◌, arith, rules}
 use Rattle.std.proofs.lemmas.Str.Pattern.{split_parts}
 use Rattle.hir_page.specs.Page.{put, put_all}
 use Rattle.hir_page.proofs.PageLemmas.{put_all-append}
-use Rattle.hir_page.proofs.buffer.PageBufferPieceWriter.text.Goals as goal
+use Rattle.hir_page.proofs.buffer.PageBuffer.lines.Goals as goal
 
 pub line-requires : goal.line-requires
 line-requires c = let parts = rw c.in-Some.is at (split_parts 10 _ _ c.split_once.ensures.cases (omega arith)) in parts.1
