@@ -11,10 +11,11 @@ use Rattle.hir_faults.proofs.first_fault.first_fault_of.Goals as goal
 pub first_bad_node-requires-clause-room : goal.first_bad_node-requires-clause-room
 first_bad_node-requires-clause-room c =
     let s = nodes_in c.args.nodes.now in
+    let room = rw c.sizes-sizes.ensures at c.in_ok-new.ensures.room in
     record {
       room = record { few = rw c.sizes-sizes.ensures c.requires; nodes = c.in_ok-new.ensures.room };
       there = refl;
-      rows = rw c.sizes-sizes.ensures at (omega (arith, c.in_ok-new.ensures.none.rows, c.in_ok-new.ensures.room, all_count s));
+      rows = omega (arith, c.in_ok-new.ensures.none.rows, room, all_count s);
     }
 
 pub returns-in-Some : goal.returns-in-Some
