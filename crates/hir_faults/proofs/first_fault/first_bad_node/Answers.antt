@@ -1,8 +1,8 @@
-use Rattle.std.proofs.Common.{◌≡◌, ◌+◌, ◌≤◌, ◌++◌, length, map, sym, subst, ◌∙◌, arith}
+use Rattle.std.proofs.Common.{◌++◌, length, map, ◌∙◌, arith}
 use Rattle.std.proofs.lemmas.List.{length-append, length-map}
 use Rattle.hir_faults.specs.Faults.{nodes_in}
 use Rattle.hir_faults.specs.Tested.{tested_expr, tested_pat, tested_type}
-use Rattle.hir_faults.specs.Edges.{CanVisit, Visited, all_tested}
+use Rattle.hir_faults.specs.Edges.{Visited, all_tested}
 use Rattle.hir_faults.proofs.EdgeLemmas.{all_count, can_visit_less, can_visit_on, visited_both, if_none_so}
 use Rattle.hir_faults.proofs.FirstFaultLemmas.{bad_expr, bad_pat, bad_type}
 use Rattle.hir_faults.proofs.first_fault.first_bad_node.Goals as goal

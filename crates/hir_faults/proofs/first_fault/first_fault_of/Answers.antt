@@ -1,9 +1,7 @@
-use Rattle.std.proofs.Common.{◌≡◌, [], ◌++◌, List, ℕ, length, refl, sym, subst, ◌∙◌, arith}
+use Rattle.std.proofs.Common.{[], List, ℕ, refl, subst, arith}
 use Rattle.std.proofs.lemmas.Result.{IfOk-weaker}
 use Rattle.hir_forest.specs.Parents.{IsParentageOf}
 use Rattle.hir_faults.specs.Faults.{Rooted, nodes_in, graph_fault, rooted_fault}
-use Rattle.hir_faults.specs.Nodes.{graph}
-use Rattle.hir_faults.specs.Edges.{CanVisit, Visited, all_tested}
 use Rattle.hir_faults.proofs.EdgeLemmas.{all_rows, all_count}
 use Rattle.hir_faults.proofs.FirstFaultLemmas.{bad_node, graph_last}
 use Rattle.hir_faults.proofs.first_fault.first_fault_of.Goals as goal
