@@ -18,12 +18,12 @@ abbrev pub CanNote : EdgeVisitor → Type 0
 CanNote v = HasRoom v × (0 < v.parents.rows)
 
 -- it knows whether these ids are there too, and where all are, the last row has these kids more
-pub record Noted (v : EdgeVisitor) (there : Bool) (kids : List ℕ) (w : EdgeVisitor) : Type 0 where
+pub record Noted (v : EdgeVisitor) (are_there : Bool) (new_kids : List ℕ) (w : EdgeVisitor) : Type 0 where
   pub sizes : w.sizes ≡ v.sizes
   pub room : length w.parents.parents ≡ length v.parents.parents
   pub rows : w.parents.rows ≡ v.parents.rows
-  pub there : w.all_there ≡ (v.all_there && there)
-  pub kids : IsTrue w.all_there → (g : List (List ℕ)) → IsParentageOf g v.parents → IsParentageOf (with_kids g kids) w.parents
+  pub there : w.all_there ≡ (v.all_there && are_there)
+  pub kids : IsTrue w.all_there → (g : List (List ℕ)) → IsParentageOf g v.parents → IsParentageOf (with_kids g new_kids) w.parents
 
 abbrev pub Notes : EdgeVisitor → Call → EdgeVisitor → Type 0
 Notes v c w = Noted v (is_there v.sizes c) (places v.sizes (c ∷ [])) w

@@ -1,12 +1,11 @@
 -- Chains of parents: how they end, how long they are, and which marked nodes are on them.
-use Rattle.std.proofs.Common.{◌≡◌, ◌≢◌, ℕ, zero, suc, ◌+◌, ◌<◌, ◌≤◌, ◌⊎◌, ◌↔◌, Bool, true, false, not, cond, List, [], Option, Some, None, length, get_or, set, take, inl, inr, ⊎_elim, refl, ap, sym, ◌∙◌, subst, arith, add-one, Contains}
+use Rattle.std.proofs.Common.{◌≡◌, ℕ, zero, suc, ◌+◌, ◌<◌, ◌≤◌, ◌⊎◌, ◌↔◌, Bool, true, false, not, cond, List, Option, Some, None, length, get_or, set, inl, inr, ⊎_elim, refl, ap, sym, ◌∙◌, subst, arith, add-one, Contains}
 use Rattle.std.specs.Prelude.{count_by}
-use Rattle.std.proofs.lemmas.Bool.{cases_eq, false≢true}
+use Rattle.std.proofs.lemmas.Bool.{false≢true}
 use Rattle.std.proofs.lemmas.List.Sums.{sum_by-set}
-use Rattle.hir_forest.specs.Forest.{IsKid, Climbs, IsTop, ChainEnds, LiesUnder, Marks, LiesUnderMarked, HasOneParent}
+use Rattle.hir_forest.specs.Forest.{IsKid, Climbs, IsTop, ChainEnds, Marks, LiesUnderMarked, HasOneParent}
 use Rattle.hir_forest.specs.Faults.{LiesUnderRoot}
-use Rattle.hir_forest.specs.Parents.{HasParent, HasParents, IsOnChain, MeetsMarked, AreClear}
-use Rattle.hir_forest.proofs.ForestLemmas.{parent_in}
+use Rattle.hir_forest.specs.Parents.{HasParents, IsOnChain, MeetsMarked, AreClear}
 use Rattle.hir_forest.proofs.HeightLemmas.{chain_short, join, extend}
 use Rattle.hir_forest.proofs.MarkLemmas.{Marks-set, Marks-kept, Marks-here}
 

@@ -1,13 +1,13 @@
 -- The parts of the first fault, that one answer at most is right, and what a fault names.
-use Rattle.std.proofs.Common.{ℕ, suc, ◌<◌, ◌↔◌, Option, Some, None, List, length, take, inl, inr, ⊎_elim, sym, subst, All, Contains, slice_index}
+use Rattle.std.proofs.Common.{ℕ, ◌<◌, Option, Some, None, List, length, inl, ⊎_elim, sym, subst, All}
 use Rattle.std.specs.List.{concat}
 use Rattle.hir_forest.specs.declared.roots.Ends.{Ends}
 use Rattle.hir_forest.specs.declared.roots.Root.{Root}
 use Rattle.hir_forest.specs.declared.roots.ForestFault.{ForestFault}
 use Rattle.hir_forest.specs.declared.roots.ForestFault.TheVariants.{RootOutOfRange, RootRepeated, RootUnderRoot, RootEnds}
-use Rattle.hir_forest.specs.Verdict.{◌unless◌, ◌before◌, first_below}
+use Rattle.hir_forest.specs.Verdict.{◌before◌, first_below}
 use Rattle.hir_forest.specs.Forest.{ChainEnds}
-use Rattle.hir_forest.specs.Faults.{LiesUnderRoot, root_nodes, EndsFit, ends_before, edge_fault, cycle_fault, root_fault, forest_fault, IsWithin}
+use Rattle.hir_forest.specs.Faults.{LiesUnderRoot, root_nodes, edge_fault, cycle_fault, root_fault, forest_fault, IsWithin}
 use Rattle.hir_forest.proofs.VerdictLemmas.{IsOne, before-second, unless-one, before-one, first_below-one}
 
 pub shared_fault-first : (g : List (List ℕ)) (lengths : Ends) (roots : List Root) (f : ForestFault) → first_below (length (concat g)) (edge_fault (concat g)) (Some f) → forest_fault g lengths roots (Some f)

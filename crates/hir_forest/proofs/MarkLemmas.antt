@@ -1,6 +1,6 @@
 -- Tables of marks, one step of the walk, and the list of roots as far as it has been read.
 use Rattle.std.proofs.Common.{◌≡◌, ℕ, suc, ◌+◌, ◌<◌, ◌≤◌, ◌⊎◌, ◌↔◌, Bool, true, false, not, cond, List, [], ◌∷◌, ◌++◌, length, get_or, set, take, inl, inr, ⊎_elim, refl, ap, sym, ◌∙◌, subst, arith, add-one, Contains}
-use Rattle.std.proofs.lemmas.List.{take_more, get_or_default, get_or-set_same, get_or-set_other, length-set, length_push, length-map, take-map, get_or-map}
+use Rattle.std.proofs.lemmas.List.{take_more, get_or-set_same, get_or-set_other, length-set, length_push, length-map, take-map, get_or-map}
 use Rattle.std.proofs.lemmas.List.Elements.{Contains-push, Contains-push_cases, Contains-append_left}
 use Rattle.std.proofs.lemmas.Bool.{cases_eq, false≢true}
 use Rattle.std.proofs.lemmas.List.Sums.{sum_by-set}
@@ -8,7 +8,7 @@ use Rattle.hir_forest.specs.declared.roots.Root.{Root}
 use Rattle.hir_forest.specs.declared.roots.Ends.{Ends}
 use Rattle.hir_forest.specs.Faults.{root_nodes, ends_before, no_ends, EndsFit}
 use Rattle.hir_forest.specs.Forest.{Marks, MarksAll}
-use Rattle.hir_forest.specs.Walk.{MarksRoots, Reach, Meets}
+use Rattle.hir_forest.specs.Walk.{Reach, Meets}
 
 -- a table with one more mark
 pub Marks-set : (table : List Bool) (k c : ℕ) → k < length table → Marks (set table k true) c → Marks table c ⊎ (k ≡ c)

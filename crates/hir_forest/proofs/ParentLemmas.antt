@@ -1,11 +1,10 @@
 -- The parents of a graph's nodes as its rows are read: a row begins, and a kid is added to the last one.
-use Rattle.std.proofs.Common.{◌≡◌, ◌≢◌, ℕ, zero, suc, ◌+◌, ◌-◌, ◌<◌, ◌≤◌, ◌⊎◌, ◌↔◌, List, [], ◌∷◌, ◌++◌, Option, Some, None, true, false, length, get_or, set, take, map, replicate, inl, inr, ⊎_elim, refl, ap, sym, ◌∙◌, subst, arith, append_assoc, Contains}
+use Rattle.std.proofs.Common.{◌≡◌, ◌≢◌, ℕ, zero, suc, ◌+◌, ◌-◌, ◌<◌, ◌⊎◌, ◌↔◌, List, [], ◌∷◌, ◌++◌, Option, Some, None, true, false, length, get_or, set, take, map, replicate, inl, inr, ⊎_elim, refl, ap, sym, ◌∙◌, subst, arith, add-one, append_assoc, Contains}
 use Rattle.std.specs.Prelude.{is_some}
 use Rattle.std.specs.Option.{option_or}
 use Rattle.std.proofs.lemmas.Bool.{cases_eq, cases_lt, false≢true}
-use Rattle.std.proofs.lemmas.List.{append-nil, take-append-le, take_at, get_or_append_left, get_or_push, get_or_past, get_or-map, get_or-replicate, get_or-set_same, get_or-set_other, length_push, length-set, length-map, length-replicate, map-set, take_more}
+use Rattle.std.proofs.lemmas.List.{append-nil, take-append-le, take_at, get_or_append_left, get_or_push, get_or_past, get_or-map, get_or-replicate, get_or-set_same, get_or-set_other, length_push, length-set, length-replicate, map-set, take_more}
 use Rattle.std.proofs.lemmas.List.Elements.{Contains-push, Contains-push_cases, Contains-append_left}
-use Rattle.std.proofs.lemmas.List.Folds.{concat-append}
 use Rattle.std.specs.List.{concat}
 use Rattle.hir_forest.specs.declared.roots.ForestFault.{ForestFault}
 use Rattle.hir_forest.specs.declared.roots.ForestFault.TheVariants.{SharedChild}
@@ -239,7 +238,7 @@ all_zero (suc n) = ap (λ rest. None ∷ rest) (all_zero n)
 pub zeros_name : (n : ℕ) → NameNodes (replicate n 0)
 zeros_name n i = elim (cases_lt i n) [
   | inl h ↦ let z : get_or (replicate {A = ℕ} n 0) i 0 ≡ 0 = get_or-replicate n i 0 0 h in omega arith
-  | inr h ↦ let z : get_or (replicate {A = ℕ} n 0) i 0 ≡ 0 = get_or_past (replicate n 0) i 0 (omega (arith, length-replicate n 0)) in omega arith
+  | inr h ↦ let z : get_or (replicate {A = ℕ} n 0) i 0 ≡ 0 = get_or_past (replicate {A = ℕ} n 0) i 0 (omega (arith, length-replicate {A = ℕ} n 0)) in omega arith
 ]
 
 pub name_set : (numbers : List ℕ) (node parent : ℕ) → NameNodes numbers → node < length numbers → parent < length numbers → NameNodes (set numbers node (parent + 1))
@@ -247,6 +246,12 @@ name_set numbers node parent h within low n = elim (cases_eq n node) [
   | inl e ↦ let s = subst (λ (x : ℕ). get_or (set numbers node (parent + 1)) x 0 ≡ parent + 1) (sym e) (get_or-set_same numbers node (parent + 1) 0 within) in omega (arith, length-set numbers node (parent + 1))
   | inr ne ↦ let s = get_or-set_other numbers node n (parent + 1) 0 ne in let old = h n in omega (arith, length-set numbers node (parent + 1))
 ]
+
+-- a parent is noted
+pub parent_noted : (numbers : List ℕ) (parents : List (Option ℕ)) (node parent : ℕ) → map parent_of numbers ≡ parents → map parent_of (set numbers node (parent + 1)) ≡ set parents node (Some parent)
+parent_noted numbers parents node parent is =
+    let next : parent_of (parent + 1) ≡ Some parent = rw (add-one parent) refl in
+    map-set parent_of numbers node (parent + 1) ∙ ap (λ (o : Option ℕ). set (map parent_of numbers) node o) next ∙ ap (λ (l : List (Option ℕ)). set l node (Some parent)) is
 
 pub node_before : (n : ℕ) → 0 < n → parent_of n ≡ Some (n - 1)
 node_before zero h = absurd (omega arith)

@@ -47,7 +47,7 @@ fn first_root_fault(
     ensures { (g : List (List ℕ)) → HasParents g parents.now
         → ((n : ℕ) → n < length g → ChainEnds g n)
         → first_below (length roots.now)
-            (root_fault (LiesUnderRoot g lengths.exprs (root_nodes roots.now)) lengths roots.now) result }
+        (root_fault (LiesUnderRoot g lengths.exprs (root_nodes roots.now)) lengths roots.now) result }
 {
     let mut earlier = Ends {
         exprs: 0,
@@ -84,8 +84,8 @@ fn first_chain_fault(
     requires { lengths.exprs ≤ length parents.now }
     ensures { IfOk result (λ fault. (g : List (List ℕ)) → HasParents g parents.now
         → (first_below (length g) (cycle_fault (ChainEnds g))
-            before first_below (length roots.now)
-                (root_fault (LiesUnderRoot g lengths.exprs (root_nodes roots.now)) lengths roots.now)) fault) }
+        before first_below (length roots.now)
+        (root_fault (LiesUnderRoot g lengths.exprs (root_nodes roots.now)) lengths roots.now)) fault) }
 {
     let nodes = parents.len();
     let mut ends = vec![in alloc; false; nodes]?;

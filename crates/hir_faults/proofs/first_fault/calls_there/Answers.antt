@@ -1,7 +1,5 @@
-use Rattle.std.proofs.Common.{◌≡◌, true, refl, sym, ◌∙◌, arith}
-use Rattle.std.specs.List.{list_all}
+use Rattle.std.proofs.Common.{refl, ◌∙◌, arith}
 use Rattle.hir_faults.specs.declared.edges.EdgeVisitor.{EdgeVisitor}
-use Rattle.hir_faults.specs.Sizes.{is_there}
 use Rattle.hir_faults.proofs.EdgeLemmas.{may_note, noted_all, visited_one}
 use Rattle.hir_faults.proofs.first_fault.calls_there.Goals as goal
 

@@ -1,8 +1,8 @@
-use Rattle.std.proofs.Common.{◌≡◌, ◌+◌, ◌≤◌, ◌++◌, length, map, sym, subst, ◌∙◌, arith}
+use Rattle.std.proofs.Common.{◌++◌, length, map, ◌∙◌, arith}
 use Rattle.std.proofs.lemmas.List.{length-append, length-map}
 use Rattle.hir_faults.specs.Faults.{nodes_in}
 use Rattle.hir_faults.specs.Tested.{tested_expr, tested_pat, tested_type}
-use Rattle.hir_faults.specs.Edges.{CanVisit, Visited, all_tested}
+use Rattle.hir_faults.specs.Edges.{Visited, all_tested}
 use Rattle.hir_faults.proofs.EdgeLemmas.{all_count, can_visit_less, can_visit_on, visited_both, if_none_so}
 use Rattle.hir_faults.proofs.FirstFaultLemmas.{bad_expr, bad_pat, bad_type}
 use Rattle.hir_faults.proofs.first_fault.first_bad_node.Goals as goal
@@ -23,16 +23,16 @@ after_exprs c = c.in_default.ensures.visited
 after_pats : (c : In_default-first_of) → Visited c.args.visitor.now (map tested_expr c.args.nodes.now.exprs.now ++ map tested_pat c.args.nodes.now.pats.now) c.first_of-2.new.visitor
 after_pats c = visited_both c.args.visitor.now c.first_of.new.visitor c.first_of-2.new.visitor (map tested_expr c.args.nodes.now.exprs.now) (map tested_pat c.args.nodes.now.pats.now) c.in_default.ensures.visited c.in_default-first_of.ensures.visited
 
-pub first_of-2-requires-clause-room : goal.first_of-2-requires-clause-room
-first_of-2-requires-clause-room c =
+pub first_of-requires-2-clause-room : goal.first_of-requires-2-clause-room
+first_of-requires-2-clause-room c =
     let s = nodes_in c.args.nodes.now in
-    can_visit_on c.args.visitor.now c.first_of.new.visitor (map tested_expr s.exprs) (length (all_tested s)) (length s.pats) c.requires.room (after_exprs (goal.at.first_of-2-requires-clause-room c).In_default)
+    can_visit_on c.args.visitor.now c.first_of.new.visitor (map tested_expr s.exprs) (length (all_tested s)) (length s.pats) c.requires.room (after_exprs (goal.at.first_of-requires-2-clause-room c).In_default)
     (omega (arith, all_count s, length-map s.exprs tested_expr))
 
-pub first_of-3-requires-clause-room : goal.first_of-3-requires-clause-room
-first_of-3-requires-clause-room c =
+pub first_of-requires-3-clause-room : goal.first_of-requires-3-clause-room
+first_of-requires-3-clause-room c =
     let s = nodes_in c.args.nodes.now in
-    can_visit_on c.args.visitor.now c.first_of-2.new.visitor (map tested_expr s.exprs ++ map tested_pat s.pats) (length (all_tested s)) (length s.types) c.requires.room (after_pats (goal.at.first_of-3-requires-clause-room c).In_default-first_of)
+    can_visit_on c.args.visitor.now c.first_of-2.new.visitor (map tested_expr s.exprs ++ map tested_pat s.pats) (length (all_tested s)) (length s.types) c.requires.room (after_pats (goal.at.first_of-requires-3-clause-room c).In_default-first_of)
     (omega (arith, all_count s, length-append (map tested_expr s.exprs) (map tested_pat s.pats), length-map s.exprs tested_expr, length-map s.pats tested_pat))
 
 pub returns-in-Some-first_of-clause-fault : goal.returns-in-Some-first_of-clause-fault

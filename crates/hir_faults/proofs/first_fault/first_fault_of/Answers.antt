@@ -1,9 +1,7 @@
-use Rattle.std.proofs.Common.{◌≡◌, [], ◌++◌, List, ℕ, length, refl, sym, subst, ◌∙◌, arith}
+use Rattle.std.proofs.Common.{[], List, ℕ, refl, subst, arith}
 use Rattle.std.proofs.lemmas.Result.{IfOk-weaker}
 use Rattle.hir_forest.specs.Parents.{IsParentageOf}
 use Rattle.hir_faults.specs.Faults.{Rooted, nodes_in, graph_fault, rooted_fault}
-use Rattle.hir_faults.specs.Nodes.{graph}
-use Rattle.hir_faults.specs.Edges.{CanVisit, Visited, all_tested}
 use Rattle.hir_faults.proofs.EdgeLemmas.{all_rows, all_count}
 use Rattle.hir_faults.proofs.FirstFaultLemmas.{bad_node, graph_last}
 use Rattle.hir_faults.proofs.first_fault.first_fault_of.Goals as goal
@@ -11,10 +9,11 @@ use Rattle.hir_faults.proofs.first_fault.first_fault_of.Goals as goal
 pub first_bad_node-requires-clause-room : goal.first_bad_node-requires-clause-room
 first_bad_node-requires-clause-room c =
     let s = nodes_in c.args.nodes.now in
+    let room = rw c.sizes-sizes.ensures at c.in_ok-new.ensures.room in
     record {
       room = record { few = rw c.sizes-sizes.ensures c.requires; nodes = c.in_ok-new.ensures.room };
       there = refl;
-      rows = rw c.sizes-sizes.ensures at (omega (arith, c.in_ok-new.ensures.none.rows, c.in_ok-new.ensures.room, all_count s));
+      rows = omega (arith, c.in_ok-new.ensures.none.rows, room, all_count s);
     }
 
 pub returns-in-Some : goal.returns-in-Some

@@ -29,5 +29,5 @@ pub returns-in-Some : goal.returns-in-Some
 returns-in-Some c =
     rw (c.tell.ensures, c.sizes.ensures) (told_some (rooted (goal.at.returns-in-Some c).In_ok-fault) c.in-Some.fault (rw c.in-Some.is at (found (goal.at.returns-in-Some c).In_ok-fault)))
 
-pub returns : goal.returns
-returns c = told_none (rooted (goal.at.returns c).In_ok-fault) (rw c.in-None.is at (found (goal.at.returns c).In_ok-fault))
+pub returns-in-None : goal.returns-in-None
+returns-in-None c = told_none (rooted (goal.at.returns-in-None c).In_ok-fault) (rw c.in-None.is at (found (goal.at.returns-in-None c).In_ok-fault))

@@ -1,4 +1,4 @@
-use Rattle.std.proofs.Common.{◌≡◌, ◌<◌, ◌+◌, ◌∷◌, [], List, below_more, length, map, take, subst, arith}
+use Rattle.std.proofs.Common.{◌<◌, ◌∷◌, [], List, below_more, length, map, take, subst, arith}
 use Rattle.std.proofs.lemmas.List.{length-map, length-take-le, take_all}
 use Rattle.hir_faults.specs.Edges.{Visited}
 use Rattle.hir_faults.specs.Tested.{Tested}

@@ -1,4 +1,4 @@
-use Rattle.std.proofs.Common.{⊎_elim, sym, subst, arith}
+use Rattle.std.proofs.Common.{◌<◌, length, ⊎_elim, sym, subst, arith}
 use Rattle.hir_forest.specs.Forest.{Marks}
 use Rattle.hir_forest.proofs.ChainLemmas.{way_start, way_next, node_marked, still_marked, on_way, fewer_left}
 use Rattle.hir_forest.proofs.chains.mark_chain.Goals as goal
@@ -19,7 +19,7 @@ loop-marked-smaller c =
 pub returns-in-None : goal.returns-in-None
 returns-in-None c =
     let s = c.loop-marked.invariant in
-    let low = (let a = c.requires.nodes in let b = c.loop-marked.auto.marked in let w = s.within in omega arith) in
+    let low : c.loop-marked.at < length c.loop-marked.marked = omega (arith, c.requires.nodes, c.loop-marked.auto.marked, c.loop-marked.invariant.within) in
     record {
       node = node_marked c.args.parents.now c.args.node c.loop-marked.at c.args.marked.now c.loop-marked.marked s low;
       stays = still_marked c.args.parents.now c.args.node c.loop-marked.at c.args.marked.now c.loop-marked.marked s low;

@@ -56,8 +56,7 @@ returns-then-is_under c = λ g h ends.
     let low : root < c.args.lengths.exprs = c.if-root-lengths.false in
     let once : Contains (take i nodes) root → ⊥ = λ again. false≢true (sym c.if-came-node.false ∙ (c.loop-i.invariant.came root).1 again) in
     let marked = (c.is_under.ensures.under g h (ends root (omega (arith, c.requires.exprs, h.nodes))) (c.loop-i.invariant.clear g h ends)).0 c.if-is_under.true in
-    let under : LiesUnderRoot g c.args.lengths.exprs nodes root = (under_root g c.args.listed.now c.args.lengths.exprs nodes c.requires.listed root).0 marked in
-    (
+    let under : LiesUnderRoot g c.args.lengths.exprs nodes root = (under_root g c.args.listed.now c.args.lengths.exprs nodes c.requires.listed root).0 marked in (
       i,
       c.loop-i-test.true,
       inr (at_root c.args.lengths nodes i root node low, inr (listed_once nodes i root node once, inl (refl, λ new. new (subst (LiesUnderRoot g c.args.lengths.exprs nodes) (sym node) under)))),
@@ -73,11 +72,10 @@ returns-then-not-fit c = λ g h ends.
     let low : root < c.args.lengths.exprs = c.if-root-lengths.false in
     let once : Contains (take i nodes) root → ⊥ = λ again. false≢true (sym c.if-came-node.false ∙ (c.loop-i.invariant.came root).1 again) in
     let apart : LiesUnderRoot g c.args.lengths.exprs nodes root → ⊥ = λ under.
-        let marked = (under_root g c.args.listed.now c.args.lengths.exprs nodes c.requires.listed root).1 under in
-        false≢true (sym c.if-is_under.false ∙ (c.is_under.ensures.under g h (ends root (omega (arith, c.requires.exprs, h.nodes))) (c.loop-i.invariant.clear g h ends)).1 marked) in
+    let marked = (under_root g c.args.listed.now c.args.lengths.exprs nodes c.requires.listed root).1 under in
+    false≢true (sym c.if-is_under.false ∙ (c.is_under.ensures.under g h (ends root (omega (arith, c.requires.exprs, h.nodes))) (c.loop-i.invariant.clear g h ends)).1 marked) in
     let unfit = λ (fits : EndsFit c.args.lengths (ends_before c.args.roots.now i) (ends_before c.args.roots.now (suc i))).
-        false≢true (sym c.if-not-fit.true ∙ c.fit.ensures.1 (unfit_at c.args.lengths c.loop-i.earlier c.args.roots.now i none c.loop-i-test.true c.loop-i.invariant.earlier fits)) in
-    (
+    false≢true (sym c.if-not-fit.true ∙ c.fit.ensures.1 (unfit_at c.args.lengths c.loop-i.earlier c.args.roots.now i none c.loop-i-test.true c.loop-i.invariant.earlier fits)) in (
       i,
       c.loop-i-test.true,
       inr (at_root c.args.lengths nodes i root node low, inr (listed_once nodes i root node once, inr (not_under g c.args.lengths nodes i root node apart, (refl, unfit)))),
@@ -101,8 +99,8 @@ loop-i-preserved c =
       clear = λ g h ends. c.is_under.ensures.clear g h (ends root (omega (arith, c.requires.exprs, h.nodes))) (c.loop-i.invariant.clear g h ends) c.if-is_under.false;
       fine = λ g h ends.
           let apart : LiesUnderRoot g c.args.lengths.exprs nodes root → ⊥ = λ under.
-              let marked = (under_root g c.args.listed.now c.args.lengths.exprs nodes c.requires.listed root).1 under in
-              false≢true (sym c.if-is_under.false ∙ (c.is_under.ensures.under g h (ends root (omega (arith, c.requires.exprs, h.nodes))) (c.loop-i.invariant.clear g h ends)).1 marked) in
+          let marked = (under_root g c.args.listed.now c.args.lengths.exprs nodes c.requires.listed root).1 under in
+          false≢true (sym c.if-is_under.false ∙ (c.is_under.ensures.under g h (ends root (omega (arith, c.requires.exprs, h.nodes))) (c.loop-i.invariant.clear g h ends)).1 marked) in
           below_more _ _ (c.loop-i.invariant.fine g h ends) (
             at_root c.args.lengths nodes i root node low,
             (

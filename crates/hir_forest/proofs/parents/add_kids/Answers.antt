@@ -1,4 +1,4 @@
-use Rattle.std.proofs.Common.{ℕ, List, [], refl, sym, subst, ◌∙◌, arith, take}
+use Rattle.std.proofs.Common.{ℕ, List, refl, subst, ◌∙◌, arith, take}
 use Rattle.std.proofs.lemmas.List.{take_all}
 use Rattle.hir_forest.specs.Rows.{with_kids}
 use Rattle.hir_forest.specs.Parents.{IsParentageOf}

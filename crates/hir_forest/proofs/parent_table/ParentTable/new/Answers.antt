@@ -6,4 +6,4 @@ pub returns-then-nodes : goal.returns-then-nodes
 returns-then-nodes c = let zeros : c.in_ok-vec.field-0.items ≡ replicate c.args.nodes 0 = search rules in rw zeros (all_zero c.args.nodes)
 
 pub returns : goal.returns
-returns c = ?
+returns c = let zeros : c.in_ok-vec-2.field-0.items ≡ replicate c.args.nodes 0 = search rules in rw zeros (all_zero c.args.nodes)

@@ -1,5 +1,5 @@
 use Rattle.std.proofs.Common.{subst, sym}
-use Rattle.hir_forest.specs.Parents.{Parentage, IsParentageOf}
+use Rattle.hir_forest.specs.Parents.{IsParentageOf}
 use Rattle.hir_forest.proofs.ParentLemmas.{begun}
 use Rattle.hir_forest.proofs.parents.Parents.begin_row.Goals as goal
 

@@ -1,4 +1,4 @@
-use Rattle.std.proofs.Common.{◌≡◌, ◌<◌, ◌∙◌, length, subst, sym, ap, arith}
+use Rattle.std.proofs.Common.{◌∙◌, length, subst, sym, ap, arith}
 use Rattle.hir_forest.specs.Parents.{Parentage, IsParentageOf}
 use Rattle.hir_forest.proofs.ParentLemmas.{pushed_again, pushed_first}
 use Rattle.hir_forest.proofs.parents.Parents.push_kid.Goals as goal
