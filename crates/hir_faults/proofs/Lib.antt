@@ -8,3 +8,4 @@ pub mod DownLemmas
 pub mod PathFits
 pub mod FirstFaultLemmas
 pub mod FitsLemmas
+pub mod UnmarkedLemmas

@@ -5,6 +5,7 @@ pub mod Nodes
 pub mod Faults
 pub mod Ranges
 pub mod Pushes
+pub mod Unmarked
 pub mod Edges
 pub mod Fits
 pub mod Down

@@ -11,6 +11,7 @@ mod range;
 mod rows;
 mod sizes;
 mod tested;
+mod unmarked;
 
 pub use fault::FinishFault;
 pub use first_fault::first_fault_of;
