@@ -25,9 +25,9 @@ pub enum Path {
 }
 
 impl ExactEq for Path {
-    ghost use Rattle.hir_path.specs.same.SamePaths.{of_paths};
+    ghost use Rattle.hir_path.specs.same.SamePaths.{paths_decide};
 
-    ghost eq_decides = { Prim.search of_paths };
+    ghost eq_decides = { paths_decide };
 }
 
 impl TryClone for Path {
