@@ -6,12 +6,11 @@ use Rattle.std.specs.Char.{is_ascii}
 use Rattle.std.specs.Option.{option_map, option_and_then}
 use Rattle.hir_lines.specs.declared.question.Question.{Question}
 use Rattle.hir_lines.specs.declared.stop.Stop.{Stop}
-use Rattle.hir_lines.specs.declared.stop.Stop.TheVariants as stop
-use Rattle.hir_lines.specs.Line.{Line, Make, Ask, or_bad}
+use Rattle.hir_lines.specs.Line.{Line, Make, or_bad}
 use Rattle.hir_lines.specs.Makers.{Maker}
 use Rattle.hir_lines.specs.Names.{ascii_of}
 use Rattle.hir_lines.specs.Readings.{Reading, ◌>>=◌, gives, look_up, whole, alone}
-use Rattle.hir_lines.specs.Taking.{Steps, Puts, put, Asks, Takes, taken}
+use Rattle.hir_lines.specs.Taking.{Puts, put, Asks, Takes, taken}
 use Rattle.hir_lines.specs.Words.{by, keyword, one_of}
 use Rattle.hir_lines.proofs.Keywords.{behind}
 
