@@ -1,19 +1,37 @@
 -- What stands behind a keyword is put by the keyword's form, and a line is taken so.
-use Rattle.std.proofs.Common.{◌≡◌, ℕ, Bool, true, false, List, [], ◌∷◌, Option, None, Some, Result, Ok, Err, refl, sym, ap, ◌∙◌, subst}
+use Rattle.std.proofs.Common.{◌≡◌, ℕ, suc, Bool, true, false, List, [], ◌∷◌, length, get_or, Option, None, Some, Result, Ok, Err, refl, sym, ap, ◌∙◌, subst, arith}
 use Rattle.std.specs.Prelude.{MatchResult, if◌then◌else◌}
 use Rattle.std.specs.List.{list_all}
 use Rattle.std.specs.Char.{is_ascii}
 use Rattle.std.specs.Option.{option_map, option_and_then}
 use Rattle.hir_lines.specs.declared.question.Question.{Question}
 use Rattle.hir_lines.specs.declared.stop.Stop.{Stop}
-use Rattle.hir_lines.specs.declared.stop.Stop.TheVariants as stop
-use Rattle.hir_lines.specs.Line.{Line, Make, Ask, or_bad}
+use Rattle.hir_lines.specs.Line.{Line, Make, or_bad}
 use Rattle.hir_lines.specs.Makers.{Maker}
 use Rattle.hir_lines.specs.Names.{ascii_of}
 use Rattle.hir_lines.specs.Readings.{Reading, ◌>>=◌, gives, look_up, whole, alone}
-use Rattle.hir_lines.specs.Taking.{Steps, Puts, put, Asks, Takes, taken}
+use Rattle.hir_lines.specs.Taking.{Puts, put, Asks, Takes, taken}
 use Rattle.hir_lines.specs.Words.{by, keyword, one_of}
 use Rattle.hir_lines.proofs.Keywords.{behind}
+
+-- the bytes from this place on
+abbrev pub HasBytes : ℕ → List ℕ → List ℕ → Type 0
+HasBytes i xs [] = Unit {0}
+HasBytes i xs (y ∷ ys) = (get_or xs i 0 ≡ y) × HasBytes (suc i) xs ys
+
+behind_first : (ys : List ℕ) (i x : ℕ) (xs : List ℕ) → HasBytes (suc i) (x ∷ xs) ys → HasBytes i xs ys
+behind_first [] i x xs has = tt
+behind_first (y ∷ ys) i x xs has = (has.0, behind_first ys (suc i) x xs has.1)
+
+-- a text is known by its bytes
+pub same_text : (xs ys : List ℕ) → length xs ≡ length ys → HasBytes 0 xs ys → xs ≡ ys
+same_text [] [] same has = refl
+same_text [] (y ∷ ys) same has = absurd (omega arith)
+same_text (x ∷ xs) [] same has = absurd (omega arith)
+same_text (x ∷ xs) (y ∷ ys) same has =
+    let first : x ≡ y = has.0 in
+    let rest : xs ≡ ys = same_text xs ys (omega arith) (behind_first ys 0 x xs has.1) in
+    cc
 
 -- a first word that is a keyword is read by its form
 pub read_by : {Y : Type 0} (forms : List (List ℕ × Reading Y)) (text : List ℕ) (found : Option (Reading Y)) → ascii_of text ≡ Some text → look_up forms text ≡ found →
@@ -31,11 +49,17 @@ pub none_by : {Y : Type 0} (forms : List (List ℕ × Reading Y)) (word : List �
 none_by forms word words mid first none = ap (one_of forms) first ∙ unread forms word mid none (list_all is_ascii word)
 
 module _ {B : Type 0} (add : B → Maker → Option B) (old new : B) where
-  -- what is read alike is put alike
-  pub put_alike : {X : Type 0} (make : X → Maker) (reading other : Reading X) (words mid : List (List ℕ)) → reading words ≡ other mid → (result : Result (Unit {0}) Stop) →
-      Puts add make other mid old new result → Puts add make reading words old new result
-  put_alike {X} make reading other words mid same result puts =
-      subst (λ (read : Option (X × List (List ℕ))). Steps (option_and_then (λ x. add old (make x)) (option_and_then (λ (f : X × List (List ℕ)). alone f.0 f.1) read)) old new result) (sym same) puts
+  -- behind a first word that is no keyword nothing is put
+  pub none_put : {X : Type 0} (make : X → Maker) (forms : List (List ℕ × Reading X)) (word : List ℕ) (words mid : List (List ℕ)) → words ≡ word ∷ mid → look_up forms word ≡ None →
+      put add make (one_of forms) words old ≡ None
+  none_put {X} make forms word words mid first none =
+      ap (λ (read : Option (X × List (List ℕ))). option_and_then (λ x. add old (make x)) (option_and_then (λ (f : X × List (List ℕ)). alone f.0 f.1) read)) (none_by forms word words mid first none)
+
+  -- and no line is taken
+  pub none_taken : (forms : List (List ℕ × Reading Line)) (word : List ℕ) (words mid : List (List ℕ)) → words ≡ word ∷ mid → look_up forms word ≡ None →
+      taken add old (or_bad (whole (one_of forms) words)) ≡ None
+  none_taken forms word words mid first none =
+      ap (λ (read : Option (Line × List (List ℕ))). taken add old (or_bad (option_and_then (λ (f : Line × List (List ℕ)). alone f.0 f.1) read))) (none_by forms word words mid first none)
 
   -- what is read alike is taken alike
   pub take_alike : (reading other : Reading Line) (words mid : List (List ℕ)) → reading words ≡ other mid → (result : Result (Option Question) Stop) →
