@@ -169,8 +169,8 @@ fn assignment<B: Builder>(words: &mut Words<'_>, builder: &mut B) -> Result<(), 
 fn constant<B: Builder>(words: &mut Words<'_>, builder: &mut B) -> Result<(), Stop>
     ensures { Puts B.add make.Expr const_expr words.old builder.old builder.new result }
 {
-    let body = words.id()?;
-    put(words, builder, Expr::Const(body))
+    let value = words.id()?;
+    put(words, builder, Expr::Const(value))
 }
 
 fn match_expr<B: Builder>(alloc: Global, words: &mut Words<'_>, builder: &mut B) -> Result<(), Stop>
