@@ -14,6 +14,7 @@ use crate::parent_table::ParentTable;
 use crate::parents::{Parents, parents_of};
 use crate::{Ends, ForestFault, Root, Rows};
 use std::alloc::{AllocError, Global};
+use std::mem::drop;
 
 /// Marks each root that may be one.
 fn mark_roots(limit: u32, roots: &[Root], marked: &mut [bool])
@@ -39,7 +40,7 @@ fn first_root_fault(
 ) -> Option<ForestFault>
     requires exprs { lengths.exprs ≤ length parents.now }
     requires listed_nodes { length listed.now ≡ length parents.now }
-    requires came_nodes { length came.old ≡ length parents.now }
+    requires came_nodes { length came.old ≡ lengths.exprs }
     requires clear_nodes { length clear.old ≡ length parents.now }
     requires listed { MarksRoots listed.now lengths.exprs (root_nodes roots.now) }
     requires came { MarksAll came.old [] }
@@ -92,9 +93,11 @@ fn first_chain_fault(
     if let Some(fault) = first_cycle(parents, &mut ends) {
         return Ok(Some(fault));
     }
+    // The other tables take its room.
+    drop(ends);
     let mut listed = vec![in alloc; false; nodes]?;
     mark_roots(lengths.exprs, roots, &mut listed);
-    let mut came = vec![in alloc; false; nodes]?;
+    let mut came = vec![in alloc; false; lengths.exprs as usize]?;
     let mut clear = vec![in alloc; false; nodes]?;
     Ok(first_root_fault(lengths, roots, parents, &listed, &mut came, &mut clear))
 }
@@ -102,7 +105,7 @@ fn first_chain_fault(
 impl Parents {
     /// The first fault of the graph and its roots, or `None` if the graph is a forest and the roots are right. Each node must have its row.
     ///
-    /// It is that of the function `first_fault` of the same rows. It takes time linear in nodes and roots, and tables with four marks for
+    /// It is that of the function `first_fault` of the same rows. It takes time linear in nodes and roots, and tables with three marks for
     /// each node. `AllocError` only if memory for these is refused.
     pub fn first_fault(
         &self,
@@ -127,7 +130,7 @@ impl Parents {
 ///
 /// `lengths` has the lengths of the three arenas; nodes below `lengths.exprs` may be roots, so there
 /// are at least as many rows. Each kid must have a row. It takes time linear in rows, kids and roots,
-/// and tables with a number and four marks for each row. `AllocError` only if memory for these is refused.
+/// and tables with a number and three marks for each row. `AllocError` only if memory for these is refused.
 pub fn first_fault(
     alloc: Global,
     rows: &Rows,
