@@ -3,7 +3,7 @@ use Rattle.std.specs.Prelude.{◌≡◌, ℕ, List, Option}
 use Rattle.std.specs.Bool.{Decides}
 use Rattle.std.specs.Option.{option_eq}
 use Rattle.std.specs.Cmp.Lexicographic.{pointwise, pointwise_decides}
-use Rattle.hir_base.specs.Exact.{options_decide}
+use Rattle.hir_base.specs.Exact.{exact, options_decide}
 use Rattle.hir_base.specs.ModPath.{ModPath}
 use Rattle.hir_base.specs.declared.defs.LangItemTarget.{LangItemTarget}
 use Rattle.hir_path.specs.declared.path.GenericArgs.{GenericArgs}
@@ -33,3 +33,5 @@ given_lists_decide = pointwise_decides given_decide
 
 pub optional_names_decide : (x y : Option (List ℕ)) → Decides (option_eq names.ghosts.eq x y) (x ≡ y)
 optional_names_decide = options_decide names_decide
+
+pub ruleset leaves = (exact, mod_paths_decide, names_decide, targets_decide, given_decide, given_lists_decide, optional_names_decide)
