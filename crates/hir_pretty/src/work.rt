@@ -147,10 +147,10 @@ impl<'a> Stack<'a> {
     ///
     /// Answers an error where room was refused; then the last of them may be on the stack.
     #[inline(always)]
-    pub(crate) fn push<const N: usize>(&mut self, works: [Work<'a>; N]) -> Result<(), AllocError>
-        ensures { OnOk result (Pushes works (listed self.old) (listed self.new)) }
+    pub(crate) fn push(&mut self, works: &[Work<'a>]) -> Result<(), AllocError>
+        ensures { OnOk result (Pushes works.now (listed self.old) (listed self.new)) }
     {
-        let mut left = N;
+        let mut left = works.len();
         while left > 0 {
             left -= 1;
             self.works.push(works[left])?;

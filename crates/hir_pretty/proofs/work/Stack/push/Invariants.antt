@@ -4,7 +4,7 @@ use Rattle.hir_pretty.proofs.work.Stack.push.Given as goal
 
 -- the works from this place on are on top of what was there
 abbrev pub invariant-loop-left : goal.invariant-loop-left
-invariant-loop-left g l = record { within : l.left ≤ length l.works; pushed : listed l.self ≡ drop l.left l.works ++ listed l.fn.self }
+invariant-loop-left l = record { within : l.left ≤ length l.works; pushed : listed l.self ≡ drop l.left l.works ++ listed l.fn.self }
 
 abbrev pub decreases-loop-left : goal.decreases-loop-left
-decreases-loop-left g l = l.left
+decreases-loop-left l = l.left
