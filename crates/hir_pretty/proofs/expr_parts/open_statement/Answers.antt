@@ -1,4 +1,4 @@
-use Rattle.std.proofs.Common.{◌++◌, ◌∷◌, ◌∙◌, codes, refl, sym, append_assoc, ap, arith}
+use Rattle.std.proofs.Common.{◌++◌, ◌∙◌, codes, sym, append_assoc, arith}
 use Rattle.std.proofs.lemmas.Result.{on_ok_weaker}
 use Rattle.hir_pretty.proofs.OpenLemmas.{opens_before, opens_then, opens_works}
 use Rattle.std.specs.List.{flat_map}
@@ -9,7 +9,7 @@ use Rattle.hir_pretty.proofs.OrderLemmas.{two_before}
 use Rattle.hir_pretty.proofs.expr_parts.open_statement.Goals as goal
 
 pub returns-in_ok-open_after-in-Let-3 : goal.returns-in_ok-open_after-in-Let-3
-returns-in_ok-open_after-in-Let-3 c = rw c.in-Let.is (on_ok_weaker c.push-in-Let-2.result
+returns-in_ok-open_after-in-Let-3 c = rw c.in-Let.is (on_ok_weaker c.push-in-Let.result
     (λ q s.
     let type_ref = opt (λ id. text (codes ": ") ++ t id) c.in-Let.type_ref in
     let initializer = opt (λ id. text (codes " = ") ++ e id) c.in-Let.initializer in
@@ -25,4 +25,4 @@ returns-in_ok-open_after-in-Let-3 c = rw c.in-Let.is (on_ok_weaker c.push-in-Let
     ∙ sym (append_assoc (before ++ type_ref ++ initializer) else_branch last)
     ∙ two_before (before ++ type_ref ++ initializer ++ else_branch) (Put (Text (codes ";"))) (Put Break) more)
     (omega arith))
-    c.push-in-Let-2.ensures)
+    c.push-in-Let.ensures)

@@ -64,35 +64,35 @@ returns-in-Err-write_binding-clause-err g c =
     let s = setting c.args.store.now (g.D.Definitions.answers c.args.tables.now) c.args.words.now c.args.one_line in
     rw c.in-Binding.is (refused_put s (binding_items s c.in-Binding.id) (map Text (opt_texts (binding_texts c.args.words.now) (slice_get c.args.store.now.nodes.bindings c.in-Binding.id))) (pending s (listed c.args.stack.now)) (binding_printed s c.in-Binding.id) c.in-Err-write_binding.ensures)
 
-pub returns-in-Ok-write_name-in-Whole-clause-ok : goal.returns-in-Ok-write_name-in-Whole-clause-ok
-returns-in-Ok-write_name-in-Whole-clause-ok g c =
+pub returns-in-Ok-write_name-2-clause-ok : goal.returns-in-Ok-write_name-2-clause-ok
+returns-in-Ok-write_name-2-clause-ok g c =
     let s = setting c.args.store.now (g.D.Definitions.answers c.args.tables.now) c.args.words.now c.args.one_line in
-    rw c.in-Whole.is (turned_put (map Text (name_parts c.args.words.now c.in-Some.name.now)) (whole_printed s c.requires c.in-Whole.id c.in-Some.name.now c.in-Some.ensures) (omega arith) c.in-Ok-write_name-in-Whole.ensures)
+    rw c.in-Whole.is (turned_put (map Text (name_parts c.args.words.now c.in-Some.name.now)) (whole_printed s c.requires c.in-Whole.id c.in-Some.name.now c.in-Some.ensures) (omega arith) c.in-Ok-write_name-2.ensures)
 
-pub returns-in-Err-write_name-in-Whole-clause-err : goal.returns-in-Err-write_name-in-Whole-clause-err
-returns-in-Err-write_name-in-Whole-clause-err g c =
+pub returns-in-Err-write_name-2-clause-err : goal.returns-in-Err-write_name-2-clause-err
+returns-in-Err-write_name-2-clause-err g c =
     let s = setting c.args.store.now (g.D.Definitions.answers c.args.tables.now) c.args.words.now c.args.one_line in
-    rw c.in-Whole.is (refused_put s (Whole c.in-Whole.id ∷ []) (map Text (name_parts c.args.words.now c.in-Some.name.now)) (pending s (listed c.args.stack.now)) (whole_printed s c.requires c.in-Whole.id c.in-Some.name.now c.in-Some.ensures) c.in-Err-write_name-in-Whole.ensures)
+    rw c.in-Whole.is (refused_put s (Whole c.in-Whole.id ∷ []) (map Text (name_parts c.args.words.now c.in-Some.name.now)) (pending s (listed c.args.stack.now)) (whole_printed s c.requires c.in-Whole.id c.in-Some.name.now c.in-Some.ensures) c.in-Err-write_name-2.ensures)
 
-pub returns-in-Ok-write_name-in-Under-clause-ok : goal.returns-in-Ok-write_name-in-Under-clause-ok
-returns-in-Ok-write_name-in-Under-clause-ok g c =
+pub returns-in-Ok-write_name-3-clause-ok : goal.returns-in-Ok-write_name-3-clause-ok
+returns-in-Ok-write_name-3-clause-ok g c =
     let s = setting c.args.store.now (g.D.Definitions.answers c.args.tables.now) c.args.words.now c.args.one_line in
-    rw c.in-Under.is (turned_put (map Text (name_parts c.args.words.now c.in-Some-name_at.name.now)) (under_printed s c.requires c.in-Under.id c.in-Under.parent c.in-Some-name_at.name.now c.in-Some-name_at.ensures) (omega arith) c.in-Ok-write_name-in-Under.ensures)
+    rw c.in-Under.is (turned_put (map Text (name_parts c.args.words.now c.in-Some-name_at.name.now)) (under_printed s c.requires c.in-Under.id c.in-Under.parent c.in-Some-name_at.name.now c.in-Some-name_at.ensures) (omega arith) c.in-Ok-write_name-3.ensures)
 
-pub returns-in-Err-write_name-in-Under-clause-err : goal.returns-in-Err-write_name-in-Under-clause-err
-returns-in-Err-write_name-in-Under-clause-err g c =
+pub returns-in-Err-write_name-3-clause-err : goal.returns-in-Err-write_name-3-clause-err
+returns-in-Err-write_name-3-clause-err g c =
     let s = setting c.args.store.now (g.D.Definitions.answers c.args.tables.now) c.args.words.now c.args.one_line in
-    rw c.in-Under.is (refused_put s (Under c.in-Under.id c.in-Under.parent ∷ []) (map Text (name_parts c.args.words.now c.in-Some-name_at.name.now)) (pending s (listed c.args.stack.now)) (under_printed s c.requires c.in-Under.id c.in-Under.parent c.in-Some-name_at.name.now c.in-Some-name_at.ensures) c.in-Err-write_name-in-Under.ensures)
+    rw c.in-Under.is (refused_put s (Under c.in-Under.id c.in-Under.parent ∷ []) (map Text (name_parts c.args.words.now c.in-Some-name_at.name.now)) (pending s (listed c.args.stack.now)) (under_printed s c.requires c.in-Under.id c.in-Under.parent c.in-Some-name_at.name.now c.in-Some-name_at.ensures) c.in-Err-write_name-3.ensures)
 
-pub returns-in-Ok-write_binding-in-Pattern-clause-ok : goal.returns-in-Ok-write_binding-in-Pattern-clause-ok
-returns-in-Ok-write_binding-in-Pattern-clause-ok g c =
+pub returns-in-Ok-write_binding-2-clause-ok : goal.returns-in-Ok-write_binding-2-clause-ok
+returns-in-Ok-write_binding-2-clause-ok g c =
     let s = setting c.args.store.now (g.D.Definitions.answers c.args.tables.now) c.args.words.now c.args.one_line in
-    rw c.in-Pattern.is (turned_put (map Text (opt_texts (binding_texts c.args.words.now) (slice_get c.args.store.now.nodes.bindings c.in-Some-binding_at.binding))) (pattern_printed s c.requires c.in-Pattern.id c.in-Some-binding_at.binding c.in-Some-binding_at.ensures) (omega arith) c.in-Ok-write_binding-in-Pattern.ensures)
+    rw c.in-Pattern.is (turned_put (map Text (opt_texts (binding_texts c.args.words.now) (slice_get c.args.store.now.nodes.bindings c.in-Some-binding_at.binding))) (pattern_printed s c.requires c.in-Pattern.id c.in-Some-binding_at.binding c.in-Some-binding_at.ensures) (omega arith) c.in-Ok-write_binding-2.ensures)
 
-pub returns-in-Err-write_binding-in-Pattern-clause-err : goal.returns-in-Err-write_binding-in-Pattern-clause-err
-returns-in-Err-write_binding-in-Pattern-clause-err g c =
+pub returns-in-Err-write_binding-2-clause-err : goal.returns-in-Err-write_binding-2-clause-err
+returns-in-Err-write_binding-2-clause-err g c =
     let s = setting c.args.store.now (g.D.Definitions.answers c.args.tables.now) c.args.words.now c.args.one_line in
-    rw c.in-Pattern.is (refused_put s (Pattern c.in-Pattern.id ∷ []) (map Text (opt_texts (binding_texts c.args.words.now) (slice_get c.args.store.now.nodes.bindings c.in-Some-binding_at.binding))) (pending s (listed c.args.stack.now)) (pattern_printed s c.requires c.in-Pattern.id c.in-Some-binding_at.binding c.in-Some-binding_at.ensures) c.in-Err-write_binding-in-Pattern.ensures)
+    rw c.in-Pattern.is (refused_put s (Pattern c.in-Pattern.id ∷ []) (map Text (opt_texts (binding_texts c.args.words.now) (slice_get c.args.store.now.nodes.bindings c.in-Some-binding_at.binding))) (pending s (listed c.args.stack.now)) (pattern_printed s c.requires c.in-Pattern.id c.in-Some-binding_at.binding c.in-Some-binding_at.ensures) c.in-Err-write_binding-2.ensures)
 
 pub returns-in-Ok-open_expr_at-clause-ok : goal.returns-in-Ok-open_expr_at-clause-ok
 returns-in-Ok-open_expr_at-clause-ok g c = rw c.in-Whole.is (turned_whole c.requires (c.in-Ok-open_expr_at.ensures (g.D.Definitions.answers c.args.tables.now) c.args.words.now c.args.one_line))
