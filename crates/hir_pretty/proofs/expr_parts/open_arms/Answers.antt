@@ -12,7 +12,7 @@ use Rattle.hir_pretty.proofs.expr_parts.open_arms.Goals as goal
 pub returns-in_ok-open_after-in-len1-up : goal.returns-in_ok-open_after-in-len1-up
 returns-in_ok-open_after-in-len1-up c = on_ok_weaker c.push-in-len1-up.result
     (λ p s.
-    let first = c.first-item.result.now in
+    let first = c.first-item.result in
     let guard = opt (λ id. text (codes " if ") ++ e id) first.guard in
     opens_before (opens_then (opens_works c.in_ok-push-in-len1-up.ensures) (c.in_ok-open_after-in-len1-up.ensures s)) p
     (ap (λ is. Pattern first.pat ∷ is)

@@ -26,7 +26,8 @@ is_last c = elim c.then-is_empty.branch [
 pub returns-then-is_empty : goal.returns-then-is_empty
 returns-then-is_empty c = on_ok_weaker c.open_param.result
     (λ o s. opens_as (o s)
-    (params_one c.args.args.now c.args.types.now c.arg-item.result c.type_ref-item.result c.arg-item.is c.type_ref-item.is (some_args c) (some_types c) (is_last c)) (omega arith))
+    (params_one c.args.args.now c.args.types.now c.arg-item.result c.type_ref-item.result c.arg-item.is c.type_ref-item.is (some_args c) (some_types c) (is_last c))
+    (let k = some_args c in omega arith))
     c.open_param.ensures
 
 pub returns-in_ok-push-in-len1-up-len1-up : goal.returns-in_ok-push-in-len1-up-len1-up
