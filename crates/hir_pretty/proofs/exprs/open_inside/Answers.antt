@@ -1,8 +1,8 @@
-use Rattle.std.proofs.Common.{◌++◌, ◌∷◌, ◌∙◌, [], codes, refl, sym, ap, append_assoc, arith}
+use Rattle.std.proofs.Common.{◌++◌, ◌∷◌, ◌∙◌, [], codes, sym, ap, append_assoc, arith}
 use Rattle.std.proofs.lemmas.Result.{on_ok_weaker}
 use Rattle.hir_pretty.proofs.OpenLemmas.{opens_before, opens_then, opens_works}
 use Rattle.std.specs.List.{flat_map}
-use Rattle.hir_page.specs.Pieces.{Text, Break, Indent, Outdent}
+use Rattle.hir_page.specs.Pieces.{Text, Break, Outdent}
 use Rattle.hir_pretty.specs.Items.{Put, text, e, opt, into}
 use Rattle.hir_pretty.specs.Exprs.{statement_items}
 use Rattle.hir_pretty.proofs.OrderLemmas.{three_around, some_statements}
