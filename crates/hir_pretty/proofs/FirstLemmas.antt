@@ -1,8 +1,9 @@
 -- The items of a list by those of its first member and of the rest.
-use Rattle.std.proofs.Common.{◌≡◌, ℕ, ◌+◌, ◌<◌, List, [], ◌∷◌, ◌++◌, codes, Option, refl, sym, ap, ◌∙◌, arith, ◌⊎◌, inl, inr, true, false, ◌==◌, length, take, drop, get_or}
+use Rattle.std.proofs.Common.{◌≡◌, ℕ, ◌+◌, ◌<◌, List, [], ◌∷◌, ◌++◌, codes, Option, refl, ap, ◌∙◌, arith, ◌⊎◌, inl, inr, true, false, ◌==◌, length, take, drop, get_or}
 use Rattle.std.specs.Prelude.{◌-◌}
 use Rattle.std.specs.List.{flat_map}
 use Rattle.std.proofs.lemmas.List.{take_all}
+use Rattle.std.proofs.lemmas.Bool.Decides.{Decides-eqb}
 use Rattle.hir_pretty.specs.Items.{Item, text, p, t, opt, comma_joined}
 use Rattle.hir_pretty.specs.Exprs.{params}
 
@@ -46,7 +47,10 @@ params_one (a ∷ c ∷ xs) (b ∷ d ∷ ys) x y e k l m (inr h) = absurd (omega
 pub no_rest : {X : Type 0} (xs : List X) → (length (rest xs) == 0) ≡ true → length xs < 2
 no_rest [] e = omega arith
 no_rest (x ∷ []) e = omega arith
-no_rest (x ∷ y ∷ xs) e = absurd (let bad : false ≡ true = ap (λ r. length r == 0) (sym (rest_is x (y ∷ xs))) ∙ e in grind arith)
+no_rest (x ∷ y ∷ xs) e =
+    let none : length (rest (x ∷ y ∷ xs)) ≡ 0 = (Decides-eqb (length (rest (x ∷ y ∷ xs))) 0).0 e in
+    let some : 1 + length (rest (x ∷ y ∷ xs)) ≡ length (x ∷ y ∷ xs) = length_rest (x ∷ y ∷ xs) (omega arith) in
+    absurd (omega arith)
 
 pub params_more : (xs : List ℕ) (ys : List (Option ℕ)) (x : ℕ) (y : Option ℕ) → x ≡ get_or xs 0 x → y ≡ get_or ys 0 y → 1 < length xs → 1 < length ys
     → typed x y ++ text (codes ", ") ++ comma_joined (params (rest xs) (rest ys)) ≡ comma_joined (params xs ys)

@@ -1,5 +1,5 @@
 -- Items one after another, however they are put together.
-use Rattle.std.proofs.Common.{◌≡◌, ℕ, ◌<◌, List, [], ◌∷◌, ◌++◌, codes, Option, refl, sym, ap, ◌∙◌, arith, append_assoc, length}
+use Rattle.std.proofs.Common.{◌≡◌, ℕ, ◌<◌, List, [], ◌∷◌, ◌++◌, codes, Option, refl, sym, ◌∙◌, arith, append_assoc, length}
 use Rattle.std.specs.List.{flat_map}
 use Rattle.hir_node.specs.declared.expr_types.Array.TheVariants.{ElementList}
 use Rattle.hir_node.specs.declared.expr_types.Statement.{Statement}

@@ -1,9 +1,9 @@
 -- A turn of the loop, by what its work is.
 use Rattle.std.proofs.Common.{◌≡◌, ℕ, zero, suc, ◌+◌, ◌<◌, ◌≤◌, Bool, true, false, List, [], ◌∷◌, ◌++◌, map, codes, Option, Some, None, refl, sym, ap, subst, ◌∙◌, arith, append-nil}
-use Rattle.std.specs.List.{slice_get}
+use Rattle.std.specs.List.{flat_map, slice_get}
 use Rattle.std.proofs.lemmas.List.Concat.{flat_map-append}
 use Rattle.hir_base.specs.declared.prec.ExprPrecedence.{ExprPrecedence}
-use Rattle.hir_base.specs.declared.prec.ExprPrecedence.TheVariants.{Jump, Assign, LOr, LAnd, Compare, BitOr, BitXor, BitAnd, Shift, Sum, Product, Cast, Prefix, Postfix, Unambiguous}
+use Rattle.hir_base.specs.declared.prec.ExprPrecedence.TheVariants.{Jump, Assign, Range, LOr, LAnd, Compare, BitOr, BitXor, BitAnd, Shift, Sum, Product, Cast, Prefix, Postfix, Unambiguous}
 use Rattle.hir_node.specs.declared.literal.Literal.{Literal}
 use Rattle.hir_node.specs.declared.literal.Literal.TheVariants as literal
 use Rattle.hir_node.specs.declared.node_id.NodeId.{NodeId}
@@ -147,6 +147,7 @@ only_name_precedence n = ap precedence_found n.is_path
 never_enclosed : (parent : ExprPrecedence) → stands_in_parentheses Unambiguous parent ≡ false
 never_enclosed Jump = refl
 never_enclosed Assign = refl
+never_enclosed Range = refl
 never_enclosed LOr = refl
 never_enclosed LAnd = refl
 never_enclosed Compare = refl
@@ -202,9 +203,9 @@ module _ {W : Type 0} {step refuses : W → Piece → W → Type 0} where
   on_refused (writes.written q k) rest = written q (on_refused k rest)
   on_refused (writes.refused q) rest = refused q
 
-  pub refused_put : (s : Setting) {is : List Item} (ps : List Piece) (old : List Item) {u v : W} → printed s is ≡ map Layout ps → Writes step refuses u ps false v
+  pub refused_put : (s : Setting) (is : List Item) (ps : List Piece) (old : List Item) {u v : W} → printed s is ≡ map Layout ps → Writes step refuses u ps false v
       → Prints step refuses u (printed s (is ++ old)) (Some fault.Memory) v
-  refused_put s {is} ps old {u} {v} e k =
+  refused_put s is ps old {u} {v} e k =
       subst (λ qs. Prints step refuses u qs (Some fault.Memory) v) (ap (λ qs. qs ++ printed s old) (sym e) ∙ sym (printed-append s is old)) (on_refused k (printed s old))
 
 module _ {W : Type 0} {step refuses : W → Piece → W → Type 0} {s : Setting} where

@@ -26,7 +26,7 @@ pub(crate) fn open_after<'a>(
 {
     match expr {
         None => Ok(()),
-        Some(expr) => stack.push([Work::Text(before), Work::Whole(expr)]),
+        Some(expr) => stack.push(&[Work::Text(before), Work::Whole(expr)]),
     }
 }
 
@@ -35,7 +35,7 @@ pub(crate) fn open_tail(stack: &mut Stack<'_>, expr: Option<ExprId>) -> Result<(
 {
     match expr {
         None => Ok(()),
-        Some(expr) => stack.push([Work::Whole(expr)]),
+        Some(expr) => stack.push(&[Work::Whole(expr)]),
     }
 }
 
@@ -44,7 +44,7 @@ pub(crate) fn open_labelled(stack: &mut Stack<'_>, label: Option<LabelId>) -> Re
 {
     match label {
         None => Ok(()),
-        Some(label) => stack.push([Work::Look(Look::Label(label)), Work::Text(": ")]),
+        Some(label) => stack.push(&[Work::Look(Look::Label(label)), Work::Text(": ")]),
     }
 }
 
@@ -53,7 +53,7 @@ pub(crate) fn open_to_label(stack: &mut Stack<'_>, label: Option<LabelId>) -> Re
 {
     match label {
         None => Ok(()),
-        Some(label) => stack.push([Work::Text(" "), Work::Look(Look::Label(label))]),
+        Some(label) => stack.push(&[Work::Text(" "), Work::Look(Look::Label(label))]),
     }
 }
 
@@ -62,7 +62,7 @@ pub(crate) fn open_operand(stack: &mut Stack<'_>, expr: Option<ExprId>) -> Resul
 {
     match expr {
         None => Ok(()),
-        Some(expr) => stack.push([Work::Space, Work::Under(expr, ExprPrecedence::Jump)]),
+        Some(expr) => stack.push(&[Work::Space, Work::Under(expr, ExprPrecedence::Jump)]),
     }
 }
 
@@ -73,11 +73,11 @@ pub(crate) fn open_arguments<'a>(
     ensures { OnOk result ((s : Setting) → Opens s (listed stack.old) (arguments args.now) (6 + 4 * length args.now) (listed stack.new)) }
 {
     match args {
-        [] => stack.push([Work::Text("("), Work::Text(")")]),
+        [] => stack.push(&[Work::Text("("), Work::Text(")")]),
         [_, ..] => {
-            stack.push([Work::Outdent, Work::Text(")")])?;
+            stack.push(&[Work::Outdent, Work::Text(")")])?;
             open_arg_lines(stack, args)?;
-            stack.push([Work::Text("("), Work::Indent])
+            stack.push(&[Work::Text("("), Work::Indent])
         }
     }
 }
@@ -87,7 +87,7 @@ fn open_arg_lines<'a>(stack: &mut Stack<'a>, args: &'a [ExprId]) -> Result<(), A
 {
     match args {
         [] => Ok(()),
-        [first, rest @ ..] => stack.push([
+        [first, rest @ ..] => stack.push(&[
             Work::Whole(*first),
             Work::Text(","),
             Work::Break,
@@ -104,7 +104,7 @@ pub(crate) fn open_elements<'a>(
 {
     match exprs {
         [] => Ok(()),
-        [first, rest @ ..] => stack.push([
+        [first, rest @ ..] => stack.push(&[
             Work::Whole(*first),
             Work::Text(", "),
             Work::Expr(ExprPart::Elements(rest)),
@@ -118,7 +118,7 @@ pub(crate) fn open_arms<'a>(stack: &mut Stack<'a>, arms: &'a [MatchArm]) -> Resu
     match arms {
         [] => Ok(()),
         [first, rest @ ..] => {
-            stack.push([
+            stack.push(&[
                 Work::Text(" => "),
                 Work::Whole(first.expr),
                 Work::Text(","),
@@ -126,7 +126,7 @@ pub(crate) fn open_arms<'a>(stack: &mut Stack<'a>, arms: &'a [MatchArm]) -> Resu
                 Work::Expr(ExprPart::Arms(rest)),
             ])?;
             open_after(stack, " if ", first.guard)?;
-            stack.push([Work::Pattern(first.pat)])
+            stack.push(&[Work::Pattern(first.pat)])
         }
     }
 }
@@ -139,7 +139,7 @@ pub(crate) fn open_fields<'a>(
 {
     match fields {
         [] => Ok(()),
-        [first, rest @ ..] => stack.push([
+        [first, rest @ ..] => stack.push(&[
             Work::Name(first.name.as_str()),
             Work::Text(": "),
             Work::Whole(first.expr),
@@ -155,8 +155,8 @@ pub(crate) fn open_spread(stack: &mut Stack<'_>, spread: RecordSpread) -> Result
 {
     match spread {
         RecordSpread::None => Ok(()),
-        RecordSpread::FieldDefaults => stack.push([Work::Text(".."), Work::Break]),
-        RecordSpread::Expr(expr) => stack.push([Work::Text(".."), Work::Whole(expr), Work::Break]),
+        RecordSpread::FieldDefaults => stack.push(&[Work::Text(".."), Work::Break]),
+        RecordSpread::Expr(expr) => stack.push(&[Work::Text(".."), Work::Whole(expr), Work::Break]),
     }
 }
 
@@ -186,7 +186,7 @@ fn open_statement<'a>(
             initializer,
             else_branch,
         } => {
-            stack.push([
+            stack.push(&[
                 Work::Text(";"),
                 Work::Break,
                 Work::Expr(ExprPart::Statements(rest)),
@@ -194,12 +194,12 @@ fn open_statement<'a>(
             open_after(stack, " else ", *else_branch)?;
             open_after(stack, " = ", *initializer)?;
             open_type_after(stack, ": ", *type_ref)?;
-            stack.push([Work::Text("let "), Work::Pattern(*pat)])
+            stack.push(&[Work::Text("let "), Work::Pattern(*pat)])
         }
         Statement::Expr {
             expr,
             has_semi: true,
-        } => stack.push([
+        } => stack.push(&[
             Work::Whole(*expr),
             Work::Text(";"),
             Work::Break,
@@ -208,12 +208,12 @@ fn open_statement<'a>(
         Statement::Expr {
             expr,
             has_semi: false,
-        } => stack.push([
+        } => stack.push(&[
             Work::Whole(*expr),
             Work::Break,
             Work::Expr(ExprPart::Statements(rest)),
         ]),
-        Statement::Item(_) => stack.push([Work::Expr(ExprPart::Statements(rest))]),
+        Statement::Item(_) => stack.push(&[Work::Expr(ExprPart::Statements(rest))]),
     }
 }
 
@@ -225,11 +225,11 @@ fn open_bars<'a>(
 ) -> Result<(), AllocError>
     ensures { OnOk result ((s : Setting) → Opens s (listed stack.old) (header ClosureKind.Closure (params args.now types.now) ret) (8 + 6 * length args.now) (listed stack.new)) }
 {
-    stack.push([Work::Space])?;
+    stack.push(&[Work::Space])?;
     open_type_after(stack, " -> ", ret)?;
-    stack.push([Work::Text("|")])?;
+    stack.push(&[Work::Text("|")])?;
     open_params(stack, args, types)?;
-    stack.push([Work::Text("|")])
+    stack.push(&[Work::Text("|")])
 }
 
 pub(crate) fn open_header<'a>(
@@ -258,7 +258,7 @@ fn open_param(
     ensures { OnOk result ((s : Setting) → Opens s (listed stack.old) (p arg ++ opt (λ id. text (codes ": ") ++ t id) type_ref) (4) (listed stack.new)) }
 {
     open_type_after(stack, ": ", type_ref)?;
-    stack.push([Work::Pattern(arg)])
+    stack.push(&[Work::Pattern(arg)])
 }
 
 fn open_params<'a>(
@@ -275,7 +275,7 @@ fn open_params<'a>(
             if args.is_empty() || types.is_empty() {
                 return open_param(stack, *arg, *type_ref);
             }
-            stack.push([Work::Text(", "), Work::Expr(ExprPart::Params(args, types))])?;
+            stack.push(&[Work::Text(", "), Work::Expr(ExprPart::Params(args, types))])?;
             open_param(stack, *arg, *type_ref)
         }
     }

@@ -33,7 +33,7 @@ fn open_offset_of<'a>(
 ) -> Result<(), AllocError>
     ensures { OnOk result ((s : Setting) → Opens s (listed stack.old) (expr_items s (Expr.OffsetOf record { container = container; fields = fields.now })) (21 + 6 * length fields.now) (listed stack.new)) }
 {
-    stack.push([
+    stack.push(&[
         Work::Text("builtin#offset_of("),
         Work::Type(container),
         Work::Text(", "),
@@ -52,7 +52,7 @@ fn open_if(
     ensures { OnOk result ((s : Setting) → Opens s (listed stack.old) (expr_items s (Expr.If condition then_branch else_branch)) (21) (listed stack.new)) }
 {
     open_after(stack, " else ", else_branch)?;
-    stack.push([
+    stack.push(&[
         Work::Text("if "),
         Work::Whole(condition),
         Work::Text(" "),
@@ -64,7 +64,7 @@ fn open_if(
 fn open_let(stack: &mut Stack<'_>, pat: PatId, expr: ExprId) -> Result<(), AllocError>
     ensures { OnOk result ((s : Setting) → Opens s (listed stack.old) (expr_items s (Expr.Let pat expr)) (21) (listed stack.new)) }
 {
-    stack.push([
+    stack.push(&[
         Work::Text("let "),
         Work::Pattern(pat),
         Work::Text(" = "),
@@ -76,7 +76,7 @@ fn open_let(stack: &mut Stack<'_>, pat: PatId, expr: ExprId) -> Result<(), Alloc
 fn open_loop(stack: &mut Stack<'_>, body: ExprId, label: Option<LabelId>) -> Result<(), AllocError>
     ensures { OnOk result ((s : Setting) → Opens s (listed stack.old) (labelled s label ++ text (codes "loop ") ++ e body) (21) (listed stack.new)) }
 {
-    stack.push([Work::Text("loop "), Work::Whole(body)])?;
+    stack.push(&[Work::Text("loop "), Work::Whole(body)])?;
     open_labelled(stack, label)
 }
 
@@ -89,7 +89,7 @@ fn open_call<'a>(
     ensures { OnOk result ((s : Setting) → Opens s (listed stack.old) (expr_items s (Expr.Call callee args.now)) (21 + 4 * length args.now) (listed stack.new)) }
 {
     open_arguments(stack, args)?;
-    stack.push([Work::Under(callee, ExprPrecedence::Postfix)])
+    stack.push(&[Work::Under(callee, ExprPrecedence::Postfix)])
 }
 
 fn open_method_args<'a>(
@@ -100,7 +100,7 @@ fn open_method_args<'a>(
 {
     match generic_args {
         None => Ok(()),
-        Some(args) => stack.push([Work::Path(PathPart::Fish(args.get()))]),
+        Some(args) => stack.push(&[Work::Path(PathPart::Fish(args.get()))]),
     }
 }
 
@@ -116,7 +116,7 @@ fn open_method_call<'a>(
 {
     open_arguments(stack, args)?;
     open_method_args(stack, generic_args)?;
-    stack.push([
+    stack.push(&[
         Work::Under(receiver, ExprPrecedence::Postfix),
         Work::Text("."),
         Work::Name(name.as_str()),
@@ -131,9 +131,9 @@ fn open_match<'a>(
 ) -> Result<(), AllocError>
     ensures { OnOk result ((s : Setting) → Opens s (listed stack.old) (expr_items s (Expr.Match expr arms.now)) (21 + 9 * length arms.now) (listed stack.new)) }
 {
-    stack.push([Work::Outdent, Work::Text("}"), Work::Break])?;
+    stack.push(&[Work::Outdent, Work::Text("}"), Work::Break])?;
     open_arms(stack, arms)?;
-    stack.push([
+    stack.push(&[
         Work::Text("match "),
         Work::Whole(expr),
         Work::Text(" {"),
@@ -146,7 +146,7 @@ fn open_continue(stack: &mut Stack<'_>, label: Option<LabelId>) -> Result<(), Al
     ensures { OnOk result ((s : Setting) → Opens s (listed stack.old) (expr_items s (Expr.Continue label)) (21) (listed stack.new)) }
 {
     open_to_label(stack, label)?;
-    stack.push([Work::Text("continue")])
+    stack.push(&[Work::Text("continue")])
 }
 
 #[inline(never)]
@@ -159,7 +159,7 @@ fn open_break(
 {
     open_operand(stack, expr)?;
     open_to_label(stack, label)?;
-    stack.push([Work::Text("break")])
+    stack.push(&[Work::Text("break")])
 }
 
 #[inline(never)]
@@ -171,7 +171,7 @@ fn open_keyword<'a>(
     ensures { OnOk result ((s : Setting) → Opens s (listed stack.old) (text keyword.now ++ operand expr) (21) (listed stack.new)) }
 {
     open_operand(stack, expr)?;
-    stack.push([Work::Text(keyword)])
+    stack.push(&[Work::Text(keyword)])
 }
 
 #[inline(never)]
@@ -179,7 +179,7 @@ fn open_yeet(stack: &mut Stack<'_>, expr: Option<ExprId>) -> Result<(), AllocErr
     ensures { OnOk result ((s : Setting) → Opens s (listed stack.old) (expr_items s (Expr.Yeet expr)) (21) (listed stack.new)) }
 {
     open_operand(stack, expr)?;
-    stack.push([Work::Text("do"), Work::Space, Work::Text("yeet")])
+    stack.push(&[Work::Text("do"), Work::Space, Work::Text("yeet")])
 }
 
 #[inline(never)]
@@ -191,10 +191,10 @@ fn open_record_lit<'a>(
 ) -> Result<(), AllocError>
     ensures { OnOk result ((s : Setting) → Opens s (listed stack.old) (expr_items s (Expr.RecordLit path.now fields.now spread)) (21 + 9 * length fields.now + path_cost path.now) (listed stack.new)) }
 {
-    stack.push([Work::Outdent, Work::Text("}")])?;
+    stack.push(&[Work::Outdent, Work::Text("}")])?;
     open_spread(stack, spread)?;
     open_record_fields(stack, fields)?;
-    stack.push([Work::Text("{"), Work::Indent])?;
+    stack.push(&[Work::Text("{"), Work::Indent])?;
     open_path(stack, path)
 }
 
@@ -202,7 +202,7 @@ fn open_record_lit<'a>(
 fn open_field<'a>(stack: &mut Stack<'a>, expr: ExprId, name: &'a Name) -> Result<(), AllocError>
     ensures { OnOk result ((s : Setting) → Opens s (listed stack.old) (expr_items s (Expr.Field expr name.now)) (21) (listed stack.new)) }
 {
-    stack.push([
+    stack.push(&[
         Work::Under(expr, ExprPrecedence::Postfix),
         Work::Text("."),
         Work::Name(name.as_str()),
@@ -213,7 +213,7 @@ fn open_field<'a>(stack: &mut Stack<'a>, expr: ExprId, name: &'a Name) -> Result
 fn open_await(stack: &mut Stack<'_>, expr: ExprId) -> Result<(), AllocError>
     ensures { OnOk result ((s : Setting) → Opens s (listed stack.old) (expr_items s (Expr.Await expr)) (21) (listed stack.new)) }
 {
-    stack.push([
+    stack.push(&[
         Work::Under(expr, ExprPrecedence::Postfix),
         Work::Text(".await"),
     ])
@@ -223,7 +223,7 @@ fn open_await(stack: &mut Stack<'_>, expr: ExprId) -> Result<(), AllocError>
 fn open_cast(stack: &mut Stack<'_>, expr: ExprId, type_ref: TypeRefId) -> Result<(), AllocError>
     ensures { OnOk result ((s : Setting) → Opens s (listed stack.old) (expr_items s (Expr.Cast expr type_ref)) (21) (listed stack.new)) }
 {
-    stack.push([
+    stack.push(&[
         Work::Under(expr, ExprPrecedence::Cast),
         Work::Text(" as "),
         Work::Type(type_ref),
@@ -248,7 +248,7 @@ fn open_ref(
 ) -> Result<(), AllocError>
     ensures { OnOk result ((s : Setting) → Opens s (listed stack.old) (expr_items s (Expr.Ref expr rawness mutability)) (21) (listed stack.new)) }
 {
-    stack.push([
+    stack.push(&[
         Work::Text("&"),
         Work::Text(raw_keyword(rawness)),
         Work::Text(mutability.as_keyword_for_ref()),
@@ -260,7 +260,7 @@ fn open_ref(
 fn open_unary(stack: &mut Stack<'_>, expr: ExprId, op: UnaryOp) -> Result<(), AllocError>
     ensures { OnOk result ((s : Setting) → Opens s (listed stack.old) (expr_items s (Expr.UnaryOp expr op)) (21) (listed stack.new)) }
 {
-    stack.push([
+    stack.push(&[
         Work::Text(op.as_str()),
         Work::Under(expr, ExprPrecedence::Prefix),
     ])
@@ -286,7 +286,7 @@ fn open_binary(
 ) -> Result<(), AllocError>
     ensures { OnOk result ((s : Setting) → Opens s (listed stack.old) (under own lhs ++ sp ++ operator_items op ++ sp ++ under own rhs) (21) (listed stack.new)) }
 {
-    stack.push([
+    stack.push(&[
         Work::Under(lhs, own),
         Work::Space,
         Work::Text(operator_text(op)),
@@ -299,7 +299,7 @@ fn open_binary(
 fn open_index(stack: &mut Stack<'_>, base: ExprId, index: ExprId) -> Result<(), AllocError>
     ensures { OnOk result ((s : Setting) → Opens s (listed stack.old) (expr_items s (Expr.Index base index)) (21) (listed stack.new)) }
 {
-    stack.push([
+    stack.push(&[
         Work::Under(base, ExprPrecedence::Postfix),
         Work::Text("["),
         Work::Whole(index),
@@ -311,9 +311,9 @@ fn open_index(stack: &mut Stack<'_>, base: ExprId, index: ExprId) -> Result<(), 
 fn open_tuple<'a>(stack: &mut Stack<'a>, exprs: &'a [ExprId]) -> Result<(), AllocError>
     ensures { OnOk result ((s : Setting) → Opens s (listed stack.old) (expr_items s (Expr.Tuple exprs.now)) (21 + 3 * length exprs.now) (listed stack.new)) }
 {
-    stack.push([Work::Text(")")])?;
+    stack.push(&[Work::Text(")")])?;
     open_elements(stack, exprs)?;
-    stack.push([Work::Text("(")])
+    stack.push(&[Work::Text("(")])
 }
 
 #[inline(never)]
@@ -321,11 +321,11 @@ fn open_list<'a>(stack: &mut Stack<'a>, elements: &'a [ExprId]) -> Result<(), Al
     ensures { OnOk result ((s : Setting) → Opens s (listed stack.old) (array_items (Array.ElementList elements.now)) (21 + 3 * length elements.now) (listed stack.new)) }
 {
     match elements {
-        [] => stack.push([Work::Text("[]")]),
+        [] => stack.push(&[Work::Text("[]")]),
         [_, ..] => {
-            stack.push([Work::Outdent, Work::Break, Work::Text("]")])?;
+            stack.push(&[Work::Outdent, Work::Break, Work::Text("]")])?;
             open_elements(stack, elements)?;
-            stack.push([Work::Text("["), Work::Indent])
+            stack.push(&[Work::Text("["), Work::Indent])
         }
     }
 }
@@ -334,7 +334,7 @@ fn open_list<'a>(stack: &mut Stack<'a>, elements: &'a [ExprId]) -> Result<(), Al
 fn open_repeat(stack: &mut Stack<'_>, initializer: ExprId, repeat: ExprId) -> Result<(), AllocError>
     ensures { OnOk result ((s : Setting) → Opens s (listed stack.old) (array_items (Array.Repeat initializer repeat)) (21) (listed stack.new)) }
 {
-    stack.push([
+    stack.push(&[
         Work::Text("["),
         Work::Indent,
         Work::Whole(initializer),
@@ -363,7 +363,7 @@ fn open_array<'a>(stack: &mut Stack<'a>, array: &'a Array) -> Result<(), AllocEr
 fn open_const(stack: &mut Stack<'_>, id: ExprId) -> Result<(), AllocError>
     ensures { OnOk result ((s : Setting) → Opens s (listed stack.old) (expr_items s (Expr.Const id)) (21) (listed stack.new)) }
 {
-    stack.push([
+    stack.push(&[
         Work::Text("const { /* "),
         Work::Text("ExprId"),
         Work::Text("("),
@@ -377,7 +377,7 @@ fn open_const(stack: &mut Stack<'_>, id: ExprId) -> Result<(), AllocError>
 fn open_assignment(stack: &mut Stack<'_>, target: PatId, value: ExprId) -> Result<(), AllocError>
     ensures { OnOk result ((s : Setting) → Opens s (listed stack.old) (expr_items s (Expr.Assignment target value)) (21) (listed stack.new)) }
 {
-    stack.push([
+    stack.push(&[
         Work::Pattern(target),
         Work::Text(" = "),
         Work::Under(value, ExprPrecedence::Assign),
@@ -389,7 +389,7 @@ fn open_unsafe(stack: &mut Stack<'_>, unsafe_: Unsafe) -> Result<(), AllocError>
     ensures { OnOk result ((s : Setting) → Opens s (listed stack.old) (unsafe_items unsafe_) (2) (listed stack.new)) }
 {
     match unsafe_ {
-        Unsafe::Yes => stack.push([Work::Text("unsafe ")]),
+        Unsafe::Yes => stack.push(&[Work::Text("unsafe ")]),
         Unsafe::No => Ok(()),
     }
 }
@@ -403,8 +403,8 @@ fn open_inside<'a>(
     ensures { OnOk result ((s : Setting) → Opens s (listed stack.old) (inside_block statements.now tail ++ text (codes "}")) (8 + 14 * length statements.now) (listed stack.new)) }
 {
     match (statements, tail) {
-        ([], None) => stack.push([Work::Text("}")]),
-        ([], Some(tail)) => stack.push([
+        ([], None) => stack.push(&[Work::Text("}")]),
+        ([], Some(tail)) => stack.push(&[
             Work::Indent,
             Work::Whole(tail),
             Work::Break,
@@ -412,10 +412,10 @@ fn open_inside<'a>(
             Work::Text("}"),
         ]),
         ([_, ..], _) => {
-            stack.push([Work::Break, Work::Outdent, Work::Text("}")])?;
+            stack.push(&[Work::Break, Work::Outdent, Work::Text("}")])?;
             open_tail(stack, tail)?;
             open_statements(stack, statements)?;
-            stack.push([Work::Indent])
+            stack.push(&[Work::Indent])
         }
     }
 }
@@ -431,10 +431,10 @@ fn open_block<'a>(
     ensures { OnOk result ((s : Setting) → Opens s (listed stack.old) (sp ++ labelled s label ++ unsafe_items unsafe_ ++ text (codes "{") ++ inside_block statements.now tail ++ text (codes "}")) (21 + 14 * length statements.now) (listed stack.new)) }
 {
     open_inside(stack, statements, tail)?;
-    stack.push([Work::Text("{")])?;
+    stack.push(&[Work::Text("{")])?;
     open_unsafe(stack, unsafe_)?;
     open_labelled(stack, label)?;
-    stack.push([Work::Space])
+    stack.push(&[Work::Space])
 }
 
 fn coroutine_keyword(kind: CoroutineKind) -> &'static str
@@ -488,9 +488,9 @@ fn open_closure<'a>(
 ) -> Result<(), AllocError>
     ensures { OnOk result ((s : Setting) → Opens s (listed stack.old) (expr_items s (Expr.Closure args.now arg_types.now ret_type body kind capture)) (21 + 6 * length args.now) (listed stack.new)) }
 {
-    stack.push([Work::Look(Look::ClosureBody(kind, body))])?;
+    stack.push(&[Work::Look(Look::ClosureBody(kind, body))])?;
     open_header(stack, kind, args, arg_types, ret_type)?;
-    stack.push([
+    stack.push(&[
         Work::Text(closure_head(kind)),
         Work::Text(capture_keyword(capture)),
     ])
@@ -500,14 +500,14 @@ fn open_closure<'a>(
 fn open_text<'a>(stack: &mut Stack<'a>, shown: &'a str) -> Result<(), AllocError>
     ensures { OnOk result ((s : Setting) → Opens s (listed stack.old) (text shown.now) (21) (listed stack.new)) }
 {
-    stack.push([Work::Text(shown)])
+    stack.push(&[Work::Text(shown)])
 }
 
 #[inline(never)]
 fn open_literal<'a>(stack: &mut Stack<'a>, literal: &'a Literal) -> Result<(), AllocError>
     ensures { OnOk result ((s : Setting) → Opens s (listed stack.old) (literal_items literal.now) (21) (listed stack.new)) }
 {
-    stack.push([Work::Literal(literal)])
+    stack.push(&[Work::Literal(literal)])
 }
 
 /// Puts the items of an expression on the stack.

@@ -33,8 +33,8 @@ fn open_found<'a>(
     ensures { OnOk result ((s : Setting) → Opens s (listed stack.old) (found_name default.now (Ok (option_copied found.entry))) 2 (listed stack.new)) }
 {
     match found {
-        None => stack.push([Work::Text(default)]),
-        Some(name) => stack.push([Work::Text(name.as_str())]),
+        None => stack.push(&[Work::Text(default)]),
+        Some(name) => stack.push(&[Work::Text(name.as_str())]),
     }
 }
 
@@ -47,7 +47,7 @@ fn open_def_name<'a, D: Definitions>(
 {
     match tables.def_name(def) {
         Ok(found) => open_found(stack, "<missing>", found),
-        Err(missing) => stack.push([Work::Lacks(missing)]),
+        Err(missing) => stack.push(&[Work::Lacks(missing)]),
     }
 }
 
@@ -60,7 +60,7 @@ fn open_crate_name<'a, D: Definitions>(
 {
     match tables.name_of_crate(id) {
         Ok(found) => open_found(stack, "$crate", found),
-        Err(missing) => stack.push([Work::Lacks(missing)]),
+        Err(missing) => stack.push(&[Work::Lacks(missing)]),
     }
 }
 
@@ -73,12 +73,12 @@ fn open_param_name<'a>(
     ensures { OnOk result ((s : Setting) → Opens s (listed stack.old) (type_param_items s number (Ok (option_copied found.entry))) 5 (listed stack.new)) }
 {
     match found {
-        None => stack.push([
+        None => stack.push(&[
             Work::Text("Param["),
             Work::Number(u64::from(number)),
             Work::Text("]"),
         ]),
-        Some(name) => stack.push([Work::Name(name.as_str())]),
+        Some(name) => stack.push(&[Work::Name(name.as_str())]),
     }
 }
 
@@ -91,7 +91,7 @@ fn open_type_param<'a, D: Definitions>(
 {
     match tables.type_param(id) {
         Ok(found) => open_param_name(stack, id.local_id().into_raw(), found),
-        Err(missing) => stack.push([Work::Lacks(missing)]),
+        Err(missing) => stack.push(&[Work::Lacks(missing)]),
     }
 }
 
@@ -103,8 +103,8 @@ fn open_lifetime_param<'a, D: Definitions>(
     ensures { OnOk result (OpensAsked (D.answers tables.now) (listed stack.old) (λ s. look_items s (Look.LifetimeParam id)) 5 (listed stack.new)) }
 {
     match tables.lifetime_param(id) {
-        Ok(name) => stack.push([Work::Name(name.as_str())]),
-        Err(missing) => stack.push([Work::Lacks(missing)]),
+        Ok(name) => stack.push(&[Work::Name(name.as_str())]),
+        Err(missing) => stack.push(&[Work::Lacks(missing)]),
     }
 }
 
@@ -112,11 +112,11 @@ fn open_lifetime_ref<'a>(stack: &mut Stack<'a>, lifetime: &'a LifetimeRef) -> Re
     ensures { OnOk result ((s : Setting) → Opens s (listed stack.old) (lifetime_items s lifetime.now) 7 (listed stack.new)) }
 {
     match lifetime {
-        LifetimeRef::Named(name) => stack.push([Work::Name(name.as_str())]),
-        LifetimeRef::Static => stack.push([Work::Text("'static")]),
-        LifetimeRef::Placeholder => stack.push([Work::Text("'_")]),
-        LifetimeRef::Param(id) => stack.push([Work::Look(Look::LifetimeParam(*id))]),
-        LifetimeRef::Error => stack.push([Work::Text("'{error}")]),
+        LifetimeRef::Named(name) => stack.push(&[Work::Name(name.as_str())]),
+        LifetimeRef::Static => stack.push(&[Work::Text("'static")]),
+        LifetimeRef::Placeholder => stack.push(&[Work::Text("'_")]),
+        LifetimeRef::Param(id) => stack.push(&[Work::Look(Look::LifetimeParam(*id))]),
+        LifetimeRef::Error => stack.push(&[Work::Text("'{error}")]),
     }
 }
 
@@ -137,7 +137,7 @@ fn open_lifetime<'a>(
 fn open_of_label<'a>(stack: &mut Stack<'a>, label: &'a Label) -> Result<(), AllocError>
     ensures { OnOk result ((s : Setting) → Opens s (listed stack.old) (name_items s label.now.name) 5 (listed stack.new)) }
 {
-    stack.push([Work::Name(label.name.as_str())])
+    stack.push(&[Work::Name(label.name.as_str())])
 }
 
 fn open_label<'a>(
@@ -245,6 +245,8 @@ pub(crate) fn open_look<'a, D: Definitions>(
         Look::LifetimeParam(id) => open_lifetime_param(stack, tables, id),
         Look::Lifetime(id) => open_lifetime(stack, store, id),
         Look::Label(id) => open_label(stack, store, id),
-        Look::ClosureBody(kind, body) => stack.push([Work::Whole(printed_body(store, kind, body))]),
+        Look::ClosureBody(kind, body) => stack.push(&[Work::Whole(printed_body(
+            store, kind, body,
+        ))]),
     }
 }

@@ -153,9 +153,9 @@ fn open_enclosed<'a>(
     ensures { OnOk result (OpensInStore store.now (listed stack.old) (λ s. enclosed true (items_of s (node.Expr id)))
         (5 + node_cost store.now.nodes (node.Expr id)) (listed stack.new)) }
 {
-    stack.push([Work::Text(")")])?;
+    stack.push(&[Work::Text(")")])?;
     open_expr_at(stack, store, id)?;
-    stack.push([Work::Text("(")])
+    stack.push(&[Work::Text("(")])
 }
 
 fn open_under<'a>(
@@ -178,7 +178,7 @@ fn open_text_if<'a>(stack: &mut Stack<'a>, holds: bool, shown: &'a str) -> Resul
     ensures { OnOk result ((s : Setting) → Opens s (listed stack.old) (when holds (text shown.now)) 2 (listed stack.new)) }
 {
     if holds {
-        return stack.push([Work::Text(shown)]);
+        return stack.push(&[Work::Text(shown)]);
     }
     Ok(())
 }

@@ -1,6 +1,6 @@
 //! What is still to be printed: pieces, nodes, what is looked up, and the rest of lists. And the stack of it.
 
-ghost use Rattle.std.specs.Prelude.{◌≡◌, [], ◌∷◌, ◌++◌, None, OnOk, IfSome};
+ghost use Rattle.std.specs.Prelude.{◌≡◌, [], ◌∷◌, ◌++◌, reverse, None, OnOk, IfSome};
 
 use hir_base::{
     CrateId, ExprPrecedence, ExternAbi, LangItemTarget, LifetimeParamId, Name, NamedDef, PathKind,
@@ -125,6 +125,19 @@ pub enum PathPart<'a> {
     BoundsAfter(&'a [TypeBound]),
 }
 
+// Copies of items behind those that are there, the last first. Inlined, each is stored straight into its place.
+#[inline(always)]
+fn push_from_last<T: Copy>(onto: &mut Vec<T>, items: &[T]) -> Result<(), AllocError>
+    ensures { OnOk result (onto.new.items ≡ onto.old.items ++ reverse items.now) }
+{
+    let mut left = items.len();
+    while left > 0 {
+        left -= 1;
+        onto.push(items[left])?;
+    }
+    Ok(())
+}
+
 /// What is still to be printed, the next on top.
 #[derive(Drop)]
 pub(crate) struct Stack<'a> {
@@ -147,15 +160,10 @@ impl<'a> Stack<'a> {
     ///
     /// Answers an error where room was refused; then the last of them may be on the stack.
     #[inline(always)]
-    pub(crate) fn push<const N: usize>(&mut self, works: [Work<'a>; N]) -> Result<(), AllocError>
-        ensures { OnOk result (Pushes works (listed self.old) (listed self.new)) }
+    pub(crate) fn push(&mut self, works: &[Work<'a>]) -> Result<(), AllocError>
+        ensures { OnOk result (Pushes works.now (listed self.old) (listed self.new)) }
     {
-        let mut left = N;
-        while left > 0 {
-            left -= 1;
-            self.works.push(works[left])?;
-        }
-        Ok(())
+        push_from_last(&mut self.works, works)
     }
 
     /// Pushes works, the first on top. It reserves room once, and turns the works round.

@@ -1,4 +1,4 @@
-use Rattle.std.proofs.Common.{◌++◌, ◌∷◌, ◌∙◌, codes, refl, sym, append_assoc, ap, arith}
+use Rattle.std.proofs.Common.{◌++◌, ◌∙◌, codes, sym, append_assoc, arith}
 use Rattle.std.proofs.lemmas.Result.{on_ok_weaker}
 use Rattle.hir_pretty.proofs.OpenLemmas.{opens_before, opens_then, opens_works}
 use Rattle.std.specs.List.{flat_map}
@@ -8,8 +8,8 @@ use Rattle.hir_pretty.specs.Exprs.{statement_items}
 use Rattle.hir_pretty.proofs.OrderLemmas.{two_before}
 use Rattle.hir_pretty.proofs.expr_parts.open_statement.Goals as goal
 
-pub returns-in-Let : goal.returns-in-Let
-returns-in-Let c = rw c.in-Let.is (on_ok_weaker c.push-2.result
+pub returns-in_ok-open_after-in-Let-3 : goal.returns-in_ok-open_after-in-Let-3
+returns-in_ok-open_after-in-Let-3 c = rw c.in-Let.is (on_ok_weaker c.push-in-Let.result
     (λ q s.
     let type_ref = opt (λ id. text (codes ": ") ++ t id) c.in-Let.type_ref in
     let initializer = opt (λ id. text (codes " = ") ++ e id) c.in-Let.initializer in
@@ -18,11 +18,11 @@ returns-in-Let c = rw c.in-Let.is (on_ok_weaker c.push-2.result
     let more = flat_map statement_items c.args.rest.now in
     let last = text (codes ";") ++ br ++ more in
     opens_before
-    (opens_then (opens_then (opens_then (opens_works c.in_ok-push.ensures) (c.in_ok-open_after.ensures s)) (c.in_ok-open_after-2.ensures s))
-    (c.in_ok-open_after-3.ensures s))
+    (opens_then (opens_then (opens_then (opens_works c.in_ok-push-in-Let.ensures) (c.in_ok-open_after-in-Let.ensures s)) (c.in_ok-open_after-in-Let-2.ensures s))
+    (c.in_ok-open_after-in-Let-3.ensures s))
     q
     (sym (append_assoc before type_ref (initializer ++ (else_branch ++ last))) ∙ sym (append_assoc (before ++ type_ref) initializer (else_branch ++ last))
     ∙ sym (append_assoc (before ++ type_ref ++ initializer) else_branch last)
     ∙ two_before (before ++ type_ref ++ initializer ++ else_branch) (Put (Text (codes ";"))) (Put Break) more)
     (omega arith))
-    c.push-2.ensures)
+    c.push-in-Let.ensures)

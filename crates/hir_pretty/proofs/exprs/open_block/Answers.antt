@@ -1,4 +1,4 @@
-use Rattle.std.proofs.Common.{◌++◌, ◌∙◌, codes, refl, sym, append_assoc, arith}
+use Rattle.std.proofs.Common.{◌++◌, ◌∙◌, codes, sym, append_assoc, arith}
 use Rattle.std.proofs.lemmas.Result.{on_ok_weaker}
 use Rattle.hir_pretty.proofs.OpenLemmas.{opens_before, opens_put, opens_then}
 use Rattle.hir_pretty.specs.Items.{sp, text}

@@ -1,4 +1,4 @@
-use Rattle.std.proofs.Common.{◌++◌, codes, refl, arith}
+use Rattle.std.proofs.Common.{◌++◌, codes, arith}
 use Rattle.std.proofs.lemmas.Result.{on_ok_weaker}
 use Rattle.hir_pretty.proofs.OpenLemmas.{opens_before, opens_then, opens_works}
 use Rattle.std.specs.List.{flat_map}

@@ -1,4 +1,4 @@
-use Rattle.std.proofs.Common.{◌++◌, ◌∷◌, [], codes, refl, sym, ◌∙◌, append_assoc, arith}
+use Rattle.std.proofs.Common.{◌++◌, codes, sym, ◌∙◌, append_assoc, arith}
 use Rattle.std.proofs.lemmas.Result.{on_ok_weaker}
 use Rattle.hir_pretty.proofs.OpenLemmas.{opens_put, opens_then, opens_works, opens_as}
 use Rattle.std.specs.List.{flat_map}
