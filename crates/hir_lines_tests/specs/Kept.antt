@@ -1,5 +1,5 @@
 -- What is kept of a line that makes something.
-use Rattle.std.specs.Prelude.{List, [], ◌∷◌, ◌++◌, Option, Some}
+use Rattle.std.specs.Prelude.{[], ◌∷◌, ◌++◌, Option, Some}
 use Rattle.hir_lines.specs.Makers.{Maker}
 use Rattle.hir_lines.specs.Makers as make
 use Rattle.hir_lines_tests.specs.declared.kept.Kept.{Kept}

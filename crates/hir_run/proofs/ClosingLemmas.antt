@@ -151,6 +151,15 @@ line_reads_none X may Is line number old new waiting waiting' (BodyRefused fault
 line_reads_none X may Is line number old new waiting waiting' OutputFailed a h = cc
 line_reads_none X may Is line number old new waiting waiting' OutOfMemory a h = cc
 
+-- so no read has failed that hadn't failed before
+pub line_reads : (failed : Bool) (may : Question → Bool) (Is : Question → List ℕ → Type 0) (line : Line) (number : ℕ) (old new : Option (List ℕ)) (waiting waiting' : List ℕ) (e : RunFault) → AsksLine may Is line number old waiting new waiting' (Err e) → failed ≡ (is_input_failed {X = Option Question} (Err e) || failed)
+line_reads failed may Is line number old new waiting waiting' InputFailed a = absurd a
+line_reads failed may Is line number old new waiting waiting' (BadLine n) a = refl
+line_reads failed may Is line number old new waiting waiting' (Refused fault) a = refl
+line_reads failed may Is line number old new waiting waiting' (BodyRefused fault) a = refl
+line_reads failed may Is line number old new waiting waiting' OutputFailed a = refl
+line_reads failed may Is line number old new waiting waiting' OutOfMemory a = refl
+
 pub next_reads : (old new : Option (List ℕ)) (waiting waiting' : List ℕ) (fault : LineFault) → NextWrites old new waiting waiting' (Err fault) → is_input_failed {X = Option Question} (Err (fault_of_line fault)) ≡ true → waiting' ≡ []
 next_reads old new waiting waiting' line.OutOfMemory w h = cc
 next_reads old new waiting waiting' line.InputFailed w h = w.1

@@ -28,7 +28,7 @@ made_with m make.Roots = refl
 made_with m (make.Root id) = refl
 
 one_more : (old new : code.Made) (maker : Maker) (question : Option Question) (second : Bool) →
-    option_map (λ (m : code.Made). (m, None)) (if second then None else Some (with_maker old maker)) ≡ Some (new, question) →
+    option_map {U = code.Made × Option Question} (λ m. (m, None)) (if second then None else Some (with_maker old maker)) ≡ Some (new, question) →
     (question ≡ None) × (second ≡ false) × (new ≡ with_maker old maker)
 one_more old new maker question true e = cc
 one_more old new maker question false e =

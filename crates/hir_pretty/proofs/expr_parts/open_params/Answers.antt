@@ -20,8 +20,9 @@ some_types c = grind (arith, common_steps)
 
 is_last : (c : After-open_param) → (length c.args.args.now < 2) ⊎ (length c.args.types.now < 2)
 is_last c = elim c.then-is_empty.branch [
-    then-is_empty-via-then-is_empty w ↦ inl (no_rest c.args.args.now (sym c.is_empty.ensures ∙ w.if-is_empty.true))
-  | then-is_empty-via-else-is_empty+then-is_empty-2 w ↦ inr (no_rest c.args.types.now (sym w.is_empty-else-is_empty.ensures ∙ w.if-is_empty-2.true)) ]
+  | then-is_empty-via-then-is_empty w ↦ inl (no_rest c.args.args.now (sym c.is_empty.ensures ∙ w.if-is_empty.true))
+  | then-is_empty-via-else-is_empty+then-is_empty-2 w ↦ inr (no_rest c.args.types.now (sym w.is_empty-else-is_empty.ensures ∙ w.if-is_empty-2.true))
+]
 
 pub returns-then-is_empty : goal.returns-then-is_empty
 returns-then-is_empty c = on_ok_weaker c.open_param.result

@@ -4,7 +4,7 @@ use Rattle.hir_io.specs.NextLine.{untaken}
 use Rattle.hir_io.proofs.ReadLemmas.{Reads-none, Reads-more, ReadsAll-end}
 use Rattle.hir_run.proofs.AskedLemmas.{first_answered, first_left, first_fails, none_left, fails_to_read, line_answered, line_left, line_fails}
 use Rattle.hir_lines.specs.Line.{Ask, line_of}
-use Rattle.hir_run.proofs.ClosingLemmas.{line_reads_none, next_reads, reads_as}
+use Rattle.hir_run.proofs.ClosingLemmas.{line_reads, line_reads_none, next_reads}
 use Rattle.hir_run.proofs.asking.answer_lines.Goals as goal
 
 pub returns-in_err-left-clause-asks : goal.returns-in_err-left-clause-asks
@@ -111,6 +111,11 @@ returns-clause-asks g c =
       ReadsAll-end _ _ so_far.0 _ so_far.2 ended.0,
       omega (arith, so_far.3, counted),
     )
+
+pub returns-in_err-left-clause-read_failure : goal.returns-in_err-left-clause-read_failure
+returns-in_err-left-clause-read_failure g c =
+    let p = err_from_is_err_and c.from_residual.result c.from_residual.ensures.1 in
+    rw (p.1, p.2) (line_reads (g.R.Source.failed c.args.reader.now) g.A.Answers.may (g.A.Answers.Is c.args.asked.now) (Ask c.args.first) c.args.lines.now.count (g.W.Sink.contents c.args.writer.now) (g.W.Sink.contents c.answer_question.new.writer) c.args.output.now c.answer_question.new.output c.in_err-left.field-0.0 (c.in_err-left.ensures.asks c.args.lines.now.count))
 
 pub returns-in_err-left-clause-quiet : goal.returns-in_err-left-clause-quiet
 returns-in_err-left-clause-quiet g c =
