@@ -7,7 +7,6 @@ mod bad;
 mod exprs;
 #[cfg(test)]
 mod good;
-#[cfg(test)]
 mod kept;
 #[cfg(test)]
 mod ops;
