@@ -2,11 +2,13 @@ pub mod formers
 pub mod Abi
 pub mod Arena
 pub mod Exact
+pub mod Form
 pub mod Hygiene
 pub mod Keys
 pub mod Laws
 pub mod Maps
 pub mod ModPath
+pub mod Name
 pub mod Places
 pub mod Precedence
 pub mod RawWords

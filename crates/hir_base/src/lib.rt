@@ -25,6 +25,7 @@ mod params;
 mod prec;
 mod ptr;
 mod seq;
+mod short_text;
 mod steps;
 mod table;
 mod table_iter;

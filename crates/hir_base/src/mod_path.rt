@@ -1,10 +1,18 @@
 //! Paths without generic arguments: where they begin, and their segments.
-ghost use Rattle.std.specs.Prelude.{◌≡◌, ◌↔◌, IsTrue, IsSome, Some, codes, option_map};
+ghost use Rattle.std.specs.Prelude.{◌≡◌, ◌↔◌, ◌&&◌, [], ◌∷◌, ◌++◌, IsTrue, IsSome, Some, codes, option_map};
+ghost use Rattle.std.specs.Cmp.{and_per, and_equiv, on_per, on_equiv, partial_equiv_from_equiv};
+ghost use Rattle.std.specs.Cmp.Lexicographic.{pointwise, bytes_decides, lists_per, lists_equiv, nat_list_eq_equiv};
+ghost use Rattle.std.specs.Bool.{nat_eq};
+ghost use Rattle.std.specs.Hash as fed;
+ghost use Rattle.std.specs.Hash.{and-Alike, on_Alike, items_Alike, same_Alike};
 ghost use Rattle.hir_base.specs.Exact.{exact};
 
 use crate::ids::CrateId;
 use crate::{ExactEq, Name, Seq, TryClone};
+use std::alloc::AllocError;
+use std::hash::{Hash, Hasher};
 use std::marker::Model;
+use std::slice;
 
 /// Where a path begins.
 #[derive(Clone, Copy, PartialEq, Eq, Hash)]
@@ -34,11 +42,23 @@ impl TryClone for PathKind {
     ghost clone_is_same = { Prim.search exact };
 }
 
+// A path by what it begins with. A plain path of one name is an identifier, as most are, and takes no memory.
+#[derive(Drop)]
+enum Form {
+    Ident(Name),
+    PlainPath(Seq<Name>),
+    SuperPath(u8, Seq<Name>),
+    CratePath(Seq<Name>),
+    AbsPath(Seq<Name>),
+    DollarCratePath(CrateId, Seq<Name>),
+}
+
 /// A path without arguments, seen as its kind and its segments.
-#[derive(Drop, Clone, PartialEq, Eq, Hash)]
+///
+/// A plain path of one name takes no memory but that of the name.
+#[derive(Drop)]
 pub struct ModPath {
-    kind: PathKind,
-    segments: Seq<Name>,
+    form: Form,
 }
 
 impl Model for ModPath {
@@ -46,36 +66,62 @@ impl Model for ModPath {
 
     ghost Value = { ModPath };
 
-    ghost view = { λ path. record { kind = path.kind; segments = path.segments } };
+    ghost use Rattle.hir_base.specs.Form.{path_in};
 
-    ghost inverse = { λ path. record { kind = path.kind; segments = path.segments } };
+    ghost view = { λ path. path_in path.form };
 }
 
 impl ModPath {
     ghost use Rattle.hir_base.specs.ModPath.{ident_of};
 
+    /// The plain path of this name. It takes no memory.
+    pub fn from_name(name: Name) -> ModPath
+        ensures { result ≡ record { kind = PathKind.Plain; segments = name ∷ [] } }
+    {
+        ModPath {
+            form: Form::Ident(name),
+        }
+    }
+
     /// The path with this kind and these segments.
     pub fn from_segments(kind: PathKind, names: Seq<Name>) -> ModPath
         ensures { result ≡ record { kind = kind; segments = names } }
     {
-        ModPath {
-            kind,
-            segments: names,
-        }
+        let form = match kind {
+            PathKind::Plain => Form::plain(names),
+            PathKind::Super(levels) => Form::SuperPath(levels, names),
+            PathKind::Crate => Form::CratePath(names),
+            PathKind::Abs => Form::AbsPath(names),
+            PathKind::DollarCrate(id) => Form::DollarCratePath(id, names),
+        };
+        ModPath { form }
     }
 
     /// Where the path begins.
     pub fn kind(&self) -> PathKind
         ensures { result ≡ self.now.kind }
     {
-        self.kind
+        match &self.form {
+            Form::Ident(_) | Form::PlainPath(_) => PathKind::Plain,
+            Form::SuperPath(levels, _) => PathKind::Super(*levels),
+            Form::CratePath(_) => PathKind::Crate,
+            Form::AbsPath(_) => PathKind::Abs,
+            Form::DollarCratePath(id, _) => PathKind::DollarCrate(*id),
+        }
     }
 
     /// The names of the path, first to last. The prefix that its kind says, as `crate`, isn't one of them.
     pub fn segments(&self) -> &[Name]
         ensures { result.now ≡ self.now.segments }
     {
-        self.segments.as_slice()
+        match &self.form {
+            Form::Ident(name) => slice::from_ref(name),
+            Form::PlainPath(names)
+            | Form::SuperPath(_, names)
+            | Form::CratePath(names)
+            | Form::AbsPath(names)
+            | Form::DollarCratePath(_, names) => names.as_slice(),
+        }
     }
 
     /// Whether the path is an identifier: one name, and nothing before it.
@@ -89,8 +135,8 @@ impl ModPath {
     pub fn as_ident(&self) -> Option<&Name>
         ensures { option_map (λ name. name.now) result ≡ ident_of self.now }
     {
-        match self.segments.as_slice() {
-            [name] if self.kind == PathKind::Plain => Some(name),
+        match self.segments() {
+            [name] if self.kind() == PathKind::Plain => Some(name),
             _ => None,
         }
     }
@@ -104,6 +150,74 @@ impl ModPath {
             Some(name) => name.as_str() == "Self",
             None => false,
         }
+    }
+}
+
+impl Form {
+    ghost use Rattle.hir_base.specs.Form.{path_in};
+
+    // The form of a plain path with these names.
+    fn plain(names: Seq<Name>) -> Form
+        ensures { path_in result ≡ record { kind = PathKind.Plain; segments = names } }
+    {
+        if names.len() != 1 {
+            return Form::PlainPath(names);
+        }
+        let mut names = names.into_vec();
+        match names.pop() {
+            Some(name) => Form::Ident(name),
+            None => Form::PlainPath(Seq::from_vec(names)),
+        }
+    }
+}
+
+impl PartialEq for ModPath {
+    ghost use Rattle.hir_base.specs.contracts.mod_path.PathKindPartialEq.TheImpl.Laws as kind_laws;
+
+    ghost eq = { λ x y. ⟦<PathKind as PartialEq>⟧.eq x.kind y.kind && pointwise (pointwise nat_eq) x.segments y.segments };
+
+    ghost laws = { and_per (on_per (λ path. path.kind) kind_laws.lawful.laws)
+        (on_per (λ path. path.segments) (lists_per (partial_equiv_from_equiv nat_list_eq_equiv))) };
+
+    fn eq(&self, other: &ModPath) -> bool {
+        self.kind() == other.kind() && self.segments() == other.segments()
+    }
+}
+
+impl Eq for ModPath {
+    ghost use Rattle.hir_base.specs.contracts.mod_path.PathKindEq.TheImpl.Laws as kind_laws;
+
+    ghost laws = { and_equiv (on_equiv (λ path. path.kind) kind_laws.lawful.laws)
+        (on_equiv (λ path. path.segments) (lists_equiv nat_list_eq_equiv)) };
+}
+
+impl Hash for ModPath {
+    ghost use Rattle.hir_base.specs.contracts.mod_path.PathKindHash.TheImpl.Laws as kind_laws;
+
+    ghost hash_input = { λ path. ⟦<PathKind as Hash>⟧.hash_input path.kind ++ fed.slice fed.str path.segments };
+
+    ghost respects_eq = { (and-Alike (on_Alike (λ path. path.kind) (record { fed = kind_laws.lawful.respects_eq }))
+        (on_Alike (λ path. path.segments) (items_Alike (same_Alike fed.str bytes_decides)))).fed };
+
+    fn hash<H: Hasher>(&self, state: &mut H) {
+        self.kind().hash(state);
+        self.segments().hash(state);
+    }
+}
+
+impl Clone for ModPath {
+    ghost is_clone = { λ path copy. copy ≡ path };
+
+    fn clone(&self) -> Result<ModPath, AllocError> {
+        let form = match &self.form {
+            Form::Ident(name) => Form::Ident(name.clone()?),
+            Form::PlainPath(names) => Form::PlainPath(names.clone()?),
+            Form::SuperPath(levels, names) => Form::SuperPath(*levels, names.clone()?),
+            Form::CratePath(names) => Form::CratePath(names.clone()?),
+            Form::AbsPath(names) => Form::AbsPath(names.clone()?),
+            Form::DollarCratePath(id, names) => Form::DollarCratePath(*id, names.clone()?),
+        };
+        Ok(ModPath { form })
     }
 }
 

@@ -1,15 +1,30 @@
 //! The names of definitions, bindings and path segments.
-ghost use Rattle.std.specs.Prelude.{◌≡◌, IfOk, codes};
-ghost use Rattle.hir_base.specs.Exact.{exact};
+ghost use Rattle.std.specs.Prelude.{◌≡◌, ◌≤◌, length, IfOk, IfErr, IsOk, codes};
+ghost use Rattle.std.specs.Cmp.Lexicographic.{pointwise};
+ghost use Rattle.std.specs.Bool.{nat_eq};
+ghost use Rattle.std.specs.Cmp.Rules.{comparing, hashing};
+ghost use Rattle.std.proofs.Common.{rules};
+ghost use Rattle.std.specs.Hash as fed;
 
+use crate::short_text::{MOST_BYTES, ShortText};
 use crate::{ExactEq, Text, TryClone};
-use std::alloc::{AllocError, Global};
+use std::alloc::{AllocError, AllocFailed, Global};
+use std::hash::{Hash, Hasher};
 use std::marker::Model;
 
+// Where the text of a name lies: in the value, or in memory of its own.
+#[derive(Drop)]
+enum Place {
+    Inside(ShortText),
+    Outside(Box<Text>),
+}
+
 /// The name of a definition, a binding or a segment of a path, seen as its bytes.
-#[derive(Drop, Clone, PartialEq, Eq, Hash)]
+///
+/// A name of at most 14 bytes takes no memory of its own.
+#[derive(Drop)]
 pub struct Name {
-    text: Text,
+    place: Place,
 }
 
 impl Model for Name {
@@ -17,33 +32,47 @@ impl Model for Name {
 
     ghost Value = { List ℕ };
 
-    ghost view = { λ name. name.text };
+    ghost use Rattle.hir_base.specs.Name.{text_at};
 
-    ghost inverse = { λ text. record { text = text } };
+    ghost view = { λ name. text_at name.place };
 }
 
 impl Name {
-    /// The name with this text, in one allocation of the text's length.
+    /// The name with this text. One of at most 14 bytes takes no memory, a longer one takes two allocations.
     ///
     /// Answers an error if that memory was refused.
     pub fn new(alloc: Global, text: &str) -> Result<Name, AllocError>
         ensures { IfOk result (λ name. name ≡ text.now) }
     {
+        if text.len() <= MOST_BYTES {
+            return Ok(Name {
+                place: Place::Inside(ShortText::from_str(text)),
+            });
+        }
         Ok(Name {
-            text: Text::from_str(alloc, text)?,
+            place: Place::Outside(Box::new(alloc, Text::from_str(alloc, text)?)?),
         })
     }
 
-    /// The name with this text, which takes no memory.
-    pub fn from_text(text: Text) -> Name
-        ensures { result ≡ text }
+    /// The name with this text. One of at most 14 bytes takes no memory, a longer one takes one allocation.
+    ///
+    /// Answers an error if that memory was refused: the text is handed back.
+    pub fn from_text(alloc: Global, text: Text) -> Result<Name, AllocFailed<Text>>
+        ensures ok { IfOk result (λ name. name ≡ text) }
+        ensures short { length text ≤ 14 → IsOk result }
+        ensures value_returned { IfErr result (λ failed. failed.value ≡ text) }
     {
-        Name { text }
+        if text.as_str().len() <= MOST_BYTES {
+            return Ok(Name {
+                place: Place::Inside(ShortText::from_str(text.as_str())),
+            });
+        }
+        Ok(Name {
+            place: Place::Outside(Box::new(alloc, text)?),
+        })
     }
 
-    /// The name of what has none in source code: `[missing name]`.
-    ///
-    /// Answers an error if memory for it was refused.
+    /// The name of what has none in source code: `[missing name]`. It is short, and never refused.
     pub fn missing(alloc: Global) -> Result<Name, AllocError>
         ensures { IfOk result (λ name. name ≡ codes "[missing name]") }
     {
@@ -54,14 +83,65 @@ impl Name {
     pub fn as_str(&self) -> &str
         ensures { result.now ≡ self.now }
     {
-        self.text.as_str()
+        match &self.place {
+            Place::Inside(text) => text.as_str(),
+            Place::Outside(text) => text.as_str(),
+        }
+    }
+
+    // The bytes of the text.
+    fn as_bytes(&self) -> &[u8]
+        ensures { result.now ≡ self.now }
+    {
+        match &self.place {
+            Place::Inside(text) => text.as_bytes(),
+            Place::Outside(text) => text.as_str().as_bytes(),
+        }
+    }
+}
+
+impl PartialEq for Name {
+    ghost eq = { pointwise nat_eq };
+
+    ghost laws = { Prim.search (comparing, rules) };
+
+    fn eq(&self, other: &Name) -> bool {
+        self.as_bytes() == other.as_bytes()
+    }
+}
+
+impl Eq for Name {
+    ghost laws = { Prim.search (comparing, rules) };
+}
+
+impl Hash for Name {
+    ghost hash_input = { fed.str };
+
+    ghost respects_eq = { Prim.search (hashing, rules) };
+
+    fn hash<H: Hasher>(&self, state: &mut H) {
+        self.as_str().hash(state);
+    }
+}
+
+impl Clone for Name {
+    ghost is_clone = { λ x y. y ≡ x };
+
+    fn clone(&self) -> Result<Name, AllocError> {
+        let place = match &self.place {
+            Place::Inside(text) => Place::Inside(text.copy()),
+            Place::Outside(text) => Place::Outside(text.clone()?),
+        };
+        Ok(Name { place })
     }
 }
 
 impl ExactEq for Name {
-    ghost eq_decides = { Prim.search exact };
+    ghost use Rattle.std.specs.Cmp.Lexicographic.{bytes_decides};
+
+    ghost eq_decides = { bytes_decides };
 }
 
 impl TryClone for Name {
-    ghost clone_is_same = { Prim.search exact };
+    ghost clone_is_same = { Prim.search rules };
 }

@@ -59,20 +59,25 @@ fn is_named(alloc: Global, name: &Name, text: &str) -> Result<bool, AllocError> 
 }
 
 // Whether the text is that of the name, also where it is made again of its string, and makes the name.
-fn becomes(text: Text, wanted: &Name) -> bool {
+fn becomes(alloc: Global, text: Text, wanted: &Name) -> Result<bool, AllocError> {
     let reads = text.as_str() == wanted.as_str();
     let text = Text::from_string(text.into_string());
     let reads_again = text.as_str() == wanted.as_str();
-    let name = Name::from_text(text);
-    reads && reads_again && name == *wanted
+    let name = Name::from_text(alloc, text)?;
+    Ok(reads && reads_again && name == *wanted)
 }
+
+// Of 7, 14 and 15 bytes: the last doesn't lie in the value.
+const NAMES: [&str; 3] = ["größe", "fourteen_bytes", "fifteen_bytes_x"];
 
 #[test]
 fn a_name_is_its_text(rt: HostRuntime) -> Result<(), Fail> {
-    let name = Name::new(rt.alloc(), "größe")?;
-    let is_named = is_named(rt.alloc(), &name, "größe")?;
-    let becomes = becomes(Text::from_str(rt.alloc(), "größe")?, &name);
-    drop(name);
-    assert!(rt; is_named && becomes);
+    for text in &NAMES {
+        let name = Name::new(rt.alloc(), text)?;
+        let is_named = is_named(rt.alloc(), &name, text);
+        let becomes = becomes(rt.alloc(), Text::from_str(rt.alloc(), text)?, &name);
+        drop(name);
+        assert!(rt; is_named? && becomes?, "{text}");
+    }
     Ok(())
 }

@@ -50,11 +50,16 @@ pub fn alike<T: Hash + Drop, E: Drop>(one: Result<T, E>, second: Result<T, E>) -
     Ok(one == second && hash_of(&one) == hash_of(&second))
 }
 
-// `super::super::größe`
-fn path(alloc: Global) -> Result<ModPath, AllocError> {
+// `größe` behind this kind
+fn path(alloc: Global, kind: PathKind) -> Result<ModPath, AllocError> {
     let mut names = Seq::new(alloc);
     names.push(Name::new(alloc, "größe")?)?;
-    Ok(ModPath::from_segments(PathKind::Super(2), names))
+    Ok(ModPath::from_segments(kind, names))
+}
+
+// `größe`, of the name alone
+fn ident(alloc: Global) -> Result<ModPath, AllocError> {
+    Ok(ModPath::from_name(Name::new(alloc, "größe")?))
 }
 
 fn named(alloc: Global) -> Result<ExternAbi, AllocError> {
@@ -65,7 +70,9 @@ fn named(alloc: Global) -> Result<ExternAbi, AllocError> {
 #[test]
 fn same_values_hash_alike(rt: HostRuntime) -> Result<(), Fail> {
     let alloc = rt.alloc();
-    assert!(rt; alike(path(alloc), path(alloc))?);
+    let kind = PathKind::Super(2);
+    assert!(rt; alike(path(alloc, kind), path(alloc, kind))?);
+    assert!(rt; alike(ident(alloc), path(alloc, PathKind::Plain))?);
     assert!(rt; alike(named(alloc), named(alloc))?);
     Ok(())
 }

@@ -1,7 +1,10 @@
 -- Going down from kid to kid and climbing from child to parent lead between the same nodes.
-use Rattle.std.proofs.Common.{◌≡◌, ℕ, zero, suc, ◌+◌, ◌-◌, ◌<◌, ◌≤◌, ◌⊎◌, ◌↔◌, Bool, true, List, None, inl, inr, ⊎_elim, refl, ap, sym, ◌∙◌, subst, arith, length, map, get_or, set, Contains}
-use Rattle.std.proofs.lemmas.Bool.{cases_lt}
-use Rattle.std.proofs.lemmas.List.{length-map, get_or-map}
+use Rattle.std.proofs.Common.{◌≡◌, ℕ, zero, suc, ◌+◌, ◌-◌, ◌<◌, ◌≤◌, ◌⊎◌, ◌↔◌, Bool, true, false, not, List, [], None, inl, inr, ⊎_elim, refl, ap, sym, ◌∙◌, subst, arith, length, map, get_or, set, Contains}
+use Rattle.std.specs.Prelude.{IsTrue}
+use Rattle.std.specs.List.{list_all}
+use Rattle.std.proofs.lemmas.Bool.{cases_lt, false≢true, not-true}
+use Rattle.std.proofs.lemmas.List.{length-map, get_or-map, get_or_default}
+use Rattle.std.proofs.lemmas.List.Sums.{AllPass-from_list_all, list_all-from_AllPass}
 use Rattle.std.proofs.lemmas.List.Elements.{Contains-get_or}
 use Rattle.hir_forest.specs.Forest.{IsKid, Climbs, HasOneParent, IsForest, Marks, LiesUnderMarked}
 use Rattle.hir_forest.specs.Height.{height}
@@ -13,11 +16,12 @@ use Rattle.hir_node.specs.declared.node_id.NodeId.{NodeId}
 use Rattle.hir_node.specs.declared.node_id.NodeId.TheVariants as node
 use Rattle.hir_faults.specs.declared.sizes.Sizes.{Sizes}
 use Rattle.hir_faults.specs.Sizes.{HasNode, place}
+use Rattle.hir_faults.specs.Unmarked.{are_unmarked}
 use Rattle.hir_faults.specs.Nodes.{Nodes, sizes_of, Has, kids_of, graph}
 use Rattle.hir_faults.specs.Faults.{Rooted, rooted_fault}
 use Rattle.hir_faults.specs.Down.{KidsFall}
 use Rattle.hir_expr_store.specs.Under.{Under, itself, below, LiesUnderOther}
-use Rattle.hir_expr_store.specs.NodeSets.{Marked, IsIn, Gains}
+use Rattle.hir_expr_store.specs.NodeSets.{Marked, IsIn, Gains, NoKidIn}
 use Rattle.hir_faults.proofs.FaultLemmas.{accepted_forest, graph-length}
 use Rattle.hir_faults.proofs.SoundLemmas.{place_within, row_at_place, kid_in_graph, sound_falls}
 
@@ -80,6 +84,35 @@ climb_rises g f (suc k) c p x = let l = height_falls g f x.0 c x.1 in let m = cl
 pub under_more : (s : Nodes) (n k : NodeId) {r : NodeId} → Under s k r → Contains (kids_of s k) n → Under s n r
 under_more s n k itself c = below c itself
 under_more s n k (below d u) c = below d (under_more s n k u c)
+
+unmarked_from : (mark : Bool) → (mark ≡ true → ⊥) → not mark ≡ true
+unmarked_from true none = absurd (none refl)
+unmarked_from false none = refl
+
+-- no place of a kid has a mark exactly where no kid is in the set
+no_kid_right : (s : Nodes) (marks : List Bool)
+    → (list_all (are_unmarked marks) (graph s) ≡ true) ↔ ((m n : NodeId) → Has s m → Contains (kids_of s m) n → Marks marks (place (sizes_of s) n) → ⊥)
+no_kid_right s marks = (
+  λ e m n h k i.
+      let kid = kid_in_graph s m n h k in
+      let row = AllPass-from_list_all (are_unmarked marks) (graph s) e (place (sizes_of s) m) [] (let w = place_within (sizes_of s) m h in omega (arith, graph-length s)) in
+      let at = AllPass-from_list_all (λ q. not (get_or marks q false)) (get_or (graph s) (place (sizes_of s) m) []) row kid.0 (place (sizes_of s) n) kid.1 in
+      let here : not (get_or marks (place (sizes_of s) n) false) ≡ true = subst (λ (q : ℕ). not (get_or marks q false) ≡ true) kid.2 at in
+      false≢true (sym (not-true _ here) ∙ i),
+  λ no. list_all-from_AllPass (are_unmarked marks) (graph s) (λ p d lt.
+      let m = node_here (sizes_of s) p (omega (arith, graph-length s)) in
+      let row : get_or (graph s) p d ≡ map (place (sizes_of s)) (kids_of s m.0) =
+      get_or_default (graph s) p d [] lt ∙ subst (λ (q : ℕ). get_or (graph s) q [] ≡ map (place (sizes_of s)) (kids_of s m.0)) m.2 (row_at_place s m.0 m.1) in
+      subst (λ (r : List ℕ). are_unmarked marks r ≡ true) (sym row) (list_all-from_AllPass (λ q. not (get_or marks q false)) (map (place (sizes_of s)) (kids_of s m.0)) (λ j d l.
+      let lk : j < length (kids_of s m.0) = omega (arith, length-map (kids_of s m.0) (place (sizes_of s))) in
+      let k = get_or (kids_of s m.0) j m.0 in
+      let is : get_or (map (place (sizes_of s)) (kids_of s m.0)) j d ≡ place (sizes_of s) k = get_or-map (place (sizes_of s)) (kids_of s m.0) j m.0 d lk in
+      subst (λ (q : ℕ). not (get_or marks q false) ≡ true) (sym is) (unmarked_from (get_or marks (place (sizes_of s) k) false) (no m.0 k m.1 (Contains-get_or (kids_of s m.0) j m.0 lk)))))),
+)
+
+-- the answer of the test
+pub no_kid_told : (s : Nodes) (set : Marked) (marks : List Bool) (none : Bool) → marks ≡ set.marks → set.sizes ≡ sizes_of s → none ≡ list_all (are_unmarked marks) (graph s) → IsTrue none ↔ NoKidIn s set
+no_kid_told s set marks none same sizes is = rw (is, same, sizes) (no_kid_right s set.marks)
 
 module _ (c : Rooted) (sound : rooted_fault c None) where
   abbrev s : Nodes

@@ -1,9 +1,10 @@
 -- Sets of nodes of a store, kept as a mark for each node.
-use Rattle.std.specs.Prelude.{◌≡◌, ◌⊎◌, ◌↔◌, Bool, List}
+use Rattle.std.specs.Prelude.{◌≡◌, ◌⊎◌, ◌↔◌, Bool, List, Contains}
 use Rattle.hir_forest.specs.Forest.{Marks}
 use Rattle.hir_node.specs.declared.node_id.NodeId.{NodeId}
 use Rattle.hir_faults.specs.declared.sizes.Sizes.{Sizes}
 use Rattle.hir_faults.specs.Sizes.{HasNode, place}
+use Rattle.hir_faults.specs.Nodes.{Nodes, Has, kids_of}
 
 -- how many nodes there are, and a mark for each, in the order of the row
 pub record Marked : Type 0 where
@@ -18,3 +19,7 @@ IsIn set n = Marks set.marks (place set.sizes n)
 pub record Gains (old : Marked) (added : NodeId) (new : Marked) : Type 0 where
   pub sizes : new.sizes ≡ old.sizes
   pub members : (n : NodeId) → HasNode old.sizes n → IsIn new n ↔ (IsIn old n ⊎ (n ≡ added))
+
+-- no kid of a node is in the set
+abbrev pub NoKidIn : Nodes → Marked → Type 0
+NoKidIn s set = (m n : NodeId) → Has s m → Contains (kids_of s m) n → IsIn set n → ⊥

@@ -122,6 +122,7 @@ impl ExpressionStore {
     ghost use Rattle.hir_faults.specs.Faults.{nodes_in};
     ghost use Rattle.hir_faults.specs.Nodes.{graph, sizes_of};
     ghost use Rattle.hir_faults.specs.Sizes.{Few};
+    ghost use Rattle.hir_faults.specs.Unmarked.{are_unmarked};
     ghost use Rattle.hir_expr_store.specs.StoreParts.{contents_of_parts};
 
     /// A store of these parts. A caller has to prove that they have no fault: a builder tests it once.
@@ -216,6 +217,13 @@ impl ExpressionStore {
         ensures { IfOk result (λ rows. rows ≡ graph self.now.nodes) }
     {
         self.nodes().rows(alloc)
+    }
+
+    /// Whether no kid of a node has a mark at its place in the row.
+    pub(crate) fn no_kid_is_marked(&self, marks: &[bool]) -> bool
+        ensures { result ≡ list_all (are_unmarked marks.now) (graph self.now.nodes) }
+    {
+        self.nodes().no_kid_is_marked(marks)
     }
 
     /// Whether there is an expression of this id.

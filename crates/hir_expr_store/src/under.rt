@@ -4,7 +4,7 @@ ghost use Rattle.std.specs.Prelude.{◌≡◌, ◌↔◌, ◌<◌, length, IfOk,
 ghost use Rattle.hir_node.specs.declared.node_id.NodeId.{NodeId};
 ghost use Rattle.hir_node.specs.declared.node_id.NodeId.TheVariants as node;
 ghost use Rattle.hir_faults.specs.Nodes.{Has, sizes_of};
-ghost use Rattle.hir_expr_store.specs.NodeSets.{IsIn, Gains};
+ghost use Rattle.hir_expr_store.specs.NodeSets.{IsIn, Gains, NoKidIn};
 ghost use Rattle.hir_expr_store.specs.Under.{LiesUnderOther};
 
 use crate::store::ExpressionStore;
@@ -81,6 +81,17 @@ impl ExpressionStore {
             sizes,
             marks: vec![in alloc; false; sizes.exprs + sizes.pats + sizes.types]?,
         })
+    }
+
+    /// Whether no kid of a node is in the set, which is of nodes of this store. Then no node in it lies under another node.
+    ///
+    /// It takes time in the number of nodes, and no memory.
+    pub fn no_kid_is_in(&self, set: &NodeSet) -> bool
+        requires { set.now.sizes ≡ sizes_of self.now.nodes }
+        ensures { IsTrue result ↔ NoKidIn self.now.nodes set.now }
+    {
+        self.has_no_fault();
+        self.no_kid_is_marked(set.marks.as_slice())
     }
 
     /// The nodes that lie properly under one of these, which are nodes of this store.

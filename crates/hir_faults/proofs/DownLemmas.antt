@@ -1,5 +1,5 @@
 -- The value of a node is the step's, at the values of its kids.
-use Rattle.std.proofs.Common.{◌≡◌, ℕ, zero, suc, ◌<◌, List, [], ◌∷◌, Option, Some, None, refl, subst, arith, length, slice_get, Contains, inl, inr}
+use Rattle.std.proofs.Common.{◌≡◌, ℕ, zero, suc, ◌<◌, List, [], ◌∷◌, Option, refl, subst, arith, length, slice_get, Contains, inl, inr}
 use Rattle.std.proofs.lemmas.Bool.{cases_lt}
 use Rattle.std.proofs.lemmas.Option.{slice_get_past}
 use Rattle.hir_node.specs.ChildCalls.{Call, expr_calls, pat_calls, type_calls, opt, kids}

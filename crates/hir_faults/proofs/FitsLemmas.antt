@@ -1,5 +1,5 @@
 -- What fits is made of parts that fit: of a path its lists of arguments, of arguments those in their bindings, of bindings their bounds.
-use Rattle.std.proofs.Common.{◌≡◌, ℕ, ◌<◌, Bool, true, ◌&&◌, List, [], ◌∷◌, ◌++◌, Option, Some, None, zero, suc, refl, ap, sym, ◌∙◌, subst, arith, length, get_or, slice_get, Contains}
+use Rattle.std.proofs.Common.{◌≡◌, ℕ, ◌<◌, Bool, true, ◌&&◌, List, [], ◌∷◌, ◌++◌, Some, None, zero, suc, refl, ap, sym, ◌∙◌, subst, arith, length, slice_get, Contains}
 use Rattle.std.specs.Bool.{IsTrue}
 use Rattle.std.specs.List.{list_all, flat_map}
 use Rattle.std.specs.Cmp.{first_so, second_so}
@@ -13,14 +13,12 @@ use Rattle.hir_path.specs.declared.path.Path.TheVariants as path
 use Rattle.hir_path.specs.declared.bound.TypeBound.{TypeBound}
 use Rattle.hir_path.specs.declared.bound.TypeBound.TheVariants as bound
 use Rattle.hir_path.specs.declared.bound.TraitBoundModifier.{TraitBoundModifier}
-use Rattle.hir_node.specs.declared.expr.Expr.{Expr}
 use Rattle.hir_node.specs.declared.expr.Expr.TheVariants as expr
-use Rattle.hir_node.specs.declared.type_ref.TypeRef.{TypeRef}
 use Rattle.hir_node.specs.declared.type_ref.TypeRef.TheVariants as type
-use Rattle.hir_node.specs.ChildCalls.{Call, e, t, opt, arg_calls, args_calls, binding_calls, bound_calls, path_calls}
+use Rattle.hir_node.specs.ChildCalls.{Call, e, t, opt, arg_calls, args_calls, binding_calls, bound_calls}
 use Rattle.hir_node.proofs.ArgsCalls.{args_calls_is, binding_calls_is}
 use Rattle.hir_faults.specs.Sizes.{is_there}
-use Rattle.hir_faults.specs.Tested.{is_path_at, all_of, option_all, bound_paths, args_paths, binding_paths, path_paths, args_give_self, binding_gives_self, path_gives_self, self_given}
+use Rattle.hir_faults.specs.Tested.{is_path_at, all_of, option_all, bound_paths, args_paths, binding_paths, args_give_self, binding_gives_self}
 use Rattle.hir_faults.specs.Nodes.{Nodes, sizes_of}
 use Rattle.hir_faults.specs.Faults.{Rooted, rooted_fault}
 use Rattle.hir_faults.proofs.HeldLemmas.{args_paths_is, binding_paths_is, args_give_self_is, binding_gives_self_is}

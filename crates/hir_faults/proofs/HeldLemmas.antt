@@ -1,12 +1,17 @@
 -- The equations of what generic arguments name as paths, and of whether they begin with a self type.
-use Rattle.std.proofs.Common.{◌≡◌, ℕ, ◌+◌, ◌<◌, ◌≤◌, Bool, true, false, ◌&&◌, List, [], ◌∷◌, ◌++◌, Option, Some, None, zero, suc, refl, ap, sym, ◌∙◌, map, take, length, get_or, arith}
+use Rattle.std.proofs.Common.{◌≡◌, ℕ, ◌+◌, ◌<◌, ◌≤◌, Bool, true, false, ◌&&◌, List, [], ◌∷◌, ◌++◌, Option, Some, None, zero, suc, refl, ap, sym, ◌∙◌, map, take, length, get_or, subst, arith}
 use Rattle.std.specs.List.{flat_map, list_all}
+use Rattle.std.proofs.lemmas.Bool.{false≢true}
 use Rattle.std.proofs.lemmas.List.{take_all}
 use Rattle.std.proofs.lemmas.List.Folds.{list_all-append, list_all_more}
 use Rattle.hir_path.specs.declared.path.GenericArgs.{GenericArgs, out-GenericArgs, fold_out-GenericArgs}
 use Rattle.hir_path.specs.declared.path.AssociatedTypeBinding.{AssociatedTypeBinding, out-AssociatedTypeBinding, fold_out-AssociatedTypeBinding}
 use Rattle.hir_path.specs.declared.path.AssociatedTypeBinding.TheShapes.{former-AssociatedTypeBinding-args}
-use Rattle.hir_faults.specs.Tested.{bound_paths, args_paths, binding_paths, all_of, option_all, args_give_self, binding_gives_self, self_given, binding_paths_layer, args_paths_layer, binding_self_layer, args_self_layer}
+use Rattle.hir_path.specs.declared.path.Path.{Path}
+use Rattle.hir_path.specs.declared.path.Path.TheVariants as path
+use Rattle.hir_path.specs.declared.bound.TypeBound.{TypeBound}
+use Rattle.hir_faults.specs.Holds.{may_have_args, IsFine}
+use Rattle.hir_faults.specs.Tested.{Held, bound_paths, args_paths, binding_paths, all_of, option_all, args_give_self, binding_gives_self, self_given, binding_paths_layer, args_paths_layer, binding_self_layer, args_self_layer}
 
 flat_map_of_map : {X A : Type 0} (f : X → List A) (xs : List X) → flat_map (λ piece. piece) (map f xs) ≡ flat_map f xs
 flat_map_of_map f [] = refl
@@ -65,3 +70,15 @@ all_more p xs i x lt is h k = list_all_more p xs i x lt ∙ (rw (h, ← is) k)
 
 pub all_done : {X : Type 0} (p : X → Bool) (xs : List X) (i : ℕ) → length xs ≤ i → list_all p (take i xs) ≡ true → true ≡ list_all p xs
 all_done p xs i le h = sym (rw (take_all i xs le) at h)
+
+-- where there are no generic arguments and no bounds, nothing can be at fault
+path_is_fine : (p : Option Path) → may_have_args p ≡ false → IsFine record { path = p; args = None; bounds = [] }
+path_is_fine None h = record { paths = λ types. refl; gives_self = refl; lists_fit = refl }
+path_is_fine (Some (path.BarePath mod_path)) h = record { paths = λ types. refl; gives_self = refl; lists_fit = refl }
+path_is_fine (Some (path.Normal normal)) h = absurd (false≢true (sym h))
+path_is_fine (Some (path.LangItem target name)) h = record { paths = λ types. refl; gives_self = refl; lists_fit = refl }
+
+pub plain_is_fine : (h : Held) → may_have_args h.path ≡ false → h.args ≡ None → h.bounds ≡ [] → IsFine h
+plain_is_fine h p a b =
+    subst (λ (args : Option GenericArgs). IsFine record { path = h.path; args = args; bounds = h.bounds }) (sym a)
+    (subst (λ (bounds : List TypeBound). IsFine record { path = h.path; args = None; bounds = bounds }) (sym b) (path_is_fine h.path p))

@@ -1,9 +1,11 @@
 pub mod HeldLemmas
 pub mod RangeLemmas
 pub mod RowLemmas
+pub mod EdgeLemmas
 pub mod FaultLemmas
 pub mod SoundLemmas
 pub mod DownLemmas
 pub mod PathFits
 pub mod FirstFaultLemmas
 pub mod FitsLemmas
+pub mod UnmarkedLemmas

@@ -8,11 +8,11 @@ use Rattle.hir_faults.specs.declared.range.InRange.{InRange}
 use Rattle.hir_faults.specs.Sizes.{is_there}
 use Rattle.hir_faults.specs.Ranges.{Tests}
 
-and_true : (b : Bool) → b ≡ (b && true)
+pub and_true : (b : Bool) → b ≡ (b && true)
 and_true true = refl
 and_true false = refl
 
-and_assoc : (a b c : Bool) → ((a && b) && c) ≡ (a && (b && c))
+pub and_assoc : (a b c : Bool) → ((a && b) && c) ≡ (a && (b && c))
 and_assoc true b c = refl
 and_assoc false b c = refl
 

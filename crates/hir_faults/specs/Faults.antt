@@ -1,5 +1,5 @@
 -- The first fault of nodes with their roots.
-use Rattle.std.specs.Prelude.{◌≡◌, ℕ, List, [], Option, None, IsTrue, true, length, map, slice_index_or}
+use Rattle.std.specs.Prelude.{ℕ, List, [], Option, None, IsTrue, true, length, map, slice_index_or}
 use Rattle.hir_node.specs.declared.type_ref.TypeRef.{TypeRef}
 use Rattle.hir_forest.specs.declared.roots.Ends.{Ends}
 use Rattle.hir_forest.specs.declared.roots.Root.{Root}

@@ -1,21 +1,23 @@
 //! The first fault of nodes with their roots.
 
-ghost use Rattle.std.specs.Prelude.{◌≡◌, ◌+◌, ◌<◌, ◌≤◌, nat_lt, length, map, IfOk, None};
+ghost use Rattle.std.specs.Prelude.{◌≡◌, ◌+◌, ◌<◌, ◌≤◌, [], ◌∷◌, nat_lt, true, None, length, map, IfNone, IfOk, IsTrue};
 ghost use Rattle.std.specs.Option.{option_to_list};
 ghost use Rattle.std.specs.List.{list_all};
 ghost use Rattle.hir_forest.specs.Faults.{IsWithin};
+ghost use Rattle.hir_forest.specs.Parents.{IsParentageOf};
 ghost use Rattle.hir_faults.specs.Faults.{nodes_in, node_fault, first_of, first_bad_node, told, graph_fault, rooted_fault};
-ghost use Rattle.hir_faults.specs.Nodes.{sizes_of};
+ghost use Rattle.hir_faults.specs.Nodes.{sizes_of, graph};
+ghost use Rattle.hir_faults.specs.Edges.{CanVisit, Visited, all_tested};
 ghost use Rattle.hir_faults.specs.Tested.{names_there};
-ghost use Rattle.hir_faults.specs.Sizes.{Few, node_at};
+ghost use Rattle.hir_faults.specs.Sizes.{Few, is_there, node_at};
 
+use crate::edges::EdgeVisitor;
 use crate::fault::FinishFault;
 use crate::nodes::NodeSlices;
-use crate::range::calls_there;
 use crate::sizes::Sizes;
 use crate::tested::TestedNode;
 use hir_base::{Idx, MOST_ITEMS};
-use hir_forest::{ForestFault, Root, first_fault};
+use hir_forest::{ForestFault, Parents, Root};
 use hir_node::{ExprId, NodeId, PatId, TypeRef, TypeRefId};
 use std::alloc::{AllocError, Global};
 
@@ -29,28 +31,15 @@ fn is_below<K>(id: Option<Idx<K>>, count: usize) -> bool
     }
 }
 
-/// Whether each id that the node names is there.
-fn names_there<N: TestedNode>(node: &N, sizes: Sizes) -> bool
-    ensures { result ≡ names_there sizes (N.tested node.now) }
+/// The first fault of one node whose ids are all there.
+fn other_fault<N: TestedNode>(node: &N, id: NodeId, types: &[TypeRef]) -> Option<FinishFault>
+    ensures { (sizes : Sizes) → names_there sizes (N.tested node.now) ≡ true
+        → node_fault sizes types.now id (N.tested node.now) result }
 {
-    calls_there(node, sizes)
-        && is_below(node.binding(), sizes.bindings)
-        && is_below(node.label(), sizes.labels)
-}
-
-/// The first fault of one node.
-fn fault_of<N: TestedNode>(
-    node: &N,
-    id: NodeId,
-    sizes: Sizes,
-    types: &[TypeRef],
-) -> Option<FinishFault>
-    ensures { node_fault sizes types.now id (N.tested node.now) result }
-{
-    if !names_there(node, sizes) {
-        return Some(FinishFault::IdOutOfRange(id));
-    }
     let held = node.held();
+    if held.is_plain() && node.returns() {
+        return None;
+    }
     if !held.names_paths(types) {
         return Some(FinishFault::NotAPath(id));
     }
@@ -66,13 +55,59 @@ fn fault_of<N: TestedNode>(
     None
 }
 
+/// Visits one node: whether each id that it passes to a visitor is there.
+fn calls_there<N: TestedNode>(node: &N, visitor: &mut EdgeVisitor) -> bool
+    requires { CanVisit visitor.old 1 }
+    ensures there { result ≡ list_all (is_there visitor.old.sizes) (N.tested node.now).calls }
+    ensures sizes { visitor.new.sizes ≡ visitor.old.sizes }
+    ensures visited { IsTrue result → Visited visitor.old (N.tested node.now ∷ []) visitor.new }
+{
+    visitor.parents.begin_row();
+    node.visit(visitor);
+    visitor.all_there
+}
+
+/// Visits one node: whether each id that it names is there.
+fn names_there<N: TestedNode>(node: &N, visitor: &mut EdgeVisitor) -> bool
+    requires { CanVisit visitor.old 1 }
+    ensures there { result ≡ names_there visitor.old.sizes (N.tested node.now) }
+    ensures visited { IsTrue result → Visited visitor.old (N.tested node.now ∷ []) visitor.new }
+{
+    calls_there(node, visitor)
+        && is_below(node.binding(), visitor.sizes.bindings)
+        && is_below(node.label(), visitor.sizes.labels)
+}
+
+/// The first fault of one node.
+fn fault_of<N: TestedNode>(
+    node: &N,
+    id: NodeId,
+    types: &[TypeRef],
+    visitor: &mut EdgeVisitor,
+) -> Option<FinishFault>
+    requires { CanVisit visitor.old 1 }
+    ensures fault { node_fault visitor.old.sizes types.now id (N.tested node.now) result }
+    ensures visited { IfNone result (Visited visitor.old (N.tested node.now ∷ []) visitor.new) }
+{
+    if !names_there(node, visitor) {
+        return Some(FinishFault::IdOutOfRange(id));
+    }
+    other_fault(node, id, types)
+}
+
 /// The first fault of nodes of one sort.
-fn first_of<N: TestedNode>(nodes: &[N], sizes: Sizes, types: &[TypeRef]) -> Option<FinishFault>
-    requires { length nodes.now ≤ MOST_ITEMS }
-    ensures { first_of sizes types.now N.name (map N.tested nodes.now) result }
+fn first_of<N: TestedNode>(
+    nodes: &[N],
+    types: &[TypeRef],
+    visitor: &mut EdgeVisitor,
+) -> Option<FinishFault>
+    requires few { length nodes.now ≤ MOST_ITEMS }
+    requires room { CanVisit visitor.old (length nodes.now) }
+    ensures fault { first_of visitor.old.sizes types.now N.name (map N.tested nodes.now) result }
+    ensures visited { IfNone result (Visited visitor.old (map N.tested nodes.now) visitor.new) }
 {
     for (i, node) in nodes.iter().enumerate() {
-        if let Some(fault) = fault_of(node, N::name(i as u32), sizes, types) {
+        if let Some(fault) = fault_of(node, N::name(i as u32), types, visitor) {
             return Some(fault);
         }
     }
@@ -111,32 +146,35 @@ fn tell(sizes: Sizes, roots: usize, fault: ForestFault) -> FinishFault
 }
 
 /// The first fault of a single node: of an expression, then of a pattern, then of a type.
-fn first_bad_node(nodes: &NodeSlices<'_>) -> Option<FinishFault>
-    requires { Few (sizes_of (nodes_in nodes.now)) }
-    ensures { first_bad_node (nodes_in nodes.now) result }
+fn first_bad_node(nodes: &NodeSlices<'_>, visitor: &mut EdgeVisitor) -> Option<FinishFault>
+    requires sizes { visitor.old.sizes ≡ sizes_of (nodes_in nodes.now) }
+    requires room { CanVisit visitor.old (length (all_tested (nodes_in nodes.now))) }
+    ensures fault { first_bad_node (nodes_in nodes.now) result }
+    ensures visited { IfNone result (Visited visitor.old (all_tested (nodes_in nodes.now)) visitor.new) }
 {
-    let sizes = nodes.sizes();
-    if let Some(fault) = first_of(nodes.exprs, sizes, nodes.types) {
+    if let Some(fault) = first_of(nodes.exprs, nodes.types, visitor) {
         return Some(fault);
     }
-    if let Some(fault) = first_of(nodes.pats, sizes, nodes.types) {
+    if let Some(fault) = first_of(nodes.pats, nodes.types, visitor) {
         return Some(fault);
     }
-    first_of(nodes.types, sizes, nodes.types)
+    first_of(nodes.types, nodes.types, visitor)
 }
 
-/// The first fault of the graph and the roots.
+/// The first fault of the graph and the roots, where the parents of all nodes are known.
 fn first_graph_fault(
     alloc: Global,
     nodes: &NodeSlices<'_>,
+    parents: &Parents,
     roots: &[Root],
 ) -> Result<Option<FinishFault>, AllocError>
     requires few { Few (sizes_of (nodes_in nodes.now)) }
     requires nodes { first_bad_node (nodes_in nodes.now) None }
+    requires parents { IsParentageOf (graph (nodes_in nodes.now)) parents.now }
+    requires rows { parents.now.rows ≡ length parents.now.parents }
     ensures { IfOk result (graph_fault record { nodes = nodes_in nodes.now; roots = roots.now }) }
 {
-    let rows = nodes.rows(alloc)?;
-    match first_fault(alloc, &rows, nodes.ends(), roots)? {
+    match parents.first_fault(alloc, nodes.ends(), roots)? {
         Some(fault) => Ok(Some(tell(nodes.sizes(), roots.len(), fault))),
         None => Ok(None),
     }
@@ -154,8 +192,14 @@ pub fn first_fault_of(
     requires { Few (sizes_of (nodes_in nodes.now)) }
     ensures { IfOk result (rooted_fault record { nodes = nodes_in nodes.now; roots = roots.now }) }
 {
-    if let Some(fault) = first_bad_node(nodes) {
+    let sizes = nodes.sizes();
+    let mut visitor = EdgeVisitor {
+        sizes,
+        parents: Parents::new(alloc, sizes.exprs + sizes.pats + sizes.types)?,
+        all_there: true,
+    };
+    if let Some(fault) = first_bad_node(nodes, &mut visitor) {
         return Ok(Some(fault));
     }
-    first_graph_fault(alloc, nodes, roots)
+    first_graph_fault(alloc, nodes, &visitor.parents, roots)
 }

@@ -1,11 +1,11 @@
 //! What a node holds that has to be right in itself: a path, generic arguments, bounds.
 //! The tests of generic arguments recurse into the arguments of associated type bindings, as deep as these are nested.
 
-ghost use Rattle.std.specs.Prelude.{◌≡◌, flat_map};
+ghost use Rattle.std.specs.Prelude.{◌≡◌, flat_map, IsTrue};
 ghost use Rattle.std.specs.Option.{option_copied};
 ghost use Rattle.std.specs.List.{list_all};
 ghost use Rattle.hir_faults.specs.Tested.{path_of, is_path_at, bound_paths, args_paths, binding_paths, args_give_self, binding_gives_self, self_given, all_of, option_all, path_paths, path_gives_self, one_list_each, names_paths, gives_self, lists_fit};
-ghost use Rattle.hir_faults.specs.Holds.{held_of};
+ghost use Rattle.hir_faults.specs.Holds.{held_of, may_have_args, IsFine};
 
 use hir_node::{AssociatedTypeBinding, GenericArg, GenericArgs, Path, PathId, TypeBound, TypeRef};
 
@@ -199,7 +199,30 @@ pub(crate) fn one_list_each(path: &Path) -> bool
     }
 }
 
+/// Whether the path, if there is one, may have generic arguments: only a `Normal` path may.
+fn may_have_args(path: Option<&Path>) -> bool
+    ensures { result ≡ may_have_args (option_copied path.entry) }
+{
+    match path {
+        Some(path) => match path {
+            Path::Normal(_) => true,
+            Path::BarePath(_) | Path::LangItem(_, _) => false,
+        },
+        None => false,
+    }
+}
+
 impl Holds<'_> {
+    /// Whether nothing in it can be at fault: no `Normal` path, no generic arguments and no bounds.
+    pub fn is_plain(&self) -> bool
+        ensures { IsTrue result → IsFine (held_of self.now) }
+    {
+        if may_have_args(self.path) {
+            return false;
+        }
+        self.args.is_none() && self.bounds.is_empty()
+    }
+
     /// Whether each type that is named as a path is one.
     pub fn names_paths(&self, types: &[TypeRef]) -> bool
         ensures { result ≡ names_paths types.now (held_of self.now) }

@@ -2,6 +2,7 @@
 //! A store's nodes have none. Here are the faults, the search for the first one, and the tests that a store also has.
 #![tactic(auto)]
 
+mod edges;
 mod fault;
 mod first_fault;
 mod held;
@@ -10,6 +11,7 @@ mod range;
 mod rows;
 mod sizes;
 mod tested;
+mod unmarked;
 
 pub use fault::FinishFault;
 pub use first_fault::first_fault_of;

@@ -7,7 +7,6 @@ ghost use Rattle.hir_faults.specs.Ranges.{Tests};
 ghost use Rattle.hir_node.specs.ChildCalls.{bound_calls, path_calls};
 
 use crate::sizes::Sizes;
-use crate::tested::TestedNode;
 use hir_node::{
     ExprId, LifetimeRefId, PatId, Path, StoreVisitor, StoreVisitorExt, TypeBound, TypeRefId,
 };
@@ -41,15 +40,6 @@ impl StoreVisitor for InRange {
     fn on_lifetime(&mut self, id: LifetimeRefId) {
         self.holds = self.holds && (id.into_raw() as usize) < self.sizes.lifetimes;
     }
-}
-
-/// Whether each id that the node passes to a visitor is there.
-pub(crate) fn calls_there<N: TestedNode>(node: &N, sizes: Sizes) -> bool
-    ensures { result ≡ list_all (is_there sizes) (N.tested node.now).calls }
-{
-    let mut ids = InRange { sizes, holds: true };
-    node.visit(&mut ids);
-    ids.holds
 }
 
 /// Whether each id that the path passes to a visitor is there.

@@ -1,46 +1,24 @@
 -- The parts of the first fault, that one answer at most is right, and what a fault names.
-use Rattle.std.proofs.Common.{ℕ, suc, ◌<◌, ◌↔◌, Option, Some, None, List, length, take, inl, inr, ⊎_elim, sym, subst, All, Contains, slice_index}
+use Rattle.std.proofs.Common.{ℕ, ◌<◌, Option, Some, None, List, length, inl, ⊎_elim, sym, subst, All}
 use Rattle.std.specs.List.{concat}
 use Rattle.hir_forest.specs.declared.roots.Ends.{Ends}
 use Rattle.hir_forest.specs.declared.roots.Root.{Root}
 use Rattle.hir_forest.specs.declared.roots.ForestFault.{ForestFault}
 use Rattle.hir_forest.specs.declared.roots.ForestFault.TheVariants.{RootOutOfRange, RootRepeated, RootUnderRoot, RootEnds}
-use Rattle.hir_forest.specs.Verdict.{◌unless◌, ◌before◌, first_below}
+use Rattle.hir_forest.specs.Verdict.{◌before◌, first_below}
 use Rattle.hir_forest.specs.Forest.{ChainEnds}
-use Rattle.hir_forest.specs.Faults.{LiesUnderRoot, root_nodes, EndsFit, ends_before, edge_fault, cycle_fault, root_fault, forest_fault, IsWithin}
-use Rattle.hir_forest.proofs.VerdictLemmas.{IsOne, unless-same, before-same, before-first, unless-one, before-one, first_below-one}
+use Rattle.hir_forest.specs.Faults.{LiesUnderRoot, root_nodes, edge_fault, cycle_fault, root_fault, forest_fault, IsWithin}
+use Rattle.hir_forest.proofs.VerdictLemmas.{IsOne, before-second, unless-one, before-one, first_below-one}
 
-module _ (U V : ℕ → Type 0) (lengths : Ends) (roots : List Root) (same : (c : ℕ) → c < lengths.exprs → U c ↔ V c) (i : ℕ) where
-  pub root_fault-same : (a : Option ForestFault) → root_fault U lengths roots i a → root_fault V lengths roots i a
-  root_fault-same a h =
-      before-same
-      (RootOutOfRange i unless (slice_index (root_nodes roots) i < lengths.exprs))
-      ((RootRepeated i unless (Contains (take i (root_nodes roots)) (slice_index (root_nodes roots) i) → ⊥)) before (RootUnderRoot i unless (U (slice_index (root_nodes roots) i) → ⊥)) before (RootEnds i unless EndsFit lengths (ends_before roots i) (ends_before roots (suc i))))
-      ((RootRepeated i unless (Contains (take i (root_nodes roots)) (slice_index (root_nodes roots) i) → ⊥)) before (RootUnderRoot i unless (V (slice_index (root_nodes roots) i) → ⊥)) before (RootEnds i unless EndsFit lengths (ends_before roots i) (ends_before roots (suc i))))
-      (λ low. before-same
-      (RootRepeated i unless (Contains (take i (root_nodes roots)) (slice_index (root_nodes roots) i) → ⊥))
-      ((RootUnderRoot i unless (U (slice_index (root_nodes roots) i) → ⊥)) before (RootEnds i unless EndsFit lengths (ends_before roots i) (ends_before roots (suc i))))
-      ((RootUnderRoot i unless (V (slice_index (root_nodes roots) i) → ⊥)) before (RootEnds i unless EndsFit lengths (ends_before roots i) (ends_before roots (suc i))))
-      (λ new. before-first
-      (RootUnderRoot i unless (U (slice_index (root_nodes roots) i) → ⊥))
-      (RootUnderRoot i unless (V (slice_index (root_nodes roots) i) → ⊥))
-      (RootEnds i unless EndsFit lengths (ends_before roots i) (ends_before roots (suc i)))
-      (unless-same (RootUnderRoot i) (U (slice_index (root_nodes roots) i) → ⊥) (V (slice_index (root_nodes roots) i) → ⊥)
-      (let e = same (slice_index (root_nodes roots) i) low in (λ n v. n (e.1 v), λ n u. n (e.0 u))))))
-      a h
-
-pub shared_fault : (g : List (List ℕ)) (lengths : Ends) (roots : List Root) (f : ForestFault) → first_below (length (concat g)) (edge_fault (concat g)) (Some f) → forest_fault g lengths roots (Some f)
+pub shared_fault-first : (g : List (List ℕ)) (lengths : Ends) (roots : List Root) (f : ForestFault) → first_below (length (concat g)) (edge_fault (concat g)) (Some f) → forest_fault g lengths roots (Some f)
 unfolding forest_fault
-shared_fault g lengths roots f h = inl h
+shared_fault-first g lengths roots f h = inl h
 
-pub cycle_fault-first : (g : List (List ℕ)) (lengths : Ends) (roots : List Root) (f : ForestFault) → first_below (length (concat g)) (edge_fault (concat g)) None → first_below (length g) (cycle_fault (ChainEnds g)) (Some f) → forest_fault g lengths roots (Some f)
+pub later_fault : (g : List (List ℕ)) (lengths : Ends) (roots : List Root) → first_below (length (concat g)) (edge_fault (concat g)) None → (a : Option ForestFault)
+    → (first_below (length g) (cycle_fault (ChainEnds g)) before first_below (length roots) (root_fault (LiesUnderRoot g lengths.exprs (root_nodes roots)) lengths roots)) a → forest_fault g lengths roots a
 unfolding forest_fault
-cycle_fault-first g lengths roots f s h = inr (s, inl h)
-
-pub roots_fault : (g : List (List ℕ)) (lengths : Ends) (roots : List Root) → first_below (length (concat g)) (edge_fault (concat g)) None → first_below (length g) (cycle_fault (ChainEnds g)) None → (a : Option ForestFault) → first_below (length roots) (root_fault (LiesUnderRoot g lengths.exprs (root_nodes roots)) lengths roots) a → forest_fault g lengths roots a
-unfolding forest_fault
-roots_fault g lengths roots s t None h = (s, (t, h))
-roots_fault g lengths roots s t (Some f) h = inr (s, inr (t, h))
+later_fault g lengths roots none a h =
+    before-second (first_below (length (concat g)) (edge_fault (concat g))) (first_below (length g) (cycle_fault (ChainEnds g)) before first_below (length roots) (root_fault (LiesUnderRoot g lengths.exprs (root_nodes roots)) lengths roots)) none a h
 
 root_fault-one : (U : ℕ → Type 0) (lengths : Ends) (roots : List Root) (i : ℕ) → IsOne (root_fault U lengths roots i)
 root_fault-one U lengths roots i =

@@ -67,13 +67,13 @@ chain_apart g one (suc k) c t x top zero (suc j) d h l =
     omega (arith, on.1))
 chain_apart g one (suc k) c t x top (suc i) (suc j) d h l = chain_apart g one k x.0 t x.2 top i j d (omega arith) (omega arith)
 
-chain_short : (g : List (List ℕ)) → HasOneParent g → (k c t : ℕ) → Climbs g k c t → IsTop g t → c < length g → k < length g
+pub chain_short : (g : List (List ℕ)) → HasOneParent g → (k c t : ℕ) → Climbs g k c t → IsTop g t → c < length g → k < length g
 chain_short g one k c t x top h =
     let n = length-chain g k c t x in
     let m = length-le_from_distinct_below (chain g k c t x) (length g) (IsDistinct-from_apart eqb (chain g k c t x) (chain_apart g one k c t x top)) (λ q f. chain_within g k c t x h q (Contains-from_any eqb-true q (chain g k c t x) f)) in
     omega arith
 
-join : (g : List (List ℕ)) (j k a b c : ℕ) → Climbs g j a b → Climbs g k b c → Climbs g (j + k) a c
+pub join : (g : List (List ℕ)) (j k a b c : ℕ) → Climbs g j a b → Climbs g k b c → Climbs g (j + k) a c
 join g zero k a b c x y = rw zero-add (subst (λ (n : ℕ). Climbs g k n c) (sym x) y)
 join g (suc j) k a b c x y = rw suc-add (x.0, x.1, join g j k x.0 b c x.2 y)
 
@@ -89,7 +89,7 @@ climb_short g f k c p x h =
     omega arith
 
 -- a way down, step by step from above
-extend : (g : List (List ℕ)) (k c p q : ℕ) → Climbs g k c p → IsKid g q p → Climbs g (suc k) c q
+pub extend : (g : List (List ℕ)) (k c p q : ℕ) → Climbs g k c p → IsKid g q p → Climbs g (suc k) c q
 extend g zero c p q x e = (q, subst (IsKid g q) (sym x) e, refl)
 extend g (suc k) c p q x e = (x.0, x.1, extend g k x.0 p q x.2 e)
 

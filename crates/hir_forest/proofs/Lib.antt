@@ -5,3 +5,5 @@ pub mod WalkLemmas
 pub mod VerdictLemmas
 pub mod FaultLemmas
 pub mod HeightLemmas
+pub mod ParentLemmas
+pub mod ChainLemmas

@@ -1,6 +1,6 @@
 -- Tables of marks, one step of the walk, and the list of roots as far as it has been read.
 use Rattle.std.proofs.Common.{◌≡◌, ℕ, suc, ◌+◌, ◌<◌, ◌≤◌, ◌⊎◌, ◌↔◌, Bool, true, false, not, cond, List, [], ◌∷◌, ◌++◌, length, get_or, set, take, inl, inr, ⊎_elim, refl, ap, sym, ◌∙◌, subst, arith, add-one, Contains}
-use Rattle.std.proofs.lemmas.List.{take_more, get_or_default, get_or-set_same, get_or-set_other, length-set, length_push, length-map, take-map, get_or-map}
+use Rattle.std.proofs.lemmas.List.{take_more, get_or-set_same, get_or-set_other, length-set, length_push, length-map, take-map, get_or-map}
 use Rattle.std.proofs.lemmas.List.Elements.{Contains-push, Contains-push_cases, Contains-append_left}
 use Rattle.std.proofs.lemmas.Bool.{cases_eq, false≢true}
 use Rattle.std.proofs.lemmas.List.Sums.{sum_by-set}
@@ -8,7 +8,7 @@ use Rattle.hir_forest.specs.declared.roots.Root.{Root}
 use Rattle.hir_forest.specs.declared.roots.Ends.{Ends}
 use Rattle.hir_forest.specs.Faults.{root_nodes, ends_before, no_ends, EndsFit}
 use Rattle.hir_forest.specs.Forest.{Marks, MarksAll}
-use Rattle.hir_forest.specs.Walk.{MarksRoots, Reach, Meets}
+use Rattle.hir_forest.specs.Walk.{Reach, Meets}
 
 -- a table with one more mark
 pub Marks-set : (table : List Bool) (k c : ℕ) → k < length table → Marks (set table k true) c → Marks table c ⊎ (k ≡ c)
@@ -137,48 +137,6 @@ module _ (table : List Bool) (roots : List Root) (i limit : ℕ) (r : Root) (in'
 pub root_node_is : (roots : List Root) (i : ℕ) (r : Root) → i < length roots → get_or (root_nodes roots) i 0 ≡ (get_or roots i r).node
 root_node_is roots i r h = get_or-map (λ (x : Root). x.node) roots i r 0 h
 
--- the table marks the listed roots below limit that are none of the first i
-abbrev pub MarksToCome : List Bool → ℕ → List ℕ → ℕ → Type 0
-MarksToCome table limit roots i = (c : ℕ) → Marks table c ↔ (Contains roots c × (c < limit) × (Contains (take i roots) c → ⊥))
-
-pub to_come-start : (table : List Bool) (limit : ℕ) (roots : List ℕ) → MarksRoots table limit roots → MarksToCome table limit roots 0
-to_come-start table limit roots m c = (λ a. let k = (m c).0 a in (k.0, k.1, λ h. omega (arith, h.1)), λ a. (m c).1 (a.0, a.1))
-
--- a table with one mark less
-Marks-cleared : (table : List Bool) (k c : ℕ) → k < length table → Marks (set table k false) c → Marks table c × (k ≡ c → ⊥)
-Marks-cleared table k c h m =
-    elim (cases_eq c k) [
-      | inl e ↦ absurd (false≢true (sym (get_or-set_same table k false false h) ∙ subst (λ (n : ℕ). get_or (set table k false) n false ≡ true) e m))
-      | inr ne ↦ (rw get_or-set_other at m, λ e. ne (sym e))
-    ]
-
-Marks-left : (table : List Bool) (k c : ℕ) → (k ≡ c → ⊥) → Marks table c → Marks (set table k false) c
-Marks-left table k c ne m = get_or-set_other table k c false false (λ e. ne (sym e)) ∙ m
-
-module _ (table : List Bool) (limit : ℕ) (roots : List Root) (i : ℕ) (r : Root) (in' : i < length roots) (low : (get_or roots i r).node < limit) (m : MarksToCome table limit (root_nodes roots) i) where
-  listed_in : i < length (root_nodes roots)
-  listed_in = omega (arith, length-map roots (λ (x : Root). x.node))
-
-  listed_is : get_or (root_nodes roots) i 0 ≡ (get_or roots i r).node
-  listed_is = root_node_is roots i r in'
-
-  -- the root that has come is marked where it was not listed before, and only there
-  pub come_once : Marks table (get_or roots i r).node → Contains (take i (root_nodes roots)) (get_or (root_nodes roots) i 0) → ⊥
-  come_once h again = ((m (get_or roots i r).node).0 h).2 (subst (Contains (take i (root_nodes roots))) listed_is again)
-
-  pub come_again : get_or table (get_or roots i r).node false ≡ false → (Contains (take i (root_nodes roots)) (get_or (root_nodes roots) i 0) → ⊥) → ⊥
-  come_again h new =
-      let here : Contains (root_nodes roots) (get_or roots i r).node = (i, listed_in, get_or_default (root_nodes roots) i (get_or roots i r).node 0 listed_in ∙ listed_is) in
-      false≢true (sym h ∙ (m (get_or roots i r).node).1 (here, low, λ again. new (subst (Contains (take i (root_nodes roots))) (sym listed_is) again)))
-
-  pub to_come-less : (get_or roots i r).node < length table → MarksToCome (set table (get_or roots i r).node false) limit (root_nodes roots) (i + 1)
-  to_come-less fits c = (
-    λ n. let d = Marks-cleared table (get_or roots i r).node c fits n in let k = (m c).0 d.0 in
-        (k.0, k.1, λ again. ⊎_elim k.2 (λ e. d.1 (sym listed_is ∙ e)) (contains_more (root_nodes roots) i c listed_in again)),
-    λ p. Marks-left table (get_or roots i r).node c (λ e. p.2 (contains_last (root_nodes roots) i c listed_in (listed_is ∙ e)))
-        ((m c).1 (p.0, p.1, λ h. p.2 (contains_earlier (root_nodes roots) i c listed_in h))),
-  )
-
 pub ends_more : (roots : List Root) (i : ℕ) (r : Root) → i < length roots → (get_or roots i r).ends ≡ ends_before roots (i + 1)
 ends_more roots i r h = rw add-one (sym (get_or-map (λ (x : Root). x.ends) roots i r no_ends h))
 
@@ -186,3 +144,8 @@ pub fits_at : (lengths earlier : Ends) (roots : List Root) (i : ℕ) (r : Root) 
 fits_at lengths earlier roots i r h e f =
     let here : (get_or roots i r).ends ≡ ends_before roots (suc i) = sym (get_or-map (λ (x : Root). x.ends) roots i r no_ends h) in
     subst (λ (x : Ends). EndsFit lengths x (ends_before roots (suc i))) e (subst (λ (x : Ends). EndsFit lengths earlier x) here f)
+
+pub unfit_at : (lengths earlier : Ends) (roots : List Root) (i : ℕ) (r : Root) → i < length roots → earlier ≡ ends_before roots i → EndsFit lengths (ends_before roots i) (ends_before roots (suc i)) → EndsFit lengths earlier (get_or roots i r).ends
+unfit_at lengths earlier roots i r h e f =
+    let here : (get_or roots i r).ends ≡ ends_before roots (suc i) = sym (get_or-map (λ (x : Root). x.ends) roots i r no_ends h) in
+    subst (λ (x : Ends). EndsFit lengths x (get_or roots i r).ends) (sym e) (subst (λ (x : Ends). EndsFit lengths (ends_before roots i) x) (sym here) f)

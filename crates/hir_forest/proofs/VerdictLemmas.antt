@@ -20,6 +20,10 @@ pub before-first : {F : Type 0} (v w x : Option F → Type 0) → ((a : Option F
 before-first v w x t None h = (t None h.0, h.1)
 before-first v w x t (Some f) h = ⊎_elim (λ k. inl (t (Some f) k)) (λ k. inr (t None k.0, k.1)) h
 
+pub before-second : {F : Type 0} (v w : Option F → Type 0) → v None → (a : Option F) → w a → (v before w) a
+before-second v w n None h = (n, h)
+before-second v w n (Some f) h = inr (n, h)
+
 -- a verdict has one answer at most
 abbrev pub IsOne : {F : Type 0} → (Option F → Type 0) → Type 0
 IsOne v = (a b : Option _) → v a → v b → a ≡ b

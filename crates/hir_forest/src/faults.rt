@@ -1,32 +1,20 @@
-//! The first fault of a graph and its roots: shared children by one pass over the edges,
-//! then cycles by the walk down, then the roots by one pass over their list.
+//! The first fault of a graph and its roots: shared children show while the parents are noted, cycles and roots by climbing from parent
+//! to parent.
 
-ghost use Rattle.std.specs.Prelude.{◌≡◌, ℕ, ◌<◌, ◌≤◌, ◌↔◌, [], length, map, not, IfOk, IfNone, Contains, All};
+ghost use Rattle.std.specs.Prelude.{◌≡◌, ℕ, ◌<◌, ◌≤◌, ◌↔◌, List, [], length, IfOk, Contains, All};
 ghost use Rattle.std.specs.List.{concat};
-ghost use Rattle.hir_forest.specs.Verdict.{first_below};
-ghost use Rattle.hir_forest.specs.Forest.{Marks, MarksAll};
-ghost use Rattle.hir_forest.specs.Faults.{edge_fault, cycle_fault, root_fault, forest_fault, root_nodes};
+ghost use Rattle.hir_forest.specs.Verdict.{◌before◌, first_below};
+ghost use Rattle.hir_forest.specs.Forest.{ChainEnds, Marks, MarksAll};
+ghost use Rattle.hir_forest.specs.Faults.{LiesUnderRoot, cycle_fault, root_fault, forest_fault, root_nodes};
+ghost use Rattle.hir_forest.specs.Parents.{HasParents, IsParentageOf};
 ghost use Rattle.hir_forest.specs.Walk.{MarksRoots};
 
-use crate::walk::Walk;
+use crate::chains::{first_cycle, is_under};
+use crate::parent_table::ParentTable;
+use crate::parents::{Parents, parents_of};
 use crate::{Ends, ForestFault, Root, Rows};
 use std::alloc::{AllocError, Global};
-
-/// Marks each child. A child that is already marked is a fault.
-fn mark_children(children: &[usize], marked: &mut [bool]) -> Option<ForestFault>
-    requires within { All (λ c. c < length marked.old) children.now }
-    requires unmarked { MarksAll marked.old [] }
-    ensures fault { first_below (length children.now) (edge_fault children.now) result }
-    ensures marked { IfNone result (MarksAll marked.new children.now) }
-{
-    for child in children {
-        if marked[*child] {
-            return Some(ForestFault::SharedChild(*child));
-        }
-        marked[*child] = true;
-    }
-    None
-}
+use std::mem::drop;
 
 /// Marks each root that may be one.
 fn mark_roots(limit: u32, roots: &[Root], marked: &mut [bool])
@@ -41,30 +29,26 @@ fn mark_roots(limit: u32, roots: &[Root], marked: &mut [bool])
     }
 }
 
-/// The least node that is not met.
-fn first_unmet(unmet: &[bool]) -> Option<ForestFault>
-    ensures { first_below (length unmet.now) (cycle_fault (Marks (map not unmet.now))) result }
-{
-    for (node, is_unmet) in unmet.iter().enumerate() {
-        if *is_unmet {
-            return Some(ForestFault::Cycle(node));
-        }
-    }
-    None
-}
-
-/// The first fault of a root, where the nodes under a listed root are known. The roots that are still
-/// to come are marked at the start, and each mark is removed when its root comes.
+/// The first fault of a root in a forest whose listed roots are known.
 fn first_root_fault(
     lengths: Ends,
     roots: &[Root],
-    under: &[bool],
-    to_come: &mut [bool],
+    parents: &ParentTable,
+    listed: &[bool],
+    came: &mut [bool],
+    clear: &mut [bool],
 ) -> Option<ForestFault>
-    requires known { lengths.exprs ≤ length under.now }
-    requires within { lengths.exprs ≤ length to_come.old }
-    requires listed { MarksRoots to_come.old lengths.exprs (root_nodes roots.now) }
-    ensures { first_below (length roots.now) (root_fault (Marks under.now) lengths roots.now) result }
+    requires exprs { lengths.exprs ≤ length parents.now }
+    requires listed_nodes { length listed.now ≡ length parents.now }
+    requires came_nodes { length came.old ≡ lengths.exprs }
+    requires clear_nodes { length clear.old ≡ length parents.now }
+    requires listed { MarksRoots listed.now lengths.exprs (root_nodes roots.now) }
+    requires came { MarksAll came.old [] }
+    requires clear { MarksAll clear.old [] }
+    ensures { (g : List (List ℕ)) → HasParents g parents.now
+        → ((n : ℕ) → n < length g → ChainEnds g n)
+        → first_below (length roots.now)
+        (root_fault (LiesUnderRoot g lengths.exprs (root_nodes roots.now)) lengths roots.now) result }
 {
     let mut earlier = Ends {
         exprs: 0,
@@ -76,19 +60,69 @@ fn first_root_fault(
             return Some(ForestFault::RootOutOfRange(i));
         }
         let node = root.node as usize;
-        if !to_come[node] {
+        if came[node] {
             return Some(ForestFault::RootRepeated(i));
         }
-        if under[node] {
+        if is_under(parents, listed, clear, node) {
             return Some(ForestFault::RootUnderRoot(i));
         }
         if !root.ends.fit(earlier, lengths) {
             return Some(ForestFault::RootEnds(i));
         }
-        to_come[node] = false;
+        came[node] = true;
         earlier = root.ends;
     }
     None
+}
+
+/// The first cycle, or else the first fault of a root, where no child is shared.
+fn first_chain_fault(
+    alloc: Global,
+    parents: &ParentTable,
+    lengths: Ends,
+    roots: &[Root],
+) -> Result<Option<ForestFault>, AllocError>
+    requires { lengths.exprs ≤ length parents.now }
+    ensures { IfOk result (λ fault. (g : List (List ℕ)) → HasParents g parents.now
+        → (first_below (length g) (cycle_fault (ChainEnds g))
+        before first_below (length roots.now)
+        (root_fault (LiesUnderRoot g lengths.exprs (root_nodes roots.now)) lengths roots.now)) fault) }
+{
+    let nodes = parents.len();
+    let mut ends = vec![in alloc; false; nodes]?;
+    if let Some(fault) = first_cycle(parents, &mut ends) {
+        return Ok(Some(fault));
+    }
+    // The other tables take its room.
+    drop(ends);
+    let mut listed = vec![in alloc; false; nodes]?;
+    mark_roots(lengths.exprs, roots, &mut listed);
+    let mut came = vec![in alloc; false; lengths.exprs as usize]?;
+    let mut clear = vec![in alloc; false; nodes]?;
+    Ok(first_root_fault(lengths, roots, parents, &listed, &mut came, &mut clear))
+}
+
+impl Parents {
+    /// The first fault of the graph and its roots, or `None` if the graph is a forest and the roots are right. Each node must have its row.
+    ///
+    /// It is that of the function `first_fault` of the same rows. It takes time linear in nodes and roots, and tables with three marks for
+    /// each node. `AllocError` only if memory for these is refused.
+    pub fn first_fault(
+        &self,
+        alloc: Global,
+        lengths: Ends,
+        roots: &[Root],
+    ) -> Result<Option<ForestFault>, AllocError>
+        requires exprs { lengths.exprs ≤ length self.now.parents }
+        requires rows { self.now.rows ≡ length self.now.parents }
+        ensures { IfOk result (λ fault. (g : List (List ℕ)) → IsParentageOf g self.now
+            → forest_fault g lengths roots.now fault) }
+    {
+        match self.shared {
+            Some(child) => Ok(Some(ForestFault::SharedChild(child))),
+            None => first_chain_fault(alloc, &self.table, lengths, roots),
+        }
+    }
 }
 
 /// The first fault of a graph and its roots, or `None` if the graph is a forest and the
@@ -96,7 +130,7 @@ fn first_root_fault(
 ///
 /// `lengths` has the lengths of the three arenas; nodes below `lengths.exprs` may be roots, so there
 /// are at least as many rows. Each kid must have a row. It takes time linear in rows, kids and roots,
-/// and four tables with an item for each row. `AllocError` only if memory for these is refused.
+/// and tables with a number and three marks for each row. `AllocError` only if memory for these is refused.
 pub fn first_fault(
     alloc: Global,
     rows: &Rows,
@@ -107,16 +141,5 @@ pub fn first_fault(
     requires within { All (λ c. c < length rows.now) (concat rows.now) }
     ensures { IfOk result (λ fault. forest_fault rows.now lengths roots.now fault) }
 {
-    let mut has_parent = vec![in alloc; false; rows.len()]?;
-    if let Some(fault) = mark_children(rows.children(), &mut has_parent) {
-        return Ok(Some(fault));
-    }
-    let mut listed = vec![in alloc; false; rows.len()]?;
-    mark_roots(lengths.exprs, roots, &mut listed);
-    let mut walk = Walk::start(alloc, has_parent)?;
-    walk.run(rows, &listed)?;
-    if let Some(fault) = first_unmet(&walk.unmet) {
-        return Ok(Some(fault));
-    }
-    Ok(first_root_fault(lengths, roots, &walk.under, &mut listed))
+    parents_of(alloc, rows)?.first_fault(alloc, lengths, roots)
 }

@@ -2,8 +2,11 @@
 //! the laws of a graph that has none, a forest; and the table of what lies under marked nodes. It knows nothing of what the nodes are.
 #![tactic(auto)]
 
+mod chains;
 mod faults;
 mod laws;
+mod parent_table;
+mod parents;
 mod roots;
 mod rows;
 mod walk;
@@ -13,6 +16,7 @@ pub use laws::{
     fault_is_one, fault_is_within, faultless_is_forest, heights_are_bounded, kid_rows_add_up,
     kids_are_lower, roots_are_compared_by_all_fields, ways_are_short,
 };
+pub use parents::Parents;
 pub use roots::{Ends, ForestFault, Root};
 pub use rows::Rows;
 pub use walk::nodes_under;

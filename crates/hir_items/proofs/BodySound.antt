@@ -10,10 +10,11 @@ use Rattle.hir_forest.proofs.VerdictLemmas.{unless-same, first_below-same}
 use Rattle.hir_node.specs.declared.node_id.NodeId.{NodeId}
 use Rattle.hir_node.specs.declared.node_id.NodeId.TheVariants as node
 use Rattle.hir_faults.specs.Sizes.{HasNode}
-use Rattle.hir_faults.specs.Nodes.{Nodes, Has, sizes_of}
+use Rattle.hir_faults.specs.Nodes.{Nodes, Has, sizes_of, kids_of}
+use Rattle.hir_faults.specs.Down.{KidsFall}
 use Rattle.hir_expr_store.specs.Contents.{Contents, rooted_of, contents_fault}
-use Rattle.hir_expr_store.specs.Under.{Under, LiesUnderOther, LieApart}
-use Rattle.hir_expr_store.specs.NodeSets.{Marked, IsIn, Gains}
+use Rattle.hir_expr_store.specs.Under.{Under, itself, below, LiesUnderOther, LieApart}
+use Rattle.hir_expr_store.specs.NodeSets.{Marked, IsIn, Gains, NoKidIn}
 use Rattle.hir_faults.specs.Sound.{RootsStandApart}
 use Rattle.hir_items.specs.declared.formals.Param.{Param}
 use Rattle.hir_items.specs.declared.body_fault.BodyFault.{BodyFault}
@@ -54,8 +55,19 @@ root_under s params root = (
   λ x. (x.0, x.1, Contains-append_left (map node.Pat (formals_of params)) (node.Expr root ∷ []) x.0 x.2, x.3, x.4),
 )
 
-module _ (s : Nodes) (params : List (Param ℕ)) (root : ℕ) (old mid new found : Marked) (size : old.sizes ≡ sizes_of s) (none : (n : NodeId) → IsIn old n → ⊥)
-    (all : GainsAll old (map node.Pat (formals_of params)) mid) (one : Gains mid (node.Expr root) new) (right : (n : NodeId) → Has s n → IsIn found n ↔ LiesUnderOther s (IsIn new) n) where
+pat_in : (xs : List ℕ) (i : ℕ) → i < length xs → Contains (map node.Pat xs) (node.Pat (get_or xs i 0))
+pat_in xs i h = (i, omega (arith, length-map xs node.Pat), get_or-map node.Pat xs i 0 (node.Pat (get_or xs i 0)) h)
+
+-- a node under another one is a kid
+is_kid : (s : Nodes) → KidsFall s → (n : NodeId) {r : NodeId} → Has s r → Under s n r → (n ≡ r) ⊎ ((p : NodeId) × Has s p × Contains (kids_of s p) n)
+is_kid s falls n h itself = inl refl
+is_kid s falls n h (below {k} {r} d u) = inr (⊎_elim (λ e. (r, h, subst (Contains (kids_of s r)) (sym e) d)) (λ x. x) (is_kid s falls n (falls.there r h k d) u))
+
+no_other : (s : Nodes) (set : Marked) → KidsFall s → NoKidIn s set → (n : NodeId) → IsIn set n → (Among : NodeId → Type 0) → LiesUnderOther s Among n → ⊥
+no_other s set falls apart n i Among x = ⊎_elim x.3 (λ k. apart k.0 n k.1 k.2 i) (is_kid s falls n x.1 x.4)
+
+module _ (s : Nodes) (params : List (Param ℕ)) (root : ℕ) (old mid new : Marked) (size : old.sizes ≡ sizes_of s) (none : (n : NodeId) → IsIn old n → ⊥)
+    (all : GainsAll old (map node.Pat (formals_of params)) mid) (one : Gains mid (node.Expr root) new) where
   -- the set has the formals and the last root
   tops_in : (n : NodeId) → Has s n → IsIn new n ↔ Contains (tops_of params root) n
   tops_in n h =
@@ -68,10 +80,25 @@ module _ (s : Nodes) (params : List (Param ℕ)) (root : ℕ) (old mid new found
         λ m. more.1 (⊎_elim (λ f. inl (before.1 (inr f))) (λ e. inr (sym e)) (Contains-push_cases fs (node.Expr root) n m)),
       )
 
+  -- where no kid is in the set, none of these lies under another
+  module _ (falls : KidsFall s) (apart : NoKidIn s new) where
+    pub none_under : All (λ p. p.formal < length s.pats) params → first_below (length params) (under_fault (LiesUnderOther s (Contains (tops_of params root))) (formals_of params)) None
+    none_under there = λ i h l.
+        let p = get_or params i record { formal = 0; user_written = 0 } in
+        let formal : p.formal ≡ get_or (formals_of params) i 0 = sym (get_or-map (λ p. p.formal) params i record { formal = 0; user_written = 0 } 0 h) in
+        let has : Has s (node.Pat (get_or (formals_of params) i 0)) = subst (λ (n : ℕ). n < length s.pats) formal (there i record { formal = 0; user_written = 0 } h) in
+        let member : Contains (tops_of params root) (node.Pat (get_or (formals_of params) i 0)) = Contains-append_left (map node.Pat (formals_of params)) (node.Expr root ∷ []) (node.Pat (get_or (formals_of params) i 0)) (pat_in (formals_of params) i (let n = length-map params (λ p. p.formal) in omega arith)) in
+        no_other s new falls apart (node.Pat (get_or (formals_of params) i 0)) ((tops_in (node.Pat (get_or (formals_of params) i 0)) has).1 member) (Contains (tops_of params root)) l
+
+    pub root_not_under : root < length s.exprs → LiesUnderOther s (Contains (map node.Pat (formals_of params))) (node.Expr root) → ⊥
+    root_not_under h = no_other s new falls apart (node.Expr root) ((tops_in (node.Expr root) h).1 (Contains-push (map node.Pat (formals_of params)) (node.Expr root))) (Contains (map node.Pat (formals_of params)))
+
+module _ (s : Nodes) (params : List (Param ℕ)) (root : ℕ) (old mid new found : Marked) (size : old.sizes ≡ sizes_of s) (none : (n : NodeId) → IsIn old n → ⊥)
+    (all : GainsAll old (map node.Pat (formals_of params)) mid) (one : Gains mid (node.Expr root) new) (right : (n : NodeId) → Has s n → IsIn found n ↔ LiesUnderOther s (IsIn new) n) where
   found_is : (n : NodeId) → Has s n → IsIn found n ↔ LiesUnderOther s (Contains (tops_of params root)) n
   found_is n h =
       let r = right n h in
-      let o = other_same s (IsIn new) (Contains (tops_of params root)) tops_in n in
+      let o = other_same s (IsIn new) (Contains (tops_of params root)) (tops_in s params root old mid new size none all one) n in
       (λ m. o.0 (r.0 m), λ l. r.1 (o.1 l))
 
   pub under_told : All (λ p. p.formal < length s.pats) params → (o : Option BodyFault) → first_below (length params) (under_fault (IsIn found) (formals_of params)) o

@@ -6,7 +6,7 @@ ghost use Rattle.hir_items.specs.Bodies.{body_of, last_root, apart_fault, body_f
 use crate::formals::{Param, add_formals, first_out_of_range, first_under, self_is_there};
 use hir_base::ExactEq;
 use hir_expr_store::ExpressionStore;
-use hir_expr_store::laws::roots_stand_apart;
+use hir_expr_store::laws::{kids_fall, roots_stand_apart};
 use hir_node::{BindingId, ExprId, PatId};
 use std::alloc::{AllocError, Global};
 use std::fmt::{self, Display};
@@ -76,11 +76,17 @@ fn first_meeting(
     requires root { root < length store.now.nodes.exprs }
     ensures { IfOk result (apart_fault store.now.nodes params.now root) }
 {
+    store.has_no_fault();
+    kids_fall();
     let mut tops = store.no_nodes(alloc)?;
     if let Some(fault) = add_formals(params, &mut tops) {
         return Ok(Some(fault));
     }
     tops.add_expr(root);
+    // What is no kid lies under no other node. So it is with most bodies, and the table of all kids isn't made.
+    if store.no_kid_is_in(&tops) {
+        return Ok(None);
+    }
     let under = store.under(alloc, &tops)?;
     if let Some(fault) = first_under(params, &under) {
         return Ok(Some(fault));

@@ -8,6 +8,7 @@ pub mod Fronts
 pub mod Integers
 pub mod Keywords
 pub mod Patterns
+pub mod Putting
 pub mod Separators
 pub mod Signs
 pub mod Spaces

@@ -7,7 +7,7 @@ use Rattle.std.proofs.lemmas.List.Sums.{fails_before_first}
 use Rattle.std.proofs.lemmas.Bool.{ltb-false}
 use Rattle.std.proofs.lemmas.Grind.{common_steps}
 use Rattle.std.proofs.lemmas.Bool.Decides.{nat_tests}
-use Rattle.hir_lines.specs.Readings.{alone}
+use Rattle.hir_lines.specs.Readings.{HasWord}
 
 some_is : (b : Bool) (n i : ℕ) → cond b (Some n) None ≡ Some i → (b ≡ true) × (n ≡ i)
 some_is true n i e = (refl, cc)
@@ -63,8 +63,8 @@ split_cut p xs i e =
 pub parts_are_there : (p : ℕ → Bool) (text : List ℕ) → slice_split p text ≡ [] → ⊥
 parts_are_there p text e = let l = ap length e in omega (arith, length-slice_split p text)
 
-pub parts_not_alone : {X : Type 0} (x : X) (p : ℕ → Bool) (text : List ℕ) → alone x (slice_split p text) ≡ None
-parts_not_alone x p text = by_parts (slice_split p text) refl where
-  by_parts : (parts : List (List ℕ)) → slice_split p text ≡ parts → alone x parts ≡ None
+pub parts_begin : (p : ℕ → Bool) (text : List ℕ) → HasWord (slice_split p text)
+parts_begin p text = by_parts (slice_split p text) refl where
+  by_parts : (parts : List (List ℕ)) → slice_split p text ≡ parts → HasWord (slice_split p text)
   by_parts [] e = absurd (parts_are_there p text e)
-  by_parts (part ∷ parts) e = refl
+  by_parts (part ∷ parts) e = (part, parts, e)

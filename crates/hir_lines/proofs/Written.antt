@@ -8,19 +8,17 @@ use Rattle.hir_node.specs.declared.pat.Pat.{Pat}
 use Rattle.hir_node.specs.declared.type_ref.TypeRef.{TypeRef}
 use Rattle.hir_node.specs.declared.expr_types.MatchArm.{MatchArm}
 use Rattle.hir_node.specs.declared.expr_types.Statement.{Statement}
-use Rattle.hir_lines.specs.declared.line.Line.{Line}
-use Rattle.hir_lines.specs.declared.line.Line.TheVariants.{Blank, Make, Ask, Bad}
-use Rattle.hir_lines.specs.declared.line.Maker.{Maker}
-use Rattle.hir_lines.specs.declared.line.Maker.TheVariants.{Pat as MakePat, «Type» as MakeType, Expr as MakeExpr, Roots}
-use Rattle.hir_lines.specs.declared.line.Question.{Question}
-use Rattle.hir_lines.specs.declared.line.Question.TheVariants.{OfBody}
-use Rattle.hir_lines.specs.declared.line.BodyQuestion.TheVariants.{Print}
+use Rattle.hir_lines.specs.Line.{Line, Blank, Make, Ask, Bad, line_of, or_bad, command, line_forms, bind, bind_line, pat_line, type_line, expr_line, expr_hygiene, hygiene_line, pat_hygiene, pat_hygiene_line, self_line, param_line, fn_line, root_line, children_line, root_of_line, chain_line, resolve, resolve_line, captures_line}
+use Rattle.hir_lines.specs.Makers.{Maker}
+use Rattle.hir_lines.specs.Makers.{Pat as MakePat, TypeRef as MakeType, Expr as MakeExpr, Roots}
+use Rattle.hir_lines.specs.declared.question.Question.{Question}
+use Rattle.hir_lines.specs.declared.question.Question.TheVariants.{OfBody}
+use Rattle.hir_lines.specs.declared.question.BodyQuestion.TheVariants.{Print}
 use Rattle.hir_lines.specs.Readings.{Reading, ◌>>=◌, gives, whole, parts_of}
 use Rattle.hir_lines.specs.Words.{one_of}
 use Rattle.hir_lines.specs.Pats.{pat}
 use Rattle.hir_lines.specs.Types.{type_ref}
 use Rattle.hir_lines.specs.Exprs.{expr}
-use Rattle.hir_lines.specs.Line.{line_of, or_bad, command, line_forms, bind, bind_line, pat_line, type_line, expr_line, expr_hygiene, hygiene_line, pat_hygiene, pat_hygiene_line, self_line, param_line, fn_line, root_line, children_line, root_of_line, chain_line, resolve, resolve_line, captures_line}
 use Rattle.hir_lines.specs.Tokens.{Token, Word, Arm, Stmt, IsWord, IsText}
 use Rattle.hir_lines.specs.PatGrammar.{IsPat, wild}
 use Rattle.hir_lines.specs.TypeGrammar.{IsType, never}

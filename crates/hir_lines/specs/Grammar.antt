@@ -5,15 +5,13 @@ use Rattle.hir_path.specs.declared.ids.ExprOrPatId.TheVariants.{ExprId, PatId}
 use Rattle.hir_node.specs.declared.expr.Expr.{Expr}
 use Rattle.hir_node.specs.declared.pat.Pat.{Pat}
 use Rattle.hir_node.specs.declared.type_ref.TypeRef.{TypeRef}
-use Rattle.hir_lines.specs.declared.line.Line.{Line}
-use Rattle.hir_lines.specs.declared.line.Line.TheVariants.{Blank, Make, Ask, Bad}
-use Rattle.hir_lines.specs.declared.line.Maker.{Maker}
-use Rattle.hir_lines.specs.declared.line.Maker.TheVariants.{Binding, Pat as MakePat, «Type» as MakeType, Expr as MakeExpr, Hygiene, SelfParam, Param, FnName, Roots, Root}
-use Rattle.hir_lines.specs.declared.line.Question.{Question}
-use Rattle.hir_lines.specs.declared.line.Question.TheVariants.{OfStore, OfBody}
-use Rattle.hir_lines.specs.declared.line.StoreQuestion.TheVariants.{Children, RootOf}
-use Rattle.hir_lines.specs.declared.line.BodyQuestion.TheVariants.{Chain, Resolve, Print, Captures}
-use Rattle.hir_lines.specs.Line.{plain_binding}
+use Rattle.hir_lines.specs.Line.{Line, Blank, Make, Ask, Bad, plain_binding}
+use Rattle.hir_lines.specs.Makers.{Maker}
+use Rattle.hir_lines.specs.Makers.{Binding, Pat as MakePat, TypeRef as MakeType, Expr as MakeExpr, Hygiene, SelfParam, Param, FnName, Roots, Root}
+use Rattle.hir_lines.specs.declared.question.Question.{Question}
+use Rattle.hir_lines.specs.declared.question.Question.TheVariants.{OfStore, OfBody}
+use Rattle.hir_lines.specs.declared.question.StoreQuestion.TheVariants.{Children, RootOf}
+use Rattle.hir_lines.specs.declared.question.BodyQuestion.TheVariants.{Chain, Resolve, Print, Captures}
 use Rattle.hir_lines.specs.Words.{of_source}
 use Rattle.hir_lines.specs.Tokens.{Token, Word, Name, Number, IsText}
 use Rattle.hir_lines.specs.PatGrammar.{IsPat}

@@ -2,6 +2,7 @@ pub mod ExprGrammar
 pub mod Exprs
 pub mod Grammar
 pub mod Line
+pub mod Makers
 pub mod Names
 pub mod Numerals
 pub mod Operators
@@ -10,6 +11,7 @@ pub mod PatGrammar
 pub mod Pats
 pub mod Readings
 pub mod same
+pub mod Taking
 pub mod Tokens
 pub mod TypeGrammar
 pub mod Types

@@ -1,22 +1,29 @@
--- What a line says, by its words.
+-- What a line may say, and what it says by its words.
 use Rattle.std.specs.Prelude.{ℕ, List, [], ◌∷◌, Option, None, Some, codes}
 use Rattle.hir_base.specs.declared.hygiene.SyntaxContext.{SyntaxContext}
 use Rattle.hir_path.specs.declared.ids.ExprOrPatId.TheVariants.{ExprId, PatId}
 use Rattle.hir_node.specs.declared.binding.Binding.{Binding}
 use Rattle.hir_node.specs.declared.binding.BindingAnnotation.TheVariants.{Unannotated}
-use Rattle.hir_lines.specs.declared.line.Line.{Line}
-use Rattle.hir_lines.specs.declared.line.Line.TheVariants.{Blank, Make, Ask, Bad}
-use Rattle.hir_lines.specs.declared.line.Maker.{Maker}
-use Rattle.hir_lines.specs.declared.line.Maker.TheVariants.{Binding as MakeBinding, Pat as MakePat, «Type» as MakeType, Expr as MakeExpr, Hygiene, SelfParam, Param, FnName, Roots, Root}
-use Rattle.hir_lines.specs.declared.line.Question.TheVariants.{OfStore, OfBody}
-use Rattle.hir_lines.specs.declared.line.StoreQuestion.TheVariants.{Children, RootOf}
-use Rattle.hir_lines.specs.declared.line.BodyQuestion.{BodyQuestion}
-use Rattle.hir_lines.specs.declared.line.BodyQuestion.TheVariants.{Chain, Resolve, Print, Captures}
+use Rattle.hir_lines.specs.Makers.{Maker}
+use Rattle.hir_lines.specs.Makers.{Binding as MakeBinding, Pat as MakePat, TypeRef as MakeType, Expr as MakeExpr, Hygiene, SelfParam, Param, FnName, Roots, Root}
+use Rattle.hir_lines.specs.declared.question.Question.{Question}
+use Rattle.hir_lines.specs.declared.question.Question.TheVariants.{OfStore, OfBody}
+use Rattle.hir_lines.specs.declared.question.StoreQuestion.TheVariants.{Children, RootOf}
+use Rattle.hir_lines.specs.declared.question.BodyQuestion.{BodyQuestion}
+use Rattle.hir_lines.specs.declared.question.BodyQuestion.TheVariants.{Chain, Resolve, Print, Captures}
 use Rattle.hir_lines.specs.Readings.{Reading, ◌>>=◌, gives, whole, parts_of, space}
 use Rattle.hir_lines.specs.Words.{number, name, expansion, hygiene, one_of}
 use Rattle.hir_lines.specs.Pats.{pat}
 use Rattle.hir_lines.specs.Types.{type_ref}
 use Rattle.hir_lines.specs.Exprs.{expr}
+
+pub data Line : Type 0 where
+  -- an empty line
+  Blank : Line
+  Make : Maker → Line
+  Ask : Question → Line
+  -- any other text
+  Bad : Line
 
 -- a binding with no word before its name
 abbrev pub plain_binding : List ℕ → SyntaxContext → Binding

@@ -68,6 +68,10 @@ alone x (word ∷ words) = None
 abbrev pub whole : {X : Type 0} → Reading X → List (List ℕ) → Option X
 whole reading words = option_and_then (λ found. alone found.0 found.1) (reading words)
 
+-- some word is left
+abbrev pub HasWord : List (List ℕ) → Type 0
+HasWord words = (word : List ℕ) × (others : List (List ℕ)) × (words ≡ word ∷ others)
+
 -- what was found, or that there is nothing to find
 abbrev pub Found : {X : Type 0} → Option X → Result X Stop → Type 0
 Found found result = MatchResult result (λ x. found ≡ Some x) (λ stop. stop ≡ Bad → found ≡ None)

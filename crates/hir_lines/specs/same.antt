@@ -1,2 +1,2 @@
 -- Only proofs: what the impls of `ExactEq` cite, that `==` of a type decides whether two values are the same.
-pub mod SameLines
+pub mod SameQuestions

@@ -9,6 +9,7 @@ use hir_base::MacroDefId;
 use hir_node::{Item, MatchArm, Statement};
 
 #[tactic(auto, unfolding(crate::specs::ArmsAndStatements::arm_of))]
+#[inline(always)]
 fn arm(word: &[u8]) -> Result<MatchArm, Stop>
     ensures { Found (arm_of word.now) result }
 {
@@ -20,6 +21,7 @@ fn arm(word: &[u8]) -> Result<MatchArm, Stop>
 }
 
 #[tactic(auto, unfolding(crate::specs::ArmsAndStatements::statement_of))]
+#[inline(always)]
 fn statement(word: &[u8]) -> Result<Statement, Stop>
     ensures { Found (statement_of word.now) result }
 {

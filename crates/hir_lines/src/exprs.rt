@@ -1,9 +1,12 @@
 //! The expressions that lines make.
 
 ghost use Rattle.std.specs.Prelude.{IfOk, ◌≡◌};
-ghost use Rattle.hir_lines.specs.Readings.{Reads};
-ghost use Rattle.hir_lines.specs.Exprs.{expr, call_expr, tuple_expr, array_expr, repeat_expr, ref_expr, bin_expr, let_expr, if_expr, loop_expr, assign_expr, match_expr, closure_expr, block_expr, untyped};
+ghost use Rattle.hir_lines.specs.Makers as make;
+ghost use Rattle.hir_lines.specs.Readings.{gives};
+ghost use Rattle.hir_lines.specs.Taking.{Puts};
+ghost use Rattle.hir_lines.specs.Exprs.{expr, path_expr, int_expr, call_expr, tuple_expr, array_expr, repeat_expr, ref_expr, bin_expr, let_expr, if_expr, loop_expr, assign_expr, const_expr, match_expr, closure_expr, block_expr, untyped};
 
+use crate::builder::Builder;
 use crate::stop::Stop;
 use crate::words::{Words, each};
 use hir_base::{BlockId, Seq};
@@ -13,149 +16,188 @@ use hir_node::{
 };
 use std::alloc::{AllocError, Global};
 
-/// The expression that the words behind `expr` make.
+/// Makes the expression of the words behind `expr`.
 #[tactic(auto, unfolding(crate::specs::Exprs::expr))]
-pub fn expr(alloc: Global, words: &mut Words<'_>) -> Result<Expr, Stop>
-    ensures { Reads expr words.old result words.new }
+#[inline(always)]
+pub fn expr<B: Builder>(alloc: Global, words: &mut Words<'_>, builder: &mut B) -> Result<(), Stop>
+    ensures { Puts B.add make.Expr expr words.old builder.old builder.new result }
 {
-    match words.keyword()? {
-        "missing" => Ok(Expr::Missing),
-        "path" => Ok(Expr::Path(words.path(alloc)?)),
-        "int" => Ok(Expr::Literal(Literal::Int(words.int()?, None))),
-        "call" => call(alloc, words),
-        "tuple" => tuple(alloc, words),
-        "array" => array(alloc, words),
-        "repeat" => repeat(words),
-        "ref" => reference(words),
-        "bin" => binary(words),
-        "let" => let_expr(words),
-        "if" => if_expr(words),
-        "loop" => loop_expr(words),
-        "assign" => assignment(words),
-        "const" => Ok(Expr::Const(words.id()?)),
-        "match" => match_expr(alloc, words),
-        "closure" => closure(alloc, words),
-        "block" => block(alloc, words),
+    match words.word()? {
+        [b'm', b'i', b's', b's', b'i', b'n', b'g'] => put(words, builder, Expr::Missing),
+        [b'p', b'a', b't', b'h'] => path(alloc, words, builder),
+        [b'i', b'n', b't'] => int(words, builder),
+        [b'c', b'a', b'l', b'l'] => call(alloc, words, builder),
+        [b't', b'u', b'p', b'l', b'e'] => tuple(alloc, words, builder),
+        [b'a', b'r', b'r', b'a', b'y'] => array(alloc, words, builder),
+        [b'r', b'e', b'p', b'e', b'a', b't'] => repeat(words, builder),
+        [b'r', b'e', b'f'] => reference(words, builder),
+        [b'b', b'i', b'n'] => binary(words, builder),
+        [b'l', b'e', b't'] => let_expr(words, builder),
+        [b'i', b'f'] => if_expr(words, builder),
+        [b'l', b'o', b'o', b'p'] => loop_expr(words, builder),
+        [b'a', b's', b's', b'i', b'g', b'n'] => assignment(words, builder),
+        [b'c', b'o', b'n', b's', b't'] => constant(words, builder),
+        [b'm', b'a', b't', b'c', b'h'] => match_expr(alloc, words, builder),
+        [b'c', b'l', b'o', b's', b'u', b'r', b'e'] => closure(alloc, words, builder),
+        [b'b', b'l', b'o', b'c', b'k'] => block(alloc, words, builder),
         _ => Err(Stop::Bad),
     }
 }
 
-fn call(alloc: Global, words: &mut Words<'_>) -> Result<Expr, Stop>
-    ensures { Reads call_expr words.old result words.new }
+/// Adds the expression, if no word is left.
+#[inline(always)]
+fn put<B: Builder>(words: &Words<'_>, builder: &mut B, expr: Expr) -> Result<(), Stop>
+    ensures { Puts B.add make.Expr (gives expr) words.now builder.old builder.new result }
 {
-    Ok(Expr::Call {
+    words.end()?;
+    builder.expr(expr)
+}
+
+fn path<B: Builder>(alloc: Global, words: &mut Words<'_>, builder: &mut B) -> Result<(), Stop>
+    ensures { Puts B.add make.Expr path_expr words.old builder.old builder.new result }
+{
+    let path = words.path(alloc)?;
+    put(words, builder, Expr::Path(path))
+}
+
+fn int<B: Builder>(words: &mut Words<'_>, builder: &mut B) -> Result<(), Stop>
+    ensures { Puts B.add make.Expr int_expr words.old builder.old builder.new result }
+{
+    let n = words.int()?;
+    put(words, builder, Expr::Literal(Literal::Int(n, None)))
+}
+
+fn call<B: Builder>(alloc: Global, words: &mut Words<'_>, builder: &mut B) -> Result<(), Stop>
+    ensures { Puts B.add make.Expr call_expr words.old builder.old builder.new result }
+{
+    let call = Expr::Call {
         callee: words.id()?,
         args: words.list(alloc)?,
-    })
+    };
+    put(words, builder, call)
 }
 
-fn tuple(alloc: Global, words: &mut Words<'_>) -> Result<Expr, Stop>
-    ensures { Reads tuple_expr words.old result words.new }
+fn tuple<B: Builder>(alloc: Global, words: &mut Words<'_>, builder: &mut B) -> Result<(), Stop>
+    ensures { Puts B.add make.Expr tuple_expr words.old builder.old builder.new result }
 {
-    Ok(Expr::Tuple {
-        exprs: words.list(alloc)?,
-    })
+    let exprs = words.list(alloc)?;
+    put(words, builder, Expr::Tuple { exprs })
 }
 
-fn array(alloc: Global, words: &mut Words<'_>) -> Result<Expr, Stop>
-    ensures { Reads array_expr words.old result words.new }
+fn array<B: Builder>(alloc: Global, words: &mut Words<'_>, builder: &mut B) -> Result<(), Stop>
+    ensures { Puts B.add make.Expr array_expr words.old builder.old builder.new result }
 {
-    Ok(Expr::Array(Array::ElementList {
-        elements: words.list(alloc)?,
-    }))
+    let elements = words.list(alloc)?;
+    put(words, builder, Expr::Array(Array::ElementList { elements }))
 }
 
-fn repeat(words: &mut Words<'_>) -> Result<Expr, Stop>
-    ensures { Reads repeat_expr words.old result words.new }
+fn repeat<B: Builder>(words: &mut Words<'_>, builder: &mut B) -> Result<(), Stop>
+    ensures { Puts B.add make.Expr repeat_expr words.old builder.old builder.new result }
 {
-    Ok(Expr::Array(Array::Repeat {
+    let repeat = Array::Repeat {
         initializer: words.id()?,
         repeat: words.id()?,
-    }))
+    };
+    put(words, builder, Expr::Array(repeat))
 }
 
-fn reference(words: &mut Words<'_>) -> Result<Expr, Stop>
-    ensures { Reads ref_expr words.old result words.new }
+fn reference<B: Builder>(words: &mut Words<'_>, builder: &mut B) -> Result<(), Stop>
+    ensures { Puts B.add make.Expr ref_expr words.old builder.old builder.new result }
 {
-    Ok(Expr::Ref {
+    let reference = Expr::Ref {
         expr: words.id()?,
         rawness: Rawness::Ref,
         mutability: Mutability::Shared,
-    })
+    };
+    put(words, builder, reference)
 }
 
-fn binary(words: &mut Words<'_>) -> Result<Expr, Stop>
-    ensures { Reads bin_expr words.old result words.new }
+fn binary<B: Builder>(words: &mut Words<'_>, builder: &mut B) -> Result<(), Stop>
+    ensures { Puts B.add make.Expr bin_expr words.old builder.old builder.new result }
 {
     let op = words.op()?;
-    Ok(Expr::BinaryOp {
+    let binary = Expr::BinaryOp {
         lhs: words.id()?,
         rhs: words.id()?,
         op: Some(op),
-    })
+    };
+    put(words, builder, binary)
 }
 
-fn let_expr(words: &mut Words<'_>) -> Result<Expr, Stop>
-    ensures { Reads let_expr words.old result words.new }
+fn let_expr<B: Builder>(words: &mut Words<'_>, builder: &mut B) -> Result<(), Stop>
+    ensures { Puts B.add make.Expr let_expr words.old builder.old builder.new result }
 {
-    Ok(Expr::Let {
+    let let_expr = Expr::Let {
         pat: words.id()?,
         expr: words.id()?,
-    })
+    };
+    put(words, builder, let_expr)
 }
 
-fn if_expr(words: &mut Words<'_>) -> Result<Expr, Stop>
-    ensures { Reads if_expr words.old result words.new }
+fn if_expr<B: Builder>(words: &mut Words<'_>, builder: &mut B) -> Result<(), Stop>
+    ensures { Puts B.add make.Expr if_expr words.old builder.old builder.new result }
 {
-    Ok(Expr::If {
+    let if_expr = Expr::If {
         condition: words.id()?,
         then_branch: words.id()?,
         else_branch: words.optional_id()?,
-    })
+    };
+    put(words, builder, if_expr)
 }
 
-fn loop_expr(words: &mut Words<'_>) -> Result<Expr, Stop>
-    ensures { Reads loop_expr words.old result words.new }
+fn loop_expr<B: Builder>(words: &mut Words<'_>, builder: &mut B) -> Result<(), Stop>
+    ensures { Puts B.add make.Expr loop_expr words.old builder.old builder.new result }
 {
-    Ok(Expr::Loop {
+    let loop_expr = Expr::Loop {
         body: words.id()?,
         label: None,
         source: LoopSource::Loop,
-    })
+    };
+    put(words, builder, loop_expr)
 }
 
-fn assignment(words: &mut Words<'_>) -> Result<Expr, Stop>
-    ensures { Reads assign_expr words.old result words.new }
+fn assignment<B: Builder>(words: &mut Words<'_>, builder: &mut B) -> Result<(), Stop>
+    ensures { Puts B.add make.Expr assign_expr words.old builder.old builder.new result }
 {
-    Ok(Expr::Assignment {
+    let assignment = Expr::Assignment {
         target: words.id()?,
         value: words.id()?,
-    })
+    };
+    put(words, builder, assignment)
 }
 
-fn match_expr(alloc: Global, words: &mut Words<'_>) -> Result<Expr, Stop>
-    ensures { Reads match_expr words.old result words.new }
+fn constant<B: Builder>(words: &mut Words<'_>, builder: &mut B) -> Result<(), Stop>
+    ensures { Puts B.add make.Expr const_expr words.old builder.old builder.new result }
 {
-    Ok(Expr::Match {
+    let value = words.id()?;
+    put(words, builder, Expr::Const(value))
+}
+
+fn match_expr<B: Builder>(alloc: Global, words: &mut Words<'_>, builder: &mut B) -> Result<(), Stop>
+    ensures { Puts B.add make.Expr match_expr words.old builder.old builder.new result }
+{
+    let match_expr = Expr::Match {
         expr: words.id()?,
         arms: each(alloc, words)?,
-    })
+    };
+    put(words, builder, match_expr)
 }
 
-fn closure(alloc: Global, words: &mut Words<'_>) -> Result<Expr, Stop>
-    ensures { Reads closure_expr words.old result words.new }
+fn closure<B: Builder>(alloc: Global, words: &mut Words<'_>, builder: &mut B) -> Result<(), Stop>
+    ensures { Puts B.add make.Expr closure_expr words.old builder.old builder.new result }
 {
     let body = words.id()?;
     let args = words.list(alloc)?;
     let arg_types = untyped(alloc, args.as_slice())?;
-    Ok(Expr::Closure {
+    let closure = Expr::Closure {
         args,
         arg_types,
         ret_type: None,
         body,
         closure_kind: ClosureKind::Closure,
         capture_by: CaptureBy::Ref,
-    })
+    };
+    put(words, builder, closure)
 }
 
 /// No type for each argument.
@@ -169,16 +211,17 @@ fn untyped(alloc: Global, args: &[PatId]) -> Result<Seq<Option<TypeRefId>>, Allo
     Ok(types)
 }
 
-fn block(alloc: Global, words: &mut Words<'_>) -> Result<Expr, Stop>
-    ensures { Reads block_expr words.old result words.new }
+fn block<B: Builder>(alloc: Global, words: &mut Words<'_>, builder: &mut B) -> Result<(), Stop>
+    ensures { Puts B.add make.Expr block_expr words.old builder.old builder.new result }
 {
     let id = words.optional()?.map(BlockId::from_raw);
     let tail = words.optional_id()?;
-    Ok(Expr::Block {
+    let block = Expr::Block {
         id,
         statements: each(alloc, words)?,
         tail,
         label: None,
         unsafe_: Unsafe::No,
-    })
+    };
+    put(words, builder, block)
 }

@@ -1,13 +1,12 @@
 //! Laws of the grammar, as contracts of functions that do nothing.
 
 ghost use Rattle.std.specs.Prelude.{◌≡◌, ◌≢◌, ℕ, List};
-ghost use Rattle.hir_lines.specs.declared.line.Line.{Line};
+ghost use Rattle.hir_lines.specs.Line.{Line, Bad, line_of};
 ghost use Rattle.hir_lines.specs.Grammar.{IsLine};
-ghost use Rattle.hir_lines.specs.Line.{line_of};
 
 /// A text is at most one line, except that a bad line may be any text.
 pub fn line_is_one()
-    ensures { (text : List ℕ) (line other : Line) → line ≢ Line.Bad → other ≢ Line.Bad → IsLine line text →
+    ensures { (text : List ℕ) (line other : Line) → line ≢ Bad → other ≢ Bad → IsLine line text →
         IsLine other text → line ≡ other }
 {}
 
@@ -18,5 +17,5 @@ pub fn said_is_written()
 
 /// A text that a line is written as says that line.
 pub fn written_is_said()
-    ensures { (text : List ℕ) (line : Line) → line ≢ Line.Bad → IsLine line text → line_of text ≡ line }
+    ensures { (text : List ℕ) (line : Line) → line ≢ Bad → IsLine line text → line_of text ≡ line }
 {}

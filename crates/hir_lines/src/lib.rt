@@ -3,17 +3,20 @@
 #![tactic(auto)]
 
 mod arms_and_statements;
+mod builder;
 mod exprs;
 pub mod laws;
-mod line;
 mod names;
 mod numerals;
 mod operators;
 mod pats;
+mod question;
 mod reading;
 mod stop;
 mod types;
 mod words;
 
-pub use line::{BodyQuestion, Line, Maker, Question, StoreQuestion};
-pub use reading::parse;
+pub use builder::Builder;
+pub use question::{BodyQuestion, Question, StoreQuestion};
+pub use reading::take;
+pub use stop::Stop;

@@ -5,24 +5,28 @@ ghost use Rattle.std.specs.List.{list_all};
 ghost use Rattle.std.specs.Char.{is_ascii};
 ghost use Rattle.hir_lines.specs.Names.{is_name, starts_name, continues_name};
 
+#[inline(always)]
 fn may_start_name(b: u8) -> bool
     ensures { result ≡ starts_name b }
 {
     b.is_ascii_alphabetic() || b == b'_'
 }
 
+#[inline(always)]
 fn may_continue_name(b: u8) -> bool
     ensures { result ≡ continues_name b }
 {
     may_start_name(b) || b.is_ascii_digit()
 }
 
+#[inline(always)]
 fn continues_as_name(text: &[u8]) -> bool
     ensures { result ≡ list_all continues_name text.now }
 {
     text.iter().all(|b| may_continue_name(*b))
 }
 
+#[inline(always)]
 fn is_a_name(text: &[u8]) -> bool
     ensures { result ≡ is_name text.now }
 {
@@ -50,6 +54,7 @@ pub fn ascii(text: &[u8]) -> Option<&str>
 }
 
 /// The text, if it is a name.
+#[inline(always)]
 pub fn name(text: &[u8]) -> Option<&str>
     ensures some { IfSome result (λ name. (name.now ≡ text.now) × (is_name text.now ≡ true)) }
     ensures none { IfNone result (is_name text.now ≡ false) }

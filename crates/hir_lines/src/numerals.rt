@@ -7,6 +7,7 @@ ghost use Rattle.hir_lines.specs.Readings.{parts_of, parts_left};
 ghost use Rattle.hir_lines.specs.Words.{number};
 
 /// The value of the leading digits, if it is below 2 ^ 32, and how many they are.
+#[inline(always)]
 fn leading_digits(text: &[u8]) -> Option<(u32, usize)>
     ensures some { IfSome result
         (λ found. (found.1 ≡ digits_len text.now)
@@ -24,6 +25,7 @@ fn leading_digits(text: &[u8]) -> Option<(u32, usize)>
 }
 
 /// Whether the text is a zero before another byte.
+#[inline(always)]
 fn has_needless_zero(text: &[u8]) -> bool
     ensures { result ≡ has_needless_zero text.now }
 {
@@ -44,6 +46,7 @@ fn is_numeral(text: &[u8]) -> bool
 }
 
 /// The number that the leading digits are, and how many they are.
+#[inline(always)]
 fn leading_number(text: &[u8]) -> Option<(u32, usize)>
     ensures some { IfSome result
         (λ found. (found.1 ≡ digits_len text.now) × (number_of (take found.1 text.now) ≡ Some found.0)) }
@@ -57,6 +60,7 @@ fn leading_number(text: &[u8]) -> Option<(u32, usize)>
 }
 
 /// The number that the text is, if it is one.
+#[inline(always)]
 pub fn number(text: &[u8]) -> Option<u32>
     ensures { result ≡ number_of text.now }
 {
@@ -95,6 +99,7 @@ pub fn int(text: &[u8]) -> Option<i128>
 }
 
 /// The number before the first separator, and what is left behind it.
+#[inline(always)]
 pub fn first_number(text: &[u8], separator: u8) -> Option<(u32, Option<&[u8]>)>
     requires { is_digit separator ≡ false }
     ensures some { IfSome result

@@ -1,21 +1,29 @@
-//! Reading a line: by its first word, and then by the words that its form has.
+//! Taking a line: by its first word, and then by the words that its form has.
 
-ghost use Rattle.std.specs.Prelude.{◌≡◌, ◌≢◌, IfOk};
+ghost use Rattle.std.specs.Prelude.{◌≡◌, ◌≢◌, MatchResult};
+ghost use Rattle.hir_lines.specs.declared.question.BodyQuestion.TheVariants.{Print};
+ghost use Rattle.hir_lines.specs.declared.question.Question.TheVariants.{OfBody};
 ghost use Rattle.hir_lines.specs.Grammar.{IsLine};
-ghost use Rattle.hir_lines.specs.Line.{line_of, plain_binding, bind, expr_hygiene, pat_hygiene, resolve, command};
-ghost use Rattle.hir_lines.specs.Readings.{Reads, Found, parts_of, space, whole};
+ghost use Rattle.hir_lines.specs.Line.{Line, Bad, line_of, or_bad, plain_binding, bind, expr_hygiene, pat_hygiene, command, Ask, children_line, root_of_line, chain_line, resolve_line, captures_line};
+ghost use Rattle.hir_lines.specs.Makers as make;
+ghost use Rattle.hir_lines.specs.Readings.{gives, parts_of, space, whole};
+ghost use Rattle.hir_lines.specs.Taking.{Puts, Asks, Takes};
+ghost use Rattle.hir_lines.specs.Types.{type_ref};
+ghost use Rattle.hir_lines.specs.Words.{name, number};
 
+use crate::builder::Builder;
 use crate::exprs::expr;
-use crate::line::{BodyQuestion, Line, Maker, Question, StoreQuestion};
 use crate::pats::pat;
+use crate::question::{BodyQuestion, Question, StoreQuestion};
 use crate::stop::Stop;
 use crate::types::type_ref;
 use crate::words::Words;
 use hir_base::{HygieneId, Name};
 use hir_node::{Binding, BindingAnnotation, ExprOrPatId};
-use std::alloc::{AllocError, Global};
+use std::alloc::Global;
 
 /// A binding with no word before its name.
+#[inline(always)]
 fn plain_binding(name: Name, hygiene: HygieneId) -> Binding
     ensures { result ≡ plain_binding name hygiene }
 {
@@ -27,101 +35,220 @@ fn plain_binding(name: Name, hygiene: HygieneId) -> Binding
     }
 }
 
-/// A binding.
-fn bind(alloc: Global, words: &mut Words<'_>) -> Result<Maker, Stop>
-    ensures { Reads bind words.old result words.new }
+/// Makes a binding.
+#[inline(always)]
+fn bind<B: Builder>(alloc: Global, words: &mut Words<'_>, builder: &mut B) -> Result<(), Stop>
+    ensures { Puts B.add (λ maker. maker) bind words.old builder.old builder.new result }
 {
     let name = words.name(alloc)?;
     let hygiene = words.hygiene()?;
-    Ok(Maker::Binding(plain_binding(name, hygiene)))
+    words.end()?;
+    builder.binding(plain_binding(name, hygiene))
 }
 
-/// The hygiene of the path that an expression is.
-fn expr_hygiene(words: &mut Words<'_>) -> Result<Maker, Stop>
-    ensures { Reads expr_hygiene words.old result words.new }
+/// Makes a type.
+fn make_type<B: Builder>(alloc: Global, words: &mut Words<'_>, builder: &mut B) -> Result<(), Stop>
+    ensures { Puts B.add make.TypeRef type_ref words.old builder.old builder.new result }
+{
+    let made = type_ref(alloc, words)?;
+    words.end()?;
+    builder.type_ref(made)
+}
+
+/// Sets the hygiene of the path that an expression is.
+fn expr_hygiene<B: Builder>(words: &mut Words<'_>, builder: &mut B) -> Result<(), Stop>
+    ensures { Puts B.add (λ maker. maker) expr_hygiene words.old builder.old builder.new result }
 {
     let id = ExprOrPatId::ExprId(words.id()?);
-    Ok(Maker::Hygiene(id, words.expansion()?))
+    let hygiene = words.expansion()?;
+    words.end()?;
+    builder.hygiene(id, hygiene)
 }
 
-/// The hygiene of the path that a pattern is.
-fn pat_hygiene(words: &mut Words<'_>) -> Result<Maker, Stop>
-    ensures { Reads pat_hygiene words.old result words.new }
+/// Sets the hygiene of the path that a pattern is.
+fn pat_hygiene<B: Builder>(words: &mut Words<'_>, builder: &mut B) -> Result<(), Stop>
+    ensures { Puts B.add (λ maker. maker) pat_hygiene words.old builder.old builder.new result }
 {
     let id = ExprOrPatId::PatId(words.id()?);
-    Ok(Maker::Hygiene(id, words.expansion()?))
+    let hygiene = words.expansion()?;
+    words.end()?;
+    builder.hygiene(id, hygiene)
+}
+
+/// Sets the self parameter.
+fn self_param<B: Builder>(words: &mut Words<'_>, builder: &mut B) -> Result<(), Stop>
+    ensures { Puts B.add make.SelfParam number words.old builder.old builder.new result }
+{
+    let id = words.id()?;
+    words.end()?;
+    builder.self_param(id)
+}
+
+/// Adds a parameter.
+fn param<B: Builder>(words: &mut Words<'_>, builder: &mut B) -> Result<(), Stop>
+    ensures { Puts B.add make.Param number words.old builder.old builder.new result }
+{
+    let id = words.id()?;
+    words.end()?;
+    builder.param(id)
+}
+
+/// Sets the name of the function.
+fn fn_name<B: Builder>(alloc: Global, words: &mut Words<'_>, builder: &mut B) -> Result<(), Stop>
+    ensures { Puts B.add make.FnName name words.old builder.old builder.new result }
+{
+    let name = words.name(alloc)?;
+    words.end()?;
+    builder.fn_name(name)
+}
+
+/// Begins the list of roots.
+fn roots<B: Builder>(words: &Words<'_>, builder: &mut B) -> Result<(), Stop>
+    ensures { Puts B.add (λ maker. maker) (gives make.Roots) words.now builder.old builder.new result }
+{
+    words.end()?;
+    builder.roots()
+}
+
+/// Adds a root.
+fn root<B: Builder>(words: &mut Words<'_>, builder: &mut B) -> Result<(), Stop>
+    ensures { Puts B.add make.Root number words.old builder.old builder.new result }
+{
+    let id = words.id()?;
+    words.end()?;
+    builder.root(id)
+}
+
+/// The question for the children of an expression.
+fn children(words: &mut Words<'_>) -> Result<Question, Stop>
+    ensures { Asks children_line words.old result }
+{
+    let id = words.id()?;
+    words.end()?;
+    Ok(Question::OfStore(StoreQuestion::Children(id)))
+}
+
+/// The question for the root that an expression was made for.
+fn root_of(words: &mut Words<'_>) -> Result<Question, Stop>
+    ensures { Asks root_of_line words.old result }
+{
+    let id = words.id()?;
+    words.end()?;
+    Ok(Question::OfStore(StoreQuestion::RootOf(id)))
+}
+
+/// The question for the names that an expression sees.
+fn chain(words: &mut Words<'_>) -> Result<Question, Stop>
+    ensures { Asks chain_line words.old result }
+{
+    let id = words.id()?;
+    words.end()?;
+    Ok(Question::OfBody(BodyQuestion::Chain(id)))
 }
 
 /// The question what a name means at an expression.
-fn resolve(alloc: Global, words: &mut Words<'_>) -> Result<BodyQuestion, Stop>
-    ensures { Reads resolve words.old result words.new }
+fn resolve(alloc: Global, words: &mut Words<'_>) -> Result<Question, Stop>
+    ensures { Asks resolve_line words.old result }
 {
     let expr = words.id()?;
     let name = words.name(alloc)?;
     let hygiene = words.hygiene()?;
-    Ok(BodyQuestion::Resolve(expr, name, hygiene))
+    words.end()?;
+    Ok(Question::OfBody(BodyQuestion::Resolve(expr, name, hygiene)))
 }
 
-/// What the words of a line say.
-#[tactic(auto, unfolding(crate::specs::Line::command))]
-fn command(alloc: Global, words: &mut Words<'_>) -> Result<Line, Stop>
-    ensures { Reads command words.old result words.new }
+/// The question for the printed body.
+fn print(words: &Words<'_>) -> Result<Question, Stop>
+    ensures { Asks (gives (Ask (OfBody Print))) words.now result }
 {
-    match words.keyword()? {
-        "bind" => Ok(Line::Make(bind(alloc, words)?)),
-        "pat" => Ok(Line::Make(Maker::Pat(pat(alloc, words)?))),
-        "type" => Ok(Line::Make(Maker::Type(type_ref(alloc, words)?))),
-        "expr" => Ok(Line::Make(Maker::Expr(expr(alloc, words)?))),
-        "hygiene" => Ok(Line::Make(expr_hygiene(words)?)),
-        "pat-hygiene" => Ok(Line::Make(pat_hygiene(words)?)),
-        "self" => Ok(Line::Make(Maker::SelfParam(words.id()?))),
-        "param" => Ok(Line::Make(Maker::Param(words.id()?))),
-        "fn" => Ok(Line::Make(Maker::FnName(words.name(alloc)?))),
-        "roots" => Ok(Line::Make(Maker::Roots)),
-        "root" => Ok(Line::Make(Maker::Root(words.id()?))),
-        "children" => Ok(Line::Ask(Question::OfStore(StoreQuestion::Children(words.id()?)))),
-        "root-of" => Ok(Line::Ask(Question::OfStore(StoreQuestion::RootOf(words.id()?)))),
-        "chain" => Ok(Line::Ask(Question::OfBody(BodyQuestion::Chain(words.id()?)))),
-        "resolve" => Ok(Line::Ask(Question::OfBody(resolve(alloc, words)?))),
-        "print" => Ok(Line::Ask(Question::OfBody(BodyQuestion::Print))),
-        "captures" => Ok(Line::Ask(Question::OfBody(BodyQuestion::Captures(words.id()?)))),
+    words.end()?;
+    Ok(Question::OfBody(BodyQuestion::Print))
+}
+
+/// The question for the captures of a closure.
+fn captures(words: &mut Words<'_>) -> Result<Question, Stop>
+    ensures { Asks captures_line words.old result }
+{
+    let id = words.id()?;
+    words.end()?;
+    Ok(Question::OfBody(BodyQuestion::Captures(id)))
+}
+
+/// A line that makes something asks nothing.
+#[inline(always)]
+fn makes(outcome: Result<(), Stop>) -> Result<Option<Question>, Stop>
+    ensures { MatchResult outcome (λ done. result ≡ Ok None) (λ why. result ≡ Err why) }
+{
+    outcome?;
+    Ok(None)
+}
+
+/// A line that asks makes nothing.
+fn asks(outcome: Result<Question, Stop>) -> Result<Option<Question>, Stop>
+    ensures { MatchResult outcome (λ question. result ≡ Ok (Some question)) (λ why. result ≡ Err why) }
+{
+    Ok(Some(outcome?))
+}
+
+/// Takes the words of a line.
+#[tactic(auto, unfolding(crate::specs::Line::command))]
+#[inline(always)]
+fn command<B: Builder>(
+    alloc: Global,
+    words: &mut Words<'_>,
+    builder: &mut B,
+) -> Result<Option<Question>, Stop>
+    ensures { Takes B.add (or_bad (whole command words.old)) builder.old builder.new result }
+{
+    match words.word()? {
+        [b'b', b'i', b'n', b'd'] => makes(bind(alloc, words, builder)),
+        [b'p', b'a', b't'] => makes(pat(alloc, words, builder)),
+        [b't', b'y', b'p', b'e'] => makes(make_type(alloc, words, builder)),
+        [b'e', b'x', b'p', b'r'] => makes(expr(alloc, words, builder)),
+        b"hygiene" => makes(expr_hygiene(words, builder)),
+        b"pat-hygiene" => makes(pat_hygiene(words, builder)),
+        b"self" => makes(self_param(words, builder)),
+        b"param" => makes(param(words, builder)),
+        b"fn" => makes(fn_name(alloc, words, builder)),
+        b"roots" => makes(roots(words, builder)),
+        b"root" => makes(root(words, builder)),
+        b"children" => asks(children(words)),
+        b"root-of" => asks(root_of(words)),
+        b"chain" => asks(chain(words)),
+        b"resolve" => asks(resolve(alloc, words)),
+        b"print" => asks(print(words)),
+        b"captures" => asks(captures(words)),
         _ => Err(Stop::Bad),
     }
 }
 
-/// What the words of a line say, if they are all read.
-fn whole_command(alloc: Global, text: &[u8]) -> Result<Line, Stop>
-    ensures { Found (whole command (parts_of space text.now)) result }
-{
-    let mut words = Words::new(text, b' ');
-    let line = command(alloc, &mut words)?;
-    words.alone(line)
-}
-
 #[tactic(auto, unfolding(crate::specs::Line::line_of))]
-fn line(alloc: Global, text: &[u8]) -> Result<Line, AllocError>
-    ensures { IfOk result (λ line. line ≡ line_of text.now) }
+#[inline(always)]
+fn line<B: Builder>(alloc: Global, text: &[u8], builder: &mut B) -> Result<Option<Question>, Stop>
+    ensures { Takes B.add (line_of text.now) builder.old builder.new result }
 {
     if text.is_empty() {
-        return Ok(Line::Blank);
+        return Ok(None);
     }
-    match whole_command(alloc, text) {
-        Ok(line) => Ok(line),
-        Err(Stop::Bad) => Ok(Line::Bad),
-        Err(Stop::Memory(error)) => Err(error),
-    }
+    let mut words = Words::new(text, b' ');
+    command(alloc, &mut words, builder)
 }
 
-/// What a line says.
+/// Takes a line: the builder gets what it makes, and its question is answered, where it asks.
 ///
-/// Answers an error where memory was refused.
-pub fn parse(alloc: Global, text: &[u8]) -> Result<Line, AllocError>
-    ensures value { IfOk result (λ line. line ≡ line_of text.now) }
-    // What is accepted is written as the grammar has it.
-    ensures accepted { IfOk result (λ line. IsLine line text.now) }
-    // All that the grammar has is accepted.
-    ensures whole { IfOk result
-        (λ line. (other : Line) → other ≢ Line.Bad → IsLine other text.now → line ≡ other) }
+/// `Bad` where no line is written so, or the builder answers so; `Memory` where memory was refused. After either nothing was added.
+#[inline(always)]
+pub fn take<B: Builder>(
+    alloc: Global,
+    text: &[u8],
+    builder: &mut B,
+) -> Result<Option<Question>, Stop>
+    ensures takes { Takes B.add (line_of text.now) builder.old builder.new result }
+    // What is taken is written as the grammar has it.
+    ensures accepted { ((line : Line) × IsLine line text.now × Takes B.add line builder.old builder.new result) }
+    // All that the grammar has is taken.
+    ensures whole { (line : Line) → line ≢ Bad → IsLine line text.now
+        → Takes B.add line builder.old builder.new result }
 {
-    line(alloc, text)
+    line(alloc, text, builder)
 }

@@ -2,7 +2,7 @@
 
 ghost use Rattle.std.specs.Prelude.{None, Some, ◌≡◌, ◌∷◌, [], MatchResult, IsTrue, ◌↔◌, position, false};
 ghost use Rattle.hir_lines.specs.Numerals.{is_digit};
-ghost use Rattle.hir_lines.specs.Readings.{parts_of, parts_left, is_byte, alone, Found, Reads, first_word, each};
+ghost use Rattle.hir_lines.specs.Readings.{parts_of, parts_left, is_byte, alone, Found, HasWord, Reads, first_word, each};
 ghost use Rattle.hir_lines.specs.Words.{number, optional, list, keyword, name, path, int, op, expansion, hygiene};
 
 use crate::names::{ascii as ascii_text, name as name_text};
@@ -46,6 +46,7 @@ impl<'a> Words<'a> {
     }
 
     /// Takes the next word.
+    #[inline(always)]
     pub fn word(&mut self) -> Result<&'a [u8], Stop>
         ensures { MatchResult result (λ word. self.old ≡ word.now ∷ self.new) (λ _. self.old ≡ []) }
     {
@@ -60,6 +61,7 @@ impl<'a> Words<'a> {
     }
 
     /// Takes the next word, if it is a number.
+    #[inline(always)]
     pub fn number(&mut self) -> Result<u32, Stop>
         ensures { Reads number self.old result self.new }
     {
@@ -76,6 +78,7 @@ impl<'a> Words<'a> {
     }
 
     /// Takes the next word, if it is the number of something.
+    #[inline(always)]
     pub fn id<K>(&mut self) -> Result<Idx<K>, Stop>
         ensures { Reads number self.old result self.new }
     {
@@ -84,6 +87,7 @@ impl<'a> Words<'a> {
 
     /// Takes the next word, if it is a number or a dash.
     #[tactic(auto, unfolding(crate::specs::Words::optional_of))]
+    #[inline(always)]
     pub fn optional(&mut self) -> Result<Option<u32>, Stop>
         ensures { Reads optional self.old result self.new }
     {
@@ -98,6 +102,7 @@ impl<'a> Words<'a> {
     }
 
     /// Takes the next word, if it is the number of something or a dash.
+    #[inline(always)]
     pub fn optional_id<K>(&mut self) -> Result<Option<Idx<K>>, Stop>
         ensures { Reads optional self.old result self.new }
     {
@@ -132,6 +137,7 @@ impl<'a> Words<'a> {
     }
 
     /// Takes the next word, if it is a name.
+    #[inline(always)]
     pub fn name(&mut self, alloc: Global) -> Result<Name, Stop>
         ensures { Reads name self.old result self.new }
     {
@@ -143,6 +149,7 @@ impl<'a> Words<'a> {
     }
 
     /// Takes the next word, if it is a name: the plain path of that name.
+    #[inline(always)]
     pub fn path(&mut self, alloc: Global) -> Result<Path, Stop>
         ensures { Reads path self.old result self.new }
     {
@@ -172,6 +179,7 @@ impl<'a> Words<'a> {
     }
 
     /// Takes the next word, if it is the number of a macro expansion: the hygiene of that expansion.
+    #[inline(always)]
     pub fn expansion(&mut self) -> Result<HygieneId, Stop>
         ensures { Reads expansion self.old result self.new }
     {
@@ -179,6 +187,7 @@ impl<'a> Words<'a> {
     }
 
     /// Takes the next word, if it is the number of a macro expansion; where no word is left, the hygiene is that of source text.
+    #[inline(always)]
     pub fn hygiene(&mut self) -> Result<HygieneId, Stop>
         ensures { Reads hygiene self.old result self.new }
     {
@@ -188,17 +197,27 @@ impl<'a> Words<'a> {
         self.expansion()
     }
 
+    /// Refuses words that are left.
+    #[inline(always)]
+    pub fn end(&self) -> Result<(), Stop>
+        ensures { MatchResult result (λ done. self.now ≡ []) (λ why. HasWord self.now) }
+    {
+        match self.rest {
+            Some(_) => Err(Stop::Bad),
+            None => Ok(()),
+        }
+    }
+
     /// The value, if no word is left.
     pub fn alone<T: Drop>(&self, value: T) -> Result<T, Stop>
         ensures { Found (alone value self.now) result }
     {
-        match self.rest {
-            Some(_) => Err(Stop::Bad),
-            None => Ok(value),
-        }
+        self.end()?;
+        Ok(value)
     }
 
     /// Whether no word is left.
+    #[inline(always)]
     pub fn is_empty(&self) -> bool
         ensures { IsTrue result ↔ (self.now ≡ []) }
     {
@@ -242,6 +261,7 @@ pub fn each<T: Word + Drop>(alloc: Global, words: &mut Words<'_>) -> Result<Seq<
 }
 
 /// The first place of a byte.
+#[inline(always)]
 fn find(text: &[u8], byte: u8) -> Option<usize>
     ensures { result ≡ position (is_byte byte) text.now }
 {
@@ -249,6 +269,7 @@ fn find(text: &[u8], byte: u8) -> Option<usize>
 }
 
 /// The text before the first separator, and the text after it, where there is one.
+#[inline(always)]
 fn cut(text: &[u8], separator: u8) -> (&[u8], Option<&[u8]>)
     ensures { parts_of separator text.now ≡ result.0.now ∷ parts_left separator result.1 }
 {

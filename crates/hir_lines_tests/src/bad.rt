@@ -1,7 +1,7 @@
 //! Texts that are nearly lines, and are none. They stand in a few tables: one table of them all would be far dearer to prove.
 
+use crate::kept::Line;
 use crate::says::says;
-use hir_lines::Line;
 use std::alloc::Global;
 use std::process::Abort;
 use std::test::Fail;

@@ -1,9 +1,9 @@
 //! What each line of an expression makes, but for operators.
 //! The texts stand in tables, and an expression is made by its place there: each function that holds expressions is dear to prove.
 
+use crate::kept::{Line, Maker};
 use crate::says::{id, list, path, says};
 use hir_base::{BlockId, MacroDefId, Seq};
-use hir_lines::{Line, Maker};
 use hir_node::{
     Array, CaptureBy, ClosureKind, Expr, Item, Literal, LoopSource, MatchArm, Mutability, Rawness,
     Statement, Unsafe,

@@ -1,8 +1,9 @@
 //! What each form of a line makes or asks, but for expressions.
 
+use crate::kept::{Line, Maker};
 use crate::says::{id, list, makes, path, says};
 use hir_base::{HygieneId, Name, RangeOp, Seq, SyntaxContext};
-use hir_lines::{BodyQuestion, Line, Maker, Question, StoreQuestion};
+use hir_lines::{BodyQuestion, Question, StoreQuestion};
 use hir_node::{
     ArrayType, Binding, BindingAnnotation, ConstRef, ExprId, ExprOrPatId, Pat, PatId, TypeRef,
 };

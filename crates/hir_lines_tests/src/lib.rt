@@ -7,6 +7,7 @@ mod bad;
 mod exprs;
 #[cfg(test)]
 mod good;
+mod kept;
 #[cfg(test)]
 mod ops;
 #[cfg(test)]

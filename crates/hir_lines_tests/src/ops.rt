@@ -1,8 +1,8 @@
 //! The operators between two expressions, each by its text.
 
+use crate::kept::Maker;
 use crate::says::{id, makes};
 use hir_base::{ArithOp, BinaryOp, CmpOp, LogicOp, Ordering};
-use hir_lines::Maker;
 use hir_node::Expr;
 use std::test::Fail;
 

@@ -1,16 +1,17 @@
 //! What a text says, held against a line; and the parts of lines that take memory.
 //! A line is dropped whole before its answer is weighed, since one that goes out of scope is dear to prove.
 
+use crate::kept::{Line, Maker, said};
 use hir_base::{Idx, Name, Seq};
-use hir_lines::{Line, Maker, parse};
+use hir_lines::Stop;
 use hir_node::Path;
 use std::alloc::{AllocError, Global};
 use std::mem::drop;
 use std::process::Abort;
 use std::test::Fail;
 
-fn is_said(alloc: Global, text: &[u8], line: &Line) -> Result<bool, AllocError> {
-    let said = parse(alloc, text)?;
+fn is_said(alloc: Global, text: &[u8], line: &Line) -> Result<bool, Stop> {
+    let said = said(alloc, text)?;
     let is_said = said == *line;
     drop(said);
     Ok(is_said)

@@ -61,7 +61,7 @@ module _ (text : List ℕ) (len : ℕ) (t : IsTrimmedLen text len) where
       let lines : Lines → Lines = λ l. (l.0, l.1 ++ spaces) in
       ap lines_of parts ∙ lines_of-plain (take len text) spaces (no_end_in_spaces (length text - len)) ∙ ap lines short
 
-no_end_one : (c : ℕ) → c ≢ 10 → HasNoEnd (c ∷ [])
+pub no_end_one : (c : ℕ) → c ≢ 10 → HasNoEnd (c ∷ [])
 no_end_one c ne zero lt = ne
 no_end_one c ne (suc i) lt = absurd (omega arith)
 

@@ -31,7 +31,7 @@ pub lines_of-end : (xs : List ℕ) → lines_of (xs ++ (10 ∷ [])) ≡ ((lines_
 lines_of-end xs = lines_of-append xs (10 ∷ [])
 
 -- a character that is no line end
-put_plain : (c : ℕ) (p : Page) → c ≢ 10 → put c p ≡ (let q = begun p in record q { last = q.last ++ (c ∷ []); format = format_in_line p.format })
+pub put_plain : (c : ℕ) (p : Page) → c ≢ 10 → put c p ≡ (let q = begun p in record q { last = q.last ++ (c ∷ []); format = format_in_line p.format })
 put_plain c p ne =
     let q = begun p in
     let both : Bool → Page = λ b. cond b (record q { above = q.last ∷ q.above; last = []; format = format_after_end p.format }) (record q { last = q.last ++ (c ∷ []); format = format_in_line p.format }) in

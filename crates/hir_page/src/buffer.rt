@@ -1,5 +1,5 @@
 //! The one buffer of a printing: a text that is written at its end alone, and looks back over its last characters.
-ghost use Rattle.std.specs.Prelude.{◌≡◌, ◌∷◌, [], ◌++◌, ◌+◌, ◌-◌, OnOk, IsTrue, ◌↔◌, string_bytes};
+ghost use Rattle.std.specs.Prelude.{◌≡◌, ◌≢◌, ◌<◌, ◌∷◌, [], ◌++◌, ◌+◌, ◌-◌, OnOk, IsTrue, ◌↔◌, string_bytes};
 ghost use Rattle.hir_page.specs.Buffer.{HasNoEnd, IsTrimmedLen, IsCutText, EndsInLineEnd};
 ghost use Rattle.hir_page.specs.LastByte.{IsLastByte};
 ghost use Rattle.hir_page.specs.Page.{begun, parted, indented, put, put_all, trimmed, spaced, line_ended, joined, without_empty_lines, is_blank, empty_page, page_text};
@@ -93,6 +93,19 @@ impl PageBuffer {
         Ok(())
     }
 
+    /// Adds a character to the last line, whatever the format.
+    #[inline(always)]
+    fn add_byte(&mut self, byte: u8) -> Result<(), AllocError>
+        requires { (byte < 128) × (byte ≢ 10) }
+        ensures { OnOk result (self.new ≡ record self.old { last = self.old.last ++ (byte ∷ []) }) }
+    {
+        self.text.push(char::from(byte))?;
+        if byte != b' ' {
+            self.kept = self.text.len();
+        }
+        Ok(())
+    }
+
     /// Adds four spaces for each level.
     fn indent_line(&mut self) -> Result<(), AllocError>
         ensures { OnOk result (self.new ≡ indented self.old) }
@@ -111,17 +124,24 @@ impl PageBuffer {
         Ok(())
     }
 
+    /// Begins a line, unless the last is blank, and indents it.
+    #[inline(never)]
+    fn begin_line(&mut self) -> Result<(), AllocError>
+        ensures { OnOk result (self.new ≡ indented (parted self.old)) }
+    {
+        self.part_line()?;
+        self.indent_line()
+    }
+
     /// Begins a line, and indents it, if the next text has to begin one.
+    #[inline(always)]
     fn begin(&mut self) -> Result<(), AllocError>
         ensures { OnOk result (self.new ≡ begun self.old) }
     {
         match self.format {
             LineFormat::Oneline => Ok(()),
             LineFormat::Newline => Ok(()),
-            LineFormat::Indentation => {
-                self.part_line()?;
-                self.indent_line()
-            }
+            LineFormat::Indentation => self.begin_line(),
         }
     }
 
@@ -136,6 +156,46 @@ impl PageBuffer {
             self.format = self.format.in_line();
         }
         Ok(())
+    }
+
+    /// Writes text of one character, as most texts are.
+    #[inline(always)]
+    fn character(&mut self, text: &str, byte: u8) -> Result<(), AllocError>
+        requires { text.now ≡ byte ∷ [] }
+        ensures { OnOk result (self.new ≡ put_all text.now self.old) }
+    {
+        if byte == b'\n' || !byte.is_ascii() {
+            return self.lines(text);
+        }
+        self.begin()?;
+        self.add_byte(byte)?;
+        self.format = self.format.in_line();
+        Ok(())
+    }
+
+    /// Writes text, which seldom has a line end.
+    #[inline(never)]
+    fn several(&mut self, text: &str) -> Result<(), AllocError>
+        ensures { OnOk result (self.new ≡ put_all text.now self.old) }
+    {
+        if text.as_bytes().contains(&b'\n') {
+            return self.lines(text);
+        }
+        self.line(text)
+    }
+
+    /// Writes text line by line.
+    #[inline(never)]
+    fn lines(&mut self, text: &str) -> Result<(), AllocError>
+        ensures { OnOk result (self.new ≡ put_all text.now self.old) }
+    {
+        let mut rest = text;
+        while let Some((line, after)) = rest.split_once('\n') {
+            self.line(line)?;
+            self.line_end()?;
+            rest = after;
+        }
+        self.line(rest)
     }
 
     /// Writes a line end.
@@ -248,14 +308,13 @@ impl PieceWriter for PageBuffer {
 
     ghost step = { λ page piece after. after ≡ rendered piece page };
 
+    #[inline(always)]
     fn text(&mut self, text: &str) -> Result<(), AllocError> {
-        let mut rest = text;
-        while let Some((line, after)) = rest.split_once('\n') {
-            self.line(line)?;
-            self.line_end()?;
-            rest = after;
+        match text.as_bytes() {
+            [] => Ok(()),
+            [byte] => self.character(text, *byte),
+            [_, _, ..] => self.several(text),
         }
-        self.line(rest)
     }
 
     fn soft_space(&mut self) -> Result<(), AllocError> {

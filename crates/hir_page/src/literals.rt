@@ -215,6 +215,7 @@ pub fn write_c_string_literal<W: PieceWriter>(
 }
 
 /// Writes a number in decimal.
+#[inline(never)]
 pub fn write_number<W: PieceWriter, I: Integer>(writer: &mut W, number: I) -> Result<(), AllocError>
     ensures { Writes W.step W.refuses writer.old (piece.Text (I.text number) ∷ []) (is_ok result) writer.new }
 {

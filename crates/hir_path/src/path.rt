@@ -25,9 +25,9 @@ pub enum Path {
 }
 
 impl ExactEq for Path {
-    ghost use Rattle.hir_path.specs.same.SamePaths.{of_paths};
+    ghost use Rattle.hir_path.specs.same.SamePaths.{paths_decide};
 
-    ghost eq_decides = { Prim.search of_paths };
+    ghost eq_decides = { paths_decide };
 }
 
 impl TryClone for Path {
@@ -68,19 +68,12 @@ impl Path {
         Path::BarePath(mod_path)
     }
 
-    /// The plain path of one name.
-    ///
-    /// Answers an error if memory was refused: the name is handed back.
-    pub fn from_name(alloc: Global, name: Name) -> Result<Path, AllocFailed<Name>>
+    /// The plain path of one name. It takes no memory, and is never refused.
+    pub fn from_name(_alloc: Global, name: Name) -> Result<Path, AllocFailed<Name>>
         ensures ok { IfOk result (λ made. made ≡ one_name name) }
         ensures value_returned { IfErr result (λ failed. failed.value ≡ name) }
     {
-        // Most paths have one name, and the first growth of a list makes room for four.
-        let Ok(mut names) = Seq::with_capacity(alloc, 1) else {
-            return Err(AllocFailed { value: name });
-        };
-        names.push(name)?;
-        Ok(Path::BarePath(ModPath::from_segments(PathKind::Plain, names)))
+        Ok(Path::BarePath(ModPath::from_name(name)))
     }
 
     /// Where the path begins: at `Abs` for a lang item.

@@ -1,8 +1,9 @@
 -- The items of a list by those of its first member and of the rest.
-use Rattle.std.proofs.Common.{◌≡◌, ℕ, ◌+◌, ◌<◌, List, [], ◌∷◌, ◌++◌, codes, Option, refl, ap, ◌∙◌, arith, true, false, ◌==◌, length, take, drop, get_or}
+use Rattle.std.proofs.Common.{◌≡◌, ℕ, ◌+◌, ◌<◌, List, [], ◌∷◌, ◌++◌, codes, Option, refl, ap, ◌∙◌, arith, ◌⊎◌, inl, inr, true, false, ◌==◌, length, take, drop, get_or}
 use Rattle.std.specs.Prelude.{◌-◌}
 use Rattle.std.specs.List.{flat_map}
 use Rattle.std.proofs.lemmas.List.{take_all}
+use Rattle.std.proofs.lemmas.Bool.Decides.{Decides-eqb}
 use Rattle.hir_pretty.specs.Items.{Item, text, p, t, opt, comma_joined}
 use Rattle.hir_pretty.specs.Exprs.{params}
 
@@ -33,6 +34,23 @@ params_none xs (y ∷ ys) l = absurd (omega arith)
 
 abbrev pub typed : ℕ → Option ℕ → List Item
 typed x type = p x ++ opt (λ id. text (codes ": ") ++ t id) type
+
+pub params_one : (xs : List ℕ) (ys : List (Option ℕ)) (x : ℕ) (y : Option ℕ) → x ≡ get_or xs 0 x → y ≡ get_or ys 0 y → 0 < length xs → 0 < length ys
+    → (length xs < 2) ⊎ (length ys < 2) → typed x y ≡ comma_joined (params xs ys)
+params_one [] ys x y e k l m one = absurd (omega arith)
+params_one (a ∷ xs) [] x y e k l m one = absurd (omega arith)
+params_one (a ∷ []) (b ∷ ys) x y e k l m one = ap (λ i. typed i y) e ∙ ap (λ o. typed a o) k
+params_one (a ∷ c ∷ xs) (b ∷ []) x y e k l m one = ap (λ i. typed i y) e ∙ ap (λ o. typed a o) k
+params_one (a ∷ c ∷ xs) (b ∷ d ∷ ys) x y e k l m (inl h) = absurd (omega arith)
+params_one (a ∷ c ∷ xs) (b ∷ d ∷ ys) x y e k l m (inr h) = absurd (omega arith)
+
+pub no_rest : {X : Type 0} (xs : List X) → (length (rest xs) == 0) ≡ true → length xs < 2
+no_rest [] e = omega arith
+no_rest (x ∷ []) e = omega arith
+no_rest (x ∷ y ∷ xs) e =
+    let none : length (rest (x ∷ y ∷ xs)) ≡ 0 = (Decides-eqb (length (rest (x ∷ y ∷ xs))) 0).0 e in
+    let some : 1 + length (rest (x ∷ y ∷ xs)) ≡ length (x ∷ y ∷ xs) = length_rest (x ∷ y ∷ xs) (omega arith) in
+    absurd (omega arith)
 
 pub params_more : (xs : List ℕ) (ys : List (Option ℕ)) (x : ℕ) (y : Option ℕ) → x ≡ get_or xs 0 x → y ≡ get_or ys 0 y → 1 < length xs → 1 < length ys
     → typed x y ++ text (codes ", ") ++ comma_joined (params (rest xs) (rest ys)) ≡ comma_joined (params xs ys)

@@ -6,6 +6,7 @@ pub mod FallLemmas
 pub mod NodesFall
 pub mod ItemsFall
 pub mod OpenLemmas
+pub mod OrderLemmas
 pub mod FirstLemmas
 pub mod JoinLemmas
 pub mod FieldLemmas

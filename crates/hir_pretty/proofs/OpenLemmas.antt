@@ -43,6 +43,22 @@ opens_before {s} {works} {old} {between} {new} {is} {whole} {cost} {most} o p e 
   costs = let k = ap (total work_cost) p.is ∙ total-append work_cost works between in let h = o.costs in omega arith;
 }
 
+-- parts, and works, before others
+pub opens_then : {s : Setting} {old between new : List Work} {is more : List Item} {cost least : ℕ} → Opens s old is cost between → Opens s between more least new
+    → Opens s old (more ++ is) (cost + least) new
+opens_then {s} {old} {between} {new} {is} {more} {cost} {least} o q = record {
+  stands = q.stands ∙ ap (λ xs. more ++ xs) o.stands ∙ sym (append_assoc more is (pending s old));
+  costs = let h = o.costs in let k = q.costs in omega arith;
+}
+
+pub opens_put : {s : Setting} {works old between new : List Work} {is : List Item} {cost : ℕ} → Opens s old is cost between → Pushes works between new
+    → Opens s old (stood s works ++ is) (total work_cost works + cost) new
+opens_put o p = opens_before o p refl (omega arith)
+
+-- works and what they stand for
+pub opens_works : {s : Setting} {works old new : List Work} → Pushes works old new → Opens s old (stood s works) (1 + total work_cost works) new
+opens_works p = opens p refl (omega arith)
+
 -- the same items in other words
 pub opens_as : {s : Setting} {old new : List Work} {is others : List Item} {cost more : ℕ} → Opens s old is cost new → is ≡ others → cost ≤ more → Opens s old others more new
 opens_as {s} {old} {new} {is} {others} {cost} {more} o e c = record { stands = o.stands ∙ ap (λ xs. xs ++ pending s old) e; costs = let h = o.costs in omega arith }

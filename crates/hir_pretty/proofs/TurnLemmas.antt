@@ -1,8 +1,9 @@
 -- A turn of the loop, by what its work is.
 use Rattle.std.proofs.Common.{◌≡◌, ℕ, zero, suc, ◌+◌, ◌<◌, ◌≤◌, Bool, true, false, List, [], ◌∷◌, ◌++◌, map, codes, Option, Some, None, refl, sym, ap, subst, ◌∙◌, arith, append-nil}
-use Rattle.std.specs.List.{slice_get}
+use Rattle.std.specs.List.{flat_map, slice_get}
 use Rattle.std.proofs.lemmas.List.Concat.{flat_map-append}
 use Rattle.hir_base.specs.declared.prec.ExprPrecedence.{ExprPrecedence}
+use Rattle.hir_base.specs.declared.prec.ExprPrecedence.TheVariants.{Jump, Assign, Range, LOr, LAnd, Compare, BitOr, BitXor, BitAnd, Shift, Sum, Product, Cast, Prefix, Postfix, Unambiguous}
 use Rattle.hir_node.specs.declared.literal.Literal.{Literal}
 use Rattle.hir_node.specs.declared.literal.Literal.TheVariants as literal
 use Rattle.hir_node.specs.declared.node_id.NodeId.{NodeId}
@@ -16,12 +17,22 @@ use Rattle.hir_pretty.specs.declared.fault.PrintFault.{PrintFault}
 use Rattle.hir_pretty.specs.declared.fault.PrintFault.TheVariants as fault
 use Rattle.hir_pretty.specs.declared.work.Work.{Work}
 use Rattle.hir_pretty.specs.Questions.{Setting}
-use Rattle.hir_pretty.specs.Items.{Item, Put, Lacks, Whole, Under, Pattern, TypeItem, text, e}
+use Rattle.hir_base.specs.ModPath.{ident_of}
+use Rattle.hir_base.specs.declared.mod_path.PathKind.{PathKind}
+use Rattle.hir_base.specs.declared.mod_path.PathKind.TheVariants.{Plain, Super, Crate, Abs, DollarCrate}
+use Rattle.hir_node.specs.declared.binding.Binding.{Binding}
+use Rattle.hir_node.specs.declared.expr.Expr.{Expr}
+use Rattle.hir_node.specs.declared.pat.Pat.TheVariants as pat
+use Rattle.hir_pretty.specs.Items.{Item, Put, Lacks, Whole, Under, Pattern, TypeItem, text, opt}
+use Rattle.hir_pretty.specs.Names.{name_parts, name_items, annotation_text, of_binding, binding_items}
+use Rattle.hir_pretty.specs.Paths.{anchored, kind_items}
+use Rattle.hir_pretty.specs.Exprs.{expr_items}
+use Rattle.hir_pretty.specs.Pats.{pat_items}
 use Rattle.hir_pretty.specs.Literals.{literal_items}
 use Rattle.hir_pretty.specs.Pieces.{NodePiece, Layout, items_of, item_pieces, pieces, parenthesized, stands_in_parentheses, precedence_found}
 use Rattle.hir_pretty.specs.Falls.{AllNodes, ItemsFall}
 use Rattle.hir_pretty.specs.Costs.{total, node_cost}
-use Rattle.hir_pretty.specs.Works.{stands_for, pending, work_cost, Opens, item_weight, weight_step, weight, stack_cost, printed, Prints, ended, written, absent, refused, no_room, Turned, enclosed, put_pieces}
+use Rattle.hir_pretty.specs.Works.{stands_for, pending, work_cost, Opens, item_weight, weight_step, weight, stack_cost, printed, Prints, ended, written, absent, refused, no_room, Turned, enclosed, IsOnlyName, binding_texts, opt_texts, put_pieces}
 use Rattle.hir_pretty.proofs.StepLemmas.{nodes_weaker, pieces_at}
 use Rattle.hir_pretty.proofs.OpenLemmas.{total-append}
 
@@ -98,25 +109,87 @@ pub pieces_put : (ps : List Piece) → put_pieces (map Put ps) ≡ ps
 pieces_put [] = refl
 pieces_put (piece ∷ ps) = ap (λ qs. piece ∷ qs) (pieces_put ps)
 
-literal_printed : (s : Setting) (x : Literal) (rest : List Item) → map Layout (put_pieces (literal_items x)) ++ printed s rest ≡ printed s (literal_items x ++ rest)
-literal_printed s x rest = ap (λ ps. ps ++ printed s rest) (sym (put_printed s (literal_items x) (literal_put x))) ∙ sym (printed-append s (literal_items x) rest)
+-- texts
+printed_texts : (s : Setting) (ts : List (List ℕ)) → printed s (flat_map text ts) ≡ map Layout (map Text ts)
+printed_texts s [] = refl
+printed_texts s (t ∷ ts) = ap (λ ps. Layout (Text t) ∷ ps) (printed_texts s ts)
 
-put_weight : (s : Setting) (is : List Item) → AllPut is → total (item_weight (weight s)) is ≡ 0
-put_weight s [] a = refl
-put_weight s (Put piece ∷ is) a = omega (arith, put_weight s is a)
-put_weight s (Lacks missing ∷ is) a = absurd a
-put_weight s (Whole id ∷ is) a = absurd a
-put_weight s (Under id parent ∷ is) a = absurd a
-put_weight s (Pattern id ∷ is) a = absurd a
-put_weight s (TypeItem id ∷ is) a = absurd a
+pub name_printed : (s : Setting) (name : List ℕ) → printed s (name_items s name) ≡ map Layout (map Text (name_parts s.words name))
+name_printed s name = printed_texts s (name_parts s.words name)
 
-enclosed_printed : (s : Setting) (b : Bool) (id : ℕ) → printed s (enclosed b id) ≡ parenthesized b (pieces s (node.Expr id)) ++ []
-enclosed_printed s false id = refl
-enclosed_printed s true id = sym (append-nil (Layout (Text (codes "(")) ∷ (pieces s (node.Expr id) ++ (Layout (Text (codes ")")) ∷ []))))
+bound_printed : (s : Setting) (o : Option Binding) → printed s (opt (of_binding s) o) ≡ map Layout (map Text (opt_texts (binding_texts s.words) o))
+bound_printed s None = refl
+bound_printed s (Some b) = ap (λ ps. Layout (Text (annotation_text b.mode)) ∷ ps) (printed_texts s (name_parts s.words b.name))
 
-enclosed_weight : (s : Setting) (b : Bool) (id : ℕ) → total (item_weight (weight s)) (enclosed b id) ≡ weight s (node.Expr id) + 0
-enclosed_weight s false id = refl
-enclosed_weight s true id = omega arith
+pub binding_printed : (s : Setting) (id : ℕ) → printed s (binding_items s id) ≡ map Layout (map Text (opt_texts (binding_texts s.words) (slice_get s.nodes.bindings id)))
+binding_printed s id = bound_printed s (slice_get s.nodes.bindings id)
+
+pub literal_pieces : (s : Setting) (x : Literal) → printed s (literal_items x) ≡ map Layout (put_pieces (literal_items x))
+literal_pieces s x = put_printed s (literal_items x) (literal_put x)
+
+-- a path of one name
+one_segment : (s : Setting) (kind : PathKind) (names : List (List ℕ)) (name : List ℕ) → ident_of (record { kind = kind; segments = names }) ≡ Some name
+    → anchored s (record { kind = kind; segments = names }) (kind_items s kind) [] ≡ name_items s name
+one_segment s Plain (x ∷ []) name e = let same : x ≡ name = cc in append-nil (name_items s x) ∙ ap (name_items s) same
+one_segment s Plain [] name e = absurd (cc)
+one_segment s Plain (x ∷ y ∷ xs) name e = absurd (cc)
+one_segment s (Super n) names name e = absurd (cc)
+one_segment s Crate names name e = absurd (cc)
+one_segment s Abs names name e = absurd (cc)
+one_segment s (DollarCrate id) names name e = absurd (cc)
+
+only_name_items : (s : Setting) {found : Option Expr} {name : List ℕ} → IsOnlyName found name → opt (expr_items s) found ≡ name_items s name
+only_name_items s {found} {name} n = ap (opt (expr_items s)) n.is_path ∙ one_segment s n.whole.kind n.whole.segments name n.is_name
+
+only_name_precedence : {found : Option Expr} {name : List ℕ} → IsOnlyName found name → precedence_found found ≡ Unambiguous
+only_name_precedence n = ap precedence_found n.is_path
+
+never_enclosed : (parent : ExprPrecedence) → stands_in_parentheses Unambiguous parent ≡ false
+never_enclosed Jump = refl
+never_enclosed Assign = refl
+never_enclosed Range = refl
+never_enclosed LOr = refl
+never_enclosed LAnd = refl
+never_enclosed Compare = refl
+never_enclosed BitOr = refl
+never_enclosed BitXor = refl
+never_enclosed BitAnd = refl
+never_enclosed Shift = refl
+never_enclosed Sum = refl
+never_enclosed Product = refl
+never_enclosed Cast = refl
+never_enclosed Prefix = refl
+never_enclosed Postfix = refl
+never_enclosed Unambiguous = refl
+
+-- nodes that are written at once
+module _ (s : Setting) (fall : ItemsFall s) where
+  pub whole_printed : (id : ℕ) (name : List ℕ) → IsOnlyName (slice_get s.nodes.exprs id) name → printed s (Whole id ∷ []) ≡ map Layout (map Text (name_parts s.words name))
+  whole_printed id name n = append-nil (pieces s (node.Expr id)) ∙ pieces_at s fall (node.Expr id) ∙ ap (printed s) (only_name_items s n) ∙ name_printed s name
+
+  pub under_printed : (id : ℕ) (parent : ExprPrecedence) (name : List ℕ) → IsOnlyName (slice_get s.nodes.exprs id) name
+      → printed s (Under id parent ∷ []) ≡ map Layout (map Text (name_parts s.words name))
+  under_printed id parent name n =
+      ap (λ b. parenthesized b (pieces s (node.Expr id)) ++ []) (ap (λ child. stands_in_parentheses child parent) (only_name_precedence n) ∙ never_enclosed parent)
+      ∙ whole_printed id name n
+
+  pub pattern_printed : (id binding : ℕ) → slice_get s.nodes.pats id ≡ Some (pat.Bind binding None)
+      → printed s (Pattern id ∷ []) ≡ map Layout (map Text (opt_texts (binding_texts s.words) (slice_get s.nodes.bindings binding)))
+  pattern_printed id binding e =
+      append-nil (pieces s (node.Pat id)) ∙ pieces_at s fall (node.Pat id)
+      ∙ ap (printed s) (ap (opt (pat_items s)) e ∙ append-nil (binding_items s binding)) ∙ binding_printed s binding
+
+-- an expression in parentheses, or without
+enclosed_printed : (s : Setting) → ItemsFall s → (b : Bool) (id : ℕ) → printed s (enclosed b (items_of s (node.Expr id))) ≡ parenthesized b (pieces s (node.Expr id)) ++ []
+enclosed_printed s fall false id = sym (append-nil (pieces s (node.Expr id)) ∙ pieces_at s fall (node.Expr id))
+enclosed_printed s fall true id =
+    let close = Layout (Text (codes ")")) ∷ [] in
+    ap (λ ps. Layout (Text (codes "(")) ∷ ps) (printed-append s (items_of s (node.Expr id)) (text (codes ")")) ∙ ap (λ ps. ps ++ close) (sym (pieces_at s fall (node.Expr id))))
+    ∙ sym (append-nil (Layout (Text (codes "(")) ∷ (pieces s (node.Expr id) ++ close)))
+
+enclosed_weight : (s : Setting) (b : Bool) (is : List Item) → total (item_weight (weight s)) (enclosed b is) ≡ total (item_weight (weight s)) is
+enclosed_weight s false is = refl
+enclosed_weight s true is = let k = total-append (item_weight (weight s)) is (text (codes ")")) in omega arith
 
 -- 3. Turns
 
@@ -130,11 +203,10 @@ module _ {W : Type 0} {step refuses : W → Piece → W → Type 0} where
   on_refused (writes.written q k) rest = written q (on_refused k rest)
   on_refused (writes.refused q) rest = refused q
 
-  pub refused_number : {bytes : List ℕ} {u v : W} (rest : List NodePiece) → Writes step refuses u (Text bytes ∷ []) false v → Prints step refuses u (Layout (Text bytes) ∷ rest) (Some fault.Memory) v
-  refused_number rest k = on_refused k rest
-
-  pub refused_literal : (s : Setting) (x : Literal) (old : List Item) {u v : W} → Writes step refuses u (put_pieces (literal_items x)) false v → Prints step refuses u (printed s (literal_items x ++ old)) (Some fault.Memory) v
-  refused_literal s x old {u} {v} k = subst (λ ps. Prints step refuses u ps (Some fault.Memory) v) (literal_printed s x old) (on_refused k (printed s old))
+  pub refused_put : (s : Setting) (is : List Item) (ps : List Piece) (old : List Item) {u v : W} → printed s is ≡ map Layout ps → Writes step refuses u ps false v
+      → Prints step refuses u (printed s (is ++ old)) (Some fault.Memory) v
+  refused_put s is ps old {u} {v} e k =
+      subst (λ qs. Prints step refuses u qs (Some fault.Memory) v) (ap (λ qs. qs ++ printed s old) (sym e) ∙ sym (printed-append s is old)) (on_refused k (printed s old))
 
 module _ {W : Type 0} {step refuses : W → Piece → W → Type 0} {s : Setting} where
   -- a part gives way to its items
@@ -167,23 +239,24 @@ module _ {W : Type 0} {step refuses : W → Piece → W → Type 0} {s : Setting
   pub turned_type : {id : ℕ} {old new : List Work} {u : W} → ItemsFall s → Opens s old (items_of s (node.TypeRef id)) (1 + node_cost s.nodes (node.TypeRef id)) new → Turned step refuses s (TypeItem id ∷ []) 1 old u new u
   turned_type {id} fall o = turned_as o (sym (pieces_at s fall (node.TypeRef id)) ∙ sym (append-nil (pieces s (node.TypeRef id)))) (let w = weight_at s fall (node.TypeRef id) in omega arith)
 
-  pub turned_under : {id : ℕ} {parent : ExprPrecedence} {old new : List Work} {u : W} → Opens s old (enclosed (stands_in_parentheses (precedence_found (slice_get s.nodes.exprs id)) parent) id) 5 new
+  pub turned_under : {id : ℕ} {parent : ExprPrecedence} {old new : List Work} {u : W} → ItemsFall s
+      → Opens s old (enclosed (stands_in_parentheses (precedence_found (slice_get s.nodes.exprs id)) parent) (items_of s (node.Expr id))) (5 + node_cost s.nodes (node.Expr id)) new
       → Turned step refuses s (Under id parent ∷ []) 5 old u new u
-  turned_under {id} {parent} o =
+  turned_under {id} {parent} fall o =
       let b = stands_in_parentheses (precedence_found (slice_get s.nodes.exprs id)) parent in
-      turned_as o (enclosed_printed s b id) (let w = enclosed_weight s b id in omega arith)
+      turned_as o (enclosed_printed s fall b id) (let w = enclosed_weight s b (items_of s (node.Expr id)) in let k = weight_at s fall (node.Expr id) in omega arith)
 
   -- a piece, and what a writer was led over
   pub turned_piece : {q : Piece} {old : List Work} {u v : W} → step u q v → Turned step refuses s (Put q ∷ []) 1 old u old v
   turned_piece {q} {old} {u} {v} k = record { leads = λ f last r. written k r; less = omega arith }
 
-  pub turned_number : {bytes : List ℕ} {old : List Work} {u v : W} → Writes step refuses u (Text bytes ∷ []) true v → Turned step refuses s (Put (Text bytes) ∷ []) 1 old u old v
-  turned_number {bytes} {old} k = record { leads = λ f last r. on_written k (printed s (pending s old)) f last r; less = omega arith }
-
-  pub turned_literal : (x : Literal) {old : List Work} {u v : W} → Writes step refuses u (put_pieces (literal_items x)) true v → Turned step refuses s (literal_items x) 1 old u old v
-  turned_literal x {old} {u} k = record {
-    leads = λ f last r. subst (λ ps. Prints step refuses u ps f last) (literal_printed s x (pending s old)) (on_written k (printed s (pending s old)) f last r);
-    less = let W = item_weight (weight s) in let w = total-append W (literal_items x) (pending s old) in let z = put_weight s (literal_items x) (literal_put x) in omega arith;
+  -- items whose pieces a writer was led over
+  pub turned_put : {is : List Item} {cost : ℕ} {old : List Work} {u v : W} (ps : List Piece) → printed s is ≡ map Layout ps → 0 < cost → Writes step refuses u ps true v
+      → Turned step refuses s is cost old u old v
+  turned_put {is} {cost} {old} {u} {v} ps e c k = record {
+    leads = λ f last r. subst (λ qs. Prints step refuses u qs f last) (ap (λ qs. qs ++ printed s (pending s old)) (sym e) ∙ sym (printed-append s is (pending s old)))
+        (on_written k (printed s (pending s old)) f last r);
+    less = let w = total-append (item_weight (weight s)) is (pending s old) in omega arith;
   }
 
-pub ruleset turns = (no_room, absent, refused, turned_part, turned_piece, turned_whole, turned_pattern, turned_type, turned_under, turned_number)
+pub ruleset turns = (no_room, absent, refused, turned_part, turned_piece, turned_whole, turned_pattern, turned_type)

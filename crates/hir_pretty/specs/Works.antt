@@ -3,6 +3,11 @@ use Rattle.std.specs.Prelude.{◌≡◌, ◌<◌, ℕ, ◌+◌, ◌*◌, Bool, t
 use Rattle.std.specs.List.{flat_map}
 use Rattle.std.specs.Fmt.{decimal}
 use Rattle.hir_base.specs.declared.prec.ExprPrecedence.TheVariants.{Shift}
+use Rattle.hir_base.specs.ModPath.{ModPath, ident_of}
+use Rattle.hir_path.specs.declared.path.Path.TheVariants as path
+use Rattle.hir_node.specs.declared.binding.Binding.{Binding}
+use Rattle.hir_node.specs.declared.expr.Expr.{Expr}
+use Rattle.hir_node.specs.declared.expr.Expr.TheVariants as expr
 use Rattle.hir_node.specs.declared.node_id.NodeId.{NodeId}
 use Rattle.hir_node.specs.declared.node_id.NodeId.TheVariants as node
 use Rattle.hir_faults.specs.Down.{value}
@@ -26,10 +31,10 @@ use Rattle.hir_expr_store.specs.Contents.{Contents}
 use Rattle.hir_pretty.specs.Questions.{Questions, Setting}
 use Rattle.hir_pretty.specs.Settings.{setting}
 use Rattle.hir_pretty.specs.Items.{Item, Put, Lacks, Whole, Under, Pattern, TypeItem, text, sp, br, into, out, e, under, p, t, opt, when, joined, comma_joined}
-use Rattle.hir_pretty.specs.Names.{name_items, param_items, l, label_items, binding_items}
+use Rattle.hir_pretty.specs.Names.{name_parts, name_items, param_items, l, label_items, annotation_text, binding_items}
 use Rattle.hir_pretty.specs.Literals.{literal_items}
 use Rattle.hir_pretty.specs.Paths.{found_name, for_names, bound_items, bounds_items, bounds_after, use_items, arg_items, args_items, assoc_items, turbofish, path_items, kind_items, supers, target_items, segments_from}
-use Rattle.hir_pretty.specs.Exprs.{labelled, to_label, operand, arguments, each_line, arm_items, field_items, spread_items, statement_items, header, params, printed_body}
+use Rattle.hir_pretty.specs.Exprs.{each_line, arm_items, field_items, statement_items, params, printed_body}
 use Rattle.hir_pretty.specs.Pats.{with_rest, field_pattern, field_patterns}
 use Rattle.hir_pretty.specs.Types.{type_param_items, extern_items, front}
 use Rattle.hir_pretty.specs.Pieces.{NodePiece, Layout, Absent, items_of, item_pieces, pieces}
@@ -42,23 +47,14 @@ look_items s (look.TypeParam id) = type_param_items s id.local_id (s.tables.type
 look_items s (look.LifetimeParam id) = param_items s (s.tables.lifetime_param id)
 look_items s (look.Lifetime id) = l s id
 look_items s (look.Label id) = label_items s id
-look_items s (look.Binding id) = binding_items s id
 look_items s (look.ClosureBody kind body) = e (printed_body s.nodes kind body)
 
 abbrev pub expr_part_items : Setting → ExprPart → List Item
-expr_part_items s (in_expr.After before x) = opt (λ id. text before.now ++ e id) x
-expr_part_items s (in_expr.Tail x) = opt e x
-expr_part_items s (in_expr.Labelled label) = labelled s label
-expr_part_items s (in_expr.ToLabel label) = to_label s label
-expr_part_items s (in_expr.Operand x) = operand x
-expr_part_items s (in_expr.Arguments args) = arguments args.now
 expr_part_items s (in_expr.ArgLines args) = each_line args.now
 expr_part_items s (in_expr.Elements xs) = flat_map (λ id. e id ++ text (codes ", ")) xs.now
 expr_part_items s (in_expr.Arms arms) = flat_map arm_items arms.now
 expr_part_items s (in_expr.Fields fields) = flat_map (field_items s) fields.now
-expr_part_items s (in_expr.Spread x) = spread_items x
 expr_part_items s (in_expr.Statements xs) = flat_map statement_items xs.now
-expr_part_items s (in_expr.Header kind args types ret) = header kind (params args.now types.now) ret
 expr_part_items s (in_expr.Params args types) = comma_joined (params args.now types.now)
 
 abbrev pub pat_part_items : Setting → PatPart → List Item
@@ -109,6 +105,7 @@ stands_for s (work.Lacks missing) = Lacks missing ∷ []
 stands_for s (work.Number n) = text (decimal n)
 stands_for s (work.Literal x) = literal_items x.now
 stands_for s (work.Name name) = name_items s name.now
+stands_for s (work.Binding id) = binding_items s id
 stands_for s (work.Whole id) = e id
 stands_for s (work.Under id parent) = under parent id
 stands_for s (work.Pattern id) = p id
@@ -145,23 +142,14 @@ look_cost (look.TypeParam id) = 5
 look_cost (look.LifetimeParam id) = 5
 look_cost (look.Lifetime id) = 7
 look_cost (look.Label id) = 5
-look_cost (look.Binding id) = 6
 look_cost (look.ClosureBody kind body) = 2
 
 abbrev pub expr_part_cost : ExprPart → ℕ
-expr_part_cost (in_expr.After before x) = 3
-expr_part_cost (in_expr.Tail x) = 2
-expr_part_cost (in_expr.Labelled label) = 7
-expr_part_cost (in_expr.ToLabel label) = 7
-expr_part_cost (in_expr.Operand x) = 7
-expr_part_cost (in_expr.Arguments args) = 6 + 4 * length args.now
 expr_part_cost (in_expr.ArgLines args) = 1 + 4 * length args.now
 expr_part_cost (in_expr.Elements xs) = 1 + 3 * length xs.now
 expr_part_cost (in_expr.Arms arms) = 1 + 9 * length arms.now
 expr_part_cost (in_expr.Fields fields) = 1 + 9 * length fields.now
-expr_part_cost (in_expr.Spread x) = 4
 expr_part_cost (in_expr.Statements xs) = 1 + 14 * length xs.now
-expr_part_cost (in_expr.Header kind args types ret) = 8 + 6 * length args.now
 expr_part_cost (in_expr.Params args types) = 1 + 6 * length args.now
 
 abbrev pub pat_part_cost : PatPart → ℕ
@@ -207,6 +195,7 @@ work_cost (work.Lacks missing) = 1
 work_cost (work.Number n) = 1
 work_cost (work.Literal x) = 1
 work_cost (work.Name name) = 4
+work_cost (work.Binding id) = 6
 work_cost (work.Whole id) = 1
 work_cost (work.Under id parent) = 5
 work_cost (work.Pattern id) = 1
@@ -277,10 +266,24 @@ OpensNamed words old is cost new = (store : Contents) (tables : Questions) (one_
 abbrev pub OpensWith : Contents → Questions → List Work → (Setting → List Item) → ℕ → List Work → Type 0
 OpensWith store tables old is cost new = (words : List (List ℕ)) (one_line : Bool) → Opens (setting store tables words one_line) old (is (setting store tables words one_line)) cost new
 
--- an expression, in parentheses where it needs them
-abbrev pub enclosed : Bool → ℕ → List Item
-enclosed false id = e id
-enclosed true id = text (codes "(") ++ e id ++ text (codes ")")
+-- items, in parentheses where they need them
+abbrev pub enclosed : Bool → List Item → List Item
+enclosed false is = is
+enclosed true is = text (codes "(") ++ is ++ text (codes ")")
+
+-- an expression that is a path of one name
+pub record IsOnlyName (found : Option Expr) (name : List ℕ) : Type 0 where
+  pub whole : ModPath
+  pub is_path : found ≡ Some (expr.Path (path.BarePath whole))
+  pub is_name : ident_of whole ≡ Some name
+
+-- the texts of a binding, which may be missing
+abbrev pub binding_texts : List (List ℕ) → Binding → List (List ℕ)
+binding_texts words b = annotation_text b.mode ∷ name_parts words b.name
+
+abbrev pub opt_texts : {X : Type 0} → (X → List (List ℕ)) → Option X → List (List ℕ)
+opt_texts texts None = []
+opt_texts texts (Some x) = texts x
 
 -- the pieces among items
 abbrev pub put_pieces : List Item → List Piece

@@ -3,20 +3,29 @@
 
 ghost use Rattle.std.specs.Prelude.{◌≡◌, ◌+◌, ◌*◌, ◌++◌, OnOk, length, codes};
 ghost use Rattle.hir_pretty.specs.Questions.{Setting};
-ghost use Rattle.hir_pretty.specs.Items.{e, sp, text, under, when};
+ghost use Rattle.hir_pretty.specs.Items.{e, sp, text, opt, under};
+ghost use Rattle.hir_pretty.specs.Literals.{literal_items};
+ghost use Rattle.hir_pretty.specs.Paths.{args_items, turbofish};
 ghost use Rattle.hir_pretty.specs.Exprs.{labelled, operand, raw_keyword, operator_items, array_items, unsafe_items, inside_block, coroutine_keyword, movability_keyword, closure_head, capture_keyword, expr_items};
 ghost use Rattle.hir_pretty.specs.Costs.{args_cost, path_cost, opt_cost, expr_cost};
 ghost use Rattle.hir_pretty.specs.Works.{listed, Opens};
 
-use crate::work::{ExprPart, Look, PathPart, Stack, Work};
+use crate::expr_parts::{
+    open_after, open_arguments, open_arms, open_elements, open_fields as open_record_fields,
+    open_header, open_labelled, open_operand, open_spread, open_statements, open_tail,
+    open_to_label,
+};
+use crate::paths::open_path;
+use crate::work::{Look, PathPart, Stack, Work};
 use hir_base::{BinaryOp, ExprPrecedence, Name, UnaryOp};
 use hir_node::{
     Array, Boxed, CaptureBy, ClosureKind, CoroutineKind, Expr, ExprId, GenericArgs, LabelId,
-    MatchArm, Movability, Mutability, PatId, Path, Rawness, RecordLitField, RecordSpread,
+    Literal, MatchArm, Movability, Mutability, PatId, Path, Rawness, RecordLitField, RecordSpread,
     Statement, TypeRefId, Unsafe,
 };
 use std::alloc::AllocError;
 
+#[inline(never)]
 fn open_offset_of<'a>(
     stack: &mut Stack<'a>,
     container: TypeRefId,
@@ -24,7 +33,7 @@ fn open_offset_of<'a>(
 ) -> Result<(), AllocError>
     ensures { OnOk result ((s : Setting) → Opens s (listed stack.old) (expr_items s (Expr.OffsetOf record { container = container; fields = fields.now })) (21 + 6 * length fields.now) (listed stack.new)) }
 {
-    stack.push(&mut [
+    stack.push(&[
         Work::Text("builtin#offset_of("),
         Work::Type(container),
         Work::Text(", "),
@@ -33,6 +42,7 @@ fn open_offset_of<'a>(
     ])
 }
 
+#[inline(never)]
 fn open_if(
     stack: &mut Stack<'_>,
     condition: ExprId,
@@ -41,19 +51,20 @@ fn open_if(
 ) -> Result<(), AllocError>
     ensures { OnOk result ((s : Setting) → Opens s (listed stack.old) (expr_items s (Expr.If condition then_branch else_branch)) (21) (listed stack.new)) }
 {
-    stack.push(&mut [
+    open_after(stack, " else ", else_branch)?;
+    stack.push(&[
         Work::Text("if "),
         Work::Whole(condition),
         Work::Text(" "),
         Work::Whole(then_branch),
-        Work::Expr(ExprPart::After(" else ", else_branch)),
     ])
 }
 
+#[inline(never)]
 fn open_let(stack: &mut Stack<'_>, pat: PatId, expr: ExprId) -> Result<(), AllocError>
     ensures { OnOk result ((s : Setting) → Opens s (listed stack.old) (expr_items s (Expr.Let pat expr)) (21) (listed stack.new)) }
 {
-    stack.push(&mut [
+    stack.push(&[
         Work::Text("let "),
         Work::Pattern(pat),
         Work::Text(" = "),
@@ -61,16 +72,15 @@ fn open_let(stack: &mut Stack<'_>, pat: PatId, expr: ExprId) -> Result<(), Alloc
     ])
 }
 
+#[inline(never)]
 fn open_loop(stack: &mut Stack<'_>, body: ExprId, label: Option<LabelId>) -> Result<(), AllocError>
     ensures { OnOk result ((s : Setting) → Opens s (listed stack.old) (labelled s label ++ text (codes "loop ") ++ e body) (21) (listed stack.new)) }
 {
-    stack.push(&mut [
-        Work::Expr(ExprPart::Labelled(label)),
-        Work::Text("loop "),
-        Work::Whole(body),
-    ])
+    stack.push(&[Work::Text("loop "), Work::Whole(body)])?;
+    open_labelled(stack, label)
 }
 
+#[inline(never)]
 fn open_call<'a>(
     stack: &mut Stack<'a>,
     callee: ExprId,
@@ -78,12 +88,23 @@ fn open_call<'a>(
 ) -> Result<(), AllocError>
     ensures { OnOk result ((s : Setting) → Opens s (listed stack.old) (expr_items s (Expr.Call callee args.now)) (21 + 4 * length args.now) (listed stack.new)) }
 {
-    stack.push(&mut [
-        Work::Under(callee, ExprPrecedence::Postfix),
-        Work::Expr(ExprPart::Arguments(args)),
-    ])
+    open_arguments(stack, args)?;
+    stack.push(&[Work::Under(callee, ExprPrecedence::Postfix)])
 }
 
+fn open_method_args<'a>(
+    stack: &mut Stack<'a>,
+    generic_args: &'a Option<Boxed<GenericArgs>>,
+) -> Result<(), AllocError>
+    ensures { OnOk result ((s : Setting) → Opens s (listed stack.old) (opt (λ a. turbofish (args_items s a)) generic_args.now) (4 + opt_cost args_cost generic_args.now) (listed stack.new)) }
+{
+    match generic_args {
+        None => Ok(()),
+        Some(args) => stack.push(&[Work::Path(PathPart::Fish(args.get()))]),
+    }
+}
+
+#[inline(never)]
 fn open_method_call<'a>(
     stack: &mut Stack<'a>,
     receiver: ExprId,
@@ -93,23 +114,16 @@ fn open_method_call<'a>(
 ) -> Result<(), AllocError>
     ensures { OnOk result ((s : Setting) → Opens s (listed stack.old) (expr_items s (Expr.MethodCall receiver name.now args.now generic_args.now)) (21 + 4 * length args.now + opt_cost args_cost generic_args.now) (listed stack.new)) }
 {
-    match generic_args {
-        None => stack.push(&mut [
-            Work::Under(receiver, ExprPrecedence::Postfix),
-            Work::Text("."),
-            Work::Name(name.as_str()),
-            Work::Expr(ExprPart::Arguments(args)),
-        ]),
-        Some(generic_args) => stack.push(&mut [
-            Work::Under(receiver, ExprPrecedence::Postfix),
-            Work::Text("."),
-            Work::Name(name.as_str()),
-            Work::Path(PathPart::Fish(generic_args.get())),
-            Work::Expr(ExprPart::Arguments(args)),
-        ]),
-    }
+    open_arguments(stack, args)?;
+    open_method_args(stack, generic_args)?;
+    stack.push(&[
+        Work::Under(receiver, ExprPrecedence::Postfix),
+        Work::Text("."),
+        Work::Name(name.as_str()),
+    ])
 }
 
+#[inline(never)]
 fn open_match<'a>(
     stack: &mut Stack<'a>,
     expr: ExprId,
@@ -117,24 +131,25 @@ fn open_match<'a>(
 ) -> Result<(), AllocError>
     ensures { OnOk result ((s : Setting) → Opens s (listed stack.old) (expr_items s (Expr.Match expr arms.now)) (21 + 9 * length arms.now) (listed stack.new)) }
 {
-    stack.push(&mut [
+    stack.push(&[Work::Outdent, Work::Text("}"), Work::Break])?;
+    open_arms(stack, arms)?;
+    stack.push(&[
         Work::Text("match "),
         Work::Whole(expr),
         Work::Text(" {"),
         Work::Indent,
-        Work::Expr(ExprPart::Arms(arms)),
-        Work::Outdent,
-        Work::Text("}"),
-        Work::Break,
     ])
 }
 
+#[inline(never)]
 fn open_continue(stack: &mut Stack<'_>, label: Option<LabelId>) -> Result<(), AllocError>
     ensures { OnOk result ((s : Setting) → Opens s (listed stack.old) (expr_items s (Expr.Continue label)) (21) (listed stack.new)) }
 {
-    stack.push(&mut [Work::Text("continue"), Work::Expr(ExprPart::ToLabel(label))])
+    open_to_label(stack, label)?;
+    stack.push(&[Work::Text("continue")])
 }
 
+#[inline(never)]
 fn open_break(
     stack: &mut Stack<'_>,
     expr: Option<ExprId>,
@@ -142,13 +157,12 @@ fn open_break(
 ) -> Result<(), AllocError>
     ensures { OnOk result ((s : Setting) → Opens s (listed stack.old) (expr_items s (Expr.Break expr label)) (21) (listed stack.new)) }
 {
-    stack.push(&mut [
-        Work::Text("break"),
-        Work::Expr(ExprPart::ToLabel(label)),
-        Work::Expr(ExprPart::Operand(expr)),
-    ])
+    open_operand(stack, expr)?;
+    open_to_label(stack, label)?;
+    stack.push(&[Work::Text("break")])
 }
 
+#[inline(never)]
 fn open_keyword<'a>(
     stack: &mut Stack<'a>,
     keyword: &'a str,
@@ -156,20 +170,19 @@ fn open_keyword<'a>(
 ) -> Result<(), AllocError>
     ensures { OnOk result ((s : Setting) → Opens s (listed stack.old) (text keyword.now ++ operand expr) (21) (listed stack.new)) }
 {
-    stack.push(&mut [Work::Text(keyword), Work::Expr(ExprPart::Operand(expr))])
+    open_operand(stack, expr)?;
+    stack.push(&[Work::Text(keyword)])
 }
 
+#[inline(never)]
 fn open_yeet(stack: &mut Stack<'_>, expr: Option<ExprId>) -> Result<(), AllocError>
     ensures { OnOk result ((s : Setting) → Opens s (listed stack.old) (expr_items s (Expr.Yeet expr)) (21) (listed stack.new)) }
 {
-    stack.push(&mut [
-        Work::Text("do"),
-        Work::Space,
-        Work::Text("yeet"),
-        Work::Expr(ExprPart::Operand(expr)),
-    ])
+    open_operand(stack, expr)?;
+    stack.push(&[Work::Text("do"), Work::Space, Work::Text("yeet")])
 }
 
+#[inline(never)]
 fn open_record_lit<'a>(
     stack: &mut Stack<'a>,
     path: &'a Path,
@@ -178,40 +191,39 @@ fn open_record_lit<'a>(
 ) -> Result<(), AllocError>
     ensures { OnOk result ((s : Setting) → Opens s (listed stack.old) (expr_items s (Expr.RecordLit path.now fields.now spread)) (21 + 9 * length fields.now + path_cost path.now) (listed stack.new)) }
 {
-    stack.push(&mut [
-        Work::Path(PathPart::Whole(path)),
-        Work::Text("{"),
-        Work::Indent,
-        Work::Expr(ExprPart::Fields(fields)),
-        Work::Expr(ExprPart::Spread(spread)),
-        Work::Outdent,
-        Work::Text("}"),
-    ])
+    stack.push(&[Work::Outdent, Work::Text("}")])?;
+    open_spread(stack, spread)?;
+    open_record_fields(stack, fields)?;
+    stack.push(&[Work::Text("{"), Work::Indent])?;
+    open_path(stack, path)
 }
 
+#[inline(never)]
 fn open_field<'a>(stack: &mut Stack<'a>, expr: ExprId, name: &'a Name) -> Result<(), AllocError>
     ensures { OnOk result ((s : Setting) → Opens s (listed stack.old) (expr_items s (Expr.Field expr name.now)) (21) (listed stack.new)) }
 {
-    stack.push(&mut [
+    stack.push(&[
         Work::Under(expr, ExprPrecedence::Postfix),
         Work::Text("."),
         Work::Name(name.as_str()),
     ])
 }
 
+#[inline(never)]
 fn open_await(stack: &mut Stack<'_>, expr: ExprId) -> Result<(), AllocError>
     ensures { OnOk result ((s : Setting) → Opens s (listed stack.old) (expr_items s (Expr.Await expr)) (21) (listed stack.new)) }
 {
-    stack.push(&mut [
+    stack.push(&[
         Work::Under(expr, ExprPrecedence::Postfix),
         Work::Text(".await"),
     ])
 }
 
+#[inline(never)]
 fn open_cast(stack: &mut Stack<'_>, expr: ExprId, type_ref: TypeRefId) -> Result<(), AllocError>
     ensures { OnOk result ((s : Setting) → Opens s (listed stack.old) (expr_items s (Expr.Cast expr type_ref)) (21) (listed stack.new)) }
 {
-    stack.push(&mut [
+    stack.push(&[
         Work::Under(expr, ExprPrecedence::Cast),
         Work::Text(" as "),
         Work::Type(type_ref),
@@ -227,6 +239,7 @@ fn raw_keyword(rawness: Rawness) -> &'static str
     }
 }
 
+#[inline(never)]
 fn open_ref(
     stack: &mut Stack<'_>,
     expr: ExprId,
@@ -235,7 +248,7 @@ fn open_ref(
 ) -> Result<(), AllocError>
     ensures { OnOk result ((s : Setting) → Opens s (listed stack.old) (expr_items s (Expr.Ref expr rawness mutability)) (21) (listed stack.new)) }
 {
-    stack.push(&mut [
+    stack.push(&[
         Work::Text("&"),
         Work::Text(raw_keyword(rawness)),
         Work::Text(mutability.as_keyword_for_ref()),
@@ -243,10 +256,11 @@ fn open_ref(
     ])
 }
 
+#[inline(never)]
 fn open_unary(stack: &mut Stack<'_>, expr: ExprId, op: UnaryOp) -> Result<(), AllocError>
     ensures { OnOk result ((s : Setting) → Opens s (listed stack.old) (expr_items s (Expr.UnaryOp expr op)) (21) (listed stack.new)) }
 {
-    stack.push(&mut [
+    stack.push(&[
         Work::Text(op.as_str()),
         Work::Under(expr, ExprPrecedence::Prefix),
     ])
@@ -262,6 +276,7 @@ fn operator_text(op: Option<BinaryOp>) -> &'static str
     }
 }
 
+#[inline(never)]
 fn open_binary(
     stack: &mut Stack<'_>,
     lhs: ExprId,
@@ -271,7 +286,7 @@ fn open_binary(
 ) -> Result<(), AllocError>
     ensures { OnOk result ((s : Setting) → Opens s (listed stack.old) (under own lhs ++ sp ++ operator_items op ++ sp ++ under own rhs) (21) (listed stack.new)) }
 {
-    stack.push(&mut [
+    stack.push(&[
         Work::Under(lhs, own),
         Work::Space,
         Work::Text(operator_text(op)),
@@ -280,10 +295,11 @@ fn open_binary(
     ])
 }
 
+#[inline(never)]
 fn open_index(stack: &mut Stack<'_>, base: ExprId, index: ExprId) -> Result<(), AllocError>
     ensures { OnOk result ((s : Setting) → Opens s (listed stack.old) (expr_items s (Expr.Index base index)) (21) (listed stack.new)) }
 {
-    stack.push(&mut [
+    stack.push(&[
         Work::Under(base, ExprPrecedence::Postfix),
         Work::Text("["),
         Work::Whole(index),
@@ -291,36 +307,34 @@ fn open_index(stack: &mut Stack<'_>, base: ExprId, index: ExprId) -> Result<(), 
     ])
 }
 
+#[inline(never)]
 fn open_tuple<'a>(stack: &mut Stack<'a>, exprs: &'a [ExprId]) -> Result<(), AllocError>
     ensures { OnOk result ((s : Setting) → Opens s (listed stack.old) (expr_items s (Expr.Tuple exprs.now)) (21 + 3 * length exprs.now) (listed stack.new)) }
 {
-    stack.push(&mut [
-        Work::Text("("),
-        Work::Expr(ExprPart::Elements(exprs)),
-        Work::Text(")"),
-    ])
+    stack.push(&[Work::Text(")")])?;
+    open_elements(stack, exprs)?;
+    stack.push(&[Work::Text("(")])
 }
 
+#[inline(never)]
 fn open_list<'a>(stack: &mut Stack<'a>, elements: &'a [ExprId]) -> Result<(), AllocError>
     ensures { OnOk result ((s : Setting) → Opens s (listed stack.old) (array_items (Array.ElementList elements.now)) (21 + 3 * length elements.now) (listed stack.new)) }
 {
     match elements {
-        [] => stack.push(&mut [Work::Text("[]")]),
-        [_, ..] => stack.push(&mut [
-            Work::Text("["),
-            Work::Indent,
-            Work::Expr(ExprPart::Elements(elements)),
-            Work::Outdent,
-            Work::Break,
-            Work::Text("]"),
-        ]),
+        [] => stack.push(&[Work::Text("[]")]),
+        [_, ..] => {
+            stack.push(&[Work::Outdent, Work::Break, Work::Text("]")])?;
+            open_elements(stack, elements)?;
+            stack.push(&[Work::Text("["), Work::Indent])
+        }
     }
 }
 
+#[inline(never)]
 fn open_repeat(stack: &mut Stack<'_>, initializer: ExprId, repeat: ExprId) -> Result<(), AllocError>
     ensures { OnOk result ((s : Setting) → Opens s (listed stack.old) (array_items (Array.Repeat initializer repeat)) (21) (listed stack.new)) }
 {
-    stack.push(&mut [
+    stack.push(&[
         Work::Text("["),
         Work::Indent,
         Work::Whole(initializer),
@@ -332,6 +346,7 @@ fn open_repeat(stack: &mut Stack<'_>, initializer: ExprId, repeat: ExprId) -> Re
     ])
 }
 
+#[inline(never)]
 fn open_array<'a>(stack: &mut Stack<'a>, array: &'a Array) -> Result<(), AllocError>
     ensures { OnOk result ((s : Setting) → Opens s (listed stack.old) (expr_items s (Expr.Array array.now)) (1 + expr_cost (Expr.Array array.now)) (listed stack.new)) }
 {
@@ -344,10 +359,11 @@ fn open_array<'a>(stack: &mut Stack<'a>, array: &'a Array) -> Result<(), AllocEr
     }
 }
 
+#[inline(never)]
 fn open_const(stack: &mut Stack<'_>, id: ExprId) -> Result<(), AllocError>
     ensures { OnOk result ((s : Setting) → Opens s (listed stack.old) (expr_items s (Expr.Const id)) (21) (listed stack.new)) }
 {
-    stack.push(&mut [
+    stack.push(&[
         Work::Text("const { /* "),
         Work::Text("ExprId"),
         Work::Text("("),
@@ -357,26 +373,28 @@ fn open_const(stack: &mut Stack<'_>, id: ExprId) -> Result<(), AllocError>
     ])
 }
 
+#[inline(never)]
 fn open_assignment(stack: &mut Stack<'_>, target: PatId, value: ExprId) -> Result<(), AllocError>
     ensures { OnOk result ((s : Setting) → Opens s (listed stack.old) (expr_items s (Expr.Assignment target value)) (21) (listed stack.new)) }
 {
-    stack.push(&mut [
+    stack.push(&[
         Work::Pattern(target),
         Work::Text(" = "),
         Work::Under(value, ExprPrecedence::Assign),
     ])
 }
 
-/// Whether a block is unsafe.
-fn is_unsafe(unsafe_: Unsafe) -> bool
-    ensures { (when result (text (codes "unsafe "))) ≡ unsafe_items unsafe_ }
+#[inline(never)]
+fn open_unsafe(stack: &mut Stack<'_>, unsafe_: Unsafe) -> Result<(), AllocError>
+    ensures { OnOk result ((s : Setting) → Opens s (listed stack.old) (unsafe_items unsafe_) (2) (listed stack.new)) }
 {
     match unsafe_ {
-        Unsafe::Yes => true,
-        Unsafe::No => false,
+        Unsafe::Yes => stack.push(&[Work::Text("unsafe ")]),
+        Unsafe::No => Ok(()),
     }
 }
 
+#[inline(never)]
 fn open_inside<'a>(
     stack: &mut Stack<'a>,
     statements: &'a [Statement],
@@ -385,25 +403,24 @@ fn open_inside<'a>(
     ensures { OnOk result ((s : Setting) → Opens s (listed stack.old) (inside_block statements.now tail ++ text (codes "}")) (8 + 14 * length statements.now) (listed stack.new)) }
 {
     match (statements, tail) {
-        ([], None) => stack.push(&mut [Work::Text("}")]),
-        ([], Some(tail)) => stack.push(&mut [
+        ([], None) => stack.push(&[Work::Text("}")]),
+        ([], Some(tail)) => stack.push(&[
             Work::Indent,
             Work::Whole(tail),
             Work::Break,
             Work::Outdent,
             Work::Text("}"),
         ]),
-        ([_, ..], _) => stack.push(&mut [
-            Work::Indent,
-            Work::Expr(ExprPart::Statements(statements)),
-            Work::Expr(ExprPart::Tail(tail)),
-            Work::Break,
-            Work::Outdent,
-            Work::Text("}"),
-        ]),
+        ([_, ..], _) => {
+            stack.push(&[Work::Break, Work::Outdent, Work::Text("}")])?;
+            open_tail(stack, tail)?;
+            open_statements(stack, statements)?;
+            stack.push(&[Work::Indent])
+        }
     }
 }
 
+#[inline(never)]
 fn open_block<'a>(
     stack: &mut Stack<'a>,
     statements: &'a [Statement],
@@ -414,12 +431,10 @@ fn open_block<'a>(
     ensures { OnOk result ((s : Setting) → Opens s (listed stack.old) (sp ++ labelled s label ++ unsafe_items unsafe_ ++ text (codes "{") ++ inside_block statements.now tail ++ text (codes "}")) (21 + 14 * length statements.now) (listed stack.new)) }
 {
     open_inside(stack, statements, tail)?;
-    stack.push(&mut [
-        Work::Space,
-        Work::Expr(ExprPart::Labelled(label)),
-        Work::TextIf(is_unsafe(unsafe_), "unsafe "),
-        Work::Text("{"),
-    ])
+    stack.push(&[Work::Text("{")])?;
+    open_unsafe(stack, unsafe_)?;
+    open_labelled(stack, label)?;
+    stack.push(&[Work::Space])
 }
 
 fn coroutine_keyword(kind: CoroutineKind) -> &'static str
@@ -461,6 +476,7 @@ fn capture_keyword(capture: CaptureBy) -> &'static str
     }
 }
 
+#[inline(never)]
 fn open_closure<'a>(
     stack: &mut Stack<'a>,
     args: &'a [PatId],
@@ -472,22 +488,37 @@ fn open_closure<'a>(
 ) -> Result<(), AllocError>
     ensures { OnOk result ((s : Setting) → Opens s (listed stack.old) (expr_items s (Expr.Closure args.now arg_types.now ret_type body kind capture)) (21 + 6 * length args.now) (listed stack.new)) }
 {
-    stack.push(&mut [
+    stack.push(&[Work::Look(Look::ClosureBody(kind, body))])?;
+    open_header(stack, kind, args, arg_types, ret_type)?;
+    stack.push(&[
         Work::Text(closure_head(kind)),
         Work::Text(capture_keyword(capture)),
-        Work::Expr(ExprPart::Header(kind, args, arg_types, ret_type)),
-        Work::Look(Look::ClosureBody(kind, body)),
     ])
 }
 
+#[inline(never)]
+fn open_text<'a>(stack: &mut Stack<'a>, shown: &'a str) -> Result<(), AllocError>
+    ensures { OnOk result ((s : Setting) → Opens s (listed stack.old) (text shown.now) (21) (listed stack.new)) }
+{
+    stack.push(&[Work::Text(shown)])
+}
+
+#[inline(never)]
+fn open_literal<'a>(stack: &mut Stack<'a>, literal: &'a Literal) -> Result<(), AllocError>
+    ensures { OnOk result ((s : Setting) → Opens s (listed stack.old) (literal_items literal.now) (21) (listed stack.new)) }
+{
+    stack.push(&[Work::Literal(literal)])
+}
+
 /// Puts the items of an expression on the stack.
+#[inline(never)]
 pub(crate) fn open_expr<'a>(stack: &mut Stack<'a>, expr: &'a Expr) -> Result<(), AllocError>
     ensures { OnOk result ((s : Setting) → Opens s (listed stack.old) (expr_items s expr.now) (1 + expr_cost expr.now) (listed stack.new)) }
 {
     match expr {
-        Expr::Missing => stack.push(&mut [Work::Text("\u{fffd}")]),
-        Expr::Underscore => stack.push(&mut [Work::Text("_")]),
-        Expr::IncludeBytes => stack.push(&mut [Work::Text("include_bytes!(_)")]),
+        Expr::Missing => open_text(stack, "\u{fffd}"),
+        Expr::Underscore => open_text(stack, "_"),
+        Expr::IncludeBytes => open_text(stack, "include_bytes!(_)"),
         Expr::OffsetOf(offset) => {
             open_offset_of(stack, offset.container, offset.fields.as_slice())
         }
@@ -561,7 +592,7 @@ pub(crate) fn open_expr<'a>(stack: &mut Stack<'a>, expr: &'a Expr) -> Result<(),
             *closure_kind,
             *capture_by,
         ),
-        Expr::Literal(literal) => stack.push(&mut [Work::Literal(literal)]),
-        Expr::Path(path) => stack.push(&mut [Work::Path(PathPart::Whole(path))]),
+        Expr::Literal(literal) => open_literal(stack, literal),
+        Expr::Path(path) => open_path(stack, path),
     }
 }

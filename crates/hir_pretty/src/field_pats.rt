@@ -68,9 +68,9 @@ fn open_field<'a>(
         Opens s (listed stack.old) (field_pattern s field.now) 7 (listed stack.new)) }
 {
     if is_short(store, words, field) {
-        return stack.push(&mut [Work::Name(field.name.as_str())]);
+        return stack.push(&[Work::Name(field.name.as_str())]);
     }
-    stack.push(&mut [
+    stack.push(&[
         Work::Name(field.name.as_str()),
         Work::Text(": "),
         Work::Pattern(field.pat),
@@ -88,16 +88,16 @@ fn open_last_field<'a>(
         Opens s (listed stack.old) (field_patterns s rest (field.now ∷ [])) 11 (listed stack.new)) }
 {
     if rest {
-        return stack.push(&mut [
+        return stack.push(&[
             Work::Pat(PatPart::Field(field)),
             Work::Text(","),
             Work::Break,
         ]);
     }
     if one_line {
-        return stack.push(&mut [Work::Pat(PatPart::Field(field)), Work::Text(" ")]);
+        return stack.push(&[Work::Pat(PatPart::Field(field)), Work::Text(" ")]);
     }
-    stack.push(&mut [
+    stack.push(&[
         Work::Pat(PatPart::Field(field)),
         Work::Text(","),
         Work::Break,
@@ -116,7 +116,7 @@ fn open_fields<'a>(
     match fields {
         [] => Ok(()),
         [field] => open_last_field(stack, one_line, field, rest),
-        [first, others @ ..] => stack.push(&mut [
+        [first, others @ ..] => stack.push(&[
             Work::Pat(PatPart::Field(first)),
             Work::Text(","),
             Work::Break,
@@ -126,6 +126,7 @@ fn open_fields<'a>(
 }
 
 /// Puts the items of a part of a pattern on the stack.
+#[inline(never)]
 pub(crate) fn open_pat_part<'a>(
     stack: &mut Stack<'a>,
     store: &ExpressionStore,

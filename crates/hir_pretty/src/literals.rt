@@ -17,6 +17,7 @@ use hir_page::{
 use std::alloc::AllocError;
 
 /// Writes a literal.
+#[inline(never)]
 pub(crate) fn write_literal<W: PieceWriter>(
     writer: &mut W,
     literal: &Literal,

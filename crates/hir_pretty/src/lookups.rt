@@ -1,16 +1,19 @@
 //! What is looked up in the tables and in the store, put on the stack of what is still to be printed.
 #![tactic(auto, using(crate::proofs::OpenLemmas::opening))]
 
-ghost use Rattle.std.specs.Prelude.{◌≡◌, ◌∷◌, [], ◌++◌, List, ℕ, Bool, Ok, OnOk, codes, Some};
+ghost use Rattle.std.specs.Prelude.{◌≡◌, ◌∷◌, [], ◌++◌, List, ℕ, Bool, Ok, OnOk, codes, Some, is_ok, map, slice_get};
 ghost use Rattle.std.specs.Option.{option_copied};
+ghost use Rattle.hir_page.specs.Pieces as piece;
+ghost use Rattle.hir_page.specs.Writes.{Writes};
 ghost use Rattle.hir_pretty.specs.Questions.{Setting};
-ghost use Rattle.hir_pretty.specs.Names.{lifetime_items, label_items, binding_items, of_binding, annotation_text, name_items, param_items, l};
+ghost use Rattle.hir_pretty.specs.Names.{lifetime_items, label_items, annotation_text, name_items, param_items, l};
 ghost use Rattle.hir_pretty.specs.Paths.{found_name};
 ghost use Rattle.hir_pretty.specs.Types.{type_param_items};
 ghost use Rattle.hir_pretty.specs.Exprs.{printed_body, coroutine_body};
-ghost use Rattle.hir_pretty.specs.Works.{listed, Opens, OpensInStore, OpensAsked, OpensWith, look_items, look_cost};
+ghost use Rattle.hir_pretty.specs.Works.{binding_texts, opt_texts, listed, Opens, OpensInStore, OpensAsked, OpensWith, look_items, look_cost};
 
 use crate::definitions::Definitions;
+use crate::names::write_name;
 use crate::work::{Look, Stack, Work};
 use hir_base::{CrateId, LifetimeParamId, Name, NamedDef, Text, TypeParamId};
 use hir_expr_store::ExpressionStore;
@@ -18,6 +21,7 @@ use hir_node::{
     Binding, BindingAnnotation, BindingId, ClosureKind, Expr, ExprId, Label, LabelId, LifetimeRef,
     LifetimeRefId,
 };
+use hir_page::PieceWriter;
 use std::alloc::AllocError;
 
 /// A name of the tables as it stands, or a default.
@@ -29,8 +33,8 @@ fn open_found<'a>(
     ensures { OnOk result ((s : Setting) → Opens s (listed stack.old) (found_name default.now (Ok (option_copied found.entry))) 2 (listed stack.new)) }
 {
     match found {
-        None => stack.push(&mut [Work::Text(default)]),
-        Some(name) => stack.push(&mut [Work::Text(name.as_str())]),
+        None => stack.push(&[Work::Text(default)]),
+        Some(name) => stack.push(&[Work::Text(name.as_str())]),
     }
 }
 
@@ -43,7 +47,7 @@ fn open_def_name<'a, D: Definitions>(
 {
     match tables.def_name(def) {
         Ok(found) => open_found(stack, "<missing>", found),
-        Err(missing) => stack.push(&mut [Work::Lacks(missing)]),
+        Err(missing) => stack.push(&[Work::Lacks(missing)]),
     }
 }
 
@@ -56,7 +60,7 @@ fn open_crate_name<'a, D: Definitions>(
 {
     match tables.name_of_crate(id) {
         Ok(found) => open_found(stack, "$crate", found),
-        Err(missing) => stack.push(&mut [Work::Lacks(missing)]),
+        Err(missing) => stack.push(&[Work::Lacks(missing)]),
     }
 }
 
@@ -69,12 +73,12 @@ fn open_param_name<'a>(
     ensures { OnOk result ((s : Setting) → Opens s (listed stack.old) (type_param_items s number (Ok (option_copied found.entry))) 5 (listed stack.new)) }
 {
     match found {
-        None => stack.push(&mut [
+        None => stack.push(&[
             Work::Text("Param["),
             Work::Number(u64::from(number)),
             Work::Text("]"),
         ]),
-        Some(name) => stack.push(&mut [Work::Name(name.as_str())]),
+        Some(name) => stack.push(&[Work::Name(name.as_str())]),
     }
 }
 
@@ -87,7 +91,7 @@ fn open_type_param<'a, D: Definitions>(
 {
     match tables.type_param(id) {
         Ok(found) => open_param_name(stack, id.local_id().into_raw(), found),
-        Err(missing) => stack.push(&mut [Work::Lacks(missing)]),
+        Err(missing) => stack.push(&[Work::Lacks(missing)]),
     }
 }
 
@@ -99,8 +103,8 @@ fn open_lifetime_param<'a, D: Definitions>(
     ensures { OnOk result (OpensAsked (D.answers tables.now) (listed stack.old) (λ s. look_items s (Look.LifetimeParam id)) 5 (listed stack.new)) }
 {
     match tables.lifetime_param(id) {
-        Ok(name) => stack.push(&mut [Work::Name(name.as_str())]),
-        Err(missing) => stack.push(&mut [Work::Lacks(missing)]),
+        Ok(name) => stack.push(&[Work::Name(name.as_str())]),
+        Err(missing) => stack.push(&[Work::Lacks(missing)]),
     }
 }
 
@@ -108,11 +112,11 @@ fn open_lifetime_ref<'a>(stack: &mut Stack<'a>, lifetime: &'a LifetimeRef) -> Re
     ensures { OnOk result ((s : Setting) → Opens s (listed stack.old) (lifetime_items s lifetime.now) 7 (listed stack.new)) }
 {
     match lifetime {
-        LifetimeRef::Named(name) => stack.push(&mut [Work::Name(name.as_str())]),
-        LifetimeRef::Static => stack.push(&mut [Work::Text("'static")]),
-        LifetimeRef::Placeholder => stack.push(&mut [Work::Text("'_")]),
-        LifetimeRef::Param(id) => stack.push(&mut [Work::Look(Look::LifetimeParam(*id))]),
-        LifetimeRef::Error => stack.push(&mut [Work::Text("'{error}")]),
+        LifetimeRef::Named(name) => stack.push(&[Work::Name(name.as_str())]),
+        LifetimeRef::Static => stack.push(&[Work::Text("'static")]),
+        LifetimeRef::Placeholder => stack.push(&[Work::Text("'_")]),
+        LifetimeRef::Param(id) => stack.push(&[Work::Look(Look::LifetimeParam(*id))]),
+        LifetimeRef::Error => stack.push(&[Work::Text("'{error}")]),
     }
 }
 
@@ -133,7 +137,7 @@ fn open_lifetime<'a>(
 fn open_of_label<'a>(stack: &mut Stack<'a>, label: &'a Label) -> Result<(), AllocError>
     ensures { OnOk result ((s : Setting) → Opens s (listed stack.old) (name_items s label.now.name) 5 (listed stack.new)) }
 {
-    stack.push(&mut [Work::Name(label.name.as_str())])
+    stack.push(&[Work::Name(label.name.as_str())])
 }
 
 fn open_label<'a>(
@@ -161,25 +165,30 @@ fn annotation_text(mode: BindingAnnotation) -> &'static str
     }
 }
 
-fn open_of_binding<'a>(stack: &mut Stack<'a>, binding: &'a Binding) -> Result<(), AllocError>
-    ensures { OnOk result ((s : Setting) → Opens s (listed stack.old) (of_binding s binding.now) 6 (listed stack.new)) }
+fn write_of_binding<W: PieceWriter>(
+    writer: &mut W,
+    words: &[Text],
+    binding: &Binding,
+) -> Result<(), AllocError>
+    ensures { Writes W.step W.refuses writer.old (map piece.Text (binding_texts words.now binding.now)) (is_ok result) writer.new }
 {
-    stack.push(&mut [
-        Work::Text(annotation_text(binding.mode)),
-        Work::Name(binding.name.as_str()),
-    ])
+    writer.text(annotation_text(binding.mode))?;
+    write_name(writer, words, binding.name.as_str())
 }
 
-fn open_binding<'a>(
-    stack: &mut Stack<'a>,
-    store: &'a ExpressionStore,
+/// Writes a binding.
+#[inline(never)]
+pub(crate) fn write_binding<W: PieceWriter>(
+    writer: &mut W,
+    store: &ExpressionStore,
+    words: &[Text],
     id: BindingId,
 ) -> Result<(), AllocError>
-    ensures { OnOk result (OpensInStore store.now (listed stack.old) (λ s. binding_items s id) 6 (listed stack.new)) }
+    ensures { Writes W.step W.refuses writer.old (map piece.Text (opt_texts (binding_texts words.now) (slice_get store.now.nodes.bindings id)))
+        (is_ok result) writer.new }
 {
     if store.has_binding(id) {
-        open_of_binding(stack, &store[id])?;
-        return Ok(());
+        return write_of_binding(writer, words, &store[id]);
     }
     Ok(())
 }
@@ -220,6 +229,7 @@ fn printed_body(store: &ExpressionStore, kind: ClosureKind, body: ExprId) -> Exp
 }
 
 /// Puts the items of what is looked up on the stack.
+#[inline(never)]
 pub(crate) fn open_look<'a, D: Definitions>(
     stack: &mut Stack<'a>,
     store: &'a ExpressionStore,
@@ -235,8 +245,7 @@ pub(crate) fn open_look<'a, D: Definitions>(
         Look::LifetimeParam(id) => open_lifetime_param(stack, tables, id),
         Look::Lifetime(id) => open_lifetime(stack, store, id),
         Look::Label(id) => open_label(stack, store, id),
-        Look::Binding(id) => open_binding(stack, store, id),
-        Look::ClosureBody(kind, body) => stack.push(&mut [Work::Whole(printed_body(
+        Look::ClosureBody(kind, body) => stack.push(&[Work::Whole(printed_body(
             store, kind, body,
         ))]),
     }

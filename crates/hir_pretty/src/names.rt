@@ -1,19 +1,18 @@
 //! Names as they are printed: with `r#` where the edition's words list them.
-#![tactic(auto, using(crate::proofs::OpenLemmas::opening))]
+#![tactic(auto, using(hir_page::proofs::WritesLemmas::writing))]
 
-ghost use Rattle.std.specs.Prelude.{◌≡◌, ◌≢◌, ◌∷◌, ◌++◌, true, List, ℕ, OnOk, MatchOption};
-ghost use Rattle.std.specs.List.{flat_map};
-ghost use Rattle.hir_pretty.specs.Questions.{Setting};
-ghost use Rattle.hir_pretty.specs.Items.{text};
-ghost use Rattle.hir_pretty.specs.Names.{is_word, raw_parts, name_items, same_text};
+ghost use Rattle.std.specs.Prelude.{◌≡◌, ◌≢◌, ◌∷◌, [], true, List, ℕ, MatchOption, is_ok, map, codes};
+ghost use Rattle.hir_page.specs.Pieces as piece;
+ghost use Rattle.hir_page.specs.Writes.{Writes};
+ghost use Rattle.hir_pretty.specs.Names.{is_word, raw_parts, name_parts, same_text};
 ghost use Rattle.hir_pretty.specs.SameNames.{marked, printed_name, parts_text, IsUnquoted};
-ghost use Rattle.hir_pretty.specs.Works.{listed, Opens, OpensNamed};
 
-use crate::work::{Stack, Work};
 use hir_base::Text;
+use hir_page::PieceWriter;
 use std::alloc::AllocError;
 
 /// Whether the word is among these.
+#[inline(always)]
 fn is_word(words: &[Text], name: &str) -> bool
     ensures { result ≡ is_word words.now name.now }
 {
@@ -34,46 +33,59 @@ fn without_quote(name: &str) -> Option<&str>
     name.strip_prefix('\'')
 }
 
-fn open_raw<'a>(stack: &mut Stack<'a>, words: &[Text], name: &'a str) -> Result<(), AllocError>
-    ensures { OnOk result ((s : Setting) → Opens s (listed stack.old) (flat_map text (raw_parts words.now name.now)) 3 (listed stack.new)) }
+/// Writes a name with `r#` before it.
+#[inline(never)]
+fn write_marked<W: PieceWriter>(writer: &mut W, name: &str) -> Result<(), AllocError>
+    ensures { Writes W.step W.refuses writer.old (piece.Text (codes "r#") ∷ piece.Text name.now ∷ []) (is_ok result) writer.new }
+{
+    writer.text("r#")?;
+    writer.text(name)?;
+    Ok(())
+}
+
+/// Writes a name, with `r#` before it where the words list it.
+#[inline(always)]
+fn write_raw<W: PieceWriter>(writer: &mut W, words: &[Text], name: &str) -> Result<(), AllocError>
+    ensures { Writes W.step W.refuses writer.old (map piece.Text (raw_parts words.now name.now)) (is_ok result) writer.new }
 {
     if is_word(words, name) {
-        stack.push(&mut [Work::Text("r#"), Work::Text(name)])?;
-        return Ok(());
+        return write_marked(writer, name);
     }
-    stack.push(&mut [Work::Text(name)])?;
+    writer.text(name)?;
     Ok(())
 }
 
-fn open_quoted<'a>(
-    stack: &mut Stack<'a>,
+/// Writes a name that begins with a `'`, and then this.
+#[inline(never)]
+fn write_quoted<W: PieceWriter>(
+    writer: &mut W,
     words: &[Text],
-    name: &'a str,
-    rest: &'a str,
+    name: &str,
+    rest: &str,
 ) -> Result<(), AllocError>
     requires { name.now ≡ 39 ∷ rest.now }
-    ensures { OnOk result (OpensNamed words.now (listed stack.old) (λ s. name_items s name.now) 4 (listed stack.new)) }
+    ensures { Writes W.step W.refuses writer.old (map piece.Text (name_parts words.now name.now)) (is_ok result) writer.new }
 {
     if rest == "static" {
-        stack.push(&mut [Work::Text(name)])?;
+        writer.text(name)?;
         return Ok(());
     }
-    open_raw(stack, words, rest)?;
-    stack.push(&mut [Work::Text("'")])?;
-    Ok(())
+    writer.text("'")?;
+    write_raw(writer, words, rest)
 }
 
-/// Puts the parts of a name on the stack.
-pub(crate) fn open_name<'a>(
-    stack: &mut Stack<'a>,
+/// Writes a name, with `r#` where the words list it.
+#[inline(always)]
+pub(crate) fn write_name<W: PieceWriter>(
+    writer: &mut W,
     words: &[Text],
-    name: &'a str,
+    name: &str,
 ) -> Result<(), AllocError>
-    ensures { OnOk result (OpensNamed words.now (listed stack.old) (λ s. name_items s name.now) 4 (listed stack.new)) }
+    ensures { Writes W.step W.refuses writer.old (map piece.Text (name_parts words.now name.now)) (is_ok result) writer.new }
 {
     match without_quote(name) {
-        None => open_raw(stack, words, name),
-        Some(rest) => open_quoted(stack, words, name, rest),
+        None => write_raw(writer, words, name),
+        Some(rest) => write_quoted(writer, words, name, rest),
     }
 }
 

@@ -14,11 +14,12 @@ use hir_base::{ExprPrecedence, LangItemTarget, Name, NamedDef, PathKind};
 use hir_node::{AssociatedTypeBinding, GenericArg, GenericArgs, NormalPath, Path, TypeBound};
 use std::alloc::AllocError;
 
-fn open_path<'a>(stack: &mut Stack<'a>, path: &'a Path) -> Result<(), AllocError>
+/// Puts the items of a path on the stack.
+pub(crate) fn open_path<'a>(stack: &mut Stack<'a>, path: &'a Path) -> Result<(), AllocError>
     ensures { OnOk result ((s : Setting) → Opens s (listed stack.old) (path_items s path.now) (path_cost path.now) (listed stack.new)) }
 {
     match path {
-        Path::BarePath(path) => stack.push(&mut [
+        Path::BarePath(path) => stack.push(&[
             Work::Path(PathPart::Kind(path.kind())),
             Work::Path(PathPart::Segments(colons_first(path.kind()), path.segments(), &[])),
         ]),
@@ -43,11 +44,11 @@ fn open_normal<'a>(stack: &mut Stack<'a>, path: &'a NormalPath) -> Result<(), Al
     let after = colons_first(path.mod_path.kind());
     let lists = path.generic_args.as_slice();
     match path.type_anchor {
-        None => stack.push(&mut [
+        None => stack.push(&[
             Work::Path(PathPart::Kind(path.mod_path.kind())),
             Work::Path(PathPart::Segments(after, path.mod_path.segments(), lists)),
         ]),
-        Some(anchor) => stack.push(&mut [
+        Some(anchor) => stack.push(&[
             Work::Text("<"),
             Work::Type(anchor),
             Work::Text(">::"),
@@ -64,12 +65,12 @@ fn open_lang_item<'a>(
     ensures { OnOk result ((s : Setting) → Opens s (listed stack.old) (path_items s (Path.LangItem target name.now)) (20) (listed stack.new)) }
 {
     match name {
-        None => stack.push(&mut [
+        None => stack.push(&[
             Work::Text("builtin#lang("),
             Work::Path(PathPart::Target(target)),
             Work::Text(")"),
         ]),
-        Some(name) => stack.push(&mut [
+        Some(name) => stack.push(&[
             Work::Text("builtin#lang("),
             Work::Path(PathPart::Target(target)),
             Work::Text("::"),
@@ -84,10 +85,10 @@ fn open_kind(stack: &mut Stack<'_>, kind: PathKind) -> Result<(), AllocError>
 {
     match kind {
         PathKind::Plain => Ok(()),
-        PathKind::Super(n) => stack.push(&mut [Work::Path(PathPart::Supers(n))]),
-        PathKind::Crate => stack.push(&mut [Work::Text("crate")]),
+        PathKind::Super(n) => stack.push(&[Work::Path(PathPart::Supers(n))]),
+        PathKind::Crate => stack.push(&[Work::Text("crate")]),
         PathKind::Abs => Ok(()),
-        PathKind::DollarCrate(id) => stack.push(&mut [Work::Look(Look::CrateName(id))]),
+        PathKind::DollarCrate(id) => stack.push(&[Work::Look(Look::CrateName(id))]),
     }
 }
 
@@ -95,52 +96,50 @@ fn open_supers(stack: &mut Stack<'_>, n: u8) -> Result<(), AllocError>
     ensures { OnOk result ((s : Setting) → Opens s (listed stack.old) (supers n) (2 + 2 * n) (listed stack.new)) }
 {
     if n == 0 {
-        return stack.push(&mut [Work::Text("self")]);
+        return stack.push(&[Work::Text("self")]);
     }
     if n == 1 {
-        return stack.push(&mut [Work::Text("super")]);
+        return stack.push(&[Work::Text("super")]);
     }
-    stack.push(&mut [Work::Text("super::"), Work::Path(PathPart::Supers(n - 1))])
+    stack.push(&[Work::Text("super::"), Work::Path(PathPart::Supers(n - 1))])
 }
 
 fn open_target(stack: &mut Stack<'_>, target: LangItemTarget) -> Result<(), AllocError>
     ensures { OnOk result ((s : Setting) → Opens s (listed stack.old) (target_items s target) (5) (listed stack.new)) }
 {
     match target {
-        LangItemTarget::ImplId(id) => stack.push(&mut [
+        LangItemTarget::ImplId(id) => stack.push(&[
             Work::Text("ImplId"),
             Work::Text("("),
             Work::Number(u64::from(id.into_raw())),
             Work::Text(")"),
         ]),
-        LangItemTarget::EnumId(id) => stack.push(&mut [Work::Look(Look::NameOf(NamedDef::EnumId(
+        LangItemTarget::EnumId(id) => stack.push(&[Work::Look(Look::NameOf(NamedDef::EnumId(id)))]),
+        LangItemTarget::FunctionId(id) => stack.push(&[Work::Look(Look::NameOf(NamedDef::FunctionId(
             id,
         )))]),
-        LangItemTarget::FunctionId(id) => stack.push(&mut [Work::Look(Look::NameOf(
-            NamedDef::FunctionId(id),
-        ))]),
-        LangItemTarget::StaticId(id) => stack.push(&mut [Work::Look(Look::NameOf(NamedDef::StaticId(
+        LangItemTarget::StaticId(id) => stack.push(&[Work::Look(Look::NameOf(NamedDef::StaticId(
             id,
         )))]),
-        LangItemTarget::StructId(id) => stack.push(&mut [Work::Look(Look::NameOf(NamedDef::StructId(
+        LangItemTarget::StructId(id) => stack.push(&[Work::Look(Look::NameOf(NamedDef::StructId(
             id,
         )))]),
-        LangItemTarget::UnionId(id) => stack.push(&mut [Work::Look(Look::NameOf(NamedDef::UnionId(
+        LangItemTarget::UnionId(id) => stack.push(&[Work::Look(Look::NameOf(NamedDef::UnionId(
             id,
         )))]),
-        LangItemTarget::TypeAliasId(id) => stack.push(&mut [Work::Look(Look::NameOf(
+        LangItemTarget::TypeAliasId(id) => stack.push(&[Work::Look(Look::NameOf(
             NamedDef::TypeAliasId(id),
         ))]),
-        LangItemTarget::TraitId(id) => stack.push(&mut [Work::Look(Look::NameOf(NamedDef::TraitId(
+        LangItemTarget::TraitId(id) => stack.push(&[Work::Look(Look::NameOf(NamedDef::TraitId(
             id,
         )))]),
-        LangItemTarget::EnumVariantId(id) => stack.push(&mut [Work::Look(Look::NameOf(
+        LangItemTarget::EnumVariantId(id) => stack.push(&[Work::Look(Look::NameOf(
             NamedDef::EnumVariantId(id),
         ))]),
-        LangItemTarget::ConstId(id) => stack.push(&mut [Work::Look(Look::NameOf(NamedDef::ConstId(
+        LangItemTarget::ConstId(id) => stack.push(&[Work::Look(Look::NameOf(NamedDef::ConstId(
             id,
         )))]),
-        LangItemTarget::MacroId(id) => stack.push(&mut [Work::Look(Look::NameOf(NamedDef::MacroId(
+        LangItemTarget::MacroId(id) => stack.push(&[Work::Look(Look::NameOf(NamedDef::MacroId(
             id,
         )))]),
     }
@@ -156,12 +155,12 @@ fn open_segments<'a>(
 {
     match (names, lists) {
         ([], _) => Ok(()),
-        ([name, names @ ..], []) => stack.push(&mut [
+        ([name, names @ ..], []) => stack.push(&[
             Work::TextIf(after, "::"),
             Work::Name(name.as_str()),
             Work::Path(PathPart::Segments(true, names, &[])),
         ]),
-        ([name, names @ ..], [args, lists @ ..]) => stack.push(&mut [
+        ([name, names @ ..], [args, lists @ ..]) => stack.push(&[
             Work::TextIf(after, "::"),
             Work::Name(name.as_str()),
             Work::Path(PathPart::Turbofish(args)),
@@ -179,8 +178,8 @@ fn open_names<'a>(
 {
     match names {
         [] => Ok(()),
-        [name] => stack.push(&mut [Work::Name(name.as_str())]),
-        [first, rest @ ..] => stack.push(&mut [
+        [name] => stack.push(&[Work::Name(name.as_str())]),
+        [first, rest @ ..] => stack.push(&[
             Work::Name(first.as_str()),
             Work::Text(between),
             Work::Path(PathPart::Names(between, rest)),
@@ -196,14 +195,14 @@ fn open_turbofish<'a>(
 {
     match args {
         None => Ok(()),
-        Some(args) => stack.push(&mut [Work::Path(PathPart::Fish(args))]),
+        Some(args) => stack.push(&[Work::Path(PathPart::Fish(args))]),
     }
 }
 
 fn open_fish<'a>(stack: &mut Stack<'a>, args: &'a GenericArgs) -> Result<(), AllocError>
     ensures { OnOk result ((s : Setting) → Opens s (listed stack.old) (turbofish (args_items s args.now)) (3 + args_cost args.now) (listed stack.new)) }
 {
-    stack.push(&mut [
+    stack.push(&[
         Work::Text("::<"),
         Work::Path(PathPart::Args(args)),
         Work::Text(">"),
@@ -230,15 +229,15 @@ fn open_each<'a>(
     ensures { OnOk result ((s : Setting) → Opens s (listed stack.old) (comma_joined (each_arg s has_self_type args.now ++ map (assoc_items s) bindings.now)) (2 + rest_cost args.now (map assoc_cost bindings.now)) (listed stack.new)) }
 {
     match args {
-        [] => stack.push(&mut [Work::Path(PathPart::ArgsRest(args, bindings))]),
+        [] => stack.push(&[Work::Path(PathPart::ArgsRest(args, bindings))]),
         [_, ..] => {
             if has_self_type {
-                return stack.push(&mut [
+                return stack.push(&[
                     Work::Text("Self="),
                     Work::Path(PathPart::ArgsRest(args, bindings)),
                 ]);
             }
-            stack.push(&mut [Work::Path(PathPart::ArgsRest(args, bindings))])
+            stack.push(&[Work::Path(PathPart::ArgsRest(args, bindings))])
         }
     }
 }
@@ -254,9 +253,9 @@ fn open_args_rest<'a>(
         [] => open_assocs(stack, bindings),
         [first, rest @ ..] => {
             if rest.is_empty() && bindings.is_empty() {
-                return stack.push(&mut [Work::Path(PathPart::Arg(*first))]);
+                return stack.push(&[Work::Path(PathPart::Arg(*first))]);
             }
-            stack.push(&mut [
+            stack.push(&[
                 Work::Path(PathPart::Arg(*first)),
                 Work::Text(", "),
                 Work::Path(PathPart::ArgsRest(rest, bindings)),
@@ -273,8 +272,8 @@ fn open_assocs<'a>(
 {
     match bindings {
         [] => Ok(()),
-        [binding] => stack.push(&mut [Work::Path(PathPart::Assoc(binding))]),
-        [first, rest @ ..] => stack.push(&mut [
+        [binding] => stack.push(&[Work::Path(PathPart::Assoc(binding))]),
+        [first, rest @ ..] => stack.push(&[
             Work::Path(PathPart::Assoc(first)),
             Work::Text(", "),
             Work::Path(PathPart::ArgsRest(&[], rest)),
@@ -286,9 +285,9 @@ fn open_arg(stack: &mut Stack<'_>, arg: GenericArg) -> Result<(), AllocError>
     ensures { OnOk result ((s : Setting) → Opens s (listed stack.old) (arg_items s arg) (8) (listed stack.new)) }
 {
     match arg {
-        GenericArg::Ty(id) => stack.push(&mut [Work::Type(id)]),
-        GenericArg::Lifetime(id) => stack.push(&mut [Work::Look(Look::Lifetime(id))]),
-        GenericArg::Const(constant) => stack.push(&mut [Work::Under(
+        GenericArg::Ty(id) => stack.push(&[Work::Type(id)]),
+        GenericArg::Lifetime(id) => stack.push(&[Work::Look(Look::Lifetime(id))]),
+        GenericArg::Const(constant) => stack.push(&[Work::Under(
             constant.expr,
             ExprPrecedence::Unambiguous,
         )]),
@@ -301,7 +300,7 @@ fn open_assoc<'a>(
 ) -> Result<(), AllocError>
     ensures { OnOk result ((s : Setting) → Opens s (listed stack.old) (assoc_items s binding.now) (assoc_cost binding.now) (listed stack.new)) }
 {
-    stack.push(&mut [
+    stack.push(&[
         Work::Name(binding.name.as_str()),
         Work::Path(PathPart::Turbofish(&binding.args)),
         Work::Path(PathPart::BoundsAfter(binding.bounds.as_slice())),
@@ -314,7 +313,7 @@ fn open_bounds_after<'a>(stack: &mut Stack<'a>, bounds: &'a [TypeBound]) -> Resu
 {
     match bounds {
         [] => Ok(()),
-        [_, ..] => stack.push(&mut [Work::Text(": "), Work::TypePart(TypePart::Bounds(bounds))]),
+        [_, ..] => stack.push(&[Work::Text(": "), Work::TypePart(TypePart::Bounds(bounds))]),
     }
 }
 

@@ -10,7 +10,8 @@ ghost use Rattle.hir_pretty.specs.Pats.{with_rest, in_parentheses, pat_items};
 ghost use Rattle.hir_pretty.specs.Costs.{path_cost, pat_cost};
 ghost use Rattle.hir_pretty.specs.Works.{listed, Opens, pat_part_items, pat_part_cost};
 
-use crate::work::{Look, PatPart, PathPart, Stack, Work};
+use crate::paths::open_path;
+use crate::work::{PatPart, PathPart, Stack, Work};
 use hir_base::{ExprPrecedence, RangeOp};
 use hir_node::{BindingId, ExprId, Pat, PatId, Path, RecordFieldPat};
 use std::alloc::AllocError;
@@ -20,7 +21,7 @@ pub(crate) fn open_range_end(stack: &mut Stack<'_>, expr: Option<ExprId>) -> Res
 {
     match expr {
         None => Ok(()),
-        Some(expr) => stack.push(&mut [Work::Under(expr, ExprPrecedence::Shift)]),
+        Some(expr) => stack.push(&[Work::Under(expr, ExprPrecedence::Shift)]),
     }
 }
 
@@ -29,7 +30,7 @@ pub(crate) fn open_elements<'a>(stack: &mut Stack<'a>, pats: &'a [PatId]) -> Res
 {
     match pats {
         [] => Ok(()),
-        [first, rest @ ..] => stack.push(&mut [
+        [first, rest @ ..] => stack.push(&[
             Work::Pattern(*first),
             Work::Text(", "),
             Work::Pat(PatPart::Elements(rest)),
@@ -46,8 +47,8 @@ pub(crate) fn open_joined<'a>(
 {
     match pats {
         [] => Ok(()),
-        [pat] => stack.push(&mut [Work::Pattern(*pat)]),
-        [first, rest @ ..] => stack.push(&mut [
+        [pat] => stack.push(&[Work::Pattern(*pat)]),
+        [first, rest @ ..] => stack.push(&[
             Work::Pattern(*first),
             Work::Text(between),
             Work::Pat(PatPart::Joined(between, rest)),
@@ -63,16 +64,16 @@ pub(crate) fn open_with_rest<'a>(
     ensures { OnOk result ((s : Setting) → Opens s (listed stack.old) (comma_joined (with_rest (Some at) (map p pats.now))) (4 + 3 * length pats.now) (listed stack.new)) }
 {
     match pats {
-        [] => stack.push(&mut [Work::Text("..")]),
+        [] => stack.push(&[Work::Text("..")]),
         [first, rest @ ..] => {
             if at == 0 {
-                return stack.push(&mut [
+                return stack.push(&[
                     Work::Text(".."),
                     Work::Text(", "),
                     Work::Pat(PatPart::Joined(", ", pats)),
                 ]);
             }
-            stack.push(&mut [
+            stack.push(&[
                 Work::Pattern(*first),
                 Work::Text(", "),
                 Work::Pat(PatPart::WithRest(rest, at - 1)),
@@ -89,16 +90,16 @@ fn open_parentheses<'a>(
     ensures { OnOk result ((s : Setting) → Opens s (listed stack.old) (in_parentheses rest pats.now) (7 + 3 * length pats.now) (listed stack.new)) }
 {
     match rest {
-        None => stack.push(&mut [
-            Work::Text("("),
-            Work::Pat(PatPart::Joined(", ", pats)),
-            Work::Text(")"),
-        ]),
-        Some(at) => stack.push(&mut [
-            Work::Text("("),
-            Work::Pat(PatPart::WithRest(pats, at)),
-            Work::Text(")"),
-        ]),
+        None => {
+            stack.push(&[Work::Text(")")])?;
+            open_joined(stack, ", ", pats)?;
+            stack.push(&[Work::Text("(")])
+        }
+        Some(at) => {
+            stack.push(&[Work::Text(")")])?;
+            open_with_rest(stack, pats, at)?;
+            stack.push(&[Work::Text("(")])
+        }
     }
 }
 
@@ -111,7 +112,7 @@ fn open_tuple_struct<'a>(
     ensures { OnOk result ((s : Setting) → Opens s (listed stack.old) (path_items s path.now ++ in_parentheses rest pats.now) (8 + 3 * length pats.now + path_cost path.now) (listed stack.new)) }
 {
     open_parentheses(stack, pats, rest)?;
-    stack.push(&mut [Work::Path(PathPart::Whole(path))])
+    stack.push(&[Work::Path(PathPart::Whole(path))])
 }
 
 fn open_record<'a>(
@@ -123,7 +124,7 @@ fn open_record<'a>(
     ensures { OnOk result ((s : Setting) → Opens s (listed stack.old) (pat_items s (Pat.Record path.now fields.now rest)) (21 + 10 * length fields.now + path_cost path.now) (listed stack.new)) }
 {
     if rest {
-        return stack.push(&mut [
+        return stack.push(&[
             Work::Path(PathPart::Whole(path)),
             Work::Text(" {"),
             Work::Indent,
@@ -134,7 +135,7 @@ fn open_record<'a>(
             Work::Text("}"),
         ]);
     }
-    stack.push(&mut [
+    stack.push(&[
         Work::Path(PathPart::Whole(path)),
         Work::Text(" {"),
         Work::Indent,
@@ -152,7 +153,7 @@ fn open_range(
 ) -> Result<(), AllocError>
     ensures { OnOk result ((s : Setting) → Opens s (listed stack.old) (pat_items s (Pat.Range start end range_type)) (21) (listed stack.new)) }
 {
-    stack.push(&mut [
+    stack.push(&[
         Work::Pat(PatPart::RangeEnd(start)),
         Work::Text(range_type.as_str()),
         Work::Pat(PatPart::RangeEnd(end)),
@@ -168,13 +169,13 @@ fn open_slice<'a>(
     ensures { OnOk result ((s : Setting) → Opens s (listed stack.old) (pat_items s (Pat.Slice prefix.now slice suffix.now)) (21 + 3 * length prefix.now + 3 * length suffix.now) (listed stack.new)) }
 {
     match slice {
-        None => stack.push(&mut [
+        None => stack.push(&[
             Work::Text("["),
             Work::Pat(PatPart::Elements(prefix)),
             Work::Pat(PatPart::Elements(suffix)),
             Work::Text("]"),
         ]),
-        Some(slice) => stack.push(&mut [
+        Some(slice) => stack.push(&[
             Work::Text("["),
             Work::Pat(PatPart::Elements(prefix)),
             Work::Pattern(slice),
@@ -189,9 +190,9 @@ fn open_bind(stack: &mut Stack<'_>, id: BindingId, subpat: Option<PatId>) -> Res
     ensures { OnOk result ((s : Setting) → Opens s (listed stack.old) (pat_items s (Pat.Bind id subpat)) (21) (listed stack.new)) }
 {
     match subpat {
-        None => stack.push(&mut [Work::Look(Look::Binding(id))]),
-        Some(subpat) => stack.push(&mut [
-            Work::Look(Look::Binding(id)),
+        None => stack.push(&[Work::Binding(id)]),
+        Some(subpat) => stack.push(&[
+            Work::Binding(id),
             Work::Space,
             Work::Text("@ "),
             Work::Pattern(subpat),
@@ -200,16 +201,17 @@ fn open_bind(stack: &mut Stack<'_>, id: BindingId, subpat: Option<PatId>) -> Res
 }
 
 /// Puts the items of a pattern on the stack.
+#[inline(never)]
 pub(crate) fn open_pat<'a>(stack: &mut Stack<'a>, pat: &'a Pat) -> Result<(), AllocError>
     ensures { OnOk result ((s : Setting) → Opens s (listed stack.old) (pat_items s pat.now) (1 + pat_cost pat.now) (listed stack.new)) }
 {
     match pat {
-        Pat::Missing => stack.push(&mut [Work::Text("\u{fffd}")]),
-        Pat::Rest => stack.push(&mut [Work::Text("..")]),
-        Pat::Wild => stack.push(&mut [Work::Text("_")]),
-        Pat::NotNull => stack.push(&mut [Work::Text("!null")]),
+        Pat::Missing => stack.push(&[Work::Text("\u{fffd}")]),
+        Pat::Rest => stack.push(&[Work::Text("..")]),
+        Pat::Wild => stack.push(&[Work::Text("_")]),
+        Pat::NotNull => stack.push(&[Work::Text("!null")]),
         Pat::Tuple { args, ellipsis } => open_parentheses(stack, args.as_slice(), *ellipsis),
-        Pat::Or(args) => stack.push(&mut [
+        Pat::Or(args) => stack.push(&[
             Work::Text("("),
             Work::Pat(PatPart::Joined(" | ", args.as_slice())),
             Work::Text(")"),
@@ -229,22 +231,22 @@ pub(crate) fn open_pat<'a>(stack: &mut Stack<'a>, pat: &'a Pat) -> Result<(), Al
             slice,
             suffix,
         } => open_slice(stack, prefix.as_slice(), *slice, suffix.as_slice()),
-        Pat::Path(path) => stack.push(&mut [Work::Path(PathPart::Whole(path))]),
-        Pat::Lit(expr) => stack.push(&mut [Work::Under(*expr, ExprPrecedence::Shift)]),
-        Pat::Expr(expr) => stack.push(&mut [Work::Under(*expr, ExprPrecedence::Shift)]),
+        Pat::Path(path) => open_path(stack, path),
+        Pat::Lit(expr) => stack.push(&[Work::Under(*expr, ExprPrecedence::Shift)]),
+        Pat::Expr(expr) => stack.push(&[Work::Under(*expr, ExprPrecedence::Shift)]),
         Pat::Bind { id, subpat } => open_bind(stack, *id, *subpat),
         Pat::TupleStruct {
             path,
             args,
             ellipsis,
         } => open_tuple_struct(stack, path, args.as_slice(), *ellipsis),
-        Pat::Ref { pat, mutability } => stack.push(&mut [
+        Pat::Ref { pat, mutability } => stack.push(&[
             Work::Text("&"),
             Work::Text(mutability.as_keyword_for_ref()),
             Work::Pattern(*pat),
         ]),
-        Pat::Box { inner } => stack.push(&mut [Work::Text("box "), Work::Pattern(*inner)]),
-        Pat::Deref { inner } => stack.push(&mut [
+        Pat::Box { inner } => stack.push(&[Work::Text("box "), Work::Pattern(*inner)]),
+        Pat::Deref { inner } => stack.push(&[
             Work::Text("deref!("),
             Work::Pattern(*inner),
             Work::Text(")"),

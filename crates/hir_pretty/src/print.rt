@@ -19,6 +19,7 @@ use hir_page::{LineFormat, PageBuffer, PieceWriter};
 use std::alloc::Global;
 
 /// Writes the pieces of what works stand for, the first first, up to the first fault.
+#[inline(never)]
 pub(crate) fn write_works<'a, D: Definitions, W: PieceWriter>(
     alloc: Global,
     store: &'a ExpressionStore,
@@ -36,7 +37,7 @@ pub(crate) fn write_works<'a, D: Definitions, W: PieceWriter>(
     store.has_no_fault();
     items_fall();
     let mut stack = Stack::new(alloc);
-    match stack.push(works) {
+    match stack.push_all(works) {
         Ok(()) => {}
         Err(_) => return Err(PrintFault::Memory),
     }

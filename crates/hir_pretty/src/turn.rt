@@ -1,7 +1,7 @@
 //! A turn of the printer's loop: a piece is written, a node or a part gives way to its items.
 #![tactic(auto, using(crate::proofs::TurnLemmas::turns))]
 
-ghost use Rattle.std.specs.Prelude.{◌≡◌, ◌+◌, ◌++◌, ◌∷◌, [], Bool, List, ℕ, Some, None, OnOk, IfErr, codes, slice_get};
+ghost use Rattle.std.specs.Prelude.{◌≡◌, ◌+◌, ◌++◌, Some, None, OnOk, IfErr, IfSome, true, codes, slice_get};
 ghost use Rattle.hir_node.specs.declared.node_id.NodeId.TheVariants as node;
 ghost use Rattle.hir_pretty.specs.Questions.{Setting};
 ghost use Rattle.hir_pretty.specs.Settings.{setting};
@@ -9,7 +9,7 @@ ghost use Rattle.hir_pretty.specs.Items.{text, when};
 ghost use Rattle.hir_pretty.specs.Pieces.{items_of, is_chain, stands_in_parentheses, precedence_found};
 ghost use Rattle.hir_pretty.specs.Falls.{ItemsFall};
 ghost use Rattle.hir_pretty.specs.Costs.{node_cost};
-ghost use Rattle.hir_pretty.specs.Works.{listed, Opens, OpensInStore, Turned, Prints, enclosed, stands_for, work_cost, pending, printed};
+ghost use Rattle.hir_pretty.specs.Works.{IsOnlyName, listed, Opens, OpensInStore, Turned, Prints, enclosed, stands_for, work_cost, pending, printed};
 
 use crate::definitions::Definitions;
 use crate::expr_parts::open_expr_part;
@@ -17,8 +17,8 @@ use crate::exprs::open_expr;
 use crate::fault::PrintFault;
 use crate::field_pats::open_pat_part;
 use crate::literals::write_literal;
-use crate::lookups::open_look;
-use crate::names::open_name;
+use crate::lookups::{open_look, write_binding};
+use crate::names::write_name;
 use crate::paths::open_path_part;
 use crate::pats::open_pat;
 use crate::type_parts::open_type_part;
@@ -26,7 +26,7 @@ use crate::types::open_type;
 use crate::work::{Stack, Work};
 use hir_base::{ExprPrecedence, Text};
 use hir_expr_store::ExpressionStore;
-use hir_node::{ExprId, PatId, TypeRefId};
+use hir_node::{BindingId, Expr, ExprId, Pat, PatId, Path, TypeRefId};
 use hir_page::{PieceWriter, write_number};
 use std::alloc::AllocError;
 
@@ -75,6 +75,50 @@ fn open_type_at<'a>(
     Ok(())
 }
 
+/// The name that is all that is printed of the expression, where it is a path of one name.
+#[inline(always)]
+fn name_at<'a>(store: &'a ExpressionStore, id: ExprId) -> Option<&'a str>
+    ensures { IfSome result (λ name. IsOnlyName (slice_get store.now.nodes.exprs id) name.now) }
+{
+    if store.has_expr(id) {
+        return name_of(&store[id]);
+    }
+    None
+}
+
+#[inline(always)]
+fn name_of<'a>(expr: &'a Expr) -> Option<&'a str>
+    ensures { IfSome result (λ name. IsOnlyName (Some expr.now) name.now) }
+{
+    if let Expr::Path(Path::BarePath(path)) = expr {
+        if let Some(name) = path.as_ident() {
+            return Some(name.as_str());
+        }
+    }
+    None
+}
+
+/// The binding that is all that is printed of the pattern, where it binds a name and nothing more.
+#[inline(always)]
+fn binding_at(store: &ExpressionStore, id: PatId) -> Option<BindingId>
+    ensures { IfSome result (λ binding. slice_get store.now.nodes.pats id ≡ Some (Pat.Bind binding None)) }
+{
+    if store.has_pat(id) {
+        return binding_of(&store[id]);
+    }
+    None
+}
+
+#[inline(always)]
+fn binding_of(pat: &Pat) -> Option<BindingId>
+    ensures { IfSome result (λ binding. pat.now ≡ Pat.Bind binding None) }
+{
+    if let Pat::Bind { id, subpat: None } = pat {
+        return Some(*id);
+    }
+    None
+}
+
 fn precedence_at(store: &ExpressionStore, id: ExprId) -> ExprPrecedence
     ensures { result ≡ precedence_found (slice_get store.now.nodes.exprs id) }
 {
@@ -94,32 +138,53 @@ fn is_chain(child: ExprPrecedence, parent: ExprPrecedence) -> bool
     )
 }
 
+/// Whether an expression of one precedence stands in parentheses under another.
+fn stands_in_parentheses(child: ExprPrecedence, parent: ExprPrecedence) -> bool
+    ensures { result ≡ stands_in_parentheses child parent }
+{
+    child.needs_parentheses_in(parent) && !is_chain(child, parent)
+}
+
+fn open_enclosed<'a>(
+    stack: &mut Stack<'a>,
+    store: &'a ExpressionStore,
+    id: ExprId,
+) -> Result<(), AllocError>
+    ensures { OnOk result (OpensInStore store.now (listed stack.old) (λ s. enclosed true (items_of s (node.Expr id)))
+        (5 + node_cost store.now.nodes (node.Expr id)) (listed stack.new)) }
+{
+    stack.push(&[Work::Text(")")])?;
+    open_expr_at(stack, store, id)?;
+    stack.push(&[Work::Text("(")])
+}
+
 fn open_under<'a>(
     stack: &mut Stack<'a>,
-    store: &ExpressionStore,
+    store: &'a ExpressionStore,
     id: ExprId,
     parent: ExprPrecedence,
 ) -> Result<(), AllocError>
-    ensures { OnOk result ((s : Setting) → Opens s (listed stack.old)
-        (enclosed (stands_in_parentheses (precedence_found (slice_get store.now.nodes.exprs id)) parent) id) 5 (listed stack.new)) }
+    ensures { OnOk result (OpensInStore store.now (listed stack.old)
+        (λ s. enclosed (stands_in_parentheses (precedence_found (slice_get store.now.nodes.exprs id)) parent) (items_of s (node.Expr id)))
+        (5 + node_cost store.now.nodes (node.Expr id)) (listed stack.new)) }
 {
-    let child = precedence_at(store, id);
-    if child.needs_parentheses_in(parent) && !is_chain(child, parent) {
-        return stack.push(&mut [Work::Text("("), Work::Whole(id), Work::Text(")")]);
+    if stands_in_parentheses(precedence_at(store, id), parent) {
+        return open_enclosed(stack, store, id);
     }
-    stack.push(&mut [Work::Whole(id)])
+    open_expr_at(stack, store, id)
 }
 
 fn open_text_if<'a>(stack: &mut Stack<'a>, holds: bool, shown: &'a str) -> Result<(), AllocError>
     ensures { OnOk result ((s : Setting) → Opens s (listed stack.old) (when holds (text shown.now)) 2 (listed stack.new)) }
 {
     if holds {
-        return stack.push(&mut [Work::Text(shown)]);
+        return stack.push(&[Work::Text(shown)]);
     }
     Ok(())
 }
 
 /// Does what is on top of the stack.
+#[inline(always)]
 pub(crate) fn turn<'a, D: Definitions, W: PieceWriter>(
     store: &'a ExpressionStore,
     tables: &'a D,
@@ -166,21 +231,43 @@ pub(crate) fn turn<'a, D: Definitions, W: PieceWriter>(
             Ok(()) => Ok(()),
             Err(_) => Err(PrintFault::Memory),
         },
-        Work::Name(name) => match open_name(stack, words, *name) {
+        Work::Name(name) => match write_name(writer, words, *name) {
             Ok(()) => Ok(()),
             Err(_) => Err(PrintFault::Memory),
         },
-        Work::Whole(id) => match open_expr_at(stack, store, *id) {
+        Work::Binding(id) => match write_binding(writer, store, words, *id) {
             Ok(()) => Ok(()),
             Err(_) => Err(PrintFault::Memory),
         },
-        Work::Under(id, parent) => match open_under(stack, store, *id, *parent) {
-            Ok(()) => Ok(()),
-            Err(_) => Err(PrintFault::Memory),
+        Work::Whole(id) => match name_at(store, *id) {
+            Some(name) => match write_name(writer, words, name) {
+                Ok(()) => Ok(()),
+                Err(_) => Err(PrintFault::Memory),
+            },
+            None => match open_expr_at(stack, store, *id) {
+                Ok(()) => Ok(()),
+                Err(_) => Err(PrintFault::Memory),
+            },
         },
-        Work::Pattern(id) => match open_pat_at(stack, store, *id) {
-            Ok(()) => Ok(()),
-            Err(_) => Err(PrintFault::Memory),
+        Work::Under(id, parent) => match name_at(store, *id) {
+            Some(name) => match write_name(writer, words, name) {
+                Ok(()) => Ok(()),
+                Err(_) => Err(PrintFault::Memory),
+            },
+            None => match open_under(stack, store, *id, *parent) {
+                Ok(()) => Ok(()),
+                Err(_) => Err(PrintFault::Memory),
+            },
+        },
+        Work::Pattern(id) => match binding_at(store, *id) {
+            Some(binding) => match write_binding(writer, store, words, binding) {
+                Ok(()) => Ok(()),
+                Err(_) => Err(PrintFault::Memory),
+            },
+            None => match open_pat_at(stack, store, *id) {
+                Ok(()) => Ok(()),
+                Err(_) => Err(PrintFault::Memory),
+            },
         },
         Work::Type(id) => match open_type_at(stack, store, *id) {
             Ok(()) => Ok(()),

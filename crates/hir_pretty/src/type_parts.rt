@@ -14,7 +14,7 @@ use hir_base::{ExternAbi, Name, Seq};
 use hir_node::{PathId, TraitBoundModifier, TypeBound, TypeRefId, UseArgRef};
 use std::alloc::AllocError;
 
-fn open_after<'a>(
+pub(crate) fn open_after<'a>(
     stack: &mut Stack<'a>,
     before: &'a str,
     type_ref: Option<TypeRefId>,
@@ -23,7 +23,7 @@ fn open_after<'a>(
 {
     match type_ref {
         None => Ok(()),
-        Some(type_ref) => stack.push(&mut [Work::Text(before), Work::Type(type_ref)]),
+        Some(type_ref) => stack.push(&[Work::Text(before), Work::Type(type_ref)]),
     }
 }
 
@@ -32,8 +32,8 @@ fn open_joined<'a>(stack: &mut Stack<'a>, types: &'a [TypeRefId]) -> Result<(), 
 {
     match types {
         [] => Ok(()),
-        [type_ref] => stack.push(&mut [Work::Type(*type_ref)]),
-        [first, rest @ ..] => stack.push(&mut [
+        [type_ref] => stack.push(&[Work::Type(*type_ref)]),
+        [first, rest @ ..] => stack.push(&[
             Work::Type(*first),
             Work::Text(", "),
             Work::TypePart(TypePart::Joined(rest)),
@@ -50,8 +50,8 @@ fn open_params<'a>(
     match params {
         [] => Ok(()),
         [_] => Ok(()),
-        [first, _] => stack.push(&mut [Work::Type(first.1)]),
-        [first, rest @ ..] => stack.push(&mut [
+        [first, _] => stack.push(&[Work::Type(first.1)]),
+        [first, rest @ ..] => stack.push(&[
             Work::Type(first.1),
             Work::Text(", "),
             Work::TypePart(TypePart::Params(rest)),
@@ -62,7 +62,7 @@ fn open_params<'a>(
 fn open_for<'a>(stack: &mut Stack<'a>, names: &'a [Name]) -> Result<(), AllocError>
     ensures { OnOk result ((s : Setting) → Opens s (listed stack.old) (for_names s names.now) (4 + 6 * length names.now) (listed stack.new)) }
 {
-    stack.push(&mut [
+    stack.push(&[
         Work::Text("for<"),
         Work::Path(PathPart::Names(", ", names)),
         Work::Text("> "),
@@ -94,7 +94,7 @@ fn open_extern<'a>(stack: &mut Stack<'a>, abi: &'a ExternAbi) -> Result<(), Allo
 fn open_abi<'a>(stack: &mut Stack<'a>, abi: &'a str) -> Result<(), AllocError>
     ensures { OnOk result ((s : Setting) → Opens s (listed stack.old) (text (codes "extern ") ++ text abi.now ++ text (codes " ")) (4) (listed stack.new)) }
 {
-    stack.push(&mut [Work::Text("extern "), Work::Text(abi), Work::Text(" ")])
+    stack.push(&[Work::Text("extern "), Work::Text(abi), Work::Text(" ")])
 }
 
 fn open_bounds<'a>(stack: &mut Stack<'a>, bounds: &'a [TypeBound]) -> Result<(), AllocError>
@@ -102,8 +102,8 @@ fn open_bounds<'a>(stack: &mut Stack<'a>, bounds: &'a [TypeBound]) -> Result<(),
 {
     match bounds {
         [] => Ok(()),
-        [bound] => stack.push(&mut [Work::TypePart(TypePart::Bound(bound))]),
-        [first, rest @ ..] => stack.push(&mut [
+        [bound] => stack.push(&[Work::TypePart(TypePart::Bound(bound))]),
+        [first, rest @ ..] => stack.push(&[
             Work::TypePart(TypePart::Bound(first)),
             Work::Text(" + "),
             Work::TypePart(TypePart::Bounds(rest)),
@@ -119,8 +119,8 @@ fn open_path_bound(
     ensures { OnOk result ((s : Setting) → Opens s (listed stack.old) (bound_items s (TypeBound.Path id modifier)) (8) (listed stack.new)) }
 {
     match modifier {
-        TraitBoundModifier::None => stack.push(&mut [Work::Type(id.type_ref())]),
-        TraitBoundModifier::Maybe => stack.push(&mut [Work::Text("?"), Work::Type(id.type_ref())]),
+        TraitBoundModifier::None => stack.push(&[Work::Type(id.type_ref())]),
+        TraitBoundModifier::Maybe => stack.push(&[Work::Text("?"), Work::Type(id.type_ref())]),
     }
 }
 
@@ -131,7 +131,7 @@ fn open_for_bound<'a>(
 ) -> Result<(), AllocError>
     ensures { OnOk result ((s : Setting) → Opens s (listed stack.old) (bound_items s (TypeBound.ForLifetime names.now id)) (8 + 6 * length names.now) (listed stack.new)) }
 {
-    stack.push(&mut [
+    stack.push(&[
         Work::Text("for<"),
         Work::Path(PathPart::Names(", ", names)),
         Work::Text("> "),
@@ -145,13 +145,13 @@ fn open_bound<'a>(stack: &mut Stack<'a>, bound: &'a TypeBound) -> Result<(), All
     match bound {
         TypeBound::Path(id, modifier) => open_path_bound(stack, *id, *modifier),
         TypeBound::ForLifetime(names, id) => open_for_bound(stack, names.as_slice(), *id),
-        TypeBound::Lifetime(id) => stack.push(&mut [Work::Look(Look::Lifetime(*id))]),
-        TypeBound::Use(args) => stack.push(&mut [
+        TypeBound::Lifetime(id) => stack.push(&[Work::Look(Look::Lifetime(*id))]),
+        TypeBound::Use(args) => stack.push(&[
             Work::Text("use<"),
             Work::TypePart(TypePart::UseArgs(args.as_slice())),
             Work::Text(">"),
         ]),
-        TypeBound::Error => stack.push(&mut [Work::Text("{unknown}")]),
+        TypeBound::Error => stack.push(&[Work::Text("{unknown}")]),
     }
 }
 
@@ -169,8 +169,8 @@ fn open_last_use<'a>(stack: &mut Stack<'a>, arg: &'a UseArgRef) -> Result<(), Al
     ensures { OnOk result ((s : Setting) → Opens s (listed stack.old) (use_items s arg.now) (9) (listed stack.new)) }
 {
     match arg {
-        UseArgRef::Name(name) => stack.push(&mut [Work::Name(name.as_str())]),
-        UseArgRef::Lifetime(id) => stack.push(&mut [Work::Look(Look::Lifetime(*id))]),
+        UseArgRef::Name(name) => stack.push(&[Work::Name(name.as_str())]),
+        UseArgRef::Lifetime(id) => stack.push(&[Work::Look(Look::Lifetime(*id))]),
     }
 }
 
@@ -182,12 +182,12 @@ fn open_use<'a>(
     ensures { OnOk result ((s : Setting) → Opens s (listed stack.old) (use_items s first.now ++ text (codes ", ") ++ comma_joined (map (use_items s) rest.now)) (10 + 9 * length rest.now) (listed stack.new)) }
 {
     match first {
-        UseArgRef::Name(name) => stack.push(&mut [
+        UseArgRef::Name(name) => stack.push(&[
             Work::Name(name.as_str()),
             Work::Text(", "),
             Work::TypePart(TypePart::UseArgs(rest)),
         ]),
-        UseArgRef::Lifetime(id) => stack.push(&mut [
+        UseArgRef::Lifetime(id) => stack.push(&[
             Work::Look(Look::Lifetime(*id)),
             Work::Text(", "),
             Work::TypePart(TypePart::UseArgs(rest)),
@@ -196,6 +196,7 @@ fn open_use<'a>(
 }
 
 /// Puts the items of a part of a type on the stack.
+#[inline(never)]
 pub(crate) fn open_type_part<'a>(
     stack: &mut Stack<'a>,
     part: &TypePart<'a>,

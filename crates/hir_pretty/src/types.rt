@@ -8,6 +8,7 @@ ghost use Rattle.hir_pretty.specs.Types.{signature_items, fn_items, type_items};
 ghost use Rattle.hir_pretty.specs.Costs.{type_cost};
 ghost use Rattle.hir_pretty.specs.Works.{listed, Opens, front_items};
 
+use crate::paths::open_path;
 use crate::work::{Look, PathPart, Stack, TypePart, Work};
 use hir_base::{ExprPrecedence, Name};
 use hir_node::{FnType, RefType, TypeRef, TypeRefId};
@@ -17,7 +18,7 @@ fn open_fn<'a>(stack: &mut Stack<'a>, function: &'a FnType) -> Result<(), AllocE
     ensures { OnOk result ((s : Setting) → Opens s (listed stack.old) (fn_items s function.now) (1 + type_cost (TypeRef.Fn function.now)) (listed stack.new)) }
 {
     open_signature(stack, function.params.as_slice(), function.is_varargs)?;
-    stack.push(&mut [
+    stack.push(&[
         Work::TypePart(TypePart::Binder(&function.binder)),
         Work::TextIf(function.is_unsafe, "unsafe "),
         Work::TypePart(TypePart::Extern(&function.abi)),
@@ -48,14 +49,14 @@ fn open_ends<'a>(
     ensures { OnOk result ((s : Setting) → Opens s (listed stack.old) (text (codes "fn(") ++ front_items params.now ++ when (is_varargs && has_params) (text (codes ", ")) ++ when is_varargs (text (codes "...")) ++ text (codes ") -> ") ++ opt t ret) (9 + 3 * length params.now) (listed stack.new)) }
 {
     match ret {
-        None => stack.push(&mut [
+        None => stack.push(&[
             Work::Text("fn("),
             Work::TypePart(TypePart::Params(params)),
             Work::TextIf(is_varargs && has_params, ", "),
             Work::TextIf(is_varargs, "..."),
             Work::Text(") -> "),
         ]),
-        Some(ret) => stack.push(&mut [
+        Some(ret) => stack.push(&[
             Work::Text("fn("),
             Work::TypePart(TypePart::Params(params)),
             Work::TextIf(is_varargs && has_params, ", "),
@@ -70,12 +71,12 @@ fn open_reference<'a>(stack: &mut Stack<'a>, reference: &'a RefType) -> Result<(
     ensures { OnOk result ((s : Setting) → Opens s (listed stack.old) (type_items s (TypeRef.Reference reference.now)) (21) (listed stack.new)) }
 {
     match reference.lifetime {
-        None => stack.push(&mut [
+        None => stack.push(&[
             Work::Text("&"),
             Work::Text(reference.mutability.as_keyword_for_ref()),
             Work::Type(reference.ty),
         ]),
-        Some(lifetime) => stack.push(&mut [
+        Some(lifetime) => stack.push(&[
             Work::Text("&"),
             Work::Look(Look::Lifetime(lifetime)),
             Work::Text(" "),
@@ -86,27 +87,28 @@ fn open_reference<'a>(stack: &mut Stack<'a>, reference: &'a RefType) -> Result<(
 }
 
 /// Puts the items of a type on the stack.
+#[inline(never)]
 pub(crate) fn open_type<'a>(stack: &mut Stack<'a>, type_ref: &'a TypeRef) -> Result<(), AllocError>
     ensures { OnOk result ((s : Setting) → Opens s (listed stack.old) (type_items s type_ref.now) (1 + type_cost type_ref.now) (listed stack.new)) }
 {
     match type_ref {
-        TypeRef::Never => stack.push(&mut [Work::Text("!")]),
-        TypeRef::Placeholder => stack.push(&mut [Work::Text("_")]),
-        TypeRef::Error => stack.push(&mut [Work::Text("{error}")]),
-        TypeRef::TypeParam(id) => stack.push(&mut [Work::Look(Look::TypeParam(*id))]),
-        TypeRef::Tuple(types) => stack.push(&mut [
+        TypeRef::Never => stack.push(&[Work::Text("!")]),
+        TypeRef::Placeholder => stack.push(&[Work::Text("_")]),
+        TypeRef::Error => stack.push(&[Work::Text("{error}")]),
+        TypeRef::TypeParam(id) => stack.push(&[Work::Look(Look::TypeParam(*id))]),
+        TypeRef::Tuple(types) => stack.push(&[
             Work::Text("("),
             Work::TypePart(TypePart::Joined(types.as_slice())),
             Work::Text(")"),
         ]),
-        TypeRef::Slice(id) => stack.push(&mut [Work::Text("["), Work::Type(*id), Work::Text("]")]),
-        TypeRef::RawPtr(id, mutability) => stack.push(&mut [
+        TypeRef::Slice(id) => stack.push(&[Work::Text("["), Work::Type(*id), Work::Text("]")]),
+        TypeRef::RawPtr(id, mutability) => stack.push(&[
             Work::Text("*"),
             Work::Text(mutability.as_keyword_for_ptr()),
             Work::Type(*id),
         ]),
         TypeRef::Reference(reference) => open_reference(stack, reference.get()),
-        TypeRef::Array(array) => stack.push(&mut [
+        TypeRef::Array(array) => stack.push(&[
             Work::Text("["),
             Work::Type(array.ty),
             Work::Text("; "),
@@ -114,19 +116,19 @@ pub(crate) fn open_type<'a>(stack: &mut Stack<'a>, type_ref: &'a TypeRef) -> Res
             Work::Text("]"),
         ]),
         TypeRef::Fn(function) => open_fn(stack, function.get()),
-        TypeRef::ImplTrait(bounds) => stack.push(&mut [
+        TypeRef::ImplTrait(bounds) => stack.push(&[
             Work::Text("impl "),
             Work::TypePart(TypePart::Bounds(bounds.as_slice())),
         ]),
-        TypeRef::DynTrait(bounds) => stack.push(&mut [
+        TypeRef::DynTrait(bounds) => stack.push(&[
             Work::Text("dyn "),
             Work::TypePart(TypePart::Bounds(bounds.as_slice())),
         ]),
-        TypeRef::PatternType(id, pat) => stack.push(&mut [
+        TypeRef::PatternType(id, pat) => stack.push(&[
             Work::Type(*id),
             Work::Text(" is "),
             Work::Pattern(*pat),
         ]),
-        TypeRef::Path(path) => stack.push(&mut [Work::Path(PathPart::Whole(path))]),
+        TypeRef::Path(path) => open_path(stack, path),
     }
 }

@@ -1,6 +1,6 @@
 //! What is still to be printed: pieces, nodes, what is looked up, and the rest of lists. And the stack of it.
 
-ghost use Rattle.std.specs.Prelude.{◌≡◌, [], ◌∷◌, ◌++◌, None, OnOk, IfSome};
+ghost use Rattle.std.specs.Prelude.{◌≡◌, [], ◌∷◌, ◌++◌, reverse, None, OnOk, IfSome};
 
 use hir_base::{
     CrateId, ExprPrecedence, ExternAbi, LangItemTarget, LifetimeParamId, Name, NamedDef, PathKind,
@@ -9,8 +9,8 @@ use hir_base::{
 use hir_expr_store::Missing;
 use hir_node::{
     AssociatedTypeBinding, BindingId, ClosureKind, ExprId, GenericArg, GenericArgs, LabelId,
-    LifetimeRefId, Literal, MatchArm, PatId, Path, RecordFieldPat, RecordLitField, RecordSpread,
-    Statement, TypeBound, TypeRefId, UseArgRef,
+    LifetimeRefId, Literal, MatchArm, PatId, Path, RecordFieldPat, RecordLitField, Statement,
+    TypeBound, TypeRefId, UseArgRef,
 };
 use std::alloc::{AllocError, Global};
 
@@ -29,6 +29,7 @@ pub enum Work<'a> {
     Literal(&'a Literal),
     /// A name, with `r#` where the edition's words list it.
     Name(&'a str),
+    Binding(BindingId),
     /// An expression without a parent.
     Whole(ExprId),
     /// An expression under a precedence.
@@ -53,33 +54,19 @@ pub enum Look {
     LifetimeParam(LifetimeParamId),
     Lifetime(LifetimeRefId),
     Label(LabelId),
-    Binding(BindingId),
     /// What is printed as the body of a closure of this kind.
     ClosureBody(ClosureKind, ExprId),
 }
 
-/// Parts of expressions.
+/// Parts of expressions: the rests of their lists.
 #[derive(Clone, Copy)]
 pub enum ExprPart<'a> {
-    /// A text and an expression, where there is one.
-    After(&'a str, Option<ExprId>),
-    /// An expression, where there is one.
-    Tail(Option<ExprId>),
-    /// A label before a loop or a block.
-    Labelled(Option<LabelId>),
-    /// A label after `continue` or `break`.
-    ToLabel(Option<LabelId>),
-    /// An expression after a keyword.
-    Operand(Option<ExprId>),
-    Arguments(&'a [ExprId]),
     ArgLines(&'a [ExprId]),
     Elements(&'a [ExprId]),
     Arms(&'a [MatchArm]),
     Fields(&'a [RecordLitField]),
-    Spread(RecordSpread),
     Statements(&'a [Statement]),
-    /// The parameters of a closure of this kind, with their types, and the type of the result.
-    Header(ClosureKind, &'a [PatId], &'a [Option<TypeRefId>], Option<TypeRefId>),
+    /// The parameters of a closure with their types.
     Params(&'a [PatId], &'a [Option<TypeRefId>]),
 }
 
@@ -138,6 +125,19 @@ pub enum PathPart<'a> {
     BoundsAfter(&'a [TypeBound]),
 }
 
+// Copies of items behind those that are there, the last first. Inlined, each is stored straight into its place.
+#[inline(always)]
+fn push_from_last<T: Copy>(onto: &mut Vec<T>, items: &[T]) -> Result<(), AllocError>
+    ensures { OnOk result (onto.new.items ≡ onto.old.items ++ reverse items.now) }
+{
+    let mut left = items.len();
+    while left > 0 {
+        left -= 1;
+        onto.push(items[left])?;
+    }
+    Ok(())
+}
+
 /// What is still to be printed, the next on top.
 #[derive(Drop)]
 pub(crate) struct Stack<'a> {
@@ -156,10 +156,20 @@ impl<'a> Stack<'a> {
         }
     }
 
-    /// Pushes works, the first on top. It reserves room once.
+    /// Pushes works, the first on top.
+    ///
+    /// Answers an error where room was refused; then the last of them may be on the stack.
+    #[inline(always)]
+    pub(crate) fn push(&mut self, works: &[Work<'a>]) -> Result<(), AllocError>
+        ensures { OnOk result (Pushes works.now (listed self.old) (listed self.new)) }
+    {
+        push_from_last(&mut self.works, works)
+    }
+
+    /// Pushes works, the first on top. It reserves room once, and turns the works round.
     ///
     /// Answers an error where that room was refused.
-    pub(crate) fn push(&mut self, works: &mut [Work<'a>]) -> Result<(), AllocError>
+    pub(crate) fn push_all(&mut self, works: &mut [Work<'a>]) -> Result<(), AllocError>
         ensures { OnOk result (Pushes works.old (listed self.old) (listed self.new)) }
     {
         works.reverse();

@@ -19,7 +19,7 @@ use crate::works::{Works, before_more};
 use hir_base::{DefWithBodyId, Edition};
 use hir_defs::{Body, Param, Tables};
 use hir_node::{BindingId, PatId};
-use hir_pretty::{Look, PrintFault, Work};
+use hir_pretty::{PrintFault, Work};
 use std::alloc::{AllocError, Global};
 
 fn add_formals(works: &mut Works<'_>, params: &[Param<PatId>]) -> Result<(), AllocError>
@@ -42,10 +42,7 @@ fn add_self_first(
     ensures { OnOk result (AddsAll (listed works.old)
         (λ s. comma_joined (binding_items s binding ∷ map p (formals_of params.now))) (listed works.new)) }
 {
-    works.add(&[
-        Work::Look(Look::Binding(binding)),
-        before_more(", ", params),
-    ])?;
+    works.add(&[Work::Binding(binding), before_more(", ", params)])?;
     add_formals(works, params)
 }
 

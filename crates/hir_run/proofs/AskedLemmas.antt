@@ -9,10 +9,8 @@ use Rattle.hir_io.specs.LineState.{LineState}
 use Rattle.hir_io.specs.NextLine.{NextTakes, NextWrites}
 use Rattle.hir_io.specs.Reads.{Reads, ReadsFront}
 use Rattle.hir_io.proofs.ReadLemmas.{Reads-none, ReadsFront-now, ReadsFront-before, ReadsUntilFailure-now}
-use Rattle.hir_lines.specs.declared.line.Line.{Line}
-use Rattle.hir_lines.specs.declared.line.Line.TheVariants.{Ask}
-use Rattle.hir_lines.specs.declared.line.Question.{Question}
-use Rattle.hir_lines.specs.Line.{line_of}
+use Rattle.hir_lines.specs.Line.{Line, Ask, line_of}
+use Rattle.hir_lines.specs.declared.question.Question.{Question}
 use Rattle.hir_run.specs.declared.fault.RunFault.{RunFault}
 use Rattle.hir_run.specs.declared.fault.RunFault.TheVariants.{BadLine, Refused, BodyRefused, InputFailed, OutputFailed, OutOfMemory}
 use Rattle.hir_run.specs.Faults.{fault_of_line}

@@ -8,12 +8,12 @@ use Rattle.hir_io.specs.LineState.{LineState}
 use Rattle.hir_io.specs.declared.next.LineFault.{LineFault}
 use Rattle.hir_io.specs.declared.next.LineFault.TheVariants as line
 use Rattle.hir_io.specs.NextLine.{NextWrites}
-use Rattle.hir_lines.specs.declared.line.Line.{Line}
+use Rattle.hir_lines.specs.Line.{Line}
 use Rattle.hir_run.specs.Faults.{fault_of_line}
 use Rattle.hir_io.specs.Text.{lines, IsCutShort}
 use Rattle.hir_io.proofs.EndLemmas.{Appends-twice}
 use Rattle.hir_io.proofs.TextLemmas.{lines-ended}
-use Rattle.hir_lines.specs.declared.line.Question.{Question}
+use Rattle.hir_lines.specs.declared.question.Question.{Question}
 use Rattle.hir_store.specs.Building.{Building}
 use Rattle.hir_items.specs.Bodies.{BodyContents}
 use Rattle.hir_expr_store.specs.Contents.{Contents}
@@ -150,6 +150,15 @@ line_reads_none X may Is line number old new waiting waiting' (Refused fault) a 
 line_reads_none X may Is line number old new waiting waiting' (BodyRefused fault) a h = cc
 line_reads_none X may Is line number old new waiting waiting' OutputFailed a h = cc
 line_reads_none X may Is line number old new waiting waiting' OutOfMemory a h = cc
+
+-- so no read has failed that hadn't failed before
+pub line_reads : (failed : Bool) (may : Question → Bool) (Is : Question → List ℕ → Type 0) (line : Line) (number : ℕ) (old new : Option (List ℕ)) (waiting waiting' : List ℕ) (e : RunFault) → AsksLine may Is line number old waiting new waiting' (Err e) → failed ≡ (is_input_failed {X = Option Question} (Err e) || failed)
+line_reads failed may Is line number old new waiting waiting' InputFailed a = absurd a
+line_reads failed may Is line number old new waiting waiting' (BadLine n) a = refl
+line_reads failed may Is line number old new waiting waiting' (Refused fault) a = refl
+line_reads failed may Is line number old new waiting waiting' (BodyRefused fault) a = refl
+line_reads failed may Is line number old new waiting waiting' OutputFailed a = refl
+line_reads failed may Is line number old new waiting waiting' OutOfMemory a = refl
 
 pub next_reads : (old new : Option (List ℕ)) (waiting waiting' : List ℕ) (fault : LineFault) → NextWrites old new waiting waiting' (Err fault) → is_input_failed {X = Option Question} (Err (fault_of_line fault)) ≡ true → waiting' ≡ []
 next_reads old new waiting waiting' line.OutOfMemory w h = cc

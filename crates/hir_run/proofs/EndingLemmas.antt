@@ -10,10 +10,8 @@ use Rattle.hir_io.specs.Text.{lines, ended}
 use Rattle.hir_io.proofs.EndLemmas.{Appends-twice, IsWrittenUpTo-start}
 use Rattle.hir_io.proofs.ReadLemmas.{ReadsFront-now}
 use Rattle.hir_io.proofs.TextLemmas.{lines-ended}
-use Rattle.hir_lines.specs.declared.line.Line.{Line}
-use Rattle.hir_lines.specs.declared.line.Line.TheVariants.{Ask, Bad}
-use Rattle.hir_lines.specs.declared.line.Question.{Question}
-use Rattle.hir_lines.specs.Line.{line_of}
+use Rattle.hir_lines.specs.Line.{Line, Ask, Bad, line_of}
+use Rattle.hir_lines.specs.declared.question.Question.{Question}
 use Rattle.hir_expr_store.specs.Contents.{Contents}
 use Rattle.hir_store.specs.Building.{Building, contents_of, finish_fault}
 use Rattle.hir_items.specs.Bodies.{BodyContents, body_fault}

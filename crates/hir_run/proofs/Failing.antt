@@ -8,7 +8,7 @@ use Rattle.hir_io.specs.Reads.{Reads}
 use Rattle.hir_io.proofs.ReadLemmas.{ReadsFront-now, ReadsUntilFailure-now}
 use Rattle.hir_run.specs.declared.fault.RunFault.{RunFault}
 use Rattle.hir_run.specs.declared.fault.RunFault.TheVariants.{BadLine, Refused, BodyRefused, InputFailed, OutputFailed, OutOfMemory}
-use Rattle.hir_lines.specs.declared.line.Line.TheVariants.{Make, Bad}
+use Rattle.hir_lines.specs.Line.{Make, Bad}
 use Rattle.hir_run.specs.Made.{Made}
 use Rattle.hir_run.specs.Faults.{fault_of_line}
 use Rattle.hir_run.specs.Stages.{AllMake, Builds, BuildsLine}

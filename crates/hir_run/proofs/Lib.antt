@@ -13,5 +13,6 @@ pub mod ClosingLemmas
 pub mod ScriptLemmas
 pub mod MeaningLemmas
 pub mod WritingLemmas
+pub mod Taken
 pub mod Texts
 pub mod Children

@@ -5,11 +5,10 @@ use Rattle.std.specs.Prelude.{filter_map}
 use Rattle.std.proofs.lemmas.List.Folds.{list_all-append}
 use Rattle.std.proofs.lemmas.List.Elements.{filter_map-append}
 use Rattle.std.proofs.lemmas.Grind.{fold-append}
-use Rattle.hir_lines.specs.declared.line.Line.{Line}
-use Rattle.hir_lines.specs.declared.line.Line.TheVariants.{Blank, Make, Ask, Bad}
-use Rattle.hir_lines.specs.declared.line.Maker.{Maker}
+use Rattle.hir_lines.specs.Line.{Line, Blank, Make, Ask, Bad}
+use Rattle.hir_lines.specs.Makers.{Maker}
 use Rattle.hir_run.specs.Made.{Made, nothing_made, with_line}
-use Rattle.hir_lines.specs.declared.line.Question.{Question}
+use Rattle.hir_lines.specs.declared.question.Question.{Question}
 use Rattle.hir_io.specs.LineState.{LineState}
 use Rattle.hir_io.specs.Reads.{Reads}
 use Rattle.hir_run.specs.Program.{makes, asks, maker_of, built_by, script}

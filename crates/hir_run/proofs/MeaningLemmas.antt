@@ -2,12 +2,11 @@
 use Rattle.std.proofs.Common.{◌≡◌, ◌+◌, ℕ, Bool, true, false, List, [], ◌∷◌, ◌++◌, if◌then◌else◌, Option, None, Some, Result, Ok, Err, length, refl, sym, ap, ◌∙◌}
 use Rattle.std.specs.Prelude.{codes}
 use Rattle.hir_faults.specs.declared.fault.FinishFault.{FinishFault}
-use Rattle.hir_lines.specs.declared.line.Line.{Line}
-use Rattle.hir_lines.specs.declared.line.Line.TheVariants.{Blank, Make, Ask, Bad}
-use Rattle.hir_lines.specs.declared.line.Question.{Question}
-use Rattle.hir_lines.specs.declared.line.Question.TheVariants.{OfStore, OfBody}
-use Rattle.hir_lines.specs.declared.line.BodyQuestion.{BodyQuestion}
-use Rattle.hir_lines.specs.declared.line.BodyQuestion.TheVariants as ask
+use Rattle.hir_lines.specs.Line.{Line, Blank, Make, Ask, Bad}
+use Rattle.hir_lines.specs.declared.question.Question.{Question}
+use Rattle.hir_lines.specs.declared.question.Question.TheVariants.{OfStore, OfBody}
+use Rattle.hir_lines.specs.declared.question.BodyQuestion.{BodyQuestion}
+use Rattle.hir_lines.specs.declared.question.BodyQuestion.TheVariants as ask
 use Rattle.hir_expr_store.specs.Contents.{Contents, contents_fault}
 use Rattle.hir_store.specs.Building.{Building, contents_of, finish_fault}
 use Rattle.hir_items.specs.declared.body_fault.BodyFault.{BodyFault}

@@ -7,13 +7,11 @@ use Rattle.hir_node.specs.declared.pat.Pat.{Pat}
 use Rattle.hir_node.specs.declared.type_ref.TypeRef.{TypeRef}
 use Rattle.hir_io.specs.LineState.{LineState}
 use Rattle.hir_faults.specs.Nodes.{Nodes}
-use Rattle.hir_lines.specs.declared.line.Line.{Line}
-use Rattle.hir_lines.specs.declared.line.Line.TheVariants.{Blank, Make, Ask, Bad}
-use Rattle.hir_lines.specs.declared.line.Maker.{Maker}
-use Rattle.hir_lines.specs.declared.line.Question.{Question}
+use Rattle.hir_lines.specs.Line.{Line, Blank, Make, Ask, Bad, line_of}
+use Rattle.hir_lines.specs.Makers.{Maker}
+use Rattle.hir_lines.specs.declared.question.Question.{Question}
 use Rattle.hir_lines.specs.Grammar.{IsLine, IsMaker}
 use Rattle.hir_lines.specs.Grammar as line
-use Rattle.hir_lines.specs.Line.{line_of}
 use Rattle.hir_lines.specs.Tokens.{Token}
 use Rattle.hir_run.specs.Made.{Made, nothing_made, with_line}
 use Rattle.hir_run.specs.OfLines.{IsExprOfLine, IsPatOfLine, IsTypeOfLine, AreOfLines}

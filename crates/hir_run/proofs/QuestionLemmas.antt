@@ -9,10 +9,8 @@ use Rattle.hir_io.specs.LineState.{LineState}
 use Rattle.hir_io.specs.Reads.{Reads}
 use Rattle.hir_io.specs.Text.{lines}
 use Rattle.hir_io.proofs.ReadLemmas.{Reads-joined, ReadsAll-joined, ReadsFront-now, ReadsFront-joined, ReadsUntilFailure-joined}
-use Rattle.hir_lines.specs.declared.line.Line.{Line}
-use Rattle.hir_lines.specs.declared.line.Line.TheVariants.{Ask, Bad}
-use Rattle.hir_lines.specs.declared.line.Question.{Question}
-use Rattle.hir_lines.specs.Line.{line_of}
+use Rattle.hir_lines.specs.Line.{Line, Ask, Bad, line_of}
+use Rattle.hir_lines.specs.declared.question.Question.{Question}
 use Rattle.hir_run.specs.declared.fault.RunFault.{RunFault}
 use Rattle.hir_run.specs.declared.fault.RunFault.TheVariants.{BadLine, Refused, BodyRefused, InputFailed, OutputFailed, OutOfMemory}
 use Rattle.hir_run.specs.Program.{asks, may_ask, Outcome, Course, writes, section, Runs, IsMeaning, HasAnswers, says, script, script_of}

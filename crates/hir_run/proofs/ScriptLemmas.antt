@@ -5,7 +5,7 @@ use Rattle.hir_io.specs.Text.{lines}
 use Rattle.hir_io.specs.Ends.{IsWrittenUpTo}
 use Rattle.hir_io.specs.LineState.{LineState}
 use Rattle.hir_io.proofs.EndLemmas.{IsWrittenUpTo-start}
-use Rattle.hir_lines.specs.declared.line.Question.{Question}
+use Rattle.hir_lines.specs.declared.question.Question.{Question}
 use Rattle.hir_expr_store.specs.Contents.{Contents}
 use Rattle.hir_store.specs.Building.{Building, contents_of}
 use Rattle.hir_items.specs.declared.formals.Param.{Param}

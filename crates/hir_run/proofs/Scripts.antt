@@ -2,15 +2,13 @@
 use Rattle.std.proofs.Common.{◌≡◌, Bool, true, false, ◌||◌, List, [], ◌∷◌, ◌++◌, None, is_some, ℕ, suc, if◌then◌else◌, refl, sym, ap, ◌∙◌, length, append-nil, append_assoc}
 use Rattle.std.specs.Cmp.{first_so, second_so}
 use Rattle.std.proofs.lemmas.Bool.{false≢true}
-use Rattle.hir_lines.specs.declared.line.Question.{Question}
+use Rattle.hir_lines.specs.declared.question.Question.{Question}
 use Rattle.std.specs.List.{list_all, list_any}
 use Rattle.std.proofs.lemmas.List.{map-append, length-map}
 use Rattle.std.proofs.lemmas.List.Folds.{list_any-append}
-use Rattle.hir_lines.specs.declared.line.Line.{Line}
-use Rattle.hir_lines.specs.declared.line.Line.TheVariants.{Blank, Make, Ask, Bad}
-use Rattle.hir_lines.specs.declared.line.Maker.{Maker}
-use Rattle.hir_lines.specs.declared.line.Maker.TheVariants as make
-use Rattle.hir_lines.specs.Line.{line_of}
+use Rattle.hir_lines.specs.Line.{Line, Blank, Make, Ask, Bad, line_of}
+use Rattle.hir_lines.specs.Makers.{Maker}
+use Rattle.hir_lines.specs.Makers as make
 use Rattle.hir_run.specs.Made.{Made, with_line, is_second}
 use Rattle.hir_run.specs.Program.{asks, gives_self, gives_name, maker_gives_self, maker_gives_name, unless_second, once_each, says, script}
 use Rattle.hir_run.specs.Stages.{line_behind}
@@ -134,7 +132,7 @@ second-is made false true (make.FnName name) h k = rw k refl
 second-is made false false (make.FnName name) h k = rw k refl
 second-is made s n (make.Binding binding) h k = unless-neither s n (Make (make.Binding binding)) refl refl
 second-is made s n (make.Pat pat) h k = unless-neither s n (Make (make.Pat pat)) refl refl
-second-is made s n (make.Type type_ref) h k = unless-neither s n (Make (make.Type type_ref)) refl refl
+second-is made s n (make.TypeRef type_ref) h k = unless-neither s n (Make (make.TypeRef type_ref)) refl refl
 second-is made s n (make.Expr expr) h k = unless-neither s n (Make (make.Expr expr)) refl refl
 second-is made s n (make.Hygiene id hygiene) h k = unless-neither s n (Make (make.Hygiene id hygiene)) refl refl
 second-is made s n (make.Param id) h k = unless-neither s n (Make (make.Param id)) refl refl
@@ -172,7 +170,7 @@ tells_more made maker texts text e t = tells-by made (with_line made maker) (Mak
     self-is (make.FnName name) = sym (or_false _)
     self-is (make.Binding binding) = sym (or_false _)
     self-is (make.Pat pat) = sym (or_false _)
-    self-is (make.Type type_ref) = sym (or_false _)
+    self-is (make.TypeRef type_ref) = sym (or_false _)
     self-is (make.Expr expr) = sym (or_false _)
     self-is (make.Hygiene id hygiene) = sym (or_false _)
     self-is (make.Param id) = sym (or_false _)
@@ -184,7 +182,7 @@ tells_more made maker texts text e t = tells-by made (with_line made maker) (Mak
     name-is (make.SelfParam id) = sym (or_false _)
     name-is (make.Binding binding) = sym (or_false _)
     name-is (make.Pat pat) = sym (or_false _)
-    name-is (make.Type type_ref) = sym (or_false _)
+    name-is (make.TypeRef type_ref) = sym (or_false _)
     name-is (make.Expr expr) = sym (or_false _)
     name-is (make.Hygiene id hygiene) = sym (or_false _)
     name-is (make.Param id) = sym (or_false _)

@@ -4,12 +4,12 @@ use Rattle.std.specs.Fmt.{decimal}
 use Rattle.hir_base.specs.declared.hygiene.SyntaxContext.{SyntaxContext}
 use Rattle.hir_base.specs.declared.hygiene.SyntaxContext.TheVariants.{Root, Expansion}
 use Rattle.hir_node.specs.declared.node_id.NodeId.TheVariants as node
-use Rattle.hir_lines.specs.declared.line.Question.{Question}
-use Rattle.hir_lines.specs.declared.line.Question.TheVariants.{OfStore, OfBody}
-use Rattle.hir_lines.specs.declared.line.StoreQuestion.{StoreQuestion}
-use Rattle.hir_lines.specs.declared.line.StoreQuestion.TheVariants.{Children, RootOf}
-use Rattle.hir_lines.specs.declared.line.BodyQuestion.{BodyQuestion}
-use Rattle.hir_lines.specs.declared.line.BodyQuestion.TheVariants as ask
+use Rattle.hir_lines.specs.declared.question.Question.{Question}
+use Rattle.hir_lines.specs.declared.question.Question.TheVariants.{OfStore, OfBody}
+use Rattle.hir_lines.specs.declared.question.StoreQuestion.{StoreQuestion}
+use Rattle.hir_lines.specs.declared.question.StoreQuestion.TheVariants.{Children, RootOf}
+use Rattle.hir_lines.specs.declared.question.BodyQuestion.{BodyQuestion}
+use Rattle.hir_lines.specs.declared.question.BodyQuestion.TheVariants as ask
 use Rattle.hir_forest.specs.declared.roots.Root as forest
 use Rattle.hir_faults.specs.Nodes.{Nodes}
 use Rattle.hir_expr_store.specs.RootSearch.{root_for_expr}

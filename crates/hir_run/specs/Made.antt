@@ -1,19 +1,17 @@
 -- What lines have made so far: what is built, and the other parts of its body.
-use Rattle.std.specs.Prelude.{ℕ, List, [], ◌∷◌, ◌++◌, Bool, true, false, Option, None, Some, is_some}
+use Rattle.std.specs.Prelude.{ℕ, List, [], ◌∷◌, ◌++◌, Bool, true, false, if◌then◌else◌, Option, None, Some, is_some}
 use Rattle.std.specs.FinMap as map
 use Rattle.hir_base.specs.declared.hygiene.SyntaxContext.{SyntaxContext}
 use Rattle.hir_path.specs.declared.ids.ExprOrPatId.{ExprOrPatId}
 use Rattle.hir_path.specs.Keys.{expr_or_pat_code}
-use Rattle.hir_lines.specs.declared.line.Maker.{Maker}
-use Rattle.hir_lines.specs.declared.line.Maker.TheVariants as make
+use Rattle.hir_lines.specs.Makers.{Maker}
+use Rattle.hir_lines.specs.Makers as make
 use Rattle.hir_faults.specs.Nodes.{Nodes}
 use Rattle.hir_store.specs.Building.{Building, building_of, contents_of, and_root, some_roots}
 use Rattle.hir_items.specs.declared.formals.Param.{Param}
 use Rattle.hir_items.specs.Bodies.{BodyContents, body_of}
 use Rattle.hir_expr_store.specs.declared.side_tables.SideTables.{SideTables}
 use Rattle.hir_expr_store.specs.SideTables.{no_side_tables}
-use Rattle.hir_run.specs.declared.fault.RunFault.{RunFault}
-use Rattle.hir_run.specs.declared.fault.RunFault.TheVariants.{BadLine, OutOfMemory}
 use Rattle.hir_run.specs.declared.made.Made as code
 
 -- what is built, the self parameter, the other parameters and the name of the function
@@ -57,7 +55,7 @@ abbrev pub with_line : Made → Maker → Made
 with_line m (make.Binding binding) =
     with_nodes m (record m.built.nodes { bindings = m.built.nodes.bindings ++ binding ∷ [] })
 with_line m (make.Pat pat) = with_nodes m (record m.built.nodes { pats = m.built.nodes.pats ++ pat ∷ [] })
-with_line m (make.Type type_ref) =
+with_line m (make.TypeRef type_ref) =
     with_nodes m (record m.built.nodes { types = m.built.nodes.types ++ type_ref ∷ [] })
 with_line m (make.Expr expr) =
     with_nodes m (record m.built.nodes { exprs = m.built.nodes.exprs ++ expr ∷ [] })
@@ -75,17 +73,33 @@ is_second m (make.SelfParam id) = is_some m.self_param
 is_second m (make.FnName name) = is_some m.name
 is_second m (make.Binding binding) = false
 is_second m (make.Pat pat) = false
-is_second m (make.Type type_ref) = false
+is_second m (make.TypeRef type_ref) = false
 is_second m (make.Expr expr) = false
 is_second m (make.Hygiene id hygiene) = false
 is_second m (make.Param id) = false
 is_second m make.Roots = false
 is_second m (make.Root id) = false
 
--- why the line of this number makes nothing: it gives a second one, or memory was refused
-abbrev pub not_made : Bool → ℕ → RunFault
-not_made true line = BadLine line
-not_made false line = OutOfMemory
+-- the same in the code
+abbrev pub with_maker : code.Made → Maker → code.Made
+with_maker m (make.Binding binding) =
+    record m { builder = record m.builder { bindings = m.builder.bindings ++ binding ∷ [] } }
+with_maker m (make.Pat pat) = record m { builder = record m.builder { pats = m.builder.pats ++ pat ∷ [] } }
+with_maker m (make.TypeRef type_ref) =
+    record m { builder = record m.builder { types = m.builder.types ++ type_ref ∷ [] } }
+with_maker m (make.Expr expr) = record m { builder = record m.builder { exprs = m.builder.exprs ++ expr ∷ [] } }
+with_maker m (make.Hygiene id hygiene) =
+    record m { builder = record m.builder { hygiene = map.insert m.builder.hygiene (expr_or_pat_code id) hygiene } }
+with_maker m (make.SelfParam id) = record m { self_param = Some (as_written id) }
+with_maker m (make.Param id) = record m { params = m.params ++ as_written id ∷ [] }
+with_maker m (make.FnName name) = record m { name = Some name }
+with_maker m make.Roots = record m { builder = record m.builder { roots = some_roots m.builder.roots } }
+with_maker m (make.Root id) =
+    record m { builder = record m.builder { roots = and_root (building_of m.builder) id } }
+
+-- nothing where the line gives a second self parameter or a second name
+abbrev pub and_maker : code.Made → Maker → Option code.Made
+and_maker m maker = if is_second (made_of m) maker then None else Some (with_maker m maker)
 
 -- the parts of the body of what was made
 abbrev pub body_parts : Made → BodyContents

@@ -1,13 +1,11 @@
 -- What the program writes and how it ends, for the lines that it is given.
 use Rattle.std.specs.Prelude.{◌≡◌, ℕ, ◌+◌, Bool, true, false, ◌&&◌, ◌||◌, if◌then◌else◌, List, [], ◌∷◌, ◌++◌, length, Option, None, Some, Result, Ok, Err, filter_map, fold, map, codes}
 use Rattle.hir_io.specs.Text.{lines}
-use Rattle.hir_lines.specs.declared.line.Line.{Line}
-use Rattle.hir_lines.specs.declared.line.Line.TheVariants.{Blank, Make, Ask, Bad}
-use Rattle.hir_lines.specs.declared.line.Maker.{Maker}
-use Rattle.hir_lines.specs.declared.line.Maker.TheVariants as make
-use Rattle.hir_lines.specs.declared.line.Question.{Question}
-use Rattle.hir_lines.specs.declared.line.Question.TheVariants.{OfStore, OfBody}
-use Rattle.hir_lines.specs.Line.{line_of}
+use Rattle.hir_lines.specs.Line.{Line, Blank, Make, Ask, Bad, line_of}
+use Rattle.hir_lines.specs.Makers.{Maker}
+use Rattle.hir_lines.specs.Makers as make
+use Rattle.hir_lines.specs.declared.question.Question.{Question}
+use Rattle.hir_lines.specs.declared.question.Question.TheVariants.{OfStore, OfBody}
 use Rattle.hir_items.specs.Bodies.{body_fault}
 use Rattle.hir_store.specs.Building.{contents_of, finish_fault}
 use Rattle.hir_run.specs.declared.fault.RunFault.{RunFault}
@@ -162,7 +160,7 @@ abbrev pub maker_gives_self : Maker → Bool
 maker_gives_self (make.SelfParam id) = true
 maker_gives_self (make.Binding binding) = false
 maker_gives_self (make.Pat pat) = false
-maker_gives_self (make.Type type_ref) = false
+maker_gives_self (make.TypeRef type_ref) = false
 maker_gives_self (make.Expr expr) = false
 maker_gives_self (make.Hygiene id hygiene) = false
 maker_gives_self (make.Param id) = false
@@ -174,7 +172,7 @@ abbrev pub maker_gives_name : Maker → Bool
 maker_gives_name (make.FnName name) = true
 maker_gives_name (make.Binding binding) = false
 maker_gives_name (make.Pat pat) = false
-maker_gives_name (make.Type type_ref) = false
+maker_gives_name (make.TypeRef type_ref) = false
 maker_gives_name (make.Expr expr) = false
 maker_gives_name (make.Hygiene id hygiene) = false
 maker_gives_name (make.SelfParam id) = false

@@ -5,11 +5,9 @@ use Rattle.std.specs.List.{list_all, list_any}
 use Rattle.hir_io.specs.LineState.{LineState}
 use Rattle.hir_io.specs.Reads.{Reads, ReadsAll, ReadsFront, ReadsUntilFailure}
 use Rattle.hir_io.specs.Ends.{GrowsByFront, IsWrittenUpTo}
-use Rattle.hir_lines.specs.declared.line.Line.{Line}
-use Rattle.hir_lines.specs.declared.line.Line.TheVariants.{Blank, Make, Ask, Bad}
-use Rattle.hir_lines.specs.declared.line.Maker.{Maker}
-use Rattle.hir_lines.specs.declared.line.Question.{Question}
-use Rattle.hir_lines.specs.Line.{line_of}
+use Rattle.hir_lines.specs.Line.{Line, Blank, Make, Ask, Bad, line_of}
+use Rattle.hir_lines.specs.Makers.{Maker}
+use Rattle.hir_lines.specs.declared.question.Question.{Question}
 use Rattle.hir_faults.specs.declared.fault.FinishFault.{FinishFault}
 use Rattle.hir_items.specs.declared.body_fault.BodyFault.{BodyFault}
 use Rattle.hir_items.specs.Bodies.{BodyContents, body_fault}

@@ -2,15 +2,15 @@
 
 ghost use Rattle.std.specs.Prelude.{◌≡◌, ◌+◌, ◌<◌, ◌^◌, ◌||◌, List, ℕ, Bool, [], true, false, length, OnOk, IfOk, OnErr};
 ghost use Rattle.hir_io.specs.NextLine.{untaken};
-ghost use Rattle.hir_lines.specs.Line.{line_of};
+ghost use Rattle.hir_lines.specs.Line.{Ask, line_of};
 ghost use Rattle.hir_run.specs.Outcomes.{is_input_failed, is_output_failed};
 ghost use Rattle.hir_run.specs.Stages.{Asks, AsksLine, Replies};
 
 use crate::fault::RunFault;
+use crate::no_builder::NoBuilder;
 use hir_io::{LineReader, OutputBuffer, Sink, Source, next_line};
-use hir_lines::{Line, Question, parse};
+use hir_lines::{Question, Stop, take};
 use std::alloc::Global;
-use std::mem::drop;
 
 /// Memory was refused.
 #[derive(Drop)]
@@ -18,7 +18,7 @@ pub(crate) struct MemoryRefused;
 
 /// Answers questions.
 pub(crate) trait Answers {
-    ghost use Rattle.hir_lines.specs.declared.line.Question.{Question};
+    ghost use Rattle.hir_lines.specs.declared.question.Question.{Question};
 
     // Which questions may be asked of it.
     ghost may: { Question → Bool };
@@ -41,29 +41,19 @@ pub(crate) trait Answers {
         ensures memory { OnErr result ((writer.new ≡ writer.old) × (output.new ≡ output.old)) };
 }
 
-/// Answers the line of this number.
-fn answer_line<A: Answers, W: Sink>(
+/// Answers a question, whatever the number of its line.
+fn answer_question<A: Answers, W: Sink>(
     alloc: Global,
     asked: &A,
-    line: Line,
-    number: u64,
+    question: Question,
     output: &mut OutputBuffer,
     writer: &mut W,
 ) -> Result<Option<Question>, RunFault>
     requires { W.failed writer.old ≡ false }
-    ensures asks { AsksLine A.may (A.Is asked.now) line number (W.contents writer.old) output.old
-        (W.contents writer.new) output.new result }
+    ensures asks { (number : ℕ) → AsksLine A.may (A.Is asked.now) (Ask question) number (W.contents writer.old)
+        output.old (W.contents writer.new) output.new result }
     ensures failure { W.failed writer.new ≡ is_output_failed result }
 {
-    let question = match line {
-        Line::Blank => return Ok(None),
-        Line::Ask(question) => question,
-        Line::Make(maker) => {
-            drop(maker);
-            return Err(RunFault::BadLine(number));
-        }
-        Line::Bad => return Err(RunFault::BadLine(number)),
-    };
     let Ok(left) = asked.answer(alloc, question, output, writer) else {
         return Err(RunFault::OutOfMemory);
     };
@@ -86,9 +76,11 @@ fn answer_next<A: Answers, W: Sink>(
         (W.contents writer.old) output.old (W.contents writer.new) output.new result }
     ensures failure { W.failed writer.new ≡ is_output_failed result }
 {
-    match parse(alloc, lines.line()) {
-        Ok(line) => answer_line(alloc, asked, line, lines.count(), output, writer),
-        Err(_) => Err(RunFault::OutOfMemory),
+    match take(alloc, lines.line(), &mut NoBuilder) {
+        Ok(Some(question)) => answer_question(alloc, asked, question, output, writer),
+        Ok(None) => Ok(None),
+        Err(Stop::Bad) => Err(RunFault::BadLine(lines.count())),
+        Err(Stop::Memory) => Err(RunFault::OutOfMemory),
     }
 }
 
@@ -117,14 +109,7 @@ pub(crate) fn answer_lines<A: Answers, R: Source, W: Sink>(
     ensures still_fits { OnOk result
         (lines.new.count + length lines.new.pending + R.allowance reader.new < 2 ^ 64) }
 {
-    let left = answer_line(
-        alloc,
-        asked,
-        Line::Ask(first),
-        lines.count(),
-        output,
-        writer,
-    )?;
+    let left = answer_question(alloc, asked, first, output, writer)?;
     if left.is_some() {
         return Ok(left);
     }

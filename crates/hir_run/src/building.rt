@@ -4,30 +4,16 @@ ghost use Rattle.std.specs.Prelude.{◌≡◌, ◌+◌, ◌<◌, ◌^◌, ◌||�
 ghost use Rattle.hir_io.specs.NextLine.{untaken};
 ghost use Rattle.hir_run.specs.Made.{made_of, nothing_made};
 ghost use Rattle.hir_run.specs.Outcomes.{is_input_failed};
-ghost use Rattle.hir_run.specs.Stages.{Builds, BuildsBy, BuildsLine};
+ghost use Rattle.hir_run.specs.Stages.{Builds, BuildsLine};
 
 use crate::fault::RunFault;
 use crate::made::Made;
 use hir_io::{LineReader, OutputBuffer, Sink, Source, next_line};
-use hir_lines::{Line, Question, parse};
+use hir_lines::{Question, Stop, take};
 use std::alloc::Global;
 
-/// Makes what the line of this number makes, or gives its question.
-fn build_by(line: Line, number: u64, made: &mut Made) -> Result<Option<Question>, RunFault>
-    ensures { BuildsBy line number (made_of made.old) (made_of made.new) result }
-{
-    match line {
-        Line::Blank => Ok(None),
-        Line::Make(maker) => {
-            made.make(maker, number)?;
-            Ok(None)
-        }
-        Line::Ask(question) => Ok(Some(question)),
-        Line::Bad => Err(RunFault::BadLine(number)),
-    }
-}
-
 /// Makes what the line that was taken last makes, or gives its question.
+#[inline(always)]
 fn build_line(
     alloc: Global,
     lines: &LineReader,
@@ -35,9 +21,10 @@ fn build_line(
 ) -> Result<Option<Question>, RunFault>
     ensures { BuildsLine lines.now (made_of made.old) (made_of made.new) result }
 {
-    match parse(alloc, lines.line()) {
-        Ok(line) => build_by(line, lines.count(), made),
-        Err(_) => Err(RunFault::OutOfMemory),
+    match take(alloc, lines.line(), made) {
+        Ok(question) => Ok(question),
+        Err(Stop::Bad) => Err(RunFault::BadLine(lines.count())),
+        Err(Stop::Memory) => Err(RunFault::OutOfMemory),
     }
 }
 

@@ -1,7 +1,7 @@
 //! Laws of the definitions that the program's contracts cite, as contracts of functions that do nothing.
 
 ghost use Rattle.std.specs.Prelude.{◌≡◌, ℕ, List};
-ghost use Rattle.hir_lines.specs.declared.line.Line.{Line};
+ghost use Rattle.hir_lines.specs.Line.{Line};
 ghost use Rattle.hir_run.specs.Program.{Outcome, IsMeaning};
 
 use hir_captures::laws::captures_are_one;

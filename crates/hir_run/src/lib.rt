@@ -10,6 +10,7 @@ mod fault;
 pub mod laws;
 mod made;
 mod named_body;
+mod no_builder;
 mod printed;
 mod program;
 mod put;

@@ -1,13 +1,12 @@
 //! What the lines have made so far: a builder, and the other parts of its body.
 
-ghost use Rattle.std.specs.Prelude.{◌≡◌, false, Ok, Err, OnOk, OnErr};
-ghost use Rattle.hir_run.specs.Made.{made_of, nothing_made, with_line, is_second, not_made};
+ghost use Rattle.std.specs.Prelude.{◌≡◌, Ok, Err, OnOk, OnErr};
+ghost use Rattle.hir_run.specs.Made.{made_of, nothing_made};
 
-use crate::fault::RunFault;
-use hir_base::{Name, Seq};
+use hir_base::{HygieneId, Name, Seq};
 use hir_items::Param;
-use hir_lines::Maker;
-use hir_node::{BindingId, PatId};
+use hir_lines::{Builder, Stop};
+use hir_node::{Binding, BindingId, Expr, ExprId, ExprOrPatId, Pat, PatId, TypeRef};
 use hir_store::ExpressionStoreBuilder;
 use std::alloc::Global;
 
@@ -74,52 +73,72 @@ impl Made {
             name,
         }
     }
+}
 
-    /// Adds what the line of this number makes. A second self parameter or a second name is a bad line. A refusal changes nothing.
-    pub(crate) fn make(&mut self, maker: Maker, line: u64) -> Result<(), RunFault>
-        ensures ok { OnOk result
-            ((is_second (made_of self.old) maker ≡ false)
-            × (made_of self.new ≡ with_line (made_of self.old) maker)) }
-        ensures err { OnErr result
-            ((self.new ≡ self.old) × (result ≡ Err (not_made (is_second (made_of self.old) maker) line))) }
-    {
-        match maker {
-            Maker::Binding(binding) => or_memory(self.builder.alloc_binding(binding)),
-            Maker::Pat(pat) => or_memory(self.builder.alloc_pat(pat)),
-            Maker::Type(type_ref) => or_memory(self.builder.alloc_type(type_ref)),
-            Maker::Expr(expr) => or_memory(self.builder.alloc_expr(expr)),
-            Maker::Hygiene(id, hygiene) => or_memory(self.builder.set_hygiene(id, hygiene)),
-            Maker::SelfParam(id) => {
-                if self.self_param.is_some() {
-                    return Err(RunFault::BadLine(line));
-                }
-                self.self_param = Some(as_written(id));
-                Ok(())
-            }
-            Maker::Param(id) => or_memory(self.params.push(as_written(id))),
-            Maker::FnName(name) => {
-                if self.name.is_some() {
-                    return Err(RunFault::BadLine(line));
-                }
-                self.name = Some(name);
-                Ok(())
-            }
-            Maker::Roots => {
-                self.builder.begin_roots();
-                Ok(())
-            }
-            Maker::Root(id) => or_memory(self.builder.push_root(id)),
+/// A second self parameter and a second name are refused.
+impl Builder for Made {
+    ghost use Rattle.hir_run.specs.Made.{and_maker};
+
+    ghost add = { and_maker };
+
+    fn binding(&mut self, binding: Binding) -> Result<(), Stop> {
+        or_memory(self.builder.alloc_binding(binding))
+    }
+
+    fn pat(&mut self, pat: Pat) -> Result<(), Stop> {
+        or_memory(self.builder.alloc_pat(pat))
+    }
+
+    fn type_ref(&mut self, type_ref: TypeRef) -> Result<(), Stop> {
+        or_memory(self.builder.alloc_type(type_ref))
+    }
+
+    fn expr(&mut self, expr: Expr) -> Result<(), Stop> {
+        or_memory(self.builder.alloc_expr(expr))
+    }
+
+    fn hygiene(&mut self, id: ExprOrPatId, hygiene: HygieneId) -> Result<(), Stop> {
+        or_memory(self.builder.set_hygiene(id, hygiene))
+    }
+
+    fn self_param(&mut self, id: BindingId) -> Result<(), Stop> {
+        if self.self_param.is_some() {
+            return Err(Stop::Bad);
         }
+        self.self_param = Some(as_written(id));
+        Ok(())
+    }
+
+    fn param(&mut self, id: PatId) -> Result<(), Stop> {
+        or_memory(self.params.push(as_written(id)))
+    }
+
+    fn fn_name(&mut self, name: Name) -> Result<(), Stop> {
+        if self.name.is_some() {
+            return Err(Stop::Bad);
+        }
+        self.name = Some(name);
+        Ok(())
+    }
+
+    fn roots(&mut self) -> Result<(), Stop> {
+        self.builder.begin_roots();
+        Ok(())
+    }
+
+    fn root(&mut self, id: ExprId) -> Result<(), Stop> {
+        or_memory(self.builder.push_root(id))
     }
 }
 
-/// A refusal of memory, or of an item by a full arena, ends the run.
-fn or_memory<T: Drop, E: Drop>(outcome: Result<T, E>) -> Result<(), RunFault>
+/// A refusal of memory, or of an item by a full arena.
+#[inline(always)]
+fn or_memory<T: Drop, E: Drop>(outcome: Result<T, E>) -> Result<(), Stop>
     ensures ok { OnOk outcome (result ≡ Ok tt) }
-    ensures err { OnErr outcome (result ≡ Err RunFault.OutOfMemory) }
+    ensures err { OnErr outcome (result ≡ Err Stop.Memory) }
 {
     match outcome {
         Ok(_) => Ok(()),
-        Err(_) => Err(RunFault::OutOfMemory),
+        Err(_) => Err(Stop::Memory),
     }
 }

@@ -1,4 +1,4 @@
-use Rattle.std.proofs.Common.{length, subst}
+use Rattle.std.proofs.Common.{length, subst, arith}
 use Rattle.hir_forest.specs.Faults.{forest_fault, IsWithin}
 use Rattle.hir_forest.proofs.FaultLemmas.{fault_within}
 use Rattle.hir_faults.specs.Nodes.{graph}
@@ -8,11 +8,13 @@ use Rattle.hir_faults.proofs.FirstFaultLemmas.{told_some, told_none}
 use Rattle.hir_faults.proofs.first_fault.first_graph_fault.Goals as goal
 use Rattle.hir_faults.proofs.first_fault.first_graph_fault.Goals.{In_ok-fault}
 
-pub first_fault-requires-clause-within : goal.first_fault-requires-clause-within
-first_fault-requires-clause-within c = rw c.in_ok-rows.ensures (kids_there (nodes_in c.args.nodes.now) c.requires.nodes)
+pub first_fault-requires-clause-exprs : goal.first_fault-requires-clause-exprs
+first_fault-requires-clause-exprs c =
+    let s = nodes_in c.args.nodes.now in
+    rw c.ends.ensures (omega (arith, c.requires.parents.rows, c.requires.rows, graph-length s))
 
 found : (c : In_ok-fault) → forest_fault (graph (nodes_in c.args.nodes.now)) (ends_of (nodes_in c.args.nodes.now)) c.args.roots.now c.in_ok-fault.field-0
-found c = rw (c.in_ok-rows.ensures, c.ends.ensures) at c.in_ok-fault.ensures
+found c = rw c.ends.ensures at (c.in_ok-fault.ensures (graph (nodes_in c.args.nodes.now)) c.requires.parents)
 
 pub tell-requires-clause-within : goal.tell-requires-clause-within
 tell-requires-clause-within c =
@@ -27,5 +29,5 @@ pub returns-in-Some : goal.returns-in-Some
 returns-in-Some c =
     rw (c.tell.ensures, c.sizes.ensures) (told_some (rooted (goal.at.returns-in-Some c).In_ok-fault) c.in-Some.fault (rw c.in-Some.is at (found (goal.at.returns-in-Some c).In_ok-fault)))
 
-pub returns : goal.returns
-returns c = told_none (rooted (goal.at.returns c).In_ok-fault) (rw c.in-None.is at (found (goal.at.returns c).In_ok-fault))
+pub returns-in-None : goal.returns-in-None
+returns-in-None c = told_none (rooted (goal.at.returns-in-None c).In_ok-fault) (rw c.in-None.is at (found (goal.at.returns-in-None c).In_ok-fault))

@@ -1,10 +1,20 @@
 use Rattle.std.proofs.Common.{None, Some, sym, ◌∙◌}
 use Rattle.std.proofs.lemmas.Bool.{false≢true}
-use Rattle.hir_items.proofs.BodySound.{under_told, root_told, apart_repeated, apart_under, apart_root, apart_none}
+use Rattle.hir_items.proofs.BodySound.{under_told, root_told, apart_repeated, apart_under, apart_root, apart_none, none_under, root_not_under}
 use Rattle.hir_items.proofs.body_fault.first_meeting.Goals as goal
 
 pub returns-in-Some : goal.returns-in-Some
 returns-in-Some c = apart_repeated c.args.store.now.nodes c.args.params.now c.args.root c.in-Some.fault c.in-Some.ensures.fault
+
+pub returns-then-no_kid_is_in : goal.returns-then-no_kid_is_in
+returns-then-no_kid_is_in c =
+    let s = c.args.store.now.nodes in
+    let params = c.args.params.now in
+    let falls = c.kids_fall.ensures c.args.store.now c.has_no_fault.ensures in
+    let apart = c.no_kid_is_in.ensures.0 c.if-no_kid_is_in.true in
+    let under = none_under s params c.args.root c.in_ok-tops.tops c.add_formals.new.set c.add_expr.new.self c.in_ok-tops.ensures.sizes c.in_ok-tops.ensures.none c.in_default.ensures.added c.add_expr.ensures falls apart c.requires.formals in
+    apart_none s params c.args.root c.in_default.ensures.fault under
+    (root_not_under s params c.args.root c.in_ok-tops.tops c.add_formals.new.set c.add_expr.new.self c.in_ok-tops.ensures.sizes c.in_ok-tops.ensures.none c.in_default.ensures.added c.add_expr.ensures falls apart c.requires.root)
 
 pub returns-in-Some-first_under : goal.returns-in-Some-first_under
 returns-in-Some-first_under c =

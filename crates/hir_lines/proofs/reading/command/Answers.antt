@@ -1,117 +1,208 @@
-use Rattle.std.proofs.Common.{refl, rules, ◌∙◌}
+use Rattle.std.proofs.Common.{rules, ◌≡◌, ◌∷◌, ap, ◌∙◌, arith, None, Some, refl}
 use Rattle.std.specs.Prelude.{codes}
-use Rattle.hir_lines.specs.Line.{command, line_forms}
-use Rattle.hir_lines.proofs.Keywords.{read_on, behind}
+use Rattle.hir_lines.specs.Line.{command, line_forms, children_line, captures_line, pat_hygiene, pat_hygiene_line}
+use Rattle.hir_lines.specs.Readings.{look_up}
+use Rattle.hir_lines.proofs.Putting.{same_text, read_by, take_alike, asks_one, makes_one, none_taken}
 use Rattle.hir_lines.proofs.reading.command.Goals as goal
+use Rattle.hir_lines.proofs.reading.command.Goals.{
+  in_default-via-then-branch-lt7+then-branch-lt2,
+  in_default-via-then-branch-lt7+else-branch-lt2+then-this-lt3+in-102+in_default-1,
+  in_default-via-then-branch-lt7+else-branch-lt2+then-this-lt3+in_default-1,
+  in_default-via-then-branch-lt7+else-branch-lt2+else-this-lt3+then-this-lt4+in-112+in-97+in_default-1,
+  in_default-via-then-branch-lt7+else-branch-lt2+else-this-lt3+then-this-lt4+in-112+in_default-1,
+  in_default-via-then-branch-lt7+else-branch-lt2+else-this-lt3+then-this-lt4+in_default-1,
+  in_default-via-then-branch-lt7+else-branch-lt2+else-this-lt3+else-this-lt4+then-this-lt5+in-98+in-105+in-110+in_default-1,
+  in_default-via-then-branch-lt7+else-branch-lt2+else-this-lt3+else-this-lt4+then-this-lt5+in-98+in-105+in_default-1,
+  in_default-via-then-branch-lt7+else-branch-lt2+else-this-lt3+else-this-lt4+then-this-lt5+in-98+in_default-1,
+  in_default-via-then-branch-lt7+else-branch-lt2+else-this-lt3+else-this-lt4+then-this-lt5+in-116+in-121+in-112+in_default-1,
+  in_default-via-then-branch-lt7+else-branch-lt2+else-this-lt3+else-this-lt4+then-this-lt5+in-116+in-121+in_default-1,
+  in_default-via-then-branch-lt7+else-branch-lt2+else-this-lt3+else-this-lt4+then-this-lt5+in-116+in_default-1,
+  in_default-via-then-branch-lt7+else-branch-lt2+else-this-lt3+else-this-lt4+then-this-lt5+in-101+in-120+in-112+in_default-1,
+  in_default-via-then-branch-lt7+else-branch-lt2+else-this-lt3+else-this-lt4+then-this-lt5+in-101+in-120+in_default-1,
+  in_default-via-then-branch-lt7+else-branch-lt2+else-this-lt3+else-this-lt4+then-this-lt5+in-101+in_default-1,
+  in_default-via-then-branch-lt7+else-branch-lt2+else-this-lt3+else-this-lt4+then-this-lt5+in-115+in-101+in-108+in_default-1,
+  in_default-via-then-branch-lt7+else-branch-lt2+else-this-lt3+else-this-lt4+then-this-lt5+in-115+in-101+in_default-1,
+  in_default-via-then-branch-lt7+else-branch-lt2+else-this-lt3+else-this-lt4+then-this-lt5+in-115+in_default-1,
+  in_default-via-then-branch-lt7+else-branch-lt2+else-this-lt3+else-this-lt4+then-this-lt5+in-114+in-111+in-111-this-20+in_default-1,
+  in_default-via-then-branch-lt7+else-branch-lt2+else-this-lt3+else-this-lt4+then-this-lt5+in-114+in-111+in_default-1,
+  in_default-via-then-branch-lt7+else-branch-lt2+else-this-lt3+else-this-lt4+then-this-lt5+in-114+in_default-1,
+  in_default-via-then-branch-lt7+else-branch-lt2+else-this-lt3+else-this-lt4+then-this-lt5+in_default-1,
+  in_default-via-then-branch-lt7+else-branch-lt2+else-this-lt3+else-this-lt4+else-this-lt5+then-this-lt6+in-112+in-97+in-114+in-97-this-25+in_default-1,
+  in_default-via-then-branch-lt7+else-branch-lt2+else-this-lt3+else-this-lt4+else-this-lt5+then-this-lt6+in-112+in-97+in-114+in_default-1,
+  in_default-via-then-branch-lt7+else-branch-lt2+else-this-lt3+else-this-lt4+else-this-lt5+then-this-lt6+in-112+in-97+in_default-1,
+  in_default-via-then-branch-lt7+else-branch-lt2+else-this-lt3+else-this-lt4+else-this-lt5+then-this-lt6+in-112+in-114+in-105+in-110+in_default-1,
+  in_default-via-then-branch-lt7+else-branch-lt2+else-this-lt3+else-this-lt4+else-this-lt5+then-this-lt6+in-112+in-114+in-105+in_default-1,
+  in_default-via-then-branch-lt7+else-branch-lt2+else-this-lt3+else-this-lt4+else-this-lt5+then-this-lt6+in-112+in-114+in_default-1,
+  in_default-via-then-branch-lt7+else-branch-lt2+else-this-lt3+else-this-lt4+else-this-lt5+then-this-lt6+in-112+in_default-1,
+  in_default-via-then-branch-lt7+else-branch-lt2+else-this-lt3+else-this-lt4+else-this-lt5+then-this-lt6+in-114+in-111+in-111-this-31+in-116+in_default-1,
+  in_default-via-then-branch-lt7+else-branch-lt2+else-this-lt3+else-this-lt4+else-this-lt5+then-this-lt6+in-114+in-111+in-111-this-31+in_default-1,
+  in_default-via-then-branch-lt7+else-branch-lt2+else-this-lt3+else-this-lt4+else-this-lt5+then-this-lt6+in-114+in-111+in_default-1,
+  in_default-via-then-branch-lt7+else-branch-lt2+else-this-lt3+else-this-lt4+else-this-lt5+then-this-lt6+in-114+in_default-1,
+  in_default-via-then-branch-lt7+else-branch-lt2+else-this-lt3+else-this-lt4+else-this-lt5+then-this-lt6+in-99+in-104+in-97+in-105+in_default-1,
+  in_default-via-then-branch-lt7+else-branch-lt2+else-this-lt3+else-this-lt4+else-this-lt5+then-this-lt6+in-99+in-104+in-97+in_default-1,
+  in_default-via-then-branch-lt7+else-branch-lt2+else-this-lt3+else-this-lt4+else-this-lt5+then-this-lt6+in-99+in-104+in_default-1,
+  in_default-via-then-branch-lt7+else-branch-lt2+else-this-lt3+else-this-lt4+else-this-lt5+then-this-lt6+in-99+in_default-1,
+  in_default-via-then-branch-lt7+else-branch-lt2+else-this-lt3+else-this-lt4+else-this-lt5+then-this-lt6+in_default-1,
+  in_default-via-then-branch-lt7+else-branch-lt2+else-this-lt3+else-this-lt4+else-this-lt5+else-this-lt6,
+  in_default-via-else-branch-lt7+then-this-lt8+in-104+in-121+in-103+in-105+in-101+in-110+in_default-1,
+  in_default-via-else-branch-lt7+then-this-lt8+in-104+in-121+in-103+in-105+in-101+in_default-1,
+  in_default-via-else-branch-lt7+then-this-lt8+in-104+in-121+in-103+in-105+in_default-1,
+  in_default-via-else-branch-lt7+then-this-lt8+in-104+in-121+in-103+in_default-1,
+  in_default-via-else-branch-lt7+then-this-lt8+in-104+in-121+in_default-1,
+  in_default-via-else-branch-lt7+then-this-lt8+in-104+in_default-1,
+  in_default-via-else-branch-lt7+then-this-lt8+in-114+in-111+in-111-this-46+in-116+in-45+in-111-this-49+in_default-1,
+  in_default-via-else-branch-lt7+then-this-lt8+in-114+in-111+in-111-this-46+in-116+in-45+in_default-1,
+  in_default-via-else-branch-lt7+then-this-lt8+in-114+in-111+in-111-this-46+in-116+in_default-1,
+  in_default-via-else-branch-lt7+then-this-lt8+in-114+in-111+in-111-this-46+in_default-1,
+  in_default-via-else-branch-lt7+then-this-lt8+in-114+in-111+in_default-1,
+  in_default-via-else-branch-lt7+then-this-lt8+in-114+in-101+in-115+in-111+in-108+in-118+in_default-1,
+  in_default-via-else-branch-lt7+then-this-lt8+in-114+in-101+in-115+in-111+in-108+in_default-1,
+  in_default-via-else-branch-lt7+then-this-lt8+in-114+in-101+in-115+in-111+in_default-1,
+  in_default-via-else-branch-lt7+then-this-lt8+in-114+in-101+in-115+in_default-1,
+  in_default-via-else-branch-lt7+then-this-lt8+in-114+in-101+in_default-1,
+  in_default-via-else-branch-lt7+then-this-lt8+in-114+in_default-1,
+  in_default-via-else-branch-lt7+then-this-lt8+in_default-1,
+  in_default-via-else-branch-lt7+else-this-lt8+then-this-lt9+in-99+in-104+in-105+in-108+in-100+in-114+in-101+in_default-1,
+  in_default-via-else-branch-lt7+else-this-lt8+then-this-lt9+in-99+in-104+in-105+in-108+in-100+in-114+in_default-1,
+  in_default-via-else-branch-lt7+else-this-lt8+then-this-lt9+in-99+in-104+in-105+in-108+in-100+in_default-1,
+  in_default-via-else-branch-lt7+else-this-lt8+then-this-lt9+in-99+in-104+in-105+in-108+in_default-1,
+  in_default-via-else-branch-lt7+else-this-lt8+then-this-lt9+in-99+in-104+in-105+in_default-1,
+  in_default-via-else-branch-lt7+else-this-lt8+then-this-lt9+in-99+in-104+in_default-1,
+  in_default-via-else-branch-lt7+else-this-lt8+then-this-lt9+in-99+in-97+in-112+in-116+in-117+in-114+in-101+in_default-1,
+  in_default-via-else-branch-lt7+else-this-lt8+then-this-lt9+in-99+in-97+in-112+in-116+in-117+in-114+in_default-1,
+  in_default-via-else-branch-lt7+else-this-lt8+then-this-lt9+in-99+in-97+in-112+in-116+in-117+in_default-1,
+  in_default-via-else-branch-lt7+else-this-lt8+then-this-lt9+in-99+in-97+in-112+in-116+in_default-1,
+  in_default-via-else-branch-lt7+else-this-lt8+then-this-lt9+in-99+in-97+in-112+in_default-1,
+  in_default-via-else-branch-lt7+else-this-lt8+then-this-lt9+in-99+in-97+in_default-1,
+  in_default-via-else-branch-lt7+else-this-lt8+then-this-lt9+in-99+in_default-1,
+  in_default-via-else-branch-lt7+else-this-lt8+then-this-lt9+in_default-1,
+  in_default-via-else-branch-lt7+else-this-lt8+else-this-lt9+then-this-lt11,
+  in_default-via-else-branch-lt7+else-this-lt8+else-this-lt9+else-this-lt11+then-this-lt12+in-112+in-97+in-116+in-45+in-104+in-121+in-103+in-105+in-101+in-110+in_default-1,
+  in_default-via-else-branch-lt7+else-this-lt8+else-this-lt9+else-this-lt11+then-this-lt12+in-112+in-97+in-116+in-45+in-104+in-121+in-103+in-105+in-101+in_default-1,
+  in_default-via-else-branch-lt7+else-this-lt8+else-this-lt9+else-this-lt11+then-this-lt12+in-112+in-97+in-116+in-45+in-104+in-121+in-103+in-105+in_default-1,
+  in_default-via-else-branch-lt7+else-this-lt8+else-this-lt9+else-this-lt11+then-this-lt12+in-112+in-97+in-116+in-45+in-104+in-121+in-103+in_default-1,
+  in_default-via-else-branch-lt7+else-this-lt8+else-this-lt9+else-this-lt11+then-this-lt12+in-112+in-97+in-116+in-45+in-104+in-121+in_default-1,
+  in_default-via-else-branch-lt7+else-this-lt8+else-this-lt9+else-this-lt11+then-this-lt12+in-112+in-97+in-116+in-45+in-104+in_default-1,
+  in_default-via-else-branch-lt7+else-this-lt8+else-this-lt9+else-this-lt11+then-this-lt12+in-112+in-97+in-116+in-45+in_default-1,
+  in_default-via-else-branch-lt7+else-this-lt8+else-this-lt9+else-this-lt11+then-this-lt12+in-112+in-97+in-116+in_default-1,
+  in_default-via-else-branch-lt7+else-this-lt8+else-this-lt9+else-this-lt11+then-this-lt12+in-112+in-97+in_default-1,
+  in_default-via-else-branch-lt7+else-this-lt8+else-this-lt9+else-this-lt11+then-this-lt12+in-112+in_default-1,
+  in_default-via-else-branch-lt7+else-this-lt8+else-this-lt9+else-this-lt11+then-this-lt12+in_default-1,
+  in_default-via-else-branch-lt7+else-this-lt8+else-this-lt9+else-this-lt11+else-this-lt12,
+}
 
-pub returns-in-roots : goal.returns-in-roots
+pub returns-in-children : goal.returns-in-children
 unfolding command
-returns-in-roots c = behind line_forms c.args.words.now (codes "roots") _ c.in_ok-keyword.ensures c.in-roots.is refl
+returns-in-children g c =
+    let is = same_text c.in_ok-word.field-0.now (codes "children") (omega arith) (search rules, (search rules, (search rules, (search rules, (search rules, (search rules, (search rules, (search rules, tt)))))))) in
+    let read = read_by line_forms (codes "children") (Some children_line) refl refl c.args.words.now c.word.new.self (c.in_ok-word.ensures {u = tt} ∙ ap (λ word. word ∷ c.word.new.self) is) in
+    take_alike g.B.Builder.add c.args.builder.now c.args.builder.now command children_line c.args.words.now c.word.new.self read c.asks-in-children.result
+    (asks_one g.B.Builder.add c.args.builder.now children_line c.word.new.self c.children.result c.asks-in-children.result c.children.ensures c.asks-in-children.ensures)
 
-pub returns-in_err-pat-in-pat : goal.returns-in_err-pat-in-pat
+pub returns-in-captures : goal.returns-in-captures
 unfolding command
-returns-in_err-pat-in-pat c =
-    read_on line_forms c.args.words.now c.pat.new.words (codes "pat") _ c.from_residual-in_err-pat-in-pat.result c.in_ok-keyword.ensures c.in-pat.is refl (search rules)
+returns-in-captures g c =
+    let is = same_text c.in_ok-word.field-0.now (codes "captures") (omega arith) (search rules, (search rules, (search rules, (search rules, (search rules, (search rules, (search rules, (search rules, tt)))))))) in
+    let read = read_by line_forms (codes "captures") (Some captures_line) refl refl c.args.words.now c.word.new.self (c.in_ok-word.ensures {u = tt} ∙ ap (λ word. word ∷ c.word.new.self) is) in
+    take_alike g.B.Builder.add c.args.builder.now c.args.builder.now command captures_line c.args.words.now c.word.new.self read c.asks-in-captures.result
+    (asks_one g.B.Builder.add c.args.builder.now captures_line c.word.new.self c.captures-2.result c.asks-in-captures.result c.captures-2.ensures c.asks-in-captures.ensures)
 
-pub returns-in_err-type_ref-in-type : goal.returns-in_err-type_ref-in-type
+pub returns-in-112-2 : goal.returns-in-112-2
 unfolding command
-returns-in_err-type_ref-in-type c =
-    read_on line_forms c.args.words.now c.type_ref.new.words (codes "type") _ c.from_residual-in_err-type_ref-in-type.result c.in_ok-keyword.ensures c.in-type.is refl (search rules)
+returns-in-112-2 g c =
+    let is = same_text c.in_ok-word.field-0.now (codes "pat-hygiene") (omega arith) (search rules, (search rules, (search rules, (search rules, (search rules, (search rules, (search rules, (search rules, (search rules, (search rules, (search rules, tt))))))))))) in
+    let read = read_by line_forms (codes "pat-hygiene") (Some pat_hygiene_line) refl refl c.args.words.now c.word.new.self (c.in_ok-word.ensures {u = tt} ∙ ap (λ word. word ∷ c.word.new.self) is) in
+    take_alike g.B.Builder.add c.args.builder.now c.pat_hygiene.new.builder command pat_hygiene_line c.args.words.now c.word.new.self read c.makes-in-112-2.result
+    (makes_one g.B.Builder.add c.args.builder.now c.pat_hygiene.new.builder (λ maker. maker) pat_hygiene c.word.new.self c.pat_hygiene.result c.makes-in-112-2.result c.pat_hygiene.ensures c.makes-in-112-2.ensures)
 
-pub returns-in_err-expr-in-expr : goal.returns-in_err-expr-in-expr
+pub returns-in_default : goal.returns-in_default
 unfolding command
-returns-in_err-expr-in-expr c =
-    read_on line_forms c.args.words.now c.expr.new.words (codes "expr") _ c.from_residual-in_err-expr-in-expr.result c.in_ok-keyword.ensures c.in-expr.is refl (search rules)
-
-pub returns-in_err-id-in-self : goal.returns-in_err-id-in-self
-unfolding command
-returns-in_err-id-in-self c =
-    read_on line_forms c.args.words.now c.id.new.self (codes "self") _ c.from_residual-in_err-id-in-self.result c.in_ok-keyword.ensures c.in-self.is refl (search rules)
-
-pub returns-in_err-id-in-param : goal.returns-in_err-id-in-param
-unfolding command
-returns-in_err-id-in-param c =
-    read_on line_forms c.args.words.now c.id-in-param.new.self (codes "param") _ c.from_residual-in_err-id-in-param.result c.in_ok-keyword.ensures c.in-param.is refl (search rules)
-
-pub returns-in_err-name-in-fn : goal.returns-in_err-name-in-fn
-unfolding command
-returns-in_err-name-in-fn c =
-    read_on line_forms c.args.words.now c.name.new.self (codes "fn") _ c.from_residual-in_err-name-in-fn.result c.in_ok-keyword.ensures c.in-fn.is refl (search rules)
-
-pub returns-in_err-id-in-root : goal.returns-in_err-id-in-root
-unfolding command
-returns-in_err-id-in-root c =
-    read_on line_forms c.args.words.now c.id-in-root.new.self (codes "root") _ c.from_residual-in_err-id-in-root.result c.in_ok-keyword.ensures c.in-root.is refl (search rules)
-
-pub returns-in_err-id-in-children : goal.returns-in_err-id-in-children
-unfolding command
-returns-in_err-id-in-children c =
-    read_on line_forms c.args.words.now c.id-in-children.new.self (codes "children") _ c.from_residual-in_err-id-in-children.result c.in_ok-keyword.ensures c.in-children.is refl (search rules)
-
-pub returns-in_err-id-in-text-2 : goal.returns-in_err-id-in-text-2
-unfolding command
-returns-in_err-id-in-text-2 c =
-    read_on line_forms c.args.words.now c.id-in-text-2.new.self (codes "root-of") _ c.from_residual-in_err-id-in-text-2.result c.in_ok-keyword.ensures c.in-text-2.is refl (search rules)
-
-pub returns-in_ok-pat-in-pat : goal.returns-in_ok-pat-in-pat
-unfolding command
-returns-in_ok-pat-in-pat c = behind line_forms c.args.words.now (codes "pat") _ c.in_ok-keyword.ensures c.in-pat.is refl ∙ search rules
-
-pub returns-in_ok-type_ref-in-type : goal.returns-in_ok-type_ref-in-type
-unfolding command
-returns-in_ok-type_ref-in-type c = behind line_forms c.args.words.now (codes "type") _ c.in_ok-keyword.ensures c.in-type.is refl ∙ search rules
-
-pub returns-in_ok-expr-in-expr : goal.returns-in_ok-expr-in-expr
-unfolding command
-returns-in_ok-expr-in-expr c = behind line_forms c.args.words.now (codes "expr") _ c.in_ok-keyword.ensures c.in-expr.is refl ∙ search rules
-
-pub returns-in_ok-id-in-self : goal.returns-in_ok-id-in-self
-unfolding command
-returns-in_ok-id-in-self c = behind line_forms c.args.words.now (codes "self") _ c.in_ok-keyword.ensures c.in-self.is refl ∙ search rules
-
-pub returns-in_ok-id-in-param : goal.returns-in_ok-id-in-param
-unfolding command
-returns-in_ok-id-in-param c = behind line_forms c.args.words.now (codes "param") _ c.in_ok-keyword.ensures c.in-param.is refl ∙ search rules
-
-pub returns-in_ok-name-in-fn : goal.returns-in_ok-name-in-fn
-unfolding command
-returns-in_ok-name-in-fn c = behind line_forms c.args.words.now (codes "fn") _ c.in_ok-keyword.ensures c.in-fn.is refl ∙ search rules
-
-pub returns-in_ok-id-in-root : goal.returns-in_ok-id-in-root
-unfolding command
-returns-in_ok-id-in-root c = behind line_forms c.args.words.now (codes "root") _ c.in_ok-keyword.ensures c.in-root.is refl ∙ search rules
-
-pub returns-in_ok-id-in-children : goal.returns-in_ok-id-in-children
-unfolding command
-returns-in_ok-id-in-children c = behind line_forms c.args.words.now (codes "children") _ c.in_ok-keyword.ensures c.in-children.is refl ∙ search rules
-
-pub returns-in_ok-id-in-text-2 : goal.returns-in_ok-id-in-text-2
-unfolding command
-returns-in_ok-id-in-text-2 c = behind line_forms c.args.words.now (codes "root-of") _ c.in_ok-keyword.ensures c.in-text-2.is refl ∙ search rules
-
-pub returns-in_err-bind-in-bind : goal.returns-in_err-bind-in-bind
-unfolding command
-returns-in_err-bind-in-bind c =
-    read_on line_forms c.args.words.now c.bind.new.words (codes "bind") _ c.from_residual-in_err-bind-in-bind.result c.in_ok-keyword.ensures c.in-bind.is refl (search rules)
-
-pub returns-in_ok-bind-in-bind : goal.returns-in_ok-bind-in-bind
-unfolding command
-returns-in_ok-bind-in-bind c = behind line_forms c.args.words.now (codes "bind") _ c.in_ok-keyword.ensures c.in-bind.is refl ∙ search rules
-
-pub returns-in_err-expr_hygiene-in-hygiene : goal.returns-in_err-expr_hygiene-in-hygiene
-unfolding command
-returns-in_err-expr_hygiene-in-hygiene c =
-    read_on line_forms c.args.words.now c.expr_hygiene.new.words (codes "hygiene") _ c.from_residual-in_err-expr_hygiene-in-hygiene.result c.in_ok-keyword.ensures c.in-hygiene.is refl (search rules)
-
-pub returns-in_ok-expr_hygiene-in-hygiene : goal.returns-in_ok-expr_hygiene-in-hygiene
-unfolding command
-returns-in_ok-expr_hygiene-in-hygiene c = behind line_forms c.args.words.now (codes "hygiene") _ c.in_ok-keyword.ensures c.in-hygiene.is refl ∙ search rules
-
-pub returns-in_err-pat_hygiene-in-text : goal.returns-in_err-pat_hygiene-in-text
-unfolding command
-returns-in_err-pat_hygiene-in-text c =
-    read_on line_forms c.args.words.now c.pat_hygiene.new.words (codes "pat-hygiene") _ c.from_residual-in_err-pat_hygiene-in-text.result c.in_ok-keyword.ensures c.in-text.is refl (search rules)
-
-pub returns-in_ok-pat_hygiene-in-text : goal.returns-in_ok-pat_hygiene-in-text
-unfolding command
-returns-in_ok-pat_hygiene-in-text c = behind line_forms c.args.words.now (codes "pat-hygiene") _ c.in_ok-keyword.ensures c.in-text.is refl ∙ search rules
+returns-in_default g c =
+    let none : look_up line_forms c.in_ok-word.field-0.now ≡ None =
+    elim c.in_default.branch [
+      | in_default-via-then-branch-lt7+then-branch-lt2 w ↦ search rules
+      | in_default-via-then-branch-lt7+else-branch-lt2+then-this-lt3+in-102+in_default-1 w ↦ search rules
+      | in_default-via-then-branch-lt7+else-branch-lt2+then-this-lt3+in_default-1 w ↦ search rules
+      | in_default-via-then-branch-lt7+else-branch-lt2+else-this-lt3+then-this-lt4+in-112+in-97+in_default-1 w ↦ search rules
+      | in_default-via-then-branch-lt7+else-branch-lt2+else-this-lt3+then-this-lt4+in-112+in_default-1 w ↦ search rules
+      | in_default-via-then-branch-lt7+else-branch-lt2+else-this-lt3+then-this-lt4+in_default-1 w ↦ search rules
+      | in_default-via-then-branch-lt7+else-branch-lt2+else-this-lt3+else-this-lt4+then-this-lt5+in-98+in-105+in-110+in_default-1 w ↦ search rules
+      | in_default-via-then-branch-lt7+else-branch-lt2+else-this-lt3+else-this-lt4+then-this-lt5+in-98+in-105+in_default-1 w ↦ search rules
+      | in_default-via-then-branch-lt7+else-branch-lt2+else-this-lt3+else-this-lt4+then-this-lt5+in-98+in_default-1 w ↦ search rules
+      | in_default-via-then-branch-lt7+else-branch-lt2+else-this-lt3+else-this-lt4+then-this-lt5+in-116+in-121+in-112+in_default-1 w ↦ search rules
+      | in_default-via-then-branch-lt7+else-branch-lt2+else-this-lt3+else-this-lt4+then-this-lt5+in-116+in-121+in_default-1 w ↦ search rules
+      | in_default-via-then-branch-lt7+else-branch-lt2+else-this-lt3+else-this-lt4+then-this-lt5+in-116+in_default-1 w ↦ search rules
+      | in_default-via-then-branch-lt7+else-branch-lt2+else-this-lt3+else-this-lt4+then-this-lt5+in-101+in-120+in-112+in_default-1 w ↦ search rules
+      | in_default-via-then-branch-lt7+else-branch-lt2+else-this-lt3+else-this-lt4+then-this-lt5+in-101+in-120+in_default-1 w ↦ search rules
+      | in_default-via-then-branch-lt7+else-branch-lt2+else-this-lt3+else-this-lt4+then-this-lt5+in-101+in_default-1 w ↦ search rules
+      | in_default-via-then-branch-lt7+else-branch-lt2+else-this-lt3+else-this-lt4+then-this-lt5+in-115+in-101+in-108+in_default-1 w ↦ search rules
+      | in_default-via-then-branch-lt7+else-branch-lt2+else-this-lt3+else-this-lt4+then-this-lt5+in-115+in-101+in_default-1 w ↦ search rules
+      | in_default-via-then-branch-lt7+else-branch-lt2+else-this-lt3+else-this-lt4+then-this-lt5+in-115+in_default-1 w ↦ search rules
+      | in_default-via-then-branch-lt7+else-branch-lt2+else-this-lt3+else-this-lt4+then-this-lt5+in-114+in-111+in-111-this-20+in_default-1 w ↦ search rules
+      | in_default-via-then-branch-lt7+else-branch-lt2+else-this-lt3+else-this-lt4+then-this-lt5+in-114+in-111+in_default-1 w ↦ search rules
+      | in_default-via-then-branch-lt7+else-branch-lt2+else-this-lt3+else-this-lt4+then-this-lt5+in-114+in_default-1 w ↦ search rules
+      | in_default-via-then-branch-lt7+else-branch-lt2+else-this-lt3+else-this-lt4+then-this-lt5+in_default-1 w ↦ search rules
+      | in_default-via-then-branch-lt7+else-branch-lt2+else-this-lt3+else-this-lt4+else-this-lt5+then-this-lt6+in-112+in-97+in-114+in-97-this-25+in_default-1 w ↦ search rules
+      | in_default-via-then-branch-lt7+else-branch-lt2+else-this-lt3+else-this-lt4+else-this-lt5+then-this-lt6+in-112+in-97+in-114+in_default-1 w ↦ search rules
+      | in_default-via-then-branch-lt7+else-branch-lt2+else-this-lt3+else-this-lt4+else-this-lt5+then-this-lt6+in-112+in-97+in_default-1 w ↦ search rules
+      | in_default-via-then-branch-lt7+else-branch-lt2+else-this-lt3+else-this-lt4+else-this-lt5+then-this-lt6+in-112+in-114+in-105+in-110+in_default-1 w ↦ search rules
+      | in_default-via-then-branch-lt7+else-branch-lt2+else-this-lt3+else-this-lt4+else-this-lt5+then-this-lt6+in-112+in-114+in-105+in_default-1 w ↦ search rules
+      | in_default-via-then-branch-lt7+else-branch-lt2+else-this-lt3+else-this-lt4+else-this-lt5+then-this-lt6+in-112+in-114+in_default-1 w ↦ search rules
+      | in_default-via-then-branch-lt7+else-branch-lt2+else-this-lt3+else-this-lt4+else-this-lt5+then-this-lt6+in-112+in_default-1 w ↦ search rules
+      | in_default-via-then-branch-lt7+else-branch-lt2+else-this-lt3+else-this-lt4+else-this-lt5+then-this-lt6+in-114+in-111+in-111-this-31+in-116+in_default-1 w ↦ search rules
+      | in_default-via-then-branch-lt7+else-branch-lt2+else-this-lt3+else-this-lt4+else-this-lt5+then-this-lt6+in-114+in-111+in-111-this-31+in_default-1 w ↦ search rules
+      | in_default-via-then-branch-lt7+else-branch-lt2+else-this-lt3+else-this-lt4+else-this-lt5+then-this-lt6+in-114+in-111+in_default-1 w ↦ search rules
+      | in_default-via-then-branch-lt7+else-branch-lt2+else-this-lt3+else-this-lt4+else-this-lt5+then-this-lt6+in-114+in_default-1 w ↦ search rules
+      | in_default-via-then-branch-lt7+else-branch-lt2+else-this-lt3+else-this-lt4+else-this-lt5+then-this-lt6+in-99+in-104+in-97+in-105+in_default-1 w ↦ search rules
+      | in_default-via-then-branch-lt7+else-branch-lt2+else-this-lt3+else-this-lt4+else-this-lt5+then-this-lt6+in-99+in-104+in-97+in_default-1 w ↦ search rules
+      | in_default-via-then-branch-lt7+else-branch-lt2+else-this-lt3+else-this-lt4+else-this-lt5+then-this-lt6+in-99+in-104+in_default-1 w ↦ search rules
+      | in_default-via-then-branch-lt7+else-branch-lt2+else-this-lt3+else-this-lt4+else-this-lt5+then-this-lt6+in-99+in_default-1 w ↦ search rules
+      | in_default-via-then-branch-lt7+else-branch-lt2+else-this-lt3+else-this-lt4+else-this-lt5+then-this-lt6+in_default-1 w ↦ search rules
+      | in_default-via-then-branch-lt7+else-branch-lt2+else-this-lt3+else-this-lt4+else-this-lt5+else-this-lt6 w ↦ search rules
+      | in_default-via-else-branch-lt7+then-this-lt8+in-104+in-121+in-103+in-105+in-101+in-110+in_default-1 w ↦ search rules
+      | in_default-via-else-branch-lt7+then-this-lt8+in-104+in-121+in-103+in-105+in-101+in_default-1 w ↦ search rules
+      | in_default-via-else-branch-lt7+then-this-lt8+in-104+in-121+in-103+in-105+in_default-1 w ↦ search rules
+      | in_default-via-else-branch-lt7+then-this-lt8+in-104+in-121+in-103+in_default-1 w ↦ search rules
+      | in_default-via-else-branch-lt7+then-this-lt8+in-104+in-121+in_default-1 w ↦ search rules
+      | in_default-via-else-branch-lt7+then-this-lt8+in-104+in_default-1 w ↦ search rules
+      | in_default-via-else-branch-lt7+then-this-lt8+in-114+in-111+in-111-this-46+in-116+in-45+in-111-this-49+in_default-1 w ↦ search rules
+      | in_default-via-else-branch-lt7+then-this-lt8+in-114+in-111+in-111-this-46+in-116+in-45+in_default-1 w ↦ search rules
+      | in_default-via-else-branch-lt7+then-this-lt8+in-114+in-111+in-111-this-46+in-116+in_default-1 w ↦ search rules
+      | in_default-via-else-branch-lt7+then-this-lt8+in-114+in-111+in-111-this-46+in_default-1 w ↦ search rules
+      | in_default-via-else-branch-lt7+then-this-lt8+in-114+in-111+in_default-1 w ↦ search rules
+      | in_default-via-else-branch-lt7+then-this-lt8+in-114+in-101+in-115+in-111+in-108+in-118+in_default-1 w ↦ search rules
+      | in_default-via-else-branch-lt7+then-this-lt8+in-114+in-101+in-115+in-111+in-108+in_default-1 w ↦ search rules
+      | in_default-via-else-branch-lt7+then-this-lt8+in-114+in-101+in-115+in-111+in_default-1 w ↦ search rules
+      | in_default-via-else-branch-lt7+then-this-lt8+in-114+in-101+in-115+in_default-1 w ↦ search rules
+      | in_default-via-else-branch-lt7+then-this-lt8+in-114+in-101+in_default-1 w ↦ search rules
+      | in_default-via-else-branch-lt7+then-this-lt8+in-114+in_default-1 w ↦ search rules
+      | in_default-via-else-branch-lt7+then-this-lt8+in_default-1 w ↦ search rules
+      | in_default-via-else-branch-lt7+else-this-lt8+then-this-lt9+in-99+in-104+in-105+in-108+in-100+in-114+in-101+in_default-1 w ↦ search rules
+      | in_default-via-else-branch-lt7+else-this-lt8+then-this-lt9+in-99+in-104+in-105+in-108+in-100+in-114+in_default-1 w ↦ search rules
+      | in_default-via-else-branch-lt7+else-this-lt8+then-this-lt9+in-99+in-104+in-105+in-108+in-100+in_default-1 w ↦ search rules
+      | in_default-via-else-branch-lt7+else-this-lt8+then-this-lt9+in-99+in-104+in-105+in-108+in_default-1 w ↦ search rules
+      | in_default-via-else-branch-lt7+else-this-lt8+then-this-lt9+in-99+in-104+in-105+in_default-1 w ↦ search rules
+      | in_default-via-else-branch-lt7+else-this-lt8+then-this-lt9+in-99+in-104+in_default-1 w ↦ search rules
+      | in_default-via-else-branch-lt7+else-this-lt8+then-this-lt9+in-99+in-97+in-112+in-116+in-117+in-114+in-101+in_default-1 w ↦ search rules
+      | in_default-via-else-branch-lt7+else-this-lt8+then-this-lt9+in-99+in-97+in-112+in-116+in-117+in-114+in_default-1 w ↦ search rules
+      | in_default-via-else-branch-lt7+else-this-lt8+then-this-lt9+in-99+in-97+in-112+in-116+in-117+in_default-1 w ↦ search rules
+      | in_default-via-else-branch-lt7+else-this-lt8+then-this-lt9+in-99+in-97+in-112+in-116+in_default-1 w ↦ search rules
+      | in_default-via-else-branch-lt7+else-this-lt8+then-this-lt9+in-99+in-97+in-112+in_default-1 w ↦ search rules
+      | in_default-via-else-branch-lt7+else-this-lt8+then-this-lt9+in-99+in-97+in_default-1 w ↦ search rules
+      | in_default-via-else-branch-lt7+else-this-lt8+then-this-lt9+in-99+in_default-1 w ↦ search rules
+      | in_default-via-else-branch-lt7+else-this-lt8+then-this-lt9+in_default-1 w ↦ search rules
+      | in_default-via-else-branch-lt7+else-this-lt8+else-this-lt9+then-this-lt11 w ↦ search rules
+      | in_default-via-else-branch-lt7+else-this-lt8+else-this-lt9+else-this-lt11+then-this-lt12+in-112+in-97+in-116+in-45+in-104+in-121+in-103+in-105+in-101+in-110+in_default-1 w ↦ search rules
+      | in_default-via-else-branch-lt7+else-this-lt8+else-this-lt9+else-this-lt11+then-this-lt12+in-112+in-97+in-116+in-45+in-104+in-121+in-103+in-105+in-101+in_default-1 w ↦ search rules
+      | in_default-via-else-branch-lt7+else-this-lt8+else-this-lt9+else-this-lt11+then-this-lt12+in-112+in-97+in-116+in-45+in-104+in-121+in-103+in-105+in_default-1 w ↦ search rules
+      | in_default-via-else-branch-lt7+else-this-lt8+else-this-lt9+else-this-lt11+then-this-lt12+in-112+in-97+in-116+in-45+in-104+in-121+in-103+in_default-1 w ↦ search rules
+      | in_default-via-else-branch-lt7+else-this-lt8+else-this-lt9+else-this-lt11+then-this-lt12+in-112+in-97+in-116+in-45+in-104+in-121+in_default-1 w ↦ search rules
+      | in_default-via-else-branch-lt7+else-this-lt8+else-this-lt9+else-this-lt11+then-this-lt12+in-112+in-97+in-116+in-45+in-104+in_default-1 w ↦ search rules
+      | in_default-via-else-branch-lt7+else-this-lt8+else-this-lt9+else-this-lt11+then-this-lt12+in-112+in-97+in-116+in-45+in_default-1 w ↦ search rules
+      | in_default-via-else-branch-lt7+else-this-lt8+else-this-lt9+else-this-lt11+then-this-lt12+in-112+in-97+in-116+in_default-1 w ↦ search rules
+      | in_default-via-else-branch-lt7+else-this-lt8+else-this-lt9+else-this-lt11+then-this-lt12+in-112+in-97+in_default-1 w ↦ search rules
+      | in_default-via-else-branch-lt7+else-this-lt8+else-this-lt9+else-this-lt11+then-this-lt12+in-112+in_default-1 w ↦ search rules
+      | in_default-via-else-branch-lt7+else-this-lt8+else-this-lt9+else-this-lt11+then-this-lt12+in_default-1 w ↦ search rules
+      | in_default-via-else-branch-lt7+else-this-lt8+else-this-lt9+else-this-lt11+else-this-lt12 w ↦ search rules
+    ] in
+    (refl, λ _. none_taken g.B.Builder.add c.args.builder.now c.args.builder.now line_forms c.in_ok-word.field-0.now c.args.words.now c.word.new.self (c.in_ok-word.ensures {u = tt}) none)

@@ -91,3 +91,18 @@ returns-in-Block c = rw c.in-Block.is (on_ok_weaker c.open_block.result (λ o s.
 
 pub returns-in-Closure : goal.returns-in-Closure
 returns-in-Closure c = rw c.in-Closure.is (on_ok_weaker c.open_closure.result (λ o s. opens_as (o s) refl (omega arith)) (rw (c.as_slice-in-Closure.ensures, c.as_slice-in-Closure-2.ensures) at c.open_closure.ensures))
+
+pub returns-in-Missing : goal.returns-in-Missing
+returns-in-Missing c = rw c.in-Missing.is (on_ok_weaker c.open_text.result (λ o s. opens_as (o s) refl (omega arith)) c.open_text.ensures)
+
+pub returns-in-Underscore : goal.returns-in-Underscore
+returns-in-Underscore c = rw c.in-Underscore.is (on_ok_weaker c.open_text-in-Underscore.result (λ o s. opens_as (o s) refl (omega arith)) c.open_text-in-Underscore.ensures)
+
+pub returns-in-IncludeBytes : goal.returns-in-IncludeBytes
+returns-in-IncludeBytes c = rw c.in-IncludeBytes.is (on_ok_weaker c.open_text-in-IncludeBytes.result (λ o s. opens_as (o s) refl (omega arith)) c.open_text-in-IncludeBytes.ensures)
+
+pub returns-in-Literal : goal.returns-in-Literal
+returns-in-Literal c = rw c.in-Literal.is (on_ok_weaker c.open_literal.result (λ o s. opens_as (o s) refl (omega arith)) c.open_literal.ensures)
+
+pub returns-in-Path : goal.returns-in-Path
+returns-in-Path c = rw c.in-Path.is (on_ok_weaker c.open_path.result (λ o s. opens_as (o s) refl (omega arith)) c.open_path.ensures)

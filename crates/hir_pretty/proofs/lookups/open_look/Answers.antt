@@ -18,6 +18,3 @@ returns-in-Lifetime g c = rw c.in-Lifetime.is (on_ok_weaker c.open_lifetime.resu
 
 pub returns-in-Label : goal.returns-in-Label
 returns-in-Label g c = rw c.in-Label.is (on_ok_weaker c.open_label.result (λ o words one_line. o (g.D.Definitions.answers c.args.tables.now) words one_line) c.open_label.ensures)
-
-pub returns-in-Binding : goal.returns-in-Binding
-returns-in-Binding g c = rw c.in-Binding.is (on_ok_weaker c.open_binding.result (λ o words one_line. o (g.D.Definitions.answers c.args.tables.now) words one_line) c.open_binding.ensures)

@@ -20,3 +20,6 @@ returns-in-Bind c = rw c.in-Bind.is (on_ok_weaker c.open_bind.result (λ o s. op
 
 pub returns-in-TupleStruct : goal.returns-in-TupleStruct
 returns-in-TupleStruct c = rw c.in-TupleStruct.is (on_ok_weaker c.open_tuple_struct.result (λ o s. opens_as (o s) refl (omega arith)) (rw c.as_slice-in-TupleStruct.ensures at c.open_tuple_struct.ensures))
+
+pub returns-in-Path : goal.returns-in-Path
+returns-in-Path c = rw c.in-Path.is (on_ok_weaker c.open_path.result (λ o s. opens_as (o s) refl (omega arith)) c.open_path.ensures)

@@ -1,7 +1,12 @@
+use Rattle.std.proofs.Common.{◌∷◌, [], map, refl, slice_get, arith}
 use Rattle.hir_pretty.specs.Settings.{setting}
-use Rattle.hir_pretty.specs.Works.{listed, pending}
-use Rattle.hir_pretty.proofs.TurnLemmas.{turned_part, turned_piece, turned_whole, turned_pattern, turned_type, turned_under, turned_number, turned_literal, refused_number, refused_literal}
-use Rattle.hir_pretty.specs.Works.{printed}
+use Rattle.std.specs.Fmt.{decimal}
+use Rattle.hir_page.specs.Pieces.{Text}
+use Rattle.hir_pretty.specs.Items.{Whole, Under, Pattern, text}
+use Rattle.hir_pretty.specs.Names.{name_parts, name_items, binding_items}
+use Rattle.hir_pretty.specs.Literals.{literal_items}
+use Rattle.hir_pretty.specs.Works.{listed, pending, put_pieces, opt_texts, binding_texts}
+use Rattle.hir_pretty.proofs.TurnLemmas.{turned_part, turned_piece, turned_whole, turned_pattern, turned_type, turned_under, turned_put, refused_put, name_printed, binding_printed, literal_pieces, whole_printed, under_printed, pattern_printed}
 use Rattle.hir_pretty.proofs.turn.turn.Goals as goal
 
 pub returns-in-Ok-clause-ok : goal.returns-in-Ok-clause-ok
@@ -20,31 +25,81 @@ pub returns-in-Ok-outdent-clause-ok : goal.returns-in-Ok-outdent-clause-ok
 returns-in-Ok-outdent-clause-ok g c = rw c.in-Outdent.is (turned_piece c.in-Ok-outdent.ensures)
 
 pub returns-in-Ok-write_number-clause-ok : goal.returns-in-Ok-write_number-clause-ok
-returns-in-Ok-write_number-clause-ok g c = rw c.in-Number.is (turned_number c.in-Ok-write_number.ensures)
+returns-in-Ok-write_number-clause-ok g c =
+    let s = setting c.args.store.now (g.D.Definitions.answers c.args.tables.now) c.args.words.now c.args.one_line in
+    rw c.in-Number.is (turned_put (Text (decimal c.in-Number.number) ∷ []) (refl) (omega arith) c.in-Ok-write_number.ensures)
 
 pub returns-in-Err-write_number-clause-err : goal.returns-in-Err-write_number-clause-err
 returns-in-Err-write_number-clause-err g c =
     let s = setting c.args.store.now (g.D.Definitions.answers c.args.tables.now) c.args.words.now c.args.one_line in
-    rw c.in-Number.is (refused_number (printed s (pending s (listed c.args.stack.now))) c.in-Err-write_number.ensures)
+    rw c.in-Number.is (refused_put s (text (decimal c.in-Number.number)) (Text (decimal c.in-Number.number) ∷ []) (pending s (listed c.args.stack.now)) (refl) c.in-Err-write_number.ensures)
 
 pub returns-in-Ok-write_literal-clause-ok : goal.returns-in-Ok-write_literal-clause-ok
-returns-in-Ok-write_literal-clause-ok g c = rw c.in-Literal.is (turned_literal c.in-Literal.literal.now c.in-Ok-write_literal.ensures)
+returns-in-Ok-write_literal-clause-ok g c =
+    let s = setting c.args.store.now (g.D.Definitions.answers c.args.tables.now) c.args.words.now c.args.one_line in
+    rw c.in-Literal.is (turned_put (put_pieces (literal_items c.in-Literal.literal.now)) (literal_pieces s c.in-Literal.literal.now) (omega arith) c.in-Ok-write_literal.ensures)
 
 pub returns-in-Err-write_literal-clause-err : goal.returns-in-Err-write_literal-clause-err
 returns-in-Err-write_literal-clause-err g c =
     let s = setting c.args.store.now (g.D.Definitions.answers c.args.tables.now) c.args.words.now c.args.one_line in
-    rw c.in-Literal.is (refused_literal s c.in-Literal.literal.now (pending s (listed c.args.stack.now)) c.in-Err-write_literal.ensures)
+    rw c.in-Literal.is (refused_put s (literal_items c.in-Literal.literal.now) (put_pieces (literal_items c.in-Literal.literal.now)) (pending s (listed c.args.stack.now)) (literal_pieces s c.in-Literal.literal.now) c.in-Err-write_literal.ensures)
 
-pub returns-in-Ok-open_name-clause-ok : goal.returns-in-Ok-open_name-clause-ok
-returns-in-Ok-open_name-clause-ok g c = rw c.in-Name.is (turned_part (c.in-Ok-open_name.ensures c.args.store.now (g.D.Definitions.answers c.args.tables.now) c.args.one_line))
+pub returns-in-Ok-write_name-clause-ok : goal.returns-in-Ok-write_name-clause-ok
+returns-in-Ok-write_name-clause-ok g c =
+    let s = setting c.args.store.now (g.D.Definitions.answers c.args.tables.now) c.args.words.now c.args.one_line in
+    rw c.in-Name.is (turned_put (map Text (name_parts c.args.words.now c.in-Name.name.now)) (name_printed s c.in-Name.name.now) (omega arith) c.in-Ok-write_name.ensures)
+
+pub returns-in-Err-write_name-clause-err : goal.returns-in-Err-write_name-clause-err
+returns-in-Err-write_name-clause-err g c =
+    let s = setting c.args.store.now (g.D.Definitions.answers c.args.tables.now) c.args.words.now c.args.one_line in
+    rw c.in-Name.is (refused_put s (name_items s c.in-Name.name.now) (map Text (name_parts c.args.words.now c.in-Name.name.now)) (pending s (listed c.args.stack.now)) (name_printed s c.in-Name.name.now) c.in-Err-write_name.ensures)
+
+pub returns-in-Ok-write_binding-clause-ok : goal.returns-in-Ok-write_binding-clause-ok
+returns-in-Ok-write_binding-clause-ok g c =
+    let s = setting c.args.store.now (g.D.Definitions.answers c.args.tables.now) c.args.words.now c.args.one_line in
+    rw c.in-Binding.is (turned_put (map Text (opt_texts (binding_texts c.args.words.now) (slice_get c.args.store.now.nodes.bindings c.in-Binding.id))) (binding_printed s c.in-Binding.id) (omega arith) c.in-Ok-write_binding.ensures)
+
+pub returns-in-Err-write_binding-clause-err : goal.returns-in-Err-write_binding-clause-err
+returns-in-Err-write_binding-clause-err g c =
+    let s = setting c.args.store.now (g.D.Definitions.answers c.args.tables.now) c.args.words.now c.args.one_line in
+    rw c.in-Binding.is (refused_put s (binding_items s c.in-Binding.id) (map Text (opt_texts (binding_texts c.args.words.now) (slice_get c.args.store.now.nodes.bindings c.in-Binding.id))) (pending s (listed c.args.stack.now)) (binding_printed s c.in-Binding.id) c.in-Err-write_binding.ensures)
+
+pub returns-in-Ok-write_name-2-clause-ok : goal.returns-in-Ok-write_name-2-clause-ok
+returns-in-Ok-write_name-2-clause-ok g c =
+    let s = setting c.args.store.now (g.D.Definitions.answers c.args.tables.now) c.args.words.now c.args.one_line in
+    rw c.in-Whole.is (turned_put (map Text (name_parts c.args.words.now c.in-Some.name.now)) (whole_printed s c.requires c.in-Whole.id c.in-Some.name.now c.in-Some.ensures) (omega arith) c.in-Ok-write_name-2.ensures)
+
+pub returns-in-Err-write_name-2-clause-err : goal.returns-in-Err-write_name-2-clause-err
+returns-in-Err-write_name-2-clause-err g c =
+    let s = setting c.args.store.now (g.D.Definitions.answers c.args.tables.now) c.args.words.now c.args.one_line in
+    rw c.in-Whole.is (refused_put s (Whole c.in-Whole.id ∷ []) (map Text (name_parts c.args.words.now c.in-Some.name.now)) (pending s (listed c.args.stack.now)) (whole_printed s c.requires c.in-Whole.id c.in-Some.name.now c.in-Some.ensures) c.in-Err-write_name-2.ensures)
+
+pub returns-in-Ok-write_name-3-clause-ok : goal.returns-in-Ok-write_name-3-clause-ok
+returns-in-Ok-write_name-3-clause-ok g c =
+    let s = setting c.args.store.now (g.D.Definitions.answers c.args.tables.now) c.args.words.now c.args.one_line in
+    rw c.in-Under.is (turned_put (map Text (name_parts c.args.words.now c.in-Some-name_at.name.now)) (under_printed s c.requires c.in-Under.id c.in-Under.parent c.in-Some-name_at.name.now c.in-Some-name_at.ensures) (omega arith) c.in-Ok-write_name-3.ensures)
+
+pub returns-in-Err-write_name-3-clause-err : goal.returns-in-Err-write_name-3-clause-err
+returns-in-Err-write_name-3-clause-err g c =
+    let s = setting c.args.store.now (g.D.Definitions.answers c.args.tables.now) c.args.words.now c.args.one_line in
+    rw c.in-Under.is (refused_put s (Under c.in-Under.id c.in-Under.parent ∷ []) (map Text (name_parts c.args.words.now c.in-Some-name_at.name.now)) (pending s (listed c.args.stack.now)) (under_printed s c.requires c.in-Under.id c.in-Under.parent c.in-Some-name_at.name.now c.in-Some-name_at.ensures) c.in-Err-write_name-3.ensures)
+
+pub returns-in-Ok-write_binding-2-clause-ok : goal.returns-in-Ok-write_binding-2-clause-ok
+returns-in-Ok-write_binding-2-clause-ok g c =
+    let s = setting c.args.store.now (g.D.Definitions.answers c.args.tables.now) c.args.words.now c.args.one_line in
+    rw c.in-Pattern.is (turned_put (map Text (opt_texts (binding_texts c.args.words.now) (slice_get c.args.store.now.nodes.bindings c.in-Some-binding_at.binding))) (pattern_printed s c.requires c.in-Pattern.id c.in-Some-binding_at.binding c.in-Some-binding_at.ensures) (omega arith) c.in-Ok-write_binding-2.ensures)
+
+pub returns-in-Err-write_binding-2-clause-err : goal.returns-in-Err-write_binding-2-clause-err
+returns-in-Err-write_binding-2-clause-err g c =
+    let s = setting c.args.store.now (g.D.Definitions.answers c.args.tables.now) c.args.words.now c.args.one_line in
+    rw c.in-Pattern.is (refused_put s (Pattern c.in-Pattern.id ∷ []) (map Text (opt_texts (binding_texts c.args.words.now) (slice_get c.args.store.now.nodes.bindings c.in-Some-binding_at.binding))) (pending s (listed c.args.stack.now)) (pattern_printed s c.requires c.in-Pattern.id c.in-Some-binding_at.binding c.in-Some-binding_at.ensures) c.in-Err-write_binding-2.ensures)
 
 pub returns-in-Ok-open_expr_at-clause-ok : goal.returns-in-Ok-open_expr_at-clause-ok
 returns-in-Ok-open_expr_at-clause-ok g c = rw c.in-Whole.is (turned_whole c.requires (c.in-Ok-open_expr_at.ensures (g.D.Definitions.answers c.args.tables.now) c.args.words.now c.args.one_line))
 
 pub returns-in-Ok-open_under-clause-ok : goal.returns-in-Ok-open_under-clause-ok
 returns-in-Ok-open_under-clause-ok g c =
-    let s = setting c.args.store.now (g.D.Definitions.answers c.args.tables.now) c.args.words.now c.args.one_line in
-    rw c.in-Under.is (turned_under (c.in-Ok-open_under.ensures s))
+    rw c.in-Under.is (turned_under c.requires (c.in-Ok-open_under.ensures (g.D.Definitions.answers c.args.tables.now) c.args.words.now c.args.one_line))
 
 pub returns-in-Ok-open_pat_at-clause-ok : goal.returns-in-Ok-open_pat_at-clause-ok
 returns-in-Ok-open_pat_at-clause-ok g c = rw c.in-Pattern.is (turned_pattern c.requires (c.in-Ok-open_pat_at.ensures (g.D.Definitions.answers c.args.tables.now) c.args.words.now c.args.one_line))

@@ -8,3 +8,6 @@ returns-in-Reference c = rw c.in-Reference.is (on_ok_weaker c.open_reference.res
 
 pub returns-in-Fn : goal.returns-in-Fn
 returns-in-Fn c = rw c.in-Fn.is (on_ok_weaker c.open_fn.result (λ o s. opens_as (o s) refl (omega arith)) (rw c.get-in-Fn.ensures at c.open_fn.ensures))
+
+pub returns-in-Path : goal.returns-in-Path
+returns-in-Path c = rw c.in-Path.is (on_ok_weaker c.open_path.result (λ o s. opens_as (o s) refl (omega arith)) c.open_path.ensures)

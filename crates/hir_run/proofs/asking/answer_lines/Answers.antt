@@ -3,21 +3,20 @@ use Rattle.std.proofs.lemmas.Result.{err_from_is_err_and}
 use Rattle.hir_io.specs.NextLine.{untaken}
 use Rattle.hir_io.proofs.ReadLemmas.{Reads-none, Reads-more, ReadsAll-end}
 use Rattle.hir_run.proofs.AskedLemmas.{first_answered, first_left, first_fails, none_left, fails_to_read, line_answered, line_left, line_fails}
-use Rattle.hir_lines.specs.declared.line.Line.TheVariants.{Ask}
-use Rattle.hir_lines.specs.Line.{line_of}
-use Rattle.hir_run.proofs.ClosingLemmas.{line_reads_none, next_reads, reads_as}
+use Rattle.hir_lines.specs.Line.{Ask, line_of}
+use Rattle.hir_run.proofs.ClosingLemmas.{line_reads, line_reads_none, next_reads}
 use Rattle.hir_run.proofs.asking.answer_lines.Goals as goal
 
 pub returns-in_err-left-clause-asks : goal.returns-in_err-left-clause-asks
 returns-in_err-left-clause-asks g c =
     let p = err_from_is_err_and c.from_residual.result c.from_residual.ensures.1 in
     rw (p.1, p.2) (first_fails g.A.Answers.may (g.A.Answers.Is c.args.asked.now) (untaken c.args.lines.now.pending c.args.lines.now.at_end (g.R.Source.remaining c.args.reader.now)) c.args.first (g.W.Sink.contents c.args.writer.now) c.args.output.now c.args.lines.now
-    (g.R.Source.remaining c.args.reader.now) c.count.result (g.W.Sink.contents c.answer_line.new.writer) c.answer_line.new.output c.in_err-left.field-0.0 c.in_err-left.ensures.asks)
+    (g.R.Source.remaining c.args.reader.now) c.args.lines.now.count (g.W.Sink.contents c.answer_question.new.writer) c.answer_question.new.output c.in_err-left.field-0.0 (c.in_err-left.ensures.asks c.args.lines.now.count))
 
 pub returns-then-is_some-clause-asks : goal.returns-then-is_some-clause-asks
 returns-then-is_some-clause-asks g c =
     first_left g.A.Answers.may (g.A.Answers.Is c.args.asked.now) (untaken c.args.lines.now.pending c.args.lines.now.at_end (g.R.Source.remaining c.args.reader.now)) c.args.first (g.W.Sink.contents c.args.writer.now) c.args.output.now c.args.lines.now
-    (g.W.Sink.contents c.answer_line.new.writer) c.answer_line.new.output c.in_ok-left.left (sym c.is_some.ensures ∙ c.if-is_some.true) (c.in_ok-left.ensures {u = tt}).asks
+    (g.W.Sink.contents c.answer_question.new.writer) c.answer_question.new.output c.in_ok-left.left (sym c.is_some.ensures ∙ c.if-is_some.true) ((c.in_ok-left.ensures {u = tt}).asks c.args.lines.now.count)
 
 pub loop-left-init : goal.loop-left-init
 loop-left-init g c =
@@ -30,7 +29,7 @@ loop-left-init g c =
       so_far = (
         [],
         first_answered g.A.Answers.may (g.A.Answers.Is c.args.asked.now) (untaken c.args.lines.now.pending c.args.lines.now.at_end (g.R.Source.remaining c.args.reader.now)) c.args.first (g.W.Sink.contents c.args.writer.now) c.args.output.now c.args.lines.now
-            (g.W.Sink.contents c.answer_line.new.writer) c.answer_line.new.output c.in_ok-left.left (sym c.is_some.ensures ∙ c.if-is_some.false) told.asks,
+            (g.W.Sink.contents c.answer_question.new.writer) c.answer_question.new.output c.in_ok-left.left (sym c.is_some.ensures ∙ c.if-is_some.false) (told.asks c.args.lines.now.count),
         Reads-none _ _,
         omega arith,
       );
@@ -113,10 +112,15 @@ returns-clause-asks g c =
       omega (arith, so_far.3, counted),
     )
 
+pub returns-in_err-left-clause-read_failure : goal.returns-in_err-left-clause-read_failure
+returns-in_err-left-clause-read_failure g c =
+    let p = err_from_is_err_and c.from_residual.result c.from_residual.ensures.1 in
+    rw (p.1, p.2) (line_reads (g.R.Source.failed c.args.reader.now) g.A.Answers.may (g.A.Answers.Is c.args.asked.now) (Ask c.args.first) c.args.lines.now.count (g.W.Sink.contents c.args.writer.now) (g.W.Sink.contents c.answer_question.new.writer) c.args.output.now c.answer_question.new.output c.in_err-left.field-0.0 (c.in_err-left.ensures.asks c.args.lines.now.count))
+
 pub returns-in_err-left-clause-quiet : goal.returns-in_err-left-clause-quiet
 returns-in_err-left-clause-quiet g c =
     let p = err_from_is_err_and c.from_residual.result c.from_residual.ensures.1 in
-    rw (p.1, p.2) (line_reads_none _ g.A.Answers.may (g.A.Answers.Is c.args.asked.now) (Ask c.args.first) c.count.result (g.W.Sink.contents c.args.writer.now) (g.W.Sink.contents c.answer_line.new.writer) c.args.output.now c.answer_line.new.output c.in_err-left.field-0.0 c.in_err-left.ensures.asks)
+    rw (p.1, p.2) (line_reads_none _ g.A.Answers.may (g.A.Answers.Is c.args.asked.now) (Ask c.args.first) c.args.lines.now.count (g.W.Sink.contents c.args.writer.now) (g.W.Sink.contents c.answer_question.new.writer) c.args.output.now c.answer_question.new.output c.in_err-left.field-0.0 (c.in_err-left.ensures.asks c.args.lines.now.count))
 
 pub returns-in_err-next_line-clause-quiet : goal.returns-in_err-next_line-clause-quiet
 returns-in_err-next_line-clause-quiet g c =

@@ -2,14 +2,14 @@ use Rattle.std.proofs.Common.{◌≡◌, List, ℕ, Option, None, Some, Result, 
 use Rattle.std.proofs.lemmas.Result.{err_from_is_err_and}
 use Rattle.hir_io.specs.LineState.{LineState}
 use Rattle.hir_io.specs.NextLine.{untaken}
-use Rattle.hir_lines.specs.declared.line.Question.{Question}
+use Rattle.hir_lines.specs.declared.question.Question.{Question}
 use Rattle.hir_items.specs.Bodies.{body_of}
 use Rattle.hir_store.specs.Building.{building_of}
 use Rattle.hir_run.specs.declared.made.Parts.{Parts}
 use Rattle.hir_run.specs.Made.{made_of}
 use Rattle.hir_run.specs.Stages.{Builds}
 use Rattle.std.proofs.lemmas.Bool.{false≢true}
-use Rattle.hir_run.proofs.ClosingLemmas.{accept_reads_none, body_reads_none, reads_as, none_before}
+use Rattle.hir_run.proofs.ClosingLemmas.{accept_reads_none, body_reads_none, build_writes_none, reads_as, none_before}
 use Rattle.hir_run.proofs.EndingLemmas.{from_the_start}
 use Rattle.hir_run.proofs.OfLinesLemmas.{built_of_lines, of_built}
 use Rattle.hir_run.proofs.ScriptLemmas.{script_build, script_finish, script_accept, script_store_ends, script_store_done, script_body, script_body_ends, script_body_done}
@@ -173,3 +173,13 @@ new-requires g c =
     let of_lines = built_of_lines c.said_is_written.ensures known rest remaining c.build.new.lines (made_of c.build.new.made) c.in_ok-first.first builds in
     let finished : building_of c.into_parts-builder.result.builder ≡ (made_of c.build.new.made).built = ap (λ (p : Parts). building_of p.builder) c.into_parts-builder.ensures in
     of_built (building_of c.into_parts-builder.result.builder) (made_of c.build.new.made).built c.in_ok-store.store finished (c.in_ok-store.ensures {u = tt}) of_lines
+
+pub returns-in_err-first-clause-output_failed : goal.returns-in_err-first-clause-output_failed
+returns-in_err-first-clause-output_failed g c =
+    let p = err_from_is_err_and c.from_residual.result c.from_residual.ensures.1 in
+    let told = c.in_err-first.ensures {u = tt} in
+    let known = g.R.Source.remaining c.args.reader.now in
+    let rest = untaken c.build.new.lines.pending c.build.new.lines.at_end (g.R.Source.remaining c.build.new.reader) in
+    let remaining = g.R.Source.remaining c.build.new.reader in
+    let builds = from_the_start c.args.lines.now known rest remaining c.build.new.lines (made_of c.build.new.made) (Err c.in_err-first.field-0.0) c.requires.fresh told.builds in
+    rw (p.1, p.2) (ap g.W.Sink.failed told.still_quiet.1 ∙ c.requires.writing ∙ sym (build_writes_none (Unit {0}) known rest remaining c.build.new.lines (made_of c.build.new.made) c.in_err-first.field-0.0 builds))

@@ -1,0 +1,169 @@
+-- What a run of calls leaves of the visitor that notes parents, and what the visits of several nodes leave.
+use Rattle.std.proofs.Common.{◌≡◌, ℕ, ◌+◌, ◌<◌, ◌≤◌, Bool, true, false, ◌&&◌, List, [], ◌∷◌, ◌++◌, Option, Some, None, length, map, take, get_or, refl, ap, sym, ◌∙◌, subst, append_assoc, arith}
+use Rattle.std.specs.Prelude.{IfNone, IsTrue, nat_lt}
+use Rattle.std.specs.List.{list_all}
+use Rattle.std.specs.Cmp.{first_so}
+use Rattle.std.proofs.lemmas.Bool.{ltb-true}
+use Rattle.std.proofs.lemmas.List.{append-nil, map-append, length-append, length-map, map_more}
+use Rattle.hir_forest.specs.Rows.{with_kids}
+use Rattle.hir_forest.specs.Parents.{Parentage, IsParentageOf}
+use Rattle.hir_forest.proofs.RowsLemmas.{with_kids-more, with_kids-fresh}
+use Rattle.hir_forest.proofs.ParentLemmas.{with_kids-nothing}
+use Rattle.hir_node.specs.ChildCalls.{Call, kid, kids}
+use Rattle.hir_node.specs.Runs.{Runs, no_call, a_call, MayRun, at_end, at_call}
+use Rattle.hir_faults.specs.declared.edges.EdgeVisitor.{EdgeVisitor}
+use Rattle.hir_faults.specs.declared.sizes.Sizes.{Sizes}
+use Rattle.hir_faults.specs.Sizes.{Few, is_there, place, places}
+use Rattle.hir_faults.specs.Tested.{Tested, tested_expr, tested_pat, tested_type}
+use Rattle.hir_faults.specs.Nodes.{Nodes, sizes_of, graph}
+use Rattle.hir_faults.specs.Edges.{HasRoom, CanNote, Noted, Notes, CanVisit, Visited, all_tested}
+use Rattle.hir_faults.proofs.RangeLemmas.{and_true, and_assoc}
+use Rattle.hir_faults.proofs.FaultLemmas.{map-map, graph-is}
+
+pub and_false : (b : Bool) → false ≡ (b && false)
+and_false true = refl
+and_false false = refl
+
+-- nothing more
+pub noted_none : (v : EdgeVisitor) → Noted v true [] v
+noted_none v = record {
+  sizes = refl;
+  room = refl;
+  rows = refl;
+  there = and_true v.all_there;
+  kids = λ t g h. subst (λ (rows : List (List ℕ)). IsParentageOf rows v.parents) (with_kids-nothing g) h;
+}
+
+-- in two parts
+pub noted_both : (u v w : EdgeVisitor) (a b : Bool) (xs ys : List ℕ) → Noted u a xs v → Noted v b ys w → Noted u (a && b) (xs ++ ys) w
+noted_both u v w a b xs ys p q = record {
+  sizes = q.sizes ∙ p.sizes;
+  room = q.room ∙ p.room;
+  rows = q.rows ∙ p.rows;
+  there = q.there ∙ (rw p.there (and_assoc u.all_there a b));
+  kids = λ t g h.
+      let before : IsTrue v.all_there = first_so _ _ (sym q.there ∙ t) in
+      subst (λ (rows : List (List ℕ)). IsParentageOf rows w.parents) (with_kids-more g xs ys) (q.kids t (with_kids g xs) (p.kids before g h));
+}
+
+places_more : (sizes : Sizes) (c : Call) (calls : List Call) → places sizes (c ∷ []) ++ places sizes calls ≡ places sizes (c ∷ calls)
+places_more sizes c calls =
+    ap (λ front. map (place sizes) front ++ map (place sizes) (kids calls)) (append-nil (kid c))
+    ∙ sym (map-append (place sizes) (kid c) (kids calls))
+
+-- each call is noted
+pub noted_all : {v w : EdgeVisitor} {calls : List Call} → Runs Notes v calls w → Noted v (list_all (is_there v.sizes) calls) (places v.sizes calls) w
+noted_all {v} no_call = noted_none v
+noted_all {v} {w} (a_call {v = x} {c} {cs} s rest) =
+    let more : Noted x (list_all (is_there v.sizes) cs) (places v.sizes cs) w = subst (λ (z : Sizes). Noted x (list_all (is_there z) cs) (places z cs) w) s.sizes (noted_all rest) in
+    subst (λ (ps : List ℕ). Noted v (list_all (is_there v.sizes) (c ∷ cs)) ps w) (places_more v.sizes c cs)
+    (noted_both v x w (is_there v.sizes c) (list_all (is_there v.sizes) cs) (places v.sizes (c ∷ [])) (places v.sizes cs) s more)
+
+-- there stays room and a row
+room_still : (v w : EdgeVisitor) → w.sizes ≡ v.sizes → length w.parents.parents ≡ length v.parents.parents → HasRoom v → HasRoom w
+room_still v w sizes room has = record {
+  few = subst Few (sym sizes) has.few;
+  nodes = room ∙ has.nodes ∙ ap (λ (z : Sizes). z.exprs + z.pats + z.types) (sym sizes);
+}
+
+can_still : (v w : EdgeVisitor) (there : Bool) (kids : List ℕ) → CanNote v → Noted v there kids w → CanNote w
+can_still v w there kids can p = (room_still v w p.sizes p.room can.0, let some = can.1 in let rows = p.rows in omega arith)
+
+pub may_note : (may : EdgeVisitor → Call → Type 0) → ((v : EdgeVisitor) (c : Call) → CanNote v → may v c) → (calls : List Call) (v : EdgeVisitor) → CanNote v → MayRun may Notes v calls
+may_note may can [] v h = at_end
+may_note may can (c ∷ calls) v h = at_call (can v c h) (λ w s. may_note may can calls w (can_still v w (is_there v.sizes c) (places v.sizes (c ∷ [])) h s))
+
+-- a row is begun for a node, and its calls are noted
+pub visited_one : (v b w : EdgeVisitor) (x : Tested) → IsTrue v.all_there
+    → b.sizes ≡ v.sizes → b.all_there ≡ v.all_there → b.parents.rows ≡ v.parents.rows + 1 → length b.parents.parents ≡ length v.parents.parents
+    → ((g : List (List ℕ)) → IsParentageOf g v.parents → IsParentageOf (g ++ [] ∷ []) b.parents)
+    → Noted b (list_all (is_there v.sizes) x.calls) (places v.sizes x.calls) w → IsTrue w.all_there → Visited v (x ∷ []) w
+visited_one v b w x good sizes same rows room begun p t = record {
+  sizes = p.sizes ∙ sizes;
+  room = p.room ∙ room;
+  rows = p.rows ∙ rows;
+  there = t;
+  kids = λ g h. subst (λ (more : List (List ℕ)). IsParentageOf more w.parents) (with_kids-fresh g (places v.sizes x.calls)) (p.kids t (g ++ [] ∷ []) (begun g h));
+}
+
+-- visits in two parts
+pub visited_none : (v : EdgeVisitor) → IsTrue v.all_there → Visited v [] v
+visited_none v t = record {
+  sizes = refl;
+  room = refl;
+  rows = omega arith;
+  there = t;
+  kids = λ g h. subst (λ (more : List (List ℕ)). IsParentageOf more v.parents) (sym (append-nil g)) h;
+}
+
+pub visited_both : (u v w : EdgeVisitor) (xs ys : List Tested) → Visited u xs v → Visited v ys w → Visited u (xs ++ ys) w
+visited_both u v w xs ys p q = record {
+  sizes = q.sizes ∙ p.sizes;
+  room = q.room ∙ p.room;
+  rows = omega (arith, p.rows, q.rows, length-append xs ys);
+  there = q.there;
+  kids = λ g h.
+      let row : Sizes → Tested → List ℕ = λ z x. places z x.calls in
+      let first = p.kids g h in
+      let second : IsParentageOf ((g ++ map (row u.sizes) xs) ++ map (row u.sizes) ys) w.parents =
+      subst (λ (z : Sizes). IsParentageOf ((g ++ map (row u.sizes) xs) ++ map (row z) ys) w.parents) p.sizes (q.kids (g ++ map (row u.sizes) xs) first) in
+      subst (λ (more : List (List ℕ)). IsParentageOf more w.parents) (append_assoc g (map (row u.sizes) xs) (map (row u.sizes) ys) ∙ ap (λ (more : List (List ℕ)). g ++ more) (sym (map-append (row u.sizes) xs ys))) second;
+}
+
+-- there is room for those that are left
+pub can_visit_on : (v w : EdgeVisitor) (xs : List Tested) (n m : ℕ) → CanVisit v n → Visited v xs w → length xs + m ≤ n → CanVisit w m
+can_visit_on v w xs n m can p le = record {
+  room = room_still v w p.sizes p.room can.room;
+  there = p.there;
+  rows = omega (arith, p.rows, p.room, can.rows);
+}
+
+pub can_visit_less : (v : EdgeVisitor) (n m : ℕ) → CanVisit v n → m ≤ n → CanVisit v m
+can_visit_less v n m can le = record { room = can.room; there = can.there; rows = omega (arith, can.rows) }
+
+pub if_none : {X : Type 0} (o : Option X) (P : Type 0) → P → IfNone o P
+if_none None P p = p
+if_none (Some x) P p = tt
+
+-- the places of what is there
+pub expr_within : (v : EdgeVisitor) → CanNote v → (n : ℕ) → IsTrue (nat_lt n v.sizes.exprs) → n < length v.parents.parents
+expr_within v can n t = let lt = ltb-true n v.sizes.exprs t in omega (arith, can.0.nodes)
+
+pub pat_within : (v : EdgeVisitor) → CanNote v → (n : ℕ) → IsTrue (nat_lt n v.sizes.pats) → v.sizes.exprs + n < length v.parents.parents
+pat_within v can n t = let lt = ltb-true n v.sizes.pats t in omega (arith, can.0.nodes)
+
+pub type_within : (v : EdgeVisitor) → CanNote v → (n : ℕ) → IsTrue (nat_lt n v.sizes.types) → v.sizes.exprs + v.sizes.pats + n < length v.parents.parents
+type_within v can n t = let lt = ltb-true n v.sizes.types t in omega (arith, can.0.nodes)
+
+-- nothing but a test
+pub noted_test : (v w : EdgeVisitor) (b : Bool) → w.sizes ≡ v.sizes → w.parents ≡ v.parents → w.all_there ≡ (v.all_there && b) → Noted v b [] w
+noted_test v w b sizes parents there = record {
+  sizes = sizes;
+  room = ap (λ (t : Parentage). length t.parents) parents;
+  rows = ap (λ (t : Parentage). t.rows) parents;
+  there = there;
+  kids = λ t g h. subst (λ (rows : List (List ℕ)). IsParentageOf rows w.parents) (with_kids-nothing g) (subst (IsParentageOf g) (sym parents) h);
+}
+
+-- the rows of all nodes are the graph
+pub all_rows : (s : Nodes) → map (λ x. places (sizes_of s) x.calls) (all_tested s) ≡ graph s
+all_rows s =
+    let row : Tested → List ℕ = λ x. places (sizes_of s) x.calls in
+    map-append row (map tested_expr s.exprs ++ map tested_pat s.pats) (map tested_type s.types)
+    ∙ (rw (
+      map-append row (map tested_expr s.exprs) (map tested_pat s.pats),
+      map-map row tested_expr s.exprs,
+      map-map row tested_pat s.pats,
+      map-map row tested_type s.types,
+    ) (sym (graph-is s)))
+
+pub all_count : (s : Nodes) → length (all_tested s) ≡ length s.exprs + length s.pats + length s.types
+all_count s = rw (length-append, length-append, length-map, length-map, length-map) refl
+
+-- one node more
+pub tested_more : {X : Type 0} (parts : X → Tested) (xs : List X) (i : ℕ) (x : X) → i < length xs → x ≡ get_or xs i x → map parts (take i xs) ++ parts x ∷ [] ≡ map parts (take (i + 1) xs)
+tested_more parts xs i x lt is = ap (λ (y : Tested). map parts (take i xs) ++ y ∷ []) (ap parts is) ∙ sym (map_more parts xs i x lt)
+
+pub if_none_so : {X : Type 0} (o : Option X) (P Q : Type 0) → (P → Q) → IfNone o P → IfNone o Q
+if_none_so None P Q f p = f p
+if_none_so (Some x) P Q f p = tt

@@ -1,0 +1,47 @@
+-- What the calls of the visitor leave that tests the ids of a node and notes the node as the parent of its kids.
+use Rattle.std.specs.Prelude.{◌≡◌, ◌+◌, ◌<◌, ◌≤◌, ◌&&◌, ℕ, Bool, List, [], ◌∷◌, ◌++◌, IsTrue, length, map}
+use Rattle.hir_forest.specs.Rows.{with_kids}
+use Rattle.hir_forest.specs.Parents.{IsParentageOf}
+use Rattle.hir_node.specs.ChildCalls.{Call}
+use Rattle.hir_faults.specs.declared.edges.EdgeVisitor.{EdgeVisitor}
+use Rattle.hir_faults.specs.Sizes.{Few, is_there, places}
+use Rattle.hir_faults.specs.Tested.{Tested, tested_expr, tested_pat, tested_type}
+use Rattle.hir_faults.specs.Nodes.{Nodes}
+
+-- there is room for the nodes of the three sorts
+pub record HasRoom (v : EdgeVisitor) : Type 0 where
+  pub few : Few v.sizes
+  pub nodes : length v.parents.parents ≡ v.sizes.exprs + v.sizes.pats + v.sizes.types
+
+-- and a row was begun
+abbrev pub CanNote : EdgeVisitor → Type 0
+CanNote v = HasRoom v × (0 < v.parents.rows)
+
+-- it knows whether these ids are there too, and where all are, the last row has these kids more
+pub record Noted (v : EdgeVisitor) (are_there : Bool) (new_kids : List ℕ) (w : EdgeVisitor) : Type 0 where
+  pub sizes : w.sizes ≡ v.sizes
+  pub room : length w.parents.parents ≡ length v.parents.parents
+  pub rows : w.parents.rows ≡ v.parents.rows
+  pub there : w.all_there ≡ (v.all_there && are_there)
+  pub kids : IsTrue w.all_there → (g : List (List ℕ)) → IsParentageOf g v.parents → IsParentageOf (with_kids g new_kids) w.parents
+
+abbrev pub Notes : EdgeVisitor → Call → EdgeVisitor → Type 0
+Notes v c w = Noted v (is_there v.sizes c) (places v.sizes (c ∷ [])) w
+
+-- each id so far is there, and there is room for so many rows more
+pub record CanVisit (v : EdgeVisitor) (count : ℕ) : Type 0 where
+  pub room : HasRoom v
+  pub there : IsTrue v.all_there
+  pub rows : v.parents.rows + count ≤ length v.parents.parents
+
+-- these nodes were visited too, and each id that they name is there: each has its row
+pub record Visited (v : EdgeVisitor) (nodes : List Tested) (w : EdgeVisitor) : Type 0 where
+  pub sizes : w.sizes ≡ v.sizes
+  pub room : length w.parents.parents ≡ length v.parents.parents
+  pub rows : w.parents.rows ≡ v.parents.rows + length nodes
+  pub there : IsTrue w.all_there
+  pub kids : (g : List (List ℕ)) → IsParentageOf g v.parents → IsParentageOf (g ++ map (λ x. places v.sizes x.calls) nodes) w.parents
+
+-- all nodes: the expressions, then the patterns, then the types
+abbrev pub all_tested : Nodes → List Tested
+all_tested s = map tested_expr s.exprs ++ map tested_pat s.pats ++ map tested_type s.types

@@ -1,0 +1,64 @@
+-- The parents of a graph's nodes, as far as its rows have been read, and the chains of parents.
+use Rattle.std.specs.Prelude.{◌≡◌, ℕ, zero, suc, ◌≤◌, ◌↔◌, Bool, List, Option, Some, None, map, length, slice_index_or}
+use Rattle.std.specs.List.{concat}
+use Rattle.hir_forest.specs.declared.parent_table.Numbers.{Numbers}
+use Rattle.hir_forest.specs.declared.parent_table.Numbers.TheVariants.{Narrow, Wide}
+use Rattle.hir_forest.specs.declared.roots.ForestFault.{ForestFault}
+use Rattle.hir_forest.specs.declared.roots.ForestFault.TheVariants.{SharedChild}
+use Rattle.hir_forest.specs.Verdict.{first_below}
+use Rattle.hir_forest.specs.Forest.{IsKid, Climbs, Marks}
+use Rattle.hir_forest.specs.Faults.{edge_fault}
+
+-- the parent that a number of the table stands for: 0 stands for none
+abbrev pub parent_of : ℕ → Option ℕ
+parent_of zero = None
+parent_of (suc p) = Some p
+
+abbrev pub parents_in : Numbers → List (Option ℕ)
+parents_in (Narrow numbers) = map parent_of numbers.items
+parents_in (Wide numbers) = map parent_of numbers.items
+
+-- each number is one more than a node's, or 0
+abbrev pub NameNodes : List ℕ → Type 0
+NameNodes numbers = (n : ℕ) → slice_index_or numbers n 0 ≤ length numbers
+
+abbrev pub AreSound : Numbers → Type 0
+AreSound (Narrow numbers) = (length numbers.items ≤ 4294967295) × NameNodes numbers.items
+AreSound (Wide numbers) = NameNodes numbers.items
+
+-- the node has this parent
+abbrev pub HasParent : List (Option ℕ) → ℕ → ℕ → Type 0
+HasParent parents c p = slice_index_or parents c None ≡ Some p
+
+-- each node of the graph has the parent whose kid it is
+pub record HasParents (g : List (List ℕ)) (parents : List (Option ℕ)) : Type 0 where
+  pub nodes : length parents ≡ length g
+  pub kids : (c p : ℕ) → HasParent parents c p ↔ IsKid g p c
+
+-- so many rows of a graph, the parents of its nodes, and the child of the first edge that leads to the child of an earlier one
+pub record Parentage : Type 0 where
+  pub rows : ℕ
+  pub parents : List (Option ℕ)
+  pub shared : Option ℕ
+
+abbrev pub shared_fault : Option ℕ → Option ForestFault
+shared_fault None = None
+shared_fault (Some child) = Some (SharedChild child)
+
+-- it is that of the graph with these rows; where a child is shared, the parents say nothing
+pub record IsParentageOf (g : List (List ℕ)) (t : Parentage) : Type 0 where
+  pub rows : t.rows ≡ length g
+  pub shared : first_below (length (concat g)) (edge_fault (concat g)) (shared_fault t.shared)
+  pub parents : t.shared ≡ None → (c p : ℕ) → HasParent t.parents c p ↔ IsKid g p c
+
+-- r is on the chain of parents from c, which begins with c
+abbrev pub IsOnChain : List (List ℕ) → ℕ → ℕ → Type 0
+IsOnChain g c r = (k : ℕ) × Climbs g k c r
+
+-- a marked node is on the chain of parents from c
+abbrev pub MeetsMarked : List (List ℕ) → List Bool → ℕ → Type 0
+MeetsMarked g marked c = (r : ℕ) × Marks marked r × IsOnChain g c r
+
+-- no marked node is on the chain of a node that is clear
+abbrev pub AreClear : List (List ℕ) → List Bool → List Bool → Type 0
+AreClear g marked clear = (c : ℕ) → Marks clear c → MeetsMarked g marked c → ⊥

@@ -1,0 +1,117 @@
+//! Chains of parents: whether the chain from a node ends, and whether a listed node is on it. What is found out of a chain
+//! is marked on its way, so that all nodes together take no more steps than there are nodes.
+
+ghost use Rattle.std.specs.Prelude.{◌≡◌, ◌⊎◌, ℕ, ◌<◌, ◌↔◌, Bool, List, [], length, IsTrue, IsFalse};
+ghost use Rattle.hir_forest.specs.Verdict.{first_below};
+ghost use Rattle.hir_forest.specs.Forest.{ChainEnds, LiesUnderMarked, Marks, MarksAll};
+ghost use Rattle.hir_forest.specs.Faults.{cycle_fault};
+ghost use Rattle.hir_forest.specs.Parents.{HasParents, IsOnChain, MeetsMarked, AreClear};
+
+use crate::ForestFault;
+use crate::parent_table::ParentTable;
+
+/// Whether the chain of parents from a node ends, if the chains of all marked nodes do.
+fn chain_ends(parents: &ParentTable, ends: &[bool], node: usize) -> bool
+    requires node { node < length parents.now }
+    requires nodes { length ends.now ≡ length parents.now }
+    ensures { (g : List (List ℕ)) → HasParents g parents.now
+        → ((c : ℕ) → Marks ends.now c → ChainEnds g c) → IsTrue result ↔ ChainEnds g node }
+{
+    let mut at = node;
+    // A chain that ends has fewer steps than there are nodes.
+    for _ in 0..parents.len() {
+        if ends[at] {
+            return true;
+        }
+        match parents.parent(at) {
+            Some(parent) => at = parent,
+            None => return true,
+        }
+    }
+    false
+}
+
+/// Marks the chain of parents from a node up to the first node that is marked already.
+fn mark_chain(parents: &ParentTable, marked: &mut [bool], node: usize)
+    requires node { node < length parents.now }
+    requires nodes { length marked.old ≡ length parents.now }
+    ensures node { Marks marked.new node }
+    ensures stays { (c : ℕ) → Marks marked.old c → Marks marked.new c }
+    ensures fresh { (g : List (List ℕ)) → HasParents g parents.now
+        → (c : ℕ) → Marks marked.new c → Marks marked.old c ⊎ IsOnChain g node c }
+{
+    let mut at = node;
+    while !marked[at] {
+        marked[at] = true;
+        match parents.parent(at) {
+            Some(parent) => at = parent,
+            None => return,
+        }
+    }
+}
+
+/// The least node whose chain of parents doesn't end.
+pub(crate) fn first_cycle(parents: &ParentTable, ends: &mut [bool]) -> Option<ForestFault>
+    requires nodes { length ends.old ≡ length parents.now }
+    requires none { MarksAll ends.old [] }
+    ensures { (g : List (List ℕ)) → HasParents g parents.now
+        → first_below (length g) (cycle_fault (ChainEnds g)) result }
+{
+    for node in 0..parents.len() {
+        if !chain_ends(parents, ends, node) {
+            return Some(ForestFault::Cycle(node));
+        }
+        mark_chain(parents, ends, node);
+    }
+    None
+}
+
+/// Whether a listed node is on the chain of parents from a node, if none is on the chains of nodes that are clear.
+fn meets_listed(parents: &ParentTable, listed: &[bool], clear: &[bool], node: usize) -> bool
+    requires node { node < length parents.now }
+    requires listed { length listed.now ≡ length parents.now }
+    requires clear { length clear.now ≡ length parents.now }
+    ensures { (g : List (List ℕ)) → HasParents g parents.now → ChainEnds g node
+        → AreClear g listed.now clear.now → IsTrue result ↔ MeetsMarked g listed.now node }
+{
+    let mut at = node;
+    for _ in 0..parents.len() {
+        if listed[at] {
+            return true;
+        }
+        if clear[at] {
+            return false;
+        }
+        match parents.parent(at) {
+            Some(parent) => at = parent,
+            None => return false,
+        }
+    }
+    false
+}
+
+/// Whether a node is properly under a listed one. If it isn't, the nodes above it become clear.
+pub(crate) fn is_under(
+    parents: &ParentTable,
+    listed: &[bool],
+    clear: &mut [bool],
+    node: usize,
+) -> bool
+    requires node { node < length parents.now }
+    requires listed { length listed.now ≡ length parents.now }
+    requires clear { length clear.old ≡ length parents.now }
+    ensures under { (g : List (List ℕ)) → HasParents g parents.now → ChainEnds g node
+        → AreClear g listed.now clear.old → IsTrue result ↔ LiesUnderMarked g listed.now node }
+    ensures clear { (g : List (List ℕ)) → HasParents g parents.now → ChainEnds g node
+        → AreClear g listed.now clear.old → IsFalse result → AreClear g listed.now clear.new }
+{
+    let parent = match parents.parent(node) {
+        Some(parent) => parent,
+        None => return false,
+    };
+    if meets_listed(parents, listed, clear, parent) {
+        return true;
+    }
+    mark_chain(parents, clear, parent);
+    false
+}

@@ -1,0 +1,91 @@
+//! The parent of each node of a graph, in 32 bits a node where there are few enough of them.
+
+ghost use Rattle.std.specs.Prelude.{◌≡◌, ◌<◌, None, Some, length, replicate, IfOk, IfSome, slice_index_or, set};
+ghost use Rattle.hir_forest.specs.Parents.{parent_of};
+
+use std::alloc::{AllocError, Global};
+use std::marker::Model;
+
+/// A number for each node: 0 where it has no parent, else one more than its parent.
+#[derive(Drop)]
+enum Numbers {
+    Narrow(Vec<u32>),
+    Wide(Vec<usize>),
+}
+
+/// The parent of each node that has one. It is seen as the list of the nodes' parents.
+#[derive(Drop)]
+pub(crate) struct ParentTable {
+    numbers: Numbers,
+}
+
+impl Model for ParentTable {
+    ghost use Rattle.std.specs.Prelude.{ℕ, List, Option};
+    ghost use Rattle.hir_forest.specs.Parents.{parents_in, AreSound};
+
+    ghost Value = { List (Option ℕ) };
+
+    ghost view = { λ t. parents_in t.numbers };
+
+    ghost invariant = { λ t. AreSound t.numbers };
+}
+
+impl ParentTable {
+    /// So many nodes, none of which has a parent.
+    pub(crate) fn new(alloc: Global, nodes: usize) -> Result<ParentTable, AllocError>
+        ensures { IfOk result (λ table. table ≡ replicate nodes None) }
+    {
+        if nodes <= u32::MAX as usize {
+            return Ok(ParentTable {
+                numbers: Numbers::Narrow(vec![in alloc; 0; nodes]?),
+            });
+        }
+        Ok(ParentTable {
+            numbers: Numbers::Wide(vec![in alloc; 0; nodes]?),
+        })
+    }
+
+    /// The number of nodes.
+    pub(crate) fn len(&self) -> usize
+        ensures { result ≡ length self.now }
+    {
+        match &self.numbers {
+            Numbers::Narrow(numbers) => numbers.len(),
+            Numbers::Wide(numbers) => numbers.len(),
+        }
+    }
+
+    /// The parent of a node.
+    pub(crate) fn parent(&self, node: usize) -> Option<usize>
+        requires { node < length self.now }
+        ensures parent { result ≡ slice_index_or self.now node None }
+        ensures within { IfSome result (λ p. p < length self.now) }
+    {
+        match &self.numbers {
+            Numbers::Narrow(numbers) => node_of(numbers[node] as usize),
+            Numbers::Wide(numbers) => node_of(numbers[node]),
+        }
+    }
+
+    /// Makes one node the parent of another.
+    pub(crate) fn set_parent(&mut self, node: usize, parent: usize)
+        requires node { node < length self.old }
+        requires parent { parent < length self.old }
+        ensures { self.new ≡ set self.old node (Some parent) }
+    {
+        match &mut self.numbers {
+            Numbers::Narrow(numbers) => numbers[node] = (parent + 1) as u32,
+            Numbers::Wide(numbers) => numbers[node] = parent + 1,
+        }
+    }
+}
+
+/// The node that a number of the table stands for.
+fn node_of(number: usize) -> Option<usize>
+    ensures { result ≡ parent_of number }
+{
+    if number == 0 {
+        return None;
+    }
+    Some(number - 1)
+}

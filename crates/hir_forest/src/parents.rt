@@ -1,0 +1,102 @@
+//! The parents of a graph's nodes, noted edge by edge: the first child that is shared shows at once, and no kids are kept.
+//! Rows are begun one after the other, and kids added to the last, as in the table of rows.
+
+ghost use Rattle.std.specs.Prelude.{◌≡◌, ℕ, ◌+◌, ◌<◌, List, [], ◌∷◌, ◌++◌, length, All, IfOk};
+ghost use Rattle.std.specs.List.{concat};
+ghost use Rattle.hir_forest.specs.Rows.{with_kids};
+ghost use Rattle.hir_forest.specs.Parents.{IsParentageOf};
+
+use crate::Rows;
+use crate::parent_table::ParentTable;
+use std::alloc::{AllocError, Global};
+use std::marker::Model;
+
+/// The parents of a graph's nodes, as far as its rows have been read, and the first child that is shared. A node costs 4 bytes,
+/// or 8 where there are more than `u32::MAX` nodes.
+#[derive(Drop)]
+pub struct Parents {
+    pub(crate) table: ParentTable,
+    rows: usize,
+    pub(crate) shared: Option<usize>,
+}
+
+impl Model for Parents {
+    ghost use Rattle.std.specs.Prelude.{◌≤◌, length};
+    ghost use Rattle.hir_forest.specs.Parents.{Parentage};
+
+    ghost Value = { Parentage };
+
+    ghost view = { λ p. record { rows = p.rows; parents = p.table; shared = p.shared } };
+
+    ghost invariant = { λ p. (p.rows ≤ length p.table) × (length p.table ≤ 18446744073709551615) };
+}
+
+impl Parents {
+    /// The parents of so many nodes, before the first row.
+    ///
+    /// `AllocError` only if memory for the table is refused.
+    pub fn new(alloc: Global, nodes: usize) -> Result<Parents, AllocError>
+        ensures none { IfOk result (λ parents. IsParentageOf [] parents) }
+        ensures room { IfOk result (λ parents. length parents.parents ≡ nodes) }
+    {
+        Ok(Parents {
+            table: ParentTable::new(alloc, nodes)?,
+            rows: 0,
+            shared: None,
+        })
+    }
+
+    /// Begins the row of the next node, which must be one of those that there is room for.
+    pub fn begin_row(&mut self)
+        requires { self.old.rows < length self.old.parents }
+        ensures noted { (g : List (List ℕ)) → IsParentageOf g self.old → IsParentageOf (g ++ [] ∷ []) self.new }
+        ensures rows { self.new.rows ≡ self.old.rows + 1 }
+        ensures room { length self.new.parents ≡ length self.old.parents }
+    {
+        self.rows += 1;
+    }
+
+    /// Adds a kid at the end of the last row. There must be a row, and the kid must be one of the nodes.
+    pub fn push_kid(&mut self, kid: usize)
+        requires some { 0 < self.old.rows }
+        requires within { kid < length self.old.parents }
+        ensures noted { (g : List (List ℕ)) → IsParentageOf g self.old
+            → IsParentageOf (with_kids g (kid ∷ [])) self.new }
+        ensures rows { self.new.rows ≡ self.old.rows }
+        ensures room { length self.new.parents ≡ length self.old.parents }
+    {
+        if self.table.parent(kid).is_some() {
+            self.shared = self.shared.or(Some(kid));
+            return;
+        }
+        self.table.set_parent(kid, self.rows - 1);
+    }
+}
+
+/// The parents of the nodes of a graph.
+pub(crate) fn parents_of(alloc: Global, rows: &Rows) -> Result<Parents, AllocError>
+    requires { All (λ c. c < length rows.now) (concat rows.now) }
+    ensures noted { IfOk result (λ parents. IsParentageOf rows.now parents) }
+    ensures room { IfOk result (λ parents. length parents.parents ≡ length rows.now) }
+{
+    let mut parents = Parents::new(alloc, rows.len())?;
+    for node in 0..rows.len() {
+        parents.begin_row();
+        add_kids(&mut parents, rows.row(node));
+    }
+    Ok(parents)
+}
+
+/// Adds kids at the end of the last row.
+fn add_kids(parents: &mut Parents, kids: &[usize])
+    requires some { 0 < parents.old.rows }
+    requires within { All (λ c. c < length parents.old.parents) kids.now }
+    ensures noted { (g : List (List ℕ)) → IsParentageOf g parents.old
+        → IsParentageOf (with_kids g kids.now) parents.new }
+    ensures rows { parents.new.rows ≡ parents.old.rows }
+    ensures room { length parents.new.parents ≡ length parents.old.parents }
+{
+    for kid in kids {
+        parents.push_kid(*kid);
+    }
+}
