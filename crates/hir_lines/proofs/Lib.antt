@@ -5,6 +5,7 @@ pub mod Digits
 pub mod Expressions
 pub mod Forms
 pub mod Fronts
+pub mod InPlace
 pub mod Integers
 pub mod Keywords
 pub mod Patterns

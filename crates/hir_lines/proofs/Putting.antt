@@ -19,7 +19,7 @@ abbrev pub HasBytes : ℕ → List ℕ → List ℕ → Type 0
 HasBytes i xs [] = Unit {0}
 HasBytes i xs (y ∷ ys) = (get_or xs i 0 ≡ y) × HasBytes (suc i) xs ys
 
-behind_first : (ys : List ℕ) (i x : ℕ) (xs : List ℕ) → HasBytes (suc i) (x ∷ xs) ys → HasBytes i xs ys
+pub behind_first : (ys : List ℕ) (i x : ℕ) (xs : List ℕ) → HasBytes (suc i) (x ∷ xs) ys → HasBytes i xs ys
 behind_first [] i x xs has = tt
 behind_first (y ∷ ys) i x xs has = (has.0, behind_first ys (suc i) x xs has.1)
 

@@ -2,7 +2,7 @@
 
 ghost use Rattle.std.specs.Prelude.{IfOk, ◌≡◌};
 ghost use Rattle.hir_lines.specs.Makers as make;
-ghost use Rattle.hir_lines.specs.Readings.{gives};
+ghost use Rattle.hir_lines.specs.Readings.{gives, parts_of, space};
 ghost use Rattle.hir_lines.specs.Taking.{Puts};
 ghost use Rattle.hir_lines.specs.Exprs.{expr, path_expr, int_expr, call_expr, tuple_expr, array_expr, repeat_expr, ref_expr, bin_expr, let_expr, if_expr, loop_expr, assign_expr, const_expr, match_expr, closure_expr, block_expr, untyped};
 
@@ -16,9 +16,21 @@ use hir_node::{
 };
 use std::alloc::{AllocError, Global};
 
+/// Makes the expression of the text behind `expr`. Most are paths, which are looked for first.
+#[inline(always)]
+pub fn expr_of<B: Builder>(alloc: Global, text: &[u8], builder: &mut B) -> Result<(), Stop>
+    ensures { Puts B.add make.Expr expr (parts_of space text.now) builder.old builder.new result }
+{
+    match text {
+        [b'p', b'a', b't', b'h', b' ', name @ ..] => {
+            path(alloc, &mut Words::new(name, b' '), builder)
+        }
+        _ => expr(alloc, &mut Words::new(text, b' '), builder),
+    }
+}
+
 /// Makes the expression of the words behind `expr`.
 #[tactic(auto, unfolding(crate::specs::Exprs::expr))]
-#[inline(always)]
 pub fn expr<B: Builder>(alloc: Global, words: &mut Words<'_>, builder: &mut B) -> Result<(), Stop>
     ensures { Puts B.add make.Expr expr words.old builder.old builder.new result }
 {

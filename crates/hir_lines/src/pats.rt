@@ -1,7 +1,7 @@
 //! The patterns that lines make.
 
 ghost use Rattle.hir_lines.specs.Makers as make;
-ghost use Rattle.hir_lines.specs.Readings.{gives};
+ghost use Rattle.hir_lines.specs.Readings.{gives, parts_of, space};
 ghost use Rattle.hir_lines.specs.Taking.{Puts};
 ghost use Rattle.hir_lines.specs.Pats.{pat, bind_pat, tuple_pat, or_pat, tuple_struct_pat, range_pat, lit_pat, expr_pat};
 
@@ -12,9 +12,19 @@ use hir_base::RangeOp;
 use hir_node::Pat;
 use std::alloc::Global;
 
+/// Makes the pattern of the text behind `pat`. Most are bindings, which are looked for first.
+#[inline(always)]
+pub fn pat_of<B: Builder>(alloc: Global, text: &[u8], builder: &mut B) -> Result<(), Stop>
+    ensures { Puts B.add make.Pat pat (parts_of space text.now) builder.old builder.new result }
+{
+    match text {
+        [b'b', b'i', b'n', b'd', b' ', ids @ ..] => bind(&mut Words::new(ids, b' '), builder),
+        _ => pat(alloc, &mut Words::new(text, b' '), builder),
+    }
+}
+
 /// Makes the pattern of the words behind `pat`.
 #[tactic(auto, unfolding(crate::specs::Pats::pat))]
-#[inline(always)]
 pub fn pat<B: Builder>(alloc: Global, words: &mut Words<'_>, builder: &mut B) -> Result<(), Stop>
     ensures { Puts B.add make.Pat pat words.old builder.old builder.new result }
 {

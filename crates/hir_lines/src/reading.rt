@@ -12,8 +12,8 @@ ghost use Rattle.hir_lines.specs.Types.{type_ref};
 ghost use Rattle.hir_lines.specs.Words.{name, number};
 
 use crate::builder::Builder;
-use crate::exprs::expr;
-use crate::pats::pat;
+use crate::exprs::{expr, expr_of};
+use crate::pats::{pat, pat_of};
 use crate::question::{BodyQuestion, Question, StoreQuestion};
 use crate::stop::Stop;
 use crate::types::type_ref;
@@ -192,7 +192,6 @@ fn asks(outcome: Result<Question, Stop>) -> Result<Option<Question>, Stop>
 
 /// Takes the words of a line.
 #[tactic(auto, unfolding(crate::specs::Line::command))]
-#[inline(always)]
 fn command<B: Builder>(
     alloc: Global,
     words: &mut Words<'_>,
@@ -227,11 +226,16 @@ fn command<B: Builder>(
 fn line<B: Builder>(alloc: Global, text: &[u8], builder: &mut B) -> Result<Option<Question>, Stop>
     ensures { Takes B.add (line_of text.now) builder.old builder.new result }
 {
-    if text.is_empty() {
-        return Ok(None);
+    match text {
+        [] => Ok(None),
+        // Nearly all lines begin with one of these. They are compared with the text in place, before a first word is looked for.
+        [b'e', b'x', b'p', b'r', b' ', rest @ ..] => makes(expr_of(alloc, rest, builder)),
+        [b'p', b'a', b't', b' ', rest @ ..] => makes(pat_of(alloc, rest, builder)),
+        [b'b', b'i', b'n', b'd', b' ', rest @ ..] => {
+            makes(bind(alloc, &mut Words::new(rest, b' '), builder))
+        }
+        _ => command(alloc, &mut Words::new(text, b' '), builder),
     }
-    let mut words = Words::new(text, b' ');
-    command(alloc, &mut words, builder)
 }
 
 /// Takes a line: the builder gets what it makes, and its question is answered, where it asks.

@@ -1,6 +1,7 @@
 //! The words of a line, or the parts of a word, taken one by one.
 
-ghost use Rattle.std.specs.Prelude.{None, Some, ◌≡◌, ◌∷◌, [], MatchResult, IsTrue, ◌↔◌, position, false};
+ghost use Rattle.std.specs.Prelude.{None, Some, ◌≡◌, ◌∷◌, [], MatchResult, IsTrue, ◌↔◌, position, length, min, ◌^◌, ◌-◌, false};
+ghost use Rattle.std.specs.List.{count_by};
 ghost use Rattle.hir_lines.specs.Numerals.{is_digit};
 ghost use Rattle.hir_lines.specs.Readings.{parts_of, parts_left, is_byte, alone, Found, HasWord, Reads, first_word, each};
 ghost use Rattle.hir_lines.specs.Words.{number, optional, list, keyword, name, path, int, op, expansion, hygiene};
@@ -208,6 +209,16 @@ impl<'a> Words<'a> {
         }
     }
 
+    /// How many words are left, or the largest number there is.
+    fn len(&self) -> usize
+        ensures { result ≡ min (length self.now) (2 ^ 64 - 1) }
+    {
+        match self.rest {
+            Some(text) => count(text, self.separator).saturating_add(1),
+            None => 0,
+        }
+    }
+
     /// The value, if no word is left.
     pub fn alone<T: Drop>(&self, value: T) -> Result<T, Stop>
         ensures { Found (alone value self.now) result }
@@ -253,7 +264,8 @@ impl<K> Word for Idx<K> {
 pub fn each<T: Word + Drop>(alloc: Global, words: &mut Words<'_>) -> Result<Seq<T>, Stop>
     ensures { Reads (each T.said) words.old result words.new }
 {
-    let mut items = Seq::new(alloc);
+    // Room for each and no more: a list that grows while it is read keeps room that it never uses.
+    let mut items = Seq::with_capacity(alloc, words.len())?;
     while !words.is_empty() {
         items.push(T::take(words)?)?;
     }
@@ -266,6 +278,13 @@ fn find(text: &[u8], byte: u8) -> Option<usize>
     ensures { result ≡ position (is_byte byte) text.now }
 {
     text.iter().position(|b| *b == byte)
+}
+
+/// How often a byte comes.
+fn count(text: &[u8], byte: u8) -> usize
+    ensures { result ≡ count_by (is_byte byte) text.now }
+{
+    text.iter().filter(|b| **b == byte).count()
 }
 
 /// The text before the first separator, and the text after it, where there is one.
