@@ -122,7 +122,7 @@ impl<'a> Words<'a> {
         if word == b"-".as_slice() {
             return Ok(Seq::new(alloc));
         }
-        each(alloc, &mut Words::new(word, b','))
+        gather(Seq::new(alloc), &mut Words::new(word, b','))
     }
 
     /// Takes the next word, if it is one in ASCII.
@@ -265,7 +265,14 @@ pub fn each<T: Word + Drop>(alloc: Global, words: &mut Words<'_>) -> Result<Seq<
     ensures { Reads (each T.said) words.old result words.new }
 {
     // Room for each and no more: a list that grows while it is read keeps room that it never uses.
-    let mut items = Seq::with_capacity(alloc, words.len())?;
+    gather(Seq::with_capacity(alloc, words.len())?, words)
+}
+
+/// Adds all the words that are left to an empty list, if each says a value of its type.
+fn gather<T: Word + Drop>(mut items: Seq<T>, words: &mut Words<'_>) -> Result<Seq<T>, Stop>
+    requires { items ≡ [] }
+    ensures { Reads (each T.said) words.old result words.new }
+{
     while !words.is_empty() {
         items.push(T::take(words)?)?;
     }
