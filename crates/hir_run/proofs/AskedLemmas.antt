@@ -20,7 +20,7 @@ use Rattle.hir_run.proofs.Scripts.{says-push}
 use Rattle.hir_run.proofs.WritingLemmas.{IsWrittenUpTo-then, GrowsByFront-then, kept}
 
 -- the end isn't met now, so it wasn't before
-unmet_then : (was now : Bool) → (was ≡ true → now ≡ true) → now ≡ false → was ≡ false
+pub unmet_then : (was now : Bool) → (was ≡ true → now ≡ true) → now ≡ false → was ≡ false
 unmet_then false now stays unmet = refl
 unmet_then true now stays unmet = cc (stays refl)
 

@@ -8,6 +8,7 @@ pub mod CourseLemmas
 pub mod QuestionLemmas
 pub mod SectionLemmas
 pub mod AskedLemmas
+pub mod OnBodyLemmas
 pub mod EndingLemmas
 pub mod ClosingLemmas
 pub mod ScriptLemmas

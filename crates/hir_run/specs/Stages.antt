@@ -8,6 +8,8 @@ use Rattle.hir_io.specs.Ends.{GrowsByFront, IsWrittenUpTo}
 use Rattle.hir_lines.specs.Line.{Line, Blank, Make, Ask, Bad, line_of}
 use Rattle.hir_lines.specs.Makers.{Maker}
 use Rattle.hir_lines.specs.declared.question.Question.{Question}
+use Rattle.hir_lines.specs.declared.question.Question.TheVariants.{OfStore, OfBody}
+use Rattle.hir_lines.specs.declared.question.BodyQuestion.TheVariants as ask
 use Rattle.hir_faults.specs.declared.fault.FinishFault.{FinishFault}
 use Rattle.hir_items.specs.declared.body_fault.BodyFault.{BodyFault}
 use Rattle.hir_items.specs.Bodies.{BodyContents, body_fault}
@@ -115,6 +117,14 @@ AsksLine may Is line number old waiting new waiting' result =
     ((may_ask may line ≡ true) × (text : List ℕ) × IsLineAnswer Is line text
     × GrowsByFront old new (waiting ++ text) × (waiting' ≡ []))
     ((new ≡ old) × (waiting' ≡ waiting)) result
+
+-- whether a question on a body is answered without its scopes
+abbrev pub needs_no_scopes : Question → Bool
+needs_no_scopes (OfStore question) = true
+needs_no_scopes (OfBody (ask.Chain e)) = false
+needs_no_scopes (OfBody (ask.Resolve e name hygiene)) = false
+needs_no_scopes (OfBody ask.Print) = true
+needs_no_scopes (OfBody (ask.Captures e)) = false
 
 -- the lines of a section that begins with a question
 abbrev pub asked : Question → List (List ℕ) → List Line

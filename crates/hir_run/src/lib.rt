@@ -11,6 +11,7 @@ pub mod laws;
 mod made;
 mod named_body;
 mod no_builder;
+mod on_body;
 mod printed;
 mod program;
 mod put;

@@ -46,6 +46,7 @@ impl NamedBody {
             }
             BodyQuestion::Print => {
                 self.body
+                    .body()
                     .answer_print(alloc, self.name.as_ref(), output, writer)
             }
             BodyQuestion::Captures(id) => self.body.answer_captures(alloc, id, output, writer),

@@ -1,19 +1,23 @@
 //! The program: lines in, answers out.
 
 ghost use Rattle.std.specs.Prelude.{◌≡◌, ◌||◌, ℕ, [], true, false};
+ghost use Rattle.hir_items.specs.Bodies.{body_of};
 ghost use Rattle.hir_store.specs.Building.{building_of};
 ghost use Rattle.hir_run.specs.Outcomes.{is_input_failed, is_output_failed};
 ghost use Rattle.hir_run.specs.Run.{RunsTo};
-ghost use Rattle.hir_run.specs.Stages.{Accepts, Closes, Finishes, RunsUpTo};
+ghost use Rattle.hir_run.specs.Stages.{Accepts, Closes, Finishes, IsMadeBody, RunsUpTo};
 
 use crate::asking::answer_lines;
 use crate::building::build;
 use crate::fault::RunFault;
 use crate::made::{Made, Parts};
-use crate::named_body::NamedBody;
-use crate::scoped_body::ScopedBody;
+use crate::on_body::{UnscopedBody, answer_on_body};
+use crate::printed::BodyOfLines;
+use hir_base::Seq;
 use hir_io::{LineReader, OutputBuffer, Sink, Source};
+use hir_items::{Body, Param};
 use hir_lines::laws::said_is_written;
+use hir_node::{BindingId, PatId};
 use hir_store::{ExpressionStore, ExpressionStoreBuilder};
 use std::alloc::Global;
 
@@ -23,6 +27,18 @@ fn finished(builder: ExpressionStoreBuilder) -> Result<ExpressionStore, RunFault
 {
     let (store, _) = builder.finish()?;
     Ok(store)
+}
+
+/// The body of these parts, or why there is none.
+fn made_body(
+    alloc: Global,
+    store: ExpressionStore,
+    params: Seq<Param<PatId>>,
+    self_param: Option<Param<BindingId>>,
+) -> Result<Body, RunFault>
+    ensures { IsMadeBody (body_of store params self_param) result }
+{
+    Ok(Body::new(alloc, store, params, self_param)?)
 }
 
 /// Writes that the store is accepted.
@@ -74,9 +90,12 @@ fn answer_script<R: Source, W: Sink>(
         None => return Ok(()),
     };
     said_is_written();
-    let body = ScopedBody::new(alloc, store, params, self_param)?;
-    let named = NamedBody { body, name };
-    let unasked = answer_lines(alloc, &named, on_body, lines, reader, output, writer)?;
+    let body = made_body(alloc, store, params, self_param)?;
+    let unscoped = UnscopedBody {
+        body: BodyOfLines::new(body),
+        name,
+    };
+    let unasked = answer_on_body(alloc, unscoped, on_body, lines, reader, output, writer)?;
     match unasked {
         None => Ok(()),
         Some(_) => unreachable!(),

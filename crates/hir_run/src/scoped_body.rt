@@ -1,28 +1,21 @@
 //! A body with its scopes, and the answers to questions on it.
 
-ghost use Rattle.std.specs.Prelude.{◌≡◌, ◌<◌, ◌∷◌, ℕ, List, Option, Some, OnOk, OnErr, length};
-ghost use Rattle.hir_items.specs.Bodies.{body_of};
+ghost use Rattle.std.specs.Prelude.{◌≡◌, ◌<◌, ◌∷◌, ℕ, List, Option, Some, IfOk, OnOk, OnErr, length};
 ghost use Rattle.hir_scope.specs.Frames.{Chain};
 ghost use Rattle.hir_scope.specs.Paths.{chain, frame_at};
 ghost use Rattle.hir_scope.specs.Resolution.{resolve, entries_of};
 ghost use Rattle.hir_run.specs.Answer.{IsChainAnswer, IsResolveAnswer, IsCapturesAnswer, IsChainOf, asked_text, chain_text, expansion_text, names_text, resolve_text, resolved_text};
-ghost use Rattle.std.specs.Option.{option_copied};
-ghost use Rattle.hir_run.specs.OfLines.{AreOfLines};
-ghost use Rattle.hir_run.specs.Printed.{print_text};
 ghost use Rattle.hir_run.specs.Puts.{Puts};
-ghost use Rattle.hir_run.specs.Stages.{IsMadeBody};
 
 use crate::answer::put_asked;
 use crate::asking::MemoryRefused;
 use crate::captured::{put_captures, put_no_closure};
-use crate::fault::RunFault;
-use crate::printed::print_body;
+use crate::printed::BodyOfLines;
 use crate::put::{put, put_number, put_spaced};
-use hir_base::{HygieneId, Name, Seq, SyntaxContext};
+use hir_base::{HygieneId, Name, SyntaxContext};
 use hir_captures::{CapturesFault, captures};
 use hir_io::{OutputBuffer, Sink};
-use hir_items::{Body, Param};
-use hir_node::{BindingId, ExprId, PatId};
+use hir_node::ExprId;
 use hir_scope::{ExprScopes, ScopeEntry, ScopeId, ScopesFault};
 use hir_store::ExpressionStore;
 use std::alloc::Global;
@@ -31,14 +24,13 @@ use std::marker::Model;
 /// A body with its scopes, seen as the body.
 #[derive(Drop)]
 pub(crate) struct ScopedBody {
-    body: Body,
+    body: BodyOfLines,
     scopes: ExprScopes,
 }
 
 impl Model for ScopedBody {
     ghost use Rattle.hir_items.specs.Bodies.{BodyContents};
     ghost use Rattle.hir_scope.specs.Built.{AreBodyScopes};
-    ghost use Rattle.hir_run.specs.OfLines.{AreOfLines};
 
     ghost Value = { BodyContents };
 
@@ -49,19 +41,7 @@ impl Model for ScopedBody {
 
     ghost view = { λ s. s.body };
 
-    ghost invariant = { λ s. AreBodyScopes s.body s.scopes × AreOfLines s.body.store.nodes };
-}
-
-/// The body of these parts, or why there is none.
-fn made_body(
-    alloc: Global,
-    store: ExpressionStore,
-    params: Seq<Param<PatId>>,
-    self_param: Option<Param<BindingId>>,
-) -> Result<Body, RunFault>
-    ensures { IsMadeBody (body_of store params self_param) result }
-{
-    Ok(Body::new(alloc, store, params, self_param)?)
+    ghost invariant = { λ s. AreBodyScopes s.body s.scopes };
 }
 
 /// Puts the names of entries, each after a space.
@@ -163,21 +143,16 @@ fn put_resolved<W: Sink>(
 }
 
 impl ScopedBody {
-    /// The body of these parts with its scopes, or why there is none.
-    pub(crate) fn new(
-        alloc: Global,
-        store: ExpressionStore,
-        params: Seq<Param<PatId>>,
-        self_param: Option<Param<BindingId>>,
-    ) -> Result<ScopedBody, RunFault>
-        requires { AreOfLines store.nodes }
-        ensures { IsMadeBody (body_of store params self_param) result }
+    /// A body with its scopes.
+    ///
+    /// Answers `MemoryRefused` where memory was refused, or where the body needs more scopes than there may be.
+    pub(crate) fn new(alloc: Global, body: BodyOfLines) -> Result<ScopedBody, MemoryRefused>
+        ensures { IfOk result (λ scoped. scoped ≡ body) }
     {
-        let body = made_body(alloc, store, params, self_param)?;
-        match ExprScopes::new_body(alloc, &body) {
+        match ExprScopes::new_body(alloc, body.body()) {
             Ok(scopes) => Ok(ScopedBody { body, scopes }),
             Err(ScopesFault::Missing) => unreachable!(),
-            Err(ScopesFault::Full | ScopesFault::Memory) => Err(RunFault::OutOfMemory),
+            Err(ScopesFault::Full | ScopesFault::Memory) => Err(MemoryRefused),
         }
     }
 
@@ -185,7 +160,14 @@ impl ScopedBody {
     pub(crate) fn store(&self) -> &ExpressionStore
         ensures { result.now ≡ self.now.store }
     {
-        self.body.store()
+        self.body.body().store()
+    }
+
+    /// The body.
+    pub(crate) fn body(&self) -> &BodyOfLines
+        ensures { result.now ≡ self.now }
+    {
+        &self.body
     }
 
     /// Puts what is known of an expression: the names of its chain, or that it isn't reached.
@@ -266,7 +248,7 @@ impl ScopedBody {
             (W.failed writer.new) output.new text) }
         ensures memory { OnErr result ((writer.new ≡ writer.old) × (output.new ≡ output.old)) }
     {
-        match captures(alloc, &self.body, &self.scopes, id) {
+        match captures(alloc, self.body.body(), &self.scopes, id) {
             Ok(bindings) => {
                 put_captures(id, &bindings, output, writer);
                 Ok(())
@@ -277,26 +259,5 @@ impl ScopedBody {
             }
             Err(CapturesFault::Memory) => Err(MemoryRefused),
         }
-    }
-
-    /// Answers the text of the body, printed as that of function 0 with this name, and a line end.
-    ///
-    /// Answers `MemoryRefused` where memory was refused: nothing is put then.
-    pub(crate) fn answer_print<W: Sink>(
-        &self,
-        alloc: Global,
-        name: Option<&Name>,
-        output: &mut OutputBuffer,
-        writer: &mut W,
-    ) -> Result<(), MemoryRefused>
-        ensures ok { OnOk result (Puts (W.contents writer.old) (W.failed writer.old) output.old
-            (W.contents writer.new) (W.failed writer.new) output.new
-            (print_text (option_copied name.entry) self.now)) }
-        ensures memory { OnErr result ((writer.new ≡ writer.old) × (output.new ≡ output.old)) }
-    {
-        let text = print_body(alloc, &self.body, name)?;
-        put(text.as_str().as_bytes(), output, writer);
-        put(b"\n", output, writer);
-        Ok(())
     }
 }

@@ -7,7 +7,7 @@ use Rattle.hir_items.specs.Bodies.{body_of}
 use Rattle.hir_store.specs.Building.{building_of}
 use Rattle.hir_run.specs.declared.made.Parts.{Parts}
 use Rattle.hir_run.specs.Made.{made_of}
-use Rattle.hir_run.specs.Stages.{Builds}
+use Rattle.hir_run.specs.Stages.{Builds, IsMadeBody}
 use Rattle.std.proofs.lemmas.Bool.{false≢true}
 use Rattle.hir_run.proofs.ClosingLemmas.{accept_reads_none, body_reads_none, build_writes_none, reads_as, none_before}
 use Rattle.hir_run.proofs.EndingLemmas.{from_the_start}
@@ -99,9 +99,10 @@ returns-in_err-unasked-clause-runs g c =
     let params : c.into_parts-builder.result.params ≡ (made_of c.build.new.made).params = ap (λ (p : Parts). p.params) c.into_parts-builder.ensures in
     let self_param : c.into_parts-builder.result.self_param ≡ (made_of c.build.new.made).self_param = ap (λ (p : Parts). p.self_param) c.into_parts-builder.ensures in
     let name : c.into_parts-builder.result.name ≡ (made_of c.build.new.made).name = ap (λ (p : Parts). p.name) c.into_parts-builder.ensures in
+    let of_lines : IsMadeBody (body_of c.in_ok-store.store c.into_parts-builder.result.params c.into_parts-builder.result.self_param) (Ok c.new.result) = rw c.new.ensures (c.in_ok-body.ensures {u = tt}) in
     rw (p.1, p.2) (script_body_ends (untaken c.build.new.lines.pending c.build.new.lines.at_end (g.R.Source.remaining c.build.new.reader)) (g.R.Source.remaining c.build.new.reader) (g.W.Sink.contents c.args.writer.now) (g.W.Sink.contents c.build.new.writer) c.build.new.output c.build.new.lines (made_of c.build.new.made) (building_of c.into_parts-builder.result.builder) c.in-Some.on_store c.in_ok-store.store same none finished (c.in_ok-store.ensures {u = tt})
-    (untaken c.answer_lines.new.lines.pending c.answer_lines.new.lines.at_end (g.R.Source.remaining c.answer_lines.new.reader)) (g.W.Sink.contents c.answer_lines.new.writer) c.answer_lines.new.output c.answer_lines.new.lines c.in-Some-left.on_body left c.into_parts-builder.result.params c.into_parts-builder.result.self_param params self_param c.in_ok-body.body (c.in_ok-body.ensures {u = tt}) c.into_parts-builder.result.name name
-    (g.R.Source.remaining c.args.reader.now) (untaken c.answer_lines-2.new.lines.pending c.answer_lines-2.new.lines.at_end (g.R.Source.remaining c.answer_lines-2.new.reader)) (g.R.Source.remaining c.answer_lines-2.new.reader) (g.W.Sink.contents c.answer_lines-2.new.writer) c.answer_lines-2.new.output c.answer_lines-2.new.lines c.in_err-unasked.field-0.0 met c.in_err-unasked.ensures.asks)
+    (untaken c.answer_lines.new.lines.pending c.answer_lines.new.lines.at_end (g.R.Source.remaining c.answer_lines.new.reader)) (g.W.Sink.contents c.answer_lines.new.writer) c.answer_lines.new.output c.answer_lines.new.lines c.in-Some-left.on_body left c.into_parts-builder.result.params c.into_parts-builder.result.self_param params self_param c.new.result of_lines c.into_parts-builder.result.name name
+    (g.R.Source.remaining c.args.reader.now) (untaken c.answer_on_body.new.lines.pending c.answer_on_body.new.lines.at_end (g.R.Source.remaining c.answer_on_body.new.reader)) (g.R.Source.remaining c.answer_on_body.new.reader) (g.W.Sink.contents c.answer_on_body.new.writer) c.answer_on_body.new.output c.answer_on_body.new.lines c.in_err-unasked.field-0.0 met c.in_err-unasked.ensures.asks)
 
 pub returns-clause-runs : goal.returns-clause-runs
 returns-clause-runs g c =
@@ -115,10 +116,11 @@ returns-clause-runs g c =
     let params : c.into_parts-builder.result.params ≡ (made_of c.build.new.made).params = ap (λ (p : Parts). p.params) c.into_parts-builder.ensures in
     let self_param : c.into_parts-builder.result.self_param ≡ (made_of c.build.new.made).self_param = ap (λ (p : Parts). p.self_param) c.into_parts-builder.ensures in
     let name : c.into_parts-builder.result.name ≡ (made_of c.build.new.made).name = ap (λ (p : Parts). p.name) c.into_parts-builder.ensures in
+    let of_lines : IsMadeBody (body_of c.in_ok-store.store c.into_parts-builder.result.params c.into_parts-builder.result.self_param) (Ok c.new.result) = rw c.new.ensures (c.in_ok-body.ensures {u = tt}) in
     let asked = rw c.in-None-unasked.is at (c.in_ok-unasked.ensures {u = tt}).asks in
     script_body_done (untaken c.build.new.lines.pending c.build.new.lines.at_end (g.R.Source.remaining c.build.new.reader)) (g.R.Source.remaining c.build.new.reader) (g.W.Sink.contents c.args.writer.now) (g.W.Sink.contents c.build.new.writer) c.build.new.output c.build.new.lines (made_of c.build.new.made) (building_of c.into_parts-builder.result.builder) c.in-Some.on_store c.in_ok-store.store same none finished (c.in_ok-store.ensures {u = tt})
-    (untaken c.answer_lines.new.lines.pending c.answer_lines.new.lines.at_end (g.R.Source.remaining c.answer_lines.new.reader)) (g.W.Sink.contents c.answer_lines.new.writer) c.answer_lines.new.output c.answer_lines.new.lines c.in-Some-left.on_body left c.into_parts-builder.result.params c.into_parts-builder.result.self_param params self_param c.in_ok-body.body (c.in_ok-body.ensures {u = tt}) c.into_parts-builder.result.name name
-    (g.R.Source.remaining c.args.reader.now) (untaken c.answer_lines-2.new.lines.pending c.answer_lines-2.new.lines.at_end (g.R.Source.remaining c.answer_lines-2.new.reader)) (g.R.Source.remaining c.answer_lines-2.new.reader) (g.W.Sink.contents c.answer_lines-2.new.writer) c.answer_lines-2.new.output c.answer_lines-2.new.lines met asked
+    (untaken c.answer_lines.new.lines.pending c.answer_lines.new.lines.at_end (g.R.Source.remaining c.answer_lines.new.reader)) (g.W.Sink.contents c.answer_lines.new.writer) c.answer_lines.new.output c.answer_lines.new.lines c.in-Some-left.on_body left c.into_parts-builder.result.params c.into_parts-builder.result.self_param params self_param c.new.result of_lines c.into_parts-builder.result.name name
+    (g.R.Source.remaining c.args.reader.now) (untaken c.answer_on_body.new.lines.pending c.answer_on_body.new.lines.at_end (g.R.Source.remaining c.answer_on_body.new.reader)) (g.R.Source.remaining c.answer_on_body.new.reader) (g.W.Sink.contents c.answer_on_body.new.writer) c.answer_on_body.new.output c.answer_on_body.new.lines met asked
 
 pub returns-in_err-body-clause-input_failed : goal.returns-in_err-body-clause-input_failed
 returns-in_err-body-clause-input_failed g c =
@@ -172,7 +174,7 @@ new-requires g c =
     from_the_start c.args.lines.now known rest remaining c.build.new.lines (made_of c.build.new.made) (Ok c.in_ok-first.first) c.requires.fresh told.builds in
     let of_lines = built_of_lines c.said_is_written.ensures known rest remaining c.build.new.lines (made_of c.build.new.made) c.in_ok-first.first builds in
     let finished : building_of c.into_parts-builder.result.builder ≡ (made_of c.build.new.made).built = ap (λ (p : Parts). building_of p.builder) c.into_parts-builder.ensures in
-    of_built (building_of c.into_parts-builder.result.builder) (made_of c.build.new.made).built c.in_ok-store.store finished (c.in_ok-store.ensures {u = tt}) of_lines
+    rw (c.in_ok-body.ensures {u = tt}).0 (of_built (building_of c.into_parts-builder.result.builder) (made_of c.build.new.made).built c.in_ok-store.store finished (c.in_ok-store.ensures {u = tt}) of_lines)
 
 pub returns-in_err-first-clause-output_failed : goal.returns-in_err-first-clause-output_failed
 returns-in_err-first-clause-output_failed g c =

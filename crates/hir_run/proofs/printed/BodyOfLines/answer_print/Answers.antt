@@ -4,10 +4,10 @@ use Rattle.std.specs.Option.{option_copied}
 use Rattle.hir_items.specs.Bodies.{BodyContents}
 use Rattle.hir_run.specs.Printed.{body_text}
 use Rattle.hir_run.proofs.WritingLemmas.{put_then}
-use Rattle.hir_run.proofs.scoped_body.ScopedBody.answer_print.Goals as goal
+use Rattle.hir_run.proofs.printed.BodyOfLines.answer_print.Goals as goal
 
 pub print_body-requires : goal.print_body-requires
-print_body-requires g c = c.self.invariant.1
+print_body-requires g c = c.self.invariant
 
 pub returns-clause-ok : goal.returns-clause-ok
 returns-clause-ok g c =

@@ -5,7 +5,7 @@ use Rattle.hir_items.specs.declared.body_fault.BodyFault.TheVariants as body
 use Rattle.hir_items.specs.Bodies.{BodyContents, body_of, body_fault}
 use Rattle.hir_run.specs.Faults.{fault_of_body}
 use Rattle.hir_run.specs.Stages.{IsMadeBody}
-use Rattle.hir_run.proofs.scoped_body.made_body.Goals as goal
+use Rattle.hir_run.proofs.program.made_body.Goals as goal
 
 -- a fault that isn't want of memory is the first of the parts
 not_memory : (fault : BodyFault) (parts : BodyContents) → (fault ≡ body.Memory → ⊥) → fault ≡ body.Memory ⊎ body_fault parts (Some fault) → body_fault parts (Some fault)
