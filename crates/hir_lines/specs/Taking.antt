@@ -1,5 +1,5 @@
 -- What a line does to what was made before it. A builder says what is made with one thing more, or that this may not be made.
-use Rattle.std.specs.Prelude.{◌≡◌, ℕ, List, Option, None, Some, Result, MatchResult}
+use Rattle.std.specs.Prelude.{◌≡◌, ℕ, List, Option, None, Some, Result, MatchResult, ◌↔◌}
 use Rattle.std.specs.Option.{option_map, option_and_then}
 use Rattle.hir_lines.specs.declared.question.Question.{Question}
 use Rattle.hir_lines.specs.declared.stop.Stop.{Stop}
@@ -12,6 +12,11 @@ use Rattle.hir_lines.specs.Readings.{Reading, whole}
 abbrev pub Steps : {B : Type 0} → Option B → B → B → Result (Unit {0}) Stop → Type 0
 Steps found old new result =
     MatchResult result (λ done. found ≡ Some new) (λ why. (new ≡ old) × (why ≡ stop.Bad → found ≡ None))
+
+-- a thing is added, or nothing is changed: it is refused as bad exactly where it may not be added
+abbrev pub Adds : {B : Type 0} → Option B → B → B → Result (Unit {0}) Stop → Type 0
+Adds found old new result =
+    MatchResult result (λ done. found ≡ Some new) (λ why. (new ≡ old) × (why ≡ stop.Bad ↔ found ≡ None))
 
 -- what was made, with what these words make, if it is one thing and may be made
 abbrev pub put : {B X : Type 0} → (B → Maker → Option B) → (X → Maker) → Reading X → List (List ℕ) → B → Option B

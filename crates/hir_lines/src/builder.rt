@@ -12,48 +12,48 @@ pub trait Builder {
     ghost use Rattle.std.specs.Prelude.{Option};
     ghost use Rattle.hir_lines.specs.Makers.{Maker};
     ghost use Rattle.hir_lines.specs.Makers as make;
-    ghost use Rattle.hir_lines.specs.Taking.{Steps};
+    ghost use Rattle.hir_lines.specs.Taking.{Adds};
 
     // What is made with one thing more; nothing where it may not be made.
     ghost add: { Self → Maker → Option Self };
 
     /// Adds a binding.
     fn binding(&mut self, binding: Binding) -> Result<(), Stop>
-        ensures { Steps (add self.old (make.Binding binding)) self.old self.new result };
+        ensures { Adds (add self.old (make.Binding binding)) self.old self.new result };
 
     /// Adds a pattern.
     fn pat(&mut self, pat: Pat) -> Result<(), Stop>
-        ensures { Steps (add self.old (make.Pat pat)) self.old self.new result };
+        ensures { Adds (add self.old (make.Pat pat)) self.old self.new result };
 
     /// Adds a type.
     fn type_ref(&mut self, type_ref: TypeRef) -> Result<(), Stop>
-        ensures { Steps (add self.old (make.TypeRef type_ref)) self.old self.new result };
+        ensures { Adds (add self.old (make.TypeRef type_ref)) self.old self.new result };
 
     /// Adds an expression.
     fn expr(&mut self, expr: Expr) -> Result<(), Stop>
-        ensures { Steps (add self.old (make.Expr expr)) self.old self.new result };
+        ensures { Adds (add self.old (make.Expr expr)) self.old self.new result };
 
     /// Sets the hygiene of the path that the expression or the pattern is.
     fn hygiene(&mut self, id: ExprOrPatId, hygiene: HygieneId) -> Result<(), Stop>
-        ensures { Steps (add self.old (make.Hygiene id hygiene)) self.old self.new result };
+        ensures { Adds (add self.old (make.Hygiene id hygiene)) self.old self.new result };
 
     /// Sets the self parameter, by its binding.
     fn self_param(&mut self, id: BindingId) -> Result<(), Stop>
-        ensures { Steps (add self.old (make.SelfParam id)) self.old self.new result };
+        ensures { Adds (add self.old (make.SelfParam id)) self.old self.new result };
 
     /// Adds a parameter, by its pattern.
     fn param(&mut self, id: PatId) -> Result<(), Stop>
-        ensures { Steps (add self.old (make.Param id)) self.old self.new result };
+        ensures { Adds (add self.old (make.Param id)) self.old self.new result };
 
     /// Sets the name of the function.
     fn fn_name(&mut self, name: Name) -> Result<(), Stop>
-        ensures { Steps (add self.old (make.FnName name)) self.old self.new result };
+        ensures { Adds (add self.old (make.FnName name)) self.old self.new result };
 
     /// Begins the list of roots, where there is no list yet.
     fn roots(&mut self) -> Result<(), Stop>
-        ensures { Steps (add self.old make.Roots) self.old self.new result };
+        ensures { Adds (add self.old make.Roots) self.old self.new result };
 
     /// Adds a root.
     fn root(&mut self, id: ExprId) -> Result<(), Stop>
-        ensures { Steps (add self.old (make.Root id)) self.old self.new result };
+        ensures { Adds (add self.old (make.Root id)) self.old self.new result };
 }

@@ -25,6 +25,7 @@ pub fn expr_of<B: Builder>(alloc: Global, text: &[u8], builder: &mut B) -> Resul
         [b'p', b'a', b't', b'h', b' ', name @ ..] => {
             path(alloc, &mut Words::new(name, b' '), builder)
         }
+        // Of `path` only the bare word comes here, and it is bad.
         _ => expr(alloc, &mut Words::new(text, b' '), builder),
     }
 }

@@ -1,5 +1,6 @@
 //! The lines that the program knows: how each is written, and what it says.
-//! A line is words separated by one space; each form of words is one short function, which takes the words one by one.
+//! A line is words separated by one space; each form of words is one short function, which takes the words one by one; the most
+//! frequent first words are compared in place.
 #![tactic(auto)]
 
 mod arms_and_statements;

@@ -19,6 +19,7 @@ pub fn pat_of<B: Builder>(alloc: Global, text: &[u8], builder: &mut B) -> Result
 {
     match text {
         [b'b', b'i', b'n', b'd', b' ', ids @ ..] => bind(&mut Words::new(ids, b' '), builder),
+        // Of `bind` only the bare word comes here, and it is bad.
         _ => pat(alloc, &mut Words::new(text, b' '), builder),
     }
 }

@@ -191,6 +191,7 @@ fn asks(outcome: Result<Question, Stop>) -> Result<Option<Question>, Stop>
 }
 
 /// Takes the words of a line.
+// Frequent words are spelt byte by byte, here and for expressions and patterns: byte strings would be compared as wholes, one after another.
 #[tactic(auto, unfolding(crate::specs::Line::command))]
 fn command<B: Builder>(
     alloc: Global,
@@ -234,11 +235,12 @@ fn line<B: Builder>(alloc: Global, text: &[u8], builder: &mut B) -> Result<Optio
         [b'b', b'i', b'n', b'd', b' ', rest @ ..] => {
             makes(bind(alloc, &mut Words::new(rest, b' '), builder))
         }
+        // Of these three only the bare word comes here, and it is bad.
         _ => command(alloc, &mut Words::new(text, b' '), builder),
     }
 }
 
-/// Takes a line: the builder gets what it makes, and its question is answered, where it asks.
+/// Takes a line: the builder gets what it makes; a question that it asks is handed back.
 ///
 /// `Bad` where no line is written so, or the builder answers so; `Memory` where memory was refused. After either nothing was added.
 #[inline(always)]

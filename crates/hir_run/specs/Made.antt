@@ -80,7 +80,7 @@ is_second m (make.Param id) = false
 is_second m make.Roots = false
 is_second m (make.Root id) = false
 
--- the same in the code
+-- what with_line says, of the fields of the code's Made
 abbrev pub with_maker : code.Made → Maker → code.Made
 with_maker m (make.Binding binding) =
     record m { builder = record m.builder { bindings = m.builder.bindings ++ binding ∷ [] } }

@@ -118,7 +118,7 @@ AsksLine may Is line number old waiting new waiting' result =
     × GrowsByFront old new (waiting ++ text) × (waiting' ≡ []))
     ((new ≡ old) × (waiting' ≡ waiting)) result
 
--- whether a question on a body is answered without its scopes
+-- whether a question may be answered before the body's scopes are made
 abbrev pub needs_no_scopes : Question → Bool
 needs_no_scopes (OfStore question) = true
 needs_no_scopes (OfBody (ask.Chain e)) = false

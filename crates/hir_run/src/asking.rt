@@ -41,7 +41,7 @@ pub(crate) trait Answers {
         ensures memory { OnErr result ((writer.new ≡ writer.old) × (output.new ≡ output.old)) };
 }
 
-/// Answers a question, whatever the number of its line.
+/// Answers a question. Its clause holds for a line of any number, since a question is never a bad line.
 fn answer_question<A: Answers, W: Sink>(
     alloc: Global,
     asked: &A,

@@ -91,11 +91,18 @@ const BODIES: [Row; 12] = [
 ];
 
 /// Where `print` comes, and with what name.
-const PLACES: [Row; 5] = [
+const PLACES: [Row; 6] = [
     Row {
         name: "printed_twice_between_questions",
         input: b"expr path a\nroot 0\nfn f\nprint\nchildren 0\n\nprint\n",
         output: b"fn f() a\nchildren 0 =\nfn f() a\n",
+        said: b"",
+        status: 0,
+    },
+    Row {
+        name: "printed_before_and_behind_scopes",
+        input: b"bind x\npat bind 0 -\nexpr path x\nparam 0\nroot 0\nfn f\nprint\nchain 0\nprint\nchildren 0\n",
+        output: b"fn f(x) x\nchain 0 = x\nfn f(x) x\nchildren 0 =\n",
         said: b"",
         status: 0,
     },
