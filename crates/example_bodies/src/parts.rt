@@ -4,8 +4,8 @@ use hir_base::{HygieneId, Name, Seq};
 use hir_error::HirError;
 use hir_items::{Body, Param};
 use hir_node::{
-    Binding, BindingAnnotation, CaptureBy, ClosureKind, Expr, ExprId, Pat, PatId, Path, Statement,
-    Unsafe,
+    Binding, BindingAnnotation, Boxed, CaptureBy, ClosureKind, Expr, ExprId, Pat, PatId, Path,
+    Statement, Unsafe,
 };
 use hir_store::ExpressionStoreBuilder;
 use std::alloc::Global;
@@ -70,7 +70,7 @@ pub fn closure(
 ) -> Result<ExprId, HirError> {
     Ok(builder.alloc_expr(Expr::Closure {
         args: Seq::from_vec(vec![in alloc; arg]?),
-        arg_types: Seq::from_vec(vec![in alloc; None]?),
+        arg_types: Boxed::new(alloc, Seq::from_vec(vec![in alloc; None]?))?,
         ret_type: None,
         body,
         closure_kind: ClosureKind::Closure,

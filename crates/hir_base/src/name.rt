@@ -42,7 +42,8 @@ impl Name {
     ///
     /// Answers an error if that memory was refused.
     pub fn new(alloc: Global, text: &str) -> Result<Name, AllocError>
-        ensures { IfOk result (λ name. name ≡ text.now) }
+        ensures ok { IfOk result (λ name. name ≡ text.now) }
+        ensures short { length text.now ≤ 14 → IsOk result }
     {
         if text.len() <= MOST_BYTES {
             return Ok(Name {
@@ -74,7 +75,8 @@ impl Name {
 
     /// The name of what has none in source code: `[missing name]`. It is short, and never refused.
     pub fn missing(alloc: Global) -> Result<Name, AllocError>
-        ensures { IfOk result (λ name. name ≡ codes "[missing name]") }
+        ensures ok { IfOk result (λ name. name ≡ codes "[missing name]") }
+        ensures never_refused { IsOk result }
     {
         Name::new(alloc, "[missing name]")
     }

@@ -56,7 +56,7 @@ impl ShortText {
         &self.bytes[..self.len as usize]
     }
 
-    /// The text as a slice. Its bytes are tested again, which takes no unsafe code.
+    /// The text as a slice. Its bytes are tested again, so that no code is unsafe.
     pub(crate) fn as_str(&self) -> &str
         ensures { result.now ≡ self.now }
     {

@@ -2,8 +2,8 @@
 //! Nodes are named by their numbers: the first expression is 0, and so is the first pattern.
 use hir_base::{HygieneId, Idx, MacroDefId, ModPath, Name, PathKind, RangeOp, Seq, SyntaxContext};
 use hir_node::{
-    Array, ArrayType, Binding, BindingAnnotation, CaptureBy, ClosureKind, ConstRef, CoroutineKind,
-    CoroutineSource, Expr, Item, MatchArm, Pat, Path, Statement, TypeRef, Unsafe,
+    Array, ArrayType, Binding, BindingAnnotation, Boxed, CaptureBy, ClosureKind, ConstRef,
+    CoroutineKind, CoroutineSource, Expr, Item, MatchArm, Pat, Path, Statement, TypeRef, Unsafe,
 };
 use std::alloc::{AllocError, Global};
 
@@ -205,7 +205,7 @@ fn closure(
     first: Option<u32>,
 ) -> Result<Expr, AllocError> {
     let pats = ids(alloc, args)?;
-    let types = arg_types(alloc, args, id(first))?;
+    let types = Boxed::new(alloc, arg_types(alloc, args, id(first))?)?;
     Ok(Expr::Closure {
         args: pats,
         arg_types: types,
@@ -265,7 +265,7 @@ pub fn expr(alloc: Global, step: &ExprStep) -> Result<Expr, AllocError> {
 
 /// `a(..)`
 fn some(alloc: Global, args: &[u32]) -> Result<Pat, AllocError> {
-    let path = path(alloc, &Start::Plain, &["a"])?;
+    let path = Boxed::new(alloc, path(alloc, &Start::Plain, &["a"])?)?;
     let args = ids(alloc, args)?;
     Ok(Pat::TupleStruct {
         path,

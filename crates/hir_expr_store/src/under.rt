@@ -85,7 +85,7 @@ impl ExpressionStore {
 
     /// Whether no kid of a node is in the set, which is of nodes of this store. Then no node in it lies under another node.
     ///
-    /// It takes time in the number of nodes, and no memory.
+    /// It takes time in the number of nodes and edges, and no memory.
     pub fn no_kid_is_in(&self, set: &NodeSet) -> bool
         requires { set.now.sizes ≡ sizes_of self.now.nodes }
         ensures { IsTrue result ↔ NoKidIn self.now.nodes set.now }

@@ -195,12 +195,12 @@ impl TestedNode for Expr {
 
     fn held(&self) -> Holds<'_> {
         match self {
-            Expr::Path(path)
-            | Expr::RecordLit {
+            Expr::Path(path) => a_path(path),
+            Expr::RecordLit {
                 path,
                 fields: _,
                 spread: _,
-            } => a_path(path),
+            } => a_path(path.get()),
             Expr::MethodCall {
                 receiver: _,
                 method_name: _,
@@ -344,17 +344,17 @@ impl TestedNode for Pat {
 
     fn held(&self) -> Holds<'_> {
         match self {
+            Pat::Path(path) => a_path(path),
             Pat::Record {
                 path,
                 args: _,
                 ellipsis: _,
             }
-            | Pat::Path(path)
             | Pat::TupleStruct {
                 path,
                 args: _,
                 ellipsis: _,
-            } => a_path(path),
+            } => a_path(path.get()),
             Pat::Missing
             | Pat::Rest
             | Pat::Wild

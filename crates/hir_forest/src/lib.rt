@@ -1,5 +1,6 @@
 //! The first fault of a graph of numbered nodes and its roots, in time linear in nodes, edges and roots and without recursion;
-//! the laws of a graph that has none, a forest; and the table of what lies under marked nodes. It knows nothing of what the nodes are.
+//! the laws of a graph that has none, a forest; the parents of a graph, noted edge by edge; and the table of what lies under marked
+//! nodes. It knows nothing of what the nodes are.
 #![tactic(auto)]
 
 mod chains;

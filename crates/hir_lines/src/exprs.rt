@@ -11,7 +11,7 @@ use crate::stop::Stop;
 use crate::words::{Words, each};
 use hir_base::{BlockId, Seq};
 use hir_node::{
-    Array, CaptureBy, ClosureKind, Expr, Literal, LoopSource, Mutability, PatId, Rawness,
+    Array, Boxed, CaptureBy, ClosureKind, Expr, Literal, LoopSource, Mutability, PatId, Rawness,
     TypeRefId, Unsafe,
 };
 use std::alloc::{AllocError, Global};
@@ -201,7 +201,7 @@ fn closure<B: Builder>(alloc: Global, words: &mut Words<'_>, builder: &mut B) ->
 {
     let body = words.id()?;
     let args = words.list(alloc)?;
-    let arg_types = untyped(alloc, args.as_slice())?;
+    let arg_types = Boxed::new(alloc, untyped(alloc, args.as_slice())?)?;
     let closure = Expr::Closure {
         args,
         arg_types,

@@ -5,8 +5,8 @@ use crate::kept::{Line, Maker};
 use crate::says::{id, list, path, says};
 use hir_base::{BlockId, MacroDefId, Seq};
 use hir_node::{
-    Array, CaptureBy, ClosureKind, Expr, Item, Literal, LoopSource, MatchArm, Mutability, Rawness,
-    Statement, Unsafe,
+    Array, Boxed, CaptureBy, ClosureKind, Expr, Item, Literal, LoopSource, MatchArm, Mutability,
+    Rawness, Statement, Unsafe,
 };
 use std::alloc::{AllocError, Global};
 use std::test::Fail;
@@ -144,7 +144,7 @@ fn of_parts(alloc: Global, at: usize) -> Result<Expr, AllocError> {
         },
         2 => Expr::Closure {
             args: list(alloc, &[id(2), id(3)])?,
-            arg_types: list(alloc, &[None, None])?,
+            arg_types: Boxed::new(alloc, list(alloc, &[None, None])?)?,
             ret_type: None,
             body: id(0),
             closure_kind: ClosureKind::Closure,

@@ -5,7 +5,8 @@ use crate::says::{id, list, makes, path, says};
 use hir_base::{HygieneId, Name, RangeOp, Seq, SyntaxContext};
 use hir_lines::{BodyQuestion, Question, StoreQuestion};
 use hir_node::{
-    ArrayType, Binding, BindingAnnotation, ConstRef, ExprId, ExprOrPatId, Pat, PatId, TypeRef,
+    ArrayType, Binding, BindingAnnotation, Boxed, ConstRef, ExprId, ExprOrPatId, Pat, PatId,
+    TypeRef,
 };
 use std::alloc::{AllocError, Global};
 use std::test::Fail;
@@ -136,7 +137,7 @@ fn pattern(alloc: Global, at: usize) -> Result<Pat, AllocError> {
         },
         10 => Pat::Or(Seq::new(alloc)),
         _ => Pat::TupleStruct {
-            path: path(alloc, "Some")?,
+            path: Boxed::new(alloc, path(alloc, "Some")?)?,
             args: list(alloc, &[id(0)])?,
             ellipsis: None,
         },

@@ -95,7 +95,7 @@ impl Expr {
             } => {
                 visit_each(visitor, fields.as_slice());
                 visit_spread(visitor, *spread);
-                visitor.on_path(path);
+                visitor.on_path(path.get());
             }
             Expr::Cast { expr, type_ref } => {
                 visitor.on_expr(*expr);
@@ -123,7 +123,7 @@ impl Expr {
             } => {
                 visitor.on_expr(*body);
                 visitor.on_pats(args.as_slice());
-                visit_each(visitor, arg_types.as_slice());
+                visit_each(visitor, arg_types.get().as_slice());
                 visitor.on_type_opt(*ret_type);
             }
             Expr::Tuple { exprs } => visitor.on_exprs(exprs.as_slice()),
@@ -174,7 +174,7 @@ impl Pat {
                 ellipsis: _,
             } => {
                 visit_each(visitor, args.as_slice());
-                visitor.on_path(path);
+                visitor.on_path(path.get());
             }
             Pat::Range {
                 start,
@@ -202,7 +202,7 @@ impl Pat {
                 ellipsis: _,
             } => {
                 visitor.on_pats(args.as_slice());
-                visitor.on_path(path);
+                visitor.on_path(path.get());
             }
             Pat::Ref { pat, mutability: _ } => visitor.on_pat(*pat),
             Pat::Box { inner } | Pat::Deref { inner } => visitor.on_pat(*inner),

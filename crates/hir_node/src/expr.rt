@@ -89,7 +89,7 @@ pub enum Expr {
         expr: ExprId,
     },
     RecordLit {
-        path: Path,
+        path: Boxed<Path>,
         fields: Seq<RecordLitField>,
         spread: RecordSpread,
     },
@@ -128,7 +128,7 @@ pub enum Expr {
     },
     Closure {
         args: Seq<PatId>,
-        arg_types: Seq<Option<TypeRefId>>,
+        arg_types: Boxed<Seq<Option<TypeRefId>>>,
         ret_type: Option<TypeRefId>,
         body: ExprId,
         closure_kind: ClosureKind,
@@ -408,7 +408,7 @@ fn clone_method_call(
 
 /// A record literal with copies of these parts.
 fn clone_record_lit(
-    path: &Path,
+    path: &Boxed<Path>,
     fields: &Seq<RecordLitField>,
     spread: RecordSpread,
 ) -> Result<Expr, AllocError>
@@ -425,8 +425,8 @@ fn clone_record_lit(
 /// Copies of the lists of a closure's parameters and of their types.
 fn clone_params(
     args: &Seq<PatId>,
-    arg_types: &Seq<Option<TypeRefId>>,
-) -> Result<(Seq<PatId>, Seq<Option<TypeRefId>>), AllocError>
+    arg_types: &Boxed<Seq<Option<TypeRefId>>>,
+) -> Result<(Seq<PatId>, Boxed<Seq<Option<TypeRefId>>>), AllocError>
     ensures { IfOk result (λ copy. (copy.0 ≡ args.now) × (copy.1 ≡ arg_types.now)) }
 {
     Ok((args.try_clone()?, arg_types.try_clone()?))

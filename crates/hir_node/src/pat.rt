@@ -5,7 +5,7 @@ ghost use Rattle.hir_base.specs.Exact.{exact};
 
 use crate::type_ref::Mutability;
 use hir_base::{ExactEq, Name, RangeOp, Seq, TryClone};
-use hir_path::{BindingId, ExprId, PatId, Path};
+use hir_path::{BindingId, Boxed, ExprId, PatId, Path};
 use std::alloc::AllocError;
 
 /// A field of a record pattern: its name, and the pattern that its value matches.
@@ -41,7 +41,7 @@ pub enum Pat {
     },
     Or(Seq<PatId>),
     Record {
-        path: Path,
+        path: Boxed<Path>,
         args: Seq<RecordFieldPat>,
         /// Whether `..` comes last.
         ellipsis: bool,
@@ -71,7 +71,7 @@ pub enum Pat {
         subpat: Option<PatId>,
     },
     TupleStruct {
-        path: Path,
+        path: Boxed<Path>,
         args: Seq<PatId>,
         /// The place of `..` among the arguments, if there is one.
         ellipsis: Option<u32>,
@@ -163,7 +163,11 @@ impl Clone for Pat {
 }
 
 /// A record pattern with copies of these parts.
-fn clone_record(path: &Path, args: &Seq<RecordFieldPat>, ellipsis: bool) -> Result<Pat, AllocError>
+fn clone_record(
+    path: &Boxed<Path>,
+    args: &Seq<RecordFieldPat>,
+    ellipsis: bool,
+) -> Result<Pat, AllocError>
     ensures { IfOk result (λ copy. copy ≡ Pat.Record path.now args.now ellipsis) }
 {
     // The list first: where the path can't be cloned, what is dropped isn't a path.
@@ -176,7 +180,7 @@ fn clone_record(path: &Path, args: &Seq<RecordFieldPat>, ellipsis: bool) -> Resu
 
 /// A tuple struct pattern with copies of these parts.
 fn clone_tuple_struct(
-    path: &Path,
+    path: &Boxed<Path>,
     args: &Seq<PatId>,
     ellipsis: Option<u32>,
 ) -> Result<Pat, AllocError>

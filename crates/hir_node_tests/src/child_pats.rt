@@ -77,7 +77,8 @@ fn field(alloc: Global, name: &str, pat: u32) -> Result<RecordFieldPat, AllocErr
 fn record(alloc: Global) -> Result<Pat, AllocError> {
     let fields = build::only(alloc, field(alloc, "x", 6));
     let fields = build::with(fields, field(alloc, "y", 5));
-    match build::both(build::with_args_first(alloc, &["A"]), fields) {
+    let path = build::boxed(alloc, build::with_args_first(alloc, &["A"]));
+    match build::both(path, fields) {
         Ok((path, args)) => Ok(Pat::Record {
             path,
             args,

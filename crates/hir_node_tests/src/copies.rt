@@ -91,7 +91,8 @@ fn field(alloc: Global) -> Result<RecordLitField, AllocError> {
 // `S { x: 1, ..2 }`
 fn record(alloc: Global) -> Result<Expr, AllocError> {
     let fields = build::only(alloc, field(alloc));
-    match build::both(build::bare(alloc, &["S"]), fields) {
+    let path = build::boxed(alloc, build::bare(alloc, &["S"]));
+    match build::both(path, fields) {
         Ok((path, fields)) => Ok(Expr::RecordLit {
             path,
             fields,
@@ -139,7 +140,8 @@ fn field_pat(alloc: Global) -> Result<RecordFieldPat, AllocError> {
 // `S { x: 1, .. }`
 fn record_pat(alloc: Global) -> Result<Pat, AllocError> {
     let fields = build::only(alloc, field_pat(alloc));
-    match build::both(build::bare(alloc, &["S"]), fields) {
+    let path = build::boxed(alloc, build::bare(alloc, &["S"]));
+    match build::both(path, fields) {
         Ok((path, args)) => Ok(Pat::Record {
             path,
             args,

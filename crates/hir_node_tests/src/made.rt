@@ -50,7 +50,7 @@ pub fn block(alloc: Global) -> Result<Expr, AllocError> {
 /// A closure of body 0 and the patterns 1 and 2, of which the second is of type 3, that gives type 4.
 pub fn closure(alloc: Global) -> Result<Expr, AllocError> {
     let args = build::two(alloc, Idx::from_raw(1), Idx::from_raw(2));
-    let arg_types = build::two(alloc, None, Some(Idx::from_raw(3)));
+    let arg_types = build::boxed(alloc, build::two(alloc, None, Some(Idx::from_raw(3))));
     match build::both(args, arg_types) {
         Ok((args, arg_types)) => Ok(Expr::Closure {
             args,
@@ -66,7 +66,7 @@ pub fn closure(alloc: Global) -> Result<Expr, AllocError> {
 
 /// `A<3>(1)`
 pub fn tuple_struct(alloc: Global) -> Result<Pat, AllocError> {
-    let path = build::with_args_first(alloc, &["A"]);
+    let path = build::boxed(alloc, build::with_args_first(alloc, &["A"]));
     match build::both(path, build::one(alloc, Idx::from_raw(1))) {
         Ok((path, args)) => Ok(Pat::TupleStruct {
             path,

@@ -1,6 +1,6 @@
 //! Paths with their generic arguments, as `crate::foo` or `<Type as Trait>::bar::<u8>`.
 //! The views of a path's segments are in `segments`.
-ghost use Rattle.std.specs.Prelude.{◌≡◌, ◌↔◌, IfOk, IfErr, IsTrue, length, [], ◌∷◌, None};
+ghost use Rattle.std.specs.Prelude.{◌≡◌, ◌↔◌, IfOk, IfErr, IsTrue, length, IsOk, [], ◌∷◌, None};
 ghost use Rattle.std.specs.Option.{option_copied};
 ghost use Rattle.hir_base.specs.Exact.{exact};
 ghost use Rattle.hir_path.specs.Paths.{no_args, but_last};
@@ -68,9 +68,10 @@ impl Path {
         Path::BarePath(mod_path)
     }
 
-    /// The plain path of one name. It takes no memory, and is never refused.
+    /// The plain path of one name. It takes no memory, and is never refused; it has the form of the other makers.
     pub fn from_name(_alloc: Global, name: Name) -> Result<Path, AllocFailed<Name>>
         ensures ok { IfOk result (λ made. made ≡ one_name name) }
+        ensures never_refused { IsOk result }
         ensures value_returned { IfErr result (λ failed. failed.value ≡ name) }
     {
         Ok(Path::BarePath(ModPath::from_name(name)))

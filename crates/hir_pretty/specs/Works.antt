@@ -277,10 +277,11 @@ pub record IsOnlyName (found : Option Expr) (name : List ℕ) : Type 0 where
   pub is_path : found ≡ Some (expr.Path (path.BarePath whole))
   pub is_name : ident_of whole ≡ Some name
 
--- the texts of a binding, which may be missing
+-- the texts of a binding
 abbrev pub binding_texts : List (List ℕ) → Binding → List (List ℕ)
 binding_texts words b = annotation_text b.mode ∷ name_parts words b.name
 
+-- the texts of what is there
 abbrev pub opt_texts : {X : Type 0} → (X → List (List ℕ)) → Option X → List (List ℕ)
 opt_texts texts None = []
 opt_texts texts (Some x) = texts x

@@ -1,4 +1,4 @@
-//! What is looked up in the tables and in the store, put on the stack of what is still to be printed.
+//! What is looked up in the tables and in the store, put on the stack of what is still to be printed; a binding is written at once.
 #![tactic(auto, using(crate::proofs::OpenLemmas::opening))]
 
 ghost use Rattle.std.specs.Prelude.{◌≡◌, ◌∷◌, [], ◌++◌, List, ℕ, Bool, Ok, OnOk, codes, Some, is_ok, map, slice_get};

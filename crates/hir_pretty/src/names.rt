@@ -55,7 +55,7 @@ fn write_raw<W: PieceWriter>(writer: &mut W, words: &[Text], name: &str) -> Resu
     Ok(())
 }
 
-/// Writes a name that begins with a `'`, and then this.
+/// Writes `'` and `rest`, with `r#` between them where the words list `rest`; `'static` stands as it is.
 #[inline(never)]
 fn write_quoted<W: PieceWriter>(
     writer: &mut W,

@@ -220,7 +220,7 @@ pub(crate) fn open_pat<'a>(stack: &mut Stack<'a>, pat: &'a Pat) -> Result<(), Al
             path,
             args,
             ellipsis,
-        } => open_record(stack, path, args.as_slice(), *ellipsis),
+        } => open_record(stack, path.get(), args.as_slice(), *ellipsis),
         Pat::Range {
             start,
             end,
@@ -239,7 +239,7 @@ pub(crate) fn open_pat<'a>(stack: &mut Stack<'a>, pat: &'a Pat) -> Result<(), Al
             path,
             args,
             ellipsis,
-        } => open_tuple_struct(stack, path, args.as_slice(), *ellipsis),
+        } => open_tuple_struct(stack, path.get(), args.as_slice(), *ellipsis),
         Pat::Ref { pat, mutability } => stack.push(&[
             Work::Text("&"),
             Work::Text(mutability.as_keyword_for_ref()),

@@ -1,4 +1,4 @@
-//! A turn of the printer's loop: a piece is written, a node or a part gives way to its items.
+//! A turn of the printer's loop: a piece, a name or a binding is written, a node or a part gives way to its items.
 #![tactic(auto, using(crate::proofs::TurnLemmas::turns))]
 
 ghost use Rattle.std.specs.Prelude.{◌≡◌, ◌+◌, ◌++◌, Some, None, OnOk, IfErr, IfSome, true, codes, slice_get};

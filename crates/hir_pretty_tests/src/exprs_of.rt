@@ -255,7 +255,7 @@ fn block(alloc: Global, written: &BlockOf) -> Result<Expr, AllocError> {
 
 fn closure(alloc: Global, written: &ClosureOf) -> Result<Expr, AllocError> {
     let args = ids(alloc, written.args)?;
-    let arg_types = all(alloc, written.arg_types)?;
+    let arg_types = Boxed::new(alloc, all(alloc, written.arg_types)?)?;
     let capture_by = if written.by_value {
         CaptureBy::Value
     } else {
@@ -277,7 +277,7 @@ fn record(
     fields: &[FieldOf],
     after: &SpreadOf,
 ) -> Result<Expr, AllocError> {
-    let path = path.made(alloc)?;
+    let path = Boxed::new(alloc, path.made(alloc)?)?;
     let fields = all(alloc, fields)?;
     Ok(Expr::RecordLit {
         path,

@@ -2,7 +2,7 @@
 use crate::memory::{Written, all, id, ids};
 use crate::paths_of::PathOf;
 use hir_base::{HygieneId, Idx, Name, RangeOp};
-use hir_node::{Binding, BindingAnnotation, Mutability, Pat, RecordFieldPat};
+use hir_node::{Binding, BindingAnnotation, Boxed, Mutability, Pat, RecordFieldPat};
 use std::alloc::{AllocError, Global};
 
 /// A binding of this name, with these words before it.
@@ -66,7 +66,7 @@ fn record(
     fields: &[FieldOf],
     ellipsis: bool,
 ) -> Result<Pat, AllocError> {
-    let path = path.made(alloc)?;
+    let path = Boxed::new(alloc, path.made(alloc)?)?;
     let args = all(alloc, fields)?;
     Ok(Pat::Record {
         path,
@@ -96,7 +96,7 @@ fn tuple_struct(
     args: &[u32],
     ellipsis: Option<u32>,
 ) -> Result<Pat, AllocError> {
-    let path = path.made(alloc)?;
+    let path = Boxed::new(alloc, path.made(alloc)?)?;
     let args = ids(alloc, args)?;
     Ok(Pat::TupleStruct {
         path,

@@ -99,7 +99,7 @@ impl Queue<Task> {
                 capture_by: _,
             } => push_closure(
                 tasks,
-                arg_types.as_slice(),
+                arg_types.get().as_slice(),
                 *ret_type,
                 args.as_slice(),
                 *body,

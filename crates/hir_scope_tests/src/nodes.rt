@@ -222,7 +222,7 @@ fn block(
 /// The closure of these parts.
 fn closure(alloc: Global, body: u32, args: &[u32], first: Option<u32>) -> Result<Expr, AllocError> {
     let pats = ids(alloc, args)?;
-    let types = arg_types(alloc, args, id(first))?;
+    let types = boxed(alloc, arg_types(alloc, args, id(first)))?;
     Ok(Expr::Closure {
         args: pats,
         arg_types: types,
@@ -297,7 +297,7 @@ pub fn expr(alloc: Global, step: &ExprStep) -> Result<Expr, AllocError> {
 
 /// `Some(..)`
 fn some(alloc: Global, args: &[u32]) -> Result<Pat, AllocError> {
-    let path = Path::BarePath(plain(alloc)?);
+    let path = boxed(alloc, plain(alloc).map(Path::BarePath))?;
     let args = ids(alloc, args)?;
     Ok(Pat::TupleStruct {
         path,

@@ -269,7 +269,7 @@ pub fn expr(alloc: Global, step: &ExprStep) -> Result<Expr, AllocError> {
 
 /// `a(pattern)`
 fn around(alloc: Global, inner: u32) -> Result<Pat, AllocError> {
-    match both(bare(alloc), ids(alloc, &[inner])) {
+    match both(boxed(alloc, bare(alloc)), ids(alloc, &[inner])) {
         Ok((path, args)) => Ok(Pat::TupleStruct {
             path,
             args,
