@@ -46,7 +46,7 @@ pub returns-in-Yeet : goal.returns-in-Yeet
 returns-in-Yeet c = rw c.in-Yeet.is (on_ok_weaker c.open_yeet.result (λ o s. opens_as (o s) refl (omega arith)) c.open_yeet.ensures)
 
 pub returns-in-RecordLit : goal.returns-in-RecordLit
-returns-in-RecordLit c = rw c.in-RecordLit.is (on_ok_weaker c.open_record_lit.result (λ o s. opens_as (o s) refl (omega arith)) (rw c.as_slice-in-RecordLit.ensures at c.open_record_lit.ensures))
+returns-in-RecordLit c = rw c.in-RecordLit.is (on_ok_weaker c.open_record_lit.result (λ o s. opens_as (o s) refl (omega arith)) (rw (c.get.ensures, c.as_slice-in-RecordLit.ensures) at c.open_record_lit.ensures))
 
 pub returns-in-Field : goal.returns-in-Field
 returns-in-Field c = rw c.in-Field.is (on_ok_weaker c.open_field.result (λ o s. opens_as (o s) refl (omega arith)) c.open_field.ensures)
@@ -90,7 +90,7 @@ pub returns-in-Block : goal.returns-in-Block
 returns-in-Block c = rw c.in-Block.is (on_ok_weaker c.open_block.result (λ o s. opens_as (o s) refl (omega arith)) (rw c.as_slice-in-Block.ensures at c.open_block.ensures))
 
 pub returns-in-Closure : goal.returns-in-Closure
-returns-in-Closure c = rw c.in-Closure.is (on_ok_weaker c.open_closure.result (λ o s. opens_as (o s) refl (omega arith)) (rw (c.as_slice-in-Closure.ensures, c.as_slice-in-Closure-2.ensures) at c.open_closure.ensures))
+returns-in-Closure c = rw c.in-Closure.is (on_ok_weaker c.open_closure.result (λ o s. opens_as (o s) refl (omega arith)) (rw (c.as_slice-in-Closure.ensures, c.as_slice-in-Closure-2.ensures, c.get-in-Closure.ensures) at c.open_closure.ensures))
 
 pub returns-in-Missing : goal.returns-in-Missing
 returns-in-Missing c = rw c.in-Missing.is (on_ok_weaker c.open_text.result (λ o s. opens_as (o s) refl (omega arith)) c.open_text.ensures)

@@ -131,17 +131,17 @@ on_pats-requires g c =
 pub visit_each-requires-in-Closure : goal.visit_each-requires-in-Closure
 visit_each-requires-in-Closure g c =
     let rest = may_then (rw c.in-Closure.is at c.requires) c.on_expr-in-Closure.ensures in
-    rw c.as_slice-in-Closure-2.ensures (may_after (may_first _ (opt t c.in-Closure.ret_type) rest) (rw c.as_slice-in-Closure.ensures at c.on_pats.ensures))
+    rw c.as_slice-in-Closure-2.ensures (rw c.get-in-Closure.ensures (may_after (may_first _ (opt t c.in-Closure.ret_type) rest) (rw c.as_slice-in-Closure.ensures at c.on_pats.ensures)))
 
 pub on_type_opt-requires : goal.on_type_opt-requires
 on_type_opt-requires g c =
     let rest = may_then (rw c.in-Closure.is at c.requires) c.on_expr-in-Closure.ensures in
-    may_after rest (runs_append (rw c.as_slice-in-Closure.ensures at c.on_pats.ensures) (rw c.as_slice-in-Closure-2.ensures at c.visit_each-in-Closure.ensures))
+    may_after rest (runs_append (rw c.as_slice-in-Closure.ensures at c.on_pats.ensures) (rw c.get-in-Closure.ensures at (rw c.as_slice-in-Closure-2.ensures at c.visit_each-in-Closure.ensures)))
 
 pub returns-in-Closure : goal.returns-in-Closure
 returns-in-Closure g c =
     let pats = rw c.as_slice-in-Closure.ensures at c.on_pats.ensures in
-    let types = rw c.as_slice-in-Closure-2.ensures at c.visit_each-in-Closure.ensures in
+    let types = rw c.get-in-Closure.ensures at (rw c.as_slice-in-Closure-2.ensures at c.visit_each-in-Closure.ensures) in
     rw c.in-Closure.is (a_call c.on_expr-in-Closure.ensures (runs_append (runs_append pats types) c.on_type_opt.ensures))
 
 pub on_exprs-requires-in-Tuple : goal.on_exprs-requires-in-Tuple
