@@ -1,4 +1,4 @@
-//! What pages look like: the worked shapes of layout and of literals, in lines and in one line, and pages whose memory is refused.
+//! What pages look like: the worked shapes of layout and of literals, in lines and in one line.
 #![tactic(auto)]
 
 #[cfg(test)]

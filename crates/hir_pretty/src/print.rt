@@ -60,7 +60,10 @@ fn line_format(one_line: bool) -> LineFormat
     }
 }
 
-/// The text of what works stand for, the first first.
+/// The text of what works stand for, the first first. It turns the works round where they lie.
+///
+/// Answers `Missing` of the first definition outside that they name and that the tables don't have, and `Memory` where memory was refused.
+/// A text that was begun is dropped.
 pub fn print_works<'a, D: Definitions>(
     alloc: Global,
     store: &'a ExpressionStore,

@@ -2,6 +2,7 @@
 use crate::exprs_of::ExprOf;
 use crate::memory::{Written, misses};
 use crate::paths_of::{KindOf, LangOf, PathOf};
+use crate::rows::NEW;
 use crate::tables_of::{named, none, signed};
 use crate::tree::{self, BARE, Tree};
 use crate::types_of::{
@@ -83,6 +84,18 @@ pub const BOTH: Tree<'static> = Tree {
     ..BARE
 };
 
+fn path_misses(
+    alloc: Global,
+    tables: &Tables,
+    path: &PathOf,
+    wanted: Missing,
+) -> Result<bool, Fail> {
+    let store = tree::store(alloc, &BARE)?;
+    let path = path.made(alloc)?;
+    let printed = tree::of_path(alloc, tables, &store, &path, Edition::Edition2021)?;
+    misses(&printed, wanted)
+}
+
 #[test]
 fn names(rt: HostRuntime) -> Result<(), Fail> {
     let a = rt.alloc();
@@ -94,9 +107,10 @@ fn names(rt: HostRuntime) -> Result<(), Fail> {
         expr_misses(a, &empty, &BOTH, struct_1())?,
         expr_misses(a, &one, &BOTH, Missing::Name(function(0)))?,
         expr_misses(a, &other, &BOTH, struct_1())?,
+        path_misses(a, &empty, &NEW, Missing::Name(function(0)))?,
     ];
     let text = tree::expr_text(a, &both, &BOTH)?;
-    assert_eq!(&rt; found, [true; 3]);
+    assert_eq!(&rt; found, [true; 4]);
     assert_eq!(&rt;
         text.as_str(),
         "(builtin#lang(<missing>), builtin#lang(f), )"
@@ -105,10 +119,7 @@ fn names(rt: HostRuntime) -> Result<(), Fail> {
 }
 
 fn crate_misses(alloc: Global, tables: &Tables, path: &PathOf, wanted: u32) -> Result<bool, Fail> {
-    let store = tree::store(alloc, &BARE)?;
-    let path = path.made(alloc)?;
-    let printed = tree::of_path(alloc, tables, &store, &path, Edition::Edition2021)?;
-    misses(&printed, Missing::Crate(CrateId::from_raw(wanted)))
+    path_misses(alloc, tables, path, Missing::Crate(CrateId::from_raw(wanted)))
 }
 
 #[test]

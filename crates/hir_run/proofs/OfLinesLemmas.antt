@@ -75,7 +75,7 @@ module _ (said : (text : List ℕ) → IsLine (line_of text) text) where
       let name_too = has_name || gives_name (line_of text) in
       one_made text has_self has_name m h (filter_map maker_of (once_each self_too name_too (says texts))) (λ n k. each_made texts self_too name_too n k)
 
-  made_of_lines : (texts : List (List ℕ)) → AreOfLines (built_by (script texts)).built.nodes
+  pub made_of_lines : (texts : List (List ℕ)) → AreOfLines (built_by (script texts)).built.nodes
   unfolding built_by
   made_of_lines texts = each_made texts false false nothing_made (record { exprs = λ id x e. cc; pats = λ id x e. cc; types = λ id x e. cc })
 

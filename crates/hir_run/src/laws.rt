@@ -1,11 +1,15 @@
 //! Laws of the definitions that the program's contracts cite, as contracts of functions that do nothing.
 
-ghost use Rattle.std.specs.Prelude.{◌≡◌, ℕ, List};
+ghost use Rattle.std.specs.Prelude.{◌≡◌, ℕ, List, Option, None};
 ghost use Rattle.hir_lines.specs.Line.{Line};
-ghost use Rattle.hir_run.specs.Program.{Outcome, IsMeaning};
+ghost use Rattle.hir_pretty.specs.Pieces.{first_missing};
+ghost use Rattle.hir_run.specs.Made.{body_parts};
+ghost use Rattle.hir_run.specs.Printed.{body_pieces};
+ghost use Rattle.hir_run.specs.Program.{Outcome, IsMeaning, built_by, script};
 
 use hir_captures::laws::captures_are_one;
 use hir_items::body_laws::first_body_fault_is_one;
+use hir_lines::laws::said_is_written;
 use hir_scope::laws::a_reached_node_has_one_chain;
 use hir_store::laws::first_fault_is_one;
 
@@ -18,4 +22,13 @@ pub fn meaning_is_one()
     first_body_fault_is_one();
     a_reached_node_has_one_chain();
     captures_are_one();
+}
+
+/// No line makes a node that names a definition outside: nothing is missing of what `print` writes of the body that lines make, whatever
+/// their texts are.
+pub fn nothing_is_missing()
+    ensures { (texts : List (List ℕ)) (name : Option (List ℕ))
+        → first_missing (body_pieces name (body_parts (built_by (script texts)))) ≡ None }
+{
+    said_is_written();
 }

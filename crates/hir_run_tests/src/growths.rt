@@ -77,3 +77,31 @@ fn refused_growths_of_runs(rt: HostRuntime) -> Result<(), Fail> {
     }
     Ok(())
 }
+
+/// A print between two other answers.
+const PRINT: &[u8] =
+    b"bind x\npat bind 0 -\nexpr path x\nparam 0\nroot 0\nfn f\nchildren 0\nprint\nchain 0\n";
+
+#[test]
+fn refused_growths_of_a_print(rt: HostRuntime) -> Result<(), Fail> {
+    let alloc = rt.alloc();
+    let mut seen = run_once(alloc, PRINT, by(1_000_000), by(1000));
+    if seen.ended == Err(RunFault::OutOfMemory) {
+        eprintln!(rt; "{REFUSED}")?;
+        // The answers before the line that wanted memory are whole.
+        let written = seen.writer.bytes.as_slice();
+        assert!(&rt;
+            written == b"".as_slice()
+                || written == b"children 0 =\n".as_slice()
+                || written == b"children 0 =\nfn f(x) x\n".as_slice(),
+            "{written:?}"
+        );
+        seen = run_once(alloc, PRINT, by(1_000_000), by(1000));
+    }
+    assert_eq!(&rt; seen.ended, Ok(()));
+    assert_eq!(&rt;
+        seen.writer.bytes.as_slice(),
+        b"children 0 =\nfn f(x) x\nchain 0 = x\n".as_slice()
+    );
+    Ok(())
+}

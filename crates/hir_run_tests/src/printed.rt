@@ -91,7 +91,7 @@ const BODIES: [Row; 12] = [
 ];
 
 /// Where `print` comes, and with what name.
-const PLACES: [Row; 6] = [
+const PLACES: [Row; 8] = [
     Row {
         name: "printed_twice_between_questions",
         input: b"expr path a\nroot 0\nfn f\nprint\nchildren 0\n\nprint\n",
@@ -103,6 +103,20 @@ const PLACES: [Row; 6] = [
         name: "printed_before_and_behind_scopes",
         input: b"bind x\npat bind 0 -\nexpr path x\nparam 0\nroot 0\nfn f\nprint\nchain 0\nprint\nchildren 0\n",
         output: b"fn f(x) x\nchain 0 = x\nfn f(x) x\nchildren 0 =\n",
+        said: b"",
+        status: 0,
+    },
+    Row {
+        name: "keywords_as_names",
+        input: b"bind fn\npat bind 0 -\nexpr path match\nparam 0\nroot 0\nfn fn\nprint\n",
+        output: b"fn fn(fn) match\n",
+        said: b"",
+        status: 0,
+    },
+    Row {
+        name: "text_that_ends_in_a_line_end",
+        input: b"expr path x\nexpr match 0\nroot 1\nfn f\nprint\n",
+        output: b"fn f() match x {\n}\n\n",
         said: b"",
         status: 0,
     },
