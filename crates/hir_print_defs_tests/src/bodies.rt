@@ -13,7 +13,7 @@ use std::alloc::Global;
 use std::test::Fail;
 
 /// `{ let x = &x; x }` with the parameter `x`.
-const LET: Tree = Tree {
+pub const LET: Tree = Tree {
     bindings: &[BindingOf("x"), BindingOf("x")],
     pats: &[PatOf::Bind(0), PatOf::Bind(1)],
     exprs: &[
@@ -121,7 +121,7 @@ const ONE: Tree = Tree {
     ..BARE
 };
 
-fn function() -> DefWithBodyId {
+pub fn function() -> DefWithBodyId {
     DefWithBodyId::FunctionId(FunctionId::from_raw(0))
 }
 

@@ -15,7 +15,7 @@ use std::alloc::Global;
 use std::test::Fail;
 
 /// `fn impl_trait_args<T, Param[1]>(Param[1])`, where `Param[1]: Trait`.
-const IMPL_TRAIT: FunctionOf = FunctionOf {
+pub const IMPL_TRAIT: FunctionOf = FunctionOf {
     name: "impl_trait_args",
     tree: Tree {
         types: &[
@@ -35,7 +35,7 @@ const IMPL_TRAIT: FunctionOf = FunctionOf {
 };
 
 /// Tables with the signatures of function 0 and of struct 0.
-fn signed(alloc: Global) -> Result<Box<Tables>, Fail> {
+pub fn signed(alloc: Global) -> Result<Box<Tables>, Fail> {
     let mut tables = named(alloc, &[])?;
     let of_function = function(alloc, &IMPL_TRAIT)?;
     let of_struct = structure(alloc, &BARE, &NONE, FieldsShape::Tuple, false)?;
@@ -54,7 +54,7 @@ fn signed(alloc: Global) -> Result<Box<Tables>, Fail> {
     Ok(tables)
 }
 
-fn structure_of(number: u32) -> GenericDefId {
+pub fn structure_of(number: u32) -> GenericDefId {
     GenericDefId::AdtId(AdtId::StructId(StructId::from_raw(number)))
 }
 

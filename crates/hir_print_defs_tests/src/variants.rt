@@ -26,7 +26,7 @@ const U32: Tree = Tree {
 
 /// From where a field may be seen.
 #[derive(Clone, Copy)]
-enum Seen {
+pub enum Seen {
     Public,
     Crate,
     Itself,
@@ -35,7 +35,7 @@ enum Seen {
 
 /// A field: from where it may be seen, whether it is unsafe, and its name.
 #[derive(Drop)]
-struct Field {
+pub struct Field {
     seen: Seen,
     is_unsafe: bool,
     name: &'static str,
@@ -91,7 +91,7 @@ pub fn no_sources(alloc: Global) -> Result<Box<ExpressionStoreSourceMap>, Fail> 
 }
 
 /// Gives the variant these fields.
-fn add(
+pub fn add(
     tables: &mut Tables,
     alloc: Global,
     id: VariantId,
@@ -103,7 +103,7 @@ fn add(
     taken(tables.add_fields(id, Box::into_inner(fields), Box::into_inner(sources)))
 }
 
-fn structure(number: u32) -> VariantId {
+pub fn structure(number: u32) -> VariantId {
     VariantId::StructId(StructId::from_raw(number))
 }
 
@@ -213,7 +213,7 @@ fn field_reads(alloc: Global, written: &[Field], wanted: &str) -> Result<bool, F
     )
 }
 
-const A_B: [Field; 1] = [Field {
+pub const A_B: [Field; 1] = [Field {
     seen: Seen::In(PathKind::Plain, &["a", "b"]),
     is_unsafe: false,
     name: "a",
