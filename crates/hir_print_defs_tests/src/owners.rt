@@ -99,6 +99,7 @@ fn other_definitions(rt: HostRuntime) -> Result<(), Fail> {
     let of_impl = GenericDefId::ImplId(ImplId::from_raw(4294967295));
     let of_static = GenericDefId::StaticId(StaticId::from_raw(2));
     let of_trait = GenericDefId::TraitId(TraitId::from_raw(3));
+    let of_2 = GenericDefId::FunctionId(FunctionId::from_raw(2));
     let of_alias = GenericDefId::TypeAliasId(TypeAliasId::from_raw(4));
     let found = [
         reads(
@@ -129,8 +130,12 @@ fn other_definitions(rt: HostRuntime) -> Result<(), Fail> {
             print_signature(a, &tables, of_alias, edition),
             "unimplemented TypeAliasId(4)",
         )?,
+        misses(
+            print_signature(a, &tables, of_2, edition),
+            Missing::Signature(of_2),
+        )?,
     ];
     drop(tables);
-    assert!(&rt; found == [true; 7]);
+    assert!(&rt; found == [true; 8]);
     Ok(())
 }

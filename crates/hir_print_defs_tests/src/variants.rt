@@ -3,8 +3,8 @@ use crate::made::named;
 use crate::memory::{first, in_a_box, misses, names, push, reads, taken};
 use crate::nodes::{self, BARE, Tree, TypeOf};
 use hir_base::{
-    CrateId, Edition, EnumId, EnumVariantId, Idx, ModPath, Name, NamedDef, PathKind, Seq, StructId,
-    UnionId, VariantId,
+    CrateId, Edition, EnumId, EnumVariantId, FunctionId, Idx, ModPath, Name, NamedDef, PathKind,
+    Seq, StructId, UnionId, VariantId,
 };
 use hir_defs::{FieldData, FieldsShape, RawVisibility, Tables, VariantFields, VariantParts};
 use hir_expr_store::Missing;
@@ -21,6 +21,12 @@ const U32: Tree = Tree {
         TypeOf::Path("u32"),
         TypeOf::Path("u32"),
     ],
+    ..BARE
+};
+
+/// The lang item that is function 1, as a type.
+const OF_ITEM: Tree = Tree {
+    types: &[TypeOf::Item(1)],
     ..BARE
 };
 
@@ -73,8 +79,13 @@ fn list(alloc: Global, written: &[Field]) -> Result<Seq<FieldData>, AllocError> 
     Ok(fields)
 }
 
-fn made(alloc: Global, shape: FieldsShape, written: &[Field]) -> Result<Box<VariantFields>, Fail> {
-    let store = nodes::store(alloc, &U32)?;
+fn made(
+    alloc: Global,
+    tree: &Tree,
+    shape: FieldsShape,
+    written: &[Field],
+) -> Result<Box<VariantFields>, Fail> {
+    let store = nodes::store(alloc, tree)?;
     let fields = list(alloc, written)?;
     let fields = VariantFields::new(VariantParts {
         shape,
@@ -90,7 +101,25 @@ pub fn no_sources(alloc: Global) -> Result<Box<ExpressionStoreSourceMap>, Fail> 
     Ok(in_a_box(alloc, sources)?)
 }
 
-/// Gives the variant these fields.
+/// Gives the variant these fields, of the types of this tree.
+fn add_of(
+    tables: &mut Tables,
+    alloc: Global,
+    id: VariantId,
+    tree: &Tree,
+    shape: FieldsShape,
+    written: &[Field],
+) -> Result<(), Fail> {
+    let fields = made(alloc, tree, shape, written)?;
+    let sources = no_sources(alloc)?;
+    taken(tables.add_fields(id, Box::into_inner(fields), Box::into_inner(sources)))
+}
+
+pub fn structure(number: u32) -> VariantId {
+    VariantId::StructId(StructId::from_raw(number))
+}
+
+/// Gives the variant these fields, of the type `u32`.
 pub fn add(
     tables: &mut Tables,
     alloc: Global,
@@ -98,13 +127,7 @@ pub fn add(
     shape: FieldsShape,
     written: &[Field],
 ) -> Result<(), Fail> {
-    let fields = made(alloc, shape, written)?;
-    let sources = no_sources(alloc)?;
-    taken(tables.add_fields(id, Box::into_inner(fields), Box::into_inner(sources)))
-}
-
-pub fn structure(number: u32) -> VariantId {
-    VariantId::StructId(StructId::from_raw(number))
+    add_of(tables, alloc, id, &U32, shape, written)
 }
 
 fn variant() -> VariantId {
@@ -300,5 +323,64 @@ fn what_is_missing_first(rt: HostRuntime) -> Result<(), Fail> {
     drop(struct_named);
     drop(parent_alone);
     assert!(&rt; found == [true; 4]);
+    Ok(())
+}
+
+/// Whether the variant misses this first.
+fn lacks(
+    alloc: Global,
+    tables: &Tables,
+    variant: VariantId,
+    wanted: Missing,
+) -> Result<bool, Fail> {
+    misses(
+        print_variant_body_hir(alloc, tables, variant, Edition::Edition2021),
+        wanted,
+    )
+}
+
+/// The names are missing before the fields, and the fields before what a field's type names.
+#[test]
+fn what_is_missing_behind_the_first(rt: HostRuntime) -> Result<(), Fail> {
+    let a = rt.alloc();
+    let union_0 = UnionId::from_raw(0);
+    let variant_0 = EnumVariantId::from_raw(0);
+    let of_union = VariantId::UnionId(union_0);
+    let union_name = NamedDef::UnionId(union_0);
+    let variant_name = NamedDef::EnumVariantId(variant_0);
+    let enum_named = (NamedDef::EnumId(EnumId::from_raw(0)), Some("E"));
+    let empty = named(a, &[])?;
+    let mut nameless = named(a, &[enum_named])?;
+    nameless.add_variant_parent(variant_0, EnumId::from_raw(0))?;
+    let mut all_named = named(
+        a,
+        &[
+            enum_named,
+            (variant_name, Some("V")),
+            (union_name, Some("U")),
+            (NamedDef::StructId(StructId::from_raw(0)), Some("S")),
+        ],
+    )?;
+    all_named.add_variant_parent(variant_0, EnumId::from_raw(0))?;
+    add_of(
+        &mut all_named,
+        a,
+        structure(0),
+        &OF_ITEM,
+        FieldsShape::Record,
+        &SELF,
+    )?;
+    let no_function = Missing::Name(NamedDef::FunctionId(FunctionId::from_raw(1)));
+    let found = [
+        lacks(a, &empty, of_union, Missing::Name(union_name))?,
+        lacks(a, &nameless, variant(), Missing::Name(variant_name))?,
+        lacks(a, &all_named, of_union, Missing::Fields(of_union))?,
+        lacks(a, &all_named, variant(), Missing::Fields(variant()))?,
+        lacks(a, &all_named, structure(0), no_function)?,
+    ];
+    drop(empty);
+    drop(nameless);
+    drop(all_named);
+    assert!(&rt; found == [true; 5]);
     Ok(())
 }
