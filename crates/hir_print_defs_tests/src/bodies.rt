@@ -1,5 +1,5 @@
 //! Bodies of functions, constants, statics and variants, and what is missing first.
-use crate::made::{body, named};
+use crate::made::{body, body_of, named};
 use crate::memory::{misses, reads};
 use crate::nodes::{BARE, BindingOf, ExprOf, FieldOf, PatOf, StatementOf, Tree};
 use hir_base::{
@@ -55,6 +55,20 @@ const ASSIGN: Tree = Tree {
         ExprOf::Block(&[StatementOf::Semi(1)], Some(2)),
     ],
     root: Some(3),
+    ..BARE
+};
+
+/// `1` with `self` and the parameter `x`, for which the user wrote the binding `me` and the pattern `y`.
+const DESUGARED: Tree = Tree {
+    bindings: &[
+        BindingOf("self"),
+        BindingOf("me"),
+        BindingOf("x"),
+        BindingOf("y"),
+    ],
+    pats: &[PatOf::Bind(2), PatOf::Bind(3)],
+    exprs: &[ExprOf::Int(1)],
+    root: Some(0),
     ..BARE
 };
 
@@ -225,7 +239,8 @@ fn functions(rt: HostRuntime) -> Result<(), Fail> {
     Ok(())
 }
 
-/// Tables in which constant 0 has no name, static 0 is `S`, and variant 0 is `V` of enum 0, which is `E`.
+/// Tables in which constant 0 has no name, static 0 is `S`, and variant 0 is `V` of enum 0, which is `E`. Of those numbered 1 the
+/// constant is `C`, and the others have no name.
 fn of_values(alloc: Global) -> Result<Box<Tables>, Fail> {
     let mut tables = named(
         alloc,
@@ -237,9 +252,14 @@ fn of_values(alloc: Global) -> Result<Box<Tables>, Fail> {
                 NamedDef::EnumVariantId(EnumVariantId::from_raw(0)),
                 Some("V"),
             ),
+            (NamedDef::ConstId(ConstId::from_raw(1)), Some("C")),
+            (NamedDef::StaticId(StaticId::from_raw(1)), None),
+            (NamedDef::EnumId(EnumId::from_raw(1)), None),
+            (NamedDef::EnumVariantId(EnumVariantId::from_raw(1)), None),
         ],
     )?;
     tables.add_variant_parent(EnumVariantId::from_raw(0), EnumId::from_raw(0))?;
+    tables.add_variant_parent(EnumVariantId::from_raw(1), EnumId::from_raw(1))?;
     Ok(tables)
 }
 
@@ -252,6 +272,9 @@ fn values(rt: HostRuntime) -> Result<(), Fail> {
     let edition = Edition::Edition2021;
     let constant = DefWithBodyId::ConstId(ConstId::from_raw(0));
     let of_static = DefWithBodyId::StaticId(StaticId::from_raw(0));
+    let other_const = DefWithBodyId::ConstId(ConstId::from_raw(1));
+    let other_static = DefWithBodyId::StaticId(StaticId::from_raw(1));
+    let other_variant = DefWithBodyId::VariantId(EnumVariantId::from_raw(1));
     let found = [
         reads(
             print_body_hir(a, &tables, &x, constant, edition),
@@ -265,11 +288,39 @@ fn values(rt: HostRuntime) -> Result<(), Fail> {
             print_body_hir(a, &tables, &one, variant(), edition),
             "enum E::V1",
         )?,
+        reads(
+            print_body_hir(a, &tables, &one, other_const, edition),
+            "const C = 1;",
+        )?,
+        reads(
+            print_body_hir(a, &tables, &one, other_static, edition),
+            "static <missing> = 1;",
+        )?,
+        reads(
+            print_body_hir(a, &tables, &x, other_variant, edition),
+            "enum <missing>::<missing>x",
+        )?,
     ];
     drop(tables);
     drop(x);
     drop(one);
-    assert!(&rt; found == [true; 3]);
+    assert!(&rt; found == [true; 6]);
+    Ok(())
+}
+
+/// The formal parameters are printed, and not what the user wrote for them.
+#[test]
+fn formal_parameters(rt: HostRuntime) -> Result<(), Fail> {
+    let a = rt.alloc();
+    let tables = of_function(a, Some("f"))?;
+    let body = body_of(a, &DESUGARED, &[0], true, 1)?;
+    let found = reads(
+        print_body_hir(a, &tables, &body, function(), Edition::Edition2021),
+        "fn f(self, x) 1",
+    )?;
+    drop(tables);
+    drop(body);
+    assert!(&rt; found);
     Ok(())
 }
 

@@ -25,7 +25,7 @@ fn function_reads(alloc: Global, written: &FunctionOf, wanted: &str) -> Result<b
 }
 
 /// `const async unsafe extern "C" fn a() -> impl ::core::future::Future::<Output = ()>`
-const FUTURE: FunctionOf = FunctionOf {
+pub const FUTURE: FunctionOf = FunctionOf {
     name: "a",
     tree: Tree {
         types: &[
@@ -50,7 +50,7 @@ const FUTURE: FunctionOf = FunctionOf {
 };
 
 /// `fn foo(dyn for<'a> Trait1 + Trait2)`
-const BOUNDED: FunctionOf = FunctionOf {
+pub const BOUNDED: FunctionOf = FunctionOf {
     name: "foo",
     tree: Tree {
         types: &[
@@ -165,8 +165,8 @@ fn flags_and_conventions(rt: HostRuntime) -> Result<(), Fail> {
     Ok(())
 }
 
-/// `<'a, 'b, T, const C: usize = 3, X = ()>` with a predicate on `T`, one on `X`, one of a function type, and `'a: 'b`.
-const ALL: Listed = Listed {
+/// `<'a, 'b, T, const C: usize = 3, X = ()>` with a predicate on `T`, one on `X`, and one of a function type.
+pub const ALL: Listed = Listed {
     types: &[
         Entry::Type("T", None),
         Entry::Constant("C", 0, Some(0)),
@@ -181,7 +181,7 @@ const ALL: Listed = Listed {
 };
 
 /// What these name.
-const OF_ALL: Tree = Tree {
+pub const OF_ALL: Tree = Tree {
     lifetimes: &[LifetimeOf::Named("'a"), LifetimeOf::Named("'b")],
     types: &[
         TypeOf::Path("usize"),
@@ -211,6 +211,38 @@ const OUTLIVES: Listed = Listed {
     types: &[],
     lifetimes: &[Lifetime("'a"), Lifetime("'b")],
     predicates: &[Predicate::Outlives(0, 1)],
+};
+
+/// `<'a, 'b, T, const C: usize>` with a predicate on `T` of each other kind of bound, and `'a: 'b` among them.
+const BOUNDS: Listed = Listed {
+    types: &[Entry::Type("T", None), Entry::Constant("C", 0, None)],
+    lifetimes: &[Lifetime("'a"), Lifetime("'b")],
+    predicates: &[
+        Predicate::Meets(&[], 1, BoundOf::Maybe(2)),
+        Predicate::Meets(&[], 3, BoundOf::Lifetime(0)),
+        Predicate::Outlives(1, 2),
+        Predicate::Meets(&[], 4, BoundOf::Use(3, "T")),
+        Predicate::Meets(&["'c"], 5, BoundOf::Error),
+    ],
+};
+
+/// What these name.
+const OF_BOUNDS: Tree = Tree {
+    lifetimes: &[
+        LifetimeOf::Named("'b"),
+        LifetimeOf::Named("'a"),
+        LifetimeOf::Named("'b"),
+        LifetimeOf::Named("'a"),
+    ],
+    types: &[
+        TypeOf::Path("usize"),
+        TypeOf::Path("T"),
+        TypeOf::Path("Sized"),
+        TypeOf::Path("T"),
+        TypeOf::Path("T"),
+        TypeOf::Path("T"),
+    ],
+    ..BARE
 };
 
 /// Whether the signature of struct 0 reads so.
@@ -320,6 +352,48 @@ fn structs(rt: HostRuntime) -> Result<(), Fail> {
         )?,
     ];
     assert!(&rt; found == [true; 8]);
+    Ok(())
+}
+
+/// Whether a unit struct that lies so in memory reads so.
+fn lies(alloc: Global, repr: Repr, wanted: &str) -> Result<bool, Fail> {
+    struct_reads(
+        alloc,
+        (&BARE, &NONE),
+        FieldsShape::Unit,
+        false,
+        Some(repr),
+        wanted,
+    )
+}
+
+#[test]
+fn bounds_and_packing(rt: HostRuntime) -> Result<(), Fail> {
+    let a = rt.alloc();
+    let pack = Repr {
+        c: false,
+        align: None,
+        pack: Some(2),
+    };
+    let both = Repr {
+        c: false,
+        align: Some(4),
+        pack: Some(1),
+    };
+    let bounds = (&OF_BOUNDS, &BOUNDS);
+    let found = [
+        lies(a, pack, "#[repr(pack(2))]\nstruct S;\n")?,
+        lies(a, both, "#[repr(align(4))]\n#[repr(pack(1))]\nstruct S;\n")?,
+        struct_reads(
+            a,
+            bounds,
+            FieldsShape::Record,
+            false,
+            None,
+            "struct S<'a, 'b, T, const C: usize> {...}\n\nwhere\n    T: ?Sized,\n    T: 'b,\n    'a: 'b,\n    T: use<'a, T>,\n    for<'c> T: {unknown}\n",
+        )?,
+    ];
+    assert!(&rt; found == [true; 3]);
     Ok(())
 }
 

@@ -138,12 +138,14 @@ fn variant() -> VariantId {
 fn shapes(rt: HostRuntime) -> Result<(), Fail> {
     let a = rt.alloc();
     let union = VariantId::UnionId(UnionId::from_raw(0));
+    let nameless = VariantId::UnionId(UnionId::from_raw(1));
     let mut tables = named(
         a,
         &[
             (NamedDef::StructId(StructId::from_raw(0)), Some("S")),
             (NamedDef::StructId(StructId::from_raw(1)), None),
             (NamedDef::UnionId(UnionId::from_raw(0)), Some("U")),
+            (NamedDef::UnionId(UnionId::from_raw(1)), None),
             (NamedDef::EnumId(EnumId::from_raw(0)), Some("E")),
             (
                 NamedDef::EnumVariantId(EnumVariantId::from_raw(0)),
@@ -164,6 +166,7 @@ fn shapes(rt: HostRuntime) -> Result<(), Fail> {
         }],
     )?;
     add(&mut tables, a, structure(1), FieldsShape::Unit, &[])?;
+    add(&mut tables, a, nameless, FieldsShape::Record, &[])?;
     add(
         &mut tables,
         a,
@@ -211,9 +214,13 @@ fn shapes(rt: HostRuntime) -> Result<(), Fail> {
             print_variant_body_hir(a, &tables, variant(), edition),
             "enum E::V(\npub 0: u32,\n);\n",
         )?,
+        reads(
+            print_variant_body_hir(a, &tables, nameless, edition),
+            "union <missing> {\n}\n",
+        )?,
     ];
     drop(tables);
-    assert!(&rt; found == [true; 4]);
+    assert!(&rt; found == [true; 5]);
     Ok(())
 }
 
