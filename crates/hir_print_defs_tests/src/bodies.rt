@@ -263,43 +263,38 @@ fn of_values(alloc: Global) -> Result<Box<Tables>, Fail> {
     Ok(tables)
 }
 
+/// Whether the body reads so, as that of this owner.
+fn owned_reads(
+    alloc: Global,
+    tables: &Tables,
+    body: &Body,
+    owner: DefWithBodyId,
+    wanted: &str,
+) -> Result<bool, Fail> {
+    reads(
+        print_body_hir(alloc, tables, body, owner, Edition::Edition2021),
+        wanted,
+    )
+}
+
 #[test]
 fn values(rt: HostRuntime) -> Result<(), Fail> {
     let a = rt.alloc();
     let tables = of_values(a)?;
     let x = body(a, &X, &[], false)?;
     let one = body(a, &ONE, &[], false)?;
-    let edition = Edition::Edition2021;
     let constant = DefWithBodyId::ConstId(ConstId::from_raw(0));
     let of_static = DefWithBodyId::StaticId(StaticId::from_raw(0));
     let other_const = DefWithBodyId::ConstId(ConstId::from_raw(1));
     let other_static = DefWithBodyId::StaticId(StaticId::from_raw(1));
-    let other_variant = DefWithBodyId::VariantId(EnumVariantId::from_raw(1));
+    let other = DefWithBodyId::VariantId(EnumVariantId::from_raw(1));
     let found = [
-        reads(
-            print_body_hir(a, &tables, &x, constant, edition),
-            "const _ = x;",
-        )?,
-        reads(
-            print_body_hir(a, &tables, &x, of_static, edition),
-            "static S = x;",
-        )?,
-        reads(
-            print_body_hir(a, &tables, &one, variant(), edition),
-            "enum E::V1",
-        )?,
-        reads(
-            print_body_hir(a, &tables, &one, other_const, edition),
-            "const C = 1;",
-        )?,
-        reads(
-            print_body_hir(a, &tables, &one, other_static, edition),
-            "static <missing> = 1;",
-        )?,
-        reads(
-            print_body_hir(a, &tables, &x, other_variant, edition),
-            "enum <missing>::<missing>x",
-        )?,
+        owned_reads(a, &tables, &x, constant, "const _ = x;")?,
+        owned_reads(a, &tables, &x, of_static, "static S = x;")?,
+        owned_reads(a, &tables, &one, variant(), "enum E::V1")?,
+        owned_reads(a, &tables, &one, other_const, "const C = 1;")?,
+        owned_reads(a, &tables, &one, other_static, "static <missing> = 1;")?,
+        owned_reads(a, &tables, &x, other, "enum <missing>::<missing>x")?,
     ];
     drop(tables);
     drop(x);

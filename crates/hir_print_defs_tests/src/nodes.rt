@@ -250,6 +250,17 @@ fn plain_path(alloc: Global, text: &'static str) -> Result<Path, AllocError> {
     Ok(Path::from_name(alloc, name)?)
 }
 
+fn block(alloc: Global, written: &[StatementOf], tail: Option<u32>) -> Result<Expr, AllocError> {
+    let statements = statements(alloc, written)?;
+    Ok(Expr::Block {
+        id: None,
+        statements,
+        tail: tail.map(Idx::from_raw),
+        label: None,
+        unsafe_: Unsafe::No,
+    })
+}
+
 fn item_path(number: u32) -> Path {
     let target = LangItemTarget::FunctionId(FunctionId::from_raw(number));
     Path::LangItem(target, None)
@@ -290,16 +301,7 @@ impl Written<Expr> for ExprOf {
                 target: Idx::from_raw(*target),
                 value: Idx::from_raw(*value),
             }),
-            ExprOf::Block(written, tail) => {
-                let statements = statements(alloc, written)?;
-                Ok(Expr::Block {
-                    id: None,
-                    statements,
-                    tail: tail.map(Idx::from_raw),
-                    label: None,
-                    unsafe_: Unsafe::No,
-                })
-            }
+            ExprOf::Block(written, tail) => block(alloc, written, *tail),
         }
     }
 }

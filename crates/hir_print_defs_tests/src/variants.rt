@@ -346,48 +346,59 @@ fn lacks(
     )
 }
 
-/// The names are missing before the fields, and the fields before what a field's type names.
-#[test]
-fn what_is_missing_behind_the_first(rt: HostRuntime) -> Result<(), Fail> {
-    let a = rt.alloc();
-    let union_0 = UnionId::from_raw(0);
-    let variant_0 = EnumVariantId::from_raw(0);
-    let of_union = VariantId::UnionId(union_0);
-    let union_name = NamedDef::UnionId(union_0);
-    let variant_name = NamedDef::EnumVariantId(variant_0);
-    let enum_named = (NamedDef::EnumId(EnumId::from_raw(0)), Some("E"));
-    let empty = named(a, &[])?;
-    let mut nameless = named(a, &[enum_named])?;
-    nameless.add_variant_parent(variant_0, EnumId::from_raw(0))?;
-    let mut all_named = named(
-        a,
-        &[
-            enum_named,
-            (variant_name, Some("V")),
-            (union_name, Some("U")),
-            (NamedDef::StructId(StructId::from_raw(0)), Some("S")),
-        ],
-    )?;
-    all_named.add_variant_parent(variant_0, EnumId::from_raw(0))?;
+fn name_of_variant() -> NamedDef {
+    NamedDef::EnumVariantId(EnumVariantId::from_raw(0))
+}
+
+fn name_of_union() -> NamedDef {
+    NamedDef::UnionId(UnionId::from_raw(0))
+}
+
+/// Tables in which variant 0 is of enum 0, which has no name, and these have theirs. Struct 0 has a field of the type of a lang item.
+fn with_an_enum(
+    alloc: Global,
+    entries: &[(NamedDef, Option<&'static str>)],
+) -> Result<Box<Tables>, Fail> {
+    let mut tables = named(alloc, entries)?;
+    taken(tables.add_name(NamedDef::EnumId(EnumId::from_raw(0)), None))?;
+    tables.add_variant_parent(EnumVariantId::from_raw(0), EnumId::from_raw(0))?;
     add_of(
-        &mut all_named,
-        a,
+        &mut tables,
+        alloc,
         structure(0),
         &OF_ITEM,
         FieldsShape::Record,
         &SELF,
     )?;
+    Ok(tables)
+}
+
+/// The names are missing before the fields, and the fields before what a field's type names.
+#[test]
+fn what_is_missing_behind_the_first(rt: HostRuntime) -> Result<(), Fail> {
+    let a = rt.alloc();
+    let struct_name = NamedDef::StructId(StructId::from_raw(0));
+    let of_union = VariantId::UnionId(UnionId::from_raw(0));
+    let nameless = with_an_enum(a, &[])?;
+    let all_named = with_an_enum(
+        a,
+        &[
+            (name_of_variant(), Some("V")),
+            (name_of_union(), Some("U")),
+            (struct_name, Some("S")),
+        ],
+    )?;
     let no_function = Missing::Name(NamedDef::FunctionId(FunctionId::from_raw(1)));
     let found = [
-        lacks(a, &empty, of_union, Missing::Name(union_name))?,
-        lacks(a, &nameless, variant(), Missing::Name(variant_name))?,
+        lacks(a, &nameless, of_union, Missing::Name(name_of_union()))?,
+        lacks(a, &nameless, variant(), Missing::Name(name_of_variant()))?,
+        lacks(a, &nameless, structure(0), Missing::Name(struct_name))?,
         lacks(a, &all_named, of_union, Missing::Fields(of_union))?,
         lacks(a, &all_named, variant(), Missing::Fields(variant()))?,
         lacks(a, &all_named, structure(0), no_function)?,
     ];
-    drop(empty);
     drop(nameless);
     drop(all_named);
-    assert!(&rt; found == [true; 5]);
+    assert!(&rt; found == [true; 6]);
     Ok(())
 }
