@@ -4,6 +4,8 @@
 #[cfg(test)]
 mod bodies;
 #[cfg(test)]
+mod growths;
+#[cfg(test)]
 mod made;
 #[cfg(test)]
 mod memory;

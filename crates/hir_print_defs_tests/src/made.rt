@@ -31,30 +31,40 @@ pub fn named(
     Ok(tables)
 }
 
-fn formals(alloc: Global, numbers: &[u32]) -> Result<Seq<Param<PatId>>, AllocError> {
+/// The patterns of these numbers, for each of which the user wrote that of a number this much higher.
+fn formals(alloc: Global, numbers: &[u32], higher: u32) -> Result<Seq<Param<PatId>>, AllocError> {
     let mut formals = Seq::new(alloc);
     for number in numbers {
-        let id = Idx::from_raw(*number);
         push(
             &mut formals,
             Param {
-                formal: id,
-                user_written: id,
+                formal: Idx::from_raw(*number),
+                user_written: Idx::from_raw(number.wrapping_add(higher)),
             },
         )?;
     }
     Ok(formals)
 }
 
-/// The body of this tree with these formals, and binding 0 as `self`, where it has one.
+/// The body of this tree with these formals, and binding 0 as `self`, where it has one. The user wrote just these.
 pub fn body(alloc: Global, tree: &Tree, params: &[u32], has_self: bool) -> Result<Box<Body>, Fail> {
+    body_of(alloc, tree, params, has_self, 0)
+}
+
+/// The same, where for each of them the user wrote that of a number this much higher.
+pub fn body_of(
+    alloc: Global,
+    tree: &Tree,
+    params: &[u32],
+    has_self: bool,
+    higher: u32,
+) -> Result<Box<Body>, Fail> {
     let store = nodes::store(alloc, tree)?;
-    let params = formals(alloc, params)?;
-    let id = Idx::from_raw(0);
+    let params = formals(alloc, params, higher)?;
     let self_param = if has_self {
         Some(Param {
-            formal: id,
-            user_written: id,
+            formal: Idx::from_raw(0),
+            user_written: Idx::from_raw(higher),
         })
     } else {
         None

@@ -86,6 +86,18 @@ pub fn reads(printed: Result<String, PrintFault>, wanted: &str) -> Result<bool, 
     }
 }
 
+/// Whether the text is this one: that of the printing made again, where a growth of the first was refused.
+pub fn reads_again(
+    printed: Result<String, PrintFault>,
+    again: Result<String, PrintFault>,
+    wanted: &str,
+) -> Result<bool, Fail> {
+    if matches!(&printed, Err(PrintFault::Memory)) {
+        return reads(again, wanted);
+    }
+    reads(printed, wanted)
+}
+
 /// Whether a printing misses this first.
 pub fn misses(printed: Result<String, PrintFault>, wanted: Missing) -> Result<bool, Fail> {
     match printed {

@@ -1,13 +1,14 @@
 //! The nodes of the stores that are printed, each written as its case.
 use crate::memory::{Written, add_all, first, in_a_box, names, push, taken};
 use hir_base::{
-    AdtId, BinaryOp, ExternAbi, FunctionId, GenericDefId, HygieneId, Idx, ModPath, Name, PathKind,
-    RangeOp, Seq, StructId, TypeOrConstParamId, TypeParamId,
+    AdtId, BinaryOp, CrateId, ExternAbi, FunctionId, GenericDefId, HygieneId, Idx, LangItemTarget,
+    LifetimeParamId, ModPath, Name, PathKind, RangeOp, Seq, StructId, TypeOrConstParamId,
+    TypeParamId,
 };
 use hir_node::{
     AssociatedTypeBinding, Binding, BindingAnnotation, Boxed, Expr, FnType, GenericArg,
     GenericArgs, GenericArgsParentheses, LifetimeRef, Literal, Mutability, Pat, Path, PathId,
-    Rawness, Statement, TraitBoundModifier, TypeBound, TypeRef, Unsafe,
+    Rawness, RecordFieldPat, Statement, TraitBoundModifier, TypeBound, TypeRef, Unsafe, UseArgRef,
 };
 use hir_store::{ExpressionStore, ExpressionStoreBuilder};
 use std::alloc::{AllocError, Global};
@@ -16,8 +17,15 @@ use std::test::Fail;
 /// A binding of this name.
 pub struct BindingOf(pub &'static str);
 
-/// A lifetime of this name.
-pub struct LifetimeOf(pub &'static str);
+/// A lifetime.
+pub enum LifetimeOf {
+    Named(&'static str),
+    /// The lifetime parameter of this number of struct 0.
+    OfStruct(u32),
+}
+
+/// A field's name and its pattern.
+pub struct FieldOf(pub &'static str, pub u32);
 
 /// A pattern. Nodes are named by their numbers.
 pub enum PatOf {
@@ -25,6 +33,8 @@ pub enum PatOf {
     /// `expression..=`
     RangeFrom(u32),
     Tuple(&'static [u32]),
+    /// A struct of this name with these fields.
+    Record(&'static str, &'static [FieldOf]),
 }
 
 /// A statement.
@@ -38,6 +48,8 @@ pub enum StatementOf {
 /// An expression.
 pub enum ExprOf {
     Path(&'static str),
+    /// The lang item that is the function of this number.
+    Item(u32),
     Int(i128),
     Unit,
     Ref(u32),
@@ -57,7 +69,13 @@ pub struct ArgsOf {
 /// A bound.
 pub enum BoundOf {
     Path(u32),
+    /// `?` and a path.
+    Maybe(u32),
     For(&'static [&'static str], u32),
+    Lifetime(u32),
+    /// `use<..>` of a lifetime and a name.
+    Use(u32, &'static str),
+    Error,
 }
 
 /// A type.
@@ -67,6 +85,10 @@ pub enum TypeOf {
     Absolute(&'static [&'static str], ArgsOf),
     /// A name with arguments.
     With(&'static str, ArgsOf),
+    /// The lang item that is the function of this number.
+    Item(u32),
+    /// `a` of the crate of this number.
+    OfCrate(u32),
     Unit,
     /// `fn() -> type`
     Fn(u32),
@@ -113,9 +135,40 @@ impl Written<Binding> for BindingOf {
 
 impl Written<LifetimeRef> for LifetimeOf {
     fn made(&self, alloc: Global) -> Result<LifetimeRef, AllocError> {
-        let name = Name::new(alloc, self.0)?;
-        Ok(LifetimeRef::Named(name))
+        match self {
+            LifetimeOf::Named(text) => {
+                let name = Name::new(alloc, text)?;
+                Ok(LifetimeRef::Named(name))
+            }
+            LifetimeOf::OfStruct(number) => Ok(LifetimeRef::Param(LifetimeParamId {
+                parent: struct_0(),
+                local_id: Idx::from_raw(*number),
+            })),
+        }
     }
+}
+
+impl Written<RecordFieldPat> for FieldOf {
+    fn made(&self, alloc: Global) -> Result<RecordFieldPat, AllocError> {
+        let name = Name::new(alloc, self.0)?;
+        Ok(RecordFieldPat {
+            name,
+            pat: Idx::from_raw(self.1),
+        })
+    }
+}
+
+fn record(alloc: Global, text: &'static str, fields: &[FieldOf]) -> Result<Pat, AllocError> {
+    let path = Boxed::new(alloc, plain_path(alloc, text)?)?;
+    let mut args = Seq::new(alloc);
+    for field in fields {
+        push(&mut args, field.made(alloc)?)?;
+    }
+    Ok(Pat::Record {
+        path,
+        args,
+        ellipsis: false,
+    })
 }
 
 impl Written<Pat> for PatOf {
@@ -137,6 +190,7 @@ impl Written<Pat> for PatOf {
                     ellipsis: None,
                 })
             }
+            PatOf::Record(text, fields) => record(alloc, text, fields),
         }
     }
 }
@@ -196,6 +250,22 @@ fn plain_path(alloc: Global, text: &'static str) -> Result<Path, AllocError> {
     Ok(Path::from_name(alloc, name)?)
 }
 
+fn block(alloc: Global, written: &[StatementOf], tail: Option<u32>) -> Result<Expr, AllocError> {
+    let statements = statements(alloc, written)?;
+    Ok(Expr::Block {
+        id: None,
+        statements,
+        tail: tail.map(Idx::from_raw),
+        label: None,
+        unsafe_: Unsafe::No,
+    })
+}
+
+fn item_path(number: u32) -> Path {
+    let target = LangItemTarget::FunctionId(FunctionId::from_raw(number));
+    Path::LangItem(target, None)
+}
+
 impl Written<Expr> for ExprOf {
     fn made(&self, alloc: Global) -> Result<Expr, AllocError> {
         match self {
@@ -203,6 +273,7 @@ impl Written<Expr> for ExprOf {
                 let path = plain_path(alloc, text)?;
                 Ok(Expr::Path(path))
             }
+            ExprOf::Item(number) => Ok(Expr::Path(item_path(*number))),
             ExprOf::Int(number) => Ok(Expr::Literal(Literal::Int(*number, None))),
             ExprOf::Unit => Ok(Expr::Tuple {
                 exprs: Seq::new(alloc),
@@ -230,16 +301,7 @@ impl Written<Expr> for ExprOf {
                 target: Idx::from_raw(*target),
                 value: Idx::from_raw(*value),
             }),
-            ExprOf::Block(written, tail) => {
-                let statements = statements(alloc, written)?;
-                Ok(Expr::Block {
-                    id: None,
-                    statements,
-                    tail: tail.map(Idx::from_raw),
-                    label: None,
-                    unsafe_: Unsafe::No,
-                })
-            }
+            ExprOf::Block(written, tail) => block(alloc, written, *tail),
         }
     }
 }
@@ -248,14 +310,25 @@ fn path_id(number: u32) -> PathId {
     PathId::from_type_ref_unchecked(Idx::from_raw(number))
 }
 
+fn use_bound(alloc: Global, lifetime: u32, text: &'static str) -> Result<TypeBound, AllocError> {
+    let mut listed = Seq::new(alloc);
+    push(&mut listed, UseArgRef::Lifetime(Idx::from_raw(lifetime)))?;
+    push(&mut listed, UseArgRef::Name(Name::new(alloc, text)?))?;
+    Ok(TypeBound::Use(listed))
+}
+
 impl Written<TypeBound> for BoundOf {
     fn made(&self, alloc: Global) -> Result<TypeBound, AllocError> {
         match self {
             BoundOf::Path(path) => Ok(TypeBound::Path(path_id(*path), TraitBoundModifier::None)),
+            BoundOf::Maybe(path) => Ok(TypeBound::Path(path_id(*path), TraitBoundModifier::Maybe)),
             BoundOf::For(lifetimes, path) => {
                 let lifetimes = names(alloc, lifetimes)?;
                 Ok(TypeBound::ForLifetime(lifetimes, path_id(*path)))
             }
+            BoundOf::Lifetime(lifetime) => Ok(TypeBound::Lifetime(Idx::from_raw(*lifetime))),
+            BoundOf::Use(lifetime, text) => use_bound(alloc, *lifetime, text),
+            BoundOf::Error => Ok(TypeBound::Error),
         }
     }
 }
@@ -332,11 +405,27 @@ fn path_with(
     Ok(TypeRef::Path(Path::from_known_path(alloc, path, lists)?))
 }
 
-fn type_param(parent: GenericDefId, number: u32) -> TypeRef {
-    TypeRef::TypeParam(TypeParamId::from_unchecked(TypeOrConstParamId {
+/// Struct 0, as that which has parameters.
+pub fn struct_0() -> GenericDefId {
+    GenericDefId::AdtId(AdtId::StructId(StructId::from_raw(0)))
+}
+
+/// The id of the type parameter of this number.
+pub fn type_param_id(parent: GenericDefId, number: u32) -> TypeParamId {
+    TypeParamId::from_unchecked(TypeOrConstParamId {
         parent,
         local_id: Idx::from_raw(number),
-    }))
+    })
+}
+
+fn type_param(parent: GenericDefId, number: u32) -> TypeRef {
+    TypeRef::TypeParam(type_param_id(parent, number))
+}
+
+fn crate_path(alloc: Global, number: u32) -> Result<Path, AllocError> {
+    let segments = names(alloc, &["a"])?;
+    let kind = PathKind::DollarCrate(CrateId::from_raw(number));
+    Ok(Path::BarePath(ModPath::from_segments(kind, segments)))
 }
 
 fn function_type(alloc: Global, ret: u32) -> Result<TypeRef, AllocError> {
@@ -366,16 +455,15 @@ impl Written<TypeRef> for TypeOf {
                 written,
             ),
             TypeOf::With(text, written) => path_with(alloc, PathKind::Plain, &[*text], written),
+            TypeOf::Item(number) => Ok(TypeRef::Path(item_path(*number))),
+            TypeOf::OfCrate(number) => Ok(TypeRef::Path(crate_path(alloc, *number)?)),
             TypeOf::Unit => Ok(TypeRef::Tuple(Seq::new(alloc))),
             TypeOf::Fn(ret) => function_type(alloc, *ret),
             TypeOf::OfFunction(number) => Ok(type_param(
                 GenericDefId::FunctionId(FunctionId::from_raw(0)),
                 *number,
             )),
-            TypeOf::OfStruct(number) => Ok(type_param(
-                GenericDefId::AdtId(AdtId::StructId(StructId::from_raw(0))),
-                *number,
-            )),
+            TypeOf::OfStruct(number) => Ok(type_param(struct_0(), *number)),
             TypeOf::Impl(bound) => {
                 let mut bounds = Seq::new(alloc);
                 push(&mut bounds, bound.made(alloc)?)?;

@@ -1,12 +1,13 @@
 //! Signatures of functions and structs: each flag, each calling convention, parameters with their defaults, and what is asked of them.
 use crate::made::{Abi, FunctionOf, PLAIN, function, named, structure};
 use crate::memory::{misses, reads};
-use crate::nodes::{ArgsOf, BARE, BoundOf, ExprOf, LifetimeOf, Tree, TypeOf};
-use crate::params::{Entry, Lifetime, Listed, NONE, Predicate};
-use hir_base::{
-    AdtId, Edition, FunctionId, GenericDefId, Idx, StructId, TypeOrConstParamId, TypeParamId,
+use crate::nodes::{
+    ArgsOf, BARE, BoundOf, ExprOf, LifetimeOf, Tree, TypeOf, struct_0, type_param_id,
 };
-use hir_defs::{FieldsShape, Repr};
+use crate::owners::signed;
+use crate::params::{Entry, Lifetime, Listed, NONE, Predicate};
+use hir_base::{CrateId, Edition, FunctionId, Idx, LifetimeParamId, NamedDef, StructId};
+use hir_defs::{FieldsShape, Repr, Tables};
 use hir_expr_store::Missing;
 use hir_print_defs::{print_function, print_struct};
 use std::alloc::Global;
@@ -24,7 +25,7 @@ fn function_reads(alloc: Global, written: &FunctionOf, wanted: &str) -> Result<b
 }
 
 /// `const async unsafe extern "C" fn a() -> impl ::core::future::Future::<Output = ()>`
-const FUTURE: FunctionOf = FunctionOf {
+pub const FUTURE: FunctionOf = FunctionOf {
     name: "a",
     tree: Tree {
         types: &[
@@ -49,7 +50,7 @@ const FUTURE: FunctionOf = FunctionOf {
 };
 
 /// `fn foo(dyn for<'a> Trait1 + Trait2)`
-const BOUNDED: FunctionOf = FunctionOf {
+pub const BOUNDED: FunctionOf = FunctionOf {
     name: "foo",
     tree: Tree {
         types: &[
@@ -164,8 +165,8 @@ fn flags_and_conventions(rt: HostRuntime) -> Result<(), Fail> {
     Ok(())
 }
 
-/// `<'a, 'b, T, const C: usize = 3, X = ()>` with a predicate on `T`, one on `X`, one of a function type, and `'a: 'b`.
-const ALL: Listed = Listed {
+/// `<'a, 'b, T, const C: usize = 3, X = ()>` with a predicate on `T`, one on `X`, and one of a function type.
+pub const ALL: Listed = Listed {
     types: &[
         Entry::Type("T", None),
         Entry::Constant("C", 0, Some(0)),
@@ -180,8 +181,8 @@ const ALL: Listed = Listed {
 };
 
 /// What these name.
-const OF_ALL: Tree = Tree {
-    lifetimes: &[LifetimeOf("'a"), LifetimeOf("'b")],
+pub const OF_ALL: Tree = Tree {
+    lifetimes: &[LifetimeOf::Named("'a"), LifetimeOf::Named("'b")],
     types: &[
         TypeOf::Path("usize"),
         TypeOf::Unit,
@@ -210,6 +211,38 @@ const OUTLIVES: Listed = Listed {
     types: &[],
     lifetimes: &[Lifetime("'a"), Lifetime("'b")],
     predicates: &[Predicate::Outlives(0, 1)],
+};
+
+/// `<'a, 'b, T, const C: usize>` with a predicate on `T` of each other kind of bound, and `'a: 'b` among them.
+const BOUNDS: Listed = Listed {
+    types: &[Entry::Type("T", None), Entry::Constant("C", 0, None)],
+    lifetimes: &[Lifetime("'a"), Lifetime("'b")],
+    predicates: &[
+        Predicate::Meets(&[], 1, BoundOf::Maybe(2)),
+        Predicate::Meets(&[], 3, BoundOf::Lifetime(0)),
+        Predicate::Outlives(1, 2),
+        Predicate::Meets(&[], 4, BoundOf::Use(3, "T")),
+        Predicate::Meets(&["'c"], 5, BoundOf::Error),
+    ],
+};
+
+/// What these name.
+const OF_BOUNDS: Tree = Tree {
+    lifetimes: &[
+        LifetimeOf::Named("'b"),
+        LifetimeOf::Named("'a"),
+        LifetimeOf::Named("'b"),
+        LifetimeOf::Named("'a"),
+    ],
+    types: &[
+        TypeOf::Path("usize"),
+        TypeOf::Path("T"),
+        TypeOf::Path("Sized"),
+        TypeOf::Path("T"),
+        TypeOf::Path("T"),
+        TypeOf::Path("T"),
+    ],
+    ..BARE
 };
 
 /// Whether the signature of struct 0 reads so.
@@ -322,6 +355,48 @@ fn structs(rt: HostRuntime) -> Result<(), Fail> {
     Ok(())
 }
 
+/// Whether a unit struct that lies so in memory reads so.
+fn lies(alloc: Global, repr: Repr, wanted: &str) -> Result<bool, Fail> {
+    struct_reads(
+        alloc,
+        (&BARE, &NONE),
+        FieldsShape::Unit,
+        false,
+        Some(repr),
+        wanted,
+    )
+}
+
+#[test]
+fn bounds_and_packing(rt: HostRuntime) -> Result<(), Fail> {
+    let a = rt.alloc();
+    let pack = Repr {
+        c: false,
+        align: None,
+        pack: Some(2),
+    };
+    let both = Repr {
+        c: false,
+        align: Some(4),
+        pack: Some(1),
+    };
+    let bounds = (&OF_BOUNDS, &BOUNDS);
+    let found = [
+        lies(a, pack, "#[repr(pack(2))]\nstruct S;\n")?,
+        lies(a, both, "#[repr(align(4))]\n#[repr(pack(1))]\nstruct S;\n")?,
+        struct_reads(
+            a,
+            bounds,
+            FieldsShape::Record,
+            false,
+            None,
+            "struct S<'a, 'b, T, const C: usize> {...}\n\nwhere\n    T: ?Sized,\n    T: 'b,\n    'a: 'b,\n    T: use<'a, T>,\n    for<'c> T: {unknown}\n",
+        )?,
+    ];
+    assert!(&rt; found == [true; 3]);
+    Ok(())
+}
+
 /// A function whose argument is a type parameter of struct 0.
 const OF_STRUCT: FunctionOf = FunctionOf {
     tree: Tree {
@@ -332,22 +407,79 @@ const OF_STRUCT: FunctionOf = FunctionOf {
     ..PLAIN
 };
 
+/// A function whose argument is the lang item that is function 1.
+const OF_ITEM: FunctionOf = FunctionOf {
+    tree: Tree {
+        types: &[TypeOf::Item(1)],
+        ..BARE
+    },
+    params: &[0],
+    ..PLAIN
+};
+
+/// A function whose argument is `a` of crate 2.
+const OF_CRATE: FunctionOf = FunctionOf {
+    tree: Tree {
+        types: &[TypeOf::OfCrate(2)],
+        ..BARE
+    },
+    params: &[0],
+    ..PLAIN
+};
+
+/// Lifetimes, of which the second is a parameter of struct 0.
+const OF_LIFETIME: Tree = Tree {
+    lifetimes: &[LifetimeOf::Named("'a"), LifetimeOf::OfStruct(0)],
+    ..BARE
+};
+
+/// Whether the signature of the function misses this first.
+fn function_misses(
+    alloc: Global,
+    tables: &Tables,
+    written: &FunctionOf,
+    wanted: Missing,
+) -> Result<bool, Fail> {
+    let signature = function(alloc, written)?;
+    let id = FunctionId::from_raw(0);
+    misses(
+        print_function(alloc, tables, id, &signature, Edition::Edition2021),
+        wanted,
+    )
+}
+
 #[test]
 fn what_a_signature_misses(rt: HostRuntime) -> Result<(), Fail> {
     let a = rt.alloc();
-    let tables = named(a, &[])?;
-    let signature = function(a, &OF_STRUCT)?;
-    let parent = GenericDefId::AdtId(AdtId::StructId(StructId::from_raw(0)));
-    let printed = print_function(
-        a,
-        &tables,
-        FunctionId::from_raw(0),
-        &signature,
-        Edition::Edition2021,
-    );
-    let found = misses(printed, Missing::Signature(parent))?;
-    drop(tables);
-    drop(signature);
-    assert!(&rt; found);
+    let empty = named(a, &[])?;
+    let signed = signed(a)?;
+    let outlives = structure(a, &OF_LIFETIME, &OUTLIVES, FieldsShape::Unit, false)?;
+    let id = StructId::from_raw(1);
+    let edition = Edition::Edition2021;
+    let no_signature = Missing::Signature(struct_0());
+    let no_type = Missing::TypeParam(type_param_id(struct_0(), 0));
+    let no_name = Missing::Name(NamedDef::FunctionId(FunctionId::from_raw(1)));
+    let no_lifetime = Missing::LifetimeParam(LifetimeParamId {
+        parent: struct_0(),
+        local_id: Idx::from_raw(0),
+    });
+    let found = [
+        function_misses(a, &empty, &OF_STRUCT, no_signature)?,
+        function_misses(a, &signed, &OF_STRUCT, no_type)?,
+        function_misses(a, &empty, &OF_ITEM, no_name)?,
+        function_misses(a, &empty, &OF_CRATE, Missing::Crate(CrateId::from_raw(2)))?,
+        misses(
+            print_struct(a, &empty, id, &outlives, edition),
+            no_signature,
+        )?,
+        misses(
+            print_struct(a, &signed, id, &outlives, edition),
+            no_lifetime,
+        )?,
+    ];
+    drop(empty);
+    drop(signed);
+    drop(outlives);
+    assert!(&rt; found == [true; 6]);
     Ok(())
 }

@@ -3,8 +3,8 @@ use crate::made::named;
 use crate::memory::{first, in_a_box, misses, names, push, reads, taken};
 use crate::nodes::{self, BARE, Tree, TypeOf};
 use hir_base::{
-    CrateId, Edition, EnumId, EnumVariantId, Idx, ModPath, Name, NamedDef, PathKind, Seq, StructId,
-    UnionId, VariantId,
+    CrateId, Edition, EnumId, EnumVariantId, FunctionId, Idx, ModPath, Name, NamedDef, PathKind,
+    Seq, StructId, UnionId, VariantId,
 };
 use hir_defs::{FieldData, FieldsShape, RawVisibility, Tables, VariantFields, VariantParts};
 use hir_expr_store::Missing;
@@ -24,9 +24,15 @@ const U32: Tree = Tree {
     ..BARE
 };
 
+/// The lang item that is function 1, as a type.
+const OF_ITEM: Tree = Tree {
+    types: &[TypeOf::Item(1)],
+    ..BARE
+};
+
 /// From where a field may be seen.
 #[derive(Clone, Copy)]
-enum Seen {
+pub enum Seen {
     Public,
     Crate,
     Itself,
@@ -35,7 +41,7 @@ enum Seen {
 
 /// A field: from where it may be seen, whether it is unsafe, and its name.
 #[derive(Drop)]
-struct Field {
+pub struct Field {
     seen: Seen,
     is_unsafe: bool,
     name: &'static str,
@@ -73,8 +79,13 @@ fn list(alloc: Global, written: &[Field]) -> Result<Seq<FieldData>, AllocError> 
     Ok(fields)
 }
 
-fn made(alloc: Global, shape: FieldsShape, written: &[Field]) -> Result<Box<VariantFields>, Fail> {
-    let store = nodes::store(alloc, &U32)?;
+fn made(
+    alloc: Global,
+    tree: &Tree,
+    shape: FieldsShape,
+    written: &[Field],
+) -> Result<Box<VariantFields>, Fail> {
+    let store = nodes::store(alloc, tree)?;
     let fields = list(alloc, written)?;
     let fields = VariantFields::new(VariantParts {
         shape,
@@ -90,21 +101,33 @@ pub fn no_sources(alloc: Global) -> Result<Box<ExpressionStoreSourceMap>, Fail> 
     Ok(in_a_box(alloc, sources)?)
 }
 
-/// Gives the variant these fields.
-fn add(
+/// Gives the variant these fields, of the types of this tree.
+fn add_of(
+    tables: &mut Tables,
+    alloc: Global,
+    id: VariantId,
+    tree: &Tree,
+    shape: FieldsShape,
+    written: &[Field],
+) -> Result<(), Fail> {
+    let fields = made(alloc, tree, shape, written)?;
+    let sources = no_sources(alloc)?;
+    taken(tables.add_fields(id, Box::into_inner(fields), Box::into_inner(sources)))
+}
+
+pub fn structure(number: u32) -> VariantId {
+    VariantId::StructId(StructId::from_raw(number))
+}
+
+/// Gives the variant these fields, of the type `u32`.
+pub fn add(
     tables: &mut Tables,
     alloc: Global,
     id: VariantId,
     shape: FieldsShape,
     written: &[Field],
 ) -> Result<(), Fail> {
-    let fields = made(alloc, shape, written)?;
-    let sources = no_sources(alloc)?;
-    taken(tables.add_fields(id, Box::into_inner(fields), Box::into_inner(sources)))
-}
-
-fn structure(number: u32) -> VariantId {
-    VariantId::StructId(StructId::from_raw(number))
+    add_of(tables, alloc, id, &U32, shape, written)
 }
 
 fn variant() -> VariantId {
@@ -115,12 +138,14 @@ fn variant() -> VariantId {
 fn shapes(rt: HostRuntime) -> Result<(), Fail> {
     let a = rt.alloc();
     let union = VariantId::UnionId(UnionId::from_raw(0));
+    let nameless = VariantId::UnionId(UnionId::from_raw(1));
     let mut tables = named(
         a,
         &[
             (NamedDef::StructId(StructId::from_raw(0)), Some("S")),
             (NamedDef::StructId(StructId::from_raw(1)), None),
             (NamedDef::UnionId(UnionId::from_raw(0)), Some("U")),
+            (NamedDef::UnionId(UnionId::from_raw(1)), None),
             (NamedDef::EnumId(EnumId::from_raw(0)), Some("E")),
             (
                 NamedDef::EnumVariantId(EnumVariantId::from_raw(0)),
@@ -141,6 +166,7 @@ fn shapes(rt: HostRuntime) -> Result<(), Fail> {
         }],
     )?;
     add(&mut tables, a, structure(1), FieldsShape::Unit, &[])?;
+    add(&mut tables, a, nameless, FieldsShape::Record, &[])?;
     add(
         &mut tables,
         a,
@@ -188,9 +214,13 @@ fn shapes(rt: HostRuntime) -> Result<(), Fail> {
             print_variant_body_hir(a, &tables, variant(), edition),
             "enum E::V(\npub 0: u32,\n);\n",
         )?,
+        reads(
+            print_variant_body_hir(a, &tables, nameless, edition),
+            "union <missing> {\n}\n",
+        )?,
     ];
     drop(tables);
-    assert!(&rt; found == [true; 4]);
+    assert!(&rt; found == [true; 5]);
     Ok(())
 }
 
@@ -213,7 +243,7 @@ fn field_reads(alloc: Global, written: &[Field], wanted: &str) -> Result<bool, F
     )
 }
 
-const A_B: [Field; 1] = [Field {
+pub const A_B: [Field; 1] = [Field {
     seen: Seen::In(PathKind::Plain, &["a", "b"]),
     is_unsafe: false,
     name: "a",
@@ -300,5 +330,75 @@ fn what_is_missing_first(rt: HostRuntime) -> Result<(), Fail> {
     drop(struct_named);
     drop(parent_alone);
     assert!(&rt; found == [true; 4]);
+    Ok(())
+}
+
+/// Whether the variant misses this first.
+fn lacks(
+    alloc: Global,
+    tables: &Tables,
+    variant: VariantId,
+    wanted: Missing,
+) -> Result<bool, Fail> {
+    misses(
+        print_variant_body_hir(alloc, tables, variant, Edition::Edition2021),
+        wanted,
+    )
+}
+
+fn name_of_variant() -> NamedDef {
+    NamedDef::EnumVariantId(EnumVariantId::from_raw(0))
+}
+
+fn name_of_union() -> NamedDef {
+    NamedDef::UnionId(UnionId::from_raw(0))
+}
+
+/// Tables in which variant 0 is of enum 0, which has no name, and these have theirs. Struct 0 has a field of the type of a lang item.
+fn with_an_enum(
+    alloc: Global,
+    entries: &[(NamedDef, Option<&'static str>)],
+) -> Result<Box<Tables>, Fail> {
+    let mut tables = named(alloc, entries)?;
+    taken(tables.add_name(NamedDef::EnumId(EnumId::from_raw(0)), None))?;
+    tables.add_variant_parent(EnumVariantId::from_raw(0), EnumId::from_raw(0))?;
+    add_of(
+        &mut tables,
+        alloc,
+        structure(0),
+        &OF_ITEM,
+        FieldsShape::Record,
+        &SELF,
+    )?;
+    Ok(tables)
+}
+
+/// The names are missing before the fields, and the fields before what a field's type names.
+#[test]
+fn what_is_missing_behind_the_first(rt: HostRuntime) -> Result<(), Fail> {
+    let a = rt.alloc();
+    let struct_name = NamedDef::StructId(StructId::from_raw(0));
+    let of_union = VariantId::UnionId(UnionId::from_raw(0));
+    let nameless = with_an_enum(a, &[])?;
+    let all_named = with_an_enum(
+        a,
+        &[
+            (name_of_variant(), Some("V")),
+            (name_of_union(), Some("U")),
+            (struct_name, Some("S")),
+        ],
+    )?;
+    let no_function = Missing::Name(NamedDef::FunctionId(FunctionId::from_raw(1)));
+    let found = [
+        lacks(a, &nameless, of_union, Missing::Name(name_of_union()))?,
+        lacks(a, &nameless, variant(), Missing::Name(name_of_variant()))?,
+        lacks(a, &nameless, structure(0), Missing::Name(struct_name))?,
+        lacks(a, &all_named, of_union, Missing::Fields(of_union))?,
+        lacks(a, &all_named, variant(), Missing::Fields(variant()))?,
+        lacks(a, &all_named, structure(0), no_function)?,
+    ];
+    drop(nameless);
+    drop(all_named);
+    assert!(&rt; found == [true; 6]);
     Ok(())
 }
