@@ -119,7 +119,12 @@ fn names(rt: HostRuntime) -> Result<(), Fail> {
 }
 
 fn crate_misses(alloc: Global, tables: &Tables, path: &PathOf, wanted: u32) -> Result<bool, Fail> {
-    path_misses(alloc, tables, path, Missing::Crate(CrateId::from_raw(wanted)))
+    path_misses(
+        alloc,
+        tables,
+        path,
+        Missing::Crate(CrateId::from_raw(wanted)),
+    )
 }
 
 #[test]
