@@ -1,5 +1,6 @@
 //! The names of definitions, bindings and path segments.
 ghost use Rattle.std.specs.Prelude.{◌≡◌, ◌≤◌, length, IfOk, IfErr, IsOk, codes};
+ghost use Rattle.std.specs.Str.{IsAscii};
 ghost use Rattle.std.specs.Cmp.Lexicographic.{pointwise};
 ghost use Rattle.std.specs.Bool.{nat_eq};
 ghost use Rattle.std.specs.Cmp.Rules.{comparing, hashing};
@@ -11,6 +12,7 @@ use crate::{ExactEq, Text, TryClone};
 use std::alloc::{AllocError, AllocFailed, Global};
 use std::hash::{Hash, Hasher};
 use std::marker::Model;
+use std::str;
 
 // Where the text of a name lies: in the value, or in memory of its own.
 #[derive(Drop)]
@@ -53,6 +55,26 @@ impl Name {
         Ok(Name {
             place: Place::Outside(Box::new(alloc, Text::from_str(alloc, text)?)?),
         })
+    }
+
+    /// The name with this text in ASCII, as `new` makes it: its bytes aren't tested again.
+    ///
+    /// Answers an error if memory was refused.
+    #[inline(always)]
+    pub fn from_ascii(alloc: Global, text: &[u8]) -> Result<Name, AllocError>
+        requires { IsAscii text.now }
+        ensures ok { IfOk result (λ name. name ≡ text.now) }
+        ensures short { length text.now ≤ 14 → IsOk result }
+    {
+        if text.len() <= MOST_BYTES {
+            return Ok(Name {
+                place: Place::Inside(ShortText::from_ascii(text)),
+            });
+        }
+        match str::from_utf8(text) {
+            Ok(text) => Name::new(alloc, text),
+            Err(_) => unreachable!(),
+        }
     }
 
     /// The name with this text. One of at most 14 bytes takes no memory, a longer one takes one allocation.

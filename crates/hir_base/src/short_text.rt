@@ -1,6 +1,7 @@
 //! Short texts, which lie in the value itself.
 //! `ArrayString` of the crate `arrayvec` is the same with a length of eight bytes, which makes a `Name` twice as large.
 ghost use Rattle.std.specs.Prelude.{◌≡◌, ◌≤◌, length};
+ghost use Rattle.std.specs.Str.{IsAscii};
 
 use std::marker::Model;
 use std::str;
@@ -33,6 +34,21 @@ impl ShortText {
     {
         let mut bytes = [0; MOST_BYTES];
         bytes[..text.len()].copy_from_slice(text.as_bytes());
+        ShortText {
+            len: text.len() as u8,
+            bytes,
+        }
+    }
+
+    /// A copy of the text, which has to be short enough, and in ASCII: then its bytes are UTF-8 as they are.
+    #[inline(always)]
+    pub(crate) fn from_ascii(text: &[u8]) -> ShortText
+        requires short { length text.now ≤ 14 }
+        requires ascii { IsAscii text.now }
+        ensures { result ≡ text.now }
+    {
+        let mut bytes = [0; MOST_BYTES];
+        bytes[..text.len()].copy_from_slice(text);
         ShortText {
             len: text.len() as u8,
             bytes,

@@ -31,15 +31,15 @@ fn is_below<K>(id: Option<Idx<K>>, count: usize) -> bool
     }
 }
 
-/// The first fault of one node whose ids are all there.
-fn other_fault<N: TestedNode>(node: &N, id: NodeId, types: &[TypeRef]) -> Option<FinishFault>
+/// The first fault of one node whose ids are all there, from a look at all that it holds.
+///
+/// Few nodes come here, so it stands apart: the quick test of the others stays small.
+#[inline(never)]
+fn held_fault<N: TestedNode>(node: &N, id: NodeId, types: &[TypeRef]) -> Option<FinishFault>
     ensures { (sizes : Sizes) → names_there sizes (N.tested node.now) ≡ true
         → node_fault sizes types.now id (N.tested node.now) result }
 {
     let held = node.held();
-    if held.is_plain() && node.returns() {
-        return None;
-    }
     if !held.names_paths(types) {
         return Some(FinishFault::NotAPath(id));
     }
@@ -53,6 +53,17 @@ fn other_fault<N: TestedNode>(node: &N, id: NodeId, types: &[TypeRef]) -> Option
         return Some(FinishFault::ArgumentLists(id));
     }
     None
+}
+
+/// The first fault of one node whose ids are all there.
+fn other_fault<N: TestedNode>(node: &N, id: NodeId, types: &[TypeRef]) -> Option<FinishFault>
+    ensures { (sizes : Sizes) → names_there sizes (N.tested node.now) ≡ true
+        → node_fault sizes types.now id (N.tested node.now) result }
+{
+    if node.held().is_plain() && node.returns() {
+        return None;
+    }
+    held_fault(node, id, types)
 }
 
 /// Visits one node: whether each id that it passes to a visitor is there.

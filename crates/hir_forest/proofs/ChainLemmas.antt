@@ -1,7 +1,8 @@
 -- Chains of parents: how they end, how long they are, and which marked nodes are on them.
 use Rattle.std.proofs.Common.{◌≡◌, ℕ, zero, suc, ◌+◌, ◌<◌, ◌≤◌, ◌⊎◌, ◌↔◌, Bool, true, false, not, cond, List, Option, Some, None, length, get_or, set, inl, inr, ⊎_elim, refl, ap, sym, ◌∙◌, subst, arith, add-one, Contains}
 use Rattle.std.specs.Prelude.{count_by}
-use Rattle.std.proofs.lemmas.Bool.{false≢true}
+use Rattle.std.proofs.lemmas.Bool.{cases_eq, false≢true}
+use Rattle.std.proofs.lemmas.List.{get_or-set_same, get_or-set_other}
 use Rattle.std.proofs.lemmas.List.Sums.{sum_by-set}
 use Rattle.hir_forest.specs.Forest.{IsKid, Climbs, IsTop, ChainEnds, Marks, LiesUnderMarked, HasOneParent}
 use Rattle.hir_forest.specs.Faults.{LiesUnderRoot}
@@ -65,6 +66,10 @@ module _ (g : List (List ℕ)) (parents : List (Option ℕ)) (h : HasParents g p
       let b = chain_short g only_parent e.0 node e.1 e.2 e.3 (omega (arith, h.nodes)) in
       omega (arith, h.nodes)
 
+  -- a chain ends where that of the parent does
+  pub ends_at_parent : (node parent : ℕ) → get_or parents node None ≡ Some parent → ChainEnds g parent → ChainEnds g node
+  ends_at_parent node parent is e = (suc e.0, e.1, (parent, has_kid node parent is, e.2), e.3)
+
   -- marked nodes on a chain, step by step
   pub meets_next : (marked : List Bool) (at parent : ℕ) → get_or marked at false ≡ false → get_or parents at None ≡ Some parent → MeetsMarked g marked at → MeetsMarked g marked parent
   meets_next marked at parent un is (r, m, (zero, e)) = absurd (false≢true (sym un ∙ subst (Marks marked) (sym e) m))
@@ -95,6 +100,14 @@ module _ (g : List (List ℕ)) (parents : List (Option ℕ)) (h : HasParents g p
   -- a table that marks nothing
   pub clear_none : (listed clear : List Bool) → ((c : ℕ) → Marks clear c → ⊥) → AreClear g listed clear
   clear_none listed clear none c m meets = none c m
+
+-- marks stay right if a node is marked whose chain ends, or one is not marked
+pub ends_with : (g : List (List ℕ)) (ends : List Bool) (node : ℕ) (b : Bool) → node < length ends → ((c : ℕ) → Marks ends c → ChainEnds g c) → (b ≡ true → ChainEnds g node) → (c : ℕ) → Marks (set ends node b) c → ChainEnds g c
+ends_with g ends node b low old here c m =
+    elim (cases_eq c node) [
+      | inl e ↦ subst (ChainEnds g) (sym e) (here (sym (get_or-set_same ends node b false low) ∙ subst (Marks (set ends node b)) e m))
+      | inr ne ↦ old c (sym (get_or-set_other ends node c b false ne) ∙ m)
+    ]
 
 -- the listed roots, by the table that marks them
 pub under_root : (g : List (List ℕ)) (listed : List Bool) (limit : ℕ) (roots : List ℕ) → ((r : ℕ) → Marks listed r ↔ (Contains roots r × (r < limit))) → (c : ℕ) → LiesUnderMarked g listed c ↔ LiesUnderRoot g limit roots c

@@ -1,7 +1,7 @@
 //! Chains of parents: whether the chain from a node ends, and whether a listed node is on it. What is found out of a chain
 //! is marked on its way, so that all nodes together take no more steps than there are nodes.
 
-ghost use Rattle.std.specs.Prelude.{◌≡◌, ◌⊎◌, ℕ, ◌<◌, ◌↔◌, Bool, List, [], length, IsTrue, IsFalse};
+ghost use Rattle.std.specs.Prelude.{◌≡◌, ◌⊎◌, ℕ, ◌<◌, ◌≤◌, ◌↔◌, Bool, List, [], length, IsTrue, IsFalse};
 ghost use Rattle.hir_forest.specs.Verdict.{first_below};
 ghost use Rattle.hir_forest.specs.Forest.{ChainEnds, LiesUnderMarked, Marks, MarksAll};
 ghost use Rattle.hir_forest.specs.Faults.{cycle_fault};
@@ -50,18 +50,47 @@ fn mark_chain(parents: &ParentTable, marked: &mut [bool], node: usize)
     }
 }
 
-/// The least node whose chain of parents doesn't end.
-pub(crate) fn first_cycle(parents: &ParentTable, ends: &mut [bool]) -> Option<ForestFault>
+/// Marks each node from `from` up to `to` that has no parent or a marked one, the last node first.
+///
+/// Most parents stand behind their kids, so going from the last node down finds them marked, and few nodes are left to climb from.
+fn mark_down(parents: &ParentTable, ends: &mut [bool], from: usize, to: usize)
     requires nodes { length ends.old ≡ length parents.now }
+    requires to { to ≤ length parents.now }
+    ensures nodes { length ends.new ≡ length parents.now }
+    ensures ends { (g : List (List ℕ)) → HasParents g parents.now
+        → ((c : ℕ) → Marks ends.old c → ChainEnds g c) → (c : ℕ) → Marks ends.new c → ChainEnds g c }
+{
+    for node in (from..to).rev() {
+        ends[node] = match parents.parent(node) {
+            Some(parent) => ends[parent],
+            None => true,
+        };
+    }
+}
+
+/// The least node whose chain of parents doesn't end.
+///
+/// The nodes below `split` are marked first, since most others have a parent among them, or one behind themselves.
+pub(crate) fn first_cycle(
+    parents: &ParentTable,
+    ends: &mut [bool],
+    split: usize,
+) -> Option<ForestFault>
+    requires nodes { length ends.old ≡ length parents.now }
+    requires split { split ≤ length parents.now }
     requires none { MarksAll ends.old [] }
     ensures { (g : List (List ℕ)) → HasParents g parents.now
         → first_below (length g) (cycle_fault (ChainEnds g)) result }
 {
+    mark_down(parents, ends, 0, split);
+    mark_down(parents, ends, split, parents.len());
     for node in 0..parents.len() {
-        if !chain_ends(parents, ends, node) {
-            return Some(ForestFault::Cycle(node));
+        if !ends[node] {
+            if !chain_ends(parents, ends, node) {
+                return Some(ForestFault::Cycle(node));
+            }
+            mark_chain(parents, ends, node);
         }
-        mark_chain(parents, ends, node);
     }
     None
 }

@@ -90,7 +90,7 @@ fn first_chain_fault(
 {
     let nodes = parents.len();
     let mut ends = vec![in alloc; false; nodes]?;
-    if let Some(fault) = first_cycle(parents, &mut ends) {
+    if let Some(fault) = first_cycle(parents, &mut ends, lengths.exprs as usize) {
         return Ok(Some(fault));
     }
     // The other tables take its room.

@@ -42,7 +42,42 @@ impl fmt::Display for LineFault {
 /// `InputFailed` if a read failed: the pending bytes are the beginning of a line. `OutputFailed` if what waited couldn't be
 /// written: a prefix of it was. `OutOfMemory` if memory for a longer line was refused. After the first and the last what waited
 /// is written, after each nothing waits, and no byte that was read is lost.
+// Nearly every line is pending as a whole: that case stands where the caller does, and needs no call.
+#[inline(always)]
 pub fn next_line<R: Source, W: Sink>(
+    lines: &mut LineReader,
+    reader: &mut R,
+    output: &mut OutputBuffer,
+    writer: &mut W,
+) -> Result<bool, LineFault>
+    requires fits { lines.old.count + length lines.old.pending + R.allowance reader.old < 2 ^ 64 }
+    ensures takes { NextTakes (untaken lines.old.pending lines.old.at_end (R.remaining reader.old))
+        (untaken lines.new.pending lines.new.at_end (R.remaining reader.new))
+        (R.remaining reader.new) lines.old lines.new result }
+    ensures writes { NextWrites (W.contents writer.old) (W.contents writer.new) output.old output.new result }
+    ensures count { lines.new.count ≡ lines.old.count + cond (is_found result) 1 0 }
+    ensures falls { is_failed_input result ≡ false →
+        length lines.new.pending + R.allowance reader.new + cond (is_found result) 1 0
+        ≤ length lines.old.pending + R.allowance reader.old }
+    ensures input_failure { R.failed reader.new ≡ (is_failed_input result || R.failed reader.old) }
+    ensures output_failure { W.failed writer.new ≡ (is_failed_output result || W.failed writer.old) }
+    // If nothing waits, the writer isn't called.
+    ensures idle { output.old ≡ [] →
+        (is_failed_output result ≡ false) × (writer.new ≡ writer.old) × (output.new ≡ []) }
+    ensures read_late { ((reader.new ≡ reader.old) × (writer.new ≡ writer.old) × (output.new ≡ output.old))
+        ⊎ (HasNoLineEnd lines.old.pending × (lines.old.at_end ≡ false) × (output.new ≡ [])) }
+    ensures stays_ended { lines.old.at_end ≡ true → lines.new.at_end ≡ true }
+{
+    match lines.take_line() {
+        Taken::Line => Ok(true),
+        Taken::End => Ok(false),
+        Taken::More => read_line(lines, reader, output, writer),
+    }
+}
+
+/// Does what `next_line` does, where no whole line is pending.
+#[inline(never)]
+fn read_line<R: Source, W: Sink>(
     lines: &mut LineReader,
     reader: &mut R,
     output: &mut OutputBuffer,

@@ -1,11 +1,12 @@
 -- What digits stand for, digit by digit.
-use Rattle.std.proofs.Common.{Option, ◌≡◌, ◌≢◌, ◌+◌, ◌-◌, ◌*◌, ◌<◌, ◌≤◌, ◌^◌, ℕ, Some, None, List, [], ◌∷◌, take, drop, length, get_or, sym, ap, ◌∙◌, arith, take-append-drop, fold, Bool, true, false, refl, inl, inr, length-take, get_or-take, take_all}
+use Rattle.std.proofs.Common.{Option, ◌≡◌, ◌≢◌, ◌+◌, ◌-◌, ◌*◌, ◌<◌, ◌≤◌, ◌^◌, ℕ, Some, None, List, [], ◌∷◌, take, drop, length, get_or, sym, ap, ◌∙◌, arith, take-append-drop, fold, Bool, true, false, refl, inl, inr, take_all}
 use Rattle.std.specs.Prelude.{if◌then◌else◌}
 use Rattle.std.specs.List.{list_all}
 use Rattle.std.proofs.lemmas.Grind.{common_steps, fold-append}
 use Rattle.std.proofs.lemmas.Bool.Decides.{nat_tests}
 use Rattle.std.proofs.lemmas.Bool.{cases_lt, false≢true}
-use Rattle.std.proofs.lemmas.List.Sums.{AllPass-from_list_all, list_all-from_AllPass, prefix_len_is, prefix_len_stops, prefix_len_passes}
+use Rattle.std.proofs.lemmas.List.Sums.{prefix_len_stops}
+use Rattle.hir_lines.proofs.Prefixes.{passes_in_front, all_pass, not_all}
 use Rattle.hir_lines.specs.Numerals.{value, if_below, is_digit, digits_len, number_of, has_needless_zero, is_numeral}
 
 grows : (bs : List ℕ) (n : ℕ) → n ≤ fold (λ n b. 10 * n + (b - 48)) n bs
@@ -36,18 +37,8 @@ chosen_none : (b : Bool) (o : Option ℕ) → o ≡ None → (if b then o else N
 chosen_none true o e = e
 chosen_none false o e = refl
 
-false_unless : (b : Bool) → (b ≡ true → ⊥) → b ≡ false
-false_unless true h = absurd (h refl)
-false_unless false h = refl
-
-digit_of_front : (xs : List ℕ) (i k : ℕ) → i ≤ length xs → list_all is_digit (take i xs) ≡ true → k < i → is_digit (get_or xs k 0) ≡ true
-digit_of_front xs i k h all below =
-    let within : k < length (take i xs) = omega (arith, length-take i xs) in
-    rw (get_or-take i xs k 0 below) at (AllPass-from_list_all is_digit (take i xs) all k 0 within)
-
--- digits with no digit behind them are the digits in front
-pub digits_in_front : (xs : List ℕ) (i : ℕ) → i ≤ length xs → list_all is_digit (take i xs) ≡ true → (i < length xs → is_digit (get_or xs i 0) ≡ false) → digits_len xs ≡ i
-digits_in_front xs i h all stops = prefix_len_is is_digit xs i 0 h (λ k below. digit_of_front xs i k h all below) stops
+pub digit_of_front : (xs : List ℕ) (i k : ℕ) → i ≤ length xs → list_all is_digit (take i xs) ≡ true → k < i → is_digit (get_or xs k 0) ≡ true
+digit_of_front = passes_in_front is_digit
 
 further : (xs : List ℕ) (i : ℕ) → i < length xs → list_all is_digit (take i xs) ≡ true → is_digit (get_or xs i 0) ≡ true → i < digits_len xs
 further xs i h all digit =
@@ -73,15 +64,13 @@ too_large_front xs i h all digit large =
     if_below-large (value (take (digits_len xs) xs)) (omega (arith, front', value-next xs i h))
 
 pub all_digits : (xs : List ℕ) → list_all is_digit (take (digits_len xs) xs) ≡ true
-all_digits xs = list_all-from_AllPass is_digit (take (digits_len xs) xs) (λ k d within.
-    let below : k < digits_len xs = omega (arith, length-take (digits_len xs) xs) in
-    rw (get_or-take {A = ℕ} (digits_len xs) xs k d below) (prefix_len_passes is_digit xs k d below))
+all_digits = all_pass is_digit
 
 -- a text in which something is no digit is no number
 pub no_number : (xs : List ℕ) (i : ℕ) → i < length xs → is_digit (get_or xs i 0) ≡ false → number_of xs ≡ None
 unfolding number_of
 no_number xs i h other =
-    let none : list_all is_digit xs ≡ false = false_unless _ (λ all. false≢true (sym other ∙ AllPass-from_list_all is_digit xs all i 0 h)) in
+    let none : list_all is_digit xs ≡ false = not_all is_digit xs i h other in
     grind (arith, common_steps)
 
 pub no_number-empty : (xs : List ℕ) → length xs ≡ 0 → number_of xs ≡ None

@@ -1,6 +1,7 @@
 pub mod Ascii
 pub mod Colons
 pub mod Decimals
+pub mod Dashes
 pub mod Digits
 pub mod Expressions
 pub mod Forms
@@ -8,7 +9,9 @@ pub mod Fronts
 pub mod InPlace
 pub mod Integers
 pub mod Keywords
+pub mod NameFronts
 pub mod Patterns
+pub mod Prefixes
 pub mod Putting
 pub mod Separators
 pub mod Signs

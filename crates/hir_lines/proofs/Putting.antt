@@ -10,7 +10,7 @@ use Rattle.hir_lines.specs.Line.{Line, Make, or_bad}
 use Rattle.hir_lines.specs.Makers.{Maker}
 use Rattle.hir_lines.specs.Names.{ascii_of}
 use Rattle.hir_lines.specs.Readings.{Reading, ◌>>=◌, gives, look_up, whole, alone}
-use Rattle.hir_lines.specs.Taking.{Puts, put, Asks, Takes, taken}
+use Rattle.hir_lines.specs.Taking.{Puts, put, Asks, Takes, TakesOrLeaves, taken}
 use Rattle.hir_lines.specs.Words.{by, keyword, one_of}
 use Rattle.hir_lines.proofs.Keywords.{behind}
 
@@ -87,6 +87,22 @@ module _ {B : Type 0} (add : B → Maker → Option B) (old new : B) where
   makes_one make inner mid (Err why) result puts is =
       subst (λ r. Takes add (or_bad (whole (inner >>= λ x. gives (Make (make x))) mid)) old new r) (sym is)
       (puts.0, λ bad. made_by make (inner mid) ∙ ap (λ found. option_map (λ made. (made, None)) found) (puts.1 bad))
+
+  -- what is read alike is taken alike, or left
+  pub frequent_alike : (reading other : Reading Line) (words mid : List (List ℕ)) → reading words ≡ other mid → (result : Result Bool Stop) →
+      TakesOrLeaves add (or_bad (whole other mid)) old new result → TakesOrLeaves add (or_bad (whole reading words)) old new result
+  frequent_alike reading other words mid same result takes =
+      subst (λ (read : Option (Line × List (List ℕ))). TakesOrLeaves add (or_bad (option_and_then (λ (f : Line × List (List ℕ)). alone f.0 f.1) read)) old new result) (sym same) takes
+
+  pub makes_frequent : {X : Type 0} (make : X → Maker) (inner : Reading X) (mid : List (List ℕ)) (outcome : Result (Unit {0}) Stop) (result : Result Bool Stop) →
+      Puts add make inner mid old new outcome → MatchResult outcome (λ done. result ≡ Ok true) (λ why. result ≡ Err why) →
+      TakesOrLeaves add (or_bad (whole (inner >>= λ x. gives (Make (make x))) mid)) old new result
+  makes_frequent make inner mid (Ok done) result puts is =
+      subst (λ r. TakesOrLeaves add (or_bad (whole (inner >>= λ x. gives (Make (make x))) mid)) old new r) (sym is)
+      (makes_one make inner mid (Ok done) (Ok None) puts refl)
+  makes_frequent make inner mid (Err why) result puts is =
+      subst (λ r. TakesOrLeaves add (or_bad (whole (inner >>= λ x. gives (Make (make x))) mid)) old new r) (sym is)
+      (makes_one make inner mid (Err why) (Err why) puts refl)
 
 -- a line that asks
 pub asks_one : {B : Type 0} (add : B → Maker → Option B) (old : B) (reading : Reading Line) (mid : List (List ℕ)) (outcome : Result Question Stop) (result : Result (Option Question) Stop) →

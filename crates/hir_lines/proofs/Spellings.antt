@@ -54,7 +54,7 @@ number_spells n word e =
     let small : value word < 2 ^ 32 = ltb-true _ _ found.0 in
     (omega (arith, found.1), sym (decimal-value word numeral.0 (omega arith)) ∙ ap decimal found.1)
 
-same_bytes : (xs ys : List ℕ) → bytes_eq xs ys ≡ true → xs ≡ ys
+pub same_bytes : (xs ys : List ℕ) → bytes_eq xs ys ≡ true → xs ≡ ys
 same_bytes xs ys e = (bytes_eq-Decides xs ys).0 e
 
 -- a dash is no number

@@ -1,5 +1,5 @@
 -- What a line does to what was made before it. A builder says what is made with one thing more, or that this may not be made.
-use Rattle.std.specs.Prelude.{◌≡◌, ℕ, List, Option, None, Some, Result, MatchResult, ◌↔◌}
+use Rattle.std.specs.Prelude.{◌≡◌, ℕ, true, false, Bool, List, Option, None, Some, Result, Ok, Err, MatchResult, ◌↔◌}
 use Rattle.std.specs.Option.{option_map, option_and_then}
 use Rattle.hir_lines.specs.declared.question.Question.{Question}
 use Rattle.hir_lines.specs.declared.stop.Stop.{Stop}
@@ -45,3 +45,9 @@ abbrev pub Takes : {B : Type 0} → (B → Maker → Option B) → Line → B �
 Takes add line old new result =
     MatchResult result (λ question. taken add old line ≡ Some (new, question))
     (λ why. (new ≡ old) × (why ≡ stop.Bad → taken add old line ≡ None))
+
+-- a line of the frequent kinds is taken; another one is left, and nothing is changed
+abbrev pub TakesOrLeaves : {B : Type 0} → (B → Maker → Option B) → Line → B → B → Result Bool Stop → Type 0
+TakesOrLeaves add line old new (Ok true) = Takes add line old new (Ok None)
+TakesOrLeaves add line old new (Ok false) = new ≡ old
+TakesOrLeaves add line old new (Err why) = Takes add line old new (Err why)

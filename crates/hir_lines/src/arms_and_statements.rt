@@ -1,7 +1,7 @@
 //! The arms of a match and the statements of a block: each is one word, whose parts are separated by colons.
 
-ghost use Rattle.hir_lines.specs.Readings.{Reads, Found};
-ghost use Rattle.hir_lines.specs.ArmsAndStatements.{arm_of, statement_of};
+ghost use Rattle.hir_lines.specs.Readings.{Reads, Found, whole};
+ghost use Rattle.hir_lines.specs.ArmsAndStatements.{arm_of, statement_of, let_statement, semi_statement};
 
 use crate::stop::Stop;
 use crate::words::{Word, Words};
@@ -20,23 +20,44 @@ fn arm(word: &[u8]) -> Result<MatchArm, Stop>
     parts.alone(MatchArm { pat, guard, expr })
 }
 
-#[tactic(auto, unfolding(crate::specs::ArmsAndStatements::statement_of))]
 #[inline(always)]
-fn statement(word: &[u8]) -> Result<Statement, Stop>
+fn let_statement(parts: &mut Words<'_>) -> Result<Statement, Stop>
+    ensures { Found (whole let_statement parts.old) result }
+{
+    let pat = parts.id()?;
+    let type_ref = parts.optional_id()?;
+    let initializer = parts.optional_id()?;
+    let else_branch = parts.optional_id()?;
+    parts.end()?;
+    Ok(Statement::Let {
+        pat,
+        type_ref,
+        initializer,
+        else_branch,
+    })
+}
+
+#[inline(always)]
+fn semi_statement(parts: &mut Words<'_>) -> Result<Statement, Stop>
+    ensures { Found (whole semi_statement parts.old) result }
+{
+    let expr = parts.id()?;
+    parts.end()?;
+    Ok(Statement::Expr {
+        expr,
+        has_semi: true,
+    })
+}
+
+#[tactic(auto, unfolding(crate::specs::ArmsAndStatements::statement_of))]
+#[inline(never)]
+fn any_statement(word: &[u8]) -> Result<Statement, Stop>
     ensures { Found (statement_of word.now) result }
 {
     let mut parts = Words::new(word, b':');
     let statement = match parts.keyword()? {
-        "let" => Statement::Let {
-            pat: parts.id()?,
-            type_ref: parts.optional_id()?,
-            initializer: parts.optional_id()?,
-            else_branch: parts.optional_id()?,
-        },
-        "semi" => Statement::Expr {
-            expr: parts.id()?,
-            has_semi: true,
-        },
+        "let" => return let_statement(&mut parts),
+        "semi" => return semi_statement(&mut parts),
         "expr" => Statement::Expr {
             expr: parts.id()?,
             has_semi: false,
@@ -45,7 +66,21 @@ fn statement(word: &[u8]) -> Result<Statement, Stop>
         "item" => Statement::Item(Item::Other),
         _ => return Err(Stop::Bad),
     };
-    parts.alone(statement)
+    parts.end()?;
+    Ok(statement)
+}
+
+/// What a word says of a statement. The first parts of most are compared with it in place, together with their colons.
+#[tactic(auto, unfolding(crate::specs::ArmsAndStatements::statement_of))]
+#[inline(always)]
+fn statement(word: &[u8]) -> Result<Statement, Stop>
+    ensures { Found (statement_of word.now) result }
+{
+    match word {
+        [b'l', b'e', b't', b':', ids @ ..] => let_statement(&mut Words::new(ids, b':')),
+        [b's', b'e', b'm', b'i', b':', id @ ..] => semi_statement(&mut Words::new(id, b':')),
+        _ => any_statement(word),
+    }
 }
 
 impl Word for MatchArm {

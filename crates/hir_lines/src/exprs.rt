@@ -16,7 +16,7 @@ use hir_node::{
 };
 use std::alloc::{AllocError, Global};
 
-/// Makes the expression of the text behind `expr`. Most are paths, which are looked for first.
+/// Makes the expression of the text behind `expr`. The first words of most are compared with it in place, together with their spaces.
 #[inline(always)]
 pub fn expr_of<B: Builder>(alloc: Global, text: &[u8], builder: &mut B) -> Result<(), Stop>
     ensures { Puts B.add make.Expr expr (parts_of space text.now) builder.old builder.new result }
@@ -25,7 +25,13 @@ pub fn expr_of<B: Builder>(alloc: Global, text: &[u8], builder: &mut B) -> Resul
         [b'p', b'a', b't', b'h', b' ', name @ ..] => {
             path(alloc, &mut Words::new(name, b' '), builder)
         }
-        // Of `path` only the bare word comes here, and it is bad.
+        [b'i', b'n', b't', b' ', number @ ..] => int(&mut Words::new(number, b' '), builder),
+        [b'b', b'i', b'n', b' ', rest @ ..] => binary(&mut Words::new(rest, b' '), builder),
+        [b'b', b'l', b'o', b'c', b'k', b' ', rest @ ..] => {
+            block(alloc, &mut Words::new(rest, b' '), builder)
+        }
+        [b'l', b'e', b't', b' ', ids @ ..] => let_expr(&mut Words::new(ids, b' '), builder),
+        [b'i', b'f', b' ', ids @ ..] => if_expr(&mut Words::new(ids, b' '), builder),
         _ => expr(alloc, &mut Words::new(text, b' '), builder),
     }
 }

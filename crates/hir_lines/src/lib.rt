@@ -19,5 +19,5 @@ mod words;
 
 pub use builder::Builder;
 pub use question::{BodyQuestion, Question, StoreQuestion};
-pub use reading::take;
+pub use reading::{take, take_frequent};
 pub use stop::Stop;

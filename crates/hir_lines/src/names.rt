@@ -1,9 +1,11 @@
 //! Keywords and names as they are written in a line.
 
-ghost use Rattle.std.specs.Prelude.{◌≡◌, IfSome, IfNone, true, false};
-ghost use Rattle.std.specs.List.{list_all};
+ghost use Rattle.std.specs.Prelude.{◌≡◌, ◌≤◌, ◌∷◌, None, length, IfSome, IfNone, true, false};
+ghost use Rattle.std.specs.List.{list_all, prefix_len};
 ghost use Rattle.std.specs.Char.{is_ascii};
 ghost use Rattle.hir_lines.specs.Names.{is_name, starts_name, continues_name};
+ghost use Rattle.hir_lines.specs.Readings.{parts_of, parts_left};
+ghost use Rattle.hir_lines.specs.Words.{name};
 
 #[inline(always)]
 fn may_start_name(b: u8) -> bool
@@ -19,21 +21,17 @@ fn may_continue_name(b: u8) -> bool
     may_start_name(b) || b.is_ascii_digit()
 }
 
+/// How many bytes at the front may stand in a name.
 #[inline(always)]
-fn continues_as_name(text: &[u8]) -> bool
-    ensures { result ≡ list_all continues_name text.now }
+fn name_len(text: &[u8]) -> usize
+    ensures front { result ≡ prefix_len continues_name text.now }
+    ensures within { result ≤ length text.now }
 {
-    text.iter().all(|b| may_continue_name(*b))
-}
-
-#[inline(always)]
-fn is_a_name(text: &[u8]) -> bool
-    ensures { result ≡ is_name text.now }
-{
-    if text.is_empty() {
-        return false;
+    let mut end = 0;
+    while end < text.len() && may_continue_name(text[end]) {
+        end += 1;
     }
-    may_start_name(text[0]) && continues_as_name(text)
+    end
 }
 
 fn is_ascii(text: &[u8]) -> bool
@@ -53,14 +51,24 @@ pub fn ascii(text: &[u8]) -> Option<&str>
     str::from_utf8(text).ok()
 }
 
-/// The text, if it is a name.
+/// The name before the first separator, and what is left behind it.
 #[inline(always)]
-pub fn name(text: &[u8]) -> Option<&str>
-    ensures some { IfSome result (λ name. (name.now ≡ text.now) × (is_name text.now ≡ true)) }
-    ensures none { IfNone result (is_name text.now ≡ false) }
+pub fn first_name(text: &[u8], separator: u8) -> Option<(&[u8], Option<&[u8]>)>
+    requires { continues_name separator ≡ false }
+    ensures some { IfSome result
+        (λ found. (is_name found.0.now ≡ true)
+        × (parts_of separator text.now ≡ found.0.now ∷ parts_left separator found.1)) }
+    ensures none { IfNone result (name (parts_of separator text.now) ≡ None) }
 {
-    if !is_a_name(text) {
+    let end = name_len(text);
+    if end == 0 || !may_start_name(text[0]) {
         return None;
     }
-    str::from_utf8(text).ok()
+    if end == text.len() {
+        return Some((text, None));
+    }
+    if text[end] != separator {
+        return None;
+    }
+    Some((&text[..end], Some(&text[end + 1..])))
 }

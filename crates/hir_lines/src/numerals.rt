@@ -14,14 +14,16 @@ fn leading_digits(text: &[u8]) -> Option<(u32, usize)>
         × (if_below (2 ^ 32) (value (take found.1 text.now)) ≡ Some found.0)) }
     ensures none { IfNone result (if_below (2 ^ 32) (value (take (digits_len text.now) text.now)) ≡ None) }
 {
-    let mut value: u32 = 0;
+    let mut value: u64 = 0;
     let mut end = 0;
     while end < text.len() && text[end].is_ascii_digit() {
-        let digit = u32::from(text[end] - b'0');
-        value = value.checked_mul(10)?.checked_add(digit)?;
+        value = value * 10 + u64::from(text[end] - b'0');
+        if value > u64::from(u32::MAX) {
+            return None;
+        }
         end += 1;
     }
-    Some((value, end))
+    Some((value as u32, end))
 }
 
 /// Whether the text is a zero before another byte.
@@ -60,7 +62,6 @@ fn leading_number(text: &[u8]) -> Option<(u32, usize)>
 }
 
 /// The number that the text is, if it is one.
-#[inline(always)]
 pub fn number(text: &[u8]) -> Option<u32>
     ensures { result ≡ number_of text.now }
 {
@@ -72,7 +73,9 @@ pub fn number(text: &[u8]) -> Option<u32>
     }
 }
 
-fn has_minus(text: &[u8]) -> bool
+/// Whether the text begins with a minus, which is a dash as well.
+#[inline(always)]
+pub fn has_minus(text: &[u8]) -> bool
     ensures { result ≡ has_minus text.now }
 {
     !text.is_empty() && text[0] == b'-'

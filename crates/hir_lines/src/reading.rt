@@ -1,13 +1,13 @@
 //! Taking a line: by its first word, and then by the words that its form has.
 
-ghost use Rattle.std.specs.Prelude.{◌≡◌, ◌≢◌, MatchResult};
+ghost use Rattle.std.specs.Prelude.{◌≡◌, ◌≢◌, MatchResult, true};
 ghost use Rattle.hir_lines.specs.declared.question.BodyQuestion.TheVariants.{Print};
 ghost use Rattle.hir_lines.specs.declared.question.Question.TheVariants.{OfBody};
 ghost use Rattle.hir_lines.specs.Grammar.{IsLine};
 ghost use Rattle.hir_lines.specs.Line.{Line, Bad, line_of, or_bad, plain_binding, bind, expr_hygiene, pat_hygiene, command, Ask, children_line, root_of_line, chain_line, resolve_line, captures_line};
 ghost use Rattle.hir_lines.specs.Makers as make;
 ghost use Rattle.hir_lines.specs.Readings.{gives, parts_of, space, whole};
-ghost use Rattle.hir_lines.specs.Taking.{Puts, Asks, Takes};
+ghost use Rattle.hir_lines.specs.Taking.{Puts, Asks, Takes, TakesOrLeaves};
 ghost use Rattle.hir_lines.specs.Types.{type_ref};
 ghost use Rattle.hir_lines.specs.Words.{name, number};
 
@@ -222,28 +222,48 @@ fn command<B: Builder>(
     }
 }
 
+/// A line of a frequent kind was taken.
+#[inline(always)]
+fn taken(outcome: Result<(), Stop>) -> Result<bool, Stop>
+    ensures { MatchResult outcome (λ done. result ≡ Ok true) (λ why. result ≡ Err why) }
+{
+    outcome?;
+    Ok(true)
+}
+
+/// Takes a line as `take` does, if it makes an expression, a pattern or a binding, as nearly all lines do: `true`. Any other line is
+/// left, and nothing was done: `false`. So who builds by many lines has no question handed from call to call.
+///
+/// `Bad` and `Memory` as for `take`.
 #[tactic(auto, unfolding(crate::specs::Line::line_of))]
 #[inline(always)]
+pub fn take_frequent<B: Builder>(alloc: Global, text: &[u8], builder: &mut B) -> Result<bool, Stop>
+    ensures { TakesOrLeaves B.add (line_of text.now) builder.old builder.new result }
+{
+    // The first words are compared with the text in place, before a first word is looked for.
+    match text {
+        [b'e', b'x', b'p', b'r', b' ', rest @ ..] => taken(expr_of(alloc, rest, builder)),
+        [b'p', b'a', b't', b' ', rest @ ..] => taken(pat_of(alloc, rest, builder)),
+        [b'b', b'i', b'n', b'd', b' ', rest @ ..] => {
+            taken(bind(alloc, &mut Words::new(rest, b' '), builder))
+        }
+        _ => Ok(false),
+    }
+}
+
+#[tactic(auto, unfolding(crate::specs::Line::line_of))]
 fn line<B: Builder>(alloc: Global, text: &[u8], builder: &mut B) -> Result<Option<Question>, Stop>
     ensures { Takes B.add (line_of text.now) builder.old builder.new result }
 {
-    match text {
-        [] => Ok(None),
-        // Nearly all lines begin with one of these. They are compared with the text in place, before a first word is looked for.
-        [b'e', b'x', b'p', b'r', b' ', rest @ ..] => makes(expr_of(alloc, rest, builder)),
-        [b'p', b'a', b't', b' ', rest @ ..] => makes(pat_of(alloc, rest, builder)),
-        [b'b', b'i', b'n', b'd', b' ', rest @ ..] => {
-            makes(bind(alloc, &mut Words::new(rest, b' '), builder))
-        }
-        // Of these three only the bare word comes here, and it is bad.
-        _ => command(alloc, &mut Words::new(text, b' '), builder),
+    if text.is_empty() {
+        return Ok(None);
     }
+    command(alloc, &mut Words::new(text, b' '), builder)
 }
 
 /// Takes a line: the builder gets what it makes; a question that it asks is handed back.
 ///
 /// `Bad` where no line is written so, or the builder answers so; `Memory` where memory was refused. After either nothing was added.
-#[inline(always)]
 pub fn take<B: Builder>(
     alloc: Global,
     text: &[u8],

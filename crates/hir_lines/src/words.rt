@@ -2,12 +2,12 @@
 
 ghost use Rattle.std.specs.Prelude.{None, Some, ◌≡◌, ◌∷◌, [], MatchResult, IsTrue, ◌↔◌, position, length, min, ◌^◌, ◌-◌, false};
 ghost use Rattle.std.specs.List.{count_by};
-ghost use Rattle.hir_lines.specs.Numerals.{is_digit};
+ghost use Rattle.hir_lines.specs.Names.{continues_name};
 ghost use Rattle.hir_lines.specs.Readings.{parts_of, parts_left, is_byte, alone, Found, HasWord, Reads, first_word, each};
 ghost use Rattle.hir_lines.specs.Words.{number, optional, list, keyword, name, path, int, op, expansion, hygiene};
 
-use crate::names::{ascii as ascii_text, name as name_text};
-use crate::numerals::{first_number, int as int_text, number as number_text};
+use crate::names::{ascii as ascii_text, first_name};
+use crate::numerals::{first_number, has_minus, int as int_text, number as number_text};
 use crate::operators::op as op_text;
 use crate::stop::Stop;
 use hir_base::{BinaryOp, HygieneId, Idx, Name, Seq, SyntaxContext};
@@ -24,20 +24,20 @@ pub struct Words<'a> {
 
 impl<'a> Model for Words<'a> {
     ghost use Rattle.std.specs.Prelude.{List, ℕ, ◌≡◌, false};
-    ghost use Rattle.hir_lines.specs.Numerals.{is_digit};
+    ghost use Rattle.hir_lines.specs.Names.{continues_name};
     ghost use Rattle.hir_lines.specs.Readings.{parts_left};
 
     ghost Value = { List (List ℕ) };
 
     ghost view = { λ w. parts_left w.separator w.rest };
 
-    ghost invariant = { λ w. is_digit w.separator ≡ false };
+    ghost invariant = { λ w. continues_name w.separator ≡ false };
 }
 
 impl<'a> Words<'a> {
     /// The parts of a text, between its separators.
     pub fn new(text: &'a [u8], separator: u8) -> Words<'a>
-        requires { is_digit separator ≡ false }
+        requires { continues_name separator ≡ false }
         ensures { result ≡ parts_of separator text.now }
     {
         Words {
@@ -86,10 +86,24 @@ impl<'a> Words<'a> {
         Ok(Idx::from_raw(self.number()?))
     }
 
-    /// Takes the next word, if it is a number or a dash.
-    #[tactic(auto, unfolding(crate::specs::Words::optional_of))]
+    /// Takes the next word, if it is a number or a dash. What begins with no dash is read as a number where it stands.
     #[inline(always)]
     pub fn optional(&mut self) -> Result<Option<u32>, Stop>
+        ensures { Reads optional self.old result self.new }
+    {
+        let Some(text) = self.rest else {
+            return Err(Stop::Bad);
+        };
+        if has_minus(text) {
+            return self.dash();
+        }
+        Ok(Some(self.number()?))
+    }
+
+    /// Takes the next word, if it is a number or a dash, by a look at the whole of it.
+    #[tactic(auto, unfolding(crate::specs::Words::optional_of))]
+    #[inline(always)]
+    fn dash(&mut self) -> Result<Option<u32>, Stop>
         ensures { Reads optional self.old result self.new }
     {
         let word = self.word()?;
@@ -142,9 +156,14 @@ impl<'a> Words<'a> {
     pub fn name(&mut self, alloc: Global) -> Result<Name, Stop>
         ensures { Reads name self.old result self.new }
     {
-        let word = self.word()?;
-        match name_text(word) {
-            Some(text) => Ok(Name::new(alloc, text)?),
+        let Some(text) = self.rest else {
+            return Err(Stop::Bad);
+        };
+        match first_name(text, self.separator) {
+            Some((name, rest)) => {
+                self.rest = rest;
+                Ok(Name::from_ascii(alloc, name)?)
+            }
             None => Err(Stop::Bad),
         }
     }

@@ -1,7 +1,7 @@
 //! What each form of a line makes or asks, but for expressions.
 
 use crate::kept::{Line, Maker};
-use crate::says::{id, list, makes, path, says};
+use crate::says::{id, is_frequent, list, makes, path, says};
 use hir_base::{HygieneId, Name, RangeOp, Seq, SyntaxContext};
 use hir_lines::{BodyQuestion, Question, StoreQuestion};
 use hir_node::{
@@ -72,11 +72,11 @@ fn bindings_and_the_function(rt: HostRuntime) -> Result<(), Fail> {
         b"bind self_1",
         plain_binding(name, HygieneId::ROOT),
     )?;
-    let name = Name::new(alloc, "x")?;
+    let name = Name::new(alloc, "longer_than_14_bytes")?;
     makes(
         &rt,
         alloc,
-        b"bind x 4294967295",
+        b"bind longer_than_14_bytes 4294967295",
         plain_binding(name, expanded(4294967295)),
     )?;
     let made = Name::new(alloc, "_")?;
@@ -169,4 +169,28 @@ fn types(rt: HostRuntime) -> Result<(), Fail> {
     makes(&rt, alloc, b"type array 0 1", Maker::Type(made))?;
     let made = TypeRef::PatternType(id(0), id(1));
     makes(&rt, alloc, b"type pattern 0 1", Maker::Type(made))
+}
+
+const FREQUENT: [&[u8]; 5] = [
+    b"expr path x",
+    b"expr missing",
+    b"pat wild",
+    b"bind x",
+    b"bind 0",
+];
+
+// Of these words `take_frequent` makes nothing, nor finds them bad.
+const OTHER: [&[u8]; 6] = [b"", b"expr", b"type never", b"root 0", b"print", b"binds x"];
+
+#[test]
+fn frequent_lines_are_taken_at_once(rt: HostRuntime) -> Result<(), Fail> {
+    for text in &FREQUENT {
+        let is_frequent = is_frequent(rt.alloc(), text);
+        assert!(rt; is_frequent?, "{text:?}");
+    }
+    for text in &OTHER {
+        let is_frequent = is_frequent(rt.alloc(), text);
+        assert!(rt; !is_frequent?, "{text:?}");
+    }
+    Ok(())
 }

@@ -1,7 +1,7 @@
 //! A builder that keeps what lines make, as it came.
 
 use hir_base::{HygieneId, Name, Seq};
-use hir_lines::{Builder, Question, Stop, take};
+use hir_lines::{Builder, Question, Stop, take, take_frequent};
 use hir_node::{Binding, BindingId, Expr, ExprId, ExprOrPatId, Pat, PatId, TypeRef};
 use std::alloc::Global;
 
@@ -101,6 +101,19 @@ pub fn said(alloc: Global, text: &[u8]) -> Result<Line, Stop> {
         Ok(Some(question)) => Ok(Line::Ask(question)),
         Ok(None) => Ok(kept_line(kept)),
         Err(Stop::Bad) => Ok(Line::Bad),
+        Err(Stop::Memory) => Err(Stop::Memory),
+    }
+}
+
+/// What a text says to `take_frequent`, if it isn't left.
+pub fn said_frequent(alloc: Global, text: &[u8]) -> Result<Option<Line>, Stop> {
+    let mut kept = Kept {
+        makers: Seq::new(alloc),
+    };
+    match take_frequent(alloc, text, &mut kept) {
+        Ok(true) => Ok(Some(kept_line(kept))),
+        Ok(false) => Ok(None),
+        Err(Stop::Bad) => Ok(Some(Line::Bad)),
         Err(Stop::Memory) => Err(Stop::Memory),
     }
 }

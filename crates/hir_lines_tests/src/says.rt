@@ -1,7 +1,7 @@
 //! What a text says, held against a line; and the parts of lines that take memory.
 //! A line is dropped whole before its answer is weighed, since one that goes out of scope is dear to prove.
 
-use crate::kept::{Line, Maker, said};
+use crate::kept::{Line, Maker, said, said_frequent};
 use hir_base::{Idx, Name, Seq};
 use hir_lines::Stop;
 use hir_node::Path;
@@ -14,7 +14,26 @@ fn is_said(alloc: Global, text: &[u8], line: &Line) -> Result<bool, Stop> {
     let said = said(alloc, text)?;
     let is_said = said == *line;
     drop(said);
+    Ok(is_said && is_said_at_once(alloc, text, line)?)
+}
+
+// A line that is taken at once says the same.
+fn is_said_at_once(alloc: Global, text: &[u8], line: &Line) -> Result<bool, Stop> {
+    let said = said_frequent(alloc, text)?;
+    let is_said = match &said {
+        Some(said) => *said == *line,
+        None => true,
+    };
+    drop(said);
     Ok(is_said)
+}
+
+/// Whether a text is taken at once.
+pub fn is_frequent(alloc: Global, text: &[u8]) -> Result<bool, Stop> {
+    let said = said_frequent(alloc, text)?;
+    let is_frequent = said.is_some();
+    drop(said);
+    Ok(is_frequent)
 }
 
 /// Fails where a text doesn't say this line.

@@ -158,19 +158,28 @@ impl PageBuffer {
         Ok(())
     }
 
-    /// Writes text of one character, as most texts are.
+    /// Writes a character.
     #[inline(always)]
-    fn character(&mut self, text: &str, byte: u8) -> Result<(), AllocError>
-        requires { text.now ≡ byte ∷ [] }
-        ensures { OnOk result (self.new ≡ put_all text.now self.old) }
+    fn plain(&mut self, byte: u8) -> Result<(), AllocError>
+        requires { (byte < 128) × (byte ≢ 10) }
+        ensures { OnOk result (self.new ≡ put byte self.old) }
     {
-        if byte == b'\n' || !byte.is_ascii() {
-            return self.lines(text);
-        }
         self.begin()?;
         self.add_byte(byte)?;
         self.format = self.format.in_line();
         Ok(())
+    }
+
+    /// Writes text of one character, as most texts are.
+    #[inline(never)]
+    fn character(&mut self, text: &str, byte: u8) -> Result<(), AllocError>
+        requires { text.now ≡ byte ∷ [] }
+        ensures { OnOk result (self.new ≡ put_all text.now self.old) }
+    {
+        if !is_plain(byte) {
+            return self.lines(text);
+        }
+        self.plain(byte)
     }
 
     /// Writes text, which seldom has a line end.
@@ -389,4 +398,12 @@ fn ends_in_line_end(text: &[u8]) -> bool
 {
     let len = text.len();
     len > 0 && text[len - 1] == b'\n'
+}
+
+/// Whether a byte is a character above the line end in ASCII, as nearly all are. One comparison tells it.
+#[inline(always)]
+fn is_plain(byte: u8) -> bool
+    ensures { IsTrue result → (byte < 128) × (byte ≢ 10) }
+{
+    b'\n' < byte && byte < 128
 }

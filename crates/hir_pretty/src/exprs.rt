@@ -394,7 +394,7 @@ fn open_unsafe(stack: &mut Stack<'_>, unsafe_: Unsafe) -> Result<(), AllocError>
     }
 }
 
-#[inline(never)]
+#[inline(always)]
 fn open_inside<'a>(
     stack: &mut Stack<'a>,
     statements: &'a [Statement],

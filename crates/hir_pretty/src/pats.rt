@@ -38,6 +38,7 @@ pub(crate) fn open_elements<'a>(stack: &mut Stack<'a>, pats: &'a [PatId]) -> Res
     }
 }
 
+#[inline(always)]
 pub(crate) fn open_joined<'a>(
     stack: &mut Stack<'a>,
     between: &'a str,

@@ -1,15 +1,16 @@
 -- What taking a line does to what the code has made, and where nothing may be made.
-use Rattle.std.proofs.Common.{◌≡◌, Bool, true, false, Option, None, Some, if◌then◌else◌, inl, inr, ◌⊎◌, refl, sym, ap, ◌∙◌, subst}
+use Rattle.std.proofs.Common.{◌≡◌, Bool, true, false, Option, None, Some, Ok, if◌then◌else◌, inl, inr, ◌⊎◌, refl, sym, ap, ◌∙◌, subst}
 use Rattle.std.specs.Option.{option_map}
-use Rattle.hir_lines.specs.Line.{Line, Blank, Make, Ask, Bad}
+use Rattle.hir_io.specs.LineState.{LineState}
+use Rattle.hir_lines.specs.Line.{Line, Blank, Make, Ask, Bad, line_of}
 use Rattle.hir_lines.specs.Makers.{Maker}
 use Rattle.hir_lines.specs.Makers as make
-use Rattle.hir_lines.specs.Taking.{taken}
+use Rattle.hir_lines.specs.Taking.{taken, TakesOrLeaves}
 use Rattle.hir_lines.specs.declared.question.Question.{Question}
 use Rattle.hir_run.specs.declared.made.Made as code
 use Rattle.hir_run.specs.Made.{made_of, with_line, with_maker, and_maker, is_second}
 use Rattle.hir_run.specs.Program.{asks}
-use Rattle.hir_run.specs.Stages.{MakesOrAsks}
+use Rattle.hir_run.specs.Stages.{BuildsOrLeaves, MakesOrAsks}
 
 same_pair : {A B : Type 0} (p q : A × B) → ◌≡◌ {A = Option (A × B)} (Some p) (Some q) → (p.0 ≡ q.0) × (p.1 ≡ q.1)
 same_pair {A} {B} p q e = let same : p ≡ q = cc in (ap (λ (r : A × B). r.0) same, ap (λ (r : A × B). r.1) same)
@@ -47,6 +48,12 @@ made_or_asked (Ask asked) old new question e =
     let same = same_pair (old, Some asked) (new, question) e in
     subst (λ q. MakesOrAsks (Ask asked) (made_of old) (made_of new) q) same.1 (refl, ap made_of (sym same.0))
 made_or_asked Bad old new question e = cc
+
+-- one of a frequent kind was taken, or it was left
+pub made_or_left : (lines : LineState) (old new : code.Made) (frequent : Bool) → TakesOrLeaves and_maker (line_of lines.line) old new (Ok frequent) →
+    BuildsOrLeaves lines (made_of old) (made_of new) (Ok frequent)
+made_or_left lines old new true taken = made_or_asked (line_of lines.line) old new None taken
+made_or_left lines old new false left = ap made_of left
 
 second_so : (old : code.Made) (maker : Maker) (second : Bool) (pair : code.Made → code.Made × Option Question) →
     option_map pair (if second then None else Some (with_maker old maker)) ≡ None → second ≡ true

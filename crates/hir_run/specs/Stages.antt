@@ -79,6 +79,12 @@ BuildsBy line number old new result =
 abbrev pub BuildsLine : LineState → Made → Made → Result (Option Question) RunFault → Type 0
 BuildsLine lines old new result = BuildsBy (line_of lines.line) lines.count old new result
 
+-- what it does there where it is of a frequent kind; a line of another kind is left
+abbrev pub BuildsOrLeaves : LineState → Made → Made → Result Bool RunFault → Type 0
+BuildsOrLeaves lines old new (Ok true) = BuildsLine lines old new (Ok None)
+BuildsOrLeaves lines old new (Ok false) = new ≡ old
+BuildsOrLeaves lines old new (Err fault) = BuildsLine lines old new (Err fault)
+
 -- what a builder gives: its store; or it has this first fault, or memory was refused
 abbrev pub Finishes : Building → Result Contents RunFault → Type 0
 Finishes built result =

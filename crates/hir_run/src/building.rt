@@ -4,16 +4,28 @@ ghost use Rattle.std.specs.Prelude.{◌≡◌, ◌+◌, ◌<◌, ◌^◌, ◌||�
 ghost use Rattle.hir_io.specs.NextLine.{untaken};
 ghost use Rattle.hir_run.specs.Made.{made_of, nothing_made};
 ghost use Rattle.hir_run.specs.Outcomes.{is_input_failed};
-ghost use Rattle.hir_run.specs.Stages.{Builds, BuildsLine};
+ghost use Rattle.hir_run.specs.Stages.{Builds, BuildsLine, BuildsOrLeaves};
 
 use crate::fault::RunFault;
 use crate::made::Made;
 use hir_io::{LineReader, OutputBuffer, Sink, Source, next_line};
-use hir_lines::{Question, Stop, take};
+use hir_lines::{Question, Stop, take, take_frequent};
 use std::alloc::Global;
 
-/// Makes what the line that was taken last makes, or gives its question.
+/// Makes what the line that was taken last makes, if it is of a frequent kind, and answers whether it is.
 #[inline(always)]
+fn build_frequent(alloc: Global, lines: &LineReader, made: &mut Made) -> Result<bool, RunFault>
+    ensures { BuildsOrLeaves lines.now (made_of made.old) (made_of made.new) result }
+{
+    match take_frequent(alloc, lines.line(), made) {
+        Ok(taken) => Ok(taken),
+        Err(Stop::Bad) => Err(RunFault::BadLine(lines.count())),
+        Err(Stop::Memory) => Err(RunFault::OutOfMemory),
+    }
+}
+
+/// Makes what the line that was taken last makes, or gives its question.
+#[inline(never)]
 fn build_line(
     alloc: Global,
     lines: &LineReader,
@@ -49,6 +61,9 @@ pub(crate) fn build<R: Source, W: Sink>(
         (lines.new.count + length lines.new.pending + R.allowance reader.new < 2 ^ 64) }
 {
     while next_line(lines, reader, output, writer)? {
+        if build_frequent(alloc, lines, made)? {
+            continue;
+        }
         let question = build_line(alloc, lines, made)?;
         if question.is_some() {
             return Ok(question);

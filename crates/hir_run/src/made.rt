@@ -85,6 +85,7 @@ impl Builder for Made {
         or_memory(self.builder.alloc_binding(binding))
     }
 
+    #[inline(always)]
     fn pat(&mut self, pat: Pat) -> Result<(), Stop> {
         or_memory(self.builder.alloc_pat(pat))
     }
@@ -93,6 +94,7 @@ impl Builder for Made {
         or_memory(self.builder.alloc_type(type_ref))
     }
 
+    #[inline(always)]
     fn expr(&mut self, expr: Expr) -> Result<(), Stop> {
         or_memory(self.builder.alloc_expr(expr))
     }

@@ -12,7 +12,7 @@ use Rattle.hir_faults.specs.Tested.{tested_pat}
 use Rattle.hir_faults.specs.Sound.{IsSoundNode}
 use Rattle.std.proofs.lemmas.List.{append-nil}
 use Rattle.std.proofs.lemmas.List.Concat.{flat_map-append}
-use Rattle.hir_node.specs.ChildCalls.{Call, OnExpr, OnAnonConst, OnPat, OnType, OnLifetime, kids, pat_of_call}
+use Rattle.hir_node.specs.ChildCalls.{Call, OnExpr, OnAnonConst, OnPat, OnType, OnLifetime, p, kids, pat_of_call}
 use Rattle.hir_node.specs.Runs.{Runs, no_call, a_call}
 use Rattle.hir_node.proofs.RunLemmas.{may_freely}
 use Rattle.hir_node.specs.declared.node_id.NodeId.TheVariants as node
@@ -35,7 +35,12 @@ asks_all {v} (a_call {v = u} {c = c} {cs = cs} step rest) h =
     let q = step r.0 in
     (q.0, r.1 ∙ (ap (λ (xs : List ℕ). xs ++ flat_map pat_of_call cs) q.1 ∙ append_assoc v.items.items (pat_of_call c) (flat_map pat_of_call cs)))
 
-pub ruleset bound_pats = (may_freely, asks_all, append-nil)
+-- the patterns among calls with patterns are those
+pub pats_of_pats : (ps : List ℕ) → flat_map pat_of_call (flat_map p ps) ≡ ps
+pats_of_pats [] = refl
+pats_of_pats (x ∷ ps) = ap (λ (rest : List ℕ). x ∷ rest) (pats_of_pats ps)
+
+pub ruleset bound_pats = (may_freely, asks_all, append-nil, pats_of_pats)
 
 module _ (s : Nodes) where
   pats_of_calls : (cs : List Call) → AreThere s (kids cs) → AreThere s (map node.Pat (flat_map pat_of_call cs))

@@ -15,7 +15,8 @@ use Rattle.hir_scope.specs.declared.tasks.Around.{Around}
 use Rattle.hir_scope.specs.declared.tasks.Task.{Task}
 use Rattle.hir_scope.specs.declared.tasks.Task.TheVariants as task
 use Rattle.hir_scope.specs.Frames.{Frame, Chain, frame, of_kind}
-use Rattle.hir_scope.specs.Forms.{form_at, form_of, pat_form, type_form}
+use Rattle.hir_scope.specs.Forms.{ScopingForm, form_at, form_of, pat_form, type_form}
+use Rattle.hir_scope.specs.Forms as form
 use Rattle.hir_scope.specs.PlacesUnder.{place}
 use Rattle.hir_scope.specs.Scopes.{Scopes}
 use Rattle.hir_scope.specs.Pending.{tasks_of, guarded_task, arm_with, leave, form_tasks, opens_here, opens_constant, future, task_kids, task_frames}
@@ -23,7 +24,7 @@ use Rattle.hir_scope.specs.Machine.{Machine, chain_of, about, AreThere, LeavesWi
 use Rattle.hir_scope.proofs.ReadyLemmas.{known_met, leaves_met}
 use Rattle.hir_scope.proofs.WeightLemmas.{left_cons, weight_met, turns_met}
 use Rattle.hir_scope.proofs.MetLemmas.{for_constants, future_expr, future_pat, future_type, future_arm}
-use Rattle.hir_scope.proofs.MovingLemmas.{at, moves_opened, moves_still}
+use Rattle.hir_scope.proofs.MovingLemmas.{at, opened_none, moves_opened, moves_still}
 
 module _ (s : Nodes) where
   abbrev frame_weight : (Frame → ℕ) → Task → ℕ
@@ -72,6 +73,13 @@ module _ (s : Nodes) where
         let c = turns_cons (task.Expr id) ts in
         let q = ap (turns_left s) e in
         omega (arith, m, c, q))
+
+    -- an expression in which nothing is
+    pub empty_moves : (S : Scopes) (a : Around) (id : ℕ) (ts : List Task) → form_of s (node.Expr id) ≡ form.InTurn [] → IsReady s (at S a (task.Expr id ∷ ts)) →
+        Moves s (at S a (task.Expr id ∷ ts)) (at S a ts) (place (node.Expr id) (chain_of S.scopes a.here) (chain_of S.scopes a.constant) ∷ [])
+    empty_moves S a id ts e r =
+        expr_moves S a id ts ts (at S a ts) (ap (λ (x : ScopingForm). form_tasks a x ++ ts) (sym e))
+        (subst (λ (x : ScopingForm). Opened (at S a ts) (at S a ts) (opens_here s x) (opens_constant x)) (sym e) (opened_none (at S a ts) r.here r.constant)) r
 
     pat_opens : (x : Option Pat) → (opens_here s (form_at pat_form x) ≡ []) × (opens_constant (form_at pat_form x) ≡ [])
     pat_opens None = (refl, refl)

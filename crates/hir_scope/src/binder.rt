@@ -65,6 +65,8 @@ impl Binder {
     }
 
     /// Appends the entry of a binding.
+    // Inlined: a call would cost half as much as what it does.
+    #[inline(always)]
     pub(crate) fn add_binding(
         &mut self,
         store: &ExpressionStore,
@@ -90,59 +92,6 @@ impl Binder {
         Ok(())
     }
 
-    /// Adds the entry of the binding of a pattern itself, where it has one.
-    fn add_own(&mut self, store: &ExpressionStore, id: PatId) -> Result<(), ScopesFault>
-        requires { id < length store.now.nodes.pats }
-        ensures added { OnOk result (self.new.entries.items ≡ self.old.entries.items
-            ++ flat_map (entry_at store.now.nodes) (bindings_at store.now.nodes id)) }
-        ensures pats { self.new.pats ≡ self.old.pats }
-        ensures memory { OnErr result (result ≡ Err ScopesFault.Memory) }
-    {
-        store.has_no_fault();
-        nodes_are_sound();
-        match &store[id] {
-            Pat::Bind { id, subpat: _ } => self.add_binding(store, *id),
-            Pat::Missing
-            | Pat::Rest
-            | Pat::Wild
-            | Pat::NotNull
-            | Pat::Or(_)
-            | Pat::Path(_)
-            | Pat::Lit(_)
-            | Pat::Expr(_)
-            | Pat::Tuple {
-                args: _,
-                ellipsis: _,
-            }
-            | Pat::TupleStruct {
-                path: _,
-                args: _,
-                ellipsis: _,
-            }
-            | Pat::Record {
-                path: _,
-                args: _,
-                ellipsis: _,
-            }
-            | Pat::Range {
-                start: _,
-                end: _,
-                range_type: _,
-            }
-            | Pat::Slice {
-                prefix: _,
-                slice: _,
-                suffix: _,
-            }
-            | Pat::Ref {
-                pat: _,
-                mutability: _,
-            }
-            | Pat::Box { inner: _ }
-            | Pat::Deref { inner: _ } => Ok(()),
-        }
-    }
-
     /// Pushes the child patterns of a pattern on those that are still to be visited, the first on top.
     fn push_children(&mut self, pat: &Pat) -> Result<(), ScopesFault>
         ensures next { OnOk result (self.new.pats ≡ child_pats pat.now ++ self.old.pats) }
@@ -152,6 +101,43 @@ impl Binder {
         self.turn.clear();
         pat.visit_children(&mut self.turn);
         self.turn.move_to(&mut self.pats)
+    }
+
+    /// Visits a pattern: adds the entry of its own binding, where it has one, and pushes its child patterns on those that are still
+    /// to be visited, the first on top.
+    // The common patterns are pushed at once; any other takes a turn of the visitor.
+    fn visit(&mut self, store: &ExpressionStore, id: PatId) -> Result<(), ScopesFault>
+        requires { id < length store.now.nodes.pats }
+        ensures added { OnOk result (self.new.entries.items ≡ self.old.entries.items
+            ++ flat_map (entry_at store.now.nodes) (bindings_at store.now.nodes id)) }
+        ensures next { OnOk result (self.new.pats ≡ child_pats_of store.now.nodes id ++ self.old.pats) }
+        ensures memory { OnErr result (result ≡ Err ScopesFault.Memory) }
+    {
+        store.has_no_fault();
+        nodes_are_sound();
+        let pat = &store[id];
+        match pat {
+            Pat::Bind { id, subpat } => {
+                self.add_binding(store, *id)?;
+                match subpat {
+                    None => Ok(()),
+                    Some(inner) => self.pats.push(*inner),
+                }
+            }
+            Pat::Tuple { args, ellipsis: _ } => push_ids(&mut self.pats, args.as_slice()),
+            Pat::Missing
+            | Pat::Rest
+            | Pat::Wild
+            | Pat::NotNull
+            | Pat::Lit(_)
+            | Pat::Expr(_)
+            | Pat::Range {
+                start: _,
+                end: _,
+                range_type: _,
+            } => Ok(()),
+            _ => self.push_children(pat),
+        }
     }
 
     /// Visits all patterns that are still to be visited.
@@ -166,8 +152,7 @@ impl Binder {
         pats_is();
         bindings_in_is();
         while let Some(id) = self.pats.pop() {
-            self.add_own(store, id)?;
-            self.push_children(&store[id])?;
+            self.visit(store, id)?;
         }
         Ok(())
     }

@@ -62,19 +62,26 @@ impl ExprScopes {
     ghost use Rattle.hir_scope.specs.Scopes.{Scope, entry_count, block_of, label_of, macro_def_of, IsIn, ParentsStandEarlier};
     ghost use Rattle.hir_scope.specs.Paths.{path};
 
-    /// No scopes yet, with room for the scopes of this number of expressions.
+    /// No scopes yet, with room for the scopes of this number of expressions, and for this number of entries.
     ///
     /// Answers `Memory` where that room was refused.
-    pub(crate) fn with_exprs(alloc: Global, exprs: usize) -> Result<ExprScopes, ScopesFault>
+    pub(crate) fn with_room(
+        alloc: Global,
+        exprs: usize,
+        entries: usize,
+    ) -> Result<ExprScopes, ScopesFault>
         ensures ok { IfOk result (λ made. made ≡ record { scopes = []; scope_by_expr = map.empty }) }
         ensures err { OnErr result (result ≡ Err ScopesFault.Memory) }
     {
         let Ok(scope_by_expr) = ArenaMap::with_capacity(alloc, exprs) else {
             return Err(ScopesFault::Memory);
         };
+        let Ok(entries) = Vec::with_capacity(alloc, entries) else {
+            return Err(ScopesFault::Memory);
+        };
         Ok(ExprScopes {
             scopes: Vec::new(alloc),
-            entries: Vec::new(alloc),
+            entries,
             scope_by_expr,
         })
     }
@@ -192,6 +199,8 @@ impl ExprScopes {
     ///
     /// Answers `Full` exactly where there would be more than `MOST_ITEMS` scopes or entries, and `Memory` where room was refused. Either
     /// leaves the scopes and the entries as they were.
+    // Inlined: a call would cost half as much as what it does.
+    #[inline(always)]
     pub(crate) fn new_scope(
         &mut self,
         parent: Option<ScopeId>,

@@ -1,17 +1,21 @@
 //! Puts what is inside an expression, a pattern or a type on the stack, by the node's scoping form.
 #![tactic(auto, using(crate::proofs::PushLemmas::insides))]
 
-ghost use Rattle.std.specs.Prelude.{◌≡◌, [], ◌∷◌, ◌++◌, Err, OnOk, OnErr};
+ghost use Rattle.std.specs.Prelude.{◌≡◌, [], ◌∷◌, ◌++◌, Err, IsTrue, OnOk, OnErr};
 ghost use Rattle.hir_node.specs.ChildCalls.{e, opt};
 ghost use Rattle.hir_scope.specs.Forms.{expr_form, pat_form, type_form};
+ghost use Rattle.hir_scope.specs.Forms as form;
 ghost use Rattle.hir_scope.specs.Pending.{tasks_of, closure_calls, form_tasks, leave};
 
 use crate::fault::ScopesFault;
-use crate::pushes::{push_arms, push_block, push_expr_opt, push_pats, push_type_opt, push_types};
+use crate::pushes::{
+    push_arms, push_block, push_expr_opt, push_exprs, push_pat_opt, push_pats, push_type_opt,
+    push_types,
+};
 use crate::queue::Queue;
 use crate::stack::Stack;
 use crate::tasks::{Around, Task};
-use hir_node::{Expr, ExprId, Pat, PatId, TypeRef, TypeRefId};
+use hir_node::{Expr, ExprId, Pat, PatId, Path, TypeRef, TypeRefId};
 
 /// Puts what is inside a closure on the stack, the first on top.
 fn push_closure(
@@ -53,9 +57,20 @@ fn push_if(
     Ok(())
 }
 
+/// Whether an expression is a bare path, a literal or missing: nothing is inside these, as inside some others.
+#[inline(always)]
+pub(crate) fn is_empty_expr(expr: &Expr) -> bool
+    ensures { IsTrue result → expr_form expr.now ≡ form.InTurn [] }
+{
+    if let Expr::Path(Path::BarePath(_)) | Expr::Literal(_) | Expr::Missing = expr {
+        return true;
+    }
+    false
+}
+
 impl Queue<Task> {
     /// Puts what is inside an expression on the stack, the first on top. Leaving the expression restores `around`.
-    // One arm for each form: split, the function would name variants twice.
+    // One arm for each form: split, the function would name variants twice. The common expressions take no turn of a visitor.
     pub(crate) fn push_in_expr(
         &mut self,
         tasks: &mut Stack<Task>,
@@ -119,30 +134,52 @@ impl Queue<Task> {
             | Expr::IncludeBytes
             | Expr::Literal(_)
             | Expr::Continue { label: _ } => Ok(()),
+            Expr::Call { callee, args } => {
+                push_exprs(tasks, args.as_slice())?;
+                tasks.push(Task::Expr(*callee))
+            }
+            Expr::BinaryOp {
+                lhs: first,
+                rhs: second,
+                op: _,
+            }
+            | Expr::Index {
+                base: first,
+                index: second,
+            } => {
+                tasks.push(Task::Expr(*second))?;
+                tasks.push(Task::Expr(*first))
+            }
+            Expr::Tuple { exprs } => push_exprs(tasks, exprs.as_slice()),
+            Expr::Become { expr: inner }
+            | Expr::Await { expr: inner }
+            | Expr::Field {
+                expr: inner,
+                name: _,
+            }
+            | Expr::Ref {
+                expr: inner,
+                rawness: _,
+                mutability: _,
+            }
+            | Expr::UnaryOp { expr: inner, op: _ } => tasks.push(Task::Expr(*inner)),
+            Expr::Break {
+                expr: inner,
+                label: _,
+            }
+            | Expr::Return { expr: inner }
+            | Expr::Yield { expr: inner }
+            | Expr::Yeet { expr: inner } => push_expr_opt(tasks, *inner),
             Expr::Path(_)
             | Expr::Array(_)
             | Expr::OffsetOf(_)
             | Expr::Const(_)
-            | Expr::Call { callee: _, args: _ }
             | Expr::MethodCall {
                 receiver: _,
                 method_name: _,
                 args: _,
                 generic_args: _,
             }
-            | Expr::Break { expr: _, label: _ }
-            | Expr::Return { expr: _ }
-            | Expr::Yield { expr: _ }
-            | Expr::Yeet { expr: _ }
-            | Expr::Become { expr: _ }
-            | Expr::Await { expr: _ }
-            | Expr::Field { expr: _, name: _ }
-            | Expr::Ref {
-                expr: _,
-                rawness: _,
-                mutability: _,
-            }
-            | Expr::UnaryOp { expr: _, op: _ }
             | Expr::RecordLit {
                 path: _,
                 fields: _,
@@ -151,18 +188,12 @@ impl Queue<Task> {
             | Expr::Cast {
                 expr: _,
                 type_ref: _,
-            }
-            | Expr::BinaryOp {
-                lhs: _,
-                rhs: _,
-                op: _,
-            }
-            | Expr::Index { base: _, index: _ }
-            | Expr::Tuple { exprs: _ } => self.push_expr(tasks, expr),
+            } => self.push_expr(tasks, expr),
         }
     }
 
     /// Puts what is inside a pattern on the stack, the first on top.
+    // The common patterns are pushed at once; any other takes a turn of the visitor.
     pub(crate) fn push_in_pat(
         &mut self,
         tasks: &mut Stack<Task>,
@@ -172,7 +203,21 @@ impl Queue<Task> {
         ensures ok { OnOk result (tasks.new ≡ form_tasks around (pat_form pat.now) ++ tasks.old) }
         ensures memory { OnErr result (result ≡ Err ScopesFault.Memory) }
     {
-        self.push_pat(tasks, pat)
+        match pat {
+            Pat::Bind { id: _, subpat } => push_pat_opt(tasks, *subpat),
+            Pat::Missing | Pat::Rest | Pat::Wild | Pat::NotNull => Ok(()),
+            Pat::Tuple { args, ellipsis: _ } => push_pats(tasks, args.as_slice()),
+            Pat::Lit(expr) | Pat::Expr(expr) => tasks.push(Task::Expr(*expr)),
+            Pat::Range {
+                start,
+                end,
+                range_type: _,
+            } => {
+                push_expr_opt(tasks, *end)?;
+                push_expr_opt(tasks, *start)
+            }
+            _ => self.push_pat(tasks, pat),
+        }
     }
 
     /// Puts what is inside a type on the stack, the first on top. Leaving the type restores `around`.

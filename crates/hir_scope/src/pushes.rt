@@ -27,6 +27,19 @@ pub(crate) fn push_expr_opt(
     }
 }
 
+/// Puts expressions on the stack, the first on top.
+pub(crate) fn push_exprs(tasks: &mut Stack<Task>, exprs: &[ExprId]) -> Result<(), ScopesFault>
+    ensures ok { OnOk result (tasks.new ≡ tasks_of (flat_map e exprs.now) ++ tasks.old) }
+    ensures memory { OnErr result (result ≡ Err ScopesFault.Memory) }
+{
+    let mut rest = exprs.len();
+    while rest > 0 {
+        rest -= 1;
+        tasks.push(Task::Expr(exprs[rest]))?;
+    }
+    Ok(())
+}
+
 /// Puts a type on the stack, where there is one.
 pub(crate) fn push_type_opt(
     tasks: &mut Stack<Task>,
@@ -38,6 +51,17 @@ pub(crate) fn push_type_opt(
     match type_ref {
         None => Ok(()),
         Some(type_ref) => tasks.push(Task::TypeRef(type_ref)),
+    }
+}
+
+/// Puts a pattern on the stack, where there is one.
+pub(crate) fn push_pat_opt(tasks: &mut Stack<Task>, pat: Option<PatId>) -> Result<(), ScopesFault>
+    ensures ok { OnOk result (tasks.new ≡ tasks_of (opt p pat) ++ tasks.old) }
+    ensures memory { OnErr result (result ≡ Err ScopesFault.Memory) }
+{
+    match pat {
+        None => Ok(()),
+        Some(pat) => tasks.push(Task::Pat(pat)),
     }
 }
 

@@ -96,7 +96,7 @@ pub(crate) fn push_formals(
 }
 
 impl Walk {
-    /// A walk without scopes. It has room for those of the store's expressions.
+    /// A walk without scopes. It has room for those of the store's expressions, and for an entry of each binding.
     pub(crate) fn without_scopes(
         alloc: Global,
         store: &ExpressionStore,
@@ -107,7 +107,7 @@ impl Walk {
         ensures entries { IfOk result (λ walk. walk.binder.entries.items ≡ []) }
         ensures memory { OnErr result (result ≡ Err ScopesFault.Memory) }
     {
-        let scopes = ExprScopes::with_exprs(alloc, store.exprs().len())?;
+        let scopes = ExprScopes::with_room(alloc, store.exprs().len(), store.bindings().len())?;
         let first = ScopeId::from_raw(0);
         let around = Around {
             here: first,

@@ -16,6 +16,7 @@ ghost use Rattle.hir_scope.specs.Machine.{machine, state, here_of, constant_of, 
 use crate::binder::Binder;
 use crate::expr_scopes::ExprScopes;
 use crate::fault::ScopesFault;
+use crate::inside::is_empty_expr;
 use crate::pushes::push_expr_opt;
 use crate::queue::Queue;
 use crate::scope::{ScopeId, ScopeKind};
@@ -83,6 +84,8 @@ impl Walk {
     }
 
     /// Opens a scope over the current one, with the entries at hand.
+    // Called from many places, and large with `new_scope` in it.
+    #[inline(never)]
     fn open_here(&mut self, kind: ScopeKind) -> Result<(), ScopesFault>
         requires here { self.old.around.here < length self.old.scopes.scopes }
         requires constant { self.old.around.constant < length self.old.scopes.scopes }
@@ -291,6 +294,10 @@ impl Walk {
         kids_fall();
         let outside = self.around.here;
         let inner = &store[expr];
+        // Most expressions are such: they need neither tasks nor scopes.
+        if is_empty_expr(inner) {
+            return Ok(outside);
+        }
         self.turn.push_in_expr(&mut self.tasks, inner, self.around)?;
         self.open_inside(store, expr)?;
         Ok(scope_within(inner, self.around.here, outside))
@@ -418,6 +425,8 @@ impl Walk {
     }
 
     /// Does one task.
+    // Inlined into its one caller: a call would cost more than most tasks do.
+    #[inline(always)]
     fn go_on(
         &mut self,
         store: &ExpressionStore,
@@ -454,6 +463,8 @@ impl Walk {
     /// Does all that is still to do: gives each expression under it its scope, with one step each.
     ///
     /// Answers `Full` only where more than `MOST_ITEMS` scopes or entries are needed, and `Memory` where room was refused.
+    // A function of its own, whatever calls it: the loop needs the registers.
+    #[inline(never)]
     pub(crate) fn run(
         &mut self,
         store: &ExpressionStore,

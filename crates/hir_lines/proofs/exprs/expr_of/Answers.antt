@@ -1,21 +1,85 @@
-use Rattle.std.proofs.Common.{rules, ◌≡◌, ◌-◌, ◌++◌, List, ℕ, length, take, drop, Some, refl, subst, sym}
+use Rattle.std.proofs.Common.{rules, ◌≡◌, ◌-◌, ◌++◌, length, take, drop, refl}
 use Rattle.std.specs.Prelude.{codes}
 use Rattle.hir_lines.specs.Makers as make
-use Rattle.hir_lines.specs.Taking.{Puts}
-use Rattle.hir_lines.specs.Readings.{parts_of, space}
-use Rattle.hir_lines.specs.Exprs.{expr, expr_forms, path_expr}
-use Rattle.hir_lines.proofs.InPlace.{begins, put_alike}
-use Rattle.hir_lines.proofs.Putting.{read_by}
+use Rattle.hir_lines.specs.Exprs.{expr, expr_forms, path_expr, int_expr, bin_expr, block_expr, let_expr, if_expr}
+use Rattle.hir_lines.proofs.InPlace.{begins, reaches, put_behind}
 use Rattle.hir_lines.proofs.exprs.expr_of.Goals as goal
+use Rattle.hir_lines.proofs.exprs.expr_of.Goals.{
+  then-text-lt6+in-112+in-97+in-116+in-104+in-32-1,
+  else-text-lt6+in-112+in-97+in-116+in-104+in-32-1,
+  then-text-lt5+in-98+in-105+in-110+in-32-1,
+  else-text-lt5+then-text-lt6+in-98+in-105+in-110+in-32-1,
+  else-text-lt5+else-text-lt6+in-98+in-105+in-110+in-32-1,
+  then-text-lt5+in-105+in-110+in-116+in-32-1,
+  else-text-lt5+then-text-lt6+in-105+in-110+in-116+in-32-1,
+  else-text-lt5+else-text-lt6+in-105+in-110+in-116+in-32-1,
+  then-text-lt4+in-105+in-102+in-32-1,
+  else-text-lt4+then-text-lt5+in-105+in-102+in-32-1,
+  else-text-lt4+else-text-lt5+then-text-lt6+in-105+in-102+in-32-1,
+  else-text-lt4+else-text-lt5+else-text-lt6+in-105+in-102+in-32-1,
+  then-text-lt5+in-108+in-101+in-116+in-32-1,
+  else-text-lt5+then-text-lt6+in-108+in-101+in-116+in-32-1,
+  else-text-lt5+else-text-lt6+in-108+in-101+in-116+in-32-1,
+}
 
 pub returns-in-112 : goal.returns-in-112
 unfolding expr
 returns-in-112 g c =
     let text = c.args.text.now in
-    let rest = take (length text - 5) (drop 5 text) in
-    let is : text ≡ codes "path " ++ rest = begins (codes "path ") text c.in-112.len_at_least (search rules, (search rules, (search rules, (search rules, (search rules, tt))))) in
-    let words = parts_of space (codes "path " ++ rest) in
-    let read : expr words ≡ path_expr (parts_of space rest) = read_by expr_forms (codes "path") (Some path_expr) refl refl words (parts_of space rest) refl in
-    let puts = subst (λ (mid : List (List ℕ)). Puts g.B.Builder.add (λ x. make.Expr x) path_expr mid c.args.builder.now c.path.new.builder c.path.result) c.new.ensures c.path.ensures in
-    subst (λ (t : List ℕ). Puts g.B.Builder.add (λ x. make.Expr x) expr (parts_of space t) c.args.builder.now c.path.new.builder c.path.result) (sym is)
-    (put_alike g.B.Builder.add (λ x. make.Expr x) c.args.builder.now c.path.new.builder expr path_expr words (parts_of space rest) read c.path.result puts)
+    let is : text ≡ codes "path " ++ take (length text - 5) (drop 5 text) = elim c.in-112-1.branch [
+      | then-text-lt6+in-112+in-97+in-116+in-104+in-32-1 w ↦ begins (codes "path ") text (reaches text 4 31 (search rules)) (search rules, (search rules, (search rules, (search rules, (search rules, tt)))))
+      | else-text-lt6+in-112+in-97+in-116+in-104+in-32-1 w ↦ begins (codes "path ") text (reaches text 4 31 (search rules)) (search rules, (search rules, (search rules, (search rules, (search rules, tt)))))
+    ] in
+    put_behind g.B.Builder.add (λ x. make.Expr x) c.args.builder.now c.path.new.builder expr_forms (codes "path") path_expr refl refl text _ is refl _ c.new-in-112.ensures c.path.result c.path.ensures
+
+pub returns-in-98 : goal.returns-in-98
+unfolding expr
+returns-in-98 g c =
+    let text = c.args.text.now in
+    let is : text ≡ codes "bin " ++ take (length text - 4) (drop 4 text) = elim c.in-98-1.branch [
+      | then-text-lt5+in-98+in-105+in-110+in-32-1 w ↦ begins (codes "bin ") text (reaches text 3 31 (search rules)) (search rules, (search rules, (search rules, (search rules, tt))))
+      | else-text-lt5+then-text-lt6+in-98+in-105+in-110+in-32-1 w ↦ begins (codes "bin ") text (reaches text 3 31 (search rules)) (search rules, (search rules, (search rules, (search rules, tt))))
+      | else-text-lt5+else-text-lt6+in-98+in-105+in-110+in-32-1 w ↦ begins (codes "bin ") text (reaches text 3 31 (search rules)) (search rules, (search rules, (search rules, (search rules, tt))))
+    ] in
+    put_behind g.B.Builder.add (λ x. make.Expr x) c.args.builder.now c.binary.new.builder expr_forms (codes "bin") bin_expr refl refl text _ is refl _ c.new-in-98.ensures c.binary.result c.binary.ensures
+
+pub returns-in-98-2 : goal.returns-in-98-2
+unfolding expr
+returns-in-98-2 g c =
+    let text = c.args.text.now in
+    let is : text ≡ codes "block " ++ take (length text - 6) (drop 6 text) = begins (codes "block ") text c.in-98-2.len_at_least (search rules, (search rules, (search rules, (search rules, (search rules, (search rules, tt)))))) in
+    put_behind g.B.Builder.add (λ x. make.Expr x) c.args.builder.now c.block.new.builder expr_forms (codes "block") block_expr refl refl text _ is refl _ c.new.ensures c.block.result c.block.ensures
+
+pub returns-in-105 : goal.returns-in-105
+unfolding expr
+returns-in-105 g c =
+    let text = c.args.text.now in
+    let is : text ≡ codes "int " ++ take (length text - 4) (drop 4 text) = elim c.in-105-1.branch [
+      | then-text-lt5+in-105+in-110+in-116+in-32-1 w ↦ begins (codes "int ") text (reaches text 3 31 (search rules)) (search rules, (search rules, (search rules, (search rules, tt))))
+      | else-text-lt5+then-text-lt6+in-105+in-110+in-116+in-32-1 w ↦ begins (codes "int ") text (reaches text 3 31 (search rules)) (search rules, (search rules, (search rules, (search rules, tt))))
+      | else-text-lt5+else-text-lt6+in-105+in-110+in-116+in-32-1 w ↦ begins (codes "int ") text (reaches text 3 31 (search rules)) (search rules, (search rules, (search rules, (search rules, tt))))
+    ] in
+    put_behind g.B.Builder.add (λ x. make.Expr x) c.args.builder.now c.int.new.builder expr_forms (codes "int") int_expr refl refl text _ is refl _ c.new-in-105.ensures c.int.result c.int.ensures
+
+pub returns-in-105-2 : goal.returns-in-105-2
+unfolding expr
+returns-in-105-2 g c =
+    let text = c.args.text.now in
+    let is : text ≡ codes "if " ++ take (length text - 3) (drop 3 text) = elim c.in-105-2-1.branch [
+      | then-text-lt4+in-105+in-102+in-32-1 w ↦ begins (codes "if ") text (reaches text 2 31 (search rules)) (search rules, (search rules, (search rules, tt)))
+      | else-text-lt4+then-text-lt5+in-105+in-102+in-32-1 w ↦ begins (codes "if ") text (reaches text 2 31 (search rules)) (search rules, (search rules, (search rules, tt)))
+      | else-text-lt4+else-text-lt5+then-text-lt6+in-105+in-102+in-32-1 w ↦ begins (codes "if ") text (reaches text 2 31 (search rules)) (search rules, (search rules, (search rules, tt)))
+      | else-text-lt4+else-text-lt5+else-text-lt6+in-105+in-102+in-32-1 w ↦ begins (codes "if ") text (reaches text 2 31 (search rules)) (search rules, (search rules, (search rules, tt)))
+    ] in
+    put_behind g.B.Builder.add (λ x. make.Expr x) c.args.builder.now c.if_expr.new.builder expr_forms (codes "if") if_expr refl refl text _ is refl _ c.new-in-105-2.ensures c.if_expr.result c.if_expr.ensures
+
+pub returns-in-108 : goal.returns-in-108
+unfolding expr
+returns-in-108 g c =
+    let text = c.args.text.now in
+    let is : text ≡ codes "let " ++ take (length text - 4) (drop 4 text) = elim c.in-108-1.branch [
+      | then-text-lt5+in-108+in-101+in-116+in-32-1 w ↦ begins (codes "let ") text (reaches text 3 31 (search rules)) (search rules, (search rules, (search rules, (search rules, tt))))
+      | else-text-lt5+then-text-lt6+in-108+in-101+in-116+in-32-1 w ↦ begins (codes "let ") text (reaches text 3 31 (search rules)) (search rules, (search rules, (search rules, (search rules, tt))))
+      | else-text-lt5+else-text-lt6+in-108+in-101+in-116+in-32-1 w ↦ begins (codes "let ") text (reaches text 3 31 (search rules)) (search rules, (search rules, (search rules, (search rules, tt))))
+    ] in
+    put_behind g.B.Builder.add (λ x. make.Expr x) c.args.builder.now c.let_expr.new.builder expr_forms (codes "let") let_expr refl refl text _ is refl _ c.new-in-108.ensures c.let_expr.result c.let_expr.ensures

@@ -1,8 +1,5 @@
 use Rattle.std.proofs.Common.{◌≡◌, ℕ, List, ◌∷◌, ◌++◌, length, map, sym, ap, ◌∙◌, subst, ◌<◌}
 use Rattle.std.specs.List.{flat_map}
-use Rattle.hir_node.specs.ChildCalls.{child_pats, pat_of_call, opt, pat_calls}
-use Rattle.hir_node.specs.declared.pat.Pat.{Pat}
-use Rattle.std.specs.Prelude.{Option}
 use Rattle.hir_node.specs.declared.node_id.NodeId.TheVariants as node
 use Rattle.hir_expr_store.specs.PatLists.{child_pats_of, pats}
 use Rattle.hir_scope.specs.Frames.{binds}
@@ -17,20 +14,16 @@ loop-id-preserved c =
     let rest = c.pop.new.self in
     let was : c.loop-id.self.pats ≡ id ∷ rest = c.in-Some.ensures.some in
     let there = subst (λ (ps : List ℕ). AreThere s (map node.Pat ps)) was c.loop-id.invariant.there in
-    let next : c.push_children.new.self.pats ≡ child_pats_of s id ++ rest =
-    c.in_ok-push_children.ensures.next
-    ∙ (ap (λ (ps : List ℕ). child_pats c.index.result.now ++ ps) c.add_own.ensures.pats
-    ∙ ap (λ (o : Option Pat). flat_map pat_of_call (opt pat_calls o) ++ rest) (sym c.index.ensures)) in
+    let next = c.in_ok-visit.ensures.next in
     let step = c.bindings_in_is.ensures c.args.store.now c.has_no_fault.ensures id there.0 in
     let before = c.loop-id.self.entries.items in
-    let one = asked_one s id rest before c.add_own.new.self.entries.items step c.in_ok-add_own.ensures.added in
+    let one = asked_one s id rest before c.visit.new.self.entries.items step c.in_ok-visit.ensures.added in
     record {
       there = subst (λ (ps : List ℕ). AreThere s (map node.Pat ps)) (sym next) (children_there s (c.kids_fall.ensures c.args.store.now c.has_no_fault.ensures) id rest there);
       adds =
-          (let same = c.push_children.ensures.same in cc)
-          ∙ (ap (λ (ps : List ℕ). c.add_own.new.self.entries.items ++ flat_map (binds s) ps) next
+          ap (λ (ps : List ℕ). c.visit.new.self.entries.items ++ flat_map (binds s) ps) next
           ∙ (one
-          ∙ (ap (λ (ps : List ℕ). before ++ flat_map (binds s) ps) (sym was) ∙ c.loop-id.invariant.adds)));
+          ∙ (ap (λ (ps : List ℕ). before ++ flat_map (binds s) ps) (sym was) ∙ c.loop-id.invariant.adds));
     }
 
 pub loop-id-smaller : goal.loop-id-smaller
@@ -40,10 +33,6 @@ loop-id-smaller c =
     let rest = c.pop.new.self in
     let was : c.loop-id.self.pats ≡ id ∷ rest = c.in-Some.ensures.some in
     let there = subst (λ (ps : List ℕ). AreThere s (map node.Pat ps)) was c.loop-id.invariant.there in
-    let next : c.push_children.new.self.pats ≡ child_pats_of s id ++ rest =
-    c.in_ok-push_children.ensures.next
-    ∙ (ap (λ (ps : List ℕ). child_pats c.index.result.now ++ ps) c.add_own.ensures.pats
-    ∙ ap (λ (o : Option Pat). flat_map pat_of_call (opt pat_calls o) ++ rest) (sym c.index.ensures)) in
     let fewer = fewer_left s id rest (c.pats_is.ensures c.args.store.now c.has_no_fault.ensures id there.0) in
-    subst (λ (ps : List ℕ). length (flat_map (pats s) ps) < length (flat_map (pats s) c.loop-id.self.pats)) (sym next)
+    subst (λ (ps : List ℕ). length (flat_map (pats s) ps) < length (flat_map (pats s) c.loop-id.self.pats)) (sym c.in_ok-visit.ensures.next)
     (subst (λ (ps : List ℕ). length (flat_map (pats s) (child_pats_of s id ++ rest)) < length (flat_map (pats s) ps)) (sym was) fewer)

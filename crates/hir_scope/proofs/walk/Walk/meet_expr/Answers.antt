@@ -9,7 +9,7 @@ use Rattle.hir_scope.specs.Scopes.{frame_of}
 use Rattle.hir_scope.specs.Machine.{state, here_of, Over, HasFrames, scope_within}
 use Rattle.hir_scope.proofs.GrownLemmas.{frames_grown}
 use Rattle.hir_scope.proofs.MovingLemmas.{own_frames, over_exceeds}
-use Rattle.hir_scope.proofs.DoneLemmas.{expr_moves, met_frames}
+use Rattle.hir_scope.proofs.DoneLemmas.{expr_moves, empty_moves, met_frames}
 use Rattle.hir_scope.proofs.walk.Walk.meet_expr.Goals as goal
 
 pub returns-in_err-open_inside-clause-full : goal.returns-in_err-open_inside-clause-full
@@ -42,3 +42,11 @@ returns-clause-scope c =
     let around = frames_grown w.scopes.scopes n.scopes.scopes o.more w.around.here h o.grows (record { within = c.requires.ready.here; is = refl }) in
     let is = c.scope_within.ensures ∙ ap (λ (o : Option Expr). scope_within (form_at expr_form o) n.around.here w.around.here) (sym c.index-inner.ensures) in
     subst (λ (i : ℕ). HasFrames n.scopes.scopes i (within_own x h)) (sym is) (own_frames s x n.scopes.scopes n.around.here w.around.here h o.here around)
+
+pub returns-then-is_empty_expr-clause-moves : goal.returns-then-is_empty_expr-clause-moves
+returns-then-is_empty_expr-clause-moves c =
+    let s = c.args.store.now.nodes in
+    let w = c.args.self.now in
+    let fall = c.kids_fall.ensures c.args.store.now c.has_no_fault.ensures in
+    let is = ap (form_at expr_form) c.index-inner.ensures ∙ c.is_empty_expr.ensures (search rules) in
+    empty_moves s fall w.scopes w.around c.args.expr w.tasks is c.requires.ready

@@ -1,6 +1,6 @@
 use Rattle.std.proofs.Common.{◌∙◌, ap, length, inr, arith, rules}
 use Rattle.hir_io.proofs.Asking.{kept_filled, written_all, late_now}
-use Rattle.hir_io.proofs.next.next_line.Goals as goal
+use Rattle.hir_io.proofs.next.read_line.Goals as goal
 
 pub loop-output-preserved : goal.loop-output-preserved
 loop-output-preserved g c =

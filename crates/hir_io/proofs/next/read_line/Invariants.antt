@@ -3,7 +3,7 @@ use Rattle.std.specs.Io.KnownBytes.{Keeps}
 use Rattle.hir_io.specs.Ends.{IsWrittenUpTo}
 use Rattle.hir_io.specs.Text.{HasNoLineEnd}
 use Rattle.hir_io.specs.NextLine.{untaken}
-use Rattle.hir_io.proofs.next.next_line.Given as goal
+use Rattle.hir_io.proofs.next.read_line.Given as goal
 
 abbrev pub invariant-loop-output : goal.invariant-loop-output
 invariant-loop-output g l = record {

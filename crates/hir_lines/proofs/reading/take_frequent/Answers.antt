@@ -5,11 +5,11 @@ use Rattle.hir_lines.specs.Pats.{pat}
 use Rattle.hir_lines.specs.Line.{line_of, command, line_forms, bind_line, pat_line, expr_line, bind}
 use Rattle.hir_lines.specs.Makers as make
 use Rattle.hir_lines.specs.Readings.{parts_of, space}
-use Rattle.hir_lines.specs.Taking.{Puts, Takes}
+use Rattle.hir_lines.specs.Taking.{Puts, TakesOrLeaves}
 use Rattle.hir_lines.proofs.InPlace.{begins, reaches}
-use Rattle.hir_lines.proofs.Putting.{read_by, take_alike, makes_one}
-use Rattle.hir_lines.proofs.reading.line.Goals as goal
-use Rattle.hir_lines.proofs.reading.line.Goals.{then-text-lt5+in-112+in-97+in-116+in-32-1, else-text-lt5+in-112+in-97+in-116+in-32-1}
+use Rattle.hir_lines.proofs.Putting.{read_by, frequent_alike, makes_frequent}
+use Rattle.hir_lines.proofs.reading.take_frequent.Goals as goal
+use Rattle.hir_lines.proofs.reading.take_frequent.Goals.{then-text-lt5+in-112+in-97+in-116+in-32-1, else-text-lt5+in-112+in-97+in-116+in-32-1}
 
 pub returns-in-101 : goal.returns-in-101
 unfolding command line_of
@@ -19,9 +19,9 @@ returns-in-101 g c =
     let is : text ≡ codes "expr " ++ rest = begins (codes "expr ") text c.in-101.len_at_least (search rules, (search rules, (search rules, (search rules, (search rules, tt))))) in
     let words = parts_of space (codes "expr " ++ rest) in
     let read : command words ≡ expr_line (parts_of space rest) = read_by line_forms (codes "expr") (Some expr_line) refl refl words (parts_of space rest) refl in
-    let takes = makes_one g.B.Builder.add c.args.builder.now c.expr_of.new.builder (λ x. make.Expr x) expr (parts_of space rest) c.expr_of.result c.makes.result c.expr_of.ensures c.makes.ensures in
-    subst (λ (t : List ℕ). Takes g.B.Builder.add (line_of t) c.args.builder.now c.expr_of.new.builder c.makes.result) (sym is)
-    (take_alike g.B.Builder.add c.args.builder.now c.expr_of.new.builder command expr_line words (parts_of space rest) read c.makes.result takes)
+    let takes = makes_frequent g.B.Builder.add c.args.builder.now c.expr_of.new.builder (λ x. make.Expr x) expr (parts_of space rest) c.expr_of.result c.taken.result c.expr_of.ensures c.taken.ensures in
+    subst (λ (t : List ℕ). TakesOrLeaves g.B.Builder.add (line_of t) c.args.builder.now c.expr_of.new.builder c.taken.result) (sym is)
+    (frequent_alike g.B.Builder.add c.args.builder.now c.expr_of.new.builder command expr_line words (parts_of space rest) read c.taken.result takes)
 
 pub returns-in-98 : goal.returns-in-98
 unfolding command line_of
@@ -31,9 +31,9 @@ returns-in-98 g c =
     let is : text ≡ codes "bind " ++ rest = begins (codes "bind ") text c.in-98.len_at_least (search rules, (search rules, (search rules, (search rules, (search rules, tt))))) in
     let words = parts_of space (codes "bind " ++ rest) in
     let read : command words ≡ bind_line (parts_of space rest) = read_by line_forms (codes "bind") (Some bind_line) refl refl words (parts_of space rest) refl in
-    let takes = makes_one g.B.Builder.add c.args.builder.now c.bind.new.builder (λ maker. maker) bind (parts_of space rest) c.bind.result c.makes-in-98.result (subst (λ (mid : List (List ℕ)). Puts g.B.Builder.add (λ maker. maker) bind mid c.args.builder.now c.bind.new.builder c.bind.result) c.new.ensures c.bind.ensures) c.makes-in-98.ensures in
-    subst (λ (t : List ℕ). Takes g.B.Builder.add (line_of t) c.args.builder.now c.bind.new.builder c.makes-in-98.result) (sym is)
-    (take_alike g.B.Builder.add c.args.builder.now c.bind.new.builder command bind_line words (parts_of space rest) read c.makes-in-98.result takes)
+    let takes = makes_frequent g.B.Builder.add c.args.builder.now c.bind.new.builder (λ maker. maker) bind (parts_of space rest) c.bind.result c.taken-in-98.result (subst (λ (mid : List (List ℕ)). Puts g.B.Builder.add (λ maker. maker) bind mid c.args.builder.now c.bind.new.builder c.bind.result) c.new.ensures c.bind.ensures) c.taken-in-98.ensures in
+    subst (λ (t : List ℕ). TakesOrLeaves g.B.Builder.add (line_of t) c.args.builder.now c.bind.new.builder c.taken-in-98.result) (sym is)
+    (frequent_alike g.B.Builder.add c.args.builder.now c.bind.new.builder command bind_line words (parts_of space rest) read c.taken-in-98.result takes)
 
 pub returns-in-112 : goal.returns-in-112
 unfolding command line_of
@@ -46,6 +46,6 @@ returns-in-112 g c =
     ] in
     let words = parts_of space (codes "pat " ++ rest) in
     let read : command words ≡ pat_line (parts_of space rest) = read_by line_forms (codes "pat") (Some pat_line) refl refl words (parts_of space rest) refl in
-    let takes = makes_one g.B.Builder.add c.args.builder.now c.pat_of.new.builder (λ x. make.Pat x) pat (parts_of space rest) c.pat_of.result c.makes-in-112.result c.pat_of.ensures c.makes-in-112.ensures in
-    subst (λ (t : List ℕ). Takes g.B.Builder.add (line_of t) c.args.builder.now c.pat_of.new.builder c.makes-in-112.result) (sym is)
-    (take_alike g.B.Builder.add c.args.builder.now c.pat_of.new.builder command pat_line words (parts_of space rest) read c.makes-in-112.result takes)
+    let takes = makes_frequent g.B.Builder.add c.args.builder.now c.pat_of.new.builder (λ x. make.Pat x) pat (parts_of space rest) c.pat_of.result c.taken-in-112.result c.pat_of.ensures c.taken-in-112.ensures in
+    subst (λ (t : List ℕ). TakesOrLeaves g.B.Builder.add (line_of t) c.args.builder.now c.pat_of.new.builder c.taken-in-112.result) (sym is)
+    (frequent_alike g.B.Builder.add c.args.builder.now c.pat_of.new.builder command pat_line words (parts_of space rest) read c.taken-in-112.result takes)

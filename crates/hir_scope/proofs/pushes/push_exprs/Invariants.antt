@@ -1,0 +1,11 @@
+use Rattle.std.proofs.Common.{◌≡◌, ◌≤◌, ◌++◌, drop, length}
+use Rattle.std.specs.List.{flat_map}
+use Rattle.hir_node.specs.ChildCalls.{e}
+use Rattle.hir_scope.specs.Pending.{tasks_of}
+use Rattle.hir_scope.proofs.pushes.push_exprs.Given as goal
+
+abbrev pub invariant-loop-rest : goal.invariant-loop-rest
+invariant-loop-rest l = (l.rest ≤ length l.exprs) × (l.tasks ≡ tasks_of (flat_map e (drop l.rest l.exprs)) ++ l.initial.tasks)
+
+abbrev pub decreases-loop-rest : goal.decreases-loop-rest
+decreases-loop-rest l = l.rest
