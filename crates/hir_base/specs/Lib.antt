@@ -13,6 +13,7 @@ pub mod Places
 pub mod Precedence
 pub mod RawWords
 pub mod Seq
+pub mod ShortList
 pub mod Table
 pub mod TableLends
 pub mod Variants

@@ -25,6 +25,7 @@ mod params;
 mod prec;
 mod ptr;
 mod seq;
+mod short_list;
 mod short_text;
 mod steps;
 mod table;
@@ -65,6 +66,7 @@ pub use ptr::{
     TypeSource,
 };
 pub use seq::Seq;
+pub use short_list::ShortList;
 pub use steps::Steps;
 pub use table::{Keyed, Table};
 pub use table_iter::TableIter;

@@ -151,6 +151,7 @@ impl Hash for Name {
 impl Clone for Name {
     ghost is_clone = { λ x y. y ≡ x };
 
+    #[inline(always)]
     fn clone(&self) -> Result<Name, AllocError> {
         let place = match &self.place {
             Place::Inside(text) => Place::Inside(text.copy()),

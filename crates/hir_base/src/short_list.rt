@@ -1,0 +1,241 @@
+//! Lists of few items, which lie in the value itself.
+//! `SmallVec` of the crate `smallvec` is the same in 32 bytes, which makes an expression and a pattern larger than all else in them.
+ghost use Rattle.std.specs.Prelude.{◌≡◌, ◌<◌, ◌≤◌, [], ◌∷◌, ◌++◌, length, slice_get, IfOk, IsOk, OnOk, OnErr, IsTrue, ◌↔◌, Some};
+ghost use Rattle.std.specs.Option.{option_copied};
+ghost use Rattle.std.specs.Cmp.Lexicographic.{pointwise, lists_per, lists_equiv};
+ghost use Rattle.std.specs.Hash as fed;
+ghost use Rattle.std.specs.Hash.{items_Alike};
+ghost use Rattle.std.specs.Slice.Iter.{iter_rest};
+ghost use Rattle.std.proofs.Common.{rules};
+ghost use Rattle.std.specs.Iterator.Adapters.{IterYieldsInOrder, IterYieldsInReverse};
+ghost use Rattle.hir_base.specs.ShortList.{items_at};
+
+use crate::{ExactEq, Seq, TryClone};
+use std::alloc::{AllocError, Global};
+use std::hash::{Hash, Hasher};
+use std::marker::Model;
+use std::ops::Index;
+use std::slice::Iter;
+
+/// The most items that lie in the value.
+const MOST_INSIDE: usize = 3;
+
+// Where the items of a list lie: in the value, or in memory of their own.
+#[derive(Drop)]
+enum Place<T> {
+    Nothing,
+    One([T; 1]),
+    Two([T; 2]),
+    Three([T; 3]),
+    Outside(Box<Seq<T>>),
+}
+
+/// A list that contracts see as its items, like a `Seq`.
+///
+/// A list of at most three items takes no memory of its own, and the list of ids itself 16 bytes.
+#[derive(Drop)]
+pub struct ShortList<T> {
+    place: Place<T>,
+}
+
+impl<T> Model for ShortList<T> {
+    ghost use Rattle.std.specs.Prelude.{List};
+    ghost use Rattle.std.specs.Coded.{coded_list};
+
+    ghost Value = { List T };
+
+    ghost coded = { coded_list T.code };
+
+    ghost use Rattle.hir_base.specs.ShortList.{items_at};
+
+    ghost view = { λ list. items_at list.place };
+}
+
+impl<T> ShortList<T> {
+    /// A list with no items.
+    pub fn new() -> ShortList<T>
+        ensures { result ≡ [] }
+    {
+        ShortList {
+            place: Place::Nothing,
+        }
+    }
+
+    /// The items as a slice.
+    pub fn as_slice(&self) -> &[T]
+        ensures { result.now ≡ self.now }
+    {
+        match &self.place {
+            Place::Nothing => &[],
+            Place::One(items) => items,
+            Place::Two(items) => items,
+            Place::Three(items) => items,
+            Place::Outside(items) => items.as_slice(),
+        }
+    }
+
+    /// The number of items.
+    pub fn len(&self) -> usize
+        ensures { result ≡ length self.now }
+    {
+        self.as_slice().len()
+    }
+
+    /// Whether there are no items.
+    pub fn is_empty(&self) -> bool
+        ensures { IsTrue result ↔ (self.now ≡ []) }
+    {
+        self.as_slice().is_empty()
+    }
+
+    /// The item at this index, if there is one.
+    pub fn get(&self, at: usize) -> Option<&T>
+        ensures { option_copied result ≡ slice_get self.now at }
+    {
+        self.as_slice().get(at)
+    }
+
+    /// The items in order, from either end.
+    pub fn iter(&self) -> Iter<'_, T>
+        ensures rest { iter_rest result ≡ self.now }
+        ensures runs { IterYieldsInOrder T }
+        ensures runs_back { IterYieldsInReverse T }
+    {
+        self.as_slice().iter()
+    }
+}
+
+/// A copy of the items in memory of their own, with room for `capacity` of them.
+fn outside<T: Copy>(alloc: Global, items: &[T], capacity: usize) -> Result<Box<Seq<T>>, AllocError>
+    ensures { IfOk result (λ list. list.value ≡ items.now) }
+{
+    let mut list = Vec::with_capacity(alloc, capacity)?;
+    list.extend_from_slice(items)?;
+    Ok(Box::new(alloc, Seq::from_vec(list))?)
+}
+
+impl<T: Copy> ShortList<T> {
+    /// A list with no items and with room for `capacity` of them.
+    ///
+    /// Answers an error if memory for that room was refused.
+    pub fn with_capacity(alloc: Global, capacity: usize) -> Result<ShortList<T>, AllocError>
+        ensures ok { IfOk result (λ list. list ≡ []) }
+        ensures few { capacity ≤ 3 → IsOk result }
+    {
+        if capacity <= MOST_INSIDE {
+            return Ok(ShortList::new());
+        }
+        let items = Seq::with_capacity(alloc, capacity)?;
+        Ok(ShortList {
+            place: Place::Outside(Box::new(alloc, items)?),
+        })
+    }
+
+    /// The list of these items.
+    ///
+    /// Answers an error if memory for it was refused.
+    pub fn from_slice(alloc: Global, items: &[T]) -> Result<ShortList<T>, AllocError>
+        ensures ok { IfOk result (λ list. list ≡ items.now) }
+        ensures few { length items.now ≤ 3 → IsOk result }
+    {
+        let place = match items {
+            [] => Place::Nothing,
+            [first] => Place::One([*first]),
+            [first, second] => Place::Two([*first, *second]),
+            [first, second, third] => Place::Three([*first, *second, *third]),
+            more => Place::Outside(outside(alloc, more, more.len())?),
+        };
+        Ok(ShortList { place })
+    }
+
+    /// Adds the item at the end.
+    ///
+    /// Answers an error if room for it was refused: the list is unchanged.
+    pub fn push(&mut self, alloc: Global, item: T) -> Result<(), AllocError>
+        ensures ok { OnOk result (self.new ≡ self.old ++ item ∷ []) }
+        ensures err { OnErr result (self.new ≡ self.old) }
+    {
+        let place = &mut self.place;
+        if let Place::Outside(items) = place {
+            items.push(item)?;
+            return Ok(());
+        }
+        *place = match &*place {
+            Place::Nothing => Place::One([item]),
+            Place::One([first]) => Place::Two([*first, item]),
+            Place::Two([first, second]) => Place::Three([*first, *second, item]),
+            Place::Three(items) => {
+                let mut list = outside(alloc, items, 2 * MOST_INSIDE)?;
+                list.push(item)?;
+                Place::Outside(list)
+            }
+            Place::Outside(_) => unreachable!(),
+        };
+        Ok(())
+    }
+}
+
+/// The item at an index, which must be below the length.
+impl<T> Index<usize> for ShortList<T> {
+    type Output = T;
+
+    ghost can_index = { λ list at. at < length list };
+
+    ghost index_gives = { λ list at item. slice_get list at ≡ Some item };
+
+    fn index(&self, at: usize) -> &T {
+        &self.as_slice()[at]
+    }
+}
+
+impl<T: PartialEq> PartialEq for ShortList<T> {
+    ghost eq = { pointwise T.eq };
+
+    ghost laws = { lists_per T.PartialEq.laws };
+
+    fn eq(&self, other: &ShortList<T>) -> bool {
+        self.as_slice() == other.as_slice()
+    }
+}
+
+impl<T: Eq> Eq for ShortList<T> {
+    ghost laws = { lists_equiv T.Eq.laws };
+}
+
+impl<T: Hash> Hash for ShortList<T> {
+    ghost hash_input = { fed.slice T.hash_input };
+
+    ghost respects_eq = { (items_Alike (record { fed = T.respects_eq })).fed };
+
+    fn hash<H: Hasher>(&self, state: &mut H) {
+        self.as_slice().hash(state);
+    }
+}
+
+impl<T: Copy> Clone for ShortList<T> {
+    ghost is_clone = { λ x y. y ≡ x };
+
+    fn clone(&self) -> Result<ShortList<T>, AllocError> {
+        let place = match &self.place {
+            Place::Nothing => Place::Nothing,
+            Place::One(items) => Place::One(*items),
+            Place::Two(items) => Place::Two(*items),
+            Place::Three(items) => Place::Three(*items),
+            Place::Outside(items) => {
+                let alloc = *Box::allocator(items);
+                Place::Outside(outside(alloc, items.as_slice(), items.len())?)
+            }
+        };
+        Ok(ShortList { place })
+    }
+}
+
+impl<T: ExactEq> ExactEq for ShortList<T> {
+    ghost use Rattle.std.specs.Cmp.Lexicographic.{pointwise_decides};
+
+    ghost eq_decides = { pointwise_decides T.eq_decides };
+}
+
+impl<T: Copy> TryClone for ShortList<T> {
+    ghost clone_is_same = { Prim.search rules };
+}
