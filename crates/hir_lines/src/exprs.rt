@@ -9,7 +9,7 @@ ghost use Rattle.hir_lines.specs.Exprs.{expr, path_expr, int_expr, call_expr, tu
 use crate::builder::Builder;
 use crate::stop::Stop;
 use crate::words::{Words, each};
-use hir_base::{BlockId, Seq};
+use hir_base::{BlockId, ShortList};
 use hir_node::{
     Array, Boxed, CaptureBy, ClosureKind, Expr, Literal, LoopSource, Mutability, PatId, Rawness,
     TypeRefId, Unsafe,
@@ -220,12 +220,12 @@ fn closure<B: Builder>(alloc: Global, words: &mut Words<'_>, builder: &mut B) ->
 }
 
 /// No type for each argument.
-fn untyped(alloc: Global, args: &[PatId]) -> Result<Seq<Option<TypeRefId>>, AllocError>
+fn untyped(alloc: Global, args: &[PatId]) -> Result<ShortList<Option<TypeRefId>>, AllocError>
     ensures { IfOk result (λ types. types ≡ untyped args.now) }
 {
-    let mut types = Seq::with_capacity(alloc, args.len())?;
+    let mut types = ShortList::with_capacity(alloc, args.len())?;
     for _arg in args {
-        types.push(None)?;
+        types.push(alloc, None)?;
     }
     Ok(types)
 }

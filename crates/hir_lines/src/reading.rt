@@ -231,8 +231,8 @@ fn taken(outcome: Result<(), Stop>) -> Result<bool, Stop>
     Ok(true)
 }
 
-/// Takes a line as `take` does, if it makes an expression, a pattern or a binding, as nearly all lines do: `true`. Any other line is
-/// left, and nothing was done: `false`. So who builds by many lines has no question handed from call to call.
+/// Takes a line as `take` does, if it makes an expression, a pattern or a binding, as nearly all lines do, or is empty: `true`. Any
+/// other line is left, and nothing was done: `false`. So who builds by many lines has no question handed from call to call.
 ///
 /// `Bad` and `Memory` as for `take`.
 #[tactic(auto, unfolding(crate::specs::Line::line_of))]
@@ -247,6 +247,7 @@ pub fn take_frequent<B: Builder>(alloc: Global, text: &[u8], builder: &mut B) ->
         [b'b', b'i', b'n', b'd', b' ', rest @ ..] => {
             taken(bind(alloc, &mut Words::new(rest, b' '), builder))
         }
+        [] => Ok(true),
         _ => Ok(false),
     }
 }

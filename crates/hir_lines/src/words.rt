@@ -3,6 +3,7 @@
 ghost use Rattle.std.specs.Prelude.{None, Some, ◌≡◌, ◌∷◌, [], MatchResult, IsTrue, ◌↔◌, position, length, min, ◌^◌, ◌-◌, false};
 ghost use Rattle.std.specs.List.{count_by};
 ghost use Rattle.hir_lines.specs.Names.{continues_name};
+ghost use Rattle.hir_lines.specs.Numerals.{number_of};
 ghost use Rattle.hir_lines.specs.Readings.{parts_of, parts_left, is_byte, alone, Found, HasWord, Reads, first_word, each};
 ghost use Rattle.hir_lines.specs.Words.{number, optional, list, keyword, name, path, int, op, expansion, hygiene};
 
@@ -10,7 +11,7 @@ use crate::names::{ascii as ascii_text, first_name};
 use crate::numerals::{first_number, has_minus, int as int_text, number as number_text};
 use crate::operators::op as op_text;
 use crate::stop::Stop;
-use hir_base::{BinaryOp, HygieneId, Idx, Name, Seq, SyntaxContext};
+use hir_base::{BinaryOp, HygieneId, Idx, Name, Seq, ShortList, SyntaxContext};
 use hir_node::Path;
 use std::alloc::Global;
 use std::marker::Model;
@@ -129,14 +130,14 @@ impl<'a> Words<'a> {
 
     /// Takes the next word, if it is a list of numbers.
     #[tactic(auto, unfolding(crate::specs::Words::list_of))]
-    pub fn list<K>(&mut self, alloc: Global) -> Result<Seq<Idx<K>>, Stop>
+    pub fn list<K>(&mut self, alloc: Global) -> Result<ShortList<Idx<K>>, Stop>
         ensures { Reads list self.old result self.new }
     {
         let word = self.word()?;
         if word == b"-".as_slice() {
-            return Ok(Seq::new(alloc));
+            return Ok(ShortList::new());
         }
-        gather(Seq::new(alloc), &mut Words::new(word, b','))
+        ids(alloc, &mut Words::new(word, b','))
     }
 
     /// Takes the next word, if it is one in ASCII.
@@ -269,33 +270,27 @@ pub trait Word: Sized {
         ensures { Reads (first_word said) words.old result words.new };
 }
 
-impl<K> Word for Idx<K> {
-    ghost use Rattle.hir_lines.specs.Numerals.{number_of};
-
-    ghost said = { number_of };
-
-    fn take(words: &mut Words<'_>) -> Result<Idx<K>, Stop> {
-        words.id()
-    }
-}
-
 /// Takes all the words that are left, if each says a value of this type.
 pub fn each<T: Word + Drop>(alloc: Global, words: &mut Words<'_>) -> Result<Seq<T>, Stop>
     ensures { Reads (each T.said) words.old result words.new }
 {
     // Room for each and no more: a list that grows while it is read keeps room that it never uses.
-    gather(Seq::with_capacity(alloc, words.len())?, words)
-}
-
-/// Adds all the words that are left to an empty list, if each says a value of its type.
-fn gather<T: Word + Drop>(mut items: Seq<T>, words: &mut Words<'_>) -> Result<Seq<T>, Stop>
-    requires { items ≡ [] }
-    ensures { Reads (each T.said) words.old result words.new }
-{
+    let mut items = Seq::with_capacity(alloc, words.len())?;
     while !words.is_empty() {
         items.push(T::take(words)?)?;
     }
     Ok(items)
+}
+
+/// Takes all the words that are left, if each is the number of something.
+fn ids<K>(alloc: Global, words: &mut Words<'_>) -> Result<ShortList<Idx<K>>, Stop>
+    ensures { Reads (each number_of) words.old result words.new }
+{
+    let mut ids = ShortList::new();
+    while !words.is_empty() {
+        ids.push(alloc, words.id()?)?;
+    }
+    Ok(ids)
 }
 
 /// The first place of a byte.

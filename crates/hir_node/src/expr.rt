@@ -9,7 +9,8 @@ use crate::expr_types::{
 use crate::literal::Literal;
 use crate::type_ref::{Mutability, Rawness};
 use hir_base::{
-    ArithOp, BinaryOp, BlockId, ExactEq, ExprPrecedence, LogicOp, Name, Seq, TryClone, UnaryOp,
+    ArithOp, BinaryOp, BlockId, ExactEq, ExprPrecedence, LogicOp, Name, Seq, ShortList, TryClone,
+    UnaryOp,
 };
 use hir_path::{Boxed, ExprId, GenericArgs, LabelId, PatId, Path, TypeRefId};
 use std::alloc::AllocError;
@@ -53,12 +54,12 @@ pub enum Expr {
     },
     Call {
         callee: ExprId,
-        args: Seq<ExprId>,
+        args: ShortList<ExprId>,
     },
     MethodCall {
         receiver: ExprId,
         method_name: Name,
-        args: Seq<ExprId>,
+        args: ShortList<ExprId>,
         generic_args: Option<Boxed<GenericArgs>>,
     },
     Match {
@@ -127,15 +128,15 @@ pub enum Expr {
         index: ExprId,
     },
     Closure {
-        args: Seq<PatId>,
-        arg_types: Boxed<Seq<Option<TypeRefId>>>,
+        args: ShortList<PatId>,
+        arg_types: Boxed<ShortList<Option<TypeRefId>>>,
         ret_type: Option<TypeRefId>,
         body: ExprId,
         closure_kind: ClosureKind,
         capture_by: CaptureBy,
     },
     Tuple {
-        exprs: Seq<ExprId>,
+        exprs: ShortList<ExprId>,
     },
 }
 
@@ -393,7 +394,7 @@ impl Clone for Expr {
 fn clone_method_call(
     receiver: ExprId,
     method_name: &Name,
-    args: &Seq<ExprId>,
+    args: &ShortList<ExprId>,
     generic_args: &Option<Boxed<GenericArgs>>,
 ) -> Result<Expr, AllocError>
     ensures { IfOk result (λ it. it ≡ Expr.MethodCall receiver method_name.now args.now generic_args.now) }
@@ -424,9 +425,9 @@ fn clone_record_lit(
 
 /// Copies of the lists of a closure's parameters and of their types.
 fn clone_params(
-    args: &Seq<PatId>,
-    arg_types: &Boxed<Seq<Option<TypeRefId>>>,
-) -> Result<(Seq<PatId>, Boxed<Seq<Option<TypeRefId>>>), AllocError>
+    args: &ShortList<PatId>,
+    arg_types: &Boxed<ShortList<Option<TypeRefId>>>,
+) -> Result<(ShortList<PatId>, Boxed<ShortList<Option<TypeRefId>>>), AllocError>
     ensures { IfOk result (λ copy. (copy.0 ≡ args.now) × (copy.1 ≡ arg_types.now)) }
 {
     Ok((args.try_clone()?, arg_types.try_clone()?))

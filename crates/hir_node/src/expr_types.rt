@@ -2,7 +2,7 @@
 ghost use Rattle.std.specs.Prelude.{◌≡◌};
 ghost use Rattle.hir_base.specs.Exact.{exact};
 
-use hir_base::{ExactEq, MacroDefId, Name, Seq, TryClone};
+use hir_base::{ExactEq, MacroDefId, Name, Seq, ShortList, TryClone};
 use hir_path::{ExprId, PatId, TypeRefId};
 
 /// What comes after the fields of a record literal.
@@ -171,7 +171,7 @@ impl TryClone for Movability {
 #[derive(Drop, Clone, PartialEq, Eq)]
 pub enum Array {
     /// `[a, b]`
-    ElementList { elements: Seq<ExprId> },
+    ElementList { elements: ShortList<ExprId> },
     /// `[a; n]`. The number is a constant, which sees no local variables.
     Repeat { initializer: ExprId, repeat: ExprId },
 }

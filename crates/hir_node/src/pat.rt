@@ -4,7 +4,7 @@ ghost use Rattle.std.specs.List.{FoldsTo};
 ghost use Rattle.hir_base.specs.Exact.{exact};
 
 use crate::type_ref::Mutability;
-use hir_base::{ExactEq, Name, RangeOp, Seq, TryClone};
+use hir_base::{ExactEq, Name, RangeOp, Seq, ShortList, TryClone};
 use hir_path::{BindingId, Boxed, ExprId, PatId, Path};
 use std::alloc::AllocError;
 
@@ -35,11 +35,11 @@ pub enum Pat {
     /// `!null`
     NotNull,
     Tuple {
-        args: Seq<PatId>,
+        args: ShortList<PatId>,
         /// The place of `..` among the arguments, if there is one.
         ellipsis: Option<u32>,
     },
-    Or(Seq<PatId>),
+    Or(ShortList<PatId>),
     Record {
         path: Boxed<Path>,
         args: Seq<RecordFieldPat>,
@@ -52,10 +52,10 @@ pub enum Pat {
         range_type: RangeOp,
     },
     Slice {
-        prefix: Seq<PatId>,
+        prefix: ShortList<PatId>,
         /// What is between the first items and the last.
         slice: Option<PatId>,
-        suffix: Seq<PatId>,
+        suffix: ShortList<PatId>,
     },
     /// A constant, or a variant without fields. On the left of an assignment it may also be a variable, as the `a` of `(a, b) = c`.
     Path(Path),
@@ -72,7 +72,7 @@ pub enum Pat {
     },
     TupleStruct {
         path: Boxed<Path>,
-        args: Seq<PatId>,
+        args: ShortList<PatId>,
         /// The place of `..` among the arguments, if there is one.
         ellipsis: Option<u32>,
     },
@@ -181,7 +181,7 @@ fn clone_record(
 /// A tuple struct pattern with copies of these parts.
 fn clone_tuple_struct(
     path: &Boxed<Path>,
-    args: &Seq<PatId>,
+    args: &ShortList<PatId>,
     ellipsis: Option<u32>,
 ) -> Result<Pat, AllocError>
     ensures { IfOk result (λ copy. copy ≡ Pat.TupleStruct path.now args.now ellipsis) }

@@ -4,7 +4,7 @@ ghost use Rattle.std.specs.Option.{option_map};
 ghost use Rattle.hir_path.specs.Lists.{all_but, last_of};
 ghost use Rattle.hir_base.specs.Exact.{exact};
 
-use hir_base::{ExactEq, ExternAbi, LifetimeParamId, Name, Seq, TryClone, TypeParamId};
+use hir_base::{ExactEq, ExternAbi, LifetimeParamId, Name, Seq, ShortList, TryClone, TypeParamId};
 use hir_path::{Boxed, ConstRef, LifetimeRefId, PatId, Path, PathId, TypeBound, TypeRefId};
 use std::alloc::AllocError;
 
@@ -238,7 +238,7 @@ pub enum TypeRef {
     Placeholder,
     /// What could not be lowered.
     Error,
-    Tuple(Seq<TypeRefId>),
+    Tuple(ShortList<TypeRefId>),
     Path(Path),
     RawPtr(TypeRefId, Mutability),
     Reference(Boxed<RefType>),
