@@ -92,8 +92,8 @@ impl Binder {
         Ok(())
     }
 
-    /// Pushes the child patterns of a pattern on those that are still to be visited, the first on top.
-    fn push_children(&mut self, pat: &Pat) -> Result<(), ScopesFault>
+    /// Pushes the child patterns of a pattern on those that are still to be visited, the first on top, by a turn of the visitor.
+    fn push_in_turn(&mut self, pat: &Pat) -> Result<(), ScopesFault>
         ensures next { OnOk result (self.new.pats ≡ child_pats pat.now ++ self.old.pats) }
         ensures same { self.new.entries ≡ self.old.entries }
         ensures memory { OnErr result (result ≡ Err ScopesFault.Memory) }
@@ -103,9 +103,47 @@ impl Binder {
         self.turn.move_to(&mut self.pats)
     }
 
+    /// Pushes the child patterns of a pattern on those that are still to be visited, the first on top.
+    // Those of the common patterns are pushed at once; any other pattern takes a turn of the visitor. A binding is rare here, since
+    // `visit` pushes what is in one itself.
+    fn push_children(&mut self, pat: &Pat) -> Result<(), ScopesFault>
+        ensures next { OnOk result (self.new.pats ≡ child_pats pat.now ++ self.old.pats) }
+        ensures same { self.new.entries ≡ self.old.entries }
+        ensures memory { OnErr result (result ≡ Err ScopesFault.Memory) }
+    {
+        match pat {
+            Pat::Missing | Pat::Rest | Pat::Wild | Pat::NotNull => Ok(()),
+            Pat::Lit(_) | Pat::Expr(_) => Ok(()),
+            Pat::Range {
+                start: _,
+                end: _,
+                range_type: _,
+            } => Ok(()),
+            Pat::Tuple { args, ellipsis: _ } => push_ids(&mut self.pats, args.as_slice()),
+            Pat::Box { inner } | Pat::Deref { inner } => self.pats.push(*inner),
+            Pat::Ref { pat, mutability: _ } => self.pats.push(*pat),
+            Pat::Or(_) | Pat::Path(_) => self.push_in_turn(pat),
+            Pat::Bind { id: _, subpat: _ } => self.push_in_turn(pat),
+            Pat::Record {
+                path: _,
+                args: _,
+                ellipsis: _,
+            } => self.push_in_turn(pat),
+            Pat::Slice {
+                prefix: _,
+                slice: _,
+                suffix: _,
+            } => self.push_in_turn(pat),
+            Pat::TupleStruct {
+                path: _,
+                args: _,
+                ellipsis: _,
+            } => self.push_in_turn(pat),
+        }
+    }
+
     /// Visits a pattern: adds the entry of its own binding, where it has one, and pushes its child patterns on those that are still
     /// to be visited, the first on top.
-    // The common patterns are pushed at once; any other takes a turn of the visitor.
     fn visit(&mut self, store: &ExpressionStore, id: PatId) -> Result<(), ScopesFault>
         requires { id < length store.now.nodes.pats }
         ensures added { OnOk result (self.new.entries.items ≡ self.old.entries.items
@@ -116,28 +154,14 @@ impl Binder {
         store.has_no_fault();
         nodes_are_sound();
         let pat = &store[id];
-        match pat {
-            Pat::Bind { id, subpat } => {
-                self.add_binding(store, *id)?;
-                match subpat {
-                    None => Ok(()),
-                    Some(inner) => self.pats.push(*inner),
-                }
-            }
-            Pat::Tuple { args, ellipsis: _ } => push_ids(&mut self.pats, args.as_slice()),
-            Pat::Missing
-            | Pat::Rest
-            | Pat::Wild
-            | Pat::NotNull
-            | Pat::Lit(_)
-            | Pat::Expr(_)
-            | Pat::Range {
-                start: _,
-                end: _,
-                range_type: _,
-            } => Ok(()),
-            _ => self.push_children(pat),
+        if let Pat::Bind { id, subpat } = pat {
+            self.add_binding(store, *id)?;
+            return match subpat {
+                None => Ok(()),
+                Some(inner) => self.pats.push(*inner),
+            };
         }
+        self.push_children(pat)
     }
 
     /// Visits all patterns that are still to be visited.

@@ -62,7 +62,7 @@ impl ExprScopes {
     ghost use Rattle.hir_scope.specs.Scopes.{Scope, entry_count, block_of, label_of, macro_def_of, IsIn, ParentsStandEarlier};
     ghost use Rattle.hir_scope.specs.Paths.{path};
 
-    /// No scopes yet, with room for the scopes of this number of expressions, and for this number of entries.
+    /// No scopes yet, with room for the scopes of this number of expressions, and for this number of entries and as many scopes.
     ///
     /// Answers `Memory` where that room was refused.
     pub(crate) fn with_room(
@@ -76,11 +76,15 @@ impl ExprScopes {
         let Ok(scope_by_expr) = ArenaMap::with_capacity(alloc, exprs) else {
             return Err(ScopesFault::Memory);
         };
+        // Scopes aren't counted beforehand. Code has about one for each binding; where it has more, their list grows.
+        let Ok(scopes) = Vec::with_capacity(alloc, entries) else {
+            return Err(ScopesFault::Memory);
+        };
         let Ok(entries) = Vec::with_capacity(alloc, entries) else {
             return Err(ScopesFault::Memory);
         };
         Ok(ExprScopes {
-            scopes: Vec::new(alloc),
+            scopes,
             entries,
             scope_by_expr,
         })

@@ -57,6 +57,19 @@ fn push_if(
     Ok(())
 }
 
+/// Puts the ends of a range on the stack, where they are there, the first on top.
+fn push_ends(
+    tasks: &mut Stack<Task>,
+    start: Option<ExprId>,
+    end: Option<ExprId>,
+) -> Result<(), ScopesFault>
+    ensures ok { OnOk result (tasks.new ≡ tasks_of (opt e start ++ opt e end) ++ tasks.old) }
+    ensures memory { OnErr result (result ≡ Err ScopesFault.Memory) }
+{
+    push_expr_opt(tasks, end)?;
+    push_expr_opt(tasks, start)
+}
+
 /// Whether an expression is a bare path, a literal or missing: nothing is inside these, as inside some others.
 #[inline(always)]
 pub(crate) fn is_empty_expr(expr: &Expr) -> bool
@@ -212,11 +225,25 @@ impl Queue<Task> {
                 start,
                 end,
                 range_type: _,
-            } => {
-                push_expr_opt(tasks, *end)?;
-                push_expr_opt(tasks, *start)
-            }
-            _ => self.push_pat(tasks, pat),
+            } => push_ends(tasks, *start, *end),
+            Pat::Box { inner } | Pat::Deref { inner } => tasks.push(Task::Pat(*inner)),
+            Pat::Ref { pat, mutability: _ } => tasks.push(Task::Pat(*pat)),
+            Pat::Or(_) | Pat::Path(_) => self.push_pat(tasks, pat),
+            Pat::Record {
+                path: _,
+                args: _,
+                ellipsis: _,
+            } => self.push_pat(tasks, pat),
+            Pat::Slice {
+                prefix: _,
+                slice: _,
+                suffix: _,
+            } => self.push_pat(tasks, pat),
+            Pat::TupleStruct {
+                path: _,
+                args: _,
+                ellipsis: _,
+            } => self.push_pat(tasks, pat),
         }
     }
 

@@ -1,7 +1,7 @@
 use Rattle.std.proofs.Common.{ℕ, List, ◌++◌, ap, ◌∙◌}
 use Rattle.hir_node.specs.ChildCalls.{child_pats}
 use Rattle.hir_scope.proofs.BinderLemmas.{asks_all, on_ok}
-use Rattle.hir_scope.proofs.binder.Binder.push_children.Goals as goal
+use Rattle.hir_scope.proofs.binder.Binder.push_in_turn.Goals as goal
 
 pub returns-clause-next : goal.returns-clause-next
 returns-clause-next c =
