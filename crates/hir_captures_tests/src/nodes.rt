@@ -1,6 +1,8 @@
 //! The nodes of the tests, each made of what a step says of it. No builder is lent to what stands here.
 //! Nodes are named by their numbers: the first expression is 0, and so is the first pattern.
-use hir_base::{HygieneId, Idx, MacroDefId, ModPath, Name, PathKind, RangeOp, Seq, SyntaxContext};
+use hir_base::{
+    HygieneId, Idx, MacroDefId, ModPath, Name, PathKind, RangeOp, Seq, ShortList, SyntaxContext,
+};
 use hir_node::{
     Array, ArrayType, Binding, BindingAnnotation, Boxed, CaptureBy, ClosureKind, ConstRef,
     CoroutineKind, CoroutineSource, Expr, Item, MatchArm, Pat, Path, Statement, TypeRef, Unsafe,
@@ -91,10 +93,10 @@ const ASYNC_BLOCK: ClosureKind = ClosureKind::Coroutine {
 };
 
 /// The ids of these numbers.
-fn ids<K>(alloc: Global, numbers: &[u32]) -> Result<Seq<Idx<K>>, AllocError> {
-    let mut list = Seq::new(alloc);
+fn ids<K>(alloc: Global, numbers: &[u32]) -> Result<ShortList<Idx<K>>, AllocError> {
+    let mut list = ShortList::new();
     for number in numbers {
-        list.push(Idx::from_raw(*number))?;
+        list.push(alloc, Idx::from_raw(*number))?;
     }
     Ok(list)
 }
@@ -174,11 +176,11 @@ fn arg_types<T: Copy + Drop>(
     alloc: Global,
     args: &[u32],
     first: Option<T>,
-) -> Result<Seq<Option<T>>, AllocError> {
-    let mut list = Seq::new(alloc);
+) -> Result<ShortList<Option<T>>, AllocError> {
+    let mut list = ShortList::new();
     let mut next = first;
     for _ in args {
-        list.push(next)?;
+        list.push(alloc, next)?;
         next = None;
     }
     Ok(list)

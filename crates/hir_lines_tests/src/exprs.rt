@@ -3,7 +3,7 @@
 
 use crate::kept::{Line, Maker};
 use crate::says::{id, list, path, says};
-use hir_base::{BlockId, MacroDefId, Seq};
+use hir_base::{BlockId, MacroDefId, Seq, ShortList};
 use hir_node::{
     Array, Boxed, CaptureBy, ClosureKind, Expr, Item, Literal, LoopSource, MatchArm, Mutability,
     Rawness, Statement, Unsafe,
@@ -86,13 +86,13 @@ fn of_lists(alloc: Global, at: usize) -> Result<Expr, AllocError> {
         0 => Expr::Path(path(alloc, "W")?),
         1 => Expr::Call {
             callee: id(0),
-            args: list(alloc, &[id(2), id(1)])?,
+            args: ShortList::from_slice(alloc, &[id(2), id(1)])?,
         },
         2 => Expr::Tuple {
-            exprs: Seq::new(alloc),
+            exprs: ShortList::new(),
         },
         _ => Expr::Array(Array::ElementList {
-            elements: list(alloc, &[id(4294967295)])?,
+            elements: ShortList::from_slice(alloc, &[id(4294967295)])?,
         }),
     })
 }
@@ -143,8 +143,8 @@ fn of_parts(alloc: Global, at: usize) -> Result<Expr, AllocError> {
             arms: two_arms(alloc)?,
         },
         2 => Expr::Closure {
-            args: list(alloc, &[id(2), id(3)])?,
-            arg_types: Boxed::new(alloc, list(alloc, &[None, None])?)?,
+            args: ShortList::from_slice(alloc, &[id(2), id(3)])?,
+            arg_types: Boxed::new(alloc, ShortList::from_slice(alloc, &[None, None])?)?,
             ret_type: None,
             body: id(0),
             closure_kind: ClosureKind::Closure,

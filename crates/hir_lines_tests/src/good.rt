@@ -1,8 +1,8 @@
 //! What each form of a line makes or asks, but for expressions.
 
 use crate::kept::{Line, Maker};
-use crate::says::{id, is_frequent, list, makes, path, says};
-use hir_base::{HygieneId, Name, RangeOp, Seq, SyntaxContext};
+use crate::says::{id, is_frequent, makes, path, says};
+use hir_base::{HygieneId, Name, RangeOp, ShortList, SyntaxContext};
 use hir_lines::{BodyQuestion, Question, StoreQuestion};
 use hir_node::{
     ArrayType, Binding, BindingAnnotation, Boxed, ConstRef, ExprId, ExprOrPatId, Pat, PatId,
@@ -132,13 +132,13 @@ fn pattern(alloc: Global, at: usize) -> Result<Pat, AllocError> {
         7 => range_from(Some(id(1))),
         8 => range_from(None),
         9 => Pat::Tuple {
-            args: list(alloc, &[id(0), id(2), id(3)])?,
+            args: ShortList::from_slice(alloc, &[id(0), id(2), id(3)])?,
             ellipsis: None,
         },
-        10 => Pat::Or(Seq::new(alloc)),
+        10 => Pat::Or(ShortList::new()),
         _ => Pat::TupleStruct {
             path: Boxed::new(alloc, path(alloc, "Some")?)?,
-            args: list(alloc, &[id(0)])?,
+            args: ShortList::from_slice(alloc, &[id(0)])?,
             ellipsis: None,
         },
     })
@@ -160,7 +160,7 @@ fn types(rt: HostRuntime) -> Result<(), Fail> {
     makes(&rt, alloc, b"type never", Maker::Type(TypeRef::Never))?;
     let made = TypeRef::Path(path(alloc, "u32")?);
     makes(&rt, alloc, b"type path u32", Maker::Type(made))?;
-    let made = TypeRef::Tuple(list(alloc, &[id(1), id(0)])?);
+    let made = TypeRef::Tuple(ShortList::from_slice(alloc, &[id(1), id(0)])?);
     makes(&rt, alloc, b"type tuple 1,0", Maker::Type(made))?;
     let made = TypeRef::Array(ArrayType {
         ty: id(0),
@@ -171,7 +171,8 @@ fn types(rt: HostRuntime) -> Result<(), Fail> {
     makes(&rt, alloc, b"type pattern 0 1", Maker::Type(made))
 }
 
-const FREQUENT: [&[u8]; 5] = [
+const FREQUENT: [&[u8]; 6] = [
+    b"",
     b"expr path x",
     b"expr missing",
     b"pat wild",
@@ -180,7 +181,7 @@ const FREQUENT: [&[u8]; 5] = [
 ];
 
 // Of these words `take_frequent` makes nothing, nor finds them bad.
-const OTHER: [&[u8]; 6] = [b"", b"expr", b"type never", b"root 0", b"print", b"binds x"];
+const OTHER: [&[u8]; 5] = [b"expr", b"type never", b"root 0", b"print", b"binds x"];
 
 #[test]
 fn frequent_lines_are_taken_at_once(rt: HostRuntime) -> Result<(), Fail> {

@@ -1,6 +1,6 @@
 //! The child patterns of each kind of pattern, in order.
 use crate::{build, made};
-use hir_base::{Idx, Name, RangeOp};
+use hir_base::{Idx, Name, RangeOp, ShortList};
 use hir_node::{ChildPats, Mutability, Pat, RecordFieldPat};
 use std::alloc::{AllocError, Global};
 use std::mem::drop;
@@ -54,7 +54,7 @@ fn patterns_without_patterns_have_no_children(rt: HostRuntime) -> Result<(), Fai
 }
 
 fn tuple(alloc: Global) -> Result<Pat, AllocError> {
-    match build::two(alloc, Idx::from_raw(4), Idx::from_raw(2)) {
+    match ShortList::from_slice(alloc, &[Idx::from_raw(4), Idx::from_raw(2)]) {
         Ok(args) => Ok(Pat::Tuple {
             args,
             ellipsis: Some(1),
@@ -92,7 +92,7 @@ fn record(alloc: Global) -> Result<Pat, AllocError> {
 #[test]
 fn patterns_with_lists_have_their_items(rt: HostRuntime) -> Result<(), Fail> {
     let alloc = rt.alloc();
-    let alternatives = build::two(alloc, Idx::from_raw(3), Idx::from_raw(1));
+    let alternatives = ShortList::from_slice(alloc, &[Idx::from_raw(3), Idx::from_raw(1)]);
     let answers = [
         names(tuple(alloc), &[4, 2]),
         names(alternatives.map(Pat::Or), &[3, 1]),

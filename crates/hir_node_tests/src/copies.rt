@@ -2,8 +2,8 @@
 //! That a copy is the same value is proved of each variant; here copying has to succeed, and to leave nothing shared.
 use crate::{build, made};
 use hir_base::{
-    ExactEq, ExternAbi, FunctionId, HygieneId, Idx, LangItemTarget, Name, Seq, SyntaxContext, Text,
-    TryClone,
+    ExactEq, ExternAbi, FunctionId, HygieneId, Idx, LangItemTarget, Name, Seq, ShortList,
+    SyntaxContext, Text, TryClone,
 };
 use hir_node::{
     Array, Binding, BindingAnnotation, BindingProblems, Expr, FloatTypeWrapper, FnType, Label,
@@ -45,9 +45,19 @@ fn hash_alike<T: Hash + Drop>(
     Ok(hash_of(&one) == hash_of(&second))
 }
 
-// `[1, 2]`
+// Four ids: a list of more than three has memory of its own.
+fn four<K>() -> [Idx<K>; 4] {
+    [
+        Idx::from_raw(1),
+        Idx::from_raw(2),
+        Idx::from_raw(3),
+        Idx::from_raw(4),
+    ]
+}
+
+// `[1, 2, 3, 4]`
 fn array(alloc: Global) -> Result<Expr, AllocError> {
-    match build::two(alloc, Idx::from_raw(1), Idx::from_raw(2)) {
+    match ShortList::from_slice(alloc, &four()) {
         Ok(elements) => Ok(Expr::Array(Array::ElementList { elements })),
         Err(error) => Err(error),
     }
@@ -65,7 +75,8 @@ fn offset_of(alloc: Global) -> Result<Expr, AllocError> {
 }
 
 fn method_call(alloc: Global) -> Result<Expr, AllocError> {
-    let name_and_args = build::both(Name::new(alloc, "f"), build::one(alloc, Idx::from_raw(2)));
+    let args = ShortList::from_slice(alloc, &[Idx::from_raw(2)]);
+    let name_and_args = build::both(Name::new(alloc, "f"), args);
     match build::both(name_and_args, build::boxed(alloc, build::nested(alloc))) {
         Ok(((method_name, args), generic_args)) => Ok(Expr::MethodCall {
             receiver: Idx::from_raw(1),
@@ -153,7 +164,7 @@ fn record_pat(alloc: Global) -> Result<Pat, AllocError> {
 
 // `(1, .., 2)`
 fn tuple(alloc: Global) -> Result<Pat, AllocError> {
-    match build::two(alloc, Idx::from_raw(1), Idx::from_raw(2)) {
+    match ShortList::from_slice(alloc, &[Idx::from_raw(1), Idx::from_raw(2)]) {
         Ok(args) => {
             let ellipsis = Some(1);
             Ok(Pat::Tuple { args, ellipsis })
@@ -163,7 +174,7 @@ fn tuple(alloc: Global) -> Result<Pat, AllocError> {
 }
 
 fn pats(alloc: Global) -> Result<Seq<Pat>, AllocError> {
-    let sides = build::two(alloc, Idx::from_raw(1), Idx::from_raw(2));
+    let sides = ShortList::from_slice(alloc, &four());
     let list = build::only(alloc, sides.map(Pat::Or));
     let list = build::with(list, tuple(alloc));
     let list = build::with(list, made::slice(alloc));
@@ -229,7 +240,7 @@ fn item(alloc: Global) -> Result<Path, AllocError> {
 }
 
 fn types(alloc: Global) -> Result<Seq<TypeRef>, AllocError> {
-    let parts = build::two(alloc, Idx::from_raw(1), Idx::from_raw(2));
+    let parts = ShortList::from_slice(alloc, &four());
     let list = build::only(alloc, parts.map(TypeRef::Tuple));
     let list = build::with(list, bounds(alloc).map(TypeRef::DynTrait));
     let list = build::with(list, build::boxed(alloc, function(alloc)).map(TypeRef::Fn));

@@ -1,6 +1,6 @@
 //! Nodes that own memory, for the tests of visits and of copies.
 use crate::build;
-use hir_base::Idx;
+use hir_base::{Idx, ShortList};
 use hir_node::{
     CaptureBy, ClosureKind, Expr, ExprId, Item, MatchArm, Mutability, Pat, RefType, Statement,
     TypeRef, Unsafe,
@@ -49,8 +49,9 @@ pub fn block(alloc: Global) -> Result<Expr, AllocError> {
 
 /// A closure of body 0 and the patterns 1 and 2, of which the second is of type 3, that gives type 4.
 pub fn closure(alloc: Global) -> Result<Expr, AllocError> {
-    let args = build::two(alloc, Idx::from_raw(1), Idx::from_raw(2));
-    let arg_types = build::boxed(alloc, build::two(alloc, None, Some(Idx::from_raw(3))));
+    let args = ShortList::from_slice(alloc, &[Idx::from_raw(1), Idx::from_raw(2)]);
+    let arg_types = ShortList::from_slice(alloc, &[None, Some(Idx::from_raw(3))]);
+    let arg_types = build::boxed(alloc, arg_types);
     match build::both(args, arg_types) {
         Ok((args, arg_types)) => Ok(Expr::Closure {
             args,
@@ -67,7 +68,8 @@ pub fn closure(alloc: Global) -> Result<Expr, AllocError> {
 /// `A<3>(1)`
 pub fn tuple_struct(alloc: Global) -> Result<Pat, AllocError> {
     let path = build::boxed(alloc, build::with_args_first(alloc, &["A"]));
-    match build::both(path, build::one(alloc, Idx::from_raw(1))) {
+    let args = ShortList::from_slice(alloc, &[Idx::from_raw(1)]);
+    match build::both(path, args) {
         Ok((path, args)) => Ok(Pat::TupleStruct {
             path,
             args,
@@ -79,8 +81,9 @@ pub fn tuple_struct(alloc: Global) -> Result<Pat, AllocError> {
 
 /// The patterns 1 and 3, and between them the rest by pattern 2.
 pub fn slice(alloc: Global) -> Result<Pat, AllocError> {
-    let prefix = build::one(alloc, Idx::from_raw(1));
-    match build::both(prefix, build::one(alloc, Idx::from_raw(3))) {
+    let prefix = ShortList::from_slice(alloc, &[Idx::from_raw(1)]);
+    let suffix = ShortList::from_slice(alloc, &[Idx::from_raw(3)]);
+    match build::both(prefix, suffix) {
         Ok((prefix, suffix)) => Ok(Pat::Slice {
             prefix,
             slice: Some(Idx::from_raw(2)),

@@ -1,7 +1,8 @@
 //! The nodes of the tests, each made of what a step says of it. No builder is lent to what stands here.
 //! Nodes are named by their numbers: the first expression is 0, and so is the first pattern.
 use hir_base::{
-    BlockId, HygieneId, Idx, MacroDefId, ModPath, Name, PathKind, RangeOp, Seq, SyntaxContext,
+    BlockId, HygieneId, Idx, MacroDefId, ModPath, Name, PathKind, RangeOp, Seq, ShortList,
+    SyntaxContext,
 };
 use hir_node::{
     Array, ArrayType, Binding, BindingAnnotation, Boxed, CaptureBy, ClosureKind, ConstRef, Expr,
@@ -82,10 +83,10 @@ pub enum TypeStep {
 }
 
 /// The ids of these numbers.
-fn ids<K>(alloc: Global, numbers: &[u32]) -> Result<Seq<Idx<K>>, AllocError> {
-    let mut list = Seq::new(alloc);
+fn ids<K>(alloc: Global, numbers: &[u32]) -> Result<ShortList<Idx<K>>, AllocError> {
+    let mut list = ShortList::new();
     for number in numbers {
-        list.push(Idx::from_raw(*number))?;
+        list.push(alloc, Idx::from_raw(*number))?;
     }
     Ok(list)
 }
@@ -188,11 +189,11 @@ fn arg_types<T: Copy + Drop>(
     alloc: Global,
     args: &[u32],
     first: Option<T>,
-) -> Result<Seq<Option<T>>, AllocError> {
-    let mut list = Seq::new(alloc);
+) -> Result<ShortList<Option<T>>, AllocError> {
+    let mut list = ShortList::new();
     let mut next = first;
     for _ in args {
-        list.push(next)?;
+        list.push(alloc, next)?;
         next = None;
     }
     Ok(list)
@@ -339,7 +340,7 @@ pub fn pat(alloc: Global, step: &PatStep) -> Result<Pat, AllocError> {
 pub fn type_ref(alloc: Global, step: &TypeStep) -> Result<TypeRef, AllocError> {
     match *step {
         TypeStep::Never => Ok(TypeRef::Never),
-        TypeStep::Tuple => Ok(TypeRef::Tuple(Seq::new(alloc))),
+        TypeStep::Tuple => Ok(TypeRef::Tuple(ShortList::new())),
         TypeStep::Array(ty, len) => {
             let array = ArrayType {
                 ty: Idx::from_raw(ty),

@@ -1,6 +1,6 @@
 //! The nodes of the tests, each made of what a step says of it. No builder is lent to what stands here.
 //! Nodes are named by their numbers: the first expression is 0, and so is the first pattern.
-use hir_base::{ExternAbi, HygieneId, Idx, ModPath, Name, PathKind, RangeOp, Seq};
+use hir_base::{ExternAbi, HygieneId, Idx, ModPath, Name, PathKind, RangeOp, Seq, ShortList};
 use hir_node::{
     AssociatedTypeBinding, Binding, BindingAnnotation, Boxed, Expr, FnType, GenericArg,
     GenericArgs, GenericArgsParentheses, Label, LifetimeRefId, LoopSource, MatchArm, Mutability,
@@ -66,10 +66,10 @@ pub enum TypeStep {
 }
 
 /// The ids of these numbers.
-fn ids<K>(alloc: Global, numbers: &[u32]) -> Result<Seq<Idx<K>>, AllocError> {
-    let mut list = Seq::new(alloc);
+fn ids<K>(alloc: Global, numbers: &[u32]) -> Result<ShortList<Idx<K>>, AllocError> {
+    let mut list = ShortList::new();
     for number in numbers {
-        list.push(Idx::from_raw(*number))?;
+        list.push(alloc, Idx::from_raw(*number))?;
     }
     Ok(list)
 }
