@@ -78,7 +78,7 @@ const PARAMS: Tree = Tree {
     pats: &[
         PatOf::Bind(0),
         PatOf::RangeFrom(0),
-        PatOf::Tuple(&[0, 1]),
+        PatOf::Tuple(0, 1),
         PatOf::Bind(1),
     ],
     exprs: &[ExprOf::Path("R"), ExprOf::Unit],

@@ -2,8 +2,8 @@
 use crate::memory::{Written, add_all, first, in_a_box, names, push, taken};
 use hir_base::{
     AdtId, BinaryOp, CrateId, ExternAbi, FunctionId, GenericDefId, HygieneId, Idx, LangItemTarget,
-    LifetimeParamId, ModPath, Name, PathKind, RangeOp, Seq, StructId, TypeOrConstParamId,
-    TypeParamId,
+    LifetimeParamId, ModPath, Name, PathKind, RangeOp, Seq, ShortList, StructId,
+    TypeOrConstParamId, TypeParamId,
 };
 use hir_node::{
     AssociatedTypeBinding, Binding, BindingAnnotation, Boxed, Expr, FnType, GenericArg,
@@ -32,7 +32,7 @@ pub enum PatOf {
     Bind(u32),
     /// `expression..=`
     RangeFrom(u32),
-    Tuple(&'static [u32]),
+    Tuple(u32, u32),
     /// A struct of this name with these fields.
     Record(&'static str, &'static [FieldOf]),
 }
@@ -183,8 +183,9 @@ impl Written<Pat> for PatOf {
                 end: None,
                 range_type: RangeOp::Inclusive,
             }),
-            PatOf::Tuple(args) => {
-                let args = ids(alloc, args)?;
+            PatOf::Tuple(first, second) => {
+                let args = [Idx::from_raw(*first), Idx::from_raw(*second)];
+                let args = ShortList::from_slice(alloc, &args)?;
                 Ok(Pat::Tuple {
                     args,
                     ellipsis: None,
@@ -276,7 +277,7 @@ impl Written<Expr> for ExprOf {
             ExprOf::Item(number) => Ok(Expr::Path(item_path(*number))),
             ExprOf::Int(number) => Ok(Expr::Literal(Literal::Int(*number, None))),
             ExprOf::Unit => Ok(Expr::Tuple {
-                exprs: Seq::new(alloc),
+                exprs: ShortList::new(),
             }),
             ExprOf::Ref(expr) => Ok(Expr::Ref {
                 expr: Idx::from_raw(*expr),
@@ -457,7 +458,7 @@ impl Written<TypeRef> for TypeOf {
             TypeOf::With(text, written) => path_with(alloc, PathKind::Plain, &[*text], written),
             TypeOf::Item(number) => Ok(TypeRef::Path(item_path(*number))),
             TypeOf::OfCrate(number) => Ok(TypeRef::Path(crate_path(alloc, *number)?)),
-            TypeOf::Unit => Ok(TypeRef::Tuple(Seq::new(alloc))),
+            TypeOf::Unit => Ok(TypeRef::Tuple(ShortList::new())),
             TypeOf::Fn(ret) => function_type(alloc, *ret),
             TypeOf::OfFunction(number) => Ok(type_param(
                 GenericDefId::FunctionId(FunctionId::from_raw(0)),
