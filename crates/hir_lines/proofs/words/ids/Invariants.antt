@@ -1,5 +1,6 @@
 use Rattle.std.proofs.Common.{◌≡◌, ◌++◌, length}
 use Rattle.std.specs.Option.{option_map}
+use Rattle.hir_lines.specs.Numerals.{number_of}
 use Rattle.hir_lines.specs.Readings.{all_of}
 use Rattle.hir_lines.proofs.words.ids.Given as goal
 
