@@ -2,8 +2,8 @@
 use crate::memory::{Written, all, id, ids, names, push};
 use crate::paths_of::{ArgsOf, PathOf, one_name};
 use hir_base::{
-    BinaryOp, BlockId, BuiltinFloat, BuiltinInt, BuiltinUint, Idx, MacroDefId, Name, Seq, Text,
-    UnaryOp,
+    BinaryOp, BlockId, BuiltinFloat, BuiltinInt, BuiltinUint, Idx, MacroDefId, Name, Seq,
+    ShortList, Text, UnaryOp,
 };
 use hir_node::{
     Array, Boxed, CaptureBy, ClosureKind, Expr, FloatTypeWrapper, GenericArgs, Item, Literal,
@@ -216,10 +216,15 @@ impl Written<RecordLitField> for FieldOf {
     }
 }
 
-impl Written<Option<TypeRefId>> for ArgTypeOf {
-    fn made(&self, _alloc: Global) -> Result<Option<TypeRefId>, AllocError> {
-        Ok(id(&self.0))
+fn arg_types(
+    alloc: Global,
+    written: &[ArgTypeOf],
+) -> Result<ShortList<Option<TypeRefId>>, AllocError> {
+    let mut types = ShortList::new();
+    for written in written {
+        types.push(alloc, id(&written.0))?;
     }
+    Ok(types)
 }
 
 fn spread(written: &SpreadOf) -> RecordSpread {
@@ -255,7 +260,7 @@ fn block(alloc: Global, written: &BlockOf) -> Result<Expr, AllocError> {
 
 fn closure(alloc: Global, written: &ClosureOf) -> Result<Expr, AllocError> {
     let args = ids(alloc, written.args)?;
-    let arg_types = Boxed::new(alloc, all(alloc, written.arg_types)?)?;
+    let arg_types = Boxed::new(alloc, arg_types(alloc, written.arg_types)?)?;
     let capture_by = if written.by_value {
         CaptureBy::Value
     } else {

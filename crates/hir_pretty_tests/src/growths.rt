@@ -1,11 +1,11 @@
 //! Refused growths of printing. With ample memory each text is the whole one. Where a growth of a printing is refused, it answers `Memory`,
 //! and the same printing is made again. The loop over the growths is `scripts/refused-growths`.
 use crate::absent::{BOTH, struct_1};
-use crate::memory::{Written, add, in_a_box, misses, push};
+use crate::memory::{Written, add, in_a_box, misses};
 use crate::paths_of::{PathOf, one_name};
 use crate::tables_of::{none, usual};
 use crate::{rows, tree};
-use hir_base::{Edition, Idx, Seq};
+use hir_base::{Edition, Idx, ShortList};
 use hir_defs::Tables;
 use hir_node::{Expr, ExprId, PatId, Path};
 use hir_pretty::PrintFault;
@@ -205,11 +205,11 @@ const COUNT: u32 = 1000;
 /// A tuple of so many paths `a`.
 fn tuple_of_paths(alloc: Global) -> Result<Box<ExpressionStore>, Fail> {
     let mut builder = in_a_box(alloc, ExpressionStoreBuilder::new(alloc))?;
-    let mut exprs = Seq::new(alloc);
+    let mut exprs = ShortList::new();
     for number in 0..COUNT {
         let path = one_name(alloc, "a")?;
         add(&mut builder.exprs, Expr::Path(path))?;
-        push(&mut exprs, Idx::from_raw(number))?;
+        exprs.push(alloc, Idx::from_raw(number))?;
     }
     add(&mut builder.exprs, Expr::Tuple { exprs })?;
     builder.begin_roots();

@@ -1,6 +1,6 @@
 //! Calls that take memory, without what they hand back where it is refused.
 //! What is said here of any type is proved once, and lays out no type, however large it is.
-use hir_base::{Arena, Idx, Name, Seq, Text};
+use hir_base::{Arena, Idx, Name, Seq, ShortList, Text};
 use hir_expr_store::Missing;
 use hir_pretty::PrintFault;
 use std::alloc::{AllocError, AllocFailed, Global};
@@ -107,10 +107,10 @@ pub fn misses(printed: &Result<String, PrintFault>, wanted: Missing) -> Result<b
 }
 
 /// The list of the ids of these numbers.
-pub fn ids<K>(alloc: Global, numbers: &[u32]) -> Result<Seq<Idx<K>>, AllocError> {
-    let mut ids = Seq::new(alloc);
+pub fn ids<K>(alloc: Global, numbers: &[u32]) -> Result<ShortList<Idx<K>>, AllocError> {
+    let mut ids = ShortList::new();
     for number in numbers {
-        push(&mut ids, Idx::from_raw(*number))?;
+        ids.push(alloc, Idx::from_raw(*number))?;
     }
     Ok(ids)
 }
