@@ -1,6 +1,6 @@
 //! Makers of expressions, patterns and statements, for whoever builds a body by hand.
 
-use hir_base::{HygieneId, Name, Seq};
+use hir_base::{HygieneId, Name, Seq, ShortList};
 use hir_error::HirError;
 use hir_items::{Body, Param};
 use hir_node::{
@@ -46,7 +46,7 @@ pub fn tuple(
     first: ExprId,
     second: ExprId,
 ) -> Result<ExprId, HirError> {
-    let exprs = Seq::from_vec(vec![in alloc; first, second]?);
+    let exprs = ShortList::from_slice(alloc, &[first, second])?;
     Ok(builder.alloc_expr(Expr::Tuple { exprs })?)
 }
 
@@ -69,8 +69,8 @@ pub fn closure(
     body: ExprId,
 ) -> Result<ExprId, HirError> {
     Ok(builder.alloc_expr(Expr::Closure {
-        args: Seq::from_vec(vec![in alloc; arg]?),
-        arg_types: Boxed::new(alloc, Seq::from_vec(vec![in alloc; None]?))?,
+        args: ShortList::from_slice(alloc, &[arg])?,
+        arg_types: Boxed::new(alloc, ShortList::from_slice(alloc, &[None])?)?,
         ret_type: None,
         body,
         closure_kind: ClosureKind::Closure,

@@ -1,8 +1,8 @@
 //! Lists, texts and names, once each on the happy path.
 use crate::same;
-use hir_base::{ExactEq, Name, Seq, Text, TryClone};
+use hir_base::{ExactEq, Idx, Name, Seq, ShortList, Text, TryClone};
 use std::alloc::{AllocError, Global};
-use std::mem::drop;
+use std::mem::{drop, size_of};
 use std::process::Abort;
 use std::test::Fail;
 
@@ -48,6 +48,145 @@ fn a_list_keeps_its_items(rt: HostRuntime) -> Result<(), Fail> {
     let has_three = has_three(&seq);
     let leaves_its_copy = leaves_its_copy(&mut seq)?;
     assert!(rt; has_three && leaves_its_copy && comes_back(seq));
+    Ok(())
+}
+
+// Of 0 to 5 items: more than three don't lie in the value.
+const LISTS: [&[u32]; 6] = [
+    &[],
+    &[7],
+    &[7, 8],
+    &[7, 8, 9],
+    &[7, 8, 9, 10],
+    &[7, 8, 9, 10, 11],
+];
+
+// The list with these items pushed, if it could be made.
+fn filled(
+    alloc: Global,
+    list: Result<ShortList<u32>, AllocError>,
+    items: &[u32],
+) -> Result<ShortList<u32>, AllocError> {
+    let mut list = list?;
+    for item in items {
+        list.push(alloc, *item)?;
+    }
+    Ok(list)
+}
+
+// Whether each of these items stands at its place, and none behind them.
+fn has_each(list: &ShortList<u32>, items: &[u32]) -> bool {
+    for (at, item) in items.iter().enumerate() {
+        if at >= list.len() || list[at] != *item || list.get(at).copied() != Some(*item) {
+            return false;
+        }
+    }
+    list.len() == items.len() && list.get(items.len()).copied() == None
+}
+
+// Whether these items come one by one from the front.
+fn from_the_front(list: &ShortList<u32>, items: &[u32]) -> bool {
+    let mut rest = items;
+    for item in list.iter() {
+        match rest.split_first() {
+            Some((first, others)) if *first == *item => rest = others,
+            _ => return false,
+        }
+    }
+    rest.is_empty()
+}
+
+// Whether these items come one by one from the back, the last one first.
+fn from_the_back(list: &ShortList<u32>, items: &[u32]) -> bool {
+    let mut rest = items;
+    for item in list.iter().rev() {
+        match rest.split_last() {
+            Some((last, others)) if *last == *item => rest = others,
+            _ => return false,
+        }
+    }
+    rest.is_empty()
+}
+
+fn has(list: &ShortList<u32>, items: &[u32]) -> bool {
+    list.as_slice() == items
+        && list.is_empty() == items.is_empty()
+        && has_each(list, items)
+        && from_the_front(list, items)
+        && from_the_back(list, items)
+}
+
+// Whether what was made has these items, and a copy of it has them still when one more was pushed.
+fn keeps(
+    alloc: Global,
+    made: Result<ShortList<u32>, AllocError>,
+    items: &[u32],
+) -> Result<bool, AllocError> {
+    let mut list = made?;
+    let copy = list.try_clone()?;
+    let was_same = copy.is_same(&list) && has(&list, items);
+    list.push(alloc, 80)?;
+    let is_pushed = list.get(items.len()).copied() == Some(80);
+    Ok(was_same && is_pushed && has(&copy, items) && !copy.is_same(&list))
+}
+
+#[test]
+fn a_short_list_keeps_its_items(rt: HostRuntime) -> Result<(), Fail> {
+    let alloc = rt.alloc();
+    for items in &LISTS {
+        let whole = keeps(alloc, ShortList::from_slice(alloc, items), items);
+        let grown = keeps(alloc, filled(alloc, Ok(ShortList::new()), items), items);
+        let room = ShortList::with_capacity(alloc, items.len());
+        let into_room = keeps(alloc, filled(alloc, room, items), items);
+        assert!(rt; whole? && grown? && into_room?, "{items:?}");
+    }
+    Ok(())
+}
+
+// A list that has room for more than three lies outside from the first item on.
+#[test]
+fn short_lists_of_the_same_items_are_alike(rt: HostRuntime) -> Result<(), Fail> {
+    let alloc = rt.alloc();
+    for items in &LISTS {
+        let whole = ShortList::from_slice(alloc, items);
+        let outside = filled(alloc, ShortList::with_capacity(alloc, 4), items);
+        assert!(rt; same::alike(whole, outside)?, "{items:?}");
+    }
+    Ok(())
+}
+
+fn differ(alloc: Global, one: &[u32], second: &[u32]) -> Result<bool, AllocError> {
+    let one = ShortList::from_slice(alloc, one)?;
+    let second = ShortList::from_slice(alloc, second)?;
+    Ok(!(one == second) && !one.is_same(&second))
+}
+
+const APART: [(&[u32], &[u32]); 5] = [
+    (&[], &[7]),
+    (&[7, 8], &[8, 7]),
+    (&[7, 8, 9], &[7, 8, 80]),
+    (&[7, 8, 9], &[7, 8, 9, 10]),
+    (&[7, 8, 9, 10], &[7, 8, 10, 9]),
+];
+
+#[test]
+fn short_lists_of_other_items_differ(rt: HostRuntime) -> Result<(), Fail> {
+    for (one, second) in &APART {
+        let differ = differ(rt.alloc(), one, second);
+        assert!(rt; differ?, "{one:?}");
+    }
+    Ok(())
+}
+
+// Nothing here takes memory, so that the test passes too where the first growth is refused.
+#[test]
+fn three_ids_lie_in_16_bytes(rt: HostRuntime) -> Result<(), Fail> {
+    assert!(rt; size_of::<ShortList<Idx<Name>>>() == 16);
+    let alloc = rt.alloc();
+    let room = ShortList::with_capacity(alloc, 3);
+    let grown = keeps(alloc, filled(alloc, room, &[7, 8]), &[7, 8]);
+    let whole = same::copies(&ShortList::from_slice(alloc, &[7u32, 8, 9])?);
+    assert!(rt; grown? && whole?);
     Ok(())
 }
 
