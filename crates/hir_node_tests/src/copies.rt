@@ -12,7 +12,7 @@ use hir_node::{
 };
 use std::alloc::{AllocError, Global};
 use std::hash::{DefaultHasher, Hash, Hasher};
-use std::mem::drop;
+use std::mem::{drop, size_of};
 use std::test::Fail;
 
 // Whether a copy of the value is the same as it, and as the second one when the value is gone.
@@ -303,5 +303,13 @@ fn values_that_are_made_alike_hash_alike(rt: HostRuntime) -> Result<(), Fail> {
         hash_alike(lifetimes(alloc), lifetimes(alloc)),
     ];
     assert!(rt; build::all(&answers)?);
+    Ok(())
+}
+
+// A store has a million of them: what makes one larger is paid by all.
+#[test]
+fn nodes_keep_their_sizes(rt: HostRuntime) -> Result<(), Fail> {
+    assert!(rt; size_of::<Expr>() == 64 && size_of::<Pat>() == 48);
+    assert!(rt; size_of::<TypeRef>() == 48 && size_of::<Binding>() == 32);
     Ok(())
 }
