@@ -1,5 +1,5 @@
 -- Going down from kid to kid and climbing from child to parent lead between the same nodes.
-use Rattle.std.proofs.Common.{◌≡◌, ℕ, zero, suc, ◌+◌, ◌-◌, ◌<◌, ◌≤◌, ◌⊎◌, ◌↔◌, Bool, true, false, not, List, [], None, inl, inr, ⊎_elim, refl, ap, sym, ◌∙◌, subst, arith, length, map, get_or, set, Contains}
+use Rattle.std.proofs.Common.{◌≡◌, ℕ, zero, suc, ◌+◌, ◌-◌, ◌<◌, ◌≤◌, ◌⊎◌, ◌↔◌, Bool, true, false, not, List, [], Option, None, inl, inr, ⊎_elim, refl, ap, sym, ◌∙◌, subst, arith, length, map, get_or, set, Contains}
 use Rattle.std.specs.Prelude.{IsTrue}
 use Rattle.std.specs.List.{list_all}
 use Rattle.std.proofs.lemmas.Bool.{cases_lt, false≢true, not-true}
@@ -16,7 +16,7 @@ use Rattle.hir_node.specs.declared.node_id.NodeId.{NodeId}
 use Rattle.hir_node.specs.declared.node_id.NodeId.TheVariants as node
 use Rattle.hir_faults.specs.declared.sizes.Sizes.{Sizes}
 use Rattle.hir_faults.specs.Sizes.{HasNode, place}
-use Rattle.hir_faults.specs.Unmarked.{are_unmarked}
+use Rattle.hir_forest.specs.Parents.{HasParent, HasParents}
 use Rattle.hir_faults.specs.Nodes.{Nodes, sizes_of, Has, kids_of, graph}
 use Rattle.hir_faults.specs.Faults.{Rooted, rooted_fault}
 use Rattle.hir_faults.specs.Down.{KidsFall}
@@ -85,34 +85,31 @@ pub under_more : (s : Nodes) (n k : NodeId) {r : NodeId} → Under s k r → Con
 under_more s n k itself c = below c itself
 under_more s n k (below d u) c = below d (under_more s n k u c)
 
-unmarked_from : (mark : Bool) → (mark ≡ true → ⊥) → not mark ≡ true
-unmarked_from true none = absurd (none refl)
-unmarked_from false none = refl
+-- the nodes that an edge of the graph leads between
+edge_told : (s : Nodes) (p c : ℕ) → IsKid (graph s) p c → (m n : NodeId) × Has s m × Contains (kids_of s m) n × (place (sizes_of s) n ≡ c)
+edge_told s p c kid =
+    let lt = parent_in (graph s) p c kid in
+    let m = node_here (sizes_of s) p (omega (arith, graph-length s)) in
+    let row : get_or (graph s) p [] ≡ map (place (sizes_of s)) (kids_of s m.0) =
+    subst (λ (q : ℕ). get_or (graph s) q [] ≡ map (place (sizes_of s)) (kids_of s m.0)) m.2 (row_at_place s m.0 m.1) in
+    let k : Contains (map (place (sizes_of s)) (kids_of s m.0)) c = subst (λ (r : List ℕ). Contains r c) row kid in
+    let lk : k.0 < length (kids_of s m.0) = omega (arith, k.1, length-map (kids_of s m.0) (place (sizes_of s))) in
+    (m.0, get_or (kids_of s m.0) k.0 m.0, m.1, Contains-get_or (kids_of s m.0) k.0 m.0 lk, sym (get_or-map (place (sizes_of s)) (kids_of s m.0) k.0 m.0 c lk) ∙ k.2)
 
--- no place of a kid has a mark exactly where no kid is in the set
-no_kid_right : (s : Nodes) (marks : List Bool)
-    → (list_all (are_unmarked marks) (graph s) ≡ true) ↔ ((m n : NodeId) → Has s m → Contains (kids_of s m) n → Marks marks (place (sizes_of s) n) → ⊥)
-no_kid_right s marks = (
-  λ e m n h k i.
-      let kid = kid_in_graph s m n h k in
-      let row = AllPass-from_list_all (are_unmarked marks) (graph s) e (place (sizes_of s) m) [] (let w = place_within (sizes_of s) m h in omega (arith, graph-length s)) in
-      let at = AllPass-from_list_all (λ q. not (get_or marks q false)) (get_or (graph s) (place (sizes_of s) m) []) row kid.0 (place (sizes_of s) n) kid.1 in
-      let here : not (get_or marks (place (sizes_of s) n) false) ≡ true = subst (λ (q : ℕ). not (get_or marks q false) ≡ true) kid.2 at in
-      false≢true (sym (not-true _ here) ∙ i),
-  λ no. list_all-from_AllPass (are_unmarked marks) (graph s) (λ p d lt.
-      let m = node_here (sizes_of s) p (omega (arith, graph-length s)) in
-      let row : get_or (graph s) p d ≡ map (place (sizes_of s)) (kids_of s m.0) =
-      get_or_default (graph s) p d [] lt ∙ subst (λ (q : ℕ). get_or (graph s) q [] ≡ map (place (sizes_of s)) (kids_of s m.0)) m.2 (row_at_place s m.0 m.1) in
-      subst (λ (r : List ℕ). are_unmarked marks r ≡ true) (sym row) (list_all-from_AllPass (λ q. not (get_or marks q false)) (map (place (sizes_of s)) (kids_of s m.0)) (λ j d l.
-      let lk : j < length (kids_of s m.0) = omega (arith, length-map (kids_of s m.0) (place (sizes_of s))) in
-      let k = get_or (kids_of s m.0) j m.0 in
-      let is : get_or (map (place (sizes_of s)) (kids_of s m.0)) j d ≡ place (sizes_of s) k = get_or-map (place (sizes_of s)) (kids_of s m.0) j m.0 d lk in
-      subst (λ (q : ℕ). not (get_or marks q false) ≡ true) (sym is) (unmarked_from (get_or marks (place (sizes_of s) k) false) (no m.0 k m.1 (Contains-get_or (kids_of s m.0) j m.0 lk)))))),
+-- no marked place has a parent exactly where no place of a kid has a mark
+no_kid_right : (s : Nodes) (marks : List Bool) (parents : List (Option ℕ)) → HasParents (graph s) parents
+    → ((c p : ℕ) → Marks marks c → HasParent parents c p → ⊥) ↔ ((m n : NodeId) → Has s m → Contains (kids_of s m) n → Marks marks (place (sizes_of s) n) → ⊥)
+no_kid_right s marks parents known = (
+  λ none m n h k i. none (place (sizes_of s) n) (place (sizes_of s) m) i ((known.kids (place (sizes_of s) n) (place (sizes_of s) m)).1 (kid_in_graph s m n h k)),
+  λ no c p i has. let e = edge_told s p c ((known.kids c p).0 has) in no e.0 e.1 e.2 e.3 (subst (Marks marks) (sym e.4) i),
 )
 
 -- the answer of the test
-pub no_kid_told : (s : Nodes) (set : Marked) (marks : List Bool) (none : Bool) → marks ≡ set.marks → set.sizes ≡ sizes_of s → none ≡ list_all (are_unmarked marks) (graph s) → IsTrue none ↔ NoKidIn s set
-no_kid_told s set marks none same sizes is = rw (is, same, sizes) (no_kid_right s set.marks)
+pub no_kid_told : (s : Nodes) (set : Marked) (marks : List Bool) (parents : List (Option ℕ)) (none : Bool) → marks ≡ set.marks → set.sizes ≡ sizes_of s → HasParents (graph s) parents
+    → IsTrue none ↔ ((c p : ℕ) → Marks marks c → HasParent parents c p → ⊥) → IsTrue none ↔ NoKidIn s set
+no_kid_told s set marks parents none same sizes known is =
+    let right : ((c p : ℕ) → Marks marks c → HasParent parents c p → ⊥) ↔ NoKidIn s set = rw (same, sizes) (no_kid_right s set.marks parents known) in
+    (λ t. right.0 (is.0 t), λ no. is.1 (right.1 no))
 
 module _ (c : Rooted) (sound : rooted_fault c None) where
   abbrev s : Nodes

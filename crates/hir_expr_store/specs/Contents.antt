@@ -1,8 +1,9 @@
 -- What a store holds.
-use Rattle.std.specs.Prelude.{List, [], Option}
+use Rattle.std.specs.Prelude.{List, [], Option, None}
 use Rattle.hir_forest.specs.declared.roots.Root.{Root}
 use Rattle.hir_faults.specs.declared.fault.FinishFault.{FinishFault}
-use Rattle.hir_faults.specs.Nodes.{Nodes}
+use Rattle.hir_forest.specs.Parents.{Parentage, HasParents}
+use Rattle.hir_faults.specs.Nodes.{Nodes, graph}
 use Rattle.hir_faults.specs.Faults.{Rooted, rooted_fault}
 use Rattle.hir_expr_store.specs.declared.side_tables.SideTables.{SideTables}
 use Rattle.hir_expr_store.specs.SideTables.{no_side_tables}
@@ -27,3 +28,8 @@ rooted_of c = record { nodes = c.nodes; roots = c.roots }
 -- the first fault: the side tables have none
 abbrev pub contents_fault : Contents → Option FinishFault → Type 0
 contents_fault c = rooted_fault (rooted_of c)
+
+-- the contents have no fault, and these are the parents of the nodes, by their places in the row
+pub record IsStore (c : Contents) (parents : Parentage) : Type 0 where
+  pub sound : contents_fault c None
+  pub parents : HasParents (graph c.nodes) parents.parents

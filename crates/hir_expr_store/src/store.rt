@@ -14,7 +14,7 @@ use crate::side_tables::SideTables;
 use crate::store_iter::ExprRoots;
 use hir_base::{Arena, ArenaIter, ExactEq, TryClone};
 use hir_faults::{NodeSlices, Sizes, as_path};
-use hir_forest::{Root, Rows};
+use hir_forest::{Parents, Root, Rows};
 use hir_node::{
     Binding, BindingId, BindingKind, Expr, ExprId, ExprKind, Label, LabelId, LabelKind,
     LifetimeRef, LifetimeRefId, LifetimeRefKind, Pat, PatId, PatKind, Path, PathId, TypeBound,
@@ -25,8 +25,7 @@ use std::marker::Model;
 use std::ops::Index;
 
 /// Expressions, patterns, types and what they name, with the roots. They have no fault: each id that a node names is there, and the
-/// nodes are a forest. `ExpressionStoreBuilder::finish` makes it.
-#[derive(PartialEq, Eq)]
+/// nodes are a forest. `ExpressionStoreBuilder::finish` makes it. The parent of each node, which `finish` has to find, is kept.
 pub struct ExpressionStore {
     exprs: Arena<ExprKind, Expr>,
     pats: Arena<PatKind, Pat>,
@@ -36,6 +35,7 @@ pub struct ExpressionStore {
     lifetimes: Arena<LifetimeRefKind, LifetimeRef>,
     roots: RootList,
     side_tables: SideTables,
+    parents: Parents,
 }
 
 /// Drops its parts one after the other. It is here so that it is proved once, and is a call wherever a value is dropped.
@@ -50,13 +50,14 @@ impl Drop for ExpressionStore {
             lifetimes,
             roots,
             side_tables,
+            parents,
         } = self;
     }
 }
 
 impl Model for ExpressionStore {
     ghost use Rattle.std.specs.Prelude.{None};
-    ghost use Rattle.hir_expr_store.specs.Contents.{Contents, contents_fault};
+    ghost use Rattle.hir_expr_store.specs.Contents.{Contents, IsStore};
 
     ghost Value = { Contents };
 
@@ -79,18 +80,7 @@ impl Model for ExpressionStore {
       side_tables = s.side_tables;
     } };
 
-    ghost inverse = { λ c. record {
-      exprs = c.nodes.exprs;
-      pats = c.nodes.pats;
-      types = c.nodes.types;
-      bindings = c.nodes.bindings;
-      labels = c.nodes.labels;
-      lifetimes = c.nodes.lifetimes;
-      roots = c.roots;
-      side_tables = c.side_tables;
-    } };
-
-    ghost invariant = { λ s. contents_fault record {
+    ghost invariant = { λ s. IsStore record {
       nodes = record {
         exprs = s.exprs;
         pats = s.pats;
@@ -101,10 +91,10 @@ impl Model for ExpressionStore {
       };
       roots = s.roots;
       side_tables = s.side_tables;
-    } None };
+    } s.parents };
 }
 
-/// The parts of a store: the nodes and what they name, the roots, and the side tables.
+/// The parts of a store: the nodes and what they name, the roots, the side tables, and the parents of the nodes.
 #[derive(Drop)]
 pub struct StoreParts {
     pub exprs: Arena<ExprKind, Expr>,
@@ -115,19 +105,21 @@ pub struct StoreParts {
     pub lifetimes: Arena<LifetimeRefKind, LifetimeRef>,
     pub roots: RootList,
     pub side_tables: SideTables,
+    pub parents: Parents,
 }
 
 impl ExpressionStore {
-    ghost use Rattle.hir_expr_store.specs.Contents.{no_contents, contents_fault};
+    ghost use Rattle.hir_expr_store.specs.Contents.{no_contents, contents_fault, IsStore};
     ghost use Rattle.hir_faults.specs.Faults.{nodes_in};
     ghost use Rattle.hir_faults.specs.Nodes.{graph, sizes_of};
     ghost use Rattle.hir_faults.specs.Sizes.{Few};
-    ghost use Rattle.hir_faults.specs.Unmarked.{are_unmarked};
+    ghost use Rattle.hir_forest.specs.Parents.{HasParents};
     ghost use Rattle.hir_expr_store.specs.StoreParts.{contents_of_parts};
 
-    /// A store of these parts. A caller has to prove that they have no fault: a builder tests it once.
+    /// A store of these parts. A caller has to prove that they have no fault, and that the parents are theirs: a builder tests the nodes
+    /// once.
     pub fn new(parts: StoreParts) -> ExpressionStore
-        requires { contents_fault (contents_of_parts parts) None }
+        requires { IsStore (contents_of_parts parts) parts.parents }
         ensures { result ≡ contents_of_parts parts }
     {
         let StoreParts {
@@ -139,6 +131,7 @@ impl ExpressionStore {
             lifetimes,
             roots,
             side_tables,
+            parents,
         } = parts;
         ExpressionStore {
             exprs,
@@ -149,6 +142,7 @@ impl ExpressionStore {
             lifetimes,
             roots,
             side_tables,
+            parents,
         }
     }
 
@@ -165,6 +159,7 @@ impl ExpressionStore {
             lifetimes: Arena::new(alloc),
             roots: RootList::new(alloc),
             side_tables: SideTables::new(alloc),
+            parents: Parents::none(alloc),
         }
     }
 
@@ -219,11 +214,11 @@ impl ExpressionStore {
         self.nodes().rows(alloc)
     }
 
-    /// Whether no kid of a node has a mark at its place in the row.
-    pub(crate) fn no_kid_is_marked(&self, marks: &[bool]) -> bool
-        ensures { result ≡ list_all (are_unmarked marks.now) (graph self.now.nodes) }
+    /// The parents of the nodes, by their places in the row.
+    pub(crate) fn parents(&self) -> &Parents
+        ensures { HasParents (graph self.now.nodes) result.now.parents }
     {
-        self.nodes().no_kid_is_marked(marks)
+        &self.parents
     }
 
     /// Whether there is an expression of this id.
@@ -445,8 +440,9 @@ impl Clone for ExpressionStore {
         let copy = both(copy, self.labels.try_clone())?;
         let copy = both(copy, self.lifetimes.try_clone())?;
         let copy = both(copy, self.roots.try_clone())?;
-        let (copy, side_tables) = both(copy, self.side_tables.try_clone())?;
-        let ((((((exprs, pats), types), bindings), labels), lifetimes), roots) = copy;
+        let copy = both(copy, self.side_tables.try_clone())?;
+        let (copy, parents) = both(copy, self.parents.clone())?;
+        let (((((((exprs, pats), types), bindings), labels), lifetimes), roots), side_tables) = copy;
         Ok(ExpressionStore {
             exprs,
             pats,
@@ -456,8 +452,35 @@ impl Clone for ExpressionStore {
             lifetimes,
             roots,
             side_tables,
+            parents,
         })
     }
+}
+
+/// Stores are equal where all that they hold is; the parents of the nodes follow from these.
+impl PartialEq for ExpressionStore {
+    ghost use Rattle.hir_expr_store.specs.same.SameStores.{same_stores, stores_per};
+
+    ghost eq = { same_stores };
+
+    ghost laws = { stores_per };
+
+    fn eq(&self, other: &ExpressionStore) -> bool {
+        self.exprs == other.exprs
+            && self.pats == other.pats
+            && self.types == other.types
+            && self.bindings == other.bindings
+            && self.labels == other.labels
+            && self.lifetimes == other.lifetimes
+            && self.roots == other.roots
+            && self.side_tables == other.side_tables
+    }
+}
+
+impl Eq for ExpressionStore {
+    ghost use Rattle.hir_expr_store.specs.same.SameStores.{stores_equiv};
+
+    ghost laws = { stores_equiv };
 }
 
 impl ExactEq for ExpressionStore {

@@ -85,13 +85,13 @@ impl ExpressionStore {
 
     /// Whether no kid of a node is in the set, which is of nodes of this store. Then no node in it lies under another node.
     ///
-    /// It takes time in the number of nodes and edges, and no memory.
+    /// It takes a look at each mark, and no memory: the parents of nodes are kept.
     pub fn no_kid_is_in(&self, set: &NodeSet) -> bool
         requires { set.now.sizes ≡ sizes_of self.now.nodes }
         ensures { IsTrue result ↔ NoKidIn self.now.nodes set.now }
     {
         self.has_no_fault();
-        self.no_kid_is_marked(set.marks.as_slice())
+        self.parents().marked_have_none(set.marks.as_slice())
     }
 
     /// The nodes that lie properly under one of these, which are nodes of this store.

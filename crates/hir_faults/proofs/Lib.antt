@@ -8,4 +8,3 @@ pub mod DownLemmas
 pub mod PathFits
 pub mod FirstFaultLemmas
 pub mod FitsLemmas
-pub mod UnmarkedLemmas

@@ -5,7 +5,6 @@ pub mod Nodes
 pub mod Faults
 pub mod Ranges
 pub mod Pushes
-pub mod Unmarked
 pub mod Edges
 pub mod Fits
 pub mod Down

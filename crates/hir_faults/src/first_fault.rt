@@ -1,10 +1,10 @@
 //! The first fault of nodes with their roots.
 
-ghost use Rattle.std.specs.Prelude.{◌≡◌, ◌+◌, ◌<◌, ◌≤◌, [], ◌∷◌, nat_lt, true, None, length, map, IfNone, IfOk, IsTrue};
+ghost use Rattle.std.specs.Prelude.{◌≡◌, ◌+◌, ◌<◌, ◌≤◌, [], ◌∷◌, nat_lt, ◌⊎◌, true, None, Some, length, map, IfNone, IfOk, IfErr, IsTrue};
 ghost use Rattle.std.specs.Option.{option_to_list};
 ghost use Rattle.std.specs.List.{list_all};
 ghost use Rattle.hir_forest.specs.Faults.{IsWithin};
-ghost use Rattle.hir_forest.specs.Parents.{IsParentageOf};
+ghost use Rattle.hir_forest.specs.Parents.{HasParents, IsParentageOf};
 ghost use Rattle.hir_faults.specs.Faults.{nodes_in, node_fault, first_of, first_bad_node, told, graph_fault, rooted_fault};
 ghost use Rattle.hir_faults.specs.Nodes.{sizes_of, graph};
 ghost use Rattle.hir_faults.specs.Edges.{CanVisit, Visited, all_tested};
@@ -183,7 +183,8 @@ fn first_graph_fault(
     requires nodes { first_bad_node (nodes_in nodes.now) None }
     requires parents { IsParentageOf (graph (nodes_in nodes.now)) parents.now }
     requires rows { parents.now.rows ≡ length parents.now.parents }
-    ensures { IfOk result (graph_fault record { nodes = nodes_in nodes.now; roots = roots.now }) }
+    ensures fault { IfOk result (graph_fault record { nodes = nodes_in nodes.now; roots = roots.now }) }
+    ensures parents { IfOk result (λ fault. IfNone fault (HasParents (graph (nodes_in nodes.now)) parents.now.parents)) }
 {
     match parents.first_fault(alloc, nodes.ends(), roots)? {
         Some(fault) => Ok(Some(tell(nodes.sizes(), roots.len(), fault))),
@@ -191,26 +192,37 @@ fn first_graph_fault(
     }
 }
 
-/// The first fault of the nodes with these roots: of a node, then of the graph, then of a root. `None` where there is none.
+/// The parents of the nodes, if these have no fault with these roots. Else the first fault: of a node, then of the graph, then of a root;
+/// or `Memory`.
 ///
 /// It takes time in the number of nodes, edges and roots. It recurses only into associated type bindings that are nested in one path.
-/// It fails only when memory for its tables is refused.
-pub fn first_fault_of(
+/// It answers `Memory` only where memory for its tables is refused.
+pub fn tested_parents(
     alloc: Global,
     nodes: &NodeSlices<'_>,
     roots: &[Root],
-) -> Result<Option<FinishFault>, AllocError>
+) -> Result<Parents, FinishFault>
     requires { Few (sizes_of (nodes_in nodes.now)) }
-    ensures { IfOk result (rooted_fault record { nodes = nodes_in nodes.now; roots = roots.now }) }
+    ensures ok { IfOk result (λ parents. rooted_fault record { nodes = nodes_in nodes.now; roots = roots.now } None
+        × HasParents (graph (nodes_in nodes.now)) parents.parents) }
+    ensures err { IfErr result (λ fault. fault ≡ FinishFault.Memory
+        ⊎ rooted_fault record { nodes = nodes_in nodes.now; roots = roots.now } (Some fault)) }
 {
     let sizes = nodes.sizes();
+    let Ok(parents) = Parents::new(alloc, sizes.exprs + sizes.pats + sizes.types) else {
+        return Err(FinishFault::Memory);
+    };
     let mut visitor = EdgeVisitor {
         sizes,
-        parents: Parents::new(alloc, sizes.exprs + sizes.pats + sizes.types)?,
+        parents,
         all_there: true,
     };
     if let Some(fault) = first_bad_node(nodes, &mut visitor) {
-        return Ok(Some(fault));
+        return Err(fault);
     }
-    first_graph_fault(alloc, nodes, &visitor.parents, roots)
+    match first_graph_fault(alloc, nodes, &visitor.parents, roots) {
+        Ok(None) => Ok(visitor.parents),
+        Ok(Some(fault)) => Err(fault),
+        Err(_) => Err(FinishFault::Memory),
+    }
 }

@@ -11,10 +11,9 @@ mod range;
 mod rows;
 mod sizes;
 mod tested;
-mod unmarked;
 
 pub use fault::FinishFault;
-pub use first_fault::first_fault_of;
+pub use first_fault::tested_parents;
 pub use held::as_path;
 pub use nodes::NodeSlices;
 pub use sizes::Sizes;

@@ -8,13 +8,11 @@ ghost use Rattle.hir_faults.specs.Nodes.{sizes_of, graph};
 ghost use Rattle.hir_faults.specs.Tested.{bound_paths, is_path_at};
 ghost use Rattle.hir_faults.specs.Fits.{path_fits};
 ghost use Rattle.hir_faults.specs.Sizes.{Few, is_there};
-ghost use Rattle.hir_faults.specs.Unmarked.{are_unmarked};
 
 use crate::held::{bound_names_path, is_path, one_list_each, path_gives_self, path_names_paths};
 use crate::range::{bound_there, path_there};
 use crate::rows::rows_of;
 use crate::sizes::Sizes;
-use crate::unmarked::no_kid_is_marked;
 use hir_forest::{Ends, Rows};
 use hir_node::{Binding, Expr, Label, LifetimeRef, Pat, Path, PathId, TypeBound, TypeRef};
 use std::alloc::{AllocError, Global};
@@ -65,16 +63,6 @@ impl NodeSlices<'_> {
         ensures { IfOk result (λ rows. rows ≡ graph (nodes_in self.now)) }
     {
         rows_of(alloc, self.sizes(), self.exprs, self.pats, self.types)
-    }
-
-    /// Whether no kid of a node has a mark at its place in the row.
-    ///
-    /// It takes time in the number of nodes and edges, and no memory.
-    pub fn no_kid_is_marked(&self, marks: &[bool]) -> bool
-        requires { Few (sizes_of (nodes_in self.now)) }
-        ensures { result ≡ list_all (are_unmarked marks.now) (graph (nodes_in self.now)) }
-    {
-        no_kid_is_marked(self.sizes(), self.exprs, self.pats, self.types, marks)
     }
 
     /// Whether the type of this id is there and is a path.

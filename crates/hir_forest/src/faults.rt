@@ -1,7 +1,7 @@
 //! The first fault of a graph and its roots: shared children show while the parents are noted, cycles and roots by climbing from parent
 //! to parent.
 
-ghost use Rattle.std.specs.Prelude.{◌≡◌, ℕ, ◌<◌, ◌≤◌, ◌↔◌, List, [], length, IfOk, Contains, All};
+ghost use Rattle.std.specs.Prelude.{◌≡◌, ℕ, ◌<◌, ◌≤◌, ◌↔◌, List, [], length, IfNone, IfOk, Contains, All};
 ghost use Rattle.std.specs.List.{concat};
 ghost use Rattle.hir_forest.specs.Verdict.{◌before◌, first_below};
 ghost use Rattle.hir_forest.specs.Forest.{ChainEnds, Marks, MarksAll};
@@ -115,8 +115,10 @@ impl Parents {
     ) -> Result<Option<ForestFault>, AllocError>
         requires exprs { lengths.exprs ≤ length self.now.parents }
         requires rows { self.now.rows ≡ length self.now.parents }
-        ensures { IfOk result (λ fault. (g : List (List ℕ)) → IsParentageOf g self.now
+        ensures fault { IfOk result (λ fault. (g : List (List ℕ)) → IsParentageOf g self.now
             → forest_fault g lengths roots.now fault) }
+        ensures parents { IfOk result (λ fault. IfNone fault ((g : List (List ℕ)) → IsParentageOf g self.now
+            → HasParents g self.now.parents)) }
     {
         match self.shared {
             Some(child) => Ok(Some(ForestFault::SharedChild(child))),

@@ -1,13 +1,13 @@
 //! The parent of each node of a graph, in 32 bits a node where there are few enough of them.
 
-ghost use Rattle.std.specs.Prelude.{◌≡◌, ◌<◌, None, Some, length, replicate, IfOk, IfSome, slice_index_or, set};
+ghost use Rattle.std.specs.Prelude.{◌≡◌, ◌<◌, [], None, Some, length, replicate, IfOk, IfSome, slice_index_or, set};
 ghost use Rattle.hir_forest.specs.Parents.{parent_of};
 
 use std::alloc::{AllocError, Global};
 use std::marker::Model;
 
 /// A number for each node: 0 where it has no parent, else one more than its parent.
-#[derive(Drop)]
+#[derive(Drop, Clone)]
 enum Numbers {
     Narrow(Vec<u32>),
     Wide(Vec<usize>),
@@ -45,6 +45,15 @@ impl ParentTable {
         })
     }
 
+    /// The table of no nodes. It takes no memory.
+    pub(crate) fn empty(alloc: Global) -> ParentTable
+        ensures { result ≡ [] }
+    {
+        ParentTable {
+            numbers: Numbers::Narrow(Vec::new(alloc)),
+        }
+    }
+
     /// The number of nodes.
     pub(crate) fn len(&self) -> usize
         ensures { result ≡ length self.now }
@@ -77,6 +86,16 @@ impl ParentTable {
             Numbers::Narrow(numbers) => numbers[node] = (parent + 1) as u32,
             Numbers::Wide(numbers) => numbers[node] = parent + 1,
         }
+    }
+}
+
+impl Clone for ParentTable {
+    ghost is_clone = { λ table copy. copy ≡ table };
+
+    fn clone(&self) -> Result<ParentTable, AllocError> {
+        Ok(ParentTable {
+            numbers: self.numbers.clone()?,
+        })
     }
 }
 

@@ -1,10 +1,11 @@
 //! The parents of a graph's nodes, noted edge by edge: the first child that is shared shows at once, and no kids are kept.
 //! Rows are begun one after the other, and kids added to the last, as in the table of rows.
 
-ghost use Rattle.std.specs.Prelude.{◌≡◌, ℕ, ◌+◌, ◌<◌, List, [], ◌∷◌, ◌++◌, length, All, IfOk};
+ghost use Rattle.std.specs.Prelude.{◌≡◌, ℕ, ◌+◌, ◌<◌, ◌^◌, ◌↔◌, List, [], ◌∷◌, ◌++◌, None, length, All, IfOk, IsTrue};
 ghost use Rattle.std.specs.List.{concat};
 ghost use Rattle.hir_forest.specs.Rows.{with_kids};
-ghost use Rattle.hir_forest.specs.Parents.{IsParentageOf};
+ghost use Rattle.hir_forest.specs.Forest.{Marks};
+ghost use Rattle.hir_forest.specs.Parents.{HasParent, IsParentageOf};
 
 use crate::Rows;
 use crate::parent_table::ParentTable;
@@ -39,11 +40,27 @@ impl Parents {
         ensures none { IfOk result (λ parents. IsParentageOf [] parents) }
         ensures room { IfOk result (λ parents. length parents.parents ≡ nodes) }
     {
-        Ok(Parents {
-            table: ParentTable::new(alloc, nodes)?,
+        Ok(Parents::of(ParentTable::new(alloc, nodes)?))
+    }
+
+    /// The parents of no nodes. It takes no memory.
+    pub fn none(alloc: Global) -> Parents
+        ensures none { IsParentageOf [] result }
+        ensures room { result.parents ≡ [] }
+    {
+        Parents::of(ParentTable::empty(alloc))
+    }
+
+    /// These parents, before the first row.
+    fn of(table: ParentTable) -> Parents
+        requires { length table < 2 ^ 64 }
+        ensures { result ≡ record { rows = 0; parents = table; shared = None } }
+    {
+        Parents {
+            table,
             rows: 0,
             shared: None,
-        })
+        }
     }
 
     /// Begins the row of the next node, which must be one of those that there is room for.
@@ -70,6 +87,31 @@ impl Parents {
             return;
         }
         self.table.set_parent(kid, self.rows - 1);
+    }
+
+    /// Whether no marked node has a parent. There must be a mark for each node.
+    pub fn marked_have_none(&self, marks: &[bool]) -> bool
+        requires { length marks.now ≡ length self.now.parents }
+        ensures { IsTrue result ↔ ((c p : ℕ) → Marks marks.now c → HasParent self.now.parents c p → ⊥) }
+    {
+        for (node, marked) in marks.iter().enumerate() {
+            if *marked && self.table.parent(node).is_some() {
+                return false;
+            }
+        }
+        true
+    }
+}
+
+impl Clone for Parents {
+    ghost is_clone = { λ parents copy. copy ≡ parents };
+
+    fn clone(&self) -> Result<Parents, AllocError> {
+        Ok(Parents {
+            table: self.table.clone()?,
+            rows: self.rows,
+            shared: self.shared,
+        })
     }
 }
 

@@ -6,13 +6,14 @@ ghost use Rattle.hir_path.specs.Keys.{expr_or_pat_code};
 ghost use Rattle.hir_source.specs.Additions.{finished};
 ghost use Rattle.hir_store.specs.Building.{nodes_of, building_of, empty_builder, contents_of, has_exprs, kept_side_tables, roots_or_none, finish_fault, and_root, some_roots};
 ghost use Rattle.hir_faults.specs.Faults.{nodes_in};
-ghost use Rattle.hir_faults.specs.Nodes.{sizes_of};
+ghost use Rattle.hir_faults.specs.Nodes.{graph, sizes_of};
+ghost use Rattle.hir_forest.specs.Parents.{HasParents};
 ghost use Rattle.hir_faults.specs.Sizes.{Few};
 
 use hir_base::{Arena, ArenaFault, BlockId, HygieneId, MOST_ITEMS, Seq, Table};
 use hir_expr_store::{ExpressionStore, RootList, SideTables, StoreParts};
 use hir_faults::{FinishFault, NodeSlices};
-use hir_forest::Root;
+use hir_forest::{Parents, Root};
 use hir_node::{
     Binding, BindingId, BindingKind, Expr, ExprId, ExprKind, ExprOrPatId, Label, LabelId,
     LabelKind, LifetimeRef, LifetimeRefId, LifetimeRefKind, Pat, PatId, PatKind, TypeRef,
@@ -258,9 +259,10 @@ impl ExpressionStoreBuilder {
             || !self.bindings.is_empty()
     }
 
-    /// The store and the source map of a builder without a fault.
-    pub(crate) fn accepted(self) -> (ExpressionStore, ExpressionStoreSourceMap)
-        requires { finish_fault (building_of self) None }
+    /// The store and the source map of a builder without a fault, whose nodes have these parents.
+    pub(crate) fn accepted(self, parents: Parents) -> (ExpressionStore, ExpressionStoreSourceMap)
+        requires sound { finish_fault (building_of self) None }
+        requires parents { HasParents (graph (nodes_of self)) parents.parents }
         ensures store { result.0 ≡ contents_of (building_of self) }
         ensures source_map { result.1 ≡ finished (has_exprs (nodes_of self)) self.source_map }
     {
@@ -293,6 +295,7 @@ impl ExpressionStoreBuilder {
             lifetimes,
             roots: roots_or_empty(alloc, roots),
             side_tables: kept_side_tables(alloc, keeps_exprs, side_tables),
+            parents,
         });
         (store, source_map.finish(keeps_exprs))
     }

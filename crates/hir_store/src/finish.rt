@@ -1,15 +1,16 @@
 //! The first fault of a builder, and the store where there is none.
 
 ghost use Rattle.std.specs.Prelude.{◌≡◌, ◌⊎◌, ◌↔◌, IsTrue, IfOk, IfErr, None, Some};
+ghost use Rattle.hir_forest.specs.Parents.{HasParents};
+ghost use Rattle.hir_faults.specs.Nodes.{graph};
 ghost use Rattle.hir_source.specs.Additions.{finished};
 ghost use Rattle.hir_store.specs.Building.{nodes_of, building_of, contents_of, roots_or_none, HasRoots, has_exprs, finish_fault};
 
 use crate::builder::{ExpressionStoreBuilder, Refused};
 use hir_expr_store::ExpressionStore;
-use hir_faults::{FinishFault, first_fault_of};
-use hir_forest::Root;
+use hir_faults::{FinishFault, tested_parents};
+use hir_forest::{Parents, Root};
 use hir_source::ExpressionStoreSourceMap;
-use std::alloc::{AllocError, Global};
 
 impl ExpressionStoreBuilder {
     /// Whether a list of roots was begun, or nothing needs one.
@@ -33,14 +34,17 @@ impl ExpressionStoreBuilder {
         }
     }
 
-    /// The first fault.
-    fn first_fault(&self) -> Result<Option<FinishFault>, AllocError>
-        ensures { IfOk result (finish_fault (building_of self.now)) }
+    /// The parents of the nodes, where there is no fault. Else the first fault, or `Memory`.
+    fn tested_parents(&self) -> Result<Parents, FinishFault>
+        ensures ok { IfOk result (λ parents. finish_fault (building_of self.now) None
+            × HasParents (graph (nodes_of self.now)) parents.parents) }
+        ensures err { IfErr result (λ fault. fault ≡ FinishFault.Memory
+            ⊎ finish_fault (building_of self.now) (Some fault)) }
     {
         if !self.has_roots() {
-            return Ok(Some(FinishFault::NoRoots));
+            return Err(FinishFault::NoRoots);
         }
-        first_fault_of(self.alloc, &self.nodes(), self.listed())
+        tested_parents(self.alloc, &self.nodes(), self.listed())
     }
 
     /// The store of the builder's nodes and roots, and its source map, where there is no fault. Else the first fault, or `Memory`
@@ -59,14 +63,12 @@ impl ExpressionStoreBuilder {
         ensures err { IfErr result (λ refused. (refused.builder ≡ self)
             × (refused.fault ≡ FinishFault.Memory ⊎ finish_fault (building_of self) (Some refused.fault))) }
     {
-        let fault = match self.first_fault() {
-            Ok(None) => return Ok(self.accepted()),
-            Ok(Some(fault)) => fault,
-            Err(_) => FinishFault::Memory,
-        };
-        Err(Refused {
-            fault,
-            builder: self,
-        })
+        match self.tested_parents() {
+            Ok(parents) => Ok(self.accepted(parents)),
+            Err(fault) => Err(Refused {
+                fault,
+                builder: self,
+            }),
+        }
     }
 }

@@ -1,6 +1,13 @@
-use Rattle.std.proofs.Common.{◌∙◌, ap}
+use Rattle.std.proofs.Common.{◌∙◌, ap, arith, length, sym}
+use Rattle.hir_faults.proofs.FaultLemmas.{graph-length}
+use Rattle.hir_expr_store.specs.NodeSets.{Marked}
 use Rattle.hir_expr_store.proofs.UnderLemmas.{no_kid_told}
 use Rattle.hir_expr_store.proofs.store.ExpressionStore.no_kid_is_in.Goals as goal
 
+pub marked_have_none-requires : goal.marked_have_none-requires
+marked_have_none-requires c = ?
+
 pub returns : goal.returns
-returns c = no_kid_told c.args.self.now.nodes c.args.set.now c.as_slice.result.now c.no_kid_is_marked.result (c.as_slice.ensures.value ∙ ap (λ t. t.marks) c.set.view_is) c.requires c.no_kid_is_marked.ensures
+returns c =
+    no_kid_told c.args.self.now.nodes c.args.set.now c.as_slice.result.now c.parents.result.now.parents c.marked_have_none.result
+    (c.as_slice.ensures.value ∙ ap (λ (t : Marked). t.marks) c.set.view_is) c.requires c.parents.ensures c.marked_have_none.ensures
