@@ -14,7 +14,7 @@ first_fault-requires-clause-exprs c =
     rw c.ends.ensures (omega (arith, c.requires.parents.rows, c.requires.rows, graph-length s))
 
 found : (c : In_ok-fault) → forest_fault (graph (nodes_in c.args.nodes.now)) (ends_of (nodes_in c.args.nodes.now)) c.args.roots.now c.in_ok-fault.field-0
-found c = rw c.ends.ensures at (c.in_ok-fault.ensures (graph (nodes_in c.args.nodes.now)) c.requires.parents)
+found c = rw c.ends.ensures at (c.in_ok-fault.ensures.fault (graph (nodes_in c.args.nodes.now)) c.requires.parents)
 
 pub tell-requires-clause-within : goal.tell-requires-clause-within
 tell-requires-clause-within c =
@@ -25,9 +25,12 @@ tell-requires-clause-within c =
 abbrev rooted : (c : In_ok-fault) → Rooted
 rooted c = record { nodes = nodes_in c.args.nodes.now; roots = c.args.roots.now }
 
-pub returns-in-Some : goal.returns-in-Some
-returns-in-Some c =
-    rw (c.tell.ensures, c.sizes.ensures) (told_some (rooted (goal.at.returns-in-Some c).In_ok-fault) c.in-Some.fault (rw c.in-Some.is at (found (goal.at.returns-in-Some c).In_ok-fault)))
+pub returns-in-Some-clause-fault : goal.returns-in-Some-clause-fault
+returns-in-Some-clause-fault c =
+    rw (c.tell.ensures, c.sizes.ensures) (told_some (rooted (goal.at.returns-in-Some-clause-fault c).In_ok-fault) c.in-Some.fault (rw c.in-Some.is at (found (goal.at.returns-in-Some-clause-fault c).In_ok-fault)))
 
-pub returns-in-None : goal.returns-in-None
-returns-in-None c = told_none (rooted (goal.at.returns-in-None c).In_ok-fault) (rw c.in-None.is at (found (goal.at.returns-in-None c).In_ok-fault))
+pub returns-in-None-clause-fault : goal.returns-in-None-clause-fault
+returns-in-None-clause-fault c = told_none (rooted (goal.at.returns-in-None-clause-fault c).In_ok-fault) (rw c.in-None.is at (found (goal.at.returns-in-None-clause-fault c).In_ok-fault))
+
+pub returns-in-None-clause-parents : goal.returns-in-None-clause-parents
+returns-in-None-clause-parents c = (rw c.in-None.is at c.in_ok-fault.ensures.parents) (graph (nodes_in c.args.nodes.now)) c.requires.parents
