@@ -94,7 +94,10 @@ edge_told s p c kid =
     subst (λ (q : ℕ). get_or (graph s) q [] ≡ map (place (sizes_of s)) (kids_of s m.0)) m.2 (row_at_place s m.0 m.1) in
     let k : Contains (map (place (sizes_of s)) (kids_of s m.0)) c = subst (λ (r : List ℕ). Contains r c) row kid in
     let lk : k.0 < length (kids_of s m.0) = omega (arith, k.1, length-map (kids_of s m.0) (place (sizes_of s))) in
-    (m.0, get_or (kids_of s m.0) k.0 m.0, m.1, Contains-get_or (kids_of s m.0) k.0 m.0 lk, sym (get_or-map (place (sizes_of s)) (kids_of s m.0) k.0 m.0 c lk) ∙ k.2)
+    let n : NodeId = get_or (kids_of s m.0) k.0 m.0 in
+    let is : get_or (map (place (sizes_of s)) (kids_of s m.0)) k.0 c ≡ place (sizes_of s) n = get_or-map (place (sizes_of s)) (kids_of s m.0) k.0 m.0 c lk in
+    let at : place (sizes_of s) n ≡ c = subst (λ (q : ℕ). q ≡ c) is k.2 in
+    (m.0, n, m.1, Contains-get_or (kids_of s m.0) k.0 m.0 lk, at)
 
 -- no marked place has a parent exactly where no place of a kid has a mark
 no_kid_right : (s : Nodes) (marks : List Bool) (parents : List (Option ℕ)) → HasParents (graph s) parents

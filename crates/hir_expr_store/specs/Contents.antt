@@ -30,6 +30,6 @@ abbrev pub contents_fault : Contents → Option FinishFault → Type 0
 contents_fault c = rooted_fault (rooted_of c)
 
 -- the contents have no fault, and these are the parents of the nodes, by their places in the row
-pub record IsStore (c : Contents) (parents : Parentage) : Type 0 where
+pub record IsStore (c : Contents) (kept : Parentage) : Type 0 where
   pub sound : contents_fault c None
-  pub parents : HasParents (graph c.nodes) parents.parents
+  pub parents : HasParents (graph c.nodes) kept.parents

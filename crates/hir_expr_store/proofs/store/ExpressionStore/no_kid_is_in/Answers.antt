@@ -1,11 +1,15 @@
-use Rattle.std.proofs.Common.{◌∙◌, ap, arith, length, sym}
+use Rattle.std.proofs.Common.{◌+◌, ◌∙◌, ap, length, sym}
+use Rattle.hir_faults.specs.declared.sizes.Sizes.{Sizes}
 use Rattle.hir_faults.proofs.FaultLemmas.{graph-length}
 use Rattle.hir_expr_store.specs.NodeSets.{Marked}
 use Rattle.hir_expr_store.proofs.UnderLemmas.{no_kid_told}
 use Rattle.hir_expr_store.proofs.store.ExpressionStore.no_kid_is_in.Goals as goal
 
 pub marked_have_none-requires : goal.marked_have_none-requires
-marked_have_none-requires c = ?
+marked_have_none-requires c =
+    let s = c.args.self.now.nodes in
+    let sizes = ap (λ (t : Marked). t.sizes) c.set.view_is ∙ c.requires in
+    ap length c.as_slice.ensures.value ∙ c.set.invariant ∙ ap (λ (z : Sizes). z.exprs + z.pats + z.types) sizes ∙ sym (graph-length s) ∙ sym c.parents.ensures.nodes
 
 pub returns : goal.returns
 returns c =
