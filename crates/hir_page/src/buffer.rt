@@ -80,6 +80,7 @@ impl PageBuffer {
     }
 
     /// Adds characters to the last line, whatever the format.
+    #[inline(always)]
     fn add(&mut self, part: &str) -> Result<(), AllocError>
         requires { HasNoEnd part.now }
         ensures { OnOk result (self.new ≡ record self.old { last = self.old.last ++ part.now }) }
@@ -146,6 +147,7 @@ impl PageBuffer {
     }
 
     /// Writes text without a line end.
+    #[inline(always)]
     fn line(&mut self, line: &str) -> Result<(), AllocError>
         requires { HasNoEnd line.now }
         ensures { OnOk result (self.new ≡ put_all line.now self.old) }
@@ -170,21 +172,71 @@ impl PageBuffer {
         Ok(())
     }
 
-    /// Writes text of one character, as most texts are.
+    /// Whether so many bytes go into the line that was begun, and the text has room for them. Only speed depends on it.
+    #[inline(always)]
+    fn has_room(&self, bytes: usize) -> bool {
+        let in_line = match self.format {
+            LineFormat::Oneline => true,
+            LineFormat::Newline => true,
+            LineFormat::Indentation => false,
+        };
+        in_line && bytes <= self.text.capacity() - self.text.len()
+    }
+
+    /// Writes text of one character, as most texts are. Where there is room for it, it calls nothing.
     #[inline(never)]
     fn character(&mut self, text: &str, byte: u8) -> Result<(), AllocError>
         requires { text.now ≡ byte ∷ [] }
         ensures { OnOk result (self.new ≡ put_all text.now self.old) }
     {
-        if !is_plain(byte) {
-            return self.lines(text);
+        if self.has_room(1) && is_plain(byte) {
+            return self.plain(byte);
         }
-        self.plain(byte)
+        self.other_character(text, byte)
+    }
+
+    /// Writes text of one character, wherever it goes.
+    #[cold]
+    #[inline(never)]
+    fn other_character(&mut self, text: &str, byte: u8) -> Result<(), AllocError>
+        requires { text.now ≡ byte ∷ [] }
+        ensures { OnOk result (self.new ≡ put_all text.now self.old) }
+    {
+        if is_plain(byte) {
+            return self.plain(byte);
+        }
+        self.lines(text)
+    }
+
+    /// Writes text of several characters. Most has two, three or four bytes: in an arm of its own their number is known to the
+    /// compiler, which copies them without a call.
+    #[inline(never)]
+    fn several(&mut self, text: &str) -> Result<(), AllocError>
+        ensures { OnOk result (self.new ≡ put_all text.now self.old) }
+    {
+        match text.len() {
+            2 => self.few(text),
+            3 => self.few(text),
+            4 => self.few(text),
+            _ => self.many(text),
+        }
+    }
+
+    /// Writes text of few characters. Where there is room for it, it calls nothing.
+    #[inline(always)]
+    fn few(&mut self, text: &str) -> Result<(), AllocError>
+        ensures { OnOk result (self.new ≡ put_all text.now self.old) }
+    {
+        if self.has_room(text.len()) && has_no_end(text.as_bytes()) {
+            return self.line(text);
+        }
+        self.many(text)
     }
 
     /// Writes text, which seldom has a line end.
+    #[cold]
     #[inline(never)]
-    fn several(&mut self, text: &str) -> Result<(), AllocError>
+    fn many(&mut self, text: &str) -> Result<(), AllocError>
         ensures { OnOk result (self.new ≡ put_all text.now self.old) }
     {
         if text.as_bytes().contains(&b'\n') {
@@ -194,6 +246,7 @@ impl PageBuffer {
     }
 
     /// Writes text line by line.
+    #[cold]
     #[inline(never)]
     fn lines(&mut self, text: &str) -> Result<(), AllocError>
         ensures { OnOk result (self.new ≡ put_all text.now self.old) }
@@ -391,6 +444,21 @@ fn cut_line_ends(text: &mut String)
     while ends_in_line_end(text.as_bytes()) {
         text.truncate(text.len() - 1);
     }
+}
+
+/// Whether a text of few bytes is without a line end.
+#[inline(always)]
+fn has_no_end(text: &[u8]) -> bool
+    ensures { IsTrue result ↔ HasNoEnd text.now }
+{
+    let mut left = text.len();
+    while left > 0 {
+        left -= 1;
+        if text[left] == b'\n' {
+            return false;
+        }
+    }
+    true
 }
 
 fn ends_in_line_end(text: &[u8]) -> bool

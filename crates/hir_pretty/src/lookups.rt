@@ -234,19 +234,19 @@ pub(crate) fn open_look<'a, D: Definitions>(
     stack: &mut Stack<'a>,
     store: &'a ExpressionStore,
     tables: &'a D,
-    look: Look,
+    look: &Look,
 ) -> Result<(), AllocError>
-    ensures { OnOk result (OpensWith store.now (D.answers tables.now) (listed stack.old) (λ s. look_items s look) (look_cost look) (listed stack.new)) }
+    ensures { OnOk result (OpensWith store.now (D.answers tables.now) (listed stack.old) (λ s. look_items s look.now) (look_cost look.now) (listed stack.new)) }
 {
     match look {
-        Look::NameOf(def) => open_def_name(stack, tables, def),
-        Look::CrateName(id) => open_crate_name(stack, tables, id),
-        Look::TypeParam(id) => open_type_param(stack, tables, id),
-        Look::LifetimeParam(id) => open_lifetime_param(stack, tables, id),
-        Look::Lifetime(id) => open_lifetime(stack, store, id),
-        Look::Label(id) => open_label(stack, store, id),
+        Look::NameOf(def) => open_def_name(stack, tables, *def),
+        Look::CrateName(id) => open_crate_name(stack, tables, *id),
+        Look::TypeParam(id) => open_type_param(stack, tables, *id),
+        Look::LifetimeParam(id) => open_lifetime_param(stack, tables, *id),
+        Look::Lifetime(id) => open_lifetime(stack, store, *id),
+        Look::Label(id) => open_label(stack, store, *id),
         Look::ClosureBody(kind, body) => stack.push(&[Work::Whole(printed_body(
-            store, kind, body,
+            store, *kind, *body,
         ))]),
     }
 }

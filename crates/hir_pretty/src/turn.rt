@@ -277,7 +277,7 @@ pub(crate) fn turn<'a, D: Definitions, W: PieceWriter>(
             Ok(()) => Ok(()),
             Err(_) => Err(PrintFault::Memory),
         },
-        Work::Look(look) => match open_look(stack, store, tables, *look) {
+        Work::Look(look) => match open_look(stack, store, tables, look) {
             Ok(()) => Ok(()),
             Err(_) => Err(PrintFault::Memory),
         },
