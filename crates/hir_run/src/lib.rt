@@ -4,6 +4,7 @@
 
 mod answer;
 mod asking;
+mod at_end;
 mod building;
 mod captured;
 mod fault;
@@ -19,5 +20,5 @@ mod reporting;
 mod scoped_body;
 
 pub use fault::RunFault;
-pub use program::{run, run_lines};
+pub use program::{run, run_lines, run_to_exit};
 pub use reporting::report;

@@ -9,6 +9,7 @@ ghost use Rattle.hir_run.specs.Stages.{Asks};
 
 use crate::answer::answer_store;
 use crate::asking::{Answers, MemoryRefused, answer_lines};
+use crate::at_end::AtEnd;
 use crate::fault::RunFault;
 use crate::named_body::NamedBody;
 use crate::printed::BodyOfLines;
@@ -79,6 +80,7 @@ impl Answers for UnscopedBody {
 /// Answers the first question and those after it: any may be asked. Some of the answers may still wait.
 pub(crate) fn answer_on_body<R: Source, W: Sink>(
     alloc: Global,
+    at_end: AtEnd,
     unscoped: UnscopedBody,
     first: Question,
     lines: &mut LineReader,
@@ -101,10 +103,15 @@ pub(crate) fn answer_on_body<R: Source, W: Sink>(
     let left = answer_lines(alloc, &unscoped, first, lines, reader, output, writer)?;
     let on_scopes = match left {
         Some(on_scopes) => on_scopes,
-        None => return Ok(None),
+        None => {
+            at_end.end(unscoped);
+            return Ok(None);
+        }
     };
     let Ok(named) = unscoped.with_scopes(alloc) else {
         return Err(RunFault::OutOfMemory);
     };
-    answer_lines(alloc, &named, on_scopes, lines, reader, output, writer)
+    let outcome = answer_lines(alloc, &named, on_scopes, lines, reader, output, writer);
+    at_end.end(named);
+    outcome
 }

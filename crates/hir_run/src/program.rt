@@ -8,6 +8,7 @@ ghost use Rattle.hir_run.specs.Run.{RunsTo};
 ghost use Rattle.hir_run.specs.Stages.{Accepts, Closes, Finishes, IsMadeBody, RunsUpTo};
 
 use crate::asking::answer_lines;
+use crate::at_end::AtEnd;
 use crate::building::build;
 use crate::fault::RunFault;
 use crate::made::{Made, Parts};
@@ -55,6 +56,7 @@ fn accept<W: Sink>(output: &mut OutputBuffer, writer: &mut W) -> Result<(), RunF
 /// Makes what the lines before the first question make, and answers the questions. The last answers may still wait.
 fn answer_script<R: Source, W: Sink>(
     alloc: Global,
+    at_end: AtEnd,
     lines: &mut LineReader,
     reader: &mut R,
     output: &mut OutputBuffer,
@@ -82,12 +84,18 @@ fn answer_script<R: Source, W: Sink>(
     let store = finished(builder)?;
     let on_store = match first {
         Some(on_store) => on_store,
-        None => return accept(output, writer),
+        None => {
+            at_end.end(store);
+            return accept(output, writer);
+        }
     };
     let left = answer_lines(alloc, &store, on_store, lines, reader, output, writer)?;
     let on_body = match left {
         Some(on_body) => on_body,
-        None => return Ok(()),
+        None => {
+            at_end.end(store);
+            return Ok(());
+        }
     };
     said_is_written();
     let body = made_body(alloc, store, params, self_param)?;
@@ -95,7 +103,9 @@ fn answer_script<R: Source, W: Sink>(
         body: BodyOfLines::new(body),
         name,
     };
-    let unasked = answer_on_body(alloc, unscoped, on_body, lines, reader, output, writer)?;
+    let unasked = answer_on_body(
+        alloc, at_end, unscoped, on_body, lines, reader, output, writer,
+    )?;
     match unasked {
         None => Ok(()),
         Some(_) => unreachable!(),
@@ -119,6 +129,29 @@ fn close<W: Sink>(
     }
 }
 
+/// Runs the program as `run_lines` does; the memory of what was made is given back, or left.
+fn run_lines_with<R: Source, W: Sink>(
+    alloc: Global,
+    at_end: AtEnd,
+    lines: &mut LineReader,
+    reader: &mut R,
+    writer: &mut W,
+) -> Result<(), RunFault>
+    requires fresh { lines.old ≡ record { line = []; pending = []; at_end = false; count = 0 } }
+    requires reading { R.failed reader.old ≡ false }
+    requires writing { W.failed writer.old ≡ false }
+    ensures runs { RunsTo (R.remaining reader.old) (W.contents writer.old) (R.remaining reader.new)
+        (W.contents writer.new) lines.new.count result }
+    ensures input_failed { R.failed reader.new ≡ is_input_failed result }
+    ensures output_failed { W.failed writer.new ≡ is_output_failed result }
+{
+    let Ok(mut output) = OutputBuffer::new(alloc) else {
+        return Err(RunFault::OutOfMemory);
+    };
+    let outcome = answer_script(alloc, at_end, lines, reader, &mut output, writer);
+    close(outcome, &mut output, writer)
+}
+
 /// Runs the program as `run` does, on the lines that a fresh reader takes from the source. Afterwards the reader tells how many were taken:
 /// where memory was refused, it was at the last of them, or at the one behind it.
 pub fn run_lines<R: Source, W: Sink>(
@@ -135,11 +168,7 @@ pub fn run_lines<R: Source, W: Sink>(
     ensures input_failed { R.failed reader.new ≡ is_input_failed result }
     ensures output_failed { W.failed writer.new ≡ is_output_failed result }
 {
-    let Ok(mut output) = OutputBuffer::new(alloc) else {
-        return Err(RunFault::OutOfMemory);
-    };
-    let outcome = answer_script(alloc, lines, reader, &mut output, writer);
-    close(outcome, &mut output, writer)
+    run_lines_with(alloc, AtEnd::GiveBack, lines, reader, writer)
 }
 
 /// Runs the program on the lines that the source gives, and writes its answers to the sink.
@@ -166,4 +195,27 @@ pub fn run<R: Source, W: Sink>(
         return Err(RunFault::OutOfMemory);
     };
     run_lines(alloc, &mut lines, reader, writer)
+}
+
+/// Runs the program as `run` does, for a process that ends behind it.
+///
+/// The memory of what was made, which is the store, the body and its scopes, is not given back: the end of the process takes it
+/// back at once, and to drop it before, node by node, takes time. Where the run ends with a fault, some of it may be given back.
+/// The buffers of lines and answers are given back as by `run`.
+pub fn run_to_exit<R: Source, W: Sink>(
+    alloc: Global,
+    reader: &mut R,
+    writer: &mut W,
+) -> Result<(), RunFault>
+    requires reading { R.failed reader.old ≡ false }
+    requires writing { W.failed writer.old ≡ false }
+    ensures runs { (count : ℕ) × RunsTo (R.remaining reader.old) (W.contents writer.old) (R.remaining reader.new)
+        (W.contents writer.new) count result }
+    ensures input_failed { R.failed reader.new ≡ is_input_failed result }
+    ensures output_failed { W.failed writer.new ≡ is_output_failed result }
+{
+    let Ok(mut lines) = LineReader::new(alloc) else {
+        return Err(RunFault::OutOfMemory);
+    };
+    run_lines_with(alloc, AtEnd::Leave, &mut lines, reader, writer)
 }

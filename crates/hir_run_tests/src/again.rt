@@ -2,7 +2,7 @@
 //! was refused memory is made again, so that each test passes with any one allocation refused too.
 
 use crate::fakes::{Given, Kept};
-use hir_run::{RunFault, report, run};
+use hir_run::{RunFault, report, run, run_to_exit};
 use std::alloc::Global;
 use std::process::Abort;
 
@@ -54,6 +54,32 @@ pub fn run_again<'a>(alloc: Global, input: &'a [u8], reads: Calls, writes: Calls
     let seen = run_once(alloc, input, reads, writes);
     if seen.ended == Err(RunFault::OutOfMemory) {
         return run_once(alloc, input, reads, writes);
+    }
+    seen
+}
+
+/// Runs the program once, as for a process that ends behind it.
+fn run_to_exit_once<'a>(alloc: Global, input: &'a [u8], reads: Calls, writes: Calls) -> Seen<'a> {
+    let mut reader = Given::new(input, reads.step, reads.fail_from);
+    let mut writer = Kept::new(alloc, writes.step, writes.fail_from);
+    let ended = run_to_exit(alloc, &mut reader, &mut writer);
+    Seen {
+        ended,
+        reader,
+        writer,
+    }
+}
+
+/// Runs the program as for a process that ends behind it, and again where memory was refused.
+pub fn run_to_exit_again<'a>(
+    alloc: Global,
+    input: &'a [u8],
+    reads: Calls,
+    writes: Calls,
+) -> Seen<'a> {
+    let seen = run_to_exit_once(alloc, input, reads, writes);
+    if seen.ended == Err(RunFault::OutOfMemory) {
+        return run_to_exit_once(alloc, input, reads, writes);
     }
     seen
 }

@@ -10,6 +10,8 @@ mod chain;
 #[cfg(test)]
 mod ends;
 #[cfg(test)]
+mod exits;
+#[cfg(test)]
 mod fakes;
 #[cfg(test)]
 mod growths;

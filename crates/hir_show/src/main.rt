@@ -2,13 +2,13 @@
 #![tactic(auto)]
 
 use hir_io::StdEnd;
-use hir_run::{report, run};
+use hir_run::{report, run_to_exit};
 use std::process::ExitCode;
 
 fn main(rt: HostRuntime) -> ExitCode {
     let mut reader = StdEnd::new(rt.stdin());
     let mut writer = StdEnd::new(rt.stdout());
     let mut errors = StdEnd::new(rt.stderr());
-    let outcome = run(rt.alloc(), &mut reader, &mut writer);
+    let outcome = run_to_exit(rt.alloc(), &mut reader, &mut writer);
     ExitCode::from(report(&outcome, &mut errors))
 }

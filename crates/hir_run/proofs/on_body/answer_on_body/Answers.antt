@@ -31,10 +31,10 @@ pub returns-clause-asks : goal.returns-clause-asks
 returns-clause-asks g c =
     let contents = g.W.Sink.contents in
     let unread = untaken c.answer_lines.new.lines.pending c.answer_lines.new.lines.at_end (g.R.Source.remaining c.answer_lines.new.reader) in
-    let rest = untaken c.answer_lines-2.new.lines.pending c.answer_lines-2.new.lines.at_end (g.R.Source.remaining c.answer_lines-2.new.reader) in
-    let remaining = g.R.Source.remaining c.answer_lines-2.new.reader in
-    let asked = subst (λ (n : NamedBody). Asks any_question (IsAnswerOf n) unread rest remaining c.answer_lines.new.lines c.answer_lines-2.new.lines (contents c.answer_lines.new.writer) c.answer_lines.new.output (contents c.answer_lines-2.new.writer) c.answer_lines-2.new.output c.in-Some.on_scopes c.answer_lines-2.result) c.in-Ok.ensures c.answer_lines-2.ensures.asks in
+    let rest = untaken c.answer_lines-outcome.new.lines.pending c.answer_lines-outcome.new.lines.at_end (g.R.Source.remaining c.answer_lines-outcome.new.reader) in
+    let remaining = g.R.Source.remaining c.answer_lines-outcome.new.reader in
+    let asked = subst (λ (n : NamedBody). Asks any_question (IsAnswerOf n) unread rest remaining c.answer_lines.new.lines c.answer_lines-outcome.new.lines (contents c.answer_lines.new.writer) c.answer_lines.new.output (contents c.answer_lines-outcome.new.writer) c.answer_lines-outcome.new.output c.in-Some.on_scopes c.answer_lines-outcome.result) c.in-Ok.ensures c.answer_lines-outcome.ensures.asks in
     joined needs_no_scopes (IsAnswer c.args.unscoped.name c.args.unscoped.body) (untaken c.args.lines.now.pending c.args.lines.now.at_end (g.R.Source.remaining c.args.reader.now)) c.args.lines.now (contents c.args.writer.now) c.args.output.now c.args.first
     unread (contents c.answer_lines.new.writer) c.answer_lines.new.output c.answer_lines.new.lines c.in-Some.on_scopes
-    rest remaining (contents c.answer_lines-2.new.writer) c.answer_lines-2.new.output c.answer_lines-2.new.lines
-    c.answer_lines-2.result (rw c.in-Some.is at (c.in_ok-left.ensures {u = tt}).asks) asked
+    rest remaining (contents c.answer_lines-outcome.new.writer) c.answer_lines-outcome.new.output c.answer_lines-outcome.new.lines
+    c.answer_lines-outcome.result (rw c.in-Some.is at (c.in_ok-left.ensures {u = tt}).asks) asked

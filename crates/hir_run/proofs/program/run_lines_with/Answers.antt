@@ -2,7 +2,7 @@ use Rattle.std.proofs.Common.{ap, sym, ◌∙◌}
 use Rattle.hir_io.specs.LineState.{LineState}
 use Rattle.hir_run.proofs.ClosingLemmas.{closes, closes_reads}
 use Rattle.hir_run.proofs.ScriptLemmas.{runs_out_first}
-use Rattle.hir_run.proofs.program.run_lines.Goals as goal
+use Rattle.hir_run.proofs.program.run_lines_with.Goals as goal
 
 pub returns-in_default-clause-runs : goal.returns-in_default-clause-runs
 returns-in_default-clause-runs g c = runs_out_first (g.R.Source.remaining c.args.reader.now) (g.W.Sink.contents c.args.writer.now) (g.R.Source.remaining c.args.reader.now) c.args.lines.now.count (ap (λ (l : LineState). l.count) c.requires.fresh)

@@ -1,0 +1,22 @@
+//! What becomes of the memory of what a run made, when the run ends.
+
+use std::mem::{drop, forget};
+
+/// What becomes of the memory of a run's store, body and scopes when the run ends.
+#[derive(Clone, Copy)]
+pub(crate) enum AtEnd {
+    /// It is given back.
+    GiveBack,
+    /// It is left to the end of the process, which takes it all back at once.
+    Leave,
+}
+
+impl AtEnd {
+    /// Ends the use of a value: drops it, or leaves its memory.
+    pub(crate) fn end<T: Drop>(self, value: T) {
+        match self {
+            AtEnd::GiveBack => drop(value),
+            AtEnd::Leave => forget(value),
+        }
+    }
+}
