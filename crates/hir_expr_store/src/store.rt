@@ -442,7 +442,8 @@ impl Clone for ExpressionStore {
         let copy = both(copy, self.roots.try_clone())?;
         let copy = both(copy, self.side_tables.try_clone())?;
         let (copy, parents) = both(copy, self.parents.clone())?;
-        let (((((((exprs, pats), types), bindings), labels), lifetimes), roots), side_tables) = copy;
+        let (((((((exprs, pats), types), bindings), labels), lifetimes), roots), side_tables) =
+            copy;
         Ok(ExpressionStore {
             exprs,
             pats,

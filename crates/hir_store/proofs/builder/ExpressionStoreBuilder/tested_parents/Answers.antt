@@ -12,7 +12,7 @@ pub returns-clause-ok : goal.returns-clause-ok
 returns-clause-ok c =
     let b = building_of c.args.self.now in
     IfOk-weaker c.tested_parents.result _ _ (λ parents h. (has_roots b None (c.has_roots.ensures.0 c.if-not-has_roots.false) h.0, h.1))
-    (rw (c.nodes.ensures.nodes, c.listed.ensures) at c.tested_parents.ensures.ok)
+    (rw (c.nodes.ensures.nodes, c.nodes.ensures.nodes, c.listed.ensures) at c.tested_parents.ensures.ok)
 
 pub returns-clause-err : goal.returns-clause-err
 returns-clause-err c =
