@@ -1,7 +1,7 @@
 //! The entries of what patterns bind.
 #![tactic(auto, using(crate::proofs::BinderLemmas::bound_pats))]
 
-ghost use Rattle.std.specs.Prelude.{◌≡◌, ◌<◌, [], ◌∷◌, ◌++◌, false, length, map, Err, OnOk, OnErr};
+ghost use Rattle.std.specs.Prelude.{◌≡◌, ◌<◌, [], ◌++◌, false, length, map, Err, OnOk, OnErr};
 ghost use Rattle.std.specs.List.{flat_map};
 ghost use Rattle.hir_node.specs.ChildCalls.{pat_of_call, child_pats};
 ghost use Rattle.hir_node.specs.declared.node_id.NodeId.TheVariants as node;
@@ -104,17 +104,21 @@ impl Binder {
     }
 
     /// Pushes the child patterns of a pattern on those that are still to be visited, the first on top.
-    // Those of the common patterns are pushed at once; any other pattern takes a turn of the visitor. A binding is rare here, since
-    // `visit` pushes what is in one itself.
+    // Those of the common patterns are pushed at once; any other pattern takes a turn of the visitor. No binding comes here: `visit`
+    // pushes what is in one itself.
     fn push_children(&mut self, pat: &Pat) -> Result<(), ScopesFault>
         ensures next { OnOk result (self.new.pats ≡ child_pats pat.now ++ self.old.pats) }
         ensures same { self.new.entries ≡ self.old.entries }
         ensures memory { OnErr result (result ≡ Err ScopesFault.Memory) }
     {
         match pat {
-            Pat::Missing | Pat::Rest | Pat::Wild | Pat::NotNull => Ok(()),
-            Pat::Lit(_) | Pat::Expr(_) => Ok(()),
-            Pat::Range {
+            Pat::Missing
+            | Pat::Rest
+            | Pat::Wild
+            | Pat::NotNull
+            | Pat::Lit(_)
+            | Pat::Expr(_)
+            | Pat::Range {
                 start: _,
                 end: _,
                 range_type: _,
@@ -122,19 +126,20 @@ impl Binder {
             Pat::Tuple { args, ellipsis: _ } => push_ids(&mut self.pats, args.as_slice()),
             Pat::Box { inner } | Pat::Deref { inner } => self.pats.push(*inner),
             Pat::Ref { pat, mutability: _ } => self.pats.push(*pat),
-            Pat::Or(_) | Pat::Path(_) => self.push_in_turn(pat),
-            Pat::Bind { id: _, subpat: _ } => self.push_in_turn(pat),
-            Pat::Record {
+            Pat::Or(_)
+            | Pat::Path(_)
+            | Pat::Bind { id: _, subpat: _ }
+            | Pat::Record {
                 path: _,
                 args: _,
                 ellipsis: _,
-            } => self.push_in_turn(pat),
-            Pat::Slice {
+            }
+            | Pat::Slice {
                 prefix: _,
                 slice: _,
                 suffix: _,
-            } => self.push_in_turn(pat),
-            Pat::TupleStruct {
+            }
+            | Pat::TupleStruct {
                 path: _,
                 args: _,
                 ellipsis: _,
