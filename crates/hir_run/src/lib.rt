@@ -4,9 +4,9 @@
 
 mod answer;
 mod asking;
-mod at_end;
 mod building;
 mod captured;
+mod disposal;
 mod fault;
 pub mod laws;
 mod made;

@@ -9,7 +9,7 @@ ghost use Rattle.hir_run.specs.Stages.{Asks};
 
 use crate::answer::answer_store;
 use crate::asking::{Answers, MemoryRefused, answer_lines};
-use crate::at_end::AtEnd;
+use crate::disposal::Disposal;
 use crate::fault::RunFault;
 use crate::named_body::NamedBody;
 use crate::printed::BodyOfLines;
@@ -80,7 +80,7 @@ impl Answers for UnscopedBody {
 /// Answers the first question and those after it: any may be asked. Some of the answers may still wait.
 pub(crate) fn answer_on_body<R: Source, W: Sink>(
     alloc: Global,
-    at_end: AtEnd,
+    disposal: Disposal,
     unscoped: UnscopedBody,
     first: Question,
     lines: &mut LineReader,
@@ -104,7 +104,7 @@ pub(crate) fn answer_on_body<R: Source, W: Sink>(
     let on_scopes = match left {
         Some(on_scopes) => on_scopes,
         None => {
-            at_end.end(unscoped);
+            disposal.end(unscoped);
             return Ok(None);
         }
     };
@@ -112,6 +112,6 @@ pub(crate) fn answer_on_body<R: Source, W: Sink>(
         return Err(RunFault::OutOfMemory);
     };
     let outcome = answer_lines(alloc, &named, on_scopes, lines, reader, output, writer);
-    at_end.end(named);
+    disposal.end(named);
     outcome
 }

@@ -8,8 +8,8 @@ ghost use Rattle.hir_run.specs.Run.{RunsTo};
 ghost use Rattle.hir_run.specs.Stages.{Accepts, Closes, Finishes, IsMadeBody, RunsUpTo};
 
 use crate::asking::answer_lines;
-use crate::at_end::AtEnd;
 use crate::building::build;
+use crate::disposal::Disposal;
 use crate::fault::RunFault;
 use crate::made::{Made, Parts};
 use crate::on_body::{UnscopedBody, answer_on_body};
@@ -56,7 +56,7 @@ fn accept<W: Sink>(output: &mut OutputBuffer, writer: &mut W) -> Result<(), RunF
 /// Makes what the lines before the first question make, and answers the questions. The last answers may still wait.
 fn answer_script<R: Source, W: Sink>(
     alloc: Global,
-    at_end: AtEnd,
+    disposal: Disposal,
     lines: &mut LineReader,
     reader: &mut R,
     output: &mut OutputBuffer,
@@ -85,7 +85,7 @@ fn answer_script<R: Source, W: Sink>(
     let on_store = match first {
         Some(on_store) => on_store,
         None => {
-            at_end.end(store);
+            disposal.end(store);
             return accept(output, writer);
         }
     };
@@ -93,7 +93,7 @@ fn answer_script<R: Source, W: Sink>(
     let on_body = match left {
         Some(on_body) => on_body,
         None => {
-            at_end.end(store);
+            disposal.end(store);
             return Ok(());
         }
     };
@@ -104,7 +104,7 @@ fn answer_script<R: Source, W: Sink>(
         name,
     };
     let unasked = answer_on_body(
-        alloc, at_end, unscoped, on_body, lines, reader, output, writer,
+        alloc, disposal, unscoped, on_body, lines, reader, output, writer,
     )?;
     match unasked {
         None => Ok(()),
@@ -132,7 +132,7 @@ fn close<W: Sink>(
 /// Runs the program as `run_lines` does; the memory of what was made is given back, or left.
 fn run_lines_with<R: Source, W: Sink>(
     alloc: Global,
-    at_end: AtEnd,
+    disposal: Disposal,
     lines: &mut LineReader,
     reader: &mut R,
     writer: &mut W,
@@ -148,7 +148,7 @@ fn run_lines_with<R: Source, W: Sink>(
     let Ok(mut output) = OutputBuffer::new(alloc) else {
         return Err(RunFault::OutOfMemory);
     };
-    let outcome = answer_script(alloc, at_end, lines, reader, &mut output, writer);
+    let outcome = answer_script(alloc, disposal, lines, reader, &mut output, writer);
     close(outcome, &mut output, writer)
 }
 
@@ -168,7 +168,7 @@ pub fn run_lines<R: Source, W: Sink>(
     ensures input_failed { R.failed reader.new ≡ is_input_failed result }
     ensures output_failed { W.failed writer.new ≡ is_output_failed result }
 {
-    run_lines_with(alloc, AtEnd::GiveBack, lines, reader, writer)
+    run_lines_with(alloc, Disposal::GiveBack, lines, reader, writer)
 }
 
 /// Runs the program on the lines that the source gives, and writes its answers to the sink.
@@ -217,5 +217,5 @@ pub fn run_to_exit<R: Source, W: Sink>(
     let Ok(mut lines) = LineReader::new(alloc) else {
         return Err(RunFault::OutOfMemory);
     };
-    run_lines_with(alloc, AtEnd::Leave, &mut lines, reader, writer)
+    run_lines_with(alloc, Disposal::Leave, &mut lines, reader, writer)
 }

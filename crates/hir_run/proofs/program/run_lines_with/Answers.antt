@@ -1,4 +1,4 @@
-use Rattle.std.proofs.Common.{ap, sym, ◌∙◌}
+use Rattle.std.proofs.Common.{ap, ◌∙◌}
 use Rattle.hir_io.specs.LineState.{LineState}
 use Rattle.hir_run.proofs.ClosingLemmas.{closes, closes_reads}
 use Rattle.hir_run.proofs.ScriptLemmas.{runs_out_first}

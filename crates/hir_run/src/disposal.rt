@@ -4,19 +4,19 @@ use std::mem::{drop, forget};
 
 /// What becomes of the memory of a run's store, body and scopes when the run ends.
 #[derive(Clone, Copy)]
-pub(crate) enum AtEnd {
+pub(crate) enum Disposal {
     /// It is given back.
     GiveBack,
     /// It is left to the end of the process, which takes it all back at once.
     Leave,
 }
 
-impl AtEnd {
+impl Disposal {
     /// Ends the use of a value: drops it, or leaves its memory.
     pub(crate) fn end<T: Drop>(self, value: T) {
         match self {
-            AtEnd::GiveBack => drop(value),
-            AtEnd::Leave => forget(value),
+            Disposal::GiveBack => drop(value),
+            Disposal::Leave => forget(value),
         }
     }
 }
