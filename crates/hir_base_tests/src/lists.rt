@@ -220,3 +220,14 @@ fn a_name_is_its_text(rt: HostRuntime) -> Result<(), Fail> {
     }
     Ok(())
 }
+
+#[test]
+fn a_name_in_ascii_is_its_text(rt: HostRuntime) -> Result<(), Fail> {
+    let inside = Name::from_ascii(rt.alloc(), b"fourteen_bytes")?;
+    let outside = Name::from_ascii(rt.alloc(), b"fifteen_bytes_x")?;
+    let are_named = inside.as_str() == "fourteen_bytes" && outside.as_str() == "fifteen_bytes_x";
+    drop(inside);
+    drop(outside);
+    assert!(rt; are_named);
+    Ok(())
+}
