@@ -4,7 +4,7 @@ ghost use Rattle.hir_io.specs.Text.{IsFirstLineEnd};
 ghost use Rattle.std.specs.Prelude.{◌≡◌, ◌+◌, ◌-◌, ◌*◌, ◌≤◌, ◌<◌, ◌^◌, ◌||◌, [], false, IfOk, OnOk, OnErr, length, take, slice_range, vec_len, List, ℕ};
 
 use crate::ends::Source;
-use memchr::memchr;
+use memchr::memchr_iter;
 use std::alloc::{AllocError, Global};
 use std::fmt;
 use std::marker::Model;
@@ -88,11 +88,12 @@ impl Model for LineReader {
 fn find_line_end(bytes: &[u8]) -> Option<usize>
     ensures { IsFirstLineEnd bytes.now result }
 {
-    // An empty line is worth a test of its own: a search reads 64 bytes at least.
+    // An empty line is worth a test of its own: a search reads 32 bytes at least, where there are as many.
     if let [b'\n', ..] = bytes {
         return Some(0);
     }
-    memchr(b'\n', bytes)
+    // Most lines are shorter than 32 bytes, which this search reads first; `memchr` reads 64.
+    memchr_iter(b'\n', bytes).next()
 }
 
 /// Moves the bytes from `start` to `filled` to the front, with room for a block after them.

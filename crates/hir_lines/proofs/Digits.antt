@@ -1,5 +1,5 @@
 -- What digits stand for, digit by digit.
-use Rattle.std.proofs.Common.{Option, ◌≡◌, ◌≢◌, ◌+◌, ◌-◌, ◌*◌, ◌<◌, ◌≤◌, ◌^◌, ℕ, Some, None, List, [], ◌∷◌, take, drop, length, get_or, sym, ap, ◌∙◌, arith, take-append-drop, fold, Bool, true, false, refl, inl, inr, take_all}
+use Rattle.std.proofs.Common.{Option, ◌≡◌, ◌≢◌, ◌+◌, ◌-◌, ◌*◌, ◌<◌, ◌≤◌, ◌^◌, ℕ, Some, None, List, [], ◌∷◌, take, drop, length, get_or, sym, ap, ◌∙◌, arith, take-append-drop, fold, Bool, true, false, refl, inl, inr}
 use Rattle.std.specs.Prelude.{if◌then◌else◌}
 use Rattle.std.specs.List.{list_all}
 use Rattle.std.proofs.lemmas.Grind.{common_steps, fold-append}
@@ -88,11 +88,3 @@ no_number-large xs e = chosen_none (is_numeral xs) (if_below (2 ^ 32) (value xs)
 pub number_is : (xs : List ℕ) → length xs ≢ 0 → has_needless_zero xs ≡ false → list_all is_digit xs ≡ true → number_of xs ≡ if_below (2 ^ 32) (value xs)
 unfolding number_of
 number_is xs some plain all = grind (arith, common_steps)
-
--- no number in front: no number
-pub front_lacks : (xs : List ℕ) → number_of (take (digits_len xs) xs) ≡ None → number_of xs ≡ None
-front_lacks xs e =
-    elim (cases_lt (digits_len xs) (length xs)) [
-      | inl within ↦ no_number xs (digits_len xs) within (prefix_len_stops is_digit xs 0 within)
-      | inr whole ↦ rw (take_all (digits_len xs) xs whole) at e
-    ]

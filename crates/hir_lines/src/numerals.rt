@@ -1,10 +1,52 @@
 //! Numbers as they are written in a line.
 
-ghost use Rattle.std.specs.Prelude.{None, Some, ◌≡◌, ◌^◌, IfSome, IfNone, MatchOption, take, false};
+ghost use Rattle.std.specs.Prelude.{None, Some, ◌≡◌, ◌<◌, ◌^◌, ◌-◌, IfSome, IfNone, MatchOption, take, true, false};
 ghost use Rattle.std.specs.List.{list_all};
-ghost use Rattle.hir_lines.specs.Numerals.{number_of, int_of, has_minus, without_minus, has_needless_zero, if_below, value, is_digit, digits_len, is_numeral};
+ghost use Rattle.hir_lines.specs.Numerals.{number_of, int_of, has_minus, without_minus, has_needless_zero, if_below, value, is_digit, digits_len, is_numeral, IsFront};
 ghost use Rattle.hir_lines.specs.Readings.{parts_of, parts_left};
 ghost use Rattle.hir_lines.specs.Words.{number};
+
+/// What a digit stands for.
+#[inline(always)]
+fn digit(b: u8) -> u64
+    requires { is_digit b ≡ true }
+    ensures { result ≡ b - 48 }
+{
+    u64::from(b - b'0')
+}
+
+/// The value of the first four bytes, if they are digits.
+#[inline(always)]
+fn four_digits(text: &[u8]) -> Option<u64>
+    ensures { IfSome result (λ value. IsFront text.now value 4 × (value < 10 ^ 4)) }
+{
+    if text.len() >= 4
+        && text[0].is_ascii_digit()
+        && text[1].is_ascii_digit()
+        && text[2].is_ascii_digit()
+        && text[3].is_ascii_digit()
+    {
+        let front = digit(text[0]) * 10 + digit(text[1]);
+        Some((front * 10 + digit(text[2])) * 10 + digit(text[3]))
+    } else {
+        None
+    }
+}
+
+/// The value of the first six bytes or four, if they are digits, and how many they are; of none else. Most numbers have six digits or
+/// five, and each of these is read without a test of the value.
+#[inline(always)]
+fn first_digits(text: &[u8]) -> (u64, usize)
+    ensures { IsFront text.now result.0 result.1 × (result.0 < 10 ^ 6) }
+{
+    let Some(four) = four_digits(text) else {
+        return (0, 0);
+    };
+    if text.len() >= 6 && text[4].is_ascii_digit() && text[5].is_ascii_digit() {
+        return ((four * 10 + digit(text[4])) * 10 + digit(text[5]), 6);
+    }
+    (four, 4)
+}
 
 /// The value of the leading digits, if it is below 2 ^ 32, and how many they are.
 #[inline(always)]
@@ -14,10 +56,9 @@ fn leading_digits(text: &[u8]) -> Option<(u32, usize)>
         × (if_below (2 ^ 32) (value (take found.1 text.now)) ≡ Some found.0)) }
     ensures none { IfNone result (if_below (2 ^ 32) (value (take (digits_len text.now) text.now)) ≡ None) }
 {
-    let mut value: u64 = 0;
-    let mut end = 0;
+    let (mut value, mut end) = first_digits(text);
     while end < text.len() && text[end].is_ascii_digit() {
-        value = value * 10 + u64::from(text[end] - b'0');
+        value = value * 10 + digit(text[end]);
         if value > u64::from(u32::MAX) {
             return None;
         }
@@ -59,18 +100,6 @@ fn leading_number(text: &[u8]) -> Option<(u32, usize)>
         return None;
     }
     Some((value, end))
-}
-
-/// The number that the text is, if it is one.
-pub fn number(text: &[u8]) -> Option<u32>
-    ensures { result ≡ number_of text.now }
-{
-    let (number, end) = leading_number(text)?;
-    if end == text.len() {
-        Some(number)
-    } else {
-        None
-    }
 }
 
 /// Whether the text begins with a minus, which is a dash as well.

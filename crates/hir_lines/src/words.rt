@@ -1,6 +1,6 @@
 //! The words of a line, or the parts of a word, taken one by one.
 
-ghost use Rattle.std.specs.Prelude.{None, Some, ◌≡◌, ◌∷◌, [], MatchResult, IsTrue, ◌↔◌, position, length, min, ◌^◌, ◌-◌, false};
+ghost use Rattle.std.specs.Prelude.{None, Some, ◌≡◌, ◌≢◌, ◌∷◌, [], List, ℕ, codes, MatchResult, IfSome, IfNone, IsTrue, ◌↔◌, position, length, min, ◌^◌, ◌-◌, false};
 ghost use Rattle.std.specs.List.{count_by};
 ghost use Rattle.hir_lines.specs.Names.{continues_name};
 ghost use Rattle.hir_lines.specs.Numerals.{number_of};
@@ -8,7 +8,7 @@ ghost use Rattle.hir_lines.specs.Readings.{parts_of, parts_left, is_byte, alone,
 ghost use Rattle.hir_lines.specs.Words.{number, optional, list, keyword, name, path, int, op, expansion, hygiene};
 
 use crate::names::{ascii as ascii_text, first_name};
-use crate::numerals::{first_number, has_minus, int as int_text, number as number_text};
+use crate::numerals::{first_number, has_minus, int as int_text};
 use crate::operators::op as op_text;
 use crate::stop::Stop;
 use hir_base::{BinaryOp, HygieneId, Idx, Name, Seq, ShortList, SyntaxContext};
@@ -87,7 +87,7 @@ impl<'a> Words<'a> {
         Ok(Idx::from_raw(self.number()?))
     }
 
-    /// Takes the next word, if it is a number or a dash. What begins with no dash is read as a number where it stands.
+    /// Takes the next word, if it is a number or a dash. Either is read where it stands.
     #[inline(always)]
     pub fn optional(&mut self) -> Result<Option<u32>, Stop>
         ensures { Reads optional self.old result self.new }
@@ -95,25 +95,12 @@ impl<'a> Words<'a> {
         let Some(text) = self.rest else {
             return Err(Stop::Bad);
         };
-        if has_minus(text) {
-            return self.dash();
-        }
-        Ok(Some(self.number()?))
-    }
-
-    /// Takes the next word, if it is a number or a dash, by a look at the whole of it.
-    #[tactic(auto, unfolding(crate::specs::Words::optional_of))]
-    #[inline(always)]
-    fn dash(&mut self) -> Result<Option<u32>, Stop>
-        ensures { Reads optional self.old result self.new }
-    {
-        let word = self.word()?;
-        if word == b"-".as_slice() {
-            return Ok(None);
-        }
-        match number_text(word) {
-            Some(number) => Ok(Some(number)),
-            None => Err(Stop::Bad),
+        match first_dash(text, self.separator) {
+            Some(rest) => {
+                self.rest = rest;
+                Ok(None)
+            }
+            None => Ok(Some(self.number()?)),
         }
     }
 
@@ -293,6 +280,25 @@ fn ids<K>(alloc: Global, words: &mut Words<'_>) -> Result<ShortList<Idx<K>>, Sto
     Ok(ids)
 }
 
+/// What is left behind the first word, if that is a dash.
+#[inline(always)]
+fn first_dash(text: &[u8], separator: u8) -> Option<Option<&[u8]>>
+    ensures some { IfSome result (λ rest. parts_of separator text.now ≡ codes "-" ∷ parts_left separator rest) }
+    ensures none { IfNone result ((words : List (List ℕ)) → parts_of separator text.now ≢ codes "-" ∷ words) }
+{
+    // A dash that separates is no word.
+    if !has_minus(text) || separator == b'-' {
+        return None;
+    }
+    if text.len() == 1 {
+        return Some(None);
+    }
+    if text[1] != separator {
+        return None;
+    }
+    Some(Some(&text[2..]))
+}
+
 /// The first place of a byte.
 #[inline(always)]
 fn find(text: &[u8], byte: u8) -> Option<usize>
@@ -305,7 +311,13 @@ fn find(text: &[u8], byte: u8) -> Option<usize>
 fn count(text: &[u8], byte: u8) -> usize
     ensures { result ≡ count_by (is_byte byte) text.now }
 {
-    text.iter().filter(|b| **b == byte).count()
+    let mut count = 0;
+    for b in text {
+        if *b == byte {
+            count += 1;
+        }
+    }
+    count
 }
 
 /// The text before the first separator, and the text after it, where there is one.

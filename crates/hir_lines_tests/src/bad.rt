@@ -13,7 +13,7 @@ fn all_bad(rt: &impl Abort, alloc: Global, texts: &[&[u8]]) -> Result<(), Fail> 
     Ok(())
 }
 
-const WORDS: [&[u8]; 28] = [
+const WORDS: [&[u8]; 33] = [
     // Words are parted by one space.
     b" ",
     b"  ",
@@ -33,6 +33,11 @@ const WORDS: [&[u8]; 28] = [
     b"root x",
     b"root 00",
     b"root 01",
+    b"root 0123",
+    b"root 012345",
+    b"root 1234x",
+    b"root 12345x",
+    b"root 123456x",
     b"root +1",
     b"root -1",
     b"root -0",

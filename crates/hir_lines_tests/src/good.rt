@@ -23,6 +23,26 @@ fn lines_without_names(rt: HostRuntime) -> Result<(), Fail> {
     Ok(())
 }
 
+const NUMBERS: [(&[u8], u32); 8] = [
+    (b"root 12", 12),
+    (b"root 123", 123),
+    (b"root 1234", 1234),
+    (b"root 12345", 12345),
+    (b"root 123456", 123456),
+    (b"root 1234567", 1234567),
+    (b"root 123456789", 123456789),
+    (b"root 1234567890", 1234567890),
+];
+
+#[test]
+fn numbers_of_each_length(rt: HostRuntime) -> Result<(), Fail> {
+    let alloc = rt.alloc();
+    for (text, number) in &NUMBERS {
+        makes(&rt, alloc, text, Maker::Root(id(*number)))?;
+    }
+    Ok(())
+}
+
 #[test]
 fn questions(rt: HostRuntime) -> Result<(), Fail> {
     let alloc = rt.alloc();

@@ -10,7 +10,7 @@ returns-then-value-from-clause-none c =
     let text = c.args.text.now in
     let i = c.loop-end.end in
     let digit : is_digit (get_or text i 0) ≡ true = sym c.is_ascii_digit.ensures.value ∙ c.if-is_ascii_digit.true in
-    let large : 2 ^ 32 ≤ 10 * value (take i text) + (get_or text i 0 - 48) = omega (arith, c.loop-end.invariant.value_is, c.from.ensures, c.from-in-loop-end.ensures, c.if-value-from.true) in
+    let large : 2 ^ 32 ≤ 10 * value (take i text) + (get_or text i 0 - 48) = omega (arith, c.loop-end.invariant.value_is, c.digit.ensures, c.from.ensures, c.if-value-from.true) in
     too_large_front text i c.loop-end-test.true c.loop-end.invariant.all digit large
 
 pub returns-clause-some : goal.returns-clause-some
