@@ -4,7 +4,7 @@ use Rattle.std.specs.Prelude.{count_by}
 use Rattle.std.proofs.lemmas.Bool.{cases_eq, false≢true}
 use Rattle.std.proofs.lemmas.List.{get_or-set_same, get_or-set_other}
 use Rattle.std.proofs.lemmas.List.Sums.{sum_by-set}
-use Rattle.hir_forest.specs.Forest.{IsKid, Climbs, IsTop, ChainEnds, Marks, LiesUnderMarked, HasOneParent}
+use Rattle.hir_forest.specs.Forest.{IsKid, Climbs, IsTop, ChainEnds, LiesUnder, Marks, LiesUnderMarked, HasOneParent}
 use Rattle.hir_forest.specs.Faults.{LiesUnderRoot}
 use Rattle.hir_forest.specs.Parents.{HasParents, IsOnChain, MeetsMarked, AreClear}
 use Rattle.hir_forest.proofs.HeightLemmas.{chain_short, join, extend}
@@ -69,6 +69,12 @@ module _ (g : List (List ℕ)) (parents : List (Option ℕ)) (h : HasParents g p
   -- a chain ends where that of the parent does
   pub ends_at_parent : (node parent : ℕ) → get_or parents node None ≡ Some parent → ChainEnds g parent → ChainEnds g node
   ends_at_parent node parent is e = (suc e.0, e.1, (parent, has_kid node parent is, e.2), e.3)
+
+  -- whose chain ends isn't properly under itself
+  pub not_under_itself : (c : ℕ) → ChainEnds g c → LiesUnder g c c → ⊥
+  not_under_itself c e u =
+      let long = no_longer g only_parent (suc u.0 + e.0) e.0 c e.1 e.1 (join g (suc u.0) e.0 c c e.1 u.1 e.2) e.2 e.3 in
+      omega arith
 
   -- marked nodes on a chain, step by step
   pub meets_next : (marked : List Bool) (at parent : ℕ) → get_or marked at false ≡ false → get_or parents at None ≡ Some parent → MeetsMarked g marked at → MeetsMarked g marked parent

@@ -4,7 +4,7 @@
 ghost use Rattle.std.specs.Prelude.{◌≡◌, ℕ, ◌<◌, ◌≤◌, ◌↔◌, List, [], length, IfNone, IfOk, Contains, All};
 ghost use Rattle.std.specs.List.{concat};
 ghost use Rattle.hir_forest.specs.Verdict.{◌before◌, first_below};
-ghost use Rattle.hir_forest.specs.Forest.{ChainEnds, Marks, MarksAll};
+ghost use Rattle.hir_forest.specs.Forest.{ChainEnds, LiesUnder, Marks, MarksAll};
 ghost use Rattle.hir_forest.specs.Faults.{LiesUnderRoot, cycle_fault, root_fault, forest_fault, root_nodes};
 ghost use Rattle.hir_forest.specs.Parents.{HasParents, IsParentageOf};
 ghost use Rattle.hir_forest.specs.Walk.{MarksRoots};
@@ -14,7 +14,6 @@ use crate::parent_table::ParentTable;
 use crate::parents::{Parents, parents_of};
 use crate::{Ends, ForestFault, Root, Rows};
 use std::alloc::{AllocError, Global};
-use std::mem::drop;
 
 /// Marks each root that may be one.
 fn mark_roots(limit: u32, roots: &[Root], marked: &mut [bool])
@@ -75,6 +74,30 @@ fn first_root_fault(
     None
 }
 
+/// The fault of a root that is listed alone: in a forest it is neither repeated nor under another one, so no tables are needed.
+fn lone_root_fault(lengths: Ends, roots: &[Root]) -> Option<ForestFault>
+    requires { length roots.now < 2 }
+    ensures { (g : List (List ℕ)) → ((n : ℕ) → n < lengths.exprs → LiesUnder g n n → ⊥)
+        → first_below (length roots.now)
+        (root_fault (LiesUnderRoot g lengths.exprs (root_nodes roots.now)) lengths roots.now) result }
+{
+    let Some(root) = roots.first() else {
+        return None;
+    };
+    if root.node >= lengths.exprs {
+        return Some(ForestFault::RootOutOfRange(0));
+    }
+    let before = Ends {
+        exprs: 0,
+        pats: 0,
+        bindings: 0,
+    };
+    if !root.ends.fit(before, lengths) {
+        return Some(ForestFault::RootEnds(0));
+    }
+    None
+}
+
 /// The first cycle, or else the first fault of a root, where no child is shared.
 fn first_chain_fault(
     alloc: Global,
@@ -89,24 +112,28 @@ fn first_chain_fault(
         (root_fault (LiesUnderRoot g lengths.exprs (root_nodes roots.now)) lengths roots.now)) fault) }
 {
     let nodes = parents.len();
-    let mut ends = vec![in alloc; false; nodes]?;
-    if let Some(fault) = first_cycle(parents, &mut ends, lengths.exprs as usize) {
+    let mut marks = vec![in alloc; false; nodes]?;
+    if let Some(fault) = first_cycle(parents, &mut marks, lengths.exprs as usize) {
         return Ok(Some(fault));
     }
-    // The other tables take its room.
-    drop(ends);
-    let mut listed = vec![in alloc; false; nodes]?;
-    mark_roots(lengths.exprs, roots, &mut listed);
+    if roots.len() < 2 {
+        return Ok(lone_root_fault(lengths, roots));
+    }
+    // The roots' marks take the room of the chains'.
+    marks.fill(false);
+    mark_roots(lengths.exprs, roots, &mut marks);
     let mut came = vec![in alloc; false; lengths.exprs as usize]?;
     let mut clear = vec![in alloc; false; nodes]?;
-    Ok(first_root_fault(lengths, roots, parents, &listed, &mut came, &mut clear))
+    Ok(first_root_fault(lengths, roots, parents, &marks, &mut came, &mut clear))
 }
 
 impl Parents {
     /// The first fault of the graph and its roots, or `None` if the graph is a forest and the roots are right. Each node must have its row.
     ///
-    /// It is that of the function `first_fault` of the same rows. It takes time linear in nodes and roots, and tables with three marks for
-    /// each node. `AllocError` only if memory for these is refused.
+    /// It is that of the function `first_fault` of the same rows. Where there is none, these are the parents of the nodes of a forest.
+    ///
+    /// It takes time linear in nodes and roots, and tables with three marks for each node, or with one where fewer than two roots are
+    /// listed. `AllocError` only if memory for these is refused.
     pub fn first_fault(
         &self,
         alloc: Global,
@@ -132,7 +159,8 @@ impl Parents {
 ///
 /// `lengths` has the lengths of the three arenas; nodes below `lengths.exprs` may be roots, so there
 /// are at least as many rows. Each kid must have a row. It takes time linear in rows, kids and roots,
-/// and tables with a number and three marks for each row. `AllocError` only if memory for these is refused.
+/// and tables with a number and three marks for each row, or with one mark where fewer than two roots are listed. `AllocError` only
+/// if memory for these is refused.
 pub fn first_fault(
     alloc: Global,
     rows: &Rows,

@@ -82,7 +82,7 @@ type Rooted = (
     Option<ForestFault>,
 );
 
-const ROOTED: [Rooted; 12] = [
+const ROOTED: [Rooted; 13] = [
     // A tree.
     (4, &[(0, 1), (0, 2), (3, 0)], 4, &[FOURTH], None),
     // Roots in any order.
@@ -93,6 +93,7 @@ const ROOTED: [Rooted; 12] = [
     (1, &[], 1, &[FIRST, SECOND], Some(RootOutOfRange(1))),
     // No expression.
     (2, &[], 1, &[SECOND], Some(RootOutOfRange(0))),
+    (2, &[], 1, &[SECOND, FIRST], Some(RootOutOfRange(0))),
     // Absent covers nothing.
     (2, &[(1, 0)], 1, &[FIRST, SECOND], Some(RootOutOfRange(1))),
     // Listed twice.
@@ -198,6 +199,25 @@ fn ends_rise_within_the_arenas(rt: HostRuntime) -> Result<(), Fail> {
         let found = fault_found(rt.alloc(), 3, &[], LENGTHS, &roots)?;
         let fit = first.fit(NO_ENDS, LENGTHS) && second.fit(first, LENGTHS);
         assert!(rt; found == *fault && fit == fault.is_none());
+    }
+    Ok(())
+}
+
+#[test]
+fn ends_of_a_lone_root_lie_within_the_arenas(rt: HostRuntime) -> Result<(), Fail> {
+    for (first, _, _) in &ENDS {
+        let first = ends(*first);
+        let root = [Root {
+            node: 0,
+            ends: first,
+        }];
+        let found = fault_found(rt.alloc(), 3, &[], LENGTHS, &root)?;
+        let fault = if first.fit(NO_ENDS, LENGTHS) {
+            None
+        } else {
+            Some(RootEnds(0))
+        };
+        assert!(rt; found == fault);
     }
     Ok(())
 }
