@@ -4,8 +4,8 @@ use hir_base::{HygieneId, Name, Seq, ShortList};
 use hir_error::HirError;
 use hir_items::{Body, Param};
 use hir_node::{
-    Binding, BindingAnnotation, Boxed, CaptureBy, ClosureKind, Expr, ExprId, Pat, PatId, Path,
-    Statement, Unsafe,
+    Binding, BindingAnnotation, Boxed, CaptureBy, ClosureKind, ClosureTypes, Expr, ExprId, Pat,
+    PatId, Path, Statement, Unsafe,
 };
 use hir_store::ExpressionStoreBuilder;
 use std::alloc::Global;
@@ -68,13 +68,16 @@ pub fn closure(
     arg: PatId,
     body: ExprId,
 ) -> Result<ExprId, HirError> {
-    Ok(builder.alloc_expr(Expr::Closure {
-        args: ShortList::from_slice(alloc, &[arg])?,
-        arg_types: Boxed::new(alloc, ShortList::from_slice(alloc, &[None])?)?,
+    let types = ClosureTypes {
+        arg_types: ShortList::from_slice(alloc, &[None])?,
         ret_type: None,
-        body,
+    };
+    Ok(builder.alloc_expr(Expr::Closure {
         closure_kind: ClosureKind::Closure,
         capture_by: CaptureBy::Ref,
+        body,
+        args: ShortList::from_slice(alloc, &[arg])?,
+        types: Boxed::new(alloc, types)?,
     })?)
 }
 
@@ -98,13 +101,14 @@ pub fn statement(expr: ExprId) -> Statement {
 
 /// `{ statements tail }`.
 pub fn block(
+    alloc: Global,
     builder: &mut ExpressionStoreBuilder,
     statements: Vec<Statement>,
     tail: ExprId,
 ) -> Result<ExprId, HirError> {
     Ok(builder.alloc_expr(Expr::Block {
         id: None,
-        statements: Seq::from_vec(statements),
+        statements: Boxed::new(alloc, Seq::from_vec(statements))?,
         tail: Some(tail),
         label: None,
         unsafe_: Unsafe::No,

@@ -1,5 +1,5 @@
 //! Paths without generic arguments: where they begin, and their segments.
-ghost use Rattle.std.specs.Prelude.{◌≡◌, ◌↔◌, ◌&&◌, [], ◌∷◌, ◌++◌, IsTrue, IsSome, Some, codes, option_map};
+ghost use Rattle.std.specs.Prelude.{◌≡◌, ◌↔◌, ◌&&◌, [], ◌∷◌, ◌++◌, IsTrue, IsSome, IsOk, IfOk, IfErr, Some, codes, length, option_map};
 ghost use Rattle.std.specs.Cmp.{and_per, and_equiv, on_per, on_equiv, partial_equiv_from_equiv};
 ghost use Rattle.std.specs.Cmp.Lexicographic.{pointwise, bytes_decides, lists_per, lists_equiv, nat_list_eq_equiv};
 ghost use Rattle.std.specs.Bool.{nat_eq};
@@ -9,7 +9,7 @@ ghost use Rattle.hir_base.specs.Exact.{exact};
 
 use crate::ids::CrateId;
 use crate::{ExactEq, Name, Seq, TryClone};
-use std::alloc::AllocError;
+use std::alloc::{AllocError, AllocFailed, Global};
 use std::hash::{Hash, Hasher};
 use std::marker::Model;
 use std::slice;
@@ -42,18 +42,22 @@ impl TryClone for PathKind {
     ghost clone_is_same = { Prim.search exact };
 }
 
-// A path by what it begins with. A plain path of one name is an identifier, as most are, and takes no memory.
+// A path by the place of its parts. A plain path of one name is an identifier, as most are, and takes no memory. All others lie in memory
+// of their own, so that what holds a path stays small.
 #[derive(Drop)]
 enum Form {
     Ident(Name),
-    PlainPath(Seq<Name>),
-    SuperPath(u8, Seq<Name>),
-    CratePath(Seq<Name>),
-    AbsPath(Seq<Name>),
-    DollarCratePath(CrateId, Seq<Name>),
+    Apart(Box<Parts>),
 }
 
-/// A path without arguments, seen as its kind and its segments.
+// The parts of a path that isn't an identifier.
+#[derive(Drop)]
+struct Parts {
+    kind: PathKind,
+    names: Seq<Name>,
+}
+
+/// A path without arguments, seen as its kind and its segments. It takes 24 bytes.
 ///
 /// A plain path of one name takes no memory but that of the name.
 #[derive(Drop)]
@@ -83,18 +87,29 @@ impl ModPath {
         }
     }
 
-    /// The path with this kind and these segments.
-    pub fn from_segments(kind: PathKind, names: Seq<Name>) -> ModPath
-        ensures { result ≡ record { kind = kind; segments = names } }
+    /// The path with this kind and these segments. A plain path of one name takes no memory, and any other takes one piece.
+    ///
+    /// Answers an error if that memory was refused: the names are handed back.
+    pub fn from_segments(
+        alloc: Global,
+        kind: PathKind,
+        names: Seq<Name>,
+    ) -> Result<ModPath, AllocFailed<Seq<Name>>>
+        ensures ok { IfOk result (λ path. path ≡ record { kind = kind; segments = names }) }
+        ensures ident { IsSome (ident_of record { kind = kind; segments = names }) → IsOk result }
+        ensures value_returned { IfErr result (λ failed. failed.value ≡ names) }
     {
-        let form = match kind {
-            PathKind::Plain => Form::plain(names),
-            PathKind::Super(levels) => Form::SuperPath(levels, names),
-            PathKind::Crate => Form::CratePath(names),
-            PathKind::Abs => Form::AbsPath(names),
-            PathKind::DollarCrate(id) => Form::DollarCratePath(id, names),
-        };
-        ModPath { form }
+        if kind == PathKind::Plain && names.len() == 1 {
+            return Ok(ModPath::from_name(only_name(names)));
+        }
+        match Box::new(alloc, Parts { kind, names }) {
+            Ok(parts) => Ok(ModPath {
+                form: Form::Apart(parts),
+            }),
+            Err(failed) => Err(AllocFailed {
+                value: failed.value.names,
+            }),
+        }
     }
 
     /// Where the path begins.
@@ -102,11 +117,8 @@ impl ModPath {
         ensures { result ≡ self.now.kind }
     {
         match &self.form {
-            Form::Ident(_) | Form::PlainPath(_) => PathKind::Plain,
-            Form::SuperPath(levels, _) => PathKind::Super(*levels),
-            Form::CratePath(_) => PathKind::Crate,
-            Form::AbsPath(_) => PathKind::Abs,
-            Form::DollarCratePath(id, _) => PathKind::DollarCrate(*id),
+            Form::Ident(_) => PathKind::Plain,
+            Form::Apart(parts) => parts.kind,
         }
     }
 
@@ -116,11 +128,7 @@ impl ModPath {
     {
         match &self.form {
             Form::Ident(name) => slice::from_ref(name),
-            Form::PlainPath(names)
-            | Form::SuperPath(_, names)
-            | Form::CratePath(names)
-            | Form::AbsPath(names)
-            | Form::DollarCratePath(_, names) => names.as_slice(),
+            Form::Apart(parts) => parts.names.as_slice(),
         }
     }
 
@@ -153,21 +161,15 @@ impl ModPath {
     }
 }
 
-impl Form {
-    ghost use Rattle.hir_base.specs.Form.{path_in};
-
-    // The form of a plain path with these names.
-    fn plain(names: Seq<Name>) -> Form
-        ensures { path_in result ≡ record { kind = PathKind.Plain; segments = names } }
-    {
-        if names.len() != 1 {
-            return Form::PlainPath(names);
-        }
-        let mut names = names.into_vec();
-        match names.pop() {
-            Some(name) => Form::Ident(name),
-            None => Form::PlainPath(Seq::from_vec(names)),
-        }
+// The name of a list of one name.
+fn only_name(names: Seq<Name>) -> Name
+    requires { length names ≡ 1 }
+    ensures { names ≡ result ∷ [] }
+{
+    let mut names = names.into_vec();
+    match names.pop() {
+        Some(name) => name,
+        None => unreachable!(),
     }
 }
 
@@ -211,14 +213,22 @@ impl Clone for ModPath {
     fn clone(&self) -> Result<ModPath, AllocError> {
         let form = match &self.form {
             Form::Ident(name) => Form::Ident(name.clone()?),
-            Form::PlainPath(names) => Form::PlainPath(names.clone()?),
-            Form::SuperPath(levels, names) => Form::SuperPath(*levels, names.clone()?),
-            Form::CratePath(names) => Form::CratePath(names.clone()?),
-            Form::AbsPath(names) => Form::AbsPath(names.clone()?),
-            Form::DollarCratePath(id, names) => Form::DollarCratePath(*id, names.clone()?),
+            Form::Apart(parts) => Form::Apart(clone_parts(parts)?),
         };
         Ok(ModPath { form })
     }
+}
+
+// A copy of the parts, in memory of its own.
+fn clone_parts(parts: &Box<Parts>) -> Result<Box<Parts>, AllocError>
+    ensures { IfOk result (λ copy. (copy.value.kind ≡ parts.now.value.kind) × (copy.value.names ≡ parts.now.value.names)) }
+{
+    let names = parts.names.clone()?;
+    let copy = Parts {
+        kind: parts.kind,
+        names,
+    };
+    Ok(Box::new(*Box::allocator(parts), copy)?)
 }
 
 impl ExactEq for ModPath {

@@ -151,6 +151,7 @@ impl Hash for Name {
 impl Clone for Name {
     ghost is_clone = { λ x y. y ≡ x };
 
+    // Inlined, since a short name is copied in a few instructions, and a scope copies one for each binding.
     #[inline(always)]
     fn clone(&self) -> Result<Name, AllocError> {
         let place = match &self.place {

@@ -8,7 +8,6 @@ ghost use Rattle.std.specs.Hash.{items_Alike};
 ghost use Rattle.std.specs.Slice.Iter.{iter_rest};
 ghost use Rattle.std.proofs.Common.{rules};
 ghost use Rattle.std.specs.Iterator.Adapters.{IterYieldsInOrder, IterYieldsInReverse};
-ghost use Rattle.hir_base.specs.ShortList.{items_at};
 
 use crate::{ExactEq, Seq, TryClone};
 use std::alloc::{AllocError, Global};
@@ -32,7 +31,8 @@ enum Place<T> {
 
 /// A list that contracts see as its items, like a `Seq`.
 ///
-/// A list of at most three items takes no memory of its own, and the list of ids itself 16 bytes.
+/// A list of at most three items takes no memory of its own, unless it was made with room for more; the list of ids itself takes 16
+/// bytes.
 #[derive(Drop)]
 pub struct ShortList<T> {
     place: Place<T>,
@@ -148,7 +148,7 @@ impl<T: Copy> ShortList<T> {
         Ok(ShortList { place })
     }
 
-    /// Adds the item at the end.
+    /// Adds the item at the end. Up to the third item this takes no memory.
     ///
     /// Answers an error if room for it was refused: the list is unchanged.
     pub fn push(&mut self, alloc: Global, item: T) -> Result<(), AllocError>

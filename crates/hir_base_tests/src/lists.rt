@@ -1,6 +1,6 @@
 //! Lists, texts and names, once each on the happy path.
 use crate::same;
-use hir_base::{ExactEq, Idx, Name, Seq, ShortList, Text, TryClone};
+use hir_base::{ExactEq, Idx, ModPath, Name, Seq, ShortList, Text, TryClone};
 use std::alloc::{AllocError, Global};
 use std::mem::{drop, size_of};
 use std::process::Abort;
@@ -181,7 +181,7 @@ fn short_lists_of_other_items_differ(rt: HostRuntime) -> Result<(), Fail> {
 // Nothing here takes memory, so that the test passes too where the first growth is refused.
 #[test]
 fn three_ids_lie_in_16_bytes(rt: HostRuntime) -> Result<(), Fail> {
-    assert!(rt; size_of::<ShortList<Idx<Name>>>() == 16);
+    assert!(rt; size_of::<ShortList<Idx<Name>>>() == 16 && size_of::<ModPath>() == 24);
     let alloc = rt.alloc();
     let room = ShortList::with_capacity(alloc, 3);
     let grown = keeps(alloc, filled(alloc, room, &[7, 8]), &[7, 8]);

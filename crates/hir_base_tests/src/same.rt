@@ -54,7 +54,7 @@ pub fn alike<T: Hash + Drop, E: Drop>(one: Result<T, E>, second: Result<T, E>) -
 fn path(alloc: Global, kind: PathKind) -> Result<ModPath, AllocError> {
     let mut names = Seq::new(alloc);
     names.push(Name::new(alloc, "größe")?)?;
-    Ok(ModPath::from_segments(kind, names))
+    Ok(ModPath::from_segments(alloc, kind, names)?)
 }
 
 // `größe`, of the name alone

@@ -3,7 +3,7 @@
 use crate::same;
 use either::Either;
 use hir_base::{
-    AdtId, AstPtr, BlockId, ConstParamId, DefWithBodyId, Edition, EnumVariantId, ExactEq,
+    AdtId, AstPtr, BlockId, ConstParamId, CrateId, DefWithBodyId, Edition, EnumVariantId, ExactEq,
     ExprPrecedence, ExpressionStoreOwnerId, ExternAbi, FunctionId, GenericDefId, HygieneId, Idx,
     LabelPtr, ModPath, Name, PathKind, RawWords, Seq, StructId, SyntaxContext, SyntaxNodePtr,
     SyntheticSyntax, Text, TextRange, TypeOrConstParamId, TypeParamId, VariantId, ast, laws,
@@ -96,13 +96,25 @@ fn path(alloc: Global, kind: PathKind, names: &[&str]) -> Result<ModPath, AllocE
     for name in names {
         segments.push(Name::new(alloc, name)?)?;
     }
-    Ok(ModPath::from_segments(kind, segments))
+    Ok(ModPath::from_segments(alloc, kind, segments)?)
 }
 
-// Whether the path is of this kind and has so many names, and is an ident or not, and `Self` or not. The path is taken.
-fn is_known(made: ModPath, kind: PathKind, count: usize, ident: bool, is_self: bool) -> bool {
+// Whether the names have these texts.
+fn have_texts(names: &[Name], texts: &[&str]) -> bool {
+    let mut left = names;
+    for text in texts {
+        match left.split_first() {
+            Some((name, others)) if name.as_str() == *text => left = others,
+            _ => return false,
+        }
+    }
+    left.is_empty()
+}
+
+// Whether the path is of this kind and has these names, and is an ident or not, and `Self` or not. The path is taken.
+fn is_known(made: ModPath, kind: PathKind, names: &[&str], ident: bool, is_self: bool) -> bool {
     let known = made.kind() == kind
-        && made.segments().len() == count
+        && have_texts(made.segments(), names)
         && made.is_ident() == ident
         && made.as_ident().is_some() == ident
         && made.is_Self() == is_self;
@@ -110,25 +122,43 @@ fn is_known(made: ModPath, kind: PathKind, count: usize, ident: bool, is_self: b
     known
 }
 
+// Whether the path of this kind and these names is known, and copied.
+fn is_kept(
+    alloc: Global,
+    kind: PathKind,
+    names: &[&str],
+    ident: bool,
+    is_self: bool,
+) -> Result<bool, AllocError> {
+    let made = path(alloc, kind, names)?;
+    let copies = same::copies(&made);
+    let known = is_known(made, kind, names, ident, is_self);
+    Ok(copies? && known)
+}
+
 // Names behind a kind, and whether their path is an ident, and whether it is `Self`.
-const KNOWN: [(PathKind, &[&str], bool, bool); 6] = [
+const KNOWN: [(PathKind, &[&str], bool, bool); 8] = [
     (PathKind::Plain, &["x"], true, false),
     (PathKind::Plain, &["Self"], true, true),
     (PathKind::Crate, &["Self"], false, false),
     (PathKind::Plain, &["Self", "Self"], false, false),
     (PathKind::SELF, &[], false, false),
     (PathKind::Abs, &["a", "b"], false, false),
+    (PathKind::Plain, &[], false, false),
+    (PathKind::Super(2), &["a"], false, false),
 ];
 
 #[test]
 fn one_plain_name_is_an_ident(rt: HostRuntime) -> Result<(), Fail> {
     assert!(rt; PathKind::SELF == PathKind::Super(0) && laws::kind_of_self() == PathKind::SELF);
     for (kind, names, ident, is_self) in &KNOWN {
-        let made = path(rt.alloc(), *kind, names)?;
-        let copies = same::copies(&made);
-        let known = is_known(made, *kind, names.len(), *ident, *is_self);
-        assert!(rt; copies? && known, "{names:?}");
+        assert!(rt;
+            is_kept(rt.alloc(), *kind, names, *ident, *is_self)?,
+            "{names:?}"
+        );
     }
+    let of_crate = PathKind::DollarCrate(CrateId::from_raw(3));
+    assert!(rt; is_kept(rt.alloc(), of_crate, &["a"], false, false)?);
     Ok(())
 }
 

@@ -34,8 +34,7 @@ fn scope_of_closure(
     }
     if let Expr::Closure {
         args: _,
-        arg_types: _,
-        ret_type: _,
+        types: _,
         body: _,
         closure_kind: _,
         capture_by: _,

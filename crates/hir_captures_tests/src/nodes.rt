@@ -4,8 +4,9 @@ use hir_base::{
     HygieneId, Idx, MacroDefId, ModPath, Name, PathKind, RangeOp, Seq, ShortList, SyntaxContext,
 };
 use hir_node::{
-    Array, ArrayType, Binding, BindingAnnotation, Boxed, CaptureBy, ClosureKind, ConstRef,
-    CoroutineKind, CoroutineSource, Expr, Item, MatchArm, Pat, Path, Statement, TypeRef, Unsafe,
+    Array, ArrayType, Binding, BindingAnnotation, Boxed, CaptureBy, ClosureKind, ClosureTypes,
+    ConstRef, CoroutineKind, CoroutineSource, Expr, Item, MatchArm, Pat, Path, Statement, TypeRef,
+    Unsafe,
 };
 use std::alloc::{AllocError, Global};
 
@@ -109,6 +110,11 @@ fn id<K>(number: Option<u32>) -> Option<Idx<K>> {
     }
 }
 
+/// The value in a box, if it could be made.
+fn boxed<T: Drop>(alloc: Global, value: Result<T, AllocError>) -> Result<Boxed<T>, AllocError> {
+    Ok(Boxed::new(alloc, value?)?)
+}
+
 /// The path of these parts.
 fn path(alloc: Global, start: &Start, texts: &[&str]) -> Result<Path, AllocError> {
     let kind = match *start {
@@ -121,7 +127,7 @@ fn path(alloc: Global, start: &Start, texts: &[&str]) -> Result<Path, AllocError
     for text in texts {
         names.push(Name::new(alloc, text)?)?;
     }
-    Ok(Path::BarePath(ModPath::from_segments(kind, names)))
+    Ok(Path::BarePath(ModPath::from_segments(alloc, kind, names)?))
 }
 
 /// The arms of these patterns, guards and bodies.
@@ -186,9 +192,24 @@ fn arg_types<T: Copy + Drop>(
     Ok(list)
 }
 
+/// The types of so many arguments, of which the first is this one, and no type behind them.
+fn closure_types(
+    alloc: Global,
+    args: &[u32],
+    first: Option<u32>,
+) -> Result<ClosureTypes, AllocError> {
+    match arg_types(alloc, args, id(first)) {
+        Ok(arg_types) => Ok(ClosureTypes {
+            arg_types,
+            ret_type: None,
+        }),
+        Err(error) => Err(error),
+    }
+}
+
 /// The block of these parts.
 fn block(alloc: Global, tail: Option<u32>, steps: &[StatementStep]) -> Result<Expr, AllocError> {
-    let statements = all_made(alloc, steps)?;
+    let statements = boxed(alloc, all_made(alloc, steps))?;
     Ok(Expr::Block {
         id: None,
         statements,
@@ -207,14 +228,13 @@ fn closure(
     first: Option<u32>,
 ) -> Result<Expr, AllocError> {
     let pats = ids(alloc, args)?;
-    let types = Boxed::new(alloc, arg_types(alloc, args, id(first))?)?;
+    let types = boxed(alloc, closure_types(alloc, args, first))?;
     Ok(Expr::Closure {
-        args: pats,
-        arg_types: types,
-        ret_type: None,
-        body: Idx::from_raw(body),
         closure_kind,
         capture_by: CaptureBy::Ref,
+        body: Idx::from_raw(body),
+        args: pats,
+        types,
     })
 }
 

@@ -10,7 +10,7 @@ use hir_defs::{
     PlainSignature, RefusedSignature, StructParts, StructSignature, TypeOrConstParamData,
     TypeParamData, TypeParamProvenance, VariantFields, VariantParts,
 };
-use hir_node::{Expr, Literal, TypeRef, TypeRefKind};
+use hir_node::{Expr, Int, Literal, TypeRef, TypeRefKind};
 use hir_store::{ExpressionStore, ExpressionStoreBuilder, ExpressionStoreSourceMap};
 use std::alloc::{AllocError, Global};
 use std::test::Fail;
@@ -43,7 +43,10 @@ fn add_types(types: &mut Arena<TypeRefKind, TypeRef>, count: u32) -> Result<(), 
 fn build(builder: &mut ExpressionStoreBuilder, types: u32, has_one: bool) -> Result<(), Fail> {
     add_types(&mut builder.types, types)?;
     if has_one {
-        add(&mut builder.exprs, Expr::Literal(Literal::Int(1, None)))?;
+        add(
+            &mut builder.exprs,
+            Expr::Literal(Literal::Int(Int::new(1), None)),
+        )?;
         taken(builder.push_root(Idx::from_raw(0)))?;
     }
     Ok(())

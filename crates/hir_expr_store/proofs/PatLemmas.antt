@@ -104,7 +104,7 @@ module _ (inside : ℕ → List ℕ) where
   pats_first pat.NotNull = refl
   pats_first (pat.Tuple args ellipsis) = parted-all (λ x. x) args
   pats_first (pat.Or args) = parted-all (λ x. x) args
-  pats_first (pat.Record path args ellipsis) = parted-then (λ field. field.pat) args (path_calls path) (parted-none (path_calls path) (none-path path))
+  pats_first (pat.Record ellipsis path args) = parted-then (λ field. field.pat) args (path_calls path) (parted-none (path_calls path) (none-path path))
   pats_first (pat.Range start end range_type) = parted-none (opt e start ++ opt e end) (none-range start end)
   pats_first (pat.Slice prefix slice suffix) =
       rw (append_assoc (flat_map p prefix) (opt p slice) (flat_map p suffix))

@@ -1,10 +1,8 @@
 -- Going down from kid to kid and climbing from child to parent lead between the same nodes.
-use Rattle.std.proofs.Common.{◌≡◌, ℕ, zero, suc, ◌+◌, ◌-◌, ◌<◌, ◌≤◌, ◌⊎◌, ◌↔◌, Bool, true, false, not, List, [], Option, None, inl, inr, ⊎_elim, refl, ap, sym, ◌∙◌, subst, arith, length, map, get_or, set, Contains}
+use Rattle.std.proofs.Common.{◌≡◌, ℕ, zero, suc, ◌+◌, ◌-◌, ◌<◌, ◌≤◌, ◌⊎◌, ◌↔◌, Bool, true, not, List, [], Option, None, inl, inr, ⊎_elim, refl, ap, sym, ◌∙◌, subst, arith, length, map, get_or, set, Contains}
 use Rattle.std.specs.Prelude.{IsTrue}
-use Rattle.std.specs.List.{list_all}
-use Rattle.std.proofs.lemmas.Bool.{cases_lt, false≢true, not-true}
-use Rattle.std.proofs.lemmas.List.{length-map, get_or-map, get_or_default}
-use Rattle.std.proofs.lemmas.List.Sums.{AllPass-from_list_all, list_all-from_AllPass}
+use Rattle.std.proofs.lemmas.Bool.{cases_lt}
+use Rattle.std.proofs.lemmas.List.{length-map, get_or-map}
 use Rattle.std.proofs.lemmas.List.Elements.{Contains-get_or}
 use Rattle.hir_forest.specs.Forest.{IsKid, Climbs, HasOneParent, IsForest, Marks, LiesUnderMarked}
 use Rattle.hir_forest.specs.Height.{height}
@@ -21,7 +19,7 @@ use Rattle.hir_faults.specs.Nodes.{Nodes, sizes_of, Has, kids_of, graph}
 use Rattle.hir_faults.specs.Faults.{Rooted, rooted_fault}
 use Rattle.hir_faults.specs.Down.{KidsFall}
 use Rattle.hir_expr_store.specs.Under.{Under, itself, below, LiesUnderOther}
-use Rattle.hir_expr_store.specs.NodeSets.{Marked, IsIn, Gains, NoKidIn}
+use Rattle.hir_expr_store.specs.NodeSets.{Marked, Gains, NoKidIn}
 use Rattle.hir_faults.proofs.FaultLemmas.{accepted_forest, graph-length}
 use Rattle.hir_faults.proofs.SoundLemmas.{place_within, row_at_place, kid_in_graph, sound_falls}
 

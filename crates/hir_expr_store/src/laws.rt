@@ -80,7 +80,7 @@ pub fn paths_of_nodes_fit()
         → IsTrue (path_fits c.nodes path) }
     ensures record_pats { (c : Contents) → contents_fault c None
         → (id : ℕ) (path : Path) (args : List RecordFieldPat) (ellipsis : Bool)
-        → slice_get c.nodes.pats id ≡ Some (pat.Record path args ellipsis) → IsTrue (path_fits c.nodes path) }
+        → slice_get c.nodes.pats id ≡ Some (pat.Record ellipsis path args) → IsTrue (path_fits c.nodes path) }
     ensures types { (c : Contents) → contents_fault c None → (id : ℕ) (path : Path)
         → slice_get c.nodes.types id ≡ Some (type.Path path) → IsTrue (path_fits c.nodes path) }
 {}

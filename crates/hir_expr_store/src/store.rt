@@ -56,7 +56,6 @@ impl Drop for ExpressionStore {
 }
 
 impl Model for ExpressionStore {
-    ghost use Rattle.std.specs.Prelude.{None};
     ghost use Rattle.hir_expr_store.specs.Contents.{Contents, IsStore};
 
     ghost Value = { Contents };

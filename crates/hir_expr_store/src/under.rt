@@ -85,7 +85,7 @@ impl ExpressionStore {
 
     /// Whether no kid of a node is in the set, which is of nodes of this store. Then no node in it lies under another node.
     ///
-    /// It takes a look at each mark, and no memory: the parents of nodes are kept.
+    /// It takes time in the number of nodes and no memory: the parents of nodes are kept.
     pub fn no_kid_is_in(&self, set: &NodeSet) -> bool
         requires { set.now.sizes ≡ sizes_of self.now.nodes }
         ensures { IsTrue result ↔ NoKidIn self.now.nodes set.now }

@@ -45,8 +45,8 @@ module _ (c : Rooted) (sound : rooted_fault c None) (id : ℕ) (path : Path) whe
   pub tuple_struct_path_fits : (args : List ℕ) (ellipsis : Option ℕ) → slice_get c.nodes.pats id ≡ Some (pat.TupleStruct path args ellipsis) → IsTrue (path_fits c.nodes path)
   tuple_struct_path_fits args ellipsis is = held_fits c.nodes path (flat_map p args) [] [] (pats_sound c sound id (pat.TupleStruct path args ellipsis) is)
 
-  pub record_pat_path_fits : (args : List RecordFieldPat) (ellipsis : Bool) → slice_get c.nodes.pats id ≡ Some (pat.Record path args ellipsis) → IsTrue (path_fits c.nodes path)
-  record_pat_path_fits args ellipsis is = held_fits c.nodes path (flat_map (λ field. p field.pat) args) [] [] (pats_sound c sound id (pat.Record path args ellipsis) is)
+  pub record_pat_path_fits : (args : List RecordFieldPat) (ellipsis : Bool) → slice_get c.nodes.pats id ≡ Some (pat.Record ellipsis path args) → IsTrue (path_fits c.nodes path)
+  record_pat_path_fits args ellipsis is = held_fits c.nodes path (flat_map (λ field. p field.pat) args) [] [] (pats_sound c sound id (pat.Record ellipsis path args) is)
 
   pub type_path_fits : slice_get c.nodes.types id ≡ Some (type.Path path) → IsTrue (path_fits c.nodes path)
   type_path_fits is = held_fits c.nodes path [] [] [] (types_sound c sound id (type.Path path) is)

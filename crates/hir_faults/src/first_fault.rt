@@ -1,4 +1,4 @@
-//! The first fault of nodes with their roots.
+//! The first fault of nodes with their roots, or the parents of nodes that have none.
 
 ghost use Rattle.std.specs.Prelude.{◌≡◌, ◌+◌, ◌<◌, ◌≤◌, [], ◌∷◌, nat_lt, ◌⊎◌, true, None, Some, length, map, IfNone, IfOk, IfErr, IsTrue};
 ghost use Rattle.std.specs.Option.{option_to_list};

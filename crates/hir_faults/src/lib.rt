@@ -1,5 +1,6 @@
 //! The faults of nodes with their roots: which node names what isn't there, holds what is wrong in itself, or isn't in a forest.
-//! A store's nodes have none. Here are the faults, the search for the first one, and the tests that a store also has.
+//! A store's nodes have none. Here are the faults, the search for the first one, which finds the parents of all nodes on its way, and
+//! the tests that a store also has.
 #![tactic(auto)]
 
 mod edges;

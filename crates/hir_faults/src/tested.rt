@@ -183,8 +183,7 @@ impl TestedNode for Expr {
             | Expr::Index { base: _, index: _ }
             | Expr::Closure {
                 args: _,
-                arg_types: _,
-                ret_type: _,
+                types: _,
                 body: _,
                 closure_kind: _,
                 capture_by: _,
@@ -264,8 +263,7 @@ impl TestedNode for Expr {
             | Expr::Index { base: _, index: _ }
             | Expr::Closure {
                 args: _,
-                arg_types: _,
-                ret_type: _,
+                types: _,
                 body: _,
                 closure_kind: _,
                 capture_by: _,

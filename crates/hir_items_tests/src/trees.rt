@@ -2,7 +2,7 @@
 //! lent the builder.
 use crate::memory::{Written, add_all, first, in_a_box, taken};
 use hir_base::{HygieneId, Idx, Name, RangeOp};
-use hir_node::{Binding, BindingAnnotation, Expr, Literal, Pat, TypeRef};
+use hir_node::{Binding, BindingAnnotation, Expr, Int, Literal, Pat, TypeRef};
 use hir_store::{ExpressionStore, ExpressionStoreBuilder};
 use std::alloc::{AllocError, Global};
 use std::test::Fail;
@@ -80,7 +80,7 @@ impl Written<Pat> for PatOf {
 impl Written<Expr> for ExprOf {
     fn made(&self, _: Global) -> Result<Expr, AllocError> {
         Ok(match self {
-            ExprOf::One => Expr::Literal(Literal::Int(1, None)),
+            ExprOf::One => Expr::Literal(Literal::Int(Int::new(1), None)),
             ExprOf::Let(pat, value) => Expr::Let {
                 pat: Idx::from_raw(*pat),
                 expr: Idx::from_raw(*value),

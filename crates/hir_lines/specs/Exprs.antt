@@ -101,14 +101,14 @@ abbrev pub closure_expr : Reading Expr
 closure_expr = do
   body ← number
   args ← list
-  gives (ClosureExpr args (untyped args) None body Closure ByRef)
+  gives (ClosureExpr Closure ByRef body args (record { arg_types = untyped args; ret_type = None }))
 
 abbrev pub block_expr : Reading Expr
 block_expr = do
   id ← optional
   tail ← optional
   statements ← each statement_of
-  gives (Block id statements tail None Safe)
+  gives (Block Safe id statements tail None)
 
 abbrev pub expr_forms : List (List ℕ × Reading Expr)
 expr_forms =

@@ -11,8 +11,8 @@ use crate::stop::Stop;
 use crate::words::{Words, each};
 use hir_base::{BlockId, ShortList};
 use hir_node::{
-    Array, Boxed, CaptureBy, ClosureKind, Expr, Literal, LoopSource, Mutability, PatId, Rawness,
-    TypeRefId, Unsafe,
+    Array, Boxed, CaptureBy, ClosureKind, ClosureTypes, Expr, Int, Literal, LoopSource, Mutability,
+    PatId, Rawness, TypeRefId, Unsafe,
 };
 use std::alloc::{AllocError, Global};
 
@@ -83,7 +83,11 @@ fn int<B: Builder>(words: &mut Words<'_>, builder: &mut B) -> Result<(), Stop>
     ensures { Puts B.add make.Expr int_expr words.old builder.old builder.new result }
 {
     let n = words.int()?;
-    put(words, builder, Expr::Literal(Literal::Int(n, None)))
+    put(
+        words,
+        builder,
+        Expr::Literal(Literal::Int(Int::new(n), None)),
+    )
 }
 
 fn call<B: Builder>(alloc: Global, words: &mut Words<'_>, builder: &mut B) -> Result<(), Stop>
@@ -207,14 +211,16 @@ fn closure<B: Builder>(alloc: Global, words: &mut Words<'_>, builder: &mut B) ->
 {
     let body = words.id()?;
     let args = words.list(alloc)?;
-    let arg_types = Boxed::new(alloc, untyped(alloc, args.as_slice())?)?;
-    let closure = Expr::Closure {
-        args,
-        arg_types,
+    let types = ClosureTypes {
+        arg_types: untyped(alloc, args.as_slice())?,
         ret_type: None,
-        body,
+    };
+    let closure = Expr::Closure {
         closure_kind: ClosureKind::Closure,
         capture_by: CaptureBy::Ref,
+        body,
+        args,
+        types: Boxed::new(alloc, types)?,
     };
     put(words, builder, closure)
 }
@@ -236,11 +242,11 @@ fn block<B: Builder>(alloc: Global, words: &mut Words<'_>, builder: &mut B) -> R
     let id = words.optional()?.map(BlockId::from_raw);
     let tail = words.optional_id()?;
     let block = Expr::Block {
+        unsafe_: Unsafe::No,
         id,
-        statements: each(alloc, words)?,
+        statements: Boxed::new(alloc, each(alloc, words)?)?,
         tail,
         label: None,
-        unsafe_: Unsafe::No,
     };
     put(words, builder, block)
 }

@@ -119,7 +119,7 @@ pats-opt (Some id) = refl
 pub child-tuple_struct : (path : Path) (args : List ℕ) (ellipsis : Option ℕ) → child_pats (pat.TupleStruct path args ellipsis) ≡ args
 child-tuple_struct path args ellipsis = flat_map-append pat_of_call (flat_map p args) (path_calls path) ∙ rw (pats-list args, none-path path) (append-nil args)
 
-pub child-record : (path : Path) (args : List RecordFieldPat) (ellipsis : Bool) → child_pats (pat.Record path args ellipsis) ≡ map (λ field. field.pat) args
+pub child-record : (path : Path) (args : List RecordFieldPat) (ellipsis : Bool) → child_pats (pat.Record ellipsis path args) ≡ map (λ field. field.pat) args
 child-record path args ellipsis = flat_map-append pat_of_call (flat_map (λ field. p field.pat) args) (path_calls path) ∙ rw (pats-fields args, none-path path) (append-nil (map (λ field. field.pat) args))
 
 pub child-slice : (prefix : List ℕ) (slice : Option ℕ) (suffix : List ℕ) → child_pats (pat.Slice prefix slice suffix) ≡ (prefix ++ option_to_list slice) ++ suffix

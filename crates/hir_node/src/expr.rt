@@ -3,8 +3,8 @@ ghost use Rattle.std.specs.Prelude.{◌≡◌, IfOk};
 ghost use Rattle.hir_node.specs.Precedence.{of_operator, of_arith};
 
 use crate::expr_types::{
-    Array, CaptureBy, ClosureKind, LoopSource, MatchArm, OffsetOf, RecordLitField, RecordSpread,
-    Statement, Unsafe,
+    Array, CaptureBy, ClosureKind, ClosureTypes, LoopSource, MatchArm, OffsetOf, RecordLitField,
+    RecordSpread, Statement, Unsafe,
 };
 use crate::literal::Literal;
 use crate::type_ref::{Mutability, Rawness};
@@ -15,7 +15,8 @@ use hir_base::{
 use hir_path::{Boxed, ExprId, GenericArgs, LabelId, PatId, Path, TypeRefId};
 use std::alloc::AllocError;
 
-/// An expression.
+/// An expression. It takes 40 bytes: the compiler lays fields out in this order, and what would make all expressions larger lies in a
+/// box.
 #[derive(Drop, PartialEq, Eq)]
 pub enum Expr {
     /// Nothing was there.
@@ -41,11 +42,11 @@ pub enum Expr {
         expr: ExprId,
     },
     Block {
+        unsafe_: Unsafe,
         id: Option<BlockId>,
-        statements: Seq<Statement>,
+        statements: Boxed<Seq<Statement>>,
         tail: Option<ExprId>,
         label: Option<LabelId>,
-        unsafe_: Unsafe,
     },
     Loop {
         body: ExprId,
@@ -58,8 +59,8 @@ pub enum Expr {
     },
     MethodCall {
         receiver: ExprId,
-        method_name: Name,
-        args: ShortList<ExprId>,
+        method_name: Boxed<Name>,
+        args: Boxed<ShortList<ExprId>>,
         generic_args: Option<Boxed<GenericArgs>>,
     },
     Match {
@@ -91,7 +92,7 @@ pub enum Expr {
     },
     RecordLit {
         path: Boxed<Path>,
-        fields: Seq<RecordLitField>,
+        fields: Boxed<Seq<RecordLitField>>,
         spread: RecordSpread,
     },
     Field {
@@ -128,12 +129,11 @@ pub enum Expr {
         index: ExprId,
     },
     Closure {
-        args: ShortList<PatId>,
-        arg_types: Boxed<ShortList<Option<TypeRefId>>>,
-        ret_type: Option<TypeRefId>,
-        body: ExprId,
         closure_kind: ClosureKind,
         capture_by: CaptureBy,
+        body: ExprId,
+        args: ShortList<PatId>,
+        types: Boxed<ClosureTypes>,
     },
     Tuple {
         exprs: ShortList<ExprId>,
@@ -213,8 +213,7 @@ impl Expr {
             | Expr::Break { expr: _, label: _ }
             | Expr::Closure {
                 args: _,
-                arg_types: _,
-                ret_type: _,
+                types: _,
                 body: _,
                 closure_kind: _,
                 capture_by: _,
@@ -366,21 +365,19 @@ impl Clone for Expr {
                 index: *index,
             }),
             Expr::Closure {
-                args,
-                arg_types,
-                ret_type,
-                body,
                 closure_kind,
                 capture_by,
+                body,
+                args,
+                types,
             } => {
-                let (args, arg_types) = clone_params(args, arg_types)?;
+                let (args, types) = clone_params(args, types)?;
                 Ok(Expr::Closure {
-                    args,
-                    arg_types,
-                    ret_type: *ret_type,
-                    body: *body,
                     closure_kind: *closure_kind,
                     capture_by: *capture_by,
+                    body: *body,
+                    args,
+                    types,
                 })
             }
             Expr::Tuple { exprs } => Ok(Expr::Tuple {
@@ -393,8 +390,8 @@ impl Clone for Expr {
 /// A method call with copies of these parts.
 fn clone_method_call(
     receiver: ExprId,
-    method_name: &Name,
-    args: &ShortList<ExprId>,
+    method_name: &Boxed<Name>,
+    args: &Boxed<ShortList<ExprId>>,
     generic_args: &Option<Boxed<GenericArgs>>,
 ) -> Result<Expr, AllocError>
     ensures { IfOk result (λ it. it ≡ Expr.MethodCall receiver method_name.now args.now generic_args.now) }
@@ -410,7 +407,7 @@ fn clone_method_call(
 /// A record literal with copies of these parts.
 fn clone_record_lit(
     path: &Boxed<Path>,
-    fields: &Seq<RecordLitField>,
+    fields: &Boxed<Seq<RecordLitField>>,
     spread: RecordSpread,
 ) -> Result<Expr, AllocError>
     ensures { IfOk result (λ copy. copy ≡ Expr.RecordLit path.now fields.now spread) }
@@ -423,14 +420,14 @@ fn clone_record_lit(
     })
 }
 
-/// Copies of the lists of a closure's parameters and of their types.
+/// Copies of the list of a closure's parameters and of its types.
 fn clone_params(
     args: &ShortList<PatId>,
-    arg_types: &Boxed<ShortList<Option<TypeRefId>>>,
-) -> Result<(ShortList<PatId>, Boxed<ShortList<Option<TypeRefId>>>), AllocError>
-    ensures { IfOk result (λ copy. (copy.0 ≡ args.now) × (copy.1 ≡ arg_types.now)) }
+    types: &Boxed<ClosureTypes>,
+) -> Result<(ShortList<PatId>, Boxed<ClosureTypes>), AllocError>
+    ensures { IfOk result (λ copy. (copy.0 ≡ args.now) × (copy.1 ≡ types.now)) }
 {
-    Ok((args.try_clone()?, arg_types.try_clone()?))
+    Ok((args.try_clone()?, types.try_clone()?))
 }
 
 impl ExactEq for Expr {

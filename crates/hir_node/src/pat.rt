@@ -23,7 +23,7 @@ impl TryClone for RecordFieldPat {
     ghost clone_is_same = { Prim.search exact };
 }
 
-/// A pattern.
+/// A pattern. It takes 40 bytes, as an expression does.
 #[derive(Drop, PartialEq, Eq)]
 pub enum Pat {
     /// Nothing was there.
@@ -41,10 +41,10 @@ pub enum Pat {
     },
     Or(ShortList<PatId>),
     Record {
-        path: Boxed<Path>,
-        args: Seq<RecordFieldPat>,
         /// Whether `..` comes last.
         ellipsis: bool,
+        path: Boxed<Path>,
+        args: Seq<RecordFieldPat>,
     },
     Range {
         start: Option<ExprId>,
@@ -55,7 +55,7 @@ pub enum Pat {
         prefix: ShortList<PatId>,
         /// What is between the first items and the last.
         slice: Option<PatId>,
-        suffix: ShortList<PatId>,
+        suffix: Boxed<ShortList<PatId>>,
     },
     /// A constant, or a variant without fields. On the left of an assignment it may also be a variable, as the `a` of `(a, b) = c`.
     Path(Path),
@@ -168,7 +168,7 @@ fn clone_record(
     args: &Seq<RecordFieldPat>,
     ellipsis: bool,
 ) -> Result<Pat, AllocError>
-    ensures { IfOk result (λ copy. copy ≡ Pat.Record path.now args.now ellipsis) }
+    ensures { IfOk result (λ copy. copy ≡ Pat.Record ellipsis path.now args.now) }
 {
     // The list first: where the path can't be cloned, what is dropped isn't a path.
     Ok(Pat::Record {

@@ -70,12 +70,18 @@ pub fn names(alloc: Global, texts: &[&str]) -> Result<Seq<Name>, AllocError> {
     list
 }
 
+/// The path of this kind and these names, if they could be made.
+pub fn path(
+    alloc: Global,
+    kind: PathKind,
+    segments: Result<Seq<Name>, AllocError>,
+) -> Result<ModPath, AllocError> {
+    Ok(ModPath::from_segments(alloc, kind, segments?)?)
+}
+
 /// The plain path of these names.
 pub fn plain(alloc: Global, texts: &[&str]) -> Result<ModPath, AllocError> {
-    match names(alloc, texts) {
-        Ok(segments) => Ok(ModPath::from_segments(PathKind::Plain, segments)),
-        Err(error) => Err(error),
-    }
+    path(alloc, PathKind::Plain, names(alloc, texts))
 }
 
 /// The plain path of these names, without anchor and arguments.

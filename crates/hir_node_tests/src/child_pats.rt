@@ -80,9 +80,9 @@ fn record(alloc: Global) -> Result<Pat, AllocError> {
     let path = build::boxed(alloc, build::with_args_first(alloc, &["A"]));
     match build::both(path, fields) {
         Ok((path, args)) => Ok(Pat::Record {
+            ellipsis: true,
             path,
             args,
-            ellipsis: true,
         }),
         Err(error) => Err(error),
     }

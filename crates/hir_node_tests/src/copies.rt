@@ -75,8 +75,9 @@ fn offset_of(alloc: Global) -> Result<Expr, AllocError> {
 }
 
 fn method_call(alloc: Global) -> Result<Expr, AllocError> {
+    let name = build::boxed(alloc, Name::new(alloc, "f"));
     let args = ShortList::from_slice(alloc, &[Idx::from_raw(2)]);
-    let name_and_args = build::both(Name::new(alloc, "f"), args);
+    let name_and_args = build::both(name, build::boxed(alloc, args));
     match build::both(name_and_args, build::boxed(alloc, build::nested(alloc))) {
         Ok(((method_name, args), generic_args)) => Ok(Expr::MethodCall {
             receiver: Idx::from_raw(1),
@@ -101,7 +102,7 @@ fn field(alloc: Global) -> Result<RecordLitField, AllocError> {
 
 // `S { x: 1, ..2 }`
 fn record(alloc: Global) -> Result<Expr, AllocError> {
-    let fields = build::only(alloc, field(alloc));
+    let fields = build::boxed(alloc, build::only(alloc, field(alloc)));
     let path = build::boxed(alloc, build::bare(alloc, &["S"]));
     match build::both(path, fields) {
         Ok((path, fields)) => Ok(Expr::RecordLit {
@@ -119,8 +120,9 @@ fn text(alloc: Global) -> Result<Literal, AllocError> {
 }
 
 fn number(alloc: Global) -> Result<Literal, AllocError> {
-    match Text::from_str(alloc, "1.50") {
-        Ok(text) => Ok(Literal::Float(FloatTypeWrapper::new(text), None)),
+    let number = Text::from_str(alloc, "1.50").map(FloatTypeWrapper::new);
+    match build::boxed(alloc, number) {
+        Ok(number) => Ok(Literal::Float(number, None)),
         Err(error) => Err(error),
     }
 }
@@ -154,9 +156,9 @@ fn record_pat(alloc: Global) -> Result<Pat, AllocError> {
     let path = build::boxed(alloc, build::bare(alloc, &["S"]));
     match build::both(path, fields) {
         Ok((path, args)) => Ok(Pat::Record {
+            ellipsis: true,
             path,
             args,
-            ellipsis: true,
         }),
         Err(error) => Err(error),
     }
@@ -233,7 +235,7 @@ fn function(alloc: Global) -> Result<FnType, AllocError> {
 // Function 4, as the item `new` of the language.
 fn item(alloc: Global) -> Result<Path, AllocError> {
     let item = LangItemTarget::FunctionId(FunctionId::from_raw(4));
-    match Name::new(alloc, "new") {
+    match build::boxed(alloc, Name::new(alloc, "new")) {
         Ok(name) => Ok(Path::LangItem(item, Some(name))),
         Err(error) => Err(error),
     }
@@ -309,7 +311,8 @@ fn values_that_are_made_alike_hash_alike(rt: HostRuntime) -> Result<(), Fail> {
 // A store has a million of them: what makes one larger is paid by all.
 #[test]
 fn nodes_keep_their_sizes(rt: HostRuntime) -> Result<(), Fail> {
-    assert!(rt; size_of::<Expr>() == 64 && size_of::<Pat>() == 48);
-    assert!(rt; size_of::<TypeRef>() == 48 && size_of::<Binding>() == 32);
+    assert!(rt; size_of::<Expr>() == 40 && size_of::<Pat>() == 40);
+    assert!(rt; size_of::<TypeRef>() == 40 && size_of::<Binding>() == 32);
+    assert!(rt; size_of::<Path>() == 32 && size_of::<Literal>() == 32);
     Ok(())
 }

@@ -103,7 +103,7 @@ fn a_segment_has_the_arguments_of_its_place(rt: HostRuntime) -> Result<(), Fail>
 
 // Whether the item `new` of the language has its name as the only segment.
 fn is_named_new(alloc: Global) -> Result<bool, AllocError> {
-    let name = Name::new(alloc, "new")?;
+    let name = build::boxed(alloc, Name::new(alloc, "new"))?;
     let item = LangItemTarget::FunctionId(FunctionId::from_raw(4));
     let path = Path::LangItem(item, Some(name));
     let holds = named(path.segments(), &["new"]);

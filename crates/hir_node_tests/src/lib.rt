@@ -17,6 +17,8 @@ mod made;
 #[cfg(test)]
 mod nodes;
 #[cfg(test)]
+mod numbers;
+#[cfg(test)]
 mod paths;
 #[cfg(test)]
 mod small;

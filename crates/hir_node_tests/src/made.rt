@@ -2,8 +2,8 @@
 use crate::build;
 use hir_base::{Idx, ShortList};
 use hir_node::{
-    CaptureBy, ClosureKind, Expr, ExprId, Item, MatchArm, Mutability, Pat, RefType, Statement,
-    TypeRef, Unsafe,
+    Boxed, CaptureBy, ClosureKind, ClosureTypes, Expr, ExprId, Item, MatchArm, Mutability, Pat,
+    RefType, Statement, TypeRef, Unsafe,
 };
 use std::alloc::{AllocError, Global};
 
@@ -35,7 +35,8 @@ pub fn block(alloc: Global) -> Result<Expr, AllocError> {
         initializer: Some(Idx::from_raw(2)),
         else_branch: Some(Idx::from_raw(3)),
     };
-    match build::two(alloc, Statement::Item(Item::Other), declared) {
+    let statements = build::two(alloc, Statement::Item(Item::Other), declared);
+    match build::boxed(alloc, statements) {
         Ok(statements) => Ok(Expr::Block {
             id: None,
             statements,
@@ -47,19 +48,28 @@ pub fn block(alloc: Global) -> Result<Expr, AllocError> {
     }
 }
 
+// Two parameters, of which the second is of type 3, and the type 4 behind them.
+fn closure_types(alloc: Global) -> Result<Boxed<ClosureTypes>, AllocError> {
+    let types = match ShortList::from_slice(alloc, &[None, Some(Idx::from_raw(3))]) {
+        Ok(arg_types) => Ok(ClosureTypes {
+            arg_types,
+            ret_type: Some(Idx::from_raw(4)),
+        }),
+        Err(error) => Err(error),
+    };
+    build::boxed(alloc, types)
+}
+
 /// A closure of body 0 and the patterns 1 and 2, of which the second is of type 3, that gives type 4.
 pub fn closure(alloc: Global) -> Result<Expr, AllocError> {
     let args = ShortList::from_slice(alloc, &[Idx::from_raw(1), Idx::from_raw(2)]);
-    let arg_types = ShortList::from_slice(alloc, &[None, Some(Idx::from_raw(3))]);
-    let arg_types = build::boxed(alloc, arg_types);
-    match build::both(args, arg_types) {
-        Ok((args, arg_types)) => Ok(Expr::Closure {
-            args,
-            arg_types,
-            ret_type: Some(Idx::from_raw(4)),
-            body: Idx::from_raw(0),
+    match build::both(args, closure_types(alloc)) {
+        Ok((args, types)) => Ok(Expr::Closure {
             closure_kind: ClosureKind::Closure,
             capture_by: CaptureBy::Ref,
+            body: Idx::from_raw(0),
+            args,
+            types,
         }),
         Err(error) => Err(error),
     }
@@ -83,7 +93,7 @@ pub fn tuple_struct(alloc: Global) -> Result<Pat, AllocError> {
 pub fn slice(alloc: Global) -> Result<Pat, AllocError> {
     let prefix = ShortList::from_slice(alloc, &[Idx::from_raw(1)]);
     let suffix = ShortList::from_slice(alloc, &[Idx::from_raw(3)]);
-    match build::both(prefix, suffix) {
+    match build::both(prefix, build::boxed(alloc, suffix)) {
         Ok((prefix, suffix)) => Ok(Pat::Slice {
             prefix,
             slice: Some(Idx::from_raw(2)),

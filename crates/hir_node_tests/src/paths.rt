@@ -1,6 +1,6 @@
 //! Paths: how they are made, what they are made of, and the paths that they are qualified by.
 use crate::build;
-use hir_base::{FunctionId, LangItemTarget, ModPath, Name, PathKind, Seq};
+use hir_base::{FunctionId, LangItemTarget, Name, PathKind, Seq};
 use hir_node::{Path, TypeRefId};
 use std::alloc::{AllocError, Global};
 use std::mem::drop;
@@ -20,8 +20,7 @@ enum Made<'a> {
 fn make(alloc: Global, made: &Made<'_>) -> Result<Path, AllocError> {
     match made {
         Made::Krate => {
-            let segments = Seq::new(alloc);
-            Ok(Path::BarePath(ModPath::from_segments(PathKind::Crate, segments)))
+            build::path(alloc, PathKind::Crate, Ok(Seq::new(alloc))).map(Path::BarePath)
         }
         Made::Item => Ok(item()),
         Made::Bare(texts) => build::bare(alloc, texts),

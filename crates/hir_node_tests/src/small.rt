@@ -2,11 +2,15 @@
 use crate::build;
 use hir_base::{ArithOp, BinaryOp, ExprPrecedence, ExternAbi, Idx, Text};
 use hir_node::{
-    BindingAnnotation, Boxed, Expr, ExprId, ExprOrPatId, FloatTypeWrapper, FnType, Literal,
-    Mutability, NodeId, PatId, PathId, Rawness,
+    BindingAnnotation, Boxed, Expr, ExprId, ExprOrPatId, FloatTypeWrapper, FnType, Int, Literal,
+    Mutability, NodeId, PatId, PathId, Rawness, Uint,
 };
 use std::mem::drop;
 use std::test::Fail;
+
+fn signed(value: i128) -> Literal {
+    Literal::Int(Int::new(value), None)
+}
 
 fn negates(literal: Literal, wanted: Option<Literal>) -> bool {
     literal.negate() == wanted
@@ -21,9 +25,9 @@ fn binds(expr: Expr, wanted: ExprPrecedence) -> bool {
 #[test]
 fn the_least_number_stays(rt: HostRuntime) {
     let least = -170141183460469231731687303715884105728;
-    assert!(rt; negates(Literal::Int(least, None), Some(Literal::Int(least, None))));
-    assert!(rt; negates(Literal::Int(5, None), Some(Literal::Int(-5, None))));
-    assert!(rt; negates(Literal::Uint(5, None), None));
+    assert!(rt; negates(signed(least), Some(signed(least))));
+    assert!(rt; negates(signed(5), Some(signed(-5))));
+    assert!(rt; negates(Literal::Uint(Uint::new(5), None), None));
 }
 
 #[test]

@@ -1,7 +1,7 @@
 //! Paths with their generic arguments, as `crate::foo` or `<Type as Trait>::bar::<u8>`.
 //! The views of a path's segments are in `segments`.
 ghost use Rattle.std.specs.Prelude.{◌≡◌, ◌↔◌, IfOk, IfErr, IsTrue, length, IsOk, [], ◌∷◌, None};
-ghost use Rattle.std.specs.Option.{option_copied};
+ghost use Rattle.std.specs.Option.{option_copied, option_to_list};
 ghost use Rattle.hir_base.specs.Exact.{exact};
 ghost use Rattle.hir_path.specs.Paths.{no_args, but_last};
 ghost use Rattle.hir_path.specs.Lists.{all_but};
@@ -12,8 +12,9 @@ use crate::ids::{LifetimeRefId, TypeRefId};
 use crate::segments::PathSegments;
 use hir_base::{ExactEq, LangItemTarget, ModPath, Name, PathKind, Seq, TryClone};
 use std::alloc::{AllocError, AllocFailed, Global};
+use std::slice;
 
-/// A path.
+/// A path. It takes 32 bytes.
 #[derive(Drop, Clone, PartialEq, Eq, Hash)]
 pub enum Path {
     /// A path with neither generic arguments nor a type anchor, as most are.
@@ -21,7 +22,7 @@ pub enum Path {
     /// A path with generic arguments or a type anchor, as `Vec::<u8>::new`: one list of arguments for each segment.
     Normal(Boxed<NormalPath>),
     /// A lang item, and perhaps one name in it. Lowering makes these, where the path to the item might be private.
-    LangItem(LangItemTarget, Option<Name>),
+    LangItem(LangItemTarget, Option<Boxed<Name>>),
 }
 
 impl ExactEq for Path {
@@ -118,7 +119,7 @@ impl Path {
                 path.get().mod_path.segments(),
                 Some(path.get().generic_args.as_slice()),
             ),
-            Path::LangItem(_, name) => PathSegments::new(name.as_slice(), None),
+            Path::LangItem(_, name) => PathSegments::new(name_as_slice(name), None),
         }
     }
 
@@ -193,6 +194,16 @@ impl Path {
     }
 }
 
+/// The name, if there is one, as a list.
+fn name_as_slice(name: &Option<Boxed<Name>>) -> &[Name]
+    ensures { result.now ≡ option_to_list name.now }
+{
+    match name {
+        Some(name) => slice::from_ref(name.get()),
+        None => &[],
+    }
+}
+
 /// Whether no segment has arguments.
 fn has_no_args(lists: &[Option<GenericArgs>]) -> bool
     ensures { result ≡ no_args lists.now }
@@ -204,7 +215,8 @@ fn has_no_args(lists: &[Option<GenericArgs>]) -> bool
 fn without_last(alloc: Global, path: &ModPath) -> Result<ModPath, AllocError>
     ensures { IfOk result (λ made. made ≡ but_last path.now) }
 {
-    Ok(ModPath::from_segments(path.kind(), all_but_last(alloc, path.segments())?))
+    let shorter = all_but_last(alloc, path.segments())?;
+    Ok(ModPath::from_segments(alloc, path.kind(), shorter)?)
 }
 
 /// Copies of all items but the last.

@@ -87,8 +87,8 @@ expr_cost (expr.Match x arms) = 20 + 9 * length arms
 expr_cost (expr.RecordLit path fields spread) = 20 + 9 * length fields + path_cost path
 expr_cost (expr.Tuple exprs) = 20 + 3 * length exprs
 expr_cost (expr.Array (array.ElementList elements)) = 20 + 3 * length elements
-expr_cost (expr.Block id statements tail label unsafe_) = 20 + 14 * length statements
-expr_cost (expr.Closure args arg_types ret_type body kind capture) = 20 + 6 * length args
+expr_cost (expr.Block unsafe_ id statements tail label) = 20 + 14 * length statements
+expr_cost (expr.Closure kind capture body args types) = 20 + 6 * length args
 expr_cost (expr.Path path) = 20 + path_cost path
 expr_cost x = 20
 
@@ -96,7 +96,7 @@ abbrev pub pat_cost : Pat → ℕ
 pat_cost (pat.Tuple args ellipsis) = 20 + 3 * length args
 pat_cost (pat.TupleStruct path args ellipsis) = 20 + 3 * length args + path_cost path
 pat_cost (pat.Or args) = 20 + 3 * length args
-pat_cost (pat.Record path args ellipsis) = 20 + 10 * length args + path_cost path
+pat_cost (pat.Record ellipsis path args) = 20 + 10 * length args + path_cost path
 pat_cost (pat.Slice prefix slice suffix) = 20 + 3 * length prefix + 3 * length suffix
 pat_cost (pat.Path path) = 20 + path_cost path
 pat_cost x = 20

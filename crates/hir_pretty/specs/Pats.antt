@@ -61,7 +61,7 @@ pat_items s pat.NotNull = text (codes "!null")
 pat_items s (pat.Tuple args ellipsis) = in_parentheses ellipsis args
 pat_items s (pat.TupleStruct path args ellipsis) = path_items s path ++ in_parentheses ellipsis args
 pat_items s (pat.Or args) = text (codes "(") ++ joined (text (codes " | ")) (map p args) ++ text (codes ")")
-pat_items s (pat.Record path args ellipsis) =
+pat_items s (pat.Record ellipsis path args) =
     path_items s path ++ text (codes " {") ++ into ++ field_patterns s ellipsis args ++ when ellipsis (text (codes "..") ++ br) ++ out ++ text (codes "}")
 pat_items s (pat.Range start end range_type) = opt (under Shift) start ++ text (range_text range_type) ++ opt (under Shift) end
 pat_items s (pat.Slice prefix slice suffix) =

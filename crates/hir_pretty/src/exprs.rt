@@ -19,9 +19,9 @@ use crate::paths::open_path;
 use crate::work::{Look, PathPart, Stack, Work};
 use hir_base::{BinaryOp, ExprPrecedence, Name, UnaryOp};
 use hir_node::{
-    Array, Boxed, CaptureBy, ClosureKind, CoroutineKind, Expr, ExprId, GenericArgs, LabelId,
-    Literal, MatchArm, Movability, Mutability, PatId, Path, Rawness, RecordLitField, RecordSpread,
-    Statement, TypeRefId, Unsafe,
+    Array, Boxed, CaptureBy, ClosureKind, ClosureTypes, CoroutineKind, Expr, ExprId, GenericArgs,
+    LabelId, Literal, MatchArm, Movability, Mutability, PatId, Path, Rawness, RecordLitField,
+    RecordSpread, Statement, TypeRefId, Unsafe,
 };
 use std::alloc::AllocError;
 
@@ -480,16 +480,21 @@ fn capture_keyword(capture: CaptureBy) -> &'static str
 fn open_closure<'a>(
     stack: &mut Stack<'a>,
     args: &'a [PatId],
-    arg_types: &'a [Option<TypeRefId>],
-    ret_type: Option<TypeRefId>,
+    types: &'a ClosureTypes,
     body: ExprId,
     kind: ClosureKind,
     capture: CaptureBy,
 ) -> Result<(), AllocError>
-    ensures { OnOk result ((s : Setting) → Opens s (listed stack.old) (expr_items s (Expr.Closure args.now arg_types.now ret_type body kind capture)) (21 + 6 * length args.now) (listed stack.new)) }
+    ensures { OnOk result ((s : Setting) → Opens s (listed stack.old) (expr_items s (Expr.Closure kind capture body args.now types.now)) (21 + 6 * length args.now) (listed stack.new)) }
 {
     stack.push(&[Work::Look(Look::ClosureBody(kind, body))])?;
-    open_header(stack, kind, args, arg_types, ret_type)?;
+    open_header(
+        stack,
+        kind,
+        args,
+        types.arg_types.as_slice(),
+        types.ret_type,
+    )?;
     stack.push(&[
         Work::Text(closure_head(kind)),
         Work::Text(capture_keyword(capture)),
@@ -539,7 +544,13 @@ pub(crate) fn open_expr<'a>(stack: &mut Stack<'a>, expr: &'a Expr) -> Result<(),
             method_name,
             args,
             generic_args,
-        } => open_method_call(stack, *receiver, method_name, args.as_slice(), generic_args),
+        } => open_method_call(
+            stack,
+            *receiver,
+            method_name.get(),
+            args.get().as_slice(),
+            generic_args,
+        ),
         Expr::Match { expr, arms } => open_match(stack, *expr, arms.as_slice()),
         Expr::Continue { label } => open_continue(stack, *label),
         Expr::Break { expr, label } => open_break(stack, *expr, *label),
@@ -551,7 +562,7 @@ pub(crate) fn open_expr<'a>(stack: &mut Stack<'a>, expr: &'a Expr) -> Result<(),
             path,
             fields,
             spread,
-        } => open_record_lit(stack, path.get(), fields.as_slice(), *spread),
+        } => open_record_lit(stack, path.get(), fields.get().as_slice(), *spread),
         Expr::Field { expr, name } => open_field(stack, *expr, name),
         Expr::Await { expr } => open_await(stack, *expr),
         Expr::Cast { expr, type_ref } => open_cast(stack, *expr, *type_ref),
@@ -575,19 +586,17 @@ pub(crate) fn open_expr<'a>(stack: &mut Stack<'a>, expr: &'a Expr) -> Result<(),
             tail,
             label,
             unsafe_,
-        } => open_block(stack, statements.as_slice(), *tail, *label, *unsafe_),
+        } => open_block(stack, statements.get().as_slice(), *tail, *label, *unsafe_),
         Expr::Closure {
-            args,
-            arg_types,
-            ret_type,
-            body,
             closure_kind,
             capture_by,
+            body,
+            args,
+            types,
         } => open_closure(
             stack,
             args.as_slice(),
-            arg_types.get().as_slice(),
-            *ret_type,
+            types.get(),
             *body,
             *closure_kind,
             *capture_by,

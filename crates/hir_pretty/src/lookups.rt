@@ -199,8 +199,7 @@ fn coroutine_body(expr: &Expr, id: ExprId) -> ExprId
 {
     if let Expr::Closure {
         args: _,
-        arg_types: _,
-        ret_type: _,
+        types: _,
         body,
         closure_kind: ClosureKind::Coroutine { kind: _, source: _ },
         capture_by: _,

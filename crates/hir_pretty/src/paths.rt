@@ -11,7 +11,9 @@ ghost use Rattle.hir_pretty.specs.Works.{listed, Opens, path_part_items, path_pa
 
 use crate::work::{Look, PathPart, Stack, TypePart, Work};
 use hir_base::{ExprPrecedence, LangItemTarget, Name, NamedDef, PathKind};
-use hir_node::{AssociatedTypeBinding, GenericArg, GenericArgs, NormalPath, Path, TypeBound};
+use hir_node::{
+    AssociatedTypeBinding, Boxed, GenericArg, GenericArgs, NormalPath, Path, TypeBound,
+};
 use std::alloc::AllocError;
 
 /// Puts the items of a path on the stack.
@@ -60,7 +62,7 @@ fn open_normal<'a>(stack: &mut Stack<'a>, path: &'a NormalPath) -> Result<(), Al
 fn open_lang_item<'a>(
     stack: &mut Stack<'a>,
     target: LangItemTarget,
-    name: &'a Option<Name>,
+    name: &'a Option<Boxed<Name>>,
 ) -> Result<(), AllocError>
     ensures { OnOk result ((s : Setting) → Opens s (listed stack.old) (path_items s (Path.LangItem target name.now)) (20) (listed stack.new)) }
 {
@@ -74,7 +76,7 @@ fn open_lang_item<'a>(
             Work::Text("builtin#lang("),
             Work::Path(PathPart::Target(target)),
             Work::Text("::"),
-            Work::Name(name.as_str()),
+            Work::Name(name.get().as_str()),
             Work::Text(")"),
         ]),
     }

@@ -122,7 +122,7 @@ fn open_record<'a>(
     fields: &'a [RecordFieldPat],
     rest: bool,
 ) -> Result<(), AllocError>
-    ensures { OnOk result ((s : Setting) → Opens s (listed stack.old) (pat_items s (Pat.Record path.now fields.now rest)) (21 + 10 * length fields.now + path_cost path.now) (listed stack.new)) }
+    ensures { OnOk result ((s : Setting) → Opens s (listed stack.old) (pat_items s (Pat.Record rest path.now fields.now)) (21 + 10 * length fields.now + path_cost path.now) (listed stack.new)) }
 {
     if rest {
         return stack.push(&[
@@ -231,7 +231,7 @@ pub(crate) fn open_pat<'a>(stack: &mut Stack<'a>, pat: &'a Pat) -> Result<(), Al
             prefix,
             slice,
             suffix,
-        } => open_slice(stack, prefix.as_slice(), *slice, suffix.as_slice()),
+        } => open_slice(stack, prefix.as_slice(), *slice, suffix.get().as_slice()),
         Pat::Path(path) => open_path(stack, path),
         Pat::Lit(expr) => stack.push(&[Work::Under(*expr, ExprPrecedence::Shift)]),
         Pat::Expr(expr) => stack.push(&[Work::Under(*expr, ExprPrecedence::Shift)]),

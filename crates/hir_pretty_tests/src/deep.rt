@@ -1,8 +1,8 @@
 //! Trees 1,000,000 deep: nothing recurses on the depth of a tree.
-use crate::memory::{add, in_a_box, push};
+use crate::memory::{add, add_made, boxed, in_a_box, push};
 use crate::tables_of::none;
 use crate::tree;
-use hir_base::{Arena, ArithOp, BinaryOp, Edition, Idx, LogicOp, ModPath, Name, PathKind, Seq};
+use hir_base::{Arena, ArithOp, BinaryOp, Edition, Idx, LogicOp, ModPath, Name, Seq};
 use hir_node::{
     AssociatedTypeBinding, Boxed, Expr, ExprId, ExprKind, GenericArgs, GenericArgsParentheses,
     Mutability, NormalPath, Pat, Path, Rawness, TypeRef, Unsafe,
@@ -25,14 +25,15 @@ enum Step {
     And,
 }
 
-fn block(tail: ExprId, alloc: Global) -> Expr {
-    Expr::Block {
+fn block(tail: ExprId, alloc: Global) -> Result<Expr, AllocError> {
+    let statements = boxed(alloc, Ok(Seq::new(alloc)))?;
+    Ok(Expr::Block {
         id: None,
-        statements: Seq::new(alloc),
+        statements,
         tail: Some(tail),
         label: None,
         unsafe_: Unsafe::No,
-    }
+    })
 }
 
 fn reference(expr: ExprId) -> Expr {
@@ -77,7 +78,7 @@ fn add_level(
             Ok(last.wrapping_add(1))
         }
         Step::Block => {
-            add(exprs, block(Idx::from_raw(last), alloc))?;
+            add_made(exprs, block(Idx::from_raw(last), alloc))?;
             Ok(last.wrapping_add(1))
         }
         Step::Minus => add_binary(exprs, last, BinaryOp::ArithOp(ArithOp::Sub), true),
@@ -312,12 +313,11 @@ fn nested(alloc: Global) -> Result<Path, AllocError> {
     }
     let mut lists = Seq::new(alloc);
     push(&mut lists, Some(inner))?;
-    let mut names = Seq::new(alloc);
-    push(&mut names, Name::new(alloc, "a")?)?;
+    let mod_path = ModPath::from_name(Name::new(alloc, "a")?);
     let path = NormalPath {
         generic_args: lists,
         type_anchor: None,
-        mod_path: ModPath::from_segments(PathKind::Plain, names),
+        mod_path,
     };
     Ok(Path::Normal(Boxed::new(alloc, path)?))
 }

@@ -1,14 +1,14 @@
 //! Expressions, statements and literals, each written as its case.
-use crate::memory::{Written, all, id, ids, names, push};
+use crate::memory::{Written, all, boxed, id, ids, names, push};
 use crate::paths_of::{ArgsOf, PathOf, one_name};
 use hir_base::{
     BinaryOp, BlockId, BuiltinFloat, BuiltinInt, BuiltinUint, Idx, MacroDefId, Name, Seq,
     ShortList, Text, UnaryOp,
 };
 use hir_node::{
-    Array, Boxed, CaptureBy, ClosureKind, Expr, FloatTypeWrapper, GenericArgs, Item, Literal,
-    LoopSource, MatchArm, Mutability, OffsetOf, Rawness, RecordLitField, RecordSpread, Statement,
-    TypeRefId, Unsafe,
+    Array, Boxed, CaptureBy, ClosureKind, ClosureTypes, Expr, FloatTypeWrapper, GenericArgs, Int,
+    Item, Literal, LoopSource, MatchArm, Mutability, OffsetOf, Rawness, RecordLitField,
+    RecordSpread, Statement, TypeRefId, Uint, Unsafe,
 };
 use std::alloc::{AllocError, Global};
 
@@ -158,8 +158,8 @@ fn float(
     written: &str,
     suffix: Option<BuiltinFloat>,
 ) -> Result<Literal, AllocError> {
-    let text = Text::from_str(alloc, written)?;
-    Ok(Literal::Float(FloatTypeWrapper::new(text), suffix))
+    let number = Text::from_str(alloc, written).map(FloatTypeWrapper::new);
+    Ok(Literal::Float(boxed(alloc, number)?, suffix))
 }
 
 impl Written<Literal> for LitOf {
@@ -170,8 +170,8 @@ impl Written<Literal> for LitOf {
             LitOf::CText(written) => Ok(Literal::CString(bytes(alloc, written)?)),
             LitOf::Char(c) => Ok(Literal::Char(*c)),
             LitOf::Bool(b) => Ok(Literal::Bool(*b)),
-            LitOf::Int(number, suffix) => Ok(Literal::Int(*number, *suffix)),
-            LitOf::Uint(number, suffix) => Ok(Literal::Uint(*number, *suffix)),
+            LitOf::Int(number, suffix) => Ok(Literal::Int(Int::new(*number), *suffix)),
+            LitOf::Uint(number, suffix) => Ok(Literal::Uint(Uint::new(*number), *suffix)),
             LitOf::Float(written, suffix) => float(alloc, written, *suffix),
         }
     }
@@ -227,6 +227,15 @@ fn arg_types(
     Ok(types)
 }
 
+/// The types of its arguments, and the one behind them.
+fn closure_types(alloc: Global, written: &ClosureOf) -> Result<ClosureTypes, AllocError> {
+    let arg_types = arg_types(alloc, written.arg_types)?;
+    Ok(ClosureTypes {
+        arg_types,
+        ret_type: id(&written.ret_type),
+    })
+}
+
 fn spread(written: &SpreadOf) -> RecordSpread {
     match written {
         SpreadOf::None => RecordSpread::None,
@@ -243,7 +252,7 @@ fn block_id(number: &Option<u32>) -> Option<BlockId> {
 }
 
 fn block(alloc: Global, written: &BlockOf) -> Result<Expr, AllocError> {
-    let statements = all(alloc, written.statements)?;
+    let statements = boxed(alloc, all(alloc, written.statements))?;
     let unsafe_ = if written.is_unsafe {
         Unsafe::Yes
     } else {
@@ -260,19 +269,18 @@ fn block(alloc: Global, written: &BlockOf) -> Result<Expr, AllocError> {
 
 fn closure(alloc: Global, written: &ClosureOf) -> Result<Expr, AllocError> {
     let args = ids(alloc, written.args)?;
-    let arg_types = Boxed::new(alloc, arg_types(alloc, written.arg_types)?)?;
+    let types = boxed(alloc, closure_types(alloc, written))?;
     let capture_by = if written.by_value {
         CaptureBy::Value
     } else {
         CaptureBy::Ref
     };
     Ok(Expr::Closure {
-        args,
-        arg_types,
-        ret_type: id(&written.ret_type),
-        body: Idx::from_raw(written.body),
         closure_kind: written.kind,
         capture_by,
+        body: Idx::from_raw(written.body),
+        args,
+        types,
     })
 }
 
@@ -283,7 +291,7 @@ fn record(
     after: &SpreadOf,
 ) -> Result<Expr, AllocError> {
     let path = Boxed::new(alloc, path.made(alloc)?)?;
-    let fields = all(alloc, fields)?;
+    let fields = boxed(alloc, all(alloc, fields))?;
     Ok(Expr::RecordLit {
         path,
         fields,
@@ -291,7 +299,7 @@ fn record(
     })
 }
 
-fn boxed(
+fn boxed_args(
     alloc: Global,
     written: Option<&ArgsOf>,
 ) -> Result<Option<Boxed<GenericArgs>>, AllocError> {
@@ -311,9 +319,9 @@ fn method(
     with: Option<&ArgsOf>,
     args: &[u32],
 ) -> Result<Expr, AllocError> {
-    let method_name = Name::new(alloc, text)?;
-    let generic_args = boxed(alloc, with)?;
-    let args = ids(alloc, args)?;
+    let method_name = boxed(alloc, Name::new(alloc, text))?;
+    let generic_args = boxed_args(alloc, with)?;
+    let args = boxed(alloc, ids(alloc, args))?;
     Ok(Expr::MethodCall {
         receiver: Idx::from_raw(receiver),
         method_name,

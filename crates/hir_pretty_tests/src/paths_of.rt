@@ -1,8 +1,8 @@
 //! Paths, generic arguments and bounds, each written as its case. Nodes are named by their numbers.
-use crate::memory::{Written, all, id, names, some};
+use crate::memory::{Written, all, boxed, id, names, some};
 use hir_base::{
     ConstId, CrateId, EnumId, EnumVariantId, FunctionId, Idx, ImplId, LangItemTarget, Macro2Id,
-    MacroId, MacroRulesId, ModPath, Name, PathKind, ProcMacroId, StaticId, StructId, TraitId,
+    MacroId, MacroRulesId, ModPath, Name, PathKind, ProcMacroId, Seq, StaticId, StructId, TraitId,
     TypeAliasId, UnionId,
 };
 use hir_node::{
@@ -264,18 +264,27 @@ pub fn one_name(alloc: Global, text: &str) -> Result<Path, AllocError> {
     Ok(Path::from_name(alloc, name)?)
 }
 
+/// The path that begins so, with these names, if they could be made.
+fn mod_path(
+    alloc: Global,
+    begins: &KindOf,
+    names: Result<Seq<Name>, AllocError>,
+) -> Result<ModPath, AllocError> {
+    Ok(ModPath::from_segments(alloc, kind(begins), names?)?)
+}
+
 fn normal(
     alloc: Global,
     anchor: Option<u32>,
     begins: &KindOf,
     segments: &[SegmentOf],
 ) -> Result<Path, AllocError> {
-    let names = all(alloc, segments)?;
+    let mod_path = mod_path(alloc, begins, all(alloc, segments))?;
     let generic_args = all(alloc, segments)?;
     let path = NormalPath {
         generic_args,
         type_anchor: id(&anchor),
-        mod_path: ModPath::from_segments(kind(begins), names),
+        mod_path,
     };
     Ok(Path::Normal(Boxed::new(alloc, path)?))
 }
@@ -310,7 +319,7 @@ fn lang(
     name: Option<&'static str>,
 ) -> Result<Path, AllocError> {
     let name = match name {
-        Some(text) => Some(Name::new(alloc, text)?),
+        Some(text) => Some(boxed(alloc, Name::new(alloc, text))?),
         None => None,
     };
     Ok(Path::LangItem(target, name))
@@ -321,8 +330,8 @@ impl Written<Path> for PathOf {
         match self {
             PathOf::Name(text) => one_name(alloc, text),
             PathOf::Bare(begins, segments) => {
-                let segments = names(alloc, segments)?;
-                Ok(Path::BarePath(ModPath::from_segments(kind(begins), segments)))
+                let path = mod_path(alloc, begins, names(alloc, segments))?;
+                Ok(Path::BarePath(path))
             }
             PathOf::Normal(begins, segments) => normal(alloc, None, begins, segments),
             PathOf::Anchored(anchor, begins, segments) => normal(

@@ -1,5 +1,5 @@
 //! Patterns and bindings, each written as its case.
-use crate::memory::{Written, all, id, ids};
+use crate::memory::{Written, all, boxed, id, ids};
 use crate::paths_of::PathOf;
 use hir_base::{HygieneId, Idx, Name, RangeOp};
 use hir_node::{Binding, BindingAnnotation, Boxed, Mutability, Pat, RecordFieldPat};
@@ -69,9 +69,9 @@ fn record(
     let path = Boxed::new(alloc, path.made(alloc)?)?;
     let args = all(alloc, fields)?;
     Ok(Pat::Record {
+        ellipsis,
         path,
         args,
-        ellipsis,
     })
 }
 
@@ -82,7 +82,7 @@ fn slice(
     suffix: &[u32],
 ) -> Result<Pat, AllocError> {
     let prefix = ids(alloc, prefix)?;
-    let suffix = ids(alloc, suffix)?;
+    let suffix = boxed(alloc, ids(alloc, suffix))?;
     Ok(Pat::Slice {
         prefix,
         slice: id(slice),

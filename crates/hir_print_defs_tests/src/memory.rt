@@ -2,6 +2,7 @@
 //! What is said here of any type is proved once, and lays out no type, however large it is.
 use hir_base::{Arena, Name, Seq};
 use hir_expr_store::Missing;
+use hir_node::Boxed;
 use hir_print_defs::PrintFault;
 use std::alloc::{AllocError, AllocFailed, Global};
 use std::fmt::Debug;
@@ -15,6 +16,11 @@ pub trait Written<T> {
 
 pub fn in_a_box<T: Drop>(alloc: Global, value: T) -> Result<Box<T>, AllocError> {
     Ok(Box::new(alloc, value)?)
+}
+
+/// The value as a part of a node, if it could be made.
+pub fn boxed<T: Drop>(alloc: Global, value: Result<T, AllocError>) -> Result<Boxed<T>, AllocError> {
+    Ok(Boxed::new(alloc, value?)?)
 }
 
 pub fn push<T: Drop>(seq: &mut Seq<T>, item: T) -> Result<(), AllocError> {

@@ -1,5 +1,5 @@
 //! The nodes of the stores that are printed, each written as its case.
-use crate::memory::{Written, add_all, first, in_a_box, names, push, taken};
+use crate::memory::{Written, add_all, boxed, first, in_a_box, names, push, taken};
 use hir_base::{
     AdtId, BinaryOp, CrateId, ExternAbi, FunctionId, GenericDefId, HygieneId, Idx, LangItemTarget,
     LifetimeParamId, ModPath, Name, PathKind, RangeOp, Seq, ShortList, StructId,
@@ -7,7 +7,7 @@ use hir_base::{
 };
 use hir_node::{
     AssociatedTypeBinding, Binding, BindingAnnotation, Boxed, Expr, FnType, GenericArg,
-    GenericArgs, GenericArgsParentheses, LifetimeRef, Literal, Mutability, Pat, Path, PathId,
+    GenericArgs, GenericArgsParentheses, Int, LifetimeRef, Literal, Mutability, Pat, Path, PathId,
     Rawness, RecordFieldPat, Statement, TraitBoundModifier, TypeBound, TypeRef, Unsafe, UseArgRef,
 };
 use hir_store::{ExpressionStore, ExpressionStoreBuilder};
@@ -165,9 +165,9 @@ fn record(alloc: Global, text: &'static str, fields: &[FieldOf]) -> Result<Pat, 
         push(&mut args, field.made(alloc)?)?;
     }
     Ok(Pat::Record {
+        ellipsis: false,
         path,
         args,
-        ellipsis: false,
     })
 }
 
@@ -242,17 +242,13 @@ fn all_made<T: Drop, S: Makes<T>>(alloc: Global, written: &[S]) -> Result<Seq<T>
     Ok(list)
 }
 
-fn statements(alloc: Global, written: &[StatementOf]) -> Result<Seq<Statement>, AllocError> {
-    all_made(alloc, written)
-}
-
 fn plain_path(alloc: Global, text: &'static str) -> Result<Path, AllocError> {
     let name = Name::new(alloc, text)?;
     Ok(Path::from_name(alloc, name)?)
 }
 
 fn block(alloc: Global, written: &[StatementOf], tail: Option<u32>) -> Result<Expr, AllocError> {
-    let statements = statements(alloc, written)?;
+    let statements = boxed(alloc, all_made(alloc, written))?;
     Ok(Expr::Block {
         id: None,
         statements,
@@ -275,7 +271,7 @@ impl Written<Expr> for ExprOf {
                 Ok(Expr::Path(path))
             }
             ExprOf::Item(number) => Ok(Expr::Path(item_path(*number))),
-            ExprOf::Int(number) => Ok(Expr::Literal(Literal::Int(*number, None))),
+            ExprOf::Int(number) => Ok(Expr::Literal(Literal::Int(Int::new(*number), None))),
             ExprOf::Unit => Ok(Expr::Tuple {
                 exprs: ShortList::new(),
             }),
@@ -377,6 +373,16 @@ fn args(alloc: Global, written: &ArgsOf) -> Result<GenericArgs, AllocError> {
     })
 }
 
+/// The path of this kind and these names.
+pub fn mod_path(
+    alloc: Global,
+    kind: PathKind,
+    texts: &[&'static str],
+) -> Result<ModPath, AllocError> {
+    let names = names(alloc, texts)?;
+    Ok(ModPath::from_segments(alloc, kind, names)?)
+}
+
 /// A list for each segment, the arguments in the last.
 fn of_last(
     alloc: Global,
@@ -398,8 +404,7 @@ fn path_with(
     written: &ArgsOf,
 ) -> Result<TypeRef, AllocError> {
     let lists = of_last(alloc, written, segments.len())?;
-    let segments = names(alloc, segments)?;
-    let path = ModPath::from_segments(kind, segments);
+    let path = mod_path(alloc, kind, segments)?;
     if lists.len() != path.segments().len() {
         return Ok(TypeRef::Error);
     }
@@ -424,9 +429,9 @@ fn type_param(parent: GenericDefId, number: u32) -> TypeRef {
 }
 
 fn crate_path(alloc: Global, number: u32) -> Result<Path, AllocError> {
-    let segments = names(alloc, &["a"])?;
     let kind = PathKind::DollarCrate(CrateId::from_raw(number));
-    Ok(Path::BarePath(ModPath::from_segments(kind, segments)))
+    let path = mod_path(alloc, kind, &["a"])?;
+    Ok(Path::BarePath(path))
 }
 
 fn function_type(alloc: Global, ret: u32) -> Result<TypeRef, AllocError> {

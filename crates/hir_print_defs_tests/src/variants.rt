@@ -1,10 +1,10 @@
 //! Fields of structs, unions and variants: each shape, each visibility, and what is missing first.
 use crate::made::named;
-use crate::memory::{first, in_a_box, misses, names, push, reads, taken};
+use crate::memory::{first, in_a_box, misses, push, reads, taken};
 use crate::nodes::{self, BARE, Tree, TypeOf};
 use hir_base::{
-    CrateId, Edition, EnumId, EnumVariantId, FunctionId, Idx, ModPath, Name, NamedDef, PathKind,
-    Seq, StructId, UnionId, VariantId,
+    CrateId, Edition, EnumId, EnumVariantId, FunctionId, Idx, Name, NamedDef, PathKind, Seq,
+    StructId, UnionId, VariantId,
 };
 use hir_defs::{FieldData, FieldsShape, RawVisibility, Tables, VariantFields, VariantParts};
 use hir_expr_store::Missing;
@@ -53,8 +53,8 @@ fn visibility(alloc: Global, seen: &Seen) -> Result<RawVisibility, AllocError> {
         Seen::Crate => Ok(RawVisibility::PubCrate),
         Seen::Itself => Ok(RawVisibility::PubSelf),
         Seen::In(kind, segments) => {
-            let segments = names(alloc, *segments)?;
-            Ok(RawVisibility::Module(ModPath::from_segments(*kind, segments)))
+            let path = nodes::mod_path(alloc, *kind, *segments)?;
+            Ok(RawVisibility::Module(path))
         }
     }
 }

@@ -222,8 +222,7 @@ impl Walk {
             } => self.open_kind(loop_kind(*label)),
             Expr::Closure {
                 args,
-                arg_types: _,
-                ret_type: _,
+                types: _,
                 body: _,
                 closure_kind: _,
                 capture_by: _,

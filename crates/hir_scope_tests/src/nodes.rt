@@ -5,9 +5,9 @@ use hir_base::{
     SyntaxContext,
 };
 use hir_node::{
-    Array, ArrayType, Binding, BindingAnnotation, Boxed, CaptureBy, ClosureKind, ConstRef, Expr,
-    GenericArg, GenericArgs, GenericArgsParentheses, Item, Label, LoopSource, MatchArm, Mutability,
-    NormalPath, Pat, Path, Rawness, Statement, TypeRef, Unsafe,
+    Array, ArrayType, Binding, BindingAnnotation, Boxed, CaptureBy, ClosureKind, ClosureTypes,
+    ConstRef, Expr, GenericArg, GenericArgs, GenericArgsParentheses, Item, Label, LoopSource,
+    MatchArm, Mutability, NormalPath, Pat, Path, Rawness, Statement, TypeRef, Unsafe,
 };
 use std::alloc::{AllocError, Global};
 
@@ -114,7 +114,7 @@ fn one<T: Drop>(alloc: Global, item: T) -> Result<Seq<T>, AllocError> {
 /// The path `a`.
 fn plain(alloc: Global) -> Result<ModPath, AllocError> {
     let names = one(alloc, Name::new(alloc, "a")?)?;
-    Ok(ModPath::from_segments(PathKind::Plain, names))
+    Ok(ModPath::from_segments(alloc, PathKind::Plain, names)?)
 }
 
 /// The path `a` with a type and a constant as arguments.
@@ -199,6 +199,21 @@ fn arg_types<T: Copy + Drop>(
     Ok(list)
 }
 
+/// The types of so many arguments, of which the first is this one, and no type behind them.
+fn closure_types(
+    alloc: Global,
+    args: &[u32],
+    first: Option<u32>,
+) -> Result<ClosureTypes, AllocError> {
+    match arg_types(alloc, args, id(first)) {
+        Ok(arg_types) => Ok(ClosureTypes {
+            arg_types,
+            ret_type: None,
+        }),
+        Err(error) => Err(error),
+    }
+}
+
 /// The block of these parts.
 fn block(
     alloc: Global,
@@ -207,7 +222,7 @@ fn block(
     tail: Option<u32>,
     steps: &[StatementStep],
 ) -> Result<Expr, AllocError> {
-    let statements = all_made(alloc, steps)?;
+    let statements = boxed(alloc, all_made(alloc, steps))?;
     Ok(Expr::Block {
         id: match block {
             Some(number) => Some(BlockId::from_raw(number)),
@@ -223,14 +238,13 @@ fn block(
 /// The closure of these parts.
 fn closure(alloc: Global, body: u32, args: &[u32], first: Option<u32>) -> Result<Expr, AllocError> {
     let pats = ids(alloc, args)?;
-    let types = boxed(alloc, arg_types(alloc, args, id(first)))?;
+    let types = boxed(alloc, closure_types(alloc, args, first))?;
     Ok(Expr::Closure {
-        args: pats,
-        arg_types: types,
-        ret_type: None,
-        body: Idx::from_raw(body),
         closure_kind: ClosureKind::Closure,
         capture_by: CaptureBy::Ref,
+        body: Idx::from_raw(body),
+        args: pats,
+        types,
     })
 }
 

@@ -103,10 +103,7 @@ fn plain(alloc: Global, texts: &[&str]) -> Result<ModPath, AllocError> {
     for text in texts {
         names = with(names, Name::new(alloc, text));
     }
-    match names {
-        Ok(names) => Ok(ModPath::from_segments(PathKind::Plain, names)),
-        Err(error) => Err(error),
-    }
+    Ok(ModPath::from_segments(alloc, PathKind::Plain, names?)?)
 }
 
 /// The path of these names that has this list alone.

@@ -1,4 +1,4 @@
--- That `==` of stores decides whether they are the same, part by part.
+-- What `==` of stores tests, part by part, and that it decides whether they are the same.
 use Rattle.std.specs.Prelude.{◌≡◌, Bool, ◌&&◌}
 use Rattle.std.specs.Bool.{Decides}
 use Rattle.std.specs.Cmp.{IsEquivalence, IsPartialEquivalence, decided, partial_equiv_from_equiv}
@@ -22,6 +22,7 @@ use Rattle.hir_expr_store.specs.same.SameRoots.{root_lists_decide}
 use Rattle.hir_expr_store.specs.same.SameSideTables.{side_tables_decide}
 use Rattle.hir_expr_store.specs.contracts.side_tables.SideTablesPartialEq.TheImpl as side_tables
 
+-- all parts but the parents, which the nodes give
 abbrev pub same_stores : Contents → Contents → Bool
 same_stores x y =
     pointwise expr.ghosts.eq x.nodes.exprs y.nodes.exprs
@@ -45,6 +46,7 @@ stores_decide x y =
     (λ e i. (e i).nodes.exprs)
     (λ e. (λ i. (e i).nodes.pats, (λ i. (e i).nodes.types, (λ i. (e i).nodes.bindings, (λ i. (e i).nodes.labels, (λ i. (e i).nodes.lifetimes, (λ i. (e i).roots, λ i. (e i).side_tables)))))))
 
+-- so it is an equality
 pub stores_equiv : IsEquivalence same_stores
 stores_equiv = decided same_stores stores_decide
 

@@ -18,7 +18,7 @@ pats_decide x y = values_decide enum x y (
     (then _ _ (λ a b. search small_types)
     (then _ _ (λ a b. search small_types)
     (then _ _ (λ a b. search small_types)
-    (then _ _ (also _ _ paths_decide (also _ _ field_pats_decide (last _ flags_decide)))
+    (then _ _ (also _ _ flags_decide (also _ _ paths_decide (last _ field_pats_decide)))
     (then _ _ (λ a b. search small_types)
     (then _ _ (λ a b. search small_types)
     (then _ _ (λ a b. search small_types)

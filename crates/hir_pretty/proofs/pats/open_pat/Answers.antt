@@ -13,7 +13,7 @@ pub returns-in-Range : goal.returns-in-Range
 returns-in-Range c = rw c.in-Range.is (on_ok_weaker c.open_range.result (λ o s. opens_as (o s) refl (omega arith)) c.open_range.ensures)
 
 pub returns-in-Slice : goal.returns-in-Slice
-returns-in-Slice c = rw c.in-Slice.is (on_ok_weaker c.open_slice.result (λ o s. opens_as (o s) refl (omega arith)) (rw (c.as_slice-in-Slice.ensures, c.as_slice-in-Slice-2.ensures) at c.open_slice.ensures))
+returns-in-Slice c = rw c.in-Slice.is (on_ok_weaker c.open_slice.result (λ o s. opens_as (o s) refl (omega arith)) (rw (c.as_slice-in-Slice.ensures, c.as_slice-in-Slice-2.ensures, c.get-in-Slice.ensures) at c.open_slice.ensures))
 
 pub returns-in-Bind : goal.returns-in-Bind
 returns-in-Bind c = rw c.in-Bind.is (on_ok_weaker c.open_bind.result (λ o s. opens_as (o s) refl (omega arith)) c.open_bind.ensures)
