@@ -178,10 +178,15 @@ fn short_lists_of_other_items_differ(rt: HostRuntime) -> Result<(), Fail> {
     Ok(())
 }
 
+#[test]
+fn a_path_takes_24_bytes(rt: HostRuntime) {
+    assert!(rt; size_of::<ModPath>() == 24);
+}
+
 // Nothing here takes memory, so that the test passes too where the first growth is refused.
 #[test]
 fn three_ids_lie_in_16_bytes(rt: HostRuntime) -> Result<(), Fail> {
-    assert!(rt; size_of::<ShortList<Idx<Name>>>() == 16 && size_of::<ModPath>() == 24);
+    assert!(rt; size_of::<ShortList<Idx<Name>>>() == 16);
     let alloc = rt.alloc();
     let room = ShortList::with_capacity(alloc, 3);
     let grown = keeps(alloc, filled(alloc, room, &[7, 8]), &[7, 8]);
