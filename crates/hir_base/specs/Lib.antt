@@ -4,6 +4,7 @@ pub mod Arena
 pub mod Exact
 pub mod Form
 pub mod Hygiene
+pub mod HygieneForm
 pub mod Keys
 pub mod Laws
 pub mod Maps

@@ -87,7 +87,7 @@ impl ModPath {
         }
     }
 
-    /// The path with this kind and these segments. A plain path of one name takes no memory, and any other takes one piece.
+    /// The path with this kind and these segments. A plain path of one name takes no memory, and any other one piece beside the names.
     ///
     /// Answers an error if that memory was refused: the names are handed back.
     pub fn from_segments(
@@ -96,7 +96,7 @@ impl ModPath {
         names: Seq<Name>,
     ) -> Result<ModPath, AllocFailed<Seq<Name>>>
         ensures ok { IfOk result (λ path. path ≡ record { kind = kind; segments = names }) }
-        ensures ident { IsSome (ident_of record { kind = kind; segments = names }) → IsOk result }
+        ensures ident_never_refused { IsSome (ident_of record { kind = kind; segments = names }) → IsOk result }
         ensures value_returned { IfErr result (λ failed. failed.value ≡ names) }
     {
         if kind == PathKind::Plain && names.len() == 1 {

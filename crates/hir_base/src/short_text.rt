@@ -1,6 +1,6 @@
 //! Short texts, which lie in the value itself.
 //! `ArrayString` of the crate `arrayvec` is the same with a length of eight bytes, which makes a `Name` twice as large.
-ghost use Rattle.std.specs.Prelude.{◌≡◌, ◌≤◌, length};
+ghost use Rattle.std.specs.Prelude.{◌≡◌, ◌≤◌, ◌+◌, length, take};
 ghost use Rattle.std.specs.Str.{IsAscii};
 
 use std::marker::Model;
@@ -32,11 +32,9 @@ impl ShortText {
         requires { length text.now ≤ 14 }
         ensures { result ≡ text.now }
     {
-        let mut bytes = [0; MOST_BYTES];
-        bytes[..text.len()].copy_from_slice(text.as_bytes());
         ShortText {
             len: text.len() as u8,
-            bytes,
+            bytes: padded(text.as_bytes()),
         }
     }
 
@@ -47,11 +45,9 @@ impl ShortText {
         requires ascii { IsAscii text.now }
         ensures { result ≡ text.now }
     {
-        let mut bytes = [0; MOST_BYTES];
-        bytes[..text.len()].copy_from_slice(text);
         ShortText {
             len: text.len() as u8,
-            bytes,
+            bytes: padded(text),
         }
     }
 
@@ -72,13 +68,44 @@ impl ShortText {
         &self.bytes[..self.len as usize]
     }
 
-    /// The text as a slice. Its bytes are tested again, so that no code is unsafe.
+    /// The text as a slice.
+    // That the bytes are a text is proved, from the invariant. To test them here took a tenth of the instructions of a print.
     pub(crate) fn as_str(&self) -> &str
         ensures { result.now ≡ self.now }
     {
-        match str::from_utf8(&self.bytes[..self.len as usize]) {
-            Ok(text) => text,
-            Err(_) => unreachable!(),
-        }
+        unsafe { str::from_utf8_unchecked(&self.bytes[..self.len as usize]) }
     }
+}
+
+/// Copies the first `N` bytes of a text and the last, which may overlap, to the front.
+// `N` is known where this is compiled, so each copy is a load and a store; a copy of any number of bytes is a call.
+#[inline(always)]
+fn copy_ends<const N: usize>(bytes: &mut [u8; MOST_BYTES], text: &[u8])
+    requires fits { N ≤ length text.now }
+    requires covers { length text.now ≤ N + N }
+    requires short { length text.now ≤ 14 }
+    ensures { take (length text.now) bytes.new ≡ text.now }
+{
+    let rest = text.len() - N;
+    bytes[..N].copy_from_slice(&text[..N]);
+    bytes[rest..text.len()].copy_from_slice(&text[rest..]);
+}
+
+/// The bytes of a short text, and zeros.
+#[inline(always)]
+fn padded(text: &[u8]) -> [u8; MOST_BYTES]
+    requires { length text.now ≤ 14 }
+    ensures { take (length text.now) result ≡ text.now }
+{
+    let mut bytes = [0; MOST_BYTES];
+    if text.len() >= 8 {
+        copy_ends::<8>(&mut bytes, text);
+    } else if text.len() >= 4 {
+        copy_ends::<4>(&mut bytes, text);
+    } else if text.len() >= 2 {
+        copy_ends::<2>(&mut bytes, text);
+    } else if text.len() == 1 {
+        copy_ends::<1>(&mut bytes, text);
+    }
+    bytes
 }

@@ -10,7 +10,7 @@ use hir_base::{
 };
 use std::alloc::{AllocError, Global};
 use std::cmp::Ordering;
-use std::mem::drop;
+use std::mem::{drop, size_of};
 use std::test::Fail;
 
 // An expression, the one that it stands in, and whether it needs parentheses there.
@@ -48,6 +48,19 @@ fn hygiene_is_that_of_source_or_of_an_expansion(rt: HostRuntime) {
     let expansion = HygieneId::new(SyntaxContext::Expansion(7));
     assert!(rt; !expansion.is_root());
     assert!(rt; expansion.syntax_context() == SyntaxContext::Expansion(7));
+}
+
+// No byte of an expansion's number is lost, and none changes its place. A hygiene takes five bytes.
+#[test]
+fn hygiene_keeps_the_number_of_its_expansion(rt: HostRuntime) {
+    for number in [0, 255, 256, 0x0102_0304, u32::MAX] {
+        let hygiene = HygieneId::new(SyntaxContext::Expansion(number));
+        assert!(rt; hygiene.syntax_context() == SyntaxContext::Expansion(number));
+        assert!(rt; hygiene != HygieneId::ROOT);
+    }
+    let backwards = HygieneId::new(SyntaxContext::Expansion(0x0403_0201));
+    assert!(rt; HygieneId::new(SyntaxContext::Expansion(0x0102_0304)) != backwards);
+    assert!(rt; size_of::<HygieneId>() == 5);
 }
 
 // The hygiene of every context is source text's, where the context is a root, and never a root of a later edition.

@@ -117,7 +117,7 @@ impl TryClone for ClosureKind {
 /// The types that are written before the body of a closure.
 #[derive(Drop, Clone, PartialEq, Eq)]
 pub struct ClosureTypes {
-    /// Those of its parameters, of each one, which may have none.
+    /// For each parameter its type, where one is written.
     pub arg_types: ShortList<Option<TypeRefId>>,
     /// The type behind `->`.
     pub ret_type: Option<TypeRefId>,

@@ -10,8 +10,8 @@ use hir_base::{ExactEq, TryClone};
 use std::alloc::AllocError;
 use std::marker::Model;
 
-/// The number that a half of 64 bits counts up to, and one more.
-const HALF: u128 = 1 << 64;
+/// By how much one more in the high half is more than one more in the low half.
+const HIGH_ONE: u128 = 1 << 64;
 
 /// A `u128` that is aligned to 8 bytes. Contracts see the number.
 #[derive(Drop)]
@@ -34,8 +34,8 @@ impl Uint {
         ensures { result ≡ value }
     {
         Uint {
-            high: (value / HALF) as u64,
-            low: (value % HALF) as u64,
+            high: (value / HIGH_ONE) as u64,
+            low: (value % HIGH_ONE) as u64,
         }
     }
 
@@ -43,7 +43,7 @@ impl Uint {
     pub fn get(&self) -> u128
         ensures { result ≡ self.now }
     {
-        self.high as u128 * HALF + self.low as u128
+        self.high as u128 * HIGH_ONE + self.low as u128
     }
 }
 

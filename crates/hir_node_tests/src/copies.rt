@@ -312,7 +312,7 @@ fn values_that_are_made_alike_hash_alike(rt: HostRuntime) -> Result<(), Fail> {
 #[test]
 fn nodes_keep_their_sizes(rt: HostRuntime) -> Result<(), Fail> {
     assert!(rt; size_of::<Expr>() == 40 && size_of::<Pat>() == 40);
-    assert!(rt; size_of::<TypeRef>() == 40 && size_of::<Binding>() == 32);
+    assert!(rt; size_of::<TypeRef>() == 40 && size_of::<Binding>() == 24);
     assert!(rt; size_of::<Path>() == 32 && size_of::<Literal>() == 32);
     Ok(())
 }
