@@ -13,7 +13,7 @@ use Rattle.hir_lines.specs.Readings.{first_word, is_byte, parts_of}
 use Rattle.hir_lines.specs.Words.{number}
 
 -- a byte that passes isn't one that doesn't
-apart_by : (p : ℕ → Bool) (c b : ℕ) → p c ≡ false → p b ≡ true → (same : Bool) → is_byte c b ≡ same → is_byte c b ≡ false
+pub apart_by : (p : ℕ → Bool) (c b : ℕ) → p c ≡ false → p b ≡ true → (same : Bool) → is_byte c b ≡ same → is_byte c b ≡ false
 apart_by p c b plain passes false e = e
 apart_by p c b plain passes true e = absurd (false≢true (sym plain ∙ ap p (sym (eqb-true b c e)) ∙ passes))
 
@@ -21,7 +21,7 @@ apart_by p c b plain passes true e = absurd (false≢true (sym plain ∙ ap p (s
 pub apart : (c b : ℕ) → is_digit c ≡ false → is_digit b ≡ true → (same : Bool) → is_byte c b ≡ same → is_byte c b ≡ false
 apart = apart_by is_digit
 
-first_none : {X : Type 0} (read : List ℕ → Option X) (text : List ℕ) (texts : List (List ℕ)) → read text ≡ None → first_word read (text ∷ texts) ≡ None
+pub first_none : {X : Type 0} (read : List ℕ → Option X) (text : List ℕ) (texts : List (List ℕ)) → read text ≡ None → first_word read (text ∷ texts) ≡ None
 first_none read text texts e = rw e refl
 
 pub number_first : (text : List ℕ) (texts : List (List ℕ)) (n : ℕ) → number_of text ≡ Some n → number (text ∷ texts) ≡ Some (n, texts)

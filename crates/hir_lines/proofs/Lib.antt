@@ -10,6 +10,9 @@ pub mod InPlace
 pub mod Integers
 pub mod Keywords
 pub mod NameFronts
+pub mod PartFronts
+pub mod PartNumbers
+pub mod PartTexts
 pub mod Patterns
 pub mod Prefixes
 pub mod Putting
@@ -20,4 +23,5 @@ pub mod Spellings
 pub mod Splits
 pub mod Takes
 pub mod TypeRefs
+pub mod WholeParts
 pub mod Written

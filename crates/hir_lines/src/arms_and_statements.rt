@@ -1,34 +1,33 @@
-//! The arms of a match and the statements of a block: each is one word, whose parts are separated by colons.
+//! The arms of a match and the statements of a block: each is one word, whose parts are separated by colons and read where they stand.
 
-ghost use Rattle.hir_lines.specs.Readings.{Reads, Found, whole};
-ghost use Rattle.hir_lines.specs.ArmsAndStatements.{arm_of, statement_of, let_statement, semi_statement};
+ghost use Rattle.hir_lines.specs.ArmsAndStatements.{arm, let_statement, semi_statement, expr_statement, macro_statement, statement_forms};
+ghost use Rattle.hir_lines.specs.Parts.{ReadsParts};
+ghost use Rattle.hir_lines.specs.Words.{one_of};
 
+use crate::parts::Parts;
 use crate::stop::Stop;
 use crate::words::{Word, Words};
 use hir_base::MacroDefId;
 use hir_node::{Item, MatchArm, Statement};
 
-#[tactic(auto, unfolding(crate::specs::ArmsAndStatements::arm_of))]
 #[inline(always)]
-fn arm(word: &[u8]) -> Result<MatchArm, Stop>
-    ensures { Found (arm_of word.now) result }
+fn arm(parts: &mut Parts<'_>) -> Result<MatchArm, Stop>
+    ensures { ReadsParts arm parts.old result parts.new }
 {
-    let mut parts = Words::new(word, b':');
     let pat = parts.id()?;
     let guard = parts.optional_id()?;
     let expr = parts.id()?;
-    parts.alone(MatchArm { pat, guard, expr })
+    Ok(MatchArm { pat, guard, expr })
 }
 
 #[inline(always)]
-fn let_statement(parts: &mut Words<'_>) -> Result<Statement, Stop>
-    ensures { Found (whole let_statement parts.old) result }
+fn let_statement(parts: &mut Parts<'_>) -> Result<Statement, Stop>
+    ensures { ReadsParts let_statement parts.old result parts.new }
 {
     let pat = parts.id()?;
     let type_ref = parts.optional_id()?;
     let initializer = parts.optional_id()?;
     let else_branch = parts.optional_id()?;
-    parts.end()?;
     Ok(Statement::Let {
         pat,
         type_ref,
@@ -38,49 +37,53 @@ fn let_statement(parts: &mut Words<'_>) -> Result<Statement, Stop>
 }
 
 #[inline(always)]
-fn semi_statement(parts: &mut Words<'_>) -> Result<Statement, Stop>
-    ensures { Found (whole semi_statement parts.old) result }
+fn semi_statement(parts: &mut Parts<'_>) -> Result<Statement, Stop>
+    ensures { ReadsParts semi_statement parts.old result parts.new }
 {
     let expr = parts.id()?;
-    parts.end()?;
     Ok(Statement::Expr {
         expr,
         has_semi: true,
     })
 }
 
-#[tactic(auto, unfolding(crate::specs::ArmsAndStatements::statement_of))]
-#[inline(never)]
-fn any_statement(word: &[u8]) -> Result<Statement, Stop>
-    ensures { Found (statement_of word.now) result }
+fn expr_statement(parts: &mut Parts<'_>) -> Result<Statement, Stop>
+    ensures { ReadsParts expr_statement parts.old result parts.new }
 {
-    let mut parts = Words::new(word, b':');
-    let statement = match parts.keyword()? {
-        "let" => return let_statement(&mut parts),
-        "semi" => return semi_statement(&mut parts),
-        "expr" => Statement::Expr {
-            expr: parts.id()?,
-            has_semi: false,
-        },
-        "macro" => Statement::Item(Item::MacroDef(MacroDefId::from_raw(parts.number()?))),
-        "item" => Statement::Item(Item::Other),
-        _ => return Err(Stop::Bad),
-    };
-    parts.end()?;
-    Ok(statement)
+    let expr = parts.id()?;
+    Ok(Statement::Expr {
+        expr,
+        has_semi: false,
+    })
 }
 
-/// What a word says of a statement. The first parts of most are compared with it in place, together with their colons.
-#[tactic(auto, unfolding(crate::specs::ArmsAndStatements::statement_of))]
-#[inline(always)]
-fn statement(word: &[u8]) -> Result<Statement, Stop>
-    ensures { Found (statement_of word.now) result }
+fn macro_statement(parts: &mut Parts<'_>) -> Result<Statement, Stop>
+    ensures { ReadsParts macro_statement parts.old result parts.new }
 {
-    match word {
-        [b'l', b'e', b't', b':', ids @ ..] => let_statement(&mut Words::new(ids, b':')),
-        [b's', b'e', b'm', b'i', b':', id @ ..] => semi_statement(&mut Words::new(id, b':')),
-        _ => any_statement(word),
+    let definition = MacroDefId::from_raw(parts.number()?);
+    Ok(Statement::Item(Item::MacroDef(definition)))
+}
+
+#[inline(always)]
+fn statement(parts: &mut Parts<'_>) -> Result<Statement, Stop>
+    ensures { ReadsParts (one_of statement_forms) parts.old result parts.new }
+{
+    if parts.skip(b"let".as_slice()) {
+        return let_statement(parts);
     }
+    if parts.skip(b"semi".as_slice()) {
+        return semi_statement(parts);
+    }
+    if parts.skip(b"expr".as_slice()) {
+        return expr_statement(parts);
+    }
+    if parts.skip(b"macro".as_slice()) {
+        return macro_statement(parts);
+    }
+    if parts.skip(b"item".as_slice()) {
+        return Ok(Statement::Item(Item::Other));
+    }
+    Err(Stop::Bad)
 }
 
 impl Word for MatchArm {
@@ -89,7 +92,10 @@ impl Word for MatchArm {
     ghost said = { arm_of };
 
     fn take(words: &mut Words<'_>) -> Result<MatchArm, Stop> {
-        arm(words.word()?)
+        let mut parts = words.parts(b':')?;
+        let arm = arm(&mut parts)?;
+        *words = parts.end()?;
+        Ok(arm)
     }
 }
 
@@ -99,6 +105,9 @@ impl Word for Statement {
     ghost said = { statement_of };
 
     fn take(words: &mut Words<'_>) -> Result<Statement, Stop> {
-        statement(words.word()?)
+        let mut parts = words.parts(b':')?;
+        let statement = statement(&mut parts)?;
+        *words = parts.end()?;
+        Ok(statement)
     }
 }

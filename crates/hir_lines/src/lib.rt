@@ -10,6 +10,7 @@ pub mod laws;
 mod names;
 mod numerals;
 mod operators;
+mod parts;
 mod pats;
 mod question;
 mod reading;

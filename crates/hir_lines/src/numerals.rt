@@ -1,6 +1,6 @@
 //! Numbers as they are written in a line.
 
-ghost use Rattle.std.specs.Prelude.{None, Some, ◌≡◌, ◌<◌, ◌^◌, ◌-◌, IfSome, IfNone, MatchOption, take, true, false};
+ghost use Rattle.std.specs.Prelude.{None, Some, ◌≡◌, ◌<◌, ◌^◌, ◌-◌, IfSome, IfNone, take, true, false};
 ghost use Rattle.std.specs.List.{list_all};
 ghost use Rattle.hir_lines.specs.Numerals.{number_of, int_of, has_minus, without_minus, has_needless_zero, if_below, value, is_digit, digits_len, is_numeral, IsFront};
 ghost use Rattle.hir_lines.specs.Readings.{parts_of, parts_left};
@@ -33,8 +33,8 @@ fn four_digits(text: &[u8]) -> Option<u64>
     }
 }
 
-/// The value of the first six bytes or four, if they are digits, and how many they are; of none else. Most numbers have six digits or
-/// five, and each of these is read without a test of the value.
+/// The value of the first six bytes, or else of the first four, if they are digits, and how many they are; or of none. These are read
+/// without a test of the value. Of a number of five digits the fifth is left to the loop that reads all other digits.
 #[inline(always)]
 fn first_digits(text: &[u8]) -> (u64, usize)
     ensures { IsFront text.now result.0 result.1 × (result.0 < 10 ^ 6) }
@@ -90,7 +90,7 @@ fn is_numeral(text: &[u8]) -> bool
 
 /// The number that the leading digits are, and how many they are.
 #[inline(always)]
-fn leading_number(text: &[u8]) -> Option<(u32, usize)>
+pub fn leading_number(text: &[u8]) -> Option<(u32, usize)>
     ensures some { IfSome result
         (λ found. (found.1 ≡ digits_len text.now) × (number_of (take found.1 text.now) ≡ Some found.0)) }
     ensures none { IfNone result (number_of (take (digits_len text.now) text.now) ≡ None) }

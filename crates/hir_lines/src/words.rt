@@ -4,12 +4,14 @@ ghost use Rattle.std.specs.Prelude.{None, Some, ◌≡◌, ◌≢◌, ◌∷◌,
 ghost use Rattle.std.specs.List.{count_by};
 ghost use Rattle.hir_lines.specs.Names.{continues_name};
 ghost use Rattle.hir_lines.specs.Numerals.{number_of};
-ghost use Rattle.hir_lines.specs.Readings.{parts_of, parts_left, is_byte, alone, Found, HasWord, Reads, first_word, each};
+ghost use Rattle.hir_lines.specs.Parts.{ReadsParts, parted};
+ghost use Rattle.hir_lines.specs.Readings.{parts_of, parts_left, is_byte, HasWord, Reads, first_word, each};
 ghost use Rattle.hir_lines.specs.Words.{number, optional, list, keyword, name, path, int, op, expansion, hygiene};
 
 use crate::names::{ascii as ascii_text, first_name};
 use crate::numerals::{first_number, has_minus, int as int_text};
 use crate::operators::op as op_text;
+use crate::parts::Parts;
 use crate::stop::Stop;
 use hir_base::{BinaryOp, HygieneId, Idx, Name, Seq, ShortList, SyntaxContext};
 use hir_node::Path;
@@ -45,6 +47,15 @@ impl<'a> Words<'a> {
             rest: Some(text),
             separator,
         }
+    }
+
+    /// The words of what is left of a text.
+    #[inline(always)]
+    pub fn left(rest: Option<&'a [u8]>, separator: u8) -> Words<'a>
+        requires { continues_name separator ≡ false }
+        ensures { result ≡ parts_left separator rest.entry }
+    {
+        Words { rest, separator }
     }
 
     /// Takes the next word.
@@ -120,11 +131,29 @@ impl<'a> Words<'a> {
     pub fn list<K>(&mut self, alloc: Global) -> Result<ShortList<Idx<K>>, Stop>
         ensures { Reads list self.old result self.new }
     {
-        let word = self.word()?;
-        if word == b"-".as_slice() {
+        let Some(text) = self.rest else {
+            return Err(Stop::Bad);
+        };
+        if let Some(rest) = first_dash(text, self.separator) {
+            self.rest = rest;
             return Ok(ShortList::new());
         }
-        ids(alloc, &mut Words::new(word, b','))
+        let mut numbers = Parts::new(text, b',', self.separator);
+        let ids = ids(alloc, &mut numbers)?;
+        *self = numbers.end()?;
+        Ok(ids)
+    }
+
+    /// The parts of the next word, and the words behind it.
+    #[inline(always)]
+    pub fn parts(&self, separator: u8) -> Result<Parts<'a>, Stop>
+        requires { continues_name separator ≡ false }
+        ensures { MatchResult result (λ parts. HasWord self.now × (parts ≡ parted separator self.now)) (λ why. self.now ≡ []) }
+    {
+        match self.rest {
+            Some(text) => Ok(Parts::new(text, separator, self.separator)),
+            None => Err(Stop::Bad),
+        }
     }
 
     /// Takes the next word, if it is one in ASCII.
@@ -226,14 +255,6 @@ impl<'a> Words<'a> {
         }
     }
 
-    /// The value, if no word is left.
-    pub fn alone<T: Drop>(&self, value: T) -> Result<T, Stop>
-        ensures { Found (alone value self.now) result }
-    {
-        self.end()?;
-        Ok(value)
-    }
-
     /// Whether no word is left.
     #[inline(always)]
     pub fn is_empty(&self) -> bool
@@ -269,13 +290,13 @@ pub fn each<T: Word + Drop>(alloc: Global, words: &mut Words<'_>) -> Result<Seq<
     Ok(items)
 }
 
-/// Takes all the words that are left, if each is the number of something.
-fn ids<K>(alloc: Global, words: &mut Words<'_>) -> Result<ShortList<Idx<K>>, Stop>
-    ensures { Reads (each number_of) words.old result words.new }
+/// Takes all the parts of a word that are left, if each is the number of something.
+fn ids<K>(alloc: Global, parts: &mut Parts<'_>) -> Result<ShortList<Idx<K>>, Stop>
+    ensures { ReadsParts (each number_of) parts.old result parts.new }
 {
     let mut ids = ShortList::new();
-    while !words.is_empty() {
-        ids.push(alloc, words.id()?)?;
+    while !parts.is_empty() {
+        ids.push(alloc, parts.id()?)?;
     }
     Ok(ids)
 }
