@@ -13,6 +13,7 @@ pub mod FieldLemmas
 pub mod ArgsLemmas
 pub mod SignatureLemmas
 pub mod TurnLemmas
+pub mod PatternLemmas
 pub mod PageOfPieces
 pub mod AnswerLemmas
 pub mod NameLemmas

@@ -1,5 +1,6 @@
 -- A turn of the loop, by what its work is.
-use Rattle.std.proofs.Common.{◌≡◌, ℕ, zero, suc, ◌+◌, ◌<◌, ◌≤◌, Bool, true, false, List, [], ◌∷◌, ◌++◌, map, codes, Option, Some, None, refl, sym, ap, subst, ◌∙◌, arith, append-nil}
+use Rattle.std.proofs.Common.{◌≡◌, ℕ, zero, suc, ◌+◌, ◌<◌, ◌≤◌, Bool, true, false, List, [], ◌∷◌, ◌++◌, map, codes, Option, Some, None, refl, sym, ap, subst, ◌∙◌, arith, append-nil, append_assoc}
+use Rattle.std.specs.Prelude.{Result, Ok, Err, OnOk, OnErr, is_ok}
 use Rattle.std.specs.List.{flat_map, slice_get}
 use Rattle.std.proofs.lemmas.List.Concat.{flat_map-append}
 use Rattle.hir_base.specs.declared.prec.ExprPrecedence.{ExprPrecedence}
@@ -16,6 +17,8 @@ use Rattle.hir_page.specs.Writes as writes
 use Rattle.hir_pretty.specs.declared.fault.PrintFault.{PrintFault}
 use Rattle.hir_pretty.specs.declared.fault.PrintFault.TheVariants as fault
 use Rattle.hir_pretty.specs.declared.work.Work.{Work}
+use Rattle.hir_pretty.specs.declared.work.ExprPart.{ExprPart}
+use Rattle.hir_pretty.specs.declared.work.ExprPart.TheVariants as in_expr
 use Rattle.hir_pretty.specs.Questions.{Setting}
 use Rattle.hir_base.specs.ModPath.{ident_of}
 use Rattle.hir_base.specs.declared.mod_path.PathKind.{PathKind}
@@ -32,7 +35,7 @@ use Rattle.hir_pretty.specs.Literals.{literal_items}
 use Rattle.hir_pretty.specs.Pieces.{NodePiece, Layout, items_of, item_pieces, pieces, parenthesized, stands_in_parentheses, precedence_found}
 use Rattle.hir_pretty.specs.Falls.{AllNodes, ItemsFall}
 use Rattle.hir_pretty.specs.Costs.{total, node_cost}
-use Rattle.hir_pretty.specs.Works.{stands_for, pending, work_cost, Opens, item_weight, weight_step, weight, stack_cost, printed, Prints, ended, written, absent, refused, no_room, Turned, enclosed, IsOnlyName, binding_texts, opt_texts, put_pieces}
+use Rattle.hir_pretty.specs.Works.{stands_for, pending, work_cost, Opens, item_weight, weight_step, weight, stack_cost, printed, Prints, ended, written, absent, refused, no_room, Turned, enclosed, IsOnlyName, binding_texts, opt_texts, put_pieces, separator}
 use Rattle.hir_pretty.proofs.StepLemmas.{nodes_weaker, pieces_at}
 use Rattle.hir_pretty.proofs.OpenLemmas.{total-append}
 
@@ -208,6 +211,19 @@ module _ {W : Type 0} {step refuses : W → Piece → W → Type 0} where
   refused_put s is ps old {u} {v} e k =
       subst (λ qs. Prints step refuses u qs (Some fault.Memory) v) (ap (λ qs. qs ++ printed s old) (sym e) ∙ sym (printed-append s is old)) (on_refused k (printed s old))
 
+  -- what was refused before more items, and what stopped behind what was written
+  pub refused_before : (s : Setting) (js is : List Item) (ps : List Piece) (old : List Item) {u v : W} → printed s js ≡ map Layout ps → Writes step refuses u ps false v
+      → Prints step refuses u (printed s ((js ++ is) ++ old)) (Some fault.Memory) v
+  refused_before s js is ps old {u} {v} e k =
+      subst (λ ks. Prints step refuses u (printed s ks) (Some fault.Memory) v) (sym (append_assoc js is old)) (refused_put s js ps (is ++ old) e k)
+
+  pub stopped_behind : (s : Setting) (js is : List Item) (ps : List Piece) (old : List Item) {f : Option PrintFault} {u v w : W} → printed s js ≡ map Layout ps → Writes step refuses u ps true v
+      → Prints step refuses v (printed s (is ++ old)) f w → Prints step refuses u (printed s ((js ++ is) ++ old)) f w
+  stopped_behind s js is ps old {f} {u} {v} {w} e k r =
+      subst (λ qs. Prints step refuses u qs f w)
+      (ap (λ qs. qs ++ printed s (is ++ old)) (sym e) ∙ sym (printed-append s js (is ++ old)) ∙ ap (printed s) (sym (append_assoc js is old)))
+      (on_written k (printed s (is ++ old)) f w r)
+
 module _ {W : Type 0} {step refuses : W → Piece → W → Type 0} {s : Setting} where
   -- a part gives way to its items
   pub turned_part : {is : List Item} {cost : ℕ} {old new : List Work} {u : W} → Opens s old is cost new → Turned step refuses s is cost old u new u
@@ -258,5 +274,43 @@ module _ {W : Type 0} {step refuses : W → Piece → W → Type 0} {s : Setting
         (on_written k (printed s (pending s old)) f last r);
     less = let w = total-append (item_weight (weight s)) is (pending s old) in omega arith;
   }
+
+  -- a turn behind what a writer was led over
+  pub turned_behind : (js : List Item) {is : List Item} {cost : ℕ} {old new : List Work} {u v w : W} (ps : List Piece) → printed s js ≡ map Layout ps → Writes step refuses u ps true v
+      → Turned step refuses s is cost old v new w → Turned step refuses s (js ++ is) cost old u new w
+  turned_behind js {is} {cost} {old} {new} {u} {v} {w} ps e k t = record {
+    leads = λ f last r. stopped_behind s js is ps (pending s old) e k (t.leads f last r);
+    less =
+        let h = t.less in let a = total-append (item_weight (weight s)) js (is ++ pending s old) in
+        let b = ap (total (item_weight (weight s))) (append_assoc js is (pending s old)) in omega arith;
+  }
+
+  pub turned_text : {q : Piece} {is : List Item} {cost : ℕ} {old new : List Work} {u v w : W} → step u q v → Turned step refuses s is cost old v new w → Turned step refuses s (Put q ∷ is) cost old u new w
+  turned_text {q} k t = turned_behind (Put q ∷ []) (q ∷ []) refl (writes.written k all_written) t
+
+-- what a call answers that writes
+module _ {W : Type 0} {step refuses : W → Piece → W → Type 0} {A E P : Type 0} {u v : W} {ps : List Piece} where
+  pub wrote : (r : Result A E) → (Writes step refuses u ps true v → P) → Writes step refuses u ps (is_ok r) v → OnOk r P
+  wrote (Ok a) f k = f k
+  wrote (Err e) f k = tt
+
+  pub wrote_not : (r : Result A E) → (Writes step refuses u ps false v → P) → Writes step refuses u ps (is_ok r) v → OnErr r P
+  wrote_not (Ok a) f k = tt
+  wrote_not (Err e) f k = f k
+
+pub on_any_err : {A E P : Type 0} (r : Result A E) → P → OnErr r P
+on_any_err (Ok a) k = tt
+on_any_err (Err e) k = k
+
+separator_put : (x : ExprPart) → AllPut (separator x)
+separator_put (in_expr.ArgLines args) = tt
+separator_put (in_expr.Elements xs) = tt
+separator_put (in_expr.Arms arms) = tt
+separator_put (in_expr.Fields fields) = tt
+separator_put (in_expr.Statements xs) = tt
+separator_put (in_expr.Params args types) = tt
+
+pub separator_printed : (s : Setting) (x : ExprPart) → printed s (separator x) ≡ map Layout (put_pieces (separator x))
+separator_printed s x = put_printed s (separator x) (separator_put x)
 
 pub ruleset turns = (no_room, absent, refused, turned_part, turned_piece, turned_whole, turned_pattern, turned_type)

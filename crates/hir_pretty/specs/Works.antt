@@ -38,6 +38,7 @@ use Rattle.hir_pretty.specs.Exprs.{each_line, arm_items, field_items, statement_
 use Rattle.hir_pretty.specs.Pats.{with_rest, field_pattern, field_patterns}
 use Rattle.hir_pretty.specs.Types.{type_param_items, extern_items, front}
 use Rattle.hir_pretty.specs.Pieces.{NodePiece, Layout, Absent, items_of, item_pieces, pieces}
+use Rattle.hir_pretty.specs.Falls.{ItemsFall}
 use Rattle.hir_pretty.specs.Costs.{total, bound_cost, bounds_cost, args_cost, assoc_cost, rest_cost, turbofish_cost, segments_cost, kind_cost, path_cost, opt_cost, node_cost}
 
 abbrev pub look_items : Setting → Look → List Item
@@ -60,7 +61,6 @@ expr_part_items s (in_expr.Params args types) = comma_joined (params args.now ty
 abbrev pub pat_part_items : Setting → PatPart → List Item
 pat_part_items s (in_pat.RangeEnd x) = opt (under Shift) x
 pat_part_items s (in_pat.Elements xs) = flat_map (λ id. p id ++ text (codes ", ")) xs.now
-pat_part_items s (in_pat.Joined between xs) = joined (text between.now) (map p xs.now)
 pat_part_items s (in_pat.WithRest xs at) = comma_joined (with_rest (Some at) (map p xs.now))
 pat_part_items s (in_pat.Fields fields rest) = field_patterns s rest fields.now
 pat_part_items s (in_pat.Field field) = field_pattern s field.now
@@ -94,6 +94,15 @@ path_part_items s (in_path.Arg x) = arg_items s x
 path_part_items s (in_path.Assoc x) = assoc_items s x.now
 path_part_items s (in_path.BoundsAfter bounds) = bounds_after s bounds.now
 
+-- what stands behind each member of a list
+abbrev pub separator : ExprPart → List Item
+separator (in_expr.ArgLines args) = text (codes ",") ++ br
+separator (in_expr.Elements xs) = text (codes ", ")
+separator (in_expr.Arms arms) = text (codes ",") ++ br
+separator (in_expr.Fields fields) = text (codes ",") ++ br
+separator (in_expr.Statements xs) = text (codes ";") ++ br
+separator (in_expr.Params args types) = text (codes ", ")
+
 -- the items that a work stands for
 abbrev pub stands_for : Setting → Work → List Item
 stands_for s (work.Text x) = text x.now
@@ -110,9 +119,16 @@ stands_for s (work.Whole id) = e id
 stands_for s (work.Under id parent) = under parent id
 stands_for s (work.Pattern id) = p id
 stands_for s (work.Type id) = t id
+stands_for s (work.Level x) = text x.now ++ into
+stands_for s (work.Spaced x) = sp ++ text x.now ++ sp
+stands_for s work.BlockEnd = br ++ out ++ text (codes "}")
+stands_for s (work.TextWhole x id) = text x.now ++ e id
+stands_for s (work.TextPattern x id) = text x.now ++ p id
+stands_for s (work.Patterns between xs) = joined (text between.now) (map p xs.now)
 stands_for s (work.TextIf holds x) = when holds (text x.now)
 stands_for s (work.Look x) = look_items s x
 stands_for s (work.Expr x) = expr_part_items s x
+stands_for s (work.Next x) = separator x ++ expr_part_items s x
 stands_for s (work.Pat x) = pat_part_items s x
 stands_for s (work.TypePart x) = type_part_items s x
 stands_for s (work.Path x) = path_part_items s x
@@ -155,7 +171,6 @@ expr_part_cost (in_expr.Params args types) = 1 + 6 * length args.now
 abbrev pub pat_part_cost : PatPart → ℕ
 pat_part_cost (in_pat.RangeEnd x) = 6
 pat_part_cost (in_pat.Elements xs) = 1 + 3 * length xs.now
-pat_part_cost (in_pat.Joined between xs) = 1 + 3 * length xs.now
 pat_part_cost (in_pat.WithRest xs at) = 4 + 3 * length xs.now
 pat_part_cost (in_pat.Fields fields rest) = 1 + 10 * length fields.now
 pat_part_cost (in_pat.Field field) = 7
@@ -200,9 +215,16 @@ work_cost (work.Whole id) = 1
 work_cost (work.Under id parent) = 5
 work_cost (work.Pattern id) = 1
 work_cost (work.Type id) = 1
+work_cost (work.Level x) = 1
+work_cost (work.Spaced x) = 1
+work_cost work.BlockEnd = 1
+work_cost (work.TextWhole x id) = 1
+work_cost (work.TextPattern x id) = 1
+work_cost (work.Patterns between xs) = 1 + 3 * length xs.now
 work_cost (work.TextIf holds x) = 2
 work_cost (work.Look x) = look_cost x
 work_cost (work.Expr x) = expr_part_cost x
+work_cost (work.Next x) = expr_part_cost x
 work_cost (work.Pat x) = pat_part_cost x
 work_cost (work.TypePart x) = type_part_cost x
 work_cost (work.Path x) = path_part_cost x
@@ -265,6 +287,16 @@ OpensNamed words old is cost new = (store : Contents) (tables : Questions) (one_
 
 abbrev pub OpensWith : Contents → Questions → List Work → (Setting → List Item) → ℕ → List Work → Type 0
 OpensWith store tables old is cost new = (words : List (List ℕ)) (one_line : Bool) → Opens (setting store tables words one_line) old (is (setting store tables words one_line)) cost new
+
+-- A turn over a store with these words, whatever the tables answer. And that it stopped for want of memory.
+abbrev pub TurnedInStore : {W : Type 0} → (step refuses : W → Piece → W → Type 0) → Contents → List (List ℕ) → List Item → ℕ → List Work → W → List Work → W → Type 0
+TurnedInStore step refuses store words is cost old u new v =
+    (tables : Questions) (one_line : Bool) → ItemsFall (setting store tables words one_line) → Turned step refuses (setting store tables words one_line) is cost old u new v
+
+abbrev pub StoppedInStore : {W : Type 0} → (step refuses : W → Piece → W → Type 0) → Contents → List (List ℕ) → List Item → List Work → W → W → Type 0
+StoppedInStore step refuses store words is old u v =
+    (tables : Questions) (one_line : Bool) → ItemsFall (setting store tables words one_line)
+    → Prints step refuses u (printed (setting store tables words one_line) (is ++ pending (setting store tables words one_line) old)) (Some fault.Memory) v
 
 -- items, in parentheses where they need them
 abbrev pub enclosed : Bool → List Item → List Item

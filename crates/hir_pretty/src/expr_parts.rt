@@ -26,7 +26,7 @@ pub(crate) fn open_after<'a>(
 {
     match expr {
         None => Ok(()),
-        Some(expr) => stack.push(&[Work::Text(before), Work::Whole(expr)]),
+        Some(expr) => stack.push(&[Work::TextWhole(before, expr)]),
     }
 }
 
@@ -77,7 +77,7 @@ pub(crate) fn open_arguments<'a>(
         [_, ..] => {
             stack.push(&[Work::Outdent, Work::Text(")")])?;
             open_arg_lines(stack, args)?;
-            stack.push(&[Work::Text("("), Work::Indent])
+            stack.push(&[Work::Level("(")])
         }
     }
 }
@@ -89,9 +89,7 @@ fn open_arg_lines<'a>(stack: &mut Stack<'a>, args: &'a [ExprId]) -> Result<(), A
         [] => Ok(()),
         [first, rest @ ..] => stack.push(&[
             Work::Whole(*first),
-            Work::Text(","),
-            Work::Break,
-            Work::Expr(ExprPart::ArgLines(rest)),
+            Work::Next(ExprPart::ArgLines(rest)),
         ]),
     }
 }
@@ -106,8 +104,7 @@ pub(crate) fn open_elements<'a>(
         [] => Ok(()),
         [first, rest @ ..] => stack.push(&[
             Work::Whole(*first),
-            Work::Text(", "),
-            Work::Expr(ExprPart::Elements(rest)),
+            Work::Next(ExprPart::Elements(rest)),
         ]),
     }
 }
@@ -119,11 +116,8 @@ pub(crate) fn open_arms<'a>(stack: &mut Stack<'a>, arms: &'a [MatchArm]) -> Resu
         [] => Ok(()),
         [first, rest @ ..] => {
             stack.push(&[
-                Work::Text(" => "),
-                Work::Whole(first.expr),
-                Work::Text(","),
-                Work::Break,
-                Work::Expr(ExprPart::Arms(rest)),
+                Work::TextWhole(" => ", first.expr),
+                Work::Next(ExprPart::Arms(rest)),
             ])?;
             open_after(stack, " if ", first.guard)?;
             stack.push(&[Work::Pattern(first.pat)])
@@ -141,11 +135,8 @@ pub(crate) fn open_fields<'a>(
         [] => Ok(()),
         [first, rest @ ..] => stack.push(&[
             Work::Name(first.name.as_str()),
-            Work::Text(": "),
-            Work::Whole(first.expr),
-            Work::Text(","),
-            Work::Break,
-            Work::Expr(ExprPart::Fields(rest)),
+            Work::TextWhole(": ", first.expr),
+            Work::Next(ExprPart::Fields(rest)),
         ]),
     }
 }
@@ -156,7 +147,7 @@ pub(crate) fn open_spread(stack: &mut Stack<'_>, spread: RecordSpread) -> Result
     match spread {
         RecordSpread::None => Ok(()),
         RecordSpread::FieldDefaults => stack.push(&[Work::Text(".."), Work::Break]),
-        RecordSpread::Expr(expr) => stack.push(&[Work::Text(".."), Work::Whole(expr), Work::Break]),
+        RecordSpread::Expr(expr) => stack.push(&[Work::TextWhole("..", expr), Work::Break]),
     }
 }
 
@@ -186,25 +177,16 @@ fn open_statement<'a>(
             initializer,
             else_branch,
         } => {
-            stack.push(&[
-                Work::Text(";"),
-                Work::Break,
-                Work::Expr(ExprPart::Statements(rest)),
-            ])?;
+            stack.push(&[Work::Next(ExprPart::Statements(rest))])?;
             open_after(stack, " else ", *else_branch)?;
             open_after(stack, " = ", *initializer)?;
             open_type_after(stack, ": ", *type_ref)?;
-            stack.push(&[Work::Text("let "), Work::Pattern(*pat)])
+            stack.push(&[Work::TextPattern("let ", *pat)])
         }
         Statement::Expr {
             expr,
             has_semi: true,
-        } => stack.push(&[
-            Work::Whole(*expr),
-            Work::Text(";"),
-            Work::Break,
-            Work::Expr(ExprPart::Statements(rest)),
-        ]),
+        } => stack.push(&[Work::Whole(*expr), Work::Next(ExprPart::Statements(rest))]),
         Statement::Expr {
             expr,
             has_semi: false,
@@ -275,7 +257,7 @@ fn open_params<'a>(
             if args.is_empty() || types.is_empty() {
                 return open_param(stack, *arg, *type_ref);
             }
-            stack.push(&[Work::Text(", "), Work::Expr(ExprPart::Params(args, types))])?;
+            stack.push(&[Work::Next(ExprPart::Params(args, types))])?;
             open_param(stack, *arg, *type_ref)
         }
     }

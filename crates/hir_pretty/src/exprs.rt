@@ -6,22 +6,21 @@ ghost use Rattle.hir_pretty.specs.Questions.{Setting};
 ghost use Rattle.hir_pretty.specs.Items.{e, sp, text, opt, under};
 ghost use Rattle.hir_pretty.specs.Literals.{literal_items};
 ghost use Rattle.hir_pretty.specs.Paths.{args_items, turbofish};
-ghost use Rattle.hir_pretty.specs.Exprs.{labelled, operand, raw_keyword, operator_items, array_items, unsafe_items, inside_block, coroutine_keyword, movability_keyword, closure_head, capture_keyword, expr_items};
+ghost use Rattle.hir_pretty.specs.Exprs.{labelled, operand, raw_keyword, operator_items, array_items, unsafe_items, inside_block, expr_items};
 ghost use Rattle.hir_pretty.specs.Costs.{args_cost, path_cost, opt_cost, expr_cost};
 ghost use Rattle.hir_pretty.specs.Works.{listed, Opens};
 
+use crate::closures::open_closure;
 use crate::expr_parts::{
     open_after, open_arguments, open_arms, open_elements, open_fields as open_record_fields,
-    open_header, open_labelled, open_operand, open_spread, open_statements, open_tail,
-    open_to_label,
+    open_labelled, open_operand, open_spread, open_statements, open_tail, open_to_label,
 };
 use crate::paths::open_path;
-use crate::work::{Look, PathPart, Stack, Work};
+use crate::work::{PathPart, Stack, Work};
 use hir_base::{BinaryOp, ExprPrecedence, Name, UnaryOp};
 use hir_node::{
-    Array, Boxed, CaptureBy, ClosureKind, ClosureTypes, CoroutineKind, Expr, ExprId, GenericArgs,
-    LabelId, Literal, MatchArm, Movability, Mutability, PatId, Path, Rawness, RecordLitField,
-    RecordSpread, Statement, TypeRefId, Unsafe,
+    Array, Boxed, Expr, ExprId, GenericArgs, LabelId, Literal, MatchArm, Mutability, PatId, Path,
+    Rawness, RecordLitField, RecordSpread, Statement, TypeRefId, Unsafe,
 };
 use std::alloc::AllocError;
 
@@ -53,10 +52,8 @@ fn open_if(
 {
     open_after(stack, " else ", else_branch)?;
     stack.push(&[
-        Work::Text("if "),
-        Work::Whole(condition),
-        Work::Text(" "),
-        Work::Whole(then_branch),
+        Work::TextWhole("if ", condition),
+        Work::TextWhole(" ", then_branch),
     ])
 }
 
@@ -65,8 +62,7 @@ fn open_let(stack: &mut Stack<'_>, pat: PatId, expr: ExprId) -> Result<(), Alloc
     ensures { OnOk result ((s : Setting) → Opens s (listed stack.old) (expr_items s (Expr.Let pat expr)) (21) (listed stack.new)) }
 {
     stack.push(&[
-        Work::Text("let "),
-        Work::Pattern(pat),
+        Work::TextPattern("let ", pat),
         Work::Text(" = "),
         Work::Under(expr, ExprPrecedence::Prefix),
     ])
@@ -76,7 +72,7 @@ fn open_let(stack: &mut Stack<'_>, pat: PatId, expr: ExprId) -> Result<(), Alloc
 fn open_loop(stack: &mut Stack<'_>, body: ExprId, label: Option<LabelId>) -> Result<(), AllocError>
     ensures { OnOk result ((s : Setting) → Opens s (listed stack.old) (labelled s label ++ text (codes "loop ") ++ e body) (21) (listed stack.new)) }
 {
-    stack.push(&[Work::Text("loop "), Work::Whole(body)])?;
+    stack.push(&[Work::TextWhole("loop ", body)])?;
     open_labelled(stack, label)
 }
 
@@ -133,12 +129,7 @@ fn open_match<'a>(
 {
     stack.push(&[Work::Outdent, Work::Text("}"), Work::Break])?;
     open_arms(stack, arms)?;
-    stack.push(&[
-        Work::Text("match "),
-        Work::Whole(expr),
-        Work::Text(" {"),
-        Work::Indent,
-    ])
+    stack.push(&[Work::TextWhole("match ", expr), Work::Level(" {")])
 }
 
 #[inline(never)]
@@ -194,7 +185,7 @@ fn open_record_lit<'a>(
     stack.push(&[Work::Outdent, Work::Text("}")])?;
     open_spread(stack, spread)?;
     open_record_fields(stack, fields)?;
-    stack.push(&[Work::Text("{"), Work::Indent])?;
+    stack.push(&[Work::Level("{")])?;
     open_path(stack, path)
 }
 
@@ -288,9 +279,7 @@ fn open_binary(
 {
     stack.push(&[
         Work::Under(lhs, own),
-        Work::Space,
-        Work::Text(operator_text(op)),
-        Work::Space,
+        Work::Spaced(operator_text(op)),
         Work::Under(rhs, own),
     ])
 }
@@ -301,8 +290,7 @@ fn open_index(stack: &mut Stack<'_>, base: ExprId, index: ExprId) -> Result<(), 
 {
     stack.push(&[
         Work::Under(base, ExprPrecedence::Postfix),
-        Work::Text("["),
-        Work::Whole(index),
+        Work::TextWhole("[", index),
         Work::Text("]"),
     ])
 }
@@ -325,7 +313,7 @@ fn open_list<'a>(stack: &mut Stack<'a>, elements: &'a [ExprId]) -> Result<(), Al
         [_, ..] => {
             stack.push(&[Work::Outdent, Work::Break, Work::Text("]")])?;
             open_elements(stack, elements)?;
-            stack.push(&[Work::Text("["), Work::Indent])
+            stack.push(&[Work::Level("[")])
         }
     }
 }
@@ -335,11 +323,9 @@ fn open_repeat(stack: &mut Stack<'_>, initializer: ExprId, repeat: ExprId) -> Re
     ensures { OnOk result ((s : Setting) → Opens s (listed stack.old) (array_items (Array.Repeat initializer repeat)) (21) (listed stack.new)) }
 {
     stack.push(&[
-        Work::Text("["),
-        Work::Indent,
+        Work::Level("["),
         Work::Whole(initializer),
-        Work::Text("; "),
-        Work::Whole(repeat),
+        Work::TextWhole("; ", repeat),
         Work::Outdent,
         Work::Break,
         Work::Text("]"),
@@ -394,28 +380,23 @@ fn open_unsafe(stack: &mut Stack<'_>, unsafe_: Unsafe) -> Result<(), AllocError>
     }
 }
 
+/// The braces of a block, and what is between them.
 #[inline(always)]
-fn open_inside<'a>(
+fn open_braces<'a>(
     stack: &mut Stack<'a>,
     statements: &'a [Statement],
     tail: Option<ExprId>,
 ) -> Result<(), AllocError>
-    ensures { OnOk result ((s : Setting) → Opens s (listed stack.old) (inside_block statements.now tail ++ text (codes "}")) (8 + 14 * length statements.now) (listed stack.new)) }
+    ensures { OnOk result ((s : Setting) → Opens s (listed stack.old) (text (codes "{") ++ inside_block statements.now tail ++ text (codes "}")) (9 + 14 * length statements.now) (listed stack.new)) }
 {
     match (statements, tail) {
-        ([], None) => stack.push(&[Work::Text("}")]),
-        ([], Some(tail)) => stack.push(&[
-            Work::Indent,
-            Work::Whole(tail),
-            Work::Break,
-            Work::Outdent,
-            Work::Text("}"),
-        ]),
+        ([], None) => stack.push(&[Work::Text("{"), Work::Text("}")]),
+        ([], Some(tail)) => stack.push(&[Work::Level("{"), Work::Whole(tail), Work::BlockEnd]),
         ([_, ..], _) => {
-            stack.push(&[Work::Break, Work::Outdent, Work::Text("}")])?;
+            stack.push(&[Work::BlockEnd])?;
             open_tail(stack, tail)?;
             open_statements(stack, statements)?;
-            stack.push(&[Work::Indent])
+            stack.push(&[Work::Level("{")])
         }
     }
 }
@@ -430,75 +411,10 @@ fn open_block<'a>(
 ) -> Result<(), AllocError>
     ensures { OnOk result ((s : Setting) → Opens s (listed stack.old) (sp ++ labelled s label ++ unsafe_items unsafe_ ++ text (codes "{") ++ inside_block statements.now tail ++ text (codes "}")) (21 + 14 * length statements.now) (listed stack.new)) }
 {
-    open_inside(stack, statements, tail)?;
-    stack.push(&[Work::Text("{")])?;
+    open_braces(stack, statements, tail)?;
     open_unsafe(stack, unsafe_)?;
     open_labelled(stack, label)?;
     stack.push(&[Work::Space])
-}
-
-fn coroutine_keyword(kind: CoroutineKind) -> &'static str
-    ensures { result.now ≡ coroutine_keyword kind }
-{
-    match kind {
-        CoroutineKind::Async => "async ",
-        CoroutineKind::Gen => "gen ",
-        CoroutineKind::AsyncGen => "async gen ",
-    }
-}
-
-fn movability_keyword(movability: Movability) -> &'static str
-    ensures { result.now ≡ movability_keyword movability }
-{
-    match movability {
-        Movability::Static => "static ",
-        Movability::Movable => "",
-    }
-}
-
-fn closure_head(kind: ClosureKind) -> &'static str
-    ensures { result.now ≡ closure_head kind }
-{
-    match kind {
-        ClosureKind::Closure => "",
-        ClosureKind::OldCoroutine(movability) => movability_keyword(movability),
-        ClosureKind::Coroutine { kind, source: _ } => coroutine_keyword(kind),
-        ClosureKind::CoroutineClosure(kind) => coroutine_keyword(kind),
-    }
-}
-
-fn capture_keyword(capture: CaptureBy) -> &'static str
-    ensures { result.now ≡ capture_keyword capture }
-{
-    match capture {
-        CaptureBy::Value => "move ",
-        CaptureBy::Ref => "",
-    }
-}
-
-#[inline(never)]
-fn open_closure<'a>(
-    stack: &mut Stack<'a>,
-    args: &'a [PatId],
-    types: &'a ClosureTypes,
-    body: ExprId,
-    kind: ClosureKind,
-    capture: CaptureBy,
-) -> Result<(), AllocError>
-    ensures { OnOk result ((s : Setting) → Opens s (listed stack.old) (expr_items s (Expr.Closure kind capture body args.now types.now)) (21 + 6 * length args.now) (listed stack.new)) }
-{
-    stack.push(&[Work::Look(Look::ClosureBody(kind, body))])?;
-    open_header(
-        stack,
-        kind,
-        args,
-        types.arg_types.as_slice(),
-        types.ret_type,
-    )?;
-    stack.push(&[
-        Work::Text(closure_head(kind)),
-        Work::Text(capture_keyword(capture)),
-    ])
 }
 
 #[inline(never)]

@@ -9,7 +9,7 @@ ghost use Rattle.hir_pretty.specs.Pats.{is_printed_as, is_short, field_pattern, 
 ghost use Rattle.hir_pretty.specs.Works.{listed, Opens, pat_part_items, pat_part_cost};
 
 use crate::names::same_printed;
-use crate::pats::{open_elements, open_joined, open_range_end, open_with_rest};
+use crate::pats::{open_elements, open_range_end, open_with_rest};
 use crate::work::{PatPart, Stack, Work};
 use hir_base::Text;
 use hir_expr_store::ExpressionStore;
@@ -140,7 +140,6 @@ pub(crate) fn open_pat_part<'a>(
     match part {
         PatPart::RangeEnd(expr) => open_range_end(stack, *expr),
         PatPart::Elements(pats) => open_elements(stack, *pats),
-        PatPart::Joined(between, pats) => open_joined(stack, *between, *pats),
         PatPart::WithRest(pats, at) => open_with_rest(stack, *pats, *at),
         PatPart::Fields(fields, rest) => open_fields(stack, one_line, *fields, *rest),
         PatPart::Field(field) => open_field(stack, store, words, *field),

@@ -1,12 +1,15 @@
 //! Expressions, patterns and types as text: what each node is printed as, and the printer.
 #![tactic(auto)]
 
+mod at_once;
 mod calls;
+mod closures;
 mod definitions;
 mod expr_parts;
 mod exprs;
 mod fault;
 mod field_pats;
+mod laid;
 pub mod laws;
 mod literals;
 mod lookups;

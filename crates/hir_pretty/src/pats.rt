@@ -1,7 +1,7 @@
 //! Patterns, put on the stack of what is still to be printed, part by part.
 #![tactic(auto, using(crate::proofs::OpenLemmas::opening))]
 
-ghost use Rattle.std.specs.Prelude.{◌≡◌, ◌+◌, ◌*◌, ◌++◌, Some, OnOk, length, map, codes};
+ghost use Rattle.std.specs.Prelude.{◌+◌, ◌*◌, ◌++◌, Some, OnOk, length, map, codes};
 ghost use Rattle.std.specs.List.{flat_map};
 ghost use Rattle.hir_pretty.specs.Questions.{Setting};
 ghost use Rattle.hir_pretty.specs.Items.{p, text, under, opt, joined, comma_joined};
@@ -52,7 +52,7 @@ pub(crate) fn open_joined<'a>(
         [first, rest @ ..] => stack.push(&[
             Work::Pattern(*first),
             Work::Text(between),
-            Work::Pat(PatPart::Joined(between, rest)),
+            Work::Patterns(between, rest),
         ]),
     }
 }
@@ -71,7 +71,7 @@ pub(crate) fn open_with_rest<'a>(
                 return stack.push(&[
                     Work::Text(".."),
                     Work::Text(", "),
-                    Work::Pat(PatPart::Joined(", ", pats)),
+                    Work::Patterns(", ", pats),
                 ]);
             }
             stack.push(&[
@@ -91,11 +91,7 @@ fn open_parentheses<'a>(
     ensures { OnOk result ((s : Setting) → Opens s (listed stack.old) (in_parentheses rest pats.now) (7 + 3 * length pats.now) (listed stack.new)) }
 {
     match rest {
-        None => {
-            stack.push(&[Work::Text(")")])?;
-            open_joined(stack, ", ", pats)?;
-            stack.push(&[Work::Text("(")])
-        }
+        None => stack.push(&[Work::Text("("), Work::Patterns(", ", pats), Work::Text(")")]),
         Some(at) => {
             stack.push(&[Work::Text(")")])?;
             open_with_rest(stack, pats, at)?;
@@ -127,8 +123,7 @@ fn open_record<'a>(
     if rest {
         return stack.push(&[
             Work::Path(PathPart::Whole(path)),
-            Work::Text(" {"),
-            Work::Indent,
+            Work::Level(" {"),
             Work::Pat(PatPart::Fields(fields, rest)),
             Work::Text(".."),
             Work::Break,
@@ -138,8 +133,7 @@ fn open_record<'a>(
     }
     stack.push(&[
         Work::Path(PathPart::Whole(path)),
-        Work::Text(" {"),
-        Work::Indent,
+        Work::Level(" {"),
         Work::Pat(PatPart::Fields(fields, rest)),
         Work::Outdent,
         Work::Text("}"),
@@ -214,7 +208,7 @@ pub(crate) fn open_pat<'a>(stack: &mut Stack<'a>, pat: &'a Pat) -> Result<(), Al
         Pat::Tuple { args, ellipsis } => open_parentheses(stack, args.as_slice(), *ellipsis),
         Pat::Or(args) => stack.push(&[
             Work::Text("("),
-            Work::Pat(PatPart::Joined(" | ", args.as_slice())),
+            Work::Patterns(" | ", args.as_slice()),
             Work::Text(")"),
         ]),
         Pat::Record {
@@ -246,10 +240,9 @@ pub(crate) fn open_pat<'a>(stack: &mut Stack<'a>, pat: &'a Pat) -> Result<(), Al
             Work::Text(mutability.as_keyword_for_ref()),
             Work::Pattern(*pat),
         ]),
-        Pat::Box { inner } => stack.push(&[Work::Text("box "), Work::Pattern(*inner)]),
+        Pat::Box { inner } => stack.push(&[Work::TextPattern("box ", *inner)]),
         Pat::Deref { inner } => stack.push(&[
-            Work::Text("deref!("),
-            Work::Pattern(*inner),
+            Work::TextPattern("deref!(", *inner),
             Work::Text(")"),
         ]),
     }

@@ -1,7 +1,7 @@
 //! A turn of the printer's loop: a piece, a name or a binding is written, a node or a part gives way to its items.
 #![tactic(auto, using(crate::proofs::TurnLemmas::turns))]
 
-ghost use Rattle.std.specs.Prelude.{◌≡◌, ◌+◌, ◌++◌, Some, None, OnOk, IfErr, IfSome, true, codes, slice_get};
+ghost use Rattle.std.specs.Prelude.{◌≡◌, ◌+◌, ◌++◌, Some, OnOk, IfErr, true, codes, slice_get};
 ghost use Rattle.hir_node.specs.declared.node_id.NodeId.TheVariants as node;
 ghost use Rattle.hir_pretty.specs.Questions.{Setting};
 ghost use Rattle.hir_pretty.specs.Settings.{setting};
@@ -9,56 +9,26 @@ ghost use Rattle.hir_pretty.specs.Items.{text, when};
 ghost use Rattle.hir_pretty.specs.Pieces.{items_of, is_chain, stands_in_parentheses, precedence_found};
 ghost use Rattle.hir_pretty.specs.Falls.{ItemsFall};
 ghost use Rattle.hir_pretty.specs.Costs.{node_cost};
-ghost use Rattle.hir_pretty.specs.Works.{IsOnlyName, listed, Opens, OpensInStore, Turned, Prints, enclosed, stands_for, work_cost, pending, printed};
+ghost use Rattle.hir_pretty.specs.Works.{listed, Opens, OpensInStore, Turned, Prints, enclosed, stands_for, work_cost, pending, printed};
 
+use crate::at_once::{name_at, open_expr_at, show_pattern, show_patterns, show_whole};
 use crate::definitions::Definitions;
 use crate::expr_parts::open_expr_part;
-use crate::exprs::open_expr;
 use crate::fault::PrintFault;
 use crate::field_pats::open_pat_part;
+use crate::laid::{write_block_end, write_level, write_separator, write_spaced};
 use crate::literals::write_literal;
 use crate::lookups::{open_look, write_binding};
 use crate::names::write_name;
 use crate::paths::open_path_part;
-use crate::pats::open_pat;
 use crate::type_parts::open_type_part;
 use crate::types::open_type;
 use crate::work::{Stack, Work};
 use hir_base::{ExprPrecedence, Text};
 use hir_expr_store::ExpressionStore;
-use hir_node::{BindingId, Expr, ExprId, Pat, PatId, Path, TypeRefId};
+use hir_node::{ExprId, TypeRefId};
 use hir_page::{PieceWriter, write_number};
 use std::alloc::AllocError;
-
-fn open_expr_at<'a>(
-    stack: &mut Stack<'a>,
-    store: &'a ExpressionStore,
-    id: ExprId,
-) -> Result<(), AllocError>
-    ensures { OnOk result (OpensInStore store.now (listed stack.old) (λ s. items_of s (node.Expr id))
-        (1 + node_cost store.now.nodes (node.Expr id)) (listed stack.new)) }
-{
-    if store.has_expr(id) {
-        open_expr(stack, &store[id])?;
-        return Ok(());
-    }
-    Ok(())
-}
-
-fn open_pat_at<'a>(
-    stack: &mut Stack<'a>,
-    store: &'a ExpressionStore,
-    id: PatId,
-) -> Result<(), AllocError>
-    ensures { OnOk result (OpensInStore store.now (listed stack.old) (λ s. items_of s (node.Pat id))
-        (1 + node_cost store.now.nodes (node.Pat id)) (listed stack.new)) }
-{
-    if store.has_pat(id) {
-        open_pat(stack, &store[id])?;
-        return Ok(());
-    }
-    Ok(())
-}
 
 fn open_type_at<'a>(
     stack: &mut Stack<'a>,
@@ -73,50 +43,6 @@ fn open_type_at<'a>(
         return Ok(());
     }
     Ok(())
-}
-
-/// The name that is all that is printed of the expression, where it is a path of one name.
-#[inline(always)]
-fn name_at<'a>(store: &'a ExpressionStore, id: ExprId) -> Option<&'a str>
-    ensures { IfSome result (λ name. IsOnlyName (slice_get store.now.nodes.exprs id) name.now) }
-{
-    if store.has_expr(id) {
-        return name_of(&store[id]);
-    }
-    None
-}
-
-#[inline(always)]
-fn name_of<'a>(expr: &'a Expr) -> Option<&'a str>
-    ensures { IfSome result (λ name. IsOnlyName (Some expr.now) name.now) }
-{
-    if let Expr::Path(Path::BarePath(path)) = expr {
-        if let Some(name) = path.as_ident() {
-            return Some(name.as_str());
-        }
-    }
-    None
-}
-
-/// The binding that is all that is printed of the pattern, where it binds a name and nothing more.
-#[inline(always)]
-fn binding_at(store: &ExpressionStore, id: PatId) -> Option<BindingId>
-    ensures { IfSome result (λ binding. slice_get store.now.nodes.pats id ≡ Some (Pat.Bind binding None)) }
-{
-    if store.has_pat(id) {
-        return binding_of(&store[id]);
-    }
-    None
-}
-
-#[inline(always)]
-fn binding_of(pat: &Pat) -> Option<BindingId>
-    ensures { IfSome result (λ binding. pat.now ≡ Pat.Bind binding None) }
-{
-    if let Pat::Bind { id, subpat: None } = pat {
-        return Some(*id);
-    }
-    None
 }
 
 fn precedence_at(store: &ExpressionStore, id: ExprId) -> ExprPrecedence
@@ -239,15 +165,9 @@ pub(crate) fn turn<'a, D: Definitions, W: PieceWriter>(
             Ok(()) => Ok(()),
             Err(_) => Err(PrintFault::Memory),
         },
-        Work::Whole(id) => match name_at(store, *id) {
-            Some(name) => match write_name(writer, words, name) {
-                Ok(()) => Ok(()),
-                Err(_) => Err(PrintFault::Memory),
-            },
-            None => match open_expr_at(stack, store, *id) {
-                Ok(()) => Ok(()),
-                Err(_) => Err(PrintFault::Memory),
-            },
+        Work::Whole(id) => match show_whole(stack, writer, store, words, *id) {
+            Ok(()) => Ok(()),
+            Err(_) => Err(PrintFault::Memory),
         },
         Work::Under(id, parent) => match name_at(store, *id) {
             Some(name) => match write_name(writer, words, name) {
@@ -259,20 +179,46 @@ pub(crate) fn turn<'a, D: Definitions, W: PieceWriter>(
                 Err(_) => Err(PrintFault::Memory),
             },
         },
-        Work::Pattern(id) => match binding_at(store, *id) {
-            Some(binding) => match write_binding(writer, store, words, binding) {
-                Ok(()) => Ok(()),
-                Err(_) => Err(PrintFault::Memory),
-            },
-            None => match open_pat_at(stack, store, *id) {
-                Ok(()) => Ok(()),
-                Err(_) => Err(PrintFault::Memory),
-            },
+        Work::Pattern(id) => match show_pattern(stack, writer, store, words, *id) {
+            Ok(()) => Ok(()),
+            Err(_) => Err(PrintFault::Memory),
         },
         Work::Type(id) => match open_type_at(stack, store, *id) {
             Ok(()) => Ok(()),
             Err(_) => Err(PrintFault::Memory),
         },
+        Work::Level(text) => match write_level(writer, *text) {
+            Ok(()) => Ok(()),
+            Err(_) => Err(PrintFault::Memory),
+        },
+        Work::Spaced(text) => match write_spaced(writer, *text) {
+            Ok(()) => Ok(()),
+            Err(_) => Err(PrintFault::Memory),
+        },
+        Work::BlockEnd => match write_block_end(writer) {
+            Ok(()) => Ok(()),
+            Err(_) => Err(PrintFault::Memory),
+        },
+        Work::TextWhole(text, id) => match writer.text(*text) {
+            Ok(()) => match show_whole(stack, writer, store, words, *id) {
+                Ok(()) => Ok(()),
+                Err(_) => Err(PrintFault::Memory),
+            },
+            Err(_) => Err(PrintFault::Memory),
+        },
+        Work::TextPattern(text, id) => match writer.text(*text) {
+            Ok(()) => match show_pattern(stack, writer, store, words, *id) {
+                Ok(()) => Ok(()),
+                Err(_) => Err(PrintFault::Memory),
+            },
+            Err(_) => Err(PrintFault::Memory),
+        },
+        Work::Patterns(between, pats) => {
+            match show_patterns(stack, writer, store, words, *between, *pats) {
+                Ok(()) => Ok(()),
+                Err(_) => Err(PrintFault::Memory),
+            }
+        }
         Work::TextIf(holds, text) => match open_text_if(stack, *holds, *text) {
             Ok(()) => Ok(()),
             Err(_) => Err(PrintFault::Memory),
@@ -283,6 +229,13 @@ pub(crate) fn turn<'a, D: Definitions, W: PieceWriter>(
         },
         Work::Expr(part) => match open_expr_part(stack, part) {
             Ok(()) => Ok(()),
+            Err(_) => Err(PrintFault::Memory),
+        },
+        Work::Next(part) => match write_separator(writer, part) {
+            Ok(()) => match open_expr_part(stack, part) {
+                Ok(()) => Ok(()),
+                Err(_) => Err(PrintFault::Memory),
+            },
             Err(_) => Err(PrintFault::Memory),
         },
         Work::Pat(part) => match open_pat_part(stack, store, words, one_line, part) {

@@ -36,10 +36,23 @@ pub enum Work<'a> {
     Under(ExprId, ExprPrecedence),
     Pattern(PatId),
     Type(TypeRefId),
+    /// A text, and the next level.
+    Level(&'a str),
+    /// A text with a soft space before it and behind it.
+    Spaced(&'a str),
+    /// The end of a block that has something in it.
+    BlockEnd,
+    /// A text, and an expression without a parent.
+    TextWhole(&'a str, ExprId),
+    TextPattern(&'a str, PatId),
+    /// Patterns with a text between them.
+    Patterns(&'a str, &'a [PatId]),
     /// A text, where the condition holds.
     TextIf(bool, &'a str),
     Look(Look),
     Expr(ExprPart<'a>),
+    /// What stands behind each member of this list, and the rest of it.
+    Next(ExprPart<'a>),
     Pat(PatPart<'a>),
     TypePart(TypePart<'a>),
     Path(PathPart<'a>),
@@ -76,8 +89,6 @@ pub enum PatPart<'a> {
     /// An end of a range, where there is one.
     RangeEnd(Option<ExprId>),
     Elements(&'a [PatId]),
-    /// Patterns with a text between them.
-    Joined(&'a str, &'a [PatId]),
     /// Patterns with a rest in this place.
     WithRest(&'a [PatId], u32),
     /// The fields of a record, which a rest may follow.

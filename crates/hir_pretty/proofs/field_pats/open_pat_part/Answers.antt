@@ -8,9 +8,6 @@ returns-in-RangeEnd c = rw c.in-RangeEnd.is (on_ok_weaker c.open_range_end.resul
 pub returns-in-Elements : goal.returns-in-Elements
 returns-in-Elements c = rw c.in-Elements.is (on_ok_weaker c.open_elements.result (λ o tables. o (setting c.args.store.now tables c.args.words.now c.args.one_line)) c.open_elements.ensures)
 
-pub returns-in-Joined : goal.returns-in-Joined
-returns-in-Joined c = rw c.in-Joined.is (on_ok_weaker c.open_joined.result (λ o tables. o (setting c.args.store.now tables c.args.words.now c.args.one_line)) c.open_joined.ensures)
-
 pub returns-in-WithRest : goal.returns-in-WithRest
 returns-in-WithRest c = rw c.in-WithRest.is (on_ok_weaker c.open_with_rest.result (λ o tables. o (setting c.args.store.now tables c.args.words.now c.args.one_line)) c.open_with_rest.ensures)
 

@@ -1,12 +1,12 @@
-use Rattle.std.proofs.Common.{◌∷◌, [], map, refl, slice_get, arith}
+use Rattle.std.proofs.Common.{◌∷◌, ◌++◌, [], map, codes, refl, slice_get, arith}
 use Rattle.hir_pretty.specs.Settings.{setting}
 use Rattle.std.specs.Fmt.{decimal}
-use Rattle.hir_page.specs.Pieces.{Text}
-use Rattle.hir_pretty.specs.Items.{Whole, Under, Pattern, text}
+use Rattle.hir_page.specs.Pieces.{Text, SoftSpace, Break, Indent, Outdent}
+use Rattle.hir_pretty.specs.Items.{Under, text, sp, br, into, out}
 use Rattle.hir_pretty.specs.Names.{name_parts, name_items, binding_items}
 use Rattle.hir_pretty.specs.Literals.{literal_items}
-use Rattle.hir_pretty.specs.Works.{listed, pending, put_pieces, opt_texts, binding_texts}
-use Rattle.hir_pretty.proofs.TurnLemmas.{turned_part, turned_piece, turned_whole, turned_pattern, turned_type, turned_under, turned_put, refused_put, name_printed, binding_printed, literal_pieces, whole_printed, under_printed, pattern_printed}
+use Rattle.hir_pretty.specs.Works.{listed, pending, put_pieces, opt_texts, binding_texts, separator, expr_part_items, written, no_room}
+use Rattle.hir_pretty.proofs.TurnLemmas.{turned_part, turned_piece, turned_type, turned_under, turned_put, turned_behind, turned_text, refused_put, refused_before, stopped_behind, name_printed, binding_printed, literal_pieces, separator_printed, under_printed}
 use Rattle.hir_pretty.proofs.turn.turn.Goals as goal
 
 pub returns-in-Ok-clause-ok : goal.returns-in-Ok-clause-ok
@@ -67,42 +67,16 @@ returns-in-Err-write_binding-clause-err g c =
 pub returns-in-Ok-write_name-2-clause-ok : goal.returns-in-Ok-write_name-2-clause-ok
 returns-in-Ok-write_name-2-clause-ok g c =
     let s = setting c.args.store.now (g.D.Definitions.answers c.args.tables.now) c.args.words.now c.args.one_line in
-    rw c.in-Whole.is (turned_put (map Text (name_parts c.args.words.now c.in-Some.name.now)) (whole_printed s c.requires c.in-Whole.id c.in-Some.name.now c.in-Some.ensures) (omega arith) c.in-Ok-write_name-2.ensures)
+    rw c.in-Under.is (turned_put (map Text (name_parts c.args.words.now c.in-Some.name.now)) (under_printed s c.requires c.in-Under.id c.in-Under.parent c.in-Some.name.now c.in-Some.ensures) (omega arith) c.in-Ok-write_name-2.ensures)
 
 pub returns-in-Err-write_name-2-clause-err : goal.returns-in-Err-write_name-2-clause-err
 returns-in-Err-write_name-2-clause-err g c =
     let s = setting c.args.store.now (g.D.Definitions.answers c.args.tables.now) c.args.words.now c.args.one_line in
-    rw c.in-Whole.is (refused_put s (Whole c.in-Whole.id ∷ []) (map Text (name_parts c.args.words.now c.in-Some.name.now)) (pending s (listed c.args.stack.now)) (whole_printed s c.requires c.in-Whole.id c.in-Some.name.now c.in-Some.ensures) c.in-Err-write_name-2.ensures)
-
-pub returns-in-Ok-write_name-3-clause-ok : goal.returns-in-Ok-write_name-3-clause-ok
-returns-in-Ok-write_name-3-clause-ok g c =
-    let s = setting c.args.store.now (g.D.Definitions.answers c.args.tables.now) c.args.words.now c.args.one_line in
-    rw c.in-Under.is (turned_put (map Text (name_parts c.args.words.now c.in-Some-name_at.name.now)) (under_printed s c.requires c.in-Under.id c.in-Under.parent c.in-Some-name_at.name.now c.in-Some-name_at.ensures) (omega arith) c.in-Ok-write_name-3.ensures)
-
-pub returns-in-Err-write_name-3-clause-err : goal.returns-in-Err-write_name-3-clause-err
-returns-in-Err-write_name-3-clause-err g c =
-    let s = setting c.args.store.now (g.D.Definitions.answers c.args.tables.now) c.args.words.now c.args.one_line in
-    rw c.in-Under.is (refused_put s (Under c.in-Under.id c.in-Under.parent ∷ []) (map Text (name_parts c.args.words.now c.in-Some-name_at.name.now)) (pending s (listed c.args.stack.now)) (under_printed s c.requires c.in-Under.id c.in-Under.parent c.in-Some-name_at.name.now c.in-Some-name_at.ensures) c.in-Err-write_name-3.ensures)
-
-pub returns-in-Ok-write_binding-2-clause-ok : goal.returns-in-Ok-write_binding-2-clause-ok
-returns-in-Ok-write_binding-2-clause-ok g c =
-    let s = setting c.args.store.now (g.D.Definitions.answers c.args.tables.now) c.args.words.now c.args.one_line in
-    rw c.in-Pattern.is (turned_put (map Text (opt_texts (binding_texts c.args.words.now) (slice_get c.args.store.now.nodes.bindings c.in-Some-binding_at.binding))) (pattern_printed s c.requires c.in-Pattern.id c.in-Some-binding_at.binding c.in-Some-binding_at.ensures) (omega arith) c.in-Ok-write_binding-2.ensures)
-
-pub returns-in-Err-write_binding-2-clause-err : goal.returns-in-Err-write_binding-2-clause-err
-returns-in-Err-write_binding-2-clause-err g c =
-    let s = setting c.args.store.now (g.D.Definitions.answers c.args.tables.now) c.args.words.now c.args.one_line in
-    rw c.in-Pattern.is (refused_put s (Pattern c.in-Pattern.id ∷ []) (map Text (opt_texts (binding_texts c.args.words.now) (slice_get c.args.store.now.nodes.bindings c.in-Some-binding_at.binding))) (pending s (listed c.args.stack.now)) (pattern_printed s c.requires c.in-Pattern.id c.in-Some-binding_at.binding c.in-Some-binding_at.ensures) c.in-Err-write_binding-2.ensures)
-
-pub returns-in-Ok-open_expr_at-clause-ok : goal.returns-in-Ok-open_expr_at-clause-ok
-returns-in-Ok-open_expr_at-clause-ok g c = rw c.in-Whole.is (turned_whole c.requires (c.in-Ok-open_expr_at.ensures (g.D.Definitions.answers c.args.tables.now) c.args.words.now c.args.one_line))
+    rw c.in-Under.is (refused_put s (Under c.in-Under.id c.in-Under.parent ∷ []) (map Text (name_parts c.args.words.now c.in-Some.name.now)) (pending s (listed c.args.stack.now)) (under_printed s c.requires c.in-Under.id c.in-Under.parent c.in-Some.name.now c.in-Some.ensures) c.in-Err-write_name-2.ensures)
 
 pub returns-in-Ok-open_under-clause-ok : goal.returns-in-Ok-open_under-clause-ok
 returns-in-Ok-open_under-clause-ok g c =
     rw c.in-Under.is (turned_under c.requires (c.in-Ok-open_under.ensures (g.D.Definitions.answers c.args.tables.now) c.args.words.now c.args.one_line))
-
-pub returns-in-Ok-open_pat_at-clause-ok : goal.returns-in-Ok-open_pat_at-clause-ok
-returns-in-Ok-open_pat_at-clause-ok g c = rw c.in-Pattern.is (turned_pattern c.requires (c.in-Ok-open_pat_at.ensures (g.D.Definitions.answers c.args.tables.now) c.args.words.now c.args.one_line))
 
 pub returns-in-Ok-open_type_at-clause-ok : goal.returns-in-Ok-open_type_at-clause-ok
 returns-in-Ok-open_type_at-clause-ok g c = rw c.in-Type.is (turned_type c.requires (c.in-Ok-open_type_at.ensures (g.D.Definitions.answers c.args.tables.now) c.args.words.now c.args.one_line))
@@ -111,3 +85,72 @@ pub returns-in-Ok-open_text_if-clause-ok : goal.returns-in-Ok-open_text_if-claus
 returns-in-Ok-open_text_if-clause-ok g c =
     let s = setting c.args.store.now (g.D.Definitions.answers c.args.tables.now) c.args.words.now c.args.one_line in
     rw c.in-TextIf.is (turned_part (c.in-Ok-open_text_if.ensures s))
+
+pub returns-in-Ok-show_whole-clause-ok : goal.returns-in-Ok-show_whole-clause-ok
+returns-in-Ok-show_whole-clause-ok g c = rw c.in-Whole.is (c.in-Ok-show_whole.ensures.ok (g.D.Definitions.answers c.args.tables.now) c.args.one_line c.requires)
+
+pub returns-in-Err-show_whole-clause-err : goal.returns-in-Err-show_whole-clause-err
+returns-in-Err-show_whole-clause-err g c = rw c.in-Whole.is (c.in-Err-show_whole.ensures.err (g.D.Definitions.answers c.args.tables.now) c.args.one_line c.requires)
+
+pub returns-in-Ok-show_pattern-clause-ok : goal.returns-in-Ok-show_pattern-clause-ok
+returns-in-Ok-show_pattern-clause-ok g c = rw c.in-Pattern.is (c.in-Ok-show_pattern.ensures.ok (g.D.Definitions.answers c.args.tables.now) c.args.one_line c.requires)
+
+pub returns-in-Err-show_pattern-clause-err : goal.returns-in-Err-show_pattern-clause-err
+returns-in-Err-show_pattern-clause-err g c = rw c.in-Pattern.is (c.in-Err-show_pattern.ensures.err (g.D.Definitions.answers c.args.tables.now) c.args.one_line c.requires)
+
+pub returns-in-Ok-show_patterns-clause-ok : goal.returns-in-Ok-show_patterns-clause-ok
+returns-in-Ok-show_patterns-clause-ok g c = rw c.in-Patterns.is (c.in-Ok-show_patterns.ensures.ok (g.D.Definitions.answers c.args.tables.now) c.args.one_line c.requires)
+
+pub returns-in-Err-show_patterns-clause-err : goal.returns-in-Err-show_patterns-clause-err
+returns-in-Err-show_patterns-clause-err g c = rw c.in-Patterns.is (c.in-Err-show_patterns.ensures.err (g.D.Definitions.answers c.args.tables.now) c.args.one_line c.requires)
+
+pub returns-in-Ok-write_level-clause-ok : goal.returns-in-Ok-write_level-clause-ok
+returns-in-Ok-write_level-clause-ok g c = rw c.in-Level.is (turned_put (Text c.in-Level.text.now ∷ Indent ∷ []) refl (omega arith) c.in-Ok-write_level.ensures)
+
+pub returns-in-Err-write_level-clause-err : goal.returns-in-Err-write_level-clause-err
+returns-in-Err-write_level-clause-err g c =
+    let s = setting c.args.store.now (g.D.Definitions.answers c.args.tables.now) c.args.words.now c.args.one_line in
+    rw c.in-Level.is (refused_put s (text c.in-Level.text.now ++ into) (Text c.in-Level.text.now ∷ Indent ∷ []) (pending s (listed c.args.stack.now)) refl c.in-Err-write_level.ensures)
+
+pub returns-in-Ok-write_spaced-clause-ok : goal.returns-in-Ok-write_spaced-clause-ok
+returns-in-Ok-write_spaced-clause-ok g c = rw c.in-Spaced.is (turned_put (SoftSpace ∷ Text c.in-Spaced.text.now ∷ SoftSpace ∷ []) refl (omega arith) c.in-Ok-write_spaced.ensures)
+
+pub returns-in-Err-write_spaced-clause-err : goal.returns-in-Err-write_spaced-clause-err
+returns-in-Err-write_spaced-clause-err g c =
+    let s = setting c.args.store.now (g.D.Definitions.answers c.args.tables.now) c.args.words.now c.args.one_line in
+    rw c.in-Spaced.is (refused_put s (sp ++ text c.in-Spaced.text.now ++ sp) (SoftSpace ∷ Text c.in-Spaced.text.now ∷ SoftSpace ∷ []) (pending s (listed c.args.stack.now)) refl c.in-Err-write_spaced.ensures)
+
+pub returns-in-Ok-write_block_end-clause-ok : goal.returns-in-Ok-write_block_end-clause-ok
+returns-in-Ok-write_block_end-clause-ok g c = rw c.in-BlockEnd.is (turned_put (Break ∷ Outdent ∷ Text (codes "}") ∷ []) refl (omega arith) c.in-Ok-write_block_end.ensures)
+
+pub returns-in-Err-write_block_end-clause-err : goal.returns-in-Err-write_block_end-clause-err
+returns-in-Err-write_block_end-clause-err g c =
+    let s = setting c.args.store.now (g.D.Definitions.answers c.args.tables.now) c.args.words.now c.args.one_line in
+    rw c.in-BlockEnd.is (refused_put s (br ++ out ++ text (codes "}")) (Break ∷ Outdent ∷ Text (codes "}") ∷ []) (pending s (listed c.args.stack.now)) refl c.in-Err-write_block_end.ensures)
+
+pub returns-in-Ok-show_whole-2-clause-ok : goal.returns-in-Ok-show_whole-2-clause-ok
+returns-in-Ok-show_whole-2-clause-ok g c = rw c.in-TextWhole.is (turned_text c.in-Ok-text.ensures (c.in-Ok-show_whole-2.ensures.ok (g.D.Definitions.answers c.args.tables.now) c.args.one_line c.requires))
+
+pub returns-in-Err-show_whole-2-clause-err : goal.returns-in-Err-show_whole-2-clause-err
+returns-in-Err-show_whole-2-clause-err g c = rw c.in-TextWhole.is (written c.in-Ok-text.ensures (c.in-Err-show_whole-2.ensures.err (g.D.Definitions.answers c.args.tables.now) c.args.one_line c.requires))
+
+pub returns-in-Ok-show_pattern-2-clause-ok : goal.returns-in-Ok-show_pattern-2-clause-ok
+returns-in-Ok-show_pattern-2-clause-ok g c = rw c.in-TextPattern.is (turned_text c.in-Ok-text-2.ensures (c.in-Ok-show_pattern-2.ensures.ok (g.D.Definitions.answers c.args.tables.now) c.args.one_line c.requires))
+
+pub returns-in-Err-show_pattern-2-clause-err : goal.returns-in-Err-show_pattern-2-clause-err
+returns-in-Err-show_pattern-2-clause-err g c = rw c.in-TextPattern.is (written c.in-Ok-text-2.ensures (c.in-Err-show_pattern-2.ensures.err (g.D.Definitions.answers c.args.tables.now) c.args.one_line c.requires))
+
+pub returns-in-Ok-open_expr_part-2-clause-ok : goal.returns-in-Ok-open_expr_part-2-clause-ok
+returns-in-Ok-open_expr_part-2-clause-ok g c =
+    let s = setting c.args.store.now (g.D.Definitions.answers c.args.tables.now) c.args.words.now c.args.one_line in
+    rw c.in-Next.is (turned_behind (separator c.in-Next.part) (put_pieces (separator c.in-Next.part)) (separator_printed s c.in-Next.part) c.in-Ok-write_separator.ensures (turned_part (c.in-Ok-open_expr_part-2.ensures s)))
+
+pub returns-in-Err-open_expr_part-2-clause-err : goal.returns-in-Err-open_expr_part-2-clause-err
+returns-in-Err-open_expr_part-2-clause-err g c =
+    let s = setting c.args.store.now (g.D.Definitions.answers c.args.tables.now) c.args.words.now c.args.one_line in
+    rw c.in-Next.is (stopped_behind s (separator c.in-Next.part) (expr_part_items s c.in-Next.part) (put_pieces (separator c.in-Next.part)) (pending s (listed c.args.stack.now)) (separator_printed s c.in-Next.part) c.in-Ok-write_separator.ensures no_room)
+
+pub returns-in-Err-write_separator-clause-err : goal.returns-in-Err-write_separator-clause-err
+returns-in-Err-write_separator-clause-err g c =
+    let s = setting c.args.store.now (g.D.Definitions.answers c.args.tables.now) c.args.words.now c.args.one_line in
+    rw c.in-Next.is (refused_before s (separator c.in-Next.part) (expr_part_items s c.in-Next.part) (put_pieces (separator c.in-Next.part)) (pending s (listed c.args.stack.now)) (separator_printed s c.in-Next.part) c.in-Err-write_separator.ensures)

@@ -3,7 +3,7 @@ use Rattle.hir_pretty.specs.Settings.{setting}
 use Rattle.hir_pretty.specs.Pats.{pat_items}
 use Rattle.hir_pretty.specs.Costs.{pat_cost}
 use Rattle.hir_pretty.proofs.OpenLemmas.{opens_at, opens_absent, not_there}
-use Rattle.hir_pretty.proofs.turn.open_pat_at.Goals as goal
+use Rattle.hir_pretty.proofs.at_once.open_pat_at.Goals as goal
 
 pub returns-then-has_pat : goal.returns-then-has_pat
 returns-then-has_pat c = λ tables words one_line.

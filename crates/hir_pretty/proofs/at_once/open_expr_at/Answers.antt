@@ -3,7 +3,7 @@ use Rattle.hir_pretty.specs.Settings.{setting}
 use Rattle.hir_pretty.specs.Exprs.{expr_items}
 use Rattle.hir_pretty.specs.Costs.{expr_cost}
 use Rattle.hir_pretty.proofs.OpenLemmas.{opens_at, opens_absent, not_there}
-use Rattle.hir_pretty.proofs.turn.open_expr_at.Goals as goal
+use Rattle.hir_pretty.proofs.at_once.open_expr_at.Goals as goal
 
 pub returns-then-has_expr : goal.returns-then-has_expr
 returns-then-has_expr c = λ tables words one_line.

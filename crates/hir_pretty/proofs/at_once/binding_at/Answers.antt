@@ -2,7 +2,7 @@ use Rattle.std.proofs.Common.{◌≡◌, ℕ, Option, Some, None, ap, ◌∙◌,
 use Rattle.std.specs.Prelude.{IfSome}
 use Rattle.hir_node.specs.declared.pat.Pat.{Pat}
 use Rattle.hir_node.specs.declared.pat.Pat.TheVariants as pat
-use Rattle.hir_pretty.proofs.turn.binding_at.Goals as goal
+use Rattle.hir_pretty.proofs.at_once.binding_at.Goals as goal
 
 found_binds : (found : Option Pat) (x : Pat) (r : Option ℕ) → found ≡ Some x → IfSome r (λ id. x ≡ pat.Bind id None) → IfSome r (λ id. found ≡ Some (pat.Bind id None))
 found_binds found x None e h = tt

@@ -1,0 +1,30 @@
+use Rattle.std.proofs.Common.{◌∷◌, [], map, arith}
+use Rattle.std.proofs.lemmas.Result.{on_ok_weaker}
+use Rattle.hir_page.specs.Pieces.{Text}
+use Rattle.hir_pretty.specs.Settings.{setting}
+use Rattle.hir_pretty.specs.Items.{Whole}
+use Rattle.hir_pretty.specs.Names.{name_parts}
+use Rattle.hir_pretty.specs.Works.{listed, pending, no_room}
+use Rattle.hir_pretty.proofs.TurnLemmas.{turned_put, turned_whole, refused_put, whole_printed, wrote, wrote_not, on_any_err}
+use Rattle.hir_pretty.proofs.at_once.show_whole.Goals as goal
+
+pub returns-in-Some-clause-ok : goal.returns-in-Some-clause-ok
+returns-in-Some-clause-ok g c = wrote c.write_name.result
+    (λ k tables one_line fall.
+    turned_put (map Text (name_parts c.args.words.now c.in-Some.name.now))
+    (whole_printed (setting c.args.store.now tables c.args.words.now one_line) fall c.args.id c.in-Some.name.now c.in-Some.ensures) (omega arith) k)
+    c.write_name.ensures
+
+pub returns-in-Some-clause-err : goal.returns-in-Some-clause-err
+returns-in-Some-clause-err g c = wrote_not c.write_name.result
+    (λ k tables one_line fall.
+    let s = setting c.args.store.now tables c.args.words.now one_line in
+    refused_put s (Whole c.args.id ∷ []) (map Text (name_parts c.args.words.now c.in-Some.name.now)) (pending s (listed c.args.stack.now))
+    (whole_printed s fall c.args.id c.in-Some.name.now c.in-Some.ensures) k)
+    c.write_name.ensures
+
+pub returns-in-None-clause-ok : goal.returns-in-None-clause-ok
+returns-in-None-clause-ok g c = on_ok_weaker c.open_expr_at.result (λ o tables one_line fall. turned_whole fall (o tables c.args.words.now one_line)) c.open_expr_at.ensures
+
+pub returns-in-None-clause-err : goal.returns-in-None-clause-err
+returns-in-None-clause-err g c = on_any_err c.open_expr_at.result (λ tables one_line fall. no_room)
