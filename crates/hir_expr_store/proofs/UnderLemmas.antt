@@ -1,5 +1,5 @@
 -- Going down from kid to kid and climbing from child to parent lead between the same nodes.
-use Rattle.std.proofs.Common.{◌≡◌, ℕ, zero, suc, ◌+◌, ◌-◌, ◌<◌, ◌≤◌, ◌⊎◌, ◌↔◌, Bool, true, not, List, [], Option, None, inl, inr, ⊎_elim, refl, ap, sym, ◌∙◌, subst, arith, length, map, get_or, set, Contains}
+use Rattle.std.proofs.Common.{◌≡◌, ℕ, zero, suc, ◌+◌, ◌-◌, ◌<◌, ◌≤◌, ◌⊎◌, ◌↔◌, Bool, true, List, [], Option, None, inl, inr, ⊎_elim, refl, ap, sym, ◌∙◌, subst, arith, length, map, get_or, set, Contains}
 use Rattle.std.specs.Prelude.{IsTrue}
 use Rattle.std.proofs.lemmas.Bool.{cases_lt}
 use Rattle.std.proofs.lemmas.List.{length-map, get_or-map}

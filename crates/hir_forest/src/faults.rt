@@ -1,7 +1,7 @@
 //! The first fault of a graph and its roots: shared children show while the parents are noted, cycles and roots by climbing from parent
 //! to parent.
 
-ghost use Rattle.std.specs.Prelude.{◌≡◌, ℕ, ◌<◌, ◌≤◌, ◌↔◌, List, [], length, IfNone, IfOk, Contains, All};
+ghost use Rattle.std.specs.Prelude.{◌≡◌, ℕ, ◌<◌, ◌≤◌, List, [], length, IfNone, IfOk, All};
 ghost use Rattle.std.specs.List.{concat};
 ghost use Rattle.hir_forest.specs.Verdict.{◌before◌, first_below};
 ghost use Rattle.hir_forest.specs.Forest.{ChainEnds, LiesUnder, Marks, MarksAll};

@@ -22,14 +22,14 @@ pub struct Parents {
 }
 
 impl Model for Parents {
-    ghost use Rattle.std.specs.Prelude.{◌≤◌, length};
+    ghost use Rattle.std.specs.Prelude.{◌≤◌, ◌<◌, ◌^◌, length};
     ghost use Rattle.hir_forest.specs.Parents.{Parentage};
 
     ghost Value = { Parentage };
 
     ghost view = { λ p. record { rows = p.rows; parents = p.table; shared = p.shared } };
 
-    ghost invariant = { λ p. (p.rows ≤ length p.table) × (length p.table ≤ 18446744073709551615) };
+    ghost invariant = { λ p. (p.rows ≤ length p.table) × (length p.table < 2 ^ 64) };
 }
 
 impl Parents {

@@ -1,6 +1,6 @@
 //! Paths with their generic arguments, as `crate::foo` or `<Type as Trait>::bar::<u8>`.
 //! The views of a path's segments are in `segments`.
-ghost use Rattle.std.specs.Prelude.{◌≡◌, ◌↔◌, IfOk, IfErr, IsTrue, length, IsOk, [], ◌∷◌, None};
+ghost use Rattle.std.specs.Prelude.{◌≡◌, ◌↔◌, IfOk, IfErr, IsTrue, length, IsOk, [], None};
 ghost use Rattle.std.specs.Option.{option_copied, option_to_list};
 ghost use Rattle.hir_base.specs.Exact.{exact};
 ghost use Rattle.hir_path.specs.Paths.{no_args, but_last};
