@@ -29,10 +29,6 @@ if_below-large n h = grind (arith, nat_tests)
 pub if_below-below : (n : ℕ) → n < 2 ^ 32 → if_below (2 ^ 32) n ≡ Some n
 if_below-below n h = grind (arith, nat_tests)
 
--- what is too large at some digit stays so
-pub too_large : (bs : List ℕ) (i : ℕ) → i < length bs → 2 ^ 32 ≤ 10 * value (take i bs) + (get_or bs i 0 - 48) → if_below (2 ^ 32) (value bs) ≡ None
-too_large bs i h large = if_below-large (value bs) (omega (arith, value-front bs (i + 1), value-next bs i h))
-
 chosen_none : (b : Bool) (o : Option ℕ) → o ≡ None → (if b then o else None) ≡ None
 chosen_none true o e = e
 chosen_none false o e = refl

@@ -1,5 +1,5 @@
 -- The word in front of a separator: of bytes that pass a test, which the separator doesn't pass.
-use Rattle.std.proofs.Common.{◌≡◌, ◌+◌, ◌-◌, ◌<◌, ◌≤◌, ℕ, Bool, Option, Some, None, List, [], ◌∷◌, take, drop, length, get_or, sym, ◌∙◌, ap, arith, true, false, ◌||◌, refl, inl, inr, length-take, get_or-take, take_all}
+use Rattle.std.proofs.Common.{◌≡◌, ◌+◌, ◌-◌, ◌<◌, ◌≤◌, ℕ, Bool, Option, Some, None, List, [], ◌∷◌, take, drop, length, get_or, sym, ◌∙◌, ap, arith, true, false, refl, inl, inr, length-take, get_or-take, take_all}
 use Rattle.std.specs.Prelude.{position}
 use Rattle.std.specs.List.{position_or_len, prefix_len}
 use Rattle.std.proofs.lemmas.Bool.{cases_lt, false≢true, eqb-true}
@@ -7,7 +7,6 @@ use Rattle.std.proofs.lemmas.List.Sums.{prefix_len_stops, prefix_len_passes, pos
 use Rattle.std.proofs.lemmas.List.{get_or_default}
 use Rattle.std.proofs.lemmas.List.Splits.{slice_split_none}
 use Rattle.hir_lines.proofs.Splits.{split_cut, split_found, split_none, found_at, first_place, below_length}
-use Rattle.hir_lines.specs.Names.{continues_name, starts_name}
 use Rattle.hir_lines.specs.Numerals.{is_digit, number_of}
 use Rattle.hir_lines.specs.Readings.{first_word, is_byte, parts_of}
 use Rattle.hir_lines.specs.Words.{number}
@@ -26,13 +25,6 @@ first_none read text texts e = rw e refl
 
 pub number_first : (text : List ℕ) (texts : List (List ℕ)) (n : ℕ) → number_of text ≡ Some n → number (text ∷ texts) ≡ Some (n, texts)
 number_first text texts n e = rw e refl
-
--- what no name goes on with is no digit
-pub no_digit : (b : ℕ) → continues_name b ≡ false → is_digit b ≡ false
-no_digit b e = or_second (starts_name b) (is_digit b) e where
-  or_second : (a d : Bool) → (a || d) ≡ false → d ≡ false
-  or_second true d e = cc
-  or_second false d e = e
 
 module _ {X : Type 0} (p : ℕ → Bool) (read : List ℕ → Option X) (fails : (xs : List ℕ) (i : ℕ) → i < length xs → p (get_or xs i 0) ≡ false → read xs ≡ None) (c : ℕ) (plain : p c ≡ false) where
   none_before : (xs : List ℕ) (k : ℕ) → k < prefix_len p xs → is_byte c (get_or xs k 0) ≡ false

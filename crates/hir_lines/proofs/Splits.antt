@@ -1,5 +1,5 @@
 -- What the first place of a separator says of the parts of a text.
-use Rattle.std.proofs.Common.{◌≡◌, ◌+◌, ◌<◌, ℕ, Bool, true, false, cond, List, [], ◌∷◌, None, Some, take, drop, length, ltb, refl, ◌-◌, take_all, length-take, get_or-take, arith, ap}
+use Rattle.std.proofs.Common.{◌≡◌, ◌+◌, ◌<◌, ℕ, Bool, true, false, cond, List, [], ◌∷◌, None, Some, take, drop, length, ltb, refl, ◌-◌, take_all, arith, ap}
 use Rattle.std.specs.Prelude.{position, All}
 use Rattle.std.specs.List.{slice_split, position_or_len}
 use Rattle.std.proofs.lemmas.List.Splits.{slice_split_first, slice_split_none, length-slice_split}
@@ -25,16 +25,6 @@ first_place p xs i e = (some_is _ _ _ e).1
 
 pub found_at : (p : ℕ → Bool) (xs : List ℕ) (i : ℕ) → position_or_len p xs ≡ i → i < length xs → position p xs ≡ Some i
 found_at p xs i at within = grind (arith, nat_tests, common_steps)
-
--- before the first place nothing passes
-pub fails_before : (p : ℕ → Bool) (xs : List ℕ) (i : ℕ) → position p xs ≡ Some i → All (λ b. p b ≡ false) (take i xs)
-fails_before p xs i e =
-    λ k d h.
-    let below : k < i = omega (arith, length-take i xs, h) in
-    let w = some_is _ _ _ e in
-    let same : position_or_len p xs ≡ i = w.1 in
-    let before : k < position_or_len p xs = omega arith in
-    rw (get_or-take {A = ℕ} i xs k d below) (fails_before_first p xs k d before)
 
 pub none_passes : (p : ℕ → Bool) (xs : List ℕ) → position p xs ≡ None → All (λ b. p b ≡ false) xs
 none_passes p xs e =

@@ -15,7 +15,7 @@ abbrev pub parted : ℕ → List (List ℕ) → Parted
 parted inner [] = ([], [])
 parted inner (word ∷ words) = (parts_of inner word, words)
 
--- the same of a text, of which only words may be left
+-- the same of what is left: parts of the word and the words behind it, or those words alone
 abbrev pub parted_left : ℕ → ℕ → Left → Parted
 parted_left inner outer (OfWord text) = parted inner (parts_of outer text.now)
 parted_left inner outer (Behind text) = ([], parts_left outer text)

@@ -72,10 +72,6 @@ whole reading words = option_and_then (λ found. alone found.0 found.1) (reading
 abbrev pub HasWord : List (List ℕ) → Type 0
 HasWord words = (word : List ℕ) × (others : List (List ℕ)) × (words ≡ word ∷ others)
 
--- what was found, or that there is nothing to find
-abbrev pub Found : {X : Type 0} → Option X → Result X Stop → Type 0
-Found found result = MatchResult result (λ x. found ≡ Some x) (λ stop. stop ≡ Bad → found ≡ None)
-
 -- what a reading of these words finds, and the words that it leaves; or that the words don't fit
 abbrev pub Reads : {X : Type 0} → Reading X → List (List ℕ) → Result X Stop → List (List ℕ) → Type 0
 Reads reading old result new =

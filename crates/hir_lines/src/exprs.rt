@@ -17,21 +17,18 @@ use hir_node::{
 use std::alloc::{AllocError, Global};
 
 /// Makes the expression of the text behind `expr`. The first words of most are compared with it in place, together with their spaces.
+// Each `_of` function makes its own `Words` of the text, so that they stay in registers.
 #[inline(always)]
 pub fn expr_of<B: Builder>(alloc: Global, text: &[u8], builder: &mut B) -> Result<(), Stop>
     ensures { Puts B.add make.Expr expr (parts_of space text.now) builder.old builder.new result }
 {
     match text {
-        [b'p', b'a', b't', b'h', b' ', name @ ..] => {
-            path(alloc, &mut Words::new(name, b' '), builder)
-        }
-        [b'i', b'n', b't', b' ', number @ ..] => int(&mut Words::new(number, b' '), builder),
-        [b'b', b'i', b'n', b' ', rest @ ..] => binary(&mut Words::new(rest, b' '), builder),
-        [b'b', b'l', b'o', b'c', b'k', b' ', rest @ ..] => {
-            block(alloc, &mut Words::new(rest, b' '), builder)
-        }
-        [b'l', b'e', b't', b' ', ids @ ..] => let_expr(&mut Words::new(ids, b' '), builder),
-        [b'i', b'f', b' ', ids @ ..] => if_expr(&mut Words::new(ids, b' '), builder),
+        [b'p', b'a', b't', b'h', b' ', name @ ..] => path_of(alloc, name, builder),
+        [b'i', b'n', b't', b' ', number @ ..] => int_of(number, builder),
+        [b'b', b'i', b'n', b' ', rest @ ..] => binary_of(rest, builder),
+        [b'b', b'l', b'o', b'c', b'k', b' ', rest @ ..] => block_of(alloc, rest, builder),
+        [b'l', b'e', b't', b' ', ids @ ..] => let_of(ids, builder),
+        [b'i', b'f', b' ', ids @ ..] => if_of(ids, builder),
         _ => expr(alloc, &mut Words::new(text, b' '), builder),
     }
 }
@@ -72,6 +69,7 @@ fn put<B: Builder>(words: &Words<'_>, builder: &mut B, expr: Expr) -> Result<(),
     builder.expr(expr)
 }
 
+#[inline(always)]
 fn path<B: Builder>(alloc: Global, words: &mut Words<'_>, builder: &mut B) -> Result<(), Stop>
     ensures { Puts B.add make.Expr path_expr words.old builder.old builder.new result }
 {
@@ -79,6 +77,14 @@ fn path<B: Builder>(alloc: Global, words: &mut Words<'_>, builder: &mut B) -> Re
     put(words, builder, Expr::Path(path))
 }
 
+#[inline(never)]
+fn path_of<B: Builder>(alloc: Global, text: &[u8], builder: &mut B) -> Result<(), Stop>
+    ensures { Puts B.add make.Expr path_expr (parts_of space text.now) builder.old builder.new result }
+{
+    path(alloc, &mut Words::new(text, b' '), builder)
+}
+
+#[inline(always)]
 fn int<B: Builder>(words: &mut Words<'_>, builder: &mut B) -> Result<(), Stop>
     ensures { Puts B.add make.Expr int_expr words.old builder.old builder.new result }
 {
@@ -88,6 +94,13 @@ fn int<B: Builder>(words: &mut Words<'_>, builder: &mut B) -> Result<(), Stop>
         builder,
         Expr::Literal(Literal::Int(Int::new(n), None)),
     )
+}
+
+#[inline(never)]
+fn int_of<B: Builder>(text: &[u8], builder: &mut B) -> Result<(), Stop>
+    ensures { Puts B.add make.Expr int_expr (parts_of space text.now) builder.old builder.new result }
+{
+    int(&mut Words::new(text, b' '), builder)
 }
 
 fn call<B: Builder>(alloc: Global, words: &mut Words<'_>, builder: &mut B) -> Result<(), Stop>
@@ -135,6 +148,7 @@ fn reference<B: Builder>(words: &mut Words<'_>, builder: &mut B) -> Result<(), S
     put(words, builder, reference)
 }
 
+#[inline(always)]
 fn binary<B: Builder>(words: &mut Words<'_>, builder: &mut B) -> Result<(), Stop>
     ensures { Puts B.add make.Expr bin_expr words.old builder.old builder.new result }
 {
@@ -147,6 +161,14 @@ fn binary<B: Builder>(words: &mut Words<'_>, builder: &mut B) -> Result<(), Stop
     put(words, builder, binary)
 }
 
+#[inline(never)]
+fn binary_of<B: Builder>(text: &[u8], builder: &mut B) -> Result<(), Stop>
+    ensures { Puts B.add make.Expr bin_expr (parts_of space text.now) builder.old builder.new result }
+{
+    binary(&mut Words::new(text, b' '), builder)
+}
+
+#[inline(always)]
 fn let_expr<B: Builder>(words: &mut Words<'_>, builder: &mut B) -> Result<(), Stop>
     ensures { Puts B.add make.Expr let_expr words.old builder.old builder.new result }
 {
@@ -157,6 +179,14 @@ fn let_expr<B: Builder>(words: &mut Words<'_>, builder: &mut B) -> Result<(), St
     put(words, builder, let_expr)
 }
 
+#[inline(never)]
+fn let_of<B: Builder>(text: &[u8], builder: &mut B) -> Result<(), Stop>
+    ensures { Puts B.add make.Expr let_expr (parts_of space text.now) builder.old builder.new result }
+{
+    let_expr(&mut Words::new(text, b' '), builder)
+}
+
+#[inline(always)]
 fn if_expr<B: Builder>(words: &mut Words<'_>, builder: &mut B) -> Result<(), Stop>
     ensures { Puts B.add make.Expr if_expr words.old builder.old builder.new result }
 {
@@ -166,6 +196,13 @@ fn if_expr<B: Builder>(words: &mut Words<'_>, builder: &mut B) -> Result<(), Sto
         else_branch: words.optional_id()?,
     };
     put(words, builder, if_expr)
+}
+
+#[inline(never)]
+fn if_of<B: Builder>(text: &[u8], builder: &mut B) -> Result<(), Stop>
+    ensures { Puts B.add make.Expr if_expr (parts_of space text.now) builder.old builder.new result }
+{
+    if_expr(&mut Words::new(text, b' '), builder)
 }
 
 fn loop_expr<B: Builder>(words: &mut Words<'_>, builder: &mut B) -> Result<(), Stop>
@@ -236,6 +273,7 @@ fn untyped(alloc: Global, args: &[PatId]) -> Result<ShortList<Option<TypeRefId>>
     Ok(types)
 }
 
+#[inline(always)]
 fn block<B: Builder>(alloc: Global, words: &mut Words<'_>, builder: &mut B) -> Result<(), Stop>
     ensures { Puts B.add make.Expr block_expr words.old builder.old builder.new result }
 {
@@ -249,4 +287,11 @@ fn block<B: Builder>(alloc: Global, words: &mut Words<'_>, builder: &mut B) -> R
         label: None,
     };
     put(words, builder, block)
+}
+
+#[inline(never)]
+fn block_of<B: Builder>(alloc: Global, text: &[u8], builder: &mut B) -> Result<(), Stop>
+    ensures { Puts B.add make.Expr block_expr (parts_of space text.now) builder.old builder.new result }
+{
+    block(alloc, &mut Words::new(text, b' '), builder)
 }

@@ -1,8 +1,7 @@
-//! Keywords and names as they are written in a line.
+//! Names as they are written in a line.
 
 ghost use Rattle.std.specs.Prelude.{◌≡◌, ◌≤◌, ◌∷◌, None, length, IfSome, IfNone, true, false};
-ghost use Rattle.std.specs.List.{list_all, prefix_len};
-ghost use Rattle.std.specs.Char.{is_ascii};
+ghost use Rattle.std.specs.List.{prefix_len};
 ghost use Rattle.hir_lines.specs.Names.{is_name, starts_name, continues_name};
 ghost use Rattle.hir_lines.specs.Readings.{parts_of, parts_left};
 ghost use Rattle.hir_lines.specs.Words.{name};
@@ -32,23 +31,6 @@ fn name_len(text: &[u8]) -> usize
         end += 1;
     }
     end
-}
-
-fn is_ascii(text: &[u8]) -> bool
-    ensures { result ≡ list_all is_ascii text.now }
-{
-    text.iter().all(|b| b.is_ascii())
-}
-
-/// The text, if it is one in ASCII.
-pub fn ascii(text: &[u8]) -> Option<&str>
-    ensures some { IfSome result (λ ascii. (ascii.now ≡ text.now) × (list_all is_ascii text.now ≡ true)) }
-    ensures none { IfNone result (list_all is_ascii text.now ≡ false) }
-{
-    if !is_ascii(text) {
-        return None;
-    }
-    str::from_utf8(text).ok()
 }
 
 /// The name before the first separator, and what is left behind it.

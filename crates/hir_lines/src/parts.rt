@@ -1,5 +1,4 @@
-//! The parts of the next word of a text, read where they stand: neither the end of the word nor that of a part is looked for before what
-//! is in front of it is read.
+//! The parts of the next word of a text, read where they stand: no separator is searched for first.
 
 ghost use Rattle.std.specs.Prelude.{Some, None, ◌≡◌, ◌≤◌, ◌↔◌, [], MatchResult, IfSome, IfNone, IsTrue, length, take, true, false, codes};
 ghost use Rattle.std.specs.List.{list_all};

@@ -18,7 +18,7 @@ pub fn pat_of<B: Builder>(alloc: Global, text: &[u8], builder: &mut B) -> Result
     ensures { Puts B.add make.Pat pat (parts_of space text.now) builder.old builder.new result }
 {
     match text {
-        [b'b', b'i', b'n', b'd', b' ', ids @ ..] => bind(&mut Words::new(ids, b' '), builder),
+        [b'b', b'i', b'n', b'd', b' ', ids @ ..] => bind_of(ids, builder),
         // Of `bind` only the bare word comes here, and it is bad.
         _ => pat(alloc, &mut Words::new(text, b' '), builder),
     }
@@ -53,6 +53,7 @@ fn put<B: Builder>(words: &Words<'_>, builder: &mut B, pat: Pat) -> Result<(), S
     builder.pat(pat)
 }
 
+#[inline(always)]
 fn bind<B: Builder>(words: &mut Words<'_>, builder: &mut B) -> Result<(), Stop>
     ensures { Puts B.add make.Pat bind_pat words.old builder.old builder.new result }
 {
@@ -61,6 +62,13 @@ fn bind<B: Builder>(words: &mut Words<'_>, builder: &mut B) -> Result<(), Stop>
         subpat: words.optional_id()?,
     };
     put(words, builder, bind)
+}
+
+#[inline(never)]
+fn bind_of<B: Builder>(text: &[u8], builder: &mut B) -> Result<(), Stop>
+    ensures { Puts B.add make.Pat bind_pat (parts_of space text.now) builder.old builder.new result }
+{
+    bind(&mut Words::new(text, b' '), builder)
 }
 
 fn tuple<B: Builder>(alloc: Global, words: &mut Words<'_>, builder: &mut B) -> Result<(), Stop>

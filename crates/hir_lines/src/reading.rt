@@ -6,7 +6,7 @@ ghost use Rattle.hir_lines.specs.declared.question.Question.TheVariants.{OfBody}
 ghost use Rattle.hir_lines.specs.Grammar.{IsLine};
 ghost use Rattle.hir_lines.specs.Line.{Line, Bad, line_of, or_bad, plain_binding, bind, expr_hygiene, pat_hygiene, command, Ask, children_line, root_of_line, chain_line, resolve_line, captures_line};
 ghost use Rattle.hir_lines.specs.Makers as make;
-ghost use Rattle.hir_lines.specs.Readings.{gives, parts_of, space, whole};
+ghost use Rattle.hir_lines.specs.Readings.{gives, whole};
 ghost use Rattle.hir_lines.specs.Taking.{Puts, Asks, Takes, TakesOrLeaves};
 ghost use Rattle.hir_lines.specs.Types.{type_ref};
 ghost use Rattle.hir_lines.specs.Words.{name, number};

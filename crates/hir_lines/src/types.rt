@@ -13,15 +13,18 @@ use std::alloc::Global;
 pub fn type_ref(alloc: Global, words: &mut Words<'_>) -> Result<TypeRef, Stop>
     ensures { Reads type_ref words.old result words.new }
 {
-    match words.keyword()? {
-        "path" => Ok(TypeRef::Path(words.path(alloc)?)),
-        "tuple" => Ok(TypeRef::Tuple(words.list(alloc)?)),
-        "array" => Ok(TypeRef::Array(ArrayType {
+    match words.word()? {
+        [b'p', b'a', b't', b'h'] => Ok(TypeRef::Path(words.path(alloc)?)),
+        [b't', b'u', b'p', b'l', b'e'] => Ok(TypeRef::Tuple(words.list(alloc)?)),
+        [b'a', b'r', b'r', b'a', b'y'] => Ok(TypeRef::Array(ArrayType {
             ty: words.id()?,
             len: ConstRef { expr: words.id()? },
         })),
-        "pattern" => Ok(TypeRef::PatternType(words.id()?, words.id()?)),
-        "never" => Ok(TypeRef::Never),
+        [b'p', b'a', b't', b't', b'e', b'r', b'n'] => Ok(TypeRef::PatternType(
+            words.id()?,
+            words.id()?,
+        )),
+        [b'n', b'e', b'v', b'e', b'r'] => Ok(TypeRef::Never),
         _ => Err(Stop::Bad),
     }
 }

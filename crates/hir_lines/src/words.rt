@@ -1,14 +1,14 @@
-//! The words of a line, or the parts of a word, taken one by one.
+//! The words of a line, taken one by one.
 
-ghost use Rattle.std.specs.Prelude.{None, Some, ◌≡◌, ◌≢◌, ◌∷◌, [], List, ℕ, codes, MatchResult, IfSome, IfNone, IsTrue, ◌↔◌, position, length, min, ◌^◌, ◌-◌, false};
+ghost use Rattle.std.specs.Prelude.{◌≡◌, ◌≢◌, ◌∷◌, [], List, ℕ, codes, MatchResult, IfSome, IfNone, IsTrue, ◌↔◌, position, length, min, ◌^◌, ◌-◌, ◌≤◌, false};
 ghost use Rattle.std.specs.List.{count_by};
 ghost use Rattle.hir_lines.specs.Names.{continues_name};
 ghost use Rattle.hir_lines.specs.Numerals.{number_of};
 ghost use Rattle.hir_lines.specs.Parts.{ReadsParts, parted};
 ghost use Rattle.hir_lines.specs.Readings.{parts_of, parts_left, is_byte, HasWord, Reads, first_word, each};
-ghost use Rattle.hir_lines.specs.Words.{number, optional, list, keyword, name, path, int, op, expansion, hygiene};
+ghost use Rattle.hir_lines.specs.Words.{number, optional, list, name, path, int, op, expansion, hygiene};
 
-use crate::names::{ascii as ascii_text, first_name};
+use crate::names::first_name;
 use crate::numerals::{first_number, has_minus, int as int_text};
 use crate::operators::op as op_text;
 use crate::parts::Parts;
@@ -18,7 +18,7 @@ use hir_node::Path;
 use std::alloc::Global;
 use std::marker::Model;
 
-/// The parts of a text that are left, separated by one byte.
+/// The words of a text that are left, separated by one byte.
 #[derive(Drop)]
 pub struct Words<'a> {
     rest: Option<&'a [u8]>,
@@ -38,7 +38,7 @@ impl<'a> Model for Words<'a> {
 }
 
 impl<'a> Words<'a> {
-    /// The parts of a text, between its separators.
+    /// The words of a text, between its separators.
     pub fn new(text: &'a [u8], separator: u8) -> Words<'a>
         requires { continues_name separator ≡ false }
         ensures { result ≡ parts_of separator text.now }
@@ -144,7 +144,7 @@ impl<'a> Words<'a> {
         Ok(ids)
     }
 
-    /// The parts of the next word, and the words behind it.
+    /// The parts of the next word, and the words behind it; `Bad` where no word is left.
     #[inline(always)]
     pub fn parts(&self, separator: u8) -> Result<Parts<'a>, Stop>
         requires { continues_name separator ≡ false }
@@ -152,18 +152,6 @@ impl<'a> Words<'a> {
     {
         match self.rest {
             Some(text) => Ok(Parts::new(text, separator, self.separator)),
-            None => Err(Stop::Bad),
-        }
-    }
-
-    /// Takes the next word, if it is one in ASCII.
-    pub fn keyword(&mut self) -> Result<&'a str, Stop>
-        ensures { MatchResult result (λ text. keyword self.old ≡ Some (text.now, self.new))
-            (λ stop. stop ≡ Stop.Bad → keyword self.old ≡ None) }
-    {
-        let word = self.word()?;
-        match ascii_text(word) {
-            Some(text) => Ok(text),
             None => Err(Stop::Bad),
         }
     }
@@ -328,17 +316,33 @@ fn find(text: &[u8], byte: u8) -> Option<usize>
     text.iter().position(|b| *b == byte)
 }
 
-/// How often a byte comes.
-fn count(text: &[u8], byte: u8) -> usize
+/// How often a byte comes in a text of at most 255 bytes. Such a count fits a byte, so many places are compared and counted at a time.
+#[inline(always)]
+fn count_short(text: &[u8], byte: u8) -> u8
+    requires { length text.now ≤ 255 }
     ensures { result ≡ count_by (is_byte byte) text.now }
 {
-    let mut count = 0;
+    let mut count: u8 = 0;
     for b in text {
         if *b == byte {
             count += 1;
         }
     }
     count
+}
+
+/// How often a byte comes.
+fn count(text: &[u8], byte: u8) -> usize
+    ensures { result ≡ count_by (is_byte byte) text.now }
+{
+    let mut counted = 0;
+    let mut left = text;
+    while left.len() > 255 {
+        let (short, rest) = left.split_at(255);
+        counted += count_short(short, byte) as usize;
+        left = rest;
+    }
+    counted + count_short(left, byte) as usize
 }
 
 /// The text before the first separator, and the text after it, where there is one.

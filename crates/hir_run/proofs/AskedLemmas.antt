@@ -1,20 +1,20 @@
 -- What is answered in a section of questions, line by line.
-use Rattle.std.proofs.Common.{◌≡◌, ◌+◌, ℕ, Bool, true, false, List, [], ◌∷◌, ◌++◌, Option, None, Some, is_some, subst, ◌&&◌, Result, Ok, Err, length, inl, inr, refl, sym, ap, ◌∙◌, arith, append_assoc, append-nil}
+use Rattle.std.proofs.Common.{◌≡◌, ◌+◌, ℕ, Bool, true, false, List, [], ◌∷◌, ◌++◌, Option, None, Some, is_some, subst, ◌&&◌, Err, length, inl, inr, refl, sym, ap, ◌∙◌, arith, append_assoc, append-nil}
 use Rattle.std.specs.List.{list_all}
 use Rattle.std.proofs.lemmas.List.Folds.{list_all-append}
 use Rattle.hir_io.specs.declared.next.LineFault.{LineFault}
 use Rattle.hir_io.specs.declared.next.LineFault.TheVariants as line
-use Rattle.hir_io.specs.Ends.{GrowsByFront, IsWrittenUpTo}
+use Rattle.hir_io.specs.Ends.{IsWrittenUpTo}
 use Rattle.hir_io.specs.LineState.{LineState}
 use Rattle.hir_io.specs.NextLine.{NextTakes, NextWrites}
-use Rattle.hir_io.specs.Reads.{Reads, ReadsFront}
+use Rattle.hir_io.specs.Reads.{Reads}
 use Rattle.hir_io.proofs.ReadLemmas.{Reads-none, ReadsFront-now, ReadsFront-before, ReadsUntilFailure-now}
 use Rattle.hir_lines.specs.Line.{Line, Ask, line_of}
 use Rattle.hir_lines.specs.declared.question.Question.{Question}
 use Rattle.hir_run.specs.declared.fault.RunFault.{RunFault}
 use Rattle.hir_run.specs.declared.fault.RunFault.TheVariants.{BadLine, Refused, BodyRefused, InputFailed, OutputFailed, OutOfMemory}
 use Rattle.hir_run.specs.Faults.{fault_of_line}
-use Rattle.hir_run.specs.Program.{may_ask, asks, says, IsLineAnswer, AreAnswers}
+use Rattle.hir_run.specs.Program.{may_ask, IsLineAnswer, AreAnswers}
 use Rattle.hir_run.specs.Stages.{TakesLine, AsksLine, asked, HaveAnswers, Answered, AsksUpTo, Asks}
 use Rattle.hir_run.proofs.Scripts.{says-push}
 use Rattle.hir_run.proofs.WritingLemmas.{IsWrittenUpTo-then, GrowsByFront-then, kept}

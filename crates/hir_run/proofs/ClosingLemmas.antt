@@ -1,5 +1,5 @@
 -- What a run comes to once what waits was written, or its write failed; and which end has failed.
-use Rattle.std.proofs.Common.{◌≡◌, ℕ, Bool, true, false, List, [], ◌++◌, Option, None, Some, Result, Ok, Err, inl, inr, refl, sym, ap, ◌∙◌, append_assoc, append-nil}
+use Rattle.std.proofs.Common.{◌≡◌, ℕ, Bool, true, false, List, [], ◌++◌, Option, None, Some, Ok, Err, inl, inr, refl, sym, ap, ◌∙◌, append_assoc, append-nil}
 use Rattle.std.specs.Prelude.{◌||◌}
 use Rattle.std.specs.Io.KnownBytes.{Appends}
 use Rattle.std.proofs.Math.Bool.{or-false}
@@ -14,16 +14,14 @@ use Rattle.hir_io.specs.Text.{lines, IsCutShort}
 use Rattle.hir_io.proofs.EndLemmas.{Appends-twice}
 use Rattle.hir_io.proofs.TextLemmas.{lines-ended}
 use Rattle.hir_lines.specs.declared.question.Question.{Question}
-use Rattle.hir_store.specs.Building.{Building}
 use Rattle.hir_items.specs.Bodies.{BodyContents}
-use Rattle.hir_expr_store.specs.Contents.{Contents}
 use Rattle.hir_run.specs.declared.fault.RunFault.{RunFault}
 use Rattle.hir_run.specs.declared.fault.RunFault.TheVariants.{BadLine, Refused, BodyRefused, InputFailed, OutputFailed, OutOfMemory}
 use Rattle.hir_run.specs.Made.{Made}
 use Rattle.hir_run.specs.Outcomes.{is_input_failed, is_output_failed}
-use Rattle.hir_run.specs.Program.{Outcome, HasAnswers, script}
+use Rattle.hir_run.specs.Program.{Outcome}
 use Rattle.hir_run.specs.Run.{EndsWith, RunsTo}
-use Rattle.hir_run.specs.Stages.{Builds, Finishes, IsMadeBody, Accepts, AsksLine, RunsUpTo, Closes}
+use Rattle.hir_run.specs.Stages.{Builds, IsMadeBody, Accepts, AsksLine, RunsUpTo, Closes}
 use Rattle.hir_run.proofs.WritingLemmas.{GrowsByFront-then}
 
 -- what waited was written too
@@ -85,14 +83,6 @@ reads_as X Y InputFailed = refl
 reads_as X Y OutputFailed = refl
 reads_as X Y OutOfMemory = refl
 
-pub writes_as : (X Y : Type 0) (e : RunFault) → is_output_failed {X = X} (Err e) ≡ is_output_failed {X = Y} (Err e)
-writes_as X Y (BadLine n) = refl
-writes_as X Y (Refused fault) = refl
-writes_as X Y (BodyRefused fault) = refl
-writes_as X Y InputFailed = refl
-writes_as X Y OutputFailed = refl
-writes_as X Y OutOfMemory = refl
-
 -- the lines that make are read, and nothing is written
 pub build_writes_none : (X : Type 0) (known rest remaining : Option (List ℕ)) (ls : LineState) (built : Made) (e : RunFault) → Builds known rest remaining ls built (Err e) → is_output_failed {X = X} (Err e) ≡ false
 build_writes_none X known rest remaining ls built (BadLine n) b = refl
@@ -103,14 +93,6 @@ build_writes_none X known rest remaining ls built (Refused fault) b = absurd b
 build_writes_none X known rest remaining ls built (BodyRefused fault) b = absurd b
 
 -- what was made is tested, and nothing is read or written
-pub finish_reads_none : (X : Type 0) (built : Building) (e : RunFault) → Finishes built (Err e) → (is_input_failed {X = X} (Err e) ≡ false) × (is_output_failed {X = X} (Err e) ≡ false)
-finish_reads_none X built (Refused fault) f = (refl, refl)
-finish_reads_none X built (BodyRefused fault) f = (refl, refl)
-finish_reads_none X built OutOfMemory f = (refl, refl)
-finish_reads_none X built (BadLine n) f = absurd f
-finish_reads_none X built InputFailed f = absurd f
-finish_reads_none X built OutputFailed f = absurd f
-
 pub body_reads_none : (X : Type 0) (parts : BodyContents) (e : RunFault) → IsMadeBody parts (Err e) → (is_input_failed {X = X} (Err e) ≡ false) × (is_output_failed {X = X} (Err e) ≡ false)
 body_reads_none X parts (Refused fault) m = (refl, refl)
 body_reads_none X parts (BodyRefused fault) m = (refl, refl)

@@ -1,10 +1,9 @@
 -- The course of a script, section by section.
-use Rattle.std.proofs.Common.{◌≡◌, ◌+◌, ℕ, Bool, true, false, List, [], ◌∷◌, ◌++◌, ◌&&◌, if◌then◌else◌, Option, Ok, length, refl, sym, ap, ◌∙◌, append-nil, append_assoc}
+use Rattle.std.proofs.Common.{◌≡◌, ◌+◌, ℕ, Bool, true, false, List, [], ◌∷◌, ◌++◌, length, refl, ap, ◌∙◌, append-nil}
 use Rattle.std.specs.Cmp.{first_so, second_so}
 use Rattle.std.specs.List.{list_all}
 use Rattle.hir_lines.specs.Line.{Line, Blank, Make, Ask, Bad}
 use Rattle.hir_lines.specs.declared.question.Question.{Question}
-use Rattle.hir_run.specs.Made.{Made}
 use Rattle.hir_run.specs.Program.{makes, may_ask, asks, front, behind, Outcome, Course, AreAnswers, section, behind_making, accepts, making, built_by, Runs, IsMeaning}
 
 -- lines of which each passes, and others behind them

@@ -1,31 +1,26 @@
 -- What the parts of a run come to.
-use Rattle.std.proofs.Common.{◌≡◌, ◌+◌, ℕ, Bool, true, false, List, [], ◌∷◌, ◌++◌, Option, None, Some, Result, Ok, Err, length, inl, inr, refl, sym, ap, ◌∙◌, append_assoc, append-nil, arith, subst}
-use Rattle.std.specs.Prelude.{codes, ◌||◌}
+use Rattle.std.proofs.Common.{◌≡◌, ◌+◌, ℕ, true, false, List, [], ◌∷◌, ◌++◌, Option, None, Some, Result, Ok, Err, length, inl, inr, refl, sym, ap, ◌∙◌, append_assoc, append-nil, arith, subst}
+use Rattle.std.specs.Prelude.{codes}
 use Rattle.std.specs.List.{list_all}
-use Rattle.std.specs.Io.KnownBytes.{Appends}
 use Rattle.hir_io.specs.Ends.{GrowsByFront, IsWrittenUpTo}
 use Rattle.hir_io.specs.LineState.{LineState}
 use Rattle.hir_io.specs.NextLine.{untaken}
-use Rattle.hir_io.specs.Text.{lines, ended}
-use Rattle.hir_io.proofs.EndLemmas.{Appends-twice, IsWrittenUpTo-start}
-use Rattle.hir_io.proofs.ReadLemmas.{ReadsFront-now}
-use Rattle.hir_io.proofs.TextLemmas.{lines-ended}
-use Rattle.hir_lines.specs.Line.{Line, Ask, Bad, line_of}
+use Rattle.hir_io.specs.Text.{lines}
+use Rattle.hir_io.proofs.EndLemmas.{IsWrittenUpTo-start}
+use Rattle.hir_lines.specs.Line.{Line, Ask, Bad}
 use Rattle.hir_lines.specs.declared.question.Question.{Question}
-use Rattle.hir_expr_store.specs.Contents.{Contents}
-use Rattle.hir_store.specs.Building.{Building, contents_of, finish_fault}
-use Rattle.hir_items.specs.Bodies.{BodyContents, body_fault}
+use Rattle.hir_store.specs.Building.{contents_of, finish_fault}
+use Rattle.hir_items.specs.Bodies.{body_fault}
 use Rattle.hir_run.specs.declared.fault.RunFault.{RunFault}
 use Rattle.hir_run.specs.declared.fault.RunFault.TheVariants.{BadLine, Refused, BodyRefused, InputFailed, OutputFailed, OutOfMemory}
 use Rattle.hir_run.specs.Made.{Made, body_parts}
 use Rattle.hir_run.specs.Answer.{IsStoreAnswer, IsAnswer}
-use Rattle.hir_run.specs.Program.{makes, asks, any_question, is_of_store, Outcome, Course, writes, section, stops, behind_store, on_body, on_store, behind_making, accepts, made, making, built_by, Runs, IsMeaning, HasAnswers, says, script, script_of}
-use Rattle.hir_run.specs.Run.{EndsWith, IsComplete, IsNextLine, RunsTo}
-use Rattle.hir_run.specs.Stages.{line_behind, IsBehind, Makes, AllMake, Builds, Finishes, IsMadeBody, Accepts, RunsUpTo, Closes}
-use Rattle.hir_run.proofs.Scripts.{script-append, script-length, behind_texts, behind-cons, behind_question}
-use Rattle.hir_run.proofs.CourseLemmas.{BeginsOutside, no_line, outside, runs_behind, means_behind}
+use Rattle.hir_run.specs.Program.{makes, asks, any_question, is_of_store, Outcome, writes, section, stops, behind_store, on_body, on_store, accepts, made, built_by, IsMeaning, HasAnswers, script, script_of}
+use Rattle.hir_run.specs.Run.{EndsWith, IsNextLine}
+use Rattle.hir_run.specs.Stages.{IsBehind, Builds, Finishes, IsMadeBody, Accepts}
+use Rattle.hir_run.proofs.Scripts.{script-append, script-length, behind_texts, behind-cons}
+use Rattle.hir_run.proofs.CourseLemmas.{no_line, outside, runs_behind, means_behind}
 use Rattle.hir_run.proofs.QuestionLemmas.{StandsAt, stands_on, ends_there, refused_there}
-use Rattle.hir_run.proofs.WritingLemmas.{IsWrittenUpTo-then, GrowsByFront-then}
 
 -- nothing is asked, and the lines make something
 pub answers-alone : (ls : List Line) → list_all makes ls ≡ true → HasAnswers ls []

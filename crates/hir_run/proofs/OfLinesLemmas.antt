@@ -1,12 +1,8 @@
 -- What lines make are nodes of lines.
-use Rattle.std.proofs.Common.{◌≡◌, ℕ, zero, suc, Bool, true, false, ◌⊎◌, inl, inr, List, [], ◌∷◌, ◌++◌, if◌then◌else◌, ◌&&◌, ◌||◌, Option, Some, None, Ok, refl, sym, ap, ◌∙◌, subst, map, fold}
+use Rattle.std.proofs.Common.{◌≡◌, ℕ, zero, suc, Bool, true, false, ◌⊎◌, inl, inr, List, [], ◌∷◌, ◌++◌, if◌then◌else◌, ◌||◌, Option, Some, None, Ok, refl, sym, subst, fold}
 use Rattle.std.specs.Prelude.{slice_get, filter_map}
 use Rattle.std.specs.List.{cons_option}
-use Rattle.hir_node.specs.declared.expr.Expr.{Expr}
-use Rattle.hir_node.specs.declared.pat.Pat.{Pat}
-use Rattle.hir_node.specs.declared.type_ref.TypeRef.{TypeRef}
 use Rattle.hir_io.specs.LineState.{LineState}
-use Rattle.hir_faults.specs.Nodes.{Nodes}
 use Rattle.hir_lines.specs.Line.{Line, Blank, Make, Ask, Bad, line_of}
 use Rattle.hir_lines.specs.Makers.{Maker}
 use Rattle.hir_lines.specs.declared.question.Question.{Question}

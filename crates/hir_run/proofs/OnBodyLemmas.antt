@@ -1,9 +1,8 @@
 -- Questions on a body in two parts: those before its scopes are made, and those from the first that needs them on.
-use Rattle.std.proofs.Common.{◌≡◌, ◌+◌, ℕ, Bool, true, false, List, [], ◌∷◌, ◌++◌, Option, None, Some, subst, ◌&&◌, Result, Ok, Err, length, inl, inr, refl, sym, ap, ◌∙◌, arith, append_assoc, length-append}
+use Rattle.std.proofs.Common.{◌≡◌, ◌+◌, ℕ, Bool, true, List, [], ◌∷◌, ◌++◌, Option, None, Some, subst, ◌&&◌, Result, Ok, Err, length, inl, inr, refl, sym, ap, ◌∙◌, arith, append_assoc, length-append}
 use Rattle.std.specs.List.{list_all}
 use Rattle.std.proofs.lemmas.List.{map-append}
 use Rattle.std.proofs.lemmas.List.Folds.{list_all-append}
-use Rattle.hir_io.specs.Ends.{GrowsByFront, IsWrittenUpTo}
 use Rattle.hir_io.specs.LineState.{LineState}
 use Rattle.hir_io.specs.Reads.{Reads, ReadsFront}
 use Rattle.hir_io.proofs.ReadLemmas.{ReadsFront-now, ReadsFront-before, ReadsAll-joined, ReadsFront-joined, ReadsUntilFailure-joined}

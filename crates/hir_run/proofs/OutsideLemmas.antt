@@ -21,10 +21,10 @@ use Rattle.hir_lines.specs.TypeGrammar as line_type
 use Rattle.hir_lines.specs.TypeGrammar.{IsType}
 use Rattle.hir_faults.specs.Down.{value, value_within, rank}
 use Rattle.hir_pretty.specs.Questions.{Setting}
-use Rattle.hir_pretty.specs.Items.{Item, Put, Lacks, Whole, Under, Pattern, TypeItem, text, sp, br, into, out, e, under, p, t, opt, when, joined, comma_joined}
+use Rattle.hir_pretty.specs.Items.{Item, Put, Lacks, Whole, Under, Pattern, TypeItem, text, sp, br, out, e, under, p, t, opt, joined, comma_joined}
 use Rattle.hir_pretty.specs.Names.{name_items, name_parts, of_binding, binding_items}
 use Rattle.hir_pretty.specs.Paths.{path_items}
-use Rattle.hir_pretty.specs.Exprs.{each_line, in_lines, arm_items, semicolon, statement_items, inside_block, params, header, expr_items}
+use Rattle.hir_pretty.specs.Exprs.{each_line, in_lines, arm_items, semicolon, statement_items, inside_block, params, expr_items}
 use Rattle.hir_pretty.specs.Pats.{pat_items}
 use Rattle.hir_pretty.specs.Types.{type_items}
 use Rattle.hir_pretty.specs.Pieces.{NodePiece, Layout, Absent, items_of, item_pieces, parenthesized, pieces_step, pieces, first_missing}

@@ -1,24 +1,17 @@
 -- What a run comes to that stands at a question: the lines before it were taken, and their answers were written.
-use Rattle.std.proofs.Common.{◌≡◌, ◌+◌, ℕ, Bool, true, false, List, [], ◌∷◌, ◌++◌, Option, None, Some, Result, Ok, Err, length, inl, inr, refl, sym, ap, ◌∙◌, append_assoc, append-nil, arith, length-append, subst}
-use Rattle.std.specs.Prelude.{IfSome}
+use Rattle.std.proofs.Common.{◌≡◌, ◌+◌, ℕ, Bool, true, List, [], ◌∷◌, ◌++◌, Option, Some, Ok, Err, length, inr, ap, ◌∙◌, append_assoc, append-nil}
 use Rattle.std.specs.List.{list_all}
-use Rattle.std.specs.Cmp.{second_so}
-use Rattle.std.proofs.lemmas.List.{length-map}
-use Rattle.hir_io.specs.Ends.{GrowsByFront, IsWrittenUpTo}
 use Rattle.hir_io.specs.LineState.{LineState}
 use Rattle.hir_io.specs.Reads.{Reads}
 use Rattle.hir_io.specs.Text.{lines}
-use Rattle.hir_io.proofs.ReadLemmas.{Reads-joined, ReadsAll-joined, ReadsFront-now, ReadsFront-joined, ReadsUntilFailure-joined}
-use Rattle.hir_lines.specs.Line.{Line, Ask, Bad, line_of}
+use Rattle.hir_io.proofs.ReadLemmas.{ReadsFront-now}
+use Rattle.hir_lines.specs.Line.{Line, Ask, line_of}
 use Rattle.hir_lines.specs.declared.question.Question.{Question}
-use Rattle.hir_run.specs.declared.fault.RunFault.{RunFault}
-use Rattle.hir_run.specs.declared.fault.RunFault.TheVariants.{BadLine, Refused, BodyRefused, InputFailed, OutputFailed, OutOfMemory}
-use Rattle.hir_run.specs.Program.{asks, may_ask, Outcome, Course, writes, section, Runs, IsMeaning, HasAnswers, says, script, script_of}
+use Rattle.hir_run.specs.declared.fault.RunFault.TheVariants.{OutOfMemory}
+use Rattle.hir_run.specs.Program.{asks, Outcome, Course, writes, Runs, IsMeaning, HasAnswers, says, script, script_of}
 use Rattle.hir_run.specs.Run.{EndsWith, IsComplete}
-use Rattle.hir_run.specs.Stages.{line_behind, asked, HaveAnswers, Answered, Asks}
-use Rattle.hir_run.proofs.Scripts.{script-append, script-push, script-length, behind_texts, behind-cons, behind-asked, behind-bad, behind_question}
-use Rattle.hir_run.proofs.CourseLemmas.{BeginsOutside, no_line, outside, section_behind, all_asks, asks_not}
-use Rattle.hir_run.proofs.WritingLemmas.{IsWrittenUpTo-then, GrowsByFront-then}
+use Rattle.hir_run.specs.Stages.{line_behind, asked}
+use Rattle.hir_run.proofs.Scripts.{script-append, script-push, behind_texts, behind-asked, behind_question}
 
 -- the lines before a question, with the text of their answers; from the question on the run goes on by this course
 pub record StandsAt (input : List ℕ) (rest : Option (List ℕ)) (ls : LineState) (question : Question) (next : ℕ → List Line → Course) (text : List ℕ) : Type 0 where

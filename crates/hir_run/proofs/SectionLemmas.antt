@@ -1,7 +1,6 @@
 -- What a run comes to that stands at the first question of a section, by how the section ends.
-use Rattle.std.proofs.Common.{◌≡◌, ◌+◌, ℕ, Bool, true, false, List, [], ◌∷◌, ◌++◌, Option, None, Some, Result, Ok, Err, length, inl, inr, refl, sym, ap, ◌∙◌, append_assoc, append-nil, add-zero, arith, length-append, subst}
+use Rattle.std.proofs.Common.{◌≡◌, ◌+◌, ℕ, Bool, true, false, List, [], ◌∷◌, ◌++◌, Option, None, Some, Ok, Err, length, inl, inr, refl, sym, ap, ◌∙◌, append_assoc, append-nil, add-zero, arith, length-append}
 use Rattle.std.specs.List.{list_all}
-use Rattle.std.specs.Cmp.{second_so}
 use Rattle.std.proofs.lemmas.List.{length-map}
 use Rattle.hir_io.specs.Ends.{GrowsByFront, IsWrittenUpTo}
 use Rattle.hir_io.specs.LineState.{LineState}
@@ -14,7 +13,7 @@ use Rattle.hir_run.specs.declared.fault.RunFault.TheVariants.{BadLine, Refused, 
 use Rattle.hir_run.specs.Program.{asks, may_ask, Outcome, Course, section, HasAnswers, says, script, script_of}
 use Rattle.hir_run.specs.Run.{EndsWith}
 use Rattle.hir_run.specs.Stages.{line_behind, asked, HaveAnswers, Asks, AsksUpTo}
-use Rattle.hir_run.proofs.Scripts.{script-length, behind_texts, behind-cons, behind-bad}
+use Rattle.hir_run.proofs.Scripts.{behind_texts, behind-cons, behind-bad}
 use Rattle.hir_run.proofs.CourseLemmas.{BeginsOutside, no_line, outside, section_behind, all_asks, asks_not}
 use Rattle.hir_run.proofs.QuestionLemmas.{StandsAt, asked_script, refused_there}
 use Rattle.hir_run.proofs.WritingLemmas.{IsWrittenUpTo-then, GrowsByFront-then}

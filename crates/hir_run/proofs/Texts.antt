@@ -1,5 +1,5 @@
 -- Texts that are written to a sink piece by piece.
-use Rattle.std.proofs.Common.{[], ◌++◌, List, ℕ, Option, None, Some, Result, Ok, Err, sym, append-nil}
+use Rattle.std.proofs.Common.{◌++◌, List, ℕ, Option, Result, Ok, Err}
 use Rattle.std.specs.Prelude.{OnOk, OnErr}
 use Rattle.std.specs.Io.KnownBytes.{Appends}
 use Rattle.hir_io.specs.Ends.{GrowsByFront}
@@ -20,15 +20,3 @@ text_then old mid new first second (Err e) p q = GrowsByFront-after old mid new 
 -- a front of the first piece is one of both
 pub text_failed : (old new : Option (List ℕ)) (first second : List ℕ) → GrowsByFront old new first → GrowsByFront old new (first ++ second)
 text_failed old new first second g = GrowsByFront-more old new first second g
-
--- where nothing is written
-pub front_same : (known : Option (List ℕ)) → GrowsByFront known known []
-front_same None = tt
-front_same (Some xs) = ([], [], sym (append-nil []), sym (append-nil xs))
-
--- what was written whole is a front of itself
-pub front_of : {X E : Type 0} (old new : Option (List ℕ)) (text : List ℕ) (result : Result X E) → WritesText old new text result → GrowsByFront old new text
-front_of None new text (Ok x) w = tt
-front_of (Some xs) None text (Ok x) w = tt
-front_of (Some xs) (Some ys) text (Ok x) w = (text, [], sym (append-nil text), w)
-front_of old new text (Err e) w = w

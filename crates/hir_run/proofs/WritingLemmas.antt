@@ -1,6 +1,5 @@
 -- Texts that are put piece by piece behind what waits.
-use Rattle.std.proofs.Common.{◌≡◌, [], ◌++◌, ◌||◌, List, ℕ, Bool, true, false, Option, Result, Ok, Err, is_err, refl, sym, ap, ◌∙◌, append_assoc, append-nil}
-use Rattle.std.specs.Prelude.{OnOk, OnErr}
+use Rattle.std.proofs.Common.{◌≡◌, [], ◌++◌, List, ℕ, Bool, true, false, Option, refl, sym, ap, ◌∙◌, append_assoc, append-nil}
 use Rattle.hir_io.specs.Ends.{GrowsByFront, IsWrittenUpTo}
 use Rattle.hir_io.proofs.EndLemmas.{Appends-twice, GrowsByFront-after, GrowsByFront-more, IsWrittenUpTo-start}
 use Rattle.std.proofs.Common.{◌+◌, ◌<◌, ◌∷◌, get_or, take, length}
@@ -45,19 +44,6 @@ Puts-then old mid new false true false w v u bytes more p q = cc
 pub Puts-none : (old : Option (List ℕ)) (f : Bool) (w : List ℕ) → Puts old f w old f w []
 Puts-none old true w = (refl, refl, refl)
 Puts-none old false w = rw (append-nil w) (IsWrittenUpTo-start old w)
-
--- a sink that has failed is left alone
-pub Puts-left : (old : Option (List ℕ)) (f : Bool) (w bytes : List ℕ) → f ≡ true → Puts old f w old f w bytes
-Puts-left old true w bytes e = (refl, refl, refl)
-Puts-left old false w bytes e = cc
-
--- one write
-pub Puts-by : {X E : Type 0} (old new : Option (List ℕ)) (f g : Bool) (w v bytes : List ℕ) (result : Result X E) → f ≡ false → OnOk result (IsWrittenUpTo old new (w ++ bytes) v) → OnErr result (GrowsByFront old new (w ++ bytes) × (v ≡ [])) → g ≡ (is_err result || f) → Puts old f w new g v bytes
-Puts-by old new true g w v bytes result e ok err mark = cc
-Puts-by old new false false w v bytes (Ok x) e ok err mark = ok
-Puts-by old new false true w v bytes (Ok x) e ok err mark = cc
-Puts-by old new false false w v bytes (Err x) e ok err mark = cc
-Puts-by old new false true w v bytes (Err x) e ok err mark = err
 
 -- the same, by the sink
 pub put_then : {W : Type 0} (contents : W → Option (List ℕ)) (failed : W → Bool) (old mid new : W) (w v u bytes more : List ℕ) → Puts (contents old) (failed old) w (contents mid) (failed mid) v bytes → Puts (contents mid) (failed mid) v (contents new) (failed new) u more → Puts (contents old) (failed old) w (contents new) (failed new) u (bytes ++ more)

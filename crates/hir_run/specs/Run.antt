@@ -1,9 +1,8 @@
 -- How a run of the program ends, with the bytes that it leaves unread and those that it has written.
-use Rattle.std.specs.Prelude.{◌≡◌, ◌⊎◌, ℕ, ◌+◌, List, ◌++◌, length, Option, None, Some, Result, Ok, Err, IfSome, ⊤}
+use Rattle.std.specs.Prelude.{◌≡◌, ◌⊎◌, ℕ, ◌+◌, List, ◌++◌, length, Option, Ok, Err, IfSome}
 use Rattle.std.specs.Io.KnownBytes.{Appends}
 use Rattle.hir_io.specs.Ends.{GrowsByFront}
 use Rattle.hir_io.specs.Text.{lines, IsCutShort}
-use Rattle.hir_run.specs.declared.fault.RunFault.{RunFault}
 use Rattle.hir_run.specs.declared.fault.RunFault.TheVariants.{BadLine}
 use Rattle.hir_run.specs.Outcomes.{Ends}
 use Rattle.hir_run.specs.Program.{Outcome, script, script_of, IsMeaning, HasAnswers}

@@ -81,22 +81,35 @@ impl Builder for Made {
 
     ghost add = { and_maker };
 
+    // Each outcome is matched here: a function that takes it has the node that a refusal hands back copied.
     fn binding(&mut self, binding: Binding) -> Result<(), Stop> {
-        or_memory(self.builder.alloc_binding(binding))
+        match self.builder.alloc_binding(binding) {
+            Ok(_) => Ok(()),
+            Err(_) => Err(Stop::Memory),
+        }
     }
 
     #[inline(always)]
     fn pat(&mut self, pat: Pat) -> Result<(), Stop> {
-        or_memory(self.builder.alloc_pat(pat))
+        match self.builder.alloc_pat(pat) {
+            Ok(_) => Ok(()),
+            Err(_) => Err(Stop::Memory),
+        }
     }
 
     fn type_ref(&mut self, type_ref: TypeRef) -> Result<(), Stop> {
-        or_memory(self.builder.alloc_type(type_ref))
+        match self.builder.alloc_type(type_ref) {
+            Ok(_) => Ok(()),
+            Err(_) => Err(Stop::Memory),
+        }
     }
 
     #[inline(always)]
     fn expr(&mut self, expr: Expr) -> Result<(), Stop> {
-        or_memory(self.builder.alloc_expr(expr))
+        match self.builder.alloc_expr(expr) {
+            Ok(_) => Ok(()),
+            Err(_) => Err(Stop::Memory),
+        }
     }
 
     fn hygiene(&mut self, id: ExprOrPatId, hygiene: HygieneId) -> Result<(), Stop> {

@@ -30,7 +30,7 @@ returns-in-112 g c =
       | then-text-lt6+in-112+in-97+in-116+in-104+in-32-1 w ↦ begins (codes "path ") text (reaches text 4 31 (search rules)) (search rules, (search rules, (search rules, (search rules, (search rules, tt)))))
       | else-text-lt6+in-112+in-97+in-116+in-104+in-32-1 w ↦ begins (codes "path ") text (reaches text 4 31 (search rules)) (search rules, (search rules, (search rules, (search rules, (search rules, tt)))))
     ] in
-    put_behind g.B.Builder.add (λ x. make.Expr x) c.args.builder.now c.path.new.builder expr_forms (codes "path") path_expr refl refl text _ is refl _ c.new-in-112.ensures c.path.result c.path.ensures
+    put_behind g.B.Builder.add (λ x. make.Expr x) c.args.builder.now c.path_of.new.builder expr_forms (codes "path") path_expr refl refl text _ is refl _ refl c.path_of.result c.path_of.ensures
 
 pub returns-in-98 : goal.returns-in-98
 unfolding expr
@@ -41,14 +41,14 @@ returns-in-98 g c =
       | else-text-lt5+then-text-lt6+in-98+in-105+in-110+in-32-1 w ↦ begins (codes "bin ") text (reaches text 3 31 (search rules)) (search rules, (search rules, (search rules, (search rules, tt))))
       | else-text-lt5+else-text-lt6+in-98+in-105+in-110+in-32-1 w ↦ begins (codes "bin ") text (reaches text 3 31 (search rules)) (search rules, (search rules, (search rules, (search rules, tt))))
     ] in
-    put_behind g.B.Builder.add (λ x. make.Expr x) c.args.builder.now c.binary.new.builder expr_forms (codes "bin") bin_expr refl refl text _ is refl _ c.new-in-98.ensures c.binary.result c.binary.ensures
+    put_behind g.B.Builder.add (λ x. make.Expr x) c.args.builder.now c.binary_of.new.builder expr_forms (codes "bin") bin_expr refl refl text _ is refl _ refl c.binary_of.result c.binary_of.ensures
 
 pub returns-in-98-2 : goal.returns-in-98-2
 unfolding expr
 returns-in-98-2 g c =
     let text = c.args.text.now in
     let is : text ≡ codes "block " ++ take (length text - 6) (drop 6 text) = begins (codes "block ") text c.in-98-2.len_at_least (search rules, (search rules, (search rules, (search rules, (search rules, (search rules, tt)))))) in
-    put_behind g.B.Builder.add (λ x. make.Expr x) c.args.builder.now c.block.new.builder expr_forms (codes "block") block_expr refl refl text _ is refl _ c.new.ensures c.block.result c.block.ensures
+    put_behind g.B.Builder.add (λ x. make.Expr x) c.args.builder.now c.block_of.new.builder expr_forms (codes "block") block_expr refl refl text _ is refl _ refl c.block_of.result c.block_of.ensures
 
 pub returns-in-105 : goal.returns-in-105
 unfolding expr
@@ -59,7 +59,7 @@ returns-in-105 g c =
       | else-text-lt5+then-text-lt6+in-105+in-110+in-116+in-32-1 w ↦ begins (codes "int ") text (reaches text 3 31 (search rules)) (search rules, (search rules, (search rules, (search rules, tt))))
       | else-text-lt5+else-text-lt6+in-105+in-110+in-116+in-32-1 w ↦ begins (codes "int ") text (reaches text 3 31 (search rules)) (search rules, (search rules, (search rules, (search rules, tt))))
     ] in
-    put_behind g.B.Builder.add (λ x. make.Expr x) c.args.builder.now c.int.new.builder expr_forms (codes "int") int_expr refl refl text _ is refl _ c.new-in-105.ensures c.int.result c.int.ensures
+    put_behind g.B.Builder.add (λ x. make.Expr x) c.args.builder.now c.int_of.new.builder expr_forms (codes "int") int_expr refl refl text _ is refl _ refl c.int_of.result c.int_of.ensures
 
 pub returns-in-105-2 : goal.returns-in-105-2
 unfolding expr
@@ -71,7 +71,7 @@ returns-in-105-2 g c =
       | else-text-lt4+else-text-lt5+then-text-lt6+in-105+in-102+in-32-1 w ↦ begins (codes "if ") text (reaches text 2 31 (search rules)) (search rules, (search rules, (search rules, tt)))
       | else-text-lt4+else-text-lt5+else-text-lt6+in-105+in-102+in-32-1 w ↦ begins (codes "if ") text (reaches text 2 31 (search rules)) (search rules, (search rules, (search rules, tt)))
     ] in
-    put_behind g.B.Builder.add (λ x. make.Expr x) c.args.builder.now c.if_expr.new.builder expr_forms (codes "if") if_expr refl refl text _ is refl _ c.new-in-105-2.ensures c.if_expr.result c.if_expr.ensures
+    put_behind g.B.Builder.add (λ x. make.Expr x) c.args.builder.now c.if_of.new.builder expr_forms (codes "if") if_expr refl refl text _ is refl _ refl c.if_of.result c.if_of.ensures
 
 pub returns-in-108 : goal.returns-in-108
 unfolding expr
@@ -82,4 +82,4 @@ returns-in-108 g c =
       | else-text-lt5+then-text-lt6+in-108+in-101+in-116+in-32-1 w ↦ begins (codes "let ") text (reaches text 3 31 (search rules)) (search rules, (search rules, (search rules, (search rules, tt))))
       | else-text-lt5+else-text-lt6+in-108+in-101+in-116+in-32-1 w ↦ begins (codes "let ") text (reaches text 3 31 (search rules)) (search rules, (search rules, (search rules, (search rules, tt))))
     ] in
-    put_behind g.B.Builder.add (λ x. make.Expr x) c.args.builder.now c.let_expr.new.builder expr_forms (codes "let") let_expr refl refl text _ is refl _ c.new-in-108.ensures c.let_expr.result c.let_expr.ensures
+    put_behind g.B.Builder.add (λ x. make.Expr x) c.args.builder.now c.let_of.new.builder expr_forms (codes "let") let_expr refl refl text _ is refl _ refl c.let_of.result c.let_of.ensures

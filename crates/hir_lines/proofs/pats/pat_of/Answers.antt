@@ -16,6 +16,5 @@ returns-in-98 g c =
     let is : text ≡ codes "bind " ++ rest = begins (codes "bind ") text c.in-98.len_at_least (search rules, (search rules, (search rules, (search rules, (search rules, tt))))) in
     let words = parts_of space (codes "bind " ++ rest) in
     let read : pat words ≡ bind_pat (parts_of space rest) = read_by pat_forms (codes "bind") (Some bind_pat) refl refl words (parts_of space rest) refl in
-    let puts = subst (λ (mid : List (List ℕ)). Puts g.B.Builder.add (λ x. make.Pat x) bind_pat mid c.args.builder.now c.bind.new.builder c.bind.result) c.new.ensures c.bind.ensures in
-    subst (λ (t : List ℕ). Puts g.B.Builder.add (λ x. make.Pat x) pat (parts_of space t) c.args.builder.now c.bind.new.builder c.bind.result) (sym is)
-    (put_alike g.B.Builder.add (λ x. make.Pat x) c.args.builder.now c.bind.new.builder pat bind_pat words (parts_of space rest) read c.bind.result puts)
+    subst (λ (t : List ℕ). Puts g.B.Builder.add (λ x. make.Pat x) pat (parts_of space t) c.args.builder.now c.bind_of.new.builder c.bind_of.result) (sym is)
+    (put_alike g.B.Builder.add (λ x. make.Pat x) c.args.builder.now c.bind_of.new.builder pat bind_pat words (parts_of space rest) read c.bind_of.result c.bind_of.ensures)

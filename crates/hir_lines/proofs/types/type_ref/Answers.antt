@@ -1,55 +1,76 @@
-use Rattle.std.proofs.Common.{refl, rules, ◌∙◌}
+use Rattle.std.proofs.Common.{rules, ◌≡◌, ◌∷◌, None, Some, ap, refl, arith, ◌∙◌}
 use Rattle.std.specs.Prelude.{codes}
-use Rattle.hir_lines.specs.Types.{type_ref, type_forms}
-use Rattle.hir_lines.proofs.Keywords.{read_on, behind}
+use Rattle.hir_lines.specs.Readings.{look_up}
+use Rattle.hir_lines.specs.Types.{type_ref, type_forms, pattern_type}
+use Rattle.hir_lines.proofs.Putting.{same_text, read_by, none_by}
 use Rattle.hir_lines.proofs.types.type_ref.Goals as goal
+use Rattle.hir_lines.proofs.types.type_ref.Goals.{
+  in_default-via-then-branch-lt4,
+  in_default-via-else-branch-lt4+then-this-lt5+in-112+in-97+in-116+in_default-1,
+  in_default-via-else-branch-lt4+then-this-lt5+in-112+in-97+in_default-1,
+  in_default-via-else-branch-lt4+then-this-lt5+in-112+in_default-1,
+  in_default-via-else-branch-lt4+then-this-lt5+in_default-1,
+  in_default-via-else-branch-lt4+else-this-lt5+then-this-lt6+in-116+in-117+in-112+in-108+in_default-1,
+  in_default-via-else-branch-lt4+else-this-lt5+then-this-lt6+in-116+in-117+in-112+in_default-1,
+  in_default-via-else-branch-lt4+else-this-lt5+then-this-lt6+in-116+in-117+in_default-1,
+  in_default-via-else-branch-lt4+else-this-lt5+then-this-lt6+in-116+in_default-1,
+  in_default-via-else-branch-lt4+else-this-lt5+then-this-lt6+in-97+in-114+in-114-this-11+in-97-this-12+in_default-1,
+  in_default-via-else-branch-lt4+else-this-lt5+then-this-lt6+in-97+in-114+in-114-this-11+in_default-1,
+  in_default-via-else-branch-lt4+else-this-lt5+then-this-lt6+in-97+in-114+in_default-1,
+  in_default-via-else-branch-lt4+else-this-lt5+then-this-lt6+in-97+in_default-1,
+  in_default-via-else-branch-lt4+else-this-lt5+then-this-lt6+in-110+in-101+in-118+in-101-this-16+in_default-1,
+  in_default-via-else-branch-lt4+else-this-lt5+then-this-lt6+in-110+in-101+in-118+in_default-1,
+  in_default-via-else-branch-lt4+else-this-lt5+then-this-lt6+in-110+in-101+in_default-1,
+  in_default-via-else-branch-lt4+else-this-lt5+then-this-lt6+in-110+in_default-1,
+  in_default-via-else-branch-lt4+else-this-lt5+then-this-lt6+in_default-1,
+  in_default-via-else-branch-lt4+else-this-lt5+else-this-lt6+then-this-lt7,
+  in_default-via-else-branch-lt4+else-this-lt5+else-this-lt6+else-this-lt7+then-this-lt8+in-112+in-97+in-116+in-116-this-21+in-101+in-114+in_default-1,
+  in_default-via-else-branch-lt4+else-this-lt5+else-this-lt6+else-this-lt7+then-this-lt8+in-112+in-97+in-116+in-116-this-21+in-101+in_default-1,
+  in_default-via-else-branch-lt4+else-this-lt5+else-this-lt6+else-this-lt7+then-this-lt8+in-112+in-97+in-116+in-116-this-21+in_default-1,
+  in_default-via-else-branch-lt4+else-this-lt5+else-this-lt6+else-this-lt7+then-this-lt8+in-112+in-97+in-116+in_default-1,
+  in_default-via-else-branch-lt4+else-this-lt5+else-this-lt6+else-this-lt7+then-this-lt8+in-112+in-97+in_default-1,
+  in_default-via-else-branch-lt4+else-this-lt5+else-this-lt6+else-this-lt7+then-this-lt8+in-112+in_default-1,
+  in_default-via-else-branch-lt4+else-this-lt5+else-this-lt6+else-this-lt7+then-this-lt8+in_default-1,
+  in_default-via-else-branch-lt4+else-this-lt5+else-this-lt6+else-this-lt7+else-this-lt8,
+}
 
-pub returns-in-never : goal.returns-in-never
+pub returns-in_ok-id-in-112-2-2 : goal.returns-in_ok-id-in-112-2-2
 unfolding type_ref
-returns-in-never c = behind type_forms c.args.words.now (codes "never") _ c.in_ok-keyword.ensures c.in-never.is refl
+returns-in_ok-id-in-112-2-2 c =
+    let is = same_text c.in_ok-word.field-0.now (codes "pattern") (omega arith) (search rules, (search rules, (search rules, (search rules, (search rules, (search rules, (search rules, tt))))))) in
+    read_by type_forms (codes "pattern") (Some pattern_type) refl refl c.args.words.now c.word.new.self (c.in_ok-word.ensures {u = tt} ∙ ap (λ word. word ∷ c.word.new.self) is) ∙ search rules
 
-pub returns-in_err-path-in-path : goal.returns-in_err-path-in-path
+pub returns-in_default : goal.returns-in_default
 unfolding type_ref
-returns-in_err-path-in-path c =
-    read_on type_forms c.args.words.now c.path.new.self (codes "path") _ c.from_residual-in_err-path-in-path.result c.in_ok-keyword.ensures c.in-path.is refl (search rules)
-
-pub returns-in_err-list-in-tuple : goal.returns-in_err-list-in-tuple
-unfolding type_ref
-returns-in_err-list-in-tuple c =
-    read_on type_forms c.args.words.now c.list.new.self (codes "tuple") _ c.from_residual-in_err-list-in-tuple.result c.in_ok-keyword.ensures c.in-tuple.is refl (search rules)
-
-pub returns-in_err-id-in-array : goal.returns-in_err-id-in-array
-unfolding type_ref
-returns-in_err-id-in-array c =
-    read_on type_forms c.args.words.now c.id.new.self (codes "array") _ c.from_residual-in_err-id-in-array.result c.in_ok-keyword.ensures c.in-array.is refl (search rules)
-
-pub returns-in_err-id-in-array-2 : goal.returns-in_err-id-in-array-2
-unfolding type_ref
-returns-in_err-id-in-array-2 c =
-    read_on type_forms c.args.words.now c.id-in-array.new.self (codes "array") _ c.from_residual-in_err-id-in-array-2.result c.in_ok-keyword.ensures c.in-array.is refl (search rules)
-
-pub returns-in_err-id-in-pattern : goal.returns-in_err-id-in-pattern
-unfolding type_ref
-returns-in_err-id-in-pattern c =
-    read_on type_forms c.args.words.now c.id-in-pattern.new.self (codes "pattern") _ c.from_residual-in_err-id-in-pattern.result c.in_ok-keyword.ensures c.in-pattern.is refl (search rules)
-
-pub returns-in_err-id-in-pattern-2 : goal.returns-in_err-id-in-pattern-2
-unfolding type_ref
-returns-in_err-id-in-pattern-2 c =
-    read_on type_forms c.args.words.now c.id-in-pattern-2.new.self (codes "pattern") _ c.from_residual-in_err-id-in-pattern-2.result c.in_ok-keyword.ensures c.in-pattern.is refl (search rules)
-
-pub returns-in_ok-path-in-path : goal.returns-in_ok-path-in-path
-unfolding type_ref
-returns-in_ok-path-in-path c = behind type_forms c.args.words.now (codes "path") _ c.in_ok-keyword.ensures c.in-path.is refl ∙ search rules
-
-pub returns-in_ok-list-in-tuple : goal.returns-in_ok-list-in-tuple
-unfolding type_ref
-returns-in_ok-list-in-tuple c = behind type_forms c.args.words.now (codes "tuple") _ c.in_ok-keyword.ensures c.in-tuple.is refl ∙ search rules
-
-pub returns-in_ok-id-in-array-2 : goal.returns-in_ok-id-in-array-2
-unfolding type_ref
-returns-in_ok-id-in-array-2 c = behind type_forms c.args.words.now (codes "array") _ c.in_ok-keyword.ensures c.in-array.is refl ∙ search rules
-
-pub returns-in_ok-id-in-pattern-2 : goal.returns-in_ok-id-in-pattern-2
-unfolding type_ref
-returns-in_ok-id-in-pattern-2 c = behind type_forms c.args.words.now (codes "pattern") _ c.in_ok-keyword.ensures c.in-pattern.is refl ∙ search rules
+returns-in_default c =
+    let none : look_up type_forms c.in_ok-word.field-0.now ≡ None =
+    elim c.in_default.branch [
+      | in_default-via-then-branch-lt4 w ↦ search rules
+      | in_default-via-else-branch-lt4+then-this-lt5+in-112+in-97+in-116+in_default-1 w ↦ search rules
+      | in_default-via-else-branch-lt4+then-this-lt5+in-112+in-97+in_default-1 w ↦ search rules
+      | in_default-via-else-branch-lt4+then-this-lt5+in-112+in_default-1 w ↦ search rules
+      | in_default-via-else-branch-lt4+then-this-lt5+in_default-1 w ↦ search rules
+      | in_default-via-else-branch-lt4+else-this-lt5+then-this-lt6+in-116+in-117+in-112+in-108+in_default-1 w ↦ search rules
+      | in_default-via-else-branch-lt4+else-this-lt5+then-this-lt6+in-116+in-117+in-112+in_default-1 w ↦ search rules
+      | in_default-via-else-branch-lt4+else-this-lt5+then-this-lt6+in-116+in-117+in_default-1 w ↦ search rules
+      | in_default-via-else-branch-lt4+else-this-lt5+then-this-lt6+in-116+in_default-1 w ↦ search rules
+      | in_default-via-else-branch-lt4+else-this-lt5+then-this-lt6+in-97+in-114+in-114-this-11+in-97-this-12+in_default-1 w ↦ search rules
+      | in_default-via-else-branch-lt4+else-this-lt5+then-this-lt6+in-97+in-114+in-114-this-11+in_default-1 w ↦ search rules
+      | in_default-via-else-branch-lt4+else-this-lt5+then-this-lt6+in-97+in-114+in_default-1 w ↦ search rules
+      | in_default-via-else-branch-lt4+else-this-lt5+then-this-lt6+in-97+in_default-1 w ↦ search rules
+      | in_default-via-else-branch-lt4+else-this-lt5+then-this-lt6+in-110+in-101+in-118+in-101-this-16+in_default-1 w ↦ search rules
+      | in_default-via-else-branch-lt4+else-this-lt5+then-this-lt6+in-110+in-101+in-118+in_default-1 w ↦ search rules
+      | in_default-via-else-branch-lt4+else-this-lt5+then-this-lt6+in-110+in-101+in_default-1 w ↦ search rules
+      | in_default-via-else-branch-lt4+else-this-lt5+then-this-lt6+in-110+in_default-1 w ↦ search rules
+      | in_default-via-else-branch-lt4+else-this-lt5+then-this-lt6+in_default-1 w ↦ search rules
+      | in_default-via-else-branch-lt4+else-this-lt5+else-this-lt6+then-this-lt7 w ↦ search rules
+      | in_default-via-else-branch-lt4+else-this-lt5+else-this-lt6+else-this-lt7+then-this-lt8+in-112+in-97+in-116+in-116-this-21+in-101+in-114+in_default-1 w ↦ search rules
+      | in_default-via-else-branch-lt4+else-this-lt5+else-this-lt6+else-this-lt7+then-this-lt8+in-112+in-97+in-116+in-116-this-21+in-101+in_default-1 w ↦ search rules
+      | in_default-via-else-branch-lt4+else-this-lt5+else-this-lt6+else-this-lt7+then-this-lt8+in-112+in-97+in-116+in-116-this-21+in_default-1 w ↦ search rules
+      | in_default-via-else-branch-lt4+else-this-lt5+else-this-lt6+else-this-lt7+then-this-lt8+in-112+in-97+in-116+in_default-1 w ↦ search rules
+      | in_default-via-else-branch-lt4+else-this-lt5+else-this-lt6+else-this-lt7+then-this-lt8+in-112+in-97+in_default-1 w ↦ search rules
+      | in_default-via-else-branch-lt4+else-this-lt5+else-this-lt6+else-this-lt7+then-this-lt8+in-112+in_default-1 w ↦ search rules
+      | in_default-via-else-branch-lt4+else-this-lt5+else-this-lt6+else-this-lt7+then-this-lt8+in_default-1 w ↦ search rules
+      | in_default-via-else-branch-lt4+else-this-lt5+else-this-lt6+else-this-lt7+else-this-lt8 w ↦ search rules
+    ] in
+    λ _. none_by type_forms c.in_ok-word.field-0.now c.args.words.now c.word.new.self (c.in_ok-word.ensures {u = tt}) none

@@ -1,4 +1,4 @@
-use Rattle.std.proofs.Common.{◌≡◌, ◌+◌, length, ◌++◌, ◌∷◌, [], Bool, true, false, List, ℕ, Option, sym, ◌∙◌, arith, length-append, refl}
+use Rattle.std.proofs.Common.{◌≡◌, ◌+◌, length, ◌++◌, ◌∷◌, [], sym, ◌∙◌, arith, length-append, refl}
 use Rattle.std.proofs.lemmas.Result.{err_from_is_err_and}
 use Rattle.hir_io.specs.NextLine.{untaken}
 use Rattle.hir_io.proofs.ReadLemmas.{Reads-none, Reads-more, ReadsAll-end}

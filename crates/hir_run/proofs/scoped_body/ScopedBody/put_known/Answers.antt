@@ -1,4 +1,4 @@
-use Rattle.std.proofs.Common.{◌≡◌, ℕ, Option, Some, IsSome, refl, sym, subst}
+use Rattle.std.proofs.Common.{ℕ, Option, Some, IsSome, refl, sym, subst}
 use Rattle.std.specs.Prelude.{codes}
 use Rattle.hir_scope.specs.Paths.{chain}
 use Rattle.hir_scope.specs.Resolution.{entries_of}
