@@ -6,13 +6,13 @@ use Rattle.hir_io.specs.declared.next.LineFault.{LineFault}
 use Rattle.hir_io.specs.declared.next.LineFault.TheVariants as line
 
 abbrev pub end_failed_text : List ℕ
-end_failed_text = codes "a read or a write failed"
+end_failed_text = codes "EndFailed"
 
 abbrev pub fill_fault_text : FillFault → List ℕ
-fill_fault_text fill.OutOfMemory = codes "out of memory"
-fill_fault_text fill.InputFailed = codes "input failed"
+fill_fault_text fill.OutOfMemory = codes "OutOfMemory"
+fill_fault_text fill.InputFailed = codes "InputFailed"
 
 abbrev pub line_fault_text : LineFault → List ℕ
-line_fault_text line.OutOfMemory = codes "out of memory"
-line_fault_text line.InputFailed = codes "input failed"
-line_fault_text line.OutputFailed = codes "output failed"
+line_fault_text line.OutOfMemory = codes "OutOfMemory"
+line_fault_text line.InputFailed = codes "InputFailed"
+line_fault_text line.OutputFailed = codes "OutputFailed"

@@ -21,7 +21,7 @@ impl fmt::Display for EndFailed {
     ghost output = { λ _. Some end_failed_text };
 
     fn fmt<W: fmt::Write>(&self, f: &mut fmt::Formatter<W>) -> fmt::Result {
-        f.write_str("a read or a write failed")
+        f.write_str("EndFailed")
     }
 }
 

@@ -42,8 +42,8 @@ impl fmt::Display for FillFault {
 
     fn fmt<W: fmt::Write>(&self, f: &mut fmt::Formatter<W>) -> fmt::Result {
         match self {
-            FillFault::OutOfMemory => f.write_str("out of memory"),
-            FillFault::InputFailed => f.write_str("input failed"),
+            FillFault::OutOfMemory => f.write_str("OutOfMemory"),
+            FillFault::InputFailed => f.write_str("InputFailed"),
         }
     }
 }

@@ -30,9 +30,9 @@ impl fmt::Display for LineFault {
 
     fn fmt<W: fmt::Write>(&self, f: &mut fmt::Formatter<W>) -> fmt::Result {
         match self {
-            LineFault::OutOfMemory => f.write_str("out of memory"),
-            LineFault::InputFailed => f.write_str("input failed"),
-            LineFault::OutputFailed => f.write_str("output failed"),
+            LineFault::OutOfMemory => f.write_str("OutOfMemory"),
+            LineFault::InputFailed => f.write_str("InputFailed"),
+            LineFault::OutputFailed => f.write_str("OutputFailed"),
         }
     }
 }

@@ -20,5 +20,5 @@ mod reporting;
 mod scoped_body;
 
 pub use fault::RunFault;
-pub use program::{run, run_lines, run_to_exit};
+pub use program::{run, run_and_report, run_lines, run_to_exit};
 pub use reporting::report;

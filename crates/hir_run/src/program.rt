@@ -1,11 +1,16 @@
 //! The program: lines in, answers out.
 
 ghost use Rattle.std.specs.Prelude.{◌≡◌, ◌||◌, ℕ, [], true, false};
+ghost use Rattle.std.specs.Io.KnownBytes.{Appends};
+ghost use Rattle.hir_io.specs.Ends.{GrowsByFront};
 ghost use Rattle.hir_items.specs.Bodies.{body_of};
 ghost use Rattle.hir_store.specs.Building.{building_of};
+ghost use Rattle.hir_run.specs.Faults.{status_of};
 ghost use Rattle.hir_run.specs.Outcomes.{is_input_failed, is_output_failed};
+ghost use Rattle.hir_run.specs.Program.{Outcome};
 ghost use Rattle.hir_run.specs.Run.{RunsTo};
 ghost use Rattle.hir_run.specs.Stages.{Accepts, Closes, Finishes, IsMadeBody, RunsUpTo};
+ghost use Rattle.hir_run.specs.Texts.{text_of};
 
 use crate::asking::answer_lines;
 use crate::building::build;
@@ -14,6 +19,7 @@ use crate::fault::RunFault;
 use crate::made::{Made, Parts};
 use crate::on_body::{UnscopedBody, answer_on_body};
 use crate::printed::BodyOfLines;
+use crate::reporting::report;
 use hir_base::Seq;
 use hir_io::{LineReader, OutputBuffer, Sink, Source};
 use hir_items::{Body, Param};
@@ -218,4 +224,29 @@ pub fn run_to_exit<R: Source, W: Sink>(
         return Err(RunFault::OutOfMemory);
     };
     run_lines_with(alloc, Disposal::Leave, &mut lines, reader, writer)
+}
+
+/// Runs the program as `run_to_exit` does, reports on the sink of errors how it failed, if it did, as `report` does, and answers the
+/// exit status. It is all that the `main` of a process does, but for making the three ends.
+pub fn run_and_report<R: Source, W: Sink, E: Sink>(
+    alloc: Global,
+    reader: &mut R,
+    writer: &mut W,
+    errors: &mut E,
+) -> u8
+    requires reading { R.failed reader.old ≡ false }
+    requires writing { W.failed writer.old ≡ false }
+    ensures { (count : ℕ) × (outcome : Outcome)
+        × RunsTo (R.remaining reader.old) (W.contents writer.old) (R.remaining reader.new)
+        (W.contents writer.new) count outcome
+        × (R.failed reader.new ≡ is_input_failed outcome)
+        × (W.failed writer.new ≡ is_output_failed outcome)
+        × (E.failed errors.new ≡ false →
+        Appends (E.contents errors.old) (E.contents errors.new) (text_of outcome))
+        × GrowsByFront (E.contents errors.old) (E.contents errors.new) (text_of outcome)
+        × (outcome ≡ Ok tt → errors.new ≡ errors.old)
+        × (result ≡ status_of outcome) }
+{
+    let outcome = run_to_exit(alloc, reader, writer);
+    report(&outcome, errors)
 }

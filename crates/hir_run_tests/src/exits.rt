@@ -1,9 +1,9 @@
 //! Runs for a process that ends behind them: they answer and end as runs that give their memory back, wherever they end.
 
 use crate::again::{Calls, Seen, by, run_again, run_to_exit_again, until};
-use crate::fakes::Kept;
+use crate::fakes::{Given, Kept};
 use hir_io::{Sink, Source};
-use hir_run::report;
+use hir_run::{report, run_and_report};
 use std::alloc::Global;
 use std::process::Abort;
 
@@ -81,6 +81,21 @@ fn run_both<'a>(
     assert_eq!(rt; left.reader.calls, given_back.reader.calls, "{input:?}");
     assert_eq!(rt; left.writer.calls, given_back.writer.calls, "{input:?}");
     left
+}
+
+/// What the `main` of a process does: the same is written and reported, and the same status answered. Inputs and outputs are of `RUNS`.
+#[test]
+fn runs_and_reports_in_one_call(rt: HostRuntime) {
+    let alloc = rt.alloc();
+    for (input, output, status) in RUNS {
+        let mut reader = Given::new(input, 7, u64::MAX);
+        let mut writer = Kept::new(alloc, 7, u64::MAX);
+        let mut errors = Kept::new(alloc, 7, u64::MAX);
+        let answered = run_and_report(alloc, &mut reader, &mut writer, &mut errors);
+        assert_eq!(&rt; answered, status, "{input:?}");
+        assert_eq!(&rt; writer.bytes.as_slice(), output, "{input:?}");
+        assert_eq!(&rt; errors.bytes.is_empty(), status == 0, "{input:?}");
+    }
 }
 
 #[test]

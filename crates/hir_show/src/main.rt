@@ -2,13 +2,12 @@
 #![tactic(auto)]
 
 use hir_io::StdEnd;
-use hir_run::{report, run_to_exit};
+use hir_run::run_and_report;
 use std::process::ExitCode;
 
 fn main(rt: HostRuntime) -> ExitCode {
     let mut reader = StdEnd::new(rt.stdin());
     let mut writer = StdEnd::new(rt.stdout());
     let mut errors = StdEnd::new(rt.stderr());
-    let outcome = run_to_exit(rt.alloc(), &mut reader, &mut writer);
-    ExitCode::from(report(&outcome, &mut errors))
+    ExitCode::from(run_and_report(rt.alloc(), &mut reader, &mut writer, &mut errors))
 }
