@@ -1,0 +1,67 @@
+//! Pointers to syntax and their files, as `0:7:3-9`: file, kind, start and end.
+
+use crate::answer::Answer;
+use crate::stop::Stop;
+use crate::words::Words;
+use hir_base::{AstPtr, Id, InFile, SyntaxNodePtr, TextRange};
+use std::alloc::AllocError;
+
+/// The number of a kind of syntax.
+fn read_kind(words: &mut Words<'_>) -> Result<u16, Stop> {
+    match u16::try_from(words.number()?) {
+        Ok(kind) => Ok(kind),
+        Err(_) => Err(Stop::Bad),
+    }
+}
+
+/// A source behind a space.
+pub fn next_source(words: &mut Words<'_>) -> Result<InFile<SyntaxNodePtr>, Stop> {
+    words.expect(b" ")?;
+    let file_id = Id::from_raw(words.number()?);
+    words.expect(b":")?;
+    let kind = read_kind(words)?;
+    words.expect(b":")?;
+    let start = words.number()?;
+    words.expect(b"-")?;
+    let end = words.number()?;
+    Ok(InFile {
+        file_id,
+        value: SyntaxNodePtr {
+            kind,
+            range: TextRange { start, end },
+        },
+    })
+}
+
+/// The source as one that points to a node of the kind `K`.
+pub fn pointer<K>(source: InFile<SyntaxNodePtr>) -> InFile<AstPtr<K>> {
+    InFile {
+        file_id: source.file_id,
+        value: AstPtr::new(source.value),
+    }
+}
+
+/// The source without the kind of its node.
+pub fn syntax<K>(source: InFile<AstPtr<K>>) -> InFile<SyntaxNodePtr> {
+    InFile {
+        file_id: source.file_id,
+        value: source.value.syntax_node_ptr(),
+    }
+}
+
+/// Writes a source behind the last word without a space.
+pub fn join_source(source: InFile<SyntaxNodePtr>, answer: &mut Answer) -> Result<(), AllocError> {
+    answer.join_number(source.file_id.into_raw())?;
+    answer.join(":")?;
+    answer.join_number(u32::from(source.value.kind))?;
+    answer.join(":")?;
+    answer.join_number(source.value.range.start)?;
+    answer.join("-")?;
+    answer.join_number(source.value.range.end)
+}
+
+/// Writes a source.
+pub fn write_source(source: InFile<SyntaxNodePtr>, answer: &mut Answer) -> Result<(), AllocError> {
+    answer.word("")?;
+    join_source(source, answer)
+}

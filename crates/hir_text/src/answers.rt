@@ -1,0 +1,87 @@
+//! The answers to the questions of a text, and why a text isn't read to its end.
+
+use hir_notation::Answer;
+use std::alloc::{AllocError, AllocFailed, Global};
+
+/// Why a text isn't read to its end.
+#[derive(Clone, Copy, PartialEq, Eq, Debug, Drop)]
+pub enum TextFault {
+    /// The line of this number, counted from 1, isn't one of the grammar.
+    BadLine(usize),
+    /// Out of memory.
+    Memory,
+}
+
+impl From<AllocError> for TextFault {
+    fn from(_: AllocError) -> TextFault {
+        TextFault::Memory
+    }
+}
+
+/// The answer to a question, with the number of the question's line, counted from 1.
+#[derive(Drop)]
+pub struct Entry {
+    number: usize,
+    answer: Answer,
+}
+
+impl Entry {
+    /// The number of the question's line, counted from 1.
+    pub fn number(&self) -> usize {
+        self.number
+    }
+
+    /// The answer.
+    pub fn answer(&self) -> &Answer {
+        &self.answer
+    }
+
+    /// Writes the answer as lines, each with its end: the first behind `= `, or `! ` where it is a refusal, each further one behind `| `;
+    /// of an empty line the mark alone.
+    pub fn write_lines(&self, out: &mut String) -> Result<(), AllocError> {
+        let mut mark = if self.answer.is_refusal() { '!' } else { '=' };
+        for line in self.answer.as_str().split('\n') {
+            out.push(mark)?;
+            if !line.is_empty() {
+                out.push(' ')?;
+                out.push_str(line)?;
+            }
+            out.push('\n')?;
+            mark = '|';
+        }
+        Ok(())
+    }
+}
+
+/// The answers to the questions of a text, in the order of their lines.
+#[derive(Drop)]
+pub struct Answers {
+    entries: Vec<Entry>,
+}
+
+impl Answers {
+    /// No answers.
+    pub fn new(alloc: Global) -> Answers {
+        Answers {
+            entries: Vec::new(alloc),
+        }
+    }
+
+    /// The answers.
+    pub fn as_slice(&self) -> &[Entry] {
+        self.entries.as_slice()
+    }
+
+    /// Writes all answers as lines.
+    pub fn write_lines(&self, out: &mut String) -> Result<(), AllocError> {
+        for entry in self.entries.as_slice() {
+            entry.write_lines(out)?;
+        }
+        Ok(())
+    }
+
+    /// Puts the answer to the question in this line behind the others.
+    pub(crate) fn push(&mut self, number: usize, answer: Answer) -> Result<(), AllocFailed<Entry>> {
+        self.entries.push(Entry { number, answer })
+    }
+}

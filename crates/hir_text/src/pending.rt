@@ -1,0 +1,133 @@
+//! What waits for the next body, signature or fields: parameters, `self`, generic parameters, predicates and fields.
+
+use crate::fields::read_field;
+use hir_base::{Arena, Idx, LifetimeParamKind, Seq, TryClone, TypeOrConstParamKind};
+use hir_defs::{
+    FieldData, GenericParams, LifetimeParamData, Param, TypeOrConstParamData, WherePredicate,
+};
+use hir_node::{BindingId, PatId};
+use hir_notation::{
+    Stop, Words, read_const_param, read_lifetime_param, read_type_param, read_where,
+    read_where_lifetime,
+};
+use std::alloc::Global;
+use std::mem;
+
+/// What waits for the next body, signature or fields.
+#[derive(Drop)]
+pub(crate) struct Pending {
+    params: Seq<Param<PatId>>,
+    self_param: Option<Param<BindingId>>,
+    type_or_consts: Arena<TypeOrConstParamKind, TypeOrConstParamData>,
+    lifetimes: Arena<LifetimeParamKind, LifetimeParamData>,
+    predicates: Seq<WherePredicate>,
+    fields: Seq<FieldData>,
+}
+
+/// A parameter: the formal, and what the user wrote, which is the same where it is left out.
+fn read_param<K>(words: &mut Words<'_>) -> Result<Param<Idx<K>>, Stop> {
+    let formal = words.next_id()?;
+    let user_written = if words.is_end() {
+        formal
+    } else {
+        words.next_id()?
+    };
+    Ok(Param {
+        formal,
+        user_written,
+    })
+}
+
+impl Pending {
+    /// Nothing waits.
+    pub(crate) fn new(alloc: Global) -> Pending {
+        Pending {
+            params: Seq::new(alloc),
+            self_param: None,
+            type_or_consts: Arena::new(alloc),
+            lifetimes: Arena::new(alloc),
+            predicates: Seq::new(alloc),
+            fields: Seq::new(alloc),
+        }
+    }
+
+    /// Does what a line says that makes a part of what comes next; answers whether it is such a line.
+    pub(crate) fn line(
+        &mut self,
+        alloc: Global,
+        word: &[u8],
+        words: &mut Words<'_>,
+    ) -> Result<bool, Stop> {
+        match word {
+            b"param" => self.params.push(read_param(words)?)?,
+            b"self" => self.self_param = Some(read_param(words)?),
+            b"type-param" => {
+                let _ = self.type_or_consts.alloc(read_type_param(words, alloc)?)?;
+            }
+            b"const-param" => {
+                let _ = self.type_or_consts.alloc(read_const_param(words, alloc)?)?;
+            }
+            b"lifetime-param" => {
+                let _ = self.lifetimes.alloc(read_lifetime_param(words, alloc)?)?;
+            }
+            b"where" => self.predicates.push(read_where(words, alloc)?)?,
+            b"where-lifetime" => self.predicates.push(read_where_lifetime(words)?)?,
+            b"field" => self.fields.push(read_field(words, alloc)?)?,
+            _ => return Ok(false),
+        }
+        words.end()?;
+        Ok(true)
+    }
+
+    /// Takes the parameters.
+    pub(crate) fn take_params(&mut self, alloc: Global) -> Seq<Param<PatId>> {
+        mem::replace(&mut self.params, Seq::new(alloc))
+    }
+
+    /// Takes the `self`, where there is one.
+    pub(crate) fn take_self(&mut self) -> Option<Param<BindingId>> {
+        self.self_param.take()
+    }
+
+    /// Lets the parts of a body that was refused wait again.
+    pub(crate) fn put_back_params(
+        &mut self,
+        params: Seq<Param<PatId>>,
+        self_param: Option<Param<BindingId>>,
+    ) {
+        self.params = params;
+        self.self_param = self_param;
+    }
+
+    /// Takes the generic parameters and the predicates.
+    pub(crate) fn take_generics(&mut self, alloc: Global) -> GenericParams {
+        let type_or_consts = mem::replace(&mut self.type_or_consts, Arena::new(alloc));
+        let lifetimes = mem::replace(&mut self.lifetimes, Arena::new(alloc));
+        let predicates = mem::replace(&mut self.predicates, Seq::new(alloc));
+        GenericParams::new(type_or_consts, lifetimes, predicates)
+    }
+
+    /// Lets the generic parameters of a signature that was refused wait again.
+    pub(crate) fn put_back_generics(&mut self, generics: &GenericParams) -> Result<(), Stop> {
+        for (_, param) in generics.iter_type_or_consts() {
+            let _ = self.type_or_consts.alloc(param.try_clone()?)?;
+        }
+        for (_, lifetime) in generics.iter_lt() {
+            let _ = self.lifetimes.alloc(lifetime.try_clone()?)?;
+        }
+        for predicate in generics.where_predicates() {
+            self.predicates.push(predicate.try_clone()?)?;
+        }
+        Ok(())
+    }
+
+    /// Takes the fields.
+    pub(crate) fn take_fields(&mut self, alloc: Global) -> Seq<FieldData> {
+        mem::replace(&mut self.fields, Seq::new(alloc))
+    }
+
+    /// Lets the fields of a variant that was refused wait again.
+    pub(crate) fn put_back_fields(&mut self, fields: Seq<FieldData>) {
+        self.fields = fields;
+    }
+}

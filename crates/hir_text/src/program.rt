@@ -1,0 +1,215 @@
+//! The program over ends in memory: lines that are its input, and a run of it, with what it writes to each end.
+
+ghost use Rattle.std.specs.Prelude.{◌≡◌, ◌++◌, IsFalse, IsTrue, false};
+
+use hir_io::{EndFailed, Sink, Source};
+use hir_notation::{Answer, Stop, Words};
+use hir_run::run_and_report;
+use std::alloc::{AllocError, Global};
+use std::mem;
+
+/// Input that is read a line at a time, until the call that fails.
+#[derive(Drop)]
+struct Given<'a> {
+    left: &'a [u8],
+    /// How many calls come before the one that fails.
+    good_calls: u64,
+    has_failed: bool,
+}
+
+impl<'a> Given<'a> {
+    fn new(bytes: &'a [u8], good_calls: u64) -> Given<'a>
+        ensures { result.has_failed ≡ false }
+    {
+        Given {
+            left: bytes,
+            good_calls,
+            has_failed: false,
+        }
+    }
+
+    /// The length of the line that comes next, with its end.
+    fn line_len(&self) -> usize {
+        match self.left.iter().position(|byte| *byte == b'\n') {
+            Some(end) => end.saturating_add(1),
+            None => self.left.len(),
+        }
+    }
+}
+
+impl Source for Given<'_> {
+    ghost use Rattle.std.specs.Prelude.{Some, length, min, ◌-◌, ◌^◌};
+    ghost use Rattle.std.proofs.Common.{arith};
+
+    ghost remaining = { λ s. Some s.left.now };
+
+    ghost failed = { λ s. s.has_failed };
+
+    ghost allowance = { λ s. min (length s.left.now) (2 ^ 64 - 1) };
+
+    ghost bounded = { λ s. omega arith };
+
+    fn read(&mut self, buffer: &mut [u8]) -> Result<usize, EndFailed> {
+        match self.good_calls.checked_sub(1) {
+            Some(good_calls) => self.good_calls = good_calls,
+            None => {
+                self.has_failed = true;
+                return Err(EndFailed);
+            }
+        }
+        let count = self
+            .line_len()
+            .max(1)
+            .min(buffer.len())
+            .min(self.left.len());
+        buffer[..count].copy_from_slice(&self.left[..count]);
+        self.left = &self.left[count..];
+        Ok(count)
+    }
+
+    fn has_failed(&self) -> bool {
+        self.has_failed
+    }
+}
+
+/// Output that is kept, until the call that fails.
+#[derive(Drop)]
+struct Kept {
+    bytes: Vec<u8>,
+    /// How many calls come before the one that fails.
+    good_calls: u64,
+    has_failed: bool,
+    /// Whether a call failed since there was no memory to keep its bytes.
+    is_out_of_memory: bool,
+}
+
+impl Kept {
+    fn new(alloc: Global, good_calls: u64) -> Kept
+        ensures { result.has_failed ≡ false }
+    {
+        Kept {
+            bytes: Vec::new(alloc),
+            good_calls,
+            has_failed: false,
+            is_out_of_memory: false,
+        }
+    }
+
+    /// Keeps the bytes, and says whether there was memory for them.
+    fn keep(&mut self, bytes: &[u8]) -> bool
+        ensures kept { IsTrue result → self.new.bytes.items ≡ self.old.bytes.items ++ bytes.now }
+        ensures refused { IsFalse result → self.new.bytes.items ≡ self.old.bytes.items }
+        ensures failure { self.new.has_failed ≡ self.old.has_failed }
+    {
+        let is_kept = self.bytes.extend_from_slice(bytes).is_ok();
+        self.is_out_of_memory = !is_kept;
+        is_kept
+    }
+}
+
+impl Sink for Kept {
+    ghost use Rattle.std.specs.Prelude.{Some};
+
+    ghost contents = { λ s. Some s.bytes.items };
+
+    ghost failed = { λ s. s.has_failed };
+
+    fn write(&mut self, buffer: &[u8]) -> Result<usize, EndFailed> {
+        match self.good_calls.checked_sub(1) {
+            Some(good_calls) => self.good_calls = good_calls,
+            None => {
+                self.has_failed = true;
+                return Err(EndFailed);
+            }
+        }
+        if !self.keep(buffer) {
+            self.has_failed = true;
+            return Err(EndFailed);
+        }
+        Ok(buffer.len())
+    }
+
+    fn has_failed(&self) -> bool {
+        self.has_failed
+    }
+}
+
+/// Adds to the input of the program what a line says that begins with `>`; answers whether it is such a line.
+pub(crate) fn line(
+    alloc: Global,
+    input: &mut Vec<u8>,
+    words: &mut Words<'_>,
+) -> Result<bool, Stop> {
+    if !words.eat(b">") {
+        return Ok(false);
+    }
+    if words.is_at(b"\"") {
+        let bytes = words.bytes(alloc)?;
+        words.end()?;
+        input.extend_from_slice(bytes.as_slice())?;
+        return Ok(true);
+    }
+    if !words.is_end() {
+        words.expect(b" ")?;
+    }
+    input.extend_from_slice(words.rest())?;
+    input.push(b'\n')?;
+    Ok(true)
+}
+
+/// How many calls of an end come before the one that fails: the number behind this word tells which one it is.
+fn good_calls(words: &mut Words<'_>, word: &[u8]) -> Result<u64, Stop> {
+    if !words.prefix(word) {
+        return Ok(u64::MAX);
+    }
+    match words.number()?.checked_sub(1) {
+        Some(good_calls) => Ok(u64::from(good_calls)),
+        None => Err(Stop::Bad),
+    }
+}
+
+/// What an end was written, each line behind this word in a line of its own.
+fn write_lines(word: &str, bytes: &[u8], answer: &mut Answer) -> Result<(), AllocError> {
+    for line in bytes.split_inclusive(|byte| *byte == b'\n') {
+        answer.line()?;
+        answer.word(word)?;
+        let line = match line {
+            [line @ .., b'\n'] => line,
+            _ => {
+                answer.join("-open")?;
+                line
+            }
+        };
+        match std::str::from_utf8(line) {
+            Ok("") => {}
+            Ok(line) => answer.word(line)?,
+            Err(_) => answer.bytes(line)?,
+        }
+    }
+    Ok(())
+}
+
+/// Runs the program over the input so far and reports, and begins a new input.
+pub(crate) fn run(
+    alloc: Global,
+    input: &mut Vec<u8>,
+    words: &mut Words<'_>,
+    answer: &mut Answer,
+) -> Result<(), Stop> {
+    let good_reads = good_calls(words, b"reads:")?;
+    let good_writes = good_calls(words, b"writes:")?;
+    words.end()?;
+    let input = mem::replace(input, Vec::new(alloc));
+    let mut reader = Given::new(input.as_slice(), good_reads);
+    let mut writer = Kept::new(alloc, good_writes);
+    let mut errors = Kept::new(alloc, u64::MAX);
+    let status = run_and_report(alloc, &mut reader, &mut writer, &mut errors);
+    if status == 4 || writer.is_out_of_memory || errors.is_out_of_memory {
+        return Err(Stop::Memory);
+    }
+    answer.word("status")?;
+    answer.number(u32::from(status))?;
+    write_lines("out", writer.bytes.as_slice(), answer)?;
+    write_lines("error", errors.bytes.as_slice(), answer)?;
+    Ok(())
+}
