@@ -1,7 +1,7 @@
 //! The line `body`, and the questions on a body's parameters.
 
 use crate::pending::Pending;
-use crate::missing::{refuse, unknown};
+use hir_store_text::{refuse, unknown};
 use crate::session::{Finished, Subject};
 use hir_base::{DefWithBodyId, ExpressionStoreOwnerId, Idx};
 use hir_defs::{Body, BodyFault, BodySourceMap, Param, RefusedBody, Tables};

@@ -2,7 +2,7 @@
 
 use crate::bodies;
 use crate::fields::next_shape;
-use crate::missing::refuse;
+use hir_store_text::refuse;
 use crate::pending::Pending;
 use crate::session::{Finished, Subject};
 use crate::signatures::{FunctionLine, StructLine, as_plain, read_function, read_struct};

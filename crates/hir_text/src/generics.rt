@@ -1,6 +1,6 @@
 //! Questions on generic parameters.
 
-use crate::missing::refuse_missing;
+use hir_store_text::refuse_missing;
 use hir_base::{GenericDefId, LocalLifetimeParamId, Name};
 use hir_defs::{GenericParams, Tables};
 use hir_notation::{

@@ -3,7 +3,7 @@
 ghost use Rattle.std.specs.Prelude.{◌<◌, length};
 
 use crate::bodies::asked_body;
-use crate::missing::{differs, refuse, unknown};
+use hir_store_text::{differs, refuse, unknown};
 use hir_base::{ExpressionStoreOwnerId, HygieneId, Name, Steps, SyntaxContext};
 use hir_captures::{CapturesFault, captures};
 use hir_defs::{Body, Tables};

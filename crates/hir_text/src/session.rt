@@ -1,11 +1,10 @@
 //! The loop over the lines of a text, and what they have made so far.
 
 use crate::answers::{Answers, TextFault};
-use crate::missing::{refuse, refuse_missing, unknown};
+use hir_store_text::{refuse, refuse_missing, unknown};
 use crate::pending::Pending;
 use crate::{
-    bodies, building, calls, definitions, equality, faults, generics, mapping, nodes, paths, program,
-    scopes, searches, signature_text, sources, tables, texts, walks,
+    bodies, definitions, faults, generics, program, scopes, signature_text, tables, texts,
 };
 use hir_base::ExpressionStoreOwnerId;
 use hir_defs::{StoreOf, Tables};
@@ -120,7 +119,7 @@ impl Session {
 
     /// Does what a line says that has no answer; answers whether it is such a line.
     fn make(&mut self, word: &[u8], words: &mut Words<'_>) -> Result<bool, Stop> {
-        if self.build(word, words)? {
+        if hir_store_text::make(self.alloc, &mut self.builder, word, words)? {
             self.has_lines = true;
             return Ok(true);
         }
@@ -138,16 +137,6 @@ impl Session {
             return Ok(true);
         }
         Ok(false)
-    }
-
-    /// Adds to the builder what a line says; answers whether it is such a line.
-    fn build(&mut self, word: &[u8], words: &mut Words<'_>) -> Result<bool, Stop> {
-        let builder = &mut *self.builder;
-        Ok(building::node(self.alloc, builder, word, words)?
-            || building::side(builder, word, words)?
-            || mapping::forward(builder, word, words)?
-            || mapping::back(builder, word, words)?
-            || mapping::other(self.alloc, builder, word, words)?)
     }
 
     /// Does what a line says that has an answer and isn't a question; answers whether it is such a line.
@@ -273,15 +262,8 @@ impl Session {
         let alloc = self.alloc;
         let (store, sources) = self.asked()?;
         let kept = self.kept.as_ref().map(|kept| &**kept);
-        Ok(nodes::ask(alloc, store, word, words, answer)?
-            || calls::ask(alloc, store, word, words, answer)?
-            || walks::ask(alloc, store, word, words, answer)?
-            || searches::ask(store, word, words, answer)?
-            || paths::ask(alloc, store, word, words, answer)?
-            || equality::ask(store, word, words, answer)?
-            || equality::ask_kept(kept, store, sources, word, words, answer)?
-            || sources::ask(sources, word, words, answer)?
-            || sources::ask_back(alloc, sources, word, words, answer)?)
+        Ok(hir_store_text::ask_kept(kept, store, sources, word, words, answer)?
+            || hir_store_text::ask(alloc, store, sources, word, words, answer)?)
     }
 
     /// `of OWNER`: makes the store of that owner the one that questions ask.

@@ -1,7 +1,7 @@
 //! Signatures and the fields of variants as their lines have them, and the questions on them.
 
 use crate::fields::{write_field, write_shape};
-use crate::missing::refuse_missing;
+use hir_store_text::refuse_missing;
 use crate::signatures::as_plain;
 use hir_base::{FunctionId, Idx, StructId, VariantId};
 use hir_defs::{FunctionSignature, PlainDef, StructSignature, Tables, VariantFields};

@@ -1,6 +1,6 @@
 //! The entries of the tables besides bodies and signatures: the lines that add them, and the questions on them.
 
-use crate::missing::refuse_missing;
+use hir_store_text::refuse_missing;
 use hir_base::{Seq, Text};
 use hir_defs::{Repr, Tables};
 use hir_expr_store::Missing;

@@ -1,7 +1,7 @@
 //! Questions on texts: what expressions, patterns, paths, bodies, fields and signatures are printed as.
 
 use crate::bodies::body_of;
-use crate::missing::{refuse_missing, unknown};
+use hir_store_text::{refuse_missing, unknown};
 use hir_base::{DefWithBodyId, Edition, ExpressionStoreOwnerId, FunctionId, Id};
 use hir_defs::{Body, Tables};
 use hir_node::{ExprId, PatId};

@@ -24,7 +24,7 @@ pub(crate) fn ask(
 }
 
 /// Answers a question on what is kept, where the line is one.
-pub(crate) fn ask_kept(
+pub fn ask_kept(
     kept: Option<&(ExpressionStore, ExpressionStoreSourceMap)>,
     store: &ExpressionStore,
     sources: &ExpressionStoreSourceMap,

@@ -61,7 +61,7 @@ fn write_missing(missing: Missing, answer: &mut Answer) -> Result<(), AllocError
 }
 
 /// The answer is that the tables lack this.
-pub(crate) fn refuse_missing(missing: Missing, answer: &mut Answer) -> Result<(), AllocError> {
+pub fn refuse_missing(missing: Missing, answer: &mut Answer) -> Result<(), AllocError> {
     answer.refuse();
     answer.word("Missing(")?;
     write_missing(missing, answer)?;
@@ -69,19 +69,19 @@ pub(crate) fn refuse_missing(missing: Missing, answer: &mut Answer) -> Result<()
 }
 
 /// The answer is that an id isn't there.
-pub(crate) fn unknown(answer: &mut Answer) -> Result<(), AllocError> {
+pub fn unknown(answer: &mut Answer) -> Result<(), AllocError> {
     answer.refuse();
     answer.word("unknown")
 }
 
 /// The answer is that two calls that have to agree don't.
-pub(crate) fn differs(answer: &mut Answer) -> Result<(), AllocError> {
+pub fn differs(answer: &mut Answer) -> Result<(), AllocError> {
     answer.refuse();
     answer.word("differs")
 }
 
 /// The answer is this fault, by its text.
-pub(crate) fn refuse<F: Display>(
+pub fn refuse<F: Display>(
     alloc: Global,
     fault: &F,
     answer: &mut Answer,
