@@ -2,18 +2,10 @@
 #![tactic(auto)]
 
 mod answers;
-mod bodies;
-mod definitions;
 mod faults;
-mod fields;
-mod generics;
-mod pending;
 mod program;
 mod scopes;
 mod session;
-mod signature_text;
-mod signatures;
-mod tables;
 mod texts;
 
 pub use answers::{Answers, Entry, TextFault};

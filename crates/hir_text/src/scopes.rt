@@ -2,7 +2,7 @@
 
 ghost use Rattle.std.specs.Prelude.{◌<◌, length};
 
-use crate::bodies::asked_body;
+use hir_defs_text::asked_body;
 use hir_store_text::{differs, refuse, unknown};
 use hir_base::{ExpressionStoreOwnerId, HygieneId, Name, Steps, SyntaxContext};
 use hir_captures::{CapturesFault, captures};

@@ -2,10 +2,8 @@
 
 use crate::answers::{Answers, TextFault};
 use hir_store_text::{refuse, refuse_missing, unknown};
-use crate::pending::Pending;
-use crate::{
-    bodies, definitions, faults, generics, program, scopes, signature_text, tables, texts,
-};
+use crate::{faults, program, scopes, texts};
+use hir_defs_text::{Finished, Pending, Subject};
 use hir_base::ExpressionStoreOwnerId;
 use hir_defs::{StoreOf, Tables};
 use hir_notation::{Answer, Stop, Words, next_owner};
@@ -15,20 +13,6 @@ use hir_store::{
 };
 use std::alloc::{AllocError, Global};
 use std::mem;
-
-/// A finished store, and its source map.
-pub(crate) type Finished = Box<(ExpressionStore, ExpressionStoreSourceMap)>;
-
-/// The store that questions ask.
-#[derive(Drop)]
-pub(crate) enum Subject {
-    /// The one that is kept, where there is one.
-    None,
-    /// The one that was finished last.
-    Store(Finished),
-    /// That of a definition.
-    Owner(ExpressionStoreOwnerId),
-}
 
 /// What the lines of a text have made so far.
 #[derive(Drop)]
@@ -127,7 +111,7 @@ impl Session {
             return Ok(true);
         }
         if self.pending.line(self.alloc, word, words)?
-            || tables::line(self.alloc, &mut self.tables, word, words)?
+            || hir_defs_text::line(self.alloc, &mut self.tables, word, words)?
         {
             return Ok(true);
         }
@@ -171,11 +155,11 @@ impl Session {
         words: &mut Words<'_>,
         answer: &mut Answer,
     ) -> Result<bool, Stop> {
-        let Some(definition) = definitions::read(self.alloc, word, words)? else {
+        let Some(definition) = hir_defs_text::read(self.alloc, word, words)? else {
             return Ok(false);
         };
         if let Some(finished) = self.take_store(answer)? {
-            self.subject = definitions::make(
+            self.subject = hir_defs_text::make(
                 self.alloc,
                 definition,
                 finished,
@@ -225,9 +209,7 @@ impl Session {
     ) -> Result<bool, Stop> {
         let alloc = self.alloc;
         let tables = &*self.tables;
-        Ok(tables::ask(tables, word, words, answer)?
-            || signature_text::ask(tables, word, words, answer)?
-            || generics::ask(alloc, tables, word, words, answer)?
+        Ok(hir_defs_text::ask(alloc, tables, word, words, answer)?
             || texts::ask_of_tables(alloc, tables, word, words, answer)?
             || faults::ask(alloc, word, words, answer)?)
     }
@@ -246,7 +228,7 @@ impl Session {
             Subject::Owner(owner) => Some(*owner),
             Subject::Store(_) | Subject::None => None,
         };
-        Ok(bodies::ask(tables, owner, word, words, answer)?
+        Ok(hir_defs_text::ask_of_owner(tables, owner, word, words, answer)?
             || scopes::ask(alloc, tables, store, owner, word, words, answer)?
             || texts::ask_of_store(alloc, tables, store, owner, word, words, answer)?
             || texts::ask_of_body(alloc, tables, owner, word, words, answer)?)

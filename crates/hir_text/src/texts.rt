@@ -1,6 +1,6 @@
 //! Questions on texts: what expressions, patterns, paths, bodies, fields and signatures are printed as.
 
-use crate::bodies::body_of;
+use hir_defs_text::body_of;
 use hir_store_text::{refuse_missing, unknown};
 use hir_base::{DefWithBodyId, Edition, ExpressionStoreOwnerId, FunctionId, Id};
 use hir_defs::{Body, Tables};

@@ -2,7 +2,7 @@
 
 use crate::pending::Pending;
 use hir_store_text::{refuse, unknown};
-use crate::session::{Finished, Subject};
+use crate::subject::{Finished, Subject};
 use hir_base::{DefWithBodyId, ExpressionStoreOwnerId, Idx};
 use hir_defs::{Body, BodyFault, BodySourceMap, Param, RefusedBody, Tables};
 use hir_notation::{Answer, Stop, Words};
@@ -43,7 +43,7 @@ pub(crate) fn make(
 }
 
 /// The body of this owner, with its definition, where it is one.
-pub(crate) fn body_of(
+pub fn body_of(
     tables: &Tables,
     owner: Option<ExpressionStoreOwnerId>,
 ) -> Option<(DefWithBodyId, &Body)> {
@@ -58,7 +58,7 @@ pub(crate) fn body_of(
 }
 
 /// The same without the definition.
-pub(crate) fn asked_body(
+pub fn asked_body(
     tables: &Tables,
     owner: Option<ExpressionStoreOwnerId>,
 ) -> Option<&Body> {

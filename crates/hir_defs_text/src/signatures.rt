@@ -10,7 +10,7 @@ use std::alloc::Global;
 
 /// What a line says of a function.
 #[derive(Drop)]
-pub(crate) struct FunctionLine {
+pub struct FunctionLine {
     name: Name,
     params: Seq<TypeRefId>,
     ret_type: Option<TypeRefId>,
@@ -24,7 +24,7 @@ pub(crate) struct FunctionLine {
 
 /// What a line says of a struct.
 #[derive(Drop)]
-pub(crate) struct StructLine {
+pub struct StructLine {
     name: Name,
     shape: FieldsShape,
     is_fundamental: bool,

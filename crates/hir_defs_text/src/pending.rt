@@ -15,7 +15,7 @@ use std::mem;
 
 /// What waits for the next body, signature or fields.
 #[derive(Drop)]
-pub(crate) struct Pending {
+pub struct Pending {
     params: Seq<Param<PatId>>,
     self_param: Option<Param<BindingId>>,
     type_or_consts: Arena<TypeOrConstParamKind, TypeOrConstParamData>,
@@ -40,7 +40,7 @@ fn read_param<K>(words: &mut Words<'_>) -> Result<Param<Idx<K>>, Stop> {
 
 impl Pending {
     /// Nothing waits.
-    pub(crate) fn new(alloc: Global) -> Pending {
+    pub fn new(alloc: Global) -> Pending {
         Pending {
             params: Seq::new(alloc),
             self_param: None,
@@ -52,7 +52,7 @@ impl Pending {
     }
 
     /// Does what a line says that makes a part of what comes next; answers whether it is such a line.
-    pub(crate) fn line(
+    pub fn line(
         &mut self,
         alloc: Global,
         word: &[u8],

@@ -4,7 +4,7 @@ use crate::bodies;
 use crate::fields::next_shape;
 use hir_store_text::refuse;
 use crate::pending::Pending;
-use crate::session::{Finished, Subject};
+use crate::subject::{Finished, Subject};
 use crate::signatures::{FunctionLine, StructLine, as_plain, read_function, read_struct};
 use hir_base::{
     AdtId, DefWithBodyId, ExpressionStoreOwnerId, FunctionId, GenericDefId, StructId, VariantId,
@@ -19,7 +19,7 @@ use std::alloc::Global;
 
 /// What a line makes of a finished store.
 #[derive(Drop)]
-pub(crate) enum Definition {
+pub enum Definition {
     Body(DefWithBodyId),
     Function(FunctionId, FunctionLine),
     Struct(StructId, StructLine),
@@ -28,7 +28,7 @@ pub(crate) enum Definition {
 }
 
 /// What a line makes of a finished store, where it is such a line.
-pub(crate) fn read(
+pub fn read(
     alloc: Global,
     word: &[u8],
     words: &mut Words<'_>,
@@ -194,7 +194,7 @@ fn make_variant(
 
 /// Makes the definition of the store and of what waits for it, and adds it to the tables. Answers the store that questions ask from
 /// then on: that of the definition, or what was handed back.
-pub(crate) fn make(
+pub fn make(
     alloc: Global,
     definition: Definition,
     finished: Finished,

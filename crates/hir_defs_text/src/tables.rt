@@ -89,7 +89,7 @@ fn set_raw_words(alloc: Global, tables: &mut Tables, words: &mut Words<'_>) -> R
 }
 
 /// Does what a line says that adds an entry to the tables; answers whether it is such a line.
-pub(crate) fn line(
+pub fn line(
     alloc: Global,
     tables: &mut Tables,
     word: &[u8],

@@ -1,0 +1,21 @@
+//! Lines that make bodies, signatures and entries of tables, and questions on them.
+#![tactic(auto)]
+
+mod bodies;
+mod definitions;
+mod fields;
+mod generics;
+mod pending;
+mod questions;
+mod signature_text;
+mod signatures;
+mod subject;
+mod tables;
+
+pub use bodies::{asked_body, body_of};
+pub use definitions::{Definition, make, read};
+pub use pending::Pending;
+pub use questions::{ask, ask_of_owner};
+pub use signatures::{FunctionLine, StructLine};
+pub use subject::{Finished, Subject};
+pub use tables::line;
