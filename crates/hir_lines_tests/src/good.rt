@@ -23,6 +23,12 @@ fn lines_without_names(rt: HostRuntime) -> Result<(), Fail> {
     Ok(())
 }
 
+// A text that ends in a line end is no line. Rows can't ask this.
+#[test]
+fn a_line_has_no_end(rt: HostRuntime) -> Result<(), Fail> {
+    says(&rt, rt.alloc(), b"expr missing\n", Line::Bad)
+}
+
 const NUMBERS: [(&[u8], u32); 8] = [
     (b"root 12", 12),
     (b"root 123", 123),

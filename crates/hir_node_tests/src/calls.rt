@@ -1,4 +1,4 @@
-//! The calls of every visitor: parts that may be absent, lists, bounds, generic arguments and paths.
+//! The calls of every visitor that rows don't make: parts that may be absent, lists, laws of arguments, and visitors that are lent.
 #![tactic(auto, using(hir_node::proofs::RunLemmas::freely))]
 
 ghost use Rattle.std.specs.Prelude.{List};
@@ -9,8 +9,8 @@ use crate::build;
 use crate::wanted::{Call, Wanted};
 use hir_base::{Idx, Seq};
 use hir_node::{
-    ConstRef, Expr, GenericArg, GenericArgs, GenericArgsParentheses, Path, PathId, StoreVisitor,
-    StoreVisitorExt, TraitBoundModifier, TypeBound, laws, visit_generic_args,
+    ConstRef, Expr, GenericArg, GenericArgs, GenericArgsParentheses, Path, StoreVisitor,
+    StoreVisitorExt, laws, visit_generic_args,
 };
 use std::alloc::{AllocError, Global};
 use std::mem::drop;
@@ -60,33 +60,6 @@ fn parts_and_lists_give_a_call_each(rt: HostRuntime) {
     assert!(rt; parts_give(&PARTS));
     assert!(rt; absent_parts_give_none());
     assert!(rt; lists_give(&LISTS));
-}
-
-fn path_bound(ty: u32) -> TypeBound {
-    TypeBound::Path(
-        PathId::from_type_ref_unchecked(Idx::from_raw(ty)),
-        TraitBoundModifier::None,
-    )
-}
-
-// Whether the list of bounds, and behind it each of these, makes these calls.
-fn bounds_give(bounds: &[TypeBound], error: &TypeBound, path: &TypeBound, calls: &[Call]) -> bool {
-    let mut wanted = Wanted::new(calls);
-    wanted.on_type_bounds(bounds);
-    wanted.on_type_bound(error);
-    wanted.on_type_bound(path);
-    wanted.all_met()
-}
-
-#[test]
-fn a_bound_gives_its_type_or_lifetime(rt: HostRuntime) -> Result<(), Fail> {
-    let lifetime = TypeBound::Lifetime(Idx::from_raw(2));
-    let bounds = build::two(rt.alloc(), path_bound(1), lifetime)?;
-    const CALLS: [Call; 3] = [Call::Type(1), Call::Lifetime(2), Call::Type(3)];
-    let holds = bounds_give(bounds.as_slice(), &TypeBound::Error, &path_bound(3), &CALLS);
-    drop(bounds);
-    assert!(rt; holds);
-    Ok(())
 }
 
 const NESTED: [Call; 5] = [

@@ -1,55 +1,10 @@
-//! The segments of a path and their cuts.
+//! The segments of a path: cuts of cuts, missing segments and laws. Rows ask for one cut alone.
 use crate::build;
-use hir_base::{FunctionId, LangItemTarget, Name};
+use hir_base::Name;
 use hir_path::{Path, PathSegment, PathSegments, laws};
 use std::alloc::{AllocError, Global};
 use std::mem::drop;
 use std::test::Fail;
-
-// Whether these are the names of the segments.
-fn named(segments: PathSegments<'_>, names: &[&str]) -> bool {
-    let mut left = segments.iter();
-    for name in names {
-        match left.next() {
-            None => return false,
-            Some(segment) => {
-                if segment.name.as_str() != *name {
-                    return false;
-                }
-            }
-        }
-    }
-    left.next().is_none()
-}
-
-// Whether the segments are those of `a::b::c`, as each cut shows, also those past the end.
-fn are_cut(segments: PathSegments<'_>) -> bool {
-    named(segments.strip_last_two(), &["a"])
-        & named(segments.strip_last(), &["a", "b"])
-        & named(segments.take(2), &["a", "b"])
-        & named(segments.skip(1), &["b", "c"])
-        & segments.skip(5).is_empty()
-        & named(segments.take(5), &["a", "b", "c"])
-        & segments.take(1).strip_last_two().is_empty()
-}
-
-// Whether there are three segments, each at its place, and the first is not the last.
-fn are_at_their_places(segments: PathSegments<'_>) -> bool {
-    let is_first = segments.first() == segments.get(0);
-    let is_last = segments.last() == segments.get(2);
-    let differ = segments.first() != segments.last();
-    is_first & is_last & differ & (segments.len() == 3) & segments.get(3).is_none()
-}
-
-#[test]
-fn segments_are_cut_and_found(rt: HostRuntime) -> Result<(), Fail> {
-    let path = build::bare(rt.alloc(), &["a", "b", "c"])?;
-    let segments = path.segments();
-    let holds = are_cut(segments) & are_at_their_places(segments);
-    drop(path);
-    assert!(rt; holds);
-    Ok(())
-}
 
 fn has_args(segment: Option<PathSegment<'_>>) -> bool {
     match segment {
@@ -64,6 +19,7 @@ fn have_args_first(segments: PathSegments<'_>) -> bool {
         & !has_args(segments.last())
         & has_args(segments.strip_last().last())
         & !has_args(segments.skip(1).first())
+        & segments.take(1).strip_last_two().is_empty()
 }
 
 // Whether the path begins with the name `a`, without arguments. The path is taken.
@@ -98,22 +54,6 @@ fn a_segment_has_the_arguments_of_its_place(rt: HostRuntime) -> Result<(), Fail>
     assert!(rt; begins_with_a(alloc, build::bare(alloc, &["a"]))?);
     assert!(rt; !begins_with_a(alloc, build::with_args_first(alloc, &["a", "b"]))?);
     assert!(rt; has_args_first(alloc)?);
-    Ok(())
-}
-
-// Whether the item `new` of the language has its name as the only segment.
-fn is_named_new(alloc: Global) -> Result<bool, AllocError> {
-    let name = build::boxed(alloc, Name::new(alloc, "new"))?;
-    let item = LangItemTarget::FunctionId(FunctionId::from_raw(4));
-    let path = Path::LangItem(item, Some(name));
-    let holds = named(path.segments(), &["new"]);
-    drop(path);
-    Ok(holds)
-}
-
-#[test]
-fn the_segment_of_an_item_is_its_name(rt: HostRuntime) -> Result<(), Fail> {
-    assert!(rt; is_named_new(rt.alloc())?);
     Ok(())
 }
 

@@ -1,5 +1,5 @@
-//! The tests of `hir_node` and `hir_path` through their public surface, as a user would call it: paths and their cuts, small calls,
-//! copies of nodes with every kind of part that owns memory, and visitors that compare their calls with those of the table.
+//! The tests of `hir_node` and `hir_path` through their public surface, of what no row of `hir_rows` asks: visitors that compare
+//! their calls, the copy of an iterator, cuts of cuts, laws, hashes, sizes and small calls.
 #![tactic(auto)]
 
 #[cfg(test)]
@@ -9,17 +9,9 @@ mod calls;
 #[cfg(test)]
 mod child_pats;
 #[cfg(test)]
-mod copies;
-#[cfg(test)]
 mod cuts;
 #[cfg(test)]
-mod made;
-#[cfg(test)]
-mod nodes;
-#[cfg(test)]
-mod numbers;
-#[cfg(test)]
-mod paths;
+mod hashes;
 #[cfg(test)]
 mod small;
 #[cfg(test)]

@@ -1,46 +1,12 @@
-//! The small calls: literals, ids, words before bindings and pointers, boxes, function types and precedence.
+//! The small calls: ids, words before bindings and pointers, boxes, texts of floats and nodes, and function types.
 use crate::build;
-use hir_base::{ArithOp, BinaryOp, ExprPrecedence, ExternAbi, Idx, Text};
+use hir_base::{ExternAbi, Idx, Text};
 use hir_node::{
-    BindingAnnotation, Boxed, Expr, ExprId, ExprOrPatId, FloatTypeWrapper, FnType, Int, Literal,
-    Mutability, NodeId, PatId, PathId, Rawness, Uint,
+    BindingAnnotation, Boxed, ExprId, ExprOrPatId, FloatTypeWrapper, FnType, Mutability, NodeId,
+    PatId, PathId, Rawness,
 };
 use std::mem::drop;
 use std::test::Fail;
-
-fn signed(value: i128) -> Literal {
-    Literal::Int(Int::new(value), None)
-}
-
-fn negates(literal: Literal, wanted: Option<Literal>) -> bool {
-    literal.negate() == wanted
-}
-
-fn binds(expr: Expr, wanted: ExprPrecedence) -> bool {
-    let found = expr.precedence();
-    drop(expr);
-    found == wanted
-}
-
-#[test]
-fn the_least_number_stays(rt: HostRuntime) {
-    let least = -170141183460469231731687303715884105728;
-    assert!(rt; negates(signed(least), Some(signed(least))));
-    assert!(rt; negates(signed(5), Some(signed(-5))));
-    assert!(rt; negates(Literal::Uint(Uint::new(5), None), None));
-}
-
-#[test]
-fn expressions_bind_by_their_table(rt: HostRuntime) {
-    let expr = Idx::from_raw(0);
-    assert!(rt; binds(Expr::Missing, ExprPrecedence::Unambiguous));
-    assert!(rt; binds(Expr::Await { expr }, ExprPrecedence::Postfix));
-    assert!(rt; binds(Expr::Return { expr: None }, ExprPrecedence::Jump));
-    let op = Some(BinaryOp::ArithOp(ArithOp::Shl));
-    let lhs = expr;
-    let rhs = expr;
-    assert!(rt; binds(Expr::BinaryOp { lhs, rhs, op }, ExprPrecedence::Shift));
-}
 
 // Whether it is an expression or a pattern, as is wanted, and of this number as the one alone.
 fn is_one(id: ExprOrPatId, is_expr: bool, number: u32) -> bool {

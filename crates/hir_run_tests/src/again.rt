@@ -1,10 +1,9 @@
-//! Whole runs in memory, told as the shell sees them: what is written, what is said of the end, and the exit status. A run that
-//! was refused memory is made again, so that each test passes with any one allocation refused too.
+//! Whole runs in memory: how they end, and what is read and written. A run that was refused memory is made again, so that each
+//! test passes with any one allocation refused too.
 
 use crate::fakes::{Given, Kept};
-use hir_run::{RunFault, report, run, run_to_exit};
+use hir_run::{RunFault, run, run_to_exit};
 use std::alloc::Global;
-use std::process::Abort;
 
 /// How many bytes a call moves at most, and the number of the call, from 0, from which on all fail.
 #[derive(Clone, Copy, Drop)]
@@ -82,33 +81,4 @@ pub fn run_to_exit_again<'a>(
         return run_to_exit_once(alloc, input, reads, writes);
     }
     seen
-}
-
-/// An input by name, and what the shell sees of the run on it.
-#[derive(Drop)]
-pub struct Row {
-    pub name: &'static str,
-    pub input: &'static [u8],
-    pub output: &'static [u8],
-    pub said: &'static [u8],
-    pub status: u8,
-}
-
-/// Compares the run on each row with what stands in it, by one byte a call, by some and by all.
-pub fn compare(rt: &impl Abort, alloc: Global, rows: &[Row]) {
-    for row in rows {
-        for step in [1, 3, 1_000_000] {
-            let seen = run_again(alloc, row.input, by(step), by(step));
-            let mut errors = Kept::new(alloc, step, u64::MAX);
-            let status = report(&seen.ended, &mut errors);
-            let name = row.name;
-            assert_eq!(rt;
-                seen.writer.bytes.as_slice(),
-                row.output,
-                "{name} by {step}"
-            );
-            assert_eq!(rt; errors.bytes.as_slice(), row.said, "{name} by {step}");
-            assert_eq!(rt; status, row.status, "{name} by {step}");
-        }
-    }
 }

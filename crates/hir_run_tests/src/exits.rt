@@ -11,7 +11,7 @@ use std::process::Abort;
 const RUNS: [(&[u8], &[u8], u8); 13] = [
     (b"", b"accepted\n", 0),
     (
-        b"expr path f\nexpr path x\nexpr call 0 1\nroot 2\n",
+        b"expr path f\n\nexpr path x\nexpr call 0 1\nroot 2",
         b"accepted\n",
         0,
     ),

@@ -1,10 +1,9 @@
-//! The tests of `hir_run`, of what no contract of it says: the worked rows, failing ends, what it reports, and refused growths.
+//! The tests of `hir_run`, of what neither a contract of it says nor a row of `hir_rows` asks: inputs by one byte a call, ends that
+//! fail at any byte, faults that no line makes, runs to an exit, a long chain, and refused growths.
 #![tactic(auto)]
 
 #[cfg(test)]
 mod again;
-#[cfg(test)]
-mod bodies;
 #[cfg(test)]
 mod chain;
 #[cfg(test)]
@@ -16,12 +15,4 @@ mod fakes;
 #[cfg(test)]
 mod growths;
 #[cfg(test)]
-mod hygiene;
-#[cfg(test)]
-mod inputs;
-#[cfg(test)]
-mod printed;
-#[cfg(test)]
 mod reports;
-#[cfg(test)]
-mod rows;
