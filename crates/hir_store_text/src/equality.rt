@@ -3,7 +3,7 @@
 use crate::missing::{differs, unknown};
 use crate::nodes::has_node;
 use hir_base::{ExactEq, TryClone};
-use hir_node::LabelId;
+use hir_node::{Binding, Expr, Label, LabelId, LifetimeRef, Pat, TypeRef};
 use hir_notation::{Answer, Node, Stop, Words, next_node};
 use hir_store::{ExpressionStore, ExpressionStoreSourceMap};
 use std::alloc::AllocError;
@@ -54,6 +54,88 @@ fn write_same(is_equal: bool, is_same: bool, answer: &mut Answer) -> Result<(), 
     answer.yes_or_no(is_equal)
 }
 
+/// Whether two nodes of one arena are equal, where both are there.
+fn write_equal<T: ExactEq>(
+    first: Option<&T>,
+    second: Option<&T>,
+    answer: &mut Answer,
+) -> Result<(), AllocError> {
+    let Some(first) = first else {
+        return unknown(answer);
+    };
+    match second {
+        Some(second) => write_same(*first == *second, first.is_same(second), answer),
+        None => answer.word("no"),
+    }
+}
+
+/// The node, where it is an expression that is there; so the next five for the other arenas.
+fn expr_at(store: &ExpressionStore, node: Node) -> Option<&Expr> {
+    let Node::Expr(id) = node else {
+        return None;
+    };
+    if store.has_expr(id) {
+        Some(&store[id])
+    } else {
+        None
+    }
+}
+
+fn pat_at(store: &ExpressionStore, node: Node) -> Option<&Pat> {
+    let Node::Pat(id) = node else {
+        return None;
+    };
+    if store.has_pat(id) {
+        Some(&store[id])
+    } else {
+        None
+    }
+}
+
+fn type_at(store: &ExpressionStore, node: Node) -> Option<&TypeRef> {
+    let Node::Type(id) = node else {
+        return None;
+    };
+    if store.has_type(id) {
+        Some(&store[id])
+    } else {
+        None
+    }
+}
+
+fn binding_at(store: &ExpressionStore, node: Node) -> Option<&Binding> {
+    let Node::Binding(id) = node else {
+        return None;
+    };
+    if store.has_binding(id) {
+        Some(&store[id])
+    } else {
+        None
+    }
+}
+
+fn label_at(store: &ExpressionStore, node: Node) -> Option<&Label> {
+    let Node::Label(id) = node else {
+        return None;
+    };
+    if store.has_label(id) {
+        Some(&store[id])
+    } else {
+        None
+    }
+}
+
+fn lifetime_at(store: &ExpressionStore, node: Node) -> Option<&LifetimeRef> {
+    let Node::Lifetime(id) = node else {
+        return None;
+    };
+    if store.has_lifetime(id) {
+        Some(&store[id])
+    } else {
+        None
+    }
+}
+
 /// `equal NODE NODE`: nodes of different arenas never are.
 fn equal(store: &ExpressionStore, words: &mut Words<'_>, answer: &mut Answer) -> Result<(), Stop> {
     let first = next_node(words)?;
@@ -62,26 +144,21 @@ fn equal(store: &ExpressionStore, words: &mut Words<'_>, answer: &mut Answer) ->
     if !has_node(store, first) || !has_node(store, second) {
         return Ok(unknown(answer)?);
     }
-    match (first, second) {
-        (Node::Expr(a), Node::Expr(b)) if store.has_expr(a) && store.has_expr(b) => {
-            write_same(store[a] == store[b], store[a].is_same(&store[b]), answer)?
-        }
-        (Node::Pat(a), Node::Pat(b)) if store.has_pat(a) && store.has_pat(b) => {
-            write_same(store[a] == store[b], store[a].is_same(&store[b]), answer)?
-        }
-        (Node::Type(a), Node::Type(b)) if store.has_type(a) && store.has_type(b) => {
-            write_same(store[a] == store[b], store[a].is_same(&store[b]), answer)?
-        }
-        (Node::Binding(a), Node::Binding(b)) if store.has_binding(a) && store.has_binding(b) => {
-            write_same(store[a] == store[b], store[a].is_same(&store[b]), answer)?
-        }
-        (Node::Label(a), Node::Label(b)) if store.has_label(a) && store.has_label(b) => {
-            write_same(store[a] == store[b], store[a].is_same(&store[b]), answer)?
-        }
-        (Node::Lifetime(a), Node::Lifetime(b)) if store.has_lifetime(a) && store.has_lifetime(b) => {
-            write_same(store[a] == store[b], store[a].is_same(&store[b]), answer)?
-        }
-        (_, _) => answer.word("no")?,
+    match first {
+        Node::Expr(_) => write_equal(expr_at(store, first), expr_at(store, second), answer)?,
+        Node::Pat(_) => write_equal(pat_at(store, first), pat_at(store, second), answer)?,
+        Node::Type(_) => write_equal(type_at(store, first), type_at(store, second), answer)?,
+        Node::Binding(_) => write_equal(
+            binding_at(store, first),
+            binding_at(store, second),
+            answer,
+        )?,
+        Node::Label(_) => write_equal(label_at(store, first), label_at(store, second), answer)?,
+        Node::Lifetime(_) => write_equal(
+            lifetime_at(store, first),
+            lifetime_at(store, second),
+            answer,
+        )?,
     }
     Ok(())
 }

@@ -81,11 +81,7 @@ pub fn differs(answer: &mut Answer) -> Result<(), AllocError> {
 }
 
 /// The answer is this fault, by its text.
-pub fn refuse<F: Display>(
-    alloc: Global,
-    fault: &F,
-    answer: &mut Answer,
-) -> Result<(), AllocError> {
+pub fn refuse<F: Display>(alloc: Global, fault: &F, answer: &mut Answer) -> Result<(), AllocError> {
     answer.refuse();
     answer.word(format!(in alloc; "{fault}")?.as_str())
 }

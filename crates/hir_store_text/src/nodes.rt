@@ -55,11 +55,7 @@ fn count(name: &str, number: usize, answer: &mut Answer) -> Result<(), AllocErro
 }
 
 /// `nodes`: how many.
-fn nodes(
-    store: &ExpressionStore,
-    words: &mut Words<'_>,
-    answer: &mut Answer,
-) -> Result<(), Stop> {
+fn nodes(store: &ExpressionStore, words: &mut Words<'_>, answer: &mut Answer) -> Result<(), Stop> {
     words.end()?;
     count("exprs", store.exprs().len(), answer)?;
     count("pats", store.pats().len(), answer)?;

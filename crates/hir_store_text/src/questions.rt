@@ -12,11 +12,13 @@ pub fn make(
     word: &[u8],
     words: &mut Words<'_>,
 ) -> Result<bool, Stop> {
-    Ok(building::node(alloc, builder, word, words)?
-        || building::side(builder, word, words)?
-        || mapping::forward(builder, word, words)?
-        || mapping::back(builder, word, words)?
-        || mapping::other(alloc, builder, word, words)?)
+    Ok(
+        building::node(alloc, builder, word, words)?
+            || building::side(builder, word, words)?
+            || mapping::forward(builder, word, words)?
+            || mapping::back(builder, word, words)?
+            || mapping::other(alloc, builder, word, words)?,
+    )
 }
 
 /// Answers a question on a store and its source map; answers whether it is such a question.
@@ -28,12 +30,14 @@ pub fn ask(
     words: &mut Words<'_>,
     answer: &mut Answer,
 ) -> Result<bool, Stop> {
-    Ok(nodes::ask(alloc, store, word, words, answer)?
-        || calls::ask(alloc, store, word, words, answer)?
-        || walks::ask(alloc, store, word, words, answer)?
-        || searches::ask(store, word, words, answer)?
-        || paths::ask(alloc, store, word, words, answer)?
-        || equality::ask(store, word, words, answer)?
-        || sources::ask(sources, word, words, answer)?
-        || sources::ask_back(alloc, sources, word, words, answer)?)
+    Ok(
+        nodes::ask(alloc, store, word, words, answer)?
+            || calls::ask(alloc, store, word, words, answer)?
+            || walks::ask(alloc, store, word, words, answer)?
+            || searches::ask(store, word, words, answer)?
+            || paths::ask(alloc, store, word, words, answer)?
+            || equality::ask(store, word, words, answer)?
+            || sources::ask(sources, word, words, answer)?
+            || sources::ask_back(alloc, sources, word, words, answer)?,
+    )
 }
