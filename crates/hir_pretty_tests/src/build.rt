@@ -97,16 +97,17 @@ pub fn of_expr(
     Err(Fail::from("no such expression"))
 }
 
-/// What is printed of the pattern of this number in one line, or that it isn't there.
+/// What is printed of the pattern of this number, in one line or in lines, or that it isn't there.
 pub fn of_pat(
     alloc: Global,
     tables: &Tables,
     store: &ExpressionStore,
     number: u32,
+    oneline: bool,
 ) -> Result<Result<String, PrintFault>, Fail> {
     let pat = Idx::from_raw(number);
     if store.has_pat(pat) {
-        return Ok(print_pat_hir(alloc, tables, store, owner(), pat, true, EDITION));
+        return Ok(print_pat_hir(alloc, tables, store, owner(), pat, oneline, EDITION));
     }
     Err(Fail::from("no such pattern"))
 }

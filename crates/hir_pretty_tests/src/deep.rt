@@ -117,7 +117,7 @@ fn right_operands(rt: HostRuntime) -> Result<(), Fail> {
 fn one_line_text(alloc: Global) -> Result<String, Fail> {
     let tables = tables(alloc)?;
     let (store, _) = exprs(alloc, &Step::Block, DEPTH)?;
-    Ok(of_pat(alloc, &tables, &store, 0)??)
+    Ok(of_pat(alloc, &tables, &store, 0, true)??)
 }
 
 #[test]
@@ -193,7 +193,7 @@ fn pat_text(alloc: Global) -> Result<String, Fail> {
     builder.begin_roots();
     let store = finished(alloc, builder)?;
     let tables = tables(alloc)?;
-    Ok(of_pat(alloc, &tables, &store, DEPTH)??)
+    Ok(of_pat(alloc, &tables, &store, DEPTH, false)??)
 }
 
 #[test]

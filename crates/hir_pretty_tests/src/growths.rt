@@ -146,9 +146,9 @@ fn wrong_pat(
 ) -> Result<Option<&'static str>, Fail> {
     let mut number = 0u32;
     for (line, wanted) in PATS {
-        let mut printed = of_pat(alloc, tables, store, number)?;
+        let mut printed = of_pat(alloc, tables, store, number, true)?;
         if is_refused(&printed) {
-            printed = of_pat(alloc, tables, store, number)?;
+            printed = of_pat(alloc, tables, store, number, true)?;
         }
         if !reads(printed, wanted)? {
             return Ok(Some(*line));
