@@ -1,202 +1,216 @@
 //! Refused growths of printing. With ample memory each text is the whole one. Where a growth of a printing is refused, it answers `Memory`,
 //! and the same printing is made again. The loop over the growths is `scripts/refused-growths`.
-use crate::absent::{BOTH, struct_1};
-use crate::memory::{Written, add, in_a_box, misses};
-use crate::paths_of::{PathOf, one_name};
-use crate::tables_of::{none, usual};
-use crate::{rows, tree};
-use hir_base::{Edition, Idx, ShortList};
+use crate::build::{add, add_made, around, finished, in_a_box, of_expr, of_pat, of_path, tables};
+use hir_base::{Idx, NamedDef, ShortList, StructId};
 use hir_defs::Tables;
-use hir_node::{Expr, ExprId, PatId, Path};
+use hir_expr_store::{ExpressionStore, Missing};
+use hir_node::Expr;
+use hir_notation::{Words, read_binding, read_expr, read_pat, read_path, read_type};
 use hir_pretty::PrintFault;
-use hir_store::{ExpressionStore, ExpressionStoreBuilder};
+use hir_store::ExpressionStoreBuilder;
 use std::alloc::Global;
-use std::process::Abort;
 use std::test::Fail;
+
+/// A node as `hir_notation` reads it, and what it is printed as. Nodes are named by their places.
+type Case = (&'static str, &'static str);
+
+const TYPES: &[&str] = &[
+    " path u32",
+    " tuple -",
+    " fn extern:C 0 1",
+    " path A",
+    " path B",
+    " path C",
+    " tuple 3,4",
+];
+
+const EXPRS: &[Case] = &[
+    (" path x", "x"),
+    (" path y", "y"),
+    (" match 1", "match y {\n}\n"),
+    (" path x", "x"),
+    (" const 3", "const { /* ExprId(3) */ }"),
+    (" repeat 0 2", "[\n    x; match y {\n    }\n\n]"),
+    (" path a", "a"),
+    (" path b", "b"),
+    (" array 6,7", "[\n    a, b,\n]"),
+    (" path f", "f"),
+    (" path x", "x"),
+    (" call 9 10", "f(\n    x,\n)"),
+    (" path a", "a"),
+    (" path b", "b"),
+    (" tuple 12,13", "(a, b, )"),
+    (" path x", "x"),
+    (" record S a:15", "S{\n    a: x,\n}"),
+    (" path x", "x"),
+    (" cast 17 2", "x as extern C fn(u32) -> ()"),
+    (" string \"a\\\"\\u{1}é'\"", "\"a\\\"\\u{1}é'\""),
+    (" char \"'\"", "'\\''"),
+    (" bytes \"\\x00\\\"\\xff\"", "\"\\x00\\\"\\xff\""),
+    (" cstring \"a\"", "\"a\\0\""),
+];
+
+const BINDINGS: &[&str] = &[" a", " a", " b", " a", " a", " b"];
+
+/// In one line.
+const PATS: &[Case] = &[
+    (" bind 0 -", "a"),
+    (" record S a:0 ..", "S { a, .. }"),
+    (" record S", "S { }"),
+    (" bind 1 -", "a"),
+    (" bind 2 -", "b"),
+    (" tstruct T 3,4 ..1", "T(a, .., b)"),
+    (" bind 3 -", "a"),
+    (" tuple 6 ..1", "(a, ..)"),
+    (" tuple - ..0", "(..)"),
+    (" bind 4 -", "a"),
+    (" bind 5 -", "b"),
+    (" slice 9,10 - -", "[a, b, ]"),
+];
+
+const PATHS: &[Case] = &[
+    ("Fn::<paren;T6,Output=T5>", "Fn::<(A, B), Output = C>"),
+    ("lang(FunctionId(0))::new", "builtin#lang(f::new)"),
+];
+
+/// Struct 1 and function 1 as items of the language, which have no names, in a tuple.
+const NAMELESS: &[Case] = &[
+    (" path lang(StructId(1))", ""),
+    (" path lang(FunctionId(1))", ""),
+    (" tuple 0,1", ""),
+];
+
+fn add_pats(builder: &mut ExpressionStoreBuilder, alloc: Global) -> Result<(), Fail> {
+    for line in BINDINGS {
+        let binding = read_binding(&mut Words::new(line.as_bytes()), alloc);
+        add_made(&mut builder.bindings, binding)?;
+    }
+    for (line, _) in PATS {
+        let pat = read_pat(&mut Words::new(line.as_bytes()), alloc);
+        add_made(&mut builder.pats, pat)?;
+    }
+    Ok(())
+}
+
+/// A store of these expressions, beside the types and the patterns.
+fn store(alloc: Global, exprs: &[Case]) -> Result<Box<ExpressionStore>, Fail> {
+    let mut builder = in_a_box(alloc, ExpressionStoreBuilder::new(alloc))?;
+    for line in TYPES {
+        let ty = read_type(&mut Words::new(line.as_bytes()), alloc);
+        add_made(&mut builder.types, ty)?;
+    }
+    add_pats(&mut builder, alloc)?;
+    for (line, _) in exprs {
+        let expr = read_expr(&mut Words::new(line.as_bytes()), alloc);
+        add_made(&mut builder.exprs, expr)?;
+    }
+    builder.begin_roots();
+    finished(alloc, builder)
+}
 
 /// Whether memory was refused.
 fn is_refused(printed: &Result<String, PrintFault>) -> bool {
     matches!(printed, Err(PrintFault::Memory))
 }
 
-/// The text of an expression, printed again where memory was refused.
-fn expr_text(
+/// Whether a printing gave this text. Its fault, where it gave none.
+fn reads(printed: Result<String, PrintFault>, wanted: &str) -> Result<bool, Fail> {
+    let text = printed?;
+    Ok(text.as_str() == wanted)
+}
+
+/// The first expression whose text is another one; each is printed again where memory was refused.
+fn wrong_expr(
     alloc: Global,
     tables: &Tables,
     store: &ExpressionStore,
-    expr: ExprId,
-) -> Result<String, Fail> {
-    let printed = tree::of_expr(alloc, tables, store, expr, Edition::Edition2021)?;
-    if is_refused(&printed) {
-        return Ok(tree::of_expr(alloc, tables, store, expr, Edition::Edition2021)??);
+) -> Result<Option<&'static str>, Fail> {
+    let mut number = 0u32;
+    for (line, wanted) in EXPRS {
+        let mut printed = of_expr(alloc, tables, store, number)?;
+        if is_refused(&printed) {
+            printed = of_expr(alloc, tables, store, number)?;
+        }
+        if !reads(printed, wanted)? {
+            return Ok(Some(*line));
+        }
+        number = number.wrapping_add(1);
     }
-    Ok(printed?)
+    Ok(None)
 }
 
-fn pat_text(
+fn wrong_pat(
     alloc: Global,
     tables: &Tables,
     store: &ExpressionStore,
-    pat: PatId,
-) -> Result<String, Fail> {
-    let printed = tree::of_pat(alloc, tables, store, pat, true)?;
-    if is_refused(&printed) {
-        return Ok(tree::of_pat(alloc, tables, store, pat, true)??);
+) -> Result<Option<&'static str>, Fail> {
+    let mut number = 0u32;
+    for (line, wanted) in PATS {
+        let mut printed = of_pat(alloc, tables, store, number, true)?;
+        if is_refused(&printed) {
+            printed = of_pat(alloc, tables, store, number, true)?;
+        }
+        if !reads(printed, wanted)? {
+            return Ok(Some(*line));
+        }
+        number = number.wrapping_add(1);
     }
-    Ok(printed?)
+    Ok(None)
 }
 
-fn path_text(
+fn wrong_path(
     alloc: Global,
     tables: &Tables,
     store: &ExpressionStore,
-    path: &Path,
-) -> Result<String, Fail> {
-    let printed = tree::of_path(alloc, tables, store, path, Edition::Edition2021)?;
-    if is_refused(&printed) {
-        return Ok(tree::of_path(alloc, tables, store, path, Edition::Edition2021)??);
+) -> Result<Option<&'static str>, Fail> {
+    for (line, wanted) in PATHS {
+        let path = in_a_box(alloc, read_path(&mut Words::new(line.as_bytes()), alloc)?)?;
+        let mut printed = of_path(alloc, tables, store, &path)?;
+        if is_refused(&printed) {
+            printed = of_path(alloc, tables, store, &path)?;
+        }
+        if !reads(printed, wanted)? {
+            return Ok(Some(*line));
+        }
     }
-    Ok(printed?)
+    Ok(None)
 }
 
-/// The worked text of this number.
-fn expr(rt: &impl Abort, alloc: Global, number: usize) -> Result<(), Fail> {
-    let Some((written, wanted)) = rows::EXPRS.get(number) else {
-        return Err(Fail::from("no such text"));
-    };
-    let tables = none(alloc)?;
-    let store = tree::store(alloc, written)?;
-    let last = Idx::from_raw(tree::last(written.exprs.len()));
-    let found = expr_text(alloc, &tables, &store, last)?;
-    assert_eq!(rt; found.as_str(), *wanted);
+/// The first of the expressions, of the patterns and of the paths whose text is another one.
+fn wrong(alloc: Global) -> Result<[Option<&'static str>; 3], Fail> {
+    let tables = tables(alloc)?;
+    let store = store(alloc, EXPRS)?;
+    Ok([
+        wrong_expr(alloc, &tables, &store)?,
+        wrong_pat(alloc, &tables, &store)?,
+        wrong_path(alloc, &tables, &store)?,
+    ])
+}
+
+#[test]
+fn each_is_printed_again(rt: HostRuntime) -> Result<(), Fail> {
+    let wrong = wrong(rt.alloc())?;
+    assert_eq!(&rt; wrong, [None, None, None]);
     Ok(())
 }
 
-fn pat(rt: &impl Abort, alloc: Global, number: usize) -> Result<(), Fail> {
-    let Some((written, wanted)) = rows::PATS.get(number) else {
-        return Err(Fail::from("no such text"));
-    };
-    let tables = none(alloc)?;
-    let store = tree::store(alloc, written)?;
-    let last = Idx::from_raw(tree::last(written.pats.len()));
-    let found = pat_text(alloc, &tables, &store, last)?;
-    assert_eq!(rt; found.as_str(), *wanted);
-    Ok(())
-}
-
-fn path(rt: &impl Abort, alloc: Global, written: &PathOf, wanted: &str) -> Result<(), Fail> {
-    let tables = usual(alloc)?;
-    let store = tree::store(alloc, &rows::ABC)?;
-    let path = written.made(alloc)?;
-    let found = path_text(alloc, &tables, &store, &path)?;
-    assert_eq!(rt; found.as_str(), wanted);
-    Ok(())
-}
-
-#[test]
-fn a_match_in_an_array(rt: HostRuntime) -> Result<(), Fail> {
-    expr(&rt, rt.alloc(), 0)
-}
-
-#[test]
-fn a_list(rt: HostRuntime) -> Result<(), Fail> {
-    expr(&rt, rt.alloc(), 1)
-}
-
-#[test]
-fn a_call(rt: HostRuntime) -> Result<(), Fail> {
-    expr(&rt, rt.alloc(), 2)
-}
-
-#[test]
-fn a_tuple(rt: HostRuntime) -> Result<(), Fail> {
-    expr(&rt, rt.alloc(), 3)
-}
-
-#[test]
-fn a_record(rt: HostRuntime) -> Result<(), Fail> {
-    expr(&rt, rt.alloc(), 4)
-}
-
-#[test]
-fn a_cast(rt: HostRuntime) -> Result<(), Fail> {
-    expr(&rt, rt.alloc(), 5)
-}
-
-#[test]
-fn a_constant(rt: HostRuntime) -> Result<(), Fail> {
-    expr(&rt, rt.alloc(), 6)
-}
-
-#[test]
-fn a_string(rt: HostRuntime) -> Result<(), Fail> {
-    expr(&rt, rt.alloc(), 7)
-}
-
-#[test]
-fn a_char(rt: HostRuntime) -> Result<(), Fail> {
-    expr(&rt, rt.alloc(), 8)
-}
-
-#[test]
-fn some_bytes(rt: HostRuntime) -> Result<(), Fail> {
-    expr(&rt, rt.alloc(), 9)
-}
-
-#[test]
-fn a_c_string(rt: HostRuntime) -> Result<(), Fail> {
-    expr(&rt, rt.alloc(), 10)
-}
-
-#[test]
-fn a_record_pattern(rt: HostRuntime) -> Result<(), Fail> {
-    pat(&rt, rt.alloc(), 0)
-}
-
-#[test]
-fn an_empty_record_pattern(rt: HostRuntime) -> Result<(), Fail> {
-    pat(&rt, rt.alloc(), 1)
-}
-
-#[test]
-fn a_rest_between(rt: HostRuntime) -> Result<(), Fail> {
-    pat(&rt, rt.alloc(), 2)
-}
-
-#[test]
-fn a_rest_behind(rt: HostRuntime) -> Result<(), Fail> {
-    pat(&rt, rt.alloc(), 3)
-}
-
-#[test]
-fn a_rest_alone(rt: HostRuntime) -> Result<(), Fail> {
-    pat(&rt, rt.alloc(), 4)
-}
-
-#[test]
-fn a_slice_pattern(rt: HostRuntime) -> Result<(), Fail> {
-    pat(&rt, rt.alloc(), 5)
-}
-
-#[test]
-fn a_path_with_arguments(rt: HostRuntime) -> Result<(), Fail> {
-    path(&rt, rt.alloc(), &rows::FN_PATH, "Fn::<(A, B), Output = C>")
-}
-
-#[test]
-fn an_item_of_the_language(rt: HostRuntime) -> Result<(), Fail> {
-    path(&rt, rt.alloc(), &rows::NEW, "builtin#lang(f::new)")
+/// What the tuple of what has no name is printed as.
+fn nameless(alloc: Global) -> Result<Result<String, PrintFault>, Fail> {
+    let tables = tables(alloc)?;
+    let store = store(alloc, NAMELESS)?;
+    of_expr(alloc, &tables, &store, 2)
 }
 
 /// What is missing is said also where memory is refused before, or memory is: no text is given.
 #[test]
 fn what_is_missing(rt: HostRuntime) -> Result<(), Fail> {
-    let a = rt.alloc();
-    let tables = none(a)?;
-    let store = tree::store(a, &BOTH)?;
-    let printed = tree::of_expr(a, &tables, &store, Idx::from_raw(2), Edition::Edition2021)?;
-    let holds = misses(&printed, struct_1())?;
-    assert!(&rt; holds);
+    let missing = match nameless(rt.alloc())? {
+        Ok(_) => None,
+        Err(PrintFault::Missing(missing)) => Some(missing),
+        Err(PrintFault::Memory) => return Err(Fail::from(PrintFault::Memory)),
+    };
+    let structure = NamedDef::StructId(StructId::from_raw(1));
+    assert!(&rt; missing == Some(Missing::Name(structure)));
     Ok(())
 }
 
@@ -207,36 +221,37 @@ fn tuple_of_paths(alloc: Global) -> Result<Box<ExpressionStore>, Fail> {
     let mut builder = in_a_box(alloc, ExpressionStoreBuilder::new(alloc))?;
     let mut exprs = ShortList::new();
     for number in 0..COUNT {
-        let path = one_name(alloc, "a")?;
-        add(&mut builder.exprs, Expr::Path(path))?;
+        let path = read_expr(&mut Words::new(b" path a"), alloc);
+        add_made(&mut builder.exprs, path)?;
         exprs.push(alloc, Idx::from_raw(number))?;
     }
     add(&mut builder.exprs, Expr::Tuple { exprs })?;
     builder.begin_roots();
-    tree::finished(alloc, builder)
+    finished(alloc, builder)
 }
 
-/// Said where a growth of this printing was refused: so a search tells how many growths it asks for.
-const REFUSED: &str = "a growth of the printing was refused";
+/// Whether a growth of printing the tuple was refused, and whether its text, printed again then, is the whole one.
+fn print_tuple(alloc: Global, wanted: &str) -> Result<(bool, bool), Fail> {
+    let tables = tables(alloc)?;
+    let store = tuple_of_paths(alloc)?;
+    let mut printed = of_expr(alloc, &tables, &store, COUNT)?;
+    let refused = is_refused(&printed);
+    if refused {
+        printed = of_expr(alloc, &tables, &store, COUNT)?;
+    }
+    Ok((refused, reads(printed, wanted)?))
+}
 
 #[test]
 fn a_tuple_of_paths(rt: HostRuntime) -> Result<(), Fail> {
     let a = rt.alloc();
-    let store = tuple_of_paths(a)?;
-    let tables = none(a)?;
-    let printed = tree::of_expr(
-        a,
-        &tables,
-        &store,
-        Idx::from_raw(COUNT),
-        Edition::Edition2021,
-    )?;
-    if is_refused(&printed) {
-        eprintln!(rt; "{REFUSED}")?;
+    let mut wanted = around(a, ("(", 1), "", ("a, ", COUNT))?;
+    wanted.push_str(")")?;
+    let (refused, holds) = print_tuple(a, wanted.as_str())?;
+    if refused {
+        // a search tells by this how many growths the printing asks for
+        eprintln!(rt; "a growth of the printing was refused")?;
     }
-    let found = expr_text(a, &tables, &store, Idx::from_raw(COUNT))?;
-    let wanted = crate::deep::around(a, ("(", 1), "", ("a, ", COUNT))?;
-    assert_eq!(&rt; found.len(), 3002);
-    assert_eq!(&rt; found.as_str().strip_suffix(")"), Some(wanted.as_str()));
+    assert!(&rt; holds);
     Ok(())
 }

@@ -1,21 +1,8 @@
-//! The tests of `hir_print_defs`, through the public surface, as a user would call it.
+//! The tests of `hir_print_defs` that rows of text can't be: prints of which a growth is refused are made again.
+//! A test in which another growth is refused ends with that error. What each is printed as stands in the rows of `hir_rows`.
 #![tactic(auto)]
 
 #[cfg(test)]
-mod bodies;
+mod build;
 #[cfg(test)]
 mod growths;
-#[cfg(test)]
-mod made;
-#[cfg(test)]
-mod memory;
-#[cfg(test)]
-mod nodes;
-#[cfg(test)]
-mod owners;
-#[cfg(test)]
-mod params;
-#[cfg(test)]
-mod signatures;
-#[cfg(test)]
-mod variants;
