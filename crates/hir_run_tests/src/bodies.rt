@@ -115,7 +115,7 @@ const REFUSED: [Row; 14] = [
     },
     Row {
         name: "parameter_under_a_parameter",
-        input: b"bind x\npat bind 0 -\nexpr path a\nexpr let 0 0\nroot 1\nparam 0\nchain 0\n",
+        input: b"bind x\npat wild\npat bind 0 0\nexpr path a\nroot 0\nparam 0\nparam 1\nchain 0\n",
         output: b"",
         said: b"refused ParamUnder 0\n",
         status: 2,
