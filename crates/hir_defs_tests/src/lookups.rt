@@ -1,41 +1,105 @@
-//! What is looked up in tables: generic parameters, bodies and stores; and what is missing.
-use crate::entries::written;
-use crate::filled::filled;
+//! What is looked up together: parameters, their store and its source map, and a body with where its `self` is written. They and their
+//! parts stand in boxes, so that what is dropped is a pointer, and the proofs are short.
+use crate::memory::{add, in_a_box, in_boxes, taken, with};
 use hir_base::{
-    AdtId, ConstId, DefWithBodyId, EnumId, ExpressionStoreOwnerId, FunctionId, GenericDefId, Idx,
-    ImplId, StaticId, StructId, TraitId, TypeAliasId, UnionId, VariantId,
+    Arena, AstPtr, DefWithBodyId, FunctionId, GenericDefId, HirFileId, Idx, InFile, Name,
+    SelfParamPtr, Seq, SyntaxNodePtr, TextRange, TraitId,
 };
-use hir_defs::{Bodies, Body, GenericParams, Signatures, StoreOf, Tables};
-use hir_store::{ExpressionStore, Missing};
+use hir_defs::{
+    Bodies, Body, BodySourceMap, GenericParams, PlainDef, PlainParts, PlainSignature, Signatures,
+    Tables, TypeOrConstParamData, TypeParamData, TypeParamProvenance,
+};
+use hir_node::{Expr, Int, Literal, TypeRef, TypeRefKind};
+use hir_store::{ExpressionStore, ExpressionStoreBuilder, ExpressionStoreSourceMap, Missing};
+use std::alloc::{AllocError, Global};
 use std::test::Fail;
 
-/// A definition of each kind, of this number.
-fn defs(number: u32) -> [GenericDefId; 9] {
-    [
-        GenericDefId::AdtId(AdtId::EnumId(EnumId::from_raw(number))),
-        GenericDefId::AdtId(AdtId::StructId(StructId::from_raw(number))),
-        GenericDefId::AdtId(AdtId::UnionId(UnionId::from_raw(number))),
-        GenericDefId::ConstId(ConstId::from_raw(number)),
-        GenericDefId::FunctionId(FunctionId::from_raw(number)),
-        GenericDefId::ImplId(ImplId::from_raw(number)),
-        GenericDefId::StaticId(StaticId::from_raw(number)),
-        GenericDefId::TraitId(TraitId::from_raw(number)),
-        GenericDefId::TypeAliasId(TypeAliasId::from_raw(number)),
-    ]
+/// A store with its source map.
+type Made = (Box<ExpressionStore>, Box<ExpressionStoreSourceMap>);
+
+/// Adds this many types `!`.
+fn add_types(types: &mut Arena<TypeRefKind, TypeRef>, count: u32) -> Result<(), Fail> {
+    for _ in 0..count {
+        add(types, TypeRef::Never)?;
+    }
+    Ok(())
 }
 
-/// How many parameters those of number 4 have, and how many types their stores: a constant and a static have no parameters.
-const SIZES: &[(usize, usize)] = &[
-    (1, 3),
-    (1, 2),
-    (1, 1),
-    (0, 2),
-    (1, 1),
-    (1, 2),
-    (0, 3),
-    (1, 3),
-    (1, 4),
-];
+/// Adds this many types `!`, and the literal `1` as the root where that is asked.
+fn build(builder: &mut ExpressionStoreBuilder, types: u32, has_one: bool) -> Result<(), Fail> {
+    add_types(&mut builder.types, types)?;
+    if has_one {
+        add(
+            &mut builder.exprs,
+            Expr::Literal(Literal::Int(Int::new(1), None)),
+        )?;
+        taken(builder.push_root(Idx::from_raw(0)))?;
+    }
+    Ok(())
+}
+
+/// The store of this many types `!`, and of the literal `1` as the root where that is asked.
+fn store(alloc: Global, types: u32, has_one: bool) -> Result<Made, Fail> {
+    let mut builder = in_a_box(alloc, ExpressionStoreBuilder::new(alloc))?;
+    build(&mut builder, types, has_one)?;
+    in_boxes(alloc, Box::into_inner(builder).finish())
+}
+
+/// The type parameter `T`.
+fn type_t(alloc: Global) -> Result<TypeOrConstParamData, AllocError> {
+    let name = Name::new(alloc, "T")?;
+    Ok(TypeOrConstParamData::from(TypeParamData {
+        name: Some(name),
+        default: None,
+        provenance: TypeParamProvenance::TypeParamList,
+    }))
+}
+
+/// One type parameter `T`.
+fn generics(alloc: Global) -> Result<Box<GenericParams>, Fail> {
+    let mut types = in_a_box(alloc, Arena::new(alloc))?;
+    add(&mut types, type_t(alloc)?)?;
+    let params = GenericParams::new(Box::into_inner(types), Arena::new(alloc), Seq::new(alloc));
+    Ok(in_a_box(alloc, params)?)
+}
+
+/// Gives trait 4 a signature with one type parameter, over three types.
+fn add_trait(tables: &mut Tables, alloc: Global) -> Result<(), Fail> {
+    let generic_params = generics(alloc)?;
+    let (store, map) = store(alloc, 3, false)?;
+    let signature = PlainSignature::new(PlainParts {
+        generic_params: Box::into_inner(generic_params),
+        store: Box::into_inner(store),
+    });
+    let (signature, map) = Box::into_inner(with(alloc, signature, map)?);
+    taken(tables.add_plain(PlainDef::Trait(TraitId::from_raw(4)), signature, map))
+}
+
+/// Where the `self` of the tests is written.
+fn written() -> InFile<SelfParamPtr> {
+    let node = SyntaxNodePtr {
+        kind: 7,
+        range: TextRange { start: 1, end: 5 },
+    };
+    InFile {
+        file_id: HirFileId::from_raw(2),
+        value: AstPtr::new(node),
+    }
+}
+
+/// Gives function 4 the body `1`, and a source map that knows where `self` is written.
+fn add_body(tables: &mut Tables, alloc: Global) -> Result<(), Fail> {
+    let (store, map) = store(alloc, 0, true)?;
+    let map = BodySourceMap::new(Box::into_inner(map), Some(written()));
+    let map = in_a_box(alloc, map)?;
+    let body = Body::new(alloc, Box::into_inner(store), Seq::new(alloc), None);
+    let (body, map) = Box::into_inner(with(alloc, body, map)?);
+    taken(tables.add_body(
+        DefWithBodyId::FunctionId(FunctionId::from_raw(4)),
+        body,
+        map,
+    ))
+}
 
 /// How many types the store has.
 fn count(store: &ExpressionStore) -> usize {
@@ -44,7 +108,10 @@ fn count(store: &ExpressionStore) -> usize {
 
 /// How many parameters the definition has by the three ways to look them up, how many types its store has by the two that answer it,
 /// and whether there are no predicates, and no source of type 0 is known.
-fn generics<T: Signatures>(tables: &T, def: &GenericDefId) -> Result<([usize; 5], bool), Missing> {
+fn generics_of<T: Signatures>(
+    tables: &T,
+    def: &GenericDefId,
+) -> Result<([usize; 5], bool), Missing> {
     let alone = GenericParams::of(tables, *def)?;
     let (beside, store) = GenericParams::with_store(tables, *def)?;
     let (params, same_store, map) = GenericParams::with_source_map(tables, *def)?;
@@ -57,78 +124,6 @@ fn generics<T: Signatures>(tables: &T, def: &GenericDefId) -> Result<([usize; 5]
     ];
     let is_bare = params.has_no_predicates() && map.type_syntax(Idx::from_raw(0)).is_err();
     Ok((sizes, is_bare))
-}
-
-/// Whether the definitions of number 4 have parameters and types of those sizes.
-fn are_found<T: Signatures>(tables: &T) -> bool {
-    for (def, (params, types)) in defs(4).iter().zip(SIZES) {
-        let wanted = ([*params, *params, *params, *types, *types], true);
-        if generics(tables, def) != Ok(wanted) {
-            return false;
-        }
-    }
-    true
-}
-
-/// Whether the definitions of number 9 are missing.
-fn are_missing<T: Signatures>(tables: &T) -> bool {
-    for def in &defs(9) {
-        if generics(tables, def) != Err(Missing::Signature(*def)) {
-            return false;
-        }
-    }
-    true
-}
-
-/// What a store has: how many types by each way to look it up, whether expression 0 is there, and whether a source of type 0 or of
-/// expression 0 is known.
-fn contents(
-    tables: &Tables,
-    owner: &ExpressionStoreOwnerId,
-) -> Result<(usize, usize, bool, bool), Missing> {
-    let alone = ExpressionStore::of(tables, *owner)?;
-    let (store, map) = ExpressionStore::with_source_map(tables, *owner)?;
-    let has_source = map.type_syntax(Idx::from_raw(0)).is_ok()
-        || map.expr_syntax(Idx::from_raw(0)).is_ok();
-    let has_expr = store.has_expr(Idx::from_raw(0));
-    Ok((count(alone), count(store), has_expr, has_source))
-}
-
-/// The signature and the body of this function, and the fields of this struct.
-fn owners(number: u32) -> [ExpressionStoreOwnerId; 3] {
-    [
-        ExpressionStoreOwnerId::Signature(GenericDefId::FunctionId(FunctionId::from_raw(number))),
-        ExpressionStoreOwnerId::Body(DefWithBodyId::FunctionId(FunctionId::from_raw(number))),
-        ExpressionStoreOwnerId::VariantFields(VariantId::StructId(StructId::from_raw(number))),
-    ]
-}
-
-/// What the stores have of the signature and the body of function 4, and of the fields of struct 4.
-const CONTENTS: &[(usize, usize, bool, bool)] = &[
-    (1, 1, false, false),
-    (0, 0, true, false),
-    (5, 5, false, false),
-];
-
-/// What is missing where the owner is absent.
-fn missing(owner: &ExpressionStoreOwnerId) -> Missing {
-    match owner {
-        ExpressionStoreOwnerId::Signature(def) => Missing::Signature(*def),
-        ExpressionStoreOwnerId::Body(def) => Missing::Body(*def),
-        ExpressionStoreOwnerId::VariantFields(variant) => Missing::Fields(*variant),
-    }
-}
-
-/// Whether the stores of number 4 have these contents, and those of number 9 are missing.
-fn are_owned(tables: &Tables) -> bool {
-    let mut are = true;
-    for (owner, wanted) in owners(4).iter().zip(CONTENTS) {
-        are = are && contents(tables, owner) == Ok(*wanted);
-    }
-    for owner in &owners(9) {
-        are = are && contents(tables, owner) == Err(missing(owner));
-    }
-    are
 }
 
 /// The roots of the body by the two ways to look it up, whether its source map knows where `self` is written, and whether the map and
@@ -148,10 +143,22 @@ fn roots<T: Bodies>(tables: &T, def: &DefWithBodyId) -> Result<(u32, u32, bool, 
 }
 
 #[test]
-fn parameters_stores_and_bodies(rt: HostRuntime) -> Result<(), Fail> {
-    let tables: Box<Tables> = filled(rt.alloc())?;
-    let (are_found, are_missing) = (are_found(&*tables), are_missing(&*tables));
-    let are_owned = are_owned(&tables);
+fn parameters_with_their_store(rt: HostRuntime) -> Result<(), Fail> {
+    let mut tables = Box::new(rt.alloc(), Tables::new(rt.alloc()))?;
+    add_trait(&mut tables, rt.alloc())?;
+    let found = generics_of(&*tables, &GenericDefId::TraitId(TraitId::from_raw(4)));
+    let absent = GenericDefId::TraitId(TraitId::from_raw(9));
+    let missed = generics_of(&*tables, &absent);
+    std::mem::drop(tables);
+    assert!(&rt; found == Ok(([1, 1, 1, 3, 3], true)));
+    assert!(&rt; missed == Err(Missing::Signature(absent)));
+    Ok(())
+}
+
+#[test]
+fn bodies_with_their_source_map(rt: HostRuntime) -> Result<(), Fail> {
+    let mut tables = Box::new(rt.alloc(), Tables::new(rt.alloc()))?;
+    add_body(&mut tables, rt.alloc())?;
     let found = roots(
         &*tables,
         &DefWithBodyId::FunctionId(FunctionId::from_raw(4)),
@@ -159,7 +166,6 @@ fn parameters_stores_and_bodies(rt: HostRuntime) -> Result<(), Fail> {
     let absent = DefWithBodyId::FunctionId(FunctionId::from_raw(9));
     let missed = roots(&*tables, &absent);
     std::mem::drop(tables);
-    assert!(&rt; are_found && are_missing && are_owned);
     assert!(&rt; found == Ok((0, 0, true, true)));
     assert!(&rt; missed == Err(Missing::Body(absent)));
     Ok(())

@@ -1,6 +1,6 @@
-//! Bodies: which parts are refused, with which fault, what comes back, and what an accepted body answers.
+//! Bodies: parts that are refused come back as they were given, and what an accepted body gives is in its store.
 use crate::memory::push;
-use crate::trees::{self, BindingOf, ExprOf, PatOf, Tree};
+use crate::trees::{self, BindingOf, One, PatOf, Tree};
 use hir_base::{Idx, Seq};
 use hir_items::{Body, BodyFault, Param, RefusedBody, body_laws};
 use hir_node::{Expr, Int, Literal, Pat, PatId};
@@ -10,19 +10,11 @@ use std::test::Fail;
 /// The numbers of a parameter and of what the user wrote of it.
 type Numbers = (u32, u32);
 
-/// The literal `1` as the root.
-const ONE: Tree = Tree {
-    bindings: &[],
-    pats: &[],
-    exprs: &[ExprOf::One],
-    roots: Some(&[0]),
-};
-
 /// A pattern `_`, and `1` as the root.
 const WILD: Tree = Tree {
     bindings: &[],
     pats: &[PatOf::Wild],
-    exprs: &[ExprOf::One],
+    exprs: &[One],
     roots: Some(&[0]),
 };
 
@@ -30,23 +22,15 @@ const WILD: Tree = Tree {
 const NO_ROOT: Tree = Tree {
     bindings: &[],
     pats: &[PatOf::Wild],
-    exprs: &[ExprOf::One],
+    exprs: &[One],
     roots: Some(&[]),
-};
-
-/// `let x = 1` as the root.
-const LET: Tree = Tree {
-    bindings: &[BindingOf("x")],
-    pats: &[PatOf::Bind(0, None)],
-    exprs: &[ExprOf::One, ExprOf::Let(0, 0)],
-    roots: Some(&[1]),
 };
 
 /// The pattern `1..`, and its `1` as the root.
 const RANGE: Tree = Tree {
     bindings: &[],
     pats: &[PatOf::RangeFrom(0)],
-    exprs: &[ExprOf::One],
+    exprs: &[One],
     roots: Some(&[0]),
 };
 
@@ -54,103 +38,51 @@ const RANGE: Tree = Tree {
 const NESTED: Tree = Tree {
     bindings: &[BindingOf("x")],
     pats: &[PatOf::Wild, PatOf::Bind(0, Some(0))],
-    exprs: &[ExprOf::One],
+    exprs: &[One],
     roots: Some(&[0]),
-};
-
-/// `let _ = 1`, which is a root, and `1` as the last root.
-const TWO_ROOTS: Tree = Tree {
-    bindings: &[],
-    pats: &[PatOf::Wild],
-    exprs: &[ExprOf::One, ExprOf::Let(0, 0), ExprOf::One],
-    roots: Some(&[1, 2]),
 };
 
 /// The bindings `self`, `copy` and `x`, a pattern `_`, and `1` as the root.
 const METHOD: Tree = Tree {
     bindings: &[BindingOf("self"), BindingOf("copy"), BindingOf("x")],
     pats: &[PatOf::Wild],
-    exprs: &[ExprOf::One],
+    exprs: &[One],
     roots: Some(&[0]),
 };
 
-/// The root, and whether bindings 0, 1 and 2 are that of `self`.
-type Answers = (u32, [bool; 3]);
+/// A tree, the parameters and `self`; and why the body is refused, where it is.
+type Case = (Tree, &'static [Numbers], Option<Numbers>, Option<BodyFault>);
 
-/// No binding is that of `self`.
-const NONE: [bool; 3] = [false, false, false];
-
-/// A tree, the parameters and `self`; and what the body answers, or why it is refused.
-type Case = (
-    Tree,
-    &'static [Numbers],
-    Option<Numbers>,
-    Result<Answers, BodyFault>,
-);
-
-/// Formals that lie under a formal or the last root, and such that don't; then what is absent, and what is accepted.
+/// A case of each fault, and such as are accepted, with `self` and without.
 const CASES: &[Case] = &[
-    (LET, &[(0, 0)], None, Err(BodyFault::ParamUnder(0))),
-    (RANGE, &[(0, 0)], None, Err(BodyFault::RootInParam)),
+    (NO_ROOT, &[(9, 9)], Some((5, 5)), Some(BodyFault::NoRoot)),
+    (
+        METHOD,
+        &[(0, 0)],
+        Some((0, 3)),
+        Some(BodyFault::SelfOutOfRange),
+    ),
+    (
+        WILD,
+        &[(0, 0), (9, 9)],
+        None,
+        Some(BodyFault::ParamOutOfRange(1)),
+    ),
     (
         WILD,
         &[(0, 0), (0, 0)],
         None,
-        Err(BodyFault::ParamRepeated(1)),
-    ),
-    (
-        NESTED,
-        &[(0, 0), (1, 1)],
-        None,
-        Err(BodyFault::ParamUnder(0)),
+        Some(BodyFault::ParamRepeated(1)),
     ),
     (
         NESTED,
         &[(1, 1), (0, 0)],
         None,
-        Err(BodyFault::ParamUnder(1)),
+        Some(BodyFault::ParamUnder(1)),
     ),
-    (NESTED, &[(1, 1)], None, Ok((0, NONE))),
-    // the formal is under the earlier root
-    (TWO_ROOTS, &[(0, 0)], None, Ok((2, NONE))),
-    // what the user wrote has to be there
-    (WILD, &[(0, 1)], None, Err(BodyFault::ParamOutOfRange(0))),
-    // the first fault by index
-    (
-        WILD,
-        &[(0, 0), (9, 9)],
-        None,
-        Err(BodyFault::ParamOutOfRange(1)),
-    ),
-    // the first fault by kind
-    (
-        WILD,
-        &[(0, 0), (0, 0), (9, 9)],
-        None,
-        Err(BodyFault::ParamOutOfRange(2)),
-    ),
-    (NO_ROOT, &[(9, 9)], Some((5, 5)), Err(BodyFault::NoRoot)),
-    (
-        WILD,
-        &[(9, 9)],
-        Some((5, 5)),
-        Err(BodyFault::SelfOutOfRange),
-    ),
-    // what the user wrote of `self` has to be there
-    (
-        METHOD,
-        &[(0, 0)],
-        Some((0, 3)),
-        Err(BodyFault::SelfOutOfRange),
-    ),
-    (
-        METHOD,
-        &[(0, 0)],
-        Some((0, 1)),
-        Ok((0, [true, true, false])),
-    ),
-    (METHOD, &[], None, Ok((0, NONE))),
-    (ONE, &[], None, Ok((0, NONE))),
+    (RANGE, &[(0, 0)], None, Some(BodyFault::RootInParam)),
+    (METHOD, &[(0, 0)], Some((0, 1)), None),
+    (NESTED, &[(1, 1)], None, None),
 ];
 
 /// The parameter of these numbers.
@@ -207,42 +139,48 @@ fn has_self(body: &Body) -> bool {
 
 /// What tests ask of a body that is accepted, and of one that is refused.
 trait Answered {
-    /// Whether it is what is wanted, and its parts are there, or come back, as they were given.
-    fn is_wanted(&self, case: &Case) -> bool;
+    /// Whether it is what is wanted, and its parts are there, or come back, as they were given. Where memory was refused, that is the
+    /// error.
+    fn is_wanted(&self, case: &Case) -> Result<bool, BodyFault>;
 }
 
 /// That it equals itself is asked too; that it has no fault is a fact of every body.
 impl Answered for Body {
-    fn is_wanted(&self, case: &Case) -> bool {
+    fn is_wanted(&self, case: &Case) -> Result<bool, BodyFault> {
         let (_, params, self_param, wanted) = case;
         self.has_no_fault();
-        let of_self = [
-            self.is_any_self_param(Idx::from_raw(0)),
-            self.is_any_self_param(Idx::from_raw(1)),
-            self.is_any_self_param(Idx::from_raw(2)),
-        ];
-        *wanted == Ok((self.root_expr().into_raw(), of_self))
-            && are(self.params(), params)
-            && self.self_param() == self_param.map(param)
-            && *value_of(self) == Expr::Literal(Literal::Int(Int::new(1), None))
-            && has_patterns(self)
-            && has_self(self)
-            && *self == *self
+        Ok(
+            wanted.is_none()
+                && are(self.params(), params)
+                && self.self_param() == self_param.map(param)
+                && *value_of(self) == Expr::Literal(Literal::Int(Int::new(1), None))
+                && has_patterns(self)
+                && has_self(self)
+                && *self == *self,
+        )
     }
 }
 
 impl Answered for RefusedBody {
-    fn is_wanted(&self, case: &Case) -> bool {
+    fn is_wanted(&self, case: &Case) -> Result<bool, BodyFault> {
         let (_, params, self_param, wanted) = case;
-        *wanted == Err(self.fault)
-            && are(self.params.as_slice(), params)
-            && self.self_param == self_param.map(param)
-            && self.store.has_expr(Idx::from_raw(0))
+        if self.fault == BodyFault::Memory {
+            return Err(BodyFault::Memory);
+        }
+        Ok(
+            *wanted == Some(self.fault)
+                && are(self.params.as_slice(), params)
+                && self.self_param == self_param.map(param)
+                && self.store.has_expr(Idx::from_raw(0)),
+        )
     }
 }
 
 /// Whether the outcome is the one that is wanted. It is said of any type, so that no large one is laid out here.
-fn answers<B: Answered + Drop, R: Answered + Drop>(outcome: Result<B, R>, case: &Case) -> bool {
+fn answers<B: Answered + Drop, R: Answered + Drop>(
+    outcome: Result<B, R>,
+    case: &Case,
+) -> Result<bool, BodyFault> {
     match outcome {
         Ok(body) => body.is_wanted(case),
         Err(refused) => refused.is_wanted(case),
@@ -256,11 +194,11 @@ fn is_answered(alloc: Global, case: &Case) -> Result<bool, Fail> {
     let params = listed(alloc, params)?;
     let self_param = self_param.map(param);
     let outcome = Body::new(alloc, Box::into_inner(store), params, self_param);
-    Ok(answers(outcome, case))
+    Ok(answers(outcome, case)?)
 }
 
 #[test]
-fn roots_faults_and_parts(rt: HostRuntime) -> Result<(), Fail> {
+fn faults_and_parts(rt: HostRuntime) -> Result<(), Fail> {
     body_laws::first_body_fault_is_one();
     body_laws::tops_are_there();
     body_laws::tops_lie_apart();

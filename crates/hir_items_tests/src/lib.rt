@@ -1,4 +1,5 @@
-//! The tests of `hir_items`, with the generic parameters of `hir_generics`, through the public surface, as a user would call it.
+//! What rows of text can't ask of `hir_items` and `hir_generics`: parts that come back, generic parameters one by one, orders from both
+//! ends, and parameters that are compared. What is accepted, and why not, is in the rows of `hir_rows`.
 #![tactic(auto)]
 
 #[cfg(test)]
@@ -8,14 +9,10 @@ mod data;
 #[cfg(test)]
 mod generics;
 #[cfg(test)]
-mod made;
-#[cfg(test)]
 mod memory;
 #[cfg(test)]
 mod params;
 #[cfg(test)]
 mod signatures;
-#[cfg(test)]
-mod texts;
 #[cfg(test)]
 mod trees;

@@ -2,7 +2,7 @@
 //! What is said here of any type is proved once, and lays out no type, however large it is.
 use hir_base::{Arena, ExactEq, Seq, TryClone};
 use std::alloc::{AllocError, AllocFailed, Global};
-use std::fmt::{Debug, Display};
+use std::fmt::Debug;
 use std::test::Fail;
 
 /// What is written in a test for a `T`.
@@ -78,18 +78,4 @@ pub fn first<T: Drop, U: Drop, R: Debug + Drop>(
 /// Whether a copy of the value is the same as it.
 pub fn copies<T: TryClone + ExactEq + Drop>(value: T) -> Result<bool, AllocError> {
     Ok(value.try_clone()?.is_same(&value))
-}
-
-/// Whether the texts of these values are those beside them.
-pub fn read_so<T: Display>(
-    alloc: Global,
-    values: &[(T, &'static str)],
-) -> Result<bool, AllocError> {
-    for (value, wanted) in values {
-        let text = format!(in alloc; "{value}")?;
-        if text.as_str() != *wanted {
-            return Ok(false);
-        }
-    }
-    Ok(true)
 }

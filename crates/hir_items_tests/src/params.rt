@@ -104,7 +104,7 @@ pub fn meets_for_a(alloc: Global) -> Result<WherePredicate, AllocError> {
 }
 
 /// Lifetime 0 outlives lifetime 1.
-pub fn outlives() -> WherePredicate {
+fn outlives() -> WherePredicate {
     WherePredicate::Lifetime {
         target: Idx::from_raw(0),
         bound: Idx::from_raw(1),

@@ -17,13 +17,8 @@ pub enum PatOf {
     RangeFrom(u32),
 }
 
-/// An expression.
-pub enum ExprOf {
-    /// The literal `1`.
-    One,
-    /// `let pattern = expression`.
-    Let(u32, u32),
-}
+/// The literal `1`.
+pub struct One;
 
 /// A binding of this name.
 pub struct BindingOf(pub &'static str);
@@ -35,7 +30,7 @@ pub struct Never;
 pub struct Tree {
     pub bindings: &'static [BindingOf],
     pub pats: &'static [PatOf],
-    pub exprs: &'static [ExprOf],
+    pub exprs: &'static [One],
     /// Its roots, where there is a list of them.
     pub roots: Option<&'static [u32]>,
 }
@@ -77,15 +72,9 @@ impl Written<Pat> for PatOf {
     }
 }
 
-impl Written<Expr> for ExprOf {
+impl Written<Expr> for One {
     fn made(&self, _: Global) -> Result<Expr, AllocError> {
-        Ok(match self {
-            ExprOf::One => Expr::Literal(Literal::Int(Int::new(1), None)),
-            ExprOf::Let(pat, value) => Expr::Let {
-                pat: Idx::from_raw(*pat),
-                expr: Idx::from_raw(*value),
-            },
-        })
+        Ok(Expr::Literal(Literal::Int(Int::new(1), None)))
     }
 }
 

@@ -1,20 +1,12 @@
-//! The tests of `hir_scope` through its public surface, as a user would call it: bodies and signatures built of steps, their scopes, what
-//! stands along the chain of each expression, and what a name means there. A test in which a growth is refused ends with that error.
+//! What rows of text can't ask of `hir_scope`: what tables lack, the same call again where memory was refused, scopes that differ, the
+//! iterators call by call, and trees 1,000,000 deep. What names mean is in the rows of `hir_rows`.
 #![tactic(auto)]
 
 #[cfg(test)]
-mod asks;
+mod again;
 #[cfg(test)]
-mod build;
+mod deep;
 #[cfg(test)]
-mod kinds;
+mod iterators;
 #[cfg(test)]
 mod lookups;
-#[cfg(test)]
-mod made;
-#[cfg(test)]
-mod nodes;
-#[cfg(test)]
-mod rows;
-#[cfg(test)]
-mod trees;

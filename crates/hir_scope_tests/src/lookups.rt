@@ -1,37 +1,12 @@
-//! The scopes of definitions, looked up in tables: of what is there, and what is answered where it isn't.
-use crate::build::{self, Step};
-use crate::nodes::ExprStep;
+//! What is answered for definitions that tables lack. What is there is asked in rows.
+use example_bodies::local;
 use hir_base::{AdtId, DefWithBodyId, FunctionId, GenericDefId, Seq, StructId, TraitId, VariantId};
-use hir_defs::{
-    Body, BodySourceMap, FieldsShape, GenericParams, PlainDef, PlainParts, PlainSignature, Tables,
-    VariantFields, VariantParts,
-};
+use hir_defs::{Body, BodySourceMap, Tables};
 use hir_scope::{ExprScopes, ScopesFault};
-use hir_store::{ExpressionStore, ExpressionStoreSourceMap};
+use hir_store::{ExpressionStore, ExpressionStoreBuilder, ExpressionStoreSourceMap};
 use std::alloc::{AllocError, AllocFailed, Global};
 use std::fmt::Debug;
 use std::test::Fail;
-
-/// A path, which is the root.
-const ONE: &[Step] = &[Step::Expr(ExprStep::Path), Step::Root(0)];
-
-/// Two paths, which are roots.
-const TWO: &[Step] = &[
-    Step::Expr(ExprStep::Path),
-    Step::Root(0),
-    Step::Expr(ExprStep::Path),
-    Step::Root(1),
-];
-
-/// Three paths, which are roots.
-const THREE: &[Step] = &[
-    Step::Expr(ExprStep::Path),
-    Step::Root(0),
-    Step::Expr(ExprStep::Path),
-    Step::Root(1),
-    Step::Expr(ExprStep::Path),
-    Step::Root(2),
-];
 
 /// Whether the value was taken: without it, where it is handed back.
 fn taken<T: Drop>(outcome: Result<(), AllocFailed<T>>) -> Result<(), Fail> {
@@ -60,48 +35,22 @@ fn in_a_box<T: Drop, R: Debug + Drop>(
     Ok(Box::new(alloc, value)?)
 }
 
-/// The store of these steps, with its source map.
-fn store(
-    alloc: Global,
-    steps: &[Step],
-) -> Result<(Box<ExpressionStore>, Box<ExpressionStoreSourceMap>), Fail> {
-    let builder = build::built(alloc, steps)?;
+/// The store of a path, which is the root, with its source map.
+fn store(alloc: Global) -> Result<(Box<ExpressionStore>, Box<ExpressionStoreSourceMap>), Fail> {
+    let mut builder = Box::new(alloc, ExpressionStoreBuilder::new(alloc))?;
+    let root = local(alloc, &mut builder, "a")?;
+    taken(builder.push_root(root))?;
     in_boxes(alloc, Box::into_inner(builder).finish())
 }
 
 /// Gives function 4 a body.
 fn add_body(tables: &mut Tables, alloc: Global) -> Result<(), Fail> {
-    let (store, map) = store(alloc, ONE)?;
+    let (store, map) = store(alloc)?;
     let body = Body::new(alloc, Box::into_inner(store), Seq::new(alloc), None);
     let body = in_a_box(alloc, body)?;
     let map = BodySourceMap::new(Box::into_inner(map), None);
     let id = DefWithBodyId::FunctionId(FunctionId::from_raw(4));
     taken(tables.add_body(id, Box::into_inner(body), map))
-}
-
-/// Gives trait 4 a signature.
-fn add_signature(tables: &mut Tables, alloc: Global) -> Result<(), Fail> {
-    let (store, map) = store(alloc, TWO)?;
-    let signature = PlainSignature::new(PlainParts {
-        generic_params: GenericParams::empty(alloc),
-        store: Box::into_inner(store),
-    });
-    let signature = in_a_box(alloc, signature)?;
-    let def = PlainDef::Trait(TraitId::from_raw(4));
-    taken(tables.add_plain(def, Box::into_inner(signature), Box::into_inner(map)))
-}
-
-/// Gives struct 4 fields.
-fn add_fields(tables: &mut Tables, alloc: Global) -> Result<(), Fail> {
-    let (store, map) = store(alloc, THREE)?;
-    let fields = VariantFields::new(VariantParts {
-        shape: FieldsShape::Record,
-        fields: Seq::new(alloc),
-        store: Box::into_inner(store),
-    });
-    let fields = in_a_box(alloc, fields)?;
-    let id = VariantId::StructId(StructId::from_raw(4));
-    taken(tables.add_fields(id, Box::into_inner(fields), Box::into_inner(map)))
 }
 
 /// How many scopes there are, or why there are none.
@@ -140,33 +89,14 @@ fn in_fields(tables: &Tables, alloc: Global, number: u32) -> Count {
     count(ExprScopes::variant_scopes(alloc, tables, fields_of(number)))
 }
 
-/// The count, or a failed test where memory was refused.
-fn known(count: Count) -> Result<Count, Fail> {
-    if count == Err(ScopesFault::Memory) {
-        return Err(Fail::from(ScopesFault::Memory));
-    }
-    Ok(count)
-}
-
 /// How many scopes the body of the function, the signature of the trait and the fields of the struct of this number have.
-fn counts(tables: &Tables, alloc: Global, number: u32) -> Result<[Count; 4], Fail> {
-    Ok([
-        known(in_body(tables, alloc, number))?,
-        known(of_body(tables, alloc, number))?,
-        known(in_signature(tables, alloc, number))?,
-        known(in_fields(tables, alloc, number))?,
-    ])
-}
-
-#[test]
-fn what_is_there_has_scopes(rt: HostRuntime) -> Result<(), Fail> {
-    let mut tables = Box::new(rt.alloc(), Tables::new(rt.alloc()))?;
-    add_body(&mut tables, rt.alloc())?;
-    add_signature(&mut tables, rt.alloc())?;
-    add_fields(&mut tables, rt.alloc())?;
-    let found = counts(&tables, rt.alloc(), 4)?;
-    assert!(&rt; found == [Ok(1), Ok(1), Ok(3), Ok(4)]);
-    Ok(())
+fn counts(tables: &Tables, alloc: Global, number: u32) -> [Count; 4] {
+    [
+        in_body(tables, alloc, number),
+        of_body(tables, alloc, number),
+        in_signature(tables, alloc, number),
+        in_fields(tables, alloc, number),
+    ]
 }
 
 #[test]
@@ -174,7 +104,7 @@ fn what_is_not_there_is_missing(rt: HostRuntime) -> Result<(), Fail> {
     let mut tables = Box::new(rt.alloc(), Tables::new(rt.alloc()))?;
     add_body(&mut tables, rt.alloc())?;
     let missing = Err(ScopesFault::Missing);
-    let found = counts(&tables, rt.alloc(), 5)?;
+    let found = counts(&tables, rt.alloc(), 5);
     assert!(&rt; found == [missing; 4]);
     let adt = GenericDefId::AdtId(AdtId::StructId(StructId::from_raw(4)));
     assert!(&rt; count(ExprScopes::sig_expr_scopes(rt.alloc(), &tables, adt)) == missing);

@@ -1,9 +1,8 @@
 //! Builders, made of steps. A tree is a list of steps, so that few functions are lent a builder: its type is laid out in each anew.
-use crate::nodes::{ExprStep, PatStep, TypeStep, Written};
 use crate::say::Said;
 use crate::{nodes, say};
 use hir_base::{Arena, ArenaFault, Idx};
-use hir_node::{Expr, LifetimeRef};
+use hir_node::{Expr, LifetimeRef, Pat, TypeRef};
 use hir_store::ExpressionStoreBuilder;
 use std::alloc::{AllocError, AllocFailed, Global};
 
@@ -13,9 +12,18 @@ pub enum Step {
     Begin,
     /// This expression is a root.
     Root(u32),
-    Expr(ExprStep),
-    Pat(PatStep),
-    Type(TypeStep),
+    /// The path `a`.
+    Path,
+    /// The tuple of these expressions.
+    Tuple(&'static [u32]),
+    /// `let pattern = expression`
+    Let(u32, u32),
+    /// The pattern `_`.
+    Wild,
+    /// The type `!`.
+    Never,
+    /// The type `a`.
+    TypePath,
     /// A binding of this name.
     Binding(&'static str),
     /// A label of this name.
@@ -28,30 +36,6 @@ pub enum Step {
     Chain(u32),
     Said(Said),
 }
-
-/// The path `a`.
-pub const PATH: Step = Step::Expr(ExprStep::Path(Written::A));
-
-/// The pattern `_`.
-pub const WILD: Step = Step::Pat(PatStep::Wild);
-
-/// The type `!`.
-pub const NEVER: Step = Step::Type(TypeStep::Never);
-
-/// `match s { opt @ Some(unit) => M, _ => () }` in the numbers of the worked row: patterns `unit`, `Some(unit)`, `opt @ ..`, `_`.
-pub const MATCH: &[Step] = &[
-    Step::Binding("opt"),
-    Step::Binding("unit"),
-    Step::Pat(PatStep::Bind(1)),
-    Step::Pat(PatStep::Around(0)),
-    Step::Pat(PatStep::At(0, 1)),
-    WILD,
-    PATH,
-    PATH,
-    Step::Expr(ExprStep::Tuple(&[])),
-    Step::Expr(ExprStep::Match(0, &[(2, 1), (3, 2)])),
-    Step::Root(3),
-];
 
 /// Whether the item was added: without the item, where it is handed back.
 fn added<I: Drop, T: Drop>(outcome: Result<I, (ArenaFault, T)>) -> Result<(), ArenaFault> {
@@ -88,7 +72,7 @@ fn chained(alloc: Global, number: u32, is_chain: bool) -> Result<Expr, AllocErro
     if is_chain && number > 0 {
         Ok(link(number))
     } else {
-        nodes::expr(alloc, &ExprStep::Path(Written::A))
+        nodes::path(alloc).map(Expr::Path)
     }
 }
 
@@ -115,16 +99,22 @@ fn add(b: &mut ExpressionStoreBuilder, alloc: Global, step: &Step) -> Result<(),
             Ok(())
         }
         Step::Root(node) => taken(b.push_root(Idx::from_raw(*node))),
-        Step::Expr(step) => match nodes::expr(alloc, step) {
+        Step::Path => match nodes::path(alloc) {
+            Ok(path) => added(b.alloc_expr(Expr::Path(path))),
+            Err(_) => Err(ArenaFault::Memory),
+        },
+        Step::Tuple(numbers) => match nodes::tuple(alloc, numbers) {
             Ok(expr) => added(b.alloc_expr(expr)),
             Err(_) => Err(ArenaFault::Memory),
         },
-        Step::Pat(step) => match nodes::pat(alloc, step) {
-            Ok(pat) => added(b.alloc_pat(pat)),
-            Err(_) => Err(ArenaFault::Memory),
-        },
-        Step::Type(step) => match nodes::type_ref(alloc, step) {
-            Ok(type_ref) => added(b.alloc_type(type_ref)),
+        Step::Let(pat, expr) => added(b.alloc_expr(Expr::Let {
+            pat: Idx::from_raw(*pat),
+            expr: Idx::from_raw(*expr),
+        })),
+        Step::Wild => added(b.alloc_pat(Pat::Wild)),
+        Step::Never => added(b.alloc_type(TypeRef::Never)),
+        Step::TypePath => match nodes::path(alloc) {
+            Ok(path) => added(b.alloc_type(TypeRef::Path(path))),
             Err(_) => Err(ArenaFault::Memory),
         },
         Step::Binding(text) => match nodes::binding(alloc, text) {
@@ -138,7 +128,7 @@ fn add(b: &mut ExpressionStoreBuilder, alloc: Global, step: &Step) -> Result<(),
         Step::Static => added(b.alloc_lifetime(LifetimeRef::Static)),
         Step::Replaced(count) => replace(b, alloc, *count, false),
         Step::Chain(count) => replace(b, alloc, *count, true),
-        Step::Said(said) => say::say(b, alloc, said),
+        Step::Said(said) => say::say(b, said),
     }
 }
 

@@ -1,5 +1,5 @@
-//! The tests of `hir_store` through its public surface, as a user would call it: builders that are refused and what is handed back,
-//! accepted stores, their walks and root searches. A test in which a growth is refused ends with that error.
+//! What rows of text can't ask of `hir_store`: builders that come back or are compared, an arena that is replaced, a long chain, sets of
+//! nodes, and texts of faults. What stores answer is in the rows of `hir_rows`. A test in which a growth is refused ends with that error.
 #![tactic(auto)]
 
 #[cfg(test)]
@@ -19,16 +19,6 @@ mod refused;
 #[cfg(test)]
 mod say;
 #[cfg(test)]
-mod searches;
-#[cfg(test)]
-mod source_maps;
-#[cfg(test)]
 mod texts;
 #[cfg(test)]
-mod told;
-#[cfg(test)]
 mod under;
-#[cfg(test)]
-mod walks;
-#[cfg(test)]
-mod without_nodes;

@@ -59,11 +59,17 @@ fn both<T: Drop, U: Drop>(
 }
 
 /// Whether the builder of these steps is refused by this fault, and comes back as it was: as another one of the same steps.
+/// Where memory is refused, that is the error, and no wrong fault.
 pub fn is_refused(alloc: Global, steps: &[Step], fault: FinishFault) -> Result<bool, ArenaFault> {
     match both(build::built(alloc, steps), finished(alloc, steps)) {
         Ok((wanted, outcome)) => match outcome {
             Ok(_) => Ok(false),
-            Err(refused) => Ok((refused.fault == fault) & (refused.builder == *wanted)),
+            Err(refused) => {
+                if refused.fault == FinishFault::Memory {
+                    return Err(ArenaFault::Memory);
+                }
+                Ok((refused.fault == fault) & (refused.builder == *wanted))
+            }
         },
         Err(fault) => Err(fault),
     }

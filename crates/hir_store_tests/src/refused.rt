@@ -1,90 +1,62 @@
 //! Builders that are refused: each by its first fault, and the builder handed back has what a second one has that was built by the
-//! same calls.
-use crate::build::{NEVER, PATH, Step};
+//! same calls. The faults of other nodes are in rows; arenas that are replaced stand here alone.
+use crate::build::Step;
 use crate::made;
-use crate::nodes::{ExprStep, TypeStep, Written};
 use hir_base::Idx;
 use hir_store::{FinishFault, NodeId};
 use std::test::Fail;
 
 /// A path without a list of roots.
-const NO_ROOTS: &[Step] = &[PATH];
+const NO_ROOTS: &[Step] = &[Step::Path];
 
 /// A tuple of expression 5, which isn't there.
-const OUT_OF_RANGE: &[Step] = &[Step::Begin, Step::Expr(ExprStep::Tuple(&[5]))];
-
-/// The type `!`, and one with a bound by it, which names what is no path.
-const BOUND_ON_NEVER: &[Step] = &[NEVER, Step::Type(TypeStep::Bounded(0))];
-
-/// A function type without types.
-const NO_RETURN_TYPE: &[Step] = &[Step::Type(TypeStep::NoTypes)];
-
-/// A path whose list of arguments is said to begin with a self type, and is empty.
-const NO_SELF_ARGUMENT: &[Step] = &[
-    Step::Begin,
-    Step::Expr(ExprStep::Path(Written::Nested(0, false))),
-];
-
-/// A path whose list lacks its self type 100 bindings deep. With its self type it is accepted.
-const NO_SELF_ARGUMENT_DEEP_DOWN: &[Step] = &[
-    Step::Begin,
-    Step::Expr(ExprStep::Path(Written::Nested(100, false))),
-];
-
-/// A path of two segments with one list of arguments.
-const ONE_LIST_FOR_TWO: &[Step] = &[
-    Step::Begin,
-    Step::Expr(ExprStep::Path(Written::OneListForTwo)),
-];
-
-/// A path of one segment that isn't a plain one and has no list of arguments. A list for the segment is accepted.
-const NO_LIST_FOR_ONE: &[Step] = &[
-    Step::Begin,
-    Step::Expr(ExprStep::Path(Written::NoListForOne)),
-];
+const OUT_OF_RANGE: &[Step] = &[Step::Begin, Step::Tuple(&[5])];
 
 /// A path, and a tuple that holds it twice.
-const HELD_TWICE: &[Step] = &[Step::Begin, PATH, Step::Expr(ExprStep::Tuple(&[0, 0]))];
+const HELD_TWICE: &[Step] = &[Step::Begin, Step::Path, Step::Tuple(&[0, 0])];
 
 /// A tuple that holds itself.
-const HOLDS_ITSELF: &[Step] = &[Step::Begin, Step::Expr(ExprStep::Tuple(&[0]))];
+const HOLDS_ITSELF: &[Step] = &[Step::Begin, Step::Tuple(&[0])];
 
 /// A path that is a root twice.
-const ROOT_TWICE: &[Step] = &[PATH, Step::Root(0), Step::Root(0)];
+const ROOT_TWICE: &[Step] = &[Step::Path, Step::Root(0), Step::Root(0)];
 
 /// A path and the tuple that holds it, both as roots.
-const ROOT_UNDER_ROOT: &[Step] = &[
-    PATH,
-    Step::Expr(ExprStep::Tuple(&[0])),
-    Step::Root(0),
-    Step::Root(1),
-];
+const ROOT_UNDER_ROOT: &[Step] = &[Step::Path, Step::Tuple(&[0]), Step::Root(0), Step::Root(1)];
 
 /// Three paths with the first as the root, and then an arena of one path.
-const ENDS_PAST_THE_ARENA: &[Step] = &[PATH, PATH, PATH, Step::Root(0), Step::Replaced(1)];
+const ENDS_PAST_THE_ARENA: &[Step] = &[
+    Step::Path,
+    Step::Path,
+    Step::Path,
+    Step::Root(0),
+    Step::Replaced(1),
+];
 
 /// Three paths with the last as the root, and then an arena of one path.
-const ROOT_PAST_THE_ARENA: &[Step] = &[PATH, PATH, PATH, Step::Root(2), Step::Replaced(1)];
+const ROOT_PAST_THE_ARENA: &[Step] = &[
+    Step::Path,
+    Step::Path,
+    Step::Path,
+    Step::Root(2),
+    Step::Replaced(1),
+];
 
 /// Three paths with the first as the root; then there is an arena of two, the second as a root too, and one path more.
 const ENDS_THAT_FALL: &[Step] = &[
-    PATH,
-    PATH,
-    PATH,
+    Step::Path,
+    Step::Path,
+    Step::Path,
     Step::Root(0),
     Step::Replaced(2),
     Step::Root(1),
-    PATH,
+    Step::Path,
 ];
 
-/// A fault that a refusal may name, of expression 0 or a type of this number, or of the root at this place of the list.
+/// A fault that a refusal may name, of expression 0, or of the root at this place of the list.
 enum Fault {
     NoRoots,
     IdOutOfRange,
-    NotAPath(u32),
-    NoReturnType(u32),
-    NoSelfArgument,
-    ArgumentLists,
     SharedChild,
     Cycle,
     RootRepeated(usize),
@@ -99,12 +71,6 @@ fn as_answered(fault: &Fault) -> FinishFault {
     match *fault {
         Fault::NoRoots => FinishFault::NoRoots,
         Fault::IdOutOfRange => FinishFault::IdOutOfRange(expr),
-        Fault::NotAPath(number) => FinishFault::NotAPath(NodeId::TypeRef(Idx::from_raw(number))),
-        Fault::NoReturnType(number) => FinishFault::NoReturnType(NodeId::TypeRef(Idx::from_raw(
-            number,
-        ))),
-        Fault::NoSelfArgument => FinishFault::NoSelfArgument(expr),
-        Fault::ArgumentLists => FinishFault::ArgumentLists(expr),
         Fault::SharedChild => FinishFault::SharedChild(expr),
         Fault::Cycle => FinishFault::Cycle(expr),
         Fault::RootRepeated(place) => FinishFault::RootRepeated(place),
@@ -117,12 +83,6 @@ fn as_answered(fault: &Fault) -> FinishFault {
 const REFUSED: &[(&[Step], Fault)] = &[
     (NO_ROOTS, Fault::NoRoots),
     (OUT_OF_RANGE, Fault::IdOutOfRange),
-    (BOUND_ON_NEVER, Fault::NotAPath(1)),
-    (NO_RETURN_TYPE, Fault::NoReturnType(0)),
-    (NO_SELF_ARGUMENT, Fault::NoSelfArgument),
-    (NO_SELF_ARGUMENT_DEEP_DOWN, Fault::NoSelfArgument),
-    (ONE_LIST_FOR_TWO, Fault::ArgumentLists),
-    (NO_LIST_FOR_ONE, Fault::ArgumentLists),
     (HELD_TWICE, Fault::SharedChild),
     (HOLDS_ITSELF, Fault::Cycle),
     (ROOT_TWICE, Fault::RootRepeated(1)),

@@ -1,9 +1,9 @@
-//! The texts of all faults of `finish` and of all that may be missing.
+//! The texts of what may be missing, and of the fault of `finish` that no text of lines makes.
 use hir_base::{
     BlockId, CrateId, DefWithBodyId, EnumVariantId, FunctionId, GenericDefId, Idx, LifetimeParamId,
     NamedDef, TypeOrConstParamId, TypeParamId, VariantId,
 };
-use hir_store::{FinishFault, Missing, NodeId};
+use hir_store::{FinishFault, Missing};
 use std::alloc::Global;
 use std::fmt::Display;
 use std::test::Fail;
@@ -15,43 +15,8 @@ fn is_shown_as<T: Display>(alloc: Global, value: &T, text: &str) -> Result<bool,
 }
 
 #[test]
-fn faults_of_nodes(rt: HostRuntime) -> Result<(), Fail> {
-    let expr = NodeId::Expr(Idx::from_raw(3));
-    let pat = NodeId::Pat(Idx::from_raw(4));
-    let type_ref = NodeId::TypeRef(Idx::from_raw(5));
-    let faults = [
-        (FinishFault::NoRoots, "NoRoots"),
-        (FinishFault::IdOutOfRange(expr), "IdOutOfRange ExprId(3)"),
-        (FinishFault::NotAPath(type_ref), "NotAPath TypeRefId(5)"),
-        (
-            FinishFault::NoReturnType(type_ref),
-            "NoReturnType TypeRefId(5)",
-        ),
-        (FinishFault::NoSelfArgument(pat), "NoSelfArgument PatId(4)"),
-        (FinishFault::ArgumentLists(pat), "ArgumentLists PatId(4)"),
-    ];
-    for (fault, text) in faults {
-        assert!(&rt; is_shown_as(rt.alloc(), &fault, text)?);
-    }
-    Ok(())
-}
-
-#[test]
-fn faults_of_the_graph(rt: HostRuntime) -> Result<(), Fail> {
-    let expr = NodeId::Expr(Idx::from_raw(3));
-    let pat = NodeId::Pat(Idx::from_raw(4));
-    let faults = [
-        (FinishFault::SharedChild(expr), "SharedChild ExprId(3)"),
-        (FinishFault::Cycle(pat), "Cycle PatId(4)"),
-        (FinishFault::RootOutOfRange(6), "RootOutOfRange 6"),
-        (FinishFault::RootRepeated(7), "RootRepeated 7"),
-        (FinishFault::RootUnderRoot(8), "RootUnderRoot 8"),
-        (FinishFault::RootEnds(9), "RootEnds 9"),
-        (FinishFault::Memory, "Memory"),
-    ];
-    for (fault, text) in faults {
-        assert!(&rt; is_shown_as(rt.alloc(), &fault, text)?);
-    }
+fn roots_that_end_past_the_arena(rt: HostRuntime) -> Result<(), Fail> {
+    assert!(&rt; is_shown_as(rt.alloc(), &FinishFault::RootEnds(9), "RootEnds 9")?);
     Ok(())
 }
 

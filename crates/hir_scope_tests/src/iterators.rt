@@ -1,0 +1,72 @@
+//! The scopes along a chain and the expressions that have a scope, item by item, to their end and behind it.
+use crate::again::of_body;
+use example_bodies::nested_closures;
+use hir_base::Idx;
+use hir_scope::ExprScopes;
+use std::test::Fail;
+
+/// Whether from `a` in `|x| |x| a` there are three scopes, the inner closure's first and the body's last, and none behind them.
+fn chain_ends(scopes: &ExprScopes) -> bool {
+    let inner = scopes.scope_for(Idx::from_raw(0));
+    let outer = scopes.scope_for(Idx::from_raw(1));
+    let around = scopes.scope_for(Idx::from_raw(2));
+    let mut chain = scopes.scope_chain(inner);
+    let found = [
+        chain.next(),
+        chain.next(),
+        chain.next(),
+        chain.next(),
+        chain.next(),
+    ];
+    inner.is_some()
+        && inner != outer
+        && outer != around
+        && found == [inner, outer, around, None, None]
+}
+
+/// Whether there is none from no scope.
+fn is_empty_from_none(scopes: &ExprScopes) -> bool {
+    scopes.scope_chain(None).next().is_none()
+}
+
+/// Whether the expressions 0, 1 and 2 have a scope, each the one that is asked for, and no other has one.
+fn are_scoped(scopes: &ExprScopes) -> bool {
+    let mut scoped = scopes.scope_by_expr().iter();
+    let mut are = true;
+    for number in 0..3 {
+        let id = Idx::from_raw(number);
+        are = are
+            && match scoped.next() {
+                Some((expr, scope)) => expr == id && Some(*scope) == scopes.scope_for(id),
+                None => false,
+            };
+    }
+    are && scoped.next().is_none() && scoped.next().is_none()
+}
+
+/// Whether the scope of `a` has one entry, the inner `x`.
+fn has_one_entry(scopes: &ExprScopes) -> bool {
+    let Some(scope) = scopes.scope_for(Idx::from_raw(0)) else {
+        return false;
+    };
+    match scopes.entries(scope) {
+        [entry] => entry.name().as_str() == "x" && entry.binding() == Idx::from_raw(1),
+        _ => false,
+    }
+}
+
+#[test]
+fn chains_maps_and_entries(rt: HostRuntime) -> Result<(), Fail> {
+    let body = Box::new(rt.alloc(), nested_closures(rt.alloc(), 2)?)?;
+    let scopes = of_body(rt.alloc(), &body)?;
+    let are_asked = [
+        chain_ends(&scopes),
+        is_empty_from_none(&scopes),
+        are_scoped(&scopes),
+        has_one_entry(&scopes),
+    ];
+    std::mem::drop(scopes);
+    std::mem::drop(body);
+    assert!(&rt; are_asked == [true; 4]);
+    Ok(())
+}
