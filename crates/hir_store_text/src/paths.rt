@@ -2,9 +2,7 @@
 
 use crate::missing::unknown;
 use hir_base::{ModPath, PathKind, Seq, TryClone};
-use hir_node::{
-    GenericArgs, Path, PathId, PathSegment, PathSegments, TraitBoundModifier, TypeBound,
-};
+use hir_node::{GenericArgs, Path, PathSegment, PathSegments, TraitBoundModifier};
 use hir_notation::{
     Answer, Stop, Words, join_args, next_bound, next_path, write_args, write_mod_path, write_path,
     write_segments,
@@ -128,21 +126,13 @@ fn write_segment(segment: Option<PathSegment<'_>>, answer: &mut Answer) -> Resul
     }
 }
 
-/// Whether a path has a place for each segment, or no places.
-fn has_a_place_each(path: &Path) -> bool {
-    match path {
-        Path::BarePath(_) | Path::LangItem(_, _) => true,
-        Path::Normal(path) => {
-            let path = path.get();
-            path.generic_args.len() == path.mod_path.segments().len()
-        }
-    }
-}
-
-/// `path PATH qualifier`
+/// `path PATH qualifier`, of a path that has a place for each segment, or no places.
 fn qualifier(alloc: Global, path: &Path, answer: &mut Answer) -> Result<(), Stop> {
-    if !has_a_place_each(path) {
-        return Ok(unknown(answer)?);
+    if let Path::Normal(normal) = path {
+        let normal = normal.get();
+        if normal.generic_args.len() != normal.mod_path.segments().len() {
+            return Ok(unknown(answer)?);
+        }
     }
     match path.qualifier(alloc)? {
         Some(path) => Ok(write_path(&path, answer)?),
@@ -197,14 +187,6 @@ fn sound(
     Ok(answer.yes_or_no(store.path_is_sound(&path))?)
 }
 
-/// What a bound names as a path.
-fn named_path(bound: &TypeBound) -> Option<PathId> {
-    match bound {
-        TypeBound::Path(id, _) | TypeBound::ForLifetime(_, id) => Some(*id),
-        TypeBound::Lifetime(_) | TypeBound::Use(_) | TypeBound::Error => None,
-    }
-}
-
 /// `bound-path BOUND`
 fn bound_path(
     alloc: Global,
@@ -214,13 +196,11 @@ fn bound_path(
 ) -> Result<(), Stop> {
     let bound = next_bound(words, alloc)?;
     words.end()?;
-    if let Some(id) = named_path(&bound) {
-        if !store.has_type(id.type_ref()) {
-            return Ok(unknown(answer)?);
-        }
-        if !store.has_path(id) {
-            return Ok(answer.word("none")?);
-        }
+    if !store.has_bound(&bound) {
+        return Ok(unknown(answer)?);
+    }
+    if !store.bound_names_path(&bound) {
+        return Ok(answer.word("none")?);
     }
     let Some((path, modifier)) = bound.as_path(store) else {
         return Ok(answer.word("none")?);
