@@ -1,3 +1,4 @@
 pub mod Numbered
 pub mod PlacesLemmas
+pub mod ShortListLemmas
 pub mod TableLemmas

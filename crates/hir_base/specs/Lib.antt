@@ -10,11 +10,13 @@ pub mod Laws
 pub mod Maps
 pub mod ModPath
 pub mod Name
+pub mod PlaceLends
 pub mod Places
 pub mod Precedence
 pub mod RawWords
 pub mod Seq
 pub mod ShortList
+pub mod ShortListLends
 pub mod Table
 pub mod TableLends
 pub mod Variants

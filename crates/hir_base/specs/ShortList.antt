@@ -1,5 +1,5 @@
 -- What a contract sees of the place where the items of a short list lie.
-use Rattle.std.specs.Prelude.{List, []}
+use Rattle.std.specs.Prelude.{ℕ, List, [], slice_set}
 use Rattle.hir_base.specs.declared.short_list.Place.{Place}
 use Rattle.hir_base.specs.declared.short_list.Place.TheVariants.{Nothing, One, Two, Three, Outside}
 
@@ -10,3 +10,11 @@ items_at (One items) = items
 items_at (Two items) = items
 items_at (Three items) = items
 items_at (Outside items) = items.value
+
+-- the place with this item at an index, and all others as they are
+abbrev pub with_item : {T : Type 0} → Place T → ℕ → T → Place T
+with_item Nothing at item = Nothing
+with_item (One items) at item = One (slice_set items at item)
+with_item (Two items) at item = Two (slice_set items at item)
+with_item (Three items) at item = Three (slice_set items at item)
+with_item (Outside items) at item = Outside (record items { value = slice_set items.value at item })

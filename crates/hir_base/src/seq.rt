@@ -37,6 +37,8 @@ impl<T> Model for Seq<T> {
 }
 
 impl<T> Seq<T> {
+    ghost use Rattle.hir_base.specs.Seq.{lends_slice};
+
     /// A list with no items. It takes its memory from `alloc`, and none yet.
     pub fn new(alloc: Global) -> Seq<T>
         ensures { result ≡ [] }
@@ -78,6 +80,14 @@ impl<T> Seq<T> {
         ensures { result.now ≡ self.now }
     {
         self.items.as_slice()
+    }
+
+    /// The items as a slice, to write to.
+    pub fn as_mut_slice(&mut self) -> &mut [T]
+        ensures* changes_items { sem 𝓛 (lends_slice T.row self.entry result) }
+        ensures value { result.now ≡ self.old }
+    {
+        self.items.as_mut_slice()
     }
 
     /// The number of items.

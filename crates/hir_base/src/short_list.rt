@@ -1,7 +1,8 @@
 //! Lists of few items, which lie in the value itself.
 //! `SmallVec` of the crate `smallvec` is the same in 32 bytes, which makes an expression and a pattern larger than all else in them.
-ghost use Rattle.std.specs.Prelude.{◌≡◌, ◌<◌, ◌≤◌, [], ◌∷◌, ◌++◌, length, slice_get, IfOk, IsOk, OnOk, OnErr, IsTrue, ◌↔◌, Some};
+ghost use Rattle.std.specs.Prelude.{◌≡◌, ◌<◌, ◌≤◌, [], ◌∷◌, ◌++◌, length, slice_get, slice_set, IfOk, IsOk, OnOk, OnErr, IsTrue, ◌↔◌, Some};
 ghost use Rattle.std.specs.Option.{option_copied};
+ghost use Rattle.std.specs.Borrow.{sem, Lends, Array};
 ghost use Rattle.std.specs.Cmp.Lexicographic.{pointwise, lists_per, lists_equiv};
 ghost use Rattle.std.specs.Hash as fed;
 ghost use Rattle.std.specs.Hash.{items_Alike};
@@ -13,7 +14,7 @@ use crate::{ExactEq, Seq, TryClone};
 use std::alloc::{AllocError, Global};
 use std::hash::{Hash, Hasher};
 use std::marker::Model;
-use std::ops::Index;
+use std::ops::{Index, IndexMut};
 use std::slice::Iter;
 
 /// The most items that lie in the value.
@@ -27,6 +28,35 @@ enum Place<T> {
     Two([T; 2]),
     Three([T; 3]),
     Outside(Box<Seq<T>>),
+}
+
+impl<T> Place<T> {
+    ghost use Rattle.hir_base.specs.ShortList.{items_at};
+    ghost use Rattle.hir_base.specs.PlaceLends.{lends_item};
+
+    // The item at this index, to write to.
+    fn item_mut(&mut self, at: usize) -> &mut T
+        requires { at < length (items_at self.old) }
+        ensures* changes_one { sem 𝓛 (lends_item T.row self.entry at result) }
+        ensures value { slice_get (items_at self.old) at ≡ Some result.now }
+    {
+        match self {
+            Place::Nothing => unreachable!(),
+            Place::One(items) => item_of(items.as_mut_slice(), at),
+            Place::Two(items) => item_of(items.as_mut_slice(), at),
+            Place::Three(items) => item_of(items.as_mut_slice(), at),
+            Place::Outside(items) => &mut items[at],
+        }
+    }
+}
+
+// The item of a slice at this index, to write to.
+fn item_of<T>(items: &mut [T], at: usize) -> &mut T
+    requires { at < length items.old }
+    ensures* changes_one { sem 𝓛 (Lends (Array T.row 0) T.row items.entry result (slice_set items.old at)) }
+    ensures value { slice_get items.old at ≡ Some result.now }
+{
+    &mut items[at]
 }
 
 /// A list that contracts see as its items, like a `Seq`.
@@ -185,6 +215,19 @@ impl<T> Index<usize> for ShortList<T> {
 
     fn index(&self, at: usize) -> &T {
         &self.as_slice()[at]
+    }
+}
+
+/// The item at an index, to write to: no other item changes.
+impl<T> IndexMut<usize> for ShortList<T> {
+    ghost use Rattle.hir_base.specs.ShortListLends.{lends_item};
+
+    fn index_mut(&mut self, at: usize) -> &mut T
+        requires { at < length self.old }
+        ensures* changes_one { sem 𝓛 (lends_item T.row self.entry at result) }
+        ensures value { slice_get self.old at ≡ Some result.now }
+    {
+        self.place.item_mut(at)
     }
 }
 

@@ -32,7 +32,10 @@ fn leaves_its_copy(seq: &mut Seq<u32>) -> Result<bool, AllocError> {
         return Ok(false);
     }
     seq[1] = 80;
-    Ok(was_same && seq[1] == 80 && !copy.is_same(seq))
+    seq.as_mut_slice().swap(0, 2);
+    let is_changed = seq.as_slice() == [9, 80, 7].as_slice();
+    seq.as_mut_slice().swap(0, 2);
+    Ok(was_same && is_changed && seq[1] == 80 && !copy.is_same(seq))
 }
 
 // Whether the list's vector has the items 7, 80 and 9, and a list of that vector is as long.
@@ -181,6 +184,29 @@ fn short_lists_of_other_items_differ(rt: HostRuntime) -> Result<(), Fail> {
 #[test]
 fn a_path_takes_24_bytes(rt: HostRuntime) {
     assert!(rt; size_of::<ModPath>() == 24);
+}
+
+// Whether the item at each place was written to, and no other.
+fn is_written(mut list: ShortList<u32>, items: &[u32]) -> bool {
+    for at in 0..items.len() {
+        if at >= list.len() {
+            return false;
+        }
+        list[at] = 80;
+        if list[at] != 80 || list.as_slice()[at + 1..] != items[at + 1..] {
+            return false;
+        }
+    }
+    list.iter().all(|item| *item == 80)
+}
+
+#[test]
+fn each_item_of_a_short_list_is_written_to(rt: HostRuntime) -> Result<(), Fail> {
+    for items in &LISTS {
+        let list = ShortList::from_slice(rt.alloc(), items)?;
+        assert!(rt; is_written(list, items));
+    }
+    Ok(())
 }
 
 // Nothing here takes memory, so that the test passes too where the first growth is refused.

@@ -112,7 +112,7 @@ abbrev bind : ℕ → Pat
 bind b = pat.Bind b None
 
 abbrev closure_of : ℕ → List ℕ → Expr
-closure_of body args = expr.Closure closure.Closure capture.Ref body args (record { arg_types = []; ret_type = None })
+closure_of body args = expr.Closure args [] None body closure.Closure capture.Ref
 
 abbrev with_bindings : List Expr → List Pat → List Binding → Nodes
 with_bindings exprs pats bindings = record { exprs = exprs; pats = pats; types = []; bindings = bindings; labels = []; lifetimes = [] }

@@ -149,7 +149,7 @@ uses_on c tops from base (x ∷ xs) h =
 
 -- a closure has no frame of its own
 no_own : (o : Option Expr) → IsClosure o → (here : Chain) → within_own (form_at expr_form o) here ≡ here
-no_own (Some (expr.Closure kind capture body args types)) is here = refl
+no_own (Some (expr.Closure args arg_types ret_type body kind capture)) is here = refl
 no_own _ is here = absurd is
 
 own_on : (f : ScopingForm) (here : Chain) → IsOn here (within_own f here)

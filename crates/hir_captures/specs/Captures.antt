@@ -52,7 +52,7 @@ pub record AreCaptures (b : BodyContents) (closure : ℕ) (captures : List ℕ) 
 
 -- the expression is there, and is a closure
 abbrev pub IsClosure : Option Expr → Type 0
-IsClosure (Some (expr.Closure kind capture body args types)) = ⊤
+IsClosure (Some (expr.Closure args arg_types ret_type body kind capture)) = ⊤
 IsClosure found = ⊥
 
 -- the expression is a closure that the body reaches

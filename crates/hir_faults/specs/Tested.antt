@@ -51,7 +51,7 @@ expr_holds (expr.OffsetOf offset) = nothing
 expr_holds (expr.Const id) = nothing
 expr_holds (expr.If condition then_branch else_branch) = nothing
 expr_holds (expr.Let pat expr) = nothing
-expr_holds (expr.Block unsafe_ id statements tail label) = nothing
+expr_holds (expr.Block id statements tail label unsafe_) = nothing
 expr_holds (expr.Loop body label source) = nothing
 expr_holds (expr.Call callee args) = nothing
 expr_holds (expr.Match expr arms) = nothing
@@ -69,7 +69,7 @@ expr_holds (expr.UnaryOp expr op) = nothing
 expr_holds (expr.BinaryOp lhs rhs op) = nothing
 expr_holds (expr.Assignment target value) = nothing
 expr_holds (expr.Index base index) = nothing
-expr_holds (expr.Closure closure_kind capture_by body args types) = nothing
+expr_holds (expr.Closure args arg_types ret_type body closure_kind capture_by) = nothing
 expr_holds (expr.Tuple exprs) = nothing
 
 abbrev pub pat_holds : Pat → Held

@@ -43,7 +43,7 @@ pub data IsExpr : Expr → List Token → Type 0 where
   match_expr : {expr : ℕ} {arms : List MatchArm} →
       IsExpr (Match expr arms) (Word (codes "match") ∷ Number expr ∷ map Arm arms)
   closure : {body : ℕ} {args : List ℕ} →
-      IsExpr (ClosureExpr Closure ByRef body args (record { arg_types = untyped args; ret_type = None }))
+      IsExpr (ClosureExpr args (untyped args) None body Closure ByRef)
       (Word (codes "closure") ∷ Number body ∷ Numbers args ∷ [])
   block : {id tail : Option ℕ} {statements : List Statement} →
       IsExpr (Block Safe id statements tail None)

@@ -101,7 +101,7 @@ abbrev pub closure_expr : Reading Expr
 closure_expr = do
   body ← number
   args ← list
-  gives (ClosureExpr Closure ByRef body args (record { arg_types = untyped args; ret_type = None }))
+  gives (ClosureExpr args (untyped args) None body Closure ByRef)
 
 abbrev pub block_expr : Reading Expr
 block_expr = do

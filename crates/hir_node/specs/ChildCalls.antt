@@ -126,7 +126,7 @@ statement_calls (statement.Item item) = []
 abbrev pub expr_calls : Expr → List Call
 expr_calls (expr.If condition then_branch else_branch) = e condition ++ e then_branch ++ opt e else_branch
 expr_calls (expr.Let pat expr) = p pat ++ e expr
-expr_calls (expr.Block unsafe_ id statements tail label) = flat_map statement_calls statements ++ opt e tail
+expr_calls (expr.Block id statements tail label unsafe_) = flat_map statement_calls statements ++ opt e tail
 expr_calls (expr.Loop body label source) = e body
 expr_calls (expr.Call callee args) = e callee ++ flat_map e args
 expr_calls (expr.MethodCall receiver method_name args generic_args) = e receiver ++ flat_map e args ++ opt args_calls generic_args
@@ -142,7 +142,7 @@ expr_calls (expr.Ref expr rawness mutability) = e expr
 expr_calls (expr.UnaryOp expr op) = e expr
 expr_calls (expr.Cast expr type_ref) = e expr ++ t type_ref
 expr_calls (expr.RecordLit path fields spread) = flat_map (λ field. e field.expr) fields ++ spread_calls spread ++ path_calls path
-expr_calls (expr.Closure closure_kind capture_by body args types) = e body ++ flat_map p args ++ flat_map (opt t) types.arg_types ++ opt t types.ret_type
+expr_calls (expr.Closure args arg_types ret_type body closure_kind capture_by) = e body ++ flat_map p args ++ flat_map (opt t) arg_types ++ opt t ret_type
 expr_calls (expr.BinaryOp lhs rhs op) = e lhs ++ e rhs
 expr_calls (expr.Index base index) = e base ++ e index
 expr_calls (expr.Assignment target value) = p target ++ e value

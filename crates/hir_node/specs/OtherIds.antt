@@ -8,7 +8,7 @@ use Rattle.hir_node.specs.declared.expr.Expr.TheVariants as expr
 
 -- the label that a block or a loop has, or that a jump goes to
 abbrev pub expr_labels : Expr → List ℕ
-expr_labels (expr.Block unsafe_ id statements tail label) = option_to_list label
+expr_labels (expr.Block id statements tail label unsafe_) = option_to_list label
 expr_labels (expr.Loop body label source) = option_to_list label
 expr_labels (expr.Break expr label) = option_to_list label
 expr_labels (expr.Continue label) = option_to_list label
@@ -27,7 +27,7 @@ expr_labels (expr.Ref expr rawness mutability) = []
 expr_labels (expr.UnaryOp expr op) = []
 expr_labels (expr.Cast expr type_ref) = []
 expr_labels (expr.RecordLit path fields spread) = []
-expr_labels (expr.Closure closure_kind capture_by body args types) = []
+expr_labels (expr.Closure args arg_types ret_type body closure_kind capture_by) = []
 expr_labels (expr.BinaryOp lhs rhs op) = []
 expr_labels (expr.Index base index) = []
 expr_labels (expr.Assignment target value) = []

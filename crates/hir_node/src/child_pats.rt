@@ -113,7 +113,7 @@ impl Pat {
             } => {
                 children.front = prefix.as_slice();
                 children.middle = *slice;
-                children.back = suffix.get().as_slice();
+                children.back = suffix.as_slice();
             }
             Pat::Bind { id: _, subpat } => children.middle = *subpat,
             Pat::Ref { pat, mutability: _ } => children.middle = Some(*pat),

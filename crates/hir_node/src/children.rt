@@ -49,7 +49,7 @@ impl Expr {
                 label: _,
                 unsafe_: _,
             } => {
-                visit_each(visitor, statements.get().as_slice());
+                visit_each(visitor, statements.as_slice());
                 visitor.on_expr_opt(*tail);
             }
             Expr::Loop {
@@ -68,7 +68,7 @@ impl Expr {
                 generic_args,
             } => {
                 visitor.on_expr(*receiver);
-                visitor.on_exprs(args.get().as_slice());
+                visitor.on_exprs(args.as_slice());
                 visitor.on_generic_args_opt(generic_args.as_ref().map(Boxed::get));
             }
             Expr::Match { expr, arms } => {
@@ -95,7 +95,7 @@ impl Expr {
             } => {
                 visit_each(visitor, fields.get().as_slice());
                 visit_spread(visitor, *spread);
-                visitor.on_path(path.get());
+                visitor.on_path(path);
             }
             Expr::Cast { expr, type_ref } => {
                 visitor.on_expr(*expr);
@@ -114,17 +114,17 @@ impl Expr {
                 visitor.on_expr(*index);
             }
             Expr::Closure {
+                args,
+                arg_types,
+                ret_type,
+                body,
                 closure_kind: _,
                 capture_by: _,
-                body,
-                args,
-                types,
             } => {
                 visitor.on_expr(*body);
                 visitor.on_pats(args.as_slice());
-                let types = types.get();
-                visit_each(visitor, types.arg_types.as_slice());
-                visitor.on_type_opt(types.ret_type);
+                visit_each(visitor, arg_types.as_slice());
+                visitor.on_type_opt(*ret_type);
             }
             Expr::Tuple { exprs } => visitor.on_exprs(exprs.as_slice()),
         }
@@ -174,7 +174,7 @@ impl Pat {
                 ellipsis: _,
             } => {
                 visit_each(visitor, args.as_slice());
-                visitor.on_path(path.get());
+                visitor.on_path(path);
             }
             Pat::Range {
                 start,
@@ -191,7 +191,7 @@ impl Pat {
             } => {
                 visitor.on_pats(prefix.as_slice());
                 visitor.on_pat_opt(*slice);
-                visitor.on_pats(suffix.get().as_slice());
+                visitor.on_pats(suffix.as_slice());
             }
             Pat::Path(path) => visitor.on_path(path),
             Pat::Lit(expr) | Pat::Expr(expr) => visitor.on_expr(*expr),
@@ -202,7 +202,7 @@ impl Pat {
                 ellipsis: _,
             } => {
                 visitor.on_pats(args.as_slice());
-                visitor.on_path(path.get());
+                visitor.on_path(path);
             }
             Pat::Ref { pat, mutability: _ } => visitor.on_pat(*pat),
             Pat::Box { inner } | Pat::Deref { inner } => visitor.on_pat(*inner),

@@ -3,8 +3,8 @@ ghost use Rattle.std.specs.Prelude.{◌≡◌, IfOk};
 ghost use Rattle.hir_node.specs.Precedence.{of_operator, of_arith};
 
 use crate::expr_types::{
-    Array, CaptureBy, ClosureKind, ClosureTypes, LoopSource, MatchArm, OffsetOf, RecordLitField,
-    RecordSpread, Statement, Unsafe,
+    Array, CaptureBy, ClosureKind, LoopSource, MatchArm, OffsetOf, RecordLitField, RecordSpread,
+    Statement, Unsafe,
 };
 use crate::literal::Literal;
 use crate::type_ref::{Mutability, Rawness};
@@ -15,8 +15,8 @@ use hir_base::{
 use hir_path::{Boxed, ExprId, GenericArgs, LabelId, PatId, Path, TypeRefId};
 use std::alloc::AllocError;
 
-/// An expression. It takes 40 bytes: the compiler lays fields out in this order, and what would make all expressions larger lies in a
-/// box.
+/// An expression. It takes 64 bytes. The compiler lays fields out in this order, and the fields of a record literal lie in a box, as they
+/// would make all expressions larger.
 #[derive(Drop, PartialEq, Eq)]
 pub enum Expr {
     /// Nothing was there.
@@ -42,11 +42,11 @@ pub enum Expr {
         expr: ExprId,
     },
     Block {
-        unsafe_: Unsafe,
         id: Option<BlockId>,
-        statements: Boxed<Seq<Statement>>,
+        statements: Seq<Statement>,
         tail: Option<ExprId>,
         label: Option<LabelId>,
+        unsafe_: Unsafe,
     },
     Loop {
         body: ExprId,
@@ -59,8 +59,8 @@ pub enum Expr {
     },
     MethodCall {
         receiver: ExprId,
-        method_name: Boxed<Name>,
-        args: Boxed<ShortList<ExprId>>,
+        method_name: Name,
+        args: ShortList<ExprId>,
         generic_args: Option<Boxed<GenericArgs>>,
     },
     Match {
@@ -91,7 +91,7 @@ pub enum Expr {
         expr: ExprId,
     },
     RecordLit {
-        path: Boxed<Path>,
+        path: Path,
         fields: Boxed<Seq<RecordLitField>>,
         spread: RecordSpread,
     },
@@ -129,11 +129,14 @@ pub enum Expr {
         index: ExprId,
     },
     Closure {
+        args: ShortList<PatId>,
+        /// For each parameter its type, where one is written.
+        arg_types: Seq<Option<TypeRefId>>,
+        /// The type behind `->`.
+        ret_type: Option<TypeRefId>,
+        body: ExprId,
         closure_kind: ClosureKind,
         capture_by: CaptureBy,
-        body: ExprId,
-        args: ShortList<PatId>,
-        types: Boxed<ClosureTypes>,
     },
     Tuple {
         exprs: ShortList<ExprId>,
@@ -213,7 +216,8 @@ impl Expr {
             | Expr::Break { expr: _, label: _ }
             | Expr::Closure {
                 args: _,
-                types: _,
+                arg_types: _,
+                ret_type: _,
                 body: _,
                 closure_kind: _,
                 capture_by: _,
@@ -365,19 +369,21 @@ impl Clone for Expr {
                 index: *index,
             }),
             Expr::Closure {
+                args,
+                arg_types,
+                ret_type,
+                body,
                 closure_kind,
                 capture_by,
-                body,
-                args,
-                types,
             } => {
-                let (args, types) = clone_params(args, types)?;
+                let (args, arg_types) = clone_params(args, arg_types)?;
                 Ok(Expr::Closure {
+                    args,
+                    arg_types,
+                    ret_type: *ret_type,
+                    body: *body,
                     closure_kind: *closure_kind,
                     capture_by: *capture_by,
-                    body: *body,
-                    args,
-                    types,
                 })
             }
             Expr::Tuple { exprs } => Ok(Expr::Tuple {
@@ -390,8 +396,8 @@ impl Clone for Expr {
 /// A method call with copies of these parts.
 fn clone_method_call(
     receiver: ExprId,
-    method_name: &Boxed<Name>,
-    args: &Boxed<ShortList<ExprId>>,
+    method_name: &Name,
+    args: &ShortList<ExprId>,
     generic_args: &Option<Boxed<GenericArgs>>,
 ) -> Result<Expr, AllocError>
     ensures { IfOk result (λ it. it ≡ Expr.MethodCall receiver method_name.now args.now generic_args.now) }
@@ -406,7 +412,7 @@ fn clone_method_call(
 
 /// A record literal with copies of these parts.
 fn clone_record_lit(
-    path: &Boxed<Path>,
+    path: &Path,
     fields: &Boxed<Seq<RecordLitField>>,
     spread: RecordSpread,
 ) -> Result<Expr, AllocError>
@@ -420,14 +426,14 @@ fn clone_record_lit(
     })
 }
 
-/// Copies of the list of a closure's parameters and of its types.
+/// Copies of the lists of a closure's parameters and of their types.
 fn clone_params(
     args: &ShortList<PatId>,
-    types: &Boxed<ClosureTypes>,
-) -> Result<(ShortList<PatId>, Boxed<ClosureTypes>), AllocError>
-    ensures { IfOk result (λ copy. (copy.0 ≡ args.now) × (copy.1 ≡ types.now)) }
+    arg_types: &Seq<Option<TypeRefId>>,
+) -> Result<(ShortList<PatId>, Seq<Option<TypeRefId>>), AllocError>
+    ensures { IfOk result (λ copy. (copy.0 ≡ args.now) × (copy.1 ≡ arg_types.now)) }
 {
-    Ok((args.try_clone()?, types.try_clone()?))
+    Ok((args.try_clone()?, arg_types.try_clone()?))
 }
 
 impl ExactEq for Expr {

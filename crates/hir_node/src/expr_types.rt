@@ -114,25 +114,6 @@ impl TryClone for ClosureKind {
     ghost clone_is_same = { Prim.search exact };
 }
 
-/// The types that are written before the body of a closure.
-#[derive(Drop, Clone, PartialEq, Eq)]
-pub struct ClosureTypes {
-    /// For each parameter its type, where one is written.
-    pub arg_types: ShortList<Option<TypeRefId>>,
-    /// The type behind `->`.
-    pub ret_type: Option<TypeRefId>,
-}
-
-impl ExactEq for ClosureTypes {
-    ghost use Rattle.hir_node.specs.same.SameStructs.{closure_types_decide};
-
-    ghost eq_decides = { closure_types_decide };
-}
-
-impl TryClone for ClosureTypes {
-    ghost clone_is_same = { Prim.search exact };
-}
-
 /// Where a coroutine comes from.
 #[derive(Clone, Copy, PartialEq, Eq, Hash)]
 pub enum CoroutineSource {

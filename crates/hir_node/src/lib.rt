@@ -10,7 +10,6 @@ mod expr_types;
 pub mod laws;
 mod literal;
 mod node_id;
-mod number;
 mod pat;
 mod type_ref;
 mod visit;
@@ -20,8 +19,8 @@ pub use binding::{Binding, BindingAnnotation, BindingProblems, Label};
 pub use child_pats::ChildPats;
 pub use expr::Expr;
 pub use expr_types::{
-    Array, CaptureBy, ClosureKind, ClosureTypes, CoroutineKind, CoroutineSource, Item, LoopSource,
-    MatchArm, Movability, OffsetOf, RecordLitField, RecordSpread, Statement, Unsafe,
+    Array, CaptureBy, ClosureKind, CoroutineKind, CoroutineSource, Item, LoopSource, MatchArm,
+    Movability, OffsetOf, RecordLitField, RecordSpread, Statement, Unsafe,
 };
 pub use hir_path::{
     AssociatedTypeBinding, BindingId, BindingKind, Boxed, ConstRef, ExprId, ExprKind, ExprOrPatId,
@@ -31,7 +30,6 @@ pub use hir_path::{
 };
 pub use literal::{FloatTypeWrapper, Literal, LiteralOrConst};
 pub use node_id::NodeId;
-pub use number::{Int, Uint};
 pub use pat::{Pat, RecordFieldPat};
 pub use type_ref::{
     ArrayType, FnType, LifetimeRef, Mutability, Rawness, RefType, TraitRef, TypeRef,

@@ -2,9 +2,8 @@
 ghost use Rattle.std.specs.Prelude.{◌≡◌, Some};
 ghost use Rattle.hir_base.specs.Exact.{exact};
 
-use crate::number::{Int, Uint};
 use hir_base::{BuiltinFloat, BuiltinInt, BuiltinUint, ExactEq, Seq, Text, TryClone};
-use hir_path::{Boxed, PatId};
+use hir_path::PatId;
 use std::fmt;
 use std::marker::Model;
 
@@ -55,7 +54,7 @@ impl TryClone for FloatTypeWrapper {
     ghost clone_is_same = { Prim.search exact };
 }
 
-/// A literal. A number may have its type written after it. It takes 32 bytes.
+/// A literal. A number may have its type written after it. It takes 48 bytes.
 #[derive(Drop, Clone, PartialEq, Eq)]
 pub enum Literal {
     String(Text),
@@ -64,9 +63,9 @@ pub enum Literal {
     CString(Seq<u8>),
     Char(char),
     Bool(bool),
-    Int(Int, Option<BuiltinInt>),
-    Uint(Uint, Option<BuiltinUint>),
-    Float(Boxed<FloatTypeWrapper>, Option<BuiltinFloat>),
+    Int(i128, Option<BuiltinInt>),
+    Uint(u128, Option<BuiltinUint>),
+    Float(FloatTypeWrapper, Option<BuiltinFloat>),
 }
 
 impl Literal {
@@ -76,10 +75,8 @@ impl Literal {
     pub fn negate(self) -> Option<Literal>
         ensures { result ≡ negated self }
     {
-        match &self {
-            Literal::Int(value, suffix) => {
-                Some(Literal::Int(Int::new(value.get().wrapping_neg()), *suffix))
-            }
+        match self {
+            Literal::Int(value, suffix) => Some(Literal::Int(value.wrapping_neg(), suffix)),
             Literal::String(_)
             | Literal::ByteString(_)
             | Literal::CString(_)

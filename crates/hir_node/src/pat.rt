@@ -5,7 +5,7 @@ ghost use Rattle.hir_base.specs.Exact.{exact};
 
 use crate::type_ref::Mutability;
 use hir_base::{ExactEq, Name, RangeOp, Seq, ShortList, TryClone};
-use hir_path::{BindingId, Boxed, ExprId, PatId, Path};
+use hir_path::{BindingId, ExprId, PatId, Path};
 use std::alloc::AllocError;
 
 /// A field of a record pattern: its name, and the pattern that its value matches.
@@ -23,7 +23,7 @@ impl TryClone for RecordFieldPat {
     ghost clone_is_same = { Prim.search exact };
 }
 
-/// A pattern. It takes 40 bytes, as an expression does.
+/// A pattern. It takes 64 bytes, as an expression does.
 #[derive(Drop, PartialEq, Eq)]
 pub enum Pat {
     /// Nothing was there.
@@ -43,7 +43,7 @@ pub enum Pat {
     Record {
         /// Whether `..` comes last.
         ellipsis: bool,
-        path: Boxed<Path>,
+        path: Path,
         args: Seq<RecordFieldPat>,
     },
     Range {
@@ -55,7 +55,7 @@ pub enum Pat {
         prefix: ShortList<PatId>,
         /// What is between the first items and the last.
         slice: Option<PatId>,
-        suffix: Boxed<ShortList<PatId>>,
+        suffix: ShortList<PatId>,
     },
     /// A constant, or a variant without fields. On the left of an assignment it may also be a variable, as the `a` of `(a, b) = c`.
     Path(Path),
@@ -71,7 +71,7 @@ pub enum Pat {
         subpat: Option<PatId>,
     },
     TupleStruct {
-        path: Boxed<Path>,
+        path: Path,
         args: ShortList<PatId>,
         /// The place of `..` among the arguments, if there is one.
         ellipsis: Option<u32>,
@@ -164,7 +164,7 @@ impl Clone for Pat {
 
 /// A record pattern with copies of these parts.
 fn clone_record(
-    path: &Boxed<Path>,
+    path: &Path,
     args: &Seq<RecordFieldPat>,
     ellipsis: bool,
 ) -> Result<Pat, AllocError>
@@ -180,7 +180,7 @@ fn clone_record(
 
 /// A tuple struct pattern with copies of these parts.
 fn clone_tuple_struct(
-    path: &Boxed<Path>,
+    path: &Path,
     args: &ShortList<PatId>,
     ellipsis: Option<u32>,
 ) -> Result<Pat, AllocError>

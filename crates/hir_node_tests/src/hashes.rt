@@ -159,8 +159,8 @@ fn a_copy_of_the_end_of_a_range_is_the_same(rt: HostRuntime) -> Result<(), Fail>
 // A store has a million of them: what makes one larger is paid by all.
 #[test]
 fn nodes_keep_their_sizes(rt: HostRuntime) -> Result<(), Fail> {
-    assert!(rt; size_of::<Expr>() == 40 && size_of::<Pat>() == 40);
+    assert!(rt; size_of::<Expr>() == 64 && size_of::<Pat>() == 64);
     assert!(rt; size_of::<TypeRef>() == 40 && size_of::<Binding>() == 24);
-    assert!(rt; size_of::<Path>() == 32 && size_of::<Literal>() == 32);
+    assert!(rt; size_of::<Path>() == 32 && size_of::<Literal>() == 48);
     Ok(())
 }

@@ -66,7 +66,8 @@ fn references_and_pointers_have_their_words(rt: HostRuntime) {
 
 #[test]
 fn a_boxed_value_comes_back(rt: HostRuntime) -> Result<(), Fail> {
-    let boxed = Boxed::new(rt.alloc(), 5u32)?;
+    let mut boxed = Boxed::new(rt.alloc(), 4u32)?;
+    *boxed.get_mut() = 5;
     let value = *boxed.get();
     let again = Boxed::from_box(boxed.into_box()).into_inner();
     assert!(rt; value == 5 && again == 5);

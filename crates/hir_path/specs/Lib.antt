@@ -1,4 +1,5 @@
 pub mod same
+pub mod Boxed
 pub mod Ids
 pub mod Keys
 pub mod Lists

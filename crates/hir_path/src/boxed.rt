@@ -1,6 +1,7 @@
 //! Values on the heap: a `Box` that contracts see as the value in it.
 //! A contract also sees the allocator of a `Box`, so two with the same value can differ; two `Boxed`s can't.
 ghost use Rattle.std.specs.Prelude.{◌≡◌, IfOk, IfErr};
+ghost use Rattle.std.specs.Borrow.{sem};
 
 use hir_base::{ExactEq, TryClone};
 use std::alloc::{AllocError, AllocFailed, Global};
@@ -24,6 +25,8 @@ impl<T> Model for Boxed<T> {
 }
 
 impl<T> Boxed<T> {
+    ghost use Rattle.hir_path.specs.Boxed.{lends_value};
+
     /// Puts the value on the heap.
     ///
     /// Answers an error if memory for it was refused, and hands the value back.
@@ -56,6 +59,14 @@ impl<T> Boxed<T> {
         ensures { result.now ≡ self.now }
     {
         &self.inner
+    }
+
+    /// Borrows the value, to write to.
+    pub fn get_mut(&mut self) -> &mut T
+        ensures* changes_value { sem 𝓛 (lends_value T.row self.entry result) }
+        ensures value { result.now ≡ self.old }
+    {
+        self.inner.as_mut()
     }
 
     /// Takes the value off the heap.

@@ -234,7 +234,7 @@ module _ (P : NodeId → Type 0) (s : Setting) where
   of_coroutine_falls (closure.CoroutineClosure kind) self body h k = h
 
   coroutine_falls : (found : Option Expr) (self : ℕ) → P (node.Expr self) → AllCalls P (calls.opt expr_calls found) → P (node.Expr (coroutine_body found self))
-  coroutine_falls (Some (expr.Closure kind capture body args types)) self h a = of_coroutine_falls kind self body h a.0
+  coroutine_falls (Some (expr.Closure args arg_types ret_type body kind capture)) self h a = of_coroutine_falls kind self body h a.0
   coroutine_falls found self h a = h
 
   literal_falls : (x : Literal) → AllNodes P (literal_items x)
@@ -307,18 +307,18 @@ module _ (P : NodeId → Type 0) (s : Setting) where
     expr_falls (expr.Array x) a = array_falls x a
     expr_falls (expr.Const id) a = tt
     expr_falls (expr.Assignment target value) a = a
-    expr_falls (expr.Block unsafe_ id statements tail label) a =
+    expr_falls (expr.Block id statements tail label unsafe_) a =
         let head = labelled s label ++ unsafe_items unsafe_ in
         let brace = text (codes "{") in
         nodes_append P ((head ++ brace) ++ inside_block statements tail) (text (codes "}"))
         (nodes_append P (head ++ brace) (inside_block statements tail) (nodes_append P head brace (nodes_append P (labelled s label) (unsafe_items unsafe_) (labelled_falls label) (unsafe_falls unsafe_)) tt) (inside_falls statements tail a)) tt
-    expr_falls (expr.Closure kind capture body args types) a =
+    expr_falls (expr.Closure args arg_types ret_type body kind capture) a =
         let of_args = flat_map calls.p args in
-        let of_types = flat_map (calls.opt calls.t) types.arg_types in
-        let of_ret = calls.opt calls.t types.ret_type in
+        let of_types = flat_map (calls.opt calls.t) arg_types in
+        let of_ret = calls.opt calls.t ret_type in
         let both = first_calls P (of_args ++ of_types) of_ret a.1 in
-        nodes_append P (header kind (params args types.arg_types) types.ret_type) (e (printed_body s.nodes kind body))
-        (header_falls kind (params args types.arg_types) types.ret_type (params_fall args types.arg_types (first_calls P of_args of_types both) (last_calls P of_args of_types both)) (last_calls P (of_args ++ of_types) of_ret a.1))
+        nodes_append P (header kind (params args arg_types) ret_type) (e (printed_body s.nodes kind body))
+        (header_falls kind (params args arg_types) ret_type (params_fall args arg_types (first_calls P of_args of_types both) (last_calls P of_args of_types both)) (last_calls P (of_args ++ of_types) of_ret a.1))
         (printed_falls kind body a.0, tt)
     expr_falls (expr.Literal x) a = literal_falls x
     expr_falls (expr.Path path) a = path_falls path a

@@ -176,17 +176,17 @@ slice_pattern : pat_text (bind 0 ∷ bind 1 ∷ pat.Slice (0 ∷ 1 ∷ []) None 
 unfolding pieces value rank height
 slice_pattern = refl
 
-block_in_lines : expr_text (var (codes "M") ∷ var (codes "W") ∷ expr.Assignment 0 0 ∷ expr.Block unsafety.No None (statement.Expr 2 true ∷ []) (Some 1) None ∷ []) (bind 0 ∷ []) [] (binding (codes "x") ∷ []) 3
+block_in_lines : expr_text (var (codes "M") ∷ var (codes "W") ∷ expr.Assignment 0 0 ∷ expr.Block None (statement.Expr 2 true ∷ []) (Some 1) None unsafety.No ∷ []) (bind 0 ∷ []) [] (binding (codes "x") ∷ []) 3
     ≡ codes "{\n    x = M;\n    W\n}"
 unfolding pieces value rank height
 block_in_lines = refl
 
-block_of_items : exprs_text (expr.Block unsafety.No None (statement.Item item.Other ∷ []) None None ∷ []) 0
+block_of_items : exprs_text (expr.Block None (statement.Item item.Other ∷ []) None None unsafety.No ∷ []) 0
     ≡ codes "{\n}"
 unfolding pieces value rank height
 block_of_items = refl
 
-repeat_in_a_block : exprs_text (var (codes "x") ∷ var (codes "y") ∷ expr.Match 1 [] ∷ expr.Array (array.Repeat 0 2) ∷ expr.Block unsafety.No None [] (Some 3) None ∷ []) 4
+repeat_in_a_block : exprs_text (var (codes "x") ∷ var (codes "y") ∷ expr.Match 1 [] ∷ expr.Array (array.Repeat 0 2) ∷ expr.Block None [] (Some 3) None unsafety.No ∷ []) 4
     ≡ codes "{\n    [\n        x; match y {\n        }\n    \n    ]\n}"
 unfolding pieces value rank height
 repeat_in_a_block = refl

@@ -87,8 +87,8 @@ expr_cost (expr.Match x arms) = 20 + 9 * length arms
 expr_cost (expr.RecordLit path fields spread) = 20 + 9 * length fields + path_cost path
 expr_cost (expr.Tuple exprs) = 20 + 3 * length exprs
 expr_cost (expr.Array (array.ElementList elements)) = 20 + 3 * length elements
-expr_cost (expr.Block unsafe_ id statements tail label) = 20 + 14 * length statements
-expr_cost (expr.Closure kind capture body args types) = 20 + 6 * length args
+expr_cost (expr.Block id statements tail label unsafe_) = 20 + 14 * length statements
+expr_cost (expr.Closure args arg_types ret_type body kind capture) = 20 + 6 * length args
 expr_cost (expr.Path path) = 20 + path_cost path
 expr_cost x = 20
 

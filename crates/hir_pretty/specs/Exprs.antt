@@ -144,7 +144,7 @@ of_coroutine (closure.CoroutineClosure kind) self body = self
 
 -- an expression, or its body where it is a closure that is a coroutine
 abbrev pub coroutine_body : Option Expr → ℕ → ℕ
-coroutine_body (Some (expr.Closure kind capture body args types)) self = of_coroutine kind self body
+coroutine_body (Some (expr.Closure args arg_types ret_type body kind capture)) self = of_coroutine kind self body
 coroutine_body found self = self
 
 -- what is printed as the body of a closure: of a coroutine closure the body of its coroutine
@@ -187,9 +187,9 @@ expr_items s (expr.Tuple exprs) = text (codes "(") ++ flat_map (λ id. e id ++ t
 expr_items s (expr.Array array) = array_items array
 expr_items s (expr.Const id) = text (codes "const { /* ") ++ numbered (codes "ExprId") id ++ text (codes " */ }")
 expr_items s (expr.Assignment target value) = p target ++ text (codes " = ") ++ under Assign value
-expr_items s (expr.Block unsafe_ id statements tail label) =
+expr_items s (expr.Block id statements tail label unsafe_) =
     sp ++ labelled s label ++ unsafe_items unsafe_ ++ text (codes "{") ++ inside_block statements tail ++ text (codes "}")
-expr_items s (expr.Closure kind capture body args types) =
-    text (closure_head kind) ++ text (capture_keyword capture) ++ header kind (params args types.arg_types) types.ret_type ++ e (printed_body s.nodes kind body)
+expr_items s (expr.Closure args arg_types ret_type body kind capture) =
+    text (closure_head kind) ++ text (capture_keyword capture) ++ header kind (params args arg_types) ret_type ++ e (printed_body s.nodes kind body)
 expr_items s (expr.Literal literal) = literal_items literal
 expr_items s (expr.Path path) = path_items s path

@@ -76,7 +76,7 @@ pub(crate) fn open_closure<'a>(
     kind: ClosureKind,
     capture: CaptureBy,
 ) -> Result<(), AllocError>
-    ensures { OnOk result ((s : Setting) → Opens s (listed stack.old) (expr_items s (expr.Closure kind capture body args.now types.now)) (21 + 6 * length args.now) (listed stack.new)) }
+    ensures { OnOk result ((s : Setting) → Opens s (listed stack.old) (expr_items s (expr.Closure args.now arg_types ret_type body kind capture)) (21 + 6 * length args.now) (listed stack.new)) }
 {
     open_body(stack, kind, body)?;
     open_header(

@@ -123,7 +123,7 @@ unfolding pieces value rank height digits
 of_variant = refl
 
 method : body_text (body.FunctionId 0) (record {
-  store = store (var (codes "x") ∷ expr.Block unsafety.No None [] (Some 0) None ∷ []) [] (binding (codes "self") ∷ []) (root 1 ∷ []);
+  store = store (var (codes "x") ∷ expr.Block None [] (Some 0) None unsafety.No ∷ []) [] (binding (codes "self") ∷ []) (root 1 ∷ []);
   params = [];
   self_param = Some (record { formal = 0; user_written = 0 });
 }) ≡ codes "fn foo(self) {\n    x\n}"

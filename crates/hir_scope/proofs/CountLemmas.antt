@@ -191,9 +191,9 @@ MeetsNone (form.PatternType ty pat) = Unit {0}
 pub expr_meets : (x : Expr) → MeetsNone (expr_form x)
 expr_meets (expr.If c y f) = tt
 expr_meets (expr.Let pat x) = tt
-expr_meets (expr.Block unsafe_ id xs tail label) = tt
+expr_meets (expr.Block id xs tail label unsafe_) = tt
 expr_meets (expr.Loop body label source) = tt
-expr_meets (expr.Closure kind by body args types) = tt
+expr_meets (expr.Closure args arg_types ret_type body kind by) = tt
 expr_meets (expr.Match x arms) = tt
 expr_meets (expr.Assignment target value) = tt
 expr_meets (expr.Call callee args) = none-append (e callee) (flat_map e args) refl (none-each e (λ x. refl) args)

@@ -79,8 +79,8 @@ expr_shuffled : (x : Expr) → Shuffled (expr_calls x) (met_in_form (expr_form x
 expr_shuffled (expr.If c y None) = IsPermutation-refl _
 expr_shuffled (expr.If c y (Some f)) = IsPermutation-refl _
 expr_shuffled (expr.Let pat x) = IsPermutation-append_comm (p pat) (e x)
-expr_shuffled (expr.Block unsafe_ id xs tail label) = both (all_shuffled statement_calls met_in_statement statement_shuffled xs) (IsPermutation-refl _)
-expr_shuffled (expr.Closure kind by body args types) = closure_shuffled (e body) (flat_map p args) (flat_map (opt t) types.arg_types) (opt t types.ret_type)
+expr_shuffled (expr.Block id xs tail label unsafe_) = both (all_shuffled statement_calls met_in_statement statement_shuffled xs) (IsPermutation-refl _)
+expr_shuffled (expr.Closure args arg_types ret_type body kind by) = closure_shuffled (e body) (flat_map p args) (flat_map (opt t) arg_types) (opt t ret_type)
 expr_shuffled (expr.Match x arms) = IsPermutation-cons _ _ _ (all_shuffled calls.arm_calls arm_calls (λ arm. arm_shuffled arm.pat arm.guard arm.expr) arms)
 expr_shuffled _ = IsPermutation-refl _
 

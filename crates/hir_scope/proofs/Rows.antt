@@ -105,7 +105,7 @@ abbrev bind : ℕ → Pat
 bind b = pat.Bind b None
 
 abbrev block : List Statement → Option ℕ → Expr
-block statements tail = expr.Block unsafe.No None statements tail None
+block statements tail = expr.Block None statements tail None unsafe.No
 
 abbrev with_let : ℕ → ℕ → Statement
 with_let pat initializer = statement.Let pat None (Some initializer) None
@@ -161,7 +161,7 @@ two = refl
 abbrev row_three : Row
 row_three = record {
   nodes = record {
-    exprs = name ∷ expr.Closure closure.Closure capture.Ref 0 (2 ∷ 3 ∷ []) (record { arg_types = None ∷ None ∷ []; ret_type = None }) ∷ block (with_let 1 1 ∷ []) None ∷ [];
+    exprs = name ∷ expr.Closure (2 ∷ 3 ∷ []) (None ∷ None ∷ []) None 0 closure.Closure capture.Ref ∷ block (with_let 1 1 ∷ []) None ∷ [];
     pats = bind 0 ∷ bind 1 ∷ bind 2 ∷ bind 3 ∷ [];
     types = [];
     bindings = binding 1 source ∷ binding 2 source ∷ binding 3 source ∷ binding 4 source ∷ [];
@@ -347,7 +347,7 @@ row_kinds = record {
   nodes = record {
     exprs =
         name ∷ name ∷ name ∷ expr.Const 2 ∷ name ∷ expr.Let 1 4 ∷ name ∷ expr.If 5 6 None ∷ name ∷
-        expr.Block unsafe.No (Some 5) (statement.Item (item.MacroDef 7) ∷ statement.Let 0 (Some 1) (Some 1) None ∷ statement.Expr 3 true ∷ statement.Item (item.MacroDef 8) ∷ statement.Expr 7 true ∷ []) (Some 8) None ∷
+        expr.Block (Some 5) (statement.Item (item.MacroDef 7) ∷ statement.Let 0 (Some 1) (Some 1) None ∷ statement.Expr 3 true ∷ statement.Item (item.MacroDef 8) ∷ statement.Expr 7 true ∷ []) (Some 8) None unsafe.No ∷
         expr.Loop 9 None loop.Loop ∷ [];
     pats = bind 0 ∷ bind 1 ∷ [];
     types = type.Tuple [] ∷ type.Array (record { ty = 0; len = record { expr = 0 } }) ∷ [];
@@ -387,7 +387,7 @@ row_leaks = record {
     exprs =
         name ∷ name ∷ name ∷ expr.Let 0 2 ∷ expr.If 0 1 (Some 3) ∷ name ∷ expr.Let 1 5 ∷ name ∷ expr.Let 3 7 ∷ name ∷
         expr.Match 6 (record { pat = 2; guard = Some 8; expr = 9 } ∷ []) ∷ name ∷ expr.Let 5 11 ∷ expr.Assignment 4 12 ∷ name ∷
-        expr.Closure closure.Closure capture.Ref 14 [] (record { arg_types = []; ret_type = None }) ∷
+        expr.Closure [] [] None 14 closure.Closure capture.Ref ∷
         block (statement.Expr 4 true ∷ statement.Expr 10 true ∷ statement.Expr 13 true ∷ []) (Some 15) ∷ [];
     pats = bind 0 ∷ bind 1 ∷ bind 2 ∷ bind 3 ∷ bind 4 ∷ bind 5 ∷ [];
     types = [];

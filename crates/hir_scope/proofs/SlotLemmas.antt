@@ -116,12 +116,12 @@ module _ (s : Nodes) where
       (IsPermutation-refl (kids (e condition ++ e then_branch) ++ kids (opt e else_branch)))
   expr_kids (expr.Let pat expr) =
       in_lists refl (turns s [] [] [] (frame s (pat ∷ []) ∷ leak s (node.Expr expr)) (e expr) (p pat)) (IsPermutation-append_comm (node.Pat pat ∷ []) (node.Expr expr ∷ []))
-  expr_kids (expr.Block unsafe_ id statements tail label) = block_kids s (block_constants id) (own_frame id label ∷ []) statements tail
+  expr_kids (expr.Block id statements tail label unsafe_) = block_kids s (block_constants id) (own_frame id label ∷ []) statements tail
   expr_kids (expr.Loop body label source) = in_lists refl (turn_kids s [] (of_kind (loop_kind label) ∷ []) (e body)) (IsPermutation-refl (node.Expr body ∷ []))
-  expr_kids (expr.Closure closure_kind capture_by body args types) =
+  expr_kids (expr.Closure args arg_types ret_type body closure_kind capture_by) =
       in_lists refl
-      (turns s [] [] [] (frame s args ∷ []) (flat_map (opt t) types.arg_types ++ opt t types.ret_type) (flat_map p args ++ e body))
-      (closure_kids (e body) (flat_map p args) (flat_map (opt t) types.arg_types) (opt t types.ret_type))
+      (turns s [] [] [] (frame s args ∷ []) (flat_map (opt t) arg_types ++ opt t ret_type) (flat_map p args ++ e body))
+      (closure_kids (e body) (flat_map p args) (flat_map (opt t) arg_types) (opt t ret_type))
   expr_kids (expr.Match scrutinee arms) =
       in_lists (calls_in_two (e scrutinee) (flat_map arm_calls arms))
       (in_two (in_turn s [] [] (e scrutinee)) (flat_map (arm_slots s (leak s (node.Expr scrutinee))) arms))

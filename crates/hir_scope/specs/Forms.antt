@@ -35,9 +35,9 @@ pub data ScopingForm : Type 0 where
 abbrev pub expr_form : Expr → ScopingForm
 expr_form (expr.If condition then_branch else_branch) = If condition then_branch else_branch
 expr_form (expr.Let pat expr) = Let pat expr
-expr_form (expr.Block unsafe_ id statements tail label) = Block id label statements tail
+expr_form (expr.Block id statements tail label unsafe_) = Block id label statements tail
 expr_form (expr.Loop body label source) = Loop label body
-expr_form (expr.Closure closure_kind capture_by body args types) = Closure types.arg_types types.ret_type args body
+expr_form (expr.Closure args arg_types ret_type body closure_kind capture_by) = Closure arg_types ret_type args body
 expr_form (expr.Match scrutinee arms) = Match scrutinee arms
 expr_form (expr.Assignment target value) = Assignment target value
 expr_form (expr.Call callee args) = InTurn (expr_calls (expr.Call callee args))

@@ -1,5 +1,5 @@
 -- That `==` of the parts of literals, bindings and function types decides whether they are the same.
-use Rattle.std.specs.Prelude.{◌≡◌, ℕ, ℤ, List, Option}
+use Rattle.std.specs.Prelude.{◌≡◌, ℕ, List, Option}
 use Rattle.std.specs.Bool.{Decides}
 use Rattle.std.specs.Option.{option_eq}
 use Rattle.std.specs.Cmp.Lexicographic.{pointwise, pointwise_decides}
@@ -22,10 +22,6 @@ use Rattle.hir_node.specs.contracts.binding.BindingAnnotationPartialEq.TheImpl a
 use Rattle.hir_node.specs.contracts.binding.BindingAnnotationExactEq.TheImpl.Laws as annotations_law
 use Rattle.hir_node.specs.contracts.literal.FloatTypeWrapperPartialEq.TheImpl as floats
 use Rattle.hir_node.specs.contracts.literal.FloatTypeWrapperExactEq.TheImpl.Laws as floats_law
-use Rattle.hir_node.specs.contracts.number.IntPartialEq.TheImpl as ints
-use Rattle.hir_node.specs.contracts.number.IntExactEq.TheImpl.Laws as ints_law
-use Rattle.hir_node.specs.contracts.number.UintPartialEq.TheImpl as uints
-use Rattle.hir_node.specs.contracts.number.UintExactEq.TheImpl.Laws as uints_law
 use Rattle.hir_base.specs.contracts.builtin_type.BuiltinIntPartialEq.TheImpl as suffixes_of_ints
 use Rattle.hir_base.specs.contracts.builtin_type.BuiltinIntExactEq.TheImpl.Laws as suffixes_of_ints_law
 use Rattle.hir_base.specs.contracts.builtin_type.BuiltinUintPartialEq.TheImpl as suffixes_of_uints
@@ -47,12 +43,6 @@ annotations_decide = annotations_law.lawful.eq_decides
 pub floats_decide : (x y : List ℕ) → Decides (floats.ghosts.eq x y) (x ≡ y)
 floats_decide = floats_law.lawful.eq_decides
 
-pub ints_decide : (x y : ℤ) → Decides (ints.ghosts.eq x y) (x ≡ y)
-ints_decide = ints_law.lawful.eq_decides
-
-pub uints_decide : (x y : ℕ) → Decides (uints.ghosts.eq x y) (x ≡ y)
-uints_decide = uints_law.lawful.eq_decides
-
 pub suffixes_of_ints_decide : (x y : Option BuiltinInt) → Decides (option_eq suffixes_of_ints.ghosts.eq x y) (x ≡ y)
 suffixes_of_ints_decide = options_decide suffixes_of_ints_law.lawful.eq_decides
 
@@ -71,4 +61,4 @@ name_lists_decide = pointwise_decides names_decide
 pub optional_name_lists_decide : (x y : Option (List (List ℕ))) → Decides (option_eq (pointwise names.ghosts.eq) x y) (x ≡ y)
 optional_name_lists_decide = options_decide name_lists_decide
 
-pub ruleset leaves = (paths.leaves, abis_decide, hygienes_decide, annotations_decide, floats_decide, ints_decide, uints_decide, suffixes_of_ints_decide, suffixes_of_uints_decide, suffixes_of_floats_decide, problems_decide, name_lists_decide, optional_name_lists_decide)
+pub ruleset leaves = (paths.leaves, abis_decide, hygienes_decide, annotations_decide, floats_decide, suffixes_of_ints_decide, suffixes_of_uints_decide, suffixes_of_floats_decide, problems_decide, name_lists_decide, optional_name_lists_decide)

@@ -3,8 +3,9 @@ use Rattle.std.specs.Prelude.{◌≡◌}
 use Rattle.std.specs.Bool.{Decides}
 use Rattle.std.specs.Cmp.{unsigned_Decides}
 use Rattle.std.specs.Cmp.Lexicographic.{bytes_decides as bytes_decide}
+use Rattle.hir_base.specs.Exact.{optional_numbers_decide, optional_number_lists_decide}
 use Rattle.hir_base.specs.Variants.{values_decide, then, also, last}
-use Rattle.hir_node.specs.same.SmallTypes.{small_types, paths_decide, fields_decide, spreads_decide, closure_kinds_decide, captures_decide, closure_types_decide}
+use Rattle.hir_node.specs.same.SmallTypes.{small_types, paths_decide, fields_decide, spreads_decide, closure_kinds_decide, captures_decide}
 use Rattle.hir_node.specs.declared.expr.Expr.{Expr}
 use Rattle.hir_node.specs.contracts.expr.Expr.{enum}
 use Rattle.hir_node.specs.contracts.expr.ExprPartialEq.TheImpl as node
@@ -41,6 +42,6 @@ exprs_decide x y = values_decide enum x y (
     (then _ _ (λ a b. search small_types)
     (then _ _ (λ a b. search small_types)
     (then _ _ (λ a b. search small_types)
-    (then _ _ (also _ _ closure_kinds_decide (also _ _ captures_decide (also _ _ unsigned_Decides (also _ _ bytes_decide (last _ closure_types_decide)))))
+    (then _ _ (also _ _ bytes_decide (also _ _ optional_number_lists_decide (also _ _ optional_numbers_decide (also _ _ unsigned_Decides (also _ _ closure_kinds_decide (last _ captures_decide))))))
     (then _ _ (λ a b. search small_types)
     (λ c d. absurd c))))))))))))))))))))))))))))))))) _ _)

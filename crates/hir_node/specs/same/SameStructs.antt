@@ -1,21 +1,19 @@
--- That `==` of bindings, of the types of closures and of function types decides whether they are the same, field by field.
+-- That `==` of bindings and of function types decides whether they are the same, field by field.
 use Rattle.std.specs.Prelude.{◌≡◌, ◌&&◌, ℕ, List, Option, Bool, eqb}
 use Rattle.std.specs.Bool.{Decides}
 use Rattle.std.specs.Option.{option_eq}
 use Rattle.std.specs.Cmp.{unsigned_Decides}
 use Rattle.std.specs.Cmp.Lexicographic.{pointwise_decides}
 use Rattle.std.specs.contracts.prelude.BoolPartialEq.TheImpl as flag
-use Rattle.hir_base.specs.Exact.{exact, optional_numbers_decide, optional_number_lists_decide}
+use Rattle.hir_base.specs.Exact.{exact}
 use Rattle.hir_base.specs.contracts.name.NamePartialEq.TheImpl as name
 use Rattle.hir_path.specs.same.Fields.{and_decides, both}
 use Rattle.hir_path.specs.same.Leaves.{names_decide, optional_names_decide}
 use Rattle.hir_node.specs.same.Leaves.{abis_decide, hygienes_decide, annotations_decide, problems_decide, optional_name_lists_decide}
 use Rattle.hir_node.specs.declared.binding.Binding.{Binding}
 use Rattle.hir_node.specs.declared.type_ref.FnType.{FnType}
-use Rattle.hir_node.specs.declared.expr_types.ClosureTypes.{ClosureTypes}
 use Rattle.hir_node.specs.contracts.binding.BindingPartialEq.TheImpl as binding
 use Rattle.hir_node.specs.contracts.type_ref.FnTypePartialEq.TheImpl as function
-use Rattle.hir_node.specs.contracts.expr_types.ClosureTypesPartialEq.TheImpl as closure_types
 
 pub bindings_decide : (x y : Binding) → Decides (binding.ghosts.eq x y) (x ≡ y)
 bindings_decide x y =
@@ -32,11 +30,6 @@ entries_decide x y =
 
 pub flags_decide : (x y : Bool) → Decides (flag.ghosts.eq x y) (x ≡ y)
 flags_decide x y = search exact
-
-pub closure_types_decide : (x y : ClosureTypes) → Decides (closure_types.ghosts.eq x y) (x ≡ y)
-closure_types_decide x y =
-    and_decides _ _ (optional_number_lists_decide x.arg_types y.arg_types) (optional_numbers_decide x.ret_type y.ret_type)
-    (λ a b i. record { arg_types = a i; ret_type = b i }) (λ e i. (e i).arg_types) (λ e i. (e i).ret_type)
 
 pub functions_decide : (x y : FnType) → Decides (function.ghosts.eq x y) (x ≡ y)
 functions_decide x y =

@@ -44,9 +44,6 @@ use Rattle.hir_node.specs.contracts.expr_types.LoopSourceExactEq.TheImpl.Laws as
 use Rattle.hir_node.specs.declared.expr_types.ClosureKind.{ClosureKind}
 use Rattle.hir_node.specs.contracts.expr_types.ClosureKindPartialEq.TheImpl as closure_kinds
 use Rattle.hir_node.specs.contracts.expr_types.ClosureKindExactEq.TheImpl.Laws as closure_kinds_law
-use Rattle.hir_node.specs.declared.expr_types.ClosureTypes.{ClosureTypes}
-use Rattle.hir_node.specs.contracts.expr_types.ClosureTypesPartialEq.TheImpl as closure_types
-use Rattle.hir_node.specs.contracts.expr_types.ClosureTypesExactEq.TheImpl.Laws as closure_types_law
 use Rattle.hir_node.specs.declared.expr_types.CaptureBy.{CaptureBy}
 use Rattle.hir_node.specs.contracts.expr_types.CaptureByPartialEq.TheImpl as captures
 use Rattle.hir_node.specs.contracts.expr_types.CaptureByExactEq.TheImpl.Laws as captures_law
@@ -115,9 +112,6 @@ unsafes_decide = unsafes_law.lawful.eq_decides
 
 pub loop_sources_decide : (x y : LoopSource) → Decides (loop_sources.ghosts.eq x y) (x ≡ y)
 loop_sources_decide = loop_sources_law.lawful.eq_decides
-
-pub closure_types_decide : (x y : ClosureTypes) → Decides (closure_types.ghosts.eq x y) (x ≡ y)
-closure_types_decide = closure_types_law.lawful.eq_decides
 
 pub closure_kinds_decide : (x y : ClosureKind) → Decides (closure_kinds.ghosts.eq x y) (x ≡ y)
 closure_kinds_decide = closure_kinds_law.lawful.eq_decides

@@ -38,13 +38,13 @@ pub returns-in-Let : goal.returns-in-Let
 returns-in-Let g c = rw c.in-Let.is (a_call c.on_pat.ensures (runs_one c.on_expr-in-Let.ensures))
 
 pub visit_each-requires : goal.visit_each-requires
-visit_each-requires g c = rw (c.as_slice.ensures, c.get.ensures) (may_first _ (opt e c.in-Block.tail) (rw c.in-Block.is at c.requires))
+visit_each-requires g c = rw c.as_slice.ensures (may_first _ (opt e c.in-Block.tail) (rw c.in-Block.is at c.requires))
 
 pub on_expr_opt-requires-in-Block : goal.on_expr_opt-requires-in-Block
-on_expr_opt-requires-in-Block g c = may_after (rw c.in-Block.is at c.requires) (rw c.get.ensures at (rw c.as_slice.ensures at c.visit_each.ensures))
+on_expr_opt-requires-in-Block g c = may_after (rw c.in-Block.is at c.requires) (rw c.as_slice.ensures at c.visit_each.ensures)
 
 pub returns-in-Block : goal.returns-in-Block
-returns-in-Block g c = rw c.in-Block.is (runs_append (rw c.get.ensures at (rw c.as_slice.ensures at c.visit_each.ensures)) c.on_expr_opt-in-Block.ensures)
+returns-in-Block g c = rw c.in-Block.is (runs_append (rw c.as_slice.ensures at c.visit_each.ensures) c.on_expr_opt-in-Block.ensures)
 
 pub on_expr-requires-in-Loop : goal.on_expr-requires-in-Loop
 on_expr-requires-in-Loop g c = may_here (rw c.in-Loop.is at c.requires)
@@ -66,7 +66,7 @@ on_expr-requires-in-MethodCall g c = may_here (rw c.in-MethodCall.is at c.requir
 
 pub on_exprs-requires-in-MethodCall : goal.on_exprs-requires-in-MethodCall
 on_exprs-requires-in-MethodCall g c =
-    rw (c.as_slice-in-MethodCall.ensures, c.get-in-MethodCall.ensures)
+    rw c.as_slice-in-MethodCall.ensures
     (may_first _ (opt args_calls c.in-MethodCall.generic_args) (may_then (rw c.in-MethodCall.is at c.requires) c.on_expr-in-MethodCall.ensures))
 
 pub on_expr-requires-in-Match : goal.on_expr-requires-in-Match
@@ -126,25 +126,23 @@ on_expr-requires-in-Closure g c = may_here (rw c.in-Closure.is at c.requires)
 pub on_pats-requires : goal.on_pats-requires
 on_pats-requires g c =
     let rest = may_then (rw c.in-Closure.is at c.requires) c.on_expr-in-Closure.ensures in
-    rw c.as_slice-in-Closure.ensures (may_first _ (flat_map (opt t) c.in-Closure.types.arg_types) (may_first _ (opt t c.in-Closure.types.ret_type) rest))
+    rw c.as_slice-in-Closure.ensures (may_first _ (flat_map (opt t) c.in-Closure.arg_types) (may_first _ (opt t c.in-Closure.ret_type) rest))
 
 pub visit_each-requires-in-Closure : goal.visit_each-requires-in-Closure
 visit_each-requires-in-Closure g c =
     let rest = may_then (rw c.in-Closure.is at c.requires) c.on_expr-in-Closure.ensures in
-    rw c.as_slice-in-Closure-2.ensures (rw c.get-types.ensures (may_after (may_first _ (opt t c.in-Closure.types.ret_type) rest) (rw c.as_slice-in-Closure.ensures at c.on_pats.ensures)))
+    rw c.as_slice-in-Closure-2.ensures (may_after (may_first _ (opt t c.in-Closure.ret_type) rest) (rw c.as_slice-in-Closure.ensures at c.on_pats.ensures))
 
 pub on_type_opt-requires : goal.on_type_opt-requires
 on_type_opt-requires g c =
     let rest = may_then (rw c.in-Closure.is at c.requires) c.on_expr-in-Closure.ensures in
-    rw c.get-types.ensures
-    (may_after rest (runs_append (rw c.as_slice-in-Closure.ensures at c.on_pats.ensures) (rw c.get-types.ensures at (rw c.as_slice-in-Closure-2.ensures at c.visit_each-in-Closure.ensures))))
+    may_after rest (runs_append (rw c.as_slice-in-Closure.ensures at c.on_pats.ensures) (rw c.as_slice-in-Closure-2.ensures at c.visit_each-in-Closure.ensures))
 
 pub returns-in-Closure : goal.returns-in-Closure
 returns-in-Closure g c =
     let pats = rw c.as_slice-in-Closure.ensures at c.on_pats.ensures in
-    let types = rw c.get-types.ensures at (rw c.as_slice-in-Closure-2.ensures at c.visit_each-in-Closure.ensures) in
-    let ret = rw c.get-types.ensures at c.on_type_opt.ensures in
-    rw c.in-Closure.is (a_call c.on_expr-in-Closure.ensures (runs_append (runs_append pats types) ret))
+    let types = rw c.as_slice-in-Closure-2.ensures at c.visit_each-in-Closure.ensures in
+    rw c.in-Closure.is (a_call c.on_expr-in-Closure.ensures (runs_append (runs_append pats types) c.on_type_opt.ensures))
 
 pub on_exprs-requires-in-Tuple : goal.on_exprs-requires-in-Tuple
 on_exprs-requires-in-Tuple g c = rw c.as_slice-in-Tuple.ensures (rw c.in-Tuple.is at c.requires)

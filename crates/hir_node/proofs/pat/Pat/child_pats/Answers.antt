@@ -22,5 +22,5 @@ returns-in-Record c =
 
 pub returns-in-Slice : goal.returns-in-Slice
 returns-in-Slice c =
-    rw (c.in-Slice.is, child-slice c.in-Slice.prefix c.in-Slice.slice c.in-Slice.suffix, ← c.as_slice-children-inside-in-Slice.ensures, ← c.get.ensures, ← c.as_slice-children-inside-in-Slice-2.ensures)
+    rw (c.in-Slice.is, child-slice c.in-Slice.prefix c.in-Slice.slice c.in-Slice.suffix, ← c.as_slice-children-inside-in-Slice.ensures, ← c.as_slice-children-inside-in-Slice-2.ensures)
     (sym (append_assoc c.as_slice-children-inside-in-Slice.result.now (option_to_list c.in-Slice.slice) c.as_slice-children-inside-in-Slice-2.result.now))

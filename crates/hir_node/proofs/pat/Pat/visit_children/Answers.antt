@@ -18,10 +18,10 @@ pub visit_each-requires : goal.visit_each-requires
 visit_each-requires g c = rw c.as_slice-in-Record.ensures (may_first _ (path_calls c.in-Record.path) (rw c.in-Record.is at c.requires))
 
 pub on_path-requires : goal.on_path-requires
-on_path-requires g c = rw c.get.ensures (may_after (rw c.in-Record.is at c.requires) (rw c.as_slice-in-Record.ensures at c.visit_each.ensures))
+on_path-requires g c = may_after (rw c.in-Record.is at c.requires) (rw c.as_slice-in-Record.ensures at c.visit_each.ensures)
 
 pub returns-in-Record : goal.returns-in-Record
-returns-in-Record g c = rw c.in-Record.is (runs_append (rw c.as_slice-in-Record.ensures at c.visit_each.ensures) (rw c.get.ensures at c.on_path.ensures))
+returns-in-Record g c = rw c.in-Record.is (runs_append (rw c.as_slice-in-Record.ensures at c.visit_each.ensures) c.on_path.ensures)
 
 pub on_expr_opt-requires : goal.on_expr_opt-requires
 on_expr_opt-requires g c = may_first _ (opt e c.in-Range.end) (rw c.in-Range.is at c.requires)
@@ -48,10 +48,10 @@ pub on_pats-requires-in-TupleStruct : goal.on_pats-requires-in-TupleStruct
 on_pats-requires-in-TupleStruct g c = rw c.as_slice-in-TupleStruct.ensures (may_first _ (path_calls c.in-TupleStruct.path) (rw c.in-TupleStruct.is at c.requires))
 
 pub on_path-requires-in-TupleStruct : goal.on_path-requires-in-TupleStruct
-on_path-requires-in-TupleStruct g c = rw c.get-in-TupleStruct.ensures (may_after (rw c.in-TupleStruct.is at c.requires) (rw c.as_slice-in-TupleStruct.ensures at c.on_pats-in-TupleStruct.ensures))
+on_path-requires-in-TupleStruct g c = may_after (rw c.in-TupleStruct.is at c.requires) (rw c.as_slice-in-TupleStruct.ensures at c.on_pats-in-TupleStruct.ensures)
 
 pub returns-in-TupleStruct : goal.returns-in-TupleStruct
-returns-in-TupleStruct g c = rw c.in-TupleStruct.is (runs_append (rw c.as_slice-in-TupleStruct.ensures at c.on_pats-in-TupleStruct.ensures) (rw c.get-in-TupleStruct.ensures at c.on_path-in-TupleStruct.ensures))
+returns-in-TupleStruct g c = rw c.in-TupleStruct.is (runs_append (rw c.as_slice-in-TupleStruct.ensures at c.on_pats-in-TupleStruct.ensures) c.on_path-in-TupleStruct.ensures)
 
 pub on_pat-requires : goal.on_pat-requires
 on_pat-requires g c = may_here (rw c.in-Ref.is at c.requires)
