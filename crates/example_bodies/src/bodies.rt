@@ -24,7 +24,7 @@ pub fn names(alloc: Global) -> Result<Body, HirError> {
         let_statement(z, read_w),
         statement(write_v),
     ]?;
-    let value = block(alloc, &mut builder, statements, tail)?;
+    let value = block(&mut builder, statements, tail)?;
     body(alloc, builder, &[x], value)
 }
 
@@ -45,7 +45,7 @@ pub fn closures(alloc: Global) -> Result<Body, HirError> {
     let pair = tuple(alloc, &mut builder, read_g, read_b)?;
     let second = closure(alloc, &mut builder, y, pair)?;
     let statements = vec![in alloc; let_statement(g, first)]?;
-    let value = block(alloc, &mut builder, statements, second)?;
+    let value = block(&mut builder, statements, second)?;
     body(alloc, builder, &[a, b], value)
 }
 

@@ -4,8 +4,8 @@ use hir_base::{HygieneId, Name, Seq, ShortList};
 use hir_error::HirError;
 use hir_items::{Body, Param};
 use hir_node::{
-    Binding, BindingAnnotation, Boxed, CaptureBy, ClosureKind, ClosureTypes, Expr, ExprId, Pat,
-    PatId, Path, Statement, Unsafe,
+    Binding, BindingAnnotation, CaptureBy, ClosureKind, Expr, ExprId, Pat, PatId, Path, Statement,
+    Unsafe,
 };
 use hir_store::ExpressionStoreBuilder;
 use std::alloc::Global;
@@ -68,16 +68,13 @@ pub fn closure(
     arg: PatId,
     body: ExprId,
 ) -> Result<ExprId, HirError> {
-    let types = ClosureTypes {
-        arg_types: ShortList::from_slice(alloc, &[None])?,
-        ret_type: None,
-    };
     Ok(builder.alloc_expr(Expr::Closure {
+        args: ShortList::from_slice(alloc, &[arg])?,
+        arg_types: Seq::from_vec(vec![in alloc; None]?),
+        ret_type: None,
+        body,
         closure_kind: ClosureKind::Closure,
         capture_by: CaptureBy::Ref,
-        body,
-        args: ShortList::from_slice(alloc, &[arg])?,
-        types: Boxed::new(alloc, types)?,
     })?)
 }
 
@@ -101,14 +98,13 @@ pub fn statement(expr: ExprId) -> Statement {
 
 /// `{ statements tail }`.
 pub fn block(
-    alloc: Global,
     builder: &mut ExpressionStoreBuilder,
     statements: Vec<Statement>,
     tail: ExprId,
 ) -> Result<ExprId, HirError> {
     Ok(builder.alloc_expr(Expr::Block {
         id: None,
-        statements: Boxed::new(alloc, Seq::from_vec(statements))?,
+        statements: Seq::from_vec(statements),
         tail: Some(tail),
         label: None,
         unsafe_: Unsafe::No,

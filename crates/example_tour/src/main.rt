@@ -30,7 +30,7 @@ fn build(alloc: Global) -> Result<Body, HirError> {
     })?;
     let inner = local(alloc, &mut builder, "x")?;
     let statements = vec![in alloc; let_statement(shadow, by_ref)]?;
-    let root = block(alloc, &mut builder, statements, inner)?;
+    let root = block(&mut builder, statements, inner)?;
     builder.push_root(root)?;
     let (store, _sources) = builder.finish()?;
     Ok(Body::new(alloc, store, params(alloc, &[param])?, None)?)

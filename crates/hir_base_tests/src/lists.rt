@@ -193,11 +193,12 @@ fn is_written(mut list: ShortList<u32>, items: &[u32]) -> bool {
             return false;
         }
         list[at] = 80;
-        if list[at] != 80 || list.as_slice()[at + 1..] != items[at + 1..] {
+        let written = list.iter().filter(|item| **item == 80).count();
+        if list.get(at).copied() != Some(80) || written != at + 1 {
             return false;
         }
     }
-    list.iter().all(|item| *item == 80)
+    list.len() == items.len()
 }
 
 #[test]

@@ -34,7 +34,8 @@ fn scope_of_closure(
     }
     if let Expr::Closure {
         args: _,
-        types: _,
+        arg_types: _,
+        ret_type: _,
         body: _,
         closure_kind: _,
         capture_by: _,

@@ -193,7 +193,7 @@ impl Kids {
                 label: _,
                 unsafe_: _,
             } => {
-                self.meet_statements(statements.get().as_slice());
+                self.meet_statements(statements.as_slice());
                 self.meet_opt(*tail);
             }
             Expr::Loop {
@@ -203,7 +203,8 @@ impl Kids {
             } => self.on_expr(*body),
             Expr::Closure {
                 args,
-                types: _,
+                arg_types: _,
+                ret_type: _,
                 body,
                 closure_kind: _,
                 capture_by: _,

@@ -9,7 +9,7 @@ use hir_defs::{
     Bodies, Body, BodySourceMap, GenericParams, PlainDef, PlainParts, PlainSignature, Signatures,
     Tables, TypeOrConstParamData, TypeParamData, TypeParamProvenance,
 };
-use hir_node::{Expr, Int, Literal, TypeRef, TypeRefKind};
+use hir_node::{Expr, Literal, TypeRef, TypeRefKind};
 use hir_store::{ExpressionStore, ExpressionStoreBuilder, ExpressionStoreSourceMap, Missing};
 use std::alloc::{AllocError, Global};
 use std::test::Fail;
@@ -31,7 +31,7 @@ fn build(builder: &mut ExpressionStoreBuilder, types: u32, has_one: bool) -> Res
     if has_one {
         add(
             &mut builder.exprs,
-            Expr::Literal(Literal::Int(Int::new(1), None)),
+            Expr::Literal(Literal::Int(1, None)),
         )?;
         taken(builder.push_root(Idx::from_raw(0)))?;
     }

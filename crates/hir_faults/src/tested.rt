@@ -183,7 +183,8 @@ impl TestedNode for Expr {
             | Expr::Index { base: _, index: _ }
             | Expr::Closure {
                 args: _,
-                types: _,
+                arg_types: _,
+                ret_type: _,
                 body: _,
                 closure_kind: _,
                 capture_by: _,
@@ -194,12 +195,12 @@ impl TestedNode for Expr {
 
     fn held(&self) -> Holds<'_> {
         match self {
-            Expr::Path(path) => a_path(path),
-            Expr::RecordLit {
+            Expr::Path(path)
+            | Expr::RecordLit {
                 path,
                 fields: _,
                 spread: _,
-            } => a_path(path.get()),
+            } => a_path(path),
             Expr::MethodCall {
                 receiver: _,
                 method_name: _,
@@ -263,7 +264,8 @@ impl TestedNode for Expr {
             | Expr::Index { base: _, index: _ }
             | Expr::Closure {
                 args: _,
-                types: _,
+                arg_types: _,
+                ret_type: _,
                 body: _,
                 closure_kind: _,
                 capture_by: _,
@@ -342,17 +344,17 @@ impl TestedNode for Pat {
 
     fn held(&self) -> Holds<'_> {
         match self {
-            Pat::Path(path) => a_path(path),
             Pat::Record {
                 path,
                 args: _,
                 ellipsis: _,
             }
+            | Pat::Path(path)
             | Pat::TupleStruct {
                 path,
                 args: _,
                 ellipsis: _,
-            } => a_path(path.get()),
+            } => a_path(path),
             Pat::Missing
             | Pat::Rest
             | Pat::Wild

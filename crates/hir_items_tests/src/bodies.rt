@@ -3,7 +3,7 @@ use crate::memory::push;
 use crate::trees::{self, BindingOf, One, PatOf, Tree};
 use hir_base::{Idx, Seq};
 use hir_items::{Body, BodyFault, Param, RefusedBody, body_laws};
-use hir_node::{Expr, Int, Literal, Pat, PatId};
+use hir_node::{Expr, Literal, Pat, PatId};
 use std::alloc::{AllocError, Global};
 use std::test::Fail;
 
@@ -153,7 +153,7 @@ impl Answered for Body {
             wanted.is_none()
                 && are(self.params(), params)
                 && self.self_param() == self_param.map(param)
-                && *value_of(self) == Expr::Literal(Literal::Int(Int::new(1), None))
+                && *value_of(self) == Expr::Literal(Literal::Int(1, None))
                 && has_patterns(self)
                 && has_self(self)
                 && *self == *self,

@@ -2,7 +2,7 @@
 //! lent the builder.
 use crate::memory::{Written, add_all, first, in_a_box, taken};
 use hir_base::{HygieneId, Idx, Name, RangeOp};
-use hir_node::{Binding, BindingAnnotation, Expr, Int, Literal, Pat, TypeRef};
+use hir_node::{Binding, BindingAnnotation, Expr, Literal, Pat, TypeRef};
 use hir_store::{ExpressionStore, ExpressionStoreBuilder};
 use std::alloc::{AllocError, Global};
 use std::test::Fail;
@@ -74,7 +74,7 @@ impl Written<Pat> for PatOf {
 
 impl Written<Expr> for One {
     fn made(&self, _: Global) -> Result<Expr, AllocError> {
-        Ok(Expr::Literal(Literal::Int(Int::new(1), None)))
+        Ok(Expr::Literal(Literal::Int(1, None)))
     }
 }
 

@@ -39,7 +39,7 @@ accepts_form assign = accept_head expr_forms _ assign_expr refl refl (search acc
 accepts_form constant = accept_head expr_forms _ const_expr refl refl (search accepting)
 accepts_form (match_expr {expr = e}) = accept_head expr_forms _ match_reading refl refl (accept_number _ (accept_arms (λ arms. Match e arms)))
 accepts_form closure = accept_head expr_forms _ closure_expr refl refl (search accepting)
-accepts_form (block {id = id} {tail = tail}) = accept_head expr_forms _ block_expr refl refl (accept_optional _ (accept_optional _ (accept_statements (λ statements. Block Safe id statements tail None))))
+accepts_form (block {id = id} {tail = tail}) = accept_head expr_forms _ block_expr refl refl (accept_optional _ (accept_optional _ (accept_statements (λ statements. Block id statements tail None Safe))))
 
 pub accepts_expr : {e : Expr} {tokens : List Token} → IsExpr e tokens → Accepts tokens expr e
 unfolding expr

@@ -46,5 +46,5 @@ pub data IsExpr : Expr → List Token → Type 0 where
       IsExpr (ClosureExpr args (untyped args) None body Closure ByRef)
       (Word (codes "closure") ∷ Number body ∷ Numbers args ∷ [])
   block : {id tail : Option ℕ} {statements : List Statement} →
-      IsExpr (Block Safe id statements tail None)
+      IsExpr (Block id statements tail None Safe)
       (Word (codes "block") ∷ Optional id ∷ Optional tail ∷ map Stmt statements)

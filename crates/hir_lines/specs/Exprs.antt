@@ -108,7 +108,7 @@ block_expr = do
   id ← optional
   tail ← optional
   statements ← each statement_of
-  gives (Block Safe id statements tail None)
+  gives (Block id statements tail None Safe)
 
 abbrev pub expr_forms : List (List ℕ × Reading Expr)
 expr_forms =

@@ -9,10 +9,10 @@ ghost use Rattle.hir_lines.specs.Exprs.{expr, path_expr, int_expr, call_expr, tu
 use crate::builder::Builder;
 use crate::stop::Stop;
 use crate::words::{Words, each};
-use hir_base::{BlockId, ShortList};
+use hir_base::{BlockId, Seq};
 use hir_node::{
-    Array, Boxed, CaptureBy, ClosureKind, ClosureTypes, Expr, Int, Literal, LoopSource, Mutability,
-    PatId, Rawness, TypeRefId, Unsafe,
+    Array, CaptureBy, ClosureKind, Expr, Literal, LoopSource, Mutability, PatId, Rawness, TypeRefId,
+    Unsafe,
 };
 use std::alloc::{AllocError, Global};
 
@@ -89,11 +89,7 @@ fn int<B: Builder>(words: &mut Words<'_>, builder: &mut B) -> Result<(), Stop>
     ensures { Puts B.add make.Expr int_expr words.old builder.old builder.new result }
 {
     let n = words.int()?;
-    put(
-        words,
-        builder,
-        Expr::Literal(Literal::Int(Int::new(n), None)),
-    )
+    put(words, builder, Expr::Literal(Literal::Int(n, None)))
 }
 
 #[inline(never)]
@@ -248,27 +244,25 @@ fn closure<B: Builder>(alloc: Global, words: &mut Words<'_>, builder: &mut B) ->
 {
     let body = words.id()?;
     let args = words.list(alloc)?;
-    let types = ClosureTypes {
-        arg_types: untyped(alloc, args.as_slice())?,
-        ret_type: None,
-    };
+    let arg_types = untyped(alloc, args.as_slice())?;
     let closure = Expr::Closure {
+        args,
+        arg_types,
+        ret_type: None,
+        body,
         closure_kind: ClosureKind::Closure,
         capture_by: CaptureBy::Ref,
-        body,
-        args,
-        types: Boxed::new(alloc, types)?,
     };
     put(words, builder, closure)
 }
 
 /// No type for each argument.
-fn untyped(alloc: Global, args: &[PatId]) -> Result<ShortList<Option<TypeRefId>>, AllocError>
+fn untyped(alloc: Global, args: &[PatId]) -> Result<Seq<Option<TypeRefId>>, AllocError>
     ensures { IfOk result (λ types. types ≡ untyped args.now) }
 {
-    let mut types = ShortList::with_capacity(alloc, args.len())?;
+    let mut types = Seq::with_capacity(alloc, args.len())?;
     for _arg in args {
-        types.push(alloc, None)?;
+        types.push(None)?;
     }
     Ok(types)
 }
@@ -280,11 +274,11 @@ fn block<B: Builder>(alloc: Global, words: &mut Words<'_>, builder: &mut B) -> R
     let id = words.optional()?.map(BlockId::from_raw);
     let tail = words.optional_id()?;
     let block = Expr::Block {
-        unsafe_: Unsafe::No,
         id,
-        statements: Boxed::new(alloc, each(alloc, words)?)?,
+        statements: each(alloc, words)?,
         tail,
         label: None,
+        unsafe_: Unsafe::No,
     };
     put(words, builder, block)
 }

@@ -9,7 +9,7 @@ use crate::builder::Builder;
 use crate::stop::Stop;
 use crate::words::Words;
 use hir_base::RangeOp;
-use hir_node::{Boxed, Pat};
+use hir_node::Pat;
 use std::alloc::Global;
 
 /// Makes the pattern of the text behind `pat`. Most are bindings, which are looked for first.
@@ -96,7 +96,7 @@ fn tuple_struct<B: Builder>(
     ensures { Puts B.add make.Pat tuple_struct_pat words.old builder.old builder.new result }
 {
     let tuple_struct = Pat::TupleStruct {
-        path: Boxed::new(alloc, words.path(alloc)?)?,
+        path: words.path(alloc)?,
         args: words.list(alloc)?,
         ellipsis: None,
     };

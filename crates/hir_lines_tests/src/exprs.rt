@@ -2,11 +2,11 @@
 //! The texts stand in tables, and an expression is made by its place there: each function that holds expressions is dear to prove.
 
 use crate::kept::{Line, Maker};
-use crate::says::{boxed, id, list, path, says};
+use crate::says::{id, list, path, says};
 use hir_base::{BlockId, MacroDefId, Seq, ShortList};
 use hir_node::{
-    Array, CaptureBy, ClosureKind, ClosureTypes, Expr, Int, Item, Literal, LoopSource, MatchArm,
-    Mutability, Rawness, Statement, Unsafe,
+    Array, CaptureBy, ClosureKind, Expr, Item, Literal, LoopSource, MatchArm, Mutability, Rawness,
+    Statement, Unsafe,
 };
 use std::alloc::{AllocError, Global};
 use std::test::Fail;
@@ -132,15 +132,6 @@ fn five_statements(alloc: Global) -> Result<Seq<Statement>, AllocError> {
     list(alloc, &[binding, call, value, definition, other])
 }
 
-/// Two parameters without types, and no type behind them.
-fn no_types(alloc: Global) -> Result<ClosureTypes, AllocError> {
-    let arg_types = ShortList::from_slice(alloc, &[None, None])?;
-    Ok(ClosureTypes {
-        arg_types,
-        ret_type: None,
-    })
-}
-
 fn of_parts(alloc: Global, at: usize) -> Result<Expr, AllocError> {
     Ok(match at {
         0 => Expr::Match {
@@ -152,22 +143,23 @@ fn of_parts(alloc: Global, at: usize) -> Result<Expr, AllocError> {
             arms: two_arms(alloc)?,
         },
         2 => Expr::Closure {
+            args: ShortList::from_slice(alloc, &[id(2), id(3)])?,
+            arg_types: list(alloc, &[None, None])?,
+            ret_type: None,
+            body: id(0),
             closure_kind: ClosureKind::Closure,
             capture_by: CaptureBy::Ref,
-            body: id(0),
-            args: ShortList::from_slice(alloc, &[id(2), id(3)])?,
-            types: boxed(alloc, no_types(alloc))?,
         },
         3 => Expr::Block {
             id: None,
-            statements: boxed(alloc, Ok(Seq::new(alloc)))?,
+            statements: Seq::new(alloc),
             tail: None,
             label: None,
             unsafe_: Unsafe::No,
         },
         _ => Expr::Block {
             id: Some(BlockId::from_raw(8)),
-            statements: boxed(alloc, five_statements(alloc))?,
+            statements: five_statements(alloc)?,
             tail: Some(id(9)),
             label: None,
             unsafe_: Unsafe::No,
@@ -194,7 +186,7 @@ fn each_text_makes_its_expression(rt: HostRuntime) -> Result<(), Fail> {
         says(&rt, alloc, text, Line::Make(Maker::Expr(made)))?;
     }
     for (text, value) in &INTEGERS {
-        let made = Expr::Literal(Literal::Int(Int::new(*value), None));
+        let made = Expr::Literal(Literal::Int(*value, None));
         says(&rt, alloc, text, Line::Make(Maker::Expr(made)))?;
     }
     Ok(())

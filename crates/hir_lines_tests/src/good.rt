@@ -5,8 +5,7 @@ use crate::says::{id, is_frequent, makes, path, says};
 use hir_base::{HygieneId, Name, RangeOp, ShortList, SyntaxContext};
 use hir_lines::{BodyQuestion, Question, StoreQuestion};
 use hir_node::{
-    ArrayType, Binding, BindingAnnotation, Boxed, ConstRef, ExprId, ExprOrPatId, Pat, PatId,
-    TypeRef,
+    ArrayType, Binding, BindingAnnotation, ConstRef, ExprId, ExprOrPatId, Pat, PatId, TypeRef,
 };
 use std::alloc::{AllocError, Global};
 use std::test::Fail;
@@ -163,7 +162,7 @@ fn pattern(alloc: Global, at: usize) -> Result<Pat, AllocError> {
         },
         10 => Pat::Or(ShortList::new()),
         _ => Pat::TupleStruct {
-            path: Boxed::new(alloc, path(alloc, "Some")?)?,
+            path: path(alloc, "Some")?,
             args: ShortList::from_slice(alloc, &[id(0)])?,
             ellipsis: None,
         },

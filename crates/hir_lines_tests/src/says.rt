@@ -4,7 +4,7 @@
 use crate::kept::{Line, Maker, said, said_frequent};
 use hir_base::{Idx, Name, Seq};
 use hir_lines::Stop;
-use hir_node::{Boxed, Path};
+use hir_node::Path;
 use std::alloc::{AllocError, Global};
 use std::mem::drop;
 use std::process::Abort;
@@ -62,11 +62,6 @@ pub fn list<T: Clone + Drop>(alloc: Global, items: &[T]) -> Result<Seq<T>, Alloc
         list.push(item.clone()?)?;
     }
     Ok(list)
-}
-
-/// The value in a box, if it could be made.
-pub fn boxed<T: Drop>(alloc: Global, value: Result<T, AllocError>) -> Result<Boxed<T>, AllocError> {
-    Ok(Boxed::new(alloc, value?)?)
 }
 
 pub fn id<K>(number: u32) -> Idx<K> {

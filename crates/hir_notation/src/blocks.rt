@@ -3,7 +3,7 @@
 use crate::stop::Stop;
 use crate::words::Words;
 use hir_base::{BlockId, Idx, MacroDefId, Seq};
-use hir_node::{Boxed, Expr, Item, LabelId, LoopSource, MatchArm, Statement, Unsafe};
+use hir_node::{Expr, Item, LabelId, LoopSource, MatchArm, Statement, Unsafe};
 use std::alloc::Global;
 
 /// The number of a node that stands behind a colon in its word.
@@ -39,11 +39,11 @@ pub(crate) fn block_expr(words: &mut Words<'_>, alloc: Global) -> Result<Expr, S
         push_statement(words, &mut statements)?;
     }
     Ok(Expr::Block {
-        unsafe_,
         id,
-        statements: Boxed::new(alloc, statements)?,
+        statements,
         tail,
         label,
+        unsafe_,
     })
 }
 

@@ -2,17 +2,17 @@
 
 use crate::stop::Stop;
 use crate::words::Words;
-use hir_base::ShortList;
+use hir_base::Seq;
 use hir_node::{
-    Boxed, CaptureBy, ClosureKind, ClosureTypes, CoroutineKind, CoroutineSource, Expr, Movability,
-    TypeRefId,
+    CaptureBy, ClosureKind, CoroutineKind, CoroutineSource, Expr, Movability, TypeRefId,
 };
 use std::alloc::{AllocError, Global};
 
 pub(crate) fn closure_expr(words: &mut Words<'_>, alloc: Global) -> Result<Expr, Stop> {
     let body = words.next_id()?;
     let args = words.next_ids(alloc)?;
-    let types = Boxed::new(alloc, closure_types(words, alloc, args.len())?)?;
+    let arg_types = arg_types(words, alloc, args.len())?;
+    let ret_type = ret_type(words)?;
     let capture_by = if words.flag(b"move") {
         CaptureBy::Value
     } else {
@@ -20,57 +20,56 @@ pub(crate) fn closure_expr(words: &mut Words<'_>, alloc: Global) -> Result<Expr,
     };
     let closure_kind = closure_kind(words)?;
     Ok(Expr::Closure {
+        args,
+        arg_types,
+        ret_type,
+        body,
         closure_kind,
         capture_by,
-        body,
-        args,
-        types,
     })
 }
 
 /// The types of a closure with this number of arguments.
-fn closure_types(
+fn arg_types(
     words: &mut Words<'_>,
     alloc: Global,
     arg_count: usize,
-) -> Result<ClosureTypes, Stop> {
-    let arg_types = if words.prefix(b"types:") {
-        arg_types(words, alloc)?
-    } else {
-        untyped(alloc, arg_count)?
-    };
-    let ret_type = if words.prefix(b"ret:") {
-        Some(words.id()?)
-    } else {
-        None
-    };
-    Ok(ClosureTypes {
-        arg_types,
-        ret_type,
-    })
+) -> Result<Seq<Option<TypeRefId>>, Stop> {
+    if words.prefix(b"types:") {
+        return typed(words, alloc);
+    }
+    Ok(untyped(alloc, arg_count)?)
+}
+
+/// The type behind a closure's arguments, where there is one.
+fn ret_type(words: &mut Words<'_>) -> Result<Option<TypeRefId>, Stop> {
+    if words.prefix(b"ret:") {
+        return Ok(Some(words.id()?));
+    }
+    Ok(None)
 }
 
 /// The types of arguments: joined by `,`, or nothing.
-fn arg_types(words: &mut Words<'_>, alloc: Global) -> Result<ShortList<Option<TypeRefId>>, Stop> {
-    let mut types = ShortList::new();
+fn typed(words: &mut Words<'_>, alloc: Global) -> Result<Seq<Option<TypeRefId>>, Stop> {
+    let mut types = Seq::new(alloc);
     if words.is_word_end() {
         return Ok(types);
     }
-    types.push(alloc, words.opt_id()?)?;
+    types.push(words.opt_id()?)?;
     for _ in 0..words.rest().len() {
         if !words.eat(b",") {
             break;
         }
-        types.push(alloc, words.opt_id()?)?;
+        types.push(words.opt_id()?)?;
     }
     Ok(types)
 }
 
 /// An absent type for each argument.
-fn untyped(alloc: Global, arg_count: usize) -> Result<ShortList<Option<TypeRefId>>, AllocError> {
-    let mut types = ShortList::with_capacity(alloc, arg_count)?;
+fn untyped(alloc: Global, arg_count: usize) -> Result<Seq<Option<TypeRefId>>, AllocError> {
+    let mut types = Seq::with_capacity(alloc, arg_count)?;
     for _ in 0..arg_count {
-        types.push(alloc, None)?;
+        types.push(None)?;
     }
     Ok(types)
 }

@@ -120,8 +120,8 @@ fn call_expr(words: &mut Words<'_>, alloc: Global) -> Result<Expr, Stop> {
 
 fn method_expr(words: &mut Words<'_>, alloc: Global) -> Result<Expr, Stop> {
     let receiver = words.next_id()?;
-    let method_name = Boxed::new(alloc, words.next_name(alloc)?)?;
-    let args = Boxed::new(alloc, words.next_ids(alloc)?)?;
+    let method_name = words.next_name(alloc)?;
+    let args = words.next_ids(alloc)?;
     let generic_args = if words.is_end() {
         None
     } else {
@@ -136,7 +136,7 @@ fn method_expr(words: &mut Words<'_>, alloc: Global) -> Result<Expr, Stop> {
 }
 
 fn record_expr(words: &mut Words<'_>, alloc: Global) -> Result<Expr, Stop> {
-    let path = Boxed::new(alloc, next_path(words, alloc)?)?;
+    let path = next_path(words, alloc)?;
     let mut fields = Seq::new(alloc);
     for _ in 0..words.rest().len() {
         if words.is_end() || words.is_at(b" ..") {

@@ -4,7 +4,7 @@ use crate::answer::Answer;
 use crate::stop::Stop;
 use crate::words::Words;
 use hir_base::{BuiltinFloat, BuiltinInt, BuiltinUint, Text};
-use hir_node::{Boxed, FloatTypeWrapper, Int, Literal, Uint};
+use hir_node::{FloatTypeWrapper, Literal};
 use std::alloc::{AllocError, Global};
 
 /// The literal with this keyword.
@@ -47,7 +47,7 @@ fn next_bool(words: &mut Words<'_>) -> Result<bool, Stop> {
 fn int_literal(words: &mut Words<'_>) -> Result<Literal, Stop> {
     words.expect(b" ")?;
     let value = words.int()?;
-    Ok(Literal::Int(Int::new(value), int_suffix(words)?))
+    Ok(Literal::Int(value, int_suffix(words)?))
 }
 
 fn int_suffix(words: &mut Words<'_>) -> Result<Option<BuiltinInt>, Stop> {
@@ -68,7 +68,7 @@ fn int_suffix(words: &mut Words<'_>) -> Result<Option<BuiltinInt>, Stop> {
 fn uint_literal(words: &mut Words<'_>) -> Result<Literal, Stop> {
     words.expect(b" ")?;
     let value = words.big()?;
-    Ok(Literal::Uint(Uint::new(value), uint_suffix(words)?))
+    Ok(Literal::Uint(value, uint_suffix(words)?))
 }
 
 fn uint_suffix(words: &mut Words<'_>) -> Result<Option<BuiltinUint>, Stop> {
@@ -88,7 +88,6 @@ fn uint_suffix(words: &mut Words<'_>) -> Result<Option<BuiltinUint>, Stop> {
 
 fn float_literal(words: &mut Words<'_>, alloc: Global) -> Result<Literal, Stop> {
     let text = FloatTypeWrapper::new(float_text(words, alloc)?);
-    let text = Boxed::new(alloc, text)?;
     Ok(Literal::Float(text, float_suffix(words)?))
 }
 
@@ -142,17 +141,17 @@ pub fn write_literal(literal: &Literal, answer: &mut Answer) -> Result<(), Alloc
         }
         Literal::Int(value, suffix) => {
             answer.word("int")?;
-            answer.int(value.get())?;
+            answer.int(*value)?;
             write_suffix(suffix.map(|suffix| suffix.as_str()), answer)
         }
         Literal::Uint(value, suffix) => {
             answer.word("uint")?;
-            answer.big(value.get())?;
+            answer.big(*value)?;
             write_suffix(suffix.map(|suffix| suffix.as_str()), answer)
         }
         Literal::Float(text, suffix) => {
             answer.word("float")?;
-            write_float_text(text.get().as_str(), answer)?;
+            write_float_text(text.as_str(), answer)?;
             write_suffix(suffix.map(|suffix| suffix.as_str()), answer)
         }
     }

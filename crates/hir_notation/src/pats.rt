@@ -5,7 +5,7 @@ use crate::paths::next_path;
 use crate::stop::Stop;
 use crate::words::Words;
 use hir_base::{RangeOp, Seq};
-use hir_node::{Boxed, Mutability, Pat, RecordFieldPat};
+use hir_node::{Mutability, Pat, RecordFieldPat};
 use std::alloc::Global;
 
 /// The pattern of the words behind `pat`.
@@ -52,7 +52,7 @@ fn tuple_pat(words: &mut Words<'_>, alloc: Global) -> Result<Pat, Stop> {
 }
 
 fn record_pat(words: &mut Words<'_>, alloc: Global) -> Result<Pat, Stop> {
-    let path = Boxed::new(alloc, next_path(words, alloc)?)?;
+    let path = next_path(words, alloc)?;
     let mut args = Seq::new(alloc);
     for _ in 0..words.rest().len() {
         if words.is_end() || words.is_at(b" ..") {
@@ -88,7 +88,7 @@ fn range_pat(words: &mut Words<'_>) -> Result<Pat, Stop> {
 fn slice_pat(words: &mut Words<'_>, alloc: Global) -> Result<Pat, Stop> {
     let prefix = words.next_ids(alloc)?;
     let slice = words.next_opt_id()?;
-    let suffix = Boxed::new(alloc, words.next_ids(alloc)?)?;
+    let suffix = words.next_ids(alloc)?;
     Ok(Pat::Slice {
         prefix,
         slice,
@@ -104,7 +104,7 @@ fn bind_pat(words: &mut Words<'_>) -> Result<Pat, Stop> {
 }
 
 fn tuple_struct_pat(words: &mut Words<'_>, alloc: Global) -> Result<Pat, Stop> {
-    let path = Boxed::new(alloc, next_path(words, alloc)?)?;
+    let path = next_path(words, alloc)?;
     let args = words.next_ids(alloc)?;
     let ellipsis = ellipsis(words)?;
     Ok(Pat::TupleStruct {

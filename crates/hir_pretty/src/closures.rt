@@ -10,7 +10,7 @@ ghost use Rattle.hir_pretty.specs.Works.{listed, Opens};
 
 use crate::expr_parts::open_header;
 use crate::work::{Look, Stack, Work};
-use hir_node::{CaptureBy, ClosureKind, ClosureTypes, CoroutineKind, ExprId, Movability, PatId};
+use hir_node::{CaptureBy, ClosureKind, CoroutineKind, ExprId, Movability, PatId, TypeRefId};
 use std::alloc::AllocError;
 
 fn coroutine_keyword(kind: CoroutineKind) -> &'static str
@@ -71,21 +71,16 @@ fn open_body(stack: &mut Stack<'_>, kind: ClosureKind, body: ExprId) -> Result<(
 pub(crate) fn open_closure<'a>(
     stack: &mut Stack<'a>,
     args: &'a [PatId],
-    types: &'a ClosureTypes,
+    arg_types: &'a [Option<TypeRefId>],
+    ret_type: Option<TypeRefId>,
     body: ExprId,
     kind: ClosureKind,
     capture: CaptureBy,
 ) -> Result<(), AllocError>
-    ensures { OnOk result ((s : Setting) → Opens s (listed stack.old) (expr_items s (expr.Closure args.now arg_types ret_type body kind capture)) (21 + 6 * length args.now) (listed stack.new)) }
+    ensures { OnOk result ((s : Setting) → Opens s (listed stack.old) (expr_items s (expr.Closure args.now arg_types.now ret_type body kind capture)) (21 + 6 * length args.now) (listed stack.new)) }
 {
     open_body(stack, kind, body)?;
-    open_header(
-        stack,
-        kind,
-        args,
-        types.arg_types.as_slice(),
-        types.ret_type,
-    )?;
+    open_header(stack, kind, args, arg_types, ret_type)?;
     stack.push(&[
         Work::Text(closure_head(kind)),
         Work::Text(capture_keyword(capture)),

@@ -30,22 +30,18 @@ pub(crate) fn write_literal<W: PieceWriter>(
         Literal::CString(bytes) => write_c_string_literal(writer, bytes.as_slice()),
         Literal::Char(c) => write_char_literal(writer, *c),
         Literal::Bool(b) => write_bool(writer, *b),
-        Literal::Int(number, None) => write_int(writer, number.get()),
-        Literal::Int(number, Some(suffix)) => write_suffixed_int(
-            writer,
-            number.get(),
-            suffix.as_str(),
-        ),
-        Literal::Uint(number, None) => write_number(writer, number.get()),
+        Literal::Int(number, None) => write_int(writer, *number),
+        Literal::Int(number, Some(suffix)) => write_suffixed_int(writer, *number, suffix.as_str()),
+        Literal::Uint(number, None) => write_number(writer, *number),
         Literal::Uint(number, Some(suffix)) => write_suffixed_uint(
             writer,
-            number.get(),
+            *number,
             suffix.as_str(),
         ),
-        Literal::Float(number, None) => write_text(writer, number.get().as_str()),
+        Literal::Float(number, None) => write_text(writer, number.as_str()),
         Literal::Float(number, Some(suffix)) => write_both(
             writer,
-            number.get().as_str(),
+            number.as_str(),
             suffix.as_str(),
         ),
     }

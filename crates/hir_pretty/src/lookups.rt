@@ -199,7 +199,8 @@ fn coroutine_body(expr: &Expr, id: ExprId) -> ExprId
 {
     if let Expr::Closure {
         args: _,
-        types: _,
+        arg_types: _,
+        ret_type: _,
         body,
         closure_kind: ClosureKind::Coroutine { kind: _, source: _ },
         capture_by: _,

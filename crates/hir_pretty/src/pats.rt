@@ -215,7 +215,7 @@ pub(crate) fn open_pat<'a>(stack: &mut Stack<'a>, pat: &'a Pat) -> Result<(), Al
             path,
             args,
             ellipsis,
-        } => open_record(stack, path.get(), args.as_slice(), *ellipsis),
+        } => open_record(stack, path, args.as_slice(), *ellipsis),
         Pat::Range {
             start,
             end,
@@ -225,7 +225,7 @@ pub(crate) fn open_pat<'a>(stack: &mut Stack<'a>, pat: &'a Pat) -> Result<(), Al
             prefix,
             slice,
             suffix,
-        } => open_slice(stack, prefix.as_slice(), *slice, suffix.get().as_slice()),
+        } => open_slice(stack, prefix.as_slice(), *slice, suffix.as_slice()),
         Pat::Path(path) => open_path(stack, path),
         Pat::Lit(expr) => stack.push(&[Work::Under(*expr, ExprPrecedence::Shift)]),
         Pat::Expr(expr) => stack.push(&[Work::Under(*expr, ExprPrecedence::Shift)]),
@@ -234,7 +234,7 @@ pub(crate) fn open_pat<'a>(stack: &mut Stack<'a>, pat: &'a Pat) -> Result<(), Al
             path,
             args,
             ellipsis,
-        } => open_tuple_struct(stack, path.get(), args.as_slice(), *ellipsis),
+        } => open_tuple_struct(stack, path, args.as_slice(), *ellipsis),
         Pat::Ref { pat, mutability } => stack.push(&[
             Work::Text("&"),
             Work::Text(mutability.as_keyword_for_ref()),

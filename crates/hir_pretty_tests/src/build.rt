@@ -5,7 +5,7 @@ use hir_base::{
     Text,
 };
 use hir_defs::Tables;
-use hir_node::{Boxed, Path};
+use hir_node::Path;
 use hir_pretty::{PrintFault, print_expr_hir, print_pat_hir, print_path};
 use hir_store::{ExpressionStore, ExpressionStoreBuilder, FinishFault, Refused};
 use std::alloc::{AllocError, AllocFailed, Global};
@@ -16,11 +16,6 @@ const EDITION: Edition = Edition::Edition2021;
 
 pub fn in_a_box<T: Drop>(alloc: Global, value: T) -> Result<Box<T>, AllocError> {
     Ok(Box::new(alloc, value)?)
-}
-
-/// The value as a part of a node, if it could be made.
-pub fn boxed<T: Drop>(alloc: Global, value: Result<T, AllocError>) -> Result<Boxed<T>, AllocError> {
-    Ok(Boxed::new(alloc, value?)?)
 }
 
 /// Adds the item, or says why it can't be: without it, where it is handed back.

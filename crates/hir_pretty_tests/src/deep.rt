@@ -1,5 +1,5 @@
 //! Trees 1,000,000 deep: nothing recurses on the depth of a tree.
-use crate::build::{add, add_made, around, boxed, finished, in_a_box, of_expr, of_pat, tables};
+use crate::build::{add, add_made, around, finished, in_a_box, of_expr, of_pat, tables};
 use hir_base::{Arena, ArithOp, BinaryOp, Idx, LogicOp, Seq};
 use hir_node::{Expr, ExprId, ExprKind, Mutability, Pat, Rawness, TypeRef, Unsafe};
 use hir_store::{ExpressionStore, ExpressionStoreBuilder};
@@ -20,15 +20,14 @@ enum Step {
     And,
 }
 
-fn block(alloc: Global, tail: ExprId) -> Result<Expr, AllocError> {
-    let statements = boxed(alloc, Ok(Seq::new(alloc)))?;
-    Ok(Expr::Block {
+fn block(alloc: Global, tail: ExprId) -> Expr {
+    Expr::Block {
         id: None,
-        statements,
+        statements: Seq::new(alloc),
         tail: Some(tail),
         label: None,
         unsafe_: Unsafe::No,
-    })
+    }
 }
 
 fn binary(op: BinaryOp, lhs: ExprId, rhs: ExprId) -> Expr {
@@ -40,16 +39,16 @@ fn binary(op: BinaryOp, lhs: ExprId, rhs: ExprId) -> Expr {
 }
 
 /// What stands over the last expression, with a leaf beside it where it has two operands.
-fn over(alloc: Global, step: &Step, last: ExprId, leaf: ExprId) -> Result<Expr, AllocError> {
+fn over(alloc: Global, step: &Step, last: ExprId, leaf: ExprId) -> Expr {
     match step {
-        Step::Ref => Ok(Expr::Ref {
+        Step::Ref => Expr::Ref {
             expr: last,
             rawness: Rawness::Ref,
             mutability: Mutability::Shared,
-        }),
+        },
         Step::Block => block(alloc, last),
-        Step::Minus => Ok(binary(BinaryOp::ArithOp(ArithOp::Sub), last, leaf)),
-        Step::And => Ok(binary(BinaryOp::LogicOp(LogicOp::And), leaf, last)),
+        Step::Minus => binary(BinaryOp::ArithOp(ArithOp::Sub), last, leaf),
+        Step::And => binary(BinaryOp::LogicOp(LogicOp::And), leaf, last),
     }
 }
 
@@ -65,7 +64,7 @@ fn add_levels(
     for _ in 0..depth {
         let leaf = last.wrapping_add(1);
         add(exprs, Expr::Underscore)?;
-        add_made(
+        add(
             exprs,
             over(alloc, step, Idx::from_raw(last), Idx::from_raw(leaf)),
         )?;

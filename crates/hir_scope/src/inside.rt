@@ -15,25 +15,26 @@ use crate::pushes::{
 use crate::queue::Queue;
 use crate::stack::Stack;
 use crate::tasks::{Around, Task};
-use hir_node::{ClosureTypes, Expr, ExprId, Pat, PatId, Path, TypeRef};
+use hir_node::{Expr, ExprId, Pat, PatId, Path, TypeRef, TypeRefId};
 
 /// Puts what is inside a closure on the stack, the first on top.
 fn push_closure(
     tasks: &mut Stack<Task>,
-    types: &ClosureTypes,
+    arg_types: &[Option<TypeRefId>],
+    ret_type: Option<TypeRefId>,
     args: &[PatId],
     body: ExprId,
     around: Around,
 ) -> Result<(), ScopesFault>
-    ensures ok { OnOk result (tasks.new ≡ (tasks_of (closure_calls types.now.arg_types types.now.ret_type args.now body)
+    ensures ok { OnOk result (tasks.new ≡ (tasks_of (closure_calls arg_types.now ret_type args.now body)
         ++ leave around ∷ []) ++ tasks.old) }
     ensures memory { OnErr result (result ≡ Err ScopesFault.Memory) }
 {
     tasks.push(Task::Leave(around.here, around.constant))?;
     tasks.push(Task::Expr(body))?;
     push_pats(tasks, args)?;
-    push_type_opt(tasks, types.ret_type)?;
-    push_types(tasks, types.arg_types.as_slice())?;
+    push_type_opt(tasks, ret_type)?;
+    push_types(tasks, arg_types)?;
     Ok(())
 }
 
@@ -108,7 +109,7 @@ impl Queue<Task> {
                 tail,
                 label: _,
                 unsafe_: _,
-            } => push_block(tasks, statements.get().as_slice(), *tail, around),
+            } => push_block(tasks, statements.as_slice(), *tail, around),
             Expr::Loop {
                 body,
                 label: _,
@@ -118,12 +119,20 @@ impl Queue<Task> {
                 tasks.push(Task::Expr(*body))
             }
             Expr::Closure {
+                args,
+                arg_types,
+                ret_type,
+                body,
                 closure_kind: _,
                 capture_by: _,
-                body,
-                args,
-                types,
-            } => push_closure(tasks, types.get(), args.as_slice(), *body, around),
+            } => push_closure(
+                tasks,
+                arg_types.as_slice(),
+                *ret_type,
+                args.as_slice(),
+                *body,
+                around,
+            ),
             Expr::Match { expr, arms } => {
                 push_arms(tasks, arms.as_slice())?;
                 tasks.push(Task::Expr(*expr))

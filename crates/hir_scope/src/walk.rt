@@ -222,7 +222,8 @@ impl Walk {
             } => self.open_kind(loop_kind(*label)),
             Expr::Closure {
                 args,
-                types: _,
+                arg_types: _,
+                ret_type: _,
                 body: _,
                 closure_kind: _,
                 capture_by: _,

@@ -19,6 +19,6 @@ pub fn built(alloc: Global) -> Result<Body, HirError> {
     })?;
     let tail = local(alloc, &mut builder, "x")?;
     let statements = vec![in alloc; let_statement(local_x, by_ref)]?;
-    let value = block(alloc, &mut builder, statements, tail)?;
+    let value = block(&mut builder, statements, tail)?;
     body(alloc, builder, &[param], value)
 }

@@ -22,7 +22,7 @@ pub returns-in-Call : goal.returns-in-Call
 returns-in-Call c = rw c.in-Call.is (on_ok_weaker c.open_call.result (λ o s. opens_as (o s) refl (omega arith)) (rw c.as_slice-in-Call.ensures at c.open_call.ensures))
 
 pub returns-in-MethodCall : goal.returns-in-MethodCall
-returns-in-MethodCall c = rw c.in-MethodCall.is (on_ok_weaker c.open_method_call.result (λ o s. opens_as (o s) refl (omega arith)) (rw (c.get.ensures, c.as_slice-in-MethodCall.ensures, c.get-in-MethodCall.ensures) at c.open_method_call.ensures))
+returns-in-MethodCall c = rw c.in-MethodCall.is (on_ok_weaker c.open_method_call.result (λ o s. opens_as (o s) refl (omega arith)) (rw c.as_slice-in-MethodCall.ensures at c.open_method_call.ensures))
 
 pub returns-in-Match : goal.returns-in-Match
 returns-in-Match c = rw c.in-Match.is (on_ok_weaker c.open_match.result (λ o s. opens_as (o s) refl (omega arith)) (rw c.as_slice-in-Match.ensures at c.open_match.ensures))
@@ -46,7 +46,7 @@ pub returns-in-Yeet : goal.returns-in-Yeet
 returns-in-Yeet c = rw c.in-Yeet.is (on_ok_weaker c.open_yeet.result (λ o s. opens_as (o s) refl (omega arith)) c.open_yeet.ensures)
 
 pub returns-in-RecordLit : goal.returns-in-RecordLit
-returns-in-RecordLit c = rw c.in-RecordLit.is (on_ok_weaker c.open_record_lit.result (λ o s. opens_as (o s) refl (omega arith)) (rw (c.get-in-RecordLit.ensures, c.as_slice-in-RecordLit.ensures, c.get-in-RecordLit-2.ensures) at c.open_record_lit.ensures))
+returns-in-RecordLit c = rw c.in-RecordLit.is (on_ok_weaker c.open_record_lit.result (λ o s. opens_as (o s) refl (omega arith)) (rw (c.as_slice-in-RecordLit.ensures, c.get.ensures) at c.open_record_lit.ensures))
 
 pub returns-in-Field : goal.returns-in-Field
 returns-in-Field c = rw c.in-Field.is (on_ok_weaker c.open_field.result (λ o s. opens_as (o s) refl (omega arith)) c.open_field.ensures)
@@ -87,10 +87,10 @@ pub returns-in-Assignment : goal.returns-in-Assignment
 returns-in-Assignment c = rw c.in-Assignment.is (on_ok_weaker c.open_assignment.result (λ o s. opens_as (o s) refl (omega arith)) c.open_assignment.ensures)
 
 pub returns-in-Block : goal.returns-in-Block
-returns-in-Block c = rw c.in-Block.is (on_ok_weaker c.open_block.result (λ o s. opens_as (o s) refl (omega arith)) (rw (c.as_slice-in-Block.ensures, c.get-in-Block.ensures) at c.open_block.ensures))
+returns-in-Block c = rw c.in-Block.is (on_ok_weaker c.open_block.result (λ o s. opens_as (o s) refl (omega arith)) (rw c.as_slice-in-Block.ensures at c.open_block.ensures))
 
 pub returns-in-Closure : goal.returns-in-Closure
-returns-in-Closure c = rw c.in-Closure.is (on_ok_weaker c.open_closure.result (λ o s. opens_as (o s) refl (omega arith)) (rw (c.as_slice-in-Closure.ensures, c.get-in-Closure.ensures) at c.open_closure.ensures))
+returns-in-Closure c = rw c.in-Closure.is (on_ok_weaker c.open_closure.result (λ o s. opens_as (o s) refl (omega arith)) (rw (c.as_slice-in-Closure.ensures, c.as_slice-in-Closure-2.ensures) at c.open_closure.ensures))
 
 pub returns-in-Missing : goal.returns-in-Missing
 returns-in-Missing c = rw c.in-Missing.is (on_ok_weaker c.open_text.result (λ o s. opens_as (o s) refl (omega arith)) c.open_text.ensures)

@@ -11,4 +11,4 @@ pub returns-in-Closure : goal.returns-in-Closure
 returns-in-Closure c =
     let args = subst (λ (xs : List ℕ). Puts c.args.self.now (flat_map p xs) c.meet_pats.new.self) c.as_slice-in-Closure.ensures c.meet_pats.ensures in
     subst (λ (x : Expr). Puts c.args.self.now (met_in_form (expr_form x)) c.on_expr-in-Closure.new.self) (sym c.in-Closure.is)
-    (puts_closure {u = c.args.self.now} {v = c.meet_pats.new.self} {w = c.on_expr-in-Closure.new.self} c.in-Closure.types.arg_types c.in-Closure.types.ret_type c.in-Closure.args c.in-Closure.body args c.on_expr-in-Closure.ensures)
+    (puts_closure {u = c.args.self.now} {v = c.meet_pats.new.self} {w = c.on_expr-in-Closure.new.self} c.in-Closure.arg_types c.in-Closure.ret_type c.in-Closure.args c.in-Closure.body args c.on_expr-in-Closure.ensures)
