@@ -9,7 +9,6 @@ pub mod Pats
 pub mod Pieces
 pub mod Falls
 pub mod Settings
-pub mod SameNames
 pub mod Printed
 pub mod Costs
 pub mod Works

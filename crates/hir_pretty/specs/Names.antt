@@ -25,17 +25,21 @@ is_word (word ∷ words) name = same_text word name || is_word words name
 abbrev pub raw_parts : List (List ℕ) → List ℕ → List (List ℕ)
 raw_parts words name = if is_word words name then codes "r#" ∷ name ∷ [] else name ∷ []
 
+-- as one text
+abbrev pub raw_text : List (List ℕ) → List ℕ → List ℕ
+raw_text words name = flat_map (λ part. part) (raw_parts words name)
+
 -- The parts of a printed name. A leading `'` comes first and isn't looked up, and `'static` is printed as it is.
 abbrev pub name_parts : List (List ℕ) → List ℕ → List (List ℕ)
 name_parts words [] = raw_parts words []
 name_parts words (c ∷ cs) = if c == 39 then (if same_text cs (codes "static") then (c ∷ cs) ∷ [] else (c ∷ []) ∷ raw_parts words cs) else raw_parts words (c ∷ cs)
 
+-- the text of a printed name
+abbrev pub printed_name : List (List ℕ) → List ℕ → List ℕ
+printed_name words name = flat_map (λ part. part) (name_parts words name)
+
 abbrev pub name_items : Setting → List ℕ → List Item
 name_items s name = flat_map text (name_parts s.words name)
-
--- the bytes of a printed name
-abbrev pub name_text : Setting → List ℕ → List ℕ
-name_text s name = flat_map (λ part. part) (name_parts s.words name)
 
 -- a lifetime parameter by its name
 abbrev pub param_items : Setting → Result (List ℕ) Missing → List Item

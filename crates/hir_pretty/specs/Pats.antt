@@ -13,7 +13,7 @@ use Rattle.hir_node.specs.declared.pat.Pat.{Pat}
 use Rattle.hir_node.specs.declared.pat.Pat.TheVariants as pat
 use Rattle.hir_pretty.specs.Questions.{Setting}
 use Rattle.hir_pretty.specs.Items.{Item, text, sp, br, into, out, under, p, opt, when, joined, comma_joined, replacement}
-use Rattle.hir_pretty.specs.Names.{name_items, name_text, same_text, binding_items}
+use Rattle.hir_pretty.specs.Names.{name_items, printed_name, same_text, binding_items}
 use Rattle.hir_pretty.specs.Paths.{path_items}
 
 -- with `..` at its place, or last where that is at or past the end
@@ -30,14 +30,14 @@ is_unannotated Mutable = false
 is_unannotated Ref = false
 is_unannotated RefMut = false
 
--- the binding is printed as the field's name is
-abbrev pub is_printed_as : Setting → List ℕ → Option Binding → Bool
-is_printed_as s name None = false
-is_printed_as s name (Some b) = is_unannotated b.mode && same_text (name_text s b.name) (name_text s name)
+-- The text of the binding is the field's name as it is printed. A word of the edition is printed after `r#`, so it is no such text.
+abbrev pub has_printed_name : Setting → List ℕ → Option Binding → Bool
+has_printed_name s name None = false
+has_printed_name s name (Some b) = is_unannotated b.mode && same_text b.name (printed_name s.words name)
 
--- the field's pattern binds its name, so that the name alone is printed
+-- the field's pattern binds its printed name, so that the name alone is printed
 abbrev pub is_short : Setting → List ℕ → Option Pat → Bool
-is_short s name (Some (pat.Bind id None)) = is_printed_as s name (slice_get s.nodes.bindings id)
+is_short s name (Some (pat.Bind id None)) = has_printed_name s name (slice_get s.nodes.bindings id)
 is_short s name found = false
 
 abbrev pub field_pattern : Setting → RecordFieldPat → List Item

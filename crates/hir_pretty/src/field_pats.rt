@@ -5,10 +5,10 @@ ghost use Rattle.std.specs.Prelude.{◌≡◌, ◌+◌, ◌*◌, ◌++◌, ◌�
 ghost use Rattle.hir_expr_store.specs.Contents.{Contents};
 ghost use Rattle.hir_pretty.specs.Questions.{Questions};
 ghost use Rattle.hir_pretty.specs.Settings.{setting};
-ghost use Rattle.hir_pretty.specs.Pats.{is_printed_as, is_short, field_pattern, field_patterns};
+ghost use Rattle.hir_pretty.specs.Pats.{has_printed_name, is_short, field_pattern, field_patterns};
 ghost use Rattle.hir_pretty.specs.Works.{listed, Opens, pat_part_items, pat_part_cost};
 
-use crate::names::same_printed;
+use crate::names::is_printed;
 use crate::pats::{open_elements, open_range_end, open_with_rest};
 use crate::work::{PatPart, Stack, Work};
 use hir_base::Text;
@@ -16,23 +16,23 @@ use hir_expr_store::ExpressionStore;
 use hir_node::{Binding, BindingAnnotation, BindingId, Pat, RecordFieldPat};
 use std::alloc::AllocError;
 
-/// Whether a binding is printed as this name is.
-fn is_printed_as(words: &[Text], name: &str, binding: &Binding) -> bool
+/// Whether the text of a binding is this name as it is printed.
+fn has_printed_name(words: &[Text], name: &str, binding: &Binding) -> bool
     ensures { (store : Contents) (tables : Questions) (one_line : Bool)
-        → result ≡ is_printed_as (setting store tables words.now one_line) name.now (Some binding.now) }
+        → result ≡ has_printed_name (setting store tables words.now one_line) name.now (Some binding.now) }
 {
     match binding.mode {
-        BindingAnnotation::Unannotated => same_printed(words, binding.name.as_str(), name),
+        BindingAnnotation::Unannotated => is_printed(words, name, binding.name.as_str()),
         BindingAnnotation::Mutable | BindingAnnotation::Ref | BindingAnnotation::RefMut => false,
     }
 }
 
 fn binds_name(store: &ExpressionStore, words: &[Text], name: &str, id: BindingId) -> bool
     ensures { (tables : Questions) (one_line : Bool) → result
-        ≡ is_printed_as (setting store.now tables words.now one_line) name.now (slice_get store.now.nodes.bindings id) }
+        ≡ has_printed_name (setting store.now tables words.now one_line) name.now (slice_get store.now.nodes.bindings id) }
 {
     if store.has_binding(id) {
-        return is_printed_as(words, name, &store[id]);
+        return has_printed_name(words, name, &store[id]);
     }
     false
 }
@@ -47,7 +47,7 @@ fn is_short_pat(store: &ExpressionStore, words: &[Text], name: &str, pat: &Pat) 
     false
 }
 
-/// Whether a field's pattern binds its name, so that the name alone is printed.
+/// Whether a field's pattern binds its name as it is printed, so that the name alone is printed.
 fn is_short(store: &ExpressionStore, words: &[Text], field: &RecordFieldPat) -> bool
     ensures { (tables : Questions) (one_line : Bool) → result
         ≡ is_short (setting store.now tables words.now one_line) field.now.name (slice_get store.now.nodes.pats field.now.pat) }

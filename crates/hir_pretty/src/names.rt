@@ -1,11 +1,10 @@
 //! Names as they are printed: with `r#` where the edition's words list them.
 #![tactic(auto, using(hir_page::proofs::WritesLemmas::writing))]
 
-ghost use Rattle.std.specs.Prelude.{◌≡◌, ◌≢◌, ◌∷◌, [], true, List, ℕ, MatchOption, is_ok, map, codes};
+ghost use Rattle.std.specs.Prelude.{◌≡◌, ◌≢◌, ◌∷◌, ◌++◌, [], List, ℕ, MatchOption, is_ok, map, codes};
 ghost use Rattle.hir_page.specs.Pieces as piece;
 ghost use Rattle.hir_page.specs.Writes.{Writes};
-ghost use Rattle.hir_pretty.specs.Names.{is_word, raw_parts, name_parts, same_text};
-ghost use Rattle.hir_pretty.specs.SameNames.{marked, printed_name, parts_text, IsUnquoted};
+ghost use Rattle.hir_pretty.specs.Names.{is_word, raw_parts, raw_text, name_parts, printed_name, same_text};
 
 use hir_base::Text;
 use hir_page::PieceWriter;
@@ -89,61 +88,46 @@ pub(crate) fn write_name<W: PieceWriter>(
     }
 }
 
-/// What is printed of a name after a leading `'`, or of one without.
-#[derive(Clone, Copy)]
-struct Parts<'a> {
-    is_quoted: bool,
-    is_raw: bool,
-    rest: &'a str,
-}
-
-fn parts_of<'a>(words: &[Text], name: &'a str) -> Parts<'a>
-    ensures text { parts_text result.is_quoted result.is_raw result.rest.now ≡ printed_name words.now name.now }
-    ensures unquoted { IsUnquoted result.is_quoted result.is_raw result.rest.now }
-{
-    match without_quote(name) {
-        None => Parts {
-            is_quoted: false,
-            is_raw: is_word(words, name),
-            rest: name,
-        },
-        Some(rest) => Parts {
-            is_quoted: true,
-            is_raw: rest != "static" && is_word(words, rest),
-            rest,
-        },
-    }
-}
-
-/// Whether two texts are equal, each with `r#` before it where it is raw.
-fn same_marked(is_raw: bool, text: &str, other_is_raw: bool, other: &str) -> bool
-    ensures { result ≡ same_text (marked is_raw text.now) (marked other_is_raw other.now) }
-{
-    if is_raw == other_is_raw {
-        return text == other;
-    }
-    if is_raw {
-        return is_marked(other, text);
-    }
-    is_marked(text, other)
-}
-
-/// Whether a text is `r#` and then this.
-fn is_marked(text: &str, rest: &str) -> bool
-    ensures { result ≡ same_text text.now (marked true rest.now) }
+/// Whether a text is `r#` and then this name.
+fn is_marked(name: &str, text: &str) -> bool
+    ensures { result ≡ same_text text.now (codes "r#" ++ name.now) }
 {
     match text.as_bytes() {
-        [b'r', b'#', found @ ..] => found == rest.as_bytes(),
+        [b'r', b'#', rest @ ..] => rest == name.as_bytes(),
         [] | [_] | [_, _, ..] => false,
     }
 }
 
-/// Whether two names are printed alike.
-pub(crate) fn same_printed(words: &[Text], name: &str, other: &str) -> bool
-    ensures { result ≡ same_text (printed_name words.now name.now) (printed_name words.now other.now) }
+/// Whether a text is that of a name as it is printed, where it has no `'` to be looked past.
+fn is_raw(words: &[Text], name: &str, text: &str) -> bool
+    ensures { result ≡ same_text text.now (raw_text words.now name.now) }
 {
-    let name = parts_of(words, name);
-    let other = parts_of(words, other);
-    name.is_quoted == other.is_quoted
-        && same_marked(name.is_raw, name.rest, other.is_raw, other.rest)
+    if is_word(words, name) {
+        return is_marked(name, text);
+    }
+    text == name
+}
+
+/// Whether a text is that of a name as it is printed, which is `'` and then `rest`.
+fn is_quoted(words: &[Text], name: &str, rest: &str, text: &str) -> bool
+    requires { name.now ≡ 39 ∷ rest.now }
+    ensures { result ≡ same_text text.now (printed_name words.now name.now) }
+{
+    if rest == "static" {
+        return text == name;
+    }
+    match without_quote(text) {
+        None => false,
+        Some(behind) => is_raw(words, rest, behind),
+    }
+}
+
+/// Whether a text is that of a name as it is printed.
+pub(crate) fn is_printed(words: &[Text], name: &str, text: &str) -> bool
+    ensures { result ≡ same_text text.now (printed_name words.now name.now) }
+{
+    match without_quote(name) {
+        None => is_raw(words, name, text),
+        Some(rest) => is_quoted(words, name, rest, text),
+    }
 }

@@ -1,5 +1,5 @@
 //! Trees 1,000,000 deep: nothing recurses on the depth of a tree.
-use crate::build::{add, add_made, around, finished, in_a_box, of_expr, of_pat, tables};
+use crate::build::{add, around, finished, in_a_box, of_expr, of_pat, tables};
 use hir_base::{Arena, ArithOp, BinaryOp, Idx, LogicOp, Seq};
 use hir_node::{Expr, ExprId, ExprKind, Mutability, Pat, Rawness, TypeRef, Unsafe};
 use hir_store::{ExpressionStore, ExpressionStoreBuilder};
