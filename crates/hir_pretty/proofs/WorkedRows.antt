@@ -75,9 +75,9 @@ expr_text exprs pats types bindings id = let s = setting exprs pats types bindin
 abbrev exprs_text : List Expr → ℕ → List ℕ
 exprs_text exprs id = expr_text exprs [] [] [] id
 
--- the text of a pattern in one line, over bindings `a` and `b`
+-- the text of a pattern in one line, over bindings `a`, `b` and `match`
 abbrev pat_text : List Pat → ℕ → List ℕ
-pat_text pats id = let s = setting [] pats [] (binding (codes "a") ∷ binding (codes "b") ∷ []) true in text_of s (pieces s (node.Pat id))
+pat_text pats id = let s = setting [] pats [] (binding (codes "a") ∷ binding (codes "b") ∷ binding (codes "match") ∷ []) true in text_of s (pieces s (node.Pat id))
 
 abbrev path_text : List Expr → List TypeRef → Path → List ℕ
 path_text exprs types p = let s = setting exprs [] types [] false in text_of s (path_pieces s p)
@@ -150,6 +150,12 @@ record_pattern : pat_text (bind 0 ∷ pat.Record true (bare (codes "S" ∷ [])) 
     ≡ codes "S { a, .. }"
 unfolding pieces value rank height
 record_pattern = refl
+
+-- a word of the edition never stands alone
+record_pattern_of_a_word : pat_text (bind 2 ∷ pat.Record false (bare (codes "S" ∷ [])) (record { name = codes "match"; pat = 0 } ∷ []) ∷ []) 1
+    ≡ codes "S { r#match: r#match }"
+unfolding pieces value rank height
+record_pattern_of_a_word = refl
 
 record_pattern_without_fields : pat_text (pat.Record false (bare (codes "S" ∷ [])) [] ∷ []) 0
     ≡ codes "S { }"
