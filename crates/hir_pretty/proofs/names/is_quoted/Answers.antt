@@ -8,7 +8,7 @@ returns-then-eq c =
     let printed = ap (λ (name : List ℕ). printed_name c.args.words.now name) c.requires
     ∙ quoted_static_text c.args.words.now c.args.rest.now (sym c.eq.ensures ∙ c.if-eq.true)
     ∙ sym c.requires in
-    c.eq-2.ensures ∙ ap (λ (shown : List ℕ). same_text c.args.text.now shown) (sym printed)
+    c.eq-then-eq.ensures ∙ ap (λ (shown : List ℕ). same_text c.args.text.now shown) (sym printed)
 
 pub returns-in-None : goal.returns-in-None
 returns-in-None c =
