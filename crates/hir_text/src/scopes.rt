@@ -2,15 +2,15 @@
 
 ghost use Rattle.std.specs.Prelude.{◌<◌, length};
 
-use hir_defs_text::asked_body;
-use hir_store_text::{differs, refuse, unknown};
 use hir_base::{ExpressionStoreOwnerId, HygieneId, Name, Steps, SyntaxContext};
 use hir_captures::{CapturesFault, captures};
 use hir_defs::{Body, Tables};
+use hir_defs_text::asked_body;
 use hir_node::ExprId;
 use hir_notation::{Answer, Stop, Words, opt_hygiene};
 use hir_scope::{ExprScopes, ScopeEntry, ScopeId, ScopesFault};
 use hir_store::ExpressionStore;
+use hir_store_text::{differs, refuse, unknown};
 use std::alloc::{AllocError, Global};
 
 /// What is asked of scopes.
@@ -97,11 +97,7 @@ fn unreached(answer: &mut Answer) -> Result<(), AllocError> {
 }
 
 /// Writes the names of a scope's entries.
-fn write_names(
-    scopes: &ExprScopes,
-    scope: ScopeId,
-    answer: &mut Answer,
-) -> Result<(), AllocError> {
+fn write_names(scopes: &ExprScopes, scope: ScopeId, answer: &mut Answer) -> Result<(), AllocError> {
     if scopes.has_scope(scope) {
         for entry in scopes.entries(scope) {
             answer.name(entry.name().as_str())?;
@@ -111,11 +107,7 @@ fn write_names(
 }
 
 /// Writes the names along the chain of an expression, innermost first.
-fn write_chain(
-    scopes: &ExprScopes,
-    expr: ExprId,
-    answer: &mut Answer,
-) -> Result<(), AllocError> {
+fn write_chain(scopes: &ExprScopes, expr: ExprId, answer: &mut Answer) -> Result<(), AllocError> {
     let Some(scope) = scopes.scope_for(expr) else {
         return unreached(answer);
     };
@@ -140,11 +132,7 @@ fn write_entry(entry: &ScopeEntry, answer: &mut Answer) -> Result<(), AllocError
 }
 
 /// Writes the kind of a scope and its entries; `.` where there is nothing.
-fn write_scope(
-    scopes: &ExprScopes,
-    scope: ScopeId,
-    answer: &mut Answer,
-) -> Result<(), AllocError>
+fn write_scope(scopes: &ExprScopes, scope: ScopeId, answer: &mut Answer) -> Result<(), AllocError>
     requires { scope < length scopes.now.scopes }
 {
     let mut is_empty = true;
@@ -174,11 +162,7 @@ fn write_scope(
 }
 
 /// Writes the scopes along the chain of an expression, innermost first.
-fn write_frames(
-    scopes: &ExprScopes,
-    expr: ExprId,
-    answer: &mut Answer,
-) -> Result<(), AllocError> {
+fn write_frames(scopes: &ExprScopes, expr: ExprId, answer: &mut Answer) -> Result<(), AllocError> {
     let Some(scope) = scopes.scope_for(expr) else {
         return unreached(answer);
     };
@@ -221,11 +205,7 @@ fn write_meaning(
 }
 
 /// Writes what is asked of the scopes.
-fn write(
-    question: &Question,
-    scopes: &ExprScopes,
-    answer: &mut Answer,
-) -> Result<(), AllocError> {
+fn write(question: &Question, scopes: &ExprScopes, answer: &mut Answer) -> Result<(), AllocError> {
     match question {
         Question::Chain(expr) => write_chain(scopes, *expr, answer),
         Question::Frames(expr) => write_frames(scopes, *expr, answer),
@@ -254,9 +234,16 @@ fn write_same(
     differs(answer)
 }
 
-/// Compares the scopes of a body with those that are counted.
-fn ask_counted(alloc: Global, body: Option<&Body>, answer: &mut Answer) -> Result<(), Stop> {
-    let Some(body) = body else {
+/// `counted-scopes`: compares the scopes of a body with those that are counted.
+fn ask_counted(
+    alloc: Global,
+    tables: &Tables,
+    owner: Option<ExpressionStoreOwnerId>,
+    words: &mut Words<'_>,
+    answer: &mut Answer,
+) -> Result<(), Stop> {
+    words.end()?;
+    let Some(body) = asked_body(tables, owner) else {
         return Ok(unknown(answer)?);
     };
     let mut steps = Steps::new();
@@ -291,14 +278,16 @@ fn ask_looked_up(
     Ok(())
 }
 
-/// The same, where the store has an owner.
+/// `scopes-by-tables`: the same, where the store has an owner.
 fn ask_by_tables(
     alloc: Global,
     tables: &Tables,
     store: &ExpressionStore,
     owner: Option<ExpressionStoreOwnerId>,
+    words: &mut Words<'_>,
     answer: &mut Answer,
 ) -> Result<(), Stop> {
+    words.end()?;
     let Some(owner) = owner else {
         return Ok(unknown(answer)?);
     };
@@ -310,7 +299,7 @@ fn ask_by_tables(
 }
 
 /// Writes the bindings that an expression of a body captures.
-fn ask_captures(
+fn write_captures(
     alloc: Global,
     body: &Body,
     closure: ExprId,
@@ -332,6 +321,42 @@ fn ask_captures(
     Ok(())
 }
 
+/// `captures E`
+fn ask_captures(
+    alloc: Global,
+    tables: &Tables,
+    owner: Option<ExpressionStoreOwnerId>,
+    words: &mut Words<'_>,
+    answer: &mut Answer,
+) -> Result<(), Stop> {
+    let closure = words.next_id()?;
+    words.end()?;
+    match asked_body(tables, owner) {
+        Some(body) => write_captures(alloc, body, closure, answer),
+        None => Ok(unknown(answer)?),
+    }
+}
+
+/// Answers a question on scopes that are made once; answers whether it is such a question.
+fn ask_scopes(
+    alloc: Global,
+    tables: &Tables,
+    store: &ExpressionStore,
+    owner: Option<ExpressionStoreOwnerId>,
+    word: &[u8],
+    words: &mut Words<'_>,
+    answer: &mut Answer,
+) -> Result<bool, Stop> {
+    let Some(question) = read(alloc, word, words)? else {
+        return Ok(false);
+    };
+    let scopes = made(alloc, store, asked_body(tables, owner));
+    if let Some(scopes) = opened(alloc, scopes, answer)? {
+        write(&question, &scopes, answer)?;
+    }
+    Ok(true)
+}
+
 /// Answers a question on scopes or captures; answers whether it is such a question.
 pub(crate) fn ask(
     alloc: Global,
@@ -342,32 +367,11 @@ pub(crate) fn ask(
     words: &mut Words<'_>,
     answer: &mut Answer,
 ) -> Result<bool, Stop> {
-    let body = asked_body(tables, owner);
     match word {
-        b"captures" => {
-            let closure = words.next_id()?;
-            words.end()?;
-            match body {
-                Some(body) => ask_captures(alloc, body, closure, answer)?,
-                None => unknown(answer)?,
-            }
-        }
-        b"counted-scopes" => {
-            words.end()?;
-            ask_counted(alloc, body, answer)?;
-        }
-        b"scopes-by-tables" => {
-            words.end()?;
-            ask_by_tables(alloc, tables, store, owner, answer)?;
-        }
-        _ => {
-            let Some(question) = read(alloc, word, words)? else {
-                return Ok(false);
-            };
-            if let Some(scopes) = opened(alloc, made(alloc, store, body), answer)? {
-                write(&question, &scopes, answer)?;
-            }
-        }
+        b"captures" => ask_captures(alloc, tables, owner, words, answer)?,
+        b"counted-scopes" => ask_counted(alloc, tables, owner, words, answer)?,
+        b"scopes-by-tables" => ask_by_tables(alloc, tables, store, owner, words, answer)?,
+        _ => return ask_scopes(alloc, tables, store, owner, word, words, answer),
     }
     Ok(true)
 }
