@@ -222,18 +222,6 @@ fn write(question: &Question, scopes: &ExprScopes, answer: &mut Answer) -> Resul
     }
 }
 
-/// Writes the counts of scopes that were made twice, where they are the same.
-fn write_same(
-    scopes: &ExprScopes,
-    others: &ExprScopes,
-    answer: &mut Answer,
-) -> Result<(), AllocError> {
-    if *scopes == *others {
-        return write_counts(scopes, answer);
-    }
-    differs(answer)
-}
-
 /// `counted-scopes`: compares the scopes of a body with those that are counted.
 fn ask_counted(
     alloc: Global,
@@ -251,31 +239,78 @@ fn ask_counted(
     let Some(counted) = opened(alloc, counted, answer)? else {
         return Ok(());
     };
-    if let Some(scopes) = opened(alloc, ExprScopes::new_body(alloc, body), answer)? {
-        write_same(&scopes, &counted, answer)?;
+    if are_same(alloc, ExprScopes::new_body(alloc, body), &counted, answer)? {
+        write_counts(&counted, answer)?;
     }
     Ok(())
+}
+
+/// An owner that is lent to the call for whatever converts into one: at an owner itself the prover's borrow checker can't build the
+/// proof of the call.
+#[derive(Clone, Copy)]
+struct Lent<'a>(&'a ExpressionStoreOwnerId);
+
+impl From<Lent<'_>> for ExpressionStoreOwnerId {
+    fn from(owner: Lent<'_>) -> ExpressionStoreOwnerId {
+        *owner.0
+    }
+}
+
+/// The scopes of an owner's store, by the call for all kinds.
+fn made_of_owner(
+    alloc: Global,
+    tables: &Tables,
+    owner: &ExpressionStoreOwnerId,
+) -> Result<ExprScopes, ScopesFault> {
+    ExprScopes::of(alloc, tables, Lent(owner))
+}
+
+/// Whether scopes were made that are the same as these. If not, the answer says why.
+fn are_same(
+    alloc: Global,
+    outcome: Result<ExprScopes, ScopesFault>,
+    scopes: &ExprScopes,
+    answer: &mut Answer,
+) -> Result<bool, Stop> {
+    let Some(others) = opened(alloc, outcome, answer)? else {
+        return Ok(false);
+    };
+    let is_same = *scopes == *others;
+    if !is_same {
+        differs(answer)?;
+    }
+    Ok(is_same)
 }
 
 /// Compares scopes with those that are made by a lookup of the owner.
 fn ask_looked_up(
     alloc: Global,
     tables: &Tables,
-    owner: ExpressionStoreOwnerId,
+    owner: &ExpressionStoreOwnerId,
     scopes: &ExprScopes,
     answer: &mut Answer,
 ) -> Result<(), Stop> {
-    let by_kind = made_by_kind(alloc, tables, owner);
-    let Some(by_kind) = opened(alloc, by_kind, answer)? else {
-        return Ok(());
-    };
-    if *scopes != *by_kind {
-        return Ok(differs(answer)?);
-    }
-    if let Some(of_owner) = opened(alloc, ExprScopes::of(alloc, tables, owner), answer)? {
-        write_same(scopes, &of_owner, answer)?;
+    if are_same(alloc, made_by_kind(alloc, tables, *owner), scopes, answer)?
+        && are_same(alloc, made_of_owner(alloc, tables, owner), scopes, answer)?
+    {
+        write_counts(scopes, answer)?;
     }
     Ok(())
+}
+
+/// The same for the scopes of this owner's store.
+fn ask_of_owner(
+    alloc: Global,
+    tables: &Tables,
+    store: &ExpressionStore,
+    owner: &ExpressionStoreOwnerId,
+    answer: &mut Answer,
+) -> Result<(), Stop> {
+    let scopes = made(alloc, store, asked_body(tables, Some(*owner)));
+    match opened(alloc, scopes, answer)? {
+        Some(scopes) => ask_looked_up(alloc, tables, owner, &scopes, answer),
+        None => Ok(()),
+    }
 }
 
 /// `scopes-by-tables`: the same, where the store has an owner.
@@ -288,14 +323,10 @@ fn ask_by_tables(
     answer: &mut Answer,
 ) -> Result<(), Stop> {
     words.end()?;
-    let Some(owner) = owner else {
-        return Ok(unknown(answer)?);
-    };
-    let scopes = made(alloc, store, asked_body(tables, Some(owner)));
-    if let Some(scopes) = opened(alloc, scopes, answer)? {
-        ask_looked_up(alloc, tables, owner, &scopes, answer)?;
+    match &owner {
+        Some(owner) => ask_of_owner(alloc, tables, store, owner, answer),
+        None => Ok(unknown(answer)?),
     }
-    Ok(())
 }
 
 /// Writes the bindings that an expression of a body captures.
