@@ -204,10 +204,10 @@ fn nameless(alloc: Global) -> Result<Result<String, PrintFault>, Fail> {
 }
 
 /// Whether a printing found that this is missing. Its fault, where memory was refused.
-fn lacks(printed: Result<String, PrintFault>, wanted: Missing) -> Result<bool, Fail> {
+fn lacks(printed: &Result<String, PrintFault>, wanted: Missing) -> Result<bool, Fail> {
     match printed {
         Ok(_) => Ok(false),
-        Err(PrintFault::Missing(missing)) => Ok(missing == wanted),
+        Err(PrintFault::Missing(missing)) => Ok(*missing == wanted),
         Err(PrintFault::Memory) => Err(Fail::from(PrintFault::Memory)),
     }
 }
@@ -216,7 +216,8 @@ fn lacks(printed: Result<String, PrintFault>, wanted: Missing) -> Result<bool, F
 #[test]
 fn what_is_missing(rt: HostRuntime) -> Result<(), Fail> {
     let structure = NamedDef::StructId(StructId::from_raw(1));
-    let is_said = lacks(nameless(rt.alloc())?, Missing::Name(structure))?;
+    let printed = nameless(rt.alloc())?;
+    let is_said = lacks(&printed, Missing::Name(structure))?;
     assert!(&rt; is_said);
     Ok(())
 }
