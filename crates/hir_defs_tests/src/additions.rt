@@ -22,19 +22,28 @@ fn added<T: PartialEq + Drop>(outcome: Result<(), AllocFailed<T>>, given: &T) ->
     }
 }
 
+fn plain() -> PlainDef {
+    PlainDef::Trait(TraitId::from_raw(4))
+}
+
+fn variant() -> VariantId {
+    VariantId::StructId(StructId::from_raw(4))
+}
+
+fn body() -> DefWithBodyId {
+    DefWithBodyId::FunctionId(FunctionId::from_raw(4))
+}
+
 /// Adds signatures, fields and a body of number 4.
 fn add_definitions(tables: &mut Numbers) -> [Added; 5] {
     let function = FunctionId::from_raw(4);
     let structure = StructId::from_raw(4);
-    let plain = PlainDef::Trait(TraitId::from_raw(4));
-    let variant = VariantId::StructId(structure);
-    let body = DefWithBodyId::FunctionId(function);
     [
         added(tables.add_function(function, 1, 10), &(function, (1, 10))),
         added(tables.add_struct(structure, 2, 20), &(structure, (2, 20))),
-        added(tables.add_plain(plain, 3, 30), &(plain, (3, 30))),
-        added(tables.add_fields(variant, 5, 50), &(variant, (5, 50))),
-        added(tables.add_body(body, 6, 60), &(body, (6, 60))),
+        added(tables.add_plain(plain(), 3, 30), &(plain(), (3, 30))),
+        added(tables.add_fields(variant(), 5, 50), &(variant(), (5, 50))),
+        added(tables.add_body(body(), 6, 60), &(body(), (6, 60))),
     ]
 }
 

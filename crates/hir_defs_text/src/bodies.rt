@@ -1,11 +1,11 @@
 //! The line `body`, and the questions on a body's parameters.
 
 use crate::pending::Pending;
-use hir_store_text::{refuse, unknown};
 use crate::subject::{Finished, Subject};
 use hir_base::{DefWithBodyId, ExpressionStoreOwnerId, Idx};
 use hir_defs::{Body, BodyFault, BodySourceMap, Param, RefusedBody, Tables};
 use hir_notation::{Answer, Stop, Words};
+use hir_store_text::{refuse, unknown};
 use std::alloc::{AllocError, Global};
 
 /// Makes a body of the store and of what waits for it, and adds it to the tables. Answers the store that questions ask from then on.
@@ -42,28 +42,22 @@ pub(crate) fn make(
     }
 }
 
-/// The body of this owner, with its definition, where it is one.
-pub fn body_of(
-    tables: &Tables,
-    owner: Option<ExpressionStoreOwnerId>,
-) -> Option<(DefWithBodyId, &Body)> {
+/// The definition whose body the owner is, where it is a body.
+pub fn asked_def(owner: Option<ExpressionStoreOwnerId>) -> Option<DefWithBodyId> {
     match owner {
-        Some(ExpressionStoreOwnerId::Body(def)) => match Body::of(tables, def) {
-            Ok(body) => Some((def, body)),
-            Err(_) => None,
-        },
+        Some(ExpressionStoreOwnerId::Body(def)) => Some(def),
         Some(ExpressionStoreOwnerId::Signature(_) | ExpressionStoreOwnerId::VariantFields(_))
         | None => None,
     }
 }
 
-/// The same without the definition.
-pub fn asked_body(
-    tables: &Tables,
-    owner: Option<ExpressionStoreOwnerId>,
-) -> Option<&Body> {
-    match body_of(tables, owner) {
-        Some((_, body)) => Some(body),
+/// The body of this owner, where it is one.
+pub fn asked_body(tables: &Tables, owner: Option<ExpressionStoreOwnerId>) -> Option<&Body> {
+    match asked_def(owner) {
+        Some(def) => match Body::of(tables, def) {
+            Ok(body) => Some(body),
+            Err(_) => None,
+        },
         None => None,
     }
 }
@@ -90,11 +84,7 @@ fn write_parts(body: &Body, answer: &mut Answer) -> Result<(), AllocError> {
     Ok(())
 }
 
-fn ask_parts(
-    body: Option<&Body>,
-    words: &mut Words<'_>,
-    answer: &mut Answer,
-) -> Result<(), Stop> {
+fn ask_parts(body: Option<&Body>, words: &mut Words<'_>, answer: &mut Answer) -> Result<(), Stop> {
     words.end()?;
     match body {
         Some(body) => write_parts(body, answer)?,

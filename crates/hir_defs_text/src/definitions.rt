@@ -2,19 +2,19 @@
 
 use crate::bodies;
 use crate::fields::next_shape;
-use hir_store_text::refuse;
 use crate::pending::Pending;
-use crate::subject::{Finished, Subject};
 use crate::signatures::{FunctionLine, StructLine, as_plain, read_function, read_struct};
+use crate::subject::{Finished, Subject};
 use hir_base::{
     AdtId, DefWithBodyId, ExpressionStoreOwnerId, FunctionId, GenericDefId, StructId, VariantId,
 };
 use hir_defs::{
-    FieldsShape, FunctionParts, FunctionSignature, PlainDef, PlainParts, PlainSignature,
-    SignatureFault, StructParts, StructSignature, Tables, VariantFields, VariantParts,
+    FieldsShape, FunctionSignature, PlainDef, PlainParts, PlainSignature, SignatureFault,
+    StructSignature, Tables, VariantFields, VariantParts,
 };
 use hir_notation::{Answer, Stop, Words, as_def_with_body, as_variant, next_def};
 use hir_store::{ExpressionStore, ExpressionStoreSourceMap};
+use hir_store_text::refuse;
 use std::alloc::Global;
 
 /// What a line makes of a finished store.
@@ -28,11 +28,7 @@ pub enum Definition {
 }
 
 /// What a line makes of a finished store, where it is such a line.
-pub fn read(
-    alloc: Global,
-    word: &[u8],
-    words: &mut Words<'_>,
-) -> Result<Option<Definition>, Stop> {
+pub fn read(alloc: Global, word: &[u8], words: &mut Words<'_>) -> Result<Option<Definition>, Stop> {
     let definition = match word {
         b"body" => Definition::Body(as_def_with_body(next_def(words)?)?),
         b"function" => {
@@ -92,13 +88,10 @@ fn make_function(
             accepted(ExpressionStoreOwnerId::Signature(def), answer)
         }
         Err(back) => {
-            let FunctionParts {
-                generic_params,
-                store,
-                ..
-            } = back.parts;
-            pending.put_back_generics(&generic_params)?;
-            refused(alloc, back.fault, store, sources, answer)
+            let fault = back.fault;
+            let parts = back.parts;
+            pending.put_back_generics(&parts.generic_params)?;
+            refused(alloc, fault, parts.store, sources, answer)
         }
     }
 }
@@ -120,20 +113,17 @@ fn make_struct(
             accepted(ExpressionStoreOwnerId::Signature(def), answer)
         }
         Err(back) => {
-            let StructParts {
-                generic_params,
-                store,
-                ..
-            } = back.parts;
-            pending.put_back_generics(&generic_params)?;
-            refused(alloc, back.fault, store, sources, answer)
+            let fault = back.fault;
+            let parts = back.parts;
+            pending.put_back_generics(&parts.generic_params)?;
+            refused(alloc, fault, parts.store, sources, answer)
         }
     }
 }
 
 fn make_plain(
     alloc: Global,
-    def: PlainDef,
+    def: &PlainDef,
     finished: Finished,
     pending: &mut Pending,
     tables: &mut Tables,
@@ -146,23 +136,21 @@ fn make_plain(
         store,
     }) {
         Ok(signature) => {
-            tables.add_plain(def, signature, sources)?;
+            tables.add_plain(*def, signature, sources)?;
             accepted(ExpressionStoreOwnerId::Signature(def.generic_def()), answer)
         }
         Err(back) => {
-            let PlainParts {
-                generic_params,
-                store,
-            } = back.parts;
-            pending.put_back_generics(&generic_params)?;
-            refused(alloc, back.fault, store, sources, answer)
+            let fault = back.fault;
+            let parts = back.parts;
+            pending.put_back_generics(&parts.generic_params)?;
+            refused(alloc, fault, parts.store, sources, answer)
         }
     }
 }
 
 fn make_variant(
     alloc: Global,
-    id: VariantId,
+    id: &VariantId,
     shape: FieldsShape,
     finished: Finished,
     pending: &mut Pending,
@@ -177,17 +165,14 @@ fn make_variant(
         store,
     }) {
         Ok(variant) => {
-            tables.add_fields(id, variant, sources)?;
-            accepted(ExpressionStoreOwnerId::VariantFields(id), answer)
+            tables.add_fields(*id, variant, sources)?;
+            accepted(ExpressionStoreOwnerId::VariantFields(*id), answer)
         }
         Err(back) => {
-            let VariantParts {
-                shape: _,
-                fields,
-                store,
-            } = back.parts;
-            pending.put_back_fields(fields);
-            refused(alloc, back.fault, store, sources, answer)
+            let fault = back.fault;
+            let parts = back.parts;
+            pending.put_back_fields(parts.fields);
+            refused(alloc, fault, parts.store, sources, answer)
         }
     }
 }
@@ -210,9 +195,9 @@ pub fn make(
         Definition::Struct(id, line) => {
             make_struct(alloc, id, line, finished, pending, tables, answer)
         }
-        Definition::Plain(def) => make_plain(alloc, def, finished, pending, tables, answer),
+        Definition::Plain(def) => make_plain(alloc, &def, finished, pending, tables, answer),
         Definition::Variant(id, shape) => {
-            make_variant(alloc, id, shape, finished, pending, tables, answer)
+            make_variant(alloc, &id, shape, finished, pending, tables, answer)
         }
     }
 }

@@ -1,12 +1,12 @@
 //! Questions on generic parameters.
 
-use hir_store_text::refuse_missing;
 use hir_base::{GenericDefId, LocalLifetimeParamId, Name};
 use hir_defs::{GenericParams, Tables};
 use hir_notation::{
     Answer, Stop, Words, as_generic, next_def, write_lifetime_param, write_predicate,
     write_type_or_const,
 };
+use hir_store_text::refuse_missing;
 use std::alloc::{AllocError, Global};
 
 /// What is asked of a definition's parameters.

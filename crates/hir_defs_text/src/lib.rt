@@ -12,7 +12,7 @@ mod signatures;
 mod subject;
 mod tables;
 
-pub use bodies::{asked_body, body_of};
+pub use bodies::{asked_body, asked_def};
 pub use definitions::{Definition, make, read};
 pub use pending::Pending;
 pub use questions::{ask, ask_of_owner};

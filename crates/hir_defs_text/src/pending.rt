@@ -26,15 +26,15 @@ pub struct Pending {
 
 /// A parameter: the formal, and what the user wrote, which is the same where it is left out.
 fn read_param<K>(words: &mut Words<'_>) -> Result<Param<Idx<K>>, Stop> {
-    let formal = words.next_id()?;
+    let formal = words.next_number()?;
     let user_written = if words.is_end() {
         formal
     } else {
-        words.next_id()?
+        words.next_number()?
     };
     Ok(Param {
-        formal,
-        user_written,
+        formal: Idx::from_raw(formal),
+        user_written: Idx::from_raw(user_written),
     })
 }
 

@@ -14,9 +14,11 @@ pub fn ask(
     words: &mut Words<'_>,
     answer: &mut Answer,
 ) -> Result<bool, Stop> {
-    Ok(tables::ask(tables, word, words, answer)?
-        || signature_text::ask(tables, word, words, answer)?
-        || generics::ask(alloc, tables, word, words, answer)?)
+    Ok(
+        tables::ask(tables, word, words, answer)?
+            || signature_text::ask(tables, word, words, answer)?
+            || generics::ask(alloc, tables, word, words, answer)?,
+    )
 }
 
 /// Answers a question on the body of this owner; answers whether it is such a question.

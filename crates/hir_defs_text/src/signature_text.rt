@@ -1,7 +1,6 @@
 //! Signatures and the fields of variants as their lines have them, and the questions on them.
 
 use crate::fields::{write_field, write_shape};
-use hir_store_text::refuse_missing;
 use crate::signatures::as_plain;
 use hir_base::{FunctionId, Idx, StructId, VariantId};
 use hir_defs::{FunctionSignature, PlainDef, StructSignature, Tables, VariantFields};
@@ -9,6 +8,7 @@ use hir_node::TypeRefId;
 use hir_notation::{
     Answer, Stop, Words, as_variant, next_def, of_generic, of_variant, write_abi, write_def,
 };
+use hir_store_text::refuse_missing;
 use std::alloc::AllocError;
 
 /// Writes types as a line has them: joined by `,`, or `-`.
@@ -108,11 +108,7 @@ fn write_variant(
     Ok(())
 }
 
-fn ask_function(
-    tables: &Tables,
-    words: &mut Words<'_>,
-    answer: &mut Answer,
-) -> Result<(), Stop> {
+fn ask_function(tables: &Tables, words: &mut Words<'_>, answer: &mut Answer) -> Result<(), Stop> {
     let id = words.next_def()?;
     words.end()?;
     match tables.function_signature(id) {

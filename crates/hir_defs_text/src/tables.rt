@@ -1,10 +1,9 @@
 //! The entries of the tables besides bodies and signatures: the lines that add them, and the questions on them.
 
-use hir_store_text::refuse_missing;
 use hir_base::{Seq, Text};
 use hir_defs::{Repr, Tables};
-use hir_expr_store::Missing;
 use hir_notation::{Answer, Stop, Words, as_named, next_def, next_edition};
+use hir_store_text::refuse_missing;
 use std::alloc::{AllocError, Global};
 
 /// A name or `-`, behind a space.
@@ -106,12 +105,11 @@ pub fn line(
     Ok(true)
 }
 
-/// Writes the name of what has one, or what is missing.
-fn write_name(name: Result<Option<&Text>, Missing>, answer: &mut Answer) -> Result<(), AllocError> {
+/// Writes the name of what has one, or `none`.
+fn write_opt_name(name: Option<&Text>, answer: &mut Answer) -> Result<(), AllocError> {
     match name {
-        Ok(Some(name)) => answer.name(name.as_str()),
-        Ok(None) => answer.word("none"),
-        Err(missing) => refuse_missing(missing, answer),
+        Some(name) => answer.name(name.as_str()),
+        None => answer.word("none"),
     }
 }
 
@@ -133,18 +131,20 @@ fn write_repr(repr: Repr, answer: &mut Answer) -> Result<(), AllocError> {
 fn ask_name(tables: &Tables, words: &mut Words<'_>, answer: &mut Answer) -> Result<(), Stop> {
     let def = as_named(next_def(words)?)?;
     words.end()?;
-    write_name(tables.name(def), answer)?;
+    match tables.name(def) {
+        Ok(name) => write_opt_name(name, answer)?,
+        Err(missing) => refuse_missing(missing, answer)?,
+    }
     Ok(())
 }
 
-fn ask_crate_name(
-    tables: &Tables,
-    words: &mut Words<'_>,
-    answer: &mut Answer,
-) -> Result<(), Stop> {
+fn ask_crate_name(tables: &Tables, words: &mut Words<'_>, answer: &mut Answer) -> Result<(), Stop> {
     let id = words.next_def()?;
     words.end()?;
-    write_name(tables.crate_name(id), answer)?;
+    match tables.crate_name(id) {
+        Ok(name) => write_opt_name(name, answer)?,
+        Err(missing) => refuse_missing(missing, answer)?,
+    }
     Ok(())
 }
 

@@ -1,7 +1,9 @@
 //! What is answered for definitions that tables lack. What is there is asked in rows.
-use example_bodies::local;
-use hir_base::{AdtId, DefWithBodyId, FunctionId, GenericDefId, Seq, StructId, TraitId, VariantId};
+use hir_base::{
+    AdtId, Arena, DefWithBodyId, FunctionId, GenericDefId, Seq, StructId, TraitId, VariantId,
+};
 use hir_defs::{Body, BodySourceMap, Tables};
+use hir_node::{Expr, ExprId, ExprKind};
 use hir_scope::{ExprScopes, ScopesFault};
 use hir_store::{ExpressionStore, ExpressionStoreBuilder, ExpressionStoreSourceMap};
 use std::alloc::{AllocError, AllocFailed, Global};
@@ -35,10 +37,18 @@ fn in_a_box<T: Drop, R: Debug + Drop>(
     Ok(Box::new(alloc, value)?)
 }
 
-/// The store of a path, which is the root, with its source map.
+/// Adds what has no kids, or says why it can't be.
+fn add_missing(arena: &mut Arena<ExprKind, Expr>) -> Result<ExprId, Fail> {
+    match arena.alloc(Expr::Missing) {
+        Ok(id) => Ok(id),
+        Err((fault, _)) => Err(Fail::from(fault)),
+    }
+}
+
+/// The store of one expression, which is the root, with its source map.
 fn store(alloc: Global) -> Result<(Box<ExpressionStore>, Box<ExpressionStoreSourceMap>), Fail> {
     let mut builder = Box::new(alloc, ExpressionStoreBuilder::new(alloc))?;
-    let root = local(alloc, &mut builder, "a")?;
+    let root = add_missing(&mut builder.exprs)?;
     taken(builder.push_root(root))?;
     in_boxes(alloc, Box::into_inner(builder).finish())
 }

@@ -11,120 +11,124 @@ use hir_print_defs::PrintFault;
 use hir_run::RunFault;
 use hir_scope::ScopesFault;
 use hir_store::FinishFault;
-use std::alloc::{AllocError, Global};
+use std::alloc::Global;
 use std::fmt::Display;
 
-fn arena_fault(variant: &[u8]) -> Result<ArenaFault, Stop> {
+/// Writes the text of a fault.
+fn write<F: Display>(alloc: Global, fault: &F, answer: &mut Answer) -> Result<(), Stop> {
+    Ok(answer.word(format!(in alloc; "{fault}")?.as_str())?)
+}
+
+fn arena_fault(alloc: Global, variant: &[u8], answer: &mut Answer) -> Result<(), Stop> {
     match variant {
-        b"Memory" => Ok(ArenaFault::Memory),
-        b"Full" => Ok(ArenaFault::Full),
+        b"Memory" => write(alloc, &ArenaFault::Memory, answer),
+        b"Full" => write(alloc, &ArenaFault::Full, answer),
         _ => Err(Stop::Bad),
     }
 }
 
-fn finish_fault(variant: &[u8]) -> Result<FinishFault, Stop> {
+fn finish_fault(alloc: Global, variant: &[u8], answer: &mut Answer) -> Result<(), Stop> {
     match variant {
-        b"NoRoots" => Ok(FinishFault::NoRoots),
-        b"Memory" => Ok(FinishFault::Memory),
+        b"NoRoots" => write(alloc, &FinishFault::NoRoots, answer),
+        b"Memory" => write(alloc, &FinishFault::Memory, answer),
         _ => Err(Stop::Bad),
     }
 }
 
-fn body_fault(variant: &[u8]) -> Result<BodyFault, Stop> {
+fn body_fault(alloc: Global, variant: &[u8], answer: &mut Answer) -> Result<(), Stop> {
     match variant {
-        b"NoRoot" => Ok(BodyFault::NoRoot),
-        b"SelfOutOfRange" => Ok(BodyFault::SelfOutOfRange),
-        b"RootInParam" => Ok(BodyFault::RootInParam),
-        b"Memory" => Ok(BodyFault::Memory),
+        b"NoRoot" => write(alloc, &BodyFault::NoRoot, answer),
+        b"SelfOutOfRange" => write(alloc, &BodyFault::SelfOutOfRange, answer),
+        b"RootInParam" => write(alloc, &BodyFault::RootInParam, answer),
+        b"Memory" => write(alloc, &BodyFault::Memory, answer),
         _ => Err(Stop::Bad),
     }
 }
 
-fn signature_fault(variant: &[u8]) -> Result<SignatureFault, Stop> {
+fn signature_fault(alloc: Global, variant: &[u8], answer: &mut Answer) -> Result<(), Stop> {
     match variant {
-        b"IdOutOfRange" => Ok(SignatureFault::IdOutOfRange),
-        b"NotAPath" => Ok(SignatureFault::NotAPath),
-        b"Memory" => Ok(SignatureFault::Memory),
+        b"IdOutOfRange" => write(alloc, &SignatureFault::IdOutOfRange, answer),
+        b"NotAPath" => write(alloc, &SignatureFault::NotAPath, answer),
+        b"Memory" => write(alloc, &SignatureFault::Memory, answer),
         _ => Err(Stop::Bad),
     }
 }
 
-fn scopes_fault(variant: &[u8]) -> Result<ScopesFault, Stop> {
+fn scopes_fault(alloc: Global, variant: &[u8], answer: &mut Answer) -> Result<(), Stop> {
     match variant {
-        b"Missing" => Ok(ScopesFault::Missing),
-        b"Full" => Ok(ScopesFault::Full),
-        b"Memory" => Ok(ScopesFault::Memory),
+        b"Missing" => write(alloc, &ScopesFault::Missing, answer),
+        b"Full" => write(alloc, &ScopesFault::Full, answer),
+        b"Memory" => write(alloc, &ScopesFault::Memory, answer),
         _ => Err(Stop::Bad),
     }
 }
 
-fn captures_fault(variant: &[u8]) -> Result<CapturesFault, Stop> {
+fn captures_fault(alloc: Global, variant: &[u8], answer: &mut Answer) -> Result<(), Stop> {
     match variant {
-        b"NotAClosure" => Ok(CapturesFault::NotAClosure),
-        b"Memory" => Ok(CapturesFault::Memory),
+        b"NotAClosure" => write(alloc, &CapturesFault::NotAClosure, answer),
+        b"Memory" => write(alloc, &CapturesFault::Memory, answer),
         _ => Err(Stop::Bad),
     }
 }
 
-fn print_fault(variant: &[u8]) -> Result<PrintFault, Stop> {
+fn print_fault(alloc: Global, variant: &[u8], answer: &mut Answer) -> Result<(), Stop> {
     match variant {
-        b"Memory" => Ok(PrintFault::Memory),
+        b"Memory" => write(alloc, &PrintFault::Memory, answer),
         _ => Err(Stop::Bad),
     }
 }
 
-fn run_fault(variant: &[u8]) -> Result<RunFault, Stop> {
+fn run_fault(alloc: Global, variant: &[u8], answer: &mut Answer) -> Result<(), Stop> {
     match variant {
-        b"InputFailed" => Ok(RunFault::InputFailed),
-        b"OutputFailed" => Ok(RunFault::OutputFailed),
-        b"OutOfMemory" => Ok(RunFault::OutOfMemory),
+        b"InputFailed" => write(alloc, &RunFault::InputFailed, answer),
+        b"OutputFailed" => write(alloc, &RunFault::OutputFailed, answer),
+        b"OutOfMemory" => write(alloc, &RunFault::OutOfMemory, answer),
         _ => Err(Stop::Bad),
     }
 }
 
-fn line_fault(variant: &[u8]) -> Result<LineFault, Stop> {
+fn line_fault(alloc: Global, variant: &[u8], answer: &mut Answer) -> Result<(), Stop> {
     match variant {
-        b"OutOfMemory" => Ok(LineFault::OutOfMemory),
-        b"InputFailed" => Ok(LineFault::InputFailed),
-        b"OutputFailed" => Ok(LineFault::OutputFailed),
+        b"OutOfMemory" => write(alloc, &LineFault::OutOfMemory, answer),
+        b"InputFailed" => write(alloc, &LineFault::InputFailed, answer),
+        b"OutputFailed" => write(alloc, &LineFault::OutputFailed, answer),
         _ => Err(Stop::Bad),
     }
 }
 
-fn fill_fault(variant: &[u8]) -> Result<FillFault, Stop> {
+fn fill_fault(alloc: Global, variant: &[u8], answer: &mut Answer) -> Result<(), Stop> {
     match variant {
-        b"OutOfMemory" => Ok(FillFault::OutOfMemory),
-        b"InputFailed" => Ok(FillFault::InputFailed),
+        b"OutOfMemory" => write(alloc, &FillFault::OutOfMemory, answer),
+        b"InputFailed" => write(alloc, &FillFault::InputFailed, answer),
         _ => Err(Stop::Bad),
     }
 }
 
 /// `EndFailed` is a struct: its only variant is itself.
-fn end_failed(variant: &[u8]) -> Result<EndFailed, Stop> {
+fn end_failed(alloc: Global, variant: &[u8], answer: &mut Answer) -> Result<(), Stop> {
     match variant {
-        b"EndFailed" => Ok(EndFailed),
+        b"EndFailed" => write(alloc, &EndFailed, answer),
         _ => Err(Stop::Bad),
     }
 }
 
-/// The error of this variant, which holds the first fault of its kind that has no parts; what is missing is the name of crate 0.
-fn hir_error(variant: &[u8]) -> Result<HirError, Stop> {
+/// Of the error of this variant, which holds the first fault of its kind that has no parts; what is missing is the name of crate 0.
+fn hir_error(alloc: Global, variant: &[u8], answer: &mut Answer) -> Result<(), Stop> {
     match variant {
-        b"Arena" => Ok(HirError::from(ArenaFault::Memory)),
-        b"Store" => Ok(HirError::from(FinishFault::NoRoots)),
-        b"Body" => Ok(HirError::from(BodyFault::NoRoot)),
-        b"Signature" => Ok(HirError::from(SignatureFault::IdOutOfRange)),
-        b"Missing" => Ok(HirError::from(Missing::Crate(Id::from_raw(0)))),
-        b"Scopes" => Ok(HirError::from(ScopesFault::Missing)),
-        b"Print" => Ok(HirError::from(PrintFault::Memory)),
-        b"Captures" => Ok(HirError::from(CapturesFault::NotAClosure)),
+        b"Arena" => write(alloc, &HirError::from(ArenaFault::Memory), answer),
+        b"Store" => write(alloc, &HirError::from(FinishFault::NoRoots), answer),
+        b"Body" => write(alloc, &HirError::from(BodyFault::NoRoot), answer),
+        b"Signature" => write(alloc, &HirError::from(SignatureFault::IdOutOfRange), answer),
+        b"Missing" => write(
+            alloc,
+            &HirError::from(Missing::Crate(Id::from_raw(0))),
+            answer,
+        ),
+        b"Scopes" => write(alloc, &HirError::from(ScopesFault::Missing), answer),
+        b"Print" => write(alloc, &HirError::from(PrintFault::Memory), answer),
+        b"Captures" => write(alloc, &HirError::from(CapturesFault::NotAClosure), answer),
         _ => Err(Stop::Bad),
     }
-}
-
-/// Writes the text of a fault.
-fn write<F: Display>(alloc: Global, fault: &F, answer: &mut Answer) -> Result<(), AllocError> {
-    answer.word(format!(in alloc; "{fault}")?.as_str())
 }
 
 /// Answers a question on the text of a fault; answers whether it is such a question.
@@ -141,18 +145,18 @@ pub(crate) fn ask(
     let variant = words.next_keyword()?;
     words.end()?;
     match kind {
-        b"ArenaFault" => write(alloc, &arena_fault(variant)?, answer)?,
-        b"FinishFault" => write(alloc, &finish_fault(variant)?, answer)?,
-        b"BodyFault" => write(alloc, &body_fault(variant)?, answer)?,
-        b"SignatureFault" => write(alloc, &signature_fault(variant)?, answer)?,
-        b"ScopesFault" => write(alloc, &scopes_fault(variant)?, answer)?,
-        b"CapturesFault" => write(alloc, &captures_fault(variant)?, answer)?,
-        b"PrintFault" => write(alloc, &print_fault(variant)?, answer)?,
-        b"RunFault" => write(alloc, &run_fault(variant)?, answer)?,
-        b"LineFault" => write(alloc, &line_fault(variant)?, answer)?,
-        b"FillFault" => write(alloc, &fill_fault(variant)?, answer)?,
-        b"EndFailed" => write(alloc, &end_failed(variant)?, answer)?,
-        b"HirError" => write(alloc, &hir_error(variant)?, answer)?,
+        b"ArenaFault" => arena_fault(alloc, variant, answer)?,
+        b"FinishFault" => finish_fault(alloc, variant, answer)?,
+        b"BodyFault" => body_fault(alloc, variant, answer)?,
+        b"SignatureFault" => signature_fault(alloc, variant, answer)?,
+        b"ScopesFault" => scopes_fault(alloc, variant, answer)?,
+        b"CapturesFault" => captures_fault(alloc, variant, answer)?,
+        b"PrintFault" => print_fault(alloc, variant, answer)?,
+        b"RunFault" => run_fault(alloc, variant, answer)?,
+        b"LineFault" => line_fault(alloc, variant, answer)?,
+        b"FillFault" => fill_fault(alloc, variant, answer)?,
+        b"EndFailed" => end_failed(alloc, variant, answer)?,
+        b"HirError" => hir_error(alloc, variant, answer)?,
         _ => return Err(Stop::Bad),
     }
     Ok(true)

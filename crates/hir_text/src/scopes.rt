@@ -2,15 +2,15 @@
 
 ghost use Rattle.std.specs.Prelude.{◌<◌, length};
 
-use hir_defs_text::asked_body;
-use hir_store_text::{differs, refuse, unknown};
 use hir_base::{ExpressionStoreOwnerId, HygieneId, Name, Steps, SyntaxContext};
 use hir_captures::{CapturesFault, captures};
 use hir_defs::{Body, Tables};
+use hir_defs_text::asked_body;
 use hir_node::ExprId;
 use hir_notation::{Answer, Stop, Words, opt_hygiene};
 use hir_scope::{ExprScopes, ScopeEntry, ScopeId, ScopesFault};
 use hir_store::ExpressionStore;
+use hir_store_text::{differs, refuse, unknown};
 use std::alloc::{AllocError, Global};
 
 /// What is asked of scopes.
@@ -97,11 +97,7 @@ fn unreached(answer: &mut Answer) -> Result<(), AllocError> {
 }
 
 /// Writes the names of a scope's entries.
-fn write_names(
-    scopes: &ExprScopes,
-    scope: ScopeId,
-    answer: &mut Answer,
-) -> Result<(), AllocError> {
+fn write_names(scopes: &ExprScopes, scope: ScopeId, answer: &mut Answer) -> Result<(), AllocError> {
     if scopes.has_scope(scope) {
         for entry in scopes.entries(scope) {
             answer.name(entry.name().as_str())?;
@@ -111,11 +107,7 @@ fn write_names(
 }
 
 /// Writes the names along the chain of an expression, innermost first.
-fn write_chain(
-    scopes: &ExprScopes,
-    expr: ExprId,
-    answer: &mut Answer,
-) -> Result<(), AllocError> {
+fn write_chain(scopes: &ExprScopes, expr: ExprId, answer: &mut Answer) -> Result<(), AllocError> {
     let Some(scope) = scopes.scope_for(expr) else {
         return unreached(answer);
     };
@@ -140,11 +132,7 @@ fn write_entry(entry: &ScopeEntry, answer: &mut Answer) -> Result<(), AllocError
 }
 
 /// Writes the kind of a scope and its entries; `.` where there is nothing.
-fn write_scope(
-    scopes: &ExprScopes,
-    scope: ScopeId,
-    answer: &mut Answer,
-) -> Result<(), AllocError>
+fn write_scope(scopes: &ExprScopes, scope: ScopeId, answer: &mut Answer) -> Result<(), AllocError>
     requires { scope < length scopes.now.scopes }
 {
     let mut is_empty = true;
@@ -174,11 +162,7 @@ fn write_scope(
 }
 
 /// Writes the scopes along the chain of an expression, innermost first.
-fn write_frames(
-    scopes: &ExprScopes,
-    expr: ExprId,
-    answer: &mut Answer,
-) -> Result<(), AllocError> {
+fn write_frames(scopes: &ExprScopes, expr: ExprId, answer: &mut Answer) -> Result<(), AllocError> {
     let Some(scope) = scopes.scope_for(expr) else {
         return unreached(answer);
     };
@@ -221,11 +205,7 @@ fn write_meaning(
 }
 
 /// Writes what is asked of the scopes.
-fn write(
-    question: &Question,
-    scopes: &ExprScopes,
-    answer: &mut Answer,
-) -> Result<(), AllocError> {
+fn write(question: &Question, scopes: &ExprScopes, answer: &mut Answer) -> Result<(), AllocError> {
     match question {
         Question::Chain(expr) => write_chain(scopes, *expr, answer),
         Question::Frames(expr) => write_frames(scopes, *expr, answer),
@@ -242,21 +222,16 @@ fn write(
     }
 }
 
-/// Writes the counts of scopes that were made twice, where they are the same.
-fn write_same(
-    scopes: &ExprScopes,
-    others: &ExprScopes,
+/// `counted-scopes`: compares the scopes of a body with those that are counted.
+fn ask_counted(
+    alloc: Global,
+    tables: &Tables,
+    owner: Option<ExpressionStoreOwnerId>,
+    words: &mut Words<'_>,
     answer: &mut Answer,
-) -> Result<(), AllocError> {
-    if *scopes == *others {
-        return write_counts(scopes, answer);
-    }
-    differs(answer)
-}
-
-/// Compares the scopes of a body with those that are counted.
-fn ask_counted(alloc: Global, body: Option<&Body>, answer: &mut Answer) -> Result<(), Stop> {
-    let Some(body) = body else {
+) -> Result<(), Stop> {
+    words.end()?;
+    let Some(body) = asked_body(tables, owner) else {
         return Ok(unknown(answer)?);
     };
     let mut steps = Steps::new();
@@ -264,53 +239,98 @@ fn ask_counted(alloc: Global, body: Option<&Body>, answer: &mut Answer) -> Resul
     let Some(counted) = opened(alloc, counted, answer)? else {
         return Ok(());
     };
-    if let Some(scopes) = opened(alloc, ExprScopes::new_body(alloc, body), answer)? {
-        write_same(&scopes, &counted, answer)?;
+    if are_same(alloc, ExprScopes::new_body(alloc, body), &counted, answer)? {
+        write_counts(&counted, answer)?;
     }
     Ok(())
+}
+
+/// An owner that is lent to the call for whatever converts into one: at an owner itself the prover's borrow checker can't build the
+/// proof of the call.
+#[derive(Clone, Copy)]
+struct Lent<'a>(&'a ExpressionStoreOwnerId);
+
+impl From<Lent<'_>> for ExpressionStoreOwnerId {
+    fn from(owner: Lent<'_>) -> ExpressionStoreOwnerId {
+        *owner.0
+    }
+}
+
+/// The scopes of an owner's store, by the call for all kinds.
+fn made_of_owner(
+    alloc: Global,
+    tables: &Tables,
+    owner: &ExpressionStoreOwnerId,
+) -> Result<ExprScopes, ScopesFault> {
+    ExprScopes::of(alloc, tables, Lent(owner))
+}
+
+/// Whether scopes were made that are the same as these. If not, the answer says why.
+fn are_same(
+    alloc: Global,
+    outcome: Result<ExprScopes, ScopesFault>,
+    scopes: &ExprScopes,
+    answer: &mut Answer,
+) -> Result<bool, Stop> {
+    let Some(others) = opened(alloc, outcome, answer)? else {
+        return Ok(false);
+    };
+    let is_same = *scopes == *others;
+    if !is_same {
+        differs(answer)?;
+    }
+    Ok(is_same)
 }
 
 /// Compares scopes with those that are made by a lookup of the owner.
 fn ask_looked_up(
     alloc: Global,
     tables: &Tables,
-    owner: ExpressionStoreOwnerId,
+    owner: &ExpressionStoreOwnerId,
     scopes: &ExprScopes,
     answer: &mut Answer,
 ) -> Result<(), Stop> {
-    let by_kind = made_by_kind(alloc, tables, owner);
-    let Some(by_kind) = opened(alloc, by_kind, answer)? else {
-        return Ok(());
-    };
-    if *scopes != *by_kind {
-        return Ok(differs(answer)?);
-    }
-    if let Some(of_owner) = opened(alloc, ExprScopes::of(alloc, tables, owner), answer)? {
-        write_same(scopes, &of_owner, answer)?;
+    if are_same(alloc, made_by_kind(alloc, tables, *owner), scopes, answer)?
+        && are_same(alloc, made_of_owner(alloc, tables, owner), scopes, answer)?
+    {
+        write_counts(scopes, answer)?;
     }
     Ok(())
 }
 
-/// The same, where the store has an owner.
+/// The same for the scopes of this owner's store.
+fn ask_of_owner(
+    alloc: Global,
+    tables: &Tables,
+    store: &ExpressionStore,
+    owner: &ExpressionStoreOwnerId,
+    answer: &mut Answer,
+) -> Result<(), Stop> {
+    let scopes = made(alloc, store, asked_body(tables, Some(*owner)));
+    match opened(alloc, scopes, answer)? {
+        Some(scopes) => ask_looked_up(alloc, tables, owner, &scopes, answer),
+        None => Ok(()),
+    }
+}
+
+/// `scopes-by-tables`: the same, where the store has an owner.
 fn ask_by_tables(
     alloc: Global,
     tables: &Tables,
     store: &ExpressionStore,
     owner: Option<ExpressionStoreOwnerId>,
+    words: &mut Words<'_>,
     answer: &mut Answer,
 ) -> Result<(), Stop> {
-    let Some(owner) = owner else {
-        return Ok(unknown(answer)?);
-    };
-    let scopes = made(alloc, store, asked_body(tables, Some(owner)));
-    if let Some(scopes) = opened(alloc, scopes, answer)? {
-        ask_looked_up(alloc, tables, owner, &scopes, answer)?;
+    words.end()?;
+    match &owner {
+        Some(owner) => ask_of_owner(alloc, tables, store, owner, answer),
+        None => Ok(unknown(answer)?),
     }
-    Ok(())
 }
 
 /// Writes the bindings that an expression of a body captures.
-fn ask_captures(
+fn write_captures(
     alloc: Global,
     body: &Body,
     closure: ExprId,
@@ -332,6 +352,42 @@ fn ask_captures(
     Ok(())
 }
 
+/// `captures E`
+fn ask_captures(
+    alloc: Global,
+    tables: &Tables,
+    owner: Option<ExpressionStoreOwnerId>,
+    words: &mut Words<'_>,
+    answer: &mut Answer,
+) -> Result<(), Stop> {
+    let closure = words.next_id()?;
+    words.end()?;
+    match asked_body(tables, owner) {
+        Some(body) => write_captures(alloc, body, closure, answer),
+        None => Ok(unknown(answer)?),
+    }
+}
+
+/// Answers a question on scopes that are made once; answers whether it is such a question.
+fn ask_scopes(
+    alloc: Global,
+    tables: &Tables,
+    store: &ExpressionStore,
+    owner: Option<ExpressionStoreOwnerId>,
+    word: &[u8],
+    words: &mut Words<'_>,
+    answer: &mut Answer,
+) -> Result<bool, Stop> {
+    let Some(question) = read(alloc, word, words)? else {
+        return Ok(false);
+    };
+    let scopes = made(alloc, store, asked_body(tables, owner));
+    if let Some(scopes) = opened(alloc, scopes, answer)? {
+        write(&question, &scopes, answer)?;
+    }
+    Ok(true)
+}
+
 /// Answers a question on scopes or captures; answers whether it is such a question.
 pub(crate) fn ask(
     alloc: Global,
@@ -342,32 +398,11 @@ pub(crate) fn ask(
     words: &mut Words<'_>,
     answer: &mut Answer,
 ) -> Result<bool, Stop> {
-    let body = asked_body(tables, owner);
     match word {
-        b"captures" => {
-            let closure = words.next_id()?;
-            words.end()?;
-            match body {
-                Some(body) => ask_captures(alloc, body, closure, answer)?,
-                None => unknown(answer)?,
-            }
-        }
-        b"counted-scopes" => {
-            words.end()?;
-            ask_counted(alloc, body, answer)?;
-        }
-        b"scopes-by-tables" => {
-            words.end()?;
-            ask_by_tables(alloc, tables, store, owner, answer)?;
-        }
-        _ => {
-            let Some(question) = read(alloc, word, words)? else {
-                return Ok(false);
-            };
-            if let Some(scopes) = opened(alloc, made(alloc, store, body), answer)? {
-                write(&question, &scopes, answer)?;
-            }
-        }
+        b"captures" => ask_captures(alloc, tables, owner, words, answer)?,
+        b"counted-scopes" => ask_counted(alloc, tables, owner, words, answer)?,
+        b"scopes-by-tables" => ask_by_tables(alloc, tables, store, owner, words, answer)?,
+        _ => return ask_scopes(alloc, tables, store, owner, word, words, answer),
     }
     Ok(true)
 }

@@ -1,16 +1,15 @@
 //! The loop over the lines of a text, and what they have made so far.
 
 use crate::answers::{Answers, TextFault};
-use hir_store_text::{refuse, refuse_missing, unknown};
 use crate::{faults, program, scopes, texts};
-use hir_defs_text::{Finished, Pending, Subject};
 use hir_base::ExpressionStoreOwnerId;
 use hir_defs::{StoreOf, Tables};
+use hir_defs_text::{Finished, Pending, Subject};
+use hir_expr_store::Missing;
 use hir_notation::{Answer, Stop, Words, next_owner};
 use hir_source::SourceMapBuilder;
-use hir_store::{
-    ExpressionStore, ExpressionStoreBuilder, ExpressionStoreSourceMap, FinishFault,
-};
+use hir_store::{ExpressionStore, ExpressionStoreBuilder, ExpressionStoreSourceMap, FinishFault};
+use hir_store_text::{refuse, refuse_missing, unknown};
 use std::alloc::{AllocError, Global};
 use std::mem;
 
@@ -56,6 +55,14 @@ fn is_skipped(line: &[u8]) -> bool {
 fn nothing(alloc: Global) -> Result<Finished, AllocError> {
     let sources = SourceMapBuilder::new(alloc).finish(false);
     Ok(Box::new(alloc, (ExpressionStore::empty(alloc), sources))?)
+}
+
+/// What the tables lack of the store of this owner, if anything.
+fn find(tables: &Tables, owner: &ExpressionStoreOwnerId) -> Result<(), Missing> {
+    match ExpressionStore::of(tables, *owner) {
+        Ok(_) => Ok(()),
+        Err(missing) => Err(missing),
+    }
 }
 
 /// Finishes a builder, or gives it back with its fault.
@@ -195,9 +202,11 @@ impl Session {
         words: &mut Words<'_>,
         answer: &mut Answer,
     ) -> Result<bool, Stop> {
-        Ok(self.ask_tables(word, words, answer)?
-            || self.ask_owned(word, words, answer)?
-            || self.ask_store(word, words, answer)?)
+        Ok(
+            self.ask_tables(word, words, answer)?
+                || self.ask_owned(word, words, answer)?
+                || self.ask_store(word, words, answer)?,
+        )
     }
 
     /// Answers a question on the tables or on the texts of faults, where the line is one.
@@ -209,9 +218,11 @@ impl Session {
     ) -> Result<bool, Stop> {
         let alloc = self.alloc;
         let tables = &*self.tables;
-        Ok(hir_defs_text::ask(alloc, tables, word, words, answer)?
-            || texts::ask_of_tables(alloc, tables, word, words, answer)?
-            || faults::ask(alloc, word, words, answer)?)
+        Ok(
+            hir_defs_text::ask(alloc, tables, word, words, answer)?
+                || texts::ask_of_tables(alloc, tables, word, words, answer)?
+                || faults::ask(alloc, word, words, answer)?,
+        )
     }
 
     /// Answers a question on the store and its owner, where the line is one.
@@ -228,10 +239,12 @@ impl Session {
             Subject::Owner(owner) => Some(*owner),
             Subject::Store(_) | Subject::None => None,
         };
-        Ok(hir_defs_text::ask_of_owner(tables, owner, word, words, answer)?
-            || scopes::ask(alloc, tables, store, owner, word, words, answer)?
-            || texts::ask_of_store(alloc, tables, store, owner, word, words, answer)?
-            || texts::ask_of_body(alloc, tables, owner, word, words, answer)?)
+        Ok(
+            hir_defs_text::ask_of_owner(tables, owner, word, words, answer)?
+                || scopes::ask(alloc, tables, store, owner, word, words, answer)?
+                || texts::ask_of_store(alloc, tables, store, owner, word, words, answer)?
+                || texts::ask_of_body(alloc, tables, owner, word, words, answer)?,
+        )
     }
 
     /// Answers a question on the store alone, where the line is one.
@@ -244,16 +257,18 @@ impl Session {
         let alloc = self.alloc;
         let (store, sources) = self.asked()?;
         let kept = self.kept.as_ref().map(|kept| &**kept);
-        Ok(hir_store_text::ask_kept(kept, store, sources, word, words, answer)?
-            || hir_store_text::ask(alloc, store, sources, word, words, answer)?)
+        Ok(
+            hir_store_text::ask_kept(kept, store, sources, word, words, answer)?
+                || hir_store_text::ask(alloc, store, sources, word, words, answer)?,
+        )
     }
 
     /// `of OWNER`: makes the store of that owner the one that questions ask.
     fn select(&mut self, words: &mut Words<'_>, answer: &mut Answer) -> Result<(), Stop> {
         let owner = next_owner(words)?;
         words.end()?;
-        match ExpressionStore::of(&self.tables, owner) {
-            Ok(_) => {
+        match find(&self.tables, &owner) {
+            Ok(()) => {
                 answer.word("found")?;
                 self.subject = Subject::Owner(owner);
                 self.has_lines = false;
@@ -340,9 +355,7 @@ impl Session {
     }
 
     /// The store that questions ask, and its source map. Ask [`Session::ready`] before.
-    pub(crate) fn asked(
-        &self,
-    ) -> Result<(&ExpressionStore, &ExpressionStoreSourceMap), Stop> {
+    pub(crate) fn asked(&self) -> Result<(&ExpressionStore, &ExpressionStoreSourceMap), Stop> {
         match &self.subject {
             Subject::Store(finished) => Ok((&finished.0, &finished.1)),
             Subject::Owner(owner) => {

@@ -1,9 +1,8 @@
 //! Questions on texts: what expressions, patterns, paths, bodies, fields and signatures are printed as.
 
-use hir_defs_text::body_of;
-use hir_store_text::{refuse_missing, unknown};
 use hir_base::{DefWithBodyId, Edition, ExpressionStoreOwnerId, FunctionId, Id};
 use hir_defs::{Body, Tables};
+use hir_defs_text::asked_def;
 use hir_node::{ExprId, PatId};
 use hir_notation::{
     Answer, Stop, Words, as_def_with_body, as_generic, as_variant, next_def, next_path,
@@ -14,15 +13,14 @@ use hir_print_defs::{
     print_path, print_signature, print_struct, print_variant_body_hir,
 };
 use hir_store::ExpressionStore;
+use hir_store_text::{refuse_missing, unknown};
 use std::alloc::Global;
 
 /// The owner of a store; function 0 where it has none.
 fn owner_or_first(owner: Option<ExpressionStoreOwnerId>) -> ExpressionStoreOwnerId {
     match owner {
         Some(owner) => owner,
-        None => {
-            ExpressionStoreOwnerId::Body(DefWithBodyId::FunctionId(FunctionId::from_raw(0)))
-        }
+        None => { ExpressionStoreOwnerId::Body(DefWithBodyId::FunctionId(FunctionId::from_raw(0))) }
     }
 }
 
@@ -171,6 +169,21 @@ fn write_pretty(
     }
 }
 
+/// Answers a question on a text of the body of this definition.
+fn ask_pretty(
+    alloc: Global,
+    tables: &Tables,
+    def: DefWithBodyId,
+    question: Pretty,
+    edition: Edition,
+    answer: &mut Answer,
+) -> Result<(), Stop> {
+    match Body::of(tables, def) {
+        Ok(body) => write_pretty(alloc, tables, def, body, question, edition, answer),
+        Err(missing) => Ok(refuse_missing(missing, answer)?),
+    }
+}
+
 /// Answers a question on a text of the body that is asked; answers whether it is such a question.
 pub(crate) fn ask_of_body(
     alloc: Global,
@@ -183,10 +196,8 @@ pub(crate) fn ask_of_body(
     let Some((question, edition)) = read_pretty(word, words)? else {
         return Ok(false);
     };
-    match body_of(tables, owner) {
-        Some((def, body)) => {
-            write_pretty(alloc, tables, def, body, question, edition, answer)?;
-        }
+    match asked_def(owner) {
+        Some(def) => ask_pretty(alloc, tables, def, question, edition, answer)?,
         None => unknown(answer)?,
     }
     Ok(true)
