@@ -30,7 +30,8 @@ is_unannotated Mutable = false
 is_unannotated Ref = false
 is_unannotated RefMut = false
 
--- The text of the binding is the field's name as it is printed. A word of the edition is printed after `r#`, so it is no such text.
+-- The binding's own text is what is printed of the field's name. A field that is a word of the edition is printed after `r#`, so a binding
+-- of that word has another text.
 abbrev pub has_printed_name : Setting → List ℕ → Option Binding → Bool
 has_printed_name s name None = false
 has_printed_name s name (Some b) = is_unannotated b.mode && same_text b.name (printed_name s.words name)

@@ -98,7 +98,7 @@ fn is_marked(name: &str, text: &str) -> bool
     }
 }
 
-/// Whether a text is that of a name as it is printed, where it has no `'` to be looked past.
+/// Whether a text is what is printed of a name, or of the rest of one behind a `'`.
 fn is_raw(words: &[Text], name: &str, text: &str) -> bool
     ensures { result ≡ same_text text.now (raw_text words.now name.now) }
 {
@@ -108,7 +108,7 @@ fn is_raw(words: &[Text], name: &str, text: &str) -> bool
     text == name
 }
 
-/// Whether a text is that of a name as it is printed, which is `'` and then `rest`.
+/// Whether a text is what is printed of a name that is `'` and then `rest`.
 fn is_quoted(words: &[Text], name: &str, rest: &str, text: &str) -> bool
     requires { name.now ≡ 39 ∷ rest.now }
     ensures { result ≡ same_text text.now (printed_name words.now name.now) }
@@ -122,7 +122,7 @@ fn is_quoted(words: &[Text], name: &str, rest: &str, text: &str) -> bool
     }
 }
 
-/// Whether a text is that of a name as it is printed.
+/// Whether a text is what is printed of a name.
 pub(crate) fn is_printed(words: &[Text], name: &str, text: &str) -> bool
     ensures { result ≡ same_text text.now (printed_name words.now name.now) }
 {
