@@ -11,8 +11,8 @@ use crate::stop::Stop;
 use crate::words::{Words, each};
 use hir_base::{BlockId, Seq};
 use hir_node::{
-    Array, CaptureBy, ClosureKind, Expr, Literal, LoopSource, Mutability, PatId, Rawness, TypeRefId,
-    Unsafe,
+    Array, CaptureBy, ClosureKind, Expr, Literal, LoopSource, Mutability, PatId, Rawness,
+    TypeRefId, Unsafe,
 };
 use std::alloc::{AllocError, Global};
 

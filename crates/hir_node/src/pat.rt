@@ -163,11 +163,7 @@ impl Clone for Pat {
 }
 
 /// A record pattern with copies of these parts.
-fn clone_record(
-    path: &Path,
-    args: &Seq<RecordFieldPat>,
-    ellipsis: bool,
-) -> Result<Pat, AllocError>
+fn clone_record(path: &Path, args: &Seq<RecordFieldPat>, ellipsis: bool) -> Result<Pat, AllocError>
     ensures { IfOk result (λ copy. copy ≡ Pat.Record ellipsis path.now args.now) }
 {
     // The list first: where the path can't be cloned, what is dropped isn't a path.
