@@ -29,10 +29,7 @@ fn add_types(types: &mut Arena<TypeRefKind, TypeRef>, count: u32) -> Result<(), 
 fn build(builder: &mut ExpressionStoreBuilder, types: u32, has_one: bool) -> Result<(), Fail> {
     add_types(&mut builder.types, types)?;
     if has_one {
-        add(
-            &mut builder.exprs,
-            Expr::Literal(Literal::Int(1, None)),
-        )?;
+        add(&mut builder.exprs, Expr::Literal(Literal::Int(1, None)))?;
         taken(builder.push_root(Idx::from_raw(0)))?;
     }
     Ok(())
