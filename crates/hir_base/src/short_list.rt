@@ -53,7 +53,8 @@ impl<T> Place<T> {
 // The item of a slice at this index, to write to.
 fn item_of<T>(items: &mut [T], at: usize) -> &mut T
     requires { at < length items.old }
-    ensures* changes_one { sem 𝓛 (Lends (Array T.row 0) T.row items.entry result (slice_set items.old at)) }
+    ensures* changes_one { sem 𝓛
+        (Lends (Array T.row 0) T.row items.entry result (slice_set items.old at)) }
     ensures value { slice_get items.old at ≡ Some result.now }
 {
     &mut items[at]
