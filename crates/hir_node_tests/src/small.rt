@@ -1,8 +1,8 @@
 //! The small calls: ids, words before bindings and pointers, boxes, texts of floats and nodes, and function types.
 use crate::build;
-use hir_base::{ExternAbi, Idx, Text};
+use hir_base::{ExternAbi, Idx, ShortList, Text};
 use hir_node::{
-    BindingAnnotation, Boxed, ExprId, ExprOrPatId, FloatTypeWrapper, FnType, Mutability, NodeId,
+    BindingAnnotation, Boxed, Expr, ExprId, ExprOrPatId, FloatTypeWrapper, FnType, Mutability, NodeId,
     PatId, PathId, Rawness,
 };
 use std::mem::drop;
@@ -71,6 +71,37 @@ fn a_boxed_value_comes_back(rt: HostRuntime) -> Result<(), Fail> {
     let value = *boxed.get();
     let again = Boxed::from_box(boxed.into_box()).into_inner();
     assert!(rt; value == 5 && again == 5);
+    Ok(())
+}
+
+// Makes the second argument of a call expression 4.
+fn edit(expr: &mut Expr) {
+    if let Expr::Call { callee: _, args } = expr {
+        if args.len() > 1 {
+            args[1] = Idx::from_raw(4);
+        }
+    }
+}
+
+fn is_edited(expr: &Expr) -> bool {
+    if let Expr::Call { callee, args } = expr {
+        return callee.into_raw() == 0
+            && args.as_slice() == [Idx::from_raw(1), Idx::from_raw(4)].as_slice();
+    }
+    false
+}
+
+#[test]
+fn a_node_is_edited_in_place(rt: HostRuntime) -> Result<(), Fail> {
+    let args = ShortList::from_slice(rt.alloc(), &[Idx::from_raw(1), Idx::from_raw(2)])?;
+    let mut call = Expr::Call {
+        callee: Idx::from_raw(0),
+        args,
+    };
+    edit(&mut call);
+    let is_edited = is_edited(&call);
+    drop(call);
+    assert!(rt; is_edited);
     Ok(())
 }
 
