@@ -102,6 +102,7 @@ pub(crate) fn compare_answers(
     let entries = answers.as_slice();
     compare_lines(alloc, row, compared(outcome, entries), entries, report)?;
     match outcome {
+        Ok(()) if entries.is_empty() => Ok(report.asks_nothing(row.place(0, row.title()))?),
         Ok(()) => Ok(()),
         Err(TextFault::BadLine(number)) => {
             let index = number.saturating_sub(1);

@@ -90,6 +90,11 @@ impl Report {
         self.begin(place, "in no row: ")
     }
 
+    /// A row without a question, by its title.
+    pub(crate) fn asks_nothing(&mut self, place: Place<'_>) -> Result<(), AllocError> {
+        self.begin(place, "asks nothing: ")
+    }
+
     /// A file that has no rows to compare.
     pub(crate) fn no_rows(&mut self, file: &str, why: &str) -> Result<(), AllocError> {
         self.differences = self.differences.saturating_add(1);

@@ -101,7 +101,10 @@ impl Session {
             return Ok(());
         }
         let mut answer = Answer::new(self.alloc);
-        if self.change(word, &mut words, &mut answer)? || self.ask(word, &mut words, &mut answer)? {
+        if self.change(word, &mut words, &mut answer)?
+            || self.ask_tables(word, &mut words, &mut answer)?
+            || self.ask(word, &mut words, &mut answer)?
+        {
             answers.push(number, answer)?;
             return Ok(());
         }
@@ -178,7 +181,7 @@ impl Session {
         Ok(true)
     }
 
-    /// Answers a question, where the line is one.
+    /// Answers a question on the store, where the line is one.
     fn ask(
         &mut self,
         word: &[u8],
@@ -195,18 +198,14 @@ impl Session {
         is_question
     }
 
-    /// Answers a question on what is there, where the line is one.
+    /// Answers a question on the store that is asked, where the line is one.
     fn ask_any(
         &self,
         word: &[u8],
         words: &mut Words<'_>,
         answer: &mut Answer,
     ) -> Result<bool, Stop> {
-        Ok(
-            self.ask_tables(word, words, answer)?
-                || self.ask_owned(word, words, answer)?
-                || self.ask_store(word, words, answer)?,
-        )
+        Ok(self.ask_owned(word, words, answer)? || self.ask_store(word, words, answer)?)
     }
 
     /// Answers a question on the tables or on the texts of faults, where the line is one.
