@@ -1,3 +1,4 @@
+pub mod ArrayMemory
 pub mod Numbered
 pub mod PlacesLemmas
 pub mod ShortListLemmas

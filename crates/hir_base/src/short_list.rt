@@ -1,6 +1,6 @@
 //! Lists of few items, which lie in the value itself.
 //! `SmallVec` of the crate `smallvec` is the same in 32 bytes, which makes an expression and a pattern larger than all else in them.
-ghost use Rattle.std.specs.Prelude.{◌≡◌, ◌<◌, ◌≤◌, [], ◌∷◌, ◌++◌, length, slice_get, slice_set, IfOk, IsOk, OnOk, OnErr, IsTrue, ◌↔◌, Some};
+ghost use Rattle.std.specs.Prelude.{◌≡◌, ◌<◌, ◌≤◌, [], ◌∷◌, ◌++◌, length, slice_get, slice_index_or, slice_set, IfOk, IsOk, OnOk, OnErr, IsTrue, ◌↔◌, Some};
 ghost use Rattle.std.specs.Option.{option_copied};
 ghost use Rattle.std.specs.Borrow.{sem, Lends, Array};
 ghost use Rattle.std.specs.Cmp.Lexicographic.{pointwise, lists_per, lists_equiv};
@@ -42,20 +42,30 @@ impl<T> Place<T> {
     {
         match self {
             Place::Nothing => unreachable!(),
-            Place::One(items) => item_of(items.as_mut_slice(), at),
-            Place::Two(items) => item_of(items.as_mut_slice(), at),
-            Place::Three(items) => item_of(items.as_mut_slice(), at),
+            Place::One(items) => item_of(items, at),
+            Place::Two(items) => item_of(items, at),
+            Place::Three(items) => item_of(items, at),
             Place::Outside(items) => &mut items[at],
         }
     }
 }
 
-// The item of a slice at this index, to write to.
-fn item_of<T>(items: &mut [T], at: usize) -> &mut T
+// The item of an array at this index, to write to.
+fn item_of<T, const N: usize>(items: &mut [T; N], at: usize) -> &mut T
     requires { at < length items.old }
-    ensures* changes_one { sem 𝓛
-        (Lends (Array T.row 0) T.row items.entry result (slice_set items.old at)) }
+    ensures* writes_back { sem 𝓛
+        (Lends (Array T.row N) T.row items.entry result (slice_set items.old at)) }
     ensures value { slice_get items.old at ≡ Some result.now }
+{
+    at_mut(items, at)
+}
+
+// The same, where the index is below the array's own number of items: what is proved by hand.
+fn at_mut<T, const N: usize>(items: &mut [T; N], at: usize) -> &mut T
+    requires { at < N }
+    ensures* writes_back { sem 𝓛
+        (Lends (Array T.row N) T.row items.entry result (slice_set items.old at)) }
+    ensures value { result.now ≡ slice_index_or items.old at result.now }
 {
     &mut items[at]
 }

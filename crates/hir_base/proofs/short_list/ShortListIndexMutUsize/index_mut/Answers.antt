@@ -1,7 +1,7 @@
 use Rattle.std.proofs.Common.{refl, ap, ◌∙◌, rules}
 use Rattle.std.specs.Prelude.{slice_set}
 use Rattle.hir_base.proofs.ShortListLemmas.{items_with_item}
-use Rattle.hir_base.proofs.short_list.ShortListIndexMut.index_mut.Goals as goal
+use Rattle.hir_base.proofs.short_list.ShortListIndexMutUsize.index_mut.Goals as goal
 
 pub returns : goal.returns
 returns g c =
