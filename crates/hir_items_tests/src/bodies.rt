@@ -187,13 +187,28 @@ fn answers<B: Answered + Drop, R: Answered + Drop>(
     }
 }
 
-/// Whether the body of these parameters in the store of the tree, or its refusal, is the one that is wanted.
+/// The body of what was handed back.
+fn made_again(alloc: Global, refused: RefusedBody) -> Result<Body, RefusedBody> {
+    let RefusedBody {
+        fault: _,
+        store,
+        params,
+        self_param,
+    } = refused;
+    Body::new(alloc, store, params, self_param)
+}
+
+/// Whether the body of these parameters in the store of the tree, or its refusal, is the one that is wanted. A body that is refused is
+/// made again of what was handed back: it has its fault again, and where memory was refused it is accepted.
 fn is_answered(alloc: Global, case: &Case) -> Result<bool, Fail> {
     let (tree, params, self_param, _) = case;
     let store = trees::store(alloc, &[], tree)?;
     let params = listed(alloc, params)?;
     let self_param = self_param.map(param);
-    let outcome = Body::new(alloc, Box::into_inner(store), params, self_param);
+    let outcome = match Body::new(alloc, Box::into_inner(store), params, self_param) {
+        Ok(body) => Ok(body),
+        Err(refused) => made_again(alloc, refused),
+    };
     Ok(answers(outcome, case)?)
 }
 

@@ -21,10 +21,23 @@ fn in_boxes<T: Drop, E: Drop>(
     }
 }
 
-/// What the builder of these steps makes, or its refusal.
+/// What the builder that was handed back makes, or its refusal.
+fn finished_again(
+    alloc: Global,
+    refused: Box<Refused>,
+) -> Result<Result<Made, Box<Refused>>, ArenaFault> {
+    let builder = Box::into_inner(refused).builder;
+    in_boxes(alloc, builder.finish())
+}
+
+/// What the builder of these steps makes, or its refusal. A builder that is refused is finished again: it has its fault again, and where
+/// memory was refused it is accepted.
 fn finished(alloc: Global, steps: &[Step]) -> Result<Result<Made, Box<Refused>>, ArenaFault> {
     match build::built(alloc, steps) {
-        Ok(builder) => in_boxes(alloc, Box::into_inner(builder).finish()),
+        Ok(builder) => match in_boxes(alloc, Box::into_inner(builder).finish())? {
+            Ok(made) => Ok(Ok(made)),
+            Err(refused) => finished_again(alloc, refused),
+        },
         Err(fault) => Err(fault),
     }
 }
