@@ -56,14 +56,17 @@ predicate_paths (predicate.Lifetime target bound) = []
 abbrev pub field_calls : FieldData → List Call
 field_calls f = t f.type_ref ++ opt a f.default_value
 
--- each id that a parameter, a predicate or a field names is there, and the bound of a predicate fits the store
+-- a parameter, a predicate, a field fits the store: each id that it names is there, and a bound fits
 abbrev pub ParamFits : Nodes → TypeOrConstParamData → Type 0
 ParamFits s (either.TypeParamData p) = IfSome p.default (λ id. id < length s.types)
-ParamFits s (either.ConstParamData p) = (p.ty < length s.types) × IfSome p.default (λ c. c.expr < length s.exprs)
+ParamFits s (either.ConstParamData p) =
+    (p.ty < length s.types) × IfSome p.default (λ c. c.expr < length s.exprs)
 
 abbrev pub PredicateFits : Nodes → WherePredicate → Type 0
-PredicateFits s (predicate.TypeBound lifetimes target bound) = (target < length s.types) × IsTrue (bound_fits s bound)
-PredicateFits s (predicate.Lifetime target bound) = (target < length s.lifetimes) × (bound < length s.lifetimes)
+PredicateFits s (predicate.TypeBound lifetimes target bound) =
+    (target < length s.types) × IsTrue (bound_fits s bound)
+PredicateFits s (predicate.Lifetime target bound) =
+    (target < length s.lifetimes) × (bound < length s.lifetimes)
 
 abbrev pub FieldFits : Nodes → FieldData → Type 0
 FieldFits s f = (f.type_ref < length s.types) × IfSome f.default_value (λ id. id < length s.exprs)
