@@ -4,15 +4,14 @@ use Rattle.std.specs.List.{list_all}
 use Rattle.std.proofs.lemmas.Bool.{false≢true, ltb-true}
 use Rattle.std.proofs.lemmas.List.Elements.{All-weaker}
 use Rattle.std.proofs.lemmas.List.Sums.{AllPass-from_list_all}
-use Rattle.hir_node.specs.ChildCalls.{a, t, opt, bound_calls}
+use Rattle.hir_node.specs.ChildCalls.{a, t, opt}
 use Rattle.hir_path.specs.declared.bound.ConstRef.{ConstRef}
 use Rattle.hir_generics.specs.declared.param.TypeOrConstParamData.{TypeOrConstParamData}
 use Rattle.hir_generics.specs.declared.param.TypeOrConstParamData.TheVariants as either
 use Rattle.hir_generics.specs.declared.predicate.WherePredicate.{WherePredicate}
 use Rattle.hir_generics.specs.declared.predicate.WherePredicate.TheVariants as predicate
-use Rattle.hir_faults.specs.Sizes.{is_there}
-use Rattle.hir_faults.specs.Tested.{is_path_at, bound_paths}
-use Rattle.hir_faults.specs.Nodes.{Nodes, sizes_of}
+use Rattle.hir_faults.specs.Tested.{is_path_at}
+use Rattle.hir_faults.specs.Nodes.{Nodes}
 use Rattle.hir_items.specs.Generics.{Generics}
 use Rattle.hir_items.specs.declared.signature_fault.SignatureFault.TheVariants.{IdOutOfRange, NotAPath}
 use Rattle.hir_items.specs.declared.signatures.FieldData.{FieldData}
