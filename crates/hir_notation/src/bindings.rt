@@ -1,11 +1,10 @@
 //! Bindings with their hygiene, labels and lifetimes, as the lines behind `bind`, `label` and `lifetime` have them.
 
-use crate::answer::Answer;
 use crate::definitions::next_lifetime_param;
-use crate::stop::Stop;
-use crate::words::Words;
+use crate::reading::both;
 use hir_base::{HygieneId, SyntaxContext};
 use hir_node::{Binding, BindingAnnotation, BindingProblems, Label, LifetimeRef};
+use hir_words::{Answer, Stop, Words};
 use std::alloc::{AllocError, Global};
 
 /// A hygiene: the number of an expansion, or `root`.
@@ -41,21 +40,15 @@ pub fn write_hygiene(hygiene: HygieneId, answer: &mut Answer) -> Result<(), Allo
     }
 }
 
-/// How a name is bound: at most one of the words.
-fn read_mode(words: &mut Words<'_>) -> BindingAnnotation {
-    if words.flag(b"mut") {
-        BindingAnnotation::Mutable
-    } else if words.flag(b"ref") {
-        BindingAnnotation::Ref
-    } else if words.flag(b"refmut") {
-        BindingAnnotation::RefMut
-    } else {
-        BindingAnnotation::Unannotated
-    }
-}
+/// How a name is bound, where that is said.
+const MODES: [(&str, BindingAnnotation); 3] = [
+    ("mut", BindingAnnotation::Mutable),
+    ("ref", BindingAnnotation::Ref),
+    ("refmut", BindingAnnotation::RefMut),
+];
 
 /// What is wrong with a binding.
-fn read_problem(words: &mut Words<'_>) -> Option<BindingProblems> {
+fn opt_problem(words: &mut Words<'_>) -> Option<BindingProblems> {
     if words.flag(b"BoundMoreThanOnce") {
         Some(BindingProblems::BoundMoreThanOnce)
     } else if words.flag(b"BoundInconsistently") {
@@ -69,13 +62,13 @@ fn read_problem(words: &mut Words<'_>) -> Option<BindingProblems> {
 
 /// A binding, behind the word `bind`.
 pub fn read_binding(words: &mut Words<'_>, alloc: Global) -> Result<Binding, Stop> {
-    let name = words.next_name(alloc)?;
-    let mode = read_mode(words);
-    let hygiene = opt_hygiene(words)?;
+    let name = words.next_name(alloc);
+    let mode = words.flag_in(&MODES);
+    let (name, hygiene) = both(name, opt_hygiene(words))?;
     Ok(Binding {
         name,
-        mode,
-        problems: read_problem(words),
+        mode: mode.unwrap_or(BindingAnnotation::Unannotated),
+        problems: opt_problem(words),
         hygiene,
     })
 }
@@ -87,14 +80,31 @@ pub fn read_label(words: &mut Words<'_>, alloc: Global) -> Result<Label, Stop> {
     })
 }
 
+/// The form of a lifetime.
+#[derive(Clone, Copy)]
+enum Form {
+    Named,
+    Static,
+    Placeholder,
+    Param,
+    Error,
+}
+
+const FORMS: [(&str, Form); 5] = [
+    ("named", Form::Named),
+    ("static", Form::Static),
+    ("placeholder", Form::Placeholder),
+    ("param", Form::Param),
+    ("error", Form::Error),
+];
+
 /// A lifetime, behind the word `lifetime`.
 pub fn read_lifetime(words: &mut Words<'_>, alloc: Global) -> Result<LifetimeRef, Stop> {
-    match words.next_keyword()? {
-        b"named" => Ok(LifetimeRef::Named(words.next_name(alloc)?)),
-        b"static" => Ok(LifetimeRef::Static),
-        b"placeholder" => Ok(LifetimeRef::Placeholder),
-        b"param" => Ok(LifetimeRef::Param(next_lifetime_param(words)?)),
-        b"error" => Ok(LifetimeRef::Error),
-        _ => Err(Stop::Bad),
+    match words.next_in(&FORMS)? {
+        Form::Named => Ok(LifetimeRef::Named(words.next_name(alloc)?)),
+        Form::Static => Ok(LifetimeRef::Static),
+        Form::Placeholder => Ok(LifetimeRef::Placeholder),
+        Form::Param => Ok(LifetimeRef::Param(next_lifetime_param(words)?)),
+        Form::Error => Ok(LifetimeRef::Error),
     }
 }

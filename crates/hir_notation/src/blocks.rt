@@ -1,43 +1,42 @@
 //! Blocks with their statements, matches with their arms, and loops.
 
-use crate::stop::Stop;
-use crate::words::Words;
-use hir_base::{BlockId, Idx, MacroDefId, Seq};
+use crate::reading::{Read, both, spaced, three};
+use hir_base::{BlockId, MacroDefId};
 use hir_node::{Expr, Item, LabelId, LoopSource, MatchArm, Statement, Unsafe};
+use hir_words::{Stop, Words};
 use std::alloc::Global;
 
-/// The number of a node that stands behind a colon in its word.
-pub(crate) fn part_id<K>(words: &mut Words<'_>) -> Result<Idx<K>, Stop> {
-    words.expect(b":")?;
-    words.id()
+/// The form of a statement.
+#[derive(Clone, Copy)]
+enum Form {
+    Let,
+    Semi,
+    Expr,
+    Macro,
+    Item,
 }
 
-/// The same, or `-` for none.
-fn part_opt_id<K>(words: &mut Words<'_>) -> Result<Option<Idx<K>>, Stop> {
-    words.expect(b":")?;
-    words.opt_id()
-}
+const FORMS: [(&str, Form); 5] = [
+    ("let", Form::Let),
+    ("semi", Form::Semi),
+    ("expr", Form::Expr),
+    ("macro", Form::Macro),
+    ("item", Form::Item),
+];
+
+/// The words that a loop is written with, where it isn't `loop`.
+const LOOPS: [(&str, LoopSource); 2] = [("while", LoopSource::While), ("for", LoopSource::ForLoop)];
 
 /// A label, where the next word has one.
 pub(crate) fn opt_label(words: &mut Words<'_>) -> Result<Option<LabelId>, Stop> {
-    if words.prefix(b"label:") {
-        return Ok(Some(words.id()?));
-    }
-    Ok(None)
+    words.prefixed_id(b"label:")
 }
 
 pub(crate) fn block_expr(words: &mut Words<'_>, alloc: Global) -> Result<Expr, Stop> {
-    let id = words.next_opt_number()?.map(BlockId::from_raw);
-    let tail = words.next_opt_id()?;
-    let label = opt_label(words)?;
+    let id = opt_block(words)?;
+    let (tail, label) = both(words.next_opt_id(), opt_label(words))?;
     let unsafe_ = opt_unsafe(words);
-    let mut statements = Seq::new(alloc);
-    for _ in 0..words.rest().len() {
-        if words.is_end() {
-            break;
-        }
-        push_statement(words, &mut statements)?;
-    }
+    let statements = spaced(words, alloc)?;
     Ok(Expr::Block {
         id,
         statements,
@@ -45,6 +44,13 @@ pub(crate) fn block_expr(words: &mut Words<'_>, alloc: Global) -> Result<Expr, S
         label,
         unsafe_,
     })
+}
+
+fn opt_block(words: &mut Words<'_>) -> Result<Option<BlockId>, Stop> {
+    match words.next_opt_number()? {
+        Some(number) => Ok(Some(BlockId::from_raw(number))),
+        None => Ok(None),
+    }
 }
 
 fn opt_unsafe(words: &mut Words<'_>) -> Unsafe {
@@ -55,29 +61,34 @@ fn opt_unsafe(words: &mut Words<'_>) -> Unsafe {
     }
 }
 
-/// Adds the next statement at the end of the list.
-fn push_statement(words: &mut Words<'_>, statements: &mut Seq<Statement>) -> Result<(), Stop> {
-    let statement = match words.next_keyword()? {
-        b"let" => Statement::Let {
-            pat: part_id(words)?,
-            type_ref: part_opt_id(words)?,
-            initializer: part_opt_id(words)?,
-            else_branch: part_opt_id(words)?,
-        },
-        b"semi" => Statement::Expr {
-            expr: part_id(words)?,
-            has_semi: true,
-        },
-        b"expr" => Statement::Expr {
-            expr: part_id(words)?,
-            has_semi: false,
-        },
-        b"macro" => Statement::Item(Item::MacroDef(part_macro(words)?)),
-        b"item" => Statement::Item(Item::Other),
-        _ => return Err(Stop::Bad),
-    };
-    statements.push(statement)?;
-    Ok(())
+impl Read for Statement {
+    fn read(words: &mut Words<'_>, _: Global) -> Result<Statement, Stop> {
+        match words.keyword_in(&FORMS)? {
+            Form::Let => let_statement(words),
+            Form::Semi => expr_statement(words, true),
+            Form::Expr => expr_statement(words, false),
+            Form::Macro => Ok(Statement::Item(Item::MacroDef(part_macro(words)?))),
+            Form::Item => Ok(Statement::Item(Item::Other)),
+        }
+    }
+}
+
+fn let_statement(words: &mut Words<'_>) -> Result<Statement, Stop> {
+    let (pat, type_ref) = both(words.part_id(), words.part_opt_id())?;
+    let (initializer, else_branch) = both(words.part_opt_id(), words.part_opt_id())?;
+    Ok(Statement::Let {
+        pat,
+        type_ref,
+        initializer,
+        else_branch,
+    })
+}
+
+fn expr_statement(words: &mut Words<'_>, has_semi: bool) -> Result<Statement, Stop> {
+    Ok(Statement::Expr {
+        expr: words.part_id()?,
+        has_semi,
+    })
 }
 
 fn part_macro(words: &mut Words<'_>) -> Result<MacroDefId, Stop> {
@@ -86,39 +97,22 @@ fn part_macro(words: &mut Words<'_>) -> Result<MacroDefId, Stop> {
 }
 
 pub(crate) fn loop_expr(words: &mut Words<'_>) -> Result<Expr, Stop> {
-    let body = words.next_id()?;
-    let label = opt_label(words)?;
-    let source = loop_source(words);
+    let (body, label) = both(words.next_id(), opt_label(words))?;
     Ok(Expr::Loop {
         body,
         label,
-        source,
+        source: words.flag_in(&LOOPS).unwrap_or(LoopSource::Loop),
     })
 }
 
-/// The word that a loop was written with, where it isn't `loop`.
-fn loop_source(words: &mut Words<'_>) -> LoopSource {
-    if words.flag(b"while") {
-        return LoopSource::While;
+impl Read for MatchArm {
+    fn read(words: &mut Words<'_>, _: Global) -> Result<MatchArm, Stop> {
+        let (pat, guard, expr) = three(words.id(), words.part_opt_id(), words.part_id())?;
+        Ok(MatchArm { pat, guard, expr })
     }
-    if words.flag(b"for") {
-        return LoopSource::ForLoop;
-    }
-    LoopSource::Loop
 }
 
 pub(crate) fn match_expr(words: &mut Words<'_>, alloc: Global) -> Result<Expr, Stop> {
-    let expr = words.next_id()?;
-    let mut arms = Seq::new(alloc);
-    for _ in 0..words.rest().len() {
-        if words.is_end() {
-            break;
-        }
-        arms.push(MatchArm {
-            pat: words.next_id()?,
-            guard: part_opt_id(words)?,
-            expr: part_id(words)?,
-        })?;
-    }
+    let (expr, arms) = both(words.next_id(), spaced(words, alloc))?;
     Ok(Expr::Match { expr, arms })
 }

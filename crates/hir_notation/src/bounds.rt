@@ -1,100 +1,105 @@
 //! Bounds, as `T3`, `?T3`, `for<NAMES>T3`, `L0`, `use<T,L0>` and `error`, and lists of them that are joined by `+`.
 
 use crate::args::numbered;
-use crate::stop::Stop;
-use crate::words::Words;
+use crate::reading::{Read, both, joined, joined_or_none};
 use hir_base::{Idx, Name, Seq};
 use hir_path::{PathId, TraitBoundModifier, TypeBound, UseArgRef};
+use hir_words::{Stop, Words};
 use std::alloc::Global;
+
+/// The form of a bound.
+#[derive(Clone, Copy)]
+enum Form {
+    Maybe,
+    ForLifetime,
+    Use,
+    Error,
+    Lifetime,
+    Path,
+}
+
+const FORMS: [(&str, Form); 6] = [
+    ("?", Form::Maybe),
+    ("for<", Form::ForLifetime),
+    ("use<", Form::Use),
+    ("error", Form::Error),
+    ("L", Form::Lifetime),
+    ("T", Form::Path),
+];
 
 /// The type that is the path of a trait.
 fn read_trait(words: &mut Words<'_>) -> Result<PathId, Stop> {
     words.expect(b"T")?;
+    read_path_id(words)
+}
+
+/// The same behind its letter.
+fn read_path_id(words: &mut Words<'_>) -> Result<PathId, Stop> {
     Ok(PathId::from_type_ref_unchecked(words.id()?))
 }
 
 /// A lifetime by its number, or a name.
-fn read_use(words: &mut Words<'_>, alloc: Global) -> Result<UseArgRef, Stop> {
-    match numbered(words, b"L")? {
-        Some((_, number)) => Ok(UseArgRef::Lifetime(Idx::from_raw(number))),
-        None => Ok(UseArgRef::Name(words.name(alloc)?)),
+impl Read for UseArgRef {
+    fn read(words: &mut Words<'_>, alloc: Global) -> Result<UseArgRef, Stop> {
+        match numbered(words, b"L")? {
+            Some((_, number)) => Ok(UseArgRef::Lifetime(Idx::from_raw(number))),
+            None => Ok(UseArgRef::Name(words.name(alloc)?)),
+        }
     }
 }
 
 /// What `use<` lists, to the end `>`.
 fn read_uses(words: &mut Words<'_>, alloc: Global) -> Result<Seq<UseArgRef>, Stop> {
-    let mut uses = Seq::new(alloc);
     if words.eat(b">") {
-        return Ok(uses);
+        return Ok(Seq::new(alloc));
     }
-    for _ in 0..words.rest().len() {
-        uses.push(read_use(words, alloc)?)?;
-        if !words.eat(b",") {
-            break;
-        }
-    }
+    let uses = joined(words, alloc, b",")?;
     words.expect(b">")?;
     Ok(uses)
 }
 
 /// The names behind `for<`, to the end `>`.
 fn read_binder(words: &mut Words<'_>, alloc: Global) -> Result<Seq<Name>, Stop> {
-    let names = words.names(alloc)?;
+    let names = joined_or_none(words, alloc, b",")?;
     words.expect(b">")?;
     Ok(names)
 }
 
 /// The names of `for<NAMES>`, where that comes next.
-pub fn opt_binder(words: &mut Words<'_>, alloc: Global) -> Result<Option<Seq<Name>>, Stop> {
+pub(crate) fn opt_binder(words: &mut Words<'_>, alloc: Global) -> Result<Option<Seq<Name>>, Stop> {
     if words.prefix(b"for<") {
         return Ok(Some(read_binder(words, alloc)?));
     }
     Ok(None)
 }
 
-/// A bound.
-pub fn read_bound(words: &mut Words<'_>, alloc: Global) -> Result<TypeBound, Stop> {
-    if words.eat(b"?") {
-        return Ok(TypeBound::Path(read_trait(words)?, TraitBoundModifier::Maybe));
+/// A trait behind `for<`.
+fn read_for(words: &mut Words<'_>, alloc: Global) -> Result<TypeBound, Stop> {
+    let (names, path) = both(read_binder(words, alloc), read_trait(words))?;
+    Ok(TypeBound::ForLifetime(names, path))
+}
+
+impl Read for TypeBound {
+    fn read(words: &mut Words<'_>, alloc: Global) -> Result<TypeBound, Stop> {
+        match words.eat_in(&FORMS)? {
+            Form::Maybe => Ok(TypeBound::Path(read_trait(words)?, TraitBoundModifier::Maybe)),
+            Form::ForLifetime => read_for(words, alloc),
+            Form::Use => Ok(TypeBound::Use(read_uses(words, alloc)?)),
+            Form::Error => Ok(TypeBound::Error),
+            Form::Lifetime => Ok(TypeBound::Lifetime(words.id()?)),
+            Form::Path => Ok(TypeBound::Path(read_path_id(words)?, TraitBoundModifier::None)),
+        }
     }
-    if words.eat(b"for<") {
-        return Ok(TypeBound::ForLifetime(read_binder(words, alloc)?, read_trait(words)?));
-    }
-    if words.eat(b"use<") {
-        return Ok(TypeBound::Use(read_uses(words, alloc)?));
-    }
-    if words.eat(b"error") {
-        return Ok(TypeBound::Error);
-    }
-    if words.eat(b"L") {
-        return Ok(TypeBound::Lifetime(words.id()?));
-    }
-    Ok(TypeBound::Path(read_trait(words)?, TraitBoundModifier::None))
 }
 
 /// A bound behind a space.
 pub fn next_bound(words: &mut Words<'_>, alloc: Global) -> Result<TypeBound, Stop> {
     words.expect(b" ")?;
-    read_bound(words, alloc)
+    TypeBound::read(words, alloc)
 }
 
-/// Bounds joined by `+`, or `-`.
-pub fn read_bounds(words: &mut Words<'_>, alloc: Global) -> Result<Seq<TypeBound>, Stop> {
-    let mut bounds = Seq::new(alloc);
-    if words.eat(b"-") {
-        return Ok(bounds);
-    }
-    for _ in 0..words.rest().len() {
-        bounds.push(read_bound(words, alloc)?)?;
-        if !words.eat(b"+") {
-            return Ok(bounds);
-        }
-    }
-    Err(Stop::Bad)
-}
-
-/// The same behind a space.
-pub fn next_bounds(words: &mut Words<'_>, alloc: Global) -> Result<Seq<TypeBound>, Stop> {
+/// Bounds joined by `+`, or `-`, behind a space.
+pub(crate) fn next_bounds(words: &mut Words<'_>, alloc: Global) -> Result<Seq<TypeBound>, Stop> {
     words.expect(b" ")?;
-    read_bounds(words, alloc)
+    joined_or_none(words, alloc, b"+")
 }

@@ -1,24 +1,37 @@
 //! Closures and coroutines.
 
-use crate::stop::Stop;
-use crate::words::Words;
-use hir_base::Seq;
+use crate::reading::{Read, joined, three};
+use hir_base::{Seq, ShortList};
 use hir_node::{
-    CaptureBy, ClosureKind, CoroutineKind, CoroutineSource, Expr, Movability, TypeRefId,
+    CaptureBy, ClosureKind, CoroutineKind, CoroutineSource, Expr, Movability, PatId, TypeRefId,
 };
+use hir_words::{Stop, Words};
 use std::alloc::{AllocError, Global};
+
+/// What a closure expression makes, by the word at its end.
+const KINDS: [(&str, ClosureKind); 5] = [
+    ("static", ClosureKind::OldCoroutine(Movability::Static)),
+    ("movable", ClosureKind::OldCoroutine(Movability::Movable)),
+    ("async", ClosureKind::CoroutineClosure(CoroutineKind::Async)),
+    ("gen", ClosureKind::CoroutineClosure(CoroutineKind::Gen)),
+    (
+        "async-gen",
+        ClosureKind::CoroutineClosure(CoroutineKind::AsyncGen),
+    ),
+];
+
+const SOURCES: [(&str, CoroutineSource); 3] = [
+    ("block", CoroutineSource::Block),
+    ("closure", CoroutineSource::Closure),
+    ("fn", CoroutineSource::Fn),
+];
 
 pub(crate) fn closure_expr(words: &mut Words<'_>, alloc: Global) -> Result<Expr, Stop> {
     let body = words.next_id()?;
-    let args = words.next_ids(alloc)?;
-    let arg_types = arg_types(words, alloc, args.len())?;
-    let ret_type = ret_type(words)?;
-    let capture_by = if words.flag(b"move") {
-        CaptureBy::Value
-    } else {
-        CaptureBy::Ref
-    };
-    let closure_kind = closure_kind(words)?;
+    let params = read_params(words, alloc);
+    let ret_type = words.prefixed_id(b"ret:");
+    let capture_by = capture_by(words);
+    let ((args, arg_types), ret_type, closure_kind) = three(params, ret_type, closure_kind(words))?;
     Ok(Expr::Closure {
         args,
         arg_types,
@@ -29,40 +42,43 @@ pub(crate) fn closure_expr(words: &mut Words<'_>, alloc: Global) -> Result<Expr,
     })
 }
 
+/// The arguments of a closure, and their types.
+fn read_params(
+    words: &mut Words<'_>,
+    alloc: Global,
+) -> Result<(ShortList<PatId>, Seq<Option<TypeRefId>>), Stop> {
+    let args = words.next_ids(alloc)?;
+    let types = arg_types(words, alloc, args.len())?;
+    Ok((args, types))
+}
+
+fn capture_by(words: &mut Words<'_>) -> CaptureBy {
+    if words.flag(b"move") {
+        CaptureBy::Value
+    } else {
+        CaptureBy::Ref
+    }
+}
+
 /// The types of a closure with this number of arguments.
 fn arg_types(
     words: &mut Words<'_>,
     alloc: Global,
     arg_count: usize,
 ) -> Result<Seq<Option<TypeRefId>>, Stop> {
-    if words.prefix(b"types:") {
-        return typed(words, alloc);
+    if !words.prefix(b"types:") {
+        return Ok(untyped(alloc, arg_count)?);
     }
-    Ok(untyped(alloc, arg_count)?)
-}
-
-/// The type behind a closure's arguments, where there is one.
-fn ret_type(words: &mut Words<'_>) -> Result<Option<TypeRefId>, Stop> {
-    if words.prefix(b"ret:") {
-        return Ok(Some(words.id()?));
-    }
-    Ok(None)
-}
-
-/// The types of arguments: joined by `,`, or nothing.
-fn typed(words: &mut Words<'_>, alloc: Global) -> Result<Seq<Option<TypeRefId>>, Stop> {
-    let mut types = Seq::new(alloc);
     if words.is_word_end() {
-        return Ok(types);
+        return Ok(Seq::new(alloc));
     }
-    types.push(words.opt_id()?)?;
-    for _ in 0..words.rest().len() {
-        if !words.eat(b",") {
-            break;
-        }
-        types.push(words.opt_id()?)?;
+    joined(words, alloc, b",")
+}
+
+impl Read for Option<TypeRefId> {
+    fn read(words: &mut Words<'_>, _: Global) -> Result<Option<TypeRefId>, Stop> {
+        words.opt_id()
     }
-    Ok(types)
 }
 
 /// An absent type for each argument.
@@ -79,13 +95,12 @@ fn closure_kind(words: &mut Words<'_>) -> Result<ClosureKind, Stop> {
     if words.is_end() {
         return Ok(ClosureKind::Closure);
     }
-    match words.next_keyword()? {
-        b"static" => Ok(ClosureKind::OldCoroutine(Movability::Static)),
-        b"movable" => Ok(ClosureKind::OldCoroutine(Movability::Movable)),
-        b"async" => coroutine(words, CoroutineKind::Async),
-        b"gen" => coroutine(words, CoroutineKind::Gen),
-        b"async-gen" => coroutine(words, CoroutineKind::AsyncGen),
-        _ => Err(Stop::Bad),
+    let kind = words.next_in(&KINDS)?;
+    match kind {
+        ClosureKind::CoroutineClosure(kind) => coroutine(words, kind),
+        ClosureKind::Closure
+        | ClosureKind::OldCoroutine(_)
+        | ClosureKind::Coroutine { kind: _, source: _ } => Ok(kind),
     }
 }
 
@@ -94,11 +109,8 @@ fn coroutine(words: &mut Words<'_>, kind: CoroutineKind) -> Result<ClosureKind, 
     if !words.eat(b":") {
         return Ok(ClosureKind::CoroutineClosure(kind));
     }
-    let source = match words.keyword() {
-        b"block" => CoroutineSource::Block,
-        b"closure" => CoroutineSource::Closure,
-        b"fn" => CoroutineSource::Fn,
-        _ => return Err(Stop::Bad),
-    };
-    Ok(ClosureKind::Coroutine { kind, source })
+    Ok(ClosureKind::Coroutine {
+        kind,
+        source: words.keyword_in(&SOURCES)?,
+    })
 }

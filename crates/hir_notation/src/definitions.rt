@@ -1,12 +1,12 @@
 //! Definitions: a kind and a number, as `FunctionId(7)`. Any of them is read as a `Def`, and narrowed to the kinds of its place.
 
-use crate::answer::Answer;
-use crate::stop::Stop;
-use crate::words::Words;
+use crate::reading::both;
+use crate::variants::{Word, of_word};
 use hir_base::{
-    AdtId, DefWithBodyId, ExpressionStoreOwnerId, GenericDefId, Id, Idx, LangItemTarget,
+    AdtId, DefWithBodyId, ExpressionStoreOwnerId, GenericDefId, Id, LangItemTarget,
     LifetimeParamId, MacroId, NamedDef, TypeOrConstParamId, TypeParamId, VariantId,
 };
+use hir_words::{Answer, Stop, Words};
 use std::alloc::AllocError;
 
 /// The kind of a definition.
@@ -34,48 +34,45 @@ pub struct Def {
     pub number: u32,
 }
 
-/// The kind of this word.
-fn kind_of(word: &[u8]) -> Result<DefKind, Stop> {
-    match word {
-        b"FunctionId" => Ok(DefKind::Function),
-        b"StructId" => Ok(DefKind::Struct),
-        b"UnionId" => Ok(DefKind::Union),
-        b"EnumId" => Ok(DefKind::Enum),
-        b"EnumVariantId" => Ok(DefKind::EnumVariant),
-        b"ConstId" => Ok(DefKind::Const),
-        b"StaticId" => Ok(DefKind::Static),
-        b"TraitId" => Ok(DefKind::Trait),
-        b"ImplId" => Ok(DefKind::Impl),
-        b"TypeAliasId" => Ok(DefKind::TypeAlias),
-        b"Macro2Id" => Ok(DefKind::Macro2),
-        b"MacroRulesId" => Ok(DefKind::MacroRules),
-        b"ProcMacroId" => Ok(DefKind::ProcMacro),
-        _ => Err(Stop::Bad),
-    }
-}
+const KINDS: [DefKind; 13] = [
+    DefKind::Function,
+    DefKind::Struct,
+    DefKind::Union,
+    DefKind::Enum,
+    DefKind::EnumVariant,
+    DefKind::Const,
+    DefKind::Static,
+    DefKind::Trait,
+    DefKind::Impl,
+    DefKind::TypeAlias,
+    DefKind::Macro2,
+    DefKind::MacroRules,
+    DefKind::ProcMacro,
+];
 
-/// The word of this kind, and a parenthesis.
-fn kind_text(kind: DefKind) -> &'static str {
-    match kind {
-        DefKind::Function => "FunctionId(",
-        DefKind::Struct => "StructId(",
-        DefKind::Union => "UnionId(",
-        DefKind::Enum => "EnumId(",
-        DefKind::EnumVariant => "EnumVariantId(",
-        DefKind::Const => "ConstId(",
-        DefKind::Static => "StaticId(",
-        DefKind::Trait => "TraitId(",
-        DefKind::Impl => "ImplId(",
-        DefKind::TypeAlias => "TypeAliasId(",
-        DefKind::Macro2 => "Macro2Id(",
-        DefKind::MacroRules => "MacroRulesId(",
-        DefKind::ProcMacro => "ProcMacroId(",
+impl Word for DefKind {
+    fn text(self) -> &'static str {
+        match self {
+            DefKind::Function => "FunctionId",
+            DefKind::Struct => "StructId",
+            DefKind::Union => "UnionId",
+            DefKind::Enum => "EnumId",
+            DefKind::EnumVariant => "EnumVariantId",
+            DefKind::Const => "ConstId",
+            DefKind::Static => "StaticId",
+            DefKind::Trait => "TraitId",
+            DefKind::Impl => "ImplId",
+            DefKind::TypeAlias => "TypeAliasId",
+            DefKind::Macro2 => "Macro2Id",
+            DefKind::MacroRules => "MacroRulesId",
+            DefKind::ProcMacro => "ProcMacroId",
+        }
     }
 }
 
 /// A definition.
 pub fn read_def(words: &mut Words<'_>) -> Result<Def, Stop> {
-    let kind = kind_of(words.keyword())?;
+    let kind = of_word(&KINDS, words.keyword())?;
     words.expect(b"(")?;
     let number = words.number()?;
     words.expect(b")")?;
@@ -168,7 +165,7 @@ pub fn as_named(def: Def) -> Result<NamedDef, Stop> {
 }
 
 /// The definition as what a lang item may be.
-pub fn as_lang(def: Def) -> LangItemTarget {
+pub(crate) fn as_lang(def: Def) -> LangItemTarget {
     let number = def.number;
     match def.kind {
         DefKind::Impl => LangItemTarget::ImplId(Id::from_raw(number)),
@@ -262,7 +259,7 @@ pub fn of_named(def: NamedDef) -> Def {
 }
 
 /// What a lang item is, as a definition.
-pub fn of_lang(def: LangItemTarget) -> Def {
+pub(crate) fn of_lang(def: LangItemTarget) -> Def {
     match def {
         LangItemTarget::ImplId(id) => def_of(DefKind::Impl, id),
         LangItemTarget::EnumId(id) => def_of(DefKind::Enum, id),
@@ -280,7 +277,8 @@ pub fn of_lang(def: LangItemTarget) -> Def {
 
 /// Writes a definition behind the last word without a space.
 pub fn join_def(def: Def, answer: &mut Answer) -> Result<(), AllocError> {
-    answer.join(kind_text(def.kind))?;
+    answer.join(def.kind.text())?;
+    answer.join("(")?;
     answer.join_number(def.number)?;
     answer.join(")")
 }
@@ -291,30 +289,44 @@ pub fn write_def(def: Def, answer: &mut Answer) -> Result<(), AllocError> {
     join_def(def, answer)
 }
 
+/// What of a definition has a store.
+#[derive(Clone, Copy)]
+enum Owner {
+    Body,
+    Signature,
+    Fields,
+}
+
+const OWNERS: [(&str, Owner); 3] = [
+    ("body", Owner::Body),
+    ("signature", Owner::Signature),
+    ("fields", Owner::Fields),
+];
+
 /// Whose store it is: `body`, `signature` or `fields`, and the definition, behind a space.
 pub fn next_owner(words: &mut Words<'_>) -> Result<ExpressionStoreOwnerId, Stop> {
-    let word = words.next_keyword()?;
+    let owner = words.next_in(&OWNERS)?;
     let def = next_def(words)?;
-    match word {
-        b"body" => Ok(ExpressionStoreOwnerId::Body(as_def_with_body(def)?)),
-        b"signature" => Ok(ExpressionStoreOwnerId::Signature(as_generic(def)?)),
-        b"fields" => Ok(ExpressionStoreOwnerId::VariantFields(as_variant(def)?)),
-        _ => Err(Stop::Bad),
+    match owner {
+        Owner::Body => Ok(ExpressionStoreOwnerId::Body(as_def_with_body(def)?)),
+        Owner::Signature => Ok(ExpressionStoreOwnerId::Signature(as_generic(def)?)),
+        Owner::Fields => Ok(ExpressionStoreOwnerId::VariantFields(as_variant(def)?)),
     }
 }
 
+/// A definition that may have generic parameters, behind a space.
+fn next_generic(words: &mut Words<'_>) -> Result<GenericDefId, Stop> {
+    as_generic(next_def(words)?)
+}
+
 /// A type parameter of a definition: the definition and a number, each behind a space.
-pub fn next_type_param(words: &mut Words<'_>) -> Result<TypeParamId, Stop> {
-    let def = next_def(words)?;
-    let parent = as_generic(def)?;
-    let local_id = Idx::from_raw(words.next_number()?);
+pub(crate) fn next_type_param(words: &mut Words<'_>) -> Result<TypeParamId, Stop> {
+    let (parent, local_id) = both(next_generic(words), words.next_id())?;
     Ok(TypeParamId::from_unchecked(TypeOrConstParamId { parent, local_id }))
 }
 
 /// A lifetime parameter of a definition: the definition and a number, each behind a space.
-pub fn next_lifetime_param(words: &mut Words<'_>) -> Result<LifetimeParamId, Stop> {
-    let def = next_def(words)?;
-    let parent = as_generic(def)?;
-    let local_id = Idx::from_raw(words.next_number()?);
+pub(crate) fn next_lifetime_param(words: &mut Words<'_>) -> Result<LifetimeParamId, Stop> {
+    let (parent, local_id) = both(next_generic(words), words.next_id())?;
     Ok(LifetimeParamId { parent, local_id })
 }

@@ -1,81 +1,110 @@
 //! Diagnostics of lowering, as the line behind `diagnostic` has them: the kind, the source, and what the kind has.
 
-use crate::answer::Answer;
 use crate::path_text::write_mod_path;
 use crate::paths::next_mod_path;
+use crate::reading::both;
 use crate::sources::{next_source, pointer, syntax, write_source};
-use crate::stop::Stop;
-use crate::words::Words;
+use crate::variants::{Word, of_word};
 use hir_base::{InFile, SyntaxNodePtr};
 use hir_source::{ExpressionStoreDiagnostics, MissingBodyItemKind};
+use hir_words::{Answer, Stop, Words};
 use std::alloc::{AllocError, Global};
 
-/// The kind of an item, behind a space.
-fn next_item_kind(words: &mut Words<'_>) -> Result<MissingBodyItemKind, Stop> {
-    match words.next_keyword()? {
-        b"AssocConst" => Ok(MissingBodyItemKind::AssocConst),
-        b"AssocType" => Ok(MissingBodyItemKind::AssocType),
-        b"Const" => Ok(MissingBodyItemKind::Const),
-        b"Static" => Ok(MissingBodyItemKind::Static),
-        b"TypeAlias" => Ok(MissingBodyItemKind::TypeAlias),
-        _ => Err(Stop::Bad),
+const ITEM_KINDS: [MissingBodyItemKind; 5] = [
+    MissingBodyItemKind::AssocConst,
+    MissingBodyItemKind::AssocType,
+    MissingBodyItemKind::Const,
+    MissingBodyItemKind::Static,
+    MissingBodyItemKind::TypeAlias,
+];
+
+impl Word for MissingBodyItemKind {
+    fn text(self) -> &'static str {
+        match self {
+            MissingBodyItemKind::AssocConst => "AssocConst",
+            MissingBodyItemKind::AssocType => "AssocType",
+            MissingBodyItemKind::Const => "Const",
+            MissingBodyItemKind::Static => "Static",
+            MissingBodyItemKind::TypeAlias => "TypeAlias",
+        }
     }
 }
 
-/// The kind of an item as a word.
-fn item_kind_text(kind: MissingBodyItemKind) -> &'static str {
-    match kind {
-        MissingBodyItemKind::AssocConst => "AssocConst",
-        MissingBodyItemKind::AssocType => "AssocType",
-        MissingBodyItemKind::Const => "Const",
-        MissingBodyItemKind::Static => "Static",
-        MissingBodyItemKind::TypeAlias => "TypeAlias",
-    }
+/// The kind of a diagnostic.
+#[derive(Clone, Copy)]
+enum Kind {
+    InactiveCode,
+    UnresolvedMacroCall,
+    UnreachableLabel,
+    AwaitOutsideOfAsync,
+    UndeclaredLabel,
+    PatternArgInExternFn,
+    FruInDestructuringAssignment,
+    MissingBody,
 }
+
+const KINDS: [(&str, Kind); 8] = [
+    ("InactiveCode", Kind::InactiveCode),
+    ("UnresolvedMacroCall", Kind::UnresolvedMacroCall),
+    ("UnreachableLabel", Kind::UnreachableLabel),
+    ("AwaitOutsideOfAsync", Kind::AwaitOutsideOfAsync),
+    ("UndeclaredLabel", Kind::UndeclaredLabel),
+    ("PatternArgInExternFn", Kind::PatternArgInExternFn),
+    (
+        "FruInDestructuringAssignment",
+        Kind::FruInDestructuringAssignment,
+    ),
+    ("MissingBody", Kind::MissingBody),
+];
 
 /// A diagnostic, behind the word `diagnostic`.
 pub fn read_diagnostic(
     words: &mut Words<'_>,
     alloc: Global,
 ) -> Result<ExpressionStoreDiagnostics, Stop> {
-    let kind = words.next_keyword()?;
+    let kind = words.next_in(&KINDS)?;
     let source = next_source(words)?;
     match kind {
-        b"InactiveCode" => Ok(ExpressionStoreDiagnostics::InactiveCode {
-            node: source,
-            cfg: words.next_text(alloc)?,
-            opts: words.next_text(alloc)?,
-        }),
-        b"UnresolvedMacroCall" => Ok(ExpressionStoreDiagnostics::UnresolvedMacroCall {
+        Kind::InactiveCode => inactive_code(source, words, alloc),
+        Kind::UnresolvedMacroCall => Ok(ExpressionStoreDiagnostics::UnresolvedMacroCall {
             node: pointer(source),
             path: next_mod_path(words, alloc)?,
         }),
-        b"UnreachableLabel" => Ok(ExpressionStoreDiagnostics::UnreachableLabel {
+        Kind::UnreachableLabel => Ok(ExpressionStoreDiagnostics::UnreachableLabel {
             node: pointer(source),
             name: words.next_name(alloc)?,
         }),
-        b"AwaitOutsideOfAsync" => Ok(ExpressionStoreDiagnostics::AwaitOutsideOfAsync {
+        Kind::AwaitOutsideOfAsync => Ok(ExpressionStoreDiagnostics::AwaitOutsideOfAsync {
             node: pointer(source),
             location: words.next_text(alloc)?,
         }),
-        b"UndeclaredLabel" => Ok(ExpressionStoreDiagnostics::UndeclaredLabel {
+        Kind::UndeclaredLabel => Ok(ExpressionStoreDiagnostics::UndeclaredLabel {
             node: pointer(source),
             name: words.next_name(alloc)?,
         }),
-        b"PatternArgInExternFn" => Ok(ExpressionStoreDiagnostics::PatternArgInExternFn {
+        Kind::PatternArgInExternFn => Ok(ExpressionStoreDiagnostics::PatternArgInExternFn {
             node: pointer(source),
         }),
-        b"FruInDestructuringAssignment" => {
+        Kind::FruInDestructuringAssignment => {
             Ok(ExpressionStoreDiagnostics::FruInDestructuringAssignment {
                 node: pointer(source),
             })
         }
-        b"MissingBody" => Ok(ExpressionStoreDiagnostics::MissingBody {
+        Kind::MissingBody => Ok(ExpressionStoreDiagnostics::MissingBody {
             node: source,
-            kind: next_item_kind(words)?,
+            kind: of_word(&ITEM_KINDS, words.next_keyword()?)?,
         }),
-        _ => Err(Stop::Bad),
     }
+}
+
+/// Code that is left out: the condition that it has, and the options.
+fn inactive_code(
+    node: InFile<SyntaxNodePtr>,
+    words: &mut Words<'_>,
+    alloc: Global,
+) -> Result<ExpressionStoreDiagnostics, Stop> {
+    let (cfg, opts) = both(words.next_text(alloc), words.next_text(alloc))?;
+    Ok(ExpressionStoreDiagnostics::InactiveCode { node, cfg, opts })
 }
 
 /// Writes the kind of a diagnostic, and its source.
@@ -123,7 +152,7 @@ pub fn write_diagnostic(
         }
         ExpressionStoreDiagnostics::MissingBody { node, kind } => {
             write_front("MissingBody", *node, answer)?;
-            answer.word(item_kind_text(*kind))
+            answer.word(kind.text())
         }
     }
 }

@@ -1,18 +1,18 @@
 //! Editions, by their years.
 
-use crate::stop::Stop;
-use crate::words::Words;
 use hir_base::Edition;
+use hir_words::{Stop, Words};
+
+const EDITIONS: [(&str, Edition); 4] = [
+    ("2015", Edition::Edition2015),
+    ("2018", Edition::Edition2018),
+    ("2021", Edition::Edition2021),
+    ("2024", Edition::Edition2024),
+];
 
 /// An edition behind a space.
 pub fn next_edition(words: &mut Words<'_>) -> Result<Edition, Stop> {
-    match words.next_number()? {
-        2015 => Ok(Edition::Edition2015),
-        2018 => Ok(Edition::Edition2018),
-        2021 => Ok(Edition::Edition2021),
-        2024 => Ok(Edition::Edition2024),
-        _ => Err(Stop::Bad),
-    }
+    words.next_in(&EDITIONS)
 }
 
 /// The edition at the end of a line: 2021 where the line ends before it.

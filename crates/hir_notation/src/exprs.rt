@@ -1,80 +1,185 @@
 //! Expressions: each form is read by its keyword and its parts.
 
 use crate::args::next_args;
-use crate::blocks::{block_expr, loop_expr, match_expr, opt_label, part_id};
+use crate::blocks::{block_expr, loop_expr, match_expr, opt_label};
 use crate::closures::closure_expr;
-use crate::literals::read_literal;
+use crate::literals::{LiteralForm, read_literal};
 use crate::operators::{next_binary, next_unary};
 use crate::paths::next_path;
-use crate::stop::Stop;
-use crate::words::Words;
-use hir_base::Seq;
-use hir_node::{Array, Boxed, Expr, Mutability, OffsetOf, Rawness, RecordLitField, RecordSpread};
+use crate::reading::{Read, both, joined_or_none, spaced, three};
+use hir_base::{Name, Seq};
+use hir_node::{
+    Array, Boxed, Expr, GenericArgs, Mutability, OffsetOf, Rawness, RecordLitField, RecordSpread,
+};
+use hir_words::{Stop, Words};
 use std::alloc::Global;
+
+/// The form of an expression.
+#[derive(Clone, Copy)]
+enum Form {
+    Simple(Simple),
+    Jump(Jump),
+    Compound(Compound),
+    Literal(LiteralForm),
+}
+
+/// An expression of few nodes.
+#[derive(Clone, Copy)]
+enum Simple {
+    Missing,
+    Underscore,
+    IncludeBytes,
+    Repeat,
+    Const,
+    If,
+    Let,
+    Loop,
+    Cast,
+    Ref,
+    Unary,
+    Binary,
+    Assign,
+    Index,
+}
+
+/// An expression that goes elsewhere.
+#[derive(Clone, Copy)]
+enum Jump {
+    Continue,
+    Break,
+    Return,
+    Yield,
+    Yeet,
+    Become,
+    Await,
+}
+
+/// An expression of any number of nodes, or with a name or a path.
+#[derive(Clone, Copy)]
+enum Compound {
+    Path,
+    Array,
+    OffsetOf,
+    Block,
+    Call,
+    Method,
+    Match,
+    Record,
+    Field,
+    Closure,
+    Tuple,
+}
+
+const FORMS: [(&str, Form); 40] = [
+    ("missing", Form::Simple(Simple::Missing)),
+    ("underscore", Form::Simple(Simple::Underscore)),
+    ("include-bytes", Form::Simple(Simple::IncludeBytes)),
+    ("repeat", Form::Simple(Simple::Repeat)),
+    ("const", Form::Simple(Simple::Const)),
+    ("if", Form::Simple(Simple::If)),
+    ("let", Form::Simple(Simple::Let)),
+    ("loop", Form::Simple(Simple::Loop)),
+    ("cast", Form::Simple(Simple::Cast)),
+    ("ref", Form::Simple(Simple::Ref)),
+    ("unary", Form::Simple(Simple::Unary)),
+    ("bin", Form::Simple(Simple::Binary)),
+    ("assign", Form::Simple(Simple::Assign)),
+    ("index", Form::Simple(Simple::Index)),
+    ("continue", Form::Jump(Jump::Continue)),
+    ("break", Form::Jump(Jump::Break)),
+    ("return", Form::Jump(Jump::Return)),
+    ("yield", Form::Jump(Jump::Yield)),
+    ("yeet", Form::Jump(Jump::Yeet)),
+    ("become", Form::Jump(Jump::Become)),
+    ("await", Form::Jump(Jump::Await)),
+    ("path", Form::Compound(Compound::Path)),
+    ("array", Form::Compound(Compound::Array)),
+    ("offset-of", Form::Compound(Compound::OffsetOf)),
+    ("block", Form::Compound(Compound::Block)),
+    ("call", Form::Compound(Compound::Call)),
+    ("method", Form::Compound(Compound::Method)),
+    ("match", Form::Compound(Compound::Match)),
+    ("record", Form::Compound(Compound::Record)),
+    ("field", Form::Compound(Compound::Field)),
+    ("closure", Form::Compound(Compound::Closure)),
+    ("tuple", Form::Compound(Compound::Tuple)),
+    ("string", Form::Literal(LiteralForm::String)),
+    ("bytes", Form::Literal(LiteralForm::Bytes)),
+    ("cstring", Form::Literal(LiteralForm::CString)),
+    ("char", Form::Literal(LiteralForm::Char)),
+    ("bool", Form::Literal(LiteralForm::Bool)),
+    ("int", Form::Literal(LiteralForm::Int)),
+    ("uint", Form::Literal(LiteralForm::Uint)),
+    ("float", Form::Literal(LiteralForm::Float)),
+];
 
 /// The expression of the words behind `expr`.
 pub fn read_expr(words: &mut Words<'_>, alloc: Global) -> Result<Expr, Stop> {
-    match words.next_keyword()? {
-        b"missing" => Ok(Expr::Missing),
-        b"underscore" => Ok(Expr::Underscore),
-        b"include-bytes" => Ok(Expr::IncludeBytes),
-        b"path" => Ok(Expr::Path(next_path(words, alloc)?)),
-        b"array" => array_expr(words, alloc),
-        b"repeat" => repeat_expr(words),
-        b"offset-of" => offset_of_expr(words, alloc),
-        b"const" => Ok(Expr::Const(words.next_id()?)),
-        b"if" => if_expr(words),
-        b"let" => let_expr(words),
-        b"block" => block_expr(words, alloc),
-        b"loop" => loop_expr(words),
-        b"call" => call_expr(words, alloc),
-        b"method" => method_expr(words, alloc),
-        b"match" => match_expr(words, alloc),
-        b"record" => record_expr(words, alloc),
-        b"field" => field_expr(words, alloc),
-        b"cast" => cast_expr(words),
-        b"ref" => ref_expr(words),
-        b"unary" => unary_expr(words),
-        b"bin" => binary_expr(words),
-        b"assign" => assign_expr(words),
-        b"index" => index_expr(words),
-        b"closure" => closure_expr(words, alloc),
-        b"tuple" => tuple_expr(words, alloc),
-        keyword => match jump_expr(keyword, words)? {
-            Some(jump) => Ok(jump),
-            None => Ok(Expr::Literal(read_literal(keyword, words, alloc)?)),
-        },
+    match words.next_in(&FORMS)? {
+        Form::Simple(form) => simple_expr(form, words),
+        Form::Jump(form) => jump_expr(form, words),
+        Form::Compound(form) => compound_expr(form, words, alloc),
+        Form::Literal(form) => Ok(Expr::Literal(read_literal(form, words, alloc)?)),
     }
 }
 
-/// The expression that goes elsewhere and has this keyword, if there is one.
-fn jump_expr(keyword: &[u8], words: &mut Words<'_>) -> Result<Option<Expr>, Stop> {
-    let jump = match keyword {
-        b"continue" => Expr::Continue {
+fn simple_expr(form: Simple, words: &mut Words<'_>) -> Result<Expr, Stop> {
+    match form {
+        Simple::Missing => Ok(Expr::Missing),
+        Simple::Underscore => Ok(Expr::Underscore),
+        Simple::IncludeBytes => Ok(Expr::IncludeBytes),
+        Simple::Repeat => repeat_expr(words),
+        Simple::Const => Ok(Expr::Const(words.next_id()?)),
+        Simple::If => if_expr(words),
+        Simple::Let => let_expr(words),
+        Simple::Loop => loop_expr(words),
+        Simple::Cast => cast_expr(words),
+        Simple::Ref => ref_expr(words),
+        Simple::Unary => unary_expr(words),
+        Simple::Binary => binary_expr(words),
+        Simple::Assign => assign_expr(words),
+        Simple::Index => index_expr(words),
+    }
+}
+
+fn jump_expr(form: Jump, words: &mut Words<'_>) -> Result<Expr, Stop> {
+    match form {
+        Jump::Continue => Ok(Expr::Continue {
             label: opt_label(words)?,
-        },
-        b"break" => Expr::Break {
+        }),
+        Jump::Break => break_expr(words),
+        Jump::Return => Ok(Expr::Return {
             expr: words.next_opt_id()?,
-            label: opt_label(words)?,
-        },
-        b"return" => Expr::Return {
+        }),
+        Jump::Yield => Ok(Expr::Yield {
             expr: words.next_opt_id()?,
-        },
-        b"yield" => Expr::Yield {
+        }),
+        Jump::Yeet => Ok(Expr::Yeet {
             expr: words.next_opt_id()?,
-        },
-        b"yeet" => Expr::Yeet {
-            expr: words.next_opt_id()?,
-        },
-        b"become" => Expr::Become {
+        }),
+        Jump::Become => Ok(Expr::Become {
             expr: words.next_id()?,
-        },
-        b"await" => Expr::Await {
+        }),
+        Jump::Await => Ok(Expr::Await {
             expr: words.next_id()?,
-        },
-        _ => return Ok(None),
-    };
-    Ok(Some(jump))
+        }),
+    }
+}
+
+fn compound_expr(form: Compound, words: &mut Words<'_>, alloc: Global) -> Result<Expr, Stop> {
+    match form {
+        Compound::Path => Ok(Expr::Path(next_path(words, alloc)?)),
+        Compound::Array => array_expr(words, alloc),
+        Compound::OffsetOf => offset_of_expr(words, alloc),
+        Compound::Block => block_expr(words, alloc),
+        Compound::Call => call_expr(words, alloc),
+        Compound::Method => method_expr(words, alloc),
+        Compound::Match => match_expr(words, alloc),
+        Compound::Record => record_expr(words, alloc),
+        Compound::Field => field_expr(words, alloc),
+        Compound::Closure => closure_expr(words, alloc),
+        Compound::Tuple => tuple_expr(words, alloc),
+    }
 }
 
 fn array_expr(words: &mut Words<'_>, alloc: Global) -> Result<Expr, Stop> {
@@ -83,50 +188,64 @@ fn array_expr(words: &mut Words<'_>, alloc: Global) -> Result<Expr, Stop> {
 }
 
 fn repeat_expr(words: &mut Words<'_>) -> Result<Expr, Stop> {
+    let (initializer, repeat) = both(words.next_id(), words.next_id())?;
     Ok(Expr::Array(Array::Repeat {
-        initializer: words.next_id()?,
-        repeat: words.next_id()?,
+        initializer,
+        repeat,
     }))
 }
 
-fn offset_of_expr(words: &mut Words<'_>, alloc: Global) -> Result<Expr, Stop> {
-    let container = words.next_id()?;
+/// Names behind a space: joined by `,`, or `-`.
+fn next_names(words: &mut Words<'_>, alloc: Global) -> Result<Seq<Name>, Stop> {
     words.expect(b" ")?;
-    let fields = words.names(alloc)?;
+    joined_or_none(words, alloc, b",")
+}
+
+fn offset_of_expr(words: &mut Words<'_>, alloc: Global) -> Result<Expr, Stop> {
+    let (container, fields) = both(words.next_id(), next_names(words, alloc))?;
     Ok(Expr::OffsetOf(OffsetOf { container, fields }))
 }
 
 fn if_expr(words: &mut Words<'_>) -> Result<Expr, Stop> {
+    let (condition, then_branch, else_branch) = three(
+        words.next_id(),
+        words.next_id(),
+        words.next_opt_id(),
+    )?;
     Ok(Expr::If {
-        condition: words.next_id()?,
-        then_branch: words.next_id()?,
-        else_branch: words.next_opt_id()?,
+        condition,
+        then_branch,
+        else_branch,
     })
 }
 
 fn let_expr(words: &mut Words<'_>) -> Result<Expr, Stop> {
-    Ok(Expr::Let {
-        pat: words.next_id()?,
-        expr: words.next_id()?,
-    })
+    let (pat, expr) = both(words.next_id(), words.next_id())?;
+    Ok(Expr::Let { pat, expr })
+}
+
+fn break_expr(words: &mut Words<'_>) -> Result<Expr, Stop> {
+    let (expr, label) = both(words.next_opt_id(), opt_label(words))?;
+    Ok(Expr::Break { expr, label })
 }
 
 fn call_expr(words: &mut Words<'_>, alloc: Global) -> Result<Expr, Stop> {
-    Ok(Expr::Call {
-        callee: words.next_id()?,
-        args: words.next_ids(alloc)?,
-    })
+    let (callee, args) = both(words.next_id(), words.next_ids(alloc))?;
+    Ok(Expr::Call { callee, args })
+}
+
+/// The generic arguments at the line's end, where there are any.
+fn opt_args(words: &mut Words<'_>, alloc: Global) -> Result<Option<Boxed<GenericArgs>>, Stop> {
+    if words.is_end() {
+        return Ok(None);
+    }
+    Ok(Some(Boxed::new(alloc, next_args(words, alloc)?)?))
 }
 
 fn method_expr(words: &mut Words<'_>, alloc: Global) -> Result<Expr, Stop> {
-    let receiver = words.next_id()?;
-    let method_name = words.next_name(alloc)?;
-    let args = words.next_ids(alloc)?;
-    let generic_args = if words.is_end() {
-        None
-    } else {
-        Some(Boxed::new(alloc, next_args(words, alloc)?)?)
-    };
+    let (receiver, method_name) = both(words.next_id(), words.next_name(alloc))?;
+    let args = words.next_ids(alloc);
+    let (args, generic_args) = both(args, opt_args(words, alloc))?;
     Ok(Expr::MethodCall {
         receiver,
         method_name,
@@ -135,22 +254,26 @@ fn method_expr(words: &mut Words<'_>, alloc: Global) -> Result<Expr, Stop> {
     })
 }
 
-fn record_expr(words: &mut Words<'_>, alloc: Global) -> Result<Expr, Stop> {
-    let path = next_path(words, alloc)?;
-    let mut fields = Seq::new(alloc);
-    for _ in 0..words.rest().len() {
-        if words.is_end() || words.is_at(b" ..") {
-            break;
-        }
-        fields.push(RecordLitField {
-            name: words.next_name(alloc)?,
-            expr: part_id(words)?,
-        })?;
+impl Read for RecordLitField {
+    fn read(words: &mut Words<'_>, alloc: Global) -> Result<RecordLitField, Stop> {
+        let (name, expr) = both(words.name(alloc), words.part_id())?;
+        Ok(RecordLitField { name, expr })
     }
+}
+
+/// The fields of a record literal.
+fn boxed_fields(words: &mut Words<'_>, alloc: Global) -> Result<Boxed<Seq<RecordLitField>>, Stop> {
+    Ok(Boxed::new(alloc, spaced(words, alloc)?)?)
+}
+
+fn record_expr(words: &mut Words<'_>, alloc: Global) -> Result<Expr, Stop> {
+    let path = next_path(words, alloc);
+    let fields = boxed_fields(words, alloc);
+    let (path, fields, spread) = three(path, fields, spread(words))?;
     Ok(Expr::RecordLit {
         path,
-        fields: Boxed::new(alloc, fields)?,
-        spread: spread(words)?,
+        fields,
+        spread,
     })
 }
 
@@ -166,17 +289,13 @@ fn spread(words: &mut Words<'_>) -> Result<RecordSpread, Stop> {
 }
 
 fn field_expr(words: &mut Words<'_>, alloc: Global) -> Result<Expr, Stop> {
-    Ok(Expr::Field {
-        expr: words.next_id()?,
-        name: words.next_name(alloc)?,
-    })
+    let (expr, name) = both(words.next_id(), words.next_name(alloc))?;
+    Ok(Expr::Field { expr, name })
 }
 
 fn cast_expr(words: &mut Words<'_>) -> Result<Expr, Stop> {
-    Ok(Expr::Cast {
-        expr: words.next_id()?,
-        type_ref: words.next_id()?,
-    })
+    let (expr, type_ref) = both(words.next_id(), words.next_id())?;
+    Ok(Expr::Cast { expr, type_ref })
 }
 
 fn ref_expr(words: &mut Words<'_>) -> Result<Expr, Stop> {
@@ -188,30 +307,23 @@ fn ref_expr(words: &mut Words<'_>) -> Result<Expr, Stop> {
 }
 
 fn unary_expr(words: &mut Words<'_>) -> Result<Expr, Stop> {
-    let op = next_unary(words)?;
-    let expr = words.next_id()?;
+    let (op, expr) = both(next_unary(words), words.next_id())?;
     Ok(Expr::UnaryOp { expr, op })
 }
 
 fn binary_expr(words: &mut Words<'_>) -> Result<Expr, Stop> {
-    let op = next_binary(words)?;
-    let lhs = words.next_id()?;
-    let rhs = words.next_id()?;
+    let (op, lhs, rhs) = three(next_binary(words), words.next_id(), words.next_id())?;
     Ok(Expr::BinaryOp { lhs, rhs, op })
 }
 
 fn assign_expr(words: &mut Words<'_>) -> Result<Expr, Stop> {
-    Ok(Expr::Assignment {
-        target: words.next_id()?,
-        value: words.next_id()?,
-    })
+    let (target, value) = both(words.next_id(), words.next_id())?;
+    Ok(Expr::Assignment { target, value })
 }
 
 fn index_expr(words: &mut Words<'_>) -> Result<Expr, Stop> {
-    Ok(Expr::Index {
-        base: words.next_id()?,
-        index: words.next_id()?,
-    })
+    let (base, index) = both(words.next_id(), words.next_id())?;
+    Ok(Expr::Index { base, index })
 }
 
 fn tuple_expr(words: &mut Words<'_>, alloc: Global) -> Result<Expr, Stop> {

@@ -1,43 +1,36 @@
 //! Generic parameters and the predicates of `where` clauses: read behind the first word of their line, and written as their line has them.
 
-use crate::answer::Answer;
 use crate::bounds::{next_bound, opt_binder};
 use crate::path_text::{join_names, write_bound};
-use crate::stop::Stop;
-use crate::words::Words;
+use crate::reading::{both, three};
 use hir_base::{Idx, Name};
 use hir_generics::{
     ConstParamData, LifetimeBoundType, LifetimeParamData, TypeOrConstParamData, TypeParamData,
     TypeParamProvenance, WherePredicate,
 };
 use hir_path::ConstRef;
+use hir_words::{Answer, Stop, Words};
 use std::alloc::{AllocError, Global};
 
 /// What a parameter is if no argument is given, behind `default:`.
 fn opt_default<K>(words: &mut Words<'_>) -> Result<Option<Idx<K>>, Stop> {
-    if words.prefix(b"default:") {
-        return Ok(Some(words.id()?));
-    }
-    Ok(None)
+    words.prefixed_id(b"default:")
 }
 
-/// Where a type parameter comes from.
-fn read_provenance(words: &mut Words<'_>) -> TypeParamProvenance {
-    if words.flag(b"self") {
-        TypeParamProvenance::TraitSelf
-    } else if words.flag(b"impl") {
-        TypeParamProvenance::ArgumentImplTrait
-    } else {
-        TypeParamProvenance::TypeParamList
-    }
-}
+/// Where a type parameter comes from, where that isn't the list of parameters.
+const PROVENANCES: [(&str, TypeParamProvenance); 2] = [
+    ("self", TypeParamProvenance::TraitSelf),
+    ("impl", TypeParamProvenance::ArgumentImplTrait),
+];
 
 /// A type parameter, behind the word `type-param`.
 pub fn read_type_param(words: &mut Words<'_>, alloc: Global) -> Result<TypeOrConstParamData, Stop> {
+    let (name, default) = both(words.next_opt_name(alloc), opt_default(words))?;
+    let provenance = words.flag_in(&PROVENANCES);
     Ok(TypeOrConstParamData::TypeParamData(TypeParamData {
-        name: words.next_opt_name(alloc)?,
-        default: opt_default(words)?,
-        provenance: read_provenance(words),
+        name,
+        default,
+        provenance: provenance.unwrap_or(TypeParamProvenance::TypeParamList),
     }))
 }
 
@@ -46,11 +39,17 @@ pub fn read_const_param(
     words: &mut Words<'_>,
     alloc: Global,
 ) -> Result<TypeOrConstParamData, Stop> {
-    Ok(TypeOrConstParamData::ConstParamData(ConstParamData {
-        name: words.next_name(alloc)?,
-        ty: words.next_id()?,
-        default: opt_default(words)?.map(|expr| ConstRef { expr }),
-    }))
+    let name = words.next_name(alloc);
+    let (name, ty, default) = three(name, words.next_id(), opt_const(words))?;
+    Ok(TypeOrConstParamData::ConstParamData(ConstParamData { name, ty, default }))
+}
+
+/// The constant that a parameter is if no argument is given.
+fn opt_const(words: &mut Words<'_>) -> Result<Option<ConstRef>, Stop> {
+    match opt_default(words)? {
+        Some(expr) => Ok(Some(ConstRef { expr })),
+        None => Ok(None),
+    }
 }
 
 /// A lifetime parameter, behind the word `lifetime-param`.
@@ -60,20 +59,25 @@ pub fn read_lifetime_param(
 ) -> Result<LifetimeParamData, Stop> {
     Ok(LifetimeParamData {
         name: words.next_name(alloc)?,
-        bound_type: if words.flag(b"late") {
-            LifetimeBoundType::LateBound
-        } else {
-            LifetimeBoundType::EarlyBound
-        },
+        bound_type: bound_type(words),
     })
+}
+
+fn bound_type(words: &mut Words<'_>) -> LifetimeBoundType {
+    if words.flag(b"late") {
+        LifetimeBoundType::LateBound
+    } else {
+        LifetimeBoundType::EarlyBound
+    }
 }
 
 /// The predicate that a type meets a bound, behind the word `where`.
 pub fn read_where(words: &mut Words<'_>, alloc: Global) -> Result<WherePredicate, Stop> {
-    let target = words.next_id()?;
-    let bound = next_bound(words, alloc)?;
+    let target = words.next_id();
+    let bound = next_bound(words, alloc);
+    let (target, bound, lifetimes) = three(target, bound, opt_binder(words, alloc))?;
     Ok(WherePredicate::TypeBound {
-        lifetimes: opt_binder(words, alloc)?,
+        lifetimes,
         target,
         bound,
     })
@@ -81,10 +85,8 @@ pub fn read_where(words: &mut Words<'_>, alloc: Global) -> Result<WherePredicate
 
 /// The predicate that a lifetime outlives another, behind the word `where-lifetime`.
 pub fn read_where_lifetime(words: &mut Words<'_>) -> Result<WherePredicate, Stop> {
-    Ok(WherePredicate::Lifetime {
-        target: words.next_id()?,
-        bound: words.next_id()?,
-    })
+    let (target, bound) = both(words.next_id(), words.next_id())?;
+    Ok(WherePredicate::Lifetime { target, bound })
 }
 
 /// Writes what a parameter is if no argument is given.

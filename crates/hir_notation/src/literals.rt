@@ -1,28 +1,66 @@
 //! Literals: read behind their keyword, and written as their line has them.
 
-use crate::answer::Answer;
-use crate::stop::Stop;
-use crate::words::Words;
+use crate::variants::{Word, of_word};
 use hir_base::{BuiltinFloat, BuiltinInt, BuiltinUint, Text};
 use hir_node::{FloatTypeWrapper, Literal};
+use hir_words::{Answer, Stop, Words};
 use std::alloc::{AllocError, Global};
 
-/// The literal with this keyword.
+/// The form of a literal.
+#[derive(Clone, Copy)]
+pub(crate) enum LiteralForm {
+    String,
+    Bytes,
+    CString,
+    Char,
+    Bool,
+    Int,
+    Uint,
+    Float,
+}
+
+const TRUTHS: [(&str, bool); 2] = [("true", true), ("false", false)];
+
+const INTS: [BuiltinInt; 6] = [
+    BuiltinInt::Isize,
+    BuiltinInt::I8,
+    BuiltinInt::I16,
+    BuiltinInt::I32,
+    BuiltinInt::I64,
+    BuiltinInt::I128,
+];
+
+const UINTS: [BuiltinUint; 6] = [
+    BuiltinUint::Usize,
+    BuiltinUint::U8,
+    BuiltinUint::U16,
+    BuiltinUint::U32,
+    BuiltinUint::U64,
+    BuiltinUint::U128,
+];
+
+const FLOATS: [BuiltinFloat; 4] = [
+    BuiltinFloat::F16,
+    BuiltinFloat::F32,
+    BuiltinFloat::F64,
+    BuiltinFloat::F128,
+];
+
+/// The literal of this form.
 pub(crate) fn read_literal(
-    keyword: &[u8],
+    form: LiteralForm,
     words: &mut Words<'_>,
     alloc: Global,
 ) -> Result<Literal, Stop> {
-    match keyword {
-        b"string" => Ok(Literal::String(words.next_text(alloc)?)),
-        b"bytes" => Ok(Literal::ByteString(words.next_bytes(alloc)?)),
-        b"cstring" => Ok(Literal::CString(words.next_bytes(alloc)?)),
-        b"char" => Ok(Literal::Char(next_char(words, alloc)?)),
-        b"bool" => Ok(Literal::Bool(next_bool(words)?)),
-        b"int" => int_literal(words),
-        b"uint" => uint_literal(words),
-        b"float" => float_literal(words, alloc),
-        _ => Err(Stop::Bad),
+    match form {
+        LiteralForm::String => Ok(Literal::String(words.next_text(alloc)?)),
+        LiteralForm::Bytes => Ok(Literal::ByteString(words.next_bytes(alloc)?)),
+        LiteralForm::CString => Ok(Literal::CString(words.next_bytes(alloc)?)),
+        LiteralForm::Char => Ok(Literal::Char(next_char(words, alloc)?)),
+        LiteralForm::Bool => Ok(Literal::Bool(words.next_in(&TRUTHS)?)),
+        LiteralForm::Int => int_literal(words),
+        LiteralForm::Uint => uint_literal(words),
+        LiteralForm::Float => float_literal(words, alloc),
     }
 }
 
@@ -36,59 +74,29 @@ fn next_char(words: &mut Words<'_>, alloc: Global) -> Result<char, Stop> {
     }
 }
 
-fn next_bool(words: &mut Words<'_>) -> Result<bool, Stop> {
-    match words.next_keyword()? {
-        b"true" => Ok(true),
-        b"false" => Ok(false),
-        _ => Err(Stop::Bad),
+/// The suffix at the line's end, where there is one.
+fn opt_suffix<T: Word>(all: &[T], words: &mut Words<'_>) -> Result<Option<T>, Stop> {
+    if words.is_end() {
+        return Ok(None);
     }
+    Ok(Some(of_word(all, words.next_keyword()?)?))
 }
 
 fn int_literal(words: &mut Words<'_>) -> Result<Literal, Stop> {
     words.expect(b" ")?;
     let value = words.int()?;
-    Ok(Literal::Int(value, int_suffix(words)?))
-}
-
-fn int_suffix(words: &mut Words<'_>) -> Result<Option<BuiltinInt>, Stop> {
-    if words.is_end() {
-        return Ok(None);
-    }
-    match words.next_keyword()? {
-        b"isize" => Ok(Some(BuiltinInt::Isize)),
-        b"i8" => Ok(Some(BuiltinInt::I8)),
-        b"i16" => Ok(Some(BuiltinInt::I16)),
-        b"i32" => Ok(Some(BuiltinInt::I32)),
-        b"i64" => Ok(Some(BuiltinInt::I64)),
-        b"i128" => Ok(Some(BuiltinInt::I128)),
-        _ => Err(Stop::Bad),
-    }
+    Ok(Literal::Int(value, opt_suffix(&INTS, words)?))
 }
 
 fn uint_literal(words: &mut Words<'_>) -> Result<Literal, Stop> {
     words.expect(b" ")?;
     let value = words.big()?;
-    Ok(Literal::Uint(value, uint_suffix(words)?))
-}
-
-fn uint_suffix(words: &mut Words<'_>) -> Result<Option<BuiltinUint>, Stop> {
-    if words.is_end() {
-        return Ok(None);
-    }
-    match words.next_keyword()? {
-        b"usize" => Ok(Some(BuiltinUint::Usize)),
-        b"u8" => Ok(Some(BuiltinUint::U8)),
-        b"u16" => Ok(Some(BuiltinUint::U16)),
-        b"u32" => Ok(Some(BuiltinUint::U32)),
-        b"u64" => Ok(Some(BuiltinUint::U64)),
-        b"u128" => Ok(Some(BuiltinUint::U128)),
-        _ => Err(Stop::Bad),
-    }
+    Ok(Literal::Uint(value, opt_suffix(&UINTS, words)?))
 }
 
 fn float_literal(words: &mut Words<'_>, alloc: Global) -> Result<Literal, Stop> {
     let text = FloatTypeWrapper::new(float_text(words, alloc)?);
-    Ok(Literal::Float(text, float_suffix(words)?))
+    Ok(Literal::Float(text, opt_suffix(&FLOATS, words)?))
 }
 
 /// The text of a float: digits and `.`, or in quotes.
@@ -97,79 +105,86 @@ fn float_text(words: &mut Words<'_>, alloc: Global) -> Result<Text, Stop> {
         return words.next_text(alloc);
     }
     words.expect(b" ")?;
-    match std::str::from_utf8(words.decimal()) {
-        Ok(text) if !text.is_empty() => Ok(Text::from_str(alloc, text)?),
-        Ok(_) | Err(_) => Err(Stop::Bad),
+    let digits = words.decimal();
+    if digits.is_empty() {
+        return Err(Stop::Bad);
     }
-}
-
-fn float_suffix(words: &mut Words<'_>) -> Result<Option<BuiltinFloat>, Stop> {
-    if words.is_end() {
-        return Ok(None);
-    }
-    match words.next_keyword()? {
-        b"f16" => Ok(Some(BuiltinFloat::F16)),
-        b"f32" => Ok(Some(BuiltinFloat::F32)),
-        b"f64" => Ok(Some(BuiltinFloat::F64)),
-        b"f128" => Ok(Some(BuiltinFloat::F128)),
-        _ => Err(Stop::Bad),
-    }
+    Ok(Text::from_str(alloc, std::str::from_utf8(digits)?)?)
 }
 
 /// Writes a literal as its line has it, like `int -1 i32`.
 pub fn write_literal(literal: &Literal, answer: &mut Answer) -> Result<(), AllocError> {
     match literal {
-        Literal::String(text) => {
-            answer.word("string")?;
-            answer.quoted(text.as_str())
-        }
-        Literal::ByteString(bytes) => {
-            answer.word("bytes")?;
-            answer.bytes(bytes.as_slice())
-        }
-        Literal::CString(bytes) => {
-            answer.word("cstring")?;
-            answer.bytes(bytes.as_slice())
-        }
-        Literal::Char(c) => {
-            answer.word("char")?;
-            answer.quoted(c.encode_utf8(&mut [0u8; 4]))
-        }
-        Literal::Bool(value) => {
-            answer.word("bool")?;
-            answer.word(if *value { "true" } else { "false" })
-        }
-        Literal::Int(value, suffix) => {
-            answer.word("int")?;
-            answer.int(*value)?;
-            write_suffix(suffix.map(|suffix| suffix.as_str()), answer)
-        }
-        Literal::Uint(value, suffix) => {
-            answer.word("uint")?;
-            answer.big(*value)?;
-            write_suffix(suffix.map(|suffix| suffix.as_str()), answer)
-        }
-        Literal::Float(text, suffix) => {
-            answer.word("float")?;
-            write_float_text(text.as_str(), answer)?;
-            write_suffix(suffix.map(|suffix| suffix.as_str()), answer)
-        }
+        Literal::String(text) => write_text("string", text.as_str(), answer),
+        Literal::ByteString(bytes) => write_bytes("bytes", bytes.as_slice(), answer),
+        Literal::CString(bytes) => write_bytes("cstring", bytes.as_slice(), answer),
+        Literal::Char(c) => write_text("char", c.encode_utf8(&mut [0u8; 4]), answer),
+        Literal::Bool(value) => write_bool(*value, answer),
+        Literal::Int(value, suffix) => write_int(*value, *suffix, answer),
+        Literal::Uint(value, suffix) => write_uint(*value, *suffix, answer),
+        Literal::Float(text, suffix) => write_float(text.as_str(), *suffix, answer),
     }
 }
 
-fn write_suffix(suffix: Option<&str>, answer: &mut Answer) -> Result<(), AllocError> {
-    match suffix {
-        Some(suffix) => answer.word(suffix),
-        None => Ok(()),
-    }
+fn write_text(word: &str, text: &str, answer: &mut Answer) -> Result<(), AllocError> {
+    answer.word(word)?;
+    answer.quoted(text)
 }
 
-/// Writes the text of a float: bare, where it is of digits and `.` alone.
-fn write_float_text(text: &str, answer: &mut Answer) -> Result<(), AllocError> {
-    let mut words = Words::new(text.as_bytes());
-    if !words.decimal().is_empty() && words.is_end() {
-        answer.word(text)
+fn write_bytes(word: &str, bytes: &[u8], answer: &mut Answer) -> Result<(), AllocError> {
+    answer.word(word)?;
+    answer.bytes(bytes)
+}
+
+fn write_bool(value: bool, answer: &mut Answer) -> Result<(), AllocError> {
+    answer.word("bool")?;
+    answer.word(if value { "true" } else { "false" })
+}
+
+fn write_int(
+    value: i128,
+    suffix: Option<BuiltinInt>,
+    answer: &mut Answer,
+) -> Result<(), AllocError> {
+    answer.word("int")?;
+    answer.int(value)?;
+    write_suffix(suffix, answer)
+}
+
+fn write_uint(
+    value: u128,
+    suffix: Option<BuiltinUint>,
+    answer: &mut Answer,
+) -> Result<(), AllocError> {
+    answer.word("uint")?;
+    answer.big(value)?;
+    write_suffix(suffix, answer)
+}
+
+/// Writes a float: its text bare, where it is of digits and `.` alone.
+fn write_float(
+    text: &str,
+    suffix: Option<BuiltinFloat>,
+    answer: &mut Answer,
+) -> Result<(), AllocError> {
+    answer.word("float")?;
+    if is_decimal(text.as_bytes()) {
+        answer.word(text)?;
     } else {
-        answer.quoted(text)
+        answer.quoted(text)?;
+    }
+    write_suffix(suffix, answer)
+}
+
+/// Whether a text is of digits and `.` alone, and not empty.
+fn is_decimal(text: &[u8]) -> bool {
+    let mut words = Words::new(text);
+    !words.decimal().is_empty() && words.is_end()
+}
+
+fn write_suffix<T: Word>(suffix: Option<T>, answer: &mut Answer) -> Result<(), AllocError> {
+    match suffix {
+        Some(suffix) => answer.word(suffix.text()),
+        None => Ok(()),
     }
 }

@@ -1,9 +1,8 @@
 //! Nodes of each arena, as `expr:3`.
 
-use crate::answer::Answer;
-use crate::stop::Stop;
-use crate::words::Words;
+use hir_base::Idx;
 use hir_path::{BindingId, ExprId, LabelId, LifetimeRefId, PatId, TypeRefId};
+use hir_words::{Answer, Stop, Words};
 use std::alloc::AllocError;
 
 /// A node of an arena.
@@ -17,19 +16,43 @@ pub enum Node {
     Lifetime(LifetimeRefId),
 }
 
+/// An arena.
+#[derive(Clone, Copy)]
+enum Arena {
+    Expr,
+    Pat,
+    Type,
+    Binding,
+    Label,
+    Lifetime,
+}
+
+const ARENAS: [(&str, Arena); 6] = [
+    ("expr", Arena::Expr),
+    ("pat", Arena::Pat),
+    ("type", Arena::Type),
+    ("binding", Arena::Binding),
+    ("label", Arena::Label),
+    ("lifetime", Arena::Lifetime),
+];
+
+/// The node of this number in an arena.
+fn node_of(arena: Arena, number: u32) -> Node {
+    match arena {
+        Arena::Expr => Node::Expr(Idx::from_raw(number)),
+        Arena::Pat => Node::Pat(Idx::from_raw(number)),
+        Arena::Type => Node::Type(Idx::from_raw(number)),
+        Arena::Binding => Node::Binding(Idx::from_raw(number)),
+        Arena::Label => Node::Label(Idx::from_raw(number)),
+        Arena::Lifetime => Node::Lifetime(Idx::from_raw(number)),
+    }
+}
+
 /// A node behind a space.
 pub fn next_node(words: &mut Words<'_>) -> Result<Node, Stop> {
-    let kind = words.next_keyword()?;
+    let arena = words.next_in(&ARENAS)?;
     words.expect(b":")?;
-    match kind {
-        b"expr" => Ok(Node::Expr(words.id()?)),
-        b"pat" => Ok(Node::Pat(words.id()?)),
-        b"type" => Ok(Node::Type(words.id()?)),
-        b"binding" => Ok(Node::Binding(words.id()?)),
-        b"label" => Ok(Node::Label(words.id()?)),
-        b"lifetime" => Ok(Node::Lifetime(words.id()?)),
-        _ => Err(Stop::Bad),
-    }
+    Ok(node_of(arena, words.number()?))
 }
 
 /// The arena of a node, and its number.

@@ -1,61 +1,84 @@
 //! Operators as they are written between and before expressions.
 
-use crate::stop::Stop;
-use crate::words::Words;
+use crate::variants::of_word;
 use hir_base::{ArithOp, BinaryOp, CmpOp, LogicOp, Ordering, UnaryOp};
+use hir_words::{Stop, Words};
+
+const BETWEEN: [BinaryOp; 29] = [
+    BinaryOp::LogicOp(LogicOp::Or),
+    BinaryOp::LogicOp(LogicOp::And),
+    BinaryOp::CmpOp(CmpOp::Eq { negated: false }),
+    BinaryOp::CmpOp(CmpOp::Eq { negated: true }),
+    BinaryOp::CmpOp(CmpOp::Ord {
+        ordering: Ordering::Less,
+        strict: true,
+    }),
+    BinaryOp::CmpOp(CmpOp::Ord {
+        ordering: Ordering::Less,
+        strict: false,
+    }),
+    BinaryOp::CmpOp(CmpOp::Ord {
+        ordering: Ordering::Greater,
+        strict: true,
+    }),
+    BinaryOp::CmpOp(CmpOp::Ord {
+        ordering: Ordering::Greater,
+        strict: false,
+    }),
+    BinaryOp::ArithOp(ArithOp::Add),
+    BinaryOp::ArithOp(ArithOp::Sub),
+    BinaryOp::ArithOp(ArithOp::Mul),
+    BinaryOp::ArithOp(ArithOp::Div),
+    BinaryOp::ArithOp(ArithOp::Rem),
+    BinaryOp::ArithOp(ArithOp::Shl),
+    BinaryOp::ArithOp(ArithOp::Shr),
+    BinaryOp::ArithOp(ArithOp::BitXor),
+    BinaryOp::ArithOp(ArithOp::BitOr),
+    BinaryOp::ArithOp(ArithOp::BitAnd),
+    BinaryOp::Assignment { op: None },
+    BinaryOp::Assignment {
+        op: Some(ArithOp::Add),
+    },
+    BinaryOp::Assignment {
+        op: Some(ArithOp::Sub),
+    },
+    BinaryOp::Assignment {
+        op: Some(ArithOp::Mul),
+    },
+    BinaryOp::Assignment {
+        op: Some(ArithOp::Div),
+    },
+    BinaryOp::Assignment {
+        op: Some(ArithOp::Rem),
+    },
+    BinaryOp::Assignment {
+        op: Some(ArithOp::Shl),
+    },
+    BinaryOp::Assignment {
+        op: Some(ArithOp::Shr),
+    },
+    BinaryOp::Assignment {
+        op: Some(ArithOp::BitXor),
+    },
+    BinaryOp::Assignment {
+        op: Some(ArithOp::BitOr),
+    },
+    BinaryOp::Assignment {
+        op: Some(ArithOp::BitAnd),
+    },
+];
+
+const BEFORE: [UnaryOp; 3] = [UnaryOp::Deref, UnaryOp::Not, UnaryOp::Neg];
 
 /// The operator between two expressions; none for `missing`.
 pub(crate) fn next_binary(words: &mut Words<'_>) -> Result<Option<BinaryOp>, Stop> {
-    match words.next_word()? {
-        b"missing" => Ok(None),
-        word => Ok(Some(binary_of(word)?)),
+    if words.flag(b"missing") {
+        return Ok(None);
     }
-}
-
-fn binary_of(word: &[u8]) -> Result<BinaryOp, Stop> {
-    match word {
-        b"||" => Ok(BinaryOp::LogicOp(LogicOp::Or)),
-        b"&&" => Ok(BinaryOp::LogicOp(LogicOp::And)),
-        b"==" => Ok(BinaryOp::CmpOp(CmpOp::Eq { negated: false })),
-        b"!=" => Ok(BinaryOp::CmpOp(CmpOp::Eq { negated: true })),
-        b"<" => Ok(order(Ordering::Less, true)),
-        b"<=" => Ok(order(Ordering::Less, false)),
-        b">" => Ok(order(Ordering::Greater, true)),
-        b">=" => Ok(order(Ordering::Greater, false)),
-        b"=" => Ok(BinaryOp::Assignment { op: None }),
-        [arith @ .., b'='] => Ok(BinaryOp::Assignment {
-            op: Some(arith_of(arith)?),
-        }),
-        arith => Ok(BinaryOp::ArithOp(arith_of(arith)?)),
-    }
-}
-
-fn order(ordering: Ordering, strict: bool) -> BinaryOp {
-    BinaryOp::CmpOp(CmpOp::Ord { ordering, strict })
-}
-
-fn arith_of(word: &[u8]) -> Result<ArithOp, Stop> {
-    match word {
-        b"+" => Ok(ArithOp::Add),
-        b"-" => Ok(ArithOp::Sub),
-        b"*" => Ok(ArithOp::Mul),
-        b"/" => Ok(ArithOp::Div),
-        b"%" => Ok(ArithOp::Rem),
-        b"<<" => Ok(ArithOp::Shl),
-        b">>" => Ok(ArithOp::Shr),
-        b"^" => Ok(ArithOp::BitXor),
-        b"|" => Ok(ArithOp::BitOr),
-        b"&" => Ok(ArithOp::BitAnd),
-        _ => Err(Stop::Bad),
-    }
+    Ok(Some(of_word(&BETWEEN, words.next_word()?)?))
 }
 
 /// The operator before an expression.
 pub(crate) fn next_unary(words: &mut Words<'_>) -> Result<UnaryOp, Stop> {
-    match words.next_word()? {
-        b"*" => Ok(UnaryOp::Deref),
-        b"!" => Ok(UnaryOp::Not),
-        b"-" => Ok(UnaryOp::Neg),
-        _ => Err(Stop::Bad),
-    }
+    of_word(&BEFORE, words.next_word()?)
 }

@@ -1,14 +1,14 @@
 //! Paths, arguments and bounds as they are written: in the notation that is read.
 
-use crate::answer::Answer;
-use crate::args::is_numbered;
+use crate::args::{LETTERS, is_numbered};
 use crate::definitions::{join_def, of_lang};
-use crate::paths::is_kind;
+use crate::paths::{has_args, is_kind};
 use hir_base::{CrateId, ModPath, Name, PathKind};
 use hir_path::{
     AssociatedTypeBinding, GenericArg, GenericArgs, GenericArgsParentheses, NormalPath, Path,
     PathSegments, TraitBoundModifier, TypeBound, UseArgRef,
 };
+use hir_words::Answer;
 use std::alloc::AllocError;
 
 /// Writes a name behind the last word: in quotes too where it reads like something else in its place.
@@ -21,7 +21,7 @@ fn join_name(name: &Name, is_taken: bool, answer: &mut Answer) -> Result<(), All
 }
 
 /// Writes names joined by `,`, or `-`, behind the last word.
-pub fn join_names(names: &[Name], answer: &mut Answer) -> Result<(), AllocError> {
+pub(crate) fn join_names(names: &[Name], answer: &mut Answer) -> Result<(), AllocError> {
     if names.is_empty() {
         return answer.join("-");
     }
@@ -63,7 +63,7 @@ fn join_uses(uses: &[UseArgRef], answer: &mut Answer) -> Result<(), AllocError> 
 }
 
 /// Writes a bound behind the last word without a space.
-pub fn join_bound(bound: &TypeBound, answer: &mut Answer) -> Result<(), AllocError> {
+fn join_bound(bound: &TypeBound, answer: &mut Answer) -> Result<(), AllocError> {
     match bound {
         TypeBound::Path(path, modifier) => {
             match modifier {
@@ -85,7 +85,7 @@ pub fn join_bound(bound: &TypeBound, answer: &mut Answer) -> Result<(), AllocErr
 }
 
 /// Writes a bound.
-pub fn write_bound(bound: &TypeBound, answer: &mut Answer) -> Result<(), AllocError> {
+pub(crate) fn write_bound(bound: &TypeBound, answer: &mut Answer) -> Result<(), AllocError> {
     answer.word("")?;
     join_bound(bound, answer)
 }
@@ -104,12 +104,6 @@ fn join_bounds(bounds: &[TypeBound], answer: &mut Answer) -> Result<(), AllocErr
     Ok(())
 }
 
-/// Writes bounds as one word.
-pub fn write_bounds(bounds: &[TypeBound], answer: &mut Answer) -> Result<(), AllocError> {
-    answer.word("")?;
-    join_bounds(bounds, answer)
-}
-
 /// The word before arguments that says how they are written.
 fn parentheses_text(parentheses: GenericArgsParentheses) -> &'static str {
     match parentheses {
@@ -119,23 +113,35 @@ fn parentheses_text(parentheses: GenericArgsParentheses) -> &'static str {
     }
 }
 
-/// Writes generic arguments behind the last word without a space, from `::<` on.
-#[cycle(join_args)]
-pub fn join_args(args: &GenericArgs, answer: &mut Answer) -> Result<(), AllocError> {
-    answer.join("::<")?;
-    if args.has_self_type {
-        answer.join("self;")?;
-    }
-    answer.join(parentheses_text(args.parenthesized))?;
-    for (at, arg) in args.args.as_slice().iter().enumerate() {
+/// Writes types, lifetimes and constants, joined by `,`.
+fn join_list(args: &[GenericArg], answer: &mut Answer) -> Result<(), AllocError> {
+    for (at, arg) in args.iter().enumerate() {
         if at > 0 {
             answer.join(",")?;
         }
         join_arg(*arg, answer)?;
     }
+    Ok(())
+}
+
+/// Writes what stands before the bindings of generic arguments.
+fn join_front(args: &GenericArgs, answer: &mut Answer) -> Result<(), AllocError> {
+    answer.join("::<")?;
+    if args.has_self_type {
+        answer.join("self;")?;
+    }
+    answer.join(parentheses_text(args.parenthesized))?;
+    join_list(args.args.as_slice(), answer)?;
     if !args.args.is_empty() && !args.bindings.is_empty() {
         answer.join(",")?;
     }
+    Ok(())
+}
+
+/// Writes generic arguments behind the last word without a space, from `::<` on.
+#[cycle(join_args)]
+pub fn join_args(args: &GenericArgs, answer: &mut Answer) -> Result<(), AllocError> {
+    join_front(args, answer)?;
     join_bindings(args.bindings.as_slice(), answer)?;
     answer.join(">")
 }
@@ -161,7 +167,7 @@ fn join_bindings(
 #[cycle(join_args)]
 fn join_binding(binding: &AssociatedTypeBinding, answer: &mut Answer) -> Result<(), AllocError> {
     let name = &binding.name;
-    join_name(name, is_numbered(name.as_str().as_bytes(), b"TLC"), answer)?;
+    join_name(name, is_numbered(name.as_str().as_bytes(), LETTERS), answer)?;
     match &binding.args {
         Some(args) => join_args(args, answer)?,
         None => {}
@@ -284,7 +290,7 @@ fn join_normal(
             }
         }
         None => {
-            if path.generic_args.iter().all(|args| args.is_none()) {
+            if !has_args(path.generic_args.as_slice()) {
                 answer.join("~")?;
             }
             join_kind(kind, count > 0, answer)?;

@@ -2,23 +2,21 @@
 
 use crate::args::read_args;
 use crate::definitions::{as_lang, read_def};
-use crate::stop::Stop;
-use crate::words::Words;
+use crate::reading::both;
 use hir_base::{Id, ModPath, Name, PathKind, Seq};
 use hir_path::{Boxed, GenericArgs, NormalPath, Path, TypeRefId};
+use hir_words::{Stop, Words, value_of};
 use std::alloc::Global;
+
+const KINDS: [(&str, PathKind); 3] = [
+    ("self", PathKind::SELF),
+    ("super", PathKind::Super(1)),
+    ("crate", PathKind::Crate),
+];
 
 /// Whether a bare word is the kind of a path, and so no name of a segment.
 pub(crate) fn is_kind(word: &[u8]) -> bool {
-    matches!(word, b"self" | b"super" | b"crate")
-}
-
-/// A number below 256.
-fn small_number(words: &mut Words<'_>) -> Result<u8, Stop> {
-    match u8::try_from(words.number()?) {
-        Ok(number) => Ok(number),
-        Err(_) => Err(Stop::Bad),
-    }
+    value_of(&KINDS, word).is_some()
 }
 
 /// How many modules above: the number in parentheses, or one.
@@ -26,9 +24,32 @@ fn read_super(words: &mut Words<'_>) -> Result<u8, Stop> {
     if !words.eat(b"(") {
         return Ok(1);
     }
-    let count = small_number(words)?;
+    let count = words.byte()?;
     words.expect(b")")?;
     Ok(count)
+}
+
+/// The crate behind `$crate(`.
+fn read_crate(words: &mut Words<'_>) -> Result<PathKind, Stop> {
+    let krate = words.number()?;
+    words.expect(b")")?;
+    Ok(PathKind::DollarCrate(Id::from_raw(krate)))
+}
+
+/// The kind of a path that begins with a word; none where that is the name of a segment.
+fn opt_kind(words: &mut Words<'_>) -> Result<Option<PathKind>, Stop> {
+    if words.eat(b"$crate(") {
+        return Ok(Some(read_crate(words)?));
+    }
+    let mut ahead = *words;
+    let kind = value_of(&KINDS, ahead.bare_name());
+    if kind.is_some() {
+        *words = ahead;
+    }
+    if kind == Some(PathKind::Super(1)) {
+        return Ok(Some(PathKind::Super(read_super(words)?)));
+    }
+    Ok(kind)
 }
 
 /// The kind of a path, and whether a segment comes next.
@@ -39,20 +60,10 @@ fn read_kind(words: &mut Words<'_>) -> Result<(PathKind, bool), Stop> {
     if words.eat(b"-") {
         return Ok((PathKind::Plain, false));
     }
-    if words.eat(b"$crate(") {
-        let krate = Id::from_raw(words.number()?);
-        words.expect(b")")?;
-        return Ok((PathKind::DollarCrate(krate), words.eat(b"::")));
+    match opt_kind(words)? {
+        Some(kind) => Ok((kind, words.eat(b"::"))),
+        None => Ok((PathKind::Plain, true)),
     }
-    let mut ahead = *words;
-    let kind = match ahead.bare_name() {
-        b"self" => PathKind::SELF,
-        b"super" => PathKind::Super(read_super(&mut ahead)?),
-        b"crate" => PathKind::Crate,
-        _ => return Ok((PathKind::Plain, true)),
-    };
-    *words = ahead;
-    Ok((kind, words.eat(b"::")))
 }
 
 /// The name of a segment.
@@ -76,24 +87,29 @@ fn read_names(words: &mut Words<'_>, alloc: Global) -> Result<Seq<Name>, Stop> {
     Err(Stop::Bad)
 }
 
+/// The names of segments, where this says that there are any.
+fn opt_names(words: &mut Words<'_>, alloc: Global, has_names: bool) -> Result<Seq<Name>, Stop> {
+    if has_names {
+        return read_names(words, alloc);
+    }
+    Ok(Seq::new(alloc))
+}
+
 /// A path without arguments.
 pub fn read_mod_path(words: &mut Words<'_>, alloc: Global) -> Result<ModPath, Stop> {
     let (kind, has_names) = read_kind(words)?;
-    let names = if has_names {
-        read_names(words, alloc)?
-    } else {
-        Seq::new(alloc)
-    };
-    Ok(ModPath::from_segments(alloc, kind, names)?)
+    let names = opt_names(words, alloc, has_names)?;
+    mod_path(alloc, kind, names)
 }
 
 /// The same behind a space.
-pub fn next_mod_path(words: &mut Words<'_>, alloc: Global) -> Result<ModPath, Stop> {
+pub(crate) fn next_mod_path(words: &mut Words<'_>, alloc: Global) -> Result<ModPath, Stop> {
     words.expect(b" ")?;
     read_mod_path(words, alloc)
 }
 
 /// The segments of a path: their names, and a place for the arguments of each.
+#[derive(Drop)]
 struct Segments {
     names: Seq<Name>,
     places: Seq<Option<GenericArgs>>,
@@ -107,28 +123,61 @@ fn opt_args(words: &mut Words<'_>, alloc: Global) -> Result<Option<GenericArgs>,
     Ok(None)
 }
 
-/// The names of segments, with their arguments.
-fn read_segments(words: &mut Words<'_>, alloc: Global) -> Result<Segments, Stop> {
-    let mut names = Seq::new(alloc);
-    let mut places = Seq::new(alloc);
+/// The next segment, which is put behind the others.
+fn push_segment(words: &mut Words<'_>, alloc: Global, segments: &mut Segments) -> Result<(), Stop> {
+    segments.names.push(read_segment(words, alloc)?)?;
+    segments.places.push(opt_args(words, alloc)?)?;
+    Ok(())
+}
+
+/// The segments of a path, where this says that there are any.
+fn opt_segments(
+    words: &mut Words<'_>,
+    alloc: Global,
+    has_segments: bool,
+) -> Result<Segments, Stop> {
+    let mut segments = Segments {
+        names: Seq::new(alloc),
+        places: Seq::new(alloc),
+    };
+    if !has_segments {
+        return Ok(segments);
+    }
     for _ in 0..words.rest().len() {
-        names.push(read_segment(words, alloc)?)?;
-        places.push(opt_args(words, alloc)?)?;
+        push_segment(words, alloc, &mut segments)?;
         if !words.eat(b"::") {
-            return Ok(Segments { names, places });
+            return Ok(segments);
         }
     }
     Err(Stop::Bad)
 }
 
 /// The type in `<>` that a path begins at, where there is one.
-fn read_anchor(words: &mut Words<'_>) -> Result<Option<TypeRefId>, Stop> {
+fn opt_anchor(words: &mut Words<'_>) -> Result<Option<TypeRefId>, Stop> {
     if !words.eat(b"<") {
         return Ok(None);
     }
     let anchor = words.id()?;
     words.expect(b">")?;
     Ok(Some(anchor))
+}
+
+/// The kind of a path behind its anchor, if it has one, and whether a segment comes next.
+fn kind_behind(words: &mut Words<'_>, has_anchor: bool) -> Result<(PathKind, bool), Stop> {
+    if has_anchor && !words.eat(b"::") {
+        return Ok((PathKind::Plain, false));
+    }
+    read_kind(words)
+}
+
+/// Whether there are arguments in one of these places.
+pub(crate) fn has_args(places: &[Option<GenericArgs>]) -> bool {
+    for place in places {
+        if place.is_some() {
+            return true;
+        }
+    }
+    false
 }
 
 /// The places of a path, as many as stand behind `/`: no arguments may be lost.
@@ -139,28 +188,63 @@ fn read_places(
     if !words.eat(b"/") {
         return Ok(places);
     }
-    let count = usize::from(small_number(words)?);
-    let mut places = places.into_vec();
-    for _ in count..places.len() {
-        if let Some(Some(_)) = places.pop() {
-            return Err(Stop::Bad);
-        }
+    let count = usize::from(words.byte()?);
+    if count < places.len() && has_args(&places.as_slice()[count..]) {
+        return Err(Stop::Bad);
     }
+    resized(places, count)
+}
+
+/// These places, cut to this number, or filled up to it.
+fn resized(
+    places: Seq<Option<GenericArgs>>,
+    count: usize,
+) -> Result<Seq<Option<GenericArgs>>, Stop> {
+    let mut places = places.into_vec();
+    places.truncate(count);
     for _ in places.len()..count {
         places.push(None)?;
     }
     Ok(Seq::from_vec(places))
 }
 
+/// The name behind a lang item, where there is one.
+fn opt_lang_name(words: &mut Words<'_>, alloc: Global) -> Result<Option<Boxed<Name>>, Stop> {
+    if words.eat(b"::") {
+        return Ok(Some(Boxed::new(alloc, read_segment(words, alloc)?)?));
+    }
+    Ok(None)
+}
+
 /// The definition behind `lang(`, and its name.
 fn read_lang(words: &mut Words<'_>, alloc: Global) -> Result<Path, Stop> {
-    let target = as_lang(read_def(words)?);
+    let def = read_def(words)?;
     words.expect(b")")?;
-    if words.eat(b"::") {
-        let name = Boxed::new(alloc, read_segment(words, alloc)?)?;
-        return Ok(Path::LangItem(target, Some(name)));
-    }
-    Ok(Path::LangItem(target, None))
+    Ok(Path::LangItem(as_lang(def), opt_lang_name(words, alloc)?))
+}
+
+/// A path that may have arguments or an anchor.
+fn normal_path(
+    words: &mut Words<'_>,
+    alloc: Global,
+    type_anchor: Option<TypeRefId>,
+    kind: PathKind,
+    segments: Segments,
+) -> Result<Path, Stop> {
+    let Segments { names, places } = segments;
+    let places = read_places(words, places);
+    let (mod_path, generic_args) = both(mod_path(alloc, kind, names), places)?;
+    let normal = NormalPath {
+        generic_args,
+        type_anchor,
+        mod_path,
+    };
+    Ok(Path::Normal(Boxed::new(alloc, normal)?))
+}
+
+/// A path without arguments, of this kind and with these names.
+fn mod_path(alloc: Global, kind: PathKind, names: Seq<Name>) -> Result<ModPath, Stop> {
+    Ok(ModPath::from_segments(alloc, kind, names)?)
 }
 
 /// A path.
@@ -169,31 +253,14 @@ pub fn read_path(words: &mut Words<'_>, alloc: Global) -> Result<Path, Stop> {
         return read_lang(words, alloc);
     }
     let is_normal = words.eat(b"~");
-    let type_anchor = read_anchor(words)?;
-    let (kind, has_segments) = if type_anchor.is_some() && !words.eat(b"::") {
-        (PathKind::Plain, false)
-    } else {
-        read_kind(words)?
-    };
-    let Segments { names, places } = if has_segments {
-        read_segments(words, alloc)?
-    } else {
-        Segments {
-            names: Seq::new(alloc),
-            places: Seq::new(alloc),
-        }
-    };
-    let mod_path = ModPath::from_segments(alloc, kind, names)?;
-    let has_args = places.iter().any(|args| args.is_some());
-    if !is_normal && type_anchor.is_none() && !has_args {
-        return Ok(Path::BarePath(mod_path));
+    let anchor = opt_anchor(words)?;
+    let (kind, has_segments) = kind_behind(words, anchor.is_some())?;
+    let segments = opt_segments(words, alloc, has_segments)?;
+    if is_normal || anchor.is_some() || has_args(segments.places.as_slice()) {
+        return normal_path(words, alloc, anchor, kind, segments);
     }
-    let normal = NormalPath {
-        generic_args: read_places(words, places)?,
-        type_anchor,
-        mod_path,
-    };
-    Ok(Path::Normal(Boxed::new(alloc, normal)?))
+    let Segments { names, places: _ } = segments;
+    Ok(Path::BarePath(mod_path(alloc, kind, names)?))
 }
 
 /// A path behind a space.

@@ -1,38 +1,102 @@
 //! Patterns: each form is read by its keyword and its parts.
 
-use crate::blocks::part_id;
 use crate::paths::next_path;
-use crate::stop::Stop;
-use crate::words::Words;
-use hir_base::{RangeOp, Seq};
+use crate::reading::{Read, both, spaced, three};
+use hir_base::RangeOp;
 use hir_node::{Mutability, Pat, RecordFieldPat};
+use hir_words::{Stop, Words};
 use std::alloc::Global;
+
+/// The form of a pattern.
+#[derive(Clone, Copy)]
+enum Form {
+    Simple(Simple),
+    Compound(Compound),
+}
+
+/// A pattern of few nodes.
+#[derive(Clone, Copy)]
+enum Simple {
+    Missing,
+    Rest,
+    Wild,
+    NotNull,
+    Range,
+    Lit,
+    Expr,
+    Bind,
+    Ref,
+    Box,
+    Deref,
+}
+
+/// A pattern of any number of nodes, or with a path.
+#[derive(Clone, Copy)]
+enum Compound {
+    Tuple,
+    Or,
+    Record,
+    Slice,
+    Path,
+    TupleStruct,
+}
+
+const FORMS: [(&str, Form); 17] = [
+    ("missing", Form::Simple(Simple::Missing)),
+    ("rest", Form::Simple(Simple::Rest)),
+    ("wild", Form::Simple(Simple::Wild)),
+    ("not-null", Form::Simple(Simple::NotNull)),
+    ("range", Form::Simple(Simple::Range)),
+    ("lit", Form::Simple(Simple::Lit)),
+    ("expr", Form::Simple(Simple::Expr)),
+    ("bind", Form::Simple(Simple::Bind)),
+    ("ref", Form::Simple(Simple::Ref)),
+    ("box", Form::Simple(Simple::Box)),
+    ("deref", Form::Simple(Simple::Deref)),
+    ("tuple", Form::Compound(Compound::Tuple)),
+    ("or", Form::Compound(Compound::Or)),
+    ("record", Form::Compound(Compound::Record)),
+    ("slice", Form::Compound(Compound::Slice)),
+    ("path", Form::Compound(Compound::Path)),
+    ("tstruct", Form::Compound(Compound::TupleStruct)),
+];
 
 /// The pattern of the words behind `pat`.
 pub fn read_pat(words: &mut Words<'_>, alloc: Global) -> Result<Pat, Stop> {
-    match words.next_keyword()? {
-        b"missing" => Ok(Pat::Missing),
-        b"rest" => Ok(Pat::Rest),
-        b"wild" => Ok(Pat::Wild),
-        b"not-null" => Ok(Pat::NotNull),
-        b"tuple" => tuple_pat(words, alloc),
-        b"or" => Ok(Pat::Or(words.next_ids(alloc)?)),
-        b"record" => record_pat(words, alloc),
-        b"range" => range_pat(words),
-        b"slice" => slice_pat(words, alloc),
-        b"path" => Ok(Pat::Path(next_path(words, alloc)?)),
-        b"lit" => Ok(Pat::Lit(words.next_id()?)),
-        b"expr" => Ok(Pat::Expr(words.next_id()?)),
-        b"bind" => bind_pat(words),
-        b"tstruct" => tuple_struct_pat(words, alloc),
-        b"ref" => ref_pat(words),
-        b"box" => Ok(Pat::Box {
+    match words.next_in(&FORMS)? {
+        Form::Simple(form) => simple_pat(form, words),
+        Form::Compound(form) => compound_pat(form, words, alloc),
+    }
+}
+
+fn simple_pat(form: Simple, words: &mut Words<'_>) -> Result<Pat, Stop> {
+    match form {
+        Simple::Missing => Ok(Pat::Missing),
+        Simple::Rest => Ok(Pat::Rest),
+        Simple::Wild => Ok(Pat::Wild),
+        Simple::NotNull => Ok(Pat::NotNull),
+        Simple::Range => range_pat(words),
+        Simple::Lit => Ok(Pat::Lit(words.next_id()?)),
+        Simple::Expr => Ok(Pat::Expr(words.next_id()?)),
+        Simple::Bind => bind_pat(words),
+        Simple::Ref => ref_pat(words),
+        Simple::Box => Ok(Pat::Box {
             inner: words.next_id()?,
         }),
-        b"deref" => Ok(Pat::Deref {
+        Simple::Deref => Ok(Pat::Deref {
             inner: words.next_id()?,
         }),
-        _ => Err(Stop::Bad),
+    }
+}
+
+fn compound_pat(form: Compound, words: &mut Words<'_>, alloc: Global) -> Result<Pat, Stop> {
+    match form {
+        Compound::Tuple => tuple_pat(words, alloc),
+        Compound::Or => Ok(Pat::Or(words.next_ids(alloc)?)),
+        Compound::Record => record_pat(words, alloc),
+        Compound::Slice => slice_pat(words, alloc),
+        Compound::Path => Ok(Pat::Path(next_path(words, alloc)?)),
+        Compound::TupleStruct => tuple_struct_pat(words, alloc),
     }
 }
 
@@ -45,50 +109,47 @@ fn ellipsis(words: &mut Words<'_>) -> Result<Option<u32>, Stop> {
 }
 
 fn tuple_pat(words: &mut Words<'_>, alloc: Global) -> Result<Pat, Stop> {
-    Ok(Pat::Tuple {
-        args: words.next_ids(alloc)?,
-        ellipsis: ellipsis(words)?,
-    })
+    let (args, ellipsis) = both(words.next_ids(alloc), ellipsis(words))?;
+    Ok(Pat::Tuple { args, ellipsis })
+}
+
+impl Read for RecordFieldPat {
+    fn read(words: &mut Words<'_>, alloc: Global) -> Result<RecordFieldPat, Stop> {
+        let (name, pat) = both(words.name(alloc), words.part_id())?;
+        Ok(RecordFieldPat { name, pat })
+    }
 }
 
 fn record_pat(words: &mut Words<'_>, alloc: Global) -> Result<Pat, Stop> {
-    let path = next_path(words, alloc)?;
-    let mut args = Seq::new(alloc);
-    for _ in 0..words.rest().len() {
-        if words.is_end() || words.is_at(b" ..") {
-            break;
-        }
-        args.push(RecordFieldPat {
-            name: words.next_name(alloc)?,
-            pat: part_id(words)?,
-        })?;
-    }
+    let (path, args) = both(next_path(words, alloc), spaced(words, alloc))?;
     Ok(Pat::Record {
-        ellipsis: words.flag(b".."),
         path,
         args,
+        ellipsis: words.flag(b".."),
     })
 }
 
 fn range_pat(words: &mut Words<'_>) -> Result<Pat, Stop> {
-    let start = words.next_opt_id()?;
-    let end = words.next_opt_id()?;
-    let range_type = if words.flag(b"exclusive") {
-        RangeOp::Exclusive
-    } else {
-        RangeOp::Inclusive
-    };
+    let (start, end) = both(words.next_opt_id(), words.next_opt_id())?;
     Ok(Pat::Range {
         start,
         end,
-        range_type,
+        range_type: range_op(words),
     })
 }
 
+fn range_op(words: &mut Words<'_>) -> RangeOp {
+    if words.flag(b"exclusive") {
+        RangeOp::Exclusive
+    } else {
+        RangeOp::Inclusive
+    }
+}
+
 fn slice_pat(words: &mut Words<'_>, alloc: Global) -> Result<Pat, Stop> {
-    let prefix = words.next_ids(alloc)?;
-    let slice = words.next_opt_id()?;
-    let suffix = words.next_ids(alloc)?;
+    let prefix = words.next_ids(alloc);
+    let slice = words.next_opt_id();
+    let (prefix, slice, suffix) = three(prefix, slice, words.next_ids(alloc))?;
     Ok(Pat::Slice {
         prefix,
         slice,
@@ -97,16 +158,14 @@ fn slice_pat(words: &mut Words<'_>, alloc: Global) -> Result<Pat, Stop> {
 }
 
 fn bind_pat(words: &mut Words<'_>) -> Result<Pat, Stop> {
-    Ok(Pat::Bind {
-        id: words.next_id()?,
-        subpat: words.next_opt_id()?,
-    })
+    let (id, subpat) = both(words.next_id(), words.next_opt_id())?;
+    Ok(Pat::Bind { id, subpat })
 }
 
 fn tuple_struct_pat(words: &mut Words<'_>, alloc: Global) -> Result<Pat, Stop> {
-    let path = next_path(words, alloc)?;
-    let args = words.next_ids(alloc)?;
-    let ellipsis = ellipsis(words)?;
+    let path = next_path(words, alloc);
+    let args = words.next_ids(alloc);
+    let (path, args, ellipsis) = three(path, args, ellipsis(words))?;
     Ok(Pat::TupleStruct {
         path,
         args,

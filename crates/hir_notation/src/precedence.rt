@@ -1,30 +1,37 @@
 //! Precedences by the names of their variants.
 
-use crate::stop::Stop;
-use crate::words::Words;
+use crate::variants::{Word, of_word};
 use hir_base::ExprPrecedence;
+use hir_words::{Stop, Words};
+
+const PRECEDENCES: [ExprPrecedence; 16] = [
+    ExprPrecedence::Jump,
+    ExprPrecedence::Assign,
+    ExprPrecedence::Range,
+    ExprPrecedence::LOr,
+    ExprPrecedence::LAnd,
+    ExprPrecedence::Compare,
+    ExprPrecedence::BitOr,
+    ExprPrecedence::BitXor,
+    ExprPrecedence::BitAnd,
+    ExprPrecedence::Shift,
+    ExprPrecedence::Sum,
+    ExprPrecedence::Product,
+    ExprPrecedence::Cast,
+    ExprPrecedence::Prefix,
+    ExprPrecedence::Postfix,
+    ExprPrecedence::Unambiguous,
+];
+
+impl Word for ExprPrecedence {
+    fn text(self) -> &'static str {
+        precedence_text(self)
+    }
+}
 
 /// The precedence behind a space.
 pub fn next_precedence(words: &mut Words<'_>) -> Result<ExprPrecedence, Stop> {
-    match words.next_keyword()? {
-        b"Jump" => Ok(ExprPrecedence::Jump),
-        b"Assign" => Ok(ExprPrecedence::Assign),
-        b"Range" => Ok(ExprPrecedence::Range),
-        b"LOr" => Ok(ExprPrecedence::LOr),
-        b"LAnd" => Ok(ExprPrecedence::LAnd),
-        b"Compare" => Ok(ExprPrecedence::Compare),
-        b"BitOr" => Ok(ExprPrecedence::BitOr),
-        b"BitXor" => Ok(ExprPrecedence::BitXor),
-        b"BitAnd" => Ok(ExprPrecedence::BitAnd),
-        b"Shift" => Ok(ExprPrecedence::Shift),
-        b"Sum" => Ok(ExprPrecedence::Sum),
-        b"Product" => Ok(ExprPrecedence::Product),
-        b"Cast" => Ok(ExprPrecedence::Cast),
-        b"Prefix" => Ok(ExprPrecedence::Prefix),
-        b"Postfix" => Ok(ExprPrecedence::Postfix),
-        b"Unambiguous" => Ok(ExprPrecedence::Unambiguous),
-        _ => Err(Stop::Bad),
-    }
+    of_word(&PRECEDENCES, words.next_keyword()?)
 }
 
 /// The name of a precedence.

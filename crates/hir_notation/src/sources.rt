@@ -1,25 +1,15 @@
 //! Pointers to syntax and their files, as `0:7:3-9`: file, kind, start and end.
 
-use crate::answer::Answer;
-use crate::stop::Stop;
-use crate::words::Words;
 use hir_base::{AstPtr, Id, InFile, SyntaxNodePtr, TextRange};
+use hir_words::{Answer, Stop, Words};
 use std::alloc::AllocError;
-
-/// The number of a kind of syntax.
-fn read_kind(words: &mut Words<'_>) -> Result<u16, Stop> {
-    match u16::try_from(words.number()?) {
-        Ok(kind) => Ok(kind),
-        Err(_) => Err(Stop::Bad),
-    }
-}
 
 /// A source behind a space.
 pub fn next_source(words: &mut Words<'_>) -> Result<InFile<SyntaxNodePtr>, Stop> {
     words.expect(b" ")?;
     let file_id = Id::from_raw(words.number()?);
     words.expect(b":")?;
-    let kind = read_kind(words)?;
+    let kind = words.short()?;
     words.expect(b":")?;
     let start = words.number()?;
     words.expect(b"-")?;
@@ -50,7 +40,7 @@ pub fn syntax<K>(source: InFile<AstPtr<K>>) -> InFile<SyntaxNodePtr> {
 }
 
 /// Writes a source behind the last word without a space.
-pub fn join_source(source: InFile<SyntaxNodePtr>, answer: &mut Answer) -> Result<(), AllocError> {
+fn join_source(source: InFile<SyntaxNodePtr>, answer: &mut Answer) -> Result<(), AllocError> {
     answer.join_number(source.file_id.into_raw())?;
     answer.join(":")?;
     answer.join_number(u32::from(source.value.kind))?;

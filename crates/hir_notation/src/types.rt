@@ -1,28 +1,48 @@
 //! Types, as the line behind `type` has them, and the calling conventions of functions.
 
-use crate::answer::Answer;
 use crate::bounds::{next_bounds, opt_binder};
 use crate::definitions::next_type_param;
 use crate::paths::next_path;
-use crate::stop::Stop;
-use crate::words::Words;
-use hir_base::{ExternAbi, Name, Seq, Text};
+use crate::reading::{Read, both, spaced, three};
+use hir_base::{ExternAbi, Name, Text};
 use hir_node::{ArrayType, Boxed, ConstRef, FnType, Mutability, RefType, TypeRef, TypeRefId};
+use hir_words::{Answer, Stop, Words};
 use std::alloc::{AllocError, Global};
+
+/// A calling convention that is known by a word.
+#[derive(Clone, Copy)]
+enum KnownAbi {
+    Rust,
+    C,
+    CUnwind,
+    System,
+    SystemUnwind,
+}
+
+const ABIS: [(&str, KnownAbi); 5] = [
+    ("Rust", KnownAbi::Rust),
+    ("C", KnownAbi::C),
+    ("C-unwind", KnownAbi::CUnwind),
+    ("system", KnownAbi::System),
+    ("system-unwind", KnownAbi::SystemUnwind),
+];
+
+fn abi_of(known: KnownAbi) -> ExternAbi {
+    match known {
+        KnownAbi::Rust => ExternAbi::Rust,
+        KnownAbi::C => ExternAbi::C,
+        KnownAbi::CUnwind => ExternAbi::CUnwind,
+        KnownAbi::System => ExternAbi::System,
+        KnownAbi::SystemUnwind => ExternAbi::SystemUnwind,
+    }
+}
 
 /// A calling convention, behind `extern:`: a word that is known, or any text in quotes.
 fn read_abi(words: &mut Words<'_>, alloc: Global) -> Result<ExternAbi, Stop> {
     if words.is_at(b"\"") {
         return Ok(ExternAbi::Named(Text::from_string(words.string(alloc)?)));
     }
-    match words.keyword() {
-        b"Rust" => Ok(ExternAbi::Rust),
-        b"C" => Ok(ExternAbi::C),
-        b"C-unwind" => Ok(ExternAbi::CUnwind),
-        b"system" => Ok(ExternAbi::System),
-        b"system-unwind" => Ok(ExternAbi::SystemUnwind),
-        _ => Err(Stop::Bad),
-    }
+    Ok(abi_of(words.keyword_in(&ABIS)?))
 }
 
 /// The calling convention where `extern:` comes next: that of Rust where it doesn't. Before a number it is the name of a parameter.
@@ -55,31 +75,29 @@ fn opt_mut(words: &mut Words<'_>) -> Mutability {
     Mutability::from_mutable(words.flag(b"mut"))
 }
 
+/// The name of a parameter and a colon, where they come next.
+fn opt_param_name(words: &mut Words<'_>, alloc: Global) -> Result<Option<Name>, Stop> {
+    if !words.is_at_name() {
+        return Ok(None);
+    }
+    let (name, ()) = both(words.name(alloc), words.expect(b":"))?;
+    Ok(Some(name))
+}
+
 /// A parameter of a function pointer: its type, perhaps behind a name.
-fn read_param(words: &mut Words<'_>, alloc: Global) -> Result<(Option<Name>, TypeRefId), Stop> {
-    let name = if words.is_at_name() {
-        let name = words.name(alloc)?;
-        words.expect(b":")?;
-        Some(name)
-    } else {
-        None
-    };
-    Ok((name, words.id()?))
+impl Read for (Option<Name>, TypeRefId) {
+    fn read(words: &mut Words<'_>, alloc: Global) -> Result<(Option<Name>, TypeRefId), Stop> {
+        both(opt_param_name(words, alloc), words.id())
+    }
 }
 
 /// The type of a function pointer.
 fn read_fn(words: &mut Words<'_>, alloc: Global) -> Result<FnType, Stop> {
-    let binder = opt_binder(words, alloc)?;
+    let binder = opt_binder(words, alloc);
     let is_unsafe = words.flag(b"unsafe");
-    let abi = opt_abi(words, alloc)?;
+    let abi = opt_abi(words, alloc);
     let is_varargs = words.flag(b"varargs");
-    let mut params = Seq::new(alloc);
-    for _ in 0..words.rest().len() {
-        if !words.eat(b" ") {
-            break;
-        }
-        params.push(read_param(words, alloc)?)?;
-    }
+    let (binder, abi, params) = three(binder, abi, spaced(words, alloc))?;
     Ok(FnType {
         binder,
         params,
@@ -89,42 +107,116 @@ fn read_fn(words: &mut Words<'_>, alloc: Global) -> Result<FnType, Stop> {
     })
 }
 
+/// The same in a box.
+fn boxed_fn(words: &mut Words<'_>, alloc: Global) -> Result<Boxed<FnType>, Stop> {
+    Ok(Boxed::new(alloc, read_fn(words, alloc)?)?)
+}
+
 /// A reference: its type, its lifetime, and whether it is mutable.
 fn read_ref(words: &mut Words<'_>) -> Result<RefType, Stop> {
+    let (ty, lifetime) = both(words.next_id(), words.next_opt_id())?;
     Ok(RefType {
-        ty: words.next_id()?,
-        lifetime: words.next_opt_id()?,
+        ty,
+        lifetime,
         mutability: opt_mut(words),
     })
 }
 
+/// The same in a box.
+fn boxed_ref(words: &mut Words<'_>, alloc: Global) -> Result<Boxed<RefType>, Stop> {
+    Ok(Boxed::new(alloc, read_ref(words)?)?)
+}
+
 /// An array: its type and its length.
 fn read_array(words: &mut Words<'_>) -> Result<ArrayType, Stop> {
+    let (ty, expr) = both(words.next_id(), words.next_id())?;
     Ok(ArrayType {
-        ty: words.next_id()?,
-        len: ConstRef {
-            expr: words.next_id()?,
-        },
+        ty,
+        len: ConstRef { expr },
     })
 }
 
+/// The form of a type.
+#[derive(Clone, Copy)]
+enum Form {
+    Simple(Simple),
+    Compound(Compound),
+}
+
+/// A type of few nodes.
+#[derive(Clone, Copy)]
+enum Simple {
+    Never,
+    Placeholder,
+    Error,
+    RawPtr,
+    Array,
+    Slice,
+    Param,
+    Pattern,
+}
+
+/// A type of any number of nodes, or with a path, or in a box.
+#[derive(Clone, Copy)]
+enum Compound {
+    Tuple,
+    Path,
+    Reference,
+    Fn,
+    Impl,
+    Dyn,
+}
+
+const FORMS: [(&str, Form); 14] = [
+    ("never", Form::Simple(Simple::Never)),
+    ("placeholder", Form::Simple(Simple::Placeholder)),
+    ("error", Form::Simple(Simple::Error)),
+    ("raw", Form::Simple(Simple::RawPtr)),
+    ("array", Form::Simple(Simple::Array)),
+    ("slice", Form::Simple(Simple::Slice)),
+    ("param", Form::Simple(Simple::Param)),
+    ("pattern", Form::Simple(Simple::Pattern)),
+    ("tuple", Form::Compound(Compound::Tuple)),
+    ("path", Form::Compound(Compound::Path)),
+    ("ref", Form::Compound(Compound::Reference)),
+    ("fn", Form::Compound(Compound::Fn)),
+    ("impl", Form::Compound(Compound::Impl)),
+    ("dyn", Form::Compound(Compound::Dyn)),
+];
+
 /// A type, behind the word `type`.
 pub fn read_type(words: &mut Words<'_>, alloc: Global) -> Result<TypeRef, Stop> {
-    match words.next_keyword()? {
-        b"never" => Ok(TypeRef::Never),
-        b"placeholder" => Ok(TypeRef::Placeholder),
-        b"error" => Ok(TypeRef::Error),
-        b"tuple" => Ok(TypeRef::Tuple(words.next_ids(alloc)?)),
-        b"path" => Ok(TypeRef::Path(next_path(words, alloc)?)),
-        b"raw" => Ok(TypeRef::RawPtr(words.next_id()?, opt_mut(words))),
-        b"ref" => Ok(TypeRef::Reference(Boxed::new(alloc, read_ref(words)?)?)),
-        b"array" => Ok(TypeRef::Array(read_array(words)?)),
-        b"slice" => Ok(TypeRef::Slice(words.next_id()?)),
-        b"fn" => Ok(TypeRef::Fn(Boxed::new(alloc, read_fn(words, alloc)?)?)),
-        b"impl" => Ok(TypeRef::ImplTrait(next_bounds(words, alloc)?)),
-        b"dyn" => Ok(TypeRef::DynTrait(next_bounds(words, alloc)?)),
-        b"param" => Ok(TypeRef::TypeParam(next_type_param(words)?)),
-        b"pattern" => Ok(TypeRef::PatternType(words.next_id()?, words.next_id()?)),
-        _ => Err(Stop::Bad),
+    match words.next_in(&FORMS)? {
+        Form::Simple(form) => simple_type(form, words),
+        Form::Compound(form) => compound_type(form, words, alloc),
+    }
+}
+
+fn simple_type(form: Simple, words: &mut Words<'_>) -> Result<TypeRef, Stop> {
+    match form {
+        Simple::Never => Ok(TypeRef::Never),
+        Simple::Placeholder => Ok(TypeRef::Placeholder),
+        Simple::Error => Ok(TypeRef::Error),
+        Simple::RawPtr => Ok(TypeRef::RawPtr(words.next_id()?, opt_mut(words))),
+        Simple::Array => Ok(TypeRef::Array(read_array(words)?)),
+        Simple::Slice => Ok(TypeRef::Slice(words.next_id()?)),
+        Simple::Param => Ok(TypeRef::TypeParam(next_type_param(words)?)),
+        Simple::Pattern => pattern_type(words),
+    }
+}
+
+fn pattern_type(words: &mut Words<'_>) -> Result<TypeRef, Stop> {
+    let (ty, pat) = both(words.next_id(), words.next_id())?;
+    Ok(TypeRef::PatternType(ty, pat))
+}
+
+fn compound_type(form: Compound, words: &mut Words<'_>, alloc: Global) -> Result<TypeRef, Stop> {
+    match form {
+        Compound::Tuple => Ok(TypeRef::Tuple(words.next_ids(alloc)?)),
+        Compound::Path => Ok(TypeRef::Path(next_path(words, alloc)?)),
+        Compound::Reference => Ok(TypeRef::Reference(boxed_ref(words, alloc)?)),
+        Compound::Fn => Ok(TypeRef::Fn(boxed_fn(words, alloc)?)),
+        Compound::Impl => Ok(TypeRef::ImplTrait(next_bounds(words, alloc)?)),
+        Compound::Dyn => Ok(TypeRef::DynTrait(next_bounds(words, alloc)?)),
     }
 }

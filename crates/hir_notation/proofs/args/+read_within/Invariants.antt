@@ -1,5 +1,12 @@
+use Rattle.std.specs.Prelude.{◌+◌, ◌*◌}
 use Rattle.hir_notation.proofs.args.+read_within.Given as goal
 
--- each call in a binding may nest one less
+-- each call in a binding may nest one less, by way of the two that read the bindings
 abbrev pub decreases-read_within : goal.decreases-read_within
-decreases-read_within l = l.depth
+decreases-read_within l = 3 * l.depth + 2
+
+abbrev pub decreases-read_bindings : goal.decreases-read_bindings
+decreases-read_bindings l = 3 * l.depth + 1
+
+abbrev pub decreases-opt_args : goal.decreases-opt_args
+decreases-opt_args l = 3 * l.depth

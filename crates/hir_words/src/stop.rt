@@ -2,6 +2,8 @@
 
 use hir_base::ArenaFault;
 use std::alloc::{AllocError, AllocFailed};
+use std::num::TryFromIntError;
+use std::str::Utf8Error;
 
 /// Why a line can't be read or answered.
 #[derive(Clone, Copy, PartialEq, Eq, Debug, Drop)]
@@ -27,5 +29,19 @@ impl<T: Drop> From<AllocFailed<T>> for Stop {
 impl<T: Drop> From<(ArenaFault, T)> for Stop {
     fn from(_: (ArenaFault, T)) -> Stop {
         Stop::Memory
+    }
+}
+
+/// A number that is too large for its place.
+impl From<TryFromIntError> for Stop {
+    fn from(_: TryFromIntError) -> Stop {
+        Stop::Bad
+    }
+}
+
+/// Bytes that are no text.
+impl From<Utf8Error> for Stop {
+    fn from(_: Utf8Error) -> Stop {
+        Stop::Bad
     }
 }

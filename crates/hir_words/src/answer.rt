@@ -1,6 +1,6 @@
 //! The answer to a question, while it is written: words that are parted by a space, in lines.
 
-use crate::text;
+use crate::{names, quoted};
 use hir_base::Idx;
 use itoa::Buffer;
 use std::alloc::{AllocError, Global};
@@ -124,29 +124,29 @@ impl Answer {
     /// A name behind the last word without a space.
     pub fn join_name(&mut self, name: &str) -> Result<(), AllocError> {
         self.is_behind = true;
-        if text::is_bare(name.as_bytes()) {
+        if names::is_bare(name.as_bytes()) {
             self.text.push_str(name)
         } else {
-            text::write_quoted(name, &mut self.text)
+            quoted::write_quoted(name, &mut self.text)
         }
     }
 
     /// A text in quotes.
     pub fn quoted(&mut self, text: &str) -> Result<(), AllocError> {
         self.begin()?;
-        text::write_quoted(text, &mut self.text)
+        quoted::write_quoted(text, &mut self.text)
     }
 
     /// A text in quotes behind the last word without a space.
     pub fn join_quoted(&mut self, text: &str) -> Result<(), AllocError> {
         self.is_behind = true;
-        text::write_quoted(text, &mut self.text)
+        quoted::write_quoted(text, &mut self.text)
     }
 
     /// Bytes in quotes.
     pub fn bytes(&mut self, bytes: &[u8]) -> Result<(), AllocError> {
         self.begin()?;
-        text::write_bytes(bytes, &mut self.text)
+        quoted::write_bytes(bytes, &mut self.text)
     }
 
     /// Ends a line.

@@ -1,0 +1,79 @@
+//! What is read of any type: lists, and parts of which one may fail.
+
+use hir_base::{Name, Seq};
+use hir_words::{Stop, Words};
+use std::alloc::Global;
+
+/// What can be read from a line.
+pub(crate) trait Read: Drop + Sized {
+    /// Reads one.
+    fn read(words: &mut Words<'_>, alloc: Global) -> Result<Self, Stop>;
+}
+
+impl Read for Name {
+    fn read(words: &mut Words<'_>, alloc: Global) -> Result<Name, Stop> {
+        words.name(alloc)
+    }
+}
+
+/// One or more, joined by this.
+pub(crate) fn joined<T: Read>(
+    words: &mut Words<'_>,
+    alloc: Global,
+    between: &[u8],
+) -> Result<Seq<T>, Stop> {
+    let mut items = Seq::new(alloc);
+    for _ in 0..words.rest().len() {
+        items.push(T::read(words, alloc)?)?;
+        if !words.eat(between) {
+            return Ok(items);
+        }
+    }
+    Err(Stop::Bad)
+}
+
+/// The same, or `-` for none.
+pub(crate) fn joined_or_none<T: Read>(
+    words: &mut Words<'_>,
+    alloc: Global,
+    between: &[u8],
+) -> Result<Seq<T>, Stop> {
+    if words.eat(b"-") {
+        return Ok(Seq::new(alloc));
+    }
+    joined(words, alloc, between)
+}
+
+/// Each that stands behind a space, to the line's end or to a word that begins with `..`.
+pub(crate) fn spaced<T: Read>(words: &mut Words<'_>, alloc: Global) -> Result<Seq<T>, Stop> {
+    let mut items = Seq::new(alloc);
+    for _ in 0..words.rest().len() {
+        if words.is_end() || words.is_at(b" ..") {
+            break;
+        }
+        words.expect(b" ")?;
+        items.push(T::read(words, alloc)?)?;
+    }
+    Ok(items)
+}
+
+/// Both parts, where each could be read.
+pub(crate) fn both<A: Drop, B: Drop>(
+    first: Result<A, Stop>,
+    second: Result<B, Stop>,
+) -> Result<(A, B), Stop> {
+    let first = first?;
+    let second = second?;
+    Ok((first, second))
+}
+
+/// All three parts, where each could be read.
+pub(crate) fn three<A: Drop, B: Drop, C: Drop>(
+    first: Result<A, Stop>,
+    second: Result<B, Stop>,
+    third: Result<C, Stop>,
+) -> Result<(A, B, C), Stop> {
+    let (first, second) = both(first, second)?;
+    let third = third?;
+    Ok((first, second, third))
+}

@@ -1,0 +1,155 @@
+//! Numbers in a line: of nodes, of definitions, and with or without a sign.
+ghost use Rattle.std.specs.Prelude.{◌≤◌};
+
+use crate::parts::Part;
+use crate::stop::Stop;
+use crate::words::Words;
+use hir_base::{Id, Idx, ShortList};
+use std::alloc::Global;
+
+/// The number of these digits; none where one is no digit of the base, or the number takes more than 128 bits.
+pub(crate) fn number_of(digits: &[u8], base: u32) -> Option<u128>
+    requires least { 2 ≤ base }
+    requires most { base ≤ 36 }
+{
+    let mut number: u128 = 0;
+    for digit in digits {
+        number = with_digit(number, char::from(*digit).to_digit(base)?, base)?;
+    }
+    Some(number)
+}
+
+/// The number that has this digit behind the others.
+fn with_digit(number: u128, digit: u32, base: u32) -> Option<u128> {
+    number
+        .checked_mul(u128::from(base))?
+        .checked_add(u128::from(digit))
+}
+
+impl<'a> Words<'a> {
+    /// A number below 2^128, without a sign or a needless zero.
+    pub fn big(&mut self) -> Result<u128, Stop> {
+        let digits = self.part(Part::Digits);
+        if matches!(digits, [] | [b'0', _, ..]) {
+            return Err(Stop::Bad);
+        }
+        number_of(digits, 10).ok_or(Stop::Bad)
+    }
+
+    /// A number of 128 bits with a sign: a `-` where it is negative.
+    pub fn int(&mut self) -> Result<i128, Stop> {
+        if !self.eat(b"-") {
+            return Ok(i128::try_from(self.big()?)?);
+        }
+        match 0i128.checked_sub_unsigned(self.big()?) {
+            Some(number) if number < 0 => Ok(number),
+            Some(_) | None => Err(Stop::Bad),
+        }
+    }
+
+    /// The digits and `.` that come next.
+    pub fn decimal(&mut self) -> &'a [u8] {
+        self.part(Part::Decimal)
+    }
+
+    /// A number of 64 bits.
+    pub fn long(&mut self) -> Result<u64, Stop> {
+        Ok(u64::try_from(self.big()?)?)
+    }
+
+    /// A number.
+    pub fn number(&mut self) -> Result<u32, Stop> {
+        Ok(u32::try_from(self.big()?)?)
+    }
+
+    /// A number below 65,536.
+    pub fn short(&mut self) -> Result<u16, Stop> {
+        Ok(u16::try_from(self.big()?)?)
+    }
+
+    /// A number below 256.
+    pub fn byte(&mut self) -> Result<u8, Stop> {
+        Ok(u8::try_from(self.big()?)?)
+    }
+
+    /// The number behind a space.
+    pub fn next_number(&mut self) -> Result<u32, Stop> {
+        self.expect(b" ")?;
+        self.number()
+    }
+
+    /// A number or `-`, behind a space.
+    pub fn next_opt_number(&mut self) -> Result<Option<u32>, Stop> {
+        self.expect(b" ")?;
+        if self.eat(b"-") {
+            return Ok(None);
+        }
+        Ok(Some(self.number()?))
+    }
+
+    /// The number of a node.
+    pub fn id<K>(&mut self) -> Result<Idx<K>, Stop> {
+        Ok(Idx::from_raw(self.number()?))
+    }
+
+    /// The same behind a space.
+    pub fn next_id<K>(&mut self) -> Result<Idx<K>, Stop> {
+        self.expect(b" ")?;
+        self.id()
+    }
+
+    /// The same behind a colon.
+    pub fn part_id<K>(&mut self) -> Result<Idx<K>, Stop> {
+        self.expect(b":")?;
+        self.id()
+    }
+
+    /// The number of a node, or `-`.
+    pub fn opt_id<K>(&mut self) -> Result<Option<Idx<K>>, Stop> {
+        if self.eat(b"-") {
+            return Ok(None);
+        }
+        Ok(Some(self.id()?))
+    }
+
+    /// The same behind a space.
+    pub fn next_opt_id<K>(&mut self) -> Result<Option<Idx<K>>, Stop> {
+        self.expect(b" ")?;
+        self.opt_id()
+    }
+
+    /// The same behind a colon.
+    pub fn part_opt_id<K>(&mut self) -> Result<Option<Idx<K>>, Stop> {
+        self.expect(b":")?;
+        self.opt_id()
+    }
+
+    /// The number of a node, where the next word begins with this.
+    pub fn prefixed_id<K>(&mut self, start: &[u8]) -> Result<Option<Idx<K>>, Stop> {
+        if self.prefix(start) {
+            return Ok(Some(self.id()?));
+        }
+        Ok(None)
+    }
+
+    /// The number of a definition behind a space.
+    pub fn next_def<T>(&mut self) -> Result<Id<T>, Stop> {
+        Ok(Id::from_raw(self.next_number()?))
+    }
+
+    /// A list of nodes behind a space: joined by `,`, or `-`.
+    pub fn next_ids<K>(&mut self, alloc: Global) -> Result<ShortList<Idx<K>>, Stop> {
+        self.expect(b" ")?;
+        let mut ids = ShortList::new();
+        if self.eat(b"-") {
+            return Ok(ids);
+        }
+        for _ in 0..self.rest().len() {
+            ids.push(alloc, self.id()?)?;
+            if !self.eat(b",") {
+                return Ok(ids);
+            }
+        }
+        Err(Stop::Bad)
+    }
+}
