@@ -1,4 +1,4 @@
-use Rattle.std.specs.Prelude.{◌+◌, ◌*◌}
+use Rattle.std.proofs.Common.{◌+◌, ◌*◌}
 use Rattle.hir_notation.proofs.args.+read_within.Given as goal
 
 -- each call in a binding may nest one less, by way of the two that read the bindings
