@@ -2,8 +2,8 @@
 use crate::build;
 use hir_base::{ExternAbi, Idx, ShortList, Text};
 use hir_node::{
-    BindingAnnotation, Boxed, Expr, ExprId, ExprOrPatId, FloatTypeWrapper, FnType, Mutability, NodeId,
-    PatId, PathId, Rawness,
+    BindingAnnotation, Boxed, Expr, ExprId, ExprOrPatId, FloatTypeWrapper, FnType, Mutability,
+    NodeId, PatId, PathId, Rawness,
 };
 use std::mem::drop;
 use std::test::Fail;
