@@ -1,6 +1,6 @@
 //! Generic arguments, as `::<T0,L1,Item=T3>`: types, lifetimes and constants by their numbers, and the bindings of associated types.
 
-use crate::reading::{both, joined_or_none};
+use crate::reading::{both, joined_or_none, push, three};
 use hir_base::{Idx, Name, Seq};
 use hir_path::{
     AssociatedTypeBinding, ConstRef, GenericArg, GenericArgs, GenericArgsParentheses, TypeBound,
@@ -12,15 +12,16 @@ use std::alloc::Global;
 /// How many arguments may stand around others, each in a binding of the one before.
 const DEEPEST: u8 = 100;
 
-/// The letters before the numbers of types, lifetimes and constants.
-pub(crate) const LETTERS: &[u8] = b"TLC";
-
-/// Whether a name reads like the number of a node: one of these letters, and then only digits.
-pub(crate) fn is_numbered(name: &[u8], letters: &[u8]) -> bool {
+/// The letter of a name that reads like the number of a type, a lifetime or a constant: one of theirs, and then only digits.
+pub(crate) fn letter_of(name: &[u8]) -> Option<u8> {
     match name {
-        [letter, digits @ ..] => letters.contains(letter) && is_digits(digits),
-        [] => false,
+        [letter, digits @ ..] if is_letter(*letter) && is_digits(digits) => Some(*letter),
+        _ => None,
     }
+}
+
+fn is_letter(byte: u8) -> bool {
+    byte == b'T' || byte == b'L' || byte == b'C'
 }
 
 /// Whether these are digits, and one at least.
@@ -33,31 +34,27 @@ fn is_digits(digits: &[u8]) -> bool {
     !digits.is_empty()
 }
 
-/// Whether the next name reads like the number of a node.
-fn is_at_number(words: &Words<'_>, letters: &[u8]) -> bool {
+/// The letter of the next name, where that reads like a number.
+pub(crate) fn next_letter(words: &Words<'_>) -> Option<u8> {
     let mut ahead = *words;
-    is_numbered(ahead.bare_name(), letters)
+    letter_of(ahead.bare_name())
 }
 
-/// The letter and the number of a node, where the next name reads like one.
-pub(crate) fn numbered(words: &mut Words<'_>, letters: &[u8]) -> Result<Option<(u8, u32)>, Stop> {
-    if !is_at_number(words, letters) {
-        return Ok(None);
-    }
-    match words.take(1) {
-        [letter] => Ok(Some((*letter, words.number()?))),
-        _ => Ok(None),
-    }
+/// The number behind a letter.
+pub(crate) fn lettered_id<K>(words: &mut Words<'_>) -> Result<Idx<K>, Stop> {
+    let _ = words.take(1);
+    words.id()
 }
 
-/// What a letter and a number name.
-fn arg_of(letter: u8, number: u32) -> GenericArg {
-    match letter {
-        b'T' => GenericArg::Ty(Idx::from_raw(number)),
-        b'L' => GenericArg::Lifetime(Idx::from_raw(number)),
-        _ => GenericArg::Const(ConstRef {
-            expr: Idx::from_raw(number),
-        }),
+/// A type, a lifetime or a constant, by its letter and its number.
+fn read_arg(words: &mut Words<'_>) -> Result<GenericArg, Stop> {
+    match next_letter(words) {
+        Some(b'T') => Ok(GenericArg::Ty(lettered_id(words)?)),
+        Some(b'L') => Ok(GenericArg::Lifetime(lettered_id(words)?)),
+        Some(_) => Ok(GenericArg::Const(ConstRef {
+            expr: lettered_id(words)?,
+        })),
+        None => Err(Stop::Bad),
     }
 }
 
@@ -72,27 +69,34 @@ fn read_parentheses(words: &mut Words<'_>) -> GenericArgsParentheses {
     }
 }
 
-/// The types, lifetimes and constants that come next, and whether a binding has to come behind them.
-fn read_list(words: &mut Words<'_>, alloc: Global) -> Result<(Seq<GenericArg>, bool), Stop> {
+/// Whether the line goes on with a comma and one more type, lifetime or constant: the comma is then taken.
+fn goes_on(words: &mut Words<'_>) -> bool {
+    let mut ahead = *words;
+    let goes_on = ahead.eat(b",") && next_letter(&ahead).is_some();
+    if goes_on {
+        *words = ahead;
+    }
+    goes_on
+}
+
+/// The types, lifetimes and constants that come next, joined by `,`.
+fn read_list(words: &mut Words<'_>, alloc: Global) -> Result<Seq<GenericArg>, Stop> {
     let mut args = Seq::new(alloc);
-    if words.is_at(b">") {
-        return Ok((args, false));
+    if next_letter(words).is_none() {
+        return Ok(args);
     }
     for _ in 0..words.rest().len() {
-        match numbered(words, LETTERS)? {
-            Some((letter, number)) => args.push(arg_of(letter, number))?,
-            None => return Ok((args, true)),
-        }
-        if !words.eat(b",") {
-            return Ok((args, false));
+        push(&mut args, read_arg(words))?;
+        if !goes_on(words) {
+            break;
         }
     }
-    Ok((args, true))
+    Ok(args)
 }
 
 /// The name of an associated type.
 fn read_name(words: &mut Words<'_>, alloc: Global) -> Result<Name, Stop> {
-    if is_at_number(words, LETTERS) {
+    if next_letter(words).is_some() {
         return Err(Stop::Bad);
     }
     words.name(alloc)
@@ -114,22 +118,6 @@ fn opt_type(words: &mut Words<'_>) -> Result<Option<TypeRefId>, Stop> {
     Ok(None)
 }
 
-/// The binding of an associated type with this name and these arguments: bounds behind `:`, and a type behind `=`.
-fn read_binding(
-    words: &mut Words<'_>,
-    alloc: Global,
-    name: Name,
-    args: Option<GenericArgs>,
-) -> Result<AssociatedTypeBinding, Stop> {
-    let (bounds, type_ref) = both(opt_bounds(words, alloc), opt_type(words))?;
-    Ok(AssociatedTypeBinding {
-        name,
-        args,
-        type_ref,
-        bounds,
-    })
-}
-
 /// The arguments of an associated type, where it has any. In them others may be nested less deep than `depth`.
 #[cycle(read_within)]
 fn opt_args(words: &mut Words<'_>, alloc: Global, depth: u8) -> Result<Option<GenericArgs>, Stop> {
@@ -142,6 +130,24 @@ fn opt_args(words: &mut Words<'_>, alloc: Global, depth: u8) -> Result<Option<Ge
     Ok(Some(read_within(words, alloc, depth - 1)?))
 }
 
+/// The binding of an associated type: its arguments, bounds behind `:`, and a type behind `=`.
+#[cycle(read_within)]
+fn read_binding(
+    words: &mut Words<'_>,
+    alloc: Global,
+    depth: u8,
+) -> Result<AssociatedTypeBinding, Stop> {
+    let front = both(read_name(words, alloc), opt_args(words, alloc, depth));
+    let back = both(opt_bounds(words, alloc), opt_type(words));
+    let ((name, args), (bounds, type_ref)) = both(front, back)?;
+    Ok(AssociatedTypeBinding {
+        name,
+        args,
+        type_ref,
+        bounds,
+    })
+}
+
 /// The bindings of associated types, joined by `,`.
 #[cycle(read_within)]
 fn read_bindings(
@@ -151,8 +157,7 @@ fn read_bindings(
 ) -> Result<Seq<AssociatedTypeBinding>, Stop> {
     let mut bindings = Seq::new(alloc);
     for _ in 0..words.rest().len() {
-        let (name, args) = both(read_name(words, alloc), opt_args(words, alloc, depth))?;
-        bindings.push(read_binding(words, alloc, name, args)?)?;
+        push(&mut bindings, read_binding(words, alloc, depth))?;
         if !words.eat(b",") {
             return Ok(bindings);
         }
@@ -160,18 +165,31 @@ fn read_bindings(
     Err(Stop::Bad)
 }
 
+/// The bindings of associated types, where this says that there are any.
+#[cycle(read_within)]
+fn opt_bindings(
+    words: &mut Words<'_>,
+    alloc: Global,
+    depth: u8,
+    has_bindings: bool,
+) -> Result<Seq<AssociatedTypeBinding>, Stop> {
+    if has_bindings {
+        return read_bindings(words, alloc, depth);
+    }
+    Ok(Seq::new(alloc))
+}
+
 /// What stands behind `::<`, to the end `>`. In it others may be nested as deep as `depth`.
 #[cycle(read_within)]
 fn read_within(words: &mut Words<'_>, alloc: Global, depth: u8) -> Result<GenericArgs, Stop> {
     let has_self_type = words.eat(b"self;");
     let parenthesized = read_parentheses(words);
-    let (args, has_bindings) = read_list(words, alloc)?;
-    let bindings = if has_bindings {
-        read_bindings(words, alloc, depth)
-    } else {
-        Ok(Seq::new(alloc))
-    };
-    let (bindings, ()) = both(bindings, words.expect(b">"))?;
+    let is_empty = words.is_at(b">");
+    let has_args = next_letter(words).is_some();
+    let args = read_list(words, alloc);
+    let has_bindings = if has_args { words.eat(b",") } else { !is_empty };
+    let bindings = opt_bindings(words, alloc, depth, has_bindings);
+    let (args, bindings, ()) = three(args, bindings, words.expect(b">"))?;
     Ok(GenericArgs {
         args,
         has_self_type,

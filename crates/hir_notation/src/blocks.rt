@@ -92,8 +92,7 @@ fn expr_statement(words: &mut Words<'_>, has_semi: bool) -> Result<Statement, St
 }
 
 fn part_macro(words: &mut Words<'_>) -> Result<MacroDefId, Stop> {
-    words.expect(b":")?;
-    Ok(MacroDefId::from_raw(words.number()?))
+    Ok(MacroDefId::from_raw(words.part_number(b":")?))
 }
 
 pub(crate) fn loop_expr(words: &mut Words<'_>) -> Result<Expr, Stop> {

@@ -1,8 +1,8 @@
 //! Bounds, as `T3`, `?T3`, `for<NAMES>T3`, `L0`, `use<T,L0>` and `error`, and lists of them that are joined by `+`.
 
-use crate::args::numbered;
+use crate::args::{lettered_id, next_letter};
 use crate::reading::{Read, both, joined, joined_or_none};
-use hir_base::{Idx, Name, Seq};
+use hir_base::{Name, Seq};
 use hir_path::{PathId, TraitBoundModifier, TypeBound, UseArgRef};
 use hir_words::{Stop, Words};
 use std::alloc::Global;
@@ -19,7 +19,7 @@ enum Form {
 }
 
 const FORMS: [(&str, Form); 6] = [
-    ("?", Form::Maybe),
+    ("?T", Form::Maybe),
     ("for<", Form::ForLifetime),
     ("use<", Form::Use),
     ("error", Form::Error),
@@ -41,10 +41,10 @@ fn read_path_id(words: &mut Words<'_>) -> Result<PathId, Stop> {
 /// A lifetime by its number, or a name.
 impl Read for UseArgRef {
     fn read(words: &mut Words<'_>, alloc: Global) -> Result<UseArgRef, Stop> {
-        match numbered(words, b"L")? {
-            Some((_, number)) => Ok(UseArgRef::Lifetime(Idx::from_raw(number))),
-            None => Ok(UseArgRef::Name(words.name(alloc)?)),
+        if next_letter(words) == Some(b'L') {
+            return Ok(UseArgRef::Lifetime(lettered_id(words)?));
         }
+        Ok(UseArgRef::Name(words.name(alloc)?))
     }
 }
 
@@ -73,6 +73,11 @@ pub(crate) fn opt_binder(words: &mut Words<'_>, alloc: Global) -> Result<Option<
     Ok(None)
 }
 
+/// A trait, behind its letter.
+fn path_bound(words: &mut Words<'_>, modifier: TraitBoundModifier) -> Result<TypeBound, Stop> {
+    Ok(TypeBound::Path(read_path_id(words)?, modifier))
+}
+
 /// A trait behind `for<`.
 fn read_for(words: &mut Words<'_>, alloc: Global) -> Result<TypeBound, Stop> {
     let (names, path) = both(read_binder(words, alloc), read_trait(words))?;
@@ -82,12 +87,12 @@ fn read_for(words: &mut Words<'_>, alloc: Global) -> Result<TypeBound, Stop> {
 impl Read for TypeBound {
     fn read(words: &mut Words<'_>, alloc: Global) -> Result<TypeBound, Stop> {
         match words.eat_in(&FORMS)? {
-            Form::Maybe => Ok(TypeBound::Path(read_trait(words)?, TraitBoundModifier::Maybe)),
+            Form::Maybe => path_bound(words, TraitBoundModifier::Maybe),
             Form::ForLifetime => read_for(words, alloc),
             Form::Use => Ok(TypeBound::Use(read_uses(words, alloc)?)),
             Form::Error => Ok(TypeBound::Error),
             Form::Lifetime => Ok(TypeBound::Lifetime(words.id()?)),
-            Form::Path => Ok(TypeBound::Path(read_path_id(words)?, TraitBoundModifier::None)),
+            Form::Path => path_bound(words, TraitBoundModifier::None),
         }
     }
 }

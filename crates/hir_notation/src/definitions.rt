@@ -1,6 +1,6 @@
 //! Definitions: a kind and a number, as `FunctionId(7)`. Any of them is read as a `Def`, and narrowed to the kinds of its place.
 
-use crate::reading::both;
+use crate::reading::{both, three};
 use crate::variants::{Word, of_word};
 use hir_base::{
     AdtId, DefWithBodyId, ExpressionStoreOwnerId, GenericDefId, Id, LangItemTarget,
@@ -10,7 +10,7 @@ use hir_words::{Answer, Stop, Words};
 use std::alloc::AllocError;
 
 /// The kind of a definition.
-#[derive(Clone, Copy, PartialEq, Eq)]
+#[derive(Clone, Copy)]
 pub enum DefKind {
     Function,
     Struct,
@@ -28,7 +28,7 @@ pub enum DefKind {
 }
 
 /// A definition of any kind.
-#[derive(Clone, Copy, PartialEq, Eq)]
+#[derive(Clone, Copy)]
 pub struct Def {
     pub kind: DefKind,
     pub number: u32,
@@ -72,10 +72,9 @@ impl Word for DefKind {
 
 /// A definition.
 pub fn read_def(words: &mut Words<'_>) -> Result<Def, Stop> {
-    let kind = of_word(&KINDS, words.keyword())?;
-    words.expect(b"(")?;
-    let number = words.number()?;
-    words.expect(b")")?;
+    let kind = of_word(&KINDS, words.keyword());
+    let number = words.part_number(b"(");
+    let (kind, number, ()) = three(kind, number, words.expect(b")"))?;
     Ok(Def { kind, number })
 }
 
@@ -278,9 +277,7 @@ pub(crate) fn of_lang(def: LangItemTarget) -> Def {
 /// Writes a definition behind the last word without a space.
 pub fn join_def(def: Def, answer: &mut Answer) -> Result<(), AllocError> {
     answer.join(def.kind.text())?;
-    answer.join("(")?;
-    answer.join_number(def.number)?;
-    answer.join(")")
+    answer.join_around("(", def.number, ")")
 }
 
 /// Writes a definition.

@@ -6,7 +6,7 @@ use crate::closures::closure_expr;
 use crate::literals::{LiteralForm, read_literal};
 use crate::operators::{next_binary, next_unary};
 use crate::paths::next_path;
-use crate::reading::{Read, both, joined_or_none, spaced, three};
+use crate::reading::{Read, both, boxed, joined_or_none, spaced, three};
 use hir_base::{Name, Seq};
 use hir_node::{
     Array, Boxed, Expr, GenericArgs, Mutability, OffsetOf, Rawness, RecordLitField, RecordSpread,
@@ -128,17 +128,56 @@ fn simple_expr(form: Simple, words: &mut Words<'_>) -> Result<Expr, Stop> {
         Simple::Missing => Ok(Expr::Missing),
         Simple::Underscore => Ok(Expr::Underscore),
         Simple::IncludeBytes => Ok(Expr::IncludeBytes),
-        Simple::Repeat => repeat_expr(words),
+        Simple::Repeat => {
+            let (initializer, repeat) = both(words.next_id(), words.next_id())?;
+            Ok(Expr::Array(Array::Repeat {
+                initializer,
+                repeat,
+            }))
+        }
         Simple::Const => Ok(Expr::Const(words.next_id()?)),
-        Simple::If => if_expr(words),
-        Simple::Let => let_expr(words),
+        Simple::If => {
+            let (condition, then_branch, else_branch) = three(
+                words.next_id(),
+                words.next_id(),
+                words.next_opt_id(),
+            )?;
+            Ok(Expr::If {
+                condition,
+                then_branch,
+                else_branch,
+            })
+        }
+        Simple::Let => {
+            let (pat, expr) = both(words.next_id(), words.next_id())?;
+            Ok(Expr::Let { pat, expr })
+        }
         Simple::Loop => loop_expr(words),
-        Simple::Cast => cast_expr(words),
-        Simple::Ref => ref_expr(words),
-        Simple::Unary => unary_expr(words),
-        Simple::Binary => binary_expr(words),
-        Simple::Assign => assign_expr(words),
-        Simple::Index => index_expr(words),
+        Simple::Cast => {
+            let (expr, type_ref) = both(words.next_id(), words.next_id())?;
+            Ok(Expr::Cast { expr, type_ref })
+        }
+        Simple::Ref => Ok(Expr::Ref {
+            expr: words.next_id()?,
+            rawness: Rawness::from_raw(words.flag(b"raw")),
+            mutability: Mutability::from_mutable(words.flag(b"mut")),
+        }),
+        Simple::Unary => {
+            let (op, expr) = both(next_unary(words), words.next_id())?;
+            Ok(Expr::UnaryOp { expr, op })
+        }
+        Simple::Binary => {
+            let (op, lhs, rhs) = three(next_binary(words), words.next_id(), words.next_id())?;
+            Ok(Expr::BinaryOp { lhs, rhs, op })
+        }
+        Simple::Assign => {
+            let (target, value) = both(words.next_id(), words.next_id())?;
+            Ok(Expr::Assignment { target, value })
+        }
+        Simple::Index => {
+            let (base, index) = both(words.next_id(), words.next_id())?;
+            Ok(Expr::Index { base, index })
+        }
     }
 }
 
@@ -147,7 +186,10 @@ fn jump_expr(form: Jump, words: &mut Words<'_>) -> Result<Expr, Stop> {
         Jump::Continue => Ok(Expr::Continue {
             label: opt_label(words)?,
         }),
-        Jump::Break => break_expr(words),
+        Jump::Break => {
+            let (expr, label) = both(words.next_opt_id(), opt_label(words))?;
+            Ok(Expr::Break { expr, label })
+        }
         Jump::Return => Ok(Expr::Return {
             expr: words.next_opt_id()?,
         }),
@@ -169,30 +211,30 @@ fn jump_expr(form: Jump, words: &mut Words<'_>) -> Result<Expr, Stop> {
 fn compound_expr(form: Compound, words: &mut Words<'_>, alloc: Global) -> Result<Expr, Stop> {
     match form {
         Compound::Path => Ok(Expr::Path(next_path(words, alloc)?)),
-        Compound::Array => array_expr(words, alloc),
-        Compound::OffsetOf => offset_of_expr(words, alloc),
+        Compound::Array => Ok(Expr::Array(Array::ElementList {
+            elements: words.next_ids(alloc)?,
+        })),
+        Compound::OffsetOf => {
+            let (container, fields) = both(words.next_id(), next_names(words, alloc))?;
+            Ok(Expr::OffsetOf(OffsetOf { container, fields }))
+        }
         Compound::Block => block_expr(words, alloc),
-        Compound::Call => call_expr(words, alloc),
+        Compound::Call => {
+            let (callee, args) = both(words.next_id(), words.next_ids(alloc))?;
+            Ok(Expr::Call { callee, args })
+        }
         Compound::Method => method_expr(words, alloc),
         Compound::Match => match_expr(words, alloc),
         Compound::Record => record_expr(words, alloc),
-        Compound::Field => field_expr(words, alloc),
+        Compound::Field => {
+            let (expr, name) = both(words.next_id(), words.next_name(alloc))?;
+            Ok(Expr::Field { expr, name })
+        }
         Compound::Closure => closure_expr(words, alloc),
-        Compound::Tuple => tuple_expr(words, alloc),
+        Compound::Tuple => Ok(Expr::Tuple {
+            exprs: words.next_ids(alloc)?,
+        }),
     }
-}
-
-fn array_expr(words: &mut Words<'_>, alloc: Global) -> Result<Expr, Stop> {
-    let elements = words.next_ids(alloc)?;
-    Ok(Expr::Array(Array::ElementList { elements }))
-}
-
-fn repeat_expr(words: &mut Words<'_>) -> Result<Expr, Stop> {
-    let (initializer, repeat) = both(words.next_id(), words.next_id())?;
-    Ok(Expr::Array(Array::Repeat {
-        initializer,
-        repeat,
-    }))
 }
 
 /// Names behind a space: joined by `,`, or `-`.
@@ -201,51 +243,18 @@ fn next_names(words: &mut Words<'_>, alloc: Global) -> Result<Seq<Name>, Stop> {
     joined_or_none(words, alloc, b",")
 }
 
-fn offset_of_expr(words: &mut Words<'_>, alloc: Global) -> Result<Expr, Stop> {
-    let (container, fields) = both(words.next_id(), next_names(words, alloc))?;
-    Ok(Expr::OffsetOf(OffsetOf { container, fields }))
-}
-
-fn if_expr(words: &mut Words<'_>) -> Result<Expr, Stop> {
-    let (condition, then_branch, else_branch) = three(
-        words.next_id(),
-        words.next_id(),
-        words.next_opt_id(),
-    )?;
-    Ok(Expr::If {
-        condition,
-        then_branch,
-        else_branch,
-    })
-}
-
-fn let_expr(words: &mut Words<'_>) -> Result<Expr, Stop> {
-    let (pat, expr) = both(words.next_id(), words.next_id())?;
-    Ok(Expr::Let { pat, expr })
-}
-
-fn break_expr(words: &mut Words<'_>) -> Result<Expr, Stop> {
-    let (expr, label) = both(words.next_opt_id(), opt_label(words))?;
-    Ok(Expr::Break { expr, label })
-}
-
-fn call_expr(words: &mut Words<'_>, alloc: Global) -> Result<Expr, Stop> {
-    let (callee, args) = both(words.next_id(), words.next_ids(alloc))?;
-    Ok(Expr::Call { callee, args })
-}
-
 /// The generic arguments at the line's end, where there are any.
 fn opt_args(words: &mut Words<'_>, alloc: Global) -> Result<Option<Boxed<GenericArgs>>, Stop> {
     if words.is_end() {
         return Ok(None);
     }
-    Ok(Some(Boxed::new(alloc, next_args(words, alloc)?)?))
+    Ok(Some(boxed(alloc, next_args(words, alloc))?))
 }
 
 fn method_expr(words: &mut Words<'_>, alloc: Global) -> Result<Expr, Stop> {
-    let (receiver, method_name) = both(words.next_id(), words.next_name(alloc))?;
-    let args = words.next_ids(alloc);
-    let (args, generic_args) = both(args, opt_args(words, alloc))?;
+    let front = both(words.next_id(), words.next_name(alloc));
+    let back = both(words.next_ids(alloc), opt_args(words, alloc));
+    let ((receiver, method_name), (args, generic_args)) = both(front, back)?;
     Ok(Expr::MethodCall {
         receiver,
         method_name,
@@ -261,14 +270,9 @@ impl Read for RecordLitField {
     }
 }
 
-/// The fields of a record literal.
-fn boxed_fields(words: &mut Words<'_>, alloc: Global) -> Result<Boxed<Seq<RecordLitField>>, Stop> {
-    Ok(Boxed::new(alloc, spaced(words, alloc)?)?)
-}
-
 fn record_expr(words: &mut Words<'_>, alloc: Global) -> Result<Expr, Stop> {
     let path = next_path(words, alloc);
-    let fields = boxed_fields(words, alloc);
+    let fields = boxed(alloc, spaced(words, alloc));
     let (path, fields, spread) = three(path, fields, spread(words))?;
     Ok(Expr::RecordLit {
         path,
@@ -286,48 +290,4 @@ fn spread(words: &mut Words<'_>) -> Result<RecordSpread, Stop> {
         return Ok(RecordSpread::FieldDefaults);
     }
     Ok(RecordSpread::Expr(words.id()?))
-}
-
-fn field_expr(words: &mut Words<'_>, alloc: Global) -> Result<Expr, Stop> {
-    let (expr, name) = both(words.next_id(), words.next_name(alloc))?;
-    Ok(Expr::Field { expr, name })
-}
-
-fn cast_expr(words: &mut Words<'_>) -> Result<Expr, Stop> {
-    let (expr, type_ref) = both(words.next_id(), words.next_id())?;
-    Ok(Expr::Cast { expr, type_ref })
-}
-
-fn ref_expr(words: &mut Words<'_>) -> Result<Expr, Stop> {
-    Ok(Expr::Ref {
-        expr: words.next_id()?,
-        rawness: Rawness::from_raw(words.flag(b"raw")),
-        mutability: Mutability::from_mutable(words.flag(b"mut")),
-    })
-}
-
-fn unary_expr(words: &mut Words<'_>) -> Result<Expr, Stop> {
-    let (op, expr) = both(next_unary(words), words.next_id())?;
-    Ok(Expr::UnaryOp { expr, op })
-}
-
-fn binary_expr(words: &mut Words<'_>) -> Result<Expr, Stop> {
-    let (op, lhs, rhs) = three(next_binary(words), words.next_id(), words.next_id())?;
-    Ok(Expr::BinaryOp { lhs, rhs, op })
-}
-
-fn assign_expr(words: &mut Words<'_>) -> Result<Expr, Stop> {
-    let (target, value) = both(words.next_id(), words.next_id())?;
-    Ok(Expr::Assignment { target, value })
-}
-
-fn index_expr(words: &mut Words<'_>) -> Result<Expr, Stop> {
-    let (base, index) = both(words.next_id(), words.next_id())?;
-    Ok(Expr::Index { base, index })
-}
-
-fn tuple_expr(words: &mut Words<'_>, alloc: Global) -> Result<Expr, Stop> {
-    Ok(Expr::Tuple {
-        exprs: words.next_ids(alloc)?,
-    })
 }

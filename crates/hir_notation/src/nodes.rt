@@ -1,5 +1,6 @@
 //! Nodes of each arena, as `expr:3`.
 
+use crate::reading::both;
 use hir_base::Idx;
 use hir_path::{BindingId, ExprId, LabelId, LifetimeRefId, PatId, TypeRefId};
 use hir_words::{Answer, Stop, Words};
@@ -50,9 +51,8 @@ fn node_of(arena: Arena, number: u32) -> Node {
 
 /// A node behind a space.
 pub fn next_node(words: &mut Words<'_>) -> Result<Node, Stop> {
-    let arena = words.next_in(&ARENAS)?;
-    words.expect(b":")?;
-    Ok(node_of(arena, words.number()?))
+    let (arena, number) = both(words.next_in(&ARENAS), words.part_number(b":"))?;
+    Ok(node_of(arena, number))
 }
 
 /// The arena of a node, and its number.

@@ -1,12 +1,12 @@
 //! Paths, arguments and bounds as they are written: in the notation that is read.
 
-use crate::args::{LETTERS, is_numbered};
+use crate::args::letter_of;
 use crate::definitions::{join_def, of_lang};
 use crate::paths::{has_args, is_kind};
-use hir_base::{CrateId, ModPath, Name, PathKind};
+use hir_base::{LangItemTarget, ModPath, Name, PathKind};
 use hir_path::{
-    AssociatedTypeBinding, GenericArg, GenericArgs, GenericArgsParentheses, NormalPath, Path,
-    PathSegments, TraitBoundModifier, TypeBound, UseArgRef,
+    AssociatedTypeBinding, Boxed, GenericArg, GenericArgs, GenericArgsParentheses, NormalPath,
+    Path, PathSegments, TraitBoundModifier, TypeBound, UseArgRef,
 };
 use hir_words::Answer;
 use std::alloc::AllocError;
@@ -54,7 +54,11 @@ fn join_uses(uses: &[UseArgRef], answer: &mut Answer) -> Result<(), AllocError> 
         }
         match used {
             UseArgRef::Name(name) => {
-                join_name(name, is_numbered(name.as_str().as_bytes(), b"L"), answer)?
+                join_name(
+                    name,
+                    letter_of(name.as_str().as_bytes()) == Some(b'L'),
+                    answer,
+                )?
             }
             UseArgRef::Lifetime(id) => join_arg(GenericArg::Lifetime(*id), answer)?,
         }
@@ -167,7 +171,7 @@ fn join_bindings(
 #[cycle(join_args)]
 fn join_binding(binding: &AssociatedTypeBinding, answer: &mut Answer) -> Result<(), AllocError> {
     let name = &binding.name;
-    join_name(name, is_numbered(name.as_str().as_bytes(), LETTERS), answer)?;
+    join_name(name, letter_of(name.as_str().as_bytes()).is_some(), answer)?;
     match &binding.args {
         Some(args) => join_args(args, answer)?,
         None => {}
@@ -196,18 +200,8 @@ fn join_super(count: u8, answer: &mut Answer) -> Result<(), AllocError> {
     match count {
         0 => answer.join("self"),
         1 => answer.join("super"),
-        _ => {
-            answer.join("super(")?;
-            answer.join_number(u32::from(count))?;
-            answer.join(")")
-        }
+        _ => answer.join_around("super(", u32::from(count), ")"),
     }
-}
-
-fn join_dollar_crate(krate: CrateId, answer: &mut Answer) -> Result<(), AllocError> {
-    answer.join("$crate(")?;
-    answer.join_number(krate.into_raw())?;
-    answer.join(")")
 }
 
 /// Writes where a path begins that has names, or has none.
@@ -217,7 +211,7 @@ fn join_kind(kind: PathKind, has_names: bool, answer: &mut Answer) -> Result<(),
         PathKind::Abs => return answer.join("::"),
         PathKind::Super(count) => join_super(count, answer)?,
         PathKind::Crate => answer.join("crate")?,
-        PathKind::DollarCrate(krate) => join_dollar_crate(krate, answer)?,
+        PathKind::DollarCrate(krate) => answer.join_around("$crate(", krate.into_raw(), ")")?,
     }
     answer.join(if has_names { "::" } else { "" })
 }
@@ -271,38 +265,58 @@ pub fn write_segments(segments: PathSegments<'_>, answer: &mut Answer) -> Result
     join_segments(segments, answer)
 }
 
-/// Writes a path that may have arguments or an anchor. A path with neither has `~` before it.
+/// Writes what a path begins at, and where. A path with neither an anchor nor arguments has `~` before it.
+fn join_start(path: &NormalPath, answer: &mut Answer) -> Result<(), AllocError> {
+    let kind = path.mod_path.kind();
+    let has_names = !path.mod_path.segments().is_empty();
+    match path.type_anchor {
+        Some(anchor) => {
+            answer.join_around("<", anchor.into_raw(), ">")?;
+            if !has_names && kind == PathKind::Plain {
+                return Ok(());
+            }
+            answer.join("::")?;
+        }
+        None => {
+            let has_args = has_args(path.generic_args.as_slice());
+            answer.join(if has_args { "" } else { "~" })?;
+        }
+    }
+    join_kind(kind, has_names, answer)
+}
+
+/// Writes a path that may have arguments or an anchor.
 fn join_normal(
     path: &NormalPath,
     segments: PathSegments<'_>,
     answer: &mut Answer,
 ) -> Result<(), AllocError> {
-    let kind = path.mod_path.kind();
-    let count = path.mod_path.segments().len();
-    match path.type_anchor {
-        Some(anchor) => {
-            answer.join("<")?;
-            answer.join_number(anchor.into_raw())?;
-            answer.join(">")?;
-            if count > 0 || kind != PathKind::Plain {
-                answer.join("::")?;
-                join_kind(kind, count > 0, answer)?;
-            }
-        }
-        None => {
-            if !has_args(path.generic_args.as_slice()) {
-                answer.join("~")?;
-            }
-            join_kind(kind, count > 0, answer)?;
-        }
-    }
+    join_start(path, answer)?;
     join_segments(segments, answer)?;
     let places = path.generic_args.len();
-    if places != count {
-        answer.join("/")?;
-        answer.join_size(places)?;
+    if places == path.mod_path.segments().len() {
+        return Ok(());
     }
-    Ok(())
+    answer.join("/")?;
+    answer.join_size(places)
+}
+
+/// Writes a lang item, with the name behind it.
+fn join_lang(
+    target: LangItemTarget,
+    name: Option<&Boxed<Name>>,
+    answer: &mut Answer,
+) -> Result<(), AllocError> {
+    answer.join("lang(")?;
+    join_def(of_lang(target), answer)?;
+    answer.join(")")?;
+    match name {
+        Some(name) => {
+            answer.join("::")?;
+            join_segment(name.get(), answer)
+        }
+        None => Ok(()),
+    }
 }
 
 /// Writes a path.
@@ -311,17 +325,6 @@ pub fn write_path(path: &Path, answer: &mut Answer) -> Result<(), AllocError> {
     match path {
         Path::BarePath(path) => join_mod_path(path, answer),
         Path::Normal(normal) => join_normal(normal.get(), path.segments(), answer),
-        Path::LangItem(target, name) => {
-            answer.join("lang(")?;
-            join_def(of_lang(*target), answer)?;
-            answer.join(")")?;
-            match name {
-                Some(name) => {
-                    answer.join("::")?;
-                    join_segment(name.get(), answer)
-                }
-                None => Ok(()),
-            }
-        }
+        Path::LangItem(target, name) => join_lang(*target, name.as_ref(), answer),
     }
 }

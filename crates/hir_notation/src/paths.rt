@@ -2,7 +2,7 @@
 
 use crate::args::read_args;
 use crate::definitions::{as_lang, read_def};
-use crate::reading::both;
+use crate::reading::{both, boxed, push};
 use hir_base::{Id, ModPath, Name, PathKind, Seq};
 use hir_path::{Boxed, GenericArgs, NormalPath, Path, TypeRefId};
 use hir_words::{Stop, Words, value_of};
@@ -79,7 +79,7 @@ fn read_segment(words: &mut Words<'_>, alloc: Global) -> Result<Name, Stop> {
 fn read_names(words: &mut Words<'_>, alloc: Global) -> Result<Seq<Name>, Stop> {
     let mut names = Seq::new(alloc);
     for _ in 0..words.rest().len() {
-        names.push(read_segment(words, alloc)?)?;
+        push(&mut names, read_segment(words, alloc))?;
         if !words.eat(b"::") {
             return Ok(names);
         }
@@ -125,9 +125,8 @@ fn opt_args(words: &mut Words<'_>, alloc: Global) -> Result<Option<GenericArgs>,
 
 /// The next segment, which is put behind the others.
 fn push_segment(words: &mut Words<'_>, alloc: Global, segments: &mut Segments) -> Result<(), Stop> {
-    segments.names.push(read_segment(words, alloc)?)?;
-    segments.places.push(opt_args(words, alloc)?)?;
-    Ok(())
+    push(&mut segments.names, read_segment(words, alloc))?;
+    push(&mut segments.places, opt_args(words, alloc))
 }
 
 /// The segments of a path, where this says that there are any.
@@ -211,7 +210,7 @@ fn resized(
 /// The name behind a lang item, where there is one.
 fn opt_lang_name(words: &mut Words<'_>, alloc: Global) -> Result<Option<Boxed<Name>>, Stop> {
     if words.eat(b"::") {
-        return Ok(Some(Boxed::new(alloc, read_segment(words, alloc)?)?));
+        return Ok(Some(boxed(alloc, read_segment(words, alloc))?));
     }
     Ok(None)
 }
@@ -221,6 +220,19 @@ fn read_lang(words: &mut Words<'_>, alloc: Global) -> Result<Path, Stop> {
     let def = read_def(words)?;
     words.expect(b")")?;
     Ok(Path::LangItem(as_lang(def), opt_lang_name(words, alloc)?))
+}
+
+/// The names and the places of a path, with its anchor.
+fn normal_of(
+    type_anchor: Option<TypeRefId>,
+    parts: Result<(ModPath, Seq<Option<GenericArgs>>), Stop>,
+) -> Result<NormalPath, Stop> {
+    let (mod_path, generic_args) = parts?;
+    Ok(NormalPath {
+        generic_args,
+        type_anchor,
+        mod_path,
+    })
 }
 
 /// A path that may have arguments or an anchor.
@@ -233,13 +245,8 @@ fn normal_path(
 ) -> Result<Path, Stop> {
     let Segments { names, places } = segments;
     let places = read_places(words, places);
-    let (mod_path, generic_args) = both(mod_path(alloc, kind, names), places)?;
-    let normal = NormalPath {
-        generic_args,
-        type_anchor,
-        mod_path,
-    };
-    Ok(Path::Normal(Boxed::new(alloc, normal)?))
+    let parts = both(mod_path(alloc, kind, names), places);
+    Ok(Path::Normal(boxed(alloc, normal_of(type_anchor, parts))?))
 }
 
 /// A path without arguments, of this kind and with these names.

@@ -75,11 +75,24 @@ fn simple_pat(form: Simple, words: &mut Words<'_>) -> Result<Pat, Stop> {
         Simple::Rest => Ok(Pat::Rest),
         Simple::Wild => Ok(Pat::Wild),
         Simple::NotNull => Ok(Pat::NotNull),
-        Simple::Range => range_pat(words),
+        Simple::Range => {
+            let (start, end) = both(words.next_opt_id(), words.next_opt_id())?;
+            Ok(Pat::Range {
+                start,
+                end,
+                range_type: range_op(words),
+            })
+        }
         Simple::Lit => Ok(Pat::Lit(words.next_id()?)),
         Simple::Expr => Ok(Pat::Expr(words.next_id()?)),
-        Simple::Bind => bind_pat(words),
-        Simple::Ref => ref_pat(words),
+        Simple::Bind => {
+            let (id, subpat) = both(words.next_id(), words.next_opt_id())?;
+            Ok(Pat::Bind { id, subpat })
+        }
+        Simple::Ref => Ok(Pat::Ref {
+            pat: words.next_id()?,
+            mutability: Mutability::from_mutable(words.flag(b"mut")),
+        }),
         Simple::Box => Ok(Pat::Box {
             inner: words.next_id()?,
         }),
@@ -91,10 +104,21 @@ fn simple_pat(form: Simple, words: &mut Words<'_>) -> Result<Pat, Stop> {
 
 fn compound_pat(form: Compound, words: &mut Words<'_>, alloc: Global) -> Result<Pat, Stop> {
     match form {
-        Compound::Tuple => tuple_pat(words, alloc),
+        Compound::Tuple => {
+            let (args, ellipsis) = both(words.next_ids(alloc), ellipsis(words))?;
+            Ok(Pat::Tuple { args, ellipsis })
+        }
         Compound::Or => Ok(Pat::Or(words.next_ids(alloc)?)),
         Compound::Record => record_pat(words, alloc),
-        Compound::Slice => slice_pat(words, alloc),
+        Compound::Slice => {
+            let front = both(words.next_ids(alloc), words.next_opt_id());
+            let ((prefix, slice), suffix) = both(front, words.next_ids(alloc))?;
+            Ok(Pat::Slice {
+                prefix,
+                slice,
+                suffix,
+            })
+        }
         Compound::Path => Ok(Pat::Path(next_path(words, alloc)?)),
         Compound::TupleStruct => tuple_struct_pat(words, alloc),
     }
@@ -106,11 +130,6 @@ fn ellipsis(words: &mut Words<'_>) -> Result<Option<u32>, Stop> {
         return Ok(Some(words.number()?));
     }
     Ok(None)
-}
-
-fn tuple_pat(words: &mut Words<'_>, alloc: Global) -> Result<Pat, Stop> {
-    let (args, ellipsis) = both(words.next_ids(alloc), ellipsis(words))?;
-    Ok(Pat::Tuple { args, ellipsis })
 }
 
 impl Read for RecordFieldPat {
@@ -129,37 +148,12 @@ fn record_pat(words: &mut Words<'_>, alloc: Global) -> Result<Pat, Stop> {
     })
 }
 
-fn range_pat(words: &mut Words<'_>) -> Result<Pat, Stop> {
-    let (start, end) = both(words.next_opt_id(), words.next_opt_id())?;
-    Ok(Pat::Range {
-        start,
-        end,
-        range_type: range_op(words),
-    })
-}
-
 fn range_op(words: &mut Words<'_>) -> RangeOp {
     if words.flag(b"exclusive") {
         RangeOp::Exclusive
     } else {
         RangeOp::Inclusive
     }
-}
-
-fn slice_pat(words: &mut Words<'_>, alloc: Global) -> Result<Pat, Stop> {
-    let prefix = words.next_ids(alloc);
-    let slice = words.next_opt_id();
-    let (prefix, slice, suffix) = three(prefix, slice, words.next_ids(alloc))?;
-    Ok(Pat::Slice {
-        prefix,
-        slice,
-        suffix,
-    })
-}
-
-fn bind_pat(words: &mut Words<'_>) -> Result<Pat, Stop> {
-    let (id, subpat) = both(words.next_id(), words.next_opt_id())?;
-    Ok(Pat::Bind { id, subpat })
 }
 
 fn tuple_struct_pat(words: &mut Words<'_>, alloc: Global) -> Result<Pat, Stop> {
@@ -170,12 +164,5 @@ fn tuple_struct_pat(words: &mut Words<'_>, alloc: Global) -> Result<Pat, Stop> {
         path,
         args,
         ellipsis,
-    })
-}
-
-fn ref_pat(words: &mut Words<'_>) -> Result<Pat, Stop> {
-    Ok(Pat::Ref {
-        pat: words.next_id()?,
-        mutability: Mutability::from_mutable(words.flag(b"mut")),
     })
 }

@@ -1,6 +1,7 @@
 //! What is read of any type: lists, and parts of which one may fail.
 
 use hir_base::{Name, Seq};
+use hir_path::Boxed;
 use hir_words::{Stop, Words};
 use std::alloc::Global;
 
@@ -16,6 +17,16 @@ impl Read for Name {
     }
 }
 
+/// Puts an item behind the others, where it could be read.
+pub(crate) fn push<T: Drop>(items: &mut Seq<T>, item: Result<T, Stop>) -> Result<(), Stop> {
+    Ok(items.push(item?)?)
+}
+
+/// A value in a box, where it could be read.
+pub(crate) fn boxed<T: Drop>(alloc: Global, value: Result<T, Stop>) -> Result<Boxed<T>, Stop> {
+    Ok(Boxed::new(alloc, value?)?)
+}
+
 /// One or more, joined by this.
 pub(crate) fn joined<T: Read>(
     words: &mut Words<'_>,
@@ -24,7 +35,7 @@ pub(crate) fn joined<T: Read>(
 ) -> Result<Seq<T>, Stop> {
     let mut items = Seq::new(alloc);
     for _ in 0..words.rest().len() {
-        items.push(T::read(words, alloc)?)?;
+        push(&mut items, T::read(words, alloc))?;
         if !words.eat(between) {
             return Ok(items);
         }
@@ -52,12 +63,13 @@ pub(crate) fn spaced<T: Read>(words: &mut Words<'_>, alloc: Global) -> Result<Se
             break;
         }
         words.expect(b" ")?;
-        items.push(T::read(words, alloc)?)?;
+        push(&mut items, T::read(words, alloc))?;
     }
     Ok(items)
 }
 
-/// Both parts, where each could be read.
+/// Both parts, where each could be read: else why the first that couldn't. Whoever reads a form reads all its parts and asks once, so that
+/// nothing is given back on the way.
 pub(crate) fn both<A: Drop, B: Drop>(
     first: Result<A, Stop>,
     second: Result<B, Stop>,
@@ -67,7 +79,7 @@ pub(crate) fn both<A: Drop, B: Drop>(
     Ok((first, second))
 }
 
-/// All three parts, where each could be read.
+/// The same of three parts.
 pub(crate) fn three<A: Drop, B: Drop, C: Drop>(
     first: Result<A, Stop>,
     second: Result<B, Stop>,

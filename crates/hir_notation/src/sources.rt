@@ -1,26 +1,29 @@
 //! Pointers to syntax and their files, as `0:7:3-9`: file, kind, start and end.
 
-use hir_base::{AstPtr, Id, InFile, SyntaxNodePtr, TextRange};
+use crate::reading::{both, three};
+use hir_base::{AstPtr, InFile, SyntaxNodePtr, TextRange};
 use hir_words::{Answer, Stop, Words};
 use std::alloc::AllocError;
 
+/// A range: start, `-` and end.
+fn read_range(words: &mut Words<'_>) -> Result<TextRange, Stop> {
+    let (start, end) = both(words.number(), words.part_number(b"-"))?;
+    Ok(TextRange { start, end })
+}
+
+/// A kind of syntax behind a colon, and behind another its range.
+fn read_pointer(words: &mut Words<'_>) -> Result<SyntaxNodePtr, Stop> {
+    words.expect(b":")?;
+    let kind = words.short();
+    let colon = words.expect(b":");
+    let (kind, (), range) = three(kind, colon, read_range(words))?;
+    Ok(SyntaxNodePtr { kind, range })
+}
+
 /// A source behind a space.
 pub fn next_source(words: &mut Words<'_>) -> Result<InFile<SyntaxNodePtr>, Stop> {
-    words.expect(b" ")?;
-    let file_id = Id::from_raw(words.number()?);
-    words.expect(b":")?;
-    let kind = words.short()?;
-    words.expect(b":")?;
-    let start = words.number()?;
-    words.expect(b"-")?;
-    let end = words.number()?;
-    Ok(InFile {
-        file_id,
-        value: SyntaxNodePtr {
-            kind,
-            range: TextRange { start, end },
-        },
-    })
+    let (file_id, value) = both(words.next_def(), read_pointer(words))?;
+    Ok(InFile { file_id, value })
 }
 
 /// The source as one that points to a node of the kind `K`.
@@ -42,9 +45,7 @@ pub fn syntax<K>(source: InFile<AstPtr<K>>) -> InFile<SyntaxNodePtr> {
 /// Writes a source behind the last word without a space.
 fn join_source(source: InFile<SyntaxNodePtr>, answer: &mut Answer) -> Result<(), AllocError> {
     answer.join_number(source.file_id.into_raw())?;
-    answer.join(":")?;
-    answer.join_number(u32::from(source.value.kind))?;
-    answer.join(":")?;
+    answer.join_around(":", u32::from(source.value.kind), ":")?;
     answer.join_number(source.value.range.start)?;
     answer.join("-")?;
     answer.join_number(source.value.range.end)

@@ -3,7 +3,7 @@
 use crate::bounds::{next_bounds, opt_binder};
 use crate::definitions::next_type_param;
 use crate::paths::next_path;
-use crate::reading::{Read, both, spaced, three};
+use crate::reading::{Read, both, boxed, spaced, three};
 use hir_base::{ExternAbi, Name, Text};
 use hir_node::{ArrayType, Boxed, ConstRef, FnType, Mutability, RefType, TypeRef, TypeRefId};
 use hir_words::{Answer, Stop, Words};
@@ -107,11 +107,6 @@ fn read_fn(words: &mut Words<'_>, alloc: Global) -> Result<FnType, Stop> {
     })
 }
 
-/// The same in a box.
-fn boxed_fn(words: &mut Words<'_>, alloc: Global) -> Result<Boxed<FnType>, Stop> {
-    Ok(Boxed::new(alloc, read_fn(words, alloc)?)?)
-}
-
 /// A reference: its type, its lifetime, and whether it is mutable.
 fn read_ref(words: &mut Words<'_>) -> Result<RefType, Stop> {
     let (ty, lifetime) = both(words.next_id(), words.next_opt_id())?;
@@ -122,18 +117,14 @@ fn read_ref(words: &mut Words<'_>) -> Result<RefType, Stop> {
     })
 }
 
-/// The same in a box.
+/// A reference in a box.
 fn boxed_ref(words: &mut Words<'_>, alloc: Global) -> Result<Boxed<RefType>, Stop> {
     Ok(Boxed::new(alloc, read_ref(words)?)?)
 }
 
-/// An array: its type and its length.
-fn read_array(words: &mut Words<'_>) -> Result<ArrayType, Stop> {
-    let (ty, expr) = both(words.next_id(), words.next_id())?;
-    Ok(ArrayType {
-        ty,
-        len: ConstRef { expr },
-    })
+/// A function pointer in a box.
+fn boxed_fn(words: &mut Words<'_>, alloc: Global) -> Result<Boxed<FnType>, Stop> {
+    boxed(alloc, read_fn(words, alloc))
 }
 
 /// The form of a type.
@@ -198,16 +189,18 @@ fn simple_type(form: Simple, words: &mut Words<'_>) -> Result<TypeRef, Stop> {
         Simple::Placeholder => Ok(TypeRef::Placeholder),
         Simple::Error => Ok(TypeRef::Error),
         Simple::RawPtr => Ok(TypeRef::RawPtr(words.next_id()?, opt_mut(words))),
-        Simple::Array => Ok(TypeRef::Array(read_array(words)?)),
+        Simple::Array => {
+            let (ty, expr) = both(words.next_id(), words.next_id())?;
+            let len = ConstRef { expr };
+            Ok(TypeRef::Array(ArrayType { ty, len }))
+        }
         Simple::Slice => Ok(TypeRef::Slice(words.next_id()?)),
         Simple::Param => Ok(TypeRef::TypeParam(next_type_param(words)?)),
-        Simple::Pattern => pattern_type(words),
+        Simple::Pattern => {
+            let (ty, pat) = both(words.next_id(), words.next_id())?;
+            Ok(TypeRef::PatternType(ty, pat))
+        }
     }
-}
-
-fn pattern_type(words: &mut Words<'_>) -> Result<TypeRef, Stop> {
-    let (ty, pat) = both(words.next_id(), words.next_id())?;
-    Ok(TypeRef::PatternType(ty, pat))
 }
 
 fn compound_type(form: Compound, words: &mut Words<'_>, alloc: Global) -> Result<TypeRef, Stop> {

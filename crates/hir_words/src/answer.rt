@@ -67,6 +67,18 @@ impl Answer {
         self.join(Buffer::new().format(number))
     }
 
+    /// A number between these, behind the last word without a space.
+    pub fn join_around(
+        &mut self,
+        before: &str,
+        number: u32,
+        behind: &str,
+    ) -> Result<(), AllocError> {
+        self.join(before)?;
+        self.join_number(number)?;
+        self.join(behind)
+    }
+
     /// A number.
     pub fn number(&mut self, number: u32) -> Result<(), AllocError> {
         self.word(Buffer::new().format(number))

@@ -74,7 +74,12 @@ impl<'a> Words<'a> {
 
     /// The number behind a space.
     pub fn next_number(&mut self) -> Result<u32, Stop> {
-        self.expect(b" ")?;
+        self.part_number(b" ")
+    }
+
+    /// The number behind this.
+    pub fn part_number(&mut self, before: &[u8]) -> Result<u32, Stop> {
+        self.expect(before)?;
         self.number()
     }
 
