@@ -208,6 +208,20 @@ fn print_of_body(
 }
 
 /// Prints what is asked of the body of this definition, where it is there.
+fn print_of_def(
+    alloc: Global,
+    tables: &Tables,
+    def: DefWithBodyId,
+    question: Pretty,
+    edition: Edition,
+) -> Option<Result<String, PrintFault>> {
+    match Body::of(tables, def) {
+        Ok(body) => print_of_body(alloc, tables, def, body, question, edition),
+        Err(missing) => Some(Err(PrintFault::Missing(missing))),
+    }
+}
+
+/// The same of the body that is asked.
 fn print_asked(
     alloc: Global,
     tables: &Tables,
@@ -215,10 +229,9 @@ fn print_asked(
     question: Pretty,
     edition: Edition,
 ) -> Option<Result<String, PrintFault>> {
-    let def = asked_def(owner)?;
-    match Body::of(tables, def) {
-        Ok(body) => print_of_body(alloc, tables, def, body, question, edition),
-        Err(missing) => Some(Err(PrintFault::Missing(missing))),
+    match asked_def(owner) {
+        Some(def) => print_of_def(alloc, tables, def, question, edition),
+        None => None,
     }
 }
 
