@@ -1,43 +1,56 @@
 //! The line `body`, and the questions on a body's parameters.
 
 use crate::pending::Pending;
-use crate::subject::{Finished, Subject};
+use crate::subject::{Finished, Subject, accepted, kept};
 use hir_base::{DefWithBodyId, ExpressionStoreOwnerId, Idx};
-use hir_defs::{Body, BodyFault, BodySourceMap, Param, RefusedBody, Tables};
+use hir_defs::{Body, BodyFault, BodySourceMap, Param, RefusedBody, Tables, TablesOf};
+use hir_node::BindingId;
 use hir_notation::{Answer, Stop, Words};
-use hir_store_text::{refuse, unknown};
+use hir_store::ExpressionStore;
+use hir_store_text::{done, refuse, unknown};
+use hir_words::value_of;
 use std::alloc::{AllocError, Global};
 
-/// Makes a body of the store and of what waits for it, and adds it to the tables. Answers the store that questions ask from then on.
-pub(crate) fn make(
+/// Lets the parts of a body that was refused wait again. Answers its store.
+fn take_back(
     alloc: Global,
-    def: DefWithBodyId,
+    refused: RefusedBody,
+    pending: &mut Pending,
+    answer: &mut Answer,
+) -> Result<ExpressionStore, Stop> {
+    let RefusedBody {
+        fault,
+        store,
+        params,
+        self_param,
+    } = refused;
+    pending.put_back_params(params, self_param);
+    if fault == BodyFault::Memory {
+        return Err(Stop::Memory);
+    }
+    refuse(alloc, &fault, answer)?;
+    Ok(store)
+}
+
+/// Makes a body of the store and of what waits for it, and adds it to the tables. Answers the store that questions ask from then on.
+pub(crate) fn make<F: Drop, S: Drop, P: Drop, V: Drop, M: Drop>(
+    alloc: Global,
+    def: &DefWithBodyId,
     finished: Finished,
     pending: &mut Pending,
-    tables: &mut Tables,
+    tables: &mut TablesOf<F, S, P, V, Body, M, BodySourceMap>,
     answer: &mut Answer,
 ) -> Result<Subject, Stop> {
     let (store, sources) = Box::into_inner(finished);
     let params = pending.take_params(alloc);
     match Body::new(alloc, store, params, pending.take_self()) {
         Ok(body) => {
-            tables.add_body(def, body, BodySourceMap::new(sources, None))?;
-            answer.word("accepted")?;
-            Ok(Subject::Owner(ExpressionStoreOwnerId::Body(def)))
+            done(tables.add_body(*def, body, BodySourceMap::new(sources, None)))?;
+            accepted(ExpressionStoreOwnerId::Body(*def), answer)
         }
         Err(refused) => {
-            let RefusedBody {
-                fault,
-                store,
-                params,
-                self_param,
-            } = refused;
-            if fault == BodyFault::Memory {
-                return Err(Stop::Memory);
-            }
-            pending.put_back_params(params, self_param);
-            refuse(alloc, &fault, answer)?;
-            Ok(Subject::Store(Box::new(alloc, (store, sources))?))
+            let store = take_back(alloc, refused, pending, answer)?;
+            kept(alloc, store, sources)
         }
     }
 }
@@ -84,38 +97,54 @@ fn write_parts(body: &Body, answer: &mut Answer) -> Result<(), AllocError> {
     Ok(())
 }
 
-fn ask_parts(body: Option<&Body>, words: &mut Words<'_>, answer: &mut Answer) -> Result<(), Stop> {
-    words.end()?;
-    match body {
-        Some(body) => write_parts(body, answer)?,
-        None => unknown(answer)?,
-    }
-    Ok(())
+/// What the first word of a question asks of a body.
+#[derive(Clone, Copy)]
+enum Kind {
+    Parts,
+    IsSelf,
 }
 
-fn ask_self(body: Option<&Body>, words: &mut Words<'_>, answer: &mut Answer) -> Result<(), Stop> {
-    let binding = words.next_id()?;
-    words.end()?;
-    match body {
-        Some(body) => answer.yes_or_no(body.is_any_self_param(binding))?,
-        None => unknown(answer)?,
-    }
-    Ok(())
+const KINDS: [(&str, Kind); 2] = [("body-parts", Kind::Parts), ("is-self", Kind::IsSelf)];
+
+/// What is asked of a body.
+#[derive(Clone, Copy)]
+enum Question {
+    Parts,
+    IsSelf(BindingId),
 }
 
-/// Answers a question on the body that is asked; answers whether it is such a question.
-pub(crate) fn ask(
-    tables: &Tables,
-    owner: Option<ExpressionStoreOwnerId>,
+/// The question of a line, where it is such a question.
+fn read(word: &[u8], words: &mut Words<'_>) -> Result<Option<Question>, Stop> {
+    let question = match value_of(&KINDS, word) {
+        Some(Kind::Parts) => Question::Parts,
+        Some(Kind::IsSelf) => Question::IsSelf(words.next_id()?),
+        None => return Ok(None),
+    };
+    words.end()?;
+    Ok(Some(question))
+}
+
+/// Writes what is asked of a body, where there is one.
+fn write(body: Option<&Body>, question: Question, answer: &mut Answer) -> Result<(), AllocError> {
+    let Some(body) = body else {
+        return unknown(answer);
+    };
+    match question {
+        Question::Parts => write_parts(body, answer),
+        Question::IsSelf(binding) => answer.yes_or_no(body.is_any_self_param(binding)),
+    }
+}
+
+/// Answers a question on the body that is asked, where there is one; answers whether it is such a question.
+pub fn ask_of_body(
+    body: Option<&Body>,
     word: &[u8],
     words: &mut Words<'_>,
     answer: &mut Answer,
 ) -> Result<bool, Stop> {
-    let body = asked_body(tables, owner);
-    match word {
-        b"body-parts" => ask_parts(body, words, answer)?,
-        b"is-self" => ask_self(body, words, answer)?,
-        _ => return Ok(false),
-    }
+    let Some(question) = read(word, words)? else {
+        return Ok(false);
+    };
+    write(body, question, answer)?;
     Ok(true)
 }

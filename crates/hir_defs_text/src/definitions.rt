@@ -4,17 +4,19 @@ use crate::bodies;
 use crate::fields::next_shape;
 use crate::pending::Pending;
 use crate::signatures::{FunctionLine, StructLine, as_plain, read_function, read_struct};
-use crate::subject::{Finished, Subject};
+use crate::subject::{Finished, Subject, accepted, kept};
 use hir_base::{
     AdtId, DefWithBodyId, ExpressionStoreOwnerId, FunctionId, GenericDefId, StructId, VariantId,
 };
 use hir_defs::{
-    FieldsShape, FunctionSignature, PlainDef, PlainParts, PlainSignature, SignatureFault,
-    StructSignature, Tables, VariantFields, VariantParts,
+    FieldsShape, FunctionParts, FunctionSignature, GenericParams, PlainDef, PlainParts,
+    PlainSignature, RefusedSignature, SignatureFault, StructParts, StructSignature, Tables,
+    TablesOf, VariantFields, VariantParts,
 };
 use hir_notation::{Answer, Stop, Words, as_def_with_body, as_variant, next_def};
 use hir_store::{ExpressionStore, ExpressionStoreSourceMap};
-use hir_store_text::refuse;
+use hir_store_text::{done, refuse};
+use hir_words::value_of;
 use std::alloc::Global;
 
 /// What a line makes of a finished store.
@@ -27,106 +29,146 @@ pub enum Definition {
     Variant(VariantId, FieldsShape),
 }
 
+/// What the first word of a line makes.
+#[derive(Clone, Copy)]
+enum Kind {
+    Body,
+    Function,
+    Struct,
+    Plain,
+    Variant,
+}
+
+const KINDS: [(&str, Kind); 5] = [
+    ("body", Kind::Body),
+    ("function", Kind::Function),
+    ("struct", Kind::Struct),
+    ("plain", Kind::Plain),
+    ("variant", Kind::Variant),
+];
+
+/// What stands behind the first word.
+fn read_kind(alloc: Global, kind: Kind, words: &mut Words<'_>) -> Result<Definition, Stop> {
+    match kind {
+        Kind::Body => Ok(Definition::Body(as_def_with_body(next_def(words)?)?)),
+        Kind::Function => {
+            let id = words.next_def()?;
+            Ok(Definition::Function(id, read_function(words, alloc)?))
+        }
+        Kind::Struct => {
+            let id = words.next_def()?;
+            Ok(Definition::Struct(id, read_struct(words, alloc)?))
+        }
+        Kind::Plain => Ok(Definition::Plain(as_plain(next_def(words)?)?)),
+        Kind::Variant => {
+            let id = as_variant(next_def(words)?)?;
+            Ok(Definition::Variant(id, next_shape(words)?))
+        }
+    }
+}
+
 /// What a line makes of a finished store, where it is such a line.
 pub fn read(alloc: Global, word: &[u8], words: &mut Words<'_>) -> Result<Option<Definition>, Stop> {
-    let definition = match word {
-        b"body" => Definition::Body(as_def_with_body(next_def(words)?)?),
-        b"function" => {
-            let id = words.next_def()?;
-            Definition::Function(id, read_function(words, alloc)?)
-        }
-        b"struct" => {
-            let id = words.next_def()?;
-            Definition::Struct(id, read_struct(words, alloc)?)
-        }
-        b"plain" => Definition::Plain(as_plain(next_def(words)?)?),
-        b"variant" => {
-            let id = as_variant(next_def(words)?)?;
-            Definition::Variant(id, next_shape(words)?)
-        }
-        _ => return Ok(None),
+    let Some(kind) = value_of(&KINDS, word) else {
+        return Ok(None);
     };
+    let definition = read_kind(alloc, kind, words)?;
     words.end()?;
     Ok(Some(definition))
 }
 
-/// What was accepted is the store that questions ask from then on.
-fn accepted(owner: ExpressionStoreOwnerId, answer: &mut Answer) -> Result<Subject, Stop> {
-    answer.word("accepted")?;
-    Ok(Subject::Owner(owner))
+/// The parts of a signature.
+trait Parts: Sized + Drop {
+    /// What of them waited, and the store.
+    fn take_apart(self) -> (GenericParams, ExpressionStore);
 }
 
-/// What was refused is the store that questions ask again.
-fn refused(
-    alloc: Global,
-    fault: SignatureFault,
-    store: ExpressionStore,
-    sources: ExpressionStoreSourceMap,
-    answer: &mut Answer,
-) -> Result<Subject, Stop> {
+impl Parts for FunctionParts {
+    fn take_apart(self) -> (GenericParams, ExpressionStore) {
+        (self.generic_params, self.store)
+    }
+}
+
+impl Parts for StructParts {
+    fn take_apart(self) -> (GenericParams, ExpressionStore) {
+        (self.generic_params, self.store)
+    }
+}
+
+impl Parts for PlainParts {
+    fn take_apart(self) -> (GenericParams, ExpressionStore) {
+        (self.generic_params, self.store)
+    }
+}
+
+/// The answer is why a definition is refused.
+fn refuse_signature(alloc: Global, fault: SignatureFault, answer: &mut Answer) -> Result<(), Stop> {
     if fault == SignatureFault::Memory {
         return Err(Stop::Memory);
     }
-    refuse(alloc, &fault, answer)?;
-    Ok(Subject::Store(Box::new(alloc, (store, sources))?))
+    Ok(refuse(alloc, &fault, answer)?)
 }
 
-fn make_function(
+/// Lets the generic parameters of a signature that was refused wait again, and its store be asked again.
+fn take_back<P: Parts>(
+    alloc: Global,
+    refused: RefusedSignature<P>,
+    sources: ExpressionStoreSourceMap,
+    pending: &mut Pending,
+    answer: &mut Answer,
+) -> Result<Subject, Stop> {
+    refuse_signature(alloc, refused.fault, answer)?;
+    let (generic_params, store) = refused.parts.take_apart();
+    pending.put_back_generics(&generic_params)?;
+    kept(alloc, store, sources)
+}
+
+fn make_function<S: Drop, P: Drop, V: Drop, B: Drop, N: Drop>(
     alloc: Global,
     id: FunctionId,
     line: FunctionLine,
     finished: Finished,
     pending: &mut Pending,
-    tables: &mut Tables,
+    tables: &mut TablesOf<FunctionSignature, S, P, V, B, ExpressionStoreSourceMap, N>,
     answer: &mut Answer,
 ) -> Result<Subject, Stop> {
     let (store, sources) = Box::into_inner(finished);
     match FunctionSignature::new(line.parts(pending.take_generics(alloc), store)) {
         Ok(signature) => {
-            tables.add_function(id, signature, sources)?;
+            done(tables.add_function(id, signature, sources))?;
             let def = GenericDefId::FunctionId(id);
             accepted(ExpressionStoreOwnerId::Signature(def), answer)
         }
-        Err(back) => {
-            let fault = back.fault;
-            let parts = back.parts;
-            pending.put_back_generics(&parts.generic_params)?;
-            refused(alloc, fault, parts.store, sources, answer)
-        }
+        Err(refused) => take_back(alloc, refused, sources, pending, answer),
     }
 }
 
-fn make_struct(
+fn make_struct<F: Drop, P: Drop, V: Drop, B: Drop, N: Drop>(
     alloc: Global,
     id: StructId,
     line: StructLine,
     finished: Finished,
     pending: &mut Pending,
-    tables: &mut Tables,
+    tables: &mut TablesOf<F, StructSignature, P, V, B, ExpressionStoreSourceMap, N>,
     answer: &mut Answer,
 ) -> Result<Subject, Stop> {
     let (store, sources) = Box::into_inner(finished);
     match StructSignature::new(line.parts(pending.take_generics(alloc), store)) {
         Ok(signature) => {
-            tables.add_struct(id, signature, sources)?;
+            done(tables.add_struct(id, signature, sources))?;
             let def = GenericDefId::AdtId(AdtId::StructId(id));
             accepted(ExpressionStoreOwnerId::Signature(def), answer)
         }
-        Err(back) => {
-            let fault = back.fault;
-            let parts = back.parts;
-            pending.put_back_generics(&parts.generic_params)?;
-            refused(alloc, fault, parts.store, sources, answer)
-        }
+        Err(refused) => take_back(alloc, refused, sources, pending, answer),
     }
 }
 
-fn make_plain(
+fn make_plain<F: Drop, S: Drop, V: Drop, B: Drop, N: Drop>(
     alloc: Global,
     def: &PlainDef,
     finished: Finished,
     pending: &mut Pending,
-    tables: &mut Tables,
+    tables: &mut TablesOf<F, S, PlainSignature, V, B, ExpressionStoreSourceMap, N>,
     answer: &mut Answer,
 ) -> Result<Subject, Stop> {
     let (store, sources) = Box::into_inner(finished);
@@ -136,25 +178,34 @@ fn make_plain(
         store,
     }) {
         Ok(signature) => {
-            tables.add_plain(*def, signature, sources)?;
+            done(tables.add_plain(*def, signature, sources))?;
             accepted(ExpressionStoreOwnerId::Signature(def.generic_def()), answer)
         }
-        Err(back) => {
-            let fault = back.fault;
-            let parts = back.parts;
-            pending.put_back_generics(&parts.generic_params)?;
-            refused(alloc, fault, parts.store, sources, answer)
-        }
+        Err(refused) => take_back(alloc, refused, sources, pending, answer),
     }
 }
 
-fn make_variant(
+/// Lets the fields of a variant that was refused wait again, and its store be asked again.
+fn take_fields_back(
+    alloc: Global,
+    refused: RefusedSignature<VariantParts>,
+    sources: ExpressionStoreSourceMap,
+    pending: &mut Pending,
+    answer: &mut Answer,
+) -> Result<Subject, Stop> {
+    refuse_signature(alloc, refused.fault, answer)?;
+    let VariantParts { fields, store, .. } = refused.parts;
+    pending.put_back_fields(fields);
+    kept(alloc, store, sources)
+}
+
+fn make_variant<F: Drop, S: Drop, P: Drop, B: Drop, N: Drop>(
     alloc: Global,
     id: &VariantId,
     shape: FieldsShape,
     finished: Finished,
     pending: &mut Pending,
-    tables: &mut Tables,
+    tables: &mut TablesOf<F, S, P, VariantFields, B, ExpressionStoreSourceMap, N>,
     answer: &mut Answer,
 ) -> Result<Subject, Stop> {
     let (store, sources) = Box::into_inner(finished);
@@ -165,15 +216,10 @@ fn make_variant(
         store,
     }) {
         Ok(variant) => {
-            tables.add_fields(*id, variant, sources)?;
+            done(tables.add_fields(*id, variant, sources))?;
             accepted(ExpressionStoreOwnerId::VariantFields(*id), answer)
         }
-        Err(back) => {
-            let fault = back.fault;
-            let parts = back.parts;
-            pending.put_back_fields(parts.fields);
-            refused(alloc, fault, parts.store, sources, answer)
-        }
+        Err(refused) => take_fields_back(alloc, refused, sources, pending, answer),
     }
 }
 
@@ -188,7 +234,7 @@ pub fn make(
     answer: &mut Answer,
 ) -> Result<Subject, Stop> {
     match definition {
-        Definition::Body(def) => bodies::make(alloc, def, finished, pending, tables, answer),
+        Definition::Body(def) => bodies::make(alloc, &def, finished, pending, tables, answer),
         Definition::Function(id, line) => {
             make_function(alloc, id, line, finished, pending, tables, answer)
         }

@@ -1,17 +1,31 @@
 //! Questions on generic parameters.
 
 use hir_base::{GenericDefId, LocalLifetimeParamId, Name};
-use hir_defs::{GenericParams, Tables};
+use hir_defs::GenericParams;
 use hir_notation::{
-    Answer, Stop, Words, as_generic, next_def, write_lifetime_param, write_predicate,
-    write_type_or_const,
+    Answer, Stop, Words, write_lifetime_param, write_predicate, write_type_or_const,
 };
-use hir_store_text::refuse_missing;
 use std::alloc::{AllocError, Global};
+
+/// What the first word of a question asks of a definition's parameters.
+#[derive(Clone, Copy)]
+pub(crate) enum Kind {
+    Counts,
+    TypesAndConsts,
+    Lifetimes,
+    EarlyLifetimes,
+    LateLifetimes,
+    Predicates,
+    TraitSelf,
+    FindType,
+    FindConst,
+    FindLifetime,
+    LifetimeIndex,
+}
 
 /// What is asked of a definition's parameters.
 #[derive(Drop)]
-enum Question {
+pub(crate) enum Question {
     Counts,
     TypesAndConsts,
     Lifetimes,
@@ -25,21 +39,20 @@ enum Question {
     LifetimeIndex(LocalLifetimeParamId),
 }
 
-/// What stands in front of the definition, where the line is such a question.
-fn read(alloc: Global, word: &[u8], words: &mut Words<'_>) -> Result<Option<Question>, Stop> {
-    match word {
-        b"generics" => Ok(Some(Question::Counts)),
-        b"params" => Ok(Some(Question::TypesAndConsts)),
-        b"lifetimes" => Ok(Some(Question::Lifetimes)),
-        b"early-lifetimes" => Ok(Some(Question::EarlyLifetimes)),
-        b"late-lifetimes" => Ok(Some(Question::LateLifetimes)),
-        b"predicates" => Ok(Some(Question::Predicates)),
-        b"trait-self" => Ok(Some(Question::TraitSelf)),
-        b"find-type" => Ok(Some(Question::FindType(words.next_name(alloc)?))),
-        b"find-const" => Ok(Some(Question::FindConst(words.next_name(alloc)?))),
-        b"find-lifetime" => Ok(Some(Question::FindLifetime(words.next_name(alloc)?))),
-        b"lifetime-index" => Ok(Some(Question::LifetimeIndex(words.next_id()?))),
-        _ => Ok(None),
+/// What stands in front of the definition.
+pub(crate) fn read(alloc: Global, kind: Kind, words: &mut Words<'_>) -> Result<Question, Stop> {
+    match kind {
+        Kind::Counts => Ok(Question::Counts),
+        Kind::TypesAndConsts => Ok(Question::TypesAndConsts),
+        Kind::Lifetimes => Ok(Question::Lifetimes),
+        Kind::EarlyLifetimes => Ok(Question::EarlyLifetimes),
+        Kind::LateLifetimes => Ok(Question::LateLifetimes),
+        Kind::Predicates => Ok(Question::Predicates),
+        Kind::TraitSelf => Ok(Question::TraitSelf),
+        Kind::FindType => Ok(Question::FindType(words.next_name(alloc)?)),
+        Kind::FindConst => Ok(Question::FindConst(words.next_name(alloc)?)),
+        Kind::FindLifetime => Ok(Question::FindLifetime(words.next_name(alloc)?)),
+        Kind::LifetimeIndex => Ok(Question::LifetimeIndex(words.next_id()?)),
     }
 }
 
@@ -173,7 +186,7 @@ fn write_index(
 }
 
 /// Writes what is asked of the parameters of a definition.
-fn write(
+pub(crate) fn write(
     question: &Question,
     params: &GenericParams,
     def: GenericDefId,
@@ -192,24 +205,4 @@ fn write(
         Question::FindLifetime(name) => write_lifetime(params, name, def, answer),
         Question::LifetimeIndex(id) => write_index(params, *id, answer),
     }
-}
-
-/// Answers a question on generic parameters; answers whether it is such a question.
-pub(crate) fn ask(
-    alloc: Global,
-    tables: &Tables,
-    word: &[u8],
-    words: &mut Words<'_>,
-    answer: &mut Answer,
-) -> Result<bool, Stop> {
-    let Some(question) = read(alloc, word, words)? else {
-        return Ok(false);
-    };
-    let def = as_generic(next_def(words)?)?;
-    words.end()?;
-    match GenericParams::of(tables, def) {
-        Ok(params) => write(&question, params, def, answer)?,
-        Err(missing) => refuse_missing(missing, answer)?,
-    }
-    Ok(true)
 }

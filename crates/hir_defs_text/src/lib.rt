@@ -3,6 +3,7 @@
 
 mod bodies;
 mod definitions;
+mod entry_text;
 mod fields;
 mod generics;
 mod pending;
@@ -12,10 +13,10 @@ mod signatures;
 mod subject;
 mod tables;
 
-pub use bodies::{asked_body, asked_def};
+pub use bodies::{ask_of_body, asked_body, asked_def};
 pub use definitions::{Definition, make, read};
 pub use pending::Pending;
-pub use questions::{ask, ask_of_owner};
+pub use questions::ask;
 pub use signatures::{FunctionLine, StructLine};
 pub use subject::{Finished, Subject};
 pub use tables::line;

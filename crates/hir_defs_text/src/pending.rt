@@ -10,6 +10,7 @@ use hir_notation::{
     Stop, Words, read_const_param, read_lifetime_param, read_type_param, read_where,
     read_where_lifetime,
 };
+use hir_words::value_of;
 use std::alloc::Global;
 use std::mem;
 
@@ -38,6 +39,41 @@ fn read_param<K>(words: &mut Words<'_>) -> Result<Param<Idx<K>>, Stop> {
     })
 }
 
+/// What the first word of a line says that comes next.
+#[derive(Clone, Copy)]
+enum Kind {
+    Param,
+    SelfParam,
+    TypeParam,
+    ConstParam,
+    LifetimeParam,
+    Where,
+    WhereLifetime,
+    Field,
+}
+
+const KINDS: [(&str, Kind); 8] = [
+    ("param", Kind::Param),
+    ("self", Kind::SelfParam),
+    ("type-param", Kind::TypeParam),
+    ("const-param", Kind::ConstParam),
+    ("lifetime-param", Kind::LifetimeParam),
+    ("where", Kind::Where),
+    ("where-lifetime", Kind::WhereLifetime),
+    ("field", Kind::Field),
+];
+
+/// Puts what was read behind the others.
+fn push<T: Drop>(list: &mut Seq<T>, item: Result<T, Stop>) -> Result<(), Stop> {
+    Ok(list.push(item?)?)
+}
+
+/// The same in an arena.
+fn put<K, T: Drop>(arena: &mut Arena<K, T>, item: Result<T, Stop>) -> Result<(), Stop> {
+    let _ = arena.alloc(item?)?;
+    Ok(())
+}
+
 impl Pending {
     /// Nothing waits.
     pub fn new(alloc: Global) -> Pending {
@@ -51,6 +87,23 @@ impl Pending {
         }
     }
 
+    /// Adds what a line of this kind says.
+    fn add(&mut self, alloc: Global, kind: Kind, words: &mut Words<'_>) -> Result<(), Stop> {
+        match kind {
+            Kind::Param => push(&mut self.params, read_param(words)),
+            Kind::SelfParam => {
+                self.self_param = Some(read_param(words)?);
+                Ok(())
+            }
+            Kind::TypeParam => put(&mut self.type_or_consts, read_type_param(words, alloc)),
+            Kind::ConstParam => put(&mut self.type_or_consts, read_const_param(words, alloc)),
+            Kind::LifetimeParam => put(&mut self.lifetimes, read_lifetime_param(words, alloc)),
+            Kind::Where => push(&mut self.predicates, read_where(words, alloc)),
+            Kind::WhereLifetime => push(&mut self.predicates, read_where_lifetime(words)),
+            Kind::Field => push(&mut self.fields, read_field(words, alloc)),
+        }
+    }
+
     /// Does what a line says that makes a part of what comes next; answers whether it is such a line.
     pub fn line(
         &mut self,
@@ -58,23 +111,10 @@ impl Pending {
         word: &[u8],
         words: &mut Words<'_>,
     ) -> Result<bool, Stop> {
-        match word {
-            b"param" => self.params.push(read_param(words)?)?,
-            b"self" => self.self_param = Some(read_param(words)?),
-            b"type-param" => {
-                let _ = self.type_or_consts.alloc(read_type_param(words, alloc)?)?;
-            }
-            b"const-param" => {
-                let _ = self.type_or_consts.alloc(read_const_param(words, alloc)?)?;
-            }
-            b"lifetime-param" => {
-                let _ = self.lifetimes.alloc(read_lifetime_param(words, alloc)?)?;
-            }
-            b"where" => self.predicates.push(read_where(words, alloc)?)?,
-            b"where-lifetime" => self.predicates.push(read_where_lifetime(words)?)?,
-            b"field" => self.fields.push(read_field(words, alloc)?)?,
-            _ => return Ok(false),
-        }
+        let Some(kind) = value_of(&KINDS, word) else {
+            return Ok(false);
+        };
+        self.add(alloc, kind, words)?;
         words.end()?;
         Ok(true)
     }

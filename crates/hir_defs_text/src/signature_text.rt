@@ -1,14 +1,10 @@
-//! Signatures and the fields of variants as their lines have them, and the questions on them.
+//! Signatures and the fields of variants, as their lines have them.
 
 use crate::fields::{write_field, write_shape};
-use crate::signatures::as_plain;
 use hir_base::{FunctionId, Idx, StructId, VariantId};
-use hir_defs::{FunctionSignature, PlainDef, StructSignature, Tables, VariantFields};
+use hir_defs::{FunctionSignature, PlainDef, StructSignature, VariantFields};
 use hir_node::TypeRefId;
-use hir_notation::{
-    Answer, Stop, Words, as_variant, next_def, of_generic, of_variant, write_abi, write_def,
-};
-use hir_store_text::refuse_missing;
+use hir_notation::{Answer, of_generic, of_variant, write_abi, write_def};
 use std::alloc::AllocError;
 
 /// Writes types as a line has them: joined by `,`, or `-`.
@@ -57,7 +53,7 @@ fn write_legacy(places: Option<&[u32]>, answer: &mut Answer) -> Result<(), Alloc
     Ok(())
 }
 
-fn write_function(
+pub(crate) fn write_function(
     id: FunctionId,
     signature: &FunctionSignature,
     answer: &mut Answer,
@@ -75,7 +71,7 @@ fn write_function(
     write_legacy(signature.legacy_const_indices(), answer)
 }
 
-fn write_struct(
+pub(crate) fn write_struct(
     id: StructId,
     signature: &StructSignature,
     answer: &mut Answer,
@@ -87,13 +83,13 @@ fn write_struct(
     write_flag(signature.is_fundamental(), "fundamental", answer)
 }
 
-fn write_plain(def: PlainDef, answer: &mut Answer) -> Result<(), AllocError> {
+pub(crate) fn write_plain(def: PlainDef, answer: &mut Answer) -> Result<(), AllocError> {
     answer.word("plain")?;
     write_def(of_generic(def.generic_def()), answer)
 }
 
 /// Writes the line of a variant, and behind it those of its fields.
-fn write_variant(
+pub(crate) fn write_variant(
     id: VariantId,
     variant: &VariantFields,
     answer: &mut Answer,
@@ -106,61 +102,4 @@ fn write_variant(
         write_field(field, answer)?;
     }
     Ok(())
-}
-
-fn ask_function(tables: &Tables, words: &mut Words<'_>, answer: &mut Answer) -> Result<(), Stop> {
-    let id = words.next_def()?;
-    words.end()?;
-    match tables.function_signature(id) {
-        Ok(signature) => write_function(id, signature, answer)?,
-        Err(missing) => refuse_missing(missing, answer)?,
-    }
-    Ok(())
-}
-
-fn ask_struct(tables: &Tables, words: &mut Words<'_>, answer: &mut Answer) -> Result<(), Stop> {
-    let id = words.next_def()?;
-    words.end()?;
-    match tables.struct_signature(id) {
-        Ok(signature) => write_struct(id, signature, answer)?,
-        Err(missing) => refuse_missing(missing, answer)?,
-    }
-    Ok(())
-}
-
-fn ask_plain(tables: &Tables, words: &mut Words<'_>, answer: &mut Answer) -> Result<(), Stop> {
-    let def = as_plain(next_def(words)?)?;
-    words.end()?;
-    match tables.plain_signature(def) {
-        Ok(_) => write_plain(def, answer)?,
-        Err(missing) => refuse_missing(missing, answer)?,
-    }
-    Ok(())
-}
-
-fn ask_variant(tables: &Tables, words: &mut Words<'_>, answer: &mut Answer) -> Result<(), Stop> {
-    let id = as_variant(next_def(words)?)?;
-    words.end()?;
-    match tables.variant_fields(id) {
-        Ok(variant) => write_variant(id, variant, answer)?,
-        Err(missing) => refuse_missing(missing, answer)?,
-    }
-    Ok(())
-}
-
-/// Answers a question on a signature or on fields; answers whether it is such a question.
-pub(crate) fn ask(
-    tables: &Tables,
-    word: &[u8],
-    words: &mut Words<'_>,
-    answer: &mut Answer,
-) -> Result<bool, Stop> {
-    match word {
-        b"function-of" => ask_function(tables, words, answer)?,
-        b"struct-of" => ask_struct(tables, words, answer)?,
-        b"plain-of" => ask_plain(tables, words, answer)?,
-        b"variant-of" => ask_variant(tables, words, answer)?,
-        _ => return Ok(false),
-    }
-    Ok(true)
 }

@@ -1,7 +1,9 @@
 //! The store that questions ask.
 
 use hir_base::ExpressionStoreOwnerId;
+use hir_notation::{Answer, Stop};
 use hir_store::{ExpressionStore, ExpressionStoreSourceMap};
+use std::alloc::Global;
 
 /// A finished store, and its source map.
 pub type Finished = Box<(ExpressionStore, ExpressionStoreSourceMap)>;
@@ -15,4 +17,22 @@ pub enum Subject {
     Store(Finished),
     /// That of a definition.
     Owner(ExpressionStoreOwnerId),
+}
+
+/// What was accepted is the store that questions ask from then on.
+pub(crate) fn accepted(
+    owner: ExpressionStoreOwnerId,
+    answer: &mut Answer,
+) -> Result<Subject, Stop> {
+    answer.word("accepted")?;
+    Ok(Subject::Owner(owner))
+}
+
+/// What was refused is the store that questions ask again.
+pub(crate) fn kept(
+    alloc: Global,
+    store: ExpressionStore,
+    sources: ExpressionStoreSourceMap,
+) -> Result<Subject, Stop> {
+    Ok(Subject::Store(Box::new(alloc, (store, sources))?))
 }

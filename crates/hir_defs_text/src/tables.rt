@@ -1,10 +1,39 @@
-//! The entries of the tables besides bodies and signatures: the lines that add them, and the questions on them.
+//! The lines that add entries to the tables besides bodies and signatures.
 
-use hir_base::{Seq, Text};
+use hir_base::{CrateId, Edition, EnumId, EnumVariantId, NamedDef, Seq, StructId, Text};
 use hir_defs::{Repr, Tables};
-use hir_notation::{Answer, Stop, Words, as_named, next_def, next_edition};
-use hir_store_text::refuse_missing;
-use std::alloc::{AllocError, Global};
+use hir_notation::{Stop, Words, as_named, next_def, next_edition};
+use hir_store_text::done;
+use hir_words::value_of;
+use std::alloc::Global;
+
+/// What the first word of a line says that it adds.
+#[derive(Clone, Copy)]
+enum Kind {
+    Name,
+    CrateName,
+    Parent,
+    Repr,
+    RawWords,
+}
+
+const KINDS: [(&str, Kind); 5] = [
+    ("name", Kind::Name),
+    ("crate-name", Kind::CrateName),
+    ("parent", Kind::Parent),
+    ("repr", Kind::Repr),
+    ("raw-words", Kind::RawWords),
+];
+
+/// What a line adds.
+#[derive(Drop)]
+enum Entry {
+    Name(NamedDef, Option<Text>),
+    CrateName(CrateId, Option<Text>),
+    Parent(EnumVariantId, EnumId),
+    Repr(StructId, Repr),
+    RawWords(Edition, Seq<Text>),
+}
 
 /// A name or `-`, behind a space.
 fn next_opt_text(words: &mut Words<'_>, alloc: Global) -> Result<Option<Text>, Stop> {
@@ -47,44 +76,54 @@ fn read_repr(words: &mut Words<'_>) -> Result<Repr, Stop> {
     Ok(Repr { c, align, pack })
 }
 
-fn add_name(alloc: Global, tables: &mut Tables, words: &mut Words<'_>) -> Result<(), Stop> {
-    let def = as_named(next_def(words)?)?;
-    let name = next_opt_text(words, alloc)?;
-    words.end()?;
-    tables.add_name(def, name)?;
-    Ok(())
+/// What stands behind the first word.
+fn read(alloc: Global, kind: Kind, words: &mut Words<'_>) -> Result<Entry, Stop> {
+    match kind {
+        Kind::Name => {
+            let def = as_named(next_def(words)?)?;
+            Ok(Entry::Name(def, next_opt_text(words, alloc)?))
+        }
+        Kind::CrateName => {
+            let id = words.next_def()?;
+            Ok(Entry::CrateName(id, next_opt_text(words, alloc)?))
+        }
+        Kind::Parent => {
+            let variant = words.next_def()?;
+            Ok(Entry::Parent(variant, words.next_def()?))
+        }
+        Kind::Repr => {
+            let id = words.next_def()?;
+            Ok(Entry::Repr(id, read_repr(words)?))
+        }
+        Kind::RawWords => {
+            let edition = next_edition(words)?;
+            Ok(Entry::RawWords(edition, next_texts(words, alloc)?))
+        }
+    }
 }
 
-fn add_crate_name(alloc: Global, tables: &mut Tables, words: &mut Words<'_>) -> Result<(), Stop> {
-    let id = words.next_def()?;
-    let name = next_opt_text(words, alloc)?;
-    words.end()?;
-    tables.add_crate_name(id, name)?;
-    Ok(())
+/// Adds an entry.
+fn add(tables: &mut Tables, entry: Entry) -> Result<(), Stop> {
+    match entry {
+        Entry::Name(def, name) => done(tables.add_name(def, name)),
+        Entry::CrateName(id, name) => done(tables.add_crate_name(id, name)),
+        Entry::Parent(variant, parent) => done(tables.add_variant_parent(variant, parent)),
+        Entry::Repr(id, repr) => done(tables.add_repr(id, repr)),
+        Entry::RawWords(edition, texts) => {
+            tables.set_raw_words(edition, texts);
+            Ok(())
+        }
+    }
 }
 
-fn add_parent(tables: &mut Tables, words: &mut Words<'_>) -> Result<(), Stop> {
-    let variant = words.next_def()?;
-    let parent = words.next_def()?;
+/// The entry that a line adds, where it is such a line.
+fn read_line(alloc: Global, word: &[u8], words: &mut Words<'_>) -> Result<Option<Entry>, Stop> {
+    let Some(kind) = value_of(&KINDS, word) else {
+        return Ok(None);
+    };
+    let entry = read(alloc, kind, words)?;
     words.end()?;
-    tables.add_variant_parent(variant, parent)?;
-    Ok(())
-}
-
-fn add_repr(tables: &mut Tables, words: &mut Words<'_>) -> Result<(), Stop> {
-    let id = words.next_def()?;
-    let repr = read_repr(words)?;
-    words.end()?;
-    tables.add_repr(id, repr)?;
-    Ok(())
-}
-
-fn set_raw_words(alloc: Global, tables: &mut Tables, words: &mut Words<'_>) -> Result<(), Stop> {
-    let edition = next_edition(words)?;
-    let texts = next_texts(words, alloc)?;
-    words.end()?;
-    tables.set_raw_words(edition, texts);
-    Ok(())
+    Ok(Some(entry))
 }
 
 /// Does what a line says that adds an entry to the tables; answers whether it is such a line.
@@ -94,103 +133,9 @@ pub fn line(
     word: &[u8],
     words: &mut Words<'_>,
 ) -> Result<bool, Stop> {
-    match word {
-        b"name" => add_name(alloc, tables, words)?,
-        b"crate-name" => add_crate_name(alloc, tables, words)?,
-        b"parent" => add_parent(tables, words)?,
-        b"repr" => add_repr(tables, words)?,
-        b"raw-words" => set_raw_words(alloc, tables, words)?,
-        _ => return Ok(false),
-    }
-    Ok(true)
-}
-
-/// Writes the name of what has one, or `none`.
-fn write_opt_name(name: Option<&Text>, answer: &mut Answer) -> Result<(), AllocError> {
-    match name {
-        Some(name) => answer.name(name.as_str()),
-        None => answer.word("none"),
-    }
-}
-
-fn write_repr(repr: Repr, answer: &mut Answer) -> Result<(), AllocError> {
-    if repr.c {
-        answer.word("C")?;
-    }
-    if let Some(align) = repr.align {
-        answer.word("align:")?;
-        answer.join_long(align)?;
-    }
-    if let Some(pack) = repr.pack {
-        answer.word("pack:")?;
-        answer.join_long(pack)?;
-    }
-    Ok(())
-}
-
-fn ask_name(tables: &Tables, words: &mut Words<'_>, answer: &mut Answer) -> Result<(), Stop> {
-    let def = as_named(next_def(words)?)?;
-    words.end()?;
-    match tables.name(def) {
-        Ok(name) => write_opt_name(name, answer)?,
-        Err(missing) => refuse_missing(missing, answer)?,
-    }
-    Ok(())
-}
-
-fn ask_crate_name(tables: &Tables, words: &mut Words<'_>, answer: &mut Answer) -> Result<(), Stop> {
-    let id = words.next_def()?;
-    words.end()?;
-    match tables.crate_name(id) {
-        Ok(name) => write_opt_name(name, answer)?,
-        Err(missing) => refuse_missing(missing, answer)?,
-    }
-    Ok(())
-}
-
-fn ask_parent(tables: &Tables, words: &mut Words<'_>, answer: &mut Answer) -> Result<(), Stop> {
-    let variant = words.next_def()?;
-    words.end()?;
-    match tables.variant_parent(variant) {
-        Ok(parent) => answer.number(parent.into_raw())?,
-        Err(missing) => refuse_missing(missing, answer)?,
-    }
-    Ok(())
-}
-
-fn ask_repr(tables: &Tables, words: &mut Words<'_>, answer: &mut Answer) -> Result<(), Stop> {
-    let id = words.next_def()?;
-    words.end()?;
-    match tables.repr(id) {
-        Some(repr) => write_repr(repr, answer)?,
-        None => answer.word("none")?,
-    }
-    Ok(())
-}
-
-fn ask_raw_words(tables: &Tables, words: &mut Words<'_>, answer: &mut Answer) -> Result<(), Stop> {
-    let edition = next_edition(words)?;
-    words.end()?;
-    for word in tables.raw_words(edition) {
-        answer.name(word.as_str())?;
-    }
-    Ok(())
-}
-
-/// Answers a question on an entry of the tables; answers whether it is such a question.
-pub(crate) fn ask(
-    tables: &Tables,
-    word: &[u8],
-    words: &mut Words<'_>,
-    answer: &mut Answer,
-) -> Result<bool, Stop> {
-    match word {
-        b"name-of" => ask_name(tables, words, answer)?,
-        b"crate-name-of" => ask_crate_name(tables, words, answer)?,
-        b"parent-of" => ask_parent(tables, words, answer)?,
-        b"repr-of" => ask_repr(tables, words, answer)?,
-        b"raw-words-of" => ask_raw_words(tables, words, answer)?,
-        _ => return Ok(false),
-    }
+    let Some(entry) = read_line(alloc, word, words)? else {
+        return Ok(false);
+    };
+    add(tables, entry)?;
     Ok(true)
 }

@@ -1,97 +1,126 @@
-//! Lines that make nodes, roots and entries of side tables.
+//! Lines that make nodes.
 
-use hir_base::Id;
-use hir_node::ExprOrPatId;
+use hir_node::{Binding, Expr, Label, LifetimeRef, Pat, TypeRef};
 use hir_notation::{
-    Stop, Words, next_hygiene, read_binding, read_expr, read_label, read_lifetime, read_pat,
-    read_type,
+    Stop, Words, read_binding, read_expr, read_label, read_lifetime, read_pat, read_type,
 };
 use hir_store::ExpressionStoreBuilder;
 use std::alloc::Global;
 
-/// Makes the node of a line; answers whether it is such a line.
-pub(crate) fn node(
-    alloc: Global,
-    builder: &mut ExpressionStoreBuilder,
-    word: &[u8],
-    words: &mut Words<'_>,
-) -> Result<bool, Stop> {
-    match word {
-        b"expr" => {
-            let expr = read_expr(words, alloc)?;
-            words.end()?;
-            let _ = builder.alloc_expr(expr)?;
-        }
-        b"pat" => {
-            let pat = read_pat(words, alloc)?;
-            words.end()?;
-            let _ = builder.alloc_pat(pat)?;
-        }
-        b"type" => {
-            let type_ref = read_type(words, alloc)?;
-            words.end()?;
-            let _ = builder.alloc_type(type_ref)?;
-        }
-        b"bind" => {
-            let binding = read_binding(words, alloc)?;
-            words.end()?;
-            let _ = builder.alloc_binding(binding)?;
-        }
-        b"label" => {
-            let label = read_label(words, alloc)?;
-            words.end()?;
-            let _ = builder.alloc_label(label)?;
-        }
-        b"lifetime" => {
-            let lifetime = read_lifetime(words, alloc)?;
-            words.end()?;
-            let _ = builder.alloc_lifetime(lifetime)?;
-        }
-        _ => return Ok(false),
-    }
-    Ok(true)
+/// The arena of the node that a line makes.
+#[derive(Clone, Copy)]
+pub(crate) enum Arena {
+    Exprs,
+    Pats,
+    Types,
+    Bindings,
+    Labels,
+    Lifetimes,
 }
 
-/// Makes the root, the hygiene, the owner or the block of a line; answers whether it is such a line.
-pub(crate) fn side(
-    builder: &mut ExpressionStoreBuilder,
-    word: &[u8],
-    words: &mut Words<'_>,
-) -> Result<bool, Stop> {
-    match word {
-        b"roots" => {
-            words.end()?;
-            builder.begin_roots();
-        }
-        b"root" => {
-            let id = words.next_id()?;
-            words.end()?;
-            builder.push_root(id)?;
-        }
-        b"hygiene" => {
-            let id = ExprOrPatId::ExprId(words.next_id()?);
-            let hygiene = next_hygiene(words)?;
-            words.end()?;
-            builder.set_hygiene(id, hygiene)?;
-        }
-        b"pat-hygiene" => {
-            let id = ExprOrPatId::PatId(words.next_id()?);
-            let hygiene = next_hygiene(words)?;
-            words.end()?;
-            builder.set_hygiene(id, hygiene)?;
-        }
-        b"owner" => {
-            let binding = words.next_id()?;
-            let owner = words.next_id()?;
-            words.end()?;
-            let _ = builder.binding_owners.insert(binding, owner)?;
-        }
-        b"block-scope" => {
-            let block = Id::from_raw(words.next_number()?);
-            words.end()?;
-            builder.add_block_scope(block)?;
-        }
-        _ => return Ok(false),
+/// A node that a line makes.
+trait Made: Sized + Drop {
+    /// What stands behind the first word of the line.
+    fn read(alloc: Global, words: &mut Words<'_>) -> Result<Self, Stop>;
+
+    fn add(self, builder: &mut ExpressionStoreBuilder) -> Result<(), Stop>;
+}
+
+impl Made for Expr {
+    fn read(alloc: Global, words: &mut Words<'_>) -> Result<Expr, Stop> {
+        read_expr(words, alloc)
     }
-    Ok(true)
+
+    fn add(self, builder: &mut ExpressionStoreBuilder) -> Result<(), Stop> {
+        done(builder.alloc_expr(self))
+    }
+}
+
+impl Made for Pat {
+    fn read(alloc: Global, words: &mut Words<'_>) -> Result<Pat, Stop> {
+        read_pat(words, alloc)
+    }
+
+    fn add(self, builder: &mut ExpressionStoreBuilder) -> Result<(), Stop> {
+        done(builder.alloc_pat(self))
+    }
+}
+
+impl Made for TypeRef {
+    fn read(alloc: Global, words: &mut Words<'_>) -> Result<TypeRef, Stop> {
+        read_type(words, alloc)
+    }
+
+    fn add(self, builder: &mut ExpressionStoreBuilder) -> Result<(), Stop> {
+        done(builder.alloc_type(self))
+    }
+}
+
+impl Made for Binding {
+    fn read(alloc: Global, words: &mut Words<'_>) -> Result<Binding, Stop> {
+        read_binding(words, alloc)
+    }
+
+    fn add(self, builder: &mut ExpressionStoreBuilder) -> Result<(), Stop> {
+        done(builder.alloc_binding(self))
+    }
+}
+
+impl Made for Label {
+    fn read(alloc: Global, words: &mut Words<'_>) -> Result<Label, Stop> {
+        read_label(words, alloc)
+    }
+
+    fn add(self, builder: &mut ExpressionStoreBuilder) -> Result<(), Stop> {
+        done(builder.alloc_label(self))
+    }
+}
+
+impl Made for LifetimeRef {
+    fn read(alloc: Global, words: &mut Words<'_>) -> Result<LifetimeRef, Stop> {
+        read_lifetime(words, alloc)
+    }
+
+    fn add(self, builder: &mut ExpressionStoreBuilder) -> Result<(), Stop> {
+        done(builder.alloc_lifetime(self))
+    }
+}
+
+/// Whether there was memory for what was added.
+pub fn done<T: Drop, E>(outcome: Result<T, E>) -> Result<(), Stop>
+where
+    Stop: From<E>,
+{
+    match outcome {
+        Ok(_) => Ok(()),
+        Err(refused) => Err(Stop::from(refused)),
+    }
+}
+
+/// Makes the node that stands behind the first word of a line.
+fn make_one<T: Made>(
+    alloc: Global,
+    builder: &mut ExpressionStoreBuilder,
+    words: &mut Words<'_>,
+) -> Result<(), Stop> {
+    let node = T::read(alloc, words)?;
+    words.end()?;
+    node.add(builder)
+}
+
+/// Makes a node of this arena.
+pub(crate) fn make(
+    alloc: Global,
+    builder: &mut ExpressionStoreBuilder,
+    arena: Arena,
+    words: &mut Words<'_>,
+) -> Result<(), Stop> {
+    match arena {
+        Arena::Exprs => make_one::<Expr>(alloc, builder, words),
+        Arena::Pats => make_one::<Pat>(alloc, builder, words),
+        Arena::Types => make_one::<TypeRef>(alloc, builder, words),
+        Arena::Bindings => make_one::<Binding>(alloc, builder, words),
+        Arena::Labels => make_one::<Label>(alloc, builder, words),
+        Arena::Lifetimes => make_one::<LifetimeRef>(alloc, builder, words),
+    }
 }

@@ -1,26 +1,36 @@
 //! Questions on equality and on copies, of nodes and of whole stores.
 
+use crate::ends::last_node;
 use crate::missing::{differs, unknown};
 use crate::nodes::has_node;
-use hir_base::{ExactEq, TryClone};
+use hir_base::{ArenaIter, ExactEq, TryClone};
 use hir_node::{Binding, Expr, Label, LabelId, LifetimeRef, Pat, TypeRef};
 use hir_notation::{Answer, Node, Stop, Words, next_node};
 use hir_store::{ExpressionStore, ExpressionStoreSourceMap};
+use hir_words::value_of;
 use std::alloc::AllocError;
 
-/// Answers a question on nodes or on copies, where the line is one.
-pub(crate) fn ask(
+/// What is asked of the store that is kept beside the one that questions ask.
+#[derive(Clone, Copy)]
+enum Kept {
+    Store,
+    Sources,
+}
+
+const KEPT: [(&str, Kept); 2] = [("same-store", Kept::Store), ("same-sources", Kept::Sources)];
+
+/// Writes whether what is kept is the same.
+fn write_kept(
+    kept: &(ExpressionStore, ExpressionStoreSourceMap),
     store: &ExpressionStore,
-    word: &[u8],
-    words: &mut Words<'_>,
+    sources: &ExpressionStoreSourceMap,
+    question: Kept,
     answer: &mut Answer,
-) -> Result<bool, Stop> {
-    match word {
-        b"equal" => equal(store, words, answer)?,
-        b"copies" => copies(store, words, answer)?,
-        _ => return Ok(false),
+) -> Result<(), AllocError> {
+    match question {
+        Kept::Store => write_same(kept.0 == *store, kept.0.is_same(store), answer),
+        Kept::Sources => answer.yes_or_no(kept.1 == *sources),
     }
-    Ok(true)
 }
 
 /// Answers a question on what is kept, where the line is one.
@@ -32,15 +42,12 @@ pub fn ask_kept(
     words: &mut Words<'_>,
     answer: &mut Answer,
 ) -> Result<bool, Stop> {
-    let of_store = match word {
-        b"same-store" => true,
-        b"same-sources" => false,
-        _ => return Ok(false),
+    let Some(question) = value_of(&KEPT, word) else {
+        return Ok(false);
     };
     words.end()?;
     match kept {
-        Some(kept) if of_store => write_same(kept.0 == *store, kept.0.is_same(store), answer)?,
-        Some(kept) => answer.yes_or_no(kept.1 == *sources)?,
+        Some(kept) => write_kept(kept, store, sources, question, answer)?,
         None => unknown(answer)?,
     }
     Ok(true)
@@ -136,31 +143,44 @@ fn lifetime_at(store: &ExpressionStore, node: Node) -> Option<&LifetimeRef> {
     }
 }
 
-/// `equal NODE NODE`: nodes of different arenas never are.
-fn equal(store: &ExpressionStore, words: &mut Words<'_>, answer: &mut Answer) -> Result<(), Stop> {
-    let first = next_node(words)?;
-    let second = next_node(words)?;
-    words.end()?;
-    if !has_node(store, first) || !has_node(store, second) {
-        return Ok(unknown(answer)?);
-    }
+/// Whether two nodes are equal: those of different arenas never are.
+fn write_equal_nodes(
+    store: &ExpressionStore,
+    first: Node,
+    second: Node,
+    answer: &mut Answer,
+) -> Result<(), AllocError> {
     match first {
-        Node::Expr(_) => write_equal(expr_at(store, first), expr_at(store, second), answer)?,
-        Node::Pat(_) => write_equal(pat_at(store, first), pat_at(store, second), answer)?,
-        Node::Type(_) => write_equal(type_at(store, first), type_at(store, second), answer)?,
-        Node::Binding(_) => write_equal(
-            binding_at(store, first),
-            binding_at(store, second),
-            answer,
-        )?,
-        Node::Label(_) => write_equal(label_at(store, first), label_at(store, second), answer)?,
-        Node::Lifetime(_) => write_equal(
-            lifetime_at(store, first),
-            lifetime_at(store, second),
-            answer,
-        )?,
+        Node::Expr(_) => write_equal(expr_at(store, first), expr_at(store, second), answer),
+        Node::Pat(_) => write_equal(pat_at(store, first), pat_at(store, second), answer),
+        Node::Type(_) => write_equal(type_at(store, first), type_at(store, second), answer),
+        Node::Binding(_) => {
+            write_equal(binding_at(store, first), binding_at(store, second), answer)
+        }
+        Node::Label(_) => write_equal(label_at(store, first), label_at(store, second), answer),
+        Node::Lifetime(_) => {
+            write_equal(
+                lifetime_at(store, first),
+                lifetime_at(store, second),
+                answer,
+            )
+        }
     }
-    Ok(())
+}
+
+/// `equal NODE NODE`
+pub(crate) fn equal(
+    store: &ExpressionStore,
+    words: &mut Words<'_>,
+    answer: &mut Answer,
+) -> Result<(), Stop> {
+    let first = next_node(words)?;
+    let second = last_node(words)?;
+    if has_node(store, first) && has_node(store, second) {
+        Ok(write_equal_nodes(store, first, second, answer)?)
+    } else {
+        Ok(unknown(answer)?)
+    }
 }
 
 /// Whether a value is its copy.
@@ -169,45 +189,54 @@ fn is_copied<T: TryClone + ExactEq + Drop>(value: &T) -> Result<bool, AllocError
     Ok(copy == *value)
 }
 
-/// Whether each expression, pattern and type is its copy.
-fn are_copied(store: &ExpressionStore) -> Result<bool, AllocError> {
-    let mut all = true;
-    for (_, expr) in store.exprs() {
-        all = is_copied(expr)? && all;
+/// Whether each node of an arena is its copy.
+fn are_copied<K, T: TryClone + ExactEq + Drop>(
+    nodes: ArenaIter<'_, K, T>,
+) -> Result<bool, AllocError> {
+    for (_, node) in nodes {
+        if !is_copied(node)? {
+            return Ok(false);
+        }
     }
-    for (_, pat) in store.pats() {
-        all = is_copied(pat)? && all;
-    }
-    for (_, type_ref) in store.types() {
-        all = is_copied(type_ref)? && all;
-    }
-    Ok(all)
+    Ok(true)
 }
 
-/// Whether each binding, lifetime and label is its copy.
-fn are_names_copied(store: &ExpressionStore) -> Result<bool, AllocError> {
-    let mut all = true;
-    for (_, binding) in store.bindings() {
-        all = is_copied(binding)? && all;
-    }
-    for (_, lifetime) in store.lifetimes() {
-        all = is_copied(lifetime)? && all;
-    }
+/// The same of the labels, of which a store has no list.
+fn are_labels_copied(store: &ExpressionStore) -> Result<bool, AllocError> {
     for number in 0..u32::MAX {
         let id = LabelId::from_raw(number);
         if !store.has_label(id) {
             break;
         }
-        all = is_copied(&store[id])? && all;
+        if !is_copied(&store[id])? {
+            return Ok(false);
+        }
     }
-    Ok(all)
+    Ok(true)
+}
+
+/// Whether each node equals its copy.
+fn are_all_copied(store: &ExpressionStore) -> Result<bool, AllocError> {
+    Ok(
+        are_copied(store.exprs())?
+            && are_copied(store.pats())?
+            && are_copied(store.types())?
+            && are_copied(store.bindings())?
+            && are_copied(store.lifetimes())?
+            && are_labels_copied(store)?,
+    )
 }
 
 /// `copies`: whether each node, and the store, equals its copy.
-fn copies(store: &ExpressionStore, words: &mut Words<'_>, answer: &mut Answer) -> Result<(), Stop> {
+pub(crate) fn copies(
+    store: &ExpressionStore,
+    words: &mut Words<'_>,
+    answer: &mut Answer,
+) -> Result<(), Stop> {
     words.end()?;
-    if are_copied(store)? && are_names_copied(store)? && is_copied(store)? {
-        return Ok(answer.word("equal")?);
+    if are_all_copied(store)? && is_copied(store)? {
+        Ok(answer.word("equal")?)
+    } else {
+        Ok(differs(answer)?)
     }
-    Ok(differs(answer)?)
 }

@@ -1,19 +1,27 @@
 //! Lines that make the nodes of a store, and questions on a store and its source map.
 #![tactic(auto)]
 
+mod blocks;
 mod building;
 mod calls;
+mod ends;
+mod entries;
 mod equality;
+mod making;
 mod mapping;
 mod missing;
 mod nodes;
+mod numbers;
 mod paths;
+mod places;
 mod questions;
 mod recorder;
 mod searches;
 mod sources;
 mod walks;
 
+pub use building::done;
 pub use equality::ask_kept;
+pub use making::make;
 pub use missing::{differs, refuse, refuse_missing, unknown};
-pub use questions::{ask, make};
+pub use questions::ask;

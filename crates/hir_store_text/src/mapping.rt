@@ -1,138 +1,114 @@
-//! Lines that say where nodes come from, what binds a binding, what macro calls expanded to, and what lowering found wrong.
+//! Lines that say where nodes come from, what macro calls expanded to, and what lowering found wrong.
 
-use hir_base::{AstPtr, Id, InFile};
+use crate::building::done;
+use crate::ends::{last_either, last_number, last_source};
+use hir_base::{Id, Idx, InFile, SyntaxNodePtr};
 use hir_node::ExprOrPatId;
-use hir_notation::{Node, Stop, Words, next_node, next_source, pointer, read_diagnostic};
+use hir_notation::{Stop, Words, next_source, pointer, read_diagnostic};
 use hir_store::ExpressionStoreBuilder;
 use std::alloc::Global;
 
-/// A source behind a space, as a pointer to the kind of its place.
-fn source<K>(words: &mut Words<'_>) -> Result<InFile<AstPtr<K>>, Stop> {
-    Ok(pointer(next_source(words)?))
+/// Which call a source is mapped by to an expression or a pattern.
+#[derive(Clone, Copy)]
+pub(crate) enum Either {
+    Expr,
+    Pat,
 }
 
-/// A source at the end of the line.
-fn last_source<K>(words: &mut Words<'_>) -> Result<InFile<AstPtr<K>>, Stop> {
-    let source = source(words)?;
-    words.end()?;
-    Ok(source)
+/// What a source is mapped to by its number.
+#[derive(Clone, Copy)]
+pub(crate) enum Numbered {
+    Label,
+    Type,
+    Lifetime,
+    Expansion,
 }
 
-/// An expression or a pattern at the end of the line.
-fn last_either(words: &mut Words<'_>) -> Result<ExprOrPatId, Stop> {
-    let node = next_node(words)?;
-    words.end()?;
-    match node {
-        Node::Expr(id) => Ok(ExprOrPatId::ExprId(id)),
-        Node::Pat(id) => Ok(ExprOrPatId::PatId(id)),
-        Node::Type(_) | Node::Binding(_) | Node::Label(_) | Node::Lifetime(_) => Err(Stop::Bad),
-    }
+/// What is mapped to its source.
+#[derive(Clone, Copy)]
+pub(crate) enum Place {
+    Expr,
+    Pat,
+    Label,
+    Type,
+    Lifetime,
+    Field,
+    PatField,
 }
 
-/// Maps a source to its node; answers whether the line is such a line.
-pub(crate) fn forward(
+/// A source, and an expression or a pattern at the end of the line.
+fn read_either(words: &mut Words<'_>) -> Result<(InFile<SyntaxNodePtr>, ExprOrPatId), Stop> {
+    let source = next_source(words)?;
+    Ok((source, last_either(words)?))
+}
+
+/// A source, and a number at the end of the line.
+fn read_numbered(words: &mut Words<'_>) -> Result<(InFile<SyntaxNodePtr>, u32), Stop> {
+    let source = next_source(words)?;
+    Ok((source, last_number(words)?))
+}
+
+/// A number, and a source at the end of the line.
+fn read_back(words: &mut Words<'_>) -> Result<(u32, InFile<SyntaxNodePtr>), Stop> {
+    let number = words.next_number()?;
+    Ok((number, last_source(words)?))
+}
+
+/// Maps a source to an expression or a pattern.
+pub(crate) fn map_either(
     builder: &mut ExpressionStoreBuilder,
-    word: &[u8],
+    by: Either,
     words: &mut Words<'_>,
-) -> Result<bool, Stop> {
-    match word {
-        b"map-expr" => {
-            let source = source(words)?;
-            builder.map_expr(source, last_either(words)?)?;
-        }
-        b"map-pat" => {
-            let source = source(words)?;
-            builder.map_pat(source, last_either(words)?)?;
-        }
-        b"map-label" => {
-            let source = source(words)?;
-            let id = words.next_id()?;
-            words.end()?;
-            builder.map_label(source, id)?;
-        }
-        b"map-type" => {
-            let source = source(words)?;
-            let id = words.next_id()?;
-            words.end()?;
-            builder.map_type(source, id)?;
-        }
-        b"map-lifetime" => {
-            let source = source(words)?;
-            let id = words.next_id()?;
-            words.end()?;
-            builder.map_lifetime(source, id)?;
-        }
-        _ => return Ok(false),
+) -> Result<(), Stop> {
+    let (source, node) = read_either(words)?;
+    match by {
+        Either::Expr => done(builder.map_expr(pointer(source), node)),
+        Either::Pat => done(builder.map_pat(pointer(source), node)),
     }
-    Ok(true)
 }
 
-/// Maps a node to its source; answers whether the line is such a line.
-pub(crate) fn back(
+/// Maps a source to what has this number.
+pub(crate) fn map_numbered(
     builder: &mut ExpressionStoreBuilder,
-    word: &[u8],
+    kind: Numbered,
     words: &mut Words<'_>,
-) -> Result<bool, Stop> {
-    match word {
-        b"map-expr-back" => {
-            let id = words.next_id()?;
-            builder.map_expr_back(id, last_source(words)?)?;
-        }
-        b"map-pat-back" => {
-            let id = words.next_id()?;
-            builder.map_pat_back(id, last_source(words)?)?;
-        }
-        b"map-label-back" => {
-            let id = words.next_id()?;
-            builder.map_label_back(id, last_source(words)?)?;
-        }
-        b"map-type-back" => {
-            let id = words.next_id()?;
-            builder.map_type_back(id, last_source(words)?)?;
-        }
-        b"map-lifetime-back" => {
-            let id = words.next_id()?;
-            builder.map_lifetime_back(id, last_source(words)?)?;
-        }
-        b"map-field-back" => {
-            let id = words.next_id()?;
-            builder.map_field_back(id, last_source(words)?)?;
-        }
-        b"map-pat-field-back" => {
-            let id = words.next_id()?;
-            builder.map_pat_field_back(id, last_source(words)?)?;
-        }
-        _ => return Ok(false),
+) -> Result<(), Stop> {
+    let (source, number) = read_numbered(words)?;
+    match kind {
+        Numbered::Label => done(builder.map_label(pointer(source), Idx::from_raw(number))),
+        Numbered::Type => done(builder.map_type(pointer(source), Idx::from_raw(number))),
+        Numbered::Lifetime => done(builder.map_lifetime(pointer(source), Idx::from_raw(number))),
+        Numbered::Expansion => done(builder.add_expansion(pointer(source), Id::from_raw(number))),
     }
-    Ok(true)
 }
 
-/// Adds a pattern of a binding, an expansion or a diagnostic; answers whether the line is such a line.
-pub(crate) fn other(
+/// Maps what has this number to its source.
+pub(crate) fn map_back(
+    builder: &mut ExpressionStoreBuilder,
+    place: Place,
+    words: &mut Words<'_>,
+) -> Result<(), Stop> {
+    let (number, source) = read_back(words)?;
+    match place {
+        Place::Expr => done(builder.map_expr_back(Idx::from_raw(number), pointer(source))),
+        Place::Pat => done(builder.map_pat_back(Idx::from_raw(number), pointer(source))),
+        Place::Label => done(builder.map_label_back(Idx::from_raw(number), pointer(source))),
+        Place::Type => done(builder.map_type_back(Idx::from_raw(number), pointer(source))),
+        Place::Lifetime => done(builder.map_lifetime_back(Idx::from_raw(number), pointer(source))),
+        Place::Field => done(builder.map_field_back(Idx::from_raw(number), pointer(source))),
+        Place::PatField => {
+            done(builder.map_pat_field_back(Idx::from_raw(number), pointer(source)))
+        }
+    }
+}
+
+/// Adds a diagnostic.
+pub(crate) fn add_diagnostic(
     alloc: Global,
     builder: &mut ExpressionStoreBuilder,
-    word: &[u8],
     words: &mut Words<'_>,
-) -> Result<bool, Stop> {
-    match word {
-        b"definition" => {
-            let binding = words.next_id()?;
-            let pat = words.next_id()?;
-            words.end()?;
-            builder.add_definition(binding, pat)?;
-        }
-        b"expansion" => {
-            let call = source(words)?;
-            let expansion = Id::from_raw(words.next_number()?);
-            words.end()?;
-            builder.add_expansion(call, expansion)?;
-        }
-        b"diagnostic" => {
-            let diagnostic = read_diagnostic(words, alloc)?;
-            words.end()?;
-            builder.push_diagnostic(diagnostic)?;
-        }
-        _ => return Ok(false),
-    }
-    Ok(true)
+) -> Result<(), Stop> {
+    let diagnostic = read_diagnostic(words, alloc)?;
+    done(builder.push_diagnostic(diagnostic))?;
+    words.end()
 }

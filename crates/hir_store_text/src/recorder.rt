@@ -1,6 +1,7 @@
 //! A visitor that writes down its calls, and a list of the ids that a walk meets.
 #![tactic(auto, using(hir_node::proofs::RunLemmas::freely))]
 
+use crate::missing::differs;
 use hir_base::Idx;
 use hir_node::{ExprId, LifetimeRefId, PatId, StoreVisitor, TypeRefId};
 use hir_notation::Answer;
@@ -47,6 +48,19 @@ impl Recorder {
             Err(refused) => Err(*refused),
         }
     }
+}
+
+/// Writes what was noted, where both ways to it give the same.
+pub(crate) fn write_same(
+    first: &Recorder,
+    second: &Recorder,
+    answer: &mut Answer,
+) -> Result<(), AllocError> {
+    let noted = first.as_str()?;
+    if noted != second.as_str()? {
+        return differs(answer);
+    }
+    answer.join(noted)
 }
 
 impl StoreVisitor for Recorder {

@@ -1,58 +1,68 @@
 //! Questions on the root that a node was made for.
 
+use crate::ends::last_node;
 use hir_base::Steps;
-use hir_node::ExprId;
-use hir_notation::{Answer, Node, Stop, Words, next_node};
+use hir_node::{BindingId, ExprId, PatId};
+use hir_notation::{Answer, Node, Stop, Words};
 use hir_store::ExpressionStore;
 
-/// Answers a question on a root, where the line is one.
-pub(crate) fn ask(
-    store: &ExpressionStore,
-    word: &[u8],
-    words: &mut Words<'_>,
-    answer: &mut Answer,
-) -> Result<bool, Stop> {
-    let is_counted = match word {
-        b"root-of" => false,
-        b"counted-root-of" => true,
-        _ => return Ok(false),
-    };
-    let node = next_node(words)?;
-    words.end()?;
-    let root = if is_counted {
-        counted_root_of(store, node)?
-    } else {
-        root_of(store, node)?
-    };
-    answer.opt_id(root)?;
-    Ok(true)
+/// A node of the kinds that are made for a root.
+#[derive(Clone, Copy)]
+enum Rooted {
+    Expr(ExprId),
+    Pat(PatId),
+    Binding(BindingId),
+}
+
+/// A node at the end of the line.
+fn last_rooted(words: &mut Words<'_>) -> Result<Rooted, Stop> {
+    match last_node(words)? {
+        Node::Expr(id) => Ok(Rooted::Expr(id)),
+        Node::Pat(id) => Ok(Rooted::Pat(id)),
+        Node::Binding(id) => Ok(Rooted::Binding(id)),
+        Node::Type(_) | Node::Label(_) | Node::Lifetime(_) => Err(Stop::Bad),
+    }
 }
 
 /// The root, where the node has one.
-fn root_of(store: &ExpressionStore, node: Node) -> Result<Option<ExprId>, Stop> {
-    Ok(match node {
-        Node::Expr(id) if store.covers_expr(id) => Some(store.find_root_for_expr(id)),
-        Node::Pat(id) if store.covers_pat(id) => Some(store.find_root_for_pat(id)),
-        Node::Binding(id) if store.covers_binding(id) => Some(store.find_root_for_binding(id)),
-        Node::Expr(_) | Node::Pat(_) | Node::Binding(_) => None,
-        Node::Type(_) | Node::Label(_) | Node::Lifetime(_) => return Err(Stop::Bad),
-    })
+fn root_of(store: &ExpressionStore, node: Rooted) -> Option<ExprId> {
+    match node {
+        Rooted::Expr(id) if store.covers_expr(id) => Some(store.find_root_for_expr(id)),
+        Rooted::Pat(id) if store.covers_pat(id) => Some(store.find_root_for_pat(id)),
+        Rooted::Binding(id) if store.covers_binding(id) => Some(store.find_root_for_binding(id)),
+        Rooted::Expr(_) | Rooted::Pat(_) | Rooted::Binding(_) => None,
+    }
 }
 
 /// The same, by the searches that count their steps.
-fn counted_root_of(store: &ExpressionStore, node: Node) -> Result<Option<ExprId>, Stop> {
+fn counted_root_of(store: &ExpressionStore, node: Rooted) -> Option<ExprId> {
     let mut steps = Steps::new();
-    Ok(match node {
-        Node::Expr(id) if store.covers_expr(id) => {
+    match node {
+        Rooted::Expr(id) if store.covers_expr(id) => {
             Some(store.find_root_for_expr_counted(id, &mut steps))
         }
-        Node::Pat(id) if store.covers_pat(id) => {
+        Rooted::Pat(id) if store.covers_pat(id) => {
             Some(store.find_root_for_pat_counted(id, &mut steps))
         }
-        Node::Binding(id) if store.covers_binding(id) => {
+        Rooted::Binding(id) if store.covers_binding(id) => {
             Some(store.find_root_for_binding_counted(id, &mut steps))
         }
-        Node::Expr(_) | Node::Pat(_) | Node::Binding(_) => None,
-        Node::Type(_) | Node::Label(_) | Node::Lifetime(_) => return Err(Stop::Bad),
-    })
+        Rooted::Expr(_) | Rooted::Pat(_) | Rooted::Binding(_) => None,
+    }
+}
+
+/// `root-of NODE`, `counted-root-of NODE`
+pub(crate) fn ask(
+    store: &ExpressionStore,
+    is_counted: bool,
+    words: &mut Words<'_>,
+    answer: &mut Answer,
+) -> Result<(), Stop> {
+    let node = last_rooted(words)?;
+    let root = if is_counted {
+        counted_root_of(store, node)
+    } else {
+        root_of(store, node)
+    };
+    Ok(answer.opt_id(root)?)
 }

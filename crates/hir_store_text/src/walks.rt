@@ -1,132 +1,129 @@
 //! Questions on the walks over expressions and patterns.
 
-use crate::missing::{differs, unknown};
-use crate::recorder::Recorder;
+use crate::ends::last_number;
+use crate::missing::unknown;
+use crate::recorder::{Recorder, write_same};
+use hir_base::Idx;
 use hir_node::{BindingId, ExprId, PatId};
 use hir_notation::{Answer, Stop, Words};
 use hir_store::ExpressionStore;
-use std::alloc::Global;
+use std::alloc::{AllocError, Global};
 
-/// Answers a question on a walk, where the line is one.
-pub(crate) fn ask(
-    alloc: Global,
-    store: &ExpressionStore,
-    word: &[u8],
-    words: &mut Words<'_>,
-    answer: &mut Answer,
-) -> Result<bool, Stop> {
-    match word {
-        b"children" => children(alloc, store, words, answer, true)?,
-        b"children-without-pats" => children(alloc, store, words, answer, false)?,
-        b"walk-pats" => pats(alloc, store, words, answer, true)?,
-        b"walk-pats-shallow" => pats(alloc, store, words, answer, false)?,
-        b"child-pats" => child_pats(alloc, store, words, answer)?,
-        b"bindings-in" => bindings_in(alloc, store, words, answer)?,
-        b"exprs-in" => exprs_in(alloc, store, words, answer)?,
-        _ => return Ok(false),
-    }
-    Ok(true)
+/// A walk from an expression or a pattern.
+#[derive(Clone, Copy)]
+pub(crate) enum Walk {
+    Children,
+    ChildrenWithoutPats,
+    Pats,
+    PatsShallow,
+    Bindings,
+    Exprs,
 }
 
-/// `children E`, `children-without-pats E`
-fn children(
-    alloc: Global,
-    store: &ExpressionStore,
-    words: &mut Words<'_>,
-    answer: &mut Answer,
-    with_pats: bool,
-) -> Result<(), Stop> {
-    let id: ExprId = words.next_id()?;
-    words.end()?;
+/// Walks over the child expressions of an expression; answers whether it is there.
+fn walk_expr(store: &ExpressionStore, id: ExprId, with_pats: bool, found: &mut Recorder) -> bool {
     if !store.has_expr(id) {
-        return Ok(unknown(answer)?);
+        return false;
     }
-    let mut found = Recorder::new(alloc);
     if with_pats {
         store.walk_child_exprs(id, &mut |child: ExprId| found.meet(child));
     } else {
         store.walk_child_exprs_without_pats(id, &mut |child: ExprId| found.meet(child));
     }
-    Ok(answer.join(found.as_str()?)?)
+    true
 }
 
-/// `walk-pats P`, `walk-pats-shallow P`
-fn pats(
-    alloc: Global,
-    store: &ExpressionStore,
-    words: &mut Words<'_>,
-    answer: &mut Answer,
-    is_deep: bool,
-) -> Result<(), Stop> {
-    let id: PatId = words.next_id()?;
-    words.end()?;
+/// Walks over patterns from a pattern; answers whether it is there.
+fn walk_pat(store: &ExpressionStore, id: PatId, is_deep: bool, found: &mut Recorder) -> bool {
     if !store.has_pat(id) {
-        return Ok(unknown(answer)?);
+        return false;
     }
-    let mut found = Recorder::new(alloc);
     if is_deep {
         store.walk_pats(id, &mut |pat: PatId| found.meet(pat));
     } else {
         store.walk_pats_shallow(id, &mut |pat: PatId| found.meet(pat));
     }
-    Ok(answer.join(found.as_str()?)?)
+    true
 }
 
-/// `child-pats P`: by the iterator, and by the walk.
-fn child_pats(
-    alloc: Global,
-    store: &ExpressionStore,
-    words: &mut Words<'_>,
-    answer: &mut Answer,
-) -> Result<(), Stop> {
-    let id: PatId = words.next_id()?;
-    words.end()?;
+/// Walks over the bindings or the expressions in a pattern; answers whether it is there.
+fn walk_in_pat(store: &ExpressionStore, id: PatId, over_exprs: bool, found: &mut Recorder) -> bool {
     if !store.has_pat(id) {
-        return Ok(unknown(answer)?);
+        return false;
+    }
+    if over_exprs {
+        store.walk_exprs_in_pat(id, &mut |expr: ExprId| found.meet(expr));
+    } else {
+        store.walk_bindings_in_pat(id, &mut |binding: BindingId| found.meet(binding));
+    }
+    true
+}
+
+/// Takes the child patterns of a pattern, by the iterator and by the walk; answers whether it is there.
+fn take_child_pats(
+    store: &ExpressionStore,
+    id: PatId,
+    found: &mut Recorder,
+    by_walk: &mut Recorder,
+) -> bool {
+    if !store.has_pat(id) {
+        return false;
     }
     let pat = &store[id];
-    let mut by_walk = Recorder::new(alloc);
     pat.walk_child_pats(&mut |child: PatId| by_walk.meet(child));
-    let mut found = Recorder::new(alloc);
     for child in pat.child_pats() {
         found.meet(child);
     }
-    if found.as_str()? != by_walk.as_str()? {
-        return Ok(differs(answer)?);
-    }
-    Ok(answer.join(found.as_str()?)?)
+    true
 }
 
-/// `bindings-in P`
-fn bindings_in(
+/// Writes what was met from a node, where it is there.
+fn write_found(is_there: bool, found: &Recorder, answer: &mut Answer) -> Result<(), AllocError> {
+    if !is_there {
+        return unknown(answer);
+    }
+    answer.join(found.as_str()?)
+}
+
+/// Does a walk from the node of this number; answers whether it is there.
+fn walk_from(store: &ExpressionStore, walk: Walk, number: u32, found: &mut Recorder) -> bool {
+    match walk {
+        Walk::Children => walk_expr(store, Idx::from_raw(number), true, found),
+        Walk::ChildrenWithoutPats => walk_expr(store, Idx::from_raw(number), false, found),
+        Walk::Pats => walk_pat(store, Idx::from_raw(number), true, found),
+        Walk::PatsShallow => walk_pat(store, Idx::from_raw(number), false, found),
+        Walk::Bindings => walk_in_pat(store, Idx::from_raw(number), false, found),
+        Walk::Exprs => walk_in_pat(store, Idx::from_raw(number), true, found),
+    }
+}
+
+/// Answers what a walk meets.
+pub(crate) fn ask(
+    alloc: Global,
+    store: &ExpressionStore,
+    walk: Walk,
+    words: &mut Words<'_>,
+    answer: &mut Answer,
+) -> Result<(), Stop> {
+    let number = last_number(words)?;
+    let mut found = Recorder::new(alloc);
+    let is_there = walk_from(store, walk, number, &mut found);
+    Ok(write_found(is_there, &found, answer)?)
+}
+
+/// `child-pats P`
+pub(crate) fn ask_child_pats(
     alloc: Global,
     store: &ExpressionStore,
     words: &mut Words<'_>,
     answer: &mut Answer,
 ) -> Result<(), Stop> {
-    let id: PatId = words.next_id()?;
-    words.end()?;
-    if !store.has_pat(id) {
+    let number = last_number(words)?;
+    let mut found = Recorder::new(alloc);
+    let mut by_walk = Recorder::new(alloc);
+    let is_there = take_child_pats(store, Idx::from_raw(number), &mut found, &mut by_walk);
+    if !is_there {
         return Ok(unknown(answer)?);
     }
-    let mut found = Recorder::new(alloc);
-    store.walk_bindings_in_pat(id, &mut |binding: BindingId| found.meet(binding));
-    Ok(answer.join(found.as_str()?)?)
-}
-
-/// `exprs-in P`
-fn exprs_in(
-    alloc: Global,
-    store: &ExpressionStore,
-    words: &mut Words<'_>,
-    answer: &mut Answer,
-) -> Result<(), Stop> {
-    let id: PatId = words.next_id()?;
-    words.end()?;
-    if !store.has_pat(id) {
-        return Ok(unknown(answer)?);
-    }
-    let mut found = Recorder::new(alloc);
-    store.walk_exprs_in_pat(id, &mut |expr: ExprId| found.meet(expr));
-    Ok(answer.join(found.as_str()?)?)
+    Ok(write_same(&found, &by_walk, answer)?)
 }

@@ -11,123 +11,138 @@ use hir_print_defs::PrintFault;
 use hir_run::RunFault;
 use hir_scope::ScopesFault;
 use hir_store::FinishFault;
+use hir_words::value_of;
 use std::alloc::Global;
 use std::fmt::Display;
 
-/// Writes the text of a fault.
-fn write<F: Display>(alloc: Global, fault: &F, answer: &mut Answer) -> Result<(), Stop> {
+/// The type of a fault.
+#[derive(Clone, Copy)]
+enum Kind {
+    Arena,
+    Finish,
+    Body,
+    Signature,
+    Scopes,
+    Captures,
+    Print,
+    Run,
+    Line,
+    Fill,
+    End,
+    Hir,
+}
+
+const KINDS: [(&str, Kind); 12] = [
+    ("ArenaFault", Kind::Arena),
+    ("FinishFault", Kind::Finish),
+    ("BodyFault", Kind::Body),
+    ("SignatureFault", Kind::Signature),
+    ("ScopesFault", Kind::Scopes),
+    ("CapturesFault", Kind::Captures),
+    ("PrintFault", Kind::Print),
+    ("RunFault", Kind::Run),
+    ("LineFault", Kind::Line),
+    ("FillFault", Kind::Fill),
+    ("EndFailed", Kind::End),
+    ("HirError", Kind::Hir),
+];
+
+const ARENA: [(&str, ArenaFault); 2] = [("Memory", ArenaFault::Memory), ("Full", ArenaFault::Full)];
+
+const FINISH: [(&str, FinishFault); 2] = [
+    ("NoRoots", FinishFault::NoRoots),
+    ("Memory", FinishFault::Memory),
+];
+
+const BODY: [(&str, BodyFault); 4] = [
+    ("NoRoot", BodyFault::NoRoot),
+    ("SelfOutOfRange", BodyFault::SelfOutOfRange),
+    ("RootInParam", BodyFault::RootInParam),
+    ("Memory", BodyFault::Memory),
+];
+
+const SIGNATURE: [(&str, SignatureFault); 3] = [
+    ("IdOutOfRange", SignatureFault::IdOutOfRange),
+    ("NotAPath", SignatureFault::NotAPath),
+    ("Memory", SignatureFault::Memory),
+];
+
+const SCOPES: [(&str, ScopesFault); 3] = [
+    ("Missing", ScopesFault::Missing),
+    ("Full", ScopesFault::Full),
+    ("Memory", ScopesFault::Memory),
+];
+
+const CAPTURES: [(&str, CapturesFault); 2] = [
+    ("NotAClosure", CapturesFault::NotAClosure),
+    ("Memory", CapturesFault::Memory),
+];
+
+const PRINT: [(&str, PrintFault); 1] = [("Memory", PrintFault::Memory)];
+
+const RUN: [(&str, RunFault); 3] = [
+    ("InputFailed", RunFault::InputFailed),
+    ("OutputFailed", RunFault::OutputFailed),
+    ("OutOfMemory", RunFault::OutOfMemory),
+];
+
+const LINE: [(&str, LineFault); 3] = [
+    ("OutOfMemory", LineFault::OutOfMemory),
+    ("InputFailed", LineFault::InputFailed),
+    ("OutputFailed", LineFault::OutputFailed),
+];
+
+const FILL: [(&str, FillFault); 2] = [
+    ("OutOfMemory", FillFault::OutOfMemory),
+    ("InputFailed", FillFault::InputFailed),
+];
+
+/// `EndFailed` is a struct: its only variant is itself.
+const END: [(&str, EndFailed); 1] = [("EndFailed", EndFailed)];
+
+/// Writes the text of the fault of this name.
+fn write<F: Display + Copy>(
+    alloc: Global,
+    faults: &[(&str, F)],
+    name: &[u8],
+    answer: &mut Answer,
+) -> Result<(), Stop> {
+    let Some(fault) = value_of(faults, name) else {
+        return Err(Stop::Bad);
+    };
     Ok(answer.word(format!(in alloc; "{fault}")?.as_str())?)
 }
 
-fn arena_fault(alloc: Global, variant: &[u8], answer: &mut Answer) -> Result<(), Stop> {
-    match variant {
-        b"Memory" => write(alloc, &ArenaFault::Memory, answer),
-        b"Full" => write(alloc, &ArenaFault::Full, answer),
-        _ => Err(Stop::Bad),
-    }
+/// The same of an error that holds the first fault of its kind that has no parts; what is missing is the name of crate 0.
+fn write_error(alloc: Global, name: &[u8], answer: &mut Answer) -> Result<(), Stop> {
+    let errors = [
+        ("Arena", HirError::from(ArenaFault::Memory)),
+        ("Store", HirError::from(FinishFault::NoRoots)),
+        ("Body", HirError::from(BodyFault::NoRoot)),
+        ("Signature", HirError::from(SignatureFault::IdOutOfRange)),
+        ("Missing", HirError::from(Missing::Crate(Id::from_raw(0)))),
+        ("Scopes", HirError::from(ScopesFault::Missing)),
+        ("Print", HirError::from(PrintFault::Memory)),
+        ("Captures", HirError::from(CapturesFault::NotAClosure)),
+    ];
+    write(alloc, &errors, name, answer)
 }
 
-fn finish_fault(alloc: Global, variant: &[u8], answer: &mut Answer) -> Result<(), Stop> {
-    match variant {
-        b"NoRoots" => write(alloc, &FinishFault::NoRoots, answer),
-        b"Memory" => write(alloc, &FinishFault::Memory, answer),
-        _ => Err(Stop::Bad),
-    }
-}
-
-fn body_fault(alloc: Global, variant: &[u8], answer: &mut Answer) -> Result<(), Stop> {
-    match variant {
-        b"NoRoot" => write(alloc, &BodyFault::NoRoot, answer),
-        b"SelfOutOfRange" => write(alloc, &BodyFault::SelfOutOfRange, answer),
-        b"RootInParam" => write(alloc, &BodyFault::RootInParam, answer),
-        b"Memory" => write(alloc, &BodyFault::Memory, answer),
-        _ => Err(Stop::Bad),
-    }
-}
-
-fn signature_fault(alloc: Global, variant: &[u8], answer: &mut Answer) -> Result<(), Stop> {
-    match variant {
-        b"IdOutOfRange" => write(alloc, &SignatureFault::IdOutOfRange, answer),
-        b"NotAPath" => write(alloc, &SignatureFault::NotAPath, answer),
-        b"Memory" => write(alloc, &SignatureFault::Memory, answer),
-        _ => Err(Stop::Bad),
-    }
-}
-
-fn scopes_fault(alloc: Global, variant: &[u8], answer: &mut Answer) -> Result<(), Stop> {
-    match variant {
-        b"Missing" => write(alloc, &ScopesFault::Missing, answer),
-        b"Full" => write(alloc, &ScopesFault::Full, answer),
-        b"Memory" => write(alloc, &ScopesFault::Memory, answer),
-        _ => Err(Stop::Bad),
-    }
-}
-
-fn captures_fault(alloc: Global, variant: &[u8], answer: &mut Answer) -> Result<(), Stop> {
-    match variant {
-        b"NotAClosure" => write(alloc, &CapturesFault::NotAClosure, answer),
-        b"Memory" => write(alloc, &CapturesFault::Memory, answer),
-        _ => Err(Stop::Bad),
-    }
-}
-
-fn print_fault(alloc: Global, variant: &[u8], answer: &mut Answer) -> Result<(), Stop> {
-    match variant {
-        b"Memory" => write(alloc, &PrintFault::Memory, answer),
-        _ => Err(Stop::Bad),
-    }
-}
-
-fn run_fault(alloc: Global, variant: &[u8], answer: &mut Answer) -> Result<(), Stop> {
-    match variant {
-        b"InputFailed" => write(alloc, &RunFault::InputFailed, answer),
-        b"OutputFailed" => write(alloc, &RunFault::OutputFailed, answer),
-        b"OutOfMemory" => write(alloc, &RunFault::OutOfMemory, answer),
-        _ => Err(Stop::Bad),
-    }
-}
-
-fn line_fault(alloc: Global, variant: &[u8], answer: &mut Answer) -> Result<(), Stop> {
-    match variant {
-        b"OutOfMemory" => write(alloc, &LineFault::OutOfMemory, answer),
-        b"InputFailed" => write(alloc, &LineFault::InputFailed, answer),
-        b"OutputFailed" => write(alloc, &LineFault::OutputFailed, answer),
-        _ => Err(Stop::Bad),
-    }
-}
-
-fn fill_fault(alloc: Global, variant: &[u8], answer: &mut Answer) -> Result<(), Stop> {
-    match variant {
-        b"OutOfMemory" => write(alloc, &FillFault::OutOfMemory, answer),
-        b"InputFailed" => write(alloc, &FillFault::InputFailed, answer),
-        _ => Err(Stop::Bad),
-    }
-}
-
-/// `EndFailed` is a struct: its only variant is itself.
-fn end_failed(alloc: Global, variant: &[u8], answer: &mut Answer) -> Result<(), Stop> {
-    match variant {
-        b"EndFailed" => write(alloc, &EndFailed, answer),
-        _ => Err(Stop::Bad),
-    }
-}
-
-/// Of the error of this variant, which holds the first fault of its kind that has no parts; what is missing is the name of crate 0.
-fn hir_error(alloc: Global, variant: &[u8], answer: &mut Answer) -> Result<(), Stop> {
-    match variant {
-        b"Arena" => write(alloc, &HirError::from(ArenaFault::Memory), answer),
-        b"Store" => write(alloc, &HirError::from(FinishFault::NoRoots), answer),
-        b"Body" => write(alloc, &HirError::from(BodyFault::NoRoot), answer),
-        b"Signature" => write(alloc, &HirError::from(SignatureFault::IdOutOfRange), answer),
-        b"Missing" => write(
-            alloc,
-            &HirError::from(Missing::Crate(Id::from_raw(0))),
-            answer,
-        ),
-        b"Scopes" => write(alloc, &HirError::from(ScopesFault::Missing), answer),
-        b"Print" => write(alloc, &HirError::from(PrintFault::Memory), answer),
-        b"Captures" => write(alloc, &HirError::from(CapturesFault::NotAClosure), answer),
-        _ => Err(Stop::Bad),
+/// Writes the text of the fault of this type and name.
+fn write_fault(alloc: Global, kind: Kind, name: &[u8], answer: &mut Answer) -> Result<(), Stop> {
+    match kind {
+        Kind::Arena => write(alloc, &ARENA, name, answer),
+        Kind::Finish => write(alloc, &FINISH, name, answer),
+        Kind::Body => write(alloc, &BODY, name, answer),
+        Kind::Signature => write(alloc, &SIGNATURE, name, answer),
+        Kind::Scopes => write(alloc, &SCOPES, name, answer),
+        Kind::Captures => write(alloc, &CAPTURES, name, answer),
+        Kind::Print => write(alloc, &PRINT, name, answer),
+        Kind::Run => write(alloc, &RUN, name, answer),
+        Kind::Line => write(alloc, &LINE, name, answer),
+        Kind::Fill => write(alloc, &FILL, name, answer),
+        Kind::End => write(alloc, &END, name, answer),
+        Kind::Hir => write_error(alloc, name, answer),
     }
 }
 
@@ -141,23 +156,11 @@ pub(crate) fn ask(
     if word != b"fault".as_slice() {
         return Ok(false);
     }
-    let kind = words.next_keyword()?;
-    let variant = words.next_keyword()?;
+    let Some(kind) = value_of(&KINDS, words.next_keyword()?) else {
+        return Err(Stop::Bad);
+    };
+    let name = words.next_keyword()?;
     words.end()?;
-    match kind {
-        b"ArenaFault" => arena_fault(alloc, variant, answer)?,
-        b"FinishFault" => finish_fault(alloc, variant, answer)?,
-        b"BodyFault" => body_fault(alloc, variant, answer)?,
-        b"SignatureFault" => signature_fault(alloc, variant, answer)?,
-        b"ScopesFault" => scopes_fault(alloc, variant, answer)?,
-        b"CapturesFault" => captures_fault(alloc, variant, answer)?,
-        b"PrintFault" => print_fault(alloc, variant, answer)?,
-        b"RunFault" => run_fault(alloc, variant, answer)?,
-        b"LineFault" => line_fault(alloc, variant, answer)?,
-        b"FillFault" => fill_fault(alloc, variant, answer)?,
-        b"EndFailed" => end_failed(alloc, variant, answer)?,
-        b"HirError" => hir_error(alloc, variant, answer)?,
-        _ => return Err(Stop::Bad),
-    }
+    write_fault(alloc, kind, name, answer)?;
     Ok(true)
 }

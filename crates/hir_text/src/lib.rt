@@ -3,7 +3,9 @@
 
 mod answers;
 mod faults;
+mod nodes;
 mod program;
+mod questions;
 mod scopes;
 mod session;
 mod texts;

@@ -138,9 +138,10 @@ impl Sink for Kept {
 pub(crate) fn line(
     alloc: Global,
     input: &mut Vec<u8>,
+    word: &[u8],
     words: &mut Words<'_>,
 ) -> Result<bool, Stop> {
-    if !words.eat(b">") {
+    if !word.is_empty() || !words.eat(b">") {
         return Ok(false);
     }
     if words.is_at(b"\"") {

@@ -6,16 +6,39 @@ use hir_base::{ExpressionStoreOwnerId, HygieneId, Name, Steps, SyntaxContext};
 use hir_captures::{CapturesFault, captures};
 use hir_defs::{Body, Tables};
 use hir_defs_text::asked_body;
-use hir_node::ExprId;
+use hir_node::{BindingId, ExprId};
 use hir_notation::{Answer, Stop, Words, opt_hygiene};
 use hir_scope::{ExprScopes, ScopeEntry, ScopeId, ScopesFault};
 use hir_store::ExpressionStore;
 use hir_store_text::{differs, refuse, unknown};
+use hir_words::value_of;
 use std::alloc::{AllocError, Global};
 
-/// What is asked of scopes.
+/// What the first word of a question asks of scopes and captures.
+#[derive(Clone, Copy)]
+enum Kind {
+    Chain,
+    Frames,
+    Counts,
+    Scoped,
+    Resolve,
+    Captures,
+    Counted,
+}
+
+const KINDS: [(&str, Kind); 7] = [
+    ("chain", Kind::Chain),
+    ("frames", Kind::Frames),
+    ("scope-counts", Kind::Counts),
+    ("scoped", Kind::Scoped),
+    ("resolve", Kind::Resolve),
+    ("captures", Kind::Captures),
+    ("counted-scopes", Kind::Counted),
+];
+
+/// What is asked of scopes that are made once.
 #[derive(Drop)]
-enum Question {
+enum OfScopes {
     Chain(ExprId),
     Frames(ExprId),
     Counts,
@@ -23,21 +46,41 @@ enum Question {
     Resolve(ExprId, Name, HygieneId),
 }
 
-/// A question on scopes that are made once, where the line is one.
-fn read(alloc: Global, word: &[u8], words: &mut Words<'_>) -> Result<Option<Question>, Stop> {
-    let question = match word {
-        b"chain" => Question::Chain(words.next_id()?),
-        b"frames" => Question::Frames(words.next_id()?),
-        b"scope-counts" => Question::Counts,
-        b"scoped" => Question::Scoped,
-        b"resolve" => {
-            let expr = words.next_id()?;
-            let name = words.next_name(alloc)?;
-            let hygiene = opt_hygiene(words)?;
-            Question::Resolve(expr, name, hygiene)
-        }
-        _ => return Ok(None),
+/// What is asked of scopes and captures.
+#[derive(Drop)]
+enum Question {
+    Scopes(OfScopes),
+    Captures(ExprId),
+    Counted,
+}
+
+/// What stands behind the word `resolve`.
+fn read_resolve(alloc: Global, words: &mut Words<'_>) -> Result<OfScopes, Stop> {
+    let expr = words.next_id()?;
+    let name = words.next_name(alloc)?;
+    let hygiene = opt_hygiene(words)?;
+    Ok(OfScopes::Resolve(expr, name, hygiene))
+}
+
+/// What stands behind the first word.
+fn read(alloc: Global, kind: Kind, words: &mut Words<'_>) -> Result<Question, Stop> {
+    match kind {
+        Kind::Chain => Ok(Question::Scopes(OfScopes::Chain(words.next_id()?))),
+        Kind::Frames => Ok(Question::Scopes(OfScopes::Frames(words.next_id()?))),
+        Kind::Counts => Ok(Question::Scopes(OfScopes::Counts)),
+        Kind::Scoped => Ok(Question::Scopes(OfScopes::Scoped)),
+        Kind::Resolve => Ok(Question::Scopes(read_resolve(alloc, words)?)),
+        Kind::Captures => Ok(Question::Captures(words.next_id()?)),
+        Kind::Counted => Ok(Question::Counted),
+    }
+}
+
+/// The question of a line, where it is such a question.
+fn read_line(alloc: Global, word: &[u8], words: &mut Words<'_>) -> Result<Option<Question>, Stop> {
+    let Some(kind) = value_of(&KINDS, word) else {
+        return Ok(None);
     };
+    let question = read(alloc, kind, words)?;
     words.end()?;
     Ok(Some(question))
 }
@@ -204,45 +247,25 @@ fn write_meaning(
     }
 }
 
+/// Writes the expressions that have a scope.
+fn write_scoped(scopes: &ExprScopes, answer: &mut Answer) -> Result<(), AllocError> {
+    for (expr, _) in scopes.scope_by_expr().iter() {
+        answer.id(expr)?;
+    }
+    Ok(())
+}
+
 /// Writes what is asked of the scopes.
-fn write(question: &Question, scopes: &ExprScopes, answer: &mut Answer) -> Result<(), AllocError> {
+fn write(question: &OfScopes, scopes: &ExprScopes, answer: &mut Answer) -> Result<(), AllocError> {
     match question {
-        Question::Chain(expr) => write_chain(scopes, *expr, answer),
-        Question::Frames(expr) => write_frames(scopes, *expr, answer),
-        Question::Counts => write_counts(scopes, answer),
-        Question::Scoped => {
-            for (expr, _) in scopes.scope_by_expr().iter() {
-                answer.id(expr)?;
-            }
-            Ok(())
-        }
-        Question::Resolve(expr, name, hygiene) => {
+        OfScopes::Chain(expr) => write_chain(scopes, *expr, answer),
+        OfScopes::Frames(expr) => write_frames(scopes, *expr, answer),
+        OfScopes::Counts => write_counts(scopes, answer),
+        OfScopes::Scoped => write_scoped(scopes, answer),
+        OfScopes::Resolve(expr, name, hygiene) => {
             write_meaning(scopes, *expr, name, *hygiene, answer)
         }
     }
-}
-
-/// `counted-scopes`: compares the scopes of a body with those that are counted.
-fn ask_counted(
-    alloc: Global,
-    tables: &Tables,
-    owner: Option<ExpressionStoreOwnerId>,
-    words: &mut Words<'_>,
-    answer: &mut Answer,
-) -> Result<(), Stop> {
-    words.end()?;
-    let Some(body) = asked_body(tables, owner) else {
-        return Ok(unknown(answer)?);
-    };
-    let mut steps = Steps::new();
-    let counted = ExprScopes::new_body_counted(alloc, body, &mut steps);
-    let Some(counted) = opened(alloc, counted, answer)? else {
-        return Ok(());
-    };
-    if are_same(alloc, ExprScopes::new_body(alloc, body), &counted, answer)? {
-        write_counts(&counted, answer)?;
-    }
-    Ok(())
 }
 
 /// An owner that is lent to the call for whatever converts into one: at an owner itself the prover's borrow checker can't build the
@@ -298,111 +321,119 @@ fn ask_looked_up(
     Ok(())
 }
 
-/// The same for the scopes of this owner's store.
-fn ask_of_owner(
-    alloc: Global,
-    tables: &Tables,
-    store: &ExpressionStore,
-    owner: &ExpressionStoreOwnerId,
-    answer: &mut Answer,
-) -> Result<(), Stop> {
-    let scopes = made(alloc, store, asked_body(tables, Some(*owner)));
-    match opened(alloc, scopes, answer)? {
-        Some(scopes) => ask_looked_up(alloc, tables, owner, &scopes, answer),
-        None => Ok(()),
-    }
-}
-
-/// `scopes-by-tables`: the same, where the store has an owner.
+/// `scopes-by-tables`: the same for the scopes of the store that is asked, where it has an owner.
 fn ask_by_tables(
     alloc: Global,
     tables: &Tables,
     store: &ExpressionStore,
     owner: Option<ExpressionStoreOwnerId>,
-    words: &mut Words<'_>,
     answer: &mut Answer,
 ) -> Result<(), Stop> {
-    words.end()?;
-    match &owner {
-        Some(owner) => ask_of_owner(alloc, tables, store, owner, answer),
-        None => Ok(unknown(answer)?),
+    let Some(owner) = owner else {
+        return Ok(unknown(answer)?);
+    };
+    let scopes = made(alloc, store, asked_body(tables, Some(owner)));
+    match opened(alloc, scopes, answer)? {
+        Some(scopes) => ask_looked_up(alloc, tables, &owner, &scopes, answer),
+        None => Ok(()),
     }
 }
 
-/// Writes the bindings that an expression of a body captures.
+/// Answers a question on scopes that are looked up in the tables; answers whether it is such a question.
+pub(crate) fn ask_of_tables(
+    alloc: Global,
+    tables: &Tables,
+    store: &ExpressionStore,
+    owner: Option<ExpressionStoreOwnerId>,
+    word: &[u8],
+    words: &mut Words<'_>,
+    answer: &mut Answer,
+) -> Result<bool, Stop> {
+    if word != b"scopes-by-tables".as_slice() {
+        return Ok(false);
+    }
+    words.end()?;
+    ask_by_tables(alloc, tables, store, owner, answer)?;
+    Ok(true)
+}
+
+/// `counted-scopes`: compares the scopes of a body with those that are counted.
+fn ask_counted(alloc: Global, body: &Body, answer: &mut Answer) -> Result<(), Stop> {
+    let mut steps = Steps::new();
+    let counted = ExprScopes::new_body_counted(alloc, body, &mut steps);
+    let Some(counted) = opened(alloc, counted, answer)? else {
+        return Ok(());
+    };
+    if are_same(alloc, ExprScopes::new_body(alloc, body), &counted, answer)? {
+        write_counts(&counted, answer)?;
+    }
+    Ok(())
+}
+
+/// Writes the bindings that were found to be captured.
 fn write_captures(
     alloc: Global,
-    body: &Body,
-    closure: ExprId,
+    found: Result<Vec<BindingId>, CapturesFault>,
     answer: &mut Answer,
 ) -> Result<(), Stop> {
-    let scopes = match ExprScopes::new_body(alloc, body) {
-        Ok(scopes) => scopes,
-        Err(fault) => return refuse_scopes(alloc, fault, answer),
-    };
-    match captures(alloc, body, &scopes, closure) {
+    match found {
         Ok(bindings) => {
             for binding in bindings.as_slice() {
                 answer.id(*binding)?;
             }
+            Ok(())
         }
-        Err(CapturesFault::Memory) => return Err(Stop::Memory),
-        Err(CapturesFault::NotAClosure) => refuse(alloc, &CapturesFault::NotAClosure, answer)?,
+        Err(CapturesFault::Memory) => Err(Stop::Memory),
+        Err(CapturesFault::NotAClosure) => {
+            Ok(refuse(alloc, &CapturesFault::NotAClosure, answer)?)
+        }
     }
-    Ok(())
 }
 
 /// `captures E`
 fn ask_captures(
     alloc: Global,
-    tables: &Tables,
-    owner: Option<ExpressionStoreOwnerId>,
-    words: &mut Words<'_>,
+    body: &Body,
+    closure: ExprId,
     answer: &mut Answer,
 ) -> Result<(), Stop> {
-    let closure = words.next_id()?;
-    words.end()?;
-    match asked_body(tables, owner) {
-        Some(body) => write_captures(alloc, body, closure, answer),
-        None => Ok(unknown(answer)?),
+    match ExprScopes::new_body(alloc, body) {
+        Ok(scopes) => write_captures(alloc, captures(alloc, body, &scopes, closure), answer),
+        Err(fault) => refuse_scopes(alloc, fault, answer),
     }
 }
 
-/// Answers a question on scopes that are made once; answers whether it is such a question.
+/// Answers what is asked of scopes that are made once.
 fn ask_scopes(
     alloc: Global,
-    tables: &Tables,
     store: &ExpressionStore,
-    owner: Option<ExpressionStoreOwnerId>,
-    word: &[u8],
-    words: &mut Words<'_>,
+    body: Option<&Body>,
+    question: &OfScopes,
     answer: &mut Answer,
-) -> Result<bool, Stop> {
-    let Some(question) = read(alloc, word, words)? else {
-        return Ok(false);
-    };
-    let scopes = made(alloc, store, asked_body(tables, owner));
-    if let Some(scopes) = opened(alloc, scopes, answer)? {
-        write(&question, &scopes, answer)?;
+) -> Result<(), Stop> {
+    match opened(alloc, made(alloc, store, body), answer)? {
+        Some(scopes) => Ok(write(question, &scopes, answer)?),
+        None => Ok(()),
     }
-    Ok(true)
 }
 
 /// Answers a question on scopes or captures; answers whether it is such a question.
 pub(crate) fn ask(
     alloc: Global,
-    tables: &Tables,
     store: &ExpressionStore,
-    owner: Option<ExpressionStoreOwnerId>,
+    body: Option<&Body>,
     word: &[u8],
     words: &mut Words<'_>,
     answer: &mut Answer,
 ) -> Result<bool, Stop> {
-    match word {
-        b"captures" => ask_captures(alloc, tables, owner, words, answer)?,
-        b"counted-scopes" => ask_counted(alloc, tables, owner, words, answer)?,
-        b"scopes-by-tables" => ask_by_tables(alloc, tables, store, owner, words, answer)?,
-        _ => return ask_scopes(alloc, tables, store, owner, word, words, answer),
+    let Some(question) = read_line(alloc, word, words)? else {
+        return Ok(false);
+    };
+    match (question, body) {
+        (Question::Scopes(question), body) => ask_scopes(alloc, store, body, &question, answer)?,
+        (Question::Captures(closure), Some(body)) => ask_captures(alloc, body, closure, answer)?,
+        (Question::Counted, Some(body)) => ask_counted(alloc, body, answer)?,
+        (Question::Captures(_) | Question::Counted, None) => unknown(answer)?,
     }
     Ok(true)
 }

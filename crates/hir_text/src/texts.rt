@@ -1,9 +1,12 @@
 //! Questions on texts: what expressions, patterns, paths, bodies, fields and signatures are printed as.
 
-use hir_base::{DefWithBodyId, Edition, ExpressionStoreOwnerId, FunctionId, Id};
+use hir_base::{
+    DefWithBodyId, Edition, ExpressionStoreOwnerId, FunctionId, GenericDefId, Id, StructId,
+    VariantId,
+};
 use hir_defs::{Body, Tables};
 use hir_defs_text::asked_def;
-use hir_node::{ExprId, PatId};
+use hir_node::{ExprId, PatId, Path};
 use hir_notation::{
     Answer, Stop, Words, as_def_with_body, as_generic, as_variant, next_def, next_path,
     opt_edition, read_def,
@@ -14,6 +17,7 @@ use hir_print_defs::{
 };
 use hir_store::ExpressionStore;
 use hir_store_text::{refuse_missing, unknown};
+use hir_words::value_of;
 use std::alloc::Global;
 
 /// The owner of a store; function 0 where it has none.
@@ -33,61 +37,89 @@ fn write_printed(printed: Result<String, PrintFault>, answer: &mut Answer) -> Re
     }
 }
 
-fn ask_expr(
+/// The same where what is printed is there.
+fn write_opt_printed(
+    printed: Option<Result<String, PrintFault>>,
+    answer: &mut Answer,
+) -> Result<(), Stop> {
+    match printed {
+        Some(printed) => write_printed(printed, answer),
+        None => Ok(unknown(answer)?),
+    }
+}
+
+/// What the first word of a question prints of the store that is asked.
+#[derive(Clone, Copy)]
+enum StoreKind {
+    Expr,
+    Pat,
+    Path,
+}
+
+const STORE_KINDS: [(&str, StoreKind); 3] = [
+    ("print-expr", StoreKind::Expr),
+    ("print-pat", StoreKind::Pat),
+    ("print-path", StoreKind::Path),
+];
+
+/// What is printed of the store that is asked.
+#[derive(Drop)]
+enum OfStore {
+    Expr(ExprId),
+    Pat(PatId, bool),
+    Path(Path),
+}
+
+/// What stands behind the first word.
+fn read_of_store(alloc: Global, kind: StoreKind, words: &mut Words<'_>) -> Result<OfStore, Stop> {
+    match kind {
+        StoreKind::Expr => Ok(OfStore::Expr(words.next_id()?)),
+        StoreKind::Pat => {
+            let pat = words.next_id()?;
+            Ok(OfStore::Pat(pat, words.flag(b"oneline")))
+        }
+        StoreKind::Path => Ok(OfStore::Path(next_path(words, alloc)?)),
+    }
+}
+
+/// Prints what is asked of a store, where it is there.
+fn print_of_store(
     alloc: Global,
     tables: &Tables,
     store: &ExpressionStore,
     owner: ExpressionStoreOwnerId,
-    words: &mut Words<'_>,
-    answer: &mut Answer,
-) -> Result<(), Stop> {
-    let expr = words.next_id()?;
-    let edition = opt_edition(words)?;
-    words.end()?;
-    if !store.has_expr(expr) {
-        return Ok(unknown(answer)?);
+    question: &OfStore,
+    edition: Edition,
+) -> Option<Result<String, PrintFault>> {
+    match question {
+        OfStore::Expr(expr) if store.has_expr(*expr) => {
+            Some(print_expr_hir(alloc, tables, store, owner, *expr, edition))
+        }
+        OfStore::Pat(pat, oneline) if store.has_pat(*pat) => Some(print_pat_hir(
+            alloc, tables, store, owner, *pat, *oneline, edition,
+        )),
+        OfStore::Path(path) if store.path_is_sound(path) => {
+            Some(print_path(alloc, tables, store, path, edition))
+        }
+        OfStore::Expr(_) | OfStore::Pat(..) | OfStore::Path(_) => None,
     }
-    write_printed(
-        print_expr_hir(alloc, tables, store, owner, expr, edition),
-        answer,
-    )
 }
 
-fn ask_pat(
+/// Writes what a question of this kind prints of a store.
+fn ask_store(
     alloc: Global,
     tables: &Tables,
     store: &ExpressionStore,
     owner: ExpressionStoreOwnerId,
+    kind: StoreKind,
     words: &mut Words<'_>,
     answer: &mut Answer,
 ) -> Result<(), Stop> {
-    let pat = words.next_id()?;
-    let oneline = words.flag(b"oneline");
+    let question = read_of_store(alloc, kind, words)?;
     let edition = opt_edition(words)?;
-    words.end()?;
-    if !store.has_pat(pat) {
-        return Ok(unknown(answer)?);
-    }
-    write_printed(
-        print_pat_hir(alloc, tables, store, owner, pat, oneline, edition),
-        answer,
-    )
-}
-
-fn ask_path(
-    alloc: Global,
-    tables: &Tables,
-    store: &ExpressionStore,
-    words: &mut Words<'_>,
-    answer: &mut Answer,
-) -> Result<(), Stop> {
-    let path = next_path(words, alloc)?;
-    let edition = opt_edition(words)?;
-    words.end()?;
-    if !store.path_is_sound(&path) {
-        return Ok(unknown(answer)?);
-    }
-    write_printed(print_path(alloc, tables, store, &path, edition), answer)
+    let printed = print_of_store(alloc, tables, store, owner, &question, edition);
+    write_opt_printed(printed, answer)?;
+    words.end()
 }
 
 /// Answers a question on a text of the store that is asked; answers whether it is such a question.
@@ -100,17 +132,29 @@ pub(crate) fn ask_of_store(
     words: &mut Words<'_>,
     answer: &mut Answer,
 ) -> Result<bool, Stop> {
+    let Some(kind) = value_of(&STORE_KINDS, word) else {
+        return Ok(false);
+    };
     let owner = owner_or_first(owner);
-    match word {
-        b"print-expr" => ask_expr(alloc, tables, store, owner, words, answer)?,
-        b"print-pat" => ask_pat(alloc, tables, store, owner, words, answer)?,
-        b"print-path" => ask_path(alloc, tables, store, words, answer)?,
-        _ => return Ok(false),
-    }
+    ask_store(alloc, tables, store, owner, kind, words, answer)?;
     Ok(true)
 }
 
-/// What is asked of the body that questions ask.
+/// What the first word of a question prints of the body that is asked.
+#[derive(Clone, Copy)]
+enum PrettyKind {
+    Body,
+    Expr,
+    Pat,
+}
+
+const PRETTY_KINDS: [(&str, PrettyKind); 3] = [
+    ("pretty", PrettyKind::Body),
+    ("pretty-expr", PrettyKind::Expr),
+    ("pretty-pat", PrettyKind::Pat),
+];
+
+/// What is printed of the body that is asked.
 #[derive(Clone, Copy)]
 enum Pretty {
     Body(DefWithBodyId),
@@ -118,69 +162,76 @@ enum Pretty {
     Pat(PatId, bool),
 }
 
-/// A question on the body, where the line is one, and the edition.
-fn read_pretty(word: &[u8], words: &mut Words<'_>) -> Result<Option<(Pretty, Edition)>, Stop> {
-    let question = match word {
-        b"pretty" => Pretty::Body(as_def_with_body(next_def(words)?)?),
-        b"pretty-expr" => Pretty::Expr(words.next_id()?),
-        b"pretty-pat" => {
+/// What stands behind the first word.
+fn read_pretty(kind: PrettyKind, words: &mut Words<'_>) -> Result<Pretty, Stop> {
+    match kind {
+        PrettyKind::Body => Ok(Pretty::Body(as_def_with_body(next_def(words)?)?)),
+        PrettyKind::Expr => Ok(Pretty::Expr(words.next_id()?)),
+        PrettyKind::Pat => {
             let pat = words.next_id()?;
-            Pretty::Pat(pat, words.flag(b"oneline"))
+            Ok(Pretty::Pat(pat, words.flag(b"oneline")))
         }
-        _ => return Ok(None),
+    }
+}
+
+/// A question on the body, where the line is one, and the edition.
+fn read_pretty_line(word: &[u8], words: &mut Words<'_>) -> Result<Option<(Pretty, Edition)>, Stop> {
+    let Some(kind) = value_of(&PRETTY_KINDS, word) else {
+        return Ok(None);
     };
+    let question = read_pretty(kind, words)?;
     let edition = opt_edition(words)?;
     words.end()?;
     Ok(Some((question, edition)))
 }
 
-fn write_pretty(
+/// Prints what is asked of a body, where it is there.
+fn print_of_body(
     alloc: Global,
     tables: &Tables,
     def: DefWithBodyId,
     body: &Body,
     question: Pretty,
     edition: Edition,
-    answer: &mut Answer,
-) -> Result<(), Stop> {
+) -> Option<Result<String, PrintFault>> {
     match question {
-        Pretty::Body(owner) => {
-            write_printed(body.pretty_print(alloc, tables, owner, edition), answer)
+        Pretty::Body(owner) => Some(body.pretty_print(alloc, tables, owner, edition)),
+        Pretty::Expr(expr) if body.store().has_expr(expr) => {
+            Some(body.pretty_print_expr(alloc, tables, def, expr, edition))
         }
-        Pretty::Expr(expr) => {
-            if !body.store().has_expr(expr) {
-                return Ok(unknown(answer)?);
-            }
-            write_printed(
-                body.pretty_print_expr(alloc, tables, def, expr, edition),
-                answer,
-            )
-        }
-        Pretty::Pat(pat, oneline) => {
-            if !body.store().has_pat(pat) {
-                return Ok(unknown(answer)?);
-            }
+        Pretty::Pat(pat, oneline) if body.store().has_pat(pat) => {
             let owner = ExpressionStoreOwnerId::Body(def);
-            write_printed(
-                body.pretty_print_pat(alloc, tables, owner, pat, oneline, edition),
-                answer,
-            )
+            Some(body.pretty_print_pat(alloc, tables, owner, pat, oneline, edition))
         }
+        Pretty::Expr(_) | Pretty::Pat(..) => None,
     }
 }
 
-/// Answers a question on a text of the body of this definition.
-fn ask_pretty(
+/// Prints what is asked of the body of this definition, where it is there.
+fn print_of_def(
     alloc: Global,
     tables: &Tables,
     def: DefWithBodyId,
     question: Pretty,
     edition: Edition,
-    answer: &mut Answer,
-) -> Result<(), Stop> {
+) -> Option<Result<String, PrintFault>> {
     match Body::of(tables, def) {
-        Ok(body) => write_pretty(alloc, tables, def, body, question, edition, answer),
-        Err(missing) => Ok(refuse_missing(missing, answer)?),
+        Ok(body) => print_of_body(alloc, tables, def, body, question, edition),
+        Err(missing) => Some(Err(PrintFault::Missing(missing))),
+    }
+}
+
+/// The same of the body that is asked.
+fn print_asked(
+    alloc: Global,
+    tables: &Tables,
+    owner: Option<ExpressionStoreOwnerId>,
+    question: Pretty,
+    edition: Edition,
+) -> Option<Result<String, PrintFault>> {
+    match asked_def(owner) {
+        Some(def) => print_of_def(alloc, tables, def, question, edition),
+        None => None,
     }
 }
 
@@ -193,13 +244,10 @@ pub(crate) fn ask_of_body(
     words: &mut Words<'_>,
     answer: &mut Answer,
 ) -> Result<bool, Stop> {
-    let Some((question, edition)) = read_pretty(word, words)? else {
+    let Some((question, edition)) = read_pretty_line(word, words)? else {
         return Ok(false);
     };
-    match asked_def(owner) {
-        Some(def) => ask_pretty(alloc, tables, def, question, edition, answer)?,
-        None => unknown(answer)?,
-    }
+    write_opt_printed(print_asked(alloc, tables, owner, question, edition), answer)?;
     Ok(true)
 }
 
@@ -219,84 +267,90 @@ fn opt_as_def(def: DefWithBodyId, words: &mut Words<'_>) -> Result<DefWithBodyId
     Ok(def)
 }
 
-fn ask_body(
-    alloc: Global,
-    tables: &Tables,
-    words: &mut Words<'_>,
-    answer: &mut Answer,
-) -> Result<(), Stop> {
-    let def = as_def_with_body(next_def(words)?)?;
-    let owner = opt_as_def(def, words)?;
-    let edition = opt_edition(words)?;
-    words.end()?;
-    match Body::of(tables, def) {
-        Ok(body) => write_printed(print_body_hir(alloc, tables, body, owner, edition), answer),
-        Err(missing) => Ok(refuse_missing(missing, answer)?),
+/// What the first word of a question prints of the tables.
+#[derive(Clone, Copy)]
+enum TablesKind {
+    Body,
+    Variant,
+    Signature,
+    Struct,
+    Function,
+}
+
+const TABLES_KINDS: [(&str, TablesKind); 5] = [
+    ("print-body", TablesKind::Body),
+    ("print-variant", TablesKind::Variant),
+    ("print-signature", TablesKind::Signature),
+    ("print-struct", TablesKind::Struct),
+    ("print-function", TablesKind::Function),
+];
+
+/// What is printed of the tables; of what has an owner besides, with it.
+#[derive(Clone, Copy)]
+enum OfTables {
+    Body(DefWithBodyId, DefWithBodyId),
+    Variant(VariantId),
+    Signature(GenericDefId),
+    Struct(StructId, StructId),
+    Function(FunctionId, FunctionId),
+}
+
+/// What stands behind the first word.
+fn read_of_tables(kind: TablesKind, words: &mut Words<'_>) -> Result<OfTables, Stop> {
+    match kind {
+        TablesKind::Body => {
+            let def = as_def_with_body(next_def(words)?)?;
+            Ok(OfTables::Body(def, opt_as_def(def, words)?))
+        }
+        TablesKind::Variant => Ok(OfTables::Variant(as_variant(next_def(words)?)?)),
+        TablesKind::Signature => Ok(OfTables::Signature(as_generic(next_def(words)?)?)),
+        TablesKind::Struct => {
+            let id = words.next_def()?;
+            Ok(OfTables::Struct(id, opt_as(id, words)?))
+        }
+        TablesKind::Function => {
+            let id = words.next_def()?;
+            Ok(OfTables::Function(id, opt_as(id, words)?))
+        }
     }
 }
 
-fn ask_variant(
-    alloc: Global,
-    tables: &Tables,
+/// A question on the tables, where the line is one, and the edition.
+fn read_tables_line(
+    word: &[u8],
     words: &mut Words<'_>,
-    answer: &mut Answer,
-) -> Result<(), Stop> {
-    let variant = as_variant(next_def(words)?)?;
+) -> Result<Option<(OfTables, Edition)>, Stop> {
+    let Some(kind) = value_of(&TABLES_KINDS, word) else {
+        return Ok(None);
+    };
+    let question = read_of_tables(kind, words)?;
     let edition = opt_edition(words)?;
     words.end()?;
-    write_printed(
-        print_variant_body_hir(alloc, tables, variant, edition),
-        answer,
-    )
+    Ok(Some((question, edition)))
 }
 
-fn ask_signature(
+/// Prints what is asked of the tables.
+fn print_of_tables(
     alloc: Global,
     tables: &Tables,
-    words: &mut Words<'_>,
-    answer: &mut Answer,
-) -> Result<(), Stop> {
-    let def = as_generic(next_def(words)?)?;
-    let edition = opt_edition(words)?;
-    words.end()?;
-    write_printed(print_signature(alloc, tables, def, edition), answer)
-}
-
-fn ask_struct(
-    alloc: Global,
-    tables: &Tables,
-    words: &mut Words<'_>,
-    answer: &mut Answer,
-) -> Result<(), Stop> {
-    let id = words.next_def()?;
-    let owner = opt_as(id, words)?;
-    let edition = opt_edition(words)?;
-    words.end()?;
-    match tables.struct_signature(id) {
-        Ok(signature) => write_printed(
-            print_struct(alloc, tables, owner, signature, edition),
-            answer,
-        ),
-        Err(missing) => Ok(refuse_missing(missing, answer)?),
-    }
-}
-
-fn ask_function(
-    alloc: Global,
-    tables: &Tables,
-    words: &mut Words<'_>,
-    answer: &mut Answer,
-) -> Result<(), Stop> {
-    let id = words.next_def()?;
-    let owner = opt_as(id, words)?;
-    let edition = opt_edition(words)?;
-    words.end()?;
-    match tables.function_signature(id) {
-        Ok(signature) => write_printed(
-            print_function(alloc, tables, owner, signature, edition),
-            answer,
-        ),
-        Err(missing) => Ok(refuse_missing(missing, answer)?),
+    question: OfTables,
+    edition: Edition,
+) -> Result<String, PrintFault> {
+    match question {
+        OfTables::Body(def, owner) => match Body::of(tables, def) {
+            Ok(body) => print_body_hir(alloc, tables, body, owner, edition),
+            Err(missing) => Err(PrintFault::Missing(missing)),
+        },
+        OfTables::Variant(id) => print_variant_body_hir(alloc, tables, id, edition),
+        OfTables::Signature(def) => print_signature(alloc, tables, def, edition),
+        OfTables::Struct(id, owner) => match tables.struct_signature(id) {
+            Ok(signature) => print_struct(alloc, tables, owner, signature, edition),
+            Err(missing) => Err(PrintFault::Missing(missing)),
+        },
+        OfTables::Function(id, owner) => match tables.function_signature(id) {
+            Ok(signature) => print_function(alloc, tables, owner, signature, edition),
+            Err(missing) => Err(PrintFault::Missing(missing)),
+        },
     }
 }
 
@@ -308,13 +362,9 @@ pub(crate) fn ask_of_tables(
     words: &mut Words<'_>,
     answer: &mut Answer,
 ) -> Result<bool, Stop> {
-    match word {
-        b"print-body" => ask_body(alloc, tables, words, answer)?,
-        b"print-variant" => ask_variant(alloc, tables, words, answer)?,
-        b"print-signature" => ask_signature(alloc, tables, words, answer)?,
-        b"print-struct" => ask_struct(alloc, tables, words, answer)?,
-        b"print-function" => ask_function(alloc, tables, words, answer)?,
-        _ => return Ok(false),
-    }
+    let Some((question, edition)) = read_tables_line(word, words)? else {
+        return Ok(false);
+    };
+    write_printed(print_of_tables(alloc, tables, question, edition), answer)?;
     Ok(true)
 }

@@ -1,0 +1,113 @@
+//! The nodes that lines have made so far, and the store that questions ask.
+
+use hir_defs_text::{Finished, Subject};
+use hir_notation::{Answer, Stop, Words};
+use hir_store::{ExpressionStoreBuilder, FinishFault};
+use hir_store_text::{refuse, unknown};
+use std::alloc::{AllocError, Global};
+use std::mem;
+
+/// The nodes so far, and the store that questions ask.
+#[derive(Drop)]
+pub(crate) struct Nodes {
+    builder: Box<ExpressionStoreBuilder>,
+    /// Whether the builder is to be finished before a question is asked.
+    has_lines: bool,
+    pub(crate) subject: Subject,
+}
+
+/// A builder without nodes.
+fn empty(alloc: Global) -> Result<Box<ExpressionStoreBuilder>, AllocError> {
+    Ok(Box::new(alloc, ExpressionStoreBuilder::new(alloc))?)
+}
+
+/// Finishes a builder, or gives it back with its fault.
+fn finish(
+    alloc: Global,
+    builder: Box<ExpressionStoreBuilder>,
+) -> Result<Result<Finished, (FinishFault, Box<ExpressionStoreBuilder>)>, AllocError> {
+    match Box::into_inner(builder).finish() {
+        Ok(made) => Ok(Ok(Box::new(alloc, made)?)),
+        Err(refused) => Ok(Err((refused.fault, Box::new(alloc, refused.builder)?))),
+    }
+}
+
+impl Nodes {
+    /// No nodes.
+    pub(crate) fn new(alloc: Global) -> Result<Nodes, AllocError> {
+        Ok(Nodes {
+            builder: empty(alloc)?,
+            has_lines: true,
+            subject: Subject::None,
+        })
+    }
+
+    /// Does what a line says that a builder takes; answers whether it is such a line.
+    pub(crate) fn line(
+        &mut self,
+        alloc: Global,
+        word: &[u8],
+        words: &mut Words<'_>,
+    ) -> Result<bool, Stop> {
+        let is_taken = hir_store_text::make(alloc, &mut self.builder, word, words)?;
+        self.has_lines = self.has_lines || is_taken;
+        Ok(is_taken)
+    }
+
+    /// Makes this store the one that questions ask, until lines make something.
+    pub(crate) fn select(&mut self, subject: Subject) {
+        self.subject = subject;
+        self.has_lines = false;
+    }
+
+    /// Finishes the nodes so far. Where that is refused they stay, and the answer says why.
+    fn finish(&mut self, alloc: Global, answer: &mut Answer) -> Result<Option<Finished>, Stop> {
+        match finish(alloc, mem::replace(&mut self.builder, empty(alloc)?))? {
+            Ok(finished) => {
+                self.has_lines = false;
+                Ok(Some(finished))
+            }
+            Err((FinishFault::Memory, _)) => Err(Stop::Memory),
+            Err((fault, builder)) => {
+                self.builder = builder;
+                refuse(alloc, &fault, answer)?;
+                Ok(None)
+            }
+        }
+    }
+
+    /// Whether there is a store to ask: the nodes are finished, where lines made some since the last time. Where that is refused,
+    /// the answer says why.
+    pub(crate) fn ready(&mut self, alloc: Global, answer: &mut Answer) -> Result<bool, Stop> {
+        if !self.has_lines {
+            return Ok(true);
+        }
+        match self.finish(alloc, answer)? {
+            Some(finished) => {
+                self.subject = Subject::Store(finished);
+                Ok(true)
+            }
+            None => Ok(false),
+        }
+    }
+
+    /// Takes the store for a body, a signature or the fields of a variant: the one that was finished last, or that of the lines
+    /// since then. Where these are refused they stay, and the answer says why; so it does where the store has an owner.
+    pub(crate) fn take_store(
+        &mut self,
+        alloc: Global,
+        answer: &mut Answer,
+    ) -> Result<Option<Finished>, Stop> {
+        if self.has_lines {
+            return self.finish(alloc, answer);
+        }
+        match mem::replace(&mut self.subject, Subject::None) {
+            Subject::Store(finished) => Ok(Some(finished)),
+            other => {
+                self.subject = other;
+                unknown(answer)?;
+                Ok(None)
+            }
+        }
+    }
+}
