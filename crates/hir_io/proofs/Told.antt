@@ -1,30 +1,25 @@
 -- What an end over std's readers and writers tells, across the calls that it makes again.
-use Rattle.std.proofs.Common.{◌≡◌, ℕ, Bool, true, false, cond, List, [], ◌++◌, Option, None, Some, sym, ap, ◌∙◌}
+use Rattle.std.proofs.Common.{◌≡◌, ℕ, Bool, true, false, List, [], ◌++◌, Option, None, Some, sym, ap, ◌∙◌}
 use Rattle.std.specs.Prelude.{Result, Ok, Err}
 use Rattle.std.specs.Io.KnownBytes.{Keeps, Appends, Consumes, IsAtEnd}
 use Rattle.std.specs.declared.io.Error.{Error}
 use Rattle.hir_io.specs.declared.std_end.Attempt.TheVariants.{Done}
-use Rattle.hir_io.specs.StdEnd.{ReadMeans, WriteMeans}
+use Rattle.hir_io.specs.StdEnd.{ReadMeans, WriteMeans, unless_overrun}
 
--- the bytes of an end, which tells none once it has failed
-abbrev pub told : Bool → Option (List ℕ) → Option (List ℕ)
-told failed known = cond failed None known
-
-pub Consumes-told : (failed : Bool) (old mid new : Option (List ℕ)) (bytes : List ℕ) → Keeps old mid → Consumes mid new bytes → Consumes (told failed old) (told failed new) bytes
+pub Consumes-told : (overrun : Bool) (old mid new : Option (List ℕ)) (bytes : List ℕ) → Keeps old mid → Consumes mid new bytes → Consumes (unless_overrun overrun old) (unless_overrun overrun new) bytes
 Consumes-told true old mid new bytes k c = tt
 Consumes-told false None mid new bytes k c = tt
 Consumes-told false (Some xs) None new bytes k c = absurd k
 Consumes-told false (Some xs) (Some ys) None bytes k c = absurd c
 Consumes-told false (Some xs) (Some ys) (Some zs) bytes k c = sym k ∙ c
 
-pub Appends-told : (failed : Bool) (old mid new : Option (List ℕ)) (bytes : List ℕ) → Keeps old mid → Appends mid new bytes → Appends (told failed old) (told failed new) bytes
-Appends-told true old mid new bytes k c = tt
-Appends-told false None mid new bytes k c = tt
-Appends-told false (Some xs) None new bytes k c = absurd k
-Appends-told false (Some xs) (Some ys) None bytes k c = absurd c
-Appends-told false (Some xs) (Some ys) (Some zs) bytes k c = c ∙ ap (λ v. v ++ bytes) k
+pub Appends-behind : (old mid new : Option (List ℕ)) (bytes : List ℕ) → Keeps old mid → Appends mid new bytes → Appends old new bytes
+Appends-behind None mid new bytes k c = tt
+Appends-behind (Some xs) None new bytes k c = absurd k
+Appends-behind (Some xs) (Some ys) None bytes k c = absurd c
+Appends-behind (Some xs) (Some ys) (Some zs) bytes k c = c ∙ ap (λ v. v ++ bytes) k
 
-pub IsAtEnd-told : (failed : Bool) (old mid new : Option (List ℕ)) → Keeps old mid → Consumes mid new [] → IsAtEnd new → IsAtEnd (told failed old)
+pub IsAtEnd-told : (overrun : Bool) (old mid new : Option (List ℕ)) → Keeps old mid → Consumes mid new [] → IsAtEnd new → IsAtEnd (unless_overrun overrun old)
 IsAtEnd-told true old mid new k c e = tt
 IsAtEnd-told false None mid new k c e = tt
 IsAtEnd-told false (Some xs) None new k c e = absurd k

@@ -1,11 +1,11 @@
 -- What calls of a source or a sink do to the bytes that it shows.
 use Rattle.std.specs.Prelude.{◌≡◌, ℕ, List, ◌++◌, Option, None, Some}
-use Rattle.std.specs.Io.KnownBytes.{Appends}
+use Rattle.std.specs.Io.KnownBytes.{Appends, Keeps}
 
 -- what a failed call leaves: the shown bytes as they were, or no longer shown
 abbrev pub IsKeptOrUntold : Option (List ℕ) → Option (List ℕ) → Type 0
 IsKeptOrUntold old None = Unit {0}
-IsKeptOrUntold old (Some bytes) = old ≡ Some bytes
+IsKeptOrUntold old (Some bytes) = Keeps old (Some bytes)
 
 -- the shown bytes grew by a prefix of these bytes, or are no longer shown
 abbrev pub GrowsByFront : Option (List ℕ) → Option (List ℕ) → List ℕ → Type 0

@@ -1,8 +1,9 @@
 //! The readers and writers of the standard library as sources and sinks: which of their answers count as failed, and how often
 //! an interrupted call is retried.
 
-ghost use Rattle.std.specs.Prelude.{◌≡◌, ◌-◌, ◌^◌, false};
-ghost use Rattle.hir_io.specs.StdEnd.{ReadMeans, WriteMeans};
+ghost use Rattle.std.specs.Prelude.{◌≡◌, ◌+◌, ◌-◌, ◌^◌, ◌≤◌, ◌<◌, ◌||◌, false, min, length, take, is_err, IfOk, OnErr};
+ghost use Rattle.std.specs.Io.KnownBytes.{Appends, Consumes, IsAtEnd, Keeps};
+ghost use Rattle.hir_io.specs.StdEnd.{IsKeptWithin, ReadMeans, WriteMeans, unless_overrun};
 
 use crate::ends::{EndFailed, Sink, Source};
 use std::io::{ErrorKind, Read, Result as IoResult, Write};
@@ -17,12 +18,14 @@ pub enum Attempt {
     Done(usize),
     /// The call was interrupted, and can be retried.
     Again,
-    /// The call counts as failed.
+    /// The call counts as failed, and took no byte.
     Failed,
+    /// The call counts as failed, and took more bytes than may be read.
+    Overrun,
 }
 
-/// What the answer of a std read means, if at most `left` bytes may still be read: more of them count as failed, and so does
-/// each error but an interruption.
+/// What the answer of a std read means, if at most `left` bytes may still be read: more of them are an overrun, and each error
+/// but an interruption counts as failed.
 pub fn read_attempt(answer: IoResult<usize>, left: u64) -> Attempt
     ensures { ReadMeans answer left result }
 {
@@ -31,7 +34,7 @@ pub fn read_attempt(answer: IoResult<usize>, left: u64) -> Attempt
             if count as u64 <= left {
                 Attempt::Done(count)
             } else {
-                Attempt::Failed
+                Attempt::Overrun
             }
         }
         Err(error) => {
@@ -70,12 +73,14 @@ pub fn write_attempt(answer: IoResult<usize>, asked: usize) -> Attempt
 /// A reader or a writer of the standard library, as a source or a sink.
 ///
 /// An interrupted call is retried, at most 1,000 times in a row; one interruption more is a failed call. So is a read of more
-/// bytes than the allowance, which is at first the greatest `u64`, and a write that takes none of some bytes. Once a call has
-/// failed, the end no longer shows its bytes, since std doesn't say what an error leaves.
+/// bytes than the allowance, which is at first the greatest `u64`, and a write that takes none of some bytes. A failed call
+/// leaves the bytes as they were, but for a read past the allowance, whose bytes are lost: after it the source no longer shows
+/// what it has left.
 #[derive(Drop)]
 pub struct StdEnd<T> {
     inner: T,
     has_failed: bool,
+    has_overrun: bool,
     allowance: u64,
 }
 
@@ -84,21 +89,24 @@ impl<T> StdEnd<T> {
     pub fn new(inner: T) -> Self
         ensures inner { result.inner ≡ inner }
         ensures has_failed { result.has_failed ≡ false }
+        ensures has_overrun { result.has_overrun ≡ false }
         ensures allowance { result.allowance ≡ 2 ^ 64 - 1 }
     {
         StdEnd {
             inner,
             has_failed: false,
+            has_overrun: false,
             allowance: u64::MAX,
         }
     }
 }
 
 impl<T: Read> Source for StdEnd<T> {
-    ghost use Rattle.std.specs.Prelude.{cond, min, None, ◌-◌, ◌^◌};
+    ghost use Rattle.std.specs.Prelude.{min, ◌-◌, ◌^◌};
     ghost use Rattle.std.proofs.Common.{arith};
+    ghost use Rattle.hir_io.specs.StdEnd.{unless_overrun};
 
-    ghost remaining = { λ s. cond s.has_failed None (T.remaining s.inner) };
+    ghost remaining = { λ s. unless_overrun s.has_overrun (T.remaining s.inner) };
 
     ghost failed = { λ s. s.has_failed };
 
@@ -106,7 +114,20 @@ impl<T: Read> Source for StdEnd<T> {
 
     ghost bounded = { λ s. omega arith };
 
-    fn read(&mut self, buffer: &mut [u8]) -> Result<usize, EndFailed> {
+    fn read(&mut self, buffer: &mut [u8]) -> Result<usize, EndFailed>
+        ensures count { IfOk result (λ n. n ≤ length buffer.new) }
+        ensures bytes { IfOk result
+            (λ n. Consumes (unless_overrun self.old.has_overrun (T.remaining self.old.inner))
+            (unless_overrun self.new.has_overrun (T.remaining self.new.inner)) (take n buffer.new)) }
+        ensures end { result ≡ Ok 0 → 0 < length buffer.new →
+            IsAtEnd (unless_overrun self.old.has_overrun (T.remaining self.old.inner)) }
+        ensures err { OnErr result
+            (IsKeptWithin self.old.allowance (unless_overrun self.old.has_overrun (T.remaining self.old.inner))
+            (unless_overrun self.new.has_overrun (T.remaining self.new.inner))) }
+        ensures failure { self.new.has_failed ≡ (is_err result || self.old.has_failed) }
+        ensures falls { IfOk result
+            (λ n. min self.new.allowance (2 ^ 64 - 1) + n ≤ min self.old.allowance (2 ^ 64 - 1)) }
+    {
         for _ in 0..=RETRIES {
             match read_attempt(self.inner.read(buffer), self.allowance) {
                 Attempt::Done(count) => {
@@ -115,6 +136,10 @@ impl<T: Read> Source for StdEnd<T> {
                 }
                 Attempt::Again => {}
                 Attempt::Failed => break,
+                Attempt::Overrun => {
+                    self.has_overrun = true;
+                    break;
+                }
             }
         }
         self.has_failed = true;
@@ -127,18 +152,23 @@ impl<T: Read> Source for StdEnd<T> {
 }
 
 impl<T: Write> Sink for StdEnd<T> {
-    ghost use Rattle.std.specs.Prelude.{cond, None};
-
-    ghost contents = { λ s. cond s.has_failed None (T.contents s.inner) };
+    ghost contents = { λ s. T.contents s.inner };
 
     ghost failed = { λ s. s.has_failed };
 
-    fn write(&mut self, buffer: &[u8]) -> Result<usize, EndFailed> {
+    fn write(&mut self, buffer: &[u8]) -> Result<usize, EndFailed>
+        ensures count { IfOk result (λ n. n ≤ length buffer.now) }
+        ensures progress { IfOk result (λ n. 0 < length buffer.now → 0 < n) }
+        ensures bytes { IfOk result
+            (λ n. Appends (T.contents self.old.inner) (T.contents self.new.inner) (take n buffer.now)) }
+        ensures err { OnErr result (Keeps (T.contents self.old.inner) (T.contents self.new.inner)) }
+        ensures failure { self.new.has_failed ≡ (is_err result || self.old.has_failed) }
+    {
         for _ in 0..=RETRIES {
             match write_attempt(self.inner.write(buffer), buffer.len()) {
                 Attempt::Done(count) => return Ok(count),
                 Attempt::Again => {}
-                Attempt::Failed => break,
+                Attempt::Failed | Attempt::Overrun => break,
             }
         }
         self.has_failed = true;

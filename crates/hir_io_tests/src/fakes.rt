@@ -1,9 +1,10 @@
-//! Sources and sinks that fail at a chosen call, and a reader and writer of std that is interrupted or fails. They tell no
-//! bytes: a test compares what a run gave.
+//! Sources and sinks that fail at a chosen call, and readers and writers of std that are interrupted or fail. But for those that
+//! break they tell no bytes: a test compares what a run gave.
 
 ghost use Rattle.std.specs.Prelude.{◌≤◌, IfOk};
 
 use hir_io::{EndFailed, Sink, Source};
+use std::alloc::Global;
 use std::io::{Error, ErrorKind, Read, Result as IoResult, Write};
 
 /// Bytes that are read some at a time, but for one call that fails.
@@ -164,6 +165,70 @@ impl Read for Interrupted {
 impl Write for Interrupted {
     fn write(&mut self, buffer: &[u8]) -> IoResult<usize> {
         self.call(buffer.len())
+    }
+
+    fn flush(&mut self) -> IoResult<()> {
+        Ok(())
+    }
+}
+
+/// A reader of std that gives its bytes one by one, so many of them before it breaks.
+#[derive(Drop)]
+pub struct BreakingReader<'a> {
+    pub left: &'a [u8],
+    good_calls: u32,
+}
+
+impl<'a> BreakingReader<'a> {
+    pub fn new(left: &'a [u8], good_calls: u32) -> BreakingReader<'a> {
+        BreakingReader { left, good_calls }
+    }
+}
+
+impl Read for BreakingReader<'_> {
+    ghost use Rattle.std.specs.Prelude.{Some};
+
+    ghost remaining = { λ r. Some r.left.now };
+
+    fn read(&mut self, buffer: &mut [u8]) -> IoResult<usize> {
+        if self.good_calls == 0 {
+            return Err(Error::from(ErrorKind::BrokenPipe));
+        }
+        self.good_calls -= 1;
+        let count = buffer.len().min(self.left.len()).min(1);
+        buffer[..count].copy_from_slice(&self.left[..count]);
+        self.left = &self.left[count..];
+        Ok(count)
+    }
+}
+
+/// A writer of std that takes bytes one by one, so many of them before it breaks.
+#[derive(Drop)]
+pub struct BreakingWriter {
+    pub bytes: Vec<u8>,
+    good_calls: u32,
+}
+
+impl BreakingWriter {
+    pub fn new(alloc: Global, good_calls: u32) -> BreakingWriter {
+        BreakingWriter {
+            bytes: Vec::new(alloc),
+            good_calls,
+        }
+    }
+}
+
+impl Write for BreakingWriter {
+    ghost use Rattle.std.specs.Prelude.{Some};
+
+    ghost contents = { λ w. Some w.bytes.items };
+
+    fn write(&mut self, buffer: &[u8]) -> IoResult<usize> {
+        if self.good_calls == 0 {
+            return Err(Error::from(ErrorKind::BrokenPipe));
+        }
+        self.good_calls -= 1;
+        self.bytes.write(&buffer[..buffer.len().min(1)])
     }
 
     fn flush(&mut self) -> IoResult<()> {

@@ -1,7 +1,10 @@
 //! Readers and writers of std as sources and sinks: interruptions, failures, and what one answer means.
 
-use crate::fakes::Interrupted;
-use hir_io::{Attempt, EndFailed, Sink, Source, StdEnd, read_attempt, write_attempt};
+ghost use Rattle.std.specs.Prelude.{◌≡◌, ◌≤◌, false, length, OnErr, Some};
+ghost use Rattle.hir_io.specs.Ends.{GrowsByFront};
+
+use crate::fakes::{BreakingReader, BreakingWriter, Interrupted};
+use hir_io::{Attempt, EndFailed, Sink, Source, StdEnd, read_attempt, write_all, write_attempt};
 use std::io::{Error, ErrorKind};
 
 /// What two calls in a row answer, whether one failed, and how many calls of std they make.
@@ -93,7 +96,7 @@ const TAKEN: [(usize, usize, Attempt, Attempt); 5] = [
     (0, 7, Attempt::Done(0), Attempt::Failed),
     (1, 7, Attempt::Done(1), Attempt::Done(1)),
     (7, 7, Attempt::Done(7), Attempt::Done(7)),
-    (8, 7, Attempt::Failed, Attempt::Done(8)),
+    (8, 7, Attempt::Overrun, Attempt::Done(8)),
 ];
 
 const ERRORS: [(ErrorKind, Attempt); 4] = [
@@ -114,4 +117,41 @@ fn each_answer_is_weighed(rt: HostRuntime) {
         assert!(rt; read_attempt(Err(Error::from(*kind)), 7) == *attempt);
         assert!(rt; write_attempt(Err(Error::from(*kind)), 7) == *attempt);
     }
+}
+
+/// Writes over a writer of std. Where that fails, what the writer says that it took has grown by a front of the text.
+fn write_over(writer: &mut StdEnd<&mut BreakingWriter>, text: &[u8]) -> Result<(), EndFailed>
+    ensures { OnErr result (GrowsByFront (Some writer.old.inner.now.bytes.items)
+        (Some writer.new.inner.now.bytes.items) text.now) }
+{
+    write_all(writer, text)
+}
+
+#[test]
+fn a_failed_writer_says_what_it_took(rt: HostRuntime) {
+    for calls in 0..4 {
+        let mut sink = BreakingWriter::new(rt.alloc(), calls);
+        let ended = write_over(&mut StdEnd::new(&mut sink), b"text");
+        let taken = sink.bytes.as_slice() == &b"text"[..calls as usize];
+        assert!(rt; ended == Err(EndFailed) && taken, "after {calls}");
+    }
+}
+
+/// Reads once over a reader of std. Where that fails, the reader has left what it had, if that is within the allowance.
+fn read_over(reader: &mut StdEnd<&mut BreakingReader>, room: &mut [u8]) -> Result<usize, EndFailed>
+    ensures { reader.old.has_overrun ≡ false →
+        length reader.old.inner.now.left.now ≤ reader.old.allowance →
+        OnErr result (reader.new.inner.now.left.now ≡ reader.old.inner.now.left.now) }
+{
+    reader.read(room)
+}
+
+#[test]
+fn a_failed_reader_says_what_is_left(rt: HostRuntime) {
+    let mut source = BreakingReader::new(b"text", 1);
+    let mut room = [0; 8];
+    let mut reader = StdEnd::new(&mut source);
+    let first = read_over(&mut reader, &mut room);
+    let second = read_over(&mut reader, &mut room);
+    assert!(rt; first == Ok(1) && second == Err(EndFailed) && source.left == b"ext".as_slice());
 }

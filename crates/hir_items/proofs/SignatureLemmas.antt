@@ -1,8 +1,25 @@
--- The first fault of a signature by cases.
-use Rattle.std.proofs.Common.{◌≡◌, Bool, true, false, Some, None, inl, inr, refl, sym, ◌∙◌}
-use Rattle.std.proofs.lemmas.Bool.{false≢true}
+-- The first fault of a signature by cases, and what a signature without one names.
+use Rattle.std.proofs.Common.{◌≡◌, ◌<◌, ℕ, Bool, true, false, ◌&&◌, List, Option, Some, None, IfSome, All, length, inl, inr, refl, sym, ◌∙◌, subst}
+use Rattle.std.specs.List.{list_all}
+use Rattle.std.proofs.lemmas.Bool.{false≢true, ltb-true}
+use Rattle.std.proofs.lemmas.List.Elements.{All-weaker}
+use Rattle.std.proofs.lemmas.List.Sums.{AllPass-from_list_all}
+use Rattle.hir_node.specs.ChildCalls.{a, t, opt}
+use Rattle.hir_path.specs.declared.bound.ConstRef.{ConstRef}
+use Rattle.hir_generics.specs.declared.param.TypeOrConstParamData.{TypeOrConstParamData}
+use Rattle.hir_generics.specs.declared.param.TypeOrConstParamData.TheVariants as either
+use Rattle.hir_generics.specs.declared.predicate.WherePredicate.{WherePredicate}
+use Rattle.hir_generics.specs.declared.predicate.WherePredicate.TheVariants as predicate
+use Rattle.hir_faults.specs.Tested.{is_path_at}
+use Rattle.hir_faults.specs.Nodes.{Nodes}
+use Rattle.hir_items.specs.Generics.{Generics}
 use Rattle.hir_items.specs.declared.signature_fault.SignatureFault.TheVariants.{IdOutOfRange, NotAPath}
-use Rattle.hir_items.specs.Signatures.{ids_fault}
+use Rattle.hir_items.specs.declared.signatures.FieldData.{FieldData}
+use Rattle.hir_items.specs.declared.signatures.FunctionParts.{FunctionParts}
+use Rattle.hir_items.specs.declared.signatures.StructParts.{StructParts}
+use Rattle.hir_items.specs.declared.signatures.VariantParts.{VariantParts}
+use Rattle.hir_items.specs.declared.signatures.PlainParts.{PlainParts}
+use Rattle.hir_items.specs.Signatures.{ids_fault, all_there, param_calls, predicate_calls, predicate_paths, field_calls, generics_there, generics_name_paths, types_there, function_fault, struct_fault, fields_fault, plain_fault, ParamFits, PredicateFits, FieldFits, GenericsFit}
 
 pub not_there : (a b : Bool) → a ≡ false → ids_fault a b (Some IdOutOfRange)
 unfolding ids_fault
@@ -15,3 +32,82 @@ not_paths a b e f = inr (e, (refl, λ t. false≢true (sym f ∙ t)))
 pub no_fault : (a b : Bool) → a ≡ true → b ≡ true → ids_fault a b None
 unfolding ids_fault
 no_fault a b e f = (e, f)
+
+-- without a fault all ids are there, and what is named as a path is one
+faultless : (a b : Bool) → ids_fault a b None → (a ≡ true) × (b ≡ true)
+unfolding ids_fault
+faultless a b none = none
+
+both : (a b : Bool) → (a && b) ≡ true → (a ≡ true) × (b ≡ true)
+both true b e = (refl, e)
+both false b e = absurd (false≢true e)
+
+some_type : (s : Nodes) (id : Option ℕ) → all_there s (opt t id) ≡ true → IfSome id (λ id. id < length s.types)
+some_type s None there = tt
+some_type s (Some id) there = ltb-true id (length s.types) (both _ _ there).0
+
+some_expr : (s : Nodes) (id : Option ℕ) → all_there s (opt a id) ≡ true → IfSome id (λ id. id < length s.exprs)
+some_expr s None there = tt
+some_expr s (Some id) there = ltb-true id (length s.exprs) (both _ _ there).0
+
+some_const : (s : Nodes) (c : Option ConstRef) → all_there s (opt (λ c. a c.expr) c) ≡ true → IfSome c (λ c. c.expr < length s.exprs)
+some_const s None there = tt
+some_const s (Some c) there = ltb-true c.expr (length s.exprs) (both _ _ there).0
+
+param_fits : (s : Nodes) (p : TypeOrConstParamData) → all_there s (param_calls p) ≡ true → ParamFits s p
+param_fits s (either.TypeParamData p) there = some_type s p.default there
+param_fits s (either.ConstParamData p) there =
+    let parts = both _ _ there in
+    (ltb-true p.ty (length s.types) parts.0, some_const s p.default parts.1)
+
+predicate_fits : (s : Nodes) (w : WherePredicate) → all_there s (predicate_calls w) ≡ true → list_all (is_path_at s.types) (predicate_paths w) ≡ true → PredicateFits s w
+predicate_fits s (predicate.TypeBound lifetimes target bound) there paths =
+    let parts = both _ _ there in
+    (ltb-true target (length s.types) parts.0, rw (parts.1, paths) refl)
+predicate_fits s (predicate.Lifetime target bound) there paths =
+    let parts = both _ _ there in
+    (ltb-true target (length s.lifetimes) parts.0, ltb-true bound (length s.lifetimes) (both _ _ parts.1).0)
+
+field_fits : (s : Nodes) (f : FieldData) → all_there s (field_calls f) ≡ true → FieldFits s f
+field_fits s f there =
+    let parts = both _ _ there in
+    (ltb-true f.type_ref (length s.types) parts.0, some_expr s f.default_value parts.1)
+
+generics_fit : (s : Nodes) (g : Generics) → generics_there s g ≡ true → generics_name_paths s g ≡ true → GenericsFit s g
+generics_fit s g there paths =
+    let parts = both _ _ there in
+    let predicates = AllPass-from_list_all (λ w. all_there s (predicate_calls w)) g.predicates parts.1 in
+    let named = AllPass-from_list_all (λ w. list_all (is_path_at s.types) (predicate_paths w)) g.predicates paths in (
+      All-weaker _ _ (param_fits s) g.type_or_consts (AllPass-from_list_all (λ p. all_there s (param_calls p)) g.type_or_consts parts.0),
+      λ i d h. predicate_fits s _ (predicates i d h) (named i d h),
+    )
+
+-- what a signature without a fault names is there; `now` is the signature as a caller sees it
+module _ (p : FunctionParts) (none : function_fault p None) (now : FunctionParts) (same : p ≡ now) where
+  lists : (generics_there p.store.nodes p.generic_params ≡ true) × (types_there p.store.nodes p.params ≡ true)
+  lists = both _ _ (both _ _ (faultless _ _ none).0).0
+
+  pub function_generics_fit : (generics : Generics) → generics ≡ p.generic_params → GenericsFit now.store.nodes generics
+  function_generics_fit generics e = subst (λ (v : FunctionParts). GenericsFit v.store.nodes generics) same (subst (GenericsFit p.store.nodes) (sym e) (generics_fit p.store.nodes p.generic_params lists.0 (faultless _ _ none).1))
+
+  pub params_there : (params : List ℕ) → params ≡ p.params → All (λ id. id < length now.store.nodes.types) params
+  params_there params e =
+      let types = All-weaker _ _ (λ id. ltb-true id (length p.store.nodes.types)) p.params (AllPass-from_list_all _ p.params lists.1) in
+      subst (λ (v : FunctionParts). All (λ id. id < length v.store.nodes.types) params) same (subst (All (λ id. id < length p.store.nodes.types)) (sym e) types)
+
+  pub ret_type_there : IfSome p.ret_type (λ id. id < length now.store.nodes.types)
+  ret_type_there = subst (λ (v : FunctionParts). IfSome p.ret_type (λ id. id < length v.store.nodes.types)) same (some_type p.store.nodes p.ret_type (both _ _ (faultless _ _ none).0).1)
+
+module _ (p : StructParts) (none : struct_fault p None) (now : StructParts) (same : p ≡ now) where
+  pub struct_generics_fit : (generics : Generics) → generics ≡ p.generic_params → GenericsFit now.store.nodes generics
+  struct_generics_fit generics e = subst (λ (v : StructParts). GenericsFit v.store.nodes generics) same (subst (GenericsFit p.store.nodes) (sym e) (generics_fit p.store.nodes p.generic_params (faultless _ _ none).0 (faultless _ _ none).1))
+
+module _ (p : PlainParts) (none : plain_fault p None) (now : PlainParts) (same : p ≡ now) where
+  pub plain_generics_fit : (generics : Generics) → generics ≡ p.generic_params → GenericsFit now.store.nodes generics
+  plain_generics_fit generics e = subst (λ (v : PlainParts). GenericsFit v.store.nodes generics) same (subst (GenericsFit p.store.nodes) (sym e) (generics_fit p.store.nodes p.generic_params (faultless _ _ none).0 (faultless _ _ none).1))
+
+module _ (p : VariantParts) (none : fields_fault p None) (now : VariantParts) (same : p ≡ now) where
+  pub fields_there : (fields : List FieldData) → fields ≡ p.fields → All (FieldFits now.store.nodes) fields
+  fields_there fields e =
+      let fit = All-weaker _ _ (field_fits p.store.nodes) p.fields (AllPass-from_list_all (λ f. all_there p.store.nodes (field_calls f)) p.fields (faultless _ _ none).0) in
+      subst (λ (v : VariantParts). All (FieldFits v.store.nodes) fields) same (subst (All (FieldFits p.store.nodes)) (sym e) fit)

@@ -1,5 +1,5 @@
--- Which ids a signature names, and the first fault of its parts.
-use Rattle.std.specs.Prelude.{ℕ, Bool, ◌&&◌, true, List, [], ◌∷◌, ◌++◌, Option, Some, None, IsTrue, length, map, nat_lt}
+-- Which ids a signature names, when they fit its store, and the first fault of its parts.
+use Rattle.std.specs.Prelude.{ℕ, ◌<◌, Bool, ◌&&◌, true, List, [], ◌∷◌, ◌++◌, All, Option, Some, None, IfSome, IsTrue, length, map, nat_lt}
 use Rattle.std.specs.List.{list_all}
 use Rattle.hir_forest.specs.Faults.{root_nodes}
 use Rattle.hir_forest.specs.Verdict.{◌unless◌, ◌before◌}
@@ -12,6 +12,7 @@ use Rattle.hir_generics.specs.declared.predicate.WherePredicate.{WherePredicate}
 use Rattle.hir_generics.specs.declared.predicate.WherePredicate.TheVariants as predicate
 use Rattle.hir_faults.specs.Sizes.{is_there}
 use Rattle.hir_faults.specs.Tested.{is_path_at, bound_paths}
+use Rattle.hir_faults.specs.Fits.{bound_fits}
 use Rattle.hir_faults.specs.Nodes.{Nodes, sizes_of}
 use Rattle.hir_expr_store.specs.Contents.{Contents}
 use Rattle.hir_expr_store.specs.Under.{Reached, reached_nodes}
@@ -54,6 +55,25 @@ predicate_paths (predicate.Lifetime target bound) = []
 -- what a field names: its type and its default
 abbrev pub field_calls : FieldData → List Call
 field_calls f = t f.type_ref ++ opt a f.default_value
+
+-- a parameter, a predicate, a field fits the store: each id that it names is there, and a bound fits
+abbrev pub ParamFits : Nodes → TypeOrConstParamData → Type 0
+ParamFits s (either.TypeParamData p) = IfSome p.default (λ id. id < length s.types)
+ParamFits s (either.ConstParamData p) =
+    (p.ty < length s.types) × IfSome p.default (λ c. c.expr < length s.exprs)
+
+abbrev pub PredicateFits : Nodes → WherePredicate → Type 0
+PredicateFits s (predicate.TypeBound lifetimes target bound) =
+    (target < length s.types) × IsTrue (bound_fits s bound)
+PredicateFits s (predicate.Lifetime target bound) =
+    (target < length s.lifetimes) × (bound < length s.lifetimes)
+
+abbrev pub FieldFits : Nodes → FieldData → Type 0
+FieldFits s f = (f.type_ref < length s.types) × IfSome f.default_value (λ id. id < length s.exprs)
+
+-- each parameter and each predicate fits
+abbrev pub GenericsFit : Nodes → Generics → Type 0
+GenericsFit s g = All (ParamFits s) g.type_or_consts × All (PredicateFits s) g.predicates
 
 -- all that is named is there
 abbrev pub all_there : Nodes → List Call → Bool

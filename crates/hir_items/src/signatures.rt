@@ -1,8 +1,9 @@
 //! Signatures of definitions, and the fields of variants. Each holds the store in which its ids are, and no id that isn't there.
 
-ghost use Rattle.std.specs.Prelude.{◌≡◌, None, Some, IfOk, IfErr};
+ghost use Rattle.std.specs.Prelude.{◌≡◌, ◌<◌, All, None, Some, IfOk, IfErr, IfSome, length};
 ghost use Rattle.std.specs.Option.{option_map};
-ghost use Rattle.hir_items.specs.Signatures.{function_fault, struct_fault, fields_fault, plain_fault};
+ghost use Rattle.hir_expr_store.specs.Contents.{contents_fault};
+ghost use Rattle.hir_items.specs.Signatures.{function_fault, struct_fault, fields_fault, plain_fault, GenericsFit, FieldFits};
 
 use crate::generic_params::GenericParams;
 use crate::named_ids::{generics_name_paths, has_fields, has_generics, has_type_opt, has_types};
@@ -161,6 +162,13 @@ impl FunctionSignature {
         }
     }
 
+    /// Tells a proof that the signature has no fault, and does nothing.
+    pub fn has_no_fault(&self)
+        ensures { function_fault self.now None }
+    {
+        let _ = &self.function;
+    }
+
     /// Its name.
     pub fn name(&self) -> &Name
         ensures { result.now ≡ self.now.name }
@@ -168,30 +176,35 @@ impl FunctionSignature {
         &self.function.name
     }
 
-    /// Its generic parameters.
+    /// Its generic parameters. What they name is in the store.
     pub fn generic_params(&self) -> &GenericParams
-        ensures { result.now ≡ self.now.generic_params }
+        ensures generic_params { result.now ≡ self.now.generic_params }
+        ensures there { GenericsFit self.now.store.nodes result.now }
     {
         &self.function.generic_params
     }
 
     /// The types that the signature names.
     pub fn store(&self) -> &ExpressionStore
-        ensures { result.now ≡ self.now.store }
+        ensures store { result.now ≡ self.now.store }
+        ensures no_fault { contents_fault result.now None }
     {
+        self.function.store.has_no_fault();
         &self.function.store
     }
 
-    /// The types of the parameters, in their order.
+    /// The types of the parameters, in their order. Each is in the store.
     pub fn params(&self) -> &[TypeRefId]
-        ensures { result.now ≡ self.now.params }
+        ensures params { result.now ≡ self.now.params }
+        ensures there { All (λ id. id < length self.now.store.nodes.types) result.now }
     {
         self.function.params.as_slice()
     }
 
-    /// The return type, where one is written.
+    /// The return type, where one is written. It is in the store.
     pub fn ret_type(&self) -> Option<TypeRefId>
-        ensures { result ≡ self.now.ret_type }
+        ensures ret_type { result ≡ self.now.ret_type }
+        ensures there { IfSome result (λ id. id < length self.now.store.nodes.types) }
     {
         self.function.ret_type
     }
@@ -324,6 +337,13 @@ impl StructSignature {
         }
     }
 
+    /// Tells a proof that the signature has no fault, and does nothing.
+    pub fn has_no_fault(&self)
+        ensures { struct_fault self.now None }
+    {
+        let _ = &self.structure;
+    }
+
     /// Its name.
     pub fn name(&self) -> &Name
         ensures { result.now ≡ self.now.name }
@@ -331,17 +351,20 @@ impl StructSignature {
         &self.structure.name
     }
 
-    /// Its generic parameters.
+    /// Its generic parameters. What they name is in the store.
     pub fn generic_params(&self) -> &GenericParams
-        ensures { result.now ≡ self.now.generic_params }
+        ensures generic_params { result.now ≡ self.now.generic_params }
+        ensures there { GenericsFit self.now.store.nodes result.now }
     {
         &self.structure.generic_params
     }
 
     /// The types that the signature names.
     pub fn store(&self) -> &ExpressionStore
-        ensures { result.now ≡ self.now.store }
+        ensures store { result.now ≡ self.now.store }
+        ensures no_fault { contents_fault result.now None }
     {
+        self.structure.store.has_no_fault();
         &self.structure.store
     }
 
@@ -437,6 +460,13 @@ impl VariantFields {
         }
     }
 
+    /// Tells a proof that the fields have no fault, and does nothing.
+    pub fn has_no_fault(&self)
+        ensures { fields_fault self.now None }
+    {
+        let _ = &self.variant;
+    }
+
     /// How the fields are written.
     pub fn shape(&self) -> FieldsShape
         ensures { result ≡ self.now.shape }
@@ -444,17 +474,20 @@ impl VariantFields {
         self.variant.shape
     }
 
-    /// The fields, in their order.
+    /// The fields, in their order. The type of each and its default are in the store.
     pub fn fields(&self) -> &[FieldData]
-        ensures { result.now ≡ self.now.fields }
+        ensures fields { result.now ≡ self.now.fields }
+        ensures there { All (FieldFits self.now.store.nodes) result.now }
     {
         self.variant.fields.as_slice()
     }
 
     /// The types and defaults that the fields name.
     pub fn store(&self) -> &ExpressionStore
-        ensures { result.now ≡ self.now.store }
+        ensures store { result.now ≡ self.now.store }
+        ensures no_fault { contents_fault result.now None }
     {
+        self.variant.store.has_no_fault();
         &self.variant.store
     }
 }
@@ -537,17 +570,27 @@ impl PlainSignature {
         }
     }
 
-    /// Its generic parameters.
+    /// Tells a proof that the signature has no fault, and does nothing.
+    pub fn has_no_fault(&self)
+        ensures { plain_fault self.now None }
+    {
+        let _ = &self.plain;
+    }
+
+    /// Its generic parameters. What they name is in the store.
     pub fn generic_params(&self) -> &GenericParams
-        ensures { result.now ≡ self.now.generic_params }
+        ensures generic_params { result.now ≡ self.now.generic_params }
+        ensures there { GenericsFit self.now.store.nodes result.now }
     {
         &self.plain.generic_params
     }
 
     /// The types that the signature names.
     pub fn store(&self) -> &ExpressionStore
-        ensures { result.now ≡ self.now.store }
+        ensures store { result.now ≡ self.now.store }
+        ensures no_fault { contents_fault result.now None }
     {
+        self.plain.store.has_no_fault();
         &self.plain.store
     }
 }

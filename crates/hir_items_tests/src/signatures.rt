@@ -1,14 +1,14 @@
-//! Signatures that are refused: what comes back has what it was given. They are asked as soon as they are made, so that a test has small
-//! values alone and its proof is short.
+//! Signatures: parts that are refused come back as they were given, and what an accepted signature names is in its store. They are asked
+//! as soon as they are made, so that a test has small values alone and its proof is short.
 use crate::memory::push;
 use crate::params::{self, Entry, Listed, Predicate};
 use crate::trees::{self, BARE, Never};
 use hir_base::{ExternAbi, Idx, Name, Seq};
 use hir_items::{
     FieldData, FieldsShape, FunctionParts, FunctionSignature, PlainParts, PlainSignature,
-    RawVisibility, RefusedSignature, SignatureFault, VariantFields, VariantParts,
+    RawVisibility, RefusedSignature, SignatureFault, VariantFields, VariantParts, WherePredicate,
 };
-use hir_node::TypeRefId;
+use hir_node::{TypeRef, TypeRefId};
 use std::alloc::{AllocError, Global};
 use std::test::Fail;
 
@@ -44,20 +44,79 @@ impl Known for VariantParts {
     }
 }
 
-/// Why the parts are refused, where they are, and whether what comes back has what it was given.
-type Asked = Option<(SignatureFault, bool)>;
+/// What tests ask of a signature that is accepted. An id that it gives is in its store: nothing is tested first.
+trait Named {
+    /// Whether each type that it names is `!`.
+    fn names_never(&self) -> bool;
+}
+
+/// The types of its parameters, and the return type.
+impl Named for FunctionSignature {
+    fn names_never(&self) -> bool {
+        for param in self.params() {
+            if self.store()[*param] != TypeRef::Never {
+                return false;
+            }
+        }
+        match self.ret_type() {
+            Some(ret_type) => self.store()[ret_type] == TypeRef::Never,
+            None => true,
+        }
+    }
+}
+
+/// The types that its predicates are on.
+impl Named for PlainSignature {
+    fn names_never(&self) -> bool {
+        for predicate in self.generic_params().where_predicates() {
+            let is_never = match predicate {
+                WherePredicate::TypeBound {
+                    lifetimes: _,
+                    target,
+                    bound: _,
+                } => self.store()[*target] == TypeRef::Never,
+                WherePredicate::Lifetime {
+                    target: _,
+                    bound: _,
+                } => false,
+            };
+            if !is_never {
+                return false;
+            }
+        }
+        true
+    }
+}
+
+/// The types of its fields.
+impl Named for VariantFields {
+    fn names_never(&self) -> bool {
+        for field in self.fields() {
+            if self.store()[field.type_ref] != TypeRef::Never {
+                return false;
+            }
+        }
+        true
+    }
+}
+
+/// Whether the types that are named are `!`, where the parts are accepted. Else why they are refused, and whether what comes back has
+/// what it was given.
+type Asked = Result<bool, (SignatureFault, bool)>;
 
 /// The answer where the parts are refused so: where memory was refused, that is the error.
 fn refused(fault: SignatureFault, is_known: bool) -> Result<Asked, Fail> {
     if fault == SignatureFault::Memory {
         return Err(Fail::from(fault));
     }
-    Ok(Some((fault, is_known)))
+    Ok(Err((fault, is_known)))
 }
 
-fn asked<S: Drop, P: Known + Drop>(outcome: Result<S, RefusedSignature<P>>) -> Result<Asked, Fail> {
+fn asked<S: Named + Drop, P: Known + Drop>(
+    outcome: Result<S, RefusedSignature<P>>,
+) -> Result<Asked, Fail> {
     match outcome {
-        Ok(_) => Ok(None),
+        Ok(signature) => Ok(Ok(signature.names_never())),
         Err(failed) => refused(failed.fault, failed.parts.is_known()),
     }
 }
@@ -98,10 +157,10 @@ fn field_x(alloc: Global) -> Result<Seq<FieldData>, AllocError> {
     Ok(fields)
 }
 
-/// `const unsafe extern "C" fn f<T>(..)`, with one parameter of type 0, over no types.
-fn function(alloc: Global) -> Result<Asked, Fail> {
+/// `const unsafe extern "C" fn f<T>(..) -> ..`, with one parameter of type 0, which it returns, over these types.
+fn function(alloc: Global, types: &[Never]) -> Result<Asked, Fail> {
     let generic_params = params::made(alloc, &T)?;
-    let store = trees::store(alloc, &[], &BARE)?;
+    let store = trees::store(alloc, types, &BARE)?;
     let name = Name::new(alloc, "f")?;
     let params = type_0(alloc)?;
     asked(FunctionSignature::new(FunctionParts {
@@ -109,7 +168,7 @@ fn function(alloc: Global) -> Result<Asked, Fail> {
         generic_params: Box::into_inner(generic_params),
         store: Box::into_inner(store),
         params,
-        ret_type: None,
+        ret_type: Some(Idx::from_raw(0)),
         abi: ExternAbi::C,
         is_const: true,
         is_async: false,
@@ -129,9 +188,9 @@ fn plain(alloc: Global, types: &[Never]) -> Result<Asked, Fail> {
     }))
 }
 
-/// The fields `{ x }`, over no types.
-fn fields(alloc: Global) -> Result<Asked, Fail> {
-    let store = trees::store(alloc, &[], &BARE)?;
+/// The fields `{ x }`, over these types.
+fn fields(alloc: Global, types: &[Never]) -> Result<Asked, Fail> {
+    let store = trees::store(alloc, types, &BARE)?;
     let fields = field_x(alloc)?;
     asked(VariantFields::new(VariantParts {
         shape: FieldsShape::Record,
@@ -144,14 +203,23 @@ fn fields(alloc: Global) -> Result<Asked, Fail> {
 fn refused_parts_come_back(rt: HostRuntime) -> Result<(), Fail> {
     let a = rt.alloc();
     // the type of the parameter is absent
-    let of_parameter = function(a)?;
+    let of_parameter = function(a, &[])?;
     // a predicate is on a type that is absent, or that is `!`, which is no path
     let of_nothing = plain(a, &[])?;
     let of_never = plain(a, &[Never])?;
     // the type of the field is absent
-    let of_field = fields(a)?;
-    let no_id = Some((SignatureFault::IdOutOfRange, true));
+    let of_field = fields(a, &[])?;
+    let no_id = Err((SignatureFault::IdOutOfRange, true));
     assert!(&rt; [of_parameter, of_nothing, of_field] == [no_id, no_id, no_id]);
-    assert!(&rt; of_never == Some((SignatureFault::NotAPath, true)));
+    assert!(&rt; of_never == Err((SignatureFault::NotAPath, true)));
+    Ok(())
+}
+
+#[test]
+fn what_is_named_is_in_the_store(rt: HostRuntime) -> Result<(), Fail> {
+    let a = rt.alloc();
+    let of_function = function(a, &[Never])?;
+    let of_fields = fields(a, &[Never])?;
+    assert!(&rt; [of_function, of_fields] == [Ok(true), Ok(true)]);
     Ok(())
 }

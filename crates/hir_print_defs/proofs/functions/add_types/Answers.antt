@@ -8,4 +8,4 @@ use Rattle.hir_print_defs.proofs.functions.add_types.Goals as goal
 pub returns : goal.returns
 returns c = on_ok_weaker c.add-2.result (λ q s. adds_more (adds_then (adds c.in_ok-add.ensures refl) (c.in_ok-add_arguments.ensures s) refl) q
     (ap (λ places. text (codes "(") ++ arguments places c.params.result.now ++ text (codes ")") ++ opt (λ ret. text (codes " -> ") ++ t ret) c.ret_type.result) c.legacy_const_indices.ensures
-    ∙ simp (c.params.ensures, c.ret_type.ensures) refl)) c.add-2.ensures
+    ∙ simp (c.params.ensures.params, c.ret_type.ensures.ret_type) refl)) c.add-2.ensures

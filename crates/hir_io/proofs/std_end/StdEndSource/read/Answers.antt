@@ -5,7 +5,7 @@ use Rattle.hir_io.proofs.std_end.StdEndSource.read.Goals as goal
 pub returns-in-Done-clause-bytes : goal.returns-in-Done-clause-bytes
 returns-in-Done-clause-bytes g c =
     let answer = read_done _ _ _ (rw c.in-Done.is at c.read_attempt.ensures) in
-    rw c.loop.invariant.same_mark (Consumes-told c.args.self.now.has_failed _ _ _ _ c.loop.invariant.kept (rw answer at c.read.ensures.bytes).0)
+    rw c.loop.invariant.same_overrun (Consumes-told c.args.self.now.has_overrun _ _ _ _ c.loop.invariant.kept (rw answer at c.read.ensures.bytes).0)
 
 pub returns-in-Done-clause-end : goal.returns-in-Done-clause-end
 returns-in-Done-clause-end g c =
@@ -13,4 +13,4 @@ returns-in-Done-clause-end g c =
     let answer = read_done _ _ _ (rw c.in-Done.is at c.read_attempt.ensures) in
     let read = rw answer at c.read.ensures.bytes in
     let none : c.in-Done.count ≡ 0 = cc in
-    IsAtEnd-told c.args.self.now.has_failed _ _ _ c.loop.invariant.kept (rw none at read.0) (read.1 none room)
+    IsAtEnd-told c.args.self.now.has_overrun _ _ _ c.loop.invariant.kept (rw none at read.0) (read.1 none room)
