@@ -232,7 +232,7 @@ impl PageBuffer {
         let len = self.text.len();
         let kept = self.kept;
         let format = self.format;
-        let written = self.lines(text);
+        let written = self.many(text);
         if written.is_err() {
             self.text.truncate(len);
             self.kept = kept;
@@ -241,7 +241,21 @@ impl PageBuffer {
         written
     }
 
+    /// Writes text, which seldom has a line end.
+    #[inline(always)]
+    fn many(&mut self, text: &str) -> Result<(), AllocError>
+        ensures ok { OnOk result (self.new ≡ put_all text.now self.old) }
+        ensures err { OnErr result (IsGrown self.old self.new) }
+    {
+        if text.as_bytes().contains(&b'\n') {
+            return self.lines(text);
+        }
+        self.line(text)
+    }
+
     /// Writes text line by line.
+    #[cold]
+    #[inline(never)]
     fn lines(&mut self, text: &str) -> Result<(), AllocError>
         ensures ok { OnOk result (self.new ≡ put_all text.now self.old) }
         ensures err { OnErr result (IsGrown self.old self.new) }

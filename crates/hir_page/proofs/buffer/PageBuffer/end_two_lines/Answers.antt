@@ -1,4 +1,4 @@
-use Rattle.std.proofs.Common.{◌≡◌, ◌++◌, ◌∷◌, [], ◌*◌, take, replicate, ap, ap₂, ◌∙◌, arith}
+use Rattle.std.proofs.Common.{◌≡◌, ℕ, List, ◌++◌, ◌∷◌, [], ◌*◌, take, replicate, ap, ap₂, ◌∙◌, arith}
 use Rattle.std.specs.String.{string_bytes}
 use Rattle.hir_page.specs.Buffer.{level_of}
 use Rattle.hir_page.specs.Page.{Page}
@@ -10,7 +10,7 @@ returns-clause-ok c =
     let old = c.self.inside in
     let cut = take old.kept (string_bytes old.text) in
     let level = level_of (string_bytes old.indentation) in
-    let spaces = replicate (4 * level) 32 in
+    let spaces : List ℕ = replicate (4 * level) 32 in
     let whole : string_bytes c.truncate.new.self ≡ cut = c.truncate.ensures.bytes ∙ ap (take old.kept) c.in_ok-reserve.ensures.bytes in
     let one : string_bytes c.push.new.self ≡ cut ++ (10 ∷ []) = c.in_ok-push.ensures.bytes ∙ ap₂ (λ b e. b ++ e) whole (c.in_ok-push.ensures.ascii (omega arith)) in
     let two : string_bytes c.push_str.new.self ≡ (cut ++ (10 ∷ [])) ++ spaces = c.in_ok-push_str.ensures.bytes ∙ ap₂ (λ b e. b ++ e) one (c.as_str-indentation.ensures.value ∙ c.self.invariant.spaces) in
