@@ -54,6 +54,13 @@ put_all-plain above last level format (c ∷ cs) h =
     ap (put_all cs) (put_in_line c above last level format (h 0 (omega arith))) ∙ put_all-plain above (last ++ (c ∷ [])) level format cs (λ i lt. h (suc i) (omega arith))
     ∙ ap page (append_assoc last (c ∷ []) cs)
 
+-- a text without a line end, where text goes on in its line
+pub put_all_in_line : (p : Page) (cs : List ℕ) → p.format ≡ format_in_line p.format → HasNoEnd cs → put_all cs p ≡ record p { last = p.last ++ cs }
+put_all_in_line p cs e h =
+    let before : LineFormat → Page = λ f. record p { format = f } in
+    let after : LineFormat → Page = λ f. record p { last = p.last ++ cs; format = f } in
+    ap (λ f. put_all cs (before f)) e ∙ put_all-plain p.above p.last p.level p.format cs h ∙ ap after (sym e)
+
 -- a text that is not empty and has no line end
 pub put_line : (p : Page) (cs : List ℕ) → 0 < length cs → HasNoEnd cs → put_all cs p ≡ (let q = begun p in record q { last = q.last ++ cs; format = format_in_line p.format })
 put_line p [] lt h = absurd (omega arith)
