@@ -57,7 +57,7 @@ impl Name {
         })
     }
 
-    /// The name with this text in ASCII, as `new` makes it: its bytes aren't tested again.
+    /// The name with this text in ASCII, as `new` makes it. Only where there are more than 14 bytes are they tested again.
     ///
     /// Answers an error if memory was refused.
     #[inline(always)]
