@@ -5,6 +5,7 @@ pub mod Exact
 pub mod Form
 pub mod Hygiene
 pub mod HygieneForm
+pub mod IdTexts
 pub mod Keys
 pub mod Laws
 pub mod Maps

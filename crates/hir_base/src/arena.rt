@@ -69,12 +69,13 @@ impl<K, T> Arena<K, T> {
 
     /// Adds the item at the end and answers its id.
     ///
-    /// `Memory` if room for it was refused, `Full` exactly if the arena holds `MOST_ITEMS` items. Either hands the item back, and
+    /// `Memory` if room for it was refused, `Full` exactly if the arena holds `MOST_ITEMS` items, 4,294,967,295. Either hands the item back, and
     /// the arena is unchanged.
     pub fn alloc(&mut self, item: T) -> Result<Idx<K>, (ArenaFault, T)>
         ensures ok { IfOk result (λ id. (id ≡ length self.old) × (self.new ≡ self.old ++ item ∷ [])) }
         ensures err { IfErr result (λ refused. (refused.1 ≡ item) × (self.new ≡ self.old)) }
         ensures full { IfErr result (λ refused. refused.0 ≡ ArenaFault.Full → length self.old ≡ MOST_ITEMS) }
+        ensures limit { IfErr result (λ refused. refused.0 ≡ ArenaFault.Full → length self.old ≡ 4294967295) }
         ensures full_only { length self.old ≡ MOST_ITEMS → result ≡ Err (ArenaFault.Full, item) }
     {
         let len = self.items.len();

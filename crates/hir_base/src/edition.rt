@@ -1,10 +1,12 @@
 //! Editions of the language, and the words that each writes with `r#`.
-ghost use Rattle.std.specs.Prelude.{◌≡◌};
+ghost use Rattle.std.specs.Prelude.{◌≡◌, Some};
 ghost use Rattle.hir_base.specs.Exact.{exact};
+ghost use Rattle.hir_base.specs.IdTexts.{edition_text};
 ghost use Rattle.hir_base.specs.RawWords.{words_of, with_words, no_words};
 
 use crate::{ExactEq, Seq, Text, TryClone};
 use std::alloc::Global;
+use std::fmt;
 
 /// An edition of the language.
 #[derive(Clone, Copy, PartialEq, Eq, Hash)]
@@ -13,6 +15,20 @@ pub enum Edition {
     Edition2018,
     Edition2021,
     Edition2024,
+}
+
+/// The name of its variant.
+impl fmt::Debug for Edition {
+    ghost debug_output = { λ edition. Some (edition_text edition) };
+
+    fn fmt<W: fmt::Write>(&self, f: &mut fmt::Formatter<W>) -> fmt::Result {
+        match self {
+            Edition::Edition2015 => f.write_str("Edition2015"),
+            Edition::Edition2018 => f.write_str("Edition2018"),
+            Edition::Edition2021 => f.write_str("Edition2021"),
+            Edition::Edition2024 => f.write_str("Edition2024"),
+        }
+    }
 }
 
 impl ExactEq for Edition {

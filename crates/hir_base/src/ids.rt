@@ -4,14 +4,17 @@ ghost use Rattle.std.specs.Prelude.{◌≡◌, Some};
 ghost use Rattle.std.specs.Ordering.{nat_cmp};
 ghost use Rattle.std.specs.Cmp.Rules.{comparing};
 ghost use Rattle.std.proofs.Common.{rules};
+ghost use Rattle.hir_base.specs.IdTexts.{id_text};
 
-use crate::{ExactEq, TryClone};
+use crate::{ExactEq, Kind, TryClone, kinds};
 use std::cmp::Ordering;
+use std::fmt::{self, Debug, Display};
 use std::marker::{Model, PhantomData};
 
-/// The number of a thing of the kind `K`. `K` is a marker of the module `kinds`, with no bounds.
+/// The number of a thing of the kind `K`. `K` is a marker of the module `kinds`, with no bounds. Its text, by `Display` and `Debug`, is
+/// the kind and the number, as `FunctionId(7)`.
 #[derive(Drop)]
-#[derive_where(Clone, Copy, PartialEq, Eq, Hash, Debug)]
+#[derive_where(Clone, Copy, PartialEq, Eq, Hash)]
 pub struct Id<K> {
     raw: u32,
     #[derive_where(skip)]
@@ -44,6 +47,25 @@ impl<K> Id<K> {
         ensures { result ≡ self }
     {
         self.raw
+    }
+}
+
+/// The kind and the number, as `FunctionId(7)`.
+impl<K: Kind> Display for Id<K> {
+    ghost output = { λ id. Some (id_text K.name id) };
+
+    fn fmt<W: fmt::Write>(&self, f: &mut fmt::Formatter<W>) -> fmt::Result {
+        let kind = K::name();
+        let number = self.raw;
+        write!(f, "{kind}({number})")
+    }
+}
+
+impl<K: Kind> Debug for Id<K> {
+    ghost debug_output = { λ id. Some (id_text K.name id) };
+
+    fn fmt<W: fmt::Write>(&self, f: &mut fmt::Formatter<W>) -> fmt::Result {
+        Display::fmt(self, f)
     }
 }
 
@@ -133,60 +155,3 @@ pub type ProcMacroId = Id<kinds::ProcMacro>;
 
 /// The number of a file, or what a macro call expanded to.
 pub type HirFileId = Id<kinds::HirFile>;
-
-/// The kinds of numbered ids. They are markers: no value of them exists.
-pub mod kinds {
-    /// Of `FunctionId`.
-    pub enum Function {}
-
-    /// Of `StructId`.
-    pub enum Struct {}
-
-    /// Of `UnionId`.
-    pub enum Union {}
-
-    /// Of `EnumId`.
-    pub enum Enum {}
-
-    /// Of `EnumVariantId`.
-    pub enum EnumVariant {}
-
-    /// Of `ConstId`.
-    pub enum Const {}
-
-    /// Of `StaticId`.
-    pub enum Static {}
-
-    /// Of `TraitId`.
-    pub enum Trait {}
-
-    /// Of `ImplId`.
-    pub enum Impl {}
-
-    /// Of `TypeAliasId`.
-    pub enum TypeAlias {}
-
-    /// Of `BlockId`.
-    pub enum Block {}
-
-    /// Of `MacroDefId`.
-    pub enum MacroDef {}
-
-    /// Of `MacroCallId`.
-    pub enum MacroCall {}
-
-    /// Of `CrateId`.
-    pub enum Crate {}
-
-    /// Of `Macro2Id`.
-    pub enum Macro2 {}
-
-    /// Of `MacroRulesId`.
-    pub enum MacroRules {}
-
-    /// Of `ProcMacroId`.
-    pub enum ProcMacro {}
-
-    /// Of `HirFileId`.
-    pub enum HirFile {}
-}

@@ -1,14 +1,17 @@
 //! The ids of an arena's items.
 //! An id is a number with a kind: ids of two kinds can't be mixed up, and the kind takes no room.
-ghost use Rattle.std.specs.Prelude.{◌≡◌};
+ghost use Rattle.std.specs.Prelude.{◌≡◌, Some};
 ghost use Rattle.std.proofs.Common.{rules};
+ghost use Rattle.hir_base.specs.IdTexts.{id_text};
 
-use crate::{ExactEq, TryClone};
+use crate::{ExactEq, Kind, TryClone};
+use std::fmt::{self, Debug, Display};
 use std::marker::{Model, PhantomData};
 
-/// The number of an item of the kind `K`, from 0. `K` is a marker, with no bounds.
+/// The number of an item of the kind `K`, from 0. `K` is a marker, with no bounds. If it has a name, by `Kind`, the id's text, by
+/// `Display` and `Debug`, is that and the number, as `ExprId(3)`.
 #[derive(Drop)]
-#[derive_where(Clone, Copy, PartialEq, Eq, PartialOrd, Ord, Hash, Debug)]
+#[derive_where(Clone, Copy, PartialEq, Eq, PartialOrd, Ord, Hash)]
 pub struct Idx<K> {
     raw: u32,
     #[derive_where(skip)]
@@ -41,6 +44,25 @@ impl<K> Idx<K> {
         ensures { result ≡ self }
     {
         self.raw
+    }
+}
+
+/// The kind and the number, as `ExprId(3)`.
+impl<K: Kind> Display for Idx<K> {
+    ghost output = { λ id. Some (id_text K.name id) };
+
+    fn fmt<W: fmt::Write>(&self, f: &mut fmt::Formatter<W>) -> fmt::Result {
+        let kind = K::name();
+        let number = self.raw;
+        write!(f, "{kind}({number})")
+    }
+}
+
+impl<K: Kind> Debug for Idx<K> {
+    ghost debug_output = { λ id. Some (id_text K.name id) };
+
+    fn fmt<W: fmt::Write>(&self, f: &mut fmt::Formatter<W>) -> fmt::Result {
+        Display::fmt(self, f)
     }
 }
 

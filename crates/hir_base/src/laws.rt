@@ -4,7 +4,7 @@ ghost use Rattle.std.specs.Prelude.{◌≡◌, ℕ};
 ghost use Rattle.std.specs.Ordering.{nat_cmp};
 ghost use Rattle.hir_base.specs.Laws.{OrderAgrees};
 
-use crate::{BlockId, Idx, PathKind};
+use crate::{BlockId, Idx, MOST_ITEMS, PathKind};
 use std::hash::Hash;
 
 /// Ids are ordered by their numbers, whatever their kind.
@@ -27,6 +27,11 @@ pub fn block_order_is_that_of_numbers()
 /// Blocks are equal exactly if their numbers are, exactly if they compare as equal, and then they hash alike.
 pub fn block_order_agrees_with_eq_and_hash()
     ensures { OrderAgrees ⟦<BlockId as PartialEq>⟧.eq ⟦<BlockId as Ord>⟧.cmp ⟦<BlockId as Hash>⟧.hash_input }
+{}
+
+/// An arena holds at most 4,294,967,295 items.
+pub fn most_items_of_an_arena()
+    ensures { MOST_ITEMS ≡ 4294967295 }
 {}
 
 /// The kind of paths that begin with `self` is `Super(0)`. (A clause can't name such a constant, so this function answers it.)

@@ -13,9 +13,12 @@ mod defs;
 mod edition;
 mod exact;
 mod hygiene;
+mod id_text;
 mod ids;
 mod idx;
 mod keys;
+mod kind;
+pub mod kinds;
 pub mod laws;
 mod mod_path;
 mod name;
@@ -48,9 +51,10 @@ pub use hygiene::{HygieneId, SyntaxContext};
 pub use ids::{
     BlockId, ConstId, CrateId, EnumId, EnumVariantId, FunctionId, HirFileId, Id, ImplId, Macro2Id,
     MacroCallId, MacroDefId, MacroRulesId, ProcMacroId, StaticId, StructId, TraitId, TypeAliasId,
-    UnionId, kinds,
+    UnionId,
 };
 pub use idx::Idx;
+pub use kind::Kind;
 pub use mod_path::{ModPath, PathKind};
 pub use name::Name;
 pub use operators::{ArithOp, BinaryOp, CmpOp, LogicOp, Ordering, RangeOp, UnaryOp};

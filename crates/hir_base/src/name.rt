@@ -1,5 +1,5 @@
 //! The names of definitions, bindings and path segments.
-ghost use Rattle.std.specs.Prelude.{◌≡◌, ◌≤◌, length, IfOk, IfErr, IsOk, codes};
+ghost use Rattle.std.specs.Prelude.{◌≡◌, ◌↔◌, ◌≤◌, length, IfOk, IfErr, IsOk, IsTrue, Some, codes};
 ghost use Rattle.std.specs.Str.{IsAscii};
 ghost use Rattle.std.specs.Cmp.Lexicographic.{pointwise};
 ghost use Rattle.std.specs.Bool.{nat_eq};
@@ -12,7 +12,7 @@ use crate::{ExactEq, Text, TryClone};
 use std::alloc::{AllocError, AllocFailed, Global};
 use std::hash::{Hash, Hasher};
 use std::marker::Model;
-use std::str;
+use std::{fmt, str};
 
 // Where the text of a name lies: in the value, or in memory of its own.
 #[derive(Drop)]
@@ -57,7 +57,7 @@ impl Name {
         })
     }
 
-    /// The name with this text in ASCII, as `new` makes it: its bytes aren't tested again.
+    /// The name with this text in ASCII, as `new` makes it. Only where there are more than 14 bytes are they tested again.
     ///
     /// Answers an error if memory was refused.
     #[inline(always)]
@@ -113,6 +113,13 @@ impl Name {
         }
     }
 
+    /// Whether the name has this text.
+    pub fn has_text(&self, text: &str) -> bool
+        ensures { IsTrue result ↔ (self.now ≡ text.now) }
+    {
+        self.as_str() == text
+    }
+
     // The bytes of the text.
     fn as_bytes(&self) -> &[u8]
         ensures { result.now ≡ self.now }
@@ -121,6 +128,15 @@ impl Name {
             Place::Inside(text) => text.as_bytes(),
             Place::Outside(text) => text.as_str().as_bytes(),
         }
+    }
+}
+
+/// Its text.
+impl fmt::Display for Name {
+    ghost output = { λ name. Some name };
+
+    fn fmt<W: fmt::Write>(&self, f: &mut fmt::Formatter<W>) -> fmt::Result {
+        f.write_str(self.as_str())
     }
 }
 

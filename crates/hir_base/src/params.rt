@@ -1,16 +1,32 @@
 //! Ids of generic parameters: a parameter's number among those of its parent, and the parent.
-ghost use Rattle.std.specs.Prelude.{◌≡◌};
+ghost use Rattle.std.specs.Prelude.{◌≡◌, codes};
 ghost use Rattle.hir_base.specs.Exact.{exact};
 
 use crate::defs::GenericDefId;
-use crate::{ExactEq, Idx, TryClone};
+use crate::{ExactEq, Idx, Kind, TryClone};
 use std::marker::Model;
 
 /// The kind of type and constant parameters. It is a marker: no value of it exists.
 pub enum TypeOrConstParamKind {}
 
+impl Kind for TypeOrConstParamKind {
+    ghost name = { codes "LocalTypeOrConstParamId" };
+
+    fn name() -> &'static str {
+        "LocalTypeOrConstParamId"
+    }
+}
+
 /// The kind of lifetime parameters. It is a marker: no value of it exists.
 pub enum LifetimeParamKind {}
+
+impl Kind for LifetimeParamKind {
+    ghost name = { codes "LocalLifetimeParamId" };
+
+    fn name() -> &'static str {
+        "LocalLifetimeParamId"
+    }
+}
 
 /// The number of a type or constant parameter among those of its parent.
 pub type LocalTypeOrConstParamId = Idx<TypeOrConstParamKind>;

@@ -1,12 +1,13 @@
 //! Pointers into source files, and what a source is: a pointer and its file.
 //! A pointer is the kind and the range of a syntax node; its type says what kind of node it points to.
-ghost use Rattle.std.specs.Prelude.{◌≡◌};
+ghost use Rattle.std.specs.Prelude.{◌≡◌, Some, codes};
 ghost use Rattle.hir_base.specs.Exact.{exact};
 
 use crate::ast::{self, Widens};
 use crate::ids::HirFileId;
 use crate::{ExactEq, TryClone};
 use either::Either;
+use std::fmt;
 use std::marker::{Model, PhantomData};
 
 /// A part of a file, in bytes from the file's start: from `start` up to, but not including, `end`.
@@ -123,6 +124,15 @@ impl<T: TryClone> TryClone for InFile<T> {
 /// The error that a node has no syntax: lowering made it up.
 #[derive(Drop, PartialEq, Eq)]
 pub struct SyntheticSyntax;
+
+/// Its name.
+impl fmt::Debug for SyntheticSyntax {
+    ghost debug_output = { λ _. Some (codes "SyntheticSyntax") };
+
+    fn fmt<W: fmt::Write>(&self, f: &mut fmt::Formatter<W>) -> fmt::Result {
+        f.write_str("SyntheticSyntax")
+    }
+}
 
 impl ExactEq for SyntheticSyntax {
     ghost eq_decides = { Prim.search exact };

@@ -1,6 +1,6 @@
 //! Lists: a `Vec` that contracts see as the list of its items.
 //! A contract also sees the capacity of a `Vec`, so two with the same items can differ; two `Seq`s can't.
-ghost use Rattle.std.specs.Prelude.{◌≡◌, ◌<◌, [], ◌∷◌, ◌++◌, length, slice_get, IfOk, IsOk, OnOk, OnErr, IfErr, IsTrue, ◌↔◌, Some};
+ghost use Rattle.std.specs.Prelude.{◌≡◌, ◌<◌, ◌^◌, [], ◌∷◌, ◌++◌, length, slice_get, IfOk, IsOk, OnOk, OnErr, IfErr, IsTrue, ◌↔◌, Some};
 ghost use Rattle.std.specs.Option.{option_copied};
 ghost use Rattle.std.specs.Borrow.{sem};
 ghost use Rattle.std.specs.Cmp.Lexicographic.{pointwise, lists_per, lists_equiv};
@@ -67,6 +67,18 @@ impl<T> Seq<T> {
         Seq { items }
     }
 
+    /// The list of the items of this array, like `Seq::of(alloc, [a, b])`.
+    ///
+    /// Answers an error if memory for it was refused: the items are handed back.
+    pub fn of<const N: usize>(alloc: Global, items: [T; N]) -> Result<Seq<T>, AllocFailed<[T; N]>>
+        ensures ok { IfOk result (λ seq. seq ≡ items) }
+        ensures value_returned { IfErr result (λ failed. failed.value ≡ items) }
+    {
+        Ok(Seq {
+            items: Vec::from_array(alloc, items)?,
+        })
+    }
+
     /// The vector that holds the items.
     pub fn into_vec(self) -> Vec<T>
         ensures { result.items ≡ self }
@@ -129,6 +141,20 @@ impl<T> Seq<T> {
         ensures value_returned { IfErr result (λ failed. failed.value ≡ item) }
     {
         self.items.push(item)
+    }
+}
+
+/// The items in order: `for item in &list`.
+impl<'a, T> IntoIterator for &'a Seq<T> {
+    type Item = &'a T;
+
+    type IntoIter = Iter<'a, T>;
+
+    ghost into_iter_gives = { λ list it. (iter_rest it ≡ list.now) × (length (iter_rest it) < 2 ^ 64)
+        × IterYieldsInOrder T × IterYieldsInReverse T };
+
+    fn into_iter(self) -> Iter<'a, T> {
+        self.iter()
     }
 }
 

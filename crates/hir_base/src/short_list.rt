@@ -1,6 +1,6 @@
 //! Lists of few items, which lie in the value itself.
 //! `SmallVec` of the crate `smallvec` is the same in 32 bytes, which makes an expression and a pattern larger than all else in them.
-ghost use Rattle.std.specs.Prelude.{◌≡◌, ◌<◌, ◌≤◌, [], ◌∷◌, ◌++◌, length, slice_get, slice_index_or, slice_set, IfOk, IsOk, OnOk, OnErr, IsTrue, ◌↔◌, Some};
+ghost use Rattle.std.specs.Prelude.{◌≡◌, ◌<◌, ◌^◌, ◌≤◌, [], ◌∷◌, ◌++◌, length, slice_get, slice_index_or, slice_set, IfOk, IsOk, OnOk, OnErr, IsTrue, ◌↔◌, Some};
 ghost use Rattle.std.specs.Option.{option_copied};
 ghost use Rattle.std.specs.Borrow.{sem, Lends, Array};
 ghost use Rattle.std.specs.Cmp.Lexicographic.{pointwise, lists_per, lists_equiv};
@@ -213,6 +213,20 @@ impl<T: Copy> ShortList<T> {
             Place::Outside(_) => unreachable!(),
         };
         Ok(())
+    }
+}
+
+/// The items in order: `for item in &list`.
+impl<'a, T> IntoIterator for &'a ShortList<T> {
+    type Item = &'a T;
+
+    type IntoIter = Iter<'a, T>;
+
+    ghost into_iter_gives = { λ list it. (iter_rest it ≡ list.now) × (length (iter_rest it) < 2 ^ 64)
+        × IterYieldsInOrder T × IterYieldsInReverse T };
+
+    fn into_iter(self) -> Iter<'a, T> {
+        self.iter()
     }
 }
 

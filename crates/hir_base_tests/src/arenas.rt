@@ -68,6 +68,7 @@ fn items_are_numbered(rt: HostRuntime) -> Result<(), Fail> {
     let none: Arena<Kind, u32> = Arena::new(rt.alloc());
     let is_new = none.is_empty();
     drop(none);
+    laws::most_items_of_an_arena();
     assert!(rt; is_new && MOST_ITEMS == 4294967295);
     let arena = twenty(&rt, rt.alloc())?;
     let holds = has_twenty(&arena) && meet(arena.iter());

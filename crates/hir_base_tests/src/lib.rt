@@ -10,6 +10,8 @@ mod maps;
 #[cfg(test)]
 mod same;
 #[cfg(test)]
+mod shown;
+#[cfg(test)]
 mod steps;
 #[cfg(test)]
 mod tables;

@@ -54,6 +54,27 @@ fn a_list_keeps_its_items(rt: HostRuntime) -> Result<(), Fail> {
     Ok(())
 }
 
+// Whether the list has these items, told by a loop over it.
+fn gives(items: &Seq<u32>, wanted: &[u32]) -> bool {
+    let mut rest = wanted;
+    for item in items {
+        match rest.split_first() {
+            Some((first, others)) if *first == *item => rest = others,
+            _ => return false,
+        }
+    }
+    rest.is_empty()
+}
+
+#[test]
+fn a_list_is_made_of_an_array(rt: HostRuntime) -> Result<(), Fail> {
+    let none: [u32; 0] = [];
+    let seq = Seq::of(rt.alloc(), [7, 8, 9])?;
+    let empty = Seq::of(rt.alloc(), none)?;
+    assert!(rt; gives(&seq, &[7, 8, 9]) && empty.is_empty() && gives(&empty, &[]));
+    Ok(())
+}
+
 // Of 0 to 5 items: more than three don't lie in the value.
 const LISTS: [&[u32]; 6] = [
     &[],
@@ -90,7 +111,7 @@ fn has_each(list: &ShortList<u32>, items: &[u32]) -> bool {
 // Whether these items come one by one from the front.
 fn from_the_front(list: &ShortList<u32>, items: &[u32]) -> bool {
     let mut rest = items;
-    for item in list.iter() {
+    for item in list {
         match rest.split_first() {
             Some((first, others)) if *first == *item => rest = others,
             _ => return false,

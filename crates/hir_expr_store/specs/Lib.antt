@@ -1,6 +1,7 @@
 pub mod SideTables
 pub mod Blocks
 pub mod Contents
+pub mod MissingTexts
 pub mod StoreParts
 pub mod PatLists
 pub mod RootSearch

@@ -40,10 +40,25 @@ pub enum Missing {
     DefMap(BlockId),
 }
 
-/// Writes its text: the ids that it holds have none.
+/// What is missing, and the id, as `Signature(FunctionId(7))`.
 impl fmt::Debug for Missing {
+    ghost use Rattle.std.specs.Prelude.{Some};
+    ghost use Rattle.hir_expr_store.specs.MissingTexts.{missing_text};
+
+    ghost debug_output = { λ missing. Some (missing_text missing) };
+
     fn fmt<W: fmt::Write>(&self, f: &mut fmt::Formatter<W>) -> fmt::Result {
-        fmt::Display::fmt(self, f)
+        match self {
+            Missing::Name(id) => write!(f, "Name({id})"),
+            Missing::Variant(id) => write!(f, "Variant({id})"),
+            Missing::Crate(id) => write!(f, "Crate({id})"),
+            Missing::Signature(id) => write!(f, "Signature({id})"),
+            Missing::Body(id) => write!(f, "Body({id})"),
+            Missing::Fields(id) => write!(f, "Fields({id})"),
+            Missing::TypeParam(id) => write!(f, "TypeParam({id})"),
+            Missing::LifetimeParam(id) => write!(f, "LifetimeParam({id})"),
+            Missing::DefMap(id) => write!(f, "DefMap({id})"),
+        }
     }
 }
 

@@ -1,9 +1,11 @@
 //! The parts of generic arguments and bounds: constants, the ids of types that are paths, and bounds.
-ghost use Rattle.std.specs.Prelude.{◌≡◌};
+ghost use Rattle.std.specs.Prelude.{◌≡◌, Some, codes};
 ghost use Rattle.hir_base.specs.Exact.{exact};
+ghost use Rattle.hir_base.specs.IdTexts.{id_text};
 
 use crate::ids::{ExprId, LifetimeRefId, TypeRefId};
 use hir_base::{ExactEq, Name, Seq, TryClone};
+use std::fmt::{self, Debug, Display};
 use std::marker::Model;
 
 /// The id of a type that is a path, seen as the number of that type. Nothing here checks that it is one.
@@ -33,6 +35,24 @@ impl PathId {
         ensures { result ≡ self }
     {
         self.0
+    }
+}
+
+/// Its kind and the number of the type, as `PathId(3)`.
+impl Display for PathId {
+    ghost output = { λ id. Some (id_text (codes "PathId") id) };
+
+    fn fmt<W: fmt::Write>(&self, f: &mut fmt::Formatter<W>) -> fmt::Result {
+        let number = self.0.into_raw();
+        write!(f, "PathId({number})")
+    }
+}
+
+impl Debug for PathId {
+    ghost debug_output = { λ id. Some (id_text (codes "PathId") id) };
+
+    fn fmt<W: fmt::Write>(&self, f: &mut fmt::Formatter<W>) -> fmt::Result {
+        Display::fmt(self, f)
     }
 }
 

@@ -1,28 +1,77 @@
 //! The ids of what a store holds: expressions, patterns, bindings, labels, types and lifetimes.
 //! Each is a number of an arena; ids of two kinds can't be mixed up.
-ghost use Rattle.std.specs.Prelude.{◌≡◌, Some, None, IsTrue, IsSome, ◌↔◌};
+ghost use Rattle.std.specs.Prelude.{◌≡◌, Some, None, IsTrue, IsSome, ◌↔◌, codes};
 ghost use Rattle.hir_base.specs.Exact.{exact};
-ghost use Rattle.hir_path.specs.Ids.{expr_of, pat_of};
+ghost use Rattle.hir_path.specs.Ids.{expr_of, pat_of, expr_or_pat_text};
 
-use hir_base::{ExactEq, Idx, TryClone};
+use hir_base::{ExactEq, Idx, Kind, TryClone};
+use std::fmt::{self, Debug, Display};
 
 /// The kind of expressions. It is a marker: no value of it exists.
 pub enum ExprKind {}
 
+impl Kind for ExprKind {
+    ghost name = { codes "ExprId" };
+
+    fn name() -> &'static str {
+        "ExprId"
+    }
+}
+
 /// The kind of patterns. It is a marker: no value of it exists.
 pub enum PatKind {}
+
+impl Kind for PatKind {
+    ghost name = { codes "PatId" };
+
+    fn name() -> &'static str {
+        "PatId"
+    }
+}
 
 /// The kind of bindings. It is a marker: no value of it exists.
 pub enum BindingKind {}
 
+impl Kind for BindingKind {
+    ghost name = { codes "BindingId" };
+
+    fn name() -> &'static str {
+        "BindingId"
+    }
+}
+
 /// The kind of labels. It is a marker: no value of it exists.
 pub enum LabelKind {}
+
+impl Kind for LabelKind {
+    ghost name = { codes "LabelId" };
+
+    fn name() -> &'static str {
+        "LabelId"
+    }
+}
 
 /// The kind of references to types. It is a marker: no value of it exists.
 pub enum TypeRefKind {}
 
+impl Kind for TypeRefKind {
+    ghost name = { codes "TypeRefId" };
+
+    fn name() -> &'static str {
+        "TypeRefId"
+    }
+}
+
 /// The kind of references to lifetimes. It is a marker: no value of it exists.
 pub enum LifetimeRefKind {}
+
+impl Kind for LifetimeRefKind {
+    ghost name = { codes "LifetimeRefId" };
+
+    fn name() -> &'static str {
+        "LifetimeRefId"
+    }
+}
 
 /// The number of an expression.
 pub type ExprId = Idx<ExprKind>;
@@ -88,6 +137,26 @@ impl ExprOrPatId {
             ExprOrPatId::ExprId(_) => false,
             ExprOrPatId::PatId(_) => true,
         }
+    }
+}
+
+/// The text of the id that it holds, as `ExprId(3)`.
+impl Display for ExprOrPatId {
+    ghost output = { λ id. Some (expr_or_pat_text id) };
+
+    fn fmt<W: fmt::Write>(&self, f: &mut fmt::Formatter<W>) -> fmt::Result {
+        match self {
+            ExprOrPatId::ExprId(id) => Display::fmt(id, f),
+            ExprOrPatId::PatId(id) => Display::fmt(id, f),
+        }
+    }
+}
+
+impl Debug for ExprOrPatId {
+    ghost debug_output = { λ id. Some (expr_or_pat_text id) };
+
+    fn fmt<W: fmt::Write>(&self, f: &mut fmt::Formatter<W>) -> fmt::Result {
+        Display::fmt(self, f)
     }
 }
 

@@ -3,11 +3,11 @@ ghost use Rattle.hir_base.specs.Exact.{exact};
 
 use hir_base::{ExactEq, TryClone};
 use hir_expr_store::Missing;
-use std::fmt;
 use thiserror::Error;
 
-/// Why a printing gives no text. The text of a fault is its name alone.
-#[derive(Clone, Copy, Drop, PartialEq, Eq, Error)]
+/// Why a printing gives no text. The text of a fault is its name alone; `Debug` writes what is missing too, as
+/// `Missing(Signature(FunctionId(7)))`.
+#[derive(Clone, Copy, Debug, Drop, PartialEq, Eq, Error)]
 pub enum PrintFault {
     /// A definition outside that the text names is missing: the first in printing order.
     #[error("Missing")]
@@ -15,13 +15,6 @@ pub enum PrintFault {
     /// Memory was refused.
     #[error("Memory")]
     Memory,
-}
-
-/// Its text.
-impl fmt::Debug for PrintFault {
-    fn fmt<W: fmt::Write>(&self, f: &mut fmt::Formatter<W>) -> fmt::Result {
-        fmt::Display::fmt(self, f)
-    }
 }
 
 impl ExactEq for PrintFault {

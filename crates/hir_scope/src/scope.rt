@@ -1,12 +1,20 @@
 //! What a scope is made of: its kind and its entries.
-ghost use Rattle.std.specs.Prelude.{◌≡◌};
+ghost use Rattle.std.specs.Prelude.{◌≡◌, codes};
 ghost use Rattle.hir_base.specs.Exact.{exact};
 
-use hir_base::{BlockId, ExactEq, HygieneId, Idx, MacroDefId, Name, TryClone};
+use hir_base::{BlockId, ExactEq, HygieneId, Idx, Kind, MacroDefId, Name, TryClone};
 use hir_node::{BindingId, LabelId};
 
 /// The kind of the ids of scopes. It is a marker: no value of it exists.
 pub enum ScopeMarker {}
+
+impl Kind for ScopeMarker {
+    ghost name = { codes "ScopeId" };
+
+    fn name() -> &'static str {
+        "ScopeId"
+    }
+}
 
 /// The number of a scope.
 pub type ScopeId = Idx<ScopeMarker>;

@@ -10,7 +10,9 @@ mod source_map;
 mod source_map_builder;
 mod sources;
 
+pub use definitions::{Definitions, define};
 pub use diagnostics::{ExpressionStoreDiagnostics, MissingBodyItemKind};
 pub use iters::{Expansions, MacroCalls};
 pub use source_map::ExpressionStoreSourceMap;
 pub use source_map_builder::SourceMapBuilder;
+pub use sources::{ExprSources, TypeSources};

@@ -13,20 +13,25 @@ use std::alloc::Global;
 
 /// Where expressions, patterns, labels and bindings come from, what macro calls expanded to, and the diagnostics.
 #[derive(PartialEq, Eq)]
-pub(crate) struct ExprSources {
-    /// An expression in source can become a pattern, if it is assigned to.
-    pub(crate) expr_map: Table<ExprSource, ExprOrPatId>,
-    pub(crate) expr_map_back: Table<ExprId, ExprOrPatSource>,
-    pub(crate) pat_map: Table<PatSource, ExprOrPatId>,
-    pub(crate) pat_map_back: Table<PatId, ExprOrPatSource>,
-    pub(crate) label_map: Table<LabelSource, LabelId>,
-    pub(crate) label_map_back: Table<LabelId, LabelSource>,
-    pub(crate) definitions: Table<BindingId, Definitions>,
+pub struct ExprSources {
+    /// What an expression in source became: a pattern, if it is assigned to.
+    pub expr_map: Table<ExprSource, ExprOrPatId>,
+    pub expr_map_back: Table<ExprId, ExprOrPatSource>,
+    /// What a pattern in source became: an expression, perhaps.
+    pub pat_map: Table<PatSource, ExprOrPatId>,
+    pub pat_map_back: Table<PatId, ExprOrPatSource>,
+    pub label_map: Table<LabelSource, LabelId>,
+    pub label_map_back: Table<LabelId, LabelSource>,
+    /// The patterns that define a binding, which `define` adds.
+    pub definitions: Table<BindingId, Definitions>,
     /// The key of a field of a struct expression is the expression that is its value.
-    pub(crate) field_map_back: Table<ExprId, FieldSource>,
-    pub(crate) pat_field_map_back: Table<PatId, PatFieldSource>,
-    pub(crate) expansions: Table<InFile<MacroCallPtr>, MacroCallId>,
-    pub(crate) diagnostics: Seq<ExpressionStoreDiagnostics>,
+    pub field_map_back: Table<ExprId, FieldSource>,
+    /// The key of a field of a struct pattern is the pattern that it holds.
+    pub pat_field_map_back: Table<PatId, PatFieldSource>,
+    /// What macro calls expanded to.
+    pub expansions: Table<InFile<MacroCallPtr>, MacroCallId>,
+    /// In the order in which they were added.
+    pub diagnostics: Seq<ExpressionStoreDiagnostics>,
 }
 
 /// Drops its parts one after the other. It is written out so that it is proved once, and is a call wherever a value is dropped.
@@ -50,11 +55,11 @@ impl Drop for ExprSources {
 
 /// Where types and lifetimes come from.
 #[derive(PartialEq, Eq)]
-pub(crate) struct TypeSources {
-    pub(crate) type_map: Table<TypeSource, TypeRefId>,
-    pub(crate) type_map_back: Table<TypeRefId, TypeSource>,
-    pub(crate) lifetime_map: Table<LifetimeSource, LifetimeRefId>,
-    pub(crate) lifetime_map_back: Table<LifetimeRefId, LifetimeSource>,
+pub struct TypeSources {
+    pub type_map: Table<TypeSource, TypeRefId>,
+    pub type_map_back: Table<TypeRefId, TypeSource>,
+    pub lifetime_map: Table<LifetimeSource, LifetimeRefId>,
+    pub lifetime_map_back: Table<LifetimeRefId, LifetimeSource>,
 }
 
 /// Drops its parts one after the other. It is written out so that it is proved once, and is a call wherever a value is dropped.
@@ -73,7 +78,7 @@ impl ExprSources {
     ghost use Rattle.hir_source.specs.Sources.{no_expr_sources, has_news};
 
     /// Maps without entries.
-    pub(crate) fn new(alloc: Global) -> ExprSources
+    pub fn new(alloc: Global) -> ExprSources
         ensures { result ≡ no_expr_sources }
     {
         ExprSources {
@@ -92,7 +97,7 @@ impl ExprSources {
     }
 
     /// Whether there is an expansion or a diagnostic.
-    pub(crate) fn has_news(&self) -> bool
+    pub fn has_news(&self) -> bool
         ensures { result ≡ has_news self.now }
     {
         !self.expansions.is_empty() || !self.diagnostics.is_empty()
@@ -103,7 +108,7 @@ impl TypeSources {
     ghost use Rattle.hir_source.specs.Sources.{no_type_sources};
 
     /// Maps without entries.
-    pub(crate) fn new(alloc: Global) -> TypeSources
+    pub fn new(alloc: Global) -> TypeSources
         ensures { result ≡ no_type_sources }
     {
         TypeSources {

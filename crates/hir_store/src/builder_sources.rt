@@ -9,7 +9,7 @@ use hir_base::{
     MacroCallPtr, PatFieldSource, PatSource, TypeSource,
 };
 use hir_node::{BindingId, ExprId, ExprOrPatId, LabelId, LifetimeRefId, PatId, TypeRefId};
-use hir_source::ExpressionStoreDiagnostics;
+use hir_source::{ExpressionStoreDiagnostics, define};
 use std::alloc::AllocFailed;
 
 impl ExpressionStoreBuilder {
@@ -27,7 +27,7 @@ impl ExpressionStoreBuilder {
         ensures err { OnErr result (self.new ≡ self.old) }
         ensures value_returned { IfErr result (λ failed. failed.value ≡ (source, expr)) }
     {
-        self.source_map.map_expr(source, expr)
+        self.source_map.exprs.expr_map.put(source, expr)
     }
 
     /// Records that the expression came from this source.
@@ -41,7 +41,7 @@ impl ExpressionStoreBuilder {
         ensures err { OnErr result (self.new ≡ self.old) }
         ensures value_returned { IfErr result (λ failed. failed.value ≡ (expr, source)) }
     {
-        self.source_map.map_expr_back(expr, source)
+        self.source_map.exprs.expr_map_back.put(expr, source)
     }
 
     /// Records that this source became this pattern, or this expression.
@@ -55,7 +55,7 @@ impl ExpressionStoreBuilder {
         ensures err { OnErr result (self.new ≡ self.old) }
         ensures value_returned { IfErr result (λ failed. failed.value ≡ (source, pat)) }
     {
-        self.source_map.map_pat(source, pat)
+        self.source_map.exprs.pat_map.put(source, pat)
     }
 
     /// Records that the pattern came from this source.
@@ -69,7 +69,7 @@ impl ExpressionStoreBuilder {
         ensures err { OnErr result (self.new ≡ self.old) }
         ensures value_returned { IfErr result (λ failed. failed.value ≡ (pat, source)) }
     {
-        self.source_map.map_pat_back(pat, source)
+        self.source_map.exprs.pat_map_back.put(pat, source)
     }
 
     /// Records that this source became this label.
@@ -83,7 +83,7 @@ impl ExpressionStoreBuilder {
         ensures err { OnErr result (self.new ≡ self.old) }
         ensures value_returned { IfErr result (λ failed. failed.value ≡ (source, label)) }
     {
-        self.source_map.map_label(source, label)
+        self.source_map.exprs.label_map.put(source, label)
     }
 
     /// Records that the label came from this source.
@@ -97,7 +97,7 @@ impl ExpressionStoreBuilder {
         ensures err { OnErr result (self.new ≡ self.old) }
         ensures value_returned { IfErr result (λ failed. failed.value ≡ (label, source)) }
     {
-        self.source_map.map_label_back(label, source)
+        self.source_map.exprs.label_map_back.put(label, source)
     }
 
     /// Records that this source became this type.
@@ -111,7 +111,7 @@ impl ExpressionStoreBuilder {
         ensures err { OnErr result (self.new ≡ self.old) }
         ensures value_returned { IfErr result (λ failed. failed.value ≡ (source, type_ref)) }
     {
-        self.source_map.map_type(source, type_ref)
+        self.source_map.types.type_map.put(source, type_ref)
     }
 
     /// Records that the type came from this source.
@@ -125,7 +125,7 @@ impl ExpressionStoreBuilder {
         ensures err { OnErr result (self.new ≡ self.old) }
         ensures value_returned { IfErr result (λ failed. failed.value ≡ (type_ref, source)) }
     {
-        self.source_map.map_type_back(type_ref, source)
+        self.source_map.types.type_map_back.put(type_ref, source)
     }
 
     /// Records that this source became this lifetime.
@@ -139,7 +139,7 @@ impl ExpressionStoreBuilder {
         ensures err { OnErr result (self.new ≡ self.old) }
         ensures value_returned { IfErr result (λ failed. failed.value ≡ (source, lifetime)) }
     {
-        self.source_map.map_lifetime(source, lifetime)
+        self.source_map.types.lifetime_map.put(source, lifetime)
     }
 
     /// Records that the lifetime came from this source.
@@ -153,7 +153,10 @@ impl ExpressionStoreBuilder {
         ensures err { OnErr result (self.new ≡ self.old) }
         ensures value_returned { IfErr result (λ failed. failed.value ≡ (lifetime, source)) }
     {
-        self.source_map.map_lifetime_back(lifetime, source)
+        self.source_map
+            .types
+            .lifetime_map_back
+            .put(lifetime, source)
     }
 
     /// Records that the field whose value is the expression came from this source.
@@ -167,7 +170,7 @@ impl ExpressionStoreBuilder {
         ensures err { OnErr result (self.new ≡ self.old) }
         ensures value_returned { IfErr result (λ failed. failed.value ≡ (expr, source)) }
     {
-        self.source_map.map_field_back(expr, source)
+        self.source_map.exprs.field_map_back.put(expr, source)
     }
 
     /// Records that the field that holds the pattern came from this source.
@@ -181,7 +184,7 @@ impl ExpressionStoreBuilder {
         ensures err { OnErr result (self.new ≡ self.old) }
         ensures value_returned { IfErr result (λ failed. failed.value ≡ (pat, source)) }
     {
-        self.source_map.map_pat_field_back(pat, source)
+        self.source_map.exprs.pat_field_map_back.put(pat, source)
     }
 
     /// Records that the macro call has this expansion.
@@ -195,7 +198,7 @@ impl ExpressionStoreBuilder {
         ensures err { OnErr result (self.new ≡ self.old) }
         ensures value_returned { IfErr result (λ failed. failed.value ≡ (call, expansion)) }
     {
-        self.source_map.add_expansion(call, expansion)
+        self.source_map.exprs.expansions.put(call, expansion)
     }
 
     /// Records that the pattern defines the binding, in addition to those recorded before.
@@ -209,7 +212,8 @@ impl ExpressionStoreBuilder {
         ensures err { OnErr result (self.new ≡ self.old) }
         ensures value_returned { IfErr result (λ failed. failed.value ≡ (binding, pat)) }
     {
-        self.source_map.add_definition(binding, pat)
+        let sources = &mut self.source_map;
+        define(sources.alloc, &mut sources.exprs.definitions, binding, pat)
     }
 
     /// Adds a diagnostic after the others.
@@ -222,6 +226,6 @@ impl ExpressionStoreBuilder {
         ensures err { OnErr result (self.new ≡ self.old) }
         ensures value_returned { IfErr result (λ failed. failed.value ≡ diagnostic) }
     {
-        self.source_map.push_diagnostic(diagnostic)
+        self.source_map.exprs.diagnostics.push(diagnostic)
     }
 }

@@ -1,6 +1,6 @@
 use Rattle.hir_source.specs.Sources.{id_key}
 use Rattle.hir_source.proofs.DefinitionLemmas.{of_some, one_more, put_back}
-use Rattle.hir_source.proofs.source_map_builder.define.Goals as goal
+use Rattle.hir_source.proofs.definitions.define.Goals as goal
 
 pub returns-in-Ok-clause-ok : goal.returns-in-Ok-clause-ok
 returns-in-Ok-clause-ok c =
