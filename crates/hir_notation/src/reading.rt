@@ -68,7 +68,8 @@ pub(crate) fn spaced<T: Read>(words: &mut Words<'_>, alloc: Global) -> Result<Se
     Ok(items)
 }
 
-/// Both parts, where each could be read.
+/// Both parts, where each could be read: else why the first that couldn't. Whoever reads a form reads all its parts and asks once, so that
+/// nothing is given back on the way.
 pub(crate) fn both<A: Drop, B: Drop>(
     first: Result<A, Stop>,
     second: Result<B, Stop>,
@@ -78,7 +79,7 @@ pub(crate) fn both<A: Drop, B: Drop>(
     Ok((first, second))
 }
 
-/// All three parts, where each could be read.
+/// The same of three parts.
 pub(crate) fn three<A: Drop, B: Drop, C: Drop>(
     first: Result<A, Stop>,
     second: Result<B, Stop>,

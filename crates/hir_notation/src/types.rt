@@ -119,7 +119,7 @@ fn read_ref(words: &mut Words<'_>) -> Result<RefType, Stop> {
 
 /// A reference in a box.
 fn boxed_ref(words: &mut Words<'_>, alloc: Global) -> Result<Boxed<RefType>, Stop> {
-    boxed(alloc, read_ref(words))
+    Ok(Boxed::new(alloc, read_ref(words)?)?)
 }
 
 /// A function pointer in a box.
