@@ -169,25 +169,67 @@ fn good_calls(words: &mut Words<'_>, word: &[u8]) -> Result<u64, Stop> {
     }
 }
 
-/// What an end was written, each line behind this word in a line of its own.
-fn write_lines(word: &str, bytes: &[u8], answer: &mut Answer) -> Result<(), AllocError> {
-    for line in bytes.split_inclusive(|byte| *byte == b'\n') {
-        answer.line()?;
-        answer.word(word)?;
-        let line = match line {
-            [line @ .., b'\n'] => line,
-            _ => {
-                answer.join("-open")?;
-                line
-            }
-        };
-        match std::str::from_utf8(line) {
-            Ok("") => {}
-            Ok(line) => answer.word(line)?,
-            Err(_) => answer.bytes(line)?,
+/// Writes the bytes of a line as a word: in quotes where they are no text, and nothing where there are none.
+fn write_text(line: &[u8], answer: &mut Answer) -> Result<(), AllocError> {
+    if line.is_empty() {
+        return Ok(());
+    }
+    match std::str::from_utf8(line) {
+        Ok(line) => answer.word(line),
+        Err(_) => answer.bytes(line),
+    }
+}
+
+/// Writes a line that an end was written behind this word, in a line of its own.
+fn write_line(word: &str, line: &[u8], answer: &mut Answer) -> Result<(), AllocError> {
+    answer.line()?;
+    answer.word(word)?;
+    match line {
+        [line @ .., b'\n'] => write_text(line, answer),
+        _ => {
+            answer.join("-open")?;
+            write_text(line, answer)
         }
     }
+}
+
+/// Writes all lines that an end was written.
+fn write_lines(word: &str, bytes: &[u8], answer: &mut Answer) -> Result<(), AllocError> {
+    for line in bytes.split_inclusive(|byte| *byte == b'\n') {
+        write_line(word, line, answer)?;
+    }
     Ok(())
+}
+
+/// Writes the status of a run, and what each end was written.
+fn write_run(
+    status: u8,
+    writer: &Kept,
+    errors: &Kept,
+    answer: &mut Answer,
+) -> Result<(), AllocError> {
+    answer.word("status")?;
+    answer.number(u32::from(status))?;
+    write_lines("out", writer.bytes.as_slice(), answer)?;
+    write_lines("error", errors.bytes.as_slice(), answer)
+}
+
+/// Runs the program over this input and reports.
+fn run_over(
+    alloc: Global,
+    input: &[u8],
+    good_reads: u64,
+    good_writes: u64,
+    answer: &mut Answer,
+) -> Result<(), Stop> {
+    let mut reader = Given::new(input, good_reads);
+    let mut writer = Kept::new(alloc, good_writes);
+    let mut errors = Kept::new(alloc, u64::MAX);
+    let status = run_and_report(alloc, &mut reader, &mut writer, &mut errors);
+    if status == 4 || writer.is_out_of_memory || errors.is_out_of_memory {
+        return Err(Stop::Memory);
+    }
+    Ok(write_run(status, &writer, &errors, answer)?)
 }
 
 /// Runs the program over the input so far and reports, and begins a new input.
@@ -201,16 +243,5 @@ pub(crate) fn run(
     let good_writes = good_calls(words, b"writes:")?;
     words.end()?;
     let input = mem::replace(input, Vec::new(alloc));
-    let mut reader = Given::new(input.as_slice(), good_reads);
-    let mut writer = Kept::new(alloc, good_writes);
-    let mut errors = Kept::new(alloc, u64::MAX);
-    let status = run_and_report(alloc, &mut reader, &mut writer, &mut errors);
-    if status == 4 || writer.is_out_of_memory || errors.is_out_of_memory {
-        return Err(Stop::Memory);
-    }
-    answer.word("status")?;
-    answer.number(u32::from(status))?;
-    write_lines("out", writer.bytes.as_slice(), answer)?;
-    write_lines("error", errors.bytes.as_slice(), answer)?;
-    Ok(())
+    run_over(alloc, input.as_slice(), good_reads, good_writes, answer)
 }

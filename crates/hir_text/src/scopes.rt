@@ -417,6 +417,27 @@ fn ask_scopes(
     }
 }
 
+/// Answers what is asked of scopes or captures.
+fn write_asked(
+    alloc: Global,
+    store: &ExpressionStore,
+    body: Option<&Body>,
+    question: &Question,
+    answer: &mut Answer,
+) -> Result<(), Stop> {
+    match question {
+        Question::Scopes(question) => ask_scopes(alloc, store, body, question, answer),
+        Question::Captures(closure) => match body {
+            Some(body) => ask_captures(alloc, body, *closure, answer),
+            None => Ok(unknown(answer)?),
+        },
+        Question::Counted => match body {
+            Some(body) => ask_counted(alloc, body, answer),
+            None => Ok(unknown(answer)?),
+        },
+    }
+}
+
 /// Answers a question on scopes or captures; answers whether it is such a question.
 pub(crate) fn ask(
     alloc: Global,
@@ -429,11 +450,6 @@ pub(crate) fn ask(
     let Some(question) = read_line(alloc, word, words)? else {
         return Ok(false);
     };
-    match (question, body) {
-        (Question::Scopes(question), body) => ask_scopes(alloc, store, body, &question, answer)?,
-        (Question::Captures(closure), Some(body)) => ask_captures(alloc, body, closure, answer)?,
-        (Question::Counted, Some(body)) => ask_counted(alloc, body, answer)?,
-        (Question::Captures(_) | Question::Counted, None) => unknown(answer)?,
-    }
+    write_asked(alloc, store, body, &question, answer)?;
     Ok(true)
 }

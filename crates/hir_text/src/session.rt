@@ -115,27 +115,23 @@ fn lookup(tables: &Tables, owner: &ExpressionStoreOwnerId) -> Result<(), Missing
     }
 }
 
-/// The owner at the end of the line.
-fn last_owner(words: &mut Words<'_>) -> Result<ExpressionStoreOwnerId, Stop> {
-    let owner = next_owner(words)?;
-    words.end()?;
-    Ok(owner)
-}
-
 /// `of OWNER`: makes the store of that owner the one that questions ask.
 fn select(
     nodes: &mut Nodes,
-    owner: &ExpressionStoreOwnerId,
-    found: Result<(), Missing>,
+    tables: &Tables,
+    words: &mut Words<'_>,
     answer: &mut Answer,
-) -> Result<(), AllocError> {
-    match found {
+) -> Result<(), Stop> {
+    let owner = next_owner(words)?;
+    words.end()?;
+    match lookup(tables, &owner) {
         Ok(()) => {
-            nodes.select(Subject::Owner(*owner));
-            answer.word("found")
+            answer.word("found")?;
+            nodes.select(Subject::Owner(owner));
         }
-        Err(missing) => refuse_missing(missing, answer),
+        Err(missing) => refuse_missing(missing, answer)?,
     }
+    Ok(())
 }
 
 /// Keeps the store that questions ask, which they ask until lines make something.
@@ -221,11 +217,7 @@ impl Session {
                     answer.word("accepted")?;
                 }
             }
-            Change::Of => {
-                let owner = last_owner(words)?;
-                let found = lookup(&self.tables, &owner);
-                select(&mut self.nodes, &owner, found, answer)?;
-            }
+            Change::Of => select(&mut self.nodes, &self.tables, words, answer)?,
             Change::Keep => {
                 words.end()?;
                 if self.nodes.ready(self.alloc, answer)? {

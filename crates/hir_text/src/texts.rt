@@ -189,19 +189,19 @@ fn read_pretty_line(word: &[u8], words: &mut Words<'_>) -> Result<Option<(Pretty
 fn print_of_body(
     alloc: Global,
     tables: &Tables,
-    def: DefWithBodyId,
+    def: &DefWithBodyId,
     body: &Body,
-    question: Pretty,
+    question: &Pretty,
     edition: Edition,
 ) -> Option<Result<String, PrintFault>> {
     match question {
-        Pretty::Body(owner) => Some(body.pretty_print(alloc, tables, owner, edition)),
-        Pretty::Expr(expr) if body.store().has_expr(expr) => {
-            Some(body.pretty_print_expr(alloc, tables, def, expr, edition))
+        Pretty::Body(owner) => Some(body.pretty_print(alloc, tables, *owner, edition)),
+        Pretty::Expr(expr) if body.store().has_expr(*expr) => {
+            Some(body.pretty_print_expr(alloc, tables, *def, *expr, edition))
         }
-        Pretty::Pat(pat, oneline) if body.store().has_pat(pat) => {
-            let owner = ExpressionStoreOwnerId::Body(def);
-            Some(body.pretty_print_pat(alloc, tables, owner, pat, oneline, edition))
+        Pretty::Pat(pat, oneline) if body.store().has_pat(*pat) => {
+            let owner = ExpressionStoreOwnerId::Body(*def);
+            Some(body.pretty_print_pat(alloc, tables, owner, *pat, *oneline, edition))
         }
         Pretty::Expr(_) | Pretty::Pat(..) => None,
     }
@@ -211,11 +211,11 @@ fn print_of_body(
 fn print_of_def(
     alloc: Global,
     tables: &Tables,
-    def: DefWithBodyId,
-    question: Pretty,
+    def: &DefWithBodyId,
+    question: &Pretty,
     edition: Edition,
 ) -> Option<Result<String, PrintFault>> {
-    match Body::of(tables, def) {
+    match Body::of(tables, *def) {
         Ok(body) => print_of_body(alloc, tables, def, body, question, edition),
         Err(missing) => Some(Err(PrintFault::Missing(missing))),
     }
@@ -226,10 +226,10 @@ fn print_asked(
     alloc: Global,
     tables: &Tables,
     owner: Option<ExpressionStoreOwnerId>,
-    question: Pretty,
+    question: &Pretty,
     edition: Edition,
 ) -> Option<Result<String, PrintFault>> {
-    match asked_def(owner) {
+    match &asked_def(owner) {
         Some(def) => print_of_def(alloc, tables, def, question, edition),
         None => None,
     }
@@ -247,7 +247,10 @@ pub(crate) fn ask_of_body(
     let Some((question, edition)) = read_pretty_line(word, words)? else {
         return Ok(false);
     };
-    write_opt_printed(print_asked(alloc, tables, owner, question, edition), answer)?;
+    write_opt_printed(
+        print_asked(alloc, tables, owner, &question, edition),
+        answer,
+    )?;
     Ok(true)
 }
 
