@@ -74,14 +74,19 @@ fn parent() -> GenericDefId {
 
 // An enum of ids shows the id that it holds, and not its own variant.
 fn enums_show(alloc: Global) -> Result<bool, AllocError> {
+    let adt = AdtId::EnumId(EnumId::from_raw(3));
     Ok(
-        shows(alloc, parent(), "EnumId(3)")?
-            && shows(alloc, GenericDefId::FunctionId(function()), "FunctionId(7)")?
-            && shows(
-                alloc,
-                DefWithBodyId::VariantId(EnumVariantId::from_raw(1)),
-                "EnumVariantId(1)",
-            )?
+        shows(alloc, adt, "EnumId(3)")?
+            && shows(alloc, GenericDefId::AdtId(adt), "EnumId(3)")?
+            && shows(alloc, GenericDefId::FunctionId(function()), "FunctionId(7)")?,
+    )
+}
+
+fn enums_of_variants_show(alloc: Global) -> Result<bool, AllocError> {
+    let variant = EnumVariantId::from_raw(1);
+    Ok(
+        shows(alloc, DefWithBodyId::VariantId(variant), "EnumVariantId(1)")?
+            && shows(alloc, VariantId::EnumVariantId(variant), "EnumVariantId(1)")?
             && shows(
                 alloc,
                 VariantId::UnionId(UnionId::from_raw(2)),
@@ -106,29 +111,22 @@ fn wider_enums_show(alloc: Global) -> Result<bool, AllocError> {
 
 // An owner shows what of the definition it is as well.
 fn owners_show(alloc: Global) -> Result<bool, AllocError> {
-    let body = DefWithBodyId::FunctionId(function());
-    let fields = VariantId::StructId(StructId::from_raw(0));
+    let adt = AdtId::EnumId(EnumId::from_raw(3));
+    let signature = ExpressionStoreOwnerId::Signature(GenericDefId::AdtId(adt));
+    let body = ExpressionStoreOwnerId::Body(DefWithBodyId::FunctionId(function()));
+    let fields = ExpressionStoreOwnerId::VariantFields(VariantId::StructId(StructId::from_raw(0)));
     Ok(
-        shows(
-            alloc,
-            ExpressionStoreOwnerId::from(parent()),
-            "Signature(EnumId(3))",
-        )? && shows(
-            alloc,
-            ExpressionStoreOwnerId::from(body),
-            "Body(FunctionId(7))",
-        )? && shows(
-            alloc,
-            ExpressionStoreOwnerId::from(fields),
-            "VariantFields(StructId(0))",
-        )?,
+        shows(alloc, signature, "Signature(EnumId(3))")?
+            && shows(alloc, body, "Body(FunctionId(7))")?
+            && shows(alloc, fields, "VariantFields(StructId(0))")?,
     )
 }
 
 #[test]
 fn an_enum_of_ids_shows_the_id_in_it(rt: HostRuntime) -> Result<(), Fail> {
     let alloc = rt.alloc();
-    assert!(rt; enums_show(alloc)? && wider_enums_show(alloc)? && owners_show(alloc)?);
+    assert!(rt; enums_show(alloc)? && enums_of_variants_show(alloc)?);
+    assert!(rt; wider_enums_show(alloc)? && owners_show(alloc)?);
     Ok(())
 }
 
