@@ -177,11 +177,12 @@ impl<'a> Stack<'a> {
         push_from_last(&mut self.works, works)
     }
 
-    /// Pushes works, the first on top. It reserves room once, and turns the works round.
+    /// Pushes works, the first on top. It reserves room once, and turns the works round where they lie.
     ///
-    /// Answers an error where that room was refused.
+    /// Answers an error where that room was refused. The works are turned round then, too.
     pub(crate) fn push_all(&mut self, works: &mut [Work<'a>]) -> Result<(), AllocError>
-        ensures { OnOk result (Pushes works.old (listed self.old) (listed self.new)) }
+        ensures pushes { OnOk result (Pushes works.old (listed self.old) (listed self.new)) }
+        ensures turned { works.new ≡ reverse works.old }
     {
         works.reverse();
         self.works.extend_from_slice(works)?;
