@@ -3,6 +3,8 @@ pub mod Blocks
 pub mod Contents
 pub mod StoreParts
 pub mod PatLists
+pub mod PatLinks
+pub mod Turns
 pub mod RootSearch
 pub mod Bounds
 pub mod Under

@@ -8,10 +8,11 @@ ghost use Rattle.hir_store.specs.Building.{nodes_of, building_of, empty_builder,
 ghost use Rattle.hir_faults.specs.Faults.{nodes_in};
 ghost use Rattle.hir_faults.specs.Nodes.{graph, sizes_of};
 ghost use Rattle.hir_forest.specs.Parents.{HasParents};
+ghost use Rattle.hir_expr_store.specs.PatLinks.{HasPatLinks};
 ghost use Rattle.hir_faults.specs.Sizes.{Few};
 
 use hir_base::{Arena, ArenaFault, BlockId, HygieneId, MOST_ITEMS, Seq, Table};
-use hir_expr_store::{ExpressionStore, RootList, SideTables, StoreParts};
+use hir_expr_store::{ExpressionStore, PatLinks, RootList, SideTables, StoreParts};
 use hir_faults::{FinishFault, NodeSlices};
 use hir_forest::{Parents, Root};
 use hir_node::{
@@ -259,10 +260,15 @@ impl ExpressionStoreBuilder {
             || !self.bindings.is_empty()
     }
 
-    /// The store and the source map of a builder without a fault, whose nodes have these parents.
-    pub(crate) fn accepted(self, parents: Parents) -> (ExpressionStore, ExpressionStoreSourceMap)
+    /// The store and the source map of a builder without a fault, whose nodes have these parents, and whose patterns these links.
+    pub(crate) fn accepted(
+        self,
+        parents: Parents,
+        links: PatLinks,
+    ) -> (ExpressionStore, ExpressionStoreSourceMap)
         requires sound { finish_fault (building_of self) None }
         requires parents { HasParents (graph (nodes_of self)) parents.parents }
+        requires links { HasPatLinks (nodes_of self).pats links }
         ensures store { result.0 ≡ contents_of (building_of self) }
         ensures source_map { result.1 ≡ finished (has_exprs (nodes_of self)) self.source_map }
     {
@@ -296,6 +302,7 @@ impl ExpressionStoreBuilder {
             roots: roots_or_empty(alloc, roots),
             side_tables: kept_side_tables(alloc, keeps_exprs, side_tables),
             parents,
+            links,
         });
         (store, source_map.finish(keeps_exprs))
     }

@@ -3,11 +3,12 @@
 ghost use Rattle.std.specs.Prelude.{◌≡◌, ◌⊎◌, ◌↔◌, IsTrue, IfOk, IfErr, None, Some};
 ghost use Rattle.hir_forest.specs.Parents.{HasParents};
 ghost use Rattle.hir_faults.specs.Nodes.{graph};
+ghost use Rattle.hir_expr_store.specs.PatLinks.{HasPatLinks};
 ghost use Rattle.hir_source.specs.Additions.{finished};
 ghost use Rattle.hir_store.specs.Building.{nodes_of, building_of, contents_of, roots_or_none, HasRoots, has_exprs, finish_fault};
 
 use crate::builder::{ExpressionStoreBuilder, Refused};
-use hir_expr_store::ExpressionStore;
+use hir_expr_store::{ExpressionStore, PatLinks};
 use hir_faults::{FinishFault, tested_parents};
 use hir_forest::{Parents, Root};
 use hir_source::ExpressionStoreSourceMap;
@@ -34,17 +35,20 @@ impl ExpressionStoreBuilder {
         }
     }
 
-    /// The parents of the nodes, where there is no fault. Else the first fault, or `Memory`.
-    fn tested_parents(&self) -> Result<Parents, FinishFault>
-        ensures ok { IfOk result (λ parents. finish_fault (building_of self.now) None
-            × HasParents (graph (nodes_of self.now)) parents.parents) }
+    /// The parents of the nodes and the links of the patterns, where there is no fault. Else the first fault, or `Memory`.
+    fn tested(&self) -> Result<(Parents, PatLinks), FinishFault>
+        ensures ok { IfOk result (λ kept. finish_fault (building_of self.now) None
+            × HasParents (graph (nodes_of self.now)) kept.0.parents
+            × HasPatLinks (nodes_of self.now).pats kept.1) }
         ensures err { IfErr result (λ fault. fault ≡ FinishFault.Memory
             ⊎ finish_fault (building_of self.now) (Some fault)) }
     {
         if !self.has_roots() {
             return Err(FinishFault::NoRoots);
         }
-        tested_parents(self.alloc, &self.nodes(), self.listed())
+        let parents = tested_parents(self.alloc, &self.nodes(), self.listed())?;
+        let links = PatLinks::of(self.alloc, self.pats.as_slice())?;
+        Ok((parents, links))
     }
 
     /// The store of the builder's nodes and roots, and its source map, where there is no fault. Else the first fault, or `Memory`
@@ -63,8 +67,8 @@ impl ExpressionStoreBuilder {
         ensures err { IfErr result (λ refused. (refused.builder ≡ self)
             × (refused.fault ≡ FinishFault.Memory ⊎ finish_fault (building_of self) (Some refused.fault))) }
     {
-        match self.tested_parents() {
-            Ok(parents) => Ok(self.accepted(parents)),
+        match self.tested() {
+            Ok((parents, links)) => Ok(self.accepted(parents, links)),
             Err(fault) => Err(Refused {
                 fault,
                 builder: self,
