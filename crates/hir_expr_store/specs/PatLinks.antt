@@ -1,9 +1,9 @@
 -- The links of patterns: from each child of a pattern to the next one, and from the last one back to the pattern.
-use Rattle.std.specs.Prelude.{◌≡◌, ℕ, ◌<◌, List, [], ◌∷◌, ⊤, length, set, slice_get, slice_index, slice_index_or, Contains}
+use Rattle.std.specs.Prelude.{◌≡◌, ℕ, ◌<◌, List, [], ◌∷◌, ⊤, length, set, slice_index_or, Contains}
+use Rattle.std.specs.List.{flat_map}
 use Rattle.hir_node.specs.declared.pat.Pat.{Pat}
 use Rattle.hir_node.specs.ChildCalls.{pat_of_call, pat_calls}
 use Rattle.hir_faults.specs.Nodes.{calls_at}
-use Rattle.std.specs.List.{flat_map}
 use Rattle.hir_expr_store.specs.declared.pat_links.PatLink.{PatLink}
 use Rattle.hir_expr_store.specs.declared.pat_links.PatLink.TheVariants.{Next, Last, Alone}
 
@@ -11,11 +11,16 @@ use Rattle.hir_expr_store.specs.declared.pat_links.PatLink.TheVariants.{Next, La
 abbrev pub kids_at : List Pat → ℕ → List ℕ
 kids_at pats m = flat_map pat_of_call (calls_at pat_calls pats m)
 
+-- nothing stands twice in the list
+abbrev pub IsOnce : {X : Type 0} → List X → Type 0
+IsOnce [] = ⊤
+IsOnce (x ∷ xs) = (Contains xs x → ⊥) × IsOnce xs
+
 -- each child is there, and is the child of one pattern, once
 pub record EachHasOnePlace (pats : List Pat) : Type 0 where
   pub there : (m k : ℕ) → Contains (kids_at pats m) k → k < length pats
   pub one_parent : (m n k : ℕ) → Contains (kids_at pats m) k → Contains (kids_at pats n) k → m ≡ n
-  pub once : (m i j : ℕ) → i < j → j < length (kids_at pats m) → slice_index (kids_at pats m) i ≡ slice_index (kids_at pats m) j → ⊥
+  pub once : (m : ℕ) → IsOnce (kids_at pats m)
 
 -- the link of a pattern
 abbrev pub link_at : List PatLink → ℕ → PatLink
