@@ -125,7 +125,7 @@ module _ (s : Nodes) (fall : KidsFall s) where
     after_low (below {m} {k} {front} {more} h is a) = let low = (kid_below m k front more h is).lower in let up = after_low a in omega arith
 
     pub behind_there : (t : Turn) (rest : List Turn) → Behind s top t rest → pat_of t < length s.pats
-    behind_there (Enter p) rest b = after_there b.1.0
+    behind_there (Enter p) rest b = after_there b.1
     behind_there (Leave p) rest b = after_there b
 
     -- the turns of a pattern and those behind it begin with its entering
@@ -162,7 +162,7 @@ module _ (s : Nodes) (fall : KidsFall s) where
 
       -- the turn that the links lead to is the next one
       pub follows : (t : Turn) (rest : List Turn) → Behind s top t rest → Follows s top rest (turn_after s links top t)
-      follows (Enter p) rest b = subst (λ (r : List Turn). Follows s top r (Some (turn_within p (child_pats_of s p)))) (sym b.1.1) (within p (child_pats_of s p) refl b.0 b.1.0)
+      follows (Enter p) rest b = subst (λ (r : List Turn). Follows s top r (Some (turn_within p (child_pats_of s p)))) (sym b.2) (within p (child_pats_of s p) refl b.0 b.1)
       follows (Leave p) rest b = leaves b
 
       steps_next : (d : ℕ) → ((t : Turn) (rest : List Turn) → length rest ≤ d → Behind s top t rest → steps s links top d t ≡ length rest)

@@ -35,6 +35,19 @@ impl ExpressionStoreBuilder {
         }
     }
 
+    /// The parents of the nodes, where there is no fault. Else the first fault, or `Memory`.
+    fn tested_parents(&self) -> Result<Parents, FinishFault>
+        ensures ok { IfOk result (λ parents. finish_fault (building_of self.now) None
+            × HasParents (graph (nodes_of self.now)) parents.parents) }
+        ensures err { IfErr result (λ fault. fault ≡ FinishFault.Memory
+            ⊎ finish_fault (building_of self.now) (Some fault)) }
+    {
+        if !self.has_roots() {
+            return Err(FinishFault::NoRoots);
+        }
+        tested_parents(self.alloc, &self.nodes(), self.listed())
+    }
+
     /// The parents of the nodes and the links of the patterns, where there is no fault. Else the first fault, or `Memory`.
     fn tested(&self) -> Result<(Parents, PatLinks), FinishFault>
         ensures ok { IfOk result (λ kept. finish_fault (building_of self.now) None
@@ -43,12 +56,11 @@ impl ExpressionStoreBuilder {
         ensures err { IfErr result (λ fault. fault ≡ FinishFault.Memory
             ⊎ finish_fault (building_of self.now) (Some fault)) }
     {
-        if !self.has_roots() {
-            return Err(FinishFault::NoRoots);
+        let parents = self.tested_parents()?;
+        match PatLinks::of(self.alloc, self.pats.as_slice()) {
+            Ok(links) => Ok((parents, links)),
+            Err(_) => Err(FinishFault::Memory),
         }
-        let parents = tested_parents(self.alloc, &self.nodes(), self.listed())?;
-        let links = PatLinks::of(self.alloc, self.pats.as_slice())?;
-        Ok((parents, links))
     }
 
     /// The store of the builder's nodes and roots, and its source map, where there is no fault. Else the first fault, or `Memory`
