@@ -38,7 +38,7 @@ length-linked m [] links = refl
 length-linked m (k ∷ []) links = length-set links k (Last m)
 length-linked m (k ∷ q ∷ more) links = length-linked m (q ∷ more) (set links k (Next q)) ∙ length-set links k (Next q)
 
-low_after : (links : List PatLink) (k : ℕ) (link : PatLink) (ks : List ℕ) → AllByRecursion (λ x. x < length links) ks → AllByRecursion (λ x. x < length (set links k link)) ks
+pub low_after : (links : List PatLink) (k : ℕ) (link : PatLink) (ks : List ℕ) → AllByRecursion (λ x. x < length links) ks → AllByRecursion (λ x. x < length (set links k link)) ks
 low_after links k link [] h = tt
 low_after links k link (x ∷ ks) h = (omega (arith, h.0, length-set links k link), low_after links k link ks h.1)
 

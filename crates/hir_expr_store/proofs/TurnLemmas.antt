@@ -85,11 +85,12 @@ module _ (s : Nodes) (fall : KidsFall s) where
   turns_there p h = there_in (suc (rank s (node.Pat p))) p h (omega arith)
 
   -- what the turns of a pattern give: what its entering gives, what the turns of its children give, what its leaving gives
-  gives : {A : Type 0} (g : Turn → List A) (p : ℕ) → flat_map g (turns s p) ≡ g (Enter p) ++ flat_map (λ q. flat_map g (turns s q)) (child_pats_of s p) ++ g (Leave p)
-  gives g p =
+  gives : {A : Type 0} (g : Turn → List A) (p : ℕ) → flat_map g (turns s p) ≡ g (Enter p) ++ (flat_map (λ q. flat_map g (turns s q)) (child_pats_of s p) ++ g (Leave p))
+  gives {A} g p =
       let inner = flat_map-append g (flat_map (turns s) (child_pats_of s p)) (Leave p ∷ []) in
-      let kids = flat_map-twice g (turns s) (child_pats_of s p) in
-      rw (turns_is p, inner, kids, append-nil (g (Leave p))) refl
+      let kids = ap (λ (t : List A). t ++ (g (Leave p) ++ [])) (flat_map-twice g (turns s) (child_pats_of s p)) in
+      let own = ap (λ (t : List A). flat_map (λ q. flat_map g (turns s q)) (child_pats_of s p) ++ t) (append-nil (g (Leave p))) in
+      ap (flat_map g) (turns_is p) ∙ ap (λ (t : List A). g (Enter p) ++ t) (inner ∙ kids ∙ own)
 
   pats_given : (d p : ℕ) → p < length s.pats → rank s (node.Pat p) < d → flat_map entered (turns s p) ≡ pats s p
   pats_given zero p h lt = absurd (omega arith)
