@@ -1,6 +1,6 @@
 //! The parents of graphs, noted edge by edge, and what is asked of them.
 
-ghost use Rattle.std.specs.Prelude.{◌≡◌, ◌+◌, ◌≤◌, length, IfOk};
+ghost use Rattle.std.specs.Prelude.{◌≡◌, ◌+◌, ◌<◌, ◌≤◌, length, IfOk};
 
 use hir_forest::{Ends, ForestFault, Parents, Root};
 use std::alloc::{AllocError, Global};
@@ -9,7 +9,20 @@ use std::test::Fail;
 /// A node and a kid of it.
 pub type Edge = (usize, usize);
 
-/// Notes one more row of so many, with the kids that the edges give this node. A kid that is no node is left out.
+/// Notes the edge in the last row, that of this node, where it begins there. An edge to what is no node is left out.
+fn add_edge(parents: &mut Parents, node: usize, count: usize, edge: &Edge)
+    requires nodes { length parents.old.parents ≡ count }
+    requires some { 0 < parents.old.rows }
+    ensures nodes { length parents.new.parents ≡ count }
+    ensures rows { parents.new.rows ≡ parents.old.rows }
+{
+    let (parent, kid) = *edge;
+    if parent == node && kid < count {
+        parents.push_kid(kid);
+    }
+}
+
+/// Notes one more row of so many, with the kids that the edges give this node.
 fn add_row(parents: &mut Parents, node: usize, count: usize, edges: &[Edge])
     requires nodes { length parents.old.parents ≡ count }
     requires rows { parents.old.rows + 1 ≤ count }
@@ -17,10 +30,8 @@ fn add_row(parents: &mut Parents, node: usize, count: usize, edges: &[Edge])
     ensures rows { parents.new.rows ≡ parents.old.rows + 1 }
 {
     parents.begin_row();
-    for (parent, kid) in edges {
-        if *parent == node && *kid < count {
-            parents.push_kid(*kid);
-        }
+    for edge in edges {
+        add_edge(parents, node, count, edge);
     }
 }
 
@@ -36,6 +47,19 @@ pub fn parents_of(alloc: Global, count: usize, edges: &[Edge]) -> Result<Parents
     Ok(parents)
 }
 
+/// Notes the row of the next node of a chain, whose only kid is the node before it.
+fn add_link(parents: &mut Parents, node: usize)
+    requires node { parents.old.rows ≡ node }
+    requires room { node < length parents.old.parents }
+    ensures nodes { length parents.new.parents ≡ length parents.old.parents }
+    ensures rows { parents.new.rows ≡ node + 1 }
+{
+    parents.begin_row();
+    if node > 0 {
+        parents.push_kid(node - 1);
+    }
+}
+
 /// Notes a chain of so many nodes, in which each is the only kid of the next.
 fn add_chain(parents: &mut Parents, count: usize)
     requires nodes { count ≤ length parents.old.parents }
@@ -44,10 +68,7 @@ fn add_chain(parents: &mut Parents, count: usize)
     ensures rows { parents.new.rows ≡ count }
 {
     for node in 0..count {
-        parents.begin_row();
-        if let Some(kid) = node.checked_sub(1) {
-            parents.push_kid(kid);
-        }
+        add_link(parents, node);
     }
 }
 
