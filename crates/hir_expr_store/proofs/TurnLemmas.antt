@@ -115,7 +115,7 @@ module _ (s : Nodes) (fall : KidsFall s) where
 
   module _ (top : ℕ) (here : top < length s.pats) where
     kid_below : (m k : ℕ) (front more : List ℕ) → m < length s.pats → child_pats_of s m ≡ front ++ k ∷ more → IsBelow s m k
-    kid_below m k front more h is = at_split (IsBelow s m) front k more (rw is at (pats_below s fall m h))
+    kid_below m k front more h is = at_split (IsBelow s m) front k more (subst (λ (ks : List ℕ). AllByRecursion (IsBelow s m) ks) is (pats_below s fall m h))
 
     after_there : {p : ℕ} {rest : List Turn} → AfterLeave s top p rest → p < length s.pats
     after_there at_top = here
@@ -159,7 +159,7 @@ module _ (s : Nodes) (fall : KidsFall s) where
           let low = (kid_below m k front more h is).lower in
           let up = after_low a in
           let other : eqb k top ≡ false = false_from_ne_true (eqb k top) (λ e. let same = ap (λ (n : ℕ). rank s (node.Pat n)) (eqb-true k top e) in omega arith) in
-          rw other (by_link m k front more rest h is a (linked_on links m k front more (rw is at (known.children m h))))
+          rw other (by_link m k front more rest h is a (linked_on links m k front more (subst (λ (ks : List ℕ). AreLinked links m ks) is (known.children m h))))
 
       -- the turn that the links lead to is the next one
       pub follows : (t : Turn) (rest : List Turn) → Behind s top t rest → Follows s top rest (turn_after s links top t)
@@ -168,10 +168,10 @@ module _ (s : Nodes) (fall : KidsFall s) where
 
       steps_next : (d : ℕ) → ((t : Turn) (rest : List Turn) → length rest ≤ d → Behind s top t rest → steps s links top d t ≡ length rest)
           → (o : Option Turn) (rest : List Turn) → length rest ≤ suc d → Follows s top rest o → steps_step (steps s links top d) o ≡ length rest
-      steps_next d ih None rest le f = rw f refl
+      steps_next d ih None rest le f = sym (ap length f)
       steps_next d ih (Some t) rest le f =
-          let len = ap length f.1 in
-          rw f.1 (ap suc (ih t f.0 (omega arith) f.2))
+          let len : length rest ≡ suc (length f.0) = ap length f.1 in
+          ap suc (ih t f.0 (omega arith) f.2) ∙ sym len
 
       -- the steps that the links lead are as many as the turns that come behind
       pub steps_is : (d : ℕ) (t : Turn) (rest : List Turn) → length rest ≤ d → Behind s top t rest → steps s links top d t ≡ length rest

@@ -27,7 +27,7 @@ module _ {V : Type 0} (may : V → Turn → Type 0) (step : V → Turn → V →
 
     pub walk_begun : {now : V} → step start (Enter top) now → WalksOn start now (Enter top)
     walk_begun st =
-        let len = ap length (turns_is s fall top) in
+        let len : length (turns s top) ≡ suc (length inner) = ap length (turns_is s fall top) in
         (inner, ([], at_top, refl), omega arith, going_on {xs = Enter top ∷ []} {ys = inner} (subst (λ (r : List Turn). Going may step start (turns s top) start r) (turns_is s fall top) (going_from can)) (runs_one st))
 
   module _ (fall : KidsFall s) (here : top < length s.pats) (links : List PatLink) (known : HasPatLinks s.pats links) {start now : V} (t : Turn) (w : WalksOn start now t) where
@@ -52,13 +52,13 @@ module _ {V : Type 0} (may : V → Turn → Type 0) (step : V → Turn → V →
 
       pub walk_next : {then : V} → step now u then → WalksOn start then u
       walk_next st =
-          let len = ap length then_turns.1 in
+          let len : length w.0 ≡ suc (length then_turns.0) = ap length then_turns.1 in
           let le = w.2 in
           (then_turns.0, then_turns.2, omega arith, going_on {xs = u ∷ []} {ys = then_turns.0} to_come (runs_one st))
 
       pub walk_fewer : steps s links top (length (turns s top)) u < steps s links top (length (turns s top)) t
       walk_fewer =
-          let len = ap length then_turns.1 in
+          let len : length w.0 ≡ suc (length then_turns.0) = ap length then_turns.1 in
           let le = w.2 in
           let before = steps_is s fall top here links known (length (turns s top)) t w.0 w.2 w.1 in
           let after = steps_is s fall top here links known (length (turns s top)) u then_turns.0 (omega arith) then_turns.2 in

@@ -1,8 +1,8 @@
 //! Which nodes of a forest lie properly under a marked one, found by going from parent to parent. What is found out of a chain of
 //! parents is noted on its way, so that all nodes together take no more steps than twice as many as there are nodes.
 
-ghost use Rattle.std.specs.Prelude.{◌≡◌, ℕ, ◌<◌, ◌↔◌, List, length, IfOk, IsTrue};
-ghost use Rattle.hir_forest.specs.Forest.{ChainEnds, Marks, LiesUnderMarked};
+ghost use Rattle.std.specs.Prelude.{◌≡◌, ℕ, ◌<◌, ◌↔◌, List, [], length, IfOk, IsTrue};
+ghost use Rattle.hir_forest.specs.Forest.{ChainEnds, Marks, MarksAll, LiesUnderMarked};
 ghost use Rattle.hir_forest.specs.Parents.{HasParents, AreKnown};
 
 use crate::parent_table::ParentTable;
@@ -79,6 +79,24 @@ fn note_chain(
     }
 }
 
+/// Notes of each node whether it lies properly under a marked one, where nothing is known before.
+fn note_all(parents: &ParentTable, marked: &[bool], known: &mut [bool], under: &mut [bool])
+    requires marked { length marked.now ≡ length parents.now }
+    requires known { length known.old ≡ length parents.now }
+    requires under { length under.old ≡ length parents.now }
+    requires none { MarksAll known.old [] }
+    ensures { (g : List (List ℕ)) → HasParents g parents.now
+        → ((n : ℕ) → n < length g → ChainEnds g n) → (n : ℕ) → n < length g
+        → Marks under.new n ↔ LiesUnderMarked g marked.now n }
+{
+    for node in 0..parents.len() {
+        if !known[node] {
+            let is_under = is_under_marked(parents, marked, known, under, node);
+            note_chain(parents, marked, known, under, node, is_under);
+        }
+    }
+}
+
 impl Parents {
     /// Which nodes of a forest lie properly under a marked node, as a table by number. There must be a mark for each node. A marked
     /// node is under none unless it lies under another one.
@@ -91,15 +109,10 @@ impl Parents {
             → ((n : ℕ) → n < length g → ChainEnds g n) → (n : ℕ) → n < length g
             → Marks under.items n ↔ LiesUnderMarked g marked.now n) }
     {
-        let parents = &self.table;
-        let mut known = vec![in alloc; false; parents.len()]?;
-        let mut under = vec![in alloc; false; parents.len()]?;
-        for node in 0..parents.len() {
-            if !known[node] {
-                let is_under = is_under_marked(parents, marked, &known, &under, node);
-                note_chain(parents, marked, &mut known, &mut under, node, is_under);
-            }
-        }
+        let nodes = self.table.len();
+        let mut known = vec![in alloc; false; nodes]?;
+        let mut under = vec![in alloc; false; nodes]?;
+        note_all(&self.table, marked, &mut known, &mut under);
         Ok(under)
     }
 }
