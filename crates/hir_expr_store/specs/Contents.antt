@@ -32,7 +32,7 @@ abbrev pub contents_fault : Contents → Option FinishFault → Type 0
 contents_fault c = rooted_fault (rooted_of c)
 
 -- the contents have no fault, and these are the parents of the nodes, by their places in the row, and the links of the patterns
-pub record IsStore (c : Contents) (kept : Parentage) (links : List PatLink) : Type 0 where
+pub record IsStore (c : Contents) (kept : Parentage) (linked : List PatLink) : Type 0 where
   pub sound : contents_fault c None
   pub parents : HasParents (graph c.nodes) kept.parents
-  pub links : HasPatLinks c.nodes.pats links
+  pub links : HasPatLinks c.nodes.pats linked

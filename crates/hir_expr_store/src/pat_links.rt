@@ -1,6 +1,6 @@
 //! The links of patterns: by them a walk goes from a pattern to what comes after it, without memory of the way that it came.
 
-ghost use Rattle.std.specs.Prelude.{◌≡◌, ◌<◌, ◌≤◌, ⊤, All, length, slice_get, slice_index_or, Some, IfOk};
+ghost use Rattle.std.specs.Prelude.{◌≡◌, ◌<◌, ◌≤◌, [], All, length, IfOk};
 ghost use Rattle.hir_node.specs.ChildCalls.{child_pats};
 ghost use Rattle.hir_expr_store.specs.PatLinks.{link_at, linked, HasPatLinks, EachHasOnePlace};
 
@@ -32,8 +32,6 @@ impl Model for PatLinks {
     ghost Value = { List PatLink };
 
     ghost view = { λ p. p.links.items };
-
-    ghost invariant = { λ p. ⊤ };
 }
 
 impl PatLinks {

@@ -21,6 +21,8 @@ pub(crate) enum Turn {
 
 /// What is done at each turn.
 pub(crate) trait TurnVisitor {
+    ghost use Rattle.hir_expr_store.specs.declared.turns.Turn.{Turn};
+
     // what has to hold of the value for a turn
     ghost may: { Self → Turn → Type 0 };
 
