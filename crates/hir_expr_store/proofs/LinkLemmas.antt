@@ -1,13 +1,14 @@
 -- The links of patterns: what is linked child by child, and that the patterns of a store can be linked.
-use Rattle.std.proofs.Common.{◌≡◌, ℕ, zero, suc, ◌<◌, List, [], ◌∷◌, Option, Some, None, true, false, inl, inr, ⊎_elim, refl, ap, sym, ◌∙◌, subst, arith, length, set, get_or, slice_get, Contains}
+use Rattle.std.proofs.Common.{◌≡◌, ℕ, zero, suc, ◌<◌, List, [], ◌∷◌, Option, Some, None, true, false, inl, inr, ⊎_elim, refl, ap, sym, ◌∙◌, subst, arith, length, set, get_or, slice_get, All, Contains}
 use Rattle.std.specs.List.{flat_map, AllByRecursion}
 use Rattle.std.proofs.lemmas.Bool.{cases_lt}
 use Rattle.std.proofs.lemmas.List.{get_or-set_same, get_or-set_other, length-set}
+use Rattle.std.proofs.lemmas.List.Elements.{Contains-get_or}
 use Rattle.std.proofs.lemmas.Option.{slice_get-get_or}
 use Rattle.hir_node.specs.declared.pat.Pat.{Pat}
 use Rattle.hir_node.specs.declared.node_id.NodeId.{NodeId}
 use Rattle.hir_node.specs.declared.node_id.NodeId.TheVariants as node
-use Rattle.hir_node.specs.ChildCalls.{Call, OnExpr, OnAnonConst, OnPat, OnType, OnLifetime, kids, pat_of_call}
+use Rattle.hir_node.specs.ChildCalls.{Call, OnExpr, OnAnonConst, OnPat, OnType, OnLifetime, kids, pat_of_call, pat_calls, child_pats, opt}
 use Rattle.hir_faults.specs.Nodes.{Nodes, Has, calls_of, kids_of}
 use Rattle.hir_faults.specs.Faults.{Rooted, rooted_fault}
 use Rattle.hir_faults.specs.Down.{KidsFall}
@@ -27,11 +28,11 @@ contains_behind x xs y c = (suc c.0, omega (arith, c.1), c.2)
 
 -- the link of another pattern stays
 linked-other : (m : ℕ) (ks : List ℕ) (links : List PatLink) (x : ℕ) → (Contains ks x → ⊥) → link_at (linked m ks links) x ≡ link_at links x
-linked-other m [] links x no = refl
-linked-other m (k ∷ []) links x no = get_or-set_other links k x (Last m) Alone (λ e. no (0, omega arith, sym e))
-linked-other m (k ∷ q ∷ more) links x no =
-    linked-other m (q ∷ more) (set links k (Next q)) x (λ c. no (contains_behind k (q ∷ more) x c))
-    ∙ get_or-set_other links k x (Next q) Alone (λ e. no (0, omega arith, sym e))
+linked-other m [] links x out = refl
+linked-other m (k ∷ []) links x out = get_or-set_other links k x (Last m) Alone (λ e. out (0, omega arith, sym e))
+linked-other m (k ∷ q ∷ more) links x out =
+    linked-other m (q ∷ more) (set links k (Next q)) x (λ c. out (contains_behind k (q ∷ more) x c))
+    ∙ get_or-set_other links k x (Next q) Alone (λ e. out (0, omega arith, sym e))
 
 pub length-linked : (m : ℕ) (ks : List ℕ) (links : List PatLink) → length (linked m ks links) ≡ length links
 length-linked m [] links = refl
@@ -77,6 +78,18 @@ linked-next pats place links i len before m lt =
           subst (λ (n : ℕ). AreLinked (linked i (kids_at pats i) links) n (kids_at pats n)) e
           (linked-here i (kids_at pats i) links (place.once i) (all_from_contains (λ x. x < length links) (kids_at pats i) (λ x c. let t = place.there i x c in omega arith)))
     ]
+
+-- the children of a pattern that was read
+pub kids_here : (pats : List Pat) (i : ℕ) (x : Pat) → i < length pats → x ≡ get_or pats i x → kids_at pats i ≡ child_pats x
+kids_here pats i x lt is =
+    let read : slice_get pats i ≡ Some x = slice_get-get_or pats i x lt ∙ ap Some (sym is) in
+    ap (λ (o : Option Pat). flat_map pat_of_call (opt pat_calls o)) read
+
+pub kids_low : (pats : List Pat) → EachHasOnePlace pats → (i : ℕ) (x : Pat) → i < length pats → x ≡ get_or pats i x → (n : ℕ) → n ≡ length pats → All (λ c. c < n) (child_pats x)
+kids_low pats place i x lt is n e k d h =
+    let kid = get_or (child_pats x) k d in
+    let there = place.there i kid (subst (λ (ks : List ℕ). Contains ks kid) (sym (kids_here pats i x lt is)) (Contains-get_or (child_pats x) k d h)) in
+    omega arith
 
 -- a pattern among calls is a kid
 pat_kid : (calls : List Call) (k : ℕ) → Contains (flat_map pat_of_call calls) k → Contains (kids calls) (node.Pat k)

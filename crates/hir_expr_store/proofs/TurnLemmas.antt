@@ -20,7 +20,7 @@ use Rattle.hir_expr_store.proofs.WalkLemmas.{IsBelow, pats_below}
 -- these turns come behind the leaving of a pattern, in the turns of the top
 pub data AfterLeave (s : Nodes) (top : ℕ) : ℕ → List Turn → Type 0 where
   at_top : AfterLeave s top top []
-  below : {m k : ℕ} {front more : List ℕ} {rest : List Turn} → m < length s.pats → child_pats_of s m ≡ front ++ k ∷ more → AfterLeave s top m rest
+  below : (m k : ℕ) (front more : List ℕ) (rest : List Turn) → m < length s.pats → child_pats_of s m ≡ front ++ k ∷ more → AfterLeave s top m rest
       → AfterLeave s top k (flat_map (turns s) more ++ Leave m ∷ rest)
 
 -- these turns come behind a turn
@@ -34,7 +34,7 @@ Follows s top rest None = rest ≡ []
 Follows s top rest (Some t) = (more : List Turn) × (rest ≡ t ∷ more) × Behind s top t more
 
 -- how many turns come behind a turn by the links, as far as a number of steps leads
-abbrev steps_step : (Turn → ℕ) → Option Turn → ℕ
+abbrev pub steps_step : (Turn → ℕ) → Option Turn → ℕ
 steps_step self None = 0
 steps_step self (Some t) = suc (self t)
 
@@ -119,11 +119,11 @@ module _ (s : Nodes) (fall : KidsFall s) where
 
     after_there : {p : ℕ} {rest : List Turn} → AfterLeave s top p rest → p < length s.pats
     after_there at_top = here
-    after_there (below {m} {k} {front} {more} h is a) = (kid_below m k front more h is).there
+    after_there (below m k front more rest h is a) = (kid_below m k front more h is).there
 
     after_low : {p : ℕ} {rest : List Turn} → AfterLeave s top p rest → rank s (node.Pat p) ≤ rank s (node.Pat top)
     after_low at_top = omega arith
-    after_low (below {m} {k} {front} {more} h is a) = let low = (kid_below m k front more h is).lower in let up = after_low a in omega arith
+    after_low (below m k front more rest h is a) = let low = (kid_below m k front more h is).lower in let up = after_low a in omega arith
 
     pub behind_there : (t : Turn) (rest : List Turn) → Behind s top t rest → pat_of t < length s.pats
     behind_there (Enter p) rest b = after_there b.1
@@ -142,7 +142,7 @@ module _ (s : Nodes) (fall : KidsFall s) where
     within p [] is after a = (after, refl, a)
     within p (k ∷ more) is after a =
         subst (λ (r : List Turn). Follows s top r (Some (Enter k))) (sym (append_assoc (turns s k) (flat_map (turns s) more) (Leave p ∷ after)))
-        (enters k (flat_map (turns s) more ++ Leave p ∷ after) (below {front = []} (after_there a) is a))
+        (enters k (flat_map (turns s) more ++ Leave p ∷ after) (below p k [] more after (after_there a) is a))
 
     module _ (links : List PatLink) (known : HasPatLinks s.pats links) where
       by_link : (m k : ℕ) (front more : List ℕ) (rest : List Turn) → m < length s.pats → child_pats_of s m ≡ front ++ k ∷ more → AfterLeave s top m rest → AreLinked links m (k ∷ more)
@@ -151,11 +151,11 @@ module _ (s : Nodes) (fall : KidsFall s) where
       by_link m k front (q ∷ more) rest h is a l =
           rw l.0
           (subst (λ (r : List Turn). Follows s top r (Some (Enter q))) (sym (append_assoc (turns s q) (flat_map (turns s) more) (Leave m ∷ rest)))
-          (enters q (flat_map (turns s) more ++ Leave m ∷ rest) (below {front = front ++ k ∷ []} h (is ∙ sym (append_assoc front (k ∷ []) (q ∷ more))) a)))
+          (enters q (flat_map (turns s) more ++ Leave m ∷ rest) (below m q (front ++ k ∷ []) more rest h (is ∙ sym (append_assoc front (k ∷ []) (q ∷ more))) a)))
 
       leaves : {p : ℕ} {rest : List Turn} → AfterLeave s top p rest → Follows s top rest (cond (eqb p top) None (turn_by (link_at links p)))
       leaves at_top = rw (eq-eqb top top refl) refl
-      leaves (below {m} {k} {front} {more} {rest} h is a) =
+      leaves (below m k front more rest h is a) =
           let low = (kid_below m k front more h is).lower in
           let up = after_low a in
           let other : eqb k top ≡ false = false_from_ne_true (eqb k top) (λ e. let same = ap (λ (n : ℕ). rank s (node.Pat n)) (eqb-true k top e) in omega arith) in

@@ -6,6 +6,7 @@ mod blocks;
 mod both;
 mod bounds;
 mod coroutines;
+mod kept;
 pub mod laws;
 mod lookups;
 mod missing;
@@ -25,6 +26,7 @@ mod walks;
 
 pub use blocks::Blocks;
 pub use bounds::TypeBoundExt;
+pub use kept::Kept;
 pub use missing::Missing;
 pub use pat_links::PatLinks;
 pub use root_list::RootList;

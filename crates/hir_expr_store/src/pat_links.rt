@@ -44,9 +44,7 @@ impl PatLinks {
         ensures { IfOk result (λ links. HasPatLinks pats.now links) }
     {
         let mut links = vec![in alloc; PatLink::Alone; pats.len()]?;
-        for (id, pat) in pats.iter().enumerate() {
-            link_children(&mut links, PatId::from_raw(id as u32), pat);
-        }
+        link_all(&mut links, pats);
         Ok(PatLinks { links })
     }
 
@@ -65,6 +63,18 @@ impl PatLinks {
         ensures { result ≡ link_at self.now id }
     {
         self.links[id.into_raw() as usize]
+    }
+}
+
+/// Links the children of all patterns.
+fn link_all(links: &mut [PatLink], pats: &[Pat])
+    requires few { length pats.now ≤ 4294967295 }
+    requires each { length links.old ≡ length pats.now }
+    requires one_place { EachHasOnePlace pats.now }
+    ensures { HasPatLinks pats.now links.new }
+{
+    for (id, pat) in pats.iter().enumerate() {
+        link_children(links, PatId::from_raw(id as u32), pat);
     }
 }
 

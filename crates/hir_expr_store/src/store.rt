@@ -9,6 +9,7 @@ ghost use Rattle.hir_node.specs.ChildCalls.{bound_calls};
 ghost use Rattle.hir_faults.specs.Fits.{path_fits};
 
 use crate::both::both;
+use crate::kept::Kept;
 use crate::pat_links::PatLinks;
 use crate::root_list::RootList;
 use crate::side_tables::SideTables;
@@ -37,8 +38,7 @@ pub struct ExpressionStore {
     lifetimes: Arena<LifetimeRefKind, LifetimeRef>,
     roots: RootList,
     side_tables: SideTables,
-    parents: Parents,
-    links: PatLinks,
+    kept: Kept,
 }
 
 /// Drops its parts one after the other. It is here so that it is proved once, and is a call wherever a value is dropped.
@@ -53,8 +53,7 @@ impl Drop for ExpressionStore {
             lifetimes,
             roots,
             side_tables,
-            parents,
-            links,
+            kept,
         } = self;
     }
 }
@@ -94,10 +93,10 @@ impl Model for ExpressionStore {
       };
       roots = s.roots;
       side_tables = s.side_tables;
-    } s.parents s.links };
+    } s.kept };
 }
 
-/// The parts of a store: the nodes and what they name, the roots, the side tables, the parents of the nodes, and the links of the patterns.
+/// The parts of a store: the nodes and what they name, the roots, the side tables, and what follows from the nodes and is kept.
 #[derive(Drop)]
 pub struct StoreParts {
     pub exprs: Arena<ExprKind, Expr>,
@@ -108,8 +107,7 @@ pub struct StoreParts {
     pub lifetimes: Arena<LifetimeRefKind, LifetimeRef>,
     pub roots: RootList,
     pub side_tables: SideTables,
-    pub parents: Parents,
-    pub links: PatLinks,
+    pub kept: Kept,
 }
 
 impl ExpressionStore {
@@ -121,10 +119,10 @@ impl ExpressionStore {
     ghost use Rattle.hir_expr_store.specs.PatLinks.{HasPatLinks};
     ghost use Rattle.hir_expr_store.specs.StoreParts.{contents_of_parts};
 
-    /// A store of these parts. A caller has to prove that they have no fault, and that the parents and the links are theirs: a builder
-    /// tests the nodes once.
+    /// A store of these parts. A caller has to prove that they have no fault, and that what is kept follows from them: a builder tests the
+    /// nodes once.
     pub fn new(parts: StoreParts) -> ExpressionStore
-        requires { IsStore (contents_of_parts parts) parts.parents parts.links }
+        requires { IsStore (contents_of_parts parts) parts.kept }
         ensures { result ≡ contents_of_parts parts }
     {
         let StoreParts {
@@ -136,8 +134,7 @@ impl ExpressionStore {
             lifetimes,
             roots,
             side_tables,
-            parents,
-            links,
+            kept,
         } = parts;
         ExpressionStore {
             exprs,
@@ -148,8 +145,7 @@ impl ExpressionStore {
             lifetimes,
             roots,
             side_tables,
-            parents,
-            links,
+            kept,
         }
     }
 
@@ -166,8 +162,10 @@ impl ExpressionStore {
             lifetimes: Arena::new(alloc),
             roots: RootList::new(alloc),
             side_tables: SideTables::new(alloc),
-            parents: Parents::none(alloc),
-            links: PatLinks::none(alloc),
+            kept: Kept {
+                parents: Parents::none(alloc),
+                links: PatLinks::none(alloc),
+            },
         }
     }
 
@@ -219,14 +217,14 @@ impl ExpressionStore {
     pub(crate) fn parents(&self) -> &Parents
         ensures { HasParents (graph self.now.nodes) result.now.parents }
     {
-        &self.parents
+        &self.kept.parents
     }
 
     /// The links of the patterns.
     pub(crate) fn links(&self) -> &PatLinks
         ensures { HasPatLinks self.now.nodes.pats result.now }
     {
-        &self.links
+        &self.kept.links
     }
 
     /// Whether there is an expression of this id.
@@ -449,12 +447,9 @@ impl Clone for ExpressionStore {
         let copy = both(copy, self.lifetimes.try_clone())?;
         let copy = both(copy, self.roots.try_clone())?;
         let copy = both(copy, self.side_tables.try_clone())?;
-        let copy = both(copy, self.parents.clone())?;
-        let (copy, links) = both(copy, self.links.clone())?;
-        let (
-            (((((((exprs, pats), types), bindings), labels), lifetimes), roots), side_tables),
-            parents,
-        ) = copy;
+        let (copy, kept) = both(copy, self.kept.clone())?;
+        let (((((((exprs, pats), types), bindings), labels), lifetimes), roots), side_tables) =
+            copy;
         Ok(ExpressionStore {
             exprs,
             pats,
@@ -464,8 +459,7 @@ impl Clone for ExpressionStore {
             lifetimes,
             roots,
             side_tables,
-            parents,
-            links,
+            kept,
         })
     }
 }

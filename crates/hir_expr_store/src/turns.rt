@@ -68,11 +68,10 @@ impl ExpressionStore {
     {
         self.has_no_fault();
         let links = self.links();
-        let mut turn = Turn::Enter(top);
-        visitor.on_turn(turn);
-        while let Some(next) = self.turn_after(links, top, turn) {
-            visitor.on_turn(next);
-            turn = next;
+        let mut coming = Some(Turn::Enter(top));
+        while let Some(turn) = coming {
+            visitor.on_turn(turn);
+            coming = self.turn_after(links, top, turn);
         }
     }
 }

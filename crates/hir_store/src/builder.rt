@@ -12,9 +12,9 @@ ghost use Rattle.hir_expr_store.specs.PatLinks.{HasPatLinks};
 ghost use Rattle.hir_faults.specs.Sizes.{Few};
 
 use hir_base::{Arena, ArenaFault, BlockId, HygieneId, MOST_ITEMS, Seq, Table};
-use hir_expr_store::{ExpressionStore, PatLinks, RootList, SideTables, StoreParts};
+use hir_expr_store::{ExpressionStore, Kept, RootList, SideTables, StoreParts};
 use hir_faults::{FinishFault, NodeSlices};
-use hir_forest::{Parents, Root};
+use hir_forest::Root;
 use hir_node::{
     Binding, BindingId, BindingKind, Expr, ExprId, ExprKind, ExprOrPatId, Label, LabelId,
     LabelKind, LifetimeRef, LifetimeRefId, LifetimeRefKind, Pat, PatId, PatKind, TypeRef,
@@ -260,15 +260,11 @@ impl ExpressionStoreBuilder {
             || !self.bindings.is_empty()
     }
 
-    /// The store and the source map of a builder without a fault, whose nodes have these parents, and whose patterns these links.
-    pub(crate) fn accepted(
-        self,
-        parents: Parents,
-        links: PatLinks,
-    ) -> (ExpressionStore, ExpressionStoreSourceMap)
+    /// The store and the source map of a builder without a fault, with what follows from its nodes.
+    pub(crate) fn accepted(self, kept: Kept) -> (ExpressionStore, ExpressionStoreSourceMap)
         requires sound { finish_fault (building_of self) None }
-        requires parents { HasParents (graph (nodes_of self)) parents.parents }
-        requires links { HasPatLinks (nodes_of self).pats links }
+        requires parents { HasParents (graph (nodes_of self)) kept.parents.parents }
+        requires links { HasPatLinks (nodes_of self).pats kept.links }
         ensures store { result.0 ≡ contents_of (building_of self) }
         ensures source_map { result.1 ≡ finished (has_exprs (nodes_of self)) self.source_map }
     {
@@ -301,8 +297,7 @@ impl ExpressionStoreBuilder {
             lifetimes,
             roots: roots_or_empty(alloc, roots),
             side_tables: kept_side_tables(alloc, keeps_exprs, side_tables),
-            parents,
-            links,
+            kept,
         });
         (store, source_map.finish(keeps_exprs))
     }

@@ -8,7 +8,7 @@ ghost use Rattle.hir_source.specs.Additions.{finished};
 ghost use Rattle.hir_store.specs.Building.{nodes_of, building_of, contents_of, roots_or_none, HasRoots, has_exprs, finish_fault};
 
 use crate::builder::{ExpressionStoreBuilder, Refused};
-use hir_expr_store::{ExpressionStore, PatLinks};
+use hir_expr_store::{ExpressionStore, Kept, PatLinks};
 use hir_faults::{FinishFault, tested_parents};
 use hir_forest::{Parents, Root};
 use hir_source::ExpressionStoreSourceMap;
@@ -48,17 +48,17 @@ impl ExpressionStoreBuilder {
         tested_parents(self.alloc, &self.nodes(), self.listed())
     }
 
-    /// The parents of the nodes and the links of the patterns, where there is no fault. Else the first fault, or `Memory`.
-    fn tested(&self) -> Result<(Parents, PatLinks), FinishFault>
+    /// What a store of the nodes keeps, where there is no fault. Else the first fault, or `Memory`.
+    fn tested(&self) -> Result<Kept, FinishFault>
         ensures ok { IfOk result (λ kept. finish_fault (building_of self.now) None
-            × HasParents (graph (nodes_of self.now)) kept.0.parents
-            × HasPatLinks (nodes_of self.now).pats kept.1) }
+            × HasParents (graph (nodes_of self.now)) kept.parents.parents
+            × HasPatLinks (nodes_of self.now).pats kept.links) }
         ensures err { IfErr result (λ fault. fault ≡ FinishFault.Memory
             ⊎ finish_fault (building_of self.now) (Some fault)) }
     {
         let parents = self.tested_parents()?;
         match PatLinks::of(self.alloc, self.pats.as_slice()) {
-            Ok(links) => Ok((parents, links)),
+            Ok(links) => Ok(Kept { parents, links }),
             Err(_) => Err(FinishFault::Memory),
         }
     }
@@ -80,7 +80,7 @@ impl ExpressionStoreBuilder {
             × (refused.fault ≡ FinishFault.Memory ⊎ finish_fault (building_of self) (Some refused.fault))) }
     {
         match self.tested() {
-            Ok((parents, links)) => Ok(self.accepted(parents, links)),
+            Ok(kept) => Ok(self.accepted(kept)),
             Err(fault) => Err(Refused {
                 fault,
                 builder: self,

@@ -9,6 +9,6 @@ abbrev pub invariant-loop-next : goal.invariant-loop-next
 invariant-loop-next l = record {
   next : goal.iterator-loop-next.can_next l.next-iterator;
   finite : goal.iterator-loop-next.is_finite l.next-iterator;
-  low : AllByRecursion (λ k. k < length l.links) (l.child ∷ l.next-iterator);
+  low : AllByRecursion (λ k. k < length l.fn.links) (l.child ∷ l.next-iterator);
   is : linked l.parent (l.child ∷ l.next-iterator) l.links ≡ linked l.parent (child_pats l.pat) l.fn.links;
 }

@@ -1,11 +1,11 @@
 use Rattle.std.proofs.Common.{length}
 use Rattle.hir_expr_store.specs.Turns.{turns}
-use Rattle.hir_expr_store.proofs.TurnLemmas.{steps}
+use Rattle.hir_expr_store.proofs.TurnLemmas.{steps_step, steps}
 use Rattle.hir_expr_store.proofs.TurnWalk.{WalksOn}
 use Rattle.hir_expr_store.proofs.store.ExpressionStore.walk_turns.Given as goal
 
-abbrev pub invariant-loop : goal.invariant-loop
-invariant-loop g l = WalksOn (goal.V-may g) (goal.V-step g) l.fn.self.nodes l.fn.top l.fn.visitor l.visitor l.turn
+abbrev pub invariant-loop-turn : goal.invariant-loop-turn
+invariant-loop-turn g l = WalksOn (goal.V-may g) (goal.V-step g) l.fn.self.nodes l.fn.top l.fn.visitor l.visitor l.coming
 
-abbrev pub decreases-loop : goal.decreases-loop
-decreases-loop g l = steps l.fn.self.nodes l.links l.fn.top (length (turns l.fn.self.nodes l.fn.top)) l.turn
+abbrev pub decreases-loop-turn : goal.decreases-loop-turn
+decreases-loop-turn g l = steps_step (steps l.fn.self.nodes l.links l.fn.top (length (turns l.fn.self.nodes l.fn.top))) l.coming
