@@ -86,16 +86,16 @@ fn count_children(store: &ExpressionStore, id: ExprId) -> u32
 }
 
 /// How many patterns, bindings and expressions the pattern has, and how many children the expression, where they are there.
-fn counted(store: &ExpressionStore, top: PatId, id: ExprId) -> Option<[u32; 4]> {
+fn counted(store: &ExpressionStore, top: PatId, id: ExprId) -> Option<(u32, u32, u32, u32)> {
     if !store.has_pat(top) || !store.has_expr(id) {
         return None;
     }
-    Some([
+    Some((
         count_pats(store, top),
         count_bindings(store, top),
         count_exprs(store, top),
         count_children(store, id),
-    ])
+    ))
 }
 
 #[test]
@@ -104,6 +104,6 @@ fn walks_1_000_000_deep(rt: HostRuntime) -> Result<(), Fail> {
     let found = counted(&store, PatId::from_raw(DEPTH + 2), ExprId::from_raw(2));
     std::mem::drop(store);
     // The patterns are the references, `x @ a` and `a`; the children of the `let` are `a` and `x`.
-    assert!(&rt; found == Some([DEPTH + 2, 1, 1, 2]));
+    assert!(&rt; found == Some((DEPTH + 2, 1, 1, 2)));
     Ok(())
 }
