@@ -48,7 +48,11 @@ turn_by (Next q) = Some (Enter q)
 turn_by (Last m) = Some (Leave m)
 turn_by Alone = None
 
+-- after a pattern is left, in the walk over the top
+abbrev pub turn_behind : List PatLink → ℕ → ℕ → Option Turn
+turn_behind links top p = cond (eqb p top) None (turn_by (link_at links p))
+
 -- the turn after this one in the walk over the top, by the links
 abbrev pub turn_after : Nodes → List PatLink → ℕ → Turn → Option Turn
 turn_after s links top (Enter p) = Some (turn_within p (child_pats_of s p))
-turn_after s links top (Leave p) = cond (eqb p top) None (turn_by (link_at links p))
+turn_after s links top (Leave p) = turn_behind links top p

@@ -10,7 +10,7 @@ ghost use Rattle.hir_expr_store.specs.Turns.{pat_of, entered, exprs_left};
 
 use crate::own_exprs::OwnExprs;
 use crate::store::ExpressionStore;
-use crate::turns::{Turn, TurnVisitor};
+use crate::turns::TurnVisitor;
 use hir_node::{BindingId, ExprId, Pat, PatId};
 
 /// Runs a closure on each pattern that is entered.
@@ -26,12 +26,11 @@ impl<F: FnMut(PatId)> TurnVisitor for Entered<'_, F> {
         × F.IsAlwaysCallable w.f.now
         × (w.f.ghost_name ≡ v.f.ghost_name) };
 
-    fn on_turn(&mut self, turn: Turn) {
-        match turn {
-            Turn::Enter(id) => (self.f)(id),
-            Turn::Leave(_) => {}
-        }
+    fn on_enter(&mut self, id: PatId) {
+        (self.f)(id);
     }
+
+    fn on_leave(&mut self, _id: PatId) {}
 }
 
 /// Runs a closure on the binding of each pattern that is entered.
@@ -50,12 +49,11 @@ impl<F: FnMut(BindingId)> TurnVisitor for BindingsEntered<'_, '_, F> {
         × (w.store ≡ v.store)
         × (w.f.ghost_name ≡ v.f.ghost_name) };
 
-    fn on_turn(&mut self, turn: Turn) {
-        match turn {
-            Turn::Enter(id) => walk_binding(&self.store[id], self.f),
-            Turn::Leave(_) => {}
-        }
+    fn on_enter(&mut self, id: PatId) {
+        walk_binding(&self.store[id], self.f);
     }
+
+    fn on_leave(&mut self, _id: PatId) {}
 }
 
 /// Runs the closure on the binding that a pattern brings into scope.
@@ -85,11 +83,10 @@ impl<F: FnMut(ExprId)> TurnVisitor for ExprsLeft<'_, '_, F> {
         × (w.store ≡ v.store)
         × (w.f.ghost_name ≡ v.f.ghost_name) };
 
-    fn on_turn(&mut self, turn: Turn) {
-        match turn {
-            Turn::Enter(_) => {}
-            Turn::Leave(id) => walk_own_exprs(self.store, id, self.f),
-        }
+    fn on_enter(&mut self, _id: PatId) {}
+
+    fn on_leave(&mut self, id: PatId) {
+        walk_own_exprs(self.store, id, self.f);
     }
 }
 

@@ -1,10 +1,10 @@
 //! The walk over the patterns of a pattern, by turns: each pattern is entered before its child patterns and left after them. It goes
 //! from turn to turn by the links that the store keeps, so it takes no memory and doesn't recurse.
 
-ghost use Rattle.std.specs.Prelude.{◌≡◌, ◌<◌, length};
+ghost use Rattle.std.specs.Prelude.{◌≡◌, ◌<◌, Some, length};
 ghost use Rattle.hir_node.specs.Runs.{Runs, MayRun};
-ghost use Rattle.hir_expr_store.specs.PatLinks.{HasPatLinks};
-ghost use Rattle.hir_expr_store.specs.Turns.{pat_of, turn_after, turns};
+ghost use Rattle.hir_expr_store.specs.PatLists.{child_pats_of};
+ghost use Rattle.hir_expr_store.specs.Turns.{turn_within, turn_behind, turns};
 
 use crate::pat_links::{PatLink, PatLinks};
 use crate::store::ExpressionStore;
@@ -22,6 +22,7 @@ pub(crate) enum Turn {
 /// What is done at each turn.
 pub(crate) trait TurnVisitor {
     ghost use Rattle.hir_expr_store.specs.declared.turns.Turn.{Turn};
+    ghost use Rattle.hir_expr_store.specs.declared.turns.Turn.TheVariants.{Enter, Leave};
 
     // what has to hold of the value for a turn
     ghost may: { Self → Turn → Type 0 };
@@ -29,34 +30,26 @@ pub(crate) trait TurnVisitor {
     // relates the value before a turn, the turn, and the value after it
     ghost step: { Self → Turn → Self → Type 0 };
 
-    /// Does it.
-    fn on_turn(&mut self, turn: Turn)
-        requires { may self.old turn }
-        ensures { step self.old turn self.new };
+    /// The pattern is entered.
+    fn on_enter(&mut self, id: PatId)
+        requires { may self.old (Enter id) }
+        ensures { step self.old (Enter id) self.new };
+
+    /// The pattern is left.
+    fn on_leave(&mut self, id: PatId)
+        requires { may self.old (Leave id) }
+        ensures { step self.old (Leave id) self.new };
 }
 
 impl ExpressionStore {
-    /// The turn after this one, where there is one in the walk over this top.
-    fn turn_after(&self, links: &PatLinks, top: PatId, turn: Turn) -> Option<Turn>
-        requires there { pat_of turn < length self.now.nodes.pats }
-        requires links { HasPatLinks self.now.nodes.pats links.now }
-        ensures { result ≡ turn_after self.now.nodes links.now top turn }
+    /// The turn after a pattern is entered.
+    fn turn_within(&self, id: PatId) -> Option<Turn>
+        requires { id < length self.now.nodes.pats }
+        ensures { result ≡ Some (turn_within id (child_pats_of self.now.nodes id)) }
     {
-        match turn {
-            Turn::Enter(id) => match self[id].child_pats().next() {
-                Some(child) => Some(Turn::Enter(child)),
-                None => Some(Turn::Leave(id)),
-            },
-            Turn::Leave(id) => {
-                if id == top {
-                    return None;
-                }
-                match links.link(id) {
-                    PatLink::Next(next) => Some(Turn::Enter(next)),
-                    PatLink::Last(parent) => Some(Turn::Leave(parent)),
-                    PatLink::Alone => None,
-                }
-            }
+        match self[id].child_pats().next() {
+            Some(child) => Some(Turn::Enter(child)),
+            None => Some(Turn::Leave(id)),
         }
     }
 
@@ -70,8 +63,31 @@ impl ExpressionStore {
         let links = self.links();
         let mut coming = Some(Turn::Enter(top));
         while let Some(turn) = coming {
-            visitor.on_turn(turn);
-            coming = self.turn_after(links, top, turn);
+            coming = match turn {
+                Turn::Enter(id) => {
+                    visitor.on_enter(id);
+                    self.turn_within(id)
+                }
+                Turn::Leave(id) => {
+                    visitor.on_leave(id);
+                    turn_behind(links, top, id)
+                }
+            };
         }
+    }
+}
+
+/// The turn after a pattern is left, where there is one in the walk over this top.
+fn turn_behind(links: &PatLinks, top: PatId, id: PatId) -> Option<Turn>
+    requires { id < length links.now }
+    ensures { result ≡ turn_behind links.now top id }
+{
+    if id == top {
+        return None;
+    }
+    match links.link(id) {
+        PatLink::Next(next) => Some(Turn::Enter(next)),
+        PatLink::Last(parent) => Some(Turn::Leave(parent)),
+        PatLink::Alone => None,
     }
 }
