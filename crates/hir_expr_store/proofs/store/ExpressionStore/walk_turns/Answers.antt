@@ -4,7 +4,7 @@ use Rattle.hir_expr_store.specs.declared.turns.Turn.TheVariants.{Enter, Leave}
 use Rattle.hir_expr_store.proofs.TurnWalk.{walk_begins, walk_there, walk_may}
 use Rattle.hir_expr_store.proofs.store.ExpressionStore.walk_turns.Goals as goal
 
-pub loop-turn-init : goal.loop-turn-init
-loop-turn-init g c =
+pub loop-coming-init : goal.loop-coming-init
+loop-coming-init g c =
     let fall = sound_falls (rooted_of c.args.self.now) c.has_no_fault.ensures in
     walk_begins _ _ c.args.self.now.nodes c.args.top fall c.requires.may
