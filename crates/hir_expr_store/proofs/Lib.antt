@@ -1,5 +1,8 @@
 pub mod PatLemmas
 pub mod WalkLemmas
+pub mod LinkLemmas
+pub mod TurnLemmas
+pub mod TurnWalk
 pub mod UnderLemmas
 pub mod ApartLemmas
 pub mod ReachedLemmas

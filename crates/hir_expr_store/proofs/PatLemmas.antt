@@ -4,17 +4,17 @@ use Rattle.std.specs.List.{flat_map}
 use Rattle.std.proofs.lemmas.List.Concat.{flat_map-append}
 use Rattle.hir_node.specs.declared.pat.Pat.{Pat}
 use Rattle.hir_node.specs.declared.pat.Pat.TheVariants as pat
-use Rattle.hir_node.specs.ChildCalls.{Call, OnExpr, OnAnonConst, OnPat, OnType, OnLifetime, p, e, opt, pat_calls, path_calls, kids, pat_of_call, child_pats}
+use Rattle.hir_node.specs.ChildCalls.{Call, OnExpr, OnAnonConst, OnPat, OnType, OnLifetime, p, e, opt, pat_calls, path_calls, kids, pat_of_call}
 use Rattle.hir_node.specs.declared.node_id.NodeId.{NodeId}
 use Rattle.hir_node.specs.declared.node_id.NodeId.TheVariants as node
-use Rattle.hir_node.specs.OtherIds.{pat_bindings}
 use Rattle.hir_node.proofs.ChildPatLemmas.{none-path}
 use Rattle.hir_faults.specs.Nodes.{Nodes, calls_of}
 use Rattle.hir_faults.specs.Down.{KidsFall, AgreeOn, AsksKids}
 use Rattle.hir_expr_store.specs.PatLists.{child_pats_of, pats_step, pats, bindings_at, bindings_in, exprs_from, own_exprs, exprs_in_step, exprs_in}
 use Rattle.hir_faults.proofs.DownLemmas.{value_at}
+use Rattle.hir_faults.proofs.SoundLemmas.{item_at}
 
-pats_agree : (f g : NodeId → List ℕ) (calls : List Call) → AgreeOn f g (kids calls) → flat_map (λ q. f (node.Pat q)) (flat_map pat_of_call calls) ≡ flat_map (λ q. g (node.Pat q)) (flat_map pat_of_call calls)
+pub pats_agree : {A : Type 0} (f g : NodeId → List A) (calls : List Call) → AgreeOn f g (kids calls) → flat_map (λ q. f (node.Pat q)) (flat_map pat_of_call calls) ≡ flat_map (λ q. g (node.Pat q)) (flat_map pat_of_call calls)
 pats_agree f g [] h = refl
 pats_agree f g (OnExpr id ∷ calls) h = pats_agree f g calls h.1
 pats_agree f g (OnAnonConst id ∷ calls) h = pats_agree f g calls h.1
@@ -40,7 +40,7 @@ exprs_in_asks s f g (node.Pat id) h = exprs_agree f g (calls_of s (node.Pat id))
 exprs_in_asks s f g (node.Expr id) h = refl
 exprs_in_asks s f g (node.TypeRef id) h = refl
 
-flat_map-twice : {X Y Z : Type 0} (f : Y → List Z) (g : X → List Y) (xs : List X) → flat_map f (flat_map g xs) ≡ flat_map (λ x. flat_map f (g x)) xs
+pub flat_map-twice : {X Y Z : Type 0} (f : Y → List Z) (g : X → List Y) (xs : List X) → flat_map f (flat_map g xs) ≡ flat_map (λ x. flat_map f (g x)) xs
 flat_map-twice f g [] = refl
 flat_map-twice f g (x ∷ xs) = flat_map-append f (g x) (flat_map g xs) ∙ ap (λ rest. flat_map f (g x) ++ rest) (flat_map-twice f g xs)
 
@@ -120,9 +120,6 @@ module _ (inside : ℕ → List ℕ) where
   pats_first (pat.Deref sub) = parted-one sub
 
 -- the expressions of a pattern are those of its child patterns, and then its own
-pub exprs_in_parted : (s : Nodes) → KidsFall s → (id : ℕ) (x : Pat) → slice_get s.pats id ≡ Some x → id < length s.pats
-    → exprs_in s id ≡ flat_map (exprs_in s) (child_pats x) ++ flat_map own_exprs (pat_calls x)
-exprs_in_parted s fall id x is h = exprs_in_is s fall id h ∙ (rw is (pats_first (exprs_in s) x))
-
-pub bindings_here : (s : Nodes) → KidsFall s → (id : ℕ) (x : Pat) → slice_get s.pats id ≡ Some x → id < length s.pats → bindings_in s id ≡ pat_bindings x ++ flat_map (bindings_in s) (child_pats x)
-bindings_here s fall id x is h = bindings_in_is s fall id h ∙ (rw is refl)
+pub exprs_in_parted : (s : Nodes) → KidsFall s → (id : ℕ) → id < length s.pats
+    → exprs_in s id ≡ flat_map (exprs_in s) (child_pats_of s id) ++ flat_map own_exprs (calls_of s (node.Pat id))
+exprs_in_parted s fall id h = let x = item_at s.pats id h in exprs_in_is s fall id h ∙ (rw x.1 (pats_first (exprs_in s) x.0))

@@ -8,8 +8,7 @@ use Rattle.hir_forest.specs.Forest.{IsKid, Climbs, HasOneParent, IsForest, Marks
 use Rattle.hir_forest.specs.Height.{height}
 use Rattle.hir_forest.proofs.ForestLemmas.{parent_in}
 use Rattle.hir_forest.proofs.HeightLemmas.{height_falls}
-use Rattle.hir_forest.proofs.MarkLemmas.{Marks-set, Marks-kept, Marks-here}
-use Rattle.hir_forest.proofs.WalkLemmas.{marks_in}
+use Rattle.hir_forest.proofs.MarkLemmas.{Marks-set, Marks-kept, Marks-here, marks_in}
 use Rattle.hir_node.specs.declared.node_id.NodeId.{NodeId}
 use Rattle.hir_node.specs.declared.node_id.NodeId.TheVariants as node
 use Rattle.hir_faults.specs.declared.sizes.Sizes.{Sizes}
@@ -176,11 +175,11 @@ module _ (c : Rooted) (sound : rooted_fault c None) where
       proper r k ne zero e = absurd (ne (same_place z n r h k e))
       proper r k ne (suc j) x = (j, x)
 
-  pub found_right : (marks found : List Bool) (rows : List (List ℕ)) → rows ≡ g → length marks ≡ length g
-      → ((m : ℕ) → m < length rows → Marks found m ↔ LiesUnderMarked rows marks m)
+  pub found_right : (marks found : List Bool) → length marks ≡ length g
+      → ((m : ℕ) → m < length g → Marks found m ↔ LiesUnderMarked g marks m)
       → (n : NodeId) → Has s n → Marks found (place z n) ↔ LiesUnderOther s (λ r. Marks marks (place z r)) n
-  found_right marks found rows is len under n h =
+  found_right marks found len under n h =
       let t = table_right marks len n h in
       let w = place_within z n h in
-      let u = subst (λ (h : List (List ℕ)). (m : ℕ) → m < length h → Marks found m ↔ LiesUnderMarked h marks m) is under (place z n) (omega (arith, graph-length s)) in
+      let u = under (place z n) (omega (arith, graph-length s)) in
       (λ m. t.0 (u.0 m), λ l. u.1 (t.1 l))

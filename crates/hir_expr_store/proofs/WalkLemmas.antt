@@ -1,15 +1,15 @@
 -- What walks over the patterns of a pattern need: child patterns stand lower, and runs of a visitor are folds of what it holds.
-use Rattle.std.proofs.Common.{◌≡◌, ℕ, suc, ◌<◌, Bool, true, List, [], ◌∷◌, Some, length, slice_get, refl, arith, Contains}
+use Rattle.std.proofs.Common.{◌≡◌, ℕ, suc, ◌<◌, Bool, true, List, [], ◌∷◌, length, refl, arith, Contains}
 use Rattle.std.specs.List.{flat_map, FoldsTo, AllByRecursion, list_all}
 use Rattle.std.specs.Cmp.{first_so, second_so}
-use Rattle.hir_node.specs.declared.pat.Pat.{Pat}
 use Rattle.hir_node.specs.Runs.{Runs, no_call, a_call, MayRun, at_end, at_call}
-use Rattle.hir_node.specs.ChildCalls.{Call, OnExpr, OnAnonConst, OnPat, OnType, OnLifetime, kids, pat_of_call, child_pats}
+use Rattle.hir_node.specs.ChildCalls.{Call, OnExpr, OnAnonConst, OnPat, OnType, OnLifetime, kids, pat_of_call}
 use Rattle.hir_node.specs.declared.node_id.NodeId.{NodeId}
 use Rattle.hir_node.specs.declared.node_id.NodeId.TheVariants as node
 use Rattle.hir_node.proofs.ChildPatLemmas.{folds_on}
 use Rattle.hir_faults.specs.Nodes.{Nodes, Has, calls_of, kids_of}
 use Rattle.hir_faults.specs.Down.{rank, KidsFall}
+use Rattle.hir_expr_store.specs.PatLists.{child_pats_of}
 
 -- the pattern c is there, and stands lower than p
 pub record IsBelow (s : Nodes) (p c : ℕ) : Type 0 where
@@ -28,12 +28,12 @@ pats_of_kids P Q f (OnPat id ∷ calls) h = (f id h.0, pats_of_kids P Q f calls 
 pats_of_kids P Q f (OnType id ∷ calls) h = pats_of_kids P Q f calls h.1
 pats_of_kids P Q f (OnLifetime id ∷ calls) h = pats_of_kids P Q f calls h
 
--- the child patterns of a pattern stand lower
-pub children_below : (s : Nodes) → KidsFall s → (id : ℕ) (x : Pat) → slice_get s.pats id ≡ Some x → id < length s.pats → AllByRecursion (IsBelow s id) (child_pats x)
-children_below s fall id x is h =
+-- the child patterns of a pattern are there, and stand lower
+pub pats_below : (s : Nodes) → KidsFall s → (id : ℕ) → id < length s.pats → AllByRecursion (IsBelow s id) (child_pats_of s id)
+pats_below s fall id h =
     let kid : NodeId → Type 0 = λ k. Has s k × (rank s k < rank s (node.Pat id)) in
     let all = each_member kid (kids_of s (node.Pat id)) (λ k c. (fall.there (node.Pat id) h k c, fall.lower (node.Pat id) h k c)) in
-    rw is at (pats_of_kids kid (IsBelow s id) (λ q k. record { there = k.0; lower = k.1 }) (calls_of s (node.Pat id)) all)
+    pats_of_kids kid (IsBelow s id) (λ q k. record { there = k.0; lower = k.1 }) (calls_of s (node.Pat id)) all
 
 -- each call folds what is held over what it gives
 pub folds_through : {V C P A : Type 0} {step : V → C → V → Type 0} (R : P → A → P → Type 0) (held : V → P) (gives : C → List A) → ((v w : V) (c : C) → step v c w → FoldsTo R (held v) (gives c) (held w))
@@ -46,6 +46,12 @@ pub may_each : {V C : Type 0} {step : V → C → V → Type 0} (may : V → C �
     → (cs : List C) {v : V} → P v → list_all test cs ≡ true → MayRun may step v cs
 may_each may P test can leaves [] h t = at_end
 may_each may P test can leaves (c ∷ cs) h t = at_call (can _ c h (first_so _ _ t)) (λ w s. may_each may P test can leaves cs (leaves _ w c h s) (second_so _ _ t))
+
+-- the same where something holds of each call
+pub may_those : {V C : Type 0} {step : V → C → V → Type 0} (may : V → C → Type 0) (P : V → Type 0) (Q : C → Type 0) → ((v : V) (c : C) → P v → Q c → may v c) → ((v w : V) (c : C) → P v → step v c w → P w)
+    → (cs : List C) {v : V} → P v → AllByRecursion Q cs → MayRun may step v cs
+may_those may P Q can leaves [] h t = at_end
+may_those may P Q can leaves (c ∷ cs) h t = at_call (can _ c h t.0) (λ w s. may_those may P Q can leaves cs (leaves _ w c h s) t.1)
 
 -- the same where a fact holds that the calls leave
 pub folds_kept : {V C P A : Type 0} {step : V → C → V → Type 0} (R : P → A → P → Type 0) (held : V → P) (gives : C → List A) (Q : V → Type 0) → ((v w : V) (c : C) → Q v → step v c w → FoldsTo R (held v) (gives c) (held w) × Q w)

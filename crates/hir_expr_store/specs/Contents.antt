@@ -2,11 +2,13 @@
 use Rattle.std.specs.Prelude.{List, [], Option, None}
 use Rattle.hir_forest.specs.declared.roots.Root.{Root}
 use Rattle.hir_faults.specs.declared.fault.FinishFault.{FinishFault}
-use Rattle.hir_forest.specs.Parents.{Parentage, HasParents}
+use Rattle.hir_forest.specs.Parents.{HasParents}
 use Rattle.hir_faults.specs.Nodes.{Nodes, graph}
 use Rattle.hir_faults.specs.Faults.{Rooted, rooted_fault}
 use Rattle.hir_expr_store.specs.declared.side_tables.SideTables.{SideTables}
+use Rattle.hir_expr_store.specs.declared.kept.Kept.{Kept}
 use Rattle.hir_expr_store.specs.SideTables.{no_side_tables}
+use Rattle.hir_expr_store.specs.PatLinks.{HasPatLinks}
 
 -- the nodes and what they name, the roots, and the side tables
 pub record Contents : Type 0 where
@@ -29,7 +31,8 @@ rooted_of c = record { nodes = c.nodes; roots = c.roots }
 abbrev pub contents_fault : Contents → Option FinishFault → Type 0
 contents_fault c = rooted_fault (rooted_of c)
 
--- the contents have no fault, and these are the parents of the nodes, by their places in the row
-pub record IsStore (c : Contents) (kept : Parentage) : Type 0 where
+-- the contents have no fault, and what is kept are the parents of the nodes, by their places in the row, and the links of the patterns
+pub record IsStore (c : Contents) (kept : Kept) : Type 0 where
   pub sound : contents_fault c None
-  pub parents : HasParents (graph c.nodes) kept.parents
+  pub parents : HasParents (graph c.nodes) kept.parents.parents
+  pub links : HasPatLinks c.nodes.pats kept.links

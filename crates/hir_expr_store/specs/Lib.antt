@@ -4,6 +4,8 @@ pub mod Contents
 pub mod MissingTexts
 pub mod StoreParts
 pub mod PatLists
+pub mod PatLinks
+pub mod Turns
 pub mod RootSearch
 pub mod Bounds
 pub mod Under

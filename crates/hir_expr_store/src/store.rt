@@ -1,6 +1,6 @@
 //! An accepted store: its nodes, which are a well-formed forest, and its roots.
 
-ghost use Rattle.std.specs.Prelude.{◌≡◌, ◌<◌, ◌↔◌, None, Some, length, slice_get, IsTrue, IfOk};
+ghost use Rattle.std.specs.Prelude.{◌≡◌, ◌<◌, ◌↔◌, None, Some, length, slice_get, IsTrue};
 ghost use Rattle.std.specs.List.{enumerate_from, list_all};
 ghost use Rattle.hir_forest.specs.Faults.{root_nodes};
 ghost use Rattle.hir_faults.specs.Tested.{bound_paths, is_path_at, path_at};
@@ -9,12 +9,14 @@ ghost use Rattle.hir_node.specs.ChildCalls.{bound_calls};
 ghost use Rattle.hir_faults.specs.Fits.{path_fits};
 
 use crate::both::both;
+use crate::kept::Kept;
+use crate::pat_links::PatLinks;
 use crate::root_list::RootList;
 use crate::side_tables::SideTables;
 use crate::store_iter::ExprRoots;
 use hir_base::{Arena, ArenaIter, ExactEq, TryClone};
 use hir_faults::{NodeSlices, Sizes, as_path};
-use hir_forest::{Parents, Root, Rows};
+use hir_forest::{Parents, Root};
 use hir_node::{
     Binding, BindingId, BindingKind, Expr, ExprId, ExprKind, Label, LabelId, LabelKind,
     LifetimeRef, LifetimeRefId, LifetimeRefKind, Pat, PatId, PatKind, Path, PathId, TypeBound,
@@ -25,7 +27,8 @@ use std::marker::Model;
 use std::ops::Index;
 
 /// Expressions, patterns, types and what they name, with the roots. They have no fault: each id that a node names is there, and the
-/// nodes are a forest. `ExpressionStoreBuilder::finish` makes it. The parent of each node, which `finish` has to find, is kept.
+/// nodes are a forest. `ExpressionStoreBuilder::finish` makes it. The parent of each node, which `finish` has to find, is kept, and for
+/// walks over patterns what comes after each pattern.
 pub struct ExpressionStore {
     exprs: Arena<ExprKind, Expr>,
     pats: Arena<PatKind, Pat>,
@@ -35,7 +38,7 @@ pub struct ExpressionStore {
     lifetimes: Arena<LifetimeRefKind, LifetimeRef>,
     roots: RootList,
     side_tables: SideTables,
-    parents: Parents,
+    kept: Kept,
 }
 
 /// Drops its parts one after the other. It is here so that it is proved once, and is a call wherever a value is dropped.
@@ -50,7 +53,7 @@ impl Drop for ExpressionStore {
             lifetimes,
             roots,
             side_tables,
-            parents,
+            kept,
         } = self;
     }
 }
@@ -90,10 +93,10 @@ impl Model for ExpressionStore {
       };
       roots = s.roots;
       side_tables = s.side_tables;
-    } s.parents };
+    } s.kept };
 }
 
-/// The parts of a store: the nodes and what they name, the roots, the side tables, and the parents of the nodes.
+/// The parts of a store: the nodes and what they name, the roots, the side tables, and what follows from the nodes and is kept.
 #[derive(Drop)]
 pub struct StoreParts {
     pub exprs: Arena<ExprKind, Expr>,
@@ -104,7 +107,7 @@ pub struct StoreParts {
     pub lifetimes: Arena<LifetimeRefKind, LifetimeRef>,
     pub roots: RootList,
     pub side_tables: SideTables,
-    pub parents: Parents,
+    pub kept: Kept,
 }
 
 impl ExpressionStore {
@@ -113,12 +116,13 @@ impl ExpressionStore {
     ghost use Rattle.hir_faults.specs.Nodes.{graph, sizes_of};
     ghost use Rattle.hir_faults.specs.Sizes.{Few};
     ghost use Rattle.hir_forest.specs.Parents.{HasParents};
+    ghost use Rattle.hir_expr_store.specs.PatLinks.{HasPatLinks};
     ghost use Rattle.hir_expr_store.specs.StoreParts.{contents_of_parts};
 
-    /// A store of these parts. A caller has to prove that they have no fault, and that the parents are theirs: a builder tests the nodes
-    /// once.
+    /// A store of these parts. A caller has to prove that they have no fault, and that what is kept follows from them: a builder tests the
+    /// nodes once.
     pub fn new(parts: StoreParts) -> ExpressionStore
-        requires { IsStore (contents_of_parts parts) parts.parents }
+        requires { IsStore (contents_of_parts parts) parts.kept }
         ensures { result ≡ contents_of_parts parts }
     {
         let StoreParts {
@@ -130,7 +134,7 @@ impl ExpressionStore {
             lifetimes,
             roots,
             side_tables,
-            parents,
+            kept,
         } = parts;
         ExpressionStore {
             exprs,
@@ -141,7 +145,7 @@ impl ExpressionStore {
             lifetimes,
             roots,
             side_tables,
-            parents,
+            kept,
         }
     }
 
@@ -158,7 +162,10 @@ impl ExpressionStore {
             lifetimes: Arena::new(alloc),
             roots: RootList::new(alloc),
             side_tables: SideTables::new(alloc),
-            parents: Parents::none(alloc),
+            kept: Kept {
+                parents: Parents::none(alloc),
+                links: PatLinks::none(alloc),
+            },
         }
     }
 
@@ -206,18 +213,18 @@ impl ExpressionStore {
         self.nodes().sizes()
     }
 
-    /// The kids of all nodes, by their places in the row.
-    pub(crate) fn rows(&self, alloc: Global) -> Result<Rows, AllocError>
-        ensures { IfOk result (λ rows. rows ≡ graph self.now.nodes) }
-    {
-        self.nodes().rows(alloc)
-    }
-
     /// The parents of the nodes, by their places in the row.
     pub(crate) fn parents(&self) -> &Parents
         ensures { HasParents (graph self.now.nodes) result.now.parents }
     {
-        &self.parents
+        &self.kept.parents
+    }
+
+    /// The links of the patterns.
+    pub(crate) fn links(&self) -> &PatLinks
+        ensures { HasPatLinks self.now.nodes.pats result.now }
+    {
+        &self.kept.links
     }
 
     /// Whether there is an expression of this id.
@@ -440,7 +447,7 @@ impl Clone for ExpressionStore {
         let copy = both(copy, self.lifetimes.try_clone())?;
         let copy = both(copy, self.roots.try_clone())?;
         let copy = both(copy, self.side_tables.try_clone())?;
-        let (copy, parents) = both(copy, self.parents.clone())?;
+        let (copy, kept) = both(copy, self.kept.clone())?;
         let (((((((exprs, pats), types), bindings), labels), lifetimes), roots), side_tables) =
             copy;
         Ok(ExpressionStore {
@@ -452,12 +459,12 @@ impl Clone for ExpressionStore {
             lifetimes,
             roots,
             side_tables,
-            parents,
+            kept,
         })
     }
 }
 
-/// Stores are equal where all that they hold is; the parents of the nodes follow from these.
+/// Stores are equal where all that they hold is; the parents of the nodes and the links of the patterns follow from these.
 impl PartialEq for ExpressionStore {
     ghost use Rattle.hir_expr_store.specs.same.SameStores.{same_stores, stores_per};
 

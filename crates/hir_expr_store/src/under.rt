@@ -9,7 +9,6 @@ ghost use Rattle.hir_expr_store.specs.Under.{LiesUnderOther};
 
 use crate::store::ExpressionStore;
 use hir_faults::Sizes;
-use hir_forest::nodes_under;
 use hir_node::{ExprId, PatId};
 use std::alloc::{AllocError, Global};
 use std::marker::Model;
@@ -96,7 +95,8 @@ impl ExpressionStore {
 
     /// The nodes that lie properly under one of these, which are nodes of this store.
     ///
-    /// It takes time in the number of nodes and doesn't recurse. It fails only when memory for its tables is refused.
+    /// It takes time in the number of nodes and doesn't recurse: it goes from node to parent, which is kept. It fails only when memory for
+    /// two marks a node is refused.
     pub fn under(&self, alloc: Global, tops: &NodeSet) -> Result<NodeSet, AllocError>
         requires { tops.now.sizes ≡ sizes_of self.now.nodes }
         ensures sizes { IfOk result (λ found. found.sizes ≡ sizes_of self.now.nodes) }
@@ -104,8 +104,7 @@ impl ExpressionStore {
             → IsIn found n ↔ LiesUnderOther self.now.nodes (IsIn tops.now) n) }
     {
         self.has_no_fault();
-        let rows = self.rows(alloc)?;
-        let marks = nodes_under(alloc, &rows, tops.marks.as_slice())?;
+        let marks = self.parents().under_marked(alloc, tops.marks.as_slice())?;
         Ok(NodeSet {
             sizes: self.sizes(),
             marks,

@@ -1,16 +1,16 @@
 //! Walks over the patterns of a pattern and over the child expressions of an expression, for every closure that may always be called.
-//! They take no memory. They recurse over patterns alone, as deep as patterns are nested: no expression, type or path is entered.
+//! They take no memory and don't recurse: patterns are walked by turns, and no expression, type or path is entered.
 
 ghost use Rattle.std.specs.Prelude.{◌≡◌, ◌<◌, IsTrue, length};
-ghost use Rattle.std.specs.List.{FoldsTo, flat_map};
-ghost use Rattle.hir_node.specs.OtherIds.{pat_bindings};
+ghost use Rattle.std.specs.List.{FoldsTo};
 ghost use Rattle.hir_faults.specs.Sizes.{is_there};
 ghost use Rattle.hir_faults.specs.Nodes.{sizes_of};
 ghost use Rattle.hir_expr_store.specs.PatLists.{child_pats_of, pats, bindings_in, exprs_from, exprs_in, children, children_no_pats};
 
 use crate::own_exprs::OwnExprs;
+use crate::pat_visitors::{BindingsEntered, Entered, ExprsLeft};
 use crate::store::ExpressionStore;
-use hir_node::{BindingId, ExprId, LifetimeRefId, Pat, PatId, StoreVisitor, TypeRefId};
+use hir_node::{BindingId, ExprId, LifetimeRefId, PatId, StoreVisitor, TypeRefId};
 
 impl ExpressionStore {
     /// Runs the closure on each child pattern of a pattern, in order.
@@ -24,7 +24,6 @@ impl ExpressionStore {
     }
 
     /// Runs the closure on a pattern, and then on the patterns of each of its child patterns.
-    #[cycle(walk_pats)]
     pub fn walk_pats<F: FnMut(PatId)>(&self, id: PatId, f: &mut F)
         requires there { id < length self.now.nodes.pats }
         requires callable { F.IsAlwaysCallable f.old }
@@ -32,23 +31,8 @@ impl ExpressionStore {
         ensures callable { F.IsAlwaysCallable f.new }
     {
         self.has_no_fault();
-        f(id);
-        self.walk_pats_below(id, f);
-    }
-
-    /// Runs the closure on the patterns of each child pattern of a pattern.
-    #[cycle(walk_pats)]
-    fn walk_pats_below<F: FnMut(PatId)>(&self, id: PatId, f: &mut F)
-        requires there { id < length self.now.nodes.pats }
-        requires callable { F.IsAlwaysCallable f.old }
-        ensures runs { FoldsTo (λ p x q. F.step p x tt q) f.old
-            (flat_map (pats self.now.nodes) (child_pats_of self.now.nodes id)) f.new }
-        ensures callable { F.IsAlwaysCallable f.new }
-    {
-        self.has_no_fault();
-        for child in self[id].child_pats() {
-            self.walk_pats(child, f);
-        }
+        let mut entered = Entered { f: &mut *f };
+        self.walk_turns(id, &mut entered);
     }
 
     /// Runs the closure on the binding of each pattern of a pattern that brings one into scope, in the order of `walk_pats`.
@@ -59,11 +43,11 @@ impl ExpressionStore {
         ensures callable { F.IsAlwaysCallable f.new }
     {
         self.has_no_fault();
-        let pat = &self[id];
-        walk_binding(pat, f);
-        for child in pat.child_pats() {
-            self.walk_bindings_in_pat(child, f);
-        }
+        let mut entered = BindingsEntered {
+            store: self,
+            f: &mut *f,
+        };
+        self.walk_turns(id, &mut entered);
     }
 
     /// Runs the closure on each expression of a pattern: those met by descending through patterns, the constants in their paths included.
@@ -74,12 +58,11 @@ impl ExpressionStore {
         ensures callable { F.IsAlwaysCallable f.new }
     {
         self.has_no_fault();
-        let pat = &self[id];
-        for child in pat.child_pats() {
-            self.walk_exprs_in_pat(child, f);
-        }
-        let mut own = OwnExprs { f: &mut *f };
-        pat.visit_children(&mut own);
+        let mut left = ExprsLeft {
+            store: self,
+            f: &mut *f,
+        };
+        self.walk_turns(id, &mut left);
     }
 
     /// Runs the closure on each child expression of an expression, anonymous constants included; a child pattern gives its expressions.
@@ -106,17 +89,6 @@ impl ExpressionStore {
     {
         let mut own = OwnExprs { f: &mut *f };
         self.visit_expr_children(id, &mut own);
-    }
-}
-
-/// Runs the closure on the binding that a pattern brings into scope.
-fn walk_binding<F: FnMut(BindingId)>(pat: &Pat, f: &mut F)
-    requires { F.IsAlwaysCallable f.old }
-    ensures runs { FoldsTo (λ p x q. F.step p x tt q) f.old (pat_bindings pat.now) f.new }
-    ensures callable { F.IsAlwaysCallable f.new }
-{
-    if let Pat::Bind { id, subpat: _ } = pat {
-        f(*id);
     }
 }
 

@@ -1,6 +1,5 @@
 pub mod HeldLemmas
 pub mod RangeLemmas
-pub mod RowLemmas
 pub mod EdgeLemmas
 pub mod FaultLemmas
 pub mod SoundLemmas

@@ -4,7 +4,6 @@ pub mod Holds
 pub mod Nodes
 pub mod Faults
 pub mod Ranges
-pub mod Pushes
 pub mod Edges
 pub mod Fits
 pub mod Down

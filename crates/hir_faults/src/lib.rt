@@ -9,7 +9,6 @@ mod first_fault;
 mod held;
 mod nodes;
 mod range;
-mod rows;
 mod sizes;
 mod tested;
 

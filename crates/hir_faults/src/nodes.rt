@@ -1,21 +1,19 @@
 //! The borrowed nodes of a builder or a store, and queries on them.
 
-ghost use Rattle.std.specs.Prelude.{◌≡◌, IfOk};
+ghost use Rattle.std.specs.Prelude.{◌≡◌};
 ghost use Rattle.std.specs.List.{list_all};
 ghost use Rattle.hir_node.specs.ChildCalls.{bound_calls};
 ghost use Rattle.hir_faults.specs.Faults.{nodes_in, ends_of};
-ghost use Rattle.hir_faults.specs.Nodes.{sizes_of, graph};
+ghost use Rattle.hir_faults.specs.Nodes.{sizes_of};
 ghost use Rattle.hir_faults.specs.Tested.{bound_paths, is_path_at};
 ghost use Rattle.hir_faults.specs.Fits.{path_fits};
 ghost use Rattle.hir_faults.specs.Sizes.{Few, is_there};
 
 use crate::held::{bound_names_path, is_path, one_list_each, path_gives_self, path_names_paths};
 use crate::range::{bound_there, path_there};
-use crate::rows::rows_of;
 use crate::sizes::Sizes;
-use hir_forest::{Ends, Rows};
+use hir_forest::Ends;
 use hir_node::{Binding, Expr, Label, LifetimeRef, Pat, Path, PathId, TypeBound, TypeRef};
-use std::alloc::{AllocError, Global};
 
 /// The nodes of a builder or a store, with its bindings, labels and lifetimes.
 #[derive(Clone, Copy)]
@@ -53,16 +51,6 @@ impl NodeSlices<'_> {
             pats: self.pats.len() as u32,
             bindings: self.bindings.len() as u32,
         }
-    }
-
-    /// The kids of all nodes: the rows of the expressions, then of the patterns, then of the types.
-    ///
-    /// It takes time in the number of nodes and edges. It fails only when memory for the table is refused.
-    pub fn rows(&self, alloc: Global) -> Result<Rows, AllocError>
-        requires { Few (sizes_of (nodes_in self.now)) }
-        ensures { IfOk result (λ rows. rows ≡ graph (nodes_in self.now)) }
-    {
-        rows_of(alloc, self.sizes(), self.exprs, self.pats, self.types)
     }
 
     /// Whether the type of this id is there and is a path.

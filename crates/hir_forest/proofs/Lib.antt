@@ -1,9 +1,9 @@
 pub mod RowsLemmas
 pub mod MarkLemmas
 pub mod ForestLemmas
-pub mod WalkLemmas
 pub mod VerdictLemmas
 pub mod FaultLemmas
 pub mod HeightLemmas
 pub mod ParentLemmas
 pub mod ChainLemmas
+mod UnderLemmas

@@ -1,14 +1,21 @@
--- Tables of marks, one step of the walk, and the list of roots as far as it has been read.
+-- Tables of marks, and the list of roots as far as it has been read.
 use Rattle.std.proofs.Common.{◌≡◌, ℕ, suc, ◌+◌, ◌<◌, ◌≤◌, ◌⊎◌, ◌↔◌, Bool, true, false, not, cond, List, [], ◌∷◌, ◌++◌, length, get_or, set, take, inl, inr, ⊎_elim, refl, ap, sym, ◌∙◌, subst, arith, add-one, Contains}
-use Rattle.std.proofs.lemmas.List.{take_more, get_or-set_same, get_or-set_other, length-set, length_push, length-map, take-map, get_or-map}
+use Rattle.std.proofs.lemmas.List.{get_or_past, take_more, get_or-set_same, get_or-set_other, length-set, length_push, length-map, take-map, get_or-map}
 use Rattle.std.proofs.lemmas.List.Elements.{Contains-push, Contains-push_cases, Contains-append_left}
-use Rattle.std.proofs.lemmas.Bool.{cases_eq, false≢true}
+use Rattle.std.proofs.lemmas.Bool.{cases_eq, cases_lt, false≢true}
 use Rattle.std.proofs.lemmas.List.Sums.{sum_by-set}
 use Rattle.hir_forest.specs.declared.roots.Root.{Root}
 use Rattle.hir_forest.specs.declared.roots.Ends.{Ends}
 use Rattle.hir_forest.specs.Faults.{root_nodes, ends_before, no_ends, EndsFit}
 use Rattle.hir_forest.specs.Forest.{Marks, MarksAll}
-use Rattle.hir_forest.specs.Walk.{Reach, Meets}
+
+-- only a place of the table is marked
+pub marks_in : (table : List Bool) (c : ℕ) → Marks table c → c < length table
+marks_in table c m =
+    elim (cases_lt c (length table)) [
+      | inl h ↦ h
+      | inr h ↦ absurd (false≢true (sym (get_or_past table c false h) ∙ m))
+    ]
 
 -- a table with one more mark
 pub Marks-set : (table : List Bool) (k c : ℕ) → k < length table → Marks (set table k true) c → Marks table c ⊎ (k ≡ c)
@@ -35,9 +42,6 @@ MarksAll-more table xs i h k m =
       λ n. ⊎_elim (λ a. Marks-kept table (get_or xs i 0) c k ((m c).1 a)) (λ e. subst (Marks (set table (get_or xs i 0) true)) e (Marks-here table (get_or xs i 0) k)) (Contains-push_cases (take i xs) (get_or xs i 0) c n),
     ))
 
-not_both : (table : List Bool) (c k : ℕ) → Marks table c → get_or table k false ≡ false → c ≡ k → ⊥
-not_both table c k m n e = false≢true (sym n ∙ subst (Marks table) e m)
-
 contains_more : (xs : List ℕ) (i c : ℕ) → i < length xs → Contains (take (i + 1) xs) c → Contains (take i xs) c ⊎ (get_or xs i 0 ≡ c)
 contains_more xs i c h m = Contains-push_cases (take i xs) (get_or xs i 0) c (rw (take_more xs i 0 h) at m)
 
@@ -46,60 +50,6 @@ contains_earlier xs i c h m = rw (take_more xs i 0 h) (Contains-append_left (tak
 
 contains_last : (xs : List ℕ) (i c : ℕ) → i < length xs → get_or xs i 0 ≡ c → Contains (take (i + 1) xs) c
 contains_last xs i c h e = rw (take_more xs i 0 h) (subst (Contains (take i xs ++ get_or xs i 0 ∷ [])) e (Contains-push (take i xs) (get_or xs i 0)))
-
-module _ (row : List ℕ) (i : ℕ) (in' : i < length row) (b : Bool) (old now : Reach) (s : Meets (take i row) b old now) where
-  -- the kid was met before
-  pub Meets-known : Marks now.met (get_or row i 0) → Meets (take (i + 1) row) b old now
-  Meets-known known = record {
-    met_length = s.met_length;
-    under_length = s.under_length;
-    stays_met = s.stays_met;
-    stays_under = s.stays_under;
-    kids_met = λ c h. ⊎_elim (s.kids_met c) (λ e. subst (Marks now.met) e known) (contains_more row i c in' h);
-    fresh = λ c m. ⊎_elim inl (λ f. inr (contains_earlier row i c in' f.0, f.1, f.2)) (s.fresh c m);
-    stays_waiting = s.stays_waiting;
-    waiting_met = λ c w. ⊎_elim inl (λ f. inr (contains_earlier row i c in' f)) (s.waiting_met c w);
-    falls = s.falls;
-  }
-
-  -- the kid is met now
-  pub Meets-new : (k : ℕ) → k ≡ get_or row i 0 → k < length now.met → length now.under ≡ length now.met → get_or now.met k false ≡ false → Meets (take (i + 1) row) b old record { met = set now.met k true; under = set now.under k b; waiting = now.waiting ++ k ∷ [] }
-  Meets-new k is h same unmet_ =
-      let high : k < length now.under = omega arith in
-      record {
-        met_length = length-set now.met k true ∙ s.met_length;
-        under_length = length-set now.under k b ∙ s.under_length;
-        stays_met = λ c m. Marks-kept now.met k c h (s.stays_met c m);
-        stays_under = λ c m. get_or-set_other now.under k c b false (not_both now.met c k (s.stays_met c m) unmet_) ∙ s.stays_under c m;
-        kids_met = λ c g. ⊎_elim (λ f. Marks-kept now.met k c h (s.kids_met c f)) (λ e. subst (Marks (set now.met k true)) (is ∙ e) (Marks-here now.met k h)) (contains_more row i c in' g);
-        fresh = λ c m. ⊎_elim
-            (λ n. ⊎_elim inl (λ f. inr (contains_earlier row i c in' f.0, Contains-append_left now.waiting _ c f.1, get_or-set_other now.under k c b false (not_both now.met c k n unmet_) ∙ f.2)) (s.fresh c n))
-            (λ e. inr (contains_last row i c in' (sym is ∙ e), subst (Contains (now.waiting ++ k ∷ [])) e (Contains-push now.waiting k), subst (λ (n : ℕ). get_or (set now.under k b) n false ≡ b) e (get_or-set_same now.under k b false high)))
-            (Marks-set now.met k c h m);
-        stays_waiting = λ c w. Contains-append_left now.waiting _ c (s.stays_waiting c w);
-        waiting_met = λ c w. ⊎_elim
-            (λ f. ⊎_elim inl (λ g. inr (contains_earlier row i c in' g)) (s.waiting_met c f))
-            (λ e. inr (contains_last row i c in' (sym is ∙ e)))
-            (Contains-push_cases now.waiting k c w);
-        falls =
-            let fell = sum_by-set (λ (x : Bool). cond {A = ℕ} (not x) 1 0) now.met k true false h in
-            let one : ◌≡◌ {A = ℕ} (cond {A = ℕ} (not (get_or now.met k false)) 1 0) 1 = ap (λ (x : Bool). cond {A = ℕ} (not x) 1 0) unmet_ in
-            let before = s.falls in
-            omega (arith, length_push now.waiting k);
-      }
-
-pub Meets-none : (b : Bool) (s : Reach) → Meets [] b s s
-Meets-none b s = record {
-  met_length = refl;
-  under_length = refl;
-  stays_met = λ c m. m;
-  stays_under = λ c m. refl;
-  kids_met = λ c h. absurd (omega (arith, h.1));
-  fresh = λ c m. inl m;
-  stays_waiting = λ c w. w;
-  waiting_met = λ c w. inl w;
-  falls = refl;
-}
 
 -- the roots that may be one, as far as the list has been read
 module _ (table : List Bool) (roots : List Root) (i limit : ℕ) (r : Root) (in' : i < length roots) (m : (c : ℕ) → Marks table c ↔ (Contains (root_nodes (take i roots)) c × (c < limit))) where

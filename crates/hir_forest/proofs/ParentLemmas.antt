@@ -195,14 +195,6 @@ module _ (g : List (List ℕ)) (t : Parentage) (h : IsParentageOf g t) (kid : �
   pub pushed_first : is_some (get_or t.parents kid None) ≡ false → kid < length t.parents → IsParentageOf (with_kids g (kid ∷ [])) record t { parents = set t.parents kid (Some (t.rows - 1)) }
   pushed_first unset within = pushed_first_by t.shared (get_or t.parents kid None) refl refl unset within
 
--- kids that are added in parts
-pub with_kids-next : (g : List (List ℕ)) (kids : List ℕ) (i : ℕ) → i < length kids → with_kids (with_kids g (take i kids)) (get_or kids i 0 ∷ []) ≡ with_kids g (take (i + 1) kids)
-with_kids-next g kids i h = with_kids-more g (take i kids) (get_or kids i 0 ∷ []) ∙ ap (λ (more : List ℕ). with_kids g more) (sym (take_more kids i 0 h))
-
--- a row that is begun and gets its kids
-pub with_kids-row : (g : List (List ℕ)) (n : ℕ) → n < length g → with_kids (take n g ++ [] ∷ []) (get_or g n []) ≡ take (n + 1) g
-with_kids-row g n h = with_kids-fresh (take n g) (get_or g n []) ∙ sym (take_more g n [] h)
-
 -- before the first row
 pub none_yet : (parents : List (Option ℕ)) (n : ℕ) → parents ≡ replicate n None → IsParentageOf [] record { rows = 0; parents = parents; shared = None }
 none_yet parents n is = record {

@@ -51,6 +51,10 @@ Marks table c = slice_index_or table c false ≡ true
 abbrev pub MarksAll : List Bool → List ℕ → Type 0
 MarksAll table xs = (c : ℕ) → Marks table c ↔ Contains xs c
 
+-- the table marks exactly the listed nodes below limit
+abbrev pub MarksRoots : List Bool → ℕ → List ℕ → Type 0
+MarksRoots table limit roots = (c : ℕ) → Marks table c ↔ (Contains roots c × (c < limit))
+
 -- c lies properly under a node that the table marks
 abbrev pub LiesUnderMarked : List (List ℕ) → List Bool → ℕ → Type 0
 LiesUnderMarked g marked c = (r : ℕ) × Marks marked r × LiesUnder g c r

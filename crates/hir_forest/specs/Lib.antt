@@ -4,5 +4,4 @@ pub mod Forest
 pub mod Faults
 pub mod Parents
 pub mod Height
-pub mod Walk
 pub mod same

@@ -6,7 +6,7 @@ use Rattle.hir_forest.specs.declared.parent_table.Numbers.TheVariants.{Narrow, W
 use Rattle.hir_forest.specs.declared.roots.ForestFault.{ForestFault}
 use Rattle.hir_forest.specs.declared.roots.ForestFault.TheVariants.{SharedChild}
 use Rattle.hir_forest.specs.Verdict.{first_below}
-use Rattle.hir_forest.specs.Forest.{IsKid, Climbs, Marks}
+use Rattle.hir_forest.specs.Forest.{IsKid, Climbs, Marks, LiesUnderMarked}
 use Rattle.hir_forest.specs.Faults.{edge_fault}
 
 -- the parent that a number of the table stands for: 0 stands for none
@@ -62,3 +62,7 @@ MeetsMarked g marked c = (r : ℕ) × Marks marked r × IsOnChain g c r
 -- no marked node is on the chain of a node that is clear
 abbrev pub AreClear : List (List ℕ) → List Bool → List Bool → Type 0
 AreClear g marked clear = (c : ℕ) → Marks clear c → MeetsMarked g marked c → ⊥
+
+-- what is noted of each known node is right: whether it lies properly under a marked one
+abbrev pub AreKnown : List (List ℕ) → List Bool → List Bool → List Bool → Type 0
+AreKnown g marked known under = (c : ℕ) → Marks known c → Marks under c ↔ LiesUnderMarked g marked c

@@ -1,18 +1,16 @@
 //! The first fault of a graph and its roots: shared children show while the parents are noted, cycles and roots by climbing from parent
 //! to parent.
 
-ghost use Rattle.std.specs.Prelude.{◌≡◌, ℕ, ◌<◌, ◌≤◌, List, [], length, IfNone, IfOk, All};
-ghost use Rattle.std.specs.List.{concat};
+ghost use Rattle.std.specs.Prelude.{◌≡◌, ℕ, ◌<◌, ◌≤◌, List, [], length, IfNone, IfOk};
 ghost use Rattle.hir_forest.specs.Verdict.{◌before◌, first_below};
-ghost use Rattle.hir_forest.specs.Forest.{ChainEnds, LiesUnder, Marks, MarksAll};
+ghost use Rattle.hir_forest.specs.Forest.{ChainEnds, LiesUnder, Marks, MarksAll, MarksRoots};
 ghost use Rattle.hir_forest.specs.Faults.{LiesUnderRoot, cycle_fault, root_fault, forest_fault, root_nodes};
 ghost use Rattle.hir_forest.specs.Parents.{HasParents, IsParentageOf};
-ghost use Rattle.hir_forest.specs.Walk.{MarksRoots};
 
 use crate::chains::{first_cycle, is_under};
 use crate::parent_table::ParentTable;
-use crate::parents::{Parents, parents_of};
-use crate::{Ends, ForestFault, Root, Rows};
+use crate::parents::Parents;
+use crate::{Ends, ForestFault, Root};
 use std::alloc::{AllocError, Global};
 
 /// Marks each root that may be one.
@@ -130,7 +128,8 @@ fn first_chain_fault(
 impl Parents {
     /// The first fault of the graph and its roots, or `None` if the graph is a forest and the roots are right. Each node must have its row.
     ///
-    /// It is that of the function `first_fault` of the same rows. Where there is none, these are the parents of the nodes of a forest.
+    /// A fault's number is that of a node, or the index of a root. Where there is none, these are the parents of the nodes of a forest.
+    /// `lengths` has the lengths of the three arenas; nodes below `lengths.exprs` may be roots, so there are at least as many nodes.
     ///
     /// It takes time linear in nodes and roots, and tables with three marks for each node, or with one where fewer than two roots are
     /// listed. `AllocError` only if memory for these is refused.
@@ -152,24 +151,4 @@ impl Parents {
             None => first_chain_fault(alloc, &self.table, lengths, roots),
         }
     }
-}
-
-/// The first fault of a graph and its roots, or `None` if the graph is a forest and the
-/// roots are right. A fault's number is that of a row, or the index of a root.
-///
-/// `lengths` has the lengths of the three arenas; nodes below `lengths.exprs` may be roots, so there
-/// are at least as many rows. Each kid must have a row. It takes time linear in rows, kids and roots,
-/// and tables with a number and three marks for each row, or with one mark where fewer than two roots are listed. `AllocError` only
-/// if memory for these is refused.
-pub fn first_fault(
-    alloc: Global,
-    rows: &Rows,
-    lengths: Ends,
-    roots: &[Root],
-) -> Result<Option<ForestFault>, AllocError>
-    requires exprs { lengths.exprs ≤ length rows.now }
-    requires within { All (λ c. c < length rows.now) (concat rows.now) }
-    ensures { IfOk result (λ fault. forest_fault rows.now lengths roots.now fault) }
-{
-    parents_of(alloc, rows)?.first_fault(alloc, lengths, roots)
 }

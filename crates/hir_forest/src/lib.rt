@@ -1,6 +1,6 @@
-//! The first fault of a graph of numbered nodes and its roots, in time linear in nodes, edges and roots and without recursion;
-//! the laws of a graph that has none, a forest; the parents of a graph, noted edge by edge; and the table of what lies under marked
-//! nodes. It knows nothing of what the nodes are.
+//! The parents of a graph of numbered nodes, noted edge by edge; the first fault of the graph and its roots, in time linear in nodes,
+//! edges and roots and without recursion; the laws of a graph that has none, a forest; and the table of what lies under marked nodes.
+//! It knows nothing of what the nodes are.
 #![tactic(auto)]
 
 mod chains;
@@ -9,15 +9,11 @@ mod laws;
 mod parent_table;
 mod parents;
 mod roots;
-mod rows;
-mod walk;
+mod under;
 
-pub use faults::first_fault;
 pub use laws::{
     fault_is_one, fault_is_within, faultless_is_forest, heights_are_bounded, kid_rows_add_up,
     kids_are_lower, roots_are_compared_by_all_fields, ways_are_short,
 };
 pub use parents::Parents;
 pub use roots::{Ends, ForestFault, Root};
-pub use rows::Rows;
-pub use walk::nodes_under;

@@ -1,13 +1,11 @@
 //! The parents of a graph's nodes, noted edge by edge: the first child that is shared shows at once, and no kids are kept.
-//! Rows are begun one after the other, and kids added to the last, as in the table of rows.
+//! Rows are begun one after the other, and kids added to the last.
 
-ghost use Rattle.std.specs.Prelude.{◌≡◌, ℕ, ◌+◌, ◌<◌, ◌^◌, ◌↔◌, List, [], ◌∷◌, ◌++◌, None, length, All, IfOk, IsTrue};
-ghost use Rattle.std.specs.List.{concat};
+ghost use Rattle.std.specs.Prelude.{◌≡◌, ℕ, ◌+◌, ◌<◌, ◌^◌, ◌↔◌, List, [], ◌∷◌, ◌++◌, None, length, IfOk, IsTrue};
 ghost use Rattle.hir_forest.specs.Rows.{with_kids};
 ghost use Rattle.hir_forest.specs.Forest.{Marks};
 ghost use Rattle.hir_forest.specs.Parents.{HasParent, IsParentageOf};
 
-use crate::Rows;
 use crate::parent_table::ParentTable;
 use std::alloc::{AllocError, Global};
 use std::marker::Model;
@@ -112,33 +110,5 @@ impl Clone for Parents {
             rows: self.rows,
             shared: self.shared,
         })
-    }
-}
-
-/// The parents of the nodes of a graph.
-pub(crate) fn parents_of(alloc: Global, rows: &Rows) -> Result<Parents, AllocError>
-    requires { All (λ c. c < length rows.now) (concat rows.now) }
-    ensures noted { IfOk result (λ parents. IsParentageOf rows.now parents) }
-    ensures room { IfOk result (λ parents. length parents.parents ≡ length rows.now) }
-{
-    let mut parents = Parents::new(alloc, rows.len())?;
-    for node in 0..rows.len() {
-        parents.begin_row();
-        add_kids(&mut parents, rows.row(node));
-    }
-    Ok(parents)
-}
-
-/// Adds kids at the end of the last row.
-fn add_kids(parents: &mut Parents, kids: &[usize])
-    requires some { 0 < parents.old.rows }
-    requires within { All (λ c. c < length parents.old.parents) kids.now }
-    ensures noted { (g : List (List ℕ)) → IsParentageOf g parents.old
-        → IsParentageOf (with_kids g kids.now) parents.new }
-    ensures rows { parents.new.rows ≡ parents.old.rows }
-    ensures room { length parents.new.parents ≡ length parents.old.parents }
-{
-    for kid in kids {
-        parents.push_kid(*kid);
     }
 }

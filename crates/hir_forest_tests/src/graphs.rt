@@ -1,12 +1,12 @@
 //! Graphs, each with its roots and the fault that it must have: a further case is one more row of a table.
 //! The ends of roots have a table of their own, and the last test has 1,000,000 nodes.
 
-use crate::made::{Edge, fault_of, only_exprs, rows_of};
+use crate::made::{Edge, chain, chain_and_cycle, fault_of, only_exprs};
 use hir_forest::ForestFault::{
     Cycle, RootEnds, RootOutOfRange, RootRepeated, RootUnderRoot, SharedChild,
 };
-use hir_forest::{Ends, ForestFault, Root, Rows};
-use std::alloc::Global;
+use hir_forest::{Ends, ForestFault, Root};
+use std::alloc::{AllocError, Global};
 use std::test::Fail;
 
 const NO_ENDS: Ends = Ends {
@@ -122,22 +122,10 @@ const ROOTED: [Rooted; 13] = [
     (2, &[(1, 0)], 1, &[FIRST], None),
 ];
 
-/// The first fault of a graph.
-fn fault_found(
-    alloc: Global,
-    count: usize,
-    edges: &[Edge],
-    lengths: Ends,
-    roots: &[Root],
-) -> Result<Option<ForestFault>, Fail> {
-    let rows = rows_of(alloc, count, edges)?;
-    fault_of(alloc, &rows, lengths, roots)
-}
-
 #[test]
 fn each_graph_has_its_fault(rt: HostRuntime) -> Result<(), Fail> {
     for (at, (count, edges, fault)) in SHAPES.iter().enumerate() {
-        let found = fault_found(rt.alloc(), *count as usize, edges, only_exprs(*count), &[])?;
+        let found = fault_of(rt.alloc(), *count as usize, edges, only_exprs(*count), &[])?;
         assert!(rt; found == *fault, "case {at}");
     }
     Ok(())
@@ -146,7 +134,7 @@ fn each_graph_has_its_fault(rt: HostRuntime) -> Result<(), Fail> {
 #[test]
 fn each_list_of_roots_has_its_fault(rt: HostRuntime) -> Result<(), Fail> {
     for (at, (count, edges, exprs, roots, fault)) in ROOTED.iter().enumerate() {
-        let found = fault_found(rt.alloc(), *count, edges, only_exprs(*exprs), roots)?;
+        let found = fault_of(rt.alloc(), *count, edges, only_exprs(*exprs), roots)?;
         assert!(rt; found == *fault, "case {at}");
     }
     Ok(())
@@ -196,7 +184,7 @@ fn ends_rise_within_the_arenas(rt: HostRuntime) -> Result<(), Fail> {
                 ends: second,
             },
         ];
-        let found = fault_found(rt.alloc(), 3, &[], LENGTHS, &roots)?;
+        let found = fault_of(rt.alloc(), 3, &[], LENGTHS, &roots)?;
         let fit = first.fit(NO_ENDS, LENGTHS) && second.fit(first, LENGTHS);
         assert!(rt; found == *fault && fit == fault.is_none());
     }
@@ -211,7 +199,7 @@ fn ends_of_a_lone_root_lie_within_the_arenas(rt: HostRuntime) -> Result<(), Fail
             node: 0,
             ends: first,
         }];
-        let found = fault_found(rt.alloc(), 3, &[], LENGTHS, &root)?;
+        let found = fault_of(rt.alloc(), 3, &[], LENGTHS, &root)?;
         let fault = if first.fit(NO_ENDS, LENGTHS) {
             None
         } else {
@@ -222,25 +210,14 @@ fn ends_of_a_lone_root_lie_within_the_arenas(rt: HostRuntime) -> Result<(), Fail
     Ok(())
 }
 
-/// Adds a row with the kid before it, where there is one.
-fn add_link(rows: &mut Rows, kid: Option<usize>) -> Result<(), Fail> {
-    rows.begin_row()?;
-    if let Some(kid) = kid {
-        rows.push_kid(kid)?;
-    }
-    Ok(())
-}
-
 /// The first fault of a chain of 1,000,000 nodes, in which each is the only kid of the next and whose ends are roots, and of the
 /// chain with one node more, which is its own kid.
-fn faults_of_the_chain(alloc: Global) -> Result<(Option<ForestFault>, Option<ForestFault>), Fail> {
-    let mut rows = Rows::new(alloc);
-    for node in 0..1_000_000_usize {
-        add_link(&mut rows, node.checked_sub(1))?;
-    }
-    let chain = fault_of(alloc, &rows, only_exprs(1_000_000), &[LAST, FIRST])?;
-    add_link(&mut rows, Some(1_000_000))?;
-    let cycle = fault_of(alloc, &rows, only_exprs(1_000_000), &[LAST, FIRST])?;
+fn faults_of_the_chain(
+    alloc: Global,
+) -> Result<(Option<ForestFault>, Option<ForestFault>), AllocError> {
+    let lengths = only_exprs(1_000_000);
+    let chain = chain(alloc, 1_000_000)?.first_fault(alloc, lengths, &[LAST, FIRST])?;
+    let cycle = chain_and_cycle(alloc)?.first_fault(alloc, lengths, &[LAST, FIRST])?;
     Ok((chain, cycle))
 }
 

@@ -1,4 +1,4 @@
-//! The tests of `hir_forest`: graphs with the fault that each must have, a million nodes, tables of rows, and parents.
+//! The tests of `hir_forest`: graphs with the fault that each must have, a million nodes, parents, and what lies under marked nodes.
 #![tactic(auto)]
 
 #[cfg(test)]
@@ -8,4 +8,4 @@ mod made;
 #[cfg(test)]
 mod parents;
 #[cfg(test)]
-mod tables;
+mod under;

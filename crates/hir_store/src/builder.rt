@@ -8,12 +8,13 @@ ghost use Rattle.hir_store.specs.Building.{nodes_of, building_of, empty_builder,
 ghost use Rattle.hir_faults.specs.Faults.{nodes_in};
 ghost use Rattle.hir_faults.specs.Nodes.{graph, sizes_of};
 ghost use Rattle.hir_forest.specs.Parents.{HasParents};
+ghost use Rattle.hir_expr_store.specs.PatLinks.{HasPatLinks};
 ghost use Rattle.hir_faults.specs.Sizes.{Few};
 
 use hir_base::{Arena, ArenaFault, BlockId, HygieneId, MOST_ITEMS, Seq, Table};
-use hir_expr_store::{ExpressionStore, RootList, SideTables, StoreParts};
+use hir_expr_store::{ExpressionStore, Kept, RootList, SideTables, StoreParts};
 use hir_faults::{FinishFault, NodeSlices};
-use hir_forest::{Parents, Root};
+use hir_forest::Root;
 use hir_node::{
     Binding, BindingId, BindingKind, Expr, ExprId, ExprKind, ExprOrPatId, Label, LabelId,
     LabelKind, LifetimeRef, LifetimeRefId, LifetimeRefKind, Pat, PatId, PatKind, TypeRef,
@@ -259,10 +260,11 @@ impl ExpressionStoreBuilder {
             || !self.bindings.is_empty()
     }
 
-    /// The store and the source map of a builder without a fault, whose nodes have these parents.
-    pub(crate) fn accepted(self, parents: Parents) -> (ExpressionStore, ExpressionStoreSourceMap)
+    /// The store and the source map of a builder without a fault, with what follows from its nodes.
+    pub(crate) fn accepted(self, kept: Kept) -> (ExpressionStore, ExpressionStoreSourceMap)
         requires sound { finish_fault (building_of self) None }
-        requires parents { HasParents (graph (nodes_of self)) parents.parents }
+        requires parents { HasParents (graph (nodes_of self)) kept.parents.parents }
+        requires links { HasPatLinks (nodes_of self).pats kept.links }
         ensures store { result.0 ≡ contents_of (building_of self) }
         ensures source_map { result.1 ≡ finished (has_exprs (nodes_of self)) self.source_map }
     {
@@ -295,7 +297,7 @@ impl ExpressionStoreBuilder {
             lifetimes,
             roots: roots_or_empty(alloc, roots),
             side_tables: kept_side_tables(alloc, keeps_exprs, side_tables),
-            parents,
+            kept,
         });
         (store, source_map.finish(keeps_exprs))
     }

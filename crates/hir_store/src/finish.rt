@@ -3,11 +3,12 @@
 ghost use Rattle.std.specs.Prelude.{◌≡◌, ◌⊎◌, ◌↔◌, IsTrue, IfOk, IfErr, None, Some};
 ghost use Rattle.hir_forest.specs.Parents.{HasParents};
 ghost use Rattle.hir_faults.specs.Nodes.{graph};
+ghost use Rattle.hir_expr_store.specs.PatLinks.{HasPatLinks};
 ghost use Rattle.hir_source.specs.Additions.{finished};
 ghost use Rattle.hir_store.specs.Building.{nodes_of, building_of, contents_of, roots_or_none, HasRoots, has_exprs, finish_fault};
 
 use crate::builder::{ExpressionStoreBuilder, Refused};
-use hir_expr_store::ExpressionStore;
+use hir_expr_store::{ExpressionStore, Kept, PatLinks};
 use hir_faults::{FinishFault, tested_parents};
 use hir_forest::{Parents, Root};
 use hir_source::ExpressionStoreSourceMap;
@@ -47,6 +48,21 @@ impl ExpressionStoreBuilder {
         tested_parents(self.alloc, &self.nodes(), self.listed())
     }
 
+    /// What a store of the nodes keeps, where there is no fault. Else the first fault, or `Memory`.
+    fn tested(&self) -> Result<Kept, FinishFault>
+        ensures ok { IfOk result (λ kept. finish_fault (building_of self.now) None
+            × HasParents (graph (nodes_of self.now)) kept.parents.parents
+            × HasPatLinks (nodes_of self.now).pats kept.links) }
+        ensures err { IfErr result (λ fault. fault ≡ FinishFault.Memory
+            ⊎ finish_fault (building_of self.now) (Some fault)) }
+    {
+        let parents = self.tested_parents()?;
+        match PatLinks::of(self.alloc, self.pats.as_slice()) {
+            Ok(links) => Ok(Kept { parents, links }),
+            Err(_) => Err(FinishFault::Memory),
+        }
+    }
+
     /// The store of the builder's nodes and roots, and its source map, where there is no fault. Else the first fault, or `Memory`
     /// where a growth was refused, and the builder as it was.
     ///
@@ -63,8 +79,8 @@ impl ExpressionStoreBuilder {
         ensures err { IfErr result (λ refused. (refused.builder ≡ self)
             × (refused.fault ≡ FinishFault.Memory ⊎ finish_fault (building_of self) (Some refused.fault))) }
     {
-        match self.tested_parents() {
-            Ok(parents) => Ok(self.accepted(parents)),
+        match self.tested() {
+            Ok(kept) => Ok(self.accepted(kept)),
             Err(fault) => Err(Refused {
                 fault,
                 builder: self,

@@ -5,4 +5,6 @@
 #[cfg(test)]
 mod body;
 #[cfg(test)]
+mod deep;
+#[cfg(test)]
 mod walk;

@@ -1,0 +1,23 @@
+//! What a store keeps beside its contents, from which it follows.
+ghost use Rattle.std.specs.Prelude.{◌≡◌};
+
+use crate::both::both;
+use crate::pat_links::PatLinks;
+use hir_forest::Parents;
+use std::alloc::AllocError;
+
+/// The parents of the nodes, by their places in the row, and the links of the patterns.
+#[derive(Drop)]
+pub struct Kept {
+    pub parents: Parents,
+    pub links: PatLinks,
+}
+
+impl Clone for Kept {
+    ghost is_clone = { λ kept copy. copy ≡ kept };
+
+    fn clone(&self) -> Result<Kept, AllocError> {
+        let (parents, links) = both(self.parents.clone()?, self.links.clone())?;
+        Ok(Kept { parents, links })
+    }
+}

@@ -1,0 +1,93 @@
+//! The walk over the patterns of a pattern, by turns: each pattern is entered before its child patterns and left after them. It goes
+//! from turn to turn by the links that the store keeps, so it takes no memory and doesn't recurse.
+
+ghost use Rattle.std.specs.Prelude.{◌≡◌, ◌<◌, Some, length};
+ghost use Rattle.hir_node.specs.Runs.{Runs, MayRun};
+ghost use Rattle.hir_expr_store.specs.PatLists.{child_pats_of};
+ghost use Rattle.hir_expr_store.specs.Turns.{turn_within, turn_behind, turns};
+
+use crate::pat_links::{PatLink, PatLinks};
+use crate::store::ExpressionStore;
+use hir_node::PatId;
+
+/// A turn of the walk.
+#[derive(Clone, Copy, Drop)]
+pub(crate) enum Turn {
+    /// Before the child patterns of this one.
+    Enter(PatId),
+    /// After them.
+    Leave(PatId),
+}
+
+/// What is done at each turn.
+pub(crate) trait TurnVisitor {
+    ghost use Rattle.hir_expr_store.specs.declared.turns.Turn.{Turn};
+    ghost use Rattle.hir_expr_store.specs.declared.turns.Turn.TheVariants.{Enter, Leave};
+
+    // what has to hold of the value for a turn
+    ghost may: { Self → Turn → Type 0 };
+
+    // relates the value before a turn, the turn, and the value after it
+    ghost step: { Self → Turn → Self → Type 0 };
+
+    /// The pattern is entered.
+    fn on_enter(&mut self, id: PatId)
+        requires { may self.old (Enter id) }
+        ensures { step self.old (Enter id) self.new };
+
+    /// The pattern is left.
+    fn on_leave(&mut self, id: PatId)
+        requires { may self.old (Leave id) }
+        ensures { step self.old (Leave id) self.new };
+}
+
+impl ExpressionStore {
+    /// The turn after a pattern is entered.
+    fn turn_within(&self, id: PatId) -> Option<Turn>
+        requires { id < length self.now.nodes.pats }
+        ensures { result ≡ Some (turn_within id (child_pats_of self.now.nodes id)) }
+    {
+        match self[id].child_pats().next() {
+            Some(child) => Some(Turn::Enter(child)),
+            None => Some(Turn::Leave(id)),
+        }
+    }
+
+    /// Calls the visitor at each turn of the walk over a pattern.
+    pub(crate) fn walk_turns<V: TurnVisitor>(&self, top: PatId, visitor: &mut V)
+        requires there { top < length self.now.nodes.pats }
+        requires may { MayRun V.may V.step visitor.old (turns self.now.nodes top) }
+        ensures { Runs V.step visitor.old (turns self.now.nodes top) visitor.new }
+    {
+        self.has_no_fault();
+        let links = self.links();
+        let mut coming = Some(Turn::Enter(top));
+        while let Some(turn) = coming {
+            coming = match turn {
+                Turn::Enter(id) => {
+                    visitor.on_enter(id);
+                    self.turn_within(id)
+                }
+                Turn::Leave(id) => {
+                    visitor.on_leave(id);
+                    turn_behind(links, top, id)
+                }
+            };
+        }
+    }
+}
+
+/// The turn after a pattern is left, where there is one in the walk over this top.
+fn turn_behind(links: &PatLinks, top: PatId, id: PatId) -> Option<Turn>
+    requires { id < length links.now }
+    ensures { result ≡ turn_behind links.now top id }
+{
+    if id == top {
+        return None;
+    }
+    match links.link(id) {
+        PatLink::Next(next) => Some(Turn::Enter(next)),
+        PatLink::Last(parent) => Some(Turn::Leave(parent)),
+        PatLink::Alone => None,
+    }
+}
