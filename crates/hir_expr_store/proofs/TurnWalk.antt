@@ -11,7 +11,7 @@ use Rattle.hir_expr_store.specs.declared.turns.Turn.TheVariants.{Enter, Leave}
 use Rattle.hir_expr_store.specs.PatLists.{child_pats_of}
 use Rattle.hir_expr_store.specs.PatLinks.{HasPatLinks}
 use Rattle.hir_expr_store.specs.Turns.{pat_of, turns, turn_after}
-use Rattle.hir_expr_store.proofs.TurnLemmas.{Behind, Follows, at_top, turns_is, behind_there, follows, steps_step, steps, steps_is}
+use Rattle.hir_expr_store.proofs.TurnLemmas.{Follows, at_top, turns_is, behind_there, follows, steps_step, steps, steps_is}
 
 module _ {V : Type 0} (may : V → Turn → Type 0) (step : V → Turn → V → Type 0) (s : Nodes) (top : ℕ) where
   -- the turns so far were taken, and this one and those that come behind it are still to come; none where there is no turn

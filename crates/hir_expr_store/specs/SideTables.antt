@@ -5,7 +5,6 @@ use Rattle.hir_base.specs.declared.edition.Edition.TheVariants.{Edition2015}
 use Rattle.hir_base.specs.declared.hygiene.SyntaxContext.{SyntaxContext}
 use Rattle.hir_base.specs.declared.hygiene.SyntaxContext.TheVariants.{Root}
 use Rattle.hir_path.specs.declared.ids.ExprOrPatId.{ExprOrPatId}
-use Rattle.hir_path.specs.declared.ids.ExprOrPatId.TheVariants.{ExprId, PatId}
 use Rattle.hir_path.specs.Keys.{expr_or_pat_code}
 use Rattle.hir_source.specs.Sources.{id_key}
 use Rattle.hir_expr_store.specs.declared.side_tables.SideTables.{SideTables}
