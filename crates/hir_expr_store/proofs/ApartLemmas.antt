@@ -1,9 +1,9 @@
 -- The kids of a node lie apart, and so do the listed roots; two nodes with a common kid are one.
-use Rattle.std.proofs.Common.{◌≡◌, ℕ, zero, suc, ◌+◌, ◌<◌, ◌≤◌, List, [], ◌∷◌, ◌++◌, Option, Some, None, inl, inr, ⊎_elim, refl, ap, sym, ◌∙◌, subst, arith, length, map, get_or, slice_get, option_map, Contains}
+use Rattle.std.proofs.Common.{◌≡◌, ℕ, zero, suc, ◌+◌, ◌<◌, List, [], ◌∷◌, Some, None, ⊎_elim, ap, sym, ◌∙◌, subst, arith, length, map, get_or, slice_get, option_map, Contains}
 use Rattle.std.proofs.lemmas.List.{length-map, get_or-map, length-append, get_or_append_left, get_or-append-add}
 use Rattle.std.proofs.lemmas.Option.{slice_get_within, get_or_from_slice_get, slice_get-map, slice_get-get_or}
 use Rattle.std.specs.List.{concat}
-use Rattle.hir_forest.specs.Forest.{IsKid, Climbs, IsForest}
+use Rattle.hir_forest.specs.Forest.{Climbs, IsForest}
 use Rattle.hir_forest.specs.Faults.{root_nodes}
 use Rattle.hir_forest.specs.Height.{height}
 use Rattle.hir_forest.proofs.ForestLemmas.{IsRepeatFree, IsRepeatFree-from_new}

@@ -1,5 +1,5 @@
 -- An id that an iterator over items with their ids gave is that of an item.
-use Rattle.std.proofs.Common.{◌≡◌, ℕ, zero, suc, ◌+◌, ◌<◌, List, [], ◌∷◌, length, refl, sym, ap, ◌∙◌, arith}
+use Rattle.std.proofs.Common.{◌≡◌, ℕ, ◌+◌, ◌<◌, List, [], ◌∷◌, length, ap, arith}
 use Rattle.std.specs.List.{enumerate_from}
 use Rattle.std.specs.Iterator.{Yields, YieldsFirstBy}
 

@@ -1,15 +1,14 @@
 -- The links of patterns: what is linked child by child, and that the patterns of a store can be linked.
-use Rattle.std.proofs.Common.{◌≡◌, ℕ, zero, suc, ◌<◌, List, [], ◌∷◌, Option, Some, None, true, false, inl, inr, ⊎_elim, refl, ap, sym, ◌∙◌, subst, arith, length, set, get_or, slice_get, All, Contains}
+use Rattle.std.proofs.Common.{◌≡◌, ℕ, zero, suc, ◌<◌, List, [], ◌∷◌, Option, Some, None, inl, inr, refl, ap, sym, ◌∙◌, subst, arith, length, set, get_or, slice_get, All, Contains}
 use Rattle.std.specs.List.{flat_map, AllByRecursion}
 use Rattle.std.proofs.lemmas.Bool.{cases_lt}
 use Rattle.std.proofs.lemmas.List.{get_or-set_same, get_or-set_other, length-set}
 use Rattle.std.proofs.lemmas.List.Elements.{Contains-get_or}
 use Rattle.std.proofs.lemmas.Option.{slice_get-get_or}
 use Rattle.hir_node.specs.declared.pat.Pat.{Pat}
-use Rattle.hir_node.specs.declared.node_id.NodeId.{NodeId}
 use Rattle.hir_node.specs.declared.node_id.NodeId.TheVariants as node
 use Rattle.hir_node.specs.ChildCalls.{Call, OnExpr, OnAnonConst, OnPat, OnType, OnLifetime, kids, pat_of_call, pat_calls, child_pats, opt}
-use Rattle.hir_faults.specs.Nodes.{Nodes, Has, calls_of, kids_of}
+use Rattle.hir_faults.specs.Nodes.{calls_of, kids_of}
 use Rattle.hir_faults.specs.Faults.{Rooted, rooted_fault}
 use Rattle.hir_faults.specs.Down.{KidsFall}
 use Rattle.hir_faults.proofs.SoundLemmas.{sound_falls}

@@ -1,6 +1,5 @@
 -- Root search by halving: the ends of the roots of a store rise, and what halving finds is the first root whose end exceeds the id.
-use Rattle.std.proofs.Common.{◌≡◌, ℕ, zero, suc, ◌+◌, ◌-◌, ◌*◌, ◌/◌, ◌^◌, ◌<◌, ◌≤◌, ◌⊎◌, Bool, true, false, List, [], ◌∷◌, Option, Some, None, inl, inr, refl, ap, sym, ◌∙◌, subst, arith, length, map, get_or, slice_get, option_map}
-use Rattle.std.specs.Prelude.{nat_lt}
+use Rattle.std.proofs.Common.{◌≡◌, ℕ, zero, suc, ◌+◌, ◌-◌, ◌*◌, ◌^◌, ◌<◌, ◌≤◌, Bool, true, false, List, [], ◌∷◌, None, inl, inr, refl, sym, ◌∙◌, subst, arith, length, get_or, slice_get}
 use Rattle.std.specs.List.{find}
 use Rattle.std.proofs.Math.Nat.{pow-suc}
 use Rattle.std.proofs.lemmas.Bool.{cases_lt, lt-ltb, le-ltb}
@@ -8,11 +7,11 @@ use Rattle.std.proofs.lemmas.Option.{slice_get_past}
 use Rattle.hir_forest.specs.declared.roots.Ends.{Ends}
 use Rattle.hir_forest.specs.declared.roots.Root.{Root}
 use Rattle.hir_forest.specs.Faults.{EndsFit, no_ends, ends_before}
-use Rattle.hir_faults.specs.Faults.{Rooted, rooted_fault, ends_of}
+use Rattle.hir_faults.specs.Faults.{Rooted, ends_of}
 use Rattle.hir_faults.specs.Sound.{RootsStandApart}
 use Rattle.hir_expr_store.specs.declared.root_search.EndOf.{EndOf}
 use Rattle.hir_expr_store.specs.declared.root_search.EndOf.TheVariants as ends
-use Rattle.hir_expr_store.specs.RootSearch.{end_of, exceeds, root_for, end_at, EndsRise}
+use Rattle.hir_expr_store.specs.RootSearch.{end_of, exceeds, end_at, EndsRise}
 
 -- half of fewer than 2 ^ m is fewer than 2 ^ (m - 1)
 pub halved : (w v m : ℕ) → 0 < w → v + v ≤ w → w < 2 ^ m → (n : ℕ) × (suc n ≡ m) × (v < 2 ^ n)

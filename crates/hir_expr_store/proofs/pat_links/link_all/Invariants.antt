@@ -1,4 +1,3 @@
-use Rattle.std.proofs.Common.{length}
 use Rattle.hir_expr_store.proofs.LinkLemmas.{LinkedBefore}
 use Rattle.hir_expr_store.proofs.pat_links.link_all.Given as goal
 

@@ -1,4 +1,4 @@
-use Rattle.std.proofs.Common.{◌+◌, ◌-◌, ◌*◌, ◌/◌, ◌<◌, ◌≤◌, length, arith}
+use Rattle.std.proofs.Common.{◌+◌, ◌-◌, ◌/◌, ◌<◌, ◌≤◌, length, arith}
 use Rattle.hir_expr_store.proofs.RootLemmas.{digits_left}
 use Rattle.hir_expr_store.proofs.root_search.count_before.Goals as goal
 

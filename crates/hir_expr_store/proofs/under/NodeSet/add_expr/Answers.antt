@@ -1,4 +1,3 @@
-use Rattle.std.proofs.Common.{◌+◌, ap}
 use Rattle.hir_node.specs.declared.node_id.NodeId.TheVariants as node
 use Rattle.hir_expr_store.proofs.UnderLemmas.{gains}
 use Rattle.hir_expr_store.proofs.under.NodeSet.add_expr.Goals as goal
