@@ -95,7 +95,9 @@ pub fn chain_and_cycle(alloc: Global) -> Result<Parents, AllocError>
 }
 
 /// So many expressions and nothing else.
-pub fn only_exprs(exprs: u32) -> Ends {
+pub fn only_exprs(exprs: u32) -> Ends
+    ensures { result.exprs ≡ exprs }
+{
     Ends {
         exprs,
         pats: 0,
