@@ -2,7 +2,6 @@
 #include "hir_expr_store.h"
 
 #include <stdio.h>
-#include <string.h>
 
 static const char TEXT[] =
     "bind x\n"                /* binding 0, the parameter */
@@ -24,7 +23,7 @@ static const char TEXT[] =
 int main(void) {
     uint8_t answers[1024];
     hir_expr_store_report report;
-    uint32_t status = hir_expr_store_answer((const uint8_t *)TEXT, strlen(TEXT), answers, sizeof answers, &report);
+    uint32_t status = hir_expr_store_answer((const uint8_t *)TEXT, sizeof TEXT - 1, answers, sizeof answers, &report);
 
     fwrite(answers, 1, report.written, stdout);
     printf("status %u, %zu of %zu bytes", (unsigned)status, report.written, report.length);
