@@ -120,6 +120,7 @@ pub fn ask(function: &Function<'_>) -> Result<Findings, Box<dyn Error>> {
             Err(refusal) => return Err(refusal.into()),
         }
     }
+    closures.sort_by_key(|closure| closure.marks.first().copied());
     let store = body.store();
     let nodes =
         store.exprs().len() + store.pats().len() + store.bindings().len() + store.types().len();

@@ -22,14 +22,10 @@ struct Finder<'a> {
 
 impl<'a> Finder<'a> {
     fn push(&mut self, signature: &'a syn::Signature, block: &'a syn::Block) {
-        let name = signature.ident.to_string();
+        let ident = signature.ident.to_string();
+        let names = self.around.iter().chain([&ident]);
         self.found.push(Function {
-            name: self
-                .around
-                .iter()
-                .map(|around| format!("{around}::"))
-                .collect::<String>()
-                + &name,
+            name: names.map(String::as_str).collect::<Vec<_>>().join("::"),
             place: signature.ident.span().start().into(),
             signature,
             block,

@@ -133,7 +133,7 @@ fn write_file(file: &str, form: &Form) -> Result<bool, Box<dyn Error>> {
         Form::Text => write_text(&report, &mut out)?,
         Form::Counts => write_counts(file, &report, &mut out)?,
         Form::Names => names::write(&report.findings, &mut out)?,
-        Form::Html(page) => fs::write(page, html::page(file, &report.source, &report.findings))?,
+        Form::Html(page) => fs::write(page, html::page(file, &report.source, &report.findings)?)?,
     }
     for refused in &report.refused {
         eprintln!("{refused}");

@@ -1,13 +1,14 @@
 //! Assignments: the left side is a pattern.
 
-use super::Lowering;
+use super::pats::member_name;
+use super::{Lowering, Use};
 use crate::span::Span;
 use hir_expr_store::hir::{Expr, Pat, Path, RecordFieldPat};
-use hir_expr_store::{ExprId, PatId};
+use hir_expr_store::{ExprId, Name, PatId};
 
 /// A name on the left of an assignment, which may mean a variable.
 pub(super) struct Target {
-    name: hir_expr_store::Name,
+    name: Name,
     span: Span,
 }
 
@@ -29,7 +30,7 @@ impl Lowering {
         let value = self.expr(right);
         let at = self.alloc(Expr::Assignment { target, value });
         for Target { name, span } in targets {
-            self.sources.uses.push(super::Use { at, name, span });
+            self.sources.uses.push(Use { at, name, span });
         }
         at
     }
@@ -100,7 +101,7 @@ impl Lowering {
                 let mut args = Vec::new();
                 for field in &record.fields {
                     args.push(RecordFieldPat {
-                        name: super::pats::member_name(&field.member),
+                        name: member_name(&field.member),
                         pat: self.target(&field.expr, targets),
                     });
                 }

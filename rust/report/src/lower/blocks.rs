@@ -1,9 +1,8 @@
 //! Blocks and their statements.
 
 use super::Lowering;
-use crate::span::Span;
 use hir_expr_store::hir::{Expr, Item, Statement, Unsafe};
-use hir_expr_store::{BlockId, ExprId, LabelId, MacroDefId};
+use hir_expr_store::{BlockId, ExprId, LabelId, MacroDefId, PatId, TypeRefId};
 use syn::parse::{Parse, ParseStream};
 
 /// `let PAT: TYPE = EXPR else BLOCK`, which syn gives as tokens.
@@ -61,10 +60,7 @@ fn parse_alternatives(input: ParseStream<'_>) -> syn::Result<syn::Pat> {
 
 impl Lowering {
     /// A pattern, and the type behind it, where one is written.
-    pub(super) fn typed_pat(
-        &mut self,
-        pat: &syn::Pat,
-    ) -> (hir_expr_store::PatId, Option<hir_expr_store::TypeRefId>) {
+    pub(super) fn typed_pat(&mut self, pat: &syn::Pat) -> (PatId, Option<TypeRefId>) {
         match pat {
             syn::Pat::Type(typed) => {
                 let ty = self.ty(&typed.ty);
@@ -197,9 +193,4 @@ fn is_let(expr: &syn::Expr) -> bool {
         syn::Expr::Verbatim(tokens) => syn::parse2::<LetElse>(tokens.clone()).is_ok(),
         _ => false,
     }
-}
-
-/// Where what syn gives as tokens is written.
-pub(super) fn span_of(tokens: &proc_macro2::TokenStream) -> Span {
-    Span::of(tokens)
 }

@@ -5,7 +5,7 @@ use super::{ClosureSource, Lowering};
 use crate::span::Span;
 use hir_expr_store::hir::{
     BindingAnnotation, CaptureBy, ClosureKind, CoroutineKind, CoroutineSource, Expr, LoopSource,
-    MatchArm, Movability, Mutability, Pat, Path, Rawness, RecordLitField, Unsafe,
+    MatchArm, Movability, Mutability, Pat, Path, Rawness, RecordLitField, RecordSpread, Unsafe,
 };
 use hir_expr_store::{ExprId, Name, PatId};
 
@@ -230,7 +230,7 @@ impl Lowering {
         self.alloc(Expr::RecordLit {
             path: item.path(),
             fields: start.into_iter().chain(end).collect(),
-            spread: hir_expr_store::hir::RecordSpread::None,
+            spread: RecordSpread::None,
         })
     }
 }

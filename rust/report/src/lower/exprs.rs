@@ -1,16 +1,17 @@
 //! Expressions.
 
 use super::assignments::is_underscore;
-use super::blocks::span_of;
 use super::paths::name_of;
 use super::pats::member_name;
+use super::verbatim::Inner;
 use super::{Lowering, Use};
 use crate::span::Span;
 use hir_expr_store::hir::{
-    ArithOp, Array, BinaryOp, CmpOp, Expr, LogicOp, Mutability, Ordering, Rawness, RecordLitField,
-    RecordSpread, UnaryOp, Unsafe,
+    ArithOp, Array, BinaryOp, CmpOp, ConstRef, Expr, GenericArg, GenericArgs, LogicOp, Mutability,
+    Ordering, Rawness, RecordLitField, RecordSpread, UnaryOp, Unsafe,
 };
 use hir_expr_store::{ExprId, Name};
+use proc_macro2::TokenStream;
 
 /// An operator between two expressions. `+=` and the like are assignments.
 fn binary_op(op: &syn::BinOp) -> BinaryOp {
@@ -109,18 +110,16 @@ impl Lowering {
     fn method_call(&mut self, it: &syn::ExprMethodCall) -> Expr {
         let receiver = self.expr(&it.receiver);
         let generic_args = it.turbofish.as_ref().map(|turbofish| {
-            let mut args = hir_expr_store::hir::GenericArgs::default();
+            let mut args = GenericArgs::default();
             for arg in &turbofish.args {
                 match arg {
                     syn::GenericMethodArgument::Type(ty) => {
                         let ty = self.ty(ty);
-                        args.args.push(hir_expr_store::hir::GenericArg::Ty(ty));
+                        args.args.push(GenericArg::Ty(ty));
                     }
                     syn::GenericMethodArgument::Const(expr) => {
                         let expr = self.without_labels(|lowering| lowering.expr(expr));
-                        args.args.push(hir_expr_store::hir::GenericArg::Const(
-                            hir_expr_store::hir::ConstRef { expr },
-                        ));
+                        args.args.push(GenericArg::Const(ConstRef { expr }));
                     }
                 }
             }
@@ -161,17 +160,17 @@ impl Lowering {
     }
 
     /// What syn gives as tokens: `_`, `const {}`, `&raw`, and what it doesn't know.
-    fn verbatim(&mut self, expr: &syn::Expr, tokens: &proc_macro2::TokenStream) -> ExprId {
+    fn verbatim(&mut self, expr: &syn::Expr, tokens: &TokenStream) -> ExprId {
         if is_underscore(expr) {
             return self.alloc(Expr::Underscore);
         }
-        if let Ok(it) = syn::parse2::<super::verbatim::Inner>(tokens.clone()) {
+        if let Ok(it) = syn::parse2::<Inner>(tokens.clone()) {
             return match it {
-                super::verbatim::Inner::Const(block) => {
+                Inner::Const(block) => {
                     let body = self.without_labels(|lowering| lowering.block(&block, None));
                     self.alloc(Expr::Const(body))
                 }
-                super::verbatim::Inner::Raw(is_mutable, expr) => {
+                Inner::Raw(is_mutable, expr) => {
                     let expr = self.expr(&expr);
                     self.alloc(Expr::Ref {
                         expr,
@@ -182,7 +181,7 @@ impl Lowering {
             };
         }
         self.keep_tokens(tokens.clone());
-        self.unknown(span_of(tokens))
+        self.unknown(Span::of(tokens))
     }
 
     #[allow(clippy::too_many_lines)] // One arm a form.

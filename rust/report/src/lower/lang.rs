@@ -17,8 +17,6 @@ pub enum Lang {
     Branch,
     /// `FromResidual::from_residual`
     FromResidual,
-    /// `Try::from_output`
-    FromOutput,
     /// `RangeInclusive::new`
     RangeInclusiveNew,
     /// `Option::None`
@@ -41,13 +39,12 @@ pub enum Lang {
     RangeToInclusive,
 }
 
-const FUNCTIONS: [(u32, &str); 6] = [
+const FUNCTIONS: [(u32, &str); 5] = [
     (1, "into_iter"),
     (2, "next"),
     (3, "branch"),
     (4, "from_residual"),
-    (5, "from_output"),
-    (6, "new"),
+    (5, "new"),
 ];
 
 const VARIANTS: [(u32, &str, u32); 4] = [
@@ -77,8 +74,7 @@ impl Lang {
             Lang::Next => function(2),
             Lang::Branch => function(3),
             Lang::FromResidual => function(4),
-            Lang::FromOutput => function(5),
-            Lang::RangeInclusiveNew => function(6),
+            Lang::RangeInclusiveNew => function(5),
             Lang::None => variant(0),
             Lang::Some => variant(1),
             Lang::Continue => variant(2),

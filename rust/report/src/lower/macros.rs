@@ -2,7 +2,7 @@
 
 use super::Lowering;
 use crate::span::Span;
-use hir_expr_store::hir::{Expr, ModPath, Path};
+use hir_expr_store::hir::{Expr, ModPath, Path, PathKind};
 use hir_expr_store::{ExprId, Name};
 use proc_macro2::{Literal, TokenStream, TokenTree};
 
@@ -72,7 +72,7 @@ impl Lowering {
         if let Some(last) = names.last_mut() {
             *last = Name::new(format!("{last}!"));
         }
-        let path = ModPath::from_segments(hir_expr_store::hir::PathKind::Plain, names);
+        let path = ModPath::from_segments(PathKind::Plain, names);
         self.alloc(Expr::Path(Path::BarePath(path)))
     }
 }

@@ -7,7 +7,7 @@ pub(super) enum Inner {
     /// `const {}`
     Const(syn::Block),
     /// `&raw const EXPR`, or `&raw mut EXPR`: whether it may be written, and the place.
-    Raw(bool, syn::Expr),
+    Raw(bool, Box<syn::Expr>),
 }
 
 impl Parse for Inner {
@@ -28,6 +28,6 @@ impl Parse for Inner {
         } else {
             input.parse::<syn::Token![const]>()?;
         }
-        Ok(Inner::Raw(is_mutable, input.parse()?))
+        Ok(Inner::Raw(is_mutable, Box::new(input.parse()?)))
     }
 }
