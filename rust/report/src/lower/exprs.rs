@@ -190,6 +190,9 @@ impl Lowering {
             syn::Expr::Group(it) => return self.expr(&it.expr),
             syn::Expr::Paren(it) => return self.expr(&it.expr),
             syn::Expr::Type(it) => return self.expr(&it.expr),
+            // `box` and `try {}` are of no edition: what they stand around keeps its names.
+            syn::Expr::Box(it) => return self.expr(&it.expr),
+            syn::Expr::TryBlock(it) => return self.block(&it.block, None),
             syn::Expr::Assign(it) => return self.assignment(&it.left, &it.right),
             syn::Expr::Async(it) => return self.async_block(it),
             syn::Expr::Block(it) => return self.labelled_block(it),
@@ -264,7 +267,7 @@ impl Lowering {
             syn::Expr::Yield(it) => Expr::Yield {
                 expr: self.opt(it.expr.as_deref()),
             },
-            // `box` and `try {}`, which are of no edition, and what later versions of syn add.
+            // What later versions of syn add.
             _ => return self.unknown(Span::of(expr)),
         };
         self.alloc(lowered)
