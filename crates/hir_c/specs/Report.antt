@@ -10,4 +10,4 @@ filled answers old = take (length old) answers ++ drop (length answers) old
 abbrev pub IsFrontOfAnswers : Report → List ℕ → List ℕ → Type 0
 IsFrontOfAnswers report old new =
     (answers : List ℕ) × (report.length ≡ length answers) × (report.written ≡ min (length answers) (length old))
-        × (new ≡ filled answers old)
+    × (new ≡ filled answers old)

@@ -8,10 +8,9 @@ mod fill;
 mod reading;
 mod report;
 
-pub use report::Report;
-
 use hir_text::Answers;
 use reading::{answer_bytes, first_refusal};
+pub use report::Report;
 use report::Status;
 use std::alloc::Global;
 
