@@ -63,6 +63,7 @@ mod batch;
 mod body;
 mod def;
 mod fault;
+#[allow(unsafe_code)]
 mod ffi;
 mod ids;
 mod name;
