@@ -1,0 +1,132 @@
+//! What is marked in the source: variables, the names that mean them, and closures.
+
+use super::escaped;
+use crate::findings::{Closure, Findings, Usage};
+use crate::span::{Place, Span};
+use hir_expr_store::BindingId;
+use std::collections::HashMap;
+
+/// A piece of the source that is marked, and the attributes of its element.
+pub struct Mark {
+    /// The piece: it ends in the line that it begins in.
+    pub span: Span,
+    /// The attributes.
+    pub attributes: String,
+}
+
+/// The name of a binding on the page.
+fn key(function: usize, id: BindingId) -> String {
+    format!("{function}.{}", id.into_raw())
+}
+
+/// What is said of a binding.
+fn about(found: &Findings, id: BindingId) -> String {
+    let Some(binding) = found.binding(id) else {
+        return String::new();
+    };
+    let meanings = found.meanings.iter();
+    let count = meanings.filter(|it| it.binding == Some(id)).count();
+    let what = if binding.is_param {
+        "parameter"
+    } else {
+        "variable"
+    };
+    let line = match binding.spans.first() {
+        Some(span) => format!(" of line {}", span.start.line),
+        None => String::new(),
+    };
+    let uses = match (count, found.usages.get(&id)) {
+        (0, Some(Usage::PerhapsInMacro)) => String::from("used in a macro call, perhaps"),
+        (0, _) => String::from("nothing uses it"),
+        (1, _) => String::from("1 use"),
+        (count, _) => format!("{count} uses"),
+    };
+    format!("{}: {what}{line}, {uses}", binding.name)
+}
+
+/// The mark of a variable or of a name that means it.
+fn of_binding(function: usize, found: &Findings, id: BindingId, class: &str, span: Span) -> Mark {
+    let key = key(function, id);
+    let about = escaped(&about(found, id));
+    Mark {
+        span,
+        attributes: format!("class=\"{class}\" data-b=\"{key}\" data-t=\"{about}\""),
+    }
+}
+
+fn add_bindings(function: usize, found: &Findings, marks: &mut Vec<Mark>) {
+    let unused: Vec<BindingId> = found.with_usage(Usage::Unused).map(|it| it.id).collect();
+    for binding in &found.bindings {
+        let is_unused = unused.contains(&binding.id);
+        let class = if is_unused { "d unused" } else { "d" };
+        for span in &binding.spans {
+            marks.push(of_binding(function, found, binding.id, class, *span));
+        }
+    }
+}
+
+fn add_uses(function: usize, found: &Findings, marks: &mut Vec<Mark>) {
+    for meaning in &found.meanings {
+        marks.push(match meaning.binding {
+            Some(id) => of_binding(function, found, id, "u", meaning.span),
+            None => Mark {
+                span: meaning.span,
+                attributes: format!(
+                    "class=\"o\" data-t=\"{}: no variable\"",
+                    escaped(meaning.name.as_str())
+                ),
+            },
+        });
+    }
+}
+
+/// The names of what a closure captures, as a text.
+pub fn captured_names(found: &Findings, closure: &Closure) -> String {
+    let captured = closure.captures.iter();
+    let names: Vec<&str> = captured
+        .filter_map(|id| Some(found.binding(*id)?.name.as_str()))
+        .collect();
+    if names.is_empty() {
+        String::from("nothing")
+    } else {
+        names.join(", ")
+    }
+}
+
+fn add_closures(function: usize, found: &Findings, marks: &mut Vec<Mark>) {
+    for (number, closure) in found.closures.iter().enumerate() {
+        let captured = closure.captures.iter();
+        let keys: Vec<String> = captured.map(|id| key(function, *id)).collect();
+        let keys = keys.join(" ");
+        let names = escaped(&captured_names(found, closure));
+        for span in &closure.marks {
+            marks.push(Mark {
+                span: *span,
+                attributes: format!(
+                    "class=\"c\" data-k=\"{function}.{number}\" data-c=\"{keys}\" data-t=\"closure: captures {names}\""
+                ),
+            });
+        }
+    }
+}
+
+/// The marks of all functions by the line that they stand in, in their order; none lies in another.
+pub fn marks_by_line(findings: &[Findings]) -> HashMap<usize, Vec<Mark>> {
+    let mut marks = Vec::new();
+    for (function, found) in findings.iter().enumerate() {
+        add_bindings(function, found, &mut marks);
+        add_uses(function, found, &mut marks);
+        add_closures(function, found, &mut marks);
+    }
+    marks.sort_by_key(|mark| mark.span);
+    let mut by_line: HashMap<usize, Vec<Mark>> = HashMap::new();
+    let mut end = Place { line: 0, column: 0 };
+    for mark in marks {
+        let Span { start, end: behind } = mark.span;
+        if start >= end && start.line == behind.line {
+            end = behind;
+            by_line.entry(start.line).or_default().push(mark);
+        }
+    }
+    by_line
+}

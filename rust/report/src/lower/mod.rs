@@ -1,0 +1,219 @@
+//! Lowering: a parsed function becomes a body, and its names keep their places.
+
+mod assignments;
+mod blocks;
+mod control;
+mod exprs;
+mod lang;
+mod literals;
+mod macros;
+mod paths;
+mod pats;
+mod types;
+mod verbatim;
+
+use crate::span::Span;
+use hir_expr_store::hir::{Binding, BindingAnnotation, Expr, Label};
+use hir_expr_store::{
+    BindingId, Body, ExprId, ExpressionStoreBuilder, FunctionId, HygieneId, LabelId, Name, Param,
+};
+use std::error::Error;
+use std::mem;
+
+pub use lang::tables;
+
+/// Where a binding is written, as often as it is: a pattern may bind it in each of its alternatives.
+pub struct BindingSource {
+    /// The binding.
+    pub id: BindingId,
+    /// Its name.
+    pub name: Name,
+    /// Where it is written; nowhere, where lowering made it.
+    pub spans: Vec<Span>,
+    /// Whether it is of a parameter.
+    pub is_param: bool,
+}
+
+/// A path of one name, which may mean a variable.
+pub struct Use {
+    /// The expression at which the name is looked for.
+    pub at: ExprId,
+    /// The name.
+    pub name: Name,
+    /// Where it is written.
+    pub span: Span,
+}
+
+/// A closure, or a block that is one, as `async {}`.
+pub struct ClosureSource {
+    /// The closure.
+    pub expr: ExprId,
+    /// What is written at its front: the two bars, or `async`.
+    pub marks: Vec<Span>,
+}
+
+/// What the nodes of a body were written as.
+#[derive(Default)]
+pub struct Sources {
+    /// Its bindings, by their ids.
+    pub bindings: Vec<BindingSource>,
+    /// Its paths of one name.
+    pub uses: Vec<Use>,
+    /// Its closures.
+    pub closures: Vec<ClosureSource>,
+    /// The identifiers in macro calls, which aren't expanded: a variable may be used there.
+    pub in_macros: Vec<(Name, Span)>,
+    /// What syn didn't know, so that it is a missing node.
+    pub unknown: Vec<Span>,
+}
+
+/// A body, and what its nodes were written as.
+pub struct Lowered {
+    /// The body.
+    pub body: Body,
+    /// What its nodes were written as.
+    pub sources: Sources,
+}
+
+/// A label that is in scope.
+struct LabelInScope {
+    name: String,
+    id: LabelId,
+}
+
+/// What is lowered so far.
+#[derive(Default)]
+struct Lowering {
+    builder: ExpressionStoreBuilder,
+    sources: Sources,
+    labels: Vec<LabelInScope>,
+    blocks: u32,
+    macro_defs: u32,
+    made_names: u32,
+    /// Whether bindings are of a parameter.
+    is_param: bool,
+}
+
+/// The body of a function with these parameters.
+pub fn lower(signature: &syn::Signature, block: &syn::Block) -> Result<Lowered, Box<dyn Error>> {
+    let mut lowering = Lowering {
+        is_param: true,
+        ..Lowering::default()
+    };
+    let mut params = Vec::new();
+    let mut self_param = None;
+    for input in &signature.inputs {
+        match input {
+            syn::FnArg::Receiver(receiver) => {
+                let is_mutable = receiver.mutability.is_some() && receiver.reference.is_none();
+                let mode = BindingAnnotation::new(is_mutable, false);
+                let span = Span::of(&receiver.self_token);
+                self_param = Some(Param::new(lowering.binding("self", mode, Some(span))));
+            }
+            syn::FnArg::Typed(typed) => match &*typed.pat {
+                // `self` with a type.
+                syn::Pat::Ident(ident) if ident.ident == "self" => {
+                    let mode = BindingAnnotation::new(ident.mutability.is_some(), false);
+                    let span = Span::of(&ident.ident);
+                    self_param = Some(Param::new(lowering.binding("self", mode, Some(span))));
+                }
+                pat => params.push(Param::new(lowering.pat_top(pat))),
+            },
+        }
+    }
+    lowering.is_param = false;
+    let root = lowering.block(block, None);
+    lowering.builder.push_root(root);
+    let Lowering {
+        builder, sources, ..
+    } = lowering;
+    let store = builder.finish()?;
+    let body = Body::new(
+        FunctionId::from_raw(lang::THIS).into(),
+        store,
+        params,
+        self_param,
+    )?;
+    Ok(Lowered { body, sources })
+}
+
+impl Lowering {
+    fn alloc(&mut self, expr: Expr) -> ExprId {
+        self.builder.alloc_expr(expr)
+    }
+
+    /// A binding of this name, which is written here, or nowhere.
+    fn binding(&mut self, name: &str, mode: BindingAnnotation, span: Option<Span>) -> BindingId {
+        let name = Name::new(name);
+        let id = self.builder.alloc_binding(Binding {
+            name: name.clone(),
+            mode,
+            problems: None,
+            hygiene: HygieneId::ROOT,
+        });
+        self.sources.bindings.push(BindingSource {
+            id,
+            name,
+            spans: span.into_iter().collect(),
+            is_param: self.is_param,
+        });
+        id
+    }
+
+    /// A name that no source has.
+    fn made_name(&mut self, of: &str) -> Name {
+        let number = self.made_names;
+        self.made_names += 1;
+        Name::new(format!("<{of} {number}>"))
+    }
+
+    /// What syn gives as tokens alone.
+    fn unknown(&mut self, span: Span) -> ExprId {
+        self.sources.unknown.push(span);
+        self.alloc(Expr::Missing)
+    }
+
+    fn label(&mut self, label: Option<&syn::Label>) -> Option<LabelId> {
+        let label = label?;
+        let name = format!("'{}", label.name.ident);
+        Some(self.builder.alloc_label(Label {
+            name: Name::new(name),
+        }))
+    }
+
+    /// Lowers what a label is in scope of.
+    fn with_label<T>(
+        &mut self,
+        name: Option<&syn::Label>,
+        id: Option<LabelId>,
+        lower: impl FnOnce(&mut Lowering) -> T,
+    ) -> T {
+        let (Some(name), Some(id)) = (name, id) else {
+            return lower(self);
+        };
+        self.labels.push(LabelInScope {
+            name: name.name.ident.to_string(),
+            id,
+        });
+        let lowered = lower(self);
+        self.labels.pop();
+        lowered
+    }
+
+    /// Lowers what sees none of the labels around it, as the body of a closure.
+    fn without_labels<T>(&mut self, lower: impl FnOnce(&mut Lowering) -> T) -> T {
+        let labels = mem::take(&mut self.labels);
+        let lowered = lower(self);
+        self.labels = labels;
+        lowered
+    }
+
+    /// The label that a jump names.
+    fn label_in_scope(&self, lifetime: Option<&syn::Lifetime>) -> Option<LabelId> {
+        let name = lifetime?.ident.to_string();
+        let mut inner_first = self.labels.iter().rev();
+        inner_first
+            .find(|label| label.name == name)
+            .map(|label| label.id)
+    }
+}
