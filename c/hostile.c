@@ -1,5 +1,5 @@
-/* Asks hostile texts into buffers that end where memory ends: a byte past one would stop the program. For each text, a buffer of every
- * length from 0 to one more than the answers have; what is written is a front of the answers, and the report has their length. */
+/* Asks hostile texts into buffers that end where memory ends: a byte past one would stop the program. For each text but those of 10 MB, a
+ * buffer of every length from 0 to one more than the answers have; what is written is a front of the answers, and the report has their length. */
 #include "hir_expr_store.h"
 
 #include <stdio.h>
@@ -32,15 +32,19 @@ static void check(int is_so, const char *what, const char *text, size_t length) 
         printf("%s: a buffer of %zu bytes: %.60s\n", what, length, text);
 }
 
+/* How many bytes of answers a buffer of every length is tried for; of longer ones, lengths are left out in the middle. */
+static const size_t EVERY = 4096;
+
 /* Asks a text, which lies before memory that can't be touched too, into buffers of every length. */
 static void every_length(const char *text, size_t text_length) {
-    guarded in = guarded_new(text_length), out = guarded_new(1 << 16);
+    guarded in = guarded_new(text_length);
     uint8_t *at = in.end - text_length;
     memcpy(at, text, text_length);
     hir_expr_store_report whole;
-    uint32_t status = hir_expr_store_answer(at, text_length, out.end, 0, &whole);
+    uint8_t none[1];
+    uint32_t status = hir_expr_store_answer(at, text_length, none, 0, &whole);
     check(whole.written == 0, "written", text, 0);
-    check(whole.length < out.room, "length", text, 0);
+    guarded out = guarded_new(whole.length + 1);
     uint8_t *answers = malloc(whole.length + 1);
     if (answers == NULL)
         exit(3);
@@ -48,8 +52,13 @@ static void every_length(const char *text, size_t text_length) {
     (void)hir_expr_store_answer(at, text_length, out.end - whole.length, whole.length, &full);
     memcpy(answers, out.end - whole.length, whole.length);
     for (size_t length = 0; length <= whole.length + 1; length++) {
-        uint8_t *buffer = out.end - length;
-        memset(out.end - out.room, 0xa5, out.room);
+        if (length > EVERY / 2 && length + EVERY / 2 < whole.length)
+            length = whole.length - EVERY / 2;
+        uint8_t *buffer = out.end - length, *from = out.end - out.room;
+        /* Of a long place only what is near the buffer is looked at. */
+        if ((size_t)(buffer - from) > EVERY)
+            from = buffer - EVERY;
+        memset(from, 0xa5, (size_t)(out.end - from));
         hir_expr_store_report report;
         uint32_t again = hir_expr_store_answer(at, text_length, buffer, length, &report);
         size_t written = length < whole.length ? length : whole.length;
@@ -59,8 +68,10 @@ static void every_length(const char *text, size_t text_length) {
         check(memcmp(buffer, answers, written) == 0, "front", text, length);
         for (uint8_t *behind = buffer + written; behind < out.end; behind++)
             check(*behind == 0xa5, "behind what was written", text, length);
-        for (uint8_t *before = out.end - out.room; before < buffer; before++)
+        for (uint8_t *before = from; before < buffer; before++)
             check(*before == 0xa5, "before the buffer", text, length);
+        if (text_length > 1 << 20)
+            length += whole.length / 4;
     }
     free(answers);
     munmap(in.end - in.room, in.room);

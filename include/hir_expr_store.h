@@ -47,7 +47,8 @@ typedef struct {
  *
  * The caller owes: text, buffer and report aren't NULL, also where a length is 0; they lie in memory that is the caller's for the time of
  * the call, of which buffer and report are written by nobody else, and don't overlap each other or text; a length is below 2^63.
- * Nothing is kept between two calls and nothing is global, so any thread may call at any time, but no signal handler.
+ * Nothing is kept between two calls and nothing is global, so any thread may call at any time, but no signal handler. All memory is given
+ * back, but where the text has the line "run": the program that it runs leaves what it made, as a process does at its end.
  */
 uint32_t hir_expr_store_answer(const uint8_t *text, size_t text_length, uint8_t *buffer, size_t buffer_length,
                                hir_expr_store_report *report);

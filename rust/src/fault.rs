@@ -148,14 +148,106 @@ pub enum Refusal {
     BadAnswer(String),
 }
 
+/// Its name and, behind a space, the node or the index, as the library writes it.
+impl fmt::Display for FinishFault {
+    fn fmt(&self, f: &mut fmt::Formatter<'_>) -> fmt::Result {
+        match self {
+            FinishFault::NoRoots => write!(f, "NoRoots"),
+            FinishFault::IdOutOfRange(node) => write!(f, "IdOutOfRange {node}"),
+            FinishFault::NotAPath(node) => write!(f, "NotAPath {node}"),
+            FinishFault::NoReturnType(node) => write!(f, "NoReturnType {node}"),
+            FinishFault::NoSelfArgument(node) => write!(f, "NoSelfArgument {node}"),
+            FinishFault::ArgumentLists(node) => write!(f, "ArgumentLists {node}"),
+            FinishFault::SharedChild(node) => write!(f, "SharedChild {node}"),
+            FinishFault::Cycle(node) => write!(f, "Cycle {node}"),
+            FinishFault::RootOutOfRange(index) => write!(f, "RootOutOfRange {index}"),
+            FinishFault::RootRepeated(index) => write!(f, "RootRepeated {index}"),
+            FinishFault::RootUnderRoot(index) => write!(f, "RootUnderRoot {index}"),
+            FinishFault::RootEnds(index) => write!(f, "RootEnds {index}"),
+        }
+    }
+}
+
+/// Its name and, behind a space, the index, as the library writes it.
+impl fmt::Display for BodyFault {
+    fn fmt(&self, f: &mut fmt::Formatter<'_>) -> fmt::Result {
+        match self {
+            BodyFault::NoRoot => write!(f, "NoRoot"),
+            BodyFault::SelfOutOfRange => write!(f, "SelfOutOfRange"),
+            BodyFault::ParamOutOfRange(index) => write!(f, "ParamOutOfRange {index}"),
+            BodyFault::ParamRepeated(index) => write!(f, "ParamRepeated {index}"),
+            BodyFault::ParamUnder(index) => write!(f, "ParamUnder {index}"),
+            BodyFault::RootInParam => write!(f, "RootInParam"),
+        }
+    }
+}
+
+/// What is missing, as `Missing(Name(FunctionId(0)))`, as the library writes it.
+impl fmt::Display for Missing {
+    fn fmt(&self, f: &mut fmt::Formatter<'_>) -> fmt::Result {
+        match self {
+            Missing::Name(def) => write!(f, "Missing(Name({def}))"),
+            Missing::Variant(id) => write!(f, "Missing(Variant({id}))"),
+            Missing::Crate(id) => write!(f, "Missing(Crate({}))", id.into_raw()),
+            Missing::Signature(def) => write!(f, "Missing(Signature({def}))"),
+            Missing::Body(def) => write!(f, "Missing(Body({def}))"),
+            Missing::Fields(def) => write!(f, "Missing(Fields({def}))"),
+            Missing::TypeParam(TypeParamId(id)) => {
+                let number = id.local_id.into_raw();
+                write!(f, "Missing(TypeParam({} {number}))", id.parent)
+            }
+            Missing::LifetimeParam(id) => {
+                let number = id.local_id.into_raw();
+                write!(f, "Missing(LifetimeParam({} {number}))", id.parent)
+            }
+            Missing::DefMap(id) => write!(f, "Missing(DefMap({}))", id.into_raw()),
+        }
+    }
+}
+
+impl fmt::Display for CallFault {
+    fn fmt(&self, f: &mut fmt::Formatter<'_>) -> fmt::Result {
+        match self {
+            CallFault::OutOfMemory => write!(f, "out of memory"),
+            CallFault::BadLine(line) => write!(f, "the library doesn't read the line {line:?}"),
+            CallFault::BadAnswer(answer) => write!(f, "{answer:?} is no answer to what was asked"),
+        }
+    }
+}
+
+impl fmt::Display for FinishError {
+    fn fmt(&self, f: &mut fmt::Formatter<'_>) -> fmt::Result {
+        match self {
+            FinishError::Fault(fault) => fmt::Display::fmt(fault, f),
+            FinishError::Call(fault) => fmt::Display::fmt(fault, f),
+        }
+    }
+}
+
+impl fmt::Display for BodyError {
+    fn fmt(&self, f: &mut fmt::Formatter<'_>) -> fmt::Result {
+        match self {
+            BodyError::Fault(fault) => fmt::Display::fmt(fault, f),
+            BodyError::Call(fault) => fmt::Display::fmt(fault, f),
+        }
+    }
+}
+
+impl fmt::Display for Refusal {
+    fn fmt(&self, f: &mut fmt::Formatter<'_>) -> fmt::Result {
+        match self {
+            Refusal::Unknown => write!(f, "an id isn't there, or there is no body"),
+            Refusal::Unreached => write!(f, "the expression isn't reached"),
+            Refusal::NotAClosure => write!(f, "the expression is no closure that the body reaches"),
+            Refusal::Full => write!(f, "more scopes or entries are needed than can be numbered"),
+            Refusal::Missing(missing) => fmt::Display::fmt(missing, f),
+            Refusal::BadAnswer(answer) => write!(f, "{answer:?} is no answer to what was asked"),
+        }
+    }
+}
+
 macro_rules! errors {
     ($($name:ident)*) => {$(
-        impl fmt::Display for $name {
-            fn fmt(&self, f: &mut fmt::Formatter<'_>) -> fmt::Result {
-                fmt::Debug::fmt(self, f)
-            }
-        }
-
         impl Error for $name {}
     )*};
 }
@@ -278,5 +370,78 @@ pub(crate) fn checked(text: &str, outcome: &Outcome) -> Result<Vec<Answer>, Call
             Err(CallFault::BadLine(String::from(line.unwrap_or(""))))
         }
         Status::OutOfMemory => Err(CallFault::OutOfMemory),
+    }
+}
+
+#[cfg(test)]
+mod tests {
+    use super::{BodyFault, FinishFault, Missing};
+
+    /// Texts of the library.
+    const FINISH: [&str; 12] = [
+        "NoRoots",
+        "IdOutOfRange ExprId(0)",
+        "NotAPath TypeRefId(3)",
+        "NoReturnType TypeRefId(4)",
+        "NoSelfArgument PatId(7)",
+        "ArgumentLists PatId(1)",
+        "SharedChild ExprId(2)",
+        "Cycle PatId(9)",
+        "RootOutOfRange 0",
+        "RootRepeated 5",
+        "RootUnderRoot 1",
+        "RootEnds 2",
+    ];
+
+    const BODY: [&str; 6] = [
+        "NoRoot",
+        "SelfOutOfRange",
+        "ParamOutOfRange 1",
+        "ParamRepeated 4",
+        "ParamUnder 0",
+        "RootInParam",
+    ];
+
+    const MISSING: [&str; 9] = [
+        "Missing(Name(MacroRulesId(0)))",
+        "Missing(Variant(EnumVariantId(1)))",
+        "Missing(Crate(2))",
+        "Missing(Signature(StructId(3)))",
+        "Missing(Body(EnumVariantId(4)))",
+        "Missing(Fields(UnionId(5)))",
+        "Missing(TypeParam(StructId(6) 1))",
+        "Missing(LifetimeParam(TraitId(7) 2))",
+        "Missing(DefMap(8))",
+    ];
+
+    #[test]
+    fn faults_have_the_library_s_texts() {
+        for text in FINISH {
+            assert_eq!(
+                FinishFault::from_text(text)
+                    .map(|fault| fault.to_string())
+                    .as_deref(),
+                Some(text)
+            );
+        }
+        for text in BODY {
+            assert_eq!(
+                BodyFault::from_text(text)
+                    .map(|fault| fault.to_string())
+                    .as_deref(),
+                Some(text)
+            );
+        }
+        for text in MISSING {
+            assert_eq!(
+                Missing::from_text(text)
+                    .map(|missing| missing.to_string())
+                    .as_deref(),
+                Some(text)
+            );
+        }
+        assert_eq!(FinishFault::from_text("NoRoots 1"), None);
+        assert_eq!(BodyFault::from_text("ParamUnder"), None);
+        assert_eq!(Missing::from_text("Missing(Name(ImplId(0)))"), None);
     }
 }
