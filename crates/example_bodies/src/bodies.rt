@@ -1,8 +1,8 @@
 //! The bodies that the examples and tests work on.
 
-use crate::parts::{assign, bind, block, body, closure, let_statement, local, statement, tuple};
 use hir_error::HirError;
 use hir_items::Body;
+use hir_make::{assign, bind, block, body, closure, let_, local, statement, tuple};
 use hir_store::ExpressionStoreBuilder;
 use std::alloc::Global;
 
@@ -19,11 +19,7 @@ pub fn names(alloc: Global) -> Result<Body, HirError> {
     let read_y = local(alloc, &mut builder, "y")?;
     let write_v = assign(alloc, &mut builder, "v", read_y)?;
     let tail = local(alloc, &mut builder, "y")?;
-    let statements = vec![in alloc;
-        let_statement(y, read_x),
-        let_statement(z, read_w),
-        statement(write_v),
-    ]?;
+    let statements = vec![in alloc; let_(y, read_x), let_(z, read_w), statement(write_v)]?;
     let value = block(&mut builder, statements, tail)?;
     body(alloc, builder, &[x], value)
 }
@@ -38,13 +34,13 @@ pub fn closures(alloc: Global) -> Result<Body, HirError> {
     let y = bind(alloc, &mut builder, "y")?;
     let read_x = local(alloc, &mut builder, "x")?;
     let read_a = local(alloc, &mut builder, "a")?;
-    let pair = tuple(alloc, &mut builder, read_x, read_a)?;
-    let first = closure(alloc, &mut builder, x, pair)?;
+    let pair = tuple(alloc, &mut builder, &[read_x, read_a])?;
+    let first = closure(alloc, &mut builder, &[x], pair)?;
     let read_g = local(alloc, &mut builder, "g")?;
     let read_b = local(alloc, &mut builder, "b")?;
-    let pair = tuple(alloc, &mut builder, read_g, read_b)?;
-    let second = closure(alloc, &mut builder, y, pair)?;
-    let statements = vec![in alloc; let_statement(g, first)]?;
+    let pair = tuple(alloc, &mut builder, &[read_g, read_b])?;
+    let second = closure(alloc, &mut builder, &[y], pair)?;
+    let statements = vec![in alloc; let_(g, first)]?;
     let value = block(&mut builder, statements, second)?;
     body(alloc, builder, &[a, b], value)
 }
@@ -58,7 +54,7 @@ pub fn nested_closures(alloc: Global, depth: u32) -> Result<Body, HirError> {
     let mut value = local(alloc, &mut builder, "a")?;
     for _ in 0..depth {
         let x = bind(alloc, &mut builder, "x")?;
-        value = closure(alloc, &mut builder, x, value)?;
+        value = closure(alloc, &mut builder, &[x], value)?;
     }
     body(alloc, builder, &[a], value)
 }

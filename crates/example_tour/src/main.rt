@@ -7,10 +7,10 @@ ghost use Rattle.hir_expr_store.specs.RootSearch.{root_for_expr};
 ghost use Rattle.hir_scope.specs.Paths.{chain};
 ghost use Rattle.hir_scope.specs.Resolution.{resolve};
 
-use example_bodies::{bind, block, let_statement, local, params};
 use hir_base::{DefWithBodyId, Edition, FunctionId, HygieneId, Name, NamedDef, Text};
 use hir_defs::{Body, Tables};
 use hir_error::HirError;
+use hir_make::{bind, block, let_, local, params};
 use hir_node::{BindingId, Expr, ExprId, Mutability, Rawness};
 use hir_print_defs::print_body_hir;
 use hir_scope::ExprScopes;
@@ -29,7 +29,7 @@ fn build(alloc: Global) -> Result<Body, HirError> {
         mutability: Mutability::Shared,
     })?;
     let inner = local(alloc, &mut builder, "x")?;
-    let statements = vec![in alloc; let_statement(shadow, by_ref)]?;
+    let statements = vec![in alloc; let_(shadow, by_ref)]?;
     let root = block(&mut builder, statements, inner)?;
     builder.push_root(root)?;
     let (store, _sources) = builder.finish()?;

@@ -1,9 +1,10 @@
 //! Trees 1,000,000 deep, of expressions, of patterns and of types: no call recurses on the depth of a tree.
 use crate::again::of_body;
-use example_bodies::{bind, body, local, nested_closures};
+use example_bodies::nested_closures;
 use hir_base::{HygieneId, Idx, Name};
 use hir_error::HirError;
 use hir_items::Body;
+use hir_make::{bind, body, local};
 use hir_node::{ArrayType, ConstRef, Expr, ExprId, Mutability, Pat, TypeRef};
 use hir_scope::ExprScopes;
 use hir_store::ExpressionStoreBuilder;

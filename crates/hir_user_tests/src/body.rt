@@ -1,8 +1,8 @@
 //! `{ let x = &x; x }`, the body of a function with the parameter `x`.
 
-use example_bodies::{bind, block, body, let_statement, local};
 use hir_error::HirError;
 use hir_items::Body;
+use hir_make::{bind, block, body, let_, local};
 use hir_node::{Expr, Mutability, Rawness};
 use hir_store::ExpressionStoreBuilder;
 use std::alloc::Global;
@@ -18,7 +18,7 @@ pub fn built(alloc: Global) -> Result<Body, HirError> {
         mutability: Mutability::Shared,
     })?;
     let tail = local(alloc, &mut builder, "x")?;
-    let statements = vec![in alloc; let_statement(local_x, by_ref)]?;
+    let statements = vec![in alloc; let_(local_x, by_ref)]?;
     let value = block(&mut builder, statements, tail)?;
     body(alloc, builder, &[param], value)
 }

@@ -1,9 +1,9 @@
 //! Walks over a pattern 1,000,000 deep and over one 1,000,000 wide, and the children of an expression with such a pattern: no walk recurses.
 ghost use Rattle.std.specs.Prelude.{◌<◌, length};
 
-use example_bodies::{bind, local};
 use hir_base::ShortList;
 use hir_error::HirError;
+use hir_make::{bind, local};
 use hir_node::{BindingId, Expr, ExprId, Mutability, Pat, PatId};
 use hir_store::{ExpressionStore, ExpressionStoreBuilder};
 use std::alloc::Global;

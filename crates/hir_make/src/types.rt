@@ -1,0 +1,42 @@
+//! Makers of types and of the bounds of a `where` clause.
+
+ghost use Rattle.std.specs.Prelude.{◌≡◌, None, IfOk, IfErr};
+ghost use Rattle.hir_path.specs.Paths.{one_name};
+ghost use Rattle.hir_make.specs.Adding.{AddsType, RefusesType};
+
+use crate::adding::{add_type, path};
+use hir_error::HirError;
+use hir_generics::WherePredicate;
+use hir_node::{PathId, TraitBoundModifier, TypeBound, TypeRef, TypeRefId};
+use hir_store::ExpressionStoreBuilder;
+use std::alloc::Global;
+
+/// Adds the type `name`, a path, and answers its id.
+///
+/// An error, where memory is refused or no id is left, leaves the builder as it was.
+pub fn path_type(
+    alloc: Global,
+    builder: &mut ExpressionStoreBuilder,
+    name: &str,
+) -> Result<TypeRefId, HirError>
+    ensures ok { IfOk result (λ id. AddsType builder.old (TypeRef.Path (one_name name.now)) id builder.new) }
+    ensures err { IfErr result (λ fault. RefusesType builder.old fault builder.new) }
+{
+    let path = path(alloc, name)?;
+    add_type(builder, TypeRef::Path(path))
+}
+
+/// `target: trait_`, of a type and of a type that is the path of a trait, as `path_type` makes it. A store or a signature refuses a
+/// bound whose trait isn't a path. It takes no memory and can't be refused.
+pub fn where_bound(target: TypeRefId, trait_: TypeRefId) -> WherePredicate
+    ensures { result ≡ WherePredicate.TypeBound None target (TypeBound.Path trait_ TraitBoundModifier.None) }
+{
+    WherePredicate::TypeBound {
+        lifetimes: None,
+        target,
+        bound: TypeBound::Path(
+            PathId::from_type_ref_unchecked(trait_),
+            TraitBoundModifier::None,
+        ),
+    }
+}
