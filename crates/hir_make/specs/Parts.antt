@@ -1,5 +1,5 @@
 -- What the makers make of their parts.
-use Rattle.std.specs.Prelude.{ℕ, List, [], Option, Some, None, map}
+use Rattle.std.specs.Prelude.{ℕ, List, Option, Some, None, map, length, replicate}
 use Rattle.hir_base.specs.declared.edition.Edition.TheVariants.{Edition2015}
 use Rattle.hir_base.specs.declared.hygiene.SyntaxContext.TheVariants as context
 use Rattle.hir_node.specs.declared.binding.Binding.{Binding}
@@ -21,7 +21,7 @@ plain_binding name = record { name = name; mode = Unannotated; problems = None; 
 
 -- no type for each argument
 abbrev pub untyped : List ℕ → List (Option ℕ)
-untyped args = map (λ arg. None) args
+untyped args = replicate (length args) None
 
 -- `|args| body`
 abbrev pub closure_of : List ℕ → ℕ → Expr

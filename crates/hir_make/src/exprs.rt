@@ -213,11 +213,7 @@ pub fn closure(
 fn untyped(alloc: Global, args: &[PatId]) -> Result<Seq<Option<TypeRefId>>, AllocError>
     ensures { IfOk result (λ types. types ≡ untyped args.now) }
 {
-    let mut types = Seq::with_capacity(alloc, args.len())?;
-    for _arg in args {
-        types.push(None)?;
-    }
-    Ok(types)
+    Ok(Seq::from_vec(vec![in alloc; None; args.len()]?))
 }
 
 /// Adds the block `{ statements tail }`, which has no label, isn't unsafe and holds no items.
