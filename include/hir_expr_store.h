@@ -43,7 +43,9 @@ typedef struct {
  * is lines with their ends: the first behind "= ", or "! " where it is a refusal, each further one behind "| ". No zero byte is added.
  * Where report->length exceeds buffer_length, the same call with a buffer of report->length bytes gets all of them.
  *
- * Proved: no byte past the buffer is written, what is written is a front of the answers, and report has their length.
+ * Proved: no byte past the buffer is written, and there are answers of which the buffer has a front, and report the length. Tested: which
+ * answers these are, the status and the line. Each question on scopes (chain, frames, resolve, captures) makes the scopes of its body anew, in
+ * time linear in its nodes.
  *
  * The caller owes: text, buffer and report aren't NULL, also where a length is 0; they lie in memory that is the caller's for the time of
  * the call, of which buffer and report are written by nobody else, and don't overlap each other or text; a length is below 2^63.
