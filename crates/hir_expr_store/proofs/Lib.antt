@@ -8,3 +8,4 @@ pub mod ApartLemmas
 pub mod ReachedLemmas
 pub mod RootLemmas
 pub mod GivenLemmas
+pub mod KeptLemmas

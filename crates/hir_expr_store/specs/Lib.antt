@@ -1,5 +1,6 @@
 pub mod SideTables
 pub mod Blocks
+pub mod Kept
 pub mod Contents
 pub mod MissingTexts
 pub mod StoreParts

@@ -16,7 +16,7 @@ no_side_tables = record { owners = map.empty; hygiene = map.empty; blocks = [] }
 abbrev pub owner_of : SideTables → ℕ → Option ℕ
 owner_of side_tables binding = map.get side_tables.owners (id_key binding)
 
-abbrev or_root : Option SyntaxContext → SyntaxContext
+abbrev pub or_root : Option SyntaxContext → SyntaxContext
 or_root None = Root Edition2015
 or_root (Some context) = context
 

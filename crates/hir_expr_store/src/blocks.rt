@@ -57,7 +57,10 @@ impl ExpressionStore {
     pub fn blocks<'a, M>(&'a self, maps: &'a BTreeMap<BlockId, M>) -> Result<Blocks<'a, M>, Missing>
         ensures { result ≡ blocks_with maps.now self.now.side_tables.blocks }
     {
-        let blocks = self.side_tables().blocks.as_slice();
+        let blocks = match self.side_tables().blocks.get() {
+            Some(blocks) => blocks.as_slice(),
+            None => &[],
+        };
         match first_without(blocks, maps) {
             Some(block) => Err(Missing::DefMap(block)),
             None => Ok(Blocks { blocks, maps }),

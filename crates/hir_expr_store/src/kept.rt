@@ -3,8 +3,10 @@ ghost use Rattle.std.specs.Prelude.{◌≡◌};
 
 use crate::both::both;
 use crate::pat_links::PatLinks;
+use hir_base::TryClone;
 use hir_forest::Parents;
-use std::alloc::AllocError;
+use hir_rare::Blank;
+use std::alloc::{AllocError, Global};
 
 /// The parents of the nodes, by their places in the row, and the links of the patterns.
 #[derive(Drop)]
@@ -19,5 +21,22 @@ impl Clone for Kept {
     fn clone(&self) -> Result<Kept, AllocError> {
         let (parents, links) = both(self.parents.clone()?, self.links.clone())?;
         Ok(Kept { parents, links })
+    }
+}
+
+impl TryClone for Kept {
+    ghost clone_is_same = { λ x y h. h };
+}
+
+impl Blank for Kept {
+    ghost use Rattle.hir_expr_store.specs.Kept.{nothing_kept};
+
+    ghost blank = { nothing_kept };
+
+    fn blank(alloc: Global) -> Kept {
+        Kept {
+            parents: Parents::none(alloc),
+            links: PatLinks::none(alloc),
+        }
     }
 }

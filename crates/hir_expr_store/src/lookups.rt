@@ -14,7 +14,7 @@ impl ExpressionStore {
     pub fn binding_owner(&self, id: BindingId) -> Option<ExprId>
         ensures { result ≡ owner_of self.now.side_tables id }
     {
-        self.side_tables().owners.get(&id).copied()
+        self.side_tables().owners.get()?.get(&id).copied()
     }
 
     /// The hygiene of the path that the expression is: `ROOT` where none was set.
@@ -35,7 +35,9 @@ impl ExpressionStore {
     pub fn expr_or_pat_path_hygiene(&self, id: ExprOrPatId) -> HygieneId
         ensures { result ≡ hygiene_of self.now.side_tables id }
     {
-        let hygiene = self.side_tables().hygiene.get(&id);
-        hygiene.copied().unwrap_or(HygieneId::ROOT)
+        let Some(hygiene) = self.side_tables().hygiene.get() else {
+            return HygieneId::ROOT;
+        };
+        hygiene.get(&id).copied().unwrap_or(HygieneId::ROOT)
     }
 }

@@ -5,17 +5,18 @@ ghost use Rattle.std.specs.Prelude.{◌≡◌};
 use crate::both::both;
 use hir_base::{BlockId, ExactEq, HygieneId, Seq, Table, TryClone};
 use hir_node::{BindingId, ExprId, ExprOrPatId};
+use hir_rare::Rare;
 use std::alloc::{AllocError, Global};
 
 /// Side tables: binding owners, path hygiene, blocks. `finish` doesn't check them: ids may be of nodes that aren't there.
 #[derive(Drop, PartialEq, Eq)]
 pub struct SideTables {
     /// The owner of a binding, where it isn't the body itself.
-    pub owners: Table<BindingId, ExprId>,
+    pub owners: Rare<Table<BindingId, ExprId>>,
     /// The hygiene of an expression or a pattern that is a path.
-    pub hygiene: Table<ExprOrPatId, HygieneId>,
+    pub hygiene: Rare<Table<ExprOrPatId, HygieneId>>,
     /// The blocks that may hold items, in order.
-    pub blocks: Seq<BlockId>,
+    pub blocks: Rare<Seq<BlockId>>,
 }
 
 impl SideTables {
@@ -26,9 +27,9 @@ impl SideTables {
         ensures { result ≡ no_side_tables }
     {
         SideTables {
-            owners: Table::new(alloc),
-            hygiene: Table::new(alloc),
-            blocks: Seq::new(alloc),
+            owners: Rare::new(alloc),
+            hygiene: Rare::new(alloc),
+            blocks: Rare::new(alloc),
         }
     }
 }

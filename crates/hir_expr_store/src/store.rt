@@ -1,6 +1,6 @@
 //! An accepted store: its nodes, which are a well-formed forest, and its roots.
 
-ghost use Rattle.std.specs.Prelude.{◌≡◌, ◌<◌, ◌↔◌, None, Some, length, slice_get, IsTrue};
+ghost use Rattle.std.specs.Prelude.{◌≡◌, ◌<◌, ◌↔◌, None, Some, IfSome, length, slice_get, IsTrue};
 ghost use Rattle.std.specs.List.{enumerate_from, list_all};
 ghost use Rattle.hir_forest.specs.Faults.{root_nodes};
 ghost use Rattle.hir_faults.specs.Tested.{bound_paths, is_path_at, path_at};
@@ -10,18 +10,18 @@ ghost use Rattle.hir_faults.specs.Fits.{path_fits};
 
 use crate::both::both;
 use crate::kept::Kept;
-use crate::pat_links::PatLinks;
 use crate::root_list::RootList;
 use crate::side_tables::SideTables;
 use crate::store_iter::ExprRoots;
 use hir_base::{Arena, ArenaIter, ExactEq, TryClone};
 use hir_faults::{NodeSlices, Sizes, as_path};
-use hir_forest::{Parents, Root};
+use hir_forest::Root;
 use hir_node::{
     Binding, BindingId, BindingKind, Expr, ExprId, ExprKind, Label, LabelId, LabelKind,
     LifetimeRef, LifetimeRefId, LifetimeRefKind, Pat, PatId, PatKind, Path, PathId, TypeBound,
     TypeRef, TypeRefId, TypeRefKind,
 };
+use hir_rare::Rare;
 use std::alloc::{AllocError, Global};
 use std::marker::Model;
 use std::ops::Index;
@@ -38,7 +38,7 @@ pub struct ExpressionStore {
     lifetimes: Arena<LifetimeRefKind, LifetimeRef>,
     roots: RootList,
     side_tables: SideTables,
-    kept: Kept,
+    kept: Rare<Kept>,
 }
 
 /// Drops its parts one after the other. It is here so that it is proved once, and is a call wherever a value is dropped.
@@ -107,7 +107,7 @@ pub struct StoreParts {
     pub lifetimes: Arena<LifetimeRefKind, LifetimeRef>,
     pub roots: RootList,
     pub side_tables: SideTables,
-    pub kept: Kept,
+    pub kept: Rare<Kept>,
 }
 
 impl ExpressionStore {
@@ -162,10 +162,7 @@ impl ExpressionStore {
             lifetimes: Arena::new(alloc),
             roots: RootList::new(alloc),
             side_tables: SideTables::new(alloc),
-            kept: Kept {
-                parents: Parents::none(alloc),
-                links: PatLinks::none(alloc),
-            },
+            kept: Rare::new(alloc),
         }
     }
 
@@ -213,18 +210,13 @@ impl ExpressionStore {
         self.nodes().sizes()
     }
 
-    /// The parents of the nodes, by their places in the row.
-    pub(crate) fn parents(&self) -> &Parents
-        ensures { HasParents (graph self.now.nodes) result.now.parents }
+    /// What is kept, where there is a node.
+    pub(crate) fn kept(&self) -> Option<&Kept>
+        ensures parents { IfSome result (λ kept. HasParents (graph self.now.nodes) kept.now.parents.parents) }
+        ensures links { IfSome result (λ kept. HasPatLinks self.now.nodes.pats kept.now.links) }
+        ensures none { result ≡ None → length (graph self.now.nodes) ≡ 0 }
     {
-        &self.kept.parents
-    }
-
-    /// The links of the patterns.
-    pub(crate) fn links(&self) -> &PatLinks
-        ensures { HasPatLinks self.now.nodes.pats result.now }
-    {
-        &self.kept.links
+        self.kept.get()
     }
 
     /// Whether there is an expression of this id.
@@ -447,7 +439,7 @@ impl Clone for ExpressionStore {
         let copy = both(copy, self.lifetimes.try_clone())?;
         let copy = both(copy, self.roots.try_clone())?;
         let copy = both(copy, self.side_tables.try_clone())?;
-        let (copy, kept) = both(copy, self.kept.clone())?;
+        let (copy, kept) = both(copy, self.kept.try_clone())?;
         let (((((((exprs, pats), types), bindings), labels), lifetimes), roots), side_tables) =
             copy;
         Ok(ExpressionStore {

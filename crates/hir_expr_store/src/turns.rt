@@ -3,6 +3,7 @@
 
 ghost use Rattle.std.specs.Prelude.{◌≡◌, ◌<◌, Some, length};
 ghost use Rattle.hir_node.specs.Runs.{Runs, MayRun};
+ghost use Rattle.hir_expr_store.specs.PatLinks.{HasPatLinks};
 ghost use Rattle.hir_expr_store.specs.PatLists.{child_pats_of};
 ghost use Rattle.hir_expr_store.specs.Turns.{turn_within, turn_behind, turns};
 
@@ -53,14 +54,14 @@ impl ExpressionStore {
         }
     }
 
-    /// Calls the visitor at each turn of the walk over a pattern.
-    pub(crate) fn walk_turns<V: TurnVisitor>(&self, top: PatId, visitor: &mut V)
+    /// Calls the visitor at each turn of the walk over a pattern, by these links.
+    fn walk_by<V: TurnVisitor>(&self, links: &PatLinks, top: PatId, visitor: &mut V)
         requires there { top < length self.now.nodes.pats }
+        requires links { HasPatLinks self.now.nodes.pats links.now }
         requires may { MayRun V.may V.step visitor.old (turns self.now.nodes top) }
         ensures { Runs V.step visitor.old (turns self.now.nodes top) visitor.new }
     {
         self.has_no_fault();
-        let links = self.links();
         let mut coming = Some(Turn::Enter(top));
         while let Some(turn) = coming {
             coming = match turn {
@@ -73,6 +74,17 @@ impl ExpressionStore {
                     turn_behind(links, top, id)
                 }
             };
+        }
+    }
+
+    /// Calls the visitor at each turn of the walk over a pattern.
+    pub(crate) fn walk_turns<V: TurnVisitor>(&self, top: PatId, visitor: &mut V)
+        requires there { top < length self.now.nodes.pats }
+        requires may { MayRun V.may V.step visitor.old (turns self.now.nodes top) }
+        ensures { Runs V.step visitor.old (turns self.now.nodes top) visitor.new }
+    {
+        if let Some(kept) = self.kept() {
+            self.walk_by(&kept.links, top, visitor);
         }
     }
 }

@@ -90,7 +90,10 @@ impl ExpressionStore {
         ensures { IsTrue result ↔ NoKidIn self.now.nodes set.now }
     {
         self.has_no_fault();
-        self.parents().marked_have_none(set.marks.as_slice())
+        match self.kept() {
+            Some(kept) => kept.parents.marked_have_none(set.marks.as_slice()),
+            None => true,
+        }
     }
 
     /// The nodes that lie properly under one of these, which are nodes of this store.
@@ -104,7 +107,10 @@ impl ExpressionStore {
             → IsIn found n ↔ LiesUnderOther self.now.nodes (IsIn tops.now) n) }
     {
         self.has_no_fault();
-        let marks = self.parents().under_marked(alloc, tops.marks.as_slice())?;
+        let Some(kept) = self.kept() else {
+            return self.no_nodes(alloc);
+        };
+        let marks = kept.parents.under_marked(alloc, tops.marks.as_slice())?;
         Ok(NodeSet {
             sizes: self.sizes(),
             marks,

@@ -1,3 +1,4 @@
 pub mod DefinitionLemmas
 pub mod NoEntries
 pub mod ComparedLemmas
+pub mod NoSources

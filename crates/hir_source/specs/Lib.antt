@@ -4,3 +4,4 @@ pub mod Lookups
 pub mod Calls
 pub mod Compared
 pub mod same
+pub mod NoSources

@@ -10,7 +10,7 @@ use Rattle.hir_source.specs.declared.sources.ExprSources.{ExprSources}
 use Rattle.hir_source.specs.declared.source_map.ExpressionStoreSourceMap.{ExpressionStoreSourceMap}
 use Rattle.hir_source.specs.Sources.{Source, source_key, id_key, patterns_of}
 
-abbrev entry : {V : Type 0} → (ExprSources → map.FinMap by_code V) → Option ExprSources → List ℕ → Option V
+abbrev pub entry : {V : Type 0} → (ExprSources → map.FinMap by_code V) → Option ExprSources → List ℕ → Option V
 entry family None key = None
 entry family (Some part) key = map.get (family part) key
 
@@ -61,7 +61,7 @@ abbrev pub or_synthetic : Option Source → Result Source SyntheticSyntax
 or_synthetic None = Err (record {})
 or_synthetic (Some source) = Ok source
 
-abbrev patterns_in : Option ExprSources → ℕ → List ℕ
+abbrev pub patterns_in : Option ExprSources → ℕ → List ℕ
 patterns_in None binding = []
 patterns_in (Some part) binding = patterns_of part.definitions binding
 
@@ -69,7 +69,7 @@ patterns_in (Some part) binding = patterns_of part.definitions binding
 abbrev pub patterns_for : ExpressionStoreSourceMap → ℕ → List ℕ
 patterns_for m binding = patterns_in m.exprs binding
 
-abbrev expansions_in : Option ExprSources → map.FinMap by_code ℕ
+abbrev pub expansions_in : Option ExprSources → map.FinMap by_code ℕ
 expansions_in None = map.empty
 expansions_in (Some part) = part.expansions
 
@@ -77,7 +77,7 @@ expansions_in (Some part) = part.expansions
 abbrev pub expansions_of : ExpressionStoreSourceMap → map.FinMap by_code ℕ
 expansions_of m = expansions_in m.exprs
 
-abbrev diagnostics_in : Option ExprSources → List ExpressionStoreDiagnostics
+abbrev pub diagnostics_in : Option ExprSources → List ExpressionStoreDiagnostics
 diagnostics_in None = []
 diagnostics_in (Some part) = part.diagnostics
 

@@ -1,6 +1,6 @@
 //! The read-only maps of a finished store: from nodes to their sources and back, expansions and diagnostics.
 
-ghost use Rattle.std.specs.Prelude.{◌≡◌, ◌↔◌, IsTrue, IsSome, Some};
+ghost use Rattle.std.specs.Prelude.{◌≡◌, ◌↔◌, IsTrue, IsSome, IfSome, Some, None};
 ghost use Rattle.std.specs.List.Sorted.{IsPermutation};
 ghost use Rattle.std.specs.FinMap as map;
 ghost use Rattle.hir_base.specs.Exact.{exact};
@@ -17,6 +17,7 @@ use hir_base::{
     MacroCallPtr, PatFieldSource, PatPtr, SyntheticSyntax, TypePtr, TypeSource, ast,
 };
 use hir_path::{BindingId, ExprId, ExprOrPatId, LabelId, PatId, TypeRefId};
+use hir_rare::Rare;
 
 /// Where the nodes of a store come from. `finish` of a builder makes it.
 ///
@@ -25,8 +26,8 @@ use hir_path::{BindingId, ExprId, ExprOrPatId, LabelId, PatId, TypeRefId};
 /// `==` compares where nodes came from, expansions, diagnostics, and whether the expression part is kept; the maps from sources to
 /// nodes, those of fields and the definitions of bindings aren't compared.
 pub struct ExpressionStoreSourceMap {
-    pub(crate) exprs: Option<ExprSources>,
-    pub(crate) types: TypeSources,
+    pub(crate) exprs: Option<Rare<ExprSources>>,
+    pub(crate) types: Rare<TypeSources>,
 }
 
 /// Drops its parts one after the other. It is written out so that it is proved once, and is a call wherever a value is dropped.
@@ -37,7 +38,20 @@ impl Drop for ExpressionStoreSourceMap {
 }
 
 impl ExpressionStoreSourceMap {
+    ghost use Rattle.hir_source.specs.NoSources.{HasNoSources};
     ghost use Rattle.hir_source.specs.Lookups.{expr_at, pat_at, label_at, type_at, expansion_at, expr_source, pat_source, expr_or_pat_source, label_source, type_source, field_source, pat_field_source, or_synthetic, patterns_for, expansions_of, diagnostics_of};
+
+    /// The expression part, where it is kept and has memory. Else it has no entries.
+    #[tactic(auto, using(crate::proofs::NoSources::nothing_there))]
+    fn exprs(&self) -> Option<&ExprSources>
+        ensures part { IfSome result (λ part. self.now.exprs ≡ Some part.now) }
+        ensures none { result ≡ None → HasNoSources self.now }
+    {
+        match &self.exprs {
+            Some(exprs) => exprs.get(),
+            None => None,
+        }
+    }
 
     /// Where the expression or the pattern came from.
     ///
@@ -55,7 +69,7 @@ impl ExpressionStoreSourceMap {
     pub fn expr_syntax(&self, expr: ExprId) -> Result<ExprOrPatSource, SyntheticSyntax>
         ensures { result ≡ or_synthetic (expr_source self.now expr) }
     {
-        let exprs = self.exprs.as_ref().ok_or(SyntheticSyntax)?;
+        let exprs = self.exprs().ok_or(SyntheticSyntax)?;
         let source = exprs.expr_map_back.get(&expr);
         source.copied().ok_or(SyntheticSyntax)
     }
@@ -64,38 +78,44 @@ impl ExpressionStoreSourceMap {
     pub fn pat_syntax(&self, pat: PatId) -> Result<ExprOrPatSource, SyntheticSyntax>
         ensures { result ≡ or_synthetic (pat_source self.now pat) }
     {
-        let exprs = self.exprs.as_ref().ok_or(SyntheticSyntax)?;
+        let exprs = self.exprs().ok_or(SyntheticSyntax)?;
         let source = exprs.pat_map_back.get(&pat);
         source.copied().ok_or(SyntheticSyntax)
+    }
+
+    /// The source of the type, where it has one.
+    fn type_source(&self, type_ref: TypeRefId) -> Option<TypeSource>
+        ensures { result ≡ type_source self.now type_ref }
+    {
+        self.types.get()?.type_map_back.get(&type_ref).copied()
     }
 
     /// Where the type came from.
     pub fn type_syntax(&self, type_ref: TypeRefId) -> Result<TypeSource, SyntheticSyntax>
         ensures { result ≡ or_synthetic (type_source self.now type_ref) }
     {
-        let source = self.types.type_map_back.get(&type_ref);
-        source.copied().ok_or(SyntheticSyntax)
+        self.type_source(type_ref).ok_or(SyntheticSyntax)
     }
 
     /// What the expression in source became: an expression, or a pattern if it is assigned to.
     pub fn node_expr(&self, node: InFile<ExprPtr>) -> Option<ExprOrPatId>
         ensures { result ≡ expr_at self.now node }
     {
-        self.exprs.as_ref()?.expr_map.get(&node).copied()
+        self.exprs()?.expr_map.get(&node).copied()
     }
 
     /// What the pattern in source became.
     pub fn node_pat(&self, node: InFile<PatPtr>) -> Option<ExprOrPatId>
         ensures { result ≡ pat_at self.now node }
     {
-        self.exprs.as_ref()?.pat_map.get(&node).copied()
+        self.exprs()?.pat_map.get(&node).copied()
     }
 
     /// What the type in source became.
     pub fn node_type(&self, node: InFile<TypePtr>) -> Option<TypeRefId>
         ensures { result ≡ type_at self.now node }
     {
-        self.types.type_map.get(&node).copied()
+        self.types.get()?.type_map.get(&node).copied()
     }
 
     /// What the label in source became.
@@ -106,7 +126,7 @@ impl ExpressionStoreSourceMap {
             file_id: node.file_id,
             value: node.value.wrap_left(),
         };
-        self.exprs.as_ref()?.label_map.get(&source).copied()
+        self.exprs()?.label_map.get(&source).copied()
     }
 
     /// What the macro call in expression position became.
@@ -117,14 +137,14 @@ impl ExpressionStoreSourceMap {
             file_id: node.file_id,
             value: node.value.upcast(),
         };
-        self.exprs.as_ref()?.expr_map.get(&source).copied()
+        self.exprs()?.expr_map.get(&source).copied()
     }
 
     /// What the macro call expanded to.
     pub fn node_macro_file(&self, node: InFile<MacroCallPtr>) -> Option<MacroCallId>
         ensures { result ≡ expansion_at self.now node }
     {
-        self.exprs.as_ref()?.expansions.get(&node).copied()
+        self.exprs()?.expansions.get(&node).copied()
     }
 
     /// What the macro call expanded to, as `node_macro_file`.
@@ -145,7 +165,7 @@ impl ExpressionStoreSourceMap {
     pub fn expansions(&self) -> Expansions<'_>
         ensures { IsPermutation (coded source_key result) (map.entries (expansions_of self.now)) }
     {
-        match &self.exprs {
+        match self.exprs() {
             Some(exprs) => Expansions::new(Some(exprs.expansions.iter())),
             None => Expansions::new(None),
         }
@@ -155,7 +175,7 @@ impl ExpressionStoreSourceMap {
     pub fn has_label_syntax(&self, label: LabelId) -> bool
         ensures { IsTrue result ↔ IsSome (label_source self.now label) }
     {
-        match &self.exprs {
+        match self.exprs() {
             Some(exprs) => exprs.label_map_back.get(&label).is_some(),
             None => false,
         }
@@ -166,7 +186,7 @@ impl ExpressionStoreSourceMap {
         requires { IsSome (label_source self.now label) }
         ensures { Some result ≡ label_source self.now label }
     {
-        let exprs = match &self.exprs {
+        let exprs = match self.exprs() {
             Some(exprs) => exprs,
             None => unreachable!(),
         };
@@ -180,7 +200,7 @@ impl ExpressionStoreSourceMap {
     pub fn has_field_syntax(&self, expr: ExprId) -> bool
         ensures { IsTrue result ↔ IsSome (field_source self.now expr) }
     {
-        match &self.exprs {
+        match self.exprs() {
             Some(exprs) => exprs.field_map_back.get(&expr).is_some(),
             None => false,
         }
@@ -191,7 +211,7 @@ impl ExpressionStoreSourceMap {
         requires { IsSome (field_source self.now expr) }
         ensures { Some result ≡ field_source self.now expr }
     {
-        let exprs = match &self.exprs {
+        let exprs = match self.exprs() {
             Some(exprs) => exprs,
             None => unreachable!(),
         };
@@ -205,7 +225,7 @@ impl ExpressionStoreSourceMap {
     pub fn has_pat_field_syntax(&self, pat: PatId) -> bool
         ensures { IsTrue result ↔ IsSome (pat_field_source self.now pat) }
     {
-        match &self.exprs {
+        match self.exprs() {
             Some(exprs) => exprs.pat_field_map_back.get(&pat).is_some(),
             None => false,
         }
@@ -216,7 +236,7 @@ impl ExpressionStoreSourceMap {
         requires { IsSome (pat_field_source self.now pat) }
         ensures { Some result ≡ pat_field_source self.now pat }
     {
-        let exprs = match &self.exprs {
+        let exprs = match self.exprs() {
             Some(exprs) => exprs,
             None => unreachable!(),
         };
@@ -230,7 +250,7 @@ impl ExpressionStoreSourceMap {
     pub fn patterns_for_binding(&self, binding: BindingId) -> &[PatId]
         ensures { result.now ≡ patterns_for self.now binding }
     {
-        let exprs = match &self.exprs {
+        let exprs = match self.exprs() {
             Some(exprs) => exprs,
             None => return &[],
         };
@@ -244,7 +264,7 @@ impl ExpressionStoreSourceMap {
     pub fn diagnostics(&self) -> &[ExpressionStoreDiagnostics]
         ensures { result.now ≡ diagnostics_of self.now }
     {
-        match &self.exprs {
+        match self.exprs() {
             Some(exprs) => exprs.diagnostics.as_slice(),
             None => &[],
         }
@@ -276,12 +296,18 @@ impl PartialEq for ExpressionStoreSourceMap {
 
     fn eq(&self, other: &ExpressionStoreSourceMap) -> bool {
         let same = match (&self.exprs, &other.exprs) {
-            (Some(mine), Some(theirs)) => same_exprs(mine, theirs),
+            (Some(mine), Some(theirs)) => {
+                let blank = mine.blank();
+                same_exprs(mine.or_blank(&blank), theirs.or_blank(&blank))
+            }
             (None, None) => true,
             (Some(_), None) | (None, Some(_)) => false,
         };
-        same && self.types.type_map_back == other.types.type_map_back
-            && self.types.lifetime_map_back == other.types.lifetime_map_back
+        let blank = self.types.blank();
+        let types = self.types.or_blank(&blank);
+        let others = other.types.or_blank(&blank);
+        same && types.type_map_back == others.type_map_back
+            && types.lifetime_map_back == others.lifetime_map_back
     }
 }
 

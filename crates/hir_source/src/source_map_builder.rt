@@ -1,17 +1,19 @@
 //! The maps while a store is built.
 
 ghost use Rattle.std.specs.Prelude.{◌≡◌};
+ghost use Rattle.hir_source.specs.Sources.{has_news};
 
 use crate::source_map::ExpressionStoreSourceMap;
 use crate::sources::{ExprSources, TypeSources};
+use hir_rare::Rare;
 use std::alloc::Global;
 
 /// Where nodes come from, as far as entries were added: the builder of a store has the calls that add them. Nothing is checked: ids may
 /// be of nodes that don't exist.
 #[derive(PartialEq, Eq)]
 pub struct SourceMapBuilder {
-    pub exprs: ExprSources,
-    pub types: TypeSources,
+    pub exprs: Rare<ExprSources>,
+    pub types: Rare<TypeSources>,
     /// Where the maps take their memory from.
     pub alloc: Global,
 }
@@ -35,8 +37,8 @@ impl SourceMapBuilder {
         ensures { result ≡ no_sources alloc }
     {
         SourceMapBuilder {
-            exprs: ExprSources::new(alloc),
-            types: TypeSources::new(alloc),
+            exprs: Rare::new(alloc),
+            types: Rare::new(alloc),
             alloc,
         }
     }
@@ -53,11 +55,21 @@ impl SourceMapBuilder {
             types,
             alloc: _,
         } = self;
-        let exprs = if keeps_nodes || exprs.has_news() {
+        let exprs = if keeps_nodes || has_news(&exprs) {
             Some(exprs)
         } else {
             None
         };
         ExpressionStoreSourceMap { exprs, types }
+    }
+}
+
+/// Whether there is an expansion or a diagnostic.
+fn has_news(exprs: &Rare<ExprSources>) -> bool
+    ensures { result ≡ has_news exprs.now }
+{
+    match exprs.get() {
+        Some(exprs) => exprs.has_news(),
+        None => false,
     }
 }

@@ -9,6 +9,7 @@ use hir_base::{
     MacroCallPtr, PatFieldSource, PatSource, Seq, Table, TypeSource,
 };
 use hir_path::{BindingId, ExprId, ExprOrPatId, LabelId, LifetimeRefId, PatId, TypeRefId};
+use hir_rare::Blank;
 use std::alloc::Global;
 
 /// Where expressions, patterns, labels and bindings come from, what macro calls expanded to, and the diagnostics.
@@ -117,5 +118,25 @@ impl TypeSources {
             lifetime_map: Table::new(alloc),
             lifetime_map_back: Table::new(alloc),
         }
+    }
+}
+
+impl Blank for ExprSources {
+    ghost use Rattle.hir_source.specs.Sources.{no_expr_sources};
+
+    ghost blank = { no_expr_sources };
+
+    fn blank(alloc: Global) -> ExprSources {
+        ExprSources::new(alloc)
+    }
+}
+
+impl Blank for TypeSources {
+    ghost use Rattle.hir_source.specs.Sources.{no_type_sources};
+
+    ghost blank = { no_type_sources };
+
+    fn blank(alloc: Global) -> TypeSources {
+        TypeSources::new(alloc)
     }
 }

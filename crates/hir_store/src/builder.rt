@@ -20,8 +20,10 @@ use hir_node::{
     LabelKind, LifetimeRef, LifetimeRefId, LifetimeRefKind, Pat, PatId, PatKind, TypeRef,
     TypeRefId, TypeRefKind,
 };
+use hir_rare::Rare;
 use hir_source::{ExpressionStoreSourceMap, SourceMapBuilder};
-use std::alloc::{AllocFailed, Global};
+use std::alloc::{AllocError, AllocFailed, Global};
+use std::mem::replace;
 
 /// Nodes and roots that are not tested yet.
 #[derive(PartialEq, Eq)]
@@ -34,8 +36,8 @@ pub struct ExpressionStoreBuilder {
     pub types: Arena<TypeRefKind, TypeRef>,
     /// The closure, coroutine or anonymous constant that owns a binding. A binding that the body itself owns has no entry.
     pub binding_owners: Table<BindingId, ExprId>,
-    pub(crate) hygiene: Table<ExprOrPatId, HygieneId>,
-    pub(crate) block_scopes: Seq<BlockId>,
+    pub(crate) hygiene: Rare<Table<ExprOrPatId, HygieneId>>,
+    pub(crate) block_scopes: Rare<Seq<BlockId>>,
     pub(crate) source_map: SourceMapBuilder,
     pub(crate) roots: Option<RootList>,
     pub(crate) alloc: Global,
@@ -83,8 +85,8 @@ impl ExpressionStoreBuilder {
             lifetimes: Arena::new(alloc),
             types: Arena::new(alloc),
             binding_owners: Table::new(alloc),
-            hygiene: Table::new(alloc),
-            block_scopes: Seq::new(alloc),
+            hygiene: Rare::new(alloc),
+            block_scopes: Rare::new(alloc),
             source_map: SourceMapBuilder::new(alloc),
             roots: None,
             alloc,
@@ -222,7 +224,12 @@ impl ExpressionStoreBuilder {
         ensures err { OnErr result (self.new ≡ self.old) }
         ensures value_returned { IfErr result (λ failed. failed.value ≡ (id, hygiene)) }
     {
-        self.hygiene.insert(id, hygiene).map(|_| ())
+        match self.hygiene.make() {
+            Ok(table) => table.put(id, hygiene),
+            Err(_) => Err(AllocFailed {
+                value: (id, hygiene),
+            }),
+        }
     }
 
     /// Lists a block that may hold items, after the others. If memory is refused, the builder is as it was and the block is handed back.
@@ -232,7 +239,10 @@ impl ExpressionStoreBuilder {
         ensures err { OnErr result (self.new ≡ self.old) }
         ensures value_returned { IfErr result (λ failed. failed.value ≡ block) }
     {
-        self.block_scopes.push(block)
+        match self.block_scopes.make() {
+            Ok(blocks) => blocks.push(block),
+            Err(_) => Err(AllocFailed { value: block }),
+        }
     }
 
     /// The nodes, borrowed.
@@ -260,12 +270,37 @@ impl ExpressionStoreBuilder {
             || !self.bindings.is_empty()
     }
 
-    /// The store and the source map of a builder without a fault, with what follows from its nodes.
-    pub(crate) fn accepted(self, kept: Kept) -> (ExpressionStore, ExpressionStoreSourceMap)
+    /// Moves the owners of bindings out of the builder, to where a store has them.
+    ///
+    /// Answers an error if memory for them was refused: nothing has changed then.
+    pub(crate) fn take_owners(&mut self) -> Result<Rare<Table<BindingId, ExprId>>, AllocError>
+        ensures owners { IfOk result (λ owners. owners ≡ self.old.binding_owners) }
+        ensures ok { OnOk result (self.new ≡ record self.old { binding_owners = map.empty }) }
+        ensures err { OnErr result (self.new ≡ self.old) }
+    {
+        if self.binding_owners.is_empty() {
+            return Ok(Rare::new(self.alloc));
+        }
+        let owners = replace(&mut self.binding_owners, Table::new(self.alloc));
+        match Rare::of(self.alloc, owners) {
+            Ok(owners) => Ok(owners),
+            Err(failed) => {
+                self.binding_owners = failed.value;
+                Err(AllocError)
+            }
+        }
+    }
+
+    /// The store and the source map of a builder without a fault, with the owners of bindings and what follows from its nodes.
+    pub(crate) fn accepted(
+        self,
+        owners: Rare<Table<BindingId, ExprId>>,
+        kept: Rare<Kept>,
+    ) -> (ExpressionStore, ExpressionStoreSourceMap)
         requires sound { finish_fault (building_of self) None }
         requires parents { HasParents (graph (nodes_of self)) kept.parents.parents }
         requires links { HasPatLinks (nodes_of self).pats kept.links }
-        ensures store { result.0 ≡ contents_of (building_of self) }
+        ensures store { result.0 ≡ contents_of (building_of (record self { binding_owners = owners })) }
         ensures source_map { result.1 ≡ finished (has_exprs (nodes_of self)) self.source_map }
     {
         let keeps_exprs = self.has_exprs();
@@ -276,7 +311,7 @@ impl ExpressionStoreBuilder {
             labels,
             lifetimes,
             types,
-            binding_owners,
+            binding_owners: _,
             hygiene,
             block_scopes,
             source_map,
@@ -284,7 +319,7 @@ impl ExpressionStoreBuilder {
             alloc,
         } = self;
         let side_tables = SideTables {
-            owners: binding_owners,
+            owners,
             hygiene,
             blocks: block_scopes,
         };

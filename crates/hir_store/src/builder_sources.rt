@@ -27,7 +27,12 @@ impl ExpressionStoreBuilder {
         ensures err { OnErr result (self.new ≡ self.old) }
         ensures value_returned { IfErr result (λ failed. failed.value ≡ (source, expr)) }
     {
-        self.source_map.exprs.expr_map.put(source, expr)
+        match self.source_map.exprs.make() {
+            Ok(maps) => maps.expr_map.put(source, expr),
+            Err(_) => Err(AllocFailed {
+                value: (source, expr),
+            }),
+        }
     }
 
     /// Records that the expression came from this source.
@@ -41,7 +46,12 @@ impl ExpressionStoreBuilder {
         ensures err { OnErr result (self.new ≡ self.old) }
         ensures value_returned { IfErr result (λ failed. failed.value ≡ (expr, source)) }
     {
-        self.source_map.exprs.expr_map_back.put(expr, source)
+        match self.source_map.exprs.make() {
+            Ok(maps) => maps.expr_map_back.put(expr, source),
+            Err(_) => Err(AllocFailed {
+                value: (expr, source),
+            }),
+        }
     }
 
     /// Records that this source became this pattern, or this expression.
@@ -55,7 +65,12 @@ impl ExpressionStoreBuilder {
         ensures err { OnErr result (self.new ≡ self.old) }
         ensures value_returned { IfErr result (λ failed. failed.value ≡ (source, pat)) }
     {
-        self.source_map.exprs.pat_map.put(source, pat)
+        match self.source_map.exprs.make() {
+            Ok(maps) => maps.pat_map.put(source, pat),
+            Err(_) => Err(AllocFailed {
+                value: (source, pat),
+            }),
+        }
     }
 
     /// Records that the pattern came from this source.
@@ -69,7 +84,12 @@ impl ExpressionStoreBuilder {
         ensures err { OnErr result (self.new ≡ self.old) }
         ensures value_returned { IfErr result (λ failed. failed.value ≡ (pat, source)) }
     {
-        self.source_map.exprs.pat_map_back.put(pat, source)
+        match self.source_map.exprs.make() {
+            Ok(maps) => maps.pat_map_back.put(pat, source),
+            Err(_) => Err(AllocFailed {
+                value: (pat, source),
+            }),
+        }
     }
 
     /// Records that this source became this label.
@@ -83,7 +103,12 @@ impl ExpressionStoreBuilder {
         ensures err { OnErr result (self.new ≡ self.old) }
         ensures value_returned { IfErr result (λ failed. failed.value ≡ (source, label)) }
     {
-        self.source_map.exprs.label_map.put(source, label)
+        match self.source_map.exprs.make() {
+            Ok(maps) => maps.label_map.put(source, label),
+            Err(_) => Err(AllocFailed {
+                value: (source, label),
+            }),
+        }
     }
 
     /// Records that the label came from this source.
@@ -97,7 +122,12 @@ impl ExpressionStoreBuilder {
         ensures err { OnErr result (self.new ≡ self.old) }
         ensures value_returned { IfErr result (λ failed. failed.value ≡ (label, source)) }
     {
-        self.source_map.exprs.label_map_back.put(label, source)
+        match self.source_map.exprs.make() {
+            Ok(maps) => maps.label_map_back.put(label, source),
+            Err(_) => Err(AllocFailed {
+                value: (label, source),
+            }),
+        }
     }
 
     /// Records that this source became this type.
@@ -111,7 +141,12 @@ impl ExpressionStoreBuilder {
         ensures err { OnErr result (self.new ≡ self.old) }
         ensures value_returned { IfErr result (λ failed. failed.value ≡ (source, type_ref)) }
     {
-        self.source_map.types.type_map.put(source, type_ref)
+        match self.source_map.types.make() {
+            Ok(maps) => maps.type_map.put(source, type_ref),
+            Err(_) => Err(AllocFailed {
+                value: (source, type_ref),
+            }),
+        }
     }
 
     /// Records that the type came from this source.
@@ -125,7 +160,12 @@ impl ExpressionStoreBuilder {
         ensures err { OnErr result (self.new ≡ self.old) }
         ensures value_returned { IfErr result (λ failed. failed.value ≡ (type_ref, source)) }
     {
-        self.source_map.types.type_map_back.put(type_ref, source)
+        match self.source_map.types.make() {
+            Ok(maps) => maps.type_map_back.put(type_ref, source),
+            Err(_) => Err(AllocFailed {
+                value: (type_ref, source),
+            }),
+        }
     }
 
     /// Records that this source became this lifetime.
@@ -139,7 +179,12 @@ impl ExpressionStoreBuilder {
         ensures err { OnErr result (self.new ≡ self.old) }
         ensures value_returned { IfErr result (λ failed. failed.value ≡ (source, lifetime)) }
     {
-        self.source_map.types.lifetime_map.put(source, lifetime)
+        match self.source_map.types.make() {
+            Ok(maps) => maps.lifetime_map.put(source, lifetime),
+            Err(_) => Err(AllocFailed {
+                value: (source, lifetime),
+            }),
+        }
     }
 
     /// Records that the lifetime came from this source.
@@ -153,10 +198,12 @@ impl ExpressionStoreBuilder {
         ensures err { OnErr result (self.new ≡ self.old) }
         ensures value_returned { IfErr result (λ failed. failed.value ≡ (lifetime, source)) }
     {
-        self.source_map
-            .types
-            .lifetime_map_back
-            .put(lifetime, source)
+        match self.source_map.types.make() {
+            Ok(maps) => maps.lifetime_map_back.put(lifetime, source),
+            Err(_) => Err(AllocFailed {
+                value: (lifetime, source),
+            }),
+        }
     }
 
     /// Records that the field whose value is the expression came from this source.
@@ -170,7 +217,12 @@ impl ExpressionStoreBuilder {
         ensures err { OnErr result (self.new ≡ self.old) }
         ensures value_returned { IfErr result (λ failed. failed.value ≡ (expr, source)) }
     {
-        self.source_map.exprs.field_map_back.put(expr, source)
+        match self.source_map.exprs.make() {
+            Ok(maps) => maps.field_map_back.put(expr, source),
+            Err(_) => Err(AllocFailed {
+                value: (expr, source),
+            }),
+        }
     }
 
     /// Records that the field that holds the pattern came from this source.
@@ -184,7 +236,12 @@ impl ExpressionStoreBuilder {
         ensures err { OnErr result (self.new ≡ self.old) }
         ensures value_returned { IfErr result (λ failed. failed.value ≡ (pat, source)) }
     {
-        self.source_map.exprs.pat_field_map_back.put(pat, source)
+        match self.source_map.exprs.make() {
+            Ok(maps) => maps.pat_field_map_back.put(pat, source),
+            Err(_) => Err(AllocFailed {
+                value: (pat, source),
+            }),
+        }
     }
 
     /// Records that the macro call has this expansion.
@@ -198,7 +255,12 @@ impl ExpressionStoreBuilder {
         ensures err { OnErr result (self.new ≡ self.old) }
         ensures value_returned { IfErr result (λ failed. failed.value ≡ (call, expansion)) }
     {
-        self.source_map.exprs.expansions.put(call, expansion)
+        match self.source_map.exprs.make() {
+            Ok(maps) => maps.expansions.put(call, expansion),
+            Err(_) => Err(AllocFailed {
+                value: (call, expansion),
+            }),
+        }
     }
 
     /// Records that the pattern defines the binding, in addition to those recorded before.
@@ -212,8 +274,13 @@ impl ExpressionStoreBuilder {
         ensures err { OnErr result (self.new ≡ self.old) }
         ensures value_returned { IfErr result (λ failed. failed.value ≡ (binding, pat)) }
     {
-        let sources = &mut self.source_map;
-        define(sources.alloc, &mut sources.exprs.definitions, binding, pat)
+        let alloc = self.source_map.alloc;
+        match self.source_map.exprs.make() {
+            Ok(maps) => define(alloc, &mut maps.definitions, binding, pat),
+            Err(_) => Err(AllocFailed {
+                value: (binding, pat),
+            }),
+        }
     }
 
     /// Adds a diagnostic after the others.
@@ -226,6 +293,9 @@ impl ExpressionStoreBuilder {
         ensures err { OnErr result (self.new ≡ self.old) }
         ensures value_returned { IfErr result (λ failed. failed.value ≡ diagnostic) }
     {
-        self.source_map.exprs.diagnostics.push(diagnostic)
+        match self.source_map.exprs.make() {
+            Ok(maps) => maps.diagnostics.push(diagnostic),
+            Err(_) => Err(AllocFailed { value: diagnostic }),
+        }
     }
 }

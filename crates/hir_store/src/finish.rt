@@ -11,6 +11,7 @@ use crate::builder::{ExpressionStoreBuilder, Refused};
 use hir_expr_store::{ExpressionStore, Kept, PatLinks};
 use hir_faults::{FinishFault, tested_parents};
 use hir_forest::{Parents, Root};
+use hir_rare::Rare;
 use hir_source::ExpressionStoreSourceMap;
 
 impl ExpressionStoreBuilder {
@@ -49,7 +50,7 @@ impl ExpressionStoreBuilder {
     }
 
     /// What a store of the nodes keeps, where there is no fault. Else the first fault, or `Memory`.
-    fn tested(&self) -> Result<Kept, FinishFault>
+    fn tested(&self) -> Result<Rare<Kept>, FinishFault>
         ensures ok { IfOk result (λ kept. finish_fault (building_of self.now) None
             × HasParents (graph (nodes_of self.now)) kept.parents.parents
             × HasPatLinks (nodes_of self.now).pats kept.links) }
@@ -57,8 +58,11 @@ impl ExpressionStoreBuilder {
             ⊎ finish_fault (building_of self.now) (Some fault)) }
     {
         let parents = self.tested_parents()?;
-        match PatLinks::of(self.alloc, self.pats.as_slice()) {
-            Ok(links) => Ok(Kept { parents, links }),
+        let Ok(links) = PatLinks::of(self.alloc, self.pats.as_slice()) else {
+            return Err(FinishFault::Memory);
+        };
+        match Rare::of(self.alloc, Kept { parents, links }) {
+            Ok(kept) => Ok(kept),
             Err(_) => Err(FinishFault::Memory),
         }
     }
@@ -79,11 +83,16 @@ impl ExpressionStoreBuilder {
         ensures err { IfErr result (λ refused. (refused.builder ≡ self)
             × (refused.fault ≡ FinishFault.Memory ⊎ finish_fault (building_of self) (Some refused.fault))) }
     {
-        match self.tested() {
-            Ok(kept) => Ok(self.accepted(kept)),
-            Err(fault) => Err(Refused {
-                fault,
-                builder: self,
+        let mut builder = self;
+        let kept = match builder.tested() {
+            Ok(kept) => kept,
+            Err(fault) => return Err(Refused { fault, builder }),
+        };
+        match builder.take_owners() {
+            Ok(owners) => Ok(builder.accepted(owners, kept)),
+            Err(_) => Err(Refused {
+                fault: FinishFault::Memory,
+                builder,
             }),
         }
     }

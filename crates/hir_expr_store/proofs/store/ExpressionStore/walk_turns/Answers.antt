@@ -1,56 +1,6 @@
-use Rattle.std.proofs.Common.{arith}
-use Rattle.hir_faults.proofs.SoundLemmas.{sound_falls}
-use Rattle.hir_expr_store.specs.Contents.{rooted_of}
-use Rattle.hir_expr_store.specs.declared.turns.Turn.TheVariants.{Enter, Leave}
-use Rattle.hir_expr_store.proofs.TurnWalk.{walk_begins, walk_there, walk_may, walk_next, walk_fewer, walk_ended}
+use Rattle.hir_node.specs.declared.node_id.NodeId.TheVariants as node
+use Rattle.hir_expr_store.proofs.KeptLemmas.{no_node}
 use Rattle.hir_expr_store.proofs.store.ExpressionStore.walk_turns.Goals as goal
 
-pub loop-coming-init : goal.loop-coming-init
-loop-coming-init g c =
-    let fall = sound_falls (rooted_of c.args.self.now) c.has_no_fault.ensures in
-    walk_begins _ _ c.args.self.now.nodes c.args.top fall c.requires.may
-
-pub on_enter-requires : goal.on_enter-requires
-on_enter-requires g c = walk_may _ _ c.args.self.now.nodes c.args.top (Enter c.in-Enter.id) (rw (c.in-Some.is, c.in-Enter.is) at c.loop-coming.invariant)
-
-pub on_leave-requires : goal.on_leave-requires
-on_leave-requires g c = walk_may _ _ c.args.self.now.nodes c.args.top (Leave c.in-Leave.id) (rw (c.in-Some.is, c.in-Leave.is) at c.loop-coming.invariant)
-
-pub turn_within-coming-requires : goal.turn_within-coming-requires
-turn_within-coming-requires g c =
-    let fall = sound_falls (rooted_of c.args.self.now) c.has_no_fault.ensures in
-    walk_there _ _ c.args.self.now.nodes c.args.top (Enter c.in-Enter.id) (rw (c.in-Some.is, c.in-Enter.is) at c.loop-coming.invariant) fall c.requires.there
-
-pub turn_behind-coming-requires : goal.turn_behind-coming-requires
-turn_behind-coming-requires g c =
-    let fall = sound_falls (rooted_of c.args.self.now) c.has_no_fault.ensures in
-    let there = walk_there _ _ c.args.self.now.nodes c.args.top (Leave c.in-Leave.id) (rw (c.in-Some.is, c.in-Leave.is) at c.loop-coming.invariant) fall c.requires.there in
-    let each = c.links-links.ensures.each in
-    omega arith
-
-pub loop-coming-smaller-in-Enter : goal.loop-coming-smaller-in-Enter
-loop-coming-smaller-in-Enter g c =
-    let fall = sound_falls (rooted_of c.args.self.now) c.has_no_fault.ensures in
-    rw (c.in-Some.is, c.in-Enter.is, c.turn_within-coming.ensures)
-    (walk_fewer _ _ c.args.self.now.nodes c.args.top (Enter c.in-Enter.id) (rw (c.in-Some.is, c.in-Enter.is) at c.loop-coming.invariant) fall c.requires.there c.links-links.result.now c.links-links.ensures)
-
-pub loop-coming-preserved-in-Enter : goal.loop-coming-preserved-in-Enter
-loop-coming-preserved-in-Enter g c =
-    let fall = sound_falls (rooted_of c.args.self.now) c.has_no_fault.ensures in
-    rw c.turn_within-coming.ensures
-    (walk_next _ _ c.args.self.now.nodes c.args.top (Enter c.in-Enter.id) (rw (c.in-Some.is, c.in-Enter.is) at c.loop-coming.invariant) fall c.requires.there c.links-links.result.now c.links-links.ensures c.on_enter.ensures)
-
-pub loop-coming-smaller : goal.loop-coming-smaller
-loop-coming-smaller g c =
-    let fall = sound_falls (rooted_of c.args.self.now) c.has_no_fault.ensures in
-    rw (c.in-Some.is, c.in-Leave.is, c.turn_behind-coming.ensures)
-    (walk_fewer _ _ c.args.self.now.nodes c.args.top (Leave c.in-Leave.id) (rw (c.in-Some.is, c.in-Leave.is) at c.loop-coming.invariant) fall c.requires.there c.links-links.result.now c.links-links.ensures)
-
-pub loop-coming-preserved : goal.loop-coming-preserved
-loop-coming-preserved g c =
-    let fall = sound_falls (rooted_of c.args.self.now) c.has_no_fault.ensures in
-    rw c.turn_behind-coming.ensures
-    (walk_next _ _ c.args.self.now.nodes c.args.top (Leave c.in-Leave.id) (rw (c.in-Some.is, c.in-Leave.is) at c.loop-coming.invariant) fall c.requires.there c.links-links.result.now c.links-links.ensures c.on_leave.ensures)
-
-pub returns : goal.returns
-returns g c = walk_ended _ _ c.args.self.now.nodes c.args.top (rw c.in_default.is at c.loop-coming.invariant)
+pub returns-in_default : goal.returns-in_default
+returns-in_default g c = absurd (no_node c.args.self.now.nodes (c.kept.ensures.none c.in_default.is) (node.Pat c.args.top) c.requires.there)

@@ -2,10 +2,10 @@ use Rattle.std.proofs.Common.{length}
 use Rattle.hir_expr_store.specs.Turns.{turns}
 use Rattle.hir_expr_store.proofs.TurnLemmas.{steps_step, steps}
 use Rattle.hir_expr_store.proofs.TurnWalk.{WalksOn}
-use Rattle.hir_expr_store.proofs.store.ExpressionStore.walk_turns.Given as goal
+use Rattle.hir_expr_store.proofs.store.ExpressionStore.walk_by.Given as goal
 
 abbrev pub invariant-loop-coming : goal.invariant-loop-coming
 invariant-loop-coming g l = WalksOn g.V.TurnVisitor.may g.V.TurnVisitor.step l.fn.self.nodes l.fn.top l.fn.visitor l.visitor l.coming
 
 abbrev pub decreases-loop-coming : goal.decreases-loop-coming
-decreases-loop-coming g l = steps_step (steps l.fn.self.nodes l.links l.fn.top (length (turns l.fn.self.nodes l.fn.top))) l.coming
+decreases-loop-coming g l = steps_step (steps l.fn.self.nodes l.fn.links l.fn.top (length (turns l.fn.self.nodes l.fn.top))) l.coming
