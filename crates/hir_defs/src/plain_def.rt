@@ -1,6 +1,6 @@
 //! The definitions whose signature keeps only the generic parameters, and how structs lie in memory.
 
-ghost use Rattle.std.specs.Prelude.{◌≡◌};
+ghost use Rattle.std.specs.Prelude.{◌≡◌, false, None};
 ghost use Rattle.hir_base.specs.Exact.{exact};
 ghost use Rattle.hir_defs.specs.Tables.{plain_code, plain_tells, generic_def};
 
@@ -61,6 +61,19 @@ pub struct Repr {
     pub align: Option<u64>,
     /// The bytes of `packed`, where it is written.
     pub pack: Option<u64>,
+}
+
+/// What a struct has where no `#[repr(..)]` is written.
+impl Default for Repr {
+    ghost is_default = { λ repr. repr ≡ record { c = false; align = None; pack = None } };
+
+    fn default() -> Repr {
+        Repr {
+            c: false,
+            align: None,
+            pack: None,
+        }
+    }
 }
 
 impl ExactEq for Repr {

@@ -57,7 +57,7 @@ fn add_facts(tables: &mut Numbers, alloc: Global) -> Result<[Added; 4], AllocErr
     let layout = Repr {
         c: true,
         align: Some(8),
-        pack: None,
+        ..Repr::default()
     };
     let name = Some(Text::from_str(alloc, "match")?);
     let crate_name = Some(Text::from_str(alloc, "match")?);
