@@ -10,6 +10,7 @@ use hir_expr_store::ExpressionStore;
 use hir_expr_store::laws::roots_stand_apart;
 use hir_node::{BindingId, ExprId, PatId};
 use std::alloc::{AllocError, Global};
+use std::fmt::{self, Display};
 use std::marker::Model;
 
 /// The body of a function, a constant, a static or an enum variant: what is in its store, the patterns of its parameters and the
@@ -67,6 +68,19 @@ pub struct RefusedBody {
     #[derive_where(skip(Debug))]
     pub self_param: Option<Param<BindingId>>,
 }
+
+/// The text of its fault.
+impl Display for RefusedBody {
+    ghost use Rattle.hir_items.specs.FaultTexts.{body_fault_text};
+
+    ghost output = { λ refused. Some (body_fault_text refused.fault) };
+
+    fn fmt<W: fmt::Write>(&self, f: &mut fmt::Formatter<W>) -> fmt::Result {
+        Display::fmt(&self.fault, f)
+    }
+}
+
+impl std::error::Error for RefusedBody {}
 
 /// A body that isn't tested yet.
 #[derive(Drop)]

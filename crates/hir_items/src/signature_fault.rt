@@ -48,6 +48,20 @@ pub struct RefusedSignature<P> {
     pub parts: P,
 }
 
+/// The text of its fault.
+impl<P> Display for RefusedSignature<P> {
+    ghost use Rattle.std.specs.Prelude.{Some};
+    ghost use Rattle.hir_items.specs.FaultTexts.{signature_fault_text};
+
+    ghost output = { λ refused. Some (signature_fault_text refused.fault) };
+
+    fn fmt<W: fmt::Write>(&self, f: &mut fmt::Formatter<W>) -> fmt::Result {
+        Display::fmt(&self.fault, f)
+    }
+}
+
+impl<P: Drop> std::error::Error for RefusedSignature<P> {}
+
 /// The first fault, by whether all ids are there and whether what is named as a path is one.
 pub(crate) fn ids_fault(there: bool, paths: bool) -> Option<SignatureFault>
     ensures { ids_fault there paths result }

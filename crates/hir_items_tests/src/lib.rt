@@ -1,11 +1,13 @@
 //! What rows of text can't ask of `hir_items` and `hir_generics`: parts that come back, generic parameters one by one, orders from both
-//! ends, and parameters that are compared. What is accepted, and why not, is in the rows of `hir_rows`.
+//! ends, parameters that are compared, and refusals as errors. What is accepted, and why not, is in the rows of `hir_rows`.
 #![tactic(auto)]
 
 #[cfg(test)]
 mod bodies;
 #[cfg(test)]
 mod data;
+#[cfg(test)]
+mod errors;
 #[cfg(test)]
 mod generics;
 #[cfg(test)]

@@ -23,6 +23,7 @@ use hir_node::{
 use hir_rare::Rare;
 use hir_source::{ExpressionStoreSourceMap, SourceMapBuilder};
 use std::alloc::{AllocError, AllocFailed, Global};
+use std::fmt::{self, Display};
 use std::mem::replace;
 
 /// Nodes and roots that are not tested yet.
@@ -71,6 +72,15 @@ pub struct Refused {
     #[derive_where(skip(Debug))]
     pub builder: ExpressionStoreBuilder,
 }
+
+/// The text of its fault.
+impl Display for Refused {
+    fn fmt<W: fmt::Write>(&self, f: &mut fmt::Formatter<W>) -> fmt::Result {
+        Display::fmt(&self.fault, f)
+    }
+}
+
+impl std::error::Error for Refused {}
 
 impl ExpressionStoreBuilder {
     /// An empty builder, which takes its memory from `alloc`, and none now.
