@@ -1,5 +1,6 @@
 //! What rows of text can't ask of `hir_store`: builders that come back or are compared, an arena that is replaced, a long chain, sets of
-//! nodes, values that take no memory, and texts of faults. What stores answer is in the rows of `hir_rows`. A test in which a growth is refused ends with that error.
+//! nodes, values that take no memory, and texts of faults. What stores answer is in the rows of `hir_rows`. A test in which a growth is
+//! refused ends with that error.
 #![tactic(auto)]
 
 #[cfg(test)]
