@@ -1,2 +1,3 @@
 pub mod OutOfMemory
+pub mod Texts
 pub mod same

@@ -3,6 +3,7 @@
 ghost use Rattle.std.specs.Prelude.{◌↔◌, IsTrue};
 ghost use Rattle.hir_error.specs.OutOfMemory.{IsOutOfMemory};
 
+use crate::lack::Lack;
 use hir_base::{ArenaFault, ExactEq};
 use hir_captures::CapturesFault;
 use hir_expr_store::Missing;
@@ -10,38 +11,54 @@ use hir_items::{BodyFault, SignatureFault};
 use hir_pretty::PrintFault;
 use hir_scope::ScopesFault;
 use hir_store::FinishFault;
-use thiserror::Error;
+use std::fmt::{self, Display};
 
-/// The refusal of any call of these crates. Its text is that of the refusal.
+/// The refusal of a call of the crates of the store, of definitions, scopes, captures and printing (not of `hir_io`, `hir_lines` and
+/// `hir_run`). Its text is that of the refusal; of a definition that is missing it says what is missing, as
+/// `no signature of FunctionId(7)`.
 ///
 /// A refusal that hands something back (a builder, the parts of a body, an item) drops it when it turns into this error.
-#[derive(Clone, Copy, Debug, Drop, PartialEq, Eq, Error)]
+#[derive(Clone, Copy, Debug, Drop, PartialEq, Eq)]
 pub enum HirError {
     /// An item, a name, a list or an entry of a table wasn't made or added.
-    #[error("{0}")]
     Arena(ArenaFault),
     /// The builder isn't a well-formed store.
-    #[error("{0}")]
     Store(FinishFault),
     /// The parts aren't a body.
-    #[error("{0}")]
     Body(BodyFault),
     /// The parts aren't a signature.
-    #[error("{0}")]
     Signature(SignatureFault),
     /// The tables lack a definition.
-    #[error("{0}")]
     Missing(Missing),
     /// Scopes weren't made.
-    #[error("{0}")]
     Scopes(ScopesFault),
     /// A text wasn't printed.
-    #[error("{0}")]
     Print(PrintFault),
     /// A closure's captures weren't found.
-    #[error("{0}")]
     Captures(CapturesFault),
 }
+
+impl Display for HirError {
+    ghost use Rattle.hir_error.specs.Texts.{error_text};
+
+    ghost output = { error_text };
+
+    fn fmt<W: fmt::Write>(&self, f: &mut fmt::Formatter<W>) -> fmt::Result {
+        match self {
+            HirError::Arena(fault) => write!(f, "{fault}"),
+            HirError::Store(fault) => write!(f, "{fault}"),
+            HirError::Body(fault) => write!(f, "{fault}"),
+            HirError::Signature(fault) => write!(f, "{fault}"),
+            HirError::Missing(missing) => Lack(*missing).fmt(f),
+            HirError::Scopes(fault) => write!(f, "{fault}"),
+            HirError::Print(PrintFault::Missing(missing)) => Lack(*missing).fmt(f),
+            HirError::Print(PrintFault::Memory) => f.write_str("Memory"),
+            HirError::Captures(fault) => write!(f, "{fault}"),
+        }
+    }
+}
+
+impl std::error::Error for HirError {}
 
 impl HirError {
     /// Whether it is want of memory, of whichever call.

@@ -1,7 +1,9 @@
-//! One error for every refusal, so that `?` works in a function that builds a store, finishes it, makes its scopes and prints it.
+//! One error for every refusal of the crates up to printing, so that `?` works in a function that builds a store, finishes it, makes its
+//! scopes and prints it.
 #![tactic(auto)]
 
 mod error;
 mod from;
+mod lack;
 
 pub use error::HirError;

@@ -156,7 +156,8 @@ fn add_function<'a>(
     works.add(&[Work::Text(" {...}"), Work::Break])
 }
 
-/// The text of a function's signature, in lines. The signature says all; which function has it makes no difference to the text.
+/// The text of a function's signature, in lines. Which function has it makes no difference to the text. Other definitions that it names,
+/// and parameters that a type names by their id, its own ones too, are looked up in the tables.
 ///
 /// Answers `Missing` of the first definition outside that the text names and that the tables don't have, and `Memory` where memory was
 /// refused. A text that was begun is dropped.

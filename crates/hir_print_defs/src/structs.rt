@@ -116,7 +116,8 @@ fn add_struct<'a>(
     add_end(works, signature.shape())
 }
 
-/// The text of a struct's signature, in lines, after what the tables have of its representation in memory.
+/// The text of a struct's signature, in lines, after what the tables have of its representation in memory. Other definitions that it
+/// names, and parameters that a type names by their id, its own ones too, are looked up in the tables.
 ///
 /// Answers `Missing` of the first definition outside that the text names and that the tables don't have, and `Memory` where memory was
 /// refused. A text that was begun is dropped.
