@@ -2,30 +2,12 @@
 #![tactic(auto)]
 
 use example_bodies::names;
-use hir_base::{HygieneId, Name};
 use hir_error::HirError;
 use hir_items::Body;
-use hir_node::{Expr, ExprId, ExprOrPatId, Pat, PatId, Path};
-use hir_scope::ExprScopes;
+use hir_node::{Expr, ExprOrPatId, Pat, PatId};
+use hir_scope::{ExprScopes, asked_name};
 use hir_store::ExpressionStore;
 use std::alloc::Global;
-
-/// The name that a path asks for in scopes: that of a path of one name, without arguments.
-fn name_of(path: &Path) -> Option<&Name> {
-    match path {
-        Path::BarePath(path) => path.as_ident(),
-        Path::Normal(_) | Path::LangItem(_, _) => None,
-    }
-}
-
-/// Whether the path is one name that means nothing at an expression. An expression that the body doesn't reach has no scope, and
-/// nothing is asked there.
-fn is_unresolved(scopes: &ExprScopes, at: ExprId, path: &Path, hygiene: HygieneId) -> bool {
-    match (scopes.scope_for(at), name_of(path)) {
-        (Some(scope), Some(name)) => scopes.resolve_name_in_scope(scope, name, hygiene).is_none(),
-        (Some(_), None) | (None, _) => false,
-    }
-}
 
 /// The patterns in the target of an assignment, of which each path is a variable that is assigned to; none of another expression.
 fn targets(alloc: Global, store: &ExpressionStore, expr: &Expr) -> Result<Vec<PatId>, HirError> {
@@ -47,8 +29,8 @@ fn targets(alloc: Global, store: &ExpressionStore, expr: &Expr) -> Result<Vec<Pa
     Ok(found)
 }
 
-/// The paths of one name that resolve to nothing: expressions, and variables that are assigned to. What is defined outside the body,
-/// as a function, is among them.
+/// The paths that may mean a local variable and mean none: expressions, and variables that are assigned to. What is defined outside the
+/// body, as a function, is among them. An expression that the body doesn't reach has no scope, and nothing is asked there.
 fn unresolved(
     alloc: Global,
     body: &Body,
@@ -57,15 +39,20 @@ fn unresolved(
     let store = body.store();
     let mut found = Vec::new(alloc);
     for (id, expr) in store.exprs() {
+        if scopes.scope_for(id).is_none() {
+            continue;
+        }
         if let Expr::Path(path) = expr
-            && is_unresolved(scopes, id, path, store.expr_path_hygiene(id))
+            && asked_name(path).is_some()
+            && scopes.binding_at(store, id).is_none()
         {
             found.push(ExprOrPatId::ExprId(id))?;
         }
         for &pat in &targets(alloc, store, expr)? {
             if store.has_pat(pat)
                 && let Pat::Path(path) = &store[pat]
-                && is_unresolved(scopes, id, path, store.pat_path_hygiene(pat))
+                && asked_name(path).is_some()
+                && scopes.target_binding_at(store, id, pat).is_none()
             {
                 found.push(ExprOrPatId::PatId(pat))?;
             }

@@ -2,36 +2,16 @@
 #![tactic(auto)]
 
 use example_bodies::names;
-use hir_base::{ArenaMap, HygieneId, Name};
+use hir_base::ArenaMap;
 use hir_error::HirError;
 use hir_items::Body;
-use hir_node::{BindingId, BindingKind, Expr, ExprId, Pat, PatId, Path};
+use hir_node::{BindingId, BindingKind, Expr, PatId};
 use hir_scope::ExprScopes;
 use hir_store::ExpressionStore;
 use std::alloc::Global;
 
 /// A set of bindings.
 type Bindings = ArenaMap<BindingKind, ()>;
-
-/// The name that a path asks for in scopes: that of a path of one name, without arguments.
-fn name_of(path: &Path) -> Option<&Name> {
-    match path {
-        Path::BarePath(path) => path.as_ident(),
-        Path::Normal(_) | Path::LangItem(_, _) => None,
-    }
-}
-
-/// The binding that a path means at an expression, where it means one.
-fn binding_of(
-    scopes: &ExprScopes,
-    at: ExprId,
-    path: &Path,
-    hygiene: HygieneId,
-) -> Option<BindingId> {
-    let scope = scopes.scope_for(at)?;
-    let entry = scopes.resolve_name_in_scope(scope, name_of(path)?, hygiene)?;
-    Some(entry.binding())
-}
 
 /// The patterns in the target of an assignment, of which each path is a variable that is assigned to; none of another expression.
 fn targets(alloc: Global, store: &ExpressionStore, expr: &Expr) -> Result<Vec<PatId>, HirError> {
@@ -57,16 +37,11 @@ fn targets(alloc: Global, store: &ExpressionStore, expr: &Expr) -> Result<Vec<Pa
 fn used(alloc: Global, store: &ExpressionStore, scopes: &ExprScopes) -> Result<Bindings, HirError> {
     let mut used = ArenaMap::with_capacity(alloc, store.bindings().len())?;
     for (id, expr) in store.exprs() {
-        if let Expr::Path(path) = expr
-            && let Some(binding) = binding_of(scopes, id, path, store.expr_path_hygiene(id))
-        {
+        if let Some(binding) = scopes.binding_at(store, id) {
             used.insert(binding, ())?;
         }
         for &pat in &targets(alloc, store, expr)? {
-            if store.has_pat(pat)
-                && let Pat::Path(path) = &store[pat]
-                && let Some(binding) = binding_of(scopes, id, path, store.pat_path_hygiene(pat))
-            {
+            if let Some(binding) = scopes.target_binding_at(store, id, pat) {
                 used.insert(binding, ())?;
             }
         }

@@ -1,14 +1,19 @@
--- A name is looked for scope by scope: what it means is captured where the scopes within are behind.
-use Rattle.std.proofs.Common.{◌≡◌, ℕ, zero, suc, ◌<◌, ◌-◌, Bool, true, false, cond, List, [], ◌∷◌, ◌++◌, Option, Some, None, take, length, refl, ap, sym, ◌∙◌, subst, arith}
+-- A name that is found is captured where the scope that brings it in is among the outermost.
+use Rattle.std.proofs.Common.{◌≡◌, ℕ, suc, ◌+◌, ◌<◌, ◌≤◌, ◌-◌, List, [], ◌∷◌, ◌++◌, Option, Some, None, take, drop, length, length-append, refl, ap, sym, ◌∙◌, subst, arith}
 use Rattle.std.specs.Prelude.{option_map}
 use Rattle.std.specs.List.{slice_get, flat_map, AllByRecursion}
+use Rattle.std.proofs.Math.Seq.{take-append-add}
+use Rattle.std.proofs.lemmas.List.{append-nil, take-append-drop, take-append-le}
+use Rattle.std.proofs.lemmas.List.Concat.{flat_map-append}
 use Rattle.hir_base.specs.declared.hygiene.SyntaxContext.{SyntaxContext}
 use Rattle.hir_faults.specs.Tested.{all_of}
 use Rattle.hir_scope.specs.declared.scope.ScopeEntry.{ScopeEntry}
 use Rattle.hir_scope.specs.Frames.{Frame, Chain}
-use Rattle.hir_scope.specs.Scopes.{Scope, frame_of}
-use Rattle.hir_scope.specs.Paths.{frame_at}
-use Rattle.hir_scope.specs.Resolution.{is_asked, first_asked, entries_of, resolve}
+use Rattle.hir_scope.specs.Scopes.{Scope, ParentsStandEarlier, frame_of}
+use Rattle.hir_scope.specs.Paths.{path, frame_at, chain}
+use Rattle.hir_scope.specs.Resolution.{resolve, IsFound}
+use Rattle.hir_scope.proofs.PathLemmas.{path_step, read}
+use Rattle.hir_scope.proofs.ResolveLemmas.{or_else, resolve_append, found_resolves}
 use Rattle.hir_captures.specs.Captures.{unless_within, meant_behind}
 
 -- 1. Scopes of a chain
@@ -17,12 +22,7 @@ use Rattle.hir_captures.specs.Captures.{unless_within, meant_behind}
 abbrev pub AllThere : List Scope → List ℕ → Type 0
 AllThere scopes ids = AllByRecursion (λ (s : ℕ). s < length scopes) ids
 
-read : (scopes : List Scope) (s : ℕ) → s < length scopes → (x : Scope) × (slice_get scopes s ≡ Some x)
-read [] s h = absurd (omega (arith, h))
-read (x ∷ scopes) zero h = (x, refl)
-read (x ∷ scopes) (suc s) h = read scopes s (omega (arith, h))
-
-abbrev pub frames : List Scope → List ℕ → Chain
+abbrev frames : List Scope → List ℕ → Chain
 frames scopes ids = flat_map (frame_at scopes) ids
 
 one_frame : (scopes : List Scope) (s : ℕ) (x : Scope) (ids : List ℕ) → slice_get scopes s ≡ Some x → frames scopes (s ∷ ids) ≡ frame_of x ∷ frames scopes ids
@@ -34,90 +34,68 @@ as_many scopes (s ∷ ids) h =
     let x = read scopes s h.0 in
     ap (length {A = Frame}) (one_frame scopes s x.0 ids x.1) ∙ ap suc (as_many scopes ids h.1)
 
--- 2. What a name means
+-- 2. What is in front of a chain
 
-abbrev or_else : Option ScopeEntry → Option ScopeEntry → Option ScopeEntry
-or_else None later = later
-or_else (Some e) later = Some e
+module _ (n : List ℕ) (h : SyntaxContext) where
+  none_in_front : (m : ℕ) (xs : Chain) → resolve xs n h ≡ None → resolve (take m xs) n h ≡ None
+  none_in_front m xs e = at (resolve (take m xs) n h) (sym (resolve_append n h (take m xs) (drop m xs)) ∙ (ap (λ (c : Chain). resolve c n h) (take-append-drop m xs) ∙ e)) where
+    at : (o : Option ScopeEntry) → or_else o (resolve (drop m xs) n h) ≡ None → o ≡ None
+    at None q = refl
+    at (Some x) q = absurd cc
 
-first_append : (n : List ℕ) (h : SyntaxContext) (xs ys : List ScopeEntry) → first_asked n h (xs ++ ys) ≡ or_else (first_asked n h xs) (first_asked n h ys)
-first_append n h [] ys = refl
-first_append n h (x ∷ xs) ys = at (is_asked n h x) (first_asked n h (xs ++ ys)) (first_asked n h xs) (first_asked n h ys) (first_append n h xs ys) where
-  at : (b : Bool) (r s t : Option ScopeEntry) → r ≡ or_else s t → cond b (Some x) r ≡ or_else (cond b (Some x) s) t
-  at true r s t e = refl
-  at false r s t e = e
+  -- what means nothing captures nothing
+  pub none_captured : (m : ℕ) (xs : Chain) → resolve xs n h ≡ None → meant_behind m xs n h ≡ None
+  none_captured m xs e = λ i. unless_within (none_in_front m xs e i) (e i)
 
-abbrev binding_of : Option ScopeEntry → Option ℕ
-binding_of found = option_map (λ (entry : ScopeEntry). entry.binding) found
+  -- an entry of the first frame is in front
+  found_in_front : (f : Frame) (entry : ScopeEntry) → resolve (f ∷ []) n h ≡ Some entry → (k : ℕ) (fs : Chain) → resolve (take (suc k) (f ∷ fs)) n h ≡ Some entry
+  found_in_front f entry e k fs = resolve_append n h (f ∷ []) (take k fs) ∙ ap (λ (o : Option ScopeEntry). or_else o (resolve (take k fs) n h)) e
 
-module _ (n : List ℕ) (h : SyntaxContext) (f : Frame) (fs : Chain) where
-  first_in : resolve (f ∷ fs) n h ≡ or_else (first_asked n h f.entries) (resolve fs n h)
-  first_in = first_append n h f.entries (entries_of fs)
+-- 3. What is found
 
-  here : (b : ℕ) → binding_of (first_asked n h f.entries) ≡ Some b → meant_behind 0 (f ∷ fs) n h ≡ Some b
-  here b e = ap binding_of first_in ∙ at (first_asked n h f.entries) e where
-    at : (o : Option ScopeEntry) → binding_of o ≡ Some b → binding_of (or_else o (resolve fs n h)) ≡ Some b
-    at None e = absurd cc
-    at (Some x) e = e
+module _ (scopes : List Scope) (earlier : ParentsStandEarlier scopes) (from : ℕ) (n : List ℕ) (h : SyntaxContext) (s : ℕ) (entry : ScopeEntry) (f : IsFound scopes from n h s entry) (outermost : ℕ) where
+  abbrev whole : Chain
+  whole = chain scopes (Some from)
 
-  further_in : (k b : ℕ) → binding_of (first_asked n h f.entries) ≡ Some b → meant_behind (suc k) (f ∷ fs) n h ≡ None
-  further_in k b e =
-      ap (λ (o : Option ScopeEntry). unless_within o (resolve (f ∷ fs) n h)) (first_append n h f.entries (entries_of (take k fs)))
-      ∙ at (first_asked n h f.entries) e where
-        at : (o : Option ScopeEntry) → binding_of o ≡ Some b → unless_within (or_else o (resolve (take k fs) n h)) (resolve (f ∷ fs) n h) ≡ None
-        at None e = absurd cc
-        at (Some x) e = refl
+  abbrev outer : Chain
+  outer = chain scopes (Some s)
 
-  further_out : (k : ℕ) → binding_of (first_asked n h f.entries) ≡ None → meant_behind k (f ∷ fs) n h ≡ meant_behind (k - 1) fs n h
-  further_out k e = at (first_asked n h f.entries) refl k e where
-    at : (o : Option ScopeEntry) → first_asked n h f.entries ≡ o → (k : ℕ) → binding_of o ≡ None → meant_behind k (f ∷ fs) n h ≡ meant_behind (k - 1) fs n h
-    at (Some x) q k e = absurd cc
-    at None q zero e = ap binding_of (first_in ∙ ap (λ (o : Option ScopeEntry). or_else o (resolve fs n h)) q)
-    at None q (suc k) e =
-        let inner = first_append n h f.entries (entries_of (take k fs)) ∙ ap (λ (o : Option ScopeEntry). or_else o (resolve (take k fs) n h)) q in
-        let outer = first_in ∙ ap (λ (o : Option ScopeEntry). or_else o (resolve fs n h)) q in
-        ap (λ (o : Option ScopeEntry). unless_within o (resolve (f ∷ fs) n h)) inner ∙ ap (λ (o : Option ScopeEntry). unless_within (resolve (take k fs) n h) o) outer
-        ∙ ap (λ (j : ℕ). meant_behind j fs n h) one_less where
-          one_less : k ≡ suc k - 1
-          one_less = omega arith
+  abbrev inner : Chain
+  inner = frames scopes f.before
 
--- what a function tells of the scope that is there
-told : (o : Option Scope) (es : List ScopeEntry) → option_map (λ (x : Scope). x.entries) o ≡ Some es → (s : Scope) × (o ≡ Some s) × (s.entries ≡ es)
-told None es e = absurd cc
-told (Some s) es e = (s, refl, cc)
+  parts : whole ≡ inner ++ outer
+  parts = ap (frames scopes) f.on_the_way ∙ flat_map-append (frame_at scopes) f.before (path scopes (Some s))
 
-module _ (scopes : List Scope) (s : ℕ) (ids : List ℕ) (es : List ScopeEntry) (n : List ℕ) (h : SyntaxContext) (e : option_map (λ (x : Scope). x.entries) (slice_get scopes s) ≡ Some es) where
-  same : (P : Chain → Type 0) → ((x : Scope) → x.entries ≡ es → P (frame_of x ∷ frames scopes ids)) → P (frames scopes (s ∷ ids))
-  same P p = let x = told (slice_get scopes s) es e in subst P (sym (one_frame scopes s x.0 ids x.1)) (p x.0 x.2)
+  long : length whole ≡ length inner + length outer
+  long = ap (length {A = Frame}) parts ∙ length-append inner outer
 
-  -- a name that is found behind the innermost scopes is captured
-  pub found_behind : (b : ℕ) → binding_of (first_asked n h es) ≡ Some b → meant_behind 0 (frames scopes (s ∷ ids)) n h ≡ Some b
-  found_behind b q = same (λ (c : Chain). meant_behind 0 c n h ≡ Some b) (λ x w. here n h (frame_of x) (frames scopes ids) b (ap (λ (ys : List ScopeEntry). binding_of (first_asked n h ys)) w ∙ q))
+  means : resolve whole n h ≡ Some entry
+  means = found_resolves scopes earlier from n h s entry f
 
-  -- one that is found further in isn't
-  pub found_within : (k b : ℕ) → (k ≡ 0 → ⊥) → binding_of (first_asked n h es) ≡ Some b → meant_behind k (frames scopes (s ∷ ids)) n h ≡ None
-  found_within zero b some q = absurd (some refl)
-  found_within (suc k) b some q = same (λ (c : Chain). meant_behind (suc k) c n h ≡ None) (λ x w. further_in n h (frame_of x) (frames scopes ids) k b (ap (λ (ys : List ScopeEntry). binding_of (first_asked n h ys)) w ∙ q))
+  -- among the outermost scopes
+  pub found_behind : length outer ≤ outermost → meant_behind (length whole - outermost) whole n h ≡ Some entry.binding
+  found_behind l =
+      let m = length whole - outermost in
+      let few : m ≤ length inner = omega (arith, long, l) in
+      let front : resolve (take m whole) n h ≡ None =
+      ap (λ (c : Chain). resolve (take m c) n h) parts ∙ (ap (λ (c : Chain). resolve c n h) (take-append-le m inner outer few) ∙ none_in_front n h m inner f.none_before) in
+      λ i. unless_within (front i) (means i)
 
-  -- one that isn't found is looked for further out
-  pub found_later : (k : ℕ) → binding_of (first_asked n h es) ≡ None → meant_behind k (frames scopes (s ∷ ids)) n h ≡ meant_behind (k - 1) (frames scopes ids) n h
-  found_later k q = same (λ (c : Chain). meant_behind k c n h ≡ meant_behind (k - 1) (frames scopes ids) n h) (λ x w. further_out n h (frame_of x) (frames scopes ids) k (ap (λ (ys : List ScopeEntry). binding_of (first_asked n h ys)) w ∙ q))
-
--- 3. One scope of the loop
-
-module _ (scopes : List Scope) (before : List ℕ) (s : ℕ) (ids : List ℕ) (es : List ScopeEntry) (n : List ℕ) (h : SyntaxContext) (k : ℕ) (found answer : Option ℕ)
-    (left : before ≡ s ∷ ids) (e : option_map (λ (x : Scope). x.entries) (slice_get scopes s) ≡ Some es) (is : found ≡ binding_of (first_asked n h es))
-    (means : meant_behind k (frames scopes before) n h ≡ answer) where
-  means_here : meant_behind k (frames scopes (s ∷ ids)) n h ≡ answer
-  means_here = subst (λ (xs : List ℕ). meant_behind k (frames scopes xs) n h ≡ answer) left means
-
-  pub answer_behind : (b : ℕ) → found ≡ Some b → k ≡ 0 → Some b ≡ answer
-  answer_behind b q z = sym (ap (λ (j : ℕ). meant_behind j (frames scopes (s ∷ ids)) n h) z ∙ found_behind scopes s ids es n h e b (sym is ∙ q)) ∙ means_here
-
-  pub answer_within : (b : ℕ) → found ≡ Some b → (k ≡ 0 → ⊥) → None ≡ answer
-  answer_within b q some = sym (found_within scopes s ids es n h e k b some (sym is ∙ q)) ∙ means_here
-
-  pub answer_later : found ≡ None → meant_behind (k - 1) (frames scopes ids) n h ≡ answer
-  answer_later q = sym (found_later scopes s ids es n h e k (sym is ∙ q)) ∙ means_here
-
-pub ruleset looks = (answer_behind, answer_within, answer_later)
+  -- further in
+  pub found_within : outermost < length outer → meant_behind (length whole - outermost) whole n h ≡ None
+  found_within l =
+      let k = length outer - outermost - 1 in
+      let x = read scopes s f.there in
+      let fs = frames scopes (path scopes x.0.parent) in
+      let first : resolve (frame_of x.0 ∷ []) n h ≡ Some entry = sym (ap (λ (c : Chain). resolve c n h) (ap (all_of (λ (y : Scope). frame_of y ∷ [])) x.1)) ∙ f.is_first in
+      let out : outer ≡ frame_of x.0 ∷ fs = ap (frames scopes) (path_step scopes s x.0 earlier x.1) ∙ one_frame scopes s x.0 (path scopes x.0.parent) x.1 in
+      let many : length whole - outermost ≡ length inner + suc k = omega (arith, long, l) in
+      let front : resolve (take (length whole - outermost) whole) n h ≡ Some entry =
+      ap (λ (j : ℕ). resolve (take j whole) n h) many
+      ∙ (ap (λ (c : Chain). resolve (take (length inner + suc k) c) n h) parts
+      ∙ (ap (λ (c : Chain). resolve c n h) (take-append-add inner outer (suc k))
+      ∙ (resolve_append n h inner (take (suc k) outer)
+      ∙ (ap (λ (o : Option ScopeEntry). or_else o (resolve (take (suc k) outer) n h)) f.none_before
+      ∙ (ap (λ (c : Chain). resolve (take (suc k) c) n h) out
+      ∙ found_in_front n h (frame_of x.0) entry first k fs))))) in
+      λ i. unless_within (front i) (means i)

@@ -34,15 +34,6 @@ pub no_assignment : (id : ℕ) (x : Expr) → ((target value : ℕ) → x ≡ ex
 no_assignment id (expr.Assignment target value) h = absurd (h target value refl)
 no_assignment id _ h = refl
 
--- what is no path uses nothing
-pub no_expr_use : (h : SyntaxContext) (id : ℕ) (x : Expr) → ((path : Path) → x ≡ expr.Path path → ⊥) → expr_uses h id (Some x) ≡ []
-no_expr_use h id (expr.Path path) no_path = absurd (no_path path refl)
-no_expr_use h id _ no_path = refl
-
-pub no_pat_use : (h : SyntaxContext) (a : ℕ) (x : Pat) → ((path : Path) → x ≡ pat.Path path → ⊥) → pat_uses h (Some a) (Some x) ≡ []
-no_pat_use h a (pat.Path path) no_path = absurd (no_path path refl)
-no_pat_use h a _ no_path = refl
-
 module _ (c : Contents) (scopes : Scopes) (outermost : ℕ) where
   uses_two : (found : List ℕ) (us vs : List Use) → with_uses scopes outermost found (us ++ vs) ≡ with_uses scopes outermost (with_uses scopes outermost found us) vs
   uses_two found us vs =
@@ -90,11 +81,6 @@ module _ (c : Contents) (scopes : Scopes) (outermost : ℕ) where
   read_pat laws id x (Some a) rest new before after is there found put =
       read_one laws (task.Target id a) rest new before after there found
       (put ∙ ap (λ (o : Option Pat). tasks_of (Some a) (met_in_form (form_at pat_form o)) ++ rest) (sym is))
-
--- one task more was done
-pub reads_on : (c : Contents) (scopes : Scopes) (outermost : ℕ) (old new : List Task) (before after whole : List ℕ) → Reads c scopes outermost before old after new → whole ≡ with_code c scopes outermost before (code_of c.nodes old) →
-    AreThere c.nodes new × (whole ≡ with_code c scopes outermost after (code_of c.nodes new))
-reads_on c scopes outermost old new before after whole r e = (r.there, e ∙ r.finds)
 
 -- 2. The whole
 

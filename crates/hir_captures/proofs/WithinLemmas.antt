@@ -20,8 +20,9 @@ use Rattle.hir_scope.specs.Forms.{ScopingForm, form_of, form_at, expr_form}
 use Rattle.hir_scope.specs.Forms as form
 use Rattle.hir_scope.specs.Slots.{Base, Here, Const, Slot, slots, own_frame}
 use Rattle.hir_scope.specs.Chains.{Place, place_kid, on_base, Stands, kid, HasChain, within_own}
+use Rattle.hir_scope.specs.Meanings.{asked_name}
 use Rattle.hir_captures.specs.Captures.{IsClosure, IsOn, captured, meant_behind}
-use Rattle.hir_captures.specs.Uses.{Spot, Use, in_code, of_pattern, kid_code, if_assignment, assignment_at, code_under, asked_name, use_of, expr_uses, pat_uses, uses_at, spot_uses, uses_in}
+use Rattle.hir_captures.specs.Uses.{Spot, Use, in_code, of_pattern, kid_code, if_assignment, assignment_at, code_under, use_of, expr_uses, pat_uses, uses_at, spot_uses, uses_in}
 use Rattle.hir_captures.proofs.CodeLemmas.{Codes, Laws, code_at, kid_there}
 
 contains_map : {X Y : Type 0} (f : X → Y) (xs : List X) (x : X) → Contains xs x → Contains (map f xs) (f x)

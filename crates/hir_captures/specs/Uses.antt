@@ -1,12 +1,8 @@
 -- The uses of variables in a closure's code: the paths of one name in it and in no constant, in the order in which they are met.
-use Rattle.std.specs.Prelude.{ℕ, zero, List, [], ◌∷◌, Option, Some, None, codes, slice_get}
+use Rattle.std.specs.Prelude.{ℕ, List, [], ◌∷◌, Option, Some, None, slice_get}
 use Rattle.std.specs.List.{flat_map}
 use Rattle.hir_base.specs.declared.hygiene.SyntaxContext.{SyntaxContext}
-use Rattle.hir_base.specs.declared.mod_path.PathKind.{PathKind}
-use Rattle.hir_base.specs.declared.mod_path.PathKind.TheVariants.{Plain, Super}
 use Rattle.hir_path.specs.declared.ids.ExprOrPatId.TheVariants.{ExprId, PatId}
-use Rattle.hir_path.specs.declared.path.Path.{Path}
-use Rattle.hir_path.specs.declared.path.Path.TheVariants as path
 use Rattle.hir_node.specs.declared.expr.Expr.{Expr}
 use Rattle.hir_node.specs.declared.expr.Expr.TheVariants as expr
 use Rattle.hir_node.specs.declared.pat.Pat.{Pat}
@@ -17,6 +13,7 @@ use Rattle.hir_faults.specs.Nodes.{Nodes}
 use Rattle.hir_faults.specs.Down.{value}
 use Rattle.hir_expr_store.specs.Contents.{Contents}
 use Rattle.hir_expr_store.specs.SideTables.{hygiene_of}
+use Rattle.hir_scope.specs.Meanings.{asked_name}
 use Rattle.hir_scope.specs.Slots.{Base, Here, Const, Slot, slots}
 
 -- 1. The code of a closure
@@ -64,17 +61,6 @@ unfoldable pub code_under : Nodes → NodeId → Option ℕ → List Spot
 code_under s n assignment = value s (code_step s) (λ assignment. []) n assignment
 
 -- 2. What is used in it
-
--- A path that may name a variable asks for a name: one segment alone for itself, and `self` for `self`.
-abbrev pub name_asked : PathKind → List (List ℕ) → Option (List ℕ)
-name_asked Plain (name ∷ []) = Some name
-name_asked (Super zero) [] = Some (codes "self")
-name_asked kind names = None
-
-abbrev pub asked_name : Path → Option (List ℕ)
-asked_name (path.BarePath p) = name_asked p.kind p.segments
-asked_name (path.Normal n) = None
-asked_name (path.LangItem target name) = None
 
 -- a use: the name and the hygiene that it asks for, and the expression in whose chain they are looked up
 pub record Use : Type 0 where

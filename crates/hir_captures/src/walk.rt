@@ -2,13 +2,14 @@
 #![tactic(auto, using(crate::proofs::ReadLemmas::reads))]
 
 ghost use Rattle.std.specs.Prelude.{◌≡◌, ◌<◌, ℕ, [], ◌∷◌, length, None, Some, Err, IfOk, OnOk, OnErr};
+ghost use Rattle.hir_scope.specs.Meanings.{asked_name};
 ghost use Rattle.hir_scope.specs.Scopes.{Scopes};
-ghost use Rattle.hir_captures.specs.Uses.{if_assignment, use_of, asked_name, uses_at};
+ghost use Rattle.hir_captures.specs.Uses.{if_assignment, use_of, uses_at};
 ghost use Rattle.hir_node.specs.declared.node_id.NodeId.TheVariants as node;
 ghost use Rattle.hir_captures.specs.Pending.{AreThere, code_of};
 ghost use Rattle.hir_captures.specs.Reading.{with_uses, with_code, Reads};
 
-use crate::asks::{asked_name, captured};
+use crate::asks::captured;
 use crate::fault::CapturesFault;
 use crate::found::Found;
 use crate::kids::Kids;
@@ -17,8 +18,8 @@ use hir_base::HygieneId;
 use hir_expr_store::ExpressionStore;
 use hir_expr_store::laws::{kids_fall, who_has_kids_is_there};
 use hir_node::{Expr, ExprId, Pat, PatId, Path};
-use hir_scope::ExprScopes;
 use hir_scope::laws::slots_hold_the_kids;
+use hir_scope::{ExprScopes, asked_name};
 use std::alloc::Global;
 
 /// A walk: what was found, and what is still to be read.

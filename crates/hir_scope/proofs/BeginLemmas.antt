@@ -23,16 +23,16 @@ use Rattle.hir_scope.specs.declared.scope.ScopeEntry.{ScopeEntry}
 use Rattle.hir_scope.specs.declared.scope.ScopeKind.TheVariants as kind
 use Rattle.hir_scope.specs.declared.tasks.Task.{Task}
 use Rattle.hir_scope.specs.declared.tasks.Task.TheVariants as task
-use Rattle.hir_scope.specs.Begins.{IsSound, for_none, root_entries, body_root, body_begins, signature_root, scope_in_root, scopes_in_root, root_tasks, roots_begin, signature_begins}
+use Rattle.hir_scope.specs.walk.Begins.{IsSound, for_none, root_entries, body_root, body_begins, signature_root, scope_in_root, scopes_in_root, root_tasks, roots_begin, signature_begins}
 use Rattle.hir_scope.specs.Built.{tops_of_body, tops_of_signature, limit, BodyIsTooLarge, SignatureIsTooLarge}
 use Rattle.hir_scope.specs.Chains.{Place}
 use Rattle.hir_scope.specs.Counts.{count_if_there, form_scopes, node_entries, body_scope_count, body_entry_count, signature_scope_count, signature_entry_count}
 use Rattle.hir_scope.specs.Forms.{form_of}
 use Rattle.hir_scope.specs.Frames.{Frame, Chain, entry_at, binds, empty}
-use Rattle.hir_scope.specs.Machine.{Machine, IsReady, AreThere, LeavesWithin, Exceeds, about, chain_of, future_of, node_frames, one, count_entries, total, weight, weight_left}
+use Rattle.hir_scope.specs.walk.Machine.{Machine, IsReady, AreThere, LeavesWithin, Exceeds, about, chain_of, future_of, node_frames, one, count_entries, total, weight, weight_left}
 use Rattle.hir_scope.specs.Paths.{paths, frame_at}
-use Rattle.hir_scope.specs.Pending.{tasks_of, task_frames, future}
-use Rattle.hir_scope.specs.PlacesUnder.{exprs_under}
+use Rattle.hir_scope.specs.walk.Pending.{tasks_of, task_frames, future}
+use Rattle.hir_scope.specs.walk.PlacesUnder.{exprs_under}
 use Rattle.hir_scope.specs.Scopes.{Scope, Scopes, entry_count, frame_of, IsBelow, ParentsStandEarlier}
 use Rattle.hir_scope.proofs.CountLemmas.{bound_by, calls_open, form_ones, frame_entries, sum_one}
 use Rattle.hir_scope.proofs.EntryLemmas.{entries_of_node, entries_total, no_around, one_entry}
@@ -328,6 +328,3 @@ module _ (c : Contents) where
         let a = signature_scopes_weigh in
         let d = signature_entries_weigh in
         ⊎_elim (λ l. inl (omega (arith, a, l))) (λ l. inr (omega (arith, d, l))) h
-
-pub roots_exceed : (c : Contents) → limit < 1 + length c.roots → SignatureIsTooLarge c
-roots_exceed c h = inl (omega (arith, h))

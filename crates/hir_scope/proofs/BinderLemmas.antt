@@ -22,7 +22,7 @@ use Rattle.hir_expr_store.specs.PatLists.{child_pats_of, pats, bindings_at, bind
 use Rattle.hir_scope.specs.declared.queue.Queue.{Queue}
 use Rattle.hir_scope.specs.declared.scope.ScopeEntry.{ScopeEntry}
 use Rattle.hir_scope.specs.Frames.{entry_at, binds}
-use Rattle.hir_scope.specs.Machine.{AreThere}
+use Rattle.hir_scope.specs.walk.Machine.{AreThere}
 use Rattle.hir_scope.proofs.ReadyLemmas.{there_all}
 
 abbrev pub Asks : Queue ℕ → Call → Queue ℕ → Type 0

@@ -7,13 +7,13 @@ use Rattle.hir_node.specs.declared.node_id.NodeId.{NodeId}
 use Rattle.hir_node.specs.declared.node_id.NodeId.TheVariants as node
 use Rattle.hir_faults.specs.Nodes.{Nodes, Has}
 use Rattle.hir_expr_store.specs.Under.{Reached, reached_nodes}
-use Rattle.hir_scope.specs.Begins.{IsSound}
+use Rattle.hir_scope.specs.walk.Begins.{IsSound}
 use Rattle.hir_scope.specs.Built.{ChainsAreFrames, expr_count}
 use Rattle.hir_scope.specs.Chains.{Place, Stands, within_own}
 use Rattle.hir_scope.specs.Forms.{form_of}
-use Rattle.hir_scope.specs.Machine.{Machine, Given, Gone, IsRight, place_given, write_all, future_of, chain_of}
-use Rattle.hir_scope.specs.Pending.{future}
-use Rattle.hir_scope.specs.PlacesUnder.{exprs_under}
+use Rattle.hir_scope.specs.walk.Machine.{Machine, Given, Gone, IsRight, place_given, write_all, future_of, chain_of}
+use Rattle.hir_scope.specs.walk.Pending.{future}
+use Rattle.hir_scope.specs.walk.PlacesUnder.{exprs_under}
 use Rattle.hir_scope.proofs.MemberLemmas.{In, in_map, map_in, in_all}
 use Rattle.hir_scope.proofs.StandsLemmas.{reached_stands, stands_reached}
 use Rattle.hir_scope.proofs.SumLemmas.{exprs_counted}

@@ -34,8 +34,8 @@ use Rattle.hir_scope.specs.Counts.{count_if_there, statement_scopes, form_scopes
 use Rattle.hir_scope.specs.Frames.{Frame, binds, frame}
 use Rattle.hir_scope.specs.Forms.{ScopingForm, expr_form, type_form}
 use Rattle.hir_scope.specs.Forms as form
-use Rattle.hir_scope.specs.Machine.{about, one, count_entries}
-use Rattle.hir_scope.specs.Pending.{tasks_of, arm_task, guarded_task, leave, statement_tasks, closure_calls, form_tasks, opens_here, opens_constant, task_kids, task_frames}
+use Rattle.hir_scope.specs.walk.Machine.{about, one, count_entries}
+use Rattle.hir_scope.specs.walk.Pending.{tasks_of, arm_task, guarded_task, leave, statement_tasks, closure_calls, form_tasks, opens_here, opens_constant, task_kids, task_frames}
 use Rattle.hir_scope.specs.Slots.{block_constants}
 use Rattle.hir_scope.proofs.SumLemmas.{sum_flat, sum_plus, sum_same}
 

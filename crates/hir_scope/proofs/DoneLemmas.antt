@@ -17,10 +17,10 @@ use Rattle.hir_scope.specs.declared.tasks.Task.TheVariants as task
 use Rattle.hir_scope.specs.Frames.{Frame, Chain, frame, of_kind}
 use Rattle.hir_scope.specs.Forms.{ScopingForm, form_at, form_of, pat_form, type_form}
 use Rattle.hir_scope.specs.Forms as form
-use Rattle.hir_scope.specs.PlacesUnder.{place}
+use Rattle.hir_scope.specs.walk.PlacesUnder.{place}
 use Rattle.hir_scope.specs.Scopes.{Scopes}
-use Rattle.hir_scope.specs.Pending.{tasks_of, guarded_task, arm_with, leave, form_tasks, opens_here, opens_constant, future, task_kids, task_frames}
-use Rattle.hir_scope.specs.Machine.{Machine, chain_of, about, AreThere, LeavesWithin, IsReady, total, left, node_frames, weight_left, node_turns, task_turns, turns_left, Opened, Moves}
+use Rattle.hir_scope.specs.walk.Pending.{tasks_of, guarded_task, arm_with, leave, form_tasks, opens_here, opens_constant, future, task_kids, task_frames}
+use Rattle.hir_scope.specs.walk.Machine.{Machine, chain_of, about, AreThere, LeavesWithin, IsReady, total, left, node_frames, weight_left, node_turns, task_turns, turns_left, Opened, Moves}
 use Rattle.hir_scope.proofs.ReadyLemmas.{known_met, leaves_met}
 use Rattle.hir_scope.proofs.WeightLemmas.{left_cons, weight_met, turns_met}
 use Rattle.hir_scope.proofs.MetLemmas.{for_constants, future_expr, future_pat, future_type, future_arm}

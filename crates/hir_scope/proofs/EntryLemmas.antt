@@ -24,8 +24,8 @@ use Rattle.hir_scope.specs.Counts.{node_entries}
 use Rattle.hir_scope.specs.Frames.{entry_at, entry_of, binds}
 use Rattle.hir_scope.specs.Forms.{ScopingForm, form_at, form_of, expr_form, pat_form, type_form}
 use Rattle.hir_scope.specs.Forms as form
-use Rattle.hir_scope.specs.Machine.{about, count_entries, total, node_frames}
-use Rattle.hir_scope.specs.Pending.{form_tasks}
+use Rattle.hir_scope.specs.walk.Machine.{about, count_entries, total, node_frames}
+use Rattle.hir_scope.specs.walk.Pending.{form_tasks}
 use Rattle.hir_scope.specs.Slots.{slots}
 use Rattle.hir_scope.specs.declared.tasks.Around.{Around}
 use Rattle.hir_scope.proofs.CountLemmas.{MeetsNone, expr_meets, type_meets, bound_by, form_entries, turn_entries, form_frames}

@@ -20,8 +20,8 @@ use Rattle.hir_scope.specs.Forms as form
 use Rattle.hir_scope.specs.Leak.{leak, leaks, leak_of_form}
 use Rattle.hir_scope.specs.Slots.{Slot, call_slot, in_turn, own_frame, block_constants, made, made_for_constants, statement_slots, block_slots, arm_slots, loop_kind, slots_of_form, slots}
 use Rattle.hir_scope.specs.Chains.{Place, place_kid}
-use Rattle.hir_scope.specs.PlacesUnder.{place, exprs_under}
-use Rattle.hir_scope.specs.Pending.{tasks_of, arm_task, arm_with, leave, statement_tasks, closure_calls, form_tasks, opens_here, opens_constant, future, arm_calls}
+use Rattle.hir_scope.specs.walk.PlacesUnder.{place, exprs_under}
+use Rattle.hir_scope.specs.walk.Pending.{tasks_of, arm_task, arm_with, leave, statement_tasks, closure_calls, form_tasks, opens_here, opens_constant, future, arm_calls}
 
 pub exprs_under-nil : (s : Nodes) → exprs_under s [] ≡ []
 unfolding exprs_under
@@ -32,9 +32,6 @@ unfolding exprs_under
 exprs_under-append s xs ys = simp (flat_map-append, filter-append)
 
 module _ (s : Nodes) (chain : ℕ → Chain) where
-  placed : Chain → Chain → List Slot → List Place
-  placed here constant slots = map (place_kid here constant) slots
-
   two : (h k : Chain) (xs ys : List Slot) (rest : List Place) → exprs_under s (map (place_kid h k) (xs ++ ys)) ++ rest ≡ exprs_under s (map (place_kid h k) xs) ++ (exprs_under s (map (place_kid h k) ys) ++ rest)
   two h k xs ys rest =
       ap (λ (ps : List Place). exprs_under s ps ++ rest) (map-append (place_kid h k) xs ys)

@@ -14,9 +14,9 @@ use Rattle.hir_scope.specs.declared.tasks.Task.TheVariants as task
 use Rattle.hir_scope.specs.Frames.{Chain}
 use Rattle.hir_scope.specs.Forms.{form_of}
 use Rattle.hir_scope.specs.Chains.{Place, within_own}
-use Rattle.hir_scope.specs.PlacesUnder.{place}
+use Rattle.hir_scope.specs.walk.PlacesUnder.{place}
 use Rattle.hir_scope.specs.Scopes.{Scope, Scopes}
-use Rattle.hir_scope.specs.Machine.{Machine, chain_of, future_of, IsReady, HasFrames, Moves, Given, place_given, write_all, IsRight, Gone, Goes}
+use Rattle.hir_scope.specs.walk.Machine.{Machine, chain_of, future_of, IsReady, HasFrames, Moves, Given, place_given, write_all, IsRight, Gone, Goes}
 use Rattle.hir_scope.proofs.GrownLemmas.{frames_grown}
 use Rattle.hir_scope.proofs.MovingLemmas.{at}
 

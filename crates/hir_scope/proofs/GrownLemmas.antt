@@ -13,11 +13,11 @@ use Rattle.hir_scope.specs.Frames.{Frame, Chain, frame, of_kind}
 use Rattle.hir_scope.specs.Leak.{leak}
 use Rattle.hir_scope.specs.Slots.{arm_slots}
 use Rattle.hir_scope.specs.Chains.{Place, place_kid}
-use Rattle.hir_scope.specs.PlacesUnder.{place, exprs_under}
+use Rattle.hir_scope.specs.walk.PlacesUnder.{place, exprs_under}
 use Rattle.hir_scope.specs.Scopes.{Scope, frame_of}
 use Rattle.hir_scope.specs.Paths.{path_among, with_path, paths, path, frame_at, chain}
-use Rattle.hir_scope.specs.Pending.{future, arm_with}
-use Rattle.hir_scope.specs.Machine.{chain_of, LeavesWithin, HasFrames}
+use Rattle.hir_scope.specs.walk.Pending.{future, arm_with}
+use Rattle.hir_scope.specs.walk.Machine.{chain_of, LeavesWithin, HasFrames}
 use Rattle.hir_scope.proofs.PathLemmas.{path_kept, path_new, length_paths}
 
 -- 1. The members of a path are scopes that are there

@@ -22,7 +22,7 @@ use Rattle.hir_scope.specs.Forms.{ScopingForm, form_at, form_of, expr_form, pat_
 use Rattle.hir_scope.specs.Forms as form
 use Rattle.hir_scope.specs.Leak.{leak, leaks}
 use Rattle.hir_scope.specs.Slots.{Slot, in_turn, own_frame, block_constants, made, made_for_constants, statement_slots, block_slots, arm_slots, slots_of_form}
-use Rattle.hir_scope.specs.Pending.{arm_calls, closure_calls}
+use Rattle.hir_scope.specs.walk.Pending.{arm_calls, closure_calls}
 
 abbrev pub Shuffled : List Call → List Call → Type 0
 Shuffled xs ys = IsPermutation xs ys

@@ -12,8 +12,8 @@ use Rattle.hir_scope.specs.Forms.{ScopingForm, form_of}
 use Rattle.hir_scope.specs.Leak.{leak, leak_of_form}
 use Rattle.hir_scope.specs.Slots.{slots_of_form}
 use Rattle.hir_scope.specs.Chains.{Place, place_kid}
-use Rattle.hir_scope.specs.PlacesUnder.{place, exprs_under}
-use Rattle.hir_scope.specs.Pending.{form_tasks, opens_here, opens_constant, future, arm_calls, arm_task, leave, tasks_of}
+use Rattle.hir_scope.specs.walk.PlacesUnder.{place, exprs_under}
+use Rattle.hir_scope.specs.walk.Pending.{form_tasks, opens_here, opens_constant, future, arm_calls, arm_task, leave, tasks_of}
 use Rattle.hir_scope.proofs.FutureLemmas.{future_form, turn_ended, future_arm_task}
 use Rattle.hir_scope.proofs.StepLemmas.{leak_at, exprs_under_expr, exprs_under_pat, exprs_under_type}
 

@@ -13,8 +13,8 @@ use Rattle.hir_scope.specs.Forms.{ScopingForm}
 use Rattle.hir_scope.specs.Forms as form
 use Rattle.hir_scope.specs.Chains.{Place, within_own}
 use Rattle.hir_scope.specs.Scopes.{Scope, Scopes, frame_of, entry_count}
-use Rattle.hir_scope.specs.Pending.{future, opens_here}
-use Rattle.hir_scope.specs.Machine.{Machine, chain_of, here_of, constant_of, future_of, about, AreThere, LeavesWithin, IsReady, weight_left, one, count_entries, Over, Exceeds, turns_left, HasFrames, Opened, Moves, scope_within}
+use Rattle.hir_scope.specs.walk.Pending.{future, opens_here}
+use Rattle.hir_scope.specs.walk.Machine.{Machine, chain_of, here_of, constant_of, future_of, about, AreThere, LeavesWithin, IsReady, weight_left, one, count_entries, Over, Exceeds, turns_left, HasFrames, Opened, Moves, scope_within}
 use Rattle.hir_scope.proofs.GrownLemmas.{chain_new, frames_grown, leaves_more, future_grown}
 
 abbrev pub at : Scopes → Around → List Task → Machine

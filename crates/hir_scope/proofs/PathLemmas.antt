@@ -1,6 +1,6 @@
 -- The paths of scopes: a scope's path is its id on its parent's path.
-use Rattle.std.proofs.Common.{◌≡◌, ℕ, zero, suc, ◌+◌, ◌<◌, ◌≤◌, List, [], ◌∷◌, ◌++◌, Option, Some, None, fold, get_or, length, refl, ap, sym, ◌∙◌, subst, arith, append_assoc}
-use Rattle.std.specs.List.{slice_get, All}
+use Rattle.std.proofs.Common.{◌≡◌, ℕ, zero, suc, ◌+◌, ◌-◌, ◌<◌, ◌≤◌, List, [], ◌∷◌, ◌++◌, Option, Some, None, fold, get_or, length, refl, ap, sym, ◌∙◌, subst, arith, append_assoc}
+use Rattle.std.specs.List.{slice_get, All, range_with_len}
 use Rattle.std.proofs.lemmas.List.{get_or_append_left, get_or_at, length_push}
 use Rattle.std.proofs.lemmas.List.Elements.{All-nil, All-cons}
 use Rattle.std.proofs.lemmas.Grind.{fold-append}
@@ -58,7 +58,7 @@ weaker : (m n : ℕ) (o : Option ℕ) → m ≤ n → IsBelow m o → IsBelow n 
 weaker m n None l h = tt
 weaker m n (Some s) l h = omega (arith, l, h)
 
-read : (scopes : List Scope) (s : ℕ) → s < length scopes → (x : Scope) × (slice_get scopes s ≡ Some x)
+pub read : (scopes : List Scope) (s : ℕ) → s < length scopes → (x : Scope) × (slice_get scopes s ≡ Some x)
 read [] s h = absurd (omega (arith, h))
 read (x ∷ scopes) zero h = (x, refl)
 read (x ∷ scopes) (suc s) h = read scopes s (omega (arith, h))
@@ -88,3 +88,12 @@ path_there scopes earlier (suc n) (Some s) l h =
 -- each member of a path is there
 pub path_members : (scopes : List Scope) → ParentsStandEarlier scopes → (o : Option ℕ) → IsIn scopes o → All (λ x. x < length scopes) (path scopes o)
 path_members scopes earlier o h = path_there scopes earlier (length scopes) o (omega arith) h
+
+-- the ids of all scopes
+
+pub range_step : (a b : ℕ) → a < b → range_with_len a (b - a) ≡ a ∷ range_with_len (a + 1) (b - (a + 1))
+range_step a b h = let one_less : b - a ≡ suc (b - (a + 1)) = omega (arith, h) in ap (range_with_len a) one_less
+
+pub range_below : (a n m : ℕ) → a + n ≤ m → All (λ x. x < m) (range_with_len a n)
+range_below a zero m h = All-nil (λ x. x < m)
+range_below a (suc n) m h = All-cons (λ x. x < m) a (range_with_len (a + 1) n) (omega (arith, h)) (range_below (a + 1) n m (omega (arith, h)))

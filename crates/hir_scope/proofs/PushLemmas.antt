@@ -4,7 +4,7 @@ use Rattle.std.proofs.lemmas.List.Concat.{flat_map-append}
 use Rattle.hir_node.specs.ChildCalls.{Call, e, t, opt}
 use Rattle.hir_scope.specs.declared.tasks.Task.{Task}
 use Rattle.hir_scope.specs.declared.tasks.Task.TheVariants as task
-use Rattle.hir_scope.specs.Pending.{task_of, tasks_of}
+use Rattle.hir_scope.specs.walk.Pending.{task_of, tasks_of}
 
 pub let_tasks : (pat : ℕ) (ty x y : Option ℕ) (ts : List Task) → (tasks_of (opt t ty ++ opt e x ++ opt e y) ++ task.Bound pat ∷ []) ++ ts ≡ tasks_of (opt t ty) ++ (tasks_of (opt e x) ++ (tasks_of (opt e y) ++ (task.Bound pat ∷ ts)))
 let_tasks pat None None None ts = refl
@@ -32,9 +32,6 @@ module _ (types ret args body : List Call) where
       ∙ (append_assoc (tasks_of types) (tasks_of ret ++ (tasks_of args ++ tasks_of body)) (last ∷ ts)
       ∙ ap (λ (us : List Task). tasks_of types ++ us) (append_assoc (tasks_of ret) (tasks_of args ++ tasks_of body) (last ∷ ts)
       ∙ ap (λ (us : List Task). tasks_of ret ++ us) (append_assoc (tasks_of args) (tasks_of body) (last ∷ ts)))))
-
-pub if_tasks : (c y : ℕ) (ts us : List Task) → (tasks_of (e c ++ e y) ++ ts) ++ us ≡ task.Expr c ∷ task.Expr y ∷ (ts ++ us)
-if_tasks c y ts us = refl
 
 pub block_tasks : (xs ys : List Task) (last : Task) (ts : List Task) → (xs ++ (ys ++ last ∷ [])) ++ ts ≡ xs ++ (ys ++ (last ∷ ts))
 block_tasks xs ys last ts = append_assoc xs (ys ++ last ∷ []) ts ∙ ap (λ (us : List Task). xs ++ us) (append_assoc ys (last ∷ []) ts)

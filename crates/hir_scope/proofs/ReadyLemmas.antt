@@ -18,8 +18,8 @@ use Rattle.hir_scope.specs.declared.tasks.Task.TheVariants as task
 use Rattle.hir_scope.specs.Forms.{ScopingForm, form_of}
 use Rattle.hir_scope.specs.Forms as form
 use Rattle.hir_scope.specs.Slots.{slots}
-use Rattle.hir_scope.specs.Pending.{tasks_of, arm_task, guarded_task, statement_tasks, closure_calls, form_tasks, task_kids, leave}
-use Rattle.hir_scope.specs.Machine.{about, AreThere, LeavesWithin}
+use Rattle.hir_scope.specs.walk.Pending.{tasks_of, arm_task, guarded_task, statement_tasks, closure_calls, form_tasks, task_kids, leave}
+use Rattle.hir_scope.specs.walk.Machine.{about, AreThere, LeavesWithin}
 use Rattle.hir_scope.proofs.KidLemmas.{met_in_form, kids_of_form}
 use Rattle.hir_scope.proofs.SlotLemmas.{kids_in, slots_kids}
 use Rattle.hir_scope.proofs.TaskLemmas.{about_form}

@@ -16,7 +16,8 @@ use Rattle.hir_scope.specs.Forms as form
 use Rattle.hir_scope.specs.Leak.{leak, leaks, leak_of_form, leak_step}
 use Rattle.hir_scope.specs.Slots.{Slot, slots, slots_of_form}
 use Rattle.hir_scope.specs.Chains.{Place, place_kid, places_of_kids}
-use Rattle.hir_scope.specs.PlacesUnder.{place, places_under, under_step, is_expr, exprs_under}
+use Rattle.hir_scope.specs.Built.{is_expr}
+use Rattle.hir_scope.specs.walk.PlacesUnder.{place, places_under, under_step, exprs_under}
 use Rattle.hir_scope.proofs.KidLemmas.{met_in_form, calls_shuffled, kids_of_form}
 
 -- 1. What agrees on the kids of a node agrees on its slots

@@ -7,14 +7,14 @@ use Rattle.hir_node.specs.declared.node_id.NodeId.{NodeId}
 use Rattle.hir_faults.specs.Nodes.{Nodes, Has, kids_of}
 use Rattle.hir_faults.specs.Down.{rank, KidsFall}
 use Rattle.hir_expr_store.specs.Under.{nodes_under, reached_nodes}
-use Rattle.hir_scope.specs.Built.{expr_count}
+use Rattle.hir_scope.specs.Built.{expr_count, is_expr}
 use Rattle.hir_scope.specs.Slots.{Slot, slots}
 use Rattle.hir_scope.specs.Chains.{Place, place_kid, places_of_kids}
-use Rattle.hir_scope.specs.PlacesUnder.{places_under, is_expr, exprs_under}
+use Rattle.hir_scope.specs.walk.PlacesUnder.{places_under, exprs_under}
 use Rattle.hir_scope.proofs.MemberLemmas.{In, contains_in}
 use Rattle.hir_scope.proofs.StepLemmas.{under_at}
 use Rattle.hir_scope.proofs.SlotLemmas.{kids_in, slots_kids}
-use Rattle.hir_scope.specs.Machine.{total}
+use Rattle.hir_scope.specs.walk.Machine.{total}
 use Rattle.hir_scope.proofs.TotalLemmas.{total_at}
 use Rattle.hir_scope.proofs.UnderLemmas.{kid_there, kid_lower}
 

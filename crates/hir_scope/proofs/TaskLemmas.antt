@@ -15,8 +15,8 @@ use Rattle.hir_scope.specs.declared.tasks.Task.{Task}
 use Rattle.hir_scope.specs.declared.tasks.Task.TheVariants as task
 use Rattle.hir_scope.specs.Forms.{ScopingForm}
 use Rattle.hir_scope.specs.Forms as form
-use Rattle.hir_scope.specs.Machine.{about}
-use Rattle.hir_scope.specs.Pending.{tasks_of, arm_task, arm_calls, guarded_task, leave, statement_tasks, closure_calls, form_tasks, task_kids}
+use Rattle.hir_scope.specs.walk.Machine.{about}
+use Rattle.hir_scope.specs.walk.Pending.{tasks_of, arm_task, arm_calls, guarded_task, leave, statement_tasks, closure_calls, form_tasks, task_kids}
 use Rattle.hir_scope.proofs.KidLemmas.{met_in_statement, met_in_form}
 
 about-append : (xs ys : List Task) → about (xs ++ ys) ≡ about xs ++ about ys

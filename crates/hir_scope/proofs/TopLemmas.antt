@@ -13,9 +13,9 @@ use Rattle.hir_scope.specs.Leak.{leak}
 use Rattle.hir_scope.specs.Slots.{Slot, in_turn}
 use Rattle.hir_scope.specs.Chains.{Place, place_kid}
 use Rattle.hir_scope.specs.Tops.{root_frame, body_tops, signature_tops}
-use Rattle.hir_scope.specs.PlacesUnder.{place, exprs_under}
-use Rattle.hir_scope.specs.Pending.{tasks_of, future}
-use Rattle.hir_scope.specs.Begins.{root_tasks}
+use Rattle.hir_scope.specs.walk.PlacesUnder.{place, exprs_under}
+use Rattle.hir_scope.specs.walk.Pending.{tasks_of, future}
+use Rattle.hir_scope.specs.walk.Begins.{root_tasks}
 use Rattle.hir_scope.proofs.SlotLemmas.{kids_in, turn_kids}
 use Rattle.hir_scope.proofs.FutureLemmas.{future_turn, exprs_under-nil, exprs_under-append}
 

@@ -13,10 +13,10 @@ use Rattle.hir_scope.specs.declared.tasks.Around.{Around}
 use Rattle.hir_scope.specs.declared.tasks.Task.{Task}
 use Rattle.hir_scope.specs.Forms.{form_of}
 use Rattle.hir_scope.specs.Slots.{slots}
-use Rattle.hir_scope.specs.Pending.{form_tasks, task_kids}
+use Rattle.hir_scope.specs.walk.Pending.{form_tasks, task_kids}
 use Rattle.hir_scope.proofs.KidLemmas.{met_in_form, kids_of_form}
 use Rattle.hir_scope.proofs.SlotLemmas.{kids_in, slots_kids}
-use Rattle.hir_scope.specs.Machine.{about, total_step, total, left}
+use Rattle.hir_scope.specs.walk.Machine.{about, total_step, total, left}
 use Rattle.hir_scope.proofs.TaskLemmas.{about_form}
 
 sum_reads : (f g : NodeId → ℕ) (ns : List NodeId) → AgreeOn f g ns → sum_by f ns ≡ sum_by g ns

@@ -6,7 +6,7 @@ use Rattle.hir_node.specs.Runs.{Runs, no_call, a_call}
 use Rattle.hir_node.proofs.RunLemmas.{may_freely}
 use Rattle.hir_scope.specs.declared.queue.Queue.{Queue}
 use Rattle.hir_scope.specs.declared.tasks.Task.{Task}
-use Rattle.hir_scope.specs.Pending.{task_of, tasks_of}
+use Rattle.hir_scope.specs.walk.Pending.{task_of, tasks_of}
 
 abbrev pub Puts : Queue Task → Call → Queue Task → Type 0
 Puts v c w = w.refused ≡ false → (v.refused ≡ false) × (w.items.items ≡ v.items.items ++ task_of c)

@@ -6,7 +6,8 @@ use Rattle.hir_node.specs.declared.node_id.NodeId.TheVariants as node
 use Rattle.hir_faults.specs.Nodes.{Nodes, Has}
 use Rattle.hir_faults.specs.Down.{rank, KidsFall}
 use Rattle.hir_scope.specs.Chains.{Place, places_of_kids, Stands, top, kid}
-use Rattle.hir_scope.specs.PlacesUnder.{places_under, is_expr, exprs_under}
+use Rattle.hir_scope.specs.Built.{is_expr}
+use Rattle.hir_scope.specs.walk.PlacesUnder.{places_under, exprs_under}
 use Rattle.hir_scope.proofs.MemberLemmas.{In, in_contains, contains_in, in_flat_map, flat_map_in, map_in, in_filter, filter_in}
 use Rattle.hir_scope.proofs.StandsLemmas.{kid_of_place}
 use Rattle.hir_scope.proofs.StepLemmas.{under_at}

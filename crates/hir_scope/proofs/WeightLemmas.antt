@@ -12,8 +12,8 @@ use Rattle.hir_scope.specs.declared.tasks.Task.TheVariants as task
 use Rattle.hir_scope.specs.Frames.{Frame}
 use Rattle.hir_scope.specs.Forms.{ScopingForm, form_of}
 use Rattle.hir_scope.specs.Forms as form
-use Rattle.hir_scope.specs.Pending.{tasks_of, statement_tasks, closure_calls, form_tasks, leave, task_kids, task_frames, opens_here, opens_constant}
-use Rattle.hir_scope.specs.Machine.{about, total, left, node_tasks, node_frames, weight_left, task_turns, node_turns, turns_left}
+use Rattle.hir_scope.specs.walk.Pending.{tasks_of, statement_tasks, closure_calls, form_tasks, leave, task_kids, task_frames, opens_here, opens_constant}
+use Rattle.hir_scope.specs.walk.Machine.{about, total, left, node_tasks, node_frames, weight_left, task_turns, node_turns, turns_left}
 use Rattle.hir_scope.proofs.TotalLemmas.{left_met}
 
 -- 1. Sums over tasks

@@ -7,10 +7,10 @@ use Rattle.hir_expr_store.specs.Contents.{Contents}
 use Rattle.hir_items.specs.Bodies.{BodyContents, AreBelow, body_nodes, tops}
 use Rattle.hir_items.specs.Signatures.{root_tops}
 use Rattle.hir_scope.specs.declared.tasks.Task.{Task}
-use Rattle.hir_scope.specs.Begins.{IsSound, root_entries, body_begins, signature_begins}
+use Rattle.hir_scope.specs.walk.Begins.{IsSound, root_entries, body_begins, signature_begins}
 use Rattle.hir_scope.specs.Built.{tops_of_body, tops_of_signature, AreBodyScopes, AreSignatureScopes, BodyIsTooLarge, SignatureIsTooLarge, limit, expr_count}
 use Rattle.hir_scope.specs.Frames.{Frame}
-use Rattle.hir_scope.specs.Machine.{Machine, IsReady, Gone, Exceeds, future_of, one, count_entries, weight_left}
+use Rattle.hir_scope.specs.walk.Machine.{Machine, IsReady, Gone, Exceeds, future_of, one, count_entries, weight_left}
 use Rattle.hir_scope.proofs.BeginLemmas.{body_ready, body_exceeds, root_exceeds, signature_ready, signature_exceeds, body_same, body_whole, body_scopes_weigh, body_entries_weigh, signature_same, signature_whole, signature_scopes_weigh, signature_entries_weigh, scopes_weigh, entries_weigh}
 use Rattle.hir_scope.proofs.BuiltLemmas.{chains, reached, ticked, counted}
 use Rattle.hir_scope.proofs.MemberLemmas.{In, contains_in}

@@ -7,7 +7,7 @@ use Rattle.std.specs.Ordering.{nat_cmp, is_eq, eq_by_cmp}
 use Rattle.std.specs.FinMap as map
 use Rattle.std.specs.FinMap.{get-insert, get-empty, nat_cmp-IsAntisymmetric}
 use Rattle.std.specs.Cmp.{nat_cmp_total, tied_itself}
-use Rattle.hir_scope.specs.Machine.{Given, write_all}
+use Rattle.hir_scope.specs.walk.Machine.{Given, write_all}
 use Rattle.hir_scope.proofs.MemberLemmas.{In}
 
 abbrev Written : Type 0

@@ -1,6 +1,6 @@
 -- The scopes of a body or a signature: which expressions have one, the frames along its chain, and how many scopes and
 -- entries there are.
-use Rattle.std.specs.Prelude.{◌≡◌, ◌↔◌, ◌<◌, ◌⊎◌, ℕ, List, Some, IsSome, length}
+use Rattle.std.specs.Prelude.{◌≡◌, ◌↔◌, ◌<◌, ◌⊎◌, ℕ, Bool, true, false, List, Some, IsSome, length}
 use Rattle.std.specs.List.{filter}
 use Rattle.std.specs.Option.{option_map}
 use Rattle.std.specs.FinMap as map
@@ -14,7 +14,6 @@ use Rattle.hir_items.specs.Signatures.{SignatureReaches, signature_nodes}
 use Rattle.hir_scope.specs.Chains.{Place, HasChain}
 use Rattle.hir_scope.specs.Counts.{body_scope_count, body_entry_count, signature_scope_count, signature_entry_count}
 use Rattle.hir_scope.specs.Paths.{chain}
-use Rattle.hir_scope.specs.PlacesUnder.{is_expr}
 use Rattle.hir_scope.specs.Scopes.{Scopes, entry_count}
 use Rattle.hir_scope.specs.Tops.{body_tops, signature_tops}
 
@@ -42,6 +41,11 @@ pub record AreSignatureScopes (c : Contents) (result : Scopes) : Type 0 where
   pub chains : ChainsAreFrames c.nodes (tops_of_signature c) result
   pub scopes : length result.scopes ≡ signature_scope_count c.nodes (length c.roots) (signature_nodes c)
   pub entries : entry_count result.scopes ≡ signature_entry_count c.nodes (signature_nodes c)
+
+abbrev pub is_expr : NodeId → Bool
+is_expr (node.Expr id) = true
+is_expr (node.Pat id) = false
+is_expr (node.TypeRef id) = false
 
 -- how many of these nodes are expressions
 abbrev pub expr_count : List NodeId → ℕ

@@ -5,14 +5,12 @@ pub mod Slots
 pub mod Chains
 pub mod Tops
 pub mod Resolution
+pub mod Meanings
 pub mod Counts
-pub mod PlacesUnder
-pub mod Pending
-pub mod Machine
 pub mod Scopes
 pub mod Paths
 pub mod Flat
 pub mod Built
-pub mod Begins
 pub mod Lookups
+pub mod walk
 pub mod same

@@ -1,15 +1,17 @@
 -- Resolution: the first entry of a chain, frame by frame from the innermost, whose name and hygiene both are those asked.
-use Rattle.std.specs.Prelude.{ℕ, List, [], ◌∷◌, Option, Some, None, Bool, ◌&&◌, if◌then◌else◌}
+use Rattle.std.specs.Prelude.{◌≡◌, ℕ, ◌<◌, List, [], ◌∷◌, ◌++◌, Option, Some, None, Bool, ◌&&◌, if◌then◌else◌, length}
 use Rattle.std.specs.List.{flat_map}
 use Rattle.hir_base.specs.declared.hygiene.SyntaxContext.{SyntaxContext}
 use Rattle.hir_base.specs.contracts.name.NamePartialEq.TheImpl as names
 use Rattle.hir_base.specs.contracts.hygiene.HygieneIdPartialEq.TheImpl as hygienes
 use Rattle.hir_scope.specs.declared.scope.ScopeEntry.{ScopeEntry}
 use Rattle.hir_scope.specs.Frames.{Frame, Chain}
+use Rattle.hir_scope.specs.Paths.{path, frame_at}
+use Rattle.hir_scope.specs.Scopes.{Scope}
 
 -- the entry has this name and this hygiene
 abbrev pub is_asked : List ℕ → SyntaxContext → ScopeEntry → Bool
-is_asked name hygiene entry = names.ghosts.eq entry.name name && hygienes.ghosts.eq entry.hygiene hygiene
+is_asked name hygiene entry = hygienes.ghosts.eq entry.hygiene hygiene && names.ghosts.eq entry.name name
 
 abbrev pub first_asked : List ℕ → SyntaxContext → List ScopeEntry → Option ScopeEntry
 first_asked name hygiene [] = None
@@ -21,3 +23,12 @@ entries_of chain = flat_map (λ (f : Frame). f.entries) chain
 
 abbrev pub resolve : Chain → List ℕ → SyntaxContext → Option ScopeEntry
 resolve chain name hygiene = first_asked name hygiene (entries_of chain)
+
+-- An entry is found in a scope on the way outward from another: it is the first of that scope with the name and the hygiene, and the
+-- scopes before that one have none.
+pub record IsFound (scopes : List Scope) (from : ℕ) (name : List ℕ) (hygiene : SyntaxContext) (scope : ℕ) (entry : ScopeEntry) : Type 0 where
+  pub there : scope < length scopes
+  pub before : List ℕ
+  pub on_the_way : path scopes (Some from) ≡ before ++ path scopes (Some scope)
+  pub none_before : resolve (flat_map (frame_at scopes) before) name hygiene ≡ None
+  pub is_first : resolve (frame_at scopes scope) name hygiene ≡ Some entry

@@ -7,7 +7,7 @@ ghost use Rattle.hir_node.specs.ChildCalls.{pat_of_call, child_pats};
 ghost use Rattle.hir_node.specs.declared.node_id.NodeId.TheVariants as node;
 ghost use Rattle.hir_expr_store.specs.PatLists.{child_pats_of, bindings_at};
 ghost use Rattle.hir_scope.specs.Frames.{entry_at, binds};
-ghost use Rattle.hir_scope.specs.Machine.{AreThere};
+ghost use Rattle.hir_scope.specs.walk.Machine.{AreThere};
 
 use crate::fault::ScopesFault;
 use crate::queue::Queue;

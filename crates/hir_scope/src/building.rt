@@ -3,9 +3,9 @@ ghost use Rattle.std.specs.Prelude.{◌≡◌, ◌+◌, ◌<◌, ◌≤◌, ◌�
 ghost use Rattle.hir_node.specs.declared.node_id.NodeId.{NodeId};
 ghost use Rattle.hir_faults.specs.Nodes.{Has};
 ghost use Rattle.hir_items.specs.Bodies.{body_nodes, tops};
-ghost use Rattle.hir_scope.specs.Begins.{for_none, root_entries, body_root, body_begins};
+ghost use Rattle.hir_scope.specs.walk.Begins.{for_none, root_entries, body_root, body_begins};
 ghost use Rattle.hir_scope.specs.Built.{AreBodyScopes, AreSignatureScopes, BodyIsTooLarge, SignatureIsTooLarge, expr_count};
-ghost use Rattle.hir_scope.specs.Machine.{machine};
+ghost use Rattle.hir_scope.specs.walk.Machine.{machine};
 
 use crate::expr_scopes::ExprScopes;
 use crate::fault::ScopesFault;

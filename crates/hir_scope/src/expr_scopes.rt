@@ -3,8 +3,10 @@ ghost use Rattle.std.specs.Prelude.{◌≡◌, ◌<◌, ◌≤◌, ◌+◌, ◌�
 ghost use Rattle.std.specs.FinMap as map;
 
 use crate::fault::ScopesFault;
+use crate::laws::a_chain_goes_outward;
 use crate::scope::{ScopeEntry, ScopeId, ScopeKind};
 use crate::scope_chain::ScopeChain;
+use crate::scope_ids::ScopeIds;
 use hir_base::{ArenaMap, BlockId, ExactEq, MOST_ITEMS, MacroDefId};
 use hir_node::{ExprId, ExprKind, LabelId};
 use std::alloc::Global;
@@ -59,8 +61,9 @@ impl Model for ExprScopes {
 const LIMIT: usize = 4_294_967_295;
 
 impl ExprScopes {
-    ghost use Rattle.hir_scope.specs.Scopes.{Scope, entry_count, block_of, label_of, macro_def_of, IsIn, ParentsStandEarlier};
+    ghost use Rattle.hir_scope.specs.Scopes.{Scope, entry_count, block_of, label_of, macro_def_of, IsBelow, IsIn, ParentsStandEarlier};
     ghost use Rattle.hir_scope.specs.Paths.{path};
+    ghost use Rattle.std.specs.List.{All, range_with_len};
 
     /// No scopes yet, with room for the scopes of this number of expressions, and for this number of entries and as many scopes.
     ///
@@ -162,10 +165,12 @@ impl ExprScopes {
         }
     }
 
-    /// The parent of a scope, where it has one.
-    pub(crate) fn parent(&self, scope: ScopeId) -> Option<ScopeId>
+    /// The scope around a scope, where it has one. It was made before it. The scope has to be there: `has_scope` tests it.
+    pub fn parent(&self, scope: ScopeId) -> Option<ScopeId>
         requires { scope < length self.now.scopes }
         ensures is { option_map (λ s. s.parent) (slice_get self.now.scopes scope) ≡ Some result }
+        ensures there { IsIn self.now.scopes result }
+        ensures earlier { IsBelow scope result }
         ensures parents { ParentsStandEarlier self.now.scopes }
     {
         self.scopes[scope.into_raw() as usize].parent
@@ -264,11 +269,22 @@ impl ExprScopes {
         }
     }
 
+    /// The scopes, in the order in which they were made.
+    pub fn scopes(&self) -> ScopeIds
+        ensures all { result ≡ range_with_len 0 (length self.now.scopes) }
+        ensures there { All (λ scope. scope < length self.now.scopes) result }
+    {
+        ScopeIds::below(self.scope_count() as u32)
+    }
+
     /// A scope and those around it, innermost first; no scope for `None`. The scope has to be there: `has_scope` tests it.
     pub fn scope_chain(&self, scope: Option<ScopeId>) -> ScopeChain<'_>
         requires { IsIn self.now.scopes scope }
-        ensures { result ≡ path self.now.scopes scope }
+        ensures is { result ≡ path self.now.scopes scope }
+        ensures there { All (λ around. around < length self.now.scopes) result }
     {
+        self.parents_stand_earlier();
+        a_chain_goes_outward();
         ScopeChain::new(self, scope)
     }
 }

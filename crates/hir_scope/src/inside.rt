@@ -5,7 +5,7 @@ ghost use Rattle.std.specs.Prelude.{◌≡◌, [], ◌∷◌, ◌++◌, Err, IsT
 ghost use Rattle.hir_node.specs.ChildCalls.{e, opt};
 ghost use Rattle.hir_scope.specs.Forms.{expr_form, pat_form, type_form};
 ghost use Rattle.hir_scope.specs.Forms as form;
-ghost use Rattle.hir_scope.specs.Pending.{tasks_of, closure_calls, form_tasks, leave};
+ghost use Rattle.hir_scope.specs.walk.Pending.{tasks_of, closure_calls, form_tasks, leave};
 
 use crate::fault::ScopesFault;
 use crate::pushes::{

@@ -14,6 +14,7 @@ mod queue;
 mod resolve;
 mod scope;
 mod scope_chain;
+mod scope_ids;
 mod stack;
 mod start;
 mod tasks;
@@ -22,5 +23,7 @@ mod walk;
 
 pub use expr_scopes::{ExprScopes, ScopeData};
 pub use fault::ScopesFault;
+pub use resolve::asked_name;
 pub use scope::{ScopeEntry, ScopeId, ScopeKind, ScopeMarker};
 pub use scope_chain::ScopeChain;
+pub use scope_ids::ScopeIds;

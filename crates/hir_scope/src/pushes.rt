@@ -6,7 +6,7 @@ ghost use Rattle.std.specs.List.{flat_map};
 ghost use Rattle.hir_node.specs.ChildCalls.{e, p, t, opt};
 ghost use Rattle.hir_scope.specs.Forms.{expr_form, type_form};
 ghost use Rattle.hir_scope.specs.Forms as form;
-ghost use Rattle.hir_scope.specs.Pending.{tasks_of, item_tasks, statement_tasks, arm_task, form_tasks, leave};
+ghost use Rattle.hir_scope.specs.walk.Pending.{tasks_of, item_tasks, statement_tasks, arm_task, form_tasks, leave};
 
 use crate::fault::ScopesFault;
 use crate::stack::Stack;

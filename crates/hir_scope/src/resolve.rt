@@ -1,22 +1,42 @@
-//! What a name means in a scope.
-ghost use Rattle.std.specs.Prelude.{◌≡◌, ◌<◌, length, Some};
+//! What a name means in a scope, and which binding a path means.
+ghost use Rattle.std.specs.Prelude.{◌≡◌, ◌<◌, length, option_map, IfSome, None, Some};
 ghost use Rattle.std.specs.Option.{option_copied};
-ghost use Rattle.hir_scope.specs.Resolution.{first_asked};
+ghost use Rattle.hir_scope.specs.Paths.{chain};
+ghost use Rattle.hir_scope.specs.Resolution.{IsFound, first_asked, resolve};
+ghost use Rattle.hir_scope.specs.Meanings.{asked_name, binding_at, meant, target_binding_at};
 
 use crate::expr_scopes::ExprScopes;
 use crate::scope::{ScopeEntry, ScopeId};
-use hir_base::{HygieneId, Name};
+use hir_base::{HygieneId, Name, PathKind};
+use hir_expr_store::ExpressionStore;
+use hir_node::{BindingId, Expr, ExprId, Pat, PatId, Path};
+
+/// The name by which a path may mean a local variable: that of a path of one name without arguments, and `self` for the path `self`.
+pub fn asked_name(path: &Path) -> Option<&str>
+    ensures { option_map (λ name. name.now) result ≡ asked_name path.now }
+{
+    let Path::BarePath(path) = path else {
+        return None;
+    };
+    match (path.kind(), path.segments()) {
+        (PathKind::Plain, [name]) => Some(name.as_str()),
+        (PathKind::Super(0), []) => Some("self"),
+        (PathKind::Plain | PathKind::Super(_), _) => None,
+        (PathKind::Crate | PathKind::Abs | PathKind::DollarCrate(_), _) => None,
+    }
+}
 
 /// The first of these entries with this name and this hygiene.
+// The hygiene first: it is compared in less time.
 fn first_asked<'a>(
     entries: &'a [ScopeEntry],
-    name: &Name,
+    name: &str,
     hygiene: HygieneId,
 ) -> Option<&'a ScopeEntry>
     ensures { option_copied result ≡ first_asked name.now hygiene entries.now }
 {
     for entry in entries {
-        if *entry.name() == *name && entry.hygiene() == hygiene {
+        if entry.hygiene() == hygiene && entry.name().as_str() == name {
             return Some(entry);
         }
     }
@@ -24,13 +44,32 @@ fn first_asked<'a>(
 }
 
 impl ExprScopes {
-    ghost use Rattle.hir_scope.specs.Paths.{chain};
-    ghost use Rattle.hir_scope.specs.Resolution.{resolve};
-
-    /// The first entry with this name and this hygiene, scope by scope from this one outward. The scope has to be there: `has_scope`
-    /// tests it.
+    /// The first entry with this name and this hygiene, scope by scope from this one outward, and the scope that brings it in. The
+    /// scope that is asked has to be there: `has_scope` tests it.
     ///
     /// Hygienes are compared as they are: definitions of macros are not consulted.
+    pub fn find_name_in_scope(
+        &self,
+        scope: ScopeId,
+        name: &str,
+        hygiene: HygieneId,
+    ) -> Option<(ScopeId, &ScopeEntry)>
+        requires { scope < length self.now.scopes }
+        ensures found { IfSome result (λ found. IsFound self.now.scopes scope name.now hygiene found.0 found.1.now) }
+        ensures none { result ≡ None → resolve (chain self.now.scopes (Some scope)) name.now hygiene ≡ None }
+    {
+        let mut current = Some(scope);
+        while let Some(inner) = current {
+            let outer = self.parent(inner);
+            if let Some(entry) = first_asked(self.entries(inner), name, hygiene) {
+                return Some((inner, entry));
+            }
+            current = outer;
+        }
+        None
+    }
+
+    /// The entry that `find_name_in_scope` finds.
     pub fn resolve_name_in_scope(
         &self,
         scope: ScopeId,
@@ -40,14 +79,62 @@ impl ExprScopes {
         requires { scope < length self.now.scopes }
         ensures { option_copied result ≡ resolve (chain self.now.scopes (Some scope)) name.now hygiene }
     {
-        let mut current = Some(scope);
-        while let Some(inner) = current {
-            let outer = self.parent(inner);
-            if let Some(entry) = first_asked(self.entries(inner), name, hygiene) {
-                return Some(entry);
-            }
-            current = outer;
+        self.parents_stand_earlier();
+        let (_, entry) = self.find_name_in_scope(scope, name.as_str(), hygiene)?;
+        Some(entry)
+    }
+
+    /// The binding of the store that a path of this hygiene means at an expression.
+    fn meaning_of(
+        &self,
+        store: &ExpressionStore,
+        at: ExprId,
+        path: &Path,
+        hygiene: HygieneId,
+    ) -> Option<BindingId>
+        ensures is { result ≡ meant store.now self.now at hygiene (asked_name path.now) }
+        ensures there { IfSome result (λ id. id < length store.now.nodes.bindings) }
+    {
+        self.parents_stand_earlier();
+        let name = asked_name(path)?;
+        let scope = self.scope_for(at)?;
+        let (_, entry) = self.find_name_in_scope(scope, name, hygiene)?;
+        let binding = entry.binding();
+        store.has_binding(binding).then_some(binding)
+    }
+
+    /// The binding that an expression means: where it is there, has a scope, and is a path of one name or `self` that resolves in it to
+    /// a binding of the store. In the scopes of the store's own body, or of its signature, each entry's binding is one of the store.
+    pub fn binding_at(&self, store: &ExpressionStore, expr: ExprId) -> Option<BindingId>
+        ensures is { result ≡ binding_at store.now self.now expr }
+        ensures there { IfSome result (λ id. id < length store.now.nodes.bindings) }
+    {
+        if !store.has_expr(expr) {
+            return None;
         }
-        None
+        let Expr::Path(path) = &store[expr] else {
+            return None;
+        };
+        self.meaning_of(store, expr, path, store.expr_path_hygiene(expr))
+    }
+
+    /// The binding that a pattern in the target of an assignment means, as `binding_at` answers for an expression. It is looked up where
+    /// the assignment is, with the hygiene of the pattern.
+    pub fn target_binding_at(
+        &self,
+        store: &ExpressionStore,
+        assignment: ExprId,
+        pat: PatId,
+    ) -> Option<BindingId>
+        ensures is { result ≡ target_binding_at store.now self.now assignment pat }
+        ensures there { IfSome result (λ id. id < length store.now.nodes.bindings) }
+    {
+        if !store.has_pat(pat) {
+            return None;
+        }
+        let Pat::Path(path) = &store[pat] else {
+            return None;
+        };
+        self.meaning_of(store, assignment, path, store.pat_path_hygiene(pat))
     }
 }

@@ -6,9 +6,9 @@ ghost use Rattle.hir_faults.specs.Nodes.{Has};
 ghost use Rattle.hir_faults.specs.Tested.{all_of};
 ghost use Rattle.hir_items.specs.Bodies.{AreBelow, formals_of};
 ghost use Rattle.hir_items.specs.Signatures.{root_tops};
-ghost use Rattle.hir_scope.specs.Begins.{IsSound, at_first, for_none, formal_tasks, signature_begins};
+ghost use Rattle.hir_scope.specs.walk.Begins.{IsSound, at_first, for_none, formal_tasks, signature_begins};
 ghost use Rattle.hir_scope.specs.Frames.{entry_at, binds};
-ghost use Rattle.hir_scope.specs.Machine.{machine};
+ghost use Rattle.hir_scope.specs.walk.Machine.{machine};
 
 use crate::binder::Binder;
 use crate::expr_scopes::ExprScopes;

@@ -3,7 +3,7 @@
 
 ghost use Rattle.std.specs.Prelude.{◌≡◌, [], ◌∷◌, ◌++◌, false, Err, OnOk, OnErr};
 ghost use Rattle.hir_node.specs.ChildCalls.{expr_calls, pat_calls, type_calls};
-ghost use Rattle.hir_scope.specs.Pending.{task_of, tasks_of};
+ghost use Rattle.hir_scope.specs.walk.Pending.{task_of, tasks_of};
 
 use crate::fault::ScopesFault;
 use crate::queue::Queue;

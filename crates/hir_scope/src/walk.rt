@@ -8,10 +8,10 @@ ghost use Rattle.hir_scope.specs.Frames.{frame, of_kind};
 ghost use Rattle.hir_scope.specs.Forms.{form_of, expr_form};
 ghost use Rattle.hir_scope.specs.Slots.{own_frame, block_constants, loop_kind};
 ghost use Rattle.hir_scope.specs.Chains.{within_own};
-ghost use Rattle.hir_scope.specs.PlacesUnder.{place};
-ghost use Rattle.hir_scope.specs.Pending.{guarded_task, opens_here, opens_constant};
+ghost use Rattle.hir_scope.specs.walk.PlacesUnder.{place};
+ghost use Rattle.hir_scope.specs.walk.Pending.{guarded_task, opens_here, opens_constant};
 ghost use Rattle.hir_scope.specs.Scopes.{frame_of};
-ghost use Rattle.hir_scope.specs.Machine.{machine, state, here_of, constant_of, future_of, AreThere, IsReady, Over, Exceeds, HasFrames, Opened, Moves, Goes, Gone, scope_within};
+ghost use Rattle.hir_scope.specs.walk.Machine.{machine, state, here_of, constant_of, future_of, AreThere, IsReady, Over, Exceeds, HasFrames, Opened, Moves, Goes, Gone, scope_within};
 
 use crate::binder::Binder;
 use crate::expr_scopes::ExprScopes;

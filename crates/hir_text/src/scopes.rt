@@ -140,11 +140,11 @@ fn unreached(answer: &mut Answer) -> Result<(), AllocError> {
 }
 
 /// Writes the names of a scope's entries.
-fn write_names(scopes: &ExprScopes, scope: ScopeId, answer: &mut Answer) -> Result<(), AllocError> {
-    if scopes.has_scope(scope) {
-        for entry in scopes.entries(scope) {
-            answer.name(entry.name().as_str())?;
-        }
+fn write_names(scopes: &ExprScopes, scope: ScopeId, answer: &mut Answer) -> Result<(), AllocError>
+    requires { scope < length scopes.now.scopes }
+{
+    for entry in scopes.entries(scope) {
+        answer.name(entry.name().as_str())?;
     }
     Ok(())
 }
@@ -215,9 +215,7 @@ fn write_frames(scopes: &ExprScopes, expr: ExprId, answer: &mut Answer) -> Resul
             answer.word("/")?;
         }
         is_first = false;
-        if scopes.has_scope(around) {
-            write_scope(scopes, around, answer)?;
-        }
+        write_scope(scopes, around, answer)?;
     }
     Ok(())
 }

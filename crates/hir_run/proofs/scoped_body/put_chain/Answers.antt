@@ -16,6 +16,6 @@ loop-around-preserved g c =
 pub returns : goal.returns
 returns g c =
     let around : List ℕ = path c.args.scopes.now.scopes (Some c.args.scope) in
-    let same : c.into_iter-around-iterator.result ≡ around = grind (arith, c.into_iter-around-iterator.ensures.into_iter_gives, c.scope_chain-around-items.ensures) in
+    let same : c.into_iter-around-iterator.result ≡ around = grind (arith, c.into_iter-around-iterator.ensures.into_iter_gives, c.scope_chain-around-items.ensures.is) in
     let end = YieldsList-end (YieldsList-from_first (λ x. x) (λ rest. rest) {s = c.into_iter-around-iterator.result} around same) c.loop-around.yielded c.loop-around.around-iterator c.loop-around.yielded_by c.next.result c.next.new.self c.in-None.is c.next.ensures.steps in
     rw (sym (map-id c.loop-around.yielded) ∙ end.0) at c.loop-around.invariant

@@ -1,5 +1,5 @@
 use Rattle.std.proofs.Common.{◌≡◌, ◌≤◌, ◌++◌, drop, map, length}
-use Rattle.hir_scope.specs.Pending.{arm_task}
+use Rattle.hir_scope.specs.walk.Pending.{arm_task}
 use Rattle.hir_scope.proofs.pushes.push_arms.Given as goal
 
 abbrev pub invariant-loop-rest : goal.invariant-loop-rest

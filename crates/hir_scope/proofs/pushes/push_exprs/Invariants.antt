@@ -1,7 +1,7 @@
 use Rattle.std.proofs.Common.{◌≡◌, ◌≤◌, ◌++◌, drop, length}
 use Rattle.std.specs.List.{flat_map}
 use Rattle.hir_node.specs.ChildCalls.{e}
-use Rattle.hir_scope.specs.Pending.{tasks_of}
+use Rattle.hir_scope.specs.walk.Pending.{tasks_of}
 use Rattle.hir_scope.proofs.pushes.push_exprs.Given as goal
 
 abbrev pub invariant-loop-rest : goal.invariant-loop-rest

@@ -1,6 +1,6 @@
 use Rattle.std.proofs.Common.{◌≡◌, ◌≤◌, ◌++◌, drop, length}
 use Rattle.std.specs.List.{flat_map}
-use Rattle.hir_scope.specs.Pending.{statement_tasks}
+use Rattle.hir_scope.specs.walk.Pending.{statement_tasks}
 use Rattle.hir_scope.proofs.pushes.push_statements.Given as goal
 
 abbrev pub invariant-loop-rest : goal.invariant-loop-rest

@@ -3,7 +3,7 @@ use Rattle.std.specs.List.{flat_map}
 use Rattle.hir_node.specs.declared.node_id.NodeId.TheVariants as node
 use Rattle.hir_expr_store.specs.PatLists.{child_pats_of, pats}
 use Rattle.hir_scope.specs.Frames.{binds}
-use Rattle.hir_scope.specs.Machine.{AreThere}
+use Rattle.hir_scope.specs.walk.Machine.{AreThere}
 use Rattle.hir_scope.proofs.BinderLemmas.{children_there, asked_one, fewer_left}
 use Rattle.hir_scope.proofs.binder.Binder.add_left.Goals as goal
 

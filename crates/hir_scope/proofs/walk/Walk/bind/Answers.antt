@@ -2,7 +2,7 @@ use Rattle.std.proofs.Common.{rules, [], ◌∷◌, ◌++◌, map}
 use Rattle.hir_scope.specs.declared.tasks.Task.TheVariants as task
 use Rattle.hir_scope.specs.Frames.{frame}
 use Rattle.hir_scope.specs.Scopes.{frame_of}
-use Rattle.hir_scope.specs.Machine.{state, Over}
+use Rattle.hir_scope.specs.walk.Machine.{state, Over}
 use Rattle.hir_scope.proofs.MovingLemmas.{over_exceeds}
 use Rattle.hir_scope.proofs.DoneLemmas.{bound_moves, bound_frames}
 use Rattle.hir_scope.proofs.walk.Walk.bind.Goals as goal

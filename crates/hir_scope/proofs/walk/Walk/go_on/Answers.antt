@@ -1,7 +1,7 @@
 use Rattle.std.proofs.Common.{◌∷◌, subst}
 use Rattle.hir_scope.specs.declared.tasks.Task.{Task}
 use Rattle.hir_scope.specs.declared.tasks.Around.{Around}
-use Rattle.hir_scope.specs.Machine.{machine, state, IsReady}
+use Rattle.hir_scope.specs.walk.Machine.{machine, state, IsReady}
 use Rattle.hir_scope.proofs.DoneLemmas.{leave_moves}
 use Rattle.hir_scope.proofs.GoneLemmas.{ok_map, ok_both, goes_task, goes_given}
 use Rattle.hir_scope.proofs.walk.Walk.go_on.Goals as goal

@@ -3,9 +3,9 @@ use Rattle.hir_node.specs.ChildCalls.{e, opt}
 use Rattle.hir_scope.specs.declared.tasks.Task.{Task}
 use Rattle.hir_scope.specs.declared.tasks.Task.TheVariants as task
 use Rattle.hir_scope.specs.Frames.{frame}
-use Rattle.hir_scope.specs.Pending.{guarded_task, tasks_of}
+use Rattle.hir_scope.specs.walk.Pending.{guarded_task, tasks_of}
 use Rattle.hir_scope.specs.Scopes.{frame_of}
-use Rattle.hir_scope.specs.Machine.{state, Over}
+use Rattle.hir_scope.specs.walk.Machine.{state, Over}
 use Rattle.hir_scope.proofs.MovingLemmas.{over_exceeds}
 use Rattle.hir_scope.proofs.DoneLemmas.{arm_moves, arm_frames}
 use Rattle.hir_scope.proofs.walk.Walk.meet_arm.Goals as goal

@@ -4,9 +4,9 @@ use Rattle.hir_node.specs.declared.node_id.NodeId.TheVariants as node
 use Rattle.hir_scope.specs.declared.tasks.Task.TheVariants as task
 use Rattle.hir_scope.specs.Chains.{within_own}
 use Rattle.hir_scope.specs.Forms.{form_at, form_of, expr_form}
-use Rattle.hir_scope.specs.Pending.{form_tasks, opens_here, opens_constant}
+use Rattle.hir_scope.specs.walk.Pending.{form_tasks, opens_here, opens_constant}
 use Rattle.hir_scope.specs.Scopes.{frame_of}
-use Rattle.hir_scope.specs.Machine.{state, here_of, Over, HasFrames, scope_within}
+use Rattle.hir_scope.specs.walk.Machine.{state, here_of, Over, HasFrames, scope_within}
 use Rattle.hir_scope.proofs.GrownLemmas.{frames_grown}
 use Rattle.hir_scope.proofs.MovingLemmas.{own_frames, over_exceeds}
 use Rattle.hir_scope.proofs.DoneLemmas.{expr_moves, empty_moves, met_frames}

@@ -3,7 +3,7 @@ use Rattle.hir_scope.specs.declared.scope.ScopeKind.TheVariants as kind
 use Rattle.hir_scope.specs.declared.tasks.Task.TheVariants as task
 use Rattle.hir_scope.specs.Frames.{of_kind}
 use Rattle.hir_scope.specs.Scopes.{frame_of}
-use Rattle.hir_scope.specs.Machine.{state, Over}
+use Rattle.hir_scope.specs.walk.Machine.{state, Over}
 use Rattle.hir_scope.proofs.MovingLemmas.{over_exceeds}
 use Rattle.hir_scope.proofs.DoneLemmas.{macro_moves, macro_frames}
 use Rattle.hir_scope.proofs.walk.Walk.meet_macro.Goals as goal

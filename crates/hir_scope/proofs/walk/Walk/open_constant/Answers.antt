@@ -1,7 +1,7 @@
 use Rattle.std.proofs.Common.{rules, List, [], ◌∷◌, ◌++◌, map, ◌<◌, ◌+◌, ◌⊎◌, length, refl, ap, ◌∙◌, subst}
 use Rattle.hir_scope.specs.declared.scope.ScopeEntry.{ScopeEntry}
 use Rattle.hir_scope.specs.Scopes.{Scopes, entry_count, frame_of}
-use Rattle.hir_scope.specs.Machine.{state, Over}
+use Rattle.hir_scope.specs.walk.Machine.{state, Over}
 use Rattle.hir_scope.proofs.MovingLemmas.{child, opened_constant, over_new}
 use Rattle.hir_scope.proofs.walk.Walk.open_constant.Goals as goal
 

@@ -1,6 +1,6 @@
 use Rattle.std.proofs.Common.{rules, ◌<◌, ◌+◌, ◌⊎◌, length, refl, ap}
 use Rattle.hir_scope.specs.Scopes.{Scopes, entry_count}
-use Rattle.hir_scope.specs.Machine.{state}
+use Rattle.hir_scope.specs.walk.Machine.{state}
 use Rattle.hir_scope.proofs.MovingLemmas.{opened_here, over_new}
 use Rattle.hir_scope.proofs.walk.Walk.open_here.Goals as goal
 

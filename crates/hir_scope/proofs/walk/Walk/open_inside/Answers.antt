@@ -1,7 +1,7 @@
 use Rattle.std.proofs.Common.{ℕ, List, map, ap, sym, ◌∙◌, subst}
 use Rattle.hir_node.specs.declared.node_id.NodeId.TheVariants as node
 use Rattle.hir_scope.specs.Forms.{form_at, expr_form}
-use Rattle.hir_scope.specs.Machine.{AreThere}
+use Rattle.hir_scope.specs.walk.Machine.{AreThere}
 use Rattle.hir_scope.proofs.ReadyLemmas.{closure_pats, target_pat}
 use Rattle.hir_scope.proofs.walk.Walk.open_inside.Goals as goal
 

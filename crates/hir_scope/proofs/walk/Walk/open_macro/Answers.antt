@@ -2,7 +2,7 @@ use Rattle.std.proofs.Common.{rules, [], ◌∷◌, ◌++◌, map}
 use Rattle.hir_scope.specs.declared.scope.ScopeKind.TheVariants as kind
 use Rattle.hir_scope.specs.Frames.{of_kind}
 use Rattle.hir_scope.specs.Scopes.{frame_of}
-use Rattle.hir_scope.specs.Machine.{state, Over}
+use Rattle.hir_scope.specs.walk.Machine.{state, Over}
 use Rattle.hir_scope.proofs.MovingLemmas.{opened_then, over_after, over_more}
 use Rattle.hir_scope.proofs.walk.Walk.open_macro.Goals as goal
 

@@ -3,7 +3,7 @@ use Rattle.std.proofs.lemmas.List.{length-map}
 use Rattle.hir_base.specs.declared.arena.TheConstants.{MOST_ITEMS}
 use Rattle.hir_scope.specs.declared.tasks.Task.{Task}
 use Rattle.hir_scope.specs.declared.tasks.Task.TheVariants as task
-use Rattle.hir_scope.specs.Machine.{machine}
+use Rattle.hir_scope.specs.walk.Machine.{machine}
 use Rattle.hir_scope.specs.Scopes.{entry_count}
 use Rattle.hir_scope.proofs.BeginLemmas.{one_root_more, roots_full}
 use Rattle.hir_scope.proofs.walk.Walk.over_roots.Goals as goal

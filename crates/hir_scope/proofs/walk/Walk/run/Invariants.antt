@@ -1,4 +1,4 @@
-use Rattle.hir_scope.specs.Machine.{state, Gone, turns_left}
+use Rattle.hir_scope.specs.walk.Machine.{state, Gone, turns_left}
 use Rattle.hir_scope.proofs.walk.Walk.run.Given as goal
 
 abbrev pub invariant-loop-task : goal.invariant-loop-task

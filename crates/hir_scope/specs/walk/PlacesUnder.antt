@@ -1,10 +1,10 @@
 -- What is under a node in its place, as a list.
-use Rattle.std.specs.Prelude.{List, [], ◌∷◌, Bool, true, false}
+use Rattle.std.specs.Prelude.{List, [], ◌∷◌}
 use Rattle.std.specs.List.{flat_map, filter}
 use Rattle.hir_node.specs.declared.node_id.NodeId.{NodeId}
-use Rattle.hir_node.specs.declared.node_id.NodeId.TheVariants as node
 use Rattle.hir_faults.specs.Nodes.{Nodes}
 use Rattle.hir_faults.specs.Down.{value}
+use Rattle.hir_scope.specs.Built.{is_expr}
 use Rattle.hir_scope.specs.Frames.{Chain}
 use Rattle.hir_scope.specs.Chains.{Place, places_of_kids}
 
@@ -19,11 +19,6 @@ under_step s self n here constant =
 -- the places under a place, itself first
 unfoldable pub places_under : Nodes → Place → List Place
 places_under s at = value s (under_step s) (λ here constant. []) at.node at.here at.constant
-
-abbrev pub is_expr : NodeId → Bool
-is_expr (node.Expr id) = true
-is_expr (node.Pat id) = false
-is_expr (node.TypeRef id) = false
 
 -- the expressions among some places and those under them
 unfoldable pub exprs_under : Nodes → List Place → List Place

@@ -20,7 +20,7 @@ use Rattle.hir_scope.specs.Forms as form
 use Rattle.hir_scope.specs.Leak.{leak}
 use Rattle.hir_scope.specs.Slots.{own_frame, block_constants, arm_slots, loop_kind}
 use Rattle.hir_scope.specs.Chains.{Place, place_kid}
-use Rattle.hir_scope.specs.PlacesUnder.{place, exprs_under}
+use Rattle.hir_scope.specs.walk.PlacesUnder.{place, exprs_under}
 
 -- the task of a call: a lifetime has none
 abbrev pub task_of : Call → List Task

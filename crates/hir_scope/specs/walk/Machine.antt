@@ -15,8 +15,8 @@ use Rattle.hir_scope.specs.Frames.{Frame, Chain}
 use Rattle.hir_scope.specs.Forms.{ScopingForm, form_of}
 use Rattle.hir_scope.specs.Forms as form
 use Rattle.hir_scope.specs.Chains.{Place, within_own}
-use Rattle.hir_scope.specs.PlacesUnder.{place}
-use Rattle.hir_scope.specs.Pending.{form_tasks, opens_here, opens_constant, future, task_kids, task_frames}
+use Rattle.hir_scope.specs.walk.PlacesUnder.{place}
+use Rattle.hir_scope.specs.walk.Pending.{form_tasks, opens_here, opens_constant, future, task_kids, task_frames}
 use Rattle.hir_scope.specs.Scopes.{Scope, Scopes, frame_of}
 use Rattle.hir_scope.specs.Paths.{chain}
 

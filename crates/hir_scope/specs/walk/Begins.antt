@@ -21,8 +21,8 @@ use Rattle.hir_scope.specs.declared.tasks.Task.{Task}
 use Rattle.hir_scope.specs.declared.tasks.Task.TheVariants as task
 use Rattle.hir_scope.specs.Scopes.{Scope, Scopes}
 use Rattle.hir_scope.specs.Tops.{root_frame}
-use Rattle.hir_scope.specs.Pending.{tasks_of}
-use Rattle.hir_scope.specs.Machine.{Machine}
+use Rattle.hir_scope.specs.walk.Pending.{tasks_of}
+use Rattle.hir_scope.specs.walk.Machine.{Machine}
 
 -- what the laws say of nodes without a fault, where a walk over them needs it
 pub record IsSound (s : Nodes) : Type 0 where

@@ -1,0 +1,19 @@
+use Rattle.std.proofs.Common.{◌≡◌, sym, subst, Option, Some, None, ℕ}
+use Rattle.hir_scope.specs.Resolution.{first_asked}
+use Rattle.hir_scope.proofs.ResolveLemmas.{OnTheWay, set_out, go_outward, found_here, found_nowhere}
+use Rattle.hir_scope.proofs.expr_scopes.ExprScopes.find_name_in_scope.Goals as goal
+
+pub loop-current-init : goal.loop-current-init
+loop-current-init c = set_out c.args.self.now.scopes c.args.scope c.args.name.now c.args.hygiene c.requires
+
+pub returns-in-Some-first_asked-clause-found : goal.returns-in-Some-first_asked-clause-found
+returns-in-Some-first_asked-clause-found c =
+    let way = OnTheWay c.args.self.now.scopes c.args.scope c.args.name.now c.args.hygiene in
+    found_here c.args.self.now.scopes c.args.scope c.args.name.now c.args.hygiene c.in-Some.inner (subst way c.in-Some.is c.loop-current.invariant) c.entries.result.now c.entries.ensures
+    c.in-Some-first_asked.entry.now (sym c.in-Some-first_asked.ensures)
+
+pub loop-current-preserved : goal.loop-current-preserved
+loop-current-preserved c =
+    let way = OnTheWay c.args.self.now.scopes c.args.scope c.args.name.now c.args.hygiene in
+    go_outward c.args.self.now.scopes c.args.scope c.args.name.now c.args.hygiene c.in-Some.inner (subst way c.in-Some.is c.loop-current.invariant) c.entries.result.now c.entries.ensures
+    c.parent-outer.result c.parent-outer.ensures.parents c.parent-outer.ensures.is (sym c.in_default-first_asked.ensures)

@@ -1,0 +1,59 @@
+-- What a path means: the binding of the store that the name it asks for resolves to.
+use Rattle.std.specs.Prelude.{ℕ, zero, List, [], ◌∷◌, Option, Some, None, codes, if◌then◌else◌, length, nat_lt, slice_get}
+use Rattle.std.specs.FinMap as map
+use Rattle.hir_base.specs.declared.hygiene.SyntaxContext.{SyntaxContext}
+use Rattle.hir_base.specs.declared.mod_path.PathKind.{PathKind}
+use Rattle.hir_base.specs.declared.mod_path.PathKind.TheVariants.{Plain, Super}
+use Rattle.hir_path.specs.declared.ids.ExprOrPatId.TheVariants.{ExprId, PatId}
+use Rattle.hir_path.specs.declared.path.Path.{Path}
+use Rattle.hir_path.specs.declared.path.Path.TheVariants as path
+use Rattle.hir_node.specs.declared.expr.Expr.{Expr}
+use Rattle.hir_node.specs.declared.expr.Expr.TheVariants as expr
+use Rattle.hir_node.specs.declared.pat.Pat.{Pat}
+use Rattle.hir_node.specs.declared.pat.Pat.TheVariants as pat
+use Rattle.hir_expr_store.specs.Contents.{Contents}
+use Rattle.hir_expr_store.specs.SideTables.{hygiene_of}
+use Rattle.hir_scope.specs.declared.scope.ScopeEntry.{ScopeEntry}
+use Rattle.hir_scope.specs.Paths.{chain}
+use Rattle.hir_scope.specs.Resolution.{resolve}
+use Rattle.hir_scope.specs.Scopes.{Scopes}
+
+-- A path that may mean a local variable asks for a name: one segment alone for itself, and `self` for `self`.
+abbrev pub name_asked : PathKind → List (List ℕ) → Option (List ℕ)
+name_asked Plain (name ∷ []) = Some name
+name_asked (Super zero) [] = Some (codes "self")
+name_asked kind names = None
+
+abbrev pub asked_name : Path → Option (List ℕ)
+asked_name (path.BarePath p) = name_asked p.kind p.segments
+asked_name (path.Normal n) = None
+asked_name (path.LangItem target name) = None
+
+-- the binding of an entry, where it is one of the store
+abbrev pub binding_of : Contents → Option ScopeEntry → Option ℕ
+binding_of c None = None
+binding_of c (Some entry) = if nat_lt entry.binding (length c.nodes.bindings) then Some entry.binding else None
+
+-- the binding that a name means at an expression, where a name is asked for
+abbrev pub meant : Contents → Scopes → ℕ → SyntaxContext → Option (List ℕ) → Option ℕ
+meant c scopes expr hygiene None = None
+meant c scopes expr hygiene (Some name) =
+    binding_of c (resolve (chain scopes.scopes (map.get scopes.scope_by_expr expr)) name hygiene)
+
+-- an expression that is a path asks where it is
+abbrev pub meant_by_expr : Contents → Scopes → ℕ → Option Expr → Option ℕ
+meant_by_expr c scopes id (Some (expr.Path path)) =
+    meant c scopes id (hygiene_of c.side_tables (ExprId id)) (asked_name path)
+meant_by_expr c scopes id found = None
+
+abbrev pub binding_at : Contents → Scopes → ℕ → Option ℕ
+binding_at c scopes id = meant_by_expr c scopes id (slice_get c.nodes.exprs id)
+
+-- a pattern that is a path, in the target of an assignment, asks where the assignment is
+abbrev pub meant_by_pat : Contents → Scopes → ℕ → ℕ → Option Pat → Option ℕ
+meant_by_pat c scopes assignment id (Some (pat.Path path)) =
+    meant c scopes assignment (hygiene_of c.side_tables (PatId id)) (asked_name path)
+meant_by_pat c scopes assignment id found = None
+
+abbrev pub target_binding_at : Contents → Scopes → ℕ → ℕ → Option ℕ
+target_binding_at c scopes assignment id = meant_by_pat c scopes assignment id (slice_get c.nodes.pats id)
