@@ -138,13 +138,6 @@ module _ (c : Contents) (s : Scopes) (expr : ℕ) (h : SyntaxContext) (asked : O
     means_nowhere e = at_name ∙ ap (λ (o : Option ℕ). binding_of c (resolve (chain s.scopes o) n h)) e
 
     module _ (from : ℕ) (at : map.get s.scope_by_expr expr ≡ Some from) where
-      in_scope : (o : Option ScopeEntry) → resolve (chain s.scopes (Some from)) n h ≡ o → meant c s expr h asked ≡ binding_of c o
-      in_scope o e = at_name ∙ (ap (λ (o : Option ℕ). binding_of c (resolve (chain s.scopes o) n h)) at ∙ ap (binding_of c) e)
-
-      -- nothing is found
-      pub means_none : resolve (chain s.scopes (Some from)) n h ≡ None → meant c s expr h asked ≡ None
-      means_none e = in_scope None e
-
-      -- an entry is found
-      pub means_found : ParentsStandEarlier s.scopes → (scope : ℕ) (entry : ScopeEntry) → IsFound s.scopes from n h scope entry → meant c s expr h asked ≡ binding_of c (Some entry)
-      means_found earlier scope entry f = in_scope (Some entry) (found_resolves s.scopes earlier from n h scope entry f)
+      -- what is found in that scope is meant, or nothing
+      pub means_found : (o : Option ScopeEntry) → resolve (chain s.scopes (Some from)) n h ≡ o → meant c s expr h asked ≡ binding_of c o
+      means_found o e = at_name ∙ (ap (λ (o : Option ℕ). binding_of c (resolve (chain s.scopes o) n h)) at ∙ ap (binding_of c) e)

@@ -69,7 +69,25 @@ impl ExprScopes {
         None
     }
 
-    /// The entry that `find_name_in_scope` finds.
+    /// The first entry with this name and this hygiene, scope by scope from this one outward.
+    fn entry_in_scope(
+        &self,
+        scope: ScopeId,
+        name: &str,
+        hygiene: HygieneId,
+    ) -> Option<&ScopeEntry>
+        requires { scope < length self.now.scopes }
+        ensures { option_copied result ≡ resolve (chain self.now.scopes (Some scope)) name.now hygiene }
+    {
+        self.parents_stand_earlier();
+        match self.find_name_in_scope(scope, name, hygiene) {
+            Some((_, entry)) => Some(entry),
+            None => None,
+        }
+    }
+
+    /// The first entry with this name and this hygiene, scope by scope from this one outward. The scope that is asked has to be there:
+    /// `has_scope` tests it. `find_name_in_scope` finds the scope that brings it in, too.
     pub fn resolve_name_in_scope(
         &self,
         scope: ScopeId,
@@ -79,9 +97,7 @@ impl ExprScopes {
         requires { scope < length self.now.scopes }
         ensures { option_copied result ≡ resolve (chain self.now.scopes (Some scope)) name.now hygiene }
     {
-        self.parents_stand_earlier();
-        let (_, entry) = self.find_name_in_scope(scope, name.as_str(), hygiene)?;
-        Some(entry)
+        self.entry_in_scope(scope, name.as_str(), hygiene)
     }
 
     /// The binding of the store that a path of this hygiene means at an expression.
@@ -95,11 +111,9 @@ impl ExprScopes {
         ensures is { result ≡ meant store.now self.now at hygiene (asked_name path.now) }
         ensures there { IfSome result (λ id. id < length store.now.nodes.bindings) }
     {
-        self.parents_stand_earlier();
         let name = asked_name(path)?;
         let scope = self.scope_for(at)?;
-        let (_, entry) = self.find_name_in_scope(scope, name, hygiene)?;
-        let binding = entry.binding();
+        let binding = self.entry_in_scope(scope, name, hygiene)?.binding();
         store.has_binding(binding).then_some(binding)
     }
 
