@@ -1,8 +1,8 @@
 //! Questions on the texts of faults.
 
 use hir_base::{
-    ArenaFault, DefWithBodyId, FunctionId, GenericDefId, Id, Idx, LifetimeParamId, NamedDef, TypeOrConstParamId,
-    TypeParamId, VariantId,
+    ArenaFault, DefWithBodyId, FunctionId, GenericDefId, Id, Idx, LifetimeParamId, NamedDef,
+    TypeOrConstParamId, TypeParamId, VariantId,
 };
 use hir_captures::CapturesFault;
 use hir_defs::{BodyFault, SignatureFault};
@@ -120,7 +120,10 @@ fn write<F: Display + Copy>(
 fn write_error(alloc: Global, name: &[u8], answer: &mut Answer) -> Result<(), Stop> {
     let function = FunctionId::from_raw(0);
     let parent = GenericDefId::FunctionId(function);
-    let param = TypeOrConstParamId { parent, local_id: Idx::from_raw(0) };
+    let param = TypeOrConstParamId {
+        parent,
+        local_id: Idx::from_raw(0),
+    };
     let signature = Missing::Signature(parent);
     let errors = [
         ("Arena", HirError::from(ArenaFault::Memory)),
@@ -128,20 +131,44 @@ fn write_error(alloc: Global, name: &[u8], answer: &mut Answer) -> Result<(), St
         ("Body", HirError::from(BodyFault::NoRoot)),
         ("Signature", HirError::from(SignatureFault::IdOutOfRange)),
         ("Missing", HirError::from(Missing::Crate(Id::from_raw(0)))),
-        ("MissingName", HirError::from(Missing::Name(NamedDef::FunctionId(function)))),
-        ("MissingVariant", HirError::from(Missing::Variant(Id::from_raw(0)))),
+        (
+            "MissingName",
+            HirError::from(Missing::Name(NamedDef::FunctionId(function))),
+        ),
+        (
+            "MissingVariant",
+            HirError::from(Missing::Variant(Id::from_raw(0))),
+        ),
         ("MissingSignature", HirError::from(signature)),
-        ("MissingBody", HirError::from(Missing::Body(DefWithBodyId::FunctionId(function)))),
-        ("MissingFields", HirError::from(Missing::Fields(VariantId::StructId(Id::from_raw(0))))),
-        ("MissingTypeParam", HirError::from(Missing::TypeParam(TypeParamId::from_unchecked(param)))),
+        (
+            "MissingBody",
+            HirError::from(Missing::Body(DefWithBodyId::FunctionId(function))),
+        ),
+        (
+            "MissingFields",
+            HirError::from(Missing::Fields(VariantId::StructId(Id::from_raw(0)))),
+        ),
+        (
+            "MissingTypeParam",
+            HirError::from(Missing::TypeParam(TypeParamId::from_unchecked(param))),
+        ),
         (
             "MissingLifetimeParam",
-            HirError::from(Missing::LifetimeParam(LifetimeParamId { parent, local_id: Idx::from_raw(0) })),
+            HirError::from(Missing::LifetimeParam(LifetimeParamId {
+                parent,
+                local_id: Idx::from_raw(0),
+            })),
         ),
-        ("MissingDefMap", HirError::from(Missing::DefMap(Id::from_raw(0)))),
+        (
+            "MissingDefMap",
+            HirError::from(Missing::DefMap(Id::from_raw(0))),
+        ),
         ("Scopes", HirError::from(ScopesFault::Missing)),
         ("Print", HirError::from(PrintFault::Memory)),
-        ("PrintMissing", HirError::from(PrintFault::Missing(signature))),
+        (
+            "PrintMissing",
+            HirError::from(PrintFault::Missing(signature)),
+        ),
         ("Captures", HirError::from(CapturesFault::NotAClosure)),
     ];
     write(alloc, &errors, name, answer)
