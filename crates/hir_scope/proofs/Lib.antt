@@ -17,6 +17,7 @@ mod Rows
 pub mod FlatLemmas
 pub mod PathLemmas
 pub mod ResolveLemmas
+pub mod MacroLemmas
 pub mod SameLemmas
 pub mod SlotLemmas
 pub mod StandsLemmas

@@ -18,7 +18,7 @@ use Rattle.hir_scope.specs.Resolution.{is_asked, first_asked, entries_of, resolv
 use Rattle.hir_scope.proofs.PathLemmas.{path_step, read}
 
 -- what a function tells of the scope that is there
-told : {X : Type 0} (f : Scope → X) (o : Option Scope) (x : X) → option_map f o ≡ Some x → (s : Scope) × (o ≡ Some s) × (f s ≡ x)
+pub told : {X : Type 0} (f : Scope → X) (o : Option Scope) (x : X) → option_map f o ≡ Some x → (s : Scope) × (o ≡ Some s) × (f s ≡ x)
 told f None x e = absurd cc
 told f (Some s) x e = (s, refl, cc)
 

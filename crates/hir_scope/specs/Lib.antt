@@ -6,6 +6,7 @@ pub mod Chains
 pub mod Tops
 pub mod Resolution
 pub mod Meanings
+pub mod Macros
 pub mod Counts
 pub mod Scopes
 pub mod Paths

@@ -9,6 +9,8 @@ mod fault;
 mod inside;
 pub mod laws;
 mod lookups;
+pub mod macro_laws;
+mod macros;
 mod pushes;
 mod queue;
 mod resolve;
@@ -23,6 +25,7 @@ mod walk;
 
 pub use expr_scopes::{ExprScopes, ScopeData};
 pub use fault::ScopesFault;
+pub use macros::Expansion;
 pub use resolve::asked_name;
 pub use scope::{ScopeEntry, ScopeId, ScopeKind, ScopeMarker};
 pub use scope_chain::ScopeChain;

@@ -28,7 +28,7 @@ pub fn asked_name(path: &Path) -> Option<&str>
 
 /// The first of these entries with this name and this hygiene.
 // The hygiene first: it is compared in less time.
-fn first_asked<'a>(
+pub(crate) fn first_asked<'a>(
     entries: &'a [ScopeEntry],
     name: &str,
     hygiene: HygieneId,
@@ -70,12 +70,7 @@ impl ExprScopes {
     }
 
     /// The first entry with this name and this hygiene, scope by scope from this one outward.
-    fn entry_in_scope(
-        &self,
-        scope: ScopeId,
-        name: &str,
-        hygiene: HygieneId,
-    ) -> Option<&ScopeEntry>
+    fn entry_in_scope(&self, scope: ScopeId, name: &str, hygiene: HygieneId) -> Option<&ScopeEntry>
         requires { scope < length self.now.scopes }
         ensures { option_copied result ≡ resolve (chain self.now.scopes (Some scope)) name.now hygiene }
     {

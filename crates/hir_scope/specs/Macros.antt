@@ -1,0 +1,35 @@
+-- Resolution through the definitions of macros: where a name comes to the definition of the macro that it was written by, it goes on with
+-- the hygiene that it has there.
+use Rattle.std.specs.Prelude.{ℕ, List, [], ◌∷◌, Option, Some, None, nat_eq, if◌then◌else◌}
+use Rattle.std.specs.Option.{option_or}
+use Rattle.std.specs.HashMap.{HashMap, get}
+use Rattle.std.specs.declared.hash.FoldHasher.{FoldHasher}
+use Rattle.std.specs.declared.hash.BuildHasherDefault.{BuildHasherDefault}
+use Rattle.hir_base.specs.declared.hygiene.SyntaxContext.{SyntaxContext}
+use Rattle.hir_base.specs.Hygiene.{is_root}
+use Rattle.hir_base.specs.contracts.hygiene.HygieneIdPartialEq.TheImpl as hygienes
+use Rattle.hir_scope.specs.declared.macros.Expansion.{Expansion}
+use Rattle.hir_scope.specs.declared.scope.ScopeEntry.{ScopeEntry}
+use Rattle.hir_scope.specs.Frames.{Frame, Chain}
+use Rattle.hir_scope.specs.Scopes.{macro_def_of}
+use Rattle.hir_scope.specs.Resolution.{first_asked}
+
+-- for hygienes the expansions that they come from
+abbrev pub Expansions : Type 0
+Expansions = HashMap SyntaxContext Expansion (BuildHasherDefault FoldHasher)
+
+-- the expansion that a hygiene comes from, where it is known: source text comes from none
+abbrev pub expansion_of : Expansions → SyntaxContext → Option Expansion
+expansion_of expansions hygiene = if is_root hygiene then None else get hygienes.ghosts.eq expansions hygiene
+
+-- the hygiene outward of a frame: at the definition of the macro whose expansion it comes from the one around that, else the same
+abbrev pub outward : Option ℕ → Option Expansion → SyntaxContext → SyntaxContext
+outward None expansion hygiene = hygiene
+outward (Some id) None hygiene = hygiene
+outward (Some id) (Some expansion) hygiene = if nat_eq expansion.macro_def id then expansion.parent else hygiene
+
+-- frame by frame the first entry with the name and the hygiene, where the expansions of hygienes are these
+abbrev pub resolve_through : (SyntaxContext → Option Expansion) → Chain → List ℕ → SyntaxContext → Option ScopeEntry
+resolve_through from [] name hygiene = None
+resolve_through from (frame ∷ outer) name hygiene =
+    option_or (first_asked name hygiene frame.entries) (resolve_through from outer name (outward (macro_def_of frame.kind) (from hygiene) hygiene))
