@@ -41,7 +41,12 @@ pub(crate) fn captured(
     scopes.parents_stand_earlier();
     match scopes.find_name_in_scope(scope, name, hygiene) {
         Some((found, entry)) => {
-            (depth(scopes, found) <= outermost).then_some(entry.binding())
+            let outer = depth(scopes, found);
+            if outer <= outermost {
+                Some(entry.binding())
+            } else {
+                None
+            }
         }
         None => None,
     }
