@@ -40,10 +40,10 @@ pub(crate) fn captured(
 {
     scopes.parents_stand_earlier();
     match scopes.find_name_in_scope(scope, name, hygiene) {
-        Some((found, entry)) => {
-            let outer = depth(scopes, found);
+        Some(found) => {
+            let outer = depth(scopes, found.0);
             if outer <= outermost {
-                Some(entry.binding())
+                Some(found.1.binding())
             } else {
                 None
             }
