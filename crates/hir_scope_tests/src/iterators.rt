@@ -1,8 +1,10 @@
-//! The scopes along a chain and the expressions that have a scope, item by item, to their end and behind it.
+//! The scopes along a chain, all scopes, and the expressions that have a scope, item by item, to their end and behind it.
 use crate::again::of_body;
 use example_bodies::nested_closures;
 use hir_base::Idx;
-use hir_scope::ExprScopes;
+use hir_items::Body;
+use hir_scope::{ExprScopes, ScopeId};
+use std::mem::size_of;
 use std::test::Fail;
 
 /// Whether from `a` in `|x| |x| a` there are three scopes, the inner closure's first and the body's last, and none behind them.
@@ -44,6 +46,30 @@ fn are_scoped(scopes: &ExprScopes) -> bool {
     are && scoped.next().is_none() && scoped.next().is_none()
 }
 
+/// Whether all scopes are three, by number, and none is behind them.
+fn all_end(scopes: &ExprScopes) -> bool {
+    let mut all = scopes.scopes();
+    let found = [all.next(), all.next(), all.next(), all.next(), all.next()];
+    let [body, outer, inner] = [
+        ScopeId::from_raw(0),
+        ScopeId::from_raw(1),
+        ScopeId::from_raw(2),
+    ];
+    found == [Some(body), Some(outer), Some(inner), None, None]
+}
+
+/// Whether each scope is around the one that was made after it.
+fn each_is_in_the_one_before(scopes: &ExprScopes) -> bool {
+    let mut before = None;
+    for scope in scopes.scopes() {
+        if scopes.parent(scope) != before {
+            return false;
+        }
+        before = Some(scope);
+    }
+    true
+}
+
 /// Whether the scope of `a` has one entry, the inner `x`.
 fn has_one_entry(scopes: &ExprScopes) -> bool {
     let Some(scope) = scopes.scope_for(Idx::from_raw(0)) else {
@@ -64,9 +90,17 @@ fn chains_maps_and_entries(rt: HostRuntime) -> Result<(), Fail> {
         is_empty_from_none(&scopes),
         are_scoped(&scopes),
         has_one_entry(&scopes),
+        all_end(&scopes),
+        each_is_in_the_one_before(&scopes),
     ];
     std::mem::drop(scopes);
     std::mem::drop(body);
-    assert!(&rt; are_asked == [true; 4]);
+    assert!(&rt; are_asked == [true; 6]);
     Ok(())
+}
+
+#[test]
+fn small_bodies_have_small_scopes(rt: HostRuntime) {
+    assert!(rt; size_of::<Body>() <= 300);
+    assert!(rt; size_of::<ExprScopes>() <= 160);
 }
