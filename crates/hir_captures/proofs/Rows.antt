@@ -34,7 +34,7 @@ use Rattle.hir_scope.specs.Frames.{Chain}
 use Rattle.hir_scope.specs.Leak.{leak}
 use Rattle.hir_scope.specs.Slots.{slots}
 use Rattle.hir_scope.specs.Chains.{Place}
-use Rattle.hir_scope.specs.PlacesUnder.{places_under, exprs_under}
+use Rattle.hir_scope.specs.walk.PlacesUnder.{places_under, exprs_under}
 use Rattle.hir_scope.specs.Tops.{body_tops}
 use Rattle.hir_captures.specs.Captures.{captured, each_once, captures_by}
 use Rattle.hir_captures.specs.Uses.{Spot, Use, spot, expr_uses, pat_uses, uses_at, spot_uses, code_under, uses_in}
