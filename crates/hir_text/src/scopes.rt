@@ -2,17 +2,18 @@
 
 ghost use Rattle.std.specs.Prelude.{◌<◌, length};
 
-use hir_base::{ExpressionStoreOwnerId, HygieneId, Name, Steps, SyntaxContext};
+use hir_base::{ExpressionStoreOwnerId, HygieneId, MacroDefId, Name, Steps, SyntaxContext};
 use hir_captures::{CapturesFault, captures};
 use hir_defs::{Body, Tables};
 use hir_defs_text::asked_body;
 use hir_node::{BindingId, ExprId};
-use hir_notation::{Answer, Stop, Words, opt_hygiene};
-use hir_scope::{ExprScopes, ScopeEntry, ScopeId, ScopesFault};
+use hir_notation::{Answer, Stop, Words, next_hygiene, opt_hygiene};
+use hir_scope::{Expansion, ExprScopes, ScopeEntry, ScopeId, ScopesFault};
 use hir_store::ExpressionStore;
 use hir_store_text::{differs, refuse, unknown};
 use hir_words::value_of;
 use std::alloc::{AllocError, Global};
+use std::collections::HashMap;
 
 /// What the first word of a question asks of scopes and captures.
 #[derive(Clone, Copy)]
@@ -22,16 +23,18 @@ enum Kind {
     Counts,
     Scoped,
     Resolve,
+    ResolveThrough,
     Captures,
     Counted,
 }
 
-const KINDS: [(&str, Kind); 7] = [
+const KINDS: [(&str, Kind); 8] = [
     ("chain", Kind::Chain),
     ("frames", Kind::Frames),
     ("scope-counts", Kind::Counts),
     ("scoped", Kind::Scoped),
     ("resolve", Kind::Resolve),
+    ("resolve-through", Kind::ResolveThrough),
     ("captures", Kind::Captures),
     ("counted-scopes", Kind::Counted),
 ];
@@ -44,6 +47,7 @@ enum OfScopes {
     Counts,
     Scoped,
     Resolve(ExprId, Name, HygieneId),
+    ResolveThrough(ExprId, Name, HygieneId, HashMap<HygieneId, Expansion>),
 }
 
 /// What is asked of scopes and captures.
@@ -62,6 +66,40 @@ fn read_resolve(alloc: Global, words: &mut Words<'_>) -> Result<OfScopes, Stop> 
     Ok(OfScopes::Resolve(expr, name, hygiene))
 }
 
+/// An expansion: the hygiene of its names, the macro, and the hygiene that the names have in the macro's definition. The words
+/// stand behind `macro:`, as `5 1 root`.
+fn read_expansion(words: &mut Words<'_>) -> Result<(HygieneId, Expansion), Stop> {
+    let macro_def = MacroDefId::from_raw(words.number()?);
+    let hygiene = next_hygiene(words)?;
+    let parent = next_hygiene(words)?;
+    Ok((hygiene, Expansion { macro_def, parent }))
+}
+
+/// The expansions that come next.
+fn read_expansions(
+    alloc: Global,
+    words: &mut Words<'_>,
+) -> Result<HashMap<HygieneId, Expansion>, Stop> {
+    let mut expansions = HashMap::new(alloc);
+    for _ in 0..words.rest().len() {
+        if !words.prefix(b"macro:") {
+            break;
+        }
+        let (hygiene, expansion) = read_expansion(words)?;
+        let _ = expansions.insert(hygiene, expansion)?;
+    }
+    Ok(expansions)
+}
+
+/// What stands behind the word `resolve-through`.
+fn read_resolve_through(alloc: Global, words: &mut Words<'_>) -> Result<OfScopes, Stop> {
+    let expr = words.next_id()?;
+    let name = words.next_name(alloc)?;
+    let hygiene = opt_hygiene(words)?;
+    let expansions = read_expansions(alloc, words)?;
+    Ok(OfScopes::ResolveThrough(expr, name, hygiene, expansions))
+}
+
 /// What stands behind the first word.
 fn read(alloc: Global, kind: Kind, words: &mut Words<'_>) -> Result<Question, Stop> {
     match kind {
@@ -70,6 +108,7 @@ fn read(alloc: Global, kind: Kind, words: &mut Words<'_>) -> Result<Question, St
         Kind::Counts => Ok(Question::Scopes(OfScopes::Counts)),
         Kind::Scoped => Ok(Question::Scopes(OfScopes::Scoped)),
         Kind::Resolve => Ok(Question::Scopes(read_resolve(alloc, words)?)),
+        Kind::ResolveThrough => Ok(Question::Scopes(read_resolve_through(alloc, words)?)),
         Kind::Captures => Ok(Question::Captures(words.next_id()?)),
         Kind::Counted => Ok(Question::Counted),
     }
@@ -140,11 +179,11 @@ fn unreached(answer: &mut Answer) -> Result<(), AllocError> {
 }
 
 /// Writes the names of a scope's entries.
-fn write_names(scopes: &ExprScopes, scope: ScopeId, answer: &mut Answer) -> Result<(), AllocError> {
-    if scopes.has_scope(scope) {
-        for entry in scopes.entries(scope) {
-            answer.name(entry.name().as_str())?;
-        }
+fn write_names(scopes: &ExprScopes, scope: ScopeId, answer: &mut Answer) -> Result<(), AllocError>
+    requires { scope < length scopes.now.scopes }
+{
+    for entry in scopes.entries(scope) {
+        answer.name(entry.name().as_str())?;
     }
     Ok(())
 }
@@ -215,9 +254,7 @@ fn write_frames(scopes: &ExprScopes, expr: ExprId, answer: &mut Answer) -> Resul
             answer.word("/")?;
         }
         is_first = false;
-        if scopes.has_scope(around) {
-            write_scope(scopes, around, answer)?;
-        }
+        write_scope(scopes, around, answer)?;
     }
     Ok(())
 }
@@ -230,6 +267,14 @@ fn write_counts(scopes: &ExprScopes, answer: &mut Answer) -> Result<(), AllocErr
     answer.word("entries")
 }
 
+/// Writes the binding that a name means: that of the entry that was found.
+fn write_found(found: Option<&ScopeEntry>, answer: &mut Answer) -> Result<(), AllocError> {
+    match found {
+        Some(entry) => answer.id(entry.binding()),
+        None => answer.word("none"),
+    }
+}
+
 /// Writes the binding that a name means at an expression.
 fn write_meaning(
     scopes: &ExprScopes,
@@ -238,13 +283,26 @@ fn write_meaning(
     hygiene: HygieneId,
     answer: &mut Answer,
 ) -> Result<(), AllocError> {
+    match scopes.scope_for(expr) {
+        Some(scope) => write_found(scopes.resolve_name_in_scope(scope, name, hygiene), answer),
+        None => unreached(answer),
+    }
+}
+
+/// Writes the binding that a name means at an expression, through the definitions of macros.
+fn write_meaning_through(
+    scopes: &ExprScopes,
+    expr: ExprId,
+    name: &Name,
+    hygiene: HygieneId,
+    expansions: &HashMap<HygieneId, Expansion>,
+    answer: &mut Answer,
+) -> Result<(), AllocError> {
     let Some(scope) = scopes.scope_for(expr) else {
         return unreached(answer);
     };
-    match scopes.resolve_name_in_scope(scope, name, hygiene) {
-        Some(entry) => answer.id(entry.binding()),
-        None => answer.word("none"),
-    }
+    let found = scopes.resolve_name_through_macros(scope, name.as_str(), hygiene, expansions);
+    write_found(found, answer)
 }
 
 /// Writes the expressions that have a scope.
@@ -264,6 +322,9 @@ fn write(question: &OfScopes, scopes: &ExprScopes, answer: &mut Answer) -> Resul
         OfScopes::Scoped => write_scoped(scopes, answer),
         OfScopes::Resolve(expr, name, hygiene) => {
             write_meaning(scopes, *expr, name, *hygiene, answer)
+        }
+        OfScopes::ResolveThrough(expr, name, hygiene, expansions) => {
+            write_meaning_through(scopes, *expr, name, *hygiene, expansions, answer)
         }
     }
 }
