@@ -1,9 +1,6 @@
 //! Questions on the texts of faults.
 
-use hir_base::{
-    ArenaFault, DefWithBodyId, FunctionId, GenericDefId, Id, Idx, LifetimeParamId, NamedDef,
-    TypeOrConstParamId, TypeParamId, VariantId,
-};
+use hir_base::{ArenaFault, Id};
 use hir_captures::CapturesFault;
 use hir_defs::{BodyFault, SignatureFault};
 use hir_error::HirError;
@@ -116,59 +113,16 @@ fn write<F: Display + Copy>(
     Ok(answer.word(format!(in alloc; "{fault}")?.as_str())?)
 }
 
-/// The same of an error that holds the first fault of its kind that has no parts; what is missing is of definition 0.
+/// The same of an error that holds the first fault of its kind that has no parts; what is missing is the name of crate 0.
 fn write_error(alloc: Global, name: &[u8], answer: &mut Answer) -> Result<(), Stop> {
-    let function = FunctionId::from_raw(0);
-    let parent = GenericDefId::FunctionId(function);
-    let param = TypeOrConstParamId {
-        parent,
-        local_id: Idx::from_raw(0),
-    };
-    let signature = Missing::Signature(parent);
     let errors = [
         ("Arena", HirError::from(ArenaFault::Memory)),
         ("Store", HirError::from(FinishFault::NoRoots)),
         ("Body", HirError::from(BodyFault::NoRoot)),
         ("Signature", HirError::from(SignatureFault::IdOutOfRange)),
         ("Missing", HirError::from(Missing::Crate(Id::from_raw(0)))),
-        (
-            "MissingName",
-            HirError::from(Missing::Name(NamedDef::FunctionId(function))),
-        ),
-        (
-            "MissingVariant",
-            HirError::from(Missing::Variant(Id::from_raw(0))),
-        ),
-        ("MissingSignature", HirError::from(signature)),
-        (
-            "MissingBody",
-            HirError::from(Missing::Body(DefWithBodyId::FunctionId(function))),
-        ),
-        (
-            "MissingFields",
-            HirError::from(Missing::Fields(VariantId::StructId(Id::from_raw(0)))),
-        ),
-        (
-            "MissingTypeParam",
-            HirError::from(Missing::TypeParam(TypeParamId::from_unchecked(param))),
-        ),
-        (
-            "MissingLifetimeParam",
-            HirError::from(Missing::LifetimeParam(LifetimeParamId {
-                parent,
-                local_id: Idx::from_raw(0),
-            })),
-        ),
-        (
-            "MissingDefMap",
-            HirError::from(Missing::DefMap(Id::from_raw(0))),
-        ),
         ("Scopes", HirError::from(ScopesFault::Missing)),
         ("Print", HirError::from(PrintFault::Memory)),
-        (
-            "PrintMissing",
-            HirError::from(PrintFault::Missing(signature)),
-        ),
         ("Captures", HirError::from(CapturesFault::NotAClosure)),
     ];
     write(alloc, &errors, name, answer)
