@@ -1,28 +1,17 @@
 //! Finds the bindings of a body that no path resolves to: a check for unused variables.
-#![tactic(auto)]
 
+use crate::assigned::targets;
 use example_bodies::names;
 use hir_base::ArenaMap;
 use hir_error::HirError;
 use hir_items::Body;
-use hir_node::{BindingId, BindingKind, Expr, PatId};
+use hir_node::{BindingId, BindingKind};
 use hir_scope::ExprScopes;
 use hir_store::ExpressionStore;
 use std::alloc::Global;
 
 /// A set of bindings.
 type Bindings = ArenaMap<BindingKind, ()>;
-
-/// The patterns in the target of an assignment, of which each path is a variable that is assigned to; none of another expression.
-fn targets(alloc: Global, store: &ExpressionStore, expr: &Expr) -> Result<Vec<PatId>, HirError> {
-    let mut found = Vec::new(alloc);
-    if let Expr::Assignment { target, value: _ } = expr
-        && store.has_pat(*target)
-    {
-        store.try_walk_pats(*target, &mut |pat: PatId| found.push(pat))?;
-    }
-    Ok(found)
-}
 
 /// The bindings that paths mean: expressions, and variables that are assigned to.
 fn used(alloc: Global, store: &ExpressionStore, scopes: &ExprScopes) -> Result<Bindings, HirError> {
@@ -52,8 +41,8 @@ fn unused(alloc: Global, body: &Body, scopes: &ExprScopes) -> Result<Vec<Binding
     Ok(unused)
 }
 
-fn main(rt: HostRuntime) -> anyhow::Result<()> {
-    let alloc = rt.alloc();
+/// Prints those of the body `names`.
+pub fn print(rt: &impl Print, alloc: Global) -> anyhow::Result<()> {
     let body = names(alloc)?;
     let scopes = ExprScopes::new_body(alloc, &body)?;
     for &id in &unused(alloc, &body, &scopes)? {

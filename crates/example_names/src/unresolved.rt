@@ -1,24 +1,12 @@
 //! Finds the paths of a body that are one name and resolve to nothing.
-#![tactic(auto)]
 
+use crate::assigned::targets;
 use example_bodies::names;
 use hir_error::HirError;
 use hir_items::Body;
-use hir_node::{Expr, ExprOrPatId, Pat, PatId};
+use hir_node::{Expr, ExprOrPatId, Pat};
 use hir_scope::{ExprScopes, asked_name};
-use hir_store::ExpressionStore;
 use std::alloc::Global;
-
-/// The patterns in the target of an assignment, of which each path is a variable that is assigned to; none of another expression.
-fn targets(alloc: Global, store: &ExpressionStore, expr: &Expr) -> Result<Vec<PatId>, HirError> {
-    let mut found = Vec::new(alloc);
-    if let Expr::Assignment { target, value: _ } = expr
-        && store.has_pat(*target)
-    {
-        store.try_walk_pats(*target, &mut |pat: PatId| found.push(pat))?;
-    }
-    Ok(found)
-}
 
 /// The paths that may mean a local variable and mean none: expressions, and variables that are assigned to. What is defined outside the
 /// body, as a function, is among them. An expression that the body doesn't reach has no scope, and nothing is asked there.
@@ -52,8 +40,8 @@ fn unresolved(
     Ok(found)
 }
 
-fn main(rt: HostRuntime) -> anyhow::Result<()> {
-    let alloc = rt.alloc();
+/// Prints those of the body `names`.
+pub fn print(rt: &impl Print, alloc: Global) -> anyhow::Result<()> {
     let body = names(alloc)?;
     let scopes = ExprScopes::new_body(alloc, &body)?;
     for id in &unresolved(alloc, &body, &scopes)? {

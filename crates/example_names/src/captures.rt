@@ -1,5 +1,4 @@
 //! Finds what each closure of a body captures.
-#![tactic(auto)]
 
 ghost use Rattle.std.specs.Prelude.{◌↔◌, ℕ, IsSome};
 ghost use Rattle.std.specs.FinMap as map;
@@ -42,8 +41,8 @@ fn captures_by_closure(
     Ok(found)
 }
 
-fn main(rt: HostRuntime) -> anyhow::Result<()> {
-    let alloc = rt.alloc();
+/// Prints those of the body `closures`.
+pub fn print(rt: &impl Print, alloc: Global) -> anyhow::Result<()> {
     let body = closures(alloc)?;
     let scopes = ExprScopes::new_body(alloc, &body)?;
     for found in &captures_by_closure(alloc, &body, &scopes)? {
