@@ -1,13 +1,11 @@
 -- What digits stand for, digit by digit.
-use Rattle.std.proofs.Common.{Option, ◌≡◌, ◌≢◌, ◌+◌, ◌-◌, ◌*◌, ◌<◌, ◌≤◌, ◌^◌, ℕ, Some, None, List, [], ◌∷◌, take, drop, length, get_or, sym, ap, ◌∙◌, arith, take-append-drop, fold, Bool, true, false, refl, inl, inr}
+use Rattle.std.proofs.Common.{Option, ◌≡◌, ◌≢◌, ◌+◌, ◌-◌, ◌*◌, ◌<◌, ◌≤◌, ◌^◌, ℕ, Some, None, List, [], ◌∷◌, take, drop, length, get_or, sym, ap, ◌∙◌, arith, take-append-drop, fold, Bool, true, false, refl}
 use Rattle.std.specs.Prelude.{if◌then◌else◌}
 use Rattle.std.specs.List.{list_all}
 use Rattle.std.proofs.lemmas.Grind.{common_steps, fold-append}
 use Rattle.std.proofs.lemmas.Bool.Decides.{nat_tests}
-use Rattle.std.proofs.lemmas.Bool.{cases_lt, false≢true}
-use Rattle.std.proofs.lemmas.List.Sums.{prefix_len_stops}
-use Rattle.hir_lines.proofs.Prefixes.{passes_in_front, all_pass, not_all}
-use Rattle.hir_lines.specs.Numerals.{value, if_below, is_digit, digits_len, number_of, has_needless_zero, is_numeral}
+use Rattle.hir_lines.proofs.Prefixes.{not_all}
+use Rattle.hir_lines.specs.Numerals.{value, if_below, is_digit, number_of, has_needless_zero, is_numeral}
 
 grows : (bs : List ℕ) (n : ℕ) → n ≤ fold (λ n b. 10 * n + (b - 48)) n bs
 grows [] n = omega arith
@@ -33,34 +31,9 @@ chosen_none : (b : Bool) (o : Option ℕ) → o ≡ None → (if b then o else N
 chosen_none true o e = e
 chosen_none false o e = refl
 
-pub digit_of_front : (xs : List ℕ) (i k : ℕ) → i ≤ length xs → list_all is_digit (take i xs) ≡ true → k < i → is_digit (get_or xs k 0) ≡ true
-digit_of_front = passes_in_front is_digit
-
-further : (xs : List ℕ) (i : ℕ) → i < length xs → list_all is_digit (take i xs) ≡ true → is_digit (get_or xs i 0) ≡ true → i < digits_len xs
-further xs i h all digit =
-    elim (cases_lt i (digits_len xs)) [
-      | inl fine ↦ fine
-      | inr short ↦
-          let stop : is_digit (get_or xs (digits_len xs) 0) ≡ false = prefix_len_stops is_digit xs 0 (omega arith) in
-          elim (cases_lt (digits_len xs) i) [
-            | inl before ↦ absurd (false≢true (sym stop ∙ digit_of_front xs i (digits_len xs) (omega arith) all before))
-            | inr past ↦
-                let same : digits_len xs ≡ i = omega arith in
-                absurd (false≢true (sym stop ∙ rw same digit))
-          ]
-    ]
-
--- what is too large at some digit stays so up to the last of them
-pub too_large_front : (xs : List ℕ) (i : ℕ) → i < length xs → list_all is_digit (take i xs) ≡ true → is_digit (get_or xs i 0) ≡ true → 2 ^ 32 ≤ 10 * value (take i xs) + (get_or xs i 0 - 48) → if_below (2 ^ 32) (value (take (digits_len xs) xs)) ≡ None
-too_large_front xs i h all digit large =
-    let more = further xs i h all digit in
-    let front = value-front (take (digits_len xs) xs) (i + 1) in
-    let same : take (i + 1) (take (digits_len xs) xs) ≡ take (i + 1) xs = grind (arith, common_steps) in
-    let front' : value (take (i + 1) xs) ≤ value (take (digits_len xs) xs) = rw same at front in
-    if_below-large (value (take (digits_len xs) xs)) (omega (arith, front', value-next xs i h))
-
-pub all_digits : (xs : List ℕ) → list_all is_digit (take (digits_len xs) xs) ≡ true
-all_digits = all_pass is_digit
+-- a text of whose front the value is too large is no number
+pub too_large : (xs : List ℕ) (i : ℕ) → i < length xs → 2 ^ 32 ≤ 10 * value (take i xs) + (get_or xs i 0 - 48) → if_below (2 ^ 32) (value xs) ≡ None
+too_large xs i h large = if_below-large (value xs) (omega (arith, value-next xs i h, value-front xs (i + 1)))
 
 -- a text in which something is no digit is no number
 pub no_number : (xs : List ℕ) (i : ℕ) → i < length xs → is_digit (get_or xs i 0) ≡ false → number_of xs ≡ None

@@ -17,23 +17,17 @@ none_is : (b : Bool) (n : ℕ) → cond b (Some n) None ≡ None → b ≡ false
 none_is true n e = cc
 none_is false n e = refl
 
-pub below_length : (p : ℕ → Bool) (xs : List ℕ) (i : ℕ) → position p xs ≡ Some i → i < length xs
+below_length : (p : ℕ → Bool) (xs : List ℕ) (i : ℕ) → position p xs ≡ Some i → i < length xs
 below_length p xs i e = let w = some_is _ _ _ e in let t : ltb (position_or_len p xs) (length xs) ≡ true = w.0 in let same : position_or_len p xs ≡ i = w.1 in grind (arith, nat_tests)
 
-pub first_place : (p : ℕ → Bool) (xs : List ℕ) (i : ℕ) → position p xs ≡ Some i → position_or_len p xs ≡ i
-first_place p xs i e = (some_is _ _ _ e).1
-
-pub found_at : (p : ℕ → Bool) (xs : List ℕ) (i : ℕ) → position_or_len p xs ≡ i → i < length xs → position p xs ≡ Some i
-found_at p xs i at within = grind (arith, nat_tests, common_steps)
-
-pub none_passes : (p : ℕ → Bool) (xs : List ℕ) → position p xs ≡ None → All (λ b. p b ≡ false) xs
+none_passes : (p : ℕ → Bool) (xs : List ℕ) → position p xs ≡ None → All (λ b. p b ≡ false) xs
 none_passes p xs e =
     λ k d h.
     let none : ltb (position_or_len p xs) (length xs) ≡ false = none_is _ _ e in
     let before : k < position_or_len p xs = omega (arith, ltb-false _ _ none) in
     fails_before_first p xs k d before
 
-pub split_found : (p : ℕ → Bool) (xs : List ℕ) (i : ℕ) → position p xs ≡ Some i → slice_split p xs ≡ take i xs ∷ slice_split p (drop (i + 1) xs)
+split_found : (p : ℕ → Bool) (xs : List ℕ) (i : ℕ) → position p xs ≡ Some i → slice_split p xs ≡ take i xs ∷ slice_split p (drop (i + 1) xs)
 split_found p xs i e =
     let w = some_is _ _ _ e in
     let lt : i < length xs = below_length p xs i e in

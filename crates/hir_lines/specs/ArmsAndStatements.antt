@@ -39,13 +39,16 @@ macro_statement = do
   definition ← number
   gives (ItemStatement (MacroDef definition))
 
+abbrev pub item_statement : Reading Statement
+item_statement = gives (ItemStatement Other)
+
 abbrev pub statement_forms : List (List ℕ × Reading Statement)
 statement_forms =
     (codes "let", let_statement)
     ∷ (codes "semi", semi_statement)
     ∷ (codes "expr", expr_statement)
     ∷ (codes "macro", macro_statement)
-    ∷ (codes "item", gives (ItemStatement Other))
+    ∷ (codes "item", item_statement)
     ∷ []
 
 unfoldable pub arm_of : List ℕ → Option MatchArm

@@ -1,5 +1,5 @@
 -- Reading words from the front. A reading gives what the first words say and the words behind them, or nothing where they don't fit.
-use Rattle.std.specs.Prelude.{◌≡◌, ℕ, Bool, eqb, if◌then◌else◌, List, [], ◌∷◌, Option, None, Some, Result, MatchResult}
+use Rattle.std.specs.Prelude.{◌≡◌, ◌≢◌, ℕ, All, Bool, false, eqb, if◌then◌else◌, List, [], ◌∷◌, Option, None, Some, Result, MatchResult, IfOk, ◌↔◌}
 use Rattle.std.specs.List.{slice_split}
 use Rattle.std.specs.Option.{option_map, option_and_then}
 use Rattle.std.specs.Str.{bytes_eq}
@@ -72,7 +72,39 @@ whole reading words = option_and_then (λ found. alone found.0 found.1) (reading
 abbrev pub HasWord : List (List ℕ) → Type 0
 HasWord words = (word : List ℕ) × (others : List (List ℕ)) × (words ≡ word ∷ others)
 
+-- a text without this byte
+abbrev pub Plain : ℕ → List ℕ → Type 0
+Plain c text = All (λ b. is_byte c b ≡ false) text
+
+-- the first word is another one, or there is none
+abbrev pub StartsOtherwise : List ℕ → List (List ℕ) → Type 0
+StartsOtherwise word words = (others : List (List ℕ)) → words ≢ word ∷ others
+
+-- what a word says, or that it says nothing
+abbrev pub Says : {X E : Type 0} → (List ℕ → Option X) → List ℕ → Result X E → Type 0
+Says read word result = MatchResult result (λ x. read word ≡ Some x) (λ bad. read word ≡ None)
+
 -- what a reading of these words finds, and the words that it leaves; or that the words don't fit
-abbrev pub Reads : {X : Type 0} → Reading X → List (List ℕ) → Result X Stop → List (List ℕ) → Type 0
-Reads reading old result new =
-    MatchResult result (λ x. reading old ≡ Some (x, new)) (λ stop. stop ≡ Bad → reading old ≡ None)
+abbrev pub Reads : {X E : Type 0} → Reading X → List (List ℕ) → Result X E → List (List ℕ) → Type 0
+Reads reading old result new = MatchResult result (λ x. reading old ≡ Some (x, new)) (λ bad. reading old ≡ None)
+
+-- what a word says, kept where there is memory for it
+abbrev pub SaysKept : {X R E : Type 0} → (List ℕ → Option X) → List ℕ → Result (Result X R) E → Type 0
+SaysKept {X = X} read word result =
+    MatchResult result (λ kept. (x : X) × (read word ≡ Some x) × IfOk kept (λ y. y ≡ x)) (λ bad. read word ≡ None)
+
+-- what a reading finds, kept where there is memory for it
+abbrev pub ReadsKept : {X R E : Type 0} → Reading X → List (List ℕ) → Result (Result X R) E → List (List ℕ) → Type 0
+ReadsKept {X = X} reading old result new =
+    MatchResult result (λ kept. (x : X) × (reading old ≡ Some (x, new)) × IfOk kept (λ y. y ≡ x))
+    (λ bad. reading old ≡ None)
+
+-- what the words say, if none is left behind it; or that they say nothing
+abbrev pub SaysWhole : {X E : Type 0} → Reading X → List (List ℕ) → Result X E → Type 0
+SaysWhole reading words result =
+    MatchResult result (λ x. whole reading words ≡ Some x) (λ bad. whole reading words ≡ None)
+
+-- the same, where memory may be refused. They are bad exactly where they say nothing: memory is refused where they say something
+abbrev pub SaysAll : {X : Type 0} → Reading X → List (List ℕ) → Result X Stop → Type 0
+SaysAll reading words result =
+    MatchResult result (λ x. whole reading words ≡ Some x) (λ why. why ≡ Bad ↔ whole reading words ≡ None)

@@ -1,5 +1,5 @@
 -- What is kept of a line that makes something.
-use Rattle.std.specs.Prelude.{[], ◌∷◌, ◌++◌, Option, Some}
+use Rattle.std.specs.Prelude.{[], ◌∷◌, ◌++◌}
 use Rattle.hir_lines.specs.Makers.{Maker}
 use Rattle.hir_lines.specs.Makers as make
 use Rattle.hir_lines_tests.specs.declared.kept.Kept.{Kept}
@@ -18,8 +18,8 @@ as_kept (make.FnName name) = kept.FnName name
 as_kept make.Roots = kept.Roots
 as_kept (make.Root id) = kept.Root id
 
-abbrev pub and_one : Kept → KeptMaker → Option Kept
-and_one before maker = Some (record { makers = before.makers ++ maker ∷ [] })
+abbrev pub and_one : Kept → KeptMaker → Kept
+and_one before maker = record before { makers = before.makers ++ maker ∷ [] }
 
-abbrev pub and_kept : Kept → Maker → Option Kept
+abbrev pub and_kept : Kept → Maker → Kept
 and_kept before maker = and_one before (as_kept maker)
