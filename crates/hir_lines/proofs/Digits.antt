@@ -1,8 +1,8 @@
 -- What digits stand for, digit by digit.
-use Rattle.std.proofs.Common.{Option, ◌≡◌, ◌≢◌, ◌+◌, ◌-◌, ◌*◌, ◌<◌, ◌≤◌, ◌^◌, ℕ, Some, None, List, [], ◌∷◌, take, drop, length, get_or, sym, ap, ◌∙◌, arith, take-append-drop, fold, Bool, true, false, refl}
+use Rattle.std.proofs.Common.{Option, ◌≡◌, ◌≢◌, ◌+◌, ◌-◌, ◌*◌, ◌<◌, ◌≤◌, ◌^◌, ℕ, Some, None, List, [], ◌∷◌, take, drop, length, get_or, sym, ap, ◌∙◌, arith, take-append-drop, fold, Bool, true, false, refl, zero, suc, length-take}
 use Rattle.std.specs.Prelude.{if◌then◌else◌}
 use Rattle.std.specs.List.{list_all}
-use Rattle.std.proofs.lemmas.Grind.{common_steps, fold-append}
+use Rattle.std.proofs.lemmas.Grind.{common_steps, fold-append, pow_more}
 use Rattle.std.proofs.lemmas.Bool.Decides.{nat_tests}
 use Rattle.hir_lines.proofs.Prefixes.{not_all}
 use Rattle.hir_lines.specs.Numerals.{value, if_below, is_digit, number_of, has_needless_zero, is_numeral}
@@ -32,8 +32,22 @@ chosen_none true o e = e
 chosen_none false o e = refl
 
 -- a text of whose front the value is too large is no number
-pub too_large : (xs : List ℕ) (i : ℕ) → i < length xs → 2 ^ 32 ≤ 10 * value (take i xs) + (get_or xs i 0 - 48) → if_below (2 ^ 32) (value xs) ≡ None
-too_large xs i h large = if_below-large (value xs) (omega (arith, value-next xs i h, value-front xs (i + 1)))
+pub too_large : (xs : List ℕ) (i : ℕ) → 2 ^ 32 ≤ value (take i xs) → if_below (2 ^ 32) (value xs) ≡ None
+too_large xs i large = if_below-large (value xs) (omega (arith, value-front xs i, large))
+
+-- digits of which the first is no zero have at least the value of a one and zeros
+pub value-long : (xs : List ℕ) (k : ℕ) → k < length xs → 48 < get_or xs 0 0 → 10 ^ k ≤ value (take (k + 1) xs)
+value-long xs zero h first = omega (arith, value-next xs 0 h, first)
+value-long xs (suc k) h first = omega (arith, value-next xs (k + 1) (omega arith), value-long xs k (omega arith) first, pow_more 10 k)
+
+pub no_zero : (xs : List ℕ) → 1 < length xs → list_all is_digit xs ≡ true → has_needless_zero xs ≡ false → 48 < get_or xs 0 0
+no_zero [] h all plain = absurd (omega (arith, h))
+no_zero (b ∷ bs) h all plain = grind (arith, nat_tests)
+
+needless_whole : (xs : List ℕ) (i : ℕ) → has_needless_zero (take i xs) ≡ true → has_needless_zero xs ≡ true
+needless_whole [] i e = grind (arith, nat_tests)
+needless_whole (b ∷ bs) zero e = grind (arith, nat_tests)
+needless_whole (b ∷ bs) (suc i) e = grind (arith, nat_tests, length-take)
 
 -- a text in which something is no digit is no number
 pub no_number : (xs : List ℕ) (i : ℕ) → i < length xs → is_digit (get_or xs i 0) ≡ false → number_of xs ≡ None
@@ -46,9 +60,12 @@ pub no_number-empty : (xs : List ℕ) → length xs ≡ 0 → number_of xs ≡ N
 unfolding number_of
 no_number-empty xs e = grind (arith, common_steps)
 
-pub no_number-needless : (xs : List ℕ) → has_needless_zero xs ≡ true → number_of xs ≡ None
+needless_alone : (xs : List ℕ) → has_needless_zero xs ≡ true → number_of xs ≡ None
 unfolding number_of
-no_number-needless xs e = grind (arith, common_steps)
+needless_alone xs e = grind (arith, common_steps)
+
+pub no_number-needless : (xs : List ℕ) (i : ℕ) → has_needless_zero (take i xs) ≡ true → number_of xs ≡ None
+no_number-needless xs i e = needless_alone xs (needless_whole xs i e)
 
 pub no_number-large : (xs : List ℕ) → if_below (2 ^ 32) (value xs) ≡ None → number_of xs ≡ None
 unfolding number_of

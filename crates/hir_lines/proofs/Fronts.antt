@@ -1,10 +1,10 @@
 -- The first word of a text, by a front of the text without a separator.
-use Rattle.std.proofs.Common.{◌≡◌, ◌+◌, ◌-◌, ◌*◌, ◌<◌, ◌≤◌, ◌^◌, ℕ, Bool, true, false, List, [], ◌∷◌, ◌++◌, Some, None, length, take, drop, get_or, refl, sym, ap, ◌∙◌, arith, take-append-drop, drop-cons, add-one, length-take, length-append, take_all, append-nil, inl, inr}
+use Rattle.std.proofs.Common.{◌≡◌, ◌+◌, ◌-◌, ◌*◌, ◌<◌, ◌≤◌, ◌^◌, ℕ, Bool, true, false, List, [], ◌∷◌, ◌++◌, Some, None, length, take, drop, get_or, refl, sym, ap, ◌∙◌, arith, take-append-drop, drop-cons, add-one, length-take, length-append, take_all, append-nil, get_or-take, inl, inr}
 use Rattle.std.specs.Prelude.{eqb}
-use Rattle.std.specs.List.{onto_first, join_with_byte, starts_with}
+use Rattle.std.specs.List.{list_all, onto_first, join_with_byte, starts_with}
 use Rattle.std.proofs.Math.Seq.{take-append_seam}
 use Rattle.std.proofs.lemmas.Bool.Decides.{Decides-eqb}
-use Rattle.std.proofs.lemmas.Bool.{cases_lt}
+use Rattle.std.proofs.lemmas.Bool.{cases_lt, cases_bool}
 use Rattle.std.proofs.lemmas.Grind.{common_steps}
 use Rattle.std.proofs.lemmas.List.{take_more, take_rest}
 use Rattle.std.proofs.lemmas.List.Elements.{All-head, All-push, All-tail}
@@ -13,7 +13,7 @@ use Rattle.std.proofs.lemmas.Slice.Eq.{starts_is}
 use Rattle.hir_lines.specs.Numerals.{is_digit, number_of, value, has_needless_zero}
 use Rattle.hir_lines.specs.Readings.{HasWord, Plain, StartsOtherwise, is_byte, parts_of}
 use Rattle.hir_lines.specs.Words.{number}
-use Rattle.hir_lines.proofs.Digits.{no_number, no_number-empty, no_number-needless, no_number-large, too_large}
+use Rattle.hir_lines.proofs.Digits.{no_number, no_number-empty, no_number-needless, no_number-large, no_zero, too_large, value-long, value-next}
 use Rattle.hir_lines.proofs.Splits.{parts_begin}
 
 split_behind : (c : ℕ) (xs ys part : List ℕ) (parts : List (List ℕ)) → Plain c xs → parts_of c ys ≡ part ∷ parts → parts_of c (xs ++ ys) ≡ (xs ++ part) ∷ parts
@@ -86,19 +86,42 @@ no_digit c xs i h plain other stop =
     let on = front_goes_on c xs i h plain other in
     first_read _ on.word on.words on.first (no_number on.word i on.reaches (ap is_digit on.here ∙ stop))
 
--- nor where the value is too large
-pub too_large_there : (c : ℕ) (xs : List ℕ) (i : ℕ) → i < length xs → Plain c (take i xs) → is_byte c (get_or xs i 0) ≡ false → 2 ^ 32 ≤ 10 * value (take i xs) + (get_or xs i 0 - 48) → number (parts_of c xs) ≡ None
-too_large_there c xs i h plain other large =
-    let on = front_goes_on c xs i h plain other in
-    let large' : 2 ^ 32 ≤ 10 * value (take i on.word) + (get_or on.word i 0 - 48) = omega (arith, large, ap value on.front, on.here) in
-    first_read _ on.word on.words on.first (no_number-large on.word (too_large on.word i on.reaches large'))
+-- the first word begins with the front
+abbrev FirstWord : ℕ → List ℕ → ℕ → Type 0
+FirstWord c xs i = (word : List ℕ) × (words : List (List ℕ)) × (parts_of c xs ≡ word ∷ words) × (take i word ≡ take i xs)
 
--- a front that is the word is no number where it is empty, or has a needless zero
+front_of_word : (c : ℕ) (xs : List ℕ) (i : ℕ) → Plain c (take i xs) → FirstWord c xs i
+front_of_word c xs i plain = elim (cases_lt i (length xs)) [
+  | inl h ↦ elim (cases_bool (is_byte c (get_or xs i 0))) [
+    | inl met ↦ (take i xs, _, front_cut c xs i h plain met, take_all i (take i xs) (omega (arith, length-take i xs)))
+    | inr other ↦ let on = front_goes_on c xs i h plain other in (on.word, on.words, on.first, on.front)
+  ]
+  | inr e ↦ (take i xs, [], front_alone c xs i (omega (arith, e)) plain, take_all i (take i xs) (omega (arith, length-take i xs)))
+]
+
+-- a front with a needless zero, or whose value is too large, begins no number
+pub needless_front : (c : ℕ) (xs : List ℕ) (i : ℕ) → Plain c (take i xs) → has_needless_zero (take i xs) ≡ true → number (parts_of c xs) ≡ None
+needless_front c xs i plain needless =
+    let first = front_of_word c xs i plain in
+    first_read _ first.0 first.1 first.2 (no_number-needless first.0 i (rw first.3 needless))
+
+pub large_front : (c : ℕ) (xs : List ℕ) (i : ℕ) → Plain c (take i xs) → 2 ^ 32 ≤ value (take i xs) → number (parts_of c xs) ≡ None
+large_front c xs i plain large =
+    let first = front_of_word c xs i plain in
+    first_read _ first.0 first.1 first.2 (no_number-large first.0 (too_large first.0 i (rw first.3 large)))
+
+-- a front that is the word is no number where it is empty
 pub no_front : (words : List (List ℕ)) (word : List ℕ) (others : List (List ℕ)) → words ≡ word ∷ others → length word ≡ 0 → number words ≡ None
 no_front words word others e none = first_read words word others e (no_number-empty word none)
 
-pub needless_front : (words : List (List ℕ)) (word : List ℕ) (others : List (List ℕ)) → words ≡ word ∷ others → has_needless_zero word ≡ true → number words ≡ None
-needless_front words word others e zero_first = first_read words word others e (no_number-needless word zero_first)
+-- ten digits, of which the first is no zero, and one more are too large
+pub eleven_digits : (c : ℕ) (xs : List ℕ) → 10 < length xs → Plain c (take 10 xs) → list_all is_digit (take 10 xs) ≡ true → has_needless_zero (take 10 xs) ≡ false → is_byte c (get_or xs 10 0) ≡ false → number (parts_of c xs) ≡ None
+eleven_digits c xs h plain all needed other =
+    let size : length (take 10 xs) ≡ 10 = omega (arith, length-take 10 xs) in
+    let first : 48 < get_or (take 10 xs) 0 0 = no_zero (take 10 xs) (omega (arith, size)) all needed in
+    let same : get_or (take 10 xs) 0 0 ≡ get_or xs 0 0 = get_or-take {A = ℕ} 10 xs 0 0 (omega arith) in
+    let long : 10 ^ 9 ≤ value (take 10 xs) = value-long xs 9 (omega (arith, h)) (omega (arith, first, same)) in
+    large_front c xs 11 (plain_more c xs 10 h plain other) (omega (arith, value-next xs 10 h, long))
 
 pub front_number : (words : List (List ℕ)) (word : List ℕ) (others : List (List ℕ)) (n : ℕ) → words ≡ word ∷ others → number_of word ≡ Some n → number words ≡ Some (n, others)
 front_number words word others n e is = ap number e ∙ rw is refl

@@ -1,6 +1,6 @@
 //! The arms of a match and the statements of a block: each is one word, whose parts are separated by colons.
 
-ghost use Rattle.hir_lines.specs.ArmsAndStatements.{expr_statement, let_statement, macro_statement, semi_statement};
+ghost use Rattle.hir_lines.specs.ArmsAndStatements.{expr_statement, let_statement, macro_statement};
 ghost use Rattle.hir_lines.specs.Readings.{SaysWhole};
 
 use crate::stop::Bad;
@@ -44,26 +44,12 @@ fn let_statement(parts: &mut PartsOfWord<'_>) -> Result<Statement, Bad>
     })
 }
 
-fn semi_statement(parts: &mut PartsOfWord<'_>) -> Result<Statement, Bad>
-    ensures { SaysWhole semi_statement parts.old result }
+fn expr_statement(parts: &mut PartsOfWord<'_>, has_semi: bool) -> Result<Statement, Bad>
+    ensures { SaysWhole (expr_statement has_semi) parts.old result }
 {
     let expr = parts.id()?;
     parts.end()?;
-    Ok(Statement::Expr {
-        expr,
-        has_semi: true,
-    })
-}
-
-fn expr_statement(parts: &mut PartsOfWord<'_>) -> Result<Statement, Bad>
-    ensures { SaysWhole expr_statement parts.old result }
-{
-    let expr = parts.id()?;
-    parts.end()?;
-    Ok(Statement::Expr {
-        expr,
-        has_semi: false,
-    })
+    Ok(Statement::Expr { expr, has_semi })
 }
 
 fn macro_statement(parts: &mut PartsOfWord<'_>) -> Result<Statement, Bad>
@@ -85,9 +71,9 @@ impl Word for Statement {
         if parts.skip(b"let") {
             let_statement(&mut parts)
         } else if parts.skip(b"semi") {
-            semi_statement(&mut parts)
+            expr_statement(&mut parts, true)
         } else if parts.skip(b"expr") {
-            expr_statement(&mut parts)
+            expr_statement(&mut parts, false)
         } else if parts.skip(b"macro") {
             macro_statement(&mut parts)
         } else if parts.skip(b"item") {

@@ -2,14 +2,13 @@
 
 ghost use Rattle.std.specs.Prelude.{IfOk, ◌≡◌};
 ghost use Rattle.hir_lines.specs.Makers as make;
-ghost use Rattle.hir_lines.specs.Readings.{gives};
 ghost use Rattle.hir_lines.specs.Taking.{Puts};
 ghost use Rattle.hir_lines.specs.Exprs.{array_expr, assign_expr, bin_expr, block_expr, call_expr, closure_expr, expr, if_expr, int_expr, let_expr, loop_expr, match_expr, path_expr, ref_expr, repeat_expr, tuple_expr, untyped};
 
 use crate::builder::Builder;
 use crate::numerals::int as int_of;
 use crate::operators::op as op_of;
-use crate::stop::Stop;
+use crate::stop::{Bad, Stop};
 use crate::words::{Line, path_of};
 use hir_base::{BlockId, Seq};
 use hir_node::{
@@ -40,7 +39,8 @@ pub fn expr<B: Builder>(alloc: Global, words: &mut Line<'_>, builder: &mut B) ->
     } else if words.skip(b"ref") {
         reference(words, builder)
     } else if words.skip(b"missing") {
-        put(words, builder, Expr::Missing)
+        words.end()?;
+        builder.expr(Expr::Missing)
     } else if words.skip(b"tuple") {
         tuple(alloc, words, builder)
     } else if words.skip(b"array") {
@@ -53,7 +53,8 @@ pub fn expr<B: Builder>(alloc: Global, words: &mut Line<'_>, builder: &mut B) ->
         assignment(words, builder)
     } else if words.skip(b"const") {
         let value = words.id()?;
-        put(words, builder, Expr::Const(value))
+        words.end()?;
+        builder.expr(Expr::Const(value))
     } else if words.skip(b"match") {
         match_expr(alloc, words, builder)
     } else if words.skip(b"closure") {
@@ -61,14 +62,6 @@ pub fn expr<B: Builder>(alloc: Global, words: &mut Line<'_>, builder: &mut B) ->
     } else {
         Err(Stop::Bad)
     }
-}
-
-/// Adds the expression, if no word is left.
-fn put<B: Builder>(words: &Line<'_>, builder: &mut B, expr: Expr) -> Result<(), Stop>
-    ensures { Puts B.has_self B.has_name B.add make.Expr (gives expr) words.now builder.old builder.new result }
-{
-    words.end()?;
-    builder.expr(expr)
 }
 
 fn path<B: Builder>(alloc: Global, words: &mut Line<'_>, builder: &mut B) -> Result<(), Stop>
@@ -82,10 +75,9 @@ fn path<B: Builder>(alloc: Global, words: &mut Line<'_>, builder: &mut B) -> Res
 fn int<B: Builder>(words: &mut Line<'_>, builder: &mut B) -> Result<(), Stop>
     ensures { Puts B.has_self B.has_name B.add make.Expr int_expr words.old builder.old builder.new result }
 {
-    let Some(n) = int_of(words.word()?) else {
-        return Err(Stop::Bad);
-    };
-    put(words, builder, Expr::Literal(Literal::Int(n, None)))
+    let n = int_of(words.word()?).ok_or(Bad)?;
+    words.end()?;
+    builder.expr(Expr::Literal(Literal::Int(n, None)))
 }
 
 fn call<B: Builder>(alloc: Global, words: &mut Line<'_>, builder: &mut B) -> Result<(), Stop>
@@ -122,7 +114,8 @@ fn repeat<B: Builder>(words: &mut Line<'_>, builder: &mut B) -> Result<(), Stop>
         initializer: words.id()?,
         repeat: words.id()?,
     };
-    put(words, builder, Expr::Array(repeat))
+    words.end()?;
+    builder.expr(Expr::Array(repeat))
 }
 
 fn reference<B: Builder>(words: &mut Line<'_>, builder: &mut B) -> Result<(), Stop>
@@ -133,19 +126,18 @@ fn reference<B: Builder>(words: &mut Line<'_>, builder: &mut B) -> Result<(), St
         rawness: Rawness::Ref,
         mutability: Mutability::Shared,
     };
-    put(words, builder, reference)
+    words.end()?;
+    builder.expr(reference)
 }
 
 fn binary<B: Builder>(words: &mut Line<'_>, builder: &mut B) -> Result<(), Stop>
     ensures { Puts B.has_self B.has_name B.add make.Expr bin_expr words.old builder.old builder.new result }
 {
-    let Some(op) = op_of(words.word()?) else {
-        return Err(Stop::Bad);
-    };
-    let op = Some(op);
+    let op = Some(op_of(words.word()?).ok_or(Bad)?);
     let lhs = words.id()?;
     let rhs = words.id()?;
-    put(words, builder, Expr::BinaryOp { lhs, rhs, op })
+    words.end()?;
+    builder.expr(Expr::BinaryOp { lhs, rhs, op })
 }
 
 fn let_expr<B: Builder>(words: &mut Line<'_>, builder: &mut B) -> Result<(), Stop>
@@ -153,7 +145,8 @@ fn let_expr<B: Builder>(words: &mut Line<'_>, builder: &mut B) -> Result<(), Sto
 {
     let pat = words.id()?;
     let expr = words.id()?;
-    put(words, builder, Expr::Let { pat, expr })
+    words.end()?;
+    builder.expr(Expr::Let { pat, expr })
 }
 
 fn if_expr<B: Builder>(words: &mut Line<'_>, builder: &mut B) -> Result<(), Stop>
@@ -164,7 +157,8 @@ fn if_expr<B: Builder>(words: &mut Line<'_>, builder: &mut B) -> Result<(), Stop
         then_branch: words.id()?,
         else_branch: words.optional_id()?,
     };
-    put(words, builder, if_expr)
+    words.end()?;
+    builder.expr(if_expr)
 }
 
 fn loop_expr<B: Builder>(words: &mut Line<'_>, builder: &mut B) -> Result<(), Stop>
@@ -175,7 +169,8 @@ fn loop_expr<B: Builder>(words: &mut Line<'_>, builder: &mut B) -> Result<(), St
         label: None,
         source: LoopSource::Loop,
     };
-    put(words, builder, loop_expr)
+    words.end()?;
+    builder.expr(loop_expr)
 }
 
 fn assignment<B: Builder>(words: &mut Line<'_>, builder: &mut B) -> Result<(), Stop>
@@ -183,7 +178,8 @@ fn assignment<B: Builder>(words: &mut Line<'_>, builder: &mut B) -> Result<(), S
 {
     let target = words.id()?;
     let value = words.id()?;
-    put(words, builder, Expr::Assignment { target, value })
+    words.end()?;
+    builder.expr(Expr::Assignment { target, value })
 }
 
 fn match_expr<B: Builder>(alloc: Global, words: &mut Line<'_>, builder: &mut B) -> Result<(), Stop>

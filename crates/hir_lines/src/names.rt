@@ -26,5 +26,8 @@ fn are_of_name(text: &[u8]) -> bool
 pub fn is_name(text: &[u8]) -> bool
     ensures { result ≡ is_name text.now }
 {
-    !text.is_empty() && may_start_name(text[0]) && are_of_name(text)
+    match text {
+        [first, rest @ ..] => may_start_name(*first) && are_of_name(rest),
+        [] => false,
+    }
 }

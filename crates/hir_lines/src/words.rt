@@ -44,9 +44,7 @@ impl<'a, const SEPARATOR: u8> Words<'a, SEPARATOR> {
     pub fn word(&mut self) -> Result<&'a [u8], Bad>
         ensures { MatchResult result (λ word. self.old ≡ word.now ∷ self.new) (λ bad. self.old ≡ []) }
     {
-        let Some(text) = self.rest else {
-            return Err(Bad);
-        };
+        let text = self.rest.ok_or(Bad)?;
         let (word, rest) = cut(text, SEPARATOR);
         self.rest = rest;
         Ok(word)
@@ -74,9 +72,7 @@ impl<'a, const SEPARATOR: u8> Words<'a, SEPARATOR> {
     pub fn number(&mut self) -> Result<u32, Bad>
         ensures { Reads number self.old result self.new }
     {
-        let Some(text) = self.rest else {
-            return Err(Bad);
-        };
+        let text = self.rest.ok_or(Bad)?;
         let (number, rest) = first_number(text, SEPARATOR)?;
         self.rest = rest;
         Ok(number)
@@ -93,9 +89,7 @@ impl<'a, const SEPARATOR: u8> Words<'a, SEPARATOR> {
     pub fn optional(&mut self) -> Result<Option<u32>, Bad>
         ensures { Reads optional self.old result self.new }
     {
-        let Some(text) = self.rest else {
-            return Err(Bad);
-        };
+        let text = self.rest.ok_or(Bad)?;
         match behind_dash(text, SEPARATOR) {
             Some(rest) => {
                 self.rest = rest;
@@ -109,10 +103,7 @@ impl<'a, const SEPARATOR: u8> Words<'a, SEPARATOR> {
     pub fn optional_id<K>(&mut self) -> Result<Option<Idx<K>>, Bad>
         ensures { Reads optional self.old result self.new }
     {
-        match self.optional()? {
-            Some(number) => Ok(Some(Idx::from_raw(number))),
-            None => Ok(None),
-        }
+        Ok(self.optional()?.map(Idx::from_raw))
     }
 
     /// Takes the next word, if it is a list of numbers. The list is kept where there is memory for it.
@@ -177,10 +168,7 @@ impl<'a, const SEPARATOR: u8> Words<'a, SEPARATOR> {
     fn is_empty(&self) -> bool
         ensures { IsTrue result ↔ (self.now ≡ []) }
     {
-        match self.rest {
-            Some(_) => false,
-            None => true,
-        }
+        self.rest.is_none()
     }
 
     /// How many words are left, but for one: a text has one more than separators.

@@ -19,13 +19,15 @@ returns-in_err-question c =
     let some : length c.args.text.now ≡ 0 → ⊥ = λ none. grind (arith, nat_tests) in
     let by = asks_by c.args.text.now (not_empty c.args.text.now some) in
     let asked = c.in_err-question.ensures {u = tt} in
-    record { asks = rw (p.1, p.2) (
-      by.some,
-      (
-        λ bad. by.none (ap (λ (ws : List (List ℕ)). whole question ws) words ∙ asked.0 bad),
-        λ no. asked.1 (ap (λ (ws : List (List ℕ)). whole question ws) (sym words) ∙ by.back no),
-      ),
-    ) }
+    record {
+      asks = rw (p.1, p.2) (
+        by.some,
+        (
+          λ bad. by.none (ap (λ (ws : List (List ℕ)). whole question ws) words ∙ asked.0 bad),
+          λ no. asked.1 (ap (λ (ws : List (List ℕ)). whole question ws) (sym words) ∙ by.back no),
+        ),
+      );
+    }
 
 pub returns : goal.returns
 returns c =

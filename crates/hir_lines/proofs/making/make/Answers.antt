@@ -16,10 +16,12 @@ pub returns-then-is_empty : goal.returns-then-is_empty
 returns-then-is_empty g c =
     let B = g.B.Builder in
     let none : length c.args.text.now ≡ 0 = grind (arith, nat_tests) in
-    record { makes = (
-      λ _. ap (with_line B.has_self B.has_name B.add c.args.builder.now) (empty_line c.args.text.now none),
-      λ wrong. absurd (false≢true (sym wrong)),
-    ) }
+    record {
+      makes = (
+        λ _. ap (with_line B.has_self B.has_name B.add c.args.builder.now) (empty_line c.args.text.now none),
+        λ wrong. absurd (false≢true (sym wrong)),
+      );
+    }
 
 pub returns-then-skip : goal.returns-then-skip
 returns-then-skip g c =

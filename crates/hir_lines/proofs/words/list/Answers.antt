@@ -36,8 +36,7 @@ pub returns : goal.returns
 returns g c =
     let word = c.args.word.now in
     let read = c.loop-numbers.invariant in
-    let other : bytes_eq c.args.word.now (codes "-") ≡ false = sym (c.if-eq.ensures {u = tt} ∙ ap (λ (w : List ℕ). bytes_eq c.args.word.now w) c.as_slice.ensures) in
-    (
+    let other : bytes_eq c.args.word.now (codes "-") ≡ false = sym (c.if-eq.ensures {u = tt} ∙ ap (λ (w : List ℕ). bytes_eq c.args.word.now w) c.as_slice.ensures) in (
       read.0,
       list_otherwise word other ∙ all_read number_of (parts_of comma word) read.0 c.loop-numbers.numbers read.1 (c.is_empty.ensures.0 c.loop-numbers-test.false),
       read.2,
