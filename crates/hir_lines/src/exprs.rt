@@ -2,13 +2,14 @@
 
 ghost use Rattle.std.specs.Prelude.{IfOk, ◌≡◌};
 ghost use Rattle.hir_lines.specs.Makers as make;
+ghost use Rattle.hir_lines.specs.Readings.{gives};
 ghost use Rattle.hir_lines.specs.Taking.{Puts};
 ghost use Rattle.hir_lines.specs.Exprs.{array_expr, assign_expr, bin_expr, block_expr, call_expr, closure_expr, expr, if_expr, int_expr, let_expr, loop_expr, match_expr, path_expr, ref_expr, repeat_expr, tuple_expr, untyped};
 
 use crate::builder::Builder;
 use crate::numerals::int as int_of;
 use crate::operators::op as op_of;
-use crate::stop::{Bad, Stop};
+use crate::stop::Stop;
 use crate::words::{Line, path_of};
 use hir_base::{BlockId, Seq};
 use hir_node::{
@@ -39,8 +40,7 @@ pub fn expr<B: Builder>(alloc: Global, words: &mut Line<'_>, builder: &mut B) ->
     } else if words.skip(b"ref") {
         reference(words, builder)
     } else if words.skip(b"missing") {
-        words.end()?;
-        builder.expr(Expr::Missing)
+        put(words, builder, Expr::Missing)
     } else if words.skip(b"tuple") {
         tuple(alloc, words, builder)
     } else if words.skip(b"array") {
@@ -53,8 +53,7 @@ pub fn expr<B: Builder>(alloc: Global, words: &mut Line<'_>, builder: &mut B) ->
         assignment(words, builder)
     } else if words.skip(b"const") {
         let value = words.id()?;
-        words.end()?;
-        builder.expr(Expr::Const(value))
+        put(words, builder, Expr::Const(value))
     } else if words.skip(b"match") {
         match_expr(alloc, words, builder)
     } else if words.skip(b"closure") {
@@ -62,6 +61,16 @@ pub fn expr<B: Builder>(alloc: Global, words: &mut Line<'_>, builder: &mut B) ->
     } else {
         Err(Stop::Bad)
     }
+}
+
+/// Adds the expression, if no word is left.
+// Inlined, as that of patterns, so that the node goes into its arena without a copy on the way.
+#[inline(always)]
+fn put<B: Builder>(words: &Line<'_>, builder: &mut B, expr: Expr) -> Result<(), Stop>
+    ensures { Puts B.has_self B.has_name B.add make.Expr (gives expr) words.now builder.old builder.new result }
+{
+    words.end()?;
+    builder.expr(expr)
 }
 
 fn path<B: Builder>(alloc: Global, words: &mut Line<'_>, builder: &mut B) -> Result<(), Stop>
@@ -75,9 +84,10 @@ fn path<B: Builder>(alloc: Global, words: &mut Line<'_>, builder: &mut B) -> Res
 fn int<B: Builder>(words: &mut Line<'_>, builder: &mut B) -> Result<(), Stop>
     ensures { Puts B.has_self B.has_name B.add make.Expr int_expr words.old builder.old builder.new result }
 {
-    let n = int_of(words.word()?).ok_or(Bad)?;
-    words.end()?;
-    builder.expr(Expr::Literal(Literal::Int(n, None)))
+    let Some(n) = int_of(words.word()?) else {
+        return Err(Stop::Bad);
+    };
+    put(words, builder, Expr::Literal(Literal::Int(n, None)))
 }
 
 fn call<B: Builder>(alloc: Global, words: &mut Line<'_>, builder: &mut B) -> Result<(), Stop>
@@ -114,8 +124,7 @@ fn repeat<B: Builder>(words: &mut Line<'_>, builder: &mut B) -> Result<(), Stop>
         initializer: words.id()?,
         repeat: words.id()?,
     };
-    words.end()?;
-    builder.expr(Expr::Array(repeat))
+    put(words, builder, Expr::Array(repeat))
 }
 
 fn reference<B: Builder>(words: &mut Line<'_>, builder: &mut B) -> Result<(), Stop>
@@ -126,18 +135,19 @@ fn reference<B: Builder>(words: &mut Line<'_>, builder: &mut B) -> Result<(), St
         rawness: Rawness::Ref,
         mutability: Mutability::Shared,
     };
-    words.end()?;
-    builder.expr(reference)
+    put(words, builder, reference)
 }
 
 fn binary<B: Builder>(words: &mut Line<'_>, builder: &mut B) -> Result<(), Stop>
     ensures { Puts B.has_self B.has_name B.add make.Expr bin_expr words.old builder.old builder.new result }
 {
-    let op = Some(op_of(words.word()?).ok_or(Bad)?);
+    let Some(op) = op_of(words.word()?) else {
+        return Err(Stop::Bad);
+    };
+    let op = Some(op);
     let lhs = words.id()?;
     let rhs = words.id()?;
-    words.end()?;
-    builder.expr(Expr::BinaryOp { lhs, rhs, op })
+    put(words, builder, Expr::BinaryOp { lhs, rhs, op })
 }
 
 fn let_expr<B: Builder>(words: &mut Line<'_>, builder: &mut B) -> Result<(), Stop>
@@ -145,8 +155,7 @@ fn let_expr<B: Builder>(words: &mut Line<'_>, builder: &mut B) -> Result<(), Sto
 {
     let pat = words.id()?;
     let expr = words.id()?;
-    words.end()?;
-    builder.expr(Expr::Let { pat, expr })
+    put(words, builder, Expr::Let { pat, expr })
 }
 
 fn if_expr<B: Builder>(words: &mut Line<'_>, builder: &mut B) -> Result<(), Stop>
@@ -157,8 +166,7 @@ fn if_expr<B: Builder>(words: &mut Line<'_>, builder: &mut B) -> Result<(), Stop
         then_branch: words.id()?,
         else_branch: words.optional_id()?,
     };
-    words.end()?;
-    builder.expr(if_expr)
+    put(words, builder, if_expr)
 }
 
 fn loop_expr<B: Builder>(words: &mut Line<'_>, builder: &mut B) -> Result<(), Stop>
@@ -169,8 +177,7 @@ fn loop_expr<B: Builder>(words: &mut Line<'_>, builder: &mut B) -> Result<(), St
         label: None,
         source: LoopSource::Loop,
     };
-    words.end()?;
-    builder.expr(loop_expr)
+    put(words, builder, loop_expr)
 }
 
 fn assignment<B: Builder>(words: &mut Line<'_>, builder: &mut B) -> Result<(), Stop>
@@ -178,8 +185,7 @@ fn assignment<B: Builder>(words: &mut Line<'_>, builder: &mut B) -> Result<(), S
 {
     let target = words.id()?;
     let value = words.id()?;
-    words.end()?;
-    builder.expr(Expr::Assignment { target, value })
+    put(words, builder, Expr::Assignment { target, value })
 }
 
 fn match_expr<B: Builder>(alloc: Global, words: &mut Line<'_>, builder: &mut B) -> Result<(), Stop>

@@ -15,11 +15,10 @@ use crate::words::{Line, Words};
 use hir_node::{Binding, BindingAnnotation, ExprOrPatId};
 use std::alloc::Global;
 
-/// Takes a line, if it makes something or is empty: the builder gets what it makes. The first word tells: a line of another one is left
-/// to `ask`, and `make` answers whether it took the line.
+/// Takes a line that makes something or is empty, and answers whether it is one: its first word tells. Another is left to `ask`.
 ///
-/// `Bad` where no line is written so, or a second self parameter or name comes; `Memory` where memory was refused, or an arena is
-/// full: of no line that is bad. After either nothing was added.
+/// `Bad` where no line is written so, or a second self parameter or name comes; `Memory` where memory was refused or an arena is full,
+/// at no bad line. After either nothing was added.
 pub fn make<B: Builder>(alloc: Global, text: &[u8], builder: &mut B) -> Result<bool, Stop>
     ensures makes { Makes B.has_self B.has_name B.add (line_of text.now) builder.old builder.new result }
 {

@@ -26,8 +26,5 @@ fn are_of_name(text: &[u8]) -> bool
 pub fn is_name(text: &[u8]) -> bool
     ensures { result ≡ is_name text.now }
 {
-    match text {
-        [first, rest @ ..] => may_start_name(*first) && are_of_name(rest),
-        [] => false,
-    }
+    !text.is_empty() && may_start_name(text[0]) && are_of_name(text)
 }

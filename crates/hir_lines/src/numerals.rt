@@ -1,15 +1,12 @@
 //! Numbers as they are written in a line.
 
-ghost use Rattle.std.specs.Prelude.{◌≡◌, ◌&&◌, not, Some, None, MatchResult};
+ghost use Rattle.std.specs.Prelude.{◌≡◌, Some, None, MatchResult};
 ghost use Rattle.std.specs.List.{list_all};
 ghost use Rattle.hir_lines.specs.Numerals.{has_needless_zero, int_of, is_digit, is_numeral, without_minus};
-ghost use Rattle.hir_lines.specs.Readings.{is_byte, parts_left, parts_of};
+ghost use Rattle.hir_lines.specs.Readings.{parts_left, parts_of};
 ghost use Rattle.hir_lines.specs.Words.{number};
 
 use crate::stop::Bad;
-
-/// A number has at most so many digits.
-const MOST_DIGITS: usize = 10;
 
 /// Whether a text begins with a zero before another byte.
 fn has_needless_zero(text: &[u8]) -> bool
@@ -31,23 +28,17 @@ fn is_numeral(text: &[u8]) -> bool
     !text.is_empty() && !has_needless_zero(text) && are_digits(text)
 }
 
-/// Whether a byte is a digit, and none that separates: one comparison, where the separator is known.
-fn is_digit_in_word(byte: u8, separator: u8) -> bool
-    ensures { result ≡ (not (is_byte separator byte) && is_digit byte) }
-{
-    byte != separator && byte.is_ascii_digit()
-}
-
 /// The number that the first word of a text is, and what is left behind that word, which is read where it stands.
 pub fn first_number(text: &[u8], separator: u8) -> Result<(u32, Option<&[u8]>), Bad>
     ensures { MatchResult result
         (λ found. number (parts_of separator text.now) ≡ Some (found.0, parts_left separator found.1))
         (λ bad. number (parts_of separator text.now) ≡ None) }
 {
-    let most = text.len().min(MOST_DIGITS);
+    // A number has at most ten digits. So its value is tested once, behind them.
+    let most = text.len().min(10);
     let mut value: u64 = 0;
     let mut end = 0;
-    while end < most && is_digit_in_word(text[end], separator) {
+    while end < most && text[end] != separator && text[end].is_ascii_digit() {
         value = value * 10 + u64::from(text[end] - b'0');
         end += 1;
     }

@@ -2,6 +2,7 @@
 
 ghost use Rattle.hir_lines.specs.Makers as make;
 ghost use Rattle.hir_lines.specs.Pats.{bind_pat, or_pat, pat, range_pat, tuple_pat, tuple_struct_pat};
+ghost use Rattle.hir_lines.specs.Readings.{gives};
 ghost use Rattle.hir_lines.specs.Taking.{Puts};
 
 use crate::builder::Builder;
@@ -19,14 +20,11 @@ pub fn pat<B: Builder>(alloc: Global, words: &mut Line<'_>, builder: &mut B) -> 
     if words.skip(b"bind") {
         bind(words, builder)
     } else if words.skip(b"wild") {
-        words.end()?;
-        builder.pat(Pat::Wild)
+        put(words, builder, Pat::Wild)
     } else if words.skip(b"missing") {
-        words.end()?;
-        builder.pat(Pat::Missing)
+        put(words, builder, Pat::Missing)
     } else if words.skip(b"rest") {
-        words.end()?;
-        builder.pat(Pat::Rest)
+        put(words, builder, Pat::Rest)
     } else if words.skip(b"tuple") {
         tuple(alloc, words, builder)
     } else if words.skip(b"or") {
@@ -37,15 +35,22 @@ pub fn pat<B: Builder>(alloc: Global, words: &mut Line<'_>, builder: &mut B) -> 
         range(words, builder)
     } else if words.skip(b"lit") {
         let literal = words.id()?;
-        words.end()?;
-        builder.pat(Pat::Lit(literal))
+        put(words, builder, Pat::Lit(literal))
     } else if words.skip(b"expr") {
         let expr = words.id()?;
-        words.end()?;
-        builder.pat(Pat::Expr(expr))
+        put(words, builder, Pat::Expr(expr))
     } else {
         Err(Stop::Bad)
     }
+}
+
+/// Adds the pattern, if no word is left.
+#[inline(always)]
+fn put<B: Builder>(words: &Line<'_>, builder: &mut B, pat: Pat) -> Result<(), Stop>
+    ensures { Puts B.has_self B.has_name B.add make.Pat (gives pat) words.now builder.old builder.new result }
+{
+    words.end()?;
+    builder.pat(pat)
 }
 
 fn bind<B: Builder>(words: &mut Line<'_>, builder: &mut B) -> Result<(), Stop>
@@ -53,8 +58,7 @@ fn bind<B: Builder>(words: &mut Line<'_>, builder: &mut B) -> Result<(), Stop>
 {
     let id = words.id()?;
     let subpat = words.optional_id()?;
-    words.end()?;
-    builder.pat(Pat::Bind { id, subpat })
+    put(words, builder, Pat::Bind { id, subpat })
 }
 
 fn tuple<B: Builder>(alloc: Global, words: &mut Line<'_>, builder: &mut B) -> Result<(), Stop>
@@ -103,6 +107,5 @@ fn range<B: Builder>(words: &mut Line<'_>, builder: &mut B) -> Result<(), Stop>
         end: words.optional_id()?,
         range_type: RangeOp::Inclusive,
     };
-    words.end()?;
-    builder.pat(range)
+    put(words, builder, range)
 }

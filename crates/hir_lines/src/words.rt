@@ -13,8 +13,7 @@ use hir_node::Path;
 use std::alloc::{AllocError, Global};
 use std::marker::Model;
 
-/// The words of a text that are left, between bytes that separate them: spaces in a line, colons in an arm or a statement, commas in a
-/// list.
+/// The words of a text that are left, between bytes that separate them: spaces in a line, colons in a word, commas in a list.
 #[derive(Drop)]
 pub struct Words<'a, const SEPARATOR: u8> {
     rest: Option<&'a [u8]>,
@@ -44,7 +43,9 @@ impl<'a, const SEPARATOR: u8> Words<'a, SEPARATOR> {
     pub fn word(&mut self) -> Result<&'a [u8], Bad>
         ensures { MatchResult result (λ word. self.old ≡ word.now ∷ self.new) (λ bad. self.old ≡ []) }
     {
-        let text = self.rest.ok_or(Bad)?;
+        let Some(text) = self.rest else {
+            return Err(Bad);
+        };
         let (word, rest) = cut(text, SEPARATOR);
         self.rest = rest;
         Ok(word)
@@ -72,7 +73,9 @@ impl<'a, const SEPARATOR: u8> Words<'a, SEPARATOR> {
     pub fn number(&mut self) -> Result<u32, Bad>
         ensures { Reads number self.old result self.new }
     {
-        let text = self.rest.ok_or(Bad)?;
+        let Some(text) = self.rest else {
+            return Err(Bad);
+        };
         let (number, rest) = first_number(text, SEPARATOR)?;
         self.rest = rest;
         Ok(number)
@@ -89,7 +92,9 @@ impl<'a, const SEPARATOR: u8> Words<'a, SEPARATOR> {
     pub fn optional(&mut self) -> Result<Option<u32>, Bad>
         ensures { Reads optional self.old result self.new }
     {
-        let text = self.rest.ok_or(Bad)?;
+        let Some(text) = self.rest else {
+            return Err(Bad);
+        };
         match behind_dash(text, SEPARATOR) {
             Some(rest) => {
                 self.rest = rest;
@@ -114,6 +119,8 @@ impl<'a, const SEPARATOR: u8> Words<'a, SEPARATOR> {
     }
 
     /// Takes the next word, if it is a name. The name is kept where there is memory for it.
+    // Inlined, so that what it answers stays in registers.
+    #[inline(always)]
     pub fn name(&mut self, alloc: Global) -> Result<Result<Name, AllocError>, Bad>
         ensures { ReadsKept name self.old result self.new }
     {
@@ -168,7 +175,10 @@ impl<'a, const SEPARATOR: u8> Words<'a, SEPARATOR> {
     fn is_empty(&self) -> bool
         ensures { IsTrue result ↔ (self.now ≡ []) }
     {
-        self.rest.is_none()
+        match self.rest {
+            Some(_) => false,
+            None => true,
+        }
     }
 
     /// How many words are left, but for one: a text has one more than separators.
