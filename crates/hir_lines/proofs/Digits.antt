@@ -38,16 +38,27 @@ too_large xs i large = if_below-large (value xs) (omega (arith, value-front xs i
 -- digits of which the first is no zero have at least the value of a one and zeros
 pub value-long : (xs : List ℕ) (k : ℕ) → k < length xs → 48 < get_or xs 0 0 → 10 ^ k ≤ value (take (k + 1) xs)
 value-long xs zero h first = omega (arith, value-next xs 0 h, first)
-value-long xs (suc k) h first = omega (arith, value-next xs (k + 1) (omega arith), value-long xs k (omega arith) first, pow_more 10 k)
+value-long xs (suc k) h first =
+    let same : value (take (suc k) xs) ≡ value (take (k + 1) xs) = ap (λ n. value (take n xs)) (omega arith) in
+    let power : 10 ^ suc k ≡ 10 ^ (k + 1) = ap (λ n. 10 ^ n) (omega arith) in
+    omega (arith, value-next xs (suc k) h, same, power, pow_more 10 k, value-long xs k (omega arith) first)
 
 pub no_zero : (xs : List ℕ) → 1 < length xs → list_all is_digit xs ≡ true → has_needless_zero xs ≡ false → 48 < get_or xs 0 0
 no_zero [] h all plain = absurd (omega (arith, h))
 no_zero (b ∷ bs) h all plain = grind (arith, nat_tests)
 
 needless_whole : (xs : List ℕ) (i : ℕ) → has_needless_zero (take i xs) ≡ true → has_needless_zero xs ≡ true
-needless_whole [] i e = grind (arith, nat_tests)
+needless_whole [] zero e = grind (arith, nat_tests)
+needless_whole [] (suc i) e = grind (arith, nat_tests)
 needless_whole (b ∷ bs) zero e = grind (arith, nat_tests)
 needless_whole (b ∷ bs) (suc i) e = grind (arith, nat_tests, length-take)
+
+digit_high : (b : ℕ) → is_digit b ≡ true → b ≤ 57
+digit_high b e = grind (arith, nat_tests)
+
+-- digits and one more stay below the next power of ten
+pub digit_more : (e v b : ℕ) → v < 10 ^ e → is_digit b ≡ true → 10 * v + (b - 48) < 10 ^ (e + 1)
+digit_more e v b small digit = omega (arith, small, digit_high b digit, pow_more 10 e)
 
 -- a text in which something is no digit is no number
 pub no_number : (xs : List ℕ) (i : ℕ) → i < length xs → is_digit (get_or xs i 0) ≡ false → number_of xs ≡ None

@@ -4,7 +4,7 @@ use Rattle.std.specs.Prelude.{eqb}
 use Rattle.std.specs.List.{list_all, onto_first, join_with_byte, starts_with}
 use Rattle.std.proofs.Math.Seq.{take-append_seam}
 use Rattle.std.proofs.lemmas.Bool.Decides.{Decides-eqb}
-use Rattle.std.proofs.lemmas.Bool.{cases_lt, cases_bool}
+use Rattle.std.proofs.lemmas.Bool.{cases_lt, cases_Bool}
 use Rattle.std.proofs.lemmas.Grind.{common_steps}
 use Rattle.std.proofs.lemmas.List.{take_more, take_rest}
 use Rattle.std.proofs.lemmas.List.Elements.{All-head, All-push, All-tail}
@@ -92,7 +92,7 @@ FirstWord c xs i = (word : List ℕ) × (words : List (List ℕ)) × (parts_of c
 
 front_of_word : (c : ℕ) (xs : List ℕ) (i : ℕ) → Plain c (take i xs) → FirstWord c xs i
 front_of_word c xs i plain = elim (cases_lt i (length xs)) [
-  | inl h ↦ elim (cases_bool (is_byte c (get_or xs i 0))) [
+  | inl h ↦ elim (cases_Bool (is_byte c (get_or xs i 0))) [
     | inl met ↦ (take i xs, _, front_cut c xs i h plain met, take_all i (take i xs) (omega (arith, length-take i xs)))
     | inr other ↦ let on = front_goes_on c xs i h plain other in (on.word, on.words, on.first, on.front)
   ]

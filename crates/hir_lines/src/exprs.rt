@@ -37,27 +37,27 @@ pub fn expr<B: Builder>(alloc: Global, words: &mut Line<'_>, builder: &mut B) ->
         let_expr(words, builder)
     } else if words.skip(b"if") {
         if_expr(words, builder)
+    } else if words.skip(b"closure") {
+        closure(alloc, words, builder)
+    } else if words.skip(b"match") {
+        match_expr(alloc, words, builder)
     } else if words.skip(b"ref") {
         reference(words, builder)
-    } else if words.skip(b"missing") {
-        put(words, builder, Expr::Missing)
     } else if words.skip(b"tuple") {
         tuple(alloc, words, builder)
-    } else if words.skip(b"array") {
-        array(alloc, words, builder)
-    } else if words.skip(b"repeat") {
-        repeat(words, builder)
-    } else if words.skip(b"loop") {
-        loop_expr(words, builder)
     } else if words.skip(b"assign") {
         assignment(words, builder)
+    } else if words.skip(b"repeat") {
+        repeat(words, builder)
+    } else if words.skip(b"array") {
+        array(alloc, words, builder)
+    } else if words.skip(b"loop") {
+        loop_expr(words, builder)
     } else if words.skip(b"const") {
         let value = words.id()?;
         put(words, builder, Expr::Const(value))
-    } else if words.skip(b"match") {
-        match_expr(alloc, words, builder)
-    } else if words.skip(b"closure") {
-        closure(alloc, words, builder)
+    } else if words.skip(b"missing") {
+        put(words, builder, Expr::Missing)
     } else {
         Err(Stop::Bad)
     }

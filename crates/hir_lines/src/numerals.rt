@@ -38,7 +38,7 @@ pub fn first_number(text: &[u8], separator: u8) -> Result<(u32, Option<&[u8]>), 
     let most = text.len().min(10);
     let mut value: u64 = 0;
     let mut end = 0;
-    while end < most && text[end] != separator && text[end].is_ascii_digit() {
+    while end < most && text[end].is_ascii_digit() && text[end] != separator {
         value = value * 10 + u64::from(text[end] - b'0');
         end += 1;
     }

@@ -19,16 +19,10 @@ pub fn pat<B: Builder>(alloc: Global, words: &mut Line<'_>, builder: &mut B) -> 
 {
     if words.skip(b"bind") {
         bind(words, builder)
-    } else if words.skip(b"wild") {
-        put(words, builder, Pat::Wild)
-    } else if words.skip(b"missing") {
-        put(words, builder, Pat::Missing)
-    } else if words.skip(b"rest") {
-        put(words, builder, Pat::Rest)
     } else if words.skip(b"tuple") {
         tuple(alloc, words, builder)
-    } else if words.skip(b"or") {
-        or_pat(alloc, words, builder)
+    } else if words.skip(b"wild") {
+        put(words, builder, Pat::Wild)
     } else if words.skip(b"tstruct") {
         tuple_struct(alloc, words, builder)
     } else if words.skip(b"range") {
@@ -36,9 +30,15 @@ pub fn pat<B: Builder>(alloc: Global, words: &mut Line<'_>, builder: &mut B) -> 
     } else if words.skip(b"lit") {
         let literal = words.id()?;
         put(words, builder, Pat::Lit(literal))
+    } else if words.skip(b"or") {
+        or_pat(alloc, words, builder)
+    } else if words.skip(b"rest") {
+        put(words, builder, Pat::Rest)
     } else if words.skip(b"expr") {
         let expr = words.id()?;
         put(words, builder, Pat::Expr(expr))
+    } else if words.skip(b"missing") {
+        put(words, builder, Pat::Missing)
     } else {
         Err(Stop::Bad)
     }
