@@ -39,8 +39,9 @@ too_large xs i large = if_below-large (value xs) (omega (arith, value-front xs i
 pub value-long : (xs : List ℕ) (k : ℕ) → k < length xs → 48 < get_or xs 0 0 → 10 ^ k ≤ value (take (k + 1) xs)
 value-long xs zero h first = omega (arith, value-next xs 0 h, first)
 value-long xs (suc k) h first =
-    let same : value (take (suc k) xs) ≡ value (take (k + 1) xs) = ap (λ n. value (take n xs)) (omega arith) in
-    let power : 10 ^ suc k ≡ 10 ^ (k + 1) = ap (λ n. 10 ^ n) (omega arith) in
+    let one : suc k ≡ k + 1 = omega arith in
+    let same : value (take (suc k) xs) ≡ value (take (k + 1) xs) = ap (λ n. value (take n xs)) one in
+    let power : 10 ^ suc k ≡ 10 ^ (k + 1) = ap (λ n. 10 ^ n) one in
     omega (arith, value-next xs (suc k) h, same, power, pow_more 10 k, value-long xs k (omega arith) first)
 
 pub no_zero : (xs : List ℕ) → 1 < length xs → list_all is_digit xs ≡ true → has_needless_zero xs ≡ false → 48 < get_or xs 0 0

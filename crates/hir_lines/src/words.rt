@@ -119,8 +119,6 @@ impl<'a, const SEPARATOR: u8> Words<'a, SEPARATOR> {
     }
 
     /// Takes the next word, if it is a name. The name is kept where there is memory for it.
-    // Inlined: else the name is written and read three times on its way.
-    #[inline(always)]
     pub fn name(&mut self, alloc: Global) -> Result<Result<Name, AllocError>, Bad>
         ensures { ReadsKept name self.old result self.new }
     {
