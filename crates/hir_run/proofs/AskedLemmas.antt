@@ -122,8 +122,12 @@ module _ (may : Question → Bool) (Is : Question → List ℕ → Type 0) where
           none,
         )
         line_fails remaining OutOfMemory (question, says, same, waits_on) =
-            inl (texts, answered_kept new waiting (rw (same, waits_on) w), behind_line (λ text. asks (line_of text) ≡ true) start.count known texts ls'.line ls'.count (some_text ls'.line (Ask question) says (λ e. cc))
-            (ReadsFront-now known rest (texts ++ ls'.line ∷ []) ls'.at_end read') count' (ap asks says))
+            inl (
+              texts,
+              answered_kept new waiting (rw (same, waits_on) w),
+              behind_line (λ text. asks (line_of text) ≡ true) start.count known texts ls'.line ls'.count (some_text ls'.line (Ask question) says (λ e. cc))
+                  (ReadsFront-now known rest (texts ++ ls'.line ∷ []) ls'.at_end read') count' (ap asks says),
+            )
         line_fails remaining InputFailed a = absurd a
         line_fails remaining (Refused fault) a = absurd a
         line_fails remaining (BodyRefused fault) a = absurd a

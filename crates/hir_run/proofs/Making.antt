@@ -79,9 +79,12 @@ asks_none known rest remaining lines old texts (BadLine number) all left read co
     neither (Make maker) m a = absurd (false≢true (sym m))
     neither (Ask question) m a = absurd (false≢true (sym a))
     neither Bad m a = refl
-asks_none known rest remaining lines old texts OutOfMemory all left read count (question, says) =
-    (texts, all, behind_line (λ text. line_behind texts text ≢ Bad) 0 known texts lines.line lines.count (some_text lines.line (Ask question) says (λ e. cc))
-    (ReadsFront-now known rest (texts ++ lines.line ∷ []) lines.at_end read) (omega (arith, count)) (λ bad. let wrong : Ask question ≡ Bad = sym (behind_question texts lines.line question says) ∙ bad in cc))
+asks_none known rest remaining lines old texts OutOfMemory all left read count (question, says) = (
+  texts,
+  all,
+  behind_line (λ text. line_behind texts text ≢ Bad) 0 known texts lines.line lines.count (some_text lines.line (Ask question) says (λ e. cc))
+      (ReadsFront-now known rest (texts ++ lines.line ∷ []) lines.at_end read) (omega (arith, count)) (λ bad. let wrong : Ask question ≡ Bad = sym (behind_question texts lines.line question says) ∙ bad in cc),
+)
 asks_none known rest remaining lines old texts InputFailed all left read count does = absurd does
 asks_none known rest remaining lines old texts OutputFailed all left read count does = absurd does
 asks_none known rest remaining lines old texts (Refused fault) all left read count does = absurd does

@@ -119,7 +119,7 @@ module _ (may : Question → Bool) (Is : Question → List ℕ → Type 0) where
               texts,
               any_answered (asked first texts) old waited new waiting (rw (same, waits_on) answered),
               subst (λ (l : LineState). RefusesAt (λ t. asks (line_of t) ≡ true) start.count known texts l.line l.count) (sym there)
-              (at_question known unread start.count ls texts text left here is read counted),
+                  (at_question known unread start.count ls texts text left here is read counted),
             )
         joined_fails (Refused fault) a = absurd a
         joined_fails (BodyRefused fault) a = absurd a
