@@ -194,7 +194,8 @@ pub fn run<R: Source, W: Sink>(
 ) -> Result<(), RunFault>
     requires reading { R.failed reader.old ≡ false }
     requires writing { W.failed writer.old ≡ false }
-    ensures runs { (taken : LineState) × RunsTo (R.remaining reader.old) (W.contents writer.old) (R.remaining reader.new)
+    ensures runs { (taken : LineState)
+        × RunsTo (R.remaining reader.old) (W.contents writer.old) (R.remaining reader.new)
         (W.contents writer.new) taken result }
     ensures input_failed { R.failed reader.new ≡ is_input_failed result }
     ensures output_failed { W.failed writer.new ≡ is_output_failed result }
@@ -217,7 +218,8 @@ pub fn run_to_exit<R: Source, W: Sink>(
 ) -> Result<(), RunFault>
     requires reading { R.failed reader.old ≡ false }
     requires writing { W.failed writer.old ≡ false }
-    ensures runs { (taken : LineState) × RunsTo (R.remaining reader.old) (W.contents writer.old) (R.remaining reader.new)
+    ensures runs { (taken : LineState)
+        × RunsTo (R.remaining reader.old) (W.contents writer.old) (R.remaining reader.new)
         (W.contents writer.new) taken result }
     ensures input_failed { R.failed reader.new ≡ is_input_failed result }
     ensures output_failed { W.failed writer.new ≡ is_output_failed result }
