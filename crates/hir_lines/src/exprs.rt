@@ -2,7 +2,6 @@
 
 ghost use Rattle.std.specs.Prelude.{IfOk, ◌≡◌};
 ghost use Rattle.hir_lines.specs.Makers as make;
-ghost use Rattle.hir_lines.specs.Readings.{gives};
 ghost use Rattle.hir_lines.specs.Taking.{Puts};
 ghost use Rattle.hir_lines.specs.Exprs.{array_expr, assign_expr, bin_expr, block_expr, call_expr, closure_expr, expr, if_expr, int_expr, let_expr, loop_expr, match_expr, path_expr, ref_expr, repeat_expr, tuple_expr, untyped};
 
@@ -55,22 +54,14 @@ pub fn expr<B: Builder>(alloc: Global, words: &mut Line<'_>, builder: &mut B) ->
         loop_expr(words, builder)
     } else if words.skip(b"const") {
         let value = words.id()?;
-        put(words, builder, Expr::Const(value))
+        words.end()?;
+        builder.expr(Expr::Const(value))
     } else if words.skip(b"missing") {
-        put(words, builder, Expr::Missing)
+        words.end()?;
+        builder.expr(Expr::Missing)
     } else {
         Err(Stop::Bad)
     }
-}
-
-/// Adds the expression, if no word is left.
-// Inlined, as that of patterns, so that the node goes into its arena without a copy on the way.
-#[inline(always)]
-fn put<B: Builder>(words: &Line<'_>, builder: &mut B, expr: Expr) -> Result<(), Stop>
-    ensures { Puts B.has_self B.has_name B.add make.Expr (gives expr) words.now builder.old builder.new result }
-{
-    words.end()?;
-    builder.expr(expr)
 }
 
 fn path<B: Builder>(alloc: Global, words: &mut Line<'_>, builder: &mut B) -> Result<(), Stop>
@@ -87,7 +78,8 @@ fn int<B: Builder>(words: &mut Line<'_>, builder: &mut B) -> Result<(), Stop>
     let Some(n) = int_of(words.word()?) else {
         return Err(Stop::Bad);
     };
-    put(words, builder, Expr::Literal(Literal::Int(n, None)))
+    words.end()?;
+    builder.expr(Expr::Literal(Literal::Int(n, None)))
 }
 
 fn call<B: Builder>(alloc: Global, words: &mut Line<'_>, builder: &mut B) -> Result<(), Stop>
@@ -124,7 +116,8 @@ fn repeat<B: Builder>(words: &mut Line<'_>, builder: &mut B) -> Result<(), Stop>
         initializer: words.id()?,
         repeat: words.id()?,
     };
-    put(words, builder, Expr::Array(repeat))
+    words.end()?;
+    builder.expr(Expr::Array(repeat))
 }
 
 fn reference<B: Builder>(words: &mut Line<'_>, builder: &mut B) -> Result<(), Stop>
@@ -135,7 +128,8 @@ fn reference<B: Builder>(words: &mut Line<'_>, builder: &mut B) -> Result<(), St
         rawness: Rawness::Ref,
         mutability: Mutability::Shared,
     };
-    put(words, builder, reference)
+    words.end()?;
+    builder.expr(reference)
 }
 
 fn binary<B: Builder>(words: &mut Line<'_>, builder: &mut B) -> Result<(), Stop>
@@ -147,7 +141,8 @@ fn binary<B: Builder>(words: &mut Line<'_>, builder: &mut B) -> Result<(), Stop>
     let op = Some(op);
     let lhs = words.id()?;
     let rhs = words.id()?;
-    put(words, builder, Expr::BinaryOp { lhs, rhs, op })
+    words.end()?;
+    builder.expr(Expr::BinaryOp { lhs, rhs, op })
 }
 
 fn let_expr<B: Builder>(words: &mut Line<'_>, builder: &mut B) -> Result<(), Stop>
@@ -155,7 +150,8 @@ fn let_expr<B: Builder>(words: &mut Line<'_>, builder: &mut B) -> Result<(), Sto
 {
     let pat = words.id()?;
     let expr = words.id()?;
-    put(words, builder, Expr::Let { pat, expr })
+    words.end()?;
+    builder.expr(Expr::Let { pat, expr })
 }
 
 fn if_expr<B: Builder>(words: &mut Line<'_>, builder: &mut B) -> Result<(), Stop>
@@ -166,7 +162,8 @@ fn if_expr<B: Builder>(words: &mut Line<'_>, builder: &mut B) -> Result<(), Stop
         then_branch: words.id()?,
         else_branch: words.optional_id()?,
     };
-    put(words, builder, if_expr)
+    words.end()?;
+    builder.expr(if_expr)
 }
 
 fn loop_expr<B: Builder>(words: &mut Line<'_>, builder: &mut B) -> Result<(), Stop>
@@ -177,7 +174,8 @@ fn loop_expr<B: Builder>(words: &mut Line<'_>, builder: &mut B) -> Result<(), St
         label: None,
         source: LoopSource::Loop,
     };
-    put(words, builder, loop_expr)
+    words.end()?;
+    builder.expr(loop_expr)
 }
 
 fn assignment<B: Builder>(words: &mut Line<'_>, builder: &mut B) -> Result<(), Stop>
@@ -185,7 +183,8 @@ fn assignment<B: Builder>(words: &mut Line<'_>, builder: &mut B) -> Result<(), S
 {
     let target = words.id()?;
     let value = words.id()?;
-    put(words, builder, Expr::Assignment { target, value })
+    words.end()?;
+    builder.expr(Expr::Assignment { target, value })
 }
 
 fn match_expr<B: Builder>(alloc: Global, words: &mut Line<'_>, builder: &mut B) -> Result<(), Stop>

@@ -19,8 +19,6 @@ use std::alloc::Global;
 ///
 /// `Bad` where no line is written so, or a second self parameter or name comes; `Memory` where memory was refused or an arena is full,
 /// at no bad line. After either nothing was added.
-// Inlined where the lines of a run are made: a call for each line takes 5 % of making.
-#[inline(always)]
 pub fn make<B: Builder>(alloc: Global, text: &[u8], builder: &mut B) -> Result<bool, Stop>
     ensures makes { Makes B.has_self B.has_name B.add (line_of text.now) builder.old builder.new result }
 {

@@ -2,7 +2,6 @@
 
 ghost use Rattle.hir_lines.specs.Makers as make;
 ghost use Rattle.hir_lines.specs.Pats.{bind_pat, or_pat, pat, range_pat, tuple_pat, tuple_struct_pat};
-ghost use Rattle.hir_lines.specs.Readings.{gives};
 ghost use Rattle.hir_lines.specs.Taking.{Puts};
 
 use crate::builder::Builder;
@@ -22,35 +21,31 @@ pub fn pat<B: Builder>(alloc: Global, words: &mut Line<'_>, builder: &mut B) -> 
     } else if words.skip(b"tuple") {
         tuple(alloc, words, builder)
     } else if words.skip(b"wild") {
-        put(words, builder, Pat::Wild)
+        words.end()?;
+        builder.pat(Pat::Wild)
     } else if words.skip(b"tstruct") {
         tuple_struct(alloc, words, builder)
     } else if words.skip(b"range") {
         range(words, builder)
     } else if words.skip(b"lit") {
         let literal = words.id()?;
-        put(words, builder, Pat::Lit(literal))
+        words.end()?;
+        builder.pat(Pat::Lit(literal))
     } else if words.skip(b"or") {
         or_pat(alloc, words, builder)
     } else if words.skip(b"rest") {
-        put(words, builder, Pat::Rest)
+        words.end()?;
+        builder.pat(Pat::Rest)
     } else if words.skip(b"expr") {
         let expr = words.id()?;
-        put(words, builder, Pat::Expr(expr))
+        words.end()?;
+        builder.pat(Pat::Expr(expr))
     } else if words.skip(b"missing") {
-        put(words, builder, Pat::Missing)
+        words.end()?;
+        builder.pat(Pat::Missing)
     } else {
         Err(Stop::Bad)
     }
-}
-
-/// Adds the pattern, if no word is left.
-#[inline(always)]
-fn put<B: Builder>(words: &Line<'_>, builder: &mut B, pat: Pat) -> Result<(), Stop>
-    ensures { Puts B.has_self B.has_name B.add make.Pat (gives pat) words.now builder.old builder.new result }
-{
-    words.end()?;
-    builder.pat(pat)
 }
 
 fn bind<B: Builder>(words: &mut Line<'_>, builder: &mut B) -> Result<(), Stop>
@@ -58,7 +53,8 @@ fn bind<B: Builder>(words: &mut Line<'_>, builder: &mut B) -> Result<(), Stop>
 {
     let id = words.id()?;
     let subpat = words.optional_id()?;
-    put(words, builder, Pat::Bind { id, subpat })
+    words.end()?;
+    builder.pat(Pat::Bind { id, subpat })
 }
 
 fn tuple<B: Builder>(alloc: Global, words: &mut Line<'_>, builder: &mut B) -> Result<(), Stop>
@@ -107,5 +103,6 @@ fn range<B: Builder>(words: &mut Line<'_>, builder: &mut B) -> Result<(), Stop>
         end: words.optional_id()?,
         range_type: RangeOp::Inclusive,
     };
-    put(words, builder, range)
+    words.end()?;
+    builder.pat(range)
 }
