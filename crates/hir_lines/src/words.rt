@@ -108,7 +108,10 @@ impl<'a, const SEPARATOR: u8> Words<'a, SEPARATOR> {
     pub fn optional_id<K>(&mut self) -> Result<Option<Idx<K>>, Bad>
         ensures { Reads optional self.old result self.new }
     {
-        Ok(self.optional()?.map(Idx::from_raw))
+        match self.optional()? {
+            Some(number) => Ok(Some(Idx::from_raw(number))),
+            None => Ok(None),
+        }
     }
 
     /// Takes the next word, if it is a list of numbers. The list is kept where there is memory for it.
