@@ -1,11 +1,10 @@
 -- What the parts of a run come to.
-use Rattle.std.proofs.Common.{◌≡◌, ◌+◌, ℕ, true, false, List, [], ◌∷◌, ◌++◌, Option, None, Some, Result, Ok, Err, length, inl, inr, refl, sym, ap, ◌∙◌, append_assoc, append-nil, arith, subst}
+use Rattle.std.proofs.Common.{◌≡◌, ◌+◌, ℕ, true, false, List, [], ◌∷◌, ◌++◌, Option, None, Some, Result, Ok, Err, length, inr, refl, sym, ap, ◌∙◌, append_assoc, append-nil, arith, subst}
 use Rattle.std.specs.Prelude.{codes}
 use Rattle.std.specs.List.{list_all}
 use Rattle.hir_io.specs.Ends.{GrowsByFront, IsWrittenUpTo}
 use Rattle.hir_io.specs.LineState.{LineState}
 use Rattle.hir_io.specs.NextLine.{untaken}
-use Rattle.hir_io.specs.Text.{lines}
 use Rattle.hir_io.proofs.EndLemmas.{IsWrittenUpTo-start}
 use Rattle.hir_lines.specs.Line.{Line, Ask, Bad, makes, asks, any_question}
 use Rattle.hir_lines.specs.declared.question.Question.{Question}
@@ -15,7 +14,7 @@ use Rattle.hir_run.specs.declared.fault.RunFault.{RunFault}
 use Rattle.hir_run.specs.declared.fault.RunFault.TheVariants.{BadLine, Refused, BodyRefused, InputFailed, OutputFailed, OutOfMemory}
 use Rattle.hir_run.specs.Made.{Made, body_parts}
 use Rattle.hir_run.specs.Answer.{IsStoreAnswer, IsAnswer}
-use Rattle.hir_run.specs.Program.{is_of_store, Outcome, writes, section, stops, behind_store, on_body, on_store, accepts, made, built_by, IsMeaning, HasAnswers, script, script_of}
+use Rattle.hir_run.specs.Program.{is_of_store, Outcome, writes, section, stops, behind_store, on_body, on_store, accepts, built_by, IsMeaning, HasAnswers, script, script_of}
 use Rattle.hir_run.specs.Run.{EndsWith, IsRefusedBehind}
 use Rattle.hir_run.specs.Stages.{Builds, Finishes, IsMadeBody, Accepts}
 use Rattle.hir_run.proofs.Scripts.{script-append, script-length, behind_texts, behind-cons}

@@ -1,5 +1,5 @@
 -- How a stage ends where no line can be had.
-use Rattle.std.proofs.Common.{◌≡◌, ◌≢◌, ◌+◌, ◌++◌, ◌∷◌, [], ℕ, false, List, Option, Err, length, inl, inr, refl, sym, ap, ◌∙◌, if◌then◌else◌, arith}
+use Rattle.std.proofs.Common.{◌≡◌, ◌≢◌, ◌+◌, ◌++◌, ◌∷◌, [], ℕ, false, List, Option, Err, length, inl, inr, sym, ap, ◌∙◌, if◌then◌else◌, arith}
 use Rattle.hir_io.specs.declared.next.LineFault.{LineFault}
 use Rattle.hir_io.specs.declared.next.LineFault.TheVariants as line
 use Rattle.hir_io.specs.LineState.{LineState}
@@ -20,7 +20,7 @@ use Rattle.hir_run.proofs.Scripts.{Tells, bad_is, behind_make}
 pub build_fails : (known mid rest remaining : Option (List ℕ)) (lines lines' : LineState) (built : Made) (texts : List (List ℕ)) (fault : LineFault) →
     AllMake texts → Reads known texts mid lines.at_end → lines.count ≡ length texts → lines'.count ≡ lines.count + 0 → NextTakes mid rest remaining lines lines' (Err fault) → is_failed_output (Err fault) ≡ false → Builds known rest remaining lines' built (Err (fault_of_line fault))
 build_fails known mid rest remaining lines lines' built texts line.OutOfMemory all read count counted takes quiet =
-    (texts, all, behind_none _ 0 known texts lines'.line lines'.count takes.1 (ReadsFront-now known mid texts lines.at_end read) (omega arith))
+    (texts, all, behind_none (λ text. line_behind texts text ≢ Bad) 0 known texts lines'.line lines'.count takes.1 (ReadsFront-now known mid texts lines.at_end read) (omega arith))
 build_fails known mid rest remaining lines lines' built texts line.InputFailed all read count counted takes quiet =
     (texts, all, ReadsUntilFailure-now known mid remaining texts lines'.pending lines.at_end read takes.1 takes.0)
 build_fails known mid rest remaining lines lines' built texts line.OutputFailed all read count counted takes quiet = cc

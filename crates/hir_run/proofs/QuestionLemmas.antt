@@ -10,7 +10,6 @@ use Rattle.hir_lines.specs.declared.question.Question.{Question}
 use Rattle.hir_run.specs.declared.fault.RunFault.TheVariants.{OutOfMemory}
 use Rattle.hir_run.specs.Program.{Outcome, Course, writes, Runs, IsMeaning, HasAnswers, says, script, script_of, line_behind}
 use Rattle.hir_run.specs.Run.{EndsWith, IsComplete, IsRefusedBehind}
-use Rattle.hir_run.specs.Stages.{asked}
 use Rattle.hir_run.proofs.Refusals.{refused_asking}
 use Rattle.hir_run.proofs.Scripts.{script-append, script-push, behind_texts, behind-asked, behind_question}
 

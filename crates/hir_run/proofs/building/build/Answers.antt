@@ -4,7 +4,7 @@ use Rattle.std.proofs.lemmas.Result.{err_from_is_err_and}
 use Rattle.hir_io.specs.NextLine.{untaken}
 use Rattle.hir_io.proofs.ReadLemmas.{Reads-none, Reads-more, ReadsAll-end}
 use Rattle.hir_run.proofs.Failing.{build_fails, build_line_fails}
-use Rattle.hir_run.specs.Made.{Made, made_of, nothing_made}
+use Rattle.hir_run.specs.Made.{made_of, nothing_made}
 use Rattle.hir_run.specs.Stages.{BuildsLine}
 use Rattle.hir_run.proofs.Scripts.{tells_nothing}
 use Rattle.hir_run.proofs.Making.{Makes-none, makes_line, asks_or_none, asks_reads_none}
