@@ -37,11 +37,11 @@ struct Kept {
 }
 
 impl Kept {
+    ghost use Rattle.std.specs.Prelude.{[], ◌∷◌, ◌++◌};
     ghost use Rattle.hir_lines.specs.Taking.{Adds};
-    ghost use Rattle.hir_lines_tests.specs.Kept.{and_one};
 
     fn keep(&mut self, maker: Maker) -> Result<(), Stop>
-        ensures { Adds (and_one self.old maker) self.old self.new result }
+        ensures { Adds (record self.old { makers = self.old.makers ++ maker ∷ [] }) self.old self.new result }
     {
         match self.makers.push(maker) {
             Ok(()) => Ok(()),
@@ -51,13 +51,29 @@ impl Kept {
 }
 
 impl Builder for Kept {
-    ghost use Rattle.hir_lines_tests.specs.Kept.{and_kept};
+    ghost use Rattle.std.specs.Prelude.{[], ◌∷◌, ◌++◌};
+    ghost use Rattle.hir_lines.specs.Makers as make;
+    ghost use Rattle.hir_lines_tests.specs.declared.kept.Maker.TheVariants as kept;
 
-    ghost has_self = { λ kept. kept.has_self };
+    ghost has_self = { λ before. before.has_self };
 
-    ghost has_name = { λ kept. kept.has_name };
+    ghost has_name = { λ before. before.has_name };
 
-    ghost add = { and_kept };
+    // What a line makes is kept as it came.
+    ghost add = { λ before maker. record before {
+      makers = before.makers ++ elim maker [
+        | make.Binding binding ↦ kept.Binding binding
+        | make.Pat pat ↦ kept.Pat pat
+        | make.TypeRef type_ref ↦ kept.«Type» type_ref
+        | make.Expr expr ↦ kept.Expr expr
+        | make.Hygiene id hygiene ↦ kept.Hygiene id hygiene
+        | make.SelfParam id ↦ kept.SelfParam id
+        | make.Param id ↦ kept.Param id
+        | make.FnName name ↦ kept.FnName name
+        | make.Roots ↦ kept.Roots
+        | make.Root id ↦ kept.Root id
+      ] ∷ [];
+    } };
 
     fn has_self_param(&self) -> bool {
         self.has_self
