@@ -6,15 +6,15 @@ use Rattle.std.proofs.Math.Seq.{take-append_seam}
 use Rattle.std.proofs.lemmas.Bool.Decides.{Decides-eqb}
 use Rattle.std.proofs.lemmas.Bool.{cases_lt, cases_Bool}
 use Rattle.std.proofs.lemmas.Grind.{common_steps}
-use Rattle.std.proofs.lemmas.List.{take_more, take_rest}
+use Rattle.std.proofs.lemmas.List.{take_more}
 use Rattle.std.proofs.lemmas.List.Elements.{All-head, All-push, All-tail}
 use Rattle.std.proofs.lemmas.List.Splits.{slice_split_at, slice_split_none, slice_split-cons_no, join_with_byte-slice_split}
 use Rattle.std.proofs.lemmas.Slice.Eq.{starts_is}
 use Rattle.hir_lines.specs.Numerals.{is_digit, number_of, value, has_needless_zero}
-use Rattle.hir_lines.specs.Readings.{HasWord, Plain, StartsOtherwise, is_byte, parts_of}
+use Rattle.hir_lines.specs.Readings.{HasWord, Plain, StartsOtherwise, is_byte, parts_of, words_from}
 use Rattle.hir_lines.specs.Words.{number}
 use Rattle.hir_lines.proofs.Digits.{no_number, no_number-empty, no_number-needless, no_number-large, no_zero, too_large, value-long, value-next}
-use Rattle.hir_lines.proofs.Splits.{parts_begin}
+use Rattle.hir_lines.proofs.Splits.{parts_begin, words_at, words_past}
 
 split_behind : (c : ℕ) (xs ys part : List ℕ) (parts : List (List ℕ)) → Plain c xs → parts_of c ys ≡ part ∷ parts → parts_of c (xs ++ ys) ≡ (xs ++ part) ∷ parts
 split_behind c [] ys part parts h e = e
@@ -22,30 +22,28 @@ split_behind c (x ∷ xs) ys part parts h e =
     slice_split-cons_no (is_byte c) x (xs ++ ys) (All-head (λ b. is_byte c b ≡ false) x xs h)
     ∙ ap (onto_first x) (split_behind c xs ys part parts (All-tail (λ b. is_byte c b ≡ false) x xs h) e)
 
-parted_at : (xs : List ℕ) (i : ℕ) → i < length xs → xs ≡ take i xs ++ get_or xs i 0 ∷ take (length xs - (i + 1)) (drop (i + 1) xs)
-parted_at xs i h =
-    let behind : take (length xs - (i + 1)) (drop (i + 1) xs) ≡ drop (i + 1) xs = take_rest xs (i + 1) in
-    sym (take-append-drop i xs) ∙ ap (λ ys. take i xs ++ ys) (rw (behind, add-one) (drop-cons xs i 0 h))
+parted_at : (xs : List ℕ) (i : ℕ) → i < length xs → xs ≡ take i xs ++ get_or xs i 0 ∷ drop (i + 1) xs
+parted_at xs i h = sym (take-append-drop i xs) ∙ ap (λ ys. take i xs ++ ys) (rw add-one (drop-cons xs i 0 h))
 
 -- one byte more
 pub plain_more : (c : ℕ) (xs : List ℕ) (i : ℕ) → i < length xs → Plain c (take i xs) → is_byte c (get_or xs i 0) ≡ false → Plain c (take (i + 1) xs)
 plain_more c xs i h plain other = rw (take_more xs i 0 h) (All-push (λ b. is_byte c b ≡ false) (take i xs) (get_or xs i 0) plain other)
 
 -- a separator behind the front ends the word
-pub front_cut : (c : ℕ) (xs : List ℕ) (i : ℕ) → i < length xs → Plain c (take i xs) → is_byte c (get_or xs i 0) ≡ true → parts_of c xs ≡ take i xs ∷ parts_of c (take (length xs - (i + 1)) (drop (i + 1) xs))
+front_cut : (c : ℕ) (xs : List ℕ) (i : ℕ) → i < length xs → Plain c (take i xs) → is_byte c (get_or xs i 0) ≡ true → parts_of c xs ≡ take i xs ∷ parts_of c (drop (i + 1) xs)
 front_cut c xs i h plain met = ap (parts_of c) (parted_at xs i h) ∙ slice_split_at (is_byte c) (take i xs) (get_or xs i 0) _ plain met
 
 -- a front that is all
-pub front_alone : (c : ℕ) (xs : List ℕ) (i : ℕ) → length xs ≤ i → Plain c (take i xs) → parts_of c xs ≡ take i xs ∷ []
+front_alone : (c : ℕ) (xs : List ℕ) (i : ℕ) → length xs ≤ i → Plain c (take i xs) → parts_of c xs ≡ take i xs ∷ []
 front_alone c xs i e plain =
     let whole : take i xs ≡ xs = take_all i xs e in
     rw whole (slice_split_none (is_byte c) xs (rw whole at plain))
 
 -- a front behind which the word ends is the first word
-pub front_ends : (c : ℕ) (xs : List ℕ) (i : ℕ) → Plain c (take i xs) → (i < length xs → is_byte c (get_or xs i 0) ≡ true) → (others : List (List ℕ)) × (parts_of c xs ≡ take i xs ∷ others)
-front_ends c xs i plain stops = elim (cases_lt i (length xs)) [
-  | inl h ↦ (_, front_cut c xs i h plain (stops h))
-  | inr e ↦ ([], front_alone c xs i (omega (arith, e)) plain)
+pub front_ends : (c : ℕ) (xs : List ℕ) (i : ℕ) → i ≤ length xs → Plain c (take i xs) → (i < length xs → is_byte c (get_or xs i 0) ≡ true) → parts_of c xs ≡ take i xs ∷ words_from c (i + 1) xs
+front_ends c xs i within plain stops = elim (cases_lt i (length xs)) [
+  | inl h ↦ front_cut c xs i h plain (stops h) ∙ ap (λ ws. take i xs ∷ ws) (sym (words_at c (i + 1) xs (omega (arith, h))))
+  | inr e ↦ front_alone c xs i (omega (arith, e)) plain ∙ ap (λ ws. take i xs ∷ ws) (sym (words_past c (i + 1) xs (omega (arith, e))))
 ]
 
 -- another byte behind the front goes on with the word
@@ -62,7 +60,7 @@ seam ys n b zs e = grind (arith, common_steps)
 
 pub front_goes_on : (c : ℕ) (xs : List ℕ) (i : ℕ) → i < length xs → Plain c (take i xs) → is_byte c (get_or xs i 0) ≡ false → GoesOn c xs i
 front_goes_on c xs i h plain other =
-    let behind : List ℕ = take (length xs - (i + 1)) (drop (i + 1) xs) in
+    let behind : List ℕ = drop (i + 1) xs in
     let b : ℕ = get_or xs i 0 in
     let more : HasWord (parts_of c behind) = parts_begin (is_byte c) behind in
     let at : parts_of c (take i xs ++ b ∷ behind) ≡ (take i xs ++ b ∷ more.0) ∷ more.1 =

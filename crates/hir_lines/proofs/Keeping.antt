@@ -5,7 +5,7 @@ use Rattle.std.specs.Option.{option_map, option_and_then}
 use Rattle.std.specs.Str.{bytes_eq}
 use Rattle.std.proofs.lemmas.Bool.{false≢true}
 use Rattle.hir_lines.specs.Numerals.{number_of}
-use Rattle.hir_lines.specs.Readings.{all_of, comma, first_word, parts_of}
+use Rattle.hir_lines.specs.Readings.{all_of, alone, comma, each, first_word, parts_of, whole}
 use Rattle.hir_lines.specs.Words.{list_of}
 
 -- these were read of all words, and those are left
@@ -55,6 +55,13 @@ none_read read all items [] is some e = absurd (some refl)
 none_read {X} read all items (word ∷ words) is some e =
     sym is
     ∙ ap (λ (o : Option X). option_map (λ xs. items ++ xs) (option_and_then (λ y. option_map (λ xs. y ∷ xs) (all_of read words)) o)) (lost read word words (read word) refl e)
+
+-- all words are read to the last
+pub all_alone : {X : Type 0} (read : List ℕ → Option X) (words : List (List ℕ)) → whole (each read) words ≡ all_of read words
+all_alone {X} read words = by_found (all_of read words) where
+  by_found : (found : Option (List X)) → option_and_then (λ (f : List X × List (List ℕ)). alone f.0 f.1) (option_map (λ xs. (xs, [])) found) ≡ found
+  by_found None = refl
+  by_found (Some xs) = refl
 
 -- where it isn't so that no word is left, one is
 pub some_left : (r : Bool) (words : List (List ℕ)) → r ≡ true ↔ (words ≡ []) → r ≡ false → words ≡ [] → ⊥

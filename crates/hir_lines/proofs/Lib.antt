@@ -8,6 +8,7 @@ pub mod Forms
 pub mod Fronts
 pub mod Integers
 pub mod Keeping
+pub mod LastLists
 pub mod Patterns
 pub mod Prefixes
 pub mod Separators

@@ -1,9 +1,8 @@
 -- Reading words from the front. A reading gives what the first words say and the words behind them, or nothing where they don't fit.
-use Rattle.std.specs.Prelude.{◌≡◌, ◌≢◌, ℕ, All, Bool, false, eqb, if◌then◌else◌, List, [], ◌∷◌, Option, None, Some, Result, MatchResult, IfOk, ◌↔◌}
+use Rattle.std.specs.Prelude.{◌≡◌, ◌≢◌, ◌+◌, ℕ, zero, suc, All, Bool, false, eqb, if◌then◌else◌, List, [], ◌∷◌, Option, None, Some, Result, MatchResult, length, drop, ◌↔◌}
 use Rattle.std.specs.List.{slice_split}
 use Rattle.std.specs.Option.{option_map, option_and_then}
 use Rattle.std.specs.Str.{bytes_eq}
-use Rattle.std.specs.Borrow.{Bor}
 use Rattle.hir_lines.specs.declared.stop.Stop.{Stop}
 use Rattle.hir_lines.specs.declared.stop.Stop.TheVariants.{Bad}
 
@@ -24,10 +23,16 @@ is_byte c b = eqb b c
 abbrev pub parts_of : ℕ → List ℕ → List (List ℕ)
 parts_of separator text = slice_split (is_byte separator) text
 
--- the parts of what is left behind a separator, where there is one
-abbrev pub parts_left : ℕ → Option (Bor (List ℕ)) → List (List ℕ)
-parts_left separator None = []
-parts_left separator (Some text) = parts_of separator text.now
+-- the parts of a text from a place on; none where that is past its end
+abbrev pub words_from : ℕ → ℕ → List ℕ → List (List ℕ)
+words_from separator zero text = parts_of separator text
+words_from separator (suc n) [] = []
+words_from separator (suc n) (b ∷ bs) = words_from separator n bs
+
+-- the rest of a text from a place on, which isn't past its end
+pub record IsRestFrom (start : ℕ) (text rest : List ℕ) : Type 0 where
+  pub size : start + length rest ≡ length text
+  pub is : rest ≡ drop start text
 
 abbrev pub Reading : Type 0 → Type 0
 Reading X = List (List ℕ) → Option (X × List (List ℕ))
@@ -88,16 +93,15 @@ Says read word result = MatchResult result (λ x. read word ≡ Some x) (λ bad.
 abbrev pub Reads : {X E : Type 0} → Reading X → List (List ℕ) → Result X E → List (List ℕ) → Type 0
 Reads reading old result new = MatchResult result (λ x. reading old ≡ Some (x, new)) (λ bad. reading old ≡ None)
 
--- what a word says, kept where there is memory for it
-abbrev pub SaysKept : {X R E : Type 0} → (List ℕ → Option X) → List ℕ → Result (Result X R) E → Type 0
-SaysKept {X = X} read word result =
-    MatchResult result (λ kept. (x : X) × (read word ≡ Some x) × IfOk kept (λ y. y ≡ x)) (λ bad. read word ≡ None)
+-- what a word says, where memory for it may be refused. It is bad exactly where it says nothing
+abbrev pub SaysOrStops : {X : Type 0} → (List ℕ → Option X) → List ℕ → Result X Stop → Type 0
+SaysOrStops read word result =
+    MatchResult result (λ x. read word ≡ Some x) (λ why. why ≡ Bad ↔ read word ≡ None)
 
--- what a reading finds, kept where there is memory for it
-abbrev pub ReadsKept : {X R E : Type 0} → Reading X → List (List ℕ) → Result (Result X R) E → List (List ℕ) → Type 0
-ReadsKept {X = X} reading old result new =
-    MatchResult result (λ kept. (x : X) × (reading old ≡ Some (x, new)) × IfOk kept (λ y. y ≡ x))
-    (λ bad. reading old ≡ None)
+-- what a reading of these words finds that leaves none, where memory may be refused. They are bad exactly where there is nothing such
+abbrev pub ReadsAll : {X : Type 0} → Reading X → List (List ℕ) → Result X Stop → Type 0
+ReadsAll reading words result =
+    MatchResult result (λ x. reading words ≡ Some (x, [])) (λ why. why ≡ Bad ↔ whole reading words ≡ None)
 
 -- what the words say, if none is left behind it; or that they say nothing
 abbrev pub SaysWhole : {X E : Type 0} → Reading X → List (List ℕ) → Result X E → Type 0

@@ -7,7 +7,7 @@ ghost use Rattle.hir_lines.specs.Words.{number};
 
 use crate::question::{BodyQuestion, Question, StoreQuestion};
 use crate::stop::{Bad, Stop};
-use crate::words::{Line, Words};
+use crate::words::{Line, Words, name_of};
 use hir_base::Idx;
 use std::alloc::Global;
 
@@ -61,9 +61,9 @@ fn resolve(alloc: Global, words: &mut Line<'_>) -> Result<Question, Stop>
     ensures { SaysAll resolve words.old result }
 {
     let expr = words.id()?;
-    let name = words.name(alloc)?;
+    let name = words.name()?;
     let hygiene = words.hygiene()?;
     words.end()?;
-    let asked = BodyQuestion::Resolve(expr, name?, hygiene);
+    let asked = BodyQuestion::Resolve(expr, name_of(alloc, name)?, hygiene);
     Ok(Question::OfBody(asked))
 }

@@ -67,9 +67,9 @@ pub fn expr<B: Builder>(alloc: Global, words: &mut Line<'_>, builder: &mut B) ->
 fn path<B: Builder>(alloc: Global, words: &mut Line<'_>, builder: &mut B) -> Result<(), Stop>
     ensures { Puts B.has_self B.has_name B.add make.Expr path_expr words.old builder.old builder.new result }
 {
-    let name = words.name(alloc)?;
+    let name = words.name()?;
     words.end()?;
-    builder.expr(Expr::Path(path_of(alloc, name?)?))
+    builder.expr(Expr::Path(path_of(alloc, name)?))
 }
 
 fn int<B: Builder>(words: &mut Line<'_>, builder: &mut B) -> Result<(), Stop>
@@ -87,8 +87,6 @@ fn call<B: Builder>(alloc: Global, words: &mut Line<'_>, builder: &mut B) -> Res
 {
     let callee = words.id()?;
     let args = words.list(alloc)?;
-    words.end()?;
-    let args = args?;
     builder.expr(Expr::Call { callee, args })
 }
 
@@ -96,16 +94,13 @@ fn tuple<B: Builder>(alloc: Global, words: &mut Line<'_>, builder: &mut B) -> Re
     ensures { Puts B.has_self B.has_name B.add make.Expr tuple_expr words.old builder.old builder.new result }
 {
     let exprs = words.list(alloc)?;
-    words.end()?;
-    builder.expr(Expr::Tuple { exprs: exprs? })
+    builder.expr(Expr::Tuple { exprs })
 }
 
 fn array<B: Builder>(alloc: Global, words: &mut Line<'_>, builder: &mut B) -> Result<(), Stop>
     ensures { Puts B.has_self B.has_name B.add make.Expr array_expr words.old builder.old builder.new result }
 {
     let elements = words.list(alloc)?;
-    words.end()?;
-    let elements = elements?;
     builder.expr(Expr::Array(Array::ElementList { elements }))
 }
 
@@ -192,7 +187,7 @@ fn match_expr<B: Builder>(alloc: Global, words: &mut Line<'_>, builder: &mut B) 
 {
     let expr = words.id()?;
     let arms = words.each(alloc)?;
-    builder.expr(Expr::Match { expr, arms: arms? })
+    builder.expr(Expr::Match { expr, arms })
 }
 
 fn closure<B: Builder>(alloc: Global, words: &mut Line<'_>, builder: &mut B) -> Result<(), Stop>
@@ -200,8 +195,6 @@ fn closure<B: Builder>(alloc: Global, words: &mut Line<'_>, builder: &mut B) -> 
 {
     let body = words.id()?;
     let args = words.list(alloc)?;
-    words.end()?;
-    let args = args?;
     let closure = Expr::Closure {
         arg_types: untyped(alloc, args.as_slice())?,
         args,
@@ -232,7 +225,7 @@ fn block<B: Builder>(alloc: Global, words: &mut Line<'_>, builder: &mut B) -> Re
     let statements = words.each(alloc)?;
     let block = Expr::Block {
         id,
-        statements: statements?,
+        statements,
         tail,
         label: None,
         unsafe_: Unsafe::No,

@@ -11,7 +11,7 @@ use crate::exprs::expr;
 use crate::pats::pat;
 use crate::stop::Stop;
 use crate::types::type_ref;
-use crate::words::{Line, Words};
+use crate::words::{Line, Words, name_of};
 use hir_node::{Binding, BindingAnnotation, ExprOrPatId};
 use std::alloc::Global;
 
@@ -64,11 +64,11 @@ fn taken(outcome: Result<(), Stop>) -> Result<bool, Stop>
 fn bind<B: Builder>(alloc: Global, words: &mut Line<'_>, builder: &mut B) -> Result<(), Stop>
     ensures { PutsMaker B.has_self B.has_name B.add bind words.old builder.old builder.new result }
 {
-    let name = words.name(alloc)?;
+    let name = words.name()?;
     let hygiene = words.hygiene()?;
     words.end()?;
     builder.binding(Binding {
-        name: name?,
+        name: name_of(alloc, name)?,
         mode: BindingAnnotation::Unannotated,
         problems: None,
         hygiene,
@@ -121,13 +121,13 @@ fn param<B: Builder>(words: &mut Line<'_>, builder: &mut B) -> Result<(), Stop>
 fn fn_name<B: Builder>(alloc: Global, words: &mut Line<'_>, builder: &mut B) -> Result<(), Stop>
     ensures { PutsMaker B.has_self B.has_name B.add fn_name words.old builder.old builder.new result }
 {
-    let name = words.name(alloc)?;
+    let name = words.name()?;
     words.end()?;
     // A second name is bad, whether or not there is memory for it.
     if builder.has_fn_name() {
         return Err(Stop::Bad);
     }
-    builder.fn_name(name?)
+    builder.fn_name(name_of(alloc, name)?)
 }
 
 fn roots<B: Builder>(words: &Line<'_>, builder: &mut B) -> Result<(), Stop>

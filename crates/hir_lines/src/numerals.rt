@@ -1,9 +1,9 @@
 //! Numbers as they are written in a line.
 
-ghost use Rattle.std.specs.Prelude.{◌≡◌, Some, None, MatchResult};
+ghost use Rattle.std.specs.Prelude.{◌≡◌, ◌+◌, ◌≤◌, Some, None, IfOk, MatchResult, length};
 ghost use Rattle.std.specs.List.{list_all};
 ghost use Rattle.hir_lines.specs.Numerals.{has_needless_zero, int_of, is_digit, is_numeral, without_minus};
-ghost use Rattle.hir_lines.specs.Readings.{parts_left, parts_of};
+ghost use Rattle.hir_lines.specs.Readings.{parts_of, words_from};
 ghost use Rattle.hir_lines.specs.Words.{number};
 
 use crate::stop::Bad;
@@ -28,10 +28,11 @@ fn is_numeral(text: &[u8]) -> bool
     !text.is_empty() && !has_needless_zero(text) && are_digits(text)
 }
 
-/// The number that the first word of a text is, and what is left behind that word, which is read where it stands.
-pub fn first_number(text: &[u8], separator: u8) -> Result<(u32, Option<&[u8]>), Bad>
-    ensures { MatchResult result
-        (λ found. number (parts_of separator text.now) ≡ Some (found.0, parts_left separator found.1))
+/// The number that the first word of a text is, which is read where it stands, and how long that word is.
+pub fn first_number(text: &[u8], separator: u8) -> Result<(u32, usize), Bad>
+    ensures within { IfOk result (λ found. found.1 ≤ length text.now) }
+    ensures number { MatchResult result
+        (λ found. number (parts_of separator text.now) ≡ Some (found.0, words_from separator (found.1 + 1) text.now))
         (λ bad. number (parts_of separator text.now) ≡ None) }
 {
     // A number has at most ten digits. So its value is tested once, behind them.
@@ -45,13 +46,10 @@ pub fn first_number(text: &[u8], separator: u8) -> Result<(u32, Option<&[u8]>), 
     if end == 0 || has_needless_zero(&text[..end]) || value > u64::from(u32::MAX) {
         return Err(Bad);
     }
-    if end == text.len() {
-        return Ok((value as u32, None));
-    }
-    if text[end] != separator {
+    if end < text.len() && text[end] != separator {
         return Err(Bad);
     }
-    Ok((value as u32, Some(&text[end + 1..])))
+    Ok((value as u32, end))
 }
 
 /// The text after a minus, where there is one.

@@ -60,10 +60,8 @@ fn bind<B: Builder>(words: &mut Line<'_>, builder: &mut B) -> Result<(), Stop>
 fn tuple<B: Builder>(alloc: Global, words: &mut Line<'_>, builder: &mut B) -> Result<(), Stop>
     ensures { Puts B.has_self B.has_name B.add make.Pat tuple_pat words.old builder.old builder.new result }
 {
-    let args = words.list(alloc)?;
-    words.end()?;
     let tuple = Pat::Tuple {
-        args: args?,
+        args: words.list(alloc)?,
         ellipsis: None,
     };
     builder.pat(tuple)
@@ -72,9 +70,7 @@ fn tuple<B: Builder>(alloc: Global, words: &mut Line<'_>, builder: &mut B) -> Re
 fn or_pat<B: Builder>(alloc: Global, words: &mut Line<'_>, builder: &mut B) -> Result<(), Stop>
     ensures { Puts B.has_self B.has_name B.add make.Pat or_pat words.old builder.old builder.new result }
 {
-    let alternatives = words.list(alloc)?;
-    words.end()?;
-    builder.pat(Pat::Or(alternatives?))
+    builder.pat(Pat::Or(words.list(alloc)?))
 }
 
 fn tuple_struct<B: Builder>(
@@ -84,12 +80,11 @@ fn tuple_struct<B: Builder>(
 ) -> Result<(), Stop>
     ensures { Puts B.has_self B.has_name B.add make.Pat tuple_struct_pat words.old builder.old builder.new result }
 {
-    let name = words.name(alloc)?;
+    let name = words.name()?;
     let args = words.list(alloc)?;
-    words.end()?;
     let tuple_struct = Pat::TupleStruct {
-        path: path_of(alloc, name?)?,
-        args: args?,
+        path: path_of(alloc, name)?,
+        args,
         ellipsis: None,
     };
     builder.pat(tuple_struct)

@@ -7,7 +7,7 @@ use hir_base::ExactEq;
 use std::alloc::AllocError;
 use thiserror::Error;
 
-/// Words that aren't written so. Who reads them takes no memory, or hands on apart what was refused of it.
+/// Words that aren't written so. Who answers this alone takes no memory.
 #[derive(Clone, Copy, Drop)]
 pub struct Bad;
 

@@ -32,17 +32,15 @@ pub fn type_ref(alloc: Global, words: &mut Line<'_>) -> Result<TypeRef, Stop>
 fn path(alloc: Global, words: &mut Line<'_>) -> Result<TypeRef, Stop>
     ensures { SaysAll path_type words.old result }
 {
-    let name = words.name(alloc)?;
+    let name = words.name()?;
     words.end()?;
-    Ok(TypeRef::Path(path_of(alloc, name?)?))
+    Ok(TypeRef::Path(path_of(alloc, name)?))
 }
 
 fn tuple(alloc: Global, words: &mut Line<'_>) -> Result<TypeRef, Stop>
     ensures { SaysAll tuple_type words.old result }
 {
-    let types = words.list(alloc)?;
-    words.end()?;
-    Ok(TypeRef::Tuple(types?))
+    Ok(TypeRef::Tuple(words.list(alloc)?))
 }
 
 fn array(words: &mut Line<'_>) -> Result<TypeRef, Stop>

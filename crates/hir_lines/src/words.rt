@@ -1,13 +1,14 @@
 //! The words of a line, the parts of a word and the numbers of a list, taken one by one.
 
-ghost use Rattle.std.specs.Prelude.{◌≡◌, ◌∷◌, ◌++◌, ◌↔◌, [], ℕ, List, MatchResult, IfOk, IfNone, IfSome, IsTrue, codes, false, position};
+ghost use Rattle.std.specs.Prelude.{◌≡◌, ◌∷◌, ◌++◌, ◌+◌, ◌<◌, ◌≤◌, ◌↔◌, [], ℕ, List, None, Some, MatchResult, IfOk, IsTrue, codes, false, length, take, true};
 ghost use Rattle.std.specs.List.{count_by};
-ghost use Rattle.hir_lines.specs.Readings.{HasWord, Plain, Reads, ReadsKept, Says, SaysKept, StartsOtherwise, each, is_byte, parts_left, parts_of};
-ghost use Rattle.hir_lines.specs.Words.{expansion, hygiene, int, list, list_of, name, number, op, optional, plain};
+ghost use Rattle.hir_lines.specs.Names.{is_name};
+ghost use Rattle.hir_lines.specs.Readings.{HasWord, IsRestFrom, Plain, Reads, ReadsAll, Says, SaysOrStops, StartsOtherwise, each, is_byte, parts_of, words_from};
+ghost use Rattle.hir_lines.specs.Words.{expansion, hygiene, list, list_of, name, number, optional, plain};
 
 use crate::names::is_name;
 use crate::numerals::first_number;
-use crate::stop::Bad;
+use crate::stop::{Bad, Stop};
 use hir_base::{HygieneId, Idx, Name, Seq, ShortList, SyntaxContext};
 use hir_node::Path;
 use std::alloc::{AllocError, Global};
@@ -16,7 +17,9 @@ use std::marker::Model;
 /// The words of a text that are left, between bytes that separate them: spaces in a line, colons in a word, commas in a list.
 #[derive(Drop)]
 pub struct Words<'a, const SEPARATOR: u8> {
-    rest: Option<&'a [u8]>,
+    text: &'a [u8],
+    // Where the next word begins: past the end of the text where none is left.
+    start: usize,
 }
 
 /// The words of a line.
@@ -24,11 +27,11 @@ pub type Line<'a> = Words<'a, b' '>;
 
 impl<'a, const SEPARATOR: u8> Model for Words<'a, SEPARATOR> {
     ghost use Rattle.std.specs.Prelude.{List, ℕ};
-    ghost use Rattle.hir_lines.specs.Readings.{parts_left};
+    ghost use Rattle.hir_lines.specs.Readings.{words_from};
 
     ghost Value = { List (List ℕ) };
 
-    ghost view = { λ w. parts_left SEPARATOR w.rest };
+    ghost view = { λ w. words_from SEPARATOR w.start w.text.now };
 }
 
 impl<'a, const SEPARATOR: u8> Words<'a, SEPARATOR> {
@@ -36,19 +39,17 @@ impl<'a, const SEPARATOR: u8> Words<'a, SEPARATOR> {
     pub fn new(text: &'a [u8]) -> Words<'a, SEPARATOR>
         ensures { result ≡ parts_of SEPARATOR text.now }
     {
-        Words { rest: Some(text) }
+        Words { text, start: 0 }
     }
 
     /// Takes the next word.
     pub fn word(&mut self) -> Result<&'a [u8], Bad>
         ensures { MatchResult result (λ word. self.old ≡ word.now ∷ self.new) (λ bad. self.old ≡ []) }
     {
-        let Some(text) = self.rest else {
-            return Err(Bad);
-        };
-        let (word, rest) = cut(text, SEPARATOR);
-        self.rest = rest;
-        Ok(word)
+        let text = rest_from(self.text, self.start)?;
+        let end = word_len(text, SEPARATOR);
+        self.start += end + 1;
+        Ok(&text[..end])
     }
 
     /// Takes the next word, if it is this one, and answers whether it is.
@@ -57,27 +58,23 @@ impl<'a, const SEPARATOR: u8> Words<'a, SEPARATOR> {
         ensures yes { IsTrue result → self.old ≡ word.now ∷ self.new }
         ensures no { result ≡ false → (self.new ≡ self.old) × StartsOtherwise word.now self.old }
     {
-        let Some(text) = self.rest else {
+        let Ok(text) = rest_from(self.text, self.start) else {
             return false;
         };
-        match behind(text, word, SEPARATOR) {
-            Some(rest) => {
-                self.rest = rest;
-                true
-            }
-            None => false,
+        if !begins_with(text, word, SEPARATOR) {
+            return false;
         }
+        self.start += word.len() + 1;
+        true
     }
 
     /// Takes the next word, if it is a number.
     pub fn number(&mut self) -> Result<u32, Bad>
         ensures { Reads number self.old result self.new }
     {
-        let Some(text) = self.rest else {
-            return Err(Bad);
-        };
-        let (number, rest) = first_number(text, SEPARATOR)?;
-        self.rest = rest;
+        let text = rest_from(self.text, self.start)?;
+        let (number, end) = first_number(text, SEPARATOR)?;
+        self.start += end + 1;
         Ok(number)
     }
 
@@ -92,16 +89,12 @@ impl<'a, const SEPARATOR: u8> Words<'a, SEPARATOR> {
     pub fn optional(&mut self) -> Result<Option<u32>, Bad>
         ensures { Reads optional self.old result self.new }
     {
-        let Some(text) = self.rest else {
-            return Err(Bad);
-        };
-        match behind_dash(text, SEPARATOR) {
-            Some(rest) => {
-                self.rest = rest;
-                Ok(None)
-            }
-            None => Ok(Some(self.number()?)),
+        let text = rest_from(self.text, self.start)?;
+        if begins_with_dash(text, SEPARATOR) {
+            self.start += 2;
+            return Ok(None);
         }
+        Ok(Some(self.number()?))
     }
 
     /// Takes the next word, if it is the number of something or a dash.
@@ -114,22 +107,17 @@ impl<'a, const SEPARATOR: u8> Words<'a, SEPARATOR> {
         }
     }
 
-    /// Takes the next word, if it is a list of numbers. The list is kept where there is memory for it.
-    pub fn list<K>(&mut self, alloc: Global) -> Result<Result<ShortList<Idx<K>>, AllocError>, Bad>
-        ensures { ReadsKept list self.old result self.new }
-    {
-        list(alloc, self.word()?)
-    }
-
-    /// Takes the next word, if it is a name. The name is kept where there is memory for it.
-    pub fn name(&mut self, alloc: Global) -> Result<Result<Name, AllocError>, Bad>
-        ensures { ReadsKept name self.old result self.new }
+    /// Takes the next word, if it is a name.
+    pub fn name(&mut self) -> Result<&'a [u8], Bad>
+        ensures { MatchResult result
+            (λ word. (is_name word.now ≡ true) × (name self.old ≡ Some (word.now, self.new)))
+            (λ bad. name self.old ≡ None) }
     {
         let word = self.word()?;
         if !is_name(word) {
             return Err(Bad);
         }
-        Ok(Name::from_ascii(alloc, word))
+        Ok(word)
     }
 
     /// Takes the next word, if it is the number of a macro expansion: the hygiene of that expansion.
@@ -149,9 +137,9 @@ impl<'a, const SEPARATOR: u8> Words<'a, SEPARATOR> {
         self.expansion()
     }
 
-    /// Takes all the words that are left, if each says a value of this type. They are kept where there is memory for them.
-    pub fn each<T: Word + Drop>(&mut self, alloc: Global) -> Result<Result<Seq<T>, AllocError>, Bad>
-        ensures { ReadsKept (each T.said) self.old result self.new }
+    /// Takes all the words that are left, if each says a value of this type. That memory was refused is said behind the last.
+    pub fn each<T: Word + Drop>(&mut self, alloc: Global) -> Result<Seq<T>, Stop>
+        ensures { ReadsAll (each T.said) self.old result }
     {
         // Room for each and no more: a list that grows while it is read keeps room that it never uses.
         let mut kept = Seq::with_capacity(alloc, self.len());
@@ -159,35 +147,43 @@ impl<'a, const SEPARATOR: u8> Words<'a, SEPARATOR> {
             let item = T::read(self.word()?)?;
             kept = and_item(kept, item);
         }
-        Ok(kept)
+        Ok(kept?)
     }
 
     /// Refuses words that are left.
     pub fn end(&self) -> Result<(), Bad>
         ensures { MatchResult result (λ done. self.now ≡ []) (λ bad. HasWord self.now) }
     {
-        match self.rest {
-            Some(_) => Err(Bad),
-            None => Ok(()),
+        if !self.is_empty() {
+            return Err(Bad);
         }
+        Ok(())
     }
 
     /// Whether no word is left.
     fn is_empty(&self) -> bool
         ensures { IsTrue result ↔ (self.now ≡ []) }
     {
-        match self.rest {
-            Some(_) => false,
-            None => true,
-        }
+        self.start > self.text.len()
     }
 
-    /// How many words are left, but for one: a text has one more than separators.
+    /// How many words are left: a text has one more than separators.
     fn len(&self) -> usize {
-        match self.rest {
-            Some(text) => count(text, SEPARATOR).saturating_add(1),
-            None => 0,
+        match rest_from(self.text, self.start) {
+            Ok(text) => count(text, SEPARATOR).saturating_add(1),
+            Err(_) => 0,
         }
+    }
+}
+
+impl<'a> Words<'a, b' '> {
+    /// The numbers of the last word, if it is a list of them. That memory was refused is said behind the last.
+    // The word isn't cut off first: where another is behind it, one of the numbers has a space, and is none.
+    pub fn list<K>(&self, alloc: Global) -> Result<ShortList<Idx<K>>, Stop>
+        ensures { ReadsAll list self.now result }
+    {
+        let text = rest_from(self.text, self.start)?;
+        list(alloc, text)
     }
 }
 
@@ -202,41 +198,52 @@ pub trait Word: Sized {
         ensures { Says said word.now result };
 }
 
-/// The plain path of a name.
-pub fn path_of(alloc: Global, name: Name) -> Result<Path, AllocError>
-    ensures { IfOk result (λ path. path ≡ plain name) }
+/// The name that a word is.
+pub fn name_of(alloc: Global, word: &[u8]) -> Result<Name, AllocError>
+    requires { is_name word.now ≡ true }
+    ensures { IfOk result (λ name. name ≡ word.now) }
 {
-    Ok(Path::from_name(alloc, name)?)
+    Name::from_ascii(alloc, word)
+}
+
+/// The plain path of the name that a word is.
+pub fn path_of(alloc: Global, word: &[u8]) -> Result<Path, AllocError>
+    requires { is_name word.now ≡ true }
+    ensures { IfOk result (λ path. path ≡ plain word.now) }
+{
+    Ok(Path::from_name(alloc, name_of(alloc, word)?)?)
 }
 
 /// The numbers that a word is, or none for a dash.
 #[tactic(auto, unfolding(crate::specs::Words::list_of))]
-fn list<K>(alloc: Global, word: &[u8]) -> Result<Result<ShortList<Idx<K>>, AllocError>, Bad>
-    ensures { SaysKept list_of word.now result }
+fn list<K>(alloc: Global, word: &[u8]) -> Result<ShortList<Idx<K>>, Stop>
+    ensures { SaysOrStops list_of word.now result }
 {
+    let mut kept = ShortList::new();
     if word == b"-".as_slice() {
-        return Ok(Ok(ShortList::new()));
+        return Ok(kept);
     }
-    let mut kept = Ok(ShortList::new());
+    let mut room = Ok(());
     let mut numbers: Words<'_, b','> = Words::new(word);
     while !numbers.is_empty() {
         let id = numbers.id()?;
-        kept = and_id(alloc, kept, id);
+        room = and_id(alloc, &mut kept, room, id);
     }
+    room?;
     Ok(kept)
 }
 
-/// An id more, where the ids before it were kept.
+/// An id more, where there was room for the ids before it.
 fn and_id<K>(
     alloc: Global,
-    kept: Result<ShortList<Idx<K>>, AllocError>,
+    kept: &mut ShortList<Idx<K>>,
+    room: Result<(), AllocError>,
     id: Idx<K>,
-) -> Result<ShortList<Idx<K>>, AllocError>
-    ensures { (ids : List ℕ) → IfOk kept (λ old. old ≡ ids) → IfOk result (λ new. new ≡ ids ++ id ∷ []) }
+) -> Result<(), AllocError>
+    ensures { (ids : List ℕ) → IfOk room (λ done. kept.old ≡ ids) → IfOk result (λ done. kept.new ≡ ids ++ id ∷ []) }
 {
-    let mut ids = kept?;
-    ids.push(alloc, id)?;
-    Ok(ids)
+    room?;
+    kept.push(alloc, id)
 }
 
 /// An item more, where the items before it were kept.
@@ -252,52 +259,64 @@ fn and_item<T: Drop>(kept: Result<Seq<T>, AllocError>, item: T) -> Result<Seq<T>
 fn count(text: &[u8], byte: u8) -> usize
     ensures { result ≡ count_by (is_byte byte) text.now }
 {
-    text.iter().filter(|b| **b == byte).count()
+    let mut count = 0;
+    for b in text {
+        if *b == byte {
+            count += 1;
+        }
+    }
+    count
 }
 
-/// What is left behind the first word of a text, if it is this one.
-fn behind<'a>(text: &'a [u8], word: &[u8], separator: u8) -> Option<Option<&'a [u8]>>
+/// The rest of a text from a place on, unless that is past its end.
+fn rest_from(text: &[u8], start: usize) -> Result<&[u8], Bad>
+    ensures { MatchResult result (λ rest. IsRestFrom start text.now rest.now) (λ bad. length text.now < start) }
+{
+    if start > text.len() {
+        return Err(Bad);
+    }
+    Ok(&text[start..])
+}
+
+/// How long the first word of a text is.
+fn word_len(text: &[u8], separator: u8) -> usize
+    ensures within { result ≤ length text.now }
+    ensures first { parts_of separator text.now ≡ take result text.now ∷ words_from separator (result + 1) text.now }
+{
+    let mut end = 0;
+    while end < text.len() && text[end] != separator {
+        end += 1;
+    }
+    end
+}
+
+/// Whether the first word of a text is this one.
+fn begins_with(text: &[u8], word: &[u8], separator: u8) -> bool
     requires { Plain separator word.now }
-    ensures some { IfSome result (λ rest. parts_of separator text.now ≡ word.now ∷ parts_left separator rest) }
-    ensures none { IfNone result (StartsOtherwise word.now (parts_of separator text.now)) }
+    ensures within { IsTrue result → length word.now ≤ length text.now }
+    ensures yes { IsTrue result →
+        parts_of separator text.now ≡ word.now ∷ words_from separator (length word.now + 1) text.now }
+    ensures no { result ≡ false → StartsOtherwise word.now (parts_of separator text.now) }
 {
     if !text.starts_with(word) {
-        return None;
+        return false;
     }
     let end = word.len();
     if end == text.len() {
-        return Some(None);
+        return true;
     }
-    if text[end] != separator {
-        return None;
-    }
-    Some(Some(&text[end + 1..]))
+    text[end] == separator
 }
 
-/// What is left behind the first word of a text, if it is a dash. A dash that separates is no word.
-fn behind_dash(text: &[u8], separator: u8) -> Option<Option<&[u8]>>
-    ensures some { IfSome result (λ rest. parts_of separator text.now ≡ codes "-" ∷ parts_left separator rest) }
-    ensures none { IfNone result (StartsOtherwise (codes "-") (parts_of separator text.now)) }
+/// Whether the first word of a text is a dash.
+fn begins_with_dash(text: &[u8], separator: u8) -> bool
+    ensures within { IsTrue result → 1 ≤ length text.now }
+    ensures yes { IsTrue result → parts_of separator text.now ≡ codes "-" ∷ words_from separator 2 text.now }
+    ensures no { result ≡ false → StartsOtherwise (codes "-") (parts_of separator text.now) }
 {
+    // A dash that separates is no word.
     if separator == b'-' {
-        return None;
+        return false;
     }
-    behind(text, b"-", separator)
-}
-
-/// The first place of a byte.
-fn find(text: &[u8], byte: u8) -> Option<usize>
-    ensures { result ≡ position (is_byte byte) text.now }
-{
-    text.iter().position(|b| *b == byte)
-}
-
-/// The text before the first separator, and the text after it, where there is one.
-fn cut(text: &[u8], separator: u8) -> (&[u8], Option<&[u8]>)
-    ensures { parts_of separator text.now ≡ result.0.now ∷ parts_left separator result.1 }
-{
-    match find(text, separator) {
-        Some(i) => (&text[..i], Some(&text[i + 1..])),
-        None => (text, None),
-    }
+    begins_with(text, b"-", separator)
 }

@@ -5,9 +5,9 @@ use Rattle.std.proofs.lemmas.Grind.{common_steps}
 use Rattle.hir_lines.specs.Numerals.{has_needless_zero, if_below, is_digit, number_of, value}
 use Rattle.hir_lines.specs.Readings.{is_byte}
 use Rattle.hir_lines.proofs.Digits.{digit_more, if_below-below, number_is, value-next}
-use Rattle.hir_lines.proofs.Fronts.{eleven_digits, front_alone, front_cut, front_number, large_front, needless_front, no_digit, no_front, plain_more}
+use Rattle.hir_lines.proofs.Fronts.{eleven_digits, front_ends, front_number, large_front, needless_front, no_digit, no_front, plain_more}
 use Rattle.hir_lines.proofs.numerals.first_number.Goals as goal
-use Rattle.hir_lines.proofs.numerals.first_number.Goals.{then-loop-end-test+else-is_ascii_digit, then-loop-end-test+then-is_ascii_digit+else-text-end, else-loop-end-test, then-end-eq0-via-then-end-eq0, then-end-eq0-via-else-end-eq0+then-has_needless_zero, then-end-eq0-via-else-end-eq0+else-has_needless_zero+then-value-from}
+use Rattle.hir_lines.proofs.numerals.first_number.Goals.{then-loop-end-test+else-is_ascii_digit, then-loop-end-test+then-is_ascii_digit+else-text-end, else-loop-end-test, then-end-eq0-via-then-end-eq0, then-end-eq0-via-else-end-eq0+then-has_needless_zero, then-end-eq0-via-else-end-eq0+else-has_needless_zero+then-value-from, else-end-text-via-else-end-text, else-end-text-via-then-end-text+else-text-end-2}
 
 pub loop-end-preserved : goal.loop-end-preserved
 loop-end-preserved c =
@@ -26,8 +26,8 @@ loop-end-preserved c =
       small = omega (arith, digit_more i c.loop-end.value (get_or text i 0) c.loop-end.invariant.small digit, c.from.ensures);
     }
 
-pub returns-then-end-eq0 : goal.returns-then-end-eq0
-returns-then-end-eq0 c =
+pub returns-then-end-eq0-clause-number : goal.returns-then-end-eq0-clause-number
+returns-then-end-eq0-clause-number c =
     let text = c.args.text.now in
     let i = c.loop-end.end in
     let plain = c.loop-end.invariant.plain in
@@ -35,32 +35,21 @@ returns-then-end-eq0 c =
     elim c.then-end-eq0.branch [
       | then-end-eq0-via-then-end-eq0 w ↦ elim c.loop-end-test.branch [
         | then-loop-end-test+else-is_ascii_digit v ↦ elim (cases_Bool (is_byte c.args.separator (get_or text i 0))) [
-          | inl met ↦ no_front _ (take i text) _ (front_cut c.args.separator text i (omega (arith, v.loop-end-test.true)) plain met) (none w.if-end-eq0.true)
+          | inl met ↦ no_front _ (take i text) _ (front_ends c.args.separator text i c.loop-end.invariant.within plain (λ h. met)) (none w.if-end-eq0.true)
           | inr other ↦ no_digit c.args.separator text i (omega (arith, v.loop-end-test.true)) plain other (sym v.is_ascii_digit.ensures.value ∙ v.if-is_ascii_digit.false)
         ]
-        | then-loop-end-test+then-is_ascii_digit+else-text-end v ↦ no_front _ (take i text) _ (front_cut c.args.separator text i (omega (arith, v.loop-end-test.true)) plain (grind (arith, nat_tests))) (none w.if-end-eq0.true)
-        | else-loop-end-test v ↦ no_front _ (take i text) _ (front_alone c.args.separator text i (omega (arith, v.loop-end-test.false, w.if-end-eq0.true)) plain) (none w.if-end-eq0.true)
+        | then-loop-end-test+then-is_ascii_digit+else-text-end v ↦ no_front _ (take i text) _ (front_ends c.args.separator text i c.loop-end.invariant.within plain (λ h. grind (arith, nat_tests))) (none w.if-end-eq0.true)
+        | else-loop-end-test v ↦ no_front _ (take i text) _ (front_ends c.args.separator text i c.loop-end.invariant.within plain (λ h. absurd (omega (arith, h, v.loop-end-test.false, w.if-end-eq0.true)))) (none w.if-end-eq0.true)
       ]
       | then-end-eq0-via-else-end-eq0+then-has_needless_zero w ↦ needless_front c.args.separator text i plain (sym w.has_needless_zero.ensures ∙ w.if-has_needless_zero.true)
       | then-end-eq0-via-else-end-eq0+else-has_needless_zero+then-value-from w ↦ large_front c.args.separator text i plain (omega (arith, c.loop-end.invariant.value_is, w.if-value-from.true, w.from-else-has_needless_zero.ensures))
     ]
 
-pub returns-then-end-text : goal.returns-then-end-text
-returns-then-end-text c =
+pub returns-then-text-end-2-clause-number : goal.returns-then-text-end-2-clause-number
+returns-then-text-end-2-clause-number c =
     let text = c.args.text.now in
     let i = c.loop-end.end in
-    let some : length (take i text) ≢ 0 = λ none. c.if-end-eq0.false (omega (arith, none, c.loop-end.invariant.within, length-take i text)) in
-    let plain : has_needless_zero (take i text) ≡ false = sym c.has_needless_zero.ensures ∙ c.if-has_needless_zero.false in
-    let small : c.loop-end.value < 2 ^ 32 = omega arith in
-    let is : number_of (take i text) ≡ Some c.loop-end.value =
-    number_is (take i text) some plain c.loop-end.invariant.all ∙ ap (if_below (2 ^ 32)) (sym c.loop-end.invariant.value_is) ∙ if_below-below _ small in
-    front_number _ (take i text) _ c.loop-end.value (front_alone c.args.separator text i (omega (arith, c.if-end-text.true)) c.loop-end.invariant.plain) is
-
-pub returns-then-text-end-2 : goal.returns-then-text-end-2
-returns-then-text-end-2 c =
-    let text = c.args.text.now in
-    let i = c.loop-end.end in
-    let h : i < length text = omega (arith, c.loop-end.invariant.within, c.if-end-text.false) in
+    let h : i < length text = omega (arith, c.if-end-text.true) in
     let other : is_byte c.args.separator (get_or text i 0) ≡ false = grind (arith, nat_tests) in
     let needed : has_needless_zero (take i text) ≡ false = sym c.has_needless_zero.ensures ∙ c.if-has_needless_zero.false in
     elim c.loop-end-test.branch [
@@ -71,15 +60,18 @@ returns-then-text-end-2 c =
           eleven_digits c.args.separator text (omega (arith, h, ten)) (rw ten at c.loop-end.invariant.plain) (rw ten at c.loop-end.invariant.all) (rw ten at needed) (rw ten at other)
     ]
 
-pub returns : goal.returns
-returns c =
+pub returns-clause-number : goal.returns-clause-number
+returns-clause-number c =
     let text = c.args.text.now in
     let i = c.loop-end.end in
-    let h : i < length text = omega (arith, c.loop-end.invariant.within, c.if-end-text.false) in
-    let met : is_byte c.args.separator (get_or text i 0) ≡ true = grind (arith, nat_tests) in
     let some : length (take i text) ≢ 0 = λ none. c.if-end-eq0.false (omega (arith, none, c.loop-end.invariant.within, length-take i text)) in
     let plain : has_needless_zero (take i text) ≡ false = sym c.has_needless_zero.ensures ∙ c.if-has_needless_zero.false in
     let small : c.loop-end.value < 2 ^ 32 = omega arith in
     let is : number_of (take i text) ≡ Some c.loop-end.value =
     number_is (take i text) some plain c.loop-end.invariant.all ∙ ap (if_below (2 ^ 32)) (sym c.loop-end.invariant.value_is) ∙ if_below-below _ small in
-    front_number _ (take i text) _ c.loop-end.value (front_cut c.args.separator text i h c.loop-end.invariant.plain met) is
+    let stops : i < length text → is_byte c.args.separator (get_or text i 0) ≡ true =
+    elim c.else-end-text.branch [
+      | else-end-text-via-else-end-text v ↦ λ h. absurd (omega (arith, h, v.if-end-text.false))
+      | else-end-text-via-then-end-text+else-text-end-2 v ↦ λ h. grind (arith, nat_tests)
+    ] in
+    front_number _ (take i text) _ c.loop-end.value (front_ends c.args.separator text i c.loop-end.invariant.within c.loop-end.invariant.plain stops) is

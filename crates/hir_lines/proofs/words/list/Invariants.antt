@@ -5,10 +5,10 @@ use Rattle.hir_lines.specs.Numerals.{number_of}
 use Rattle.hir_lines.specs.Readings.{all_of, comma, parts_of}
 use Rattle.hir_lines.proofs.words.list.Given as goal
 
--- what was read so far: it is kept, if anything is
+-- what was read so far: it is kept, if there was room
 abbrev pub invariant-loop-numbers : goal.invariant-loop-numbers
 invariant-loop-numbers g l =
-    (ids : List ℕ) × (option_map (λ xs. ids ++ xs) (all_of number_of l.numbers) ≡ all_of number_of (parts_of comma l.fn.word)) × IfOk l.kept (λ v. v ≡ ids)
+    (ids : List ℕ) × (option_map (λ xs. ids ++ xs) (all_of number_of l.numbers) ≡ all_of number_of (parts_of comma l.fn.word)) × IfOk l.room (λ done. l.kept ≡ ids)
 
 abbrev pub decreases-loop-numbers : goal.decreases-loop-numbers
 decreases-loop-numbers g l = length l.numbers

@@ -9,8 +9,7 @@ pub returns : goal.returns
 returns g c =
     let word = c.in_ok-word.word.now in
     let named : is_name word ≡ true = sym c.is_name.ensures ∙ c.if-not-is_name.false in (
-      word,
+      named,
       ap name (c.in_ok-word.ensures {u = tt})
           ∙ ap (λ b. option_map (λ (x : List ℕ). (x, c.word.new.self)) (if b then Some word else None)) named,
-      c.from_ascii.ensures.ok,
     )
