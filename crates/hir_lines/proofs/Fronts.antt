@@ -1,5 +1,5 @@
 -- The first word of a text, by a front of the text without a separator.
-use Rattle.std.proofs.Common.{◌≡◌, ◌+◌, ◌-◌, ◌*◌, ◌<◌, ◌≤◌, ◌^◌, ℕ, Bool, true, false, List, [], ◌∷◌, ◌++◌, Some, None, length, take, drop, get_or, refl, sym, ap, ◌∙◌, arith, take-append-drop, drop-cons, add-one, length-take, length-append, take_all, append-nil, get_or-take, inl, inr}
+use Rattle.std.proofs.Common.{◌≡◌, ◌+◌, ◌-◌, ◌<◌, ◌≤◌, ◌^◌, ℕ, Bool, true, false, List, [], ◌∷◌, ◌++◌, Some, None, length, take, drop, get_or, refl, sym, ap, ◌∙◌, arith, take-append-drop, drop-cons, add-one, length-take, length-append, take_all, append-nil, get_or-take, inl, inr}
 use Rattle.std.specs.Prelude.{eqb}
 use Rattle.std.specs.List.{list_all, onto_first, join_with_byte, starts_with}
 use Rattle.std.proofs.Math.Seq.{take-append_seam}

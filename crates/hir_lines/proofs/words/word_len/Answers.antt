@@ -1,4 +1,4 @@
-use Rattle.std.proofs.Common.{◌≡◌, true, false, length, get_or, arith}
+use Rattle.std.proofs.Common.{◌≡◌, false, get_or, arith}
 use Rattle.std.proofs.lemmas.Bool.Decides.{nat_tests}
 use Rattle.hir_lines.specs.Readings.{is_byte}
 use Rattle.hir_lines.proofs.Fronts.{front_ends, plain_more}

@@ -1,4 +1,4 @@
-use Rattle.std.proofs.Common.{◌≡◌, ◌∷◌, ◌+◌, length, refl, sym, ap, ◌∙◌, subst}
+use Rattle.std.proofs.Common.{◌∷◌, ◌+◌, length, refl, sym, ap, ◌∙◌, subst}
 use Rattle.hir_lines.specs.Readings.{StartsOtherwise}
 use Rattle.hir_lines.proofs.Splits.{past_otherwise, rest_further, rest_otherwise, rest_words}
 use Rattle.hir_lines.proofs.words.Words.skip.Goals as goal
