@@ -8,7 +8,7 @@ use Rattle.std.proofs.lemmas.Cmp.{ranked, nat_cmp_total}
 use Rattle.std.proofs.lemmas.Bool.{ne_eqb, eq-eqb}
 use Rattle.std.specs.FinMap as map
 use Rattle.std.proofs.lemmas.List.Folds.{list_any-append}
-use Rattle.hir_captures.specs.Marks.{is_listed, AreMarks}
+use Rattle.hir_captures.specs.walk.Marks.{is_listed, AreMarks}
 use Rattle.hir_captures.specs.Captures.{with_new}
 
 or_true : (b : Bool) → (b || (true || false)) ≡ true

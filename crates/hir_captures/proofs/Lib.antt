@@ -1,6 +1,6 @@
 mod AskLemmas
 mod CodeLemmas
-mod KidLemmas
+mod UnreadLemmas
 mod FoundLemmas
 mod ReadLemmas
 mod WithinLemmas

@@ -1,5 +1,5 @@
 -- Reading a node leaves what is to be found as it was.
-use Rattle.std.proofs.Common.{◌≡◌, ℕ, List, [], ◌∷◌, ◌++◌, Option, Some, None, fold, length, refl, sym, ap, ◌∙◌, subst, arith}
+use Rattle.std.proofs.Common.{◌≡◌, ◌<◌, ℕ, List, [], ◌∷◌, ◌++◌, Option, Some, None, fold, length, refl, sym, ap, ◌∙◌, subst, arith}
 use Rattle.std.specs.Prelude.{IsSome, ◌↔◌}
 use Rattle.std.specs.List.{flat_map, filter_map, slice_get}
 use Rattle.std.specs.FinMap as map
@@ -15,6 +15,7 @@ use Rattle.hir_node.specs.declared.pat.Pat.TheVariants as pat
 use Rattle.hir_base.specs.declared.hygiene.SyntaxContext.{SyntaxContext}
 use Rattle.hir_path.specs.declared.path.Path.{Path}
 use Rattle.hir_node.specs.declared.node_id.NodeId.TheVariants as node
+use Rattle.hir_faults.specs.Nodes.{Nodes}
 use Rattle.hir_expr_store.specs.Contents.{Contents}
 use Rattle.hir_scope.specs.Forms.{form_of, form_at, expr_form, pat_form}
 use Rattle.hir_scope.specs.Scopes.{Scopes}
@@ -22,17 +23,23 @@ use Rattle.hir_scope.specs.Paths.{chain}
 use Rattle.hir_scope.specs.Chains.{HasChain}
 use Rattle.hir_scope.specs.Built.{ChainsAreFrames, tops_of_body}
 use Rattle.hir_items.specs.Bodies.{BodyContents, BodyReaches}
-use Rattle.hir_captures.specs.declared.tasks.Task.{Task}
-use Rattle.hir_captures.specs.declared.tasks.Task.TheVariants as task
+use Rattle.hir_captures.specs.declared.unread.Task.{Task}
+use Rattle.hir_captures.specs.declared.unread.Task.TheVariants as task
 use Rattle.hir_captures.specs.Captures.{with_new, AreChains, AreCaptures}
-use Rattle.hir_captures.specs.Pending.{met_in_form, pat_task, tasks_of, task_node, task_target, code_of, AreThere}
-use Rattle.hir_captures.specs.Reading.{chain_in, captured_in, with_uses, with_code, Reads}
+use Rattle.hir_scope.specs.Order.{met_in_form}
+use Rattle.hir_captures.specs.walk.Pending.{pat_task, tasks_of, task_node, task_target, code_of, AreThere}
+use Rattle.hir_captures.specs.walk.Reading.{chain_in, captured_in, with_uses, with_code, Reads}
 use Rattle.hir_captures.specs.Uses.{Spot, Use, uses_in, spot, if_assignment, assignment_at, expr_uses, pat_uses, uses_at, spot_uses, code_under}
 use Rattle.hir_captures.proofs.CodeLemmas.{Laws, code_read, kids_there}
 
 pub no_assignment : (id : ℕ) (x : Expr) → ((target value : ℕ) → x ≡ expr.Assignment target value → ⊥) → None ≡ if_assignment id (Some x)
 no_assignment id (expr.Assignment target value) h = absurd (h target value refl)
 no_assignment id _ h = refl
+
+-- the pattern of a task is there
+pub pat_there : (s : Nodes) (a : Option ℕ) (id : ℕ) (rest : List Task) → AreThere s (pat_task a id ∷ rest) → id < length s.pats
+pat_there s None id rest h = h.0
+pat_there s (Some a) id rest h = h.0
 
 module _ (c : Contents) (scopes : Scopes) (outermost : ℕ) where
   uses_two : (found : List ℕ) (us vs : List Use) → with_uses scopes outermost found (us ++ vs) ≡ with_uses scopes outermost (with_uses scopes outermost found us) vs

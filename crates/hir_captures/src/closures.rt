@@ -8,7 +8,7 @@ ghost use Rattle.hir_captures.specs.Captures.{AreCaptures, IsClosure, IsReachedC
 
 use crate::asks::depth;
 use crate::fault::CapturesFault;
-use crate::tasks::Task;
+use crate::unread::Task;
 use crate::walk::Walk;
 use hir_expr_store::ExpressionStore;
 use hir_items::Body;
@@ -71,7 +71,7 @@ pub fn captures(
         return Err(CapturesFault::NotAClosure);
     };
     let mut walk = Walk::new(alloc, store.bindings().len())?;
-    walk.tasks.push(Task::Expr(closure))?;
+    walk.unread.stack.push(Task::Expr(closure))?;
     walk.read_all(store, scopes, depth(scopes, scope))?;
     Ok(walk.found.into_bindings())
 }

@@ -20,7 +20,7 @@ pub(crate) struct Found {
 
 impl Model for Found {
     ghost use Rattle.std.specs.Prelude.{List, ℕ};
-    ghost use Rattle.hir_captures.specs.Marks.{AreMarks};
+    ghost use Rattle.hir_captures.specs.walk.Marks.{AreMarks};
 
     ghost Value = { List ℕ };
 

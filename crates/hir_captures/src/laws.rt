@@ -9,7 +9,9 @@ ghost use Rattle.hir_captures.specs.Captures.{AreCaptures, AreChains, IsOn, IsRe
 ghost use Rattle.hir_captures.specs.Uses.{code_step, code_under, uses_in};
 
 use hir_expr_store::laws::{kids_fall, kids_of_reached_are_reached, who_has_kids_is_there};
-use hir_scope::laws::{a_reached_node_has_one_chain, slots_hold_the_kids};
+use hir_scope::laws::{
+    a_reached_node_has_one_chain, slots_follow_the_order, slots_hold_the_kids,
+};
 
 /// The code under a node is the node, and then the code under its kids, in the order in which scopes are made.
 pub fn code_is_its_step()
@@ -19,6 +21,7 @@ pub fn code_is_its_step()
     kids_fall();
     who_has_kids_is_there();
     slots_hold_the_kids();
+    slots_follow_the_order();
 }
 
 /// The chain of each use in a closure of a body is some frames put on the closure's own.
@@ -30,6 +33,7 @@ pub fn uses_stand_on_their_closure()
     kids_fall();
     who_has_kids_is_there();
     slots_hold_the_kids();
+    slots_follow_the_order();
     kids_of_reached_are_reached();
     a_reached_node_has_one_chain();
 }
@@ -43,6 +47,7 @@ pub fn captures_are_one()
     kids_fall();
     who_has_kids_is_there();
     slots_hold_the_kids();
+    slots_follow_the_order();
     kids_of_reached_are_reached();
     a_reached_node_has_one_chain();
 }

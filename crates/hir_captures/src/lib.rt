@@ -5,9 +5,8 @@ mod asks;
 mod closures;
 mod fault;
 mod found;
-mod kids;
 pub mod laws;
-mod tasks;
+mod unread;
 mod walk;
 
 pub use closures::captures;

@@ -1,24 +1,22 @@
 //! The walk that reads a closure's code: one loop over what is still to be read.
 #![tactic(auto, using(crate::proofs::ReadLemmas::reads))]
 
-ghost use Rattle.std.specs.Prelude.{◌≡◌, ◌<◌, ℕ, [], ◌∷◌, length, None, Some, Err, IfOk, OnOk, OnErr};
+ghost use Rattle.std.specs.Prelude.{◌≡◌, [], ◌<◌, ◌∷◌, length, None, Some, Err, IfOk, OnOk, OnErr};
 ghost use Rattle.hir_scope.specs.Meanings.{asked_name};
-ghost use Rattle.hir_scope.specs.Scopes.{Scopes};
 ghost use Rattle.hir_captures.specs.Uses.{if_assignment, use_of, uses_at};
 ghost use Rattle.hir_node.specs.declared.node_id.NodeId.TheVariants as node;
-ghost use Rattle.hir_captures.specs.Pending.{AreThere, code_of};
-ghost use Rattle.hir_captures.specs.Reading.{with_uses, with_code, Reads};
+ghost use Rattle.hir_captures.specs.walk.Pending.{AreThere, code_of, pat_task};
+ghost use Rattle.hir_captures.specs.walk.Reading.{with_uses, with_code, Reads};
 
 use crate::asks::captured;
 use crate::fault::CapturesFault;
 use crate::found::Found;
-use crate::kids::Kids;
-use crate::tasks::{Task, Tasks};
+use crate::unread::{Task, Unread};
 use hir_base::HygieneId;
 use hir_expr_store::ExpressionStore;
 use hir_expr_store::laws::{kids_fall, who_has_kids_is_there};
 use hir_node::{Expr, ExprId, Pat, PatId, Path};
-use hir_scope::laws::slots_hold_the_kids;
+use hir_scope::laws::{slots_follow_the_order, slots_hold_the_kids};
 use hir_scope::{ExprScopes, asked_name};
 use std::alloc::Global;
 
@@ -26,9 +24,7 @@ use std::alloc::Global;
 #[derive(Drop)]
 pub(crate) struct Walk {
     pub(crate) found: Found,
-    pub(crate) tasks: Tasks,
-    /// Room for the kids of a node.
-    kids: Kids,
+    pub(crate) unread: Unread,
 }
 
 /// The assignment in whose target the patterns of an expression are: itself, where it is one.
@@ -51,13 +47,12 @@ impl Walk {
     /// Answers `Memory` where that room was refused.
     pub(crate) fn new(alloc: Global, bindings: usize) -> Result<Walk, CapturesFault>
         ensures found { IfOk result (λ walk. walk.found ≡ []) }
-        ensures tasks { IfOk result (λ walk. walk.tasks ≡ []) }
+        ensures nothing { IfOk result (λ walk. walk.unread.stack.items ≡ []) }
         ensures memory { OnErr result (result ≡ Err CapturesFault.Memory) }
     {
         Ok(Walk {
             found: Found::new(alloc, bindings)?,
-            tasks: Tasks::new(alloc),
-            kids: Kids::new(alloc),
+            unread: Unread::new(alloc),
         })
     }
 
@@ -72,7 +67,7 @@ impl Walk {
     ) -> Result<(), CapturesFault>
         ensures found { OnOk result (self.new.found ≡ with_uses scopes.now outermost self.old.found
             (use_of hygiene expr (asked_name path.now))) }
-        ensures tasks { self.new.tasks ≡ self.old.tasks }
+        ensures unread { self.new.unread ≡ self.old.unread }
         ensures memory { OnErr result (result ≡ Err CapturesFault.Memory) }
     {
         let Some(name) = asked_name(path) else {
@@ -98,7 +93,7 @@ impl Walk {
         requires there { id < length store.now.nodes.exprs }
         ensures found { OnOk result (self.new.found ≡ with_uses scopes.now outermost self.old.found
             (uses_at store.now (node.Expr id) None)) }
-        ensures tasks { self.new.tasks ≡ self.old.tasks }
+        ensures unread { self.new.unread ≡ self.old.unread }
         ensures memory { OnErr result (result ≡ Err CapturesFault.Memory) }
     {
         if let Expr::Path(path) = &store[id] {
@@ -108,7 +103,7 @@ impl Walk {
     }
 
     /// Adds what a pattern in the target of an assignment captures: where it is a path, it asks in the assignment's chain.
-    fn ask_pat(
+    fn ask_target(
         &mut self,
         store: &ExpressionStore,
         scopes: &ExprScopes,
@@ -119,7 +114,7 @@ impl Walk {
         requires there { id < length store.now.nodes.pats }
         ensures found { OnOk result (self.new.found ≡ with_uses scopes.now outermost self.old.found
             (uses_at store.now (node.Pat id) (Some assignment))) }
-        ensures tasks { self.new.tasks ≡ self.old.tasks }
+        ensures unread { self.new.unread ≡ self.old.unread }
         ensures memory { OnErr result (result ≡ Err CapturesFault.Memory) }
     {
         if let Pat::Path(path) = &store[id] {
@@ -127,6 +122,27 @@ impl Walk {
             return self.ask(scopes, outermost, assignment, path, hygiene);
         }
         Ok(())
+    }
+
+    /// The same of any pattern: one that is in no target captures nothing.
+    fn ask_pat(
+        &mut self,
+        store: &ExpressionStore,
+        scopes: &ExprScopes,
+        outermost: usize,
+        id: PatId,
+        assignment: Option<ExprId>,
+    ) -> Result<(), CapturesFault>
+        requires there { id < length store.now.nodes.pats }
+        ensures found { OnOk result (self.new.found ≡ with_uses scopes.now outermost self.old.found
+            (uses_at store.now (node.Pat id) assignment)) }
+        ensures unread { self.new.unread ≡ self.old.unread }
+        ensures memory { OnErr result (result ≡ Err CapturesFault.Memory) }
+    {
+        match assignment {
+            None => Ok(()),
+            Some(assignment) => self.ask_target(store, scopes, outermost, id, assignment),
+        }
     }
 
     /// Reads an expression: what is in it comes next.
@@ -137,64 +153,43 @@ impl Walk {
         outermost: usize,
         id: ExprId,
     ) -> Result<(), CapturesFault>
-        requires there { AreThere store.now.nodes (Task.Expr id ∷ self.old.tasks) }
+        requires there { AreThere store.now.nodes (Task.Expr id ∷ self.old.unread.stack.items) }
         ensures reads { OnOk result (Reads store.now scopes.now outermost
-            self.old.found (Task.Expr id ∷ self.old.tasks) self.new.found self.new.tasks) }
+            self.old.found (Task.Expr id ∷ self.old.unread.stack.items) self.new.found self.new.unread.stack.items) }
         ensures memory { OnErr result (result ≡ Err CapturesFault.Memory) }
     {
         store.has_no_fault();
         kids_fall();
         who_has_kids_is_there();
         slots_hold_the_kids();
+        slots_follow_the_order();
         self.ask_expr(store, scopes, outermost, id)?;
         let expr = &store[id];
-        self.kids.begin(if_assignment(id, expr));
-        self.kids.meet_expr(expr);
-        self.kids.move_to(&mut self.tasks)?;
+        self.unread.push_expr(expr, if_assignment(id, expr))?;
         Ok(())
     }
 
-    /// Reads a pattern that is in no target of an assignment: what is in it comes next.
-    fn read_pat(&mut self, store: &ExpressionStore, id: PatId) -> Result<(), CapturesFault>
-        requires there { AreThere store.now.nodes (Task.Pat id ∷ self.old.tasks) }
-        ensures reads { OnOk result ((scopes : Scopes) (outermost : ℕ) → Reads store.now scopes outermost
-            self.old.found (Task.Pat id ∷ self.old.tasks) self.new.found self.new.tasks) }
-        ensures memory { OnErr result (result ≡ Err CapturesFault.Memory) }
-    {
-        store.has_no_fault();
-        kids_fall();
-        who_has_kids_is_there();
-        slots_hold_the_kids();
-        let pat = &store[id];
-        self.kids.begin(None);
-        self.kids.meet_pat(pat);
-        self.kids.move_to(&mut self.tasks)?;
-        Ok(())
-    }
-
-    /// Reads a pattern in the target of an assignment: what is in it comes next.
-    fn read_target(
+    /// Reads a pattern, which is in the target of this assignment, or in none: what is in it comes next.
+    fn read_pat(
         &mut self,
         store: &ExpressionStore,
         scopes: &ExprScopes,
         outermost: usize,
         id: PatId,
-        assignment: ExprId,
+        assignment: Option<ExprId>,
     ) -> Result<(), CapturesFault>
-        requires there { AreThere store.now.nodes (Task.Target id assignment ∷ self.old.tasks) }
+        requires there { AreThere store.now.nodes (pat_task assignment id ∷ self.old.unread.stack.items) }
         ensures reads { OnOk result (Reads store.now scopes.now outermost
-            self.old.found (Task.Target id assignment ∷ self.old.tasks) self.new.found self.new.tasks) }
+            self.old.found (pat_task assignment id ∷ self.old.unread.stack.items) self.new.found self.new.unread.stack.items) }
         ensures memory { OnErr result (result ≡ Err CapturesFault.Memory) }
     {
         store.has_no_fault();
         kids_fall();
         who_has_kids_is_there();
         slots_hold_the_kids();
+        slots_follow_the_order();
         self.ask_pat(store, scopes, outermost, id, assignment)?;
-        let pat = &store[id];
-        self.kids.begin(Some(assignment));
-        self.kids.meet_pat(pat);
-        self.kids.move_to(&mut self.tasks)?;
+        self.unread.push_pat(&store[id], assignment)?;
         Ok(())
     }
 
@@ -206,16 +201,16 @@ impl Walk {
         outermost: usize,
         task: Task,
     ) -> Result<(), CapturesFault>
-        requires there { AreThere store.now.nodes (task ∷ self.old.tasks) }
+        requires there { AreThere store.now.nodes (task ∷ self.old.unread.stack.items) }
         ensures reads { OnOk result (Reads store.now scopes.now outermost
-            self.old.found (task ∷ self.old.tasks) self.new.found self.new.tasks) }
+            self.old.found (task ∷ self.old.unread.stack.items) self.new.found self.new.unread.stack.items) }
         ensures memory { OnErr result (result ≡ Err CapturesFault.Memory) }
     {
         match task {
             Task::Expr(id) => self.read_expr(store, scopes, outermost, id),
-            Task::Pat(id) => self.read_pat(store, id),
+            Task::Pat(id) => self.read_pat(store, scopes, outermost, id, None),
             Task::Target(id, assignment) => {
-                self.read_target(store, scopes, outermost, id, assignment)
+                self.read_pat(store, scopes, outermost, id, Some(assignment))
             }
         }
     }
@@ -227,12 +222,12 @@ impl Walk {
         scopes: &ExprScopes,
         outermost: usize,
     ) -> Result<(), CapturesFault>
-        requires there { AreThere store.now.nodes self.old.tasks }
+        requires there { AreThere store.now.nodes self.old.unread.stack.items }
         ensures found { OnOk result (self.new.found ≡ with_code store.now scopes.now outermost
-            self.old.found (code_of store.now.nodes self.old.tasks)) }
+            self.old.found (code_of store.now.nodes self.old.unread.stack.items)) }
         ensures memory { OnErr result (result ≡ Err CapturesFault.Memory) }
     {
-        while let Some(task) = self.tasks.pop() {
+        while let Some(task) = self.unread.stack.pop() {
             self.read(store, scopes, outermost, task)?;
         }
         Ok(())

@@ -27,6 +27,7 @@ use Rattle.hir_node.specs.declared.node_id.NodeId.{NodeId}
 use Rattle.hir_node.specs.declared.node_id.NodeId.TheVariants as node
 use Rattle.hir_node.proofs.ChildPatLemmas.{none-path, pats-list}
 use Rattle.hir_faults.specs.Nodes.{Nodes}
+use Rattle.hir_scope.specs.Order.{met_in_closure}
 use Rattle.hir_scope.specs.declared.tasks.Around.{Around}
 use Rattle.hir_scope.specs.declared.tasks.Task.{Task}
 use Rattle.hir_scope.specs.declared.tasks.Task.TheVariants as task
@@ -35,7 +36,7 @@ use Rattle.hir_scope.specs.Frames.{Frame, binds, frame}
 use Rattle.hir_scope.specs.Forms.{ScopingForm, expr_form, type_form}
 use Rattle.hir_scope.specs.Forms as form
 use Rattle.hir_scope.specs.walk.Machine.{about, one, count_entries}
-use Rattle.hir_scope.specs.walk.Pending.{tasks_of, arm_task, guarded_task, leave, statement_tasks, closure_calls, form_tasks, opens_here, opens_constant, task_kids, task_frames}
+use Rattle.hir_scope.specs.walk.Pending.{tasks_of, arm_task, guarded_task, leave, statement_tasks, form_tasks, opens_here, opens_constant, task_kids, task_frames}
 use Rattle.hir_scope.specs.Slots.{block_constants}
 use Rattle.hir_scope.proofs.SumLemmas.{sum_flat, sum_plus, sum_same}
 
@@ -119,8 +120,8 @@ module _ (s : Nodes) where
       omega (arith, a, b, d, g, h)
   tasks_ones around (form.Loop label body) = refl
   tasks_ones around (form.Closure types ret args body) =
-      let a = sum_by-append (ones s) (tasks_of (closure_calls types ret args body)) (leave around ∷ []) in
-      let d = calls_open one (closure_calls types ret args body) in
+      let a = sum_by-append (ones s) (tasks_of (met_in_closure types ret args body)) (leave around ∷ []) in
+      let d = calls_open one (met_in_closure types ret args body) in
       omega (arith, a, d)
   tasks_ones around (form.Match x arms) =
       let a = sum_by-cons (ones s) (task.Expr x) (map arm_task arms) in
@@ -346,7 +347,7 @@ module _ (s : Nodes) where
   constants_empty None = refl
   constants_empty (Some id) = refl
 
-  closure_pats : (types : List (Option ℕ)) (ret : Option ℕ) (args : List ℕ) (body : ℕ) → flat_map pat_of_call (closure_calls types ret args body) ≡ args
+  closure_pats : (types : List (Option ℕ)) (ret : Option ℕ) (args : List ℕ) (body : ℕ) → flat_map pat_of_call (met_in_closure types ret args body) ≡ args
   closure_pats types ret args body =
       flat_map-append pat_of_call (flat_map (opt t) types ++ opt t ret) (flat_map p args ++ e body)
       ∙ (ap (λ (ps : List ℕ). ps ++ flat_map pat_of_call (flat_map p args ++ e body)) (none-append (flat_map (opt t) types) (opt t ret) (none-each (opt t) (none-opt t (λ i. refl)) types) (none-opt t (λ i. refl) ret))
@@ -370,7 +371,7 @@ module _ (s : Nodes) where
       omega (arith, a, b, d, g, k)
   opens_rest around (form.Loop label body) h = refl
   opens_rest around (form.Closure types ret args body) h =
-      let cs = closure_calls types ret args body in
+      let cs = met_in_closure types ret args body in
       let a = sum_by-append rest_of (tasks_of cs) (leave around ∷ []) in
       let b = calls_rest cs ∙ ap (λ (ps : List ℕ). sum_by (λ q. length (binds s q)) ps) (closure_pats types ret args body) in
       let d = frame_entries args in

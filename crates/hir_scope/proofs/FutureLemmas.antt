@@ -11,6 +11,7 @@ use Rattle.hir_node.specs.declared.expr_types.Statement.{Statement}
 use Rattle.hir_node.specs.declared.expr_types.Statement.TheVariants as statement
 use Rattle.hir_node.specs.declared.node_id.NodeId.TheVariants as node
 use Rattle.hir_faults.specs.Nodes.{Nodes}
+use Rattle.hir_scope.specs.Order.{met_in_arm, met_in_closure}
 use Rattle.hir_scope.specs.declared.tasks.Around.{Around}
 use Rattle.hir_scope.specs.declared.tasks.Task.{Task}
 use Rattle.hir_scope.specs.declared.tasks.Task.TheVariants as task
@@ -21,7 +22,7 @@ use Rattle.hir_scope.specs.Leak.{leak, leaks, leak_of_form}
 use Rattle.hir_scope.specs.Slots.{Slot, call_slot, in_turn, own_frame, block_constants, made, made_for_constants, statement_slots, block_slots, arm_slots, loop_kind, slots_of_form, slots}
 use Rattle.hir_scope.specs.Chains.{Place, place_kid}
 use Rattle.hir_scope.specs.walk.PlacesUnder.{place, exprs_under}
-use Rattle.hir_scope.specs.walk.Pending.{tasks_of, arm_task, arm_with, leave, statement_tasks, closure_calls, form_tasks, opens_here, opens_constant, future, arm_calls}
+use Rattle.hir_scope.specs.walk.Pending.{tasks_of, arm_task, arm_with, leave, statement_tasks, form_tasks, opens_here, opens_constant, future}
 
 pub exprs_under-nil : (s : Nodes) → exprs_under s [] ≡ []
 unfolding exprs_under
@@ -132,7 +133,7 @@ module _ (s : Nodes) (chain : ℕ → Chain) where
   future_arms h k outer (arm ∷ arms) ts =
       two h k (arm_slots s outer arm) (flat_map (arm_slots s outer) arms) _
       ∙ (ap (λ (ps : List Place). exprs_under s (map (place_kid h k) (arm_slots s outer arm)) ++ ps) (future_arms h k outer arms ts)
-      ∙ (ap (λ (ps : List Place). exprs_under s ps ++ future s chain (outer ++ h) k (map arm_task arms ++ ts)) (moved h k [] outer (frame s (arm.pat ∷ []) ∷ []) (arm_calls arm))
+      ∙ (ap (λ (ps : List Place). exprs_under s ps ++ future s chain (outer ++ h) k (map arm_task arms ++ ts)) (moved h k [] outer (frame s (arm.pat ∷ []) ∷ []) (met_in_arm arm))
       ∙ sym (future_arm_task (outer ++ h) k arm.pat arm.expr arm.guard (map arm_task arms ++ ts))))
 
   -- a type leaks nothing
@@ -201,7 +202,7 @@ module _ (s : Nodes) (chain : ℕ → Chain) where
       let h = chain a.here in
       let k = chain a.constant in
       ap (λ (ss : List Slot). exprs_under s (map (place_kid h k) ss) ++ future s chain h k ts) (closure_turn (frame s args ∷ []) types ret (flat_map p args ++ e body))
-      ∙ turn_ended h k [] (frame s args ∷ []) (closure_calls types ret args body) a ts refl refl
+      ∙ turn_ended h k [] (frame s args ∷ []) (met_in_closure types ret args body) a ts refl refl
   future_form a (form.Match x arms) ts =
       let h = chain a.here in
       let k = chain a.constant in

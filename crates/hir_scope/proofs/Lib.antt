@@ -3,23 +3,22 @@ mod DoneLemmas
 mod FutureLemmas
 mod GoneLemmas
 mod GrownLemmas
-mod KidLemmas
+pub mod KidLemmas
 mod MetLemmas
 mod MovingLemmas
-pub mod PushLemmas
 mod ReadyLemmas
 mod StepLemmas
 mod TaskLemmas
 mod TotalLemmas
 mod WeightLemmas
-pub mod TurnLemmas
+pub mod OrderLemmas
+pub mod PutLemmas
 mod Rows
 pub mod FlatLemmas
 pub mod PathLemmas
 pub mod ResolveLemmas
 pub mod MacroLemmas
 pub mod SameLemmas
-pub mod SlotLemmas
 pub mod StandsLemmas
 pub mod BeginLemmas
 pub mod BuiltLemmas

@@ -4,6 +4,7 @@ use Rattle.hir_node.specs.declared.expr_types.MatchArm.{MatchArm}
 use Rattle.hir_node.specs.declared.node_id.NodeId.TheVariants as node
 use Rattle.hir_faults.specs.Nodes.{Nodes, Has}
 use Rattle.hir_faults.specs.Down.{KidsFall}
+use Rattle.hir_scope.specs.Order.{met_in_arm}
 use Rattle.hir_scope.specs.declared.tasks.Around.{Around}
 use Rattle.hir_scope.specs.declared.tasks.Task.{Task}
 use Rattle.hir_scope.specs.declared.tasks.Task.TheVariants as task
@@ -13,7 +14,7 @@ use Rattle.hir_scope.specs.Leak.{leak, leak_of_form}
 use Rattle.hir_scope.specs.Slots.{slots_of_form}
 use Rattle.hir_scope.specs.Chains.{Place, place_kid}
 use Rattle.hir_scope.specs.walk.PlacesUnder.{place, exprs_under}
-use Rattle.hir_scope.specs.walk.Pending.{form_tasks, opens_here, opens_constant, future, arm_calls, arm_task, leave, tasks_of}
+use Rattle.hir_scope.specs.walk.Pending.{form_tasks, opens_here, opens_constant, future, arm_task, leave, tasks_of}
 use Rattle.hir_scope.proofs.FutureLemmas.{future_form, turn_ended, future_arm_task}
 use Rattle.hir_scope.proofs.StepLemmas.{leak_at, exprs_under_expr, exprs_under_pat, exprs_under_type}
 
@@ -56,8 +57,8 @@ module _ (s : Nodes) (fall : KidsFall s) (chain : ℕ → Chain) where
       ∙ future_form s chain (for_constants a) x (leave a ∷ ts))
 
   -- an arm is met in the frame of its pattern, which ends with it
-  pub future_arm : (a : Around) (arm : MatchArm) (ts : List Task) → let h = chain a.here in let k = chain a.constant in future s chain h k (arm_task arm ∷ ts) ≡ future s chain (frame s (arm.pat ∷ []) ∷ h) k ((tasks_of (arm_calls arm) ++ leave a ∷ []) ++ ts)
+  pub future_arm : (a : Around) (arm : MatchArm) (ts : List Task) → let h = chain a.here in let k = chain a.constant in future s chain h k (arm_task arm ∷ ts) ≡ future s chain (frame s (arm.pat ∷ []) ∷ h) k ((tasks_of (met_in_arm arm) ++ leave a ∷ []) ++ ts)
   unfolding future
   future_arm a arm ts =
       future_arm_task s chain (chain a.here) (chain a.constant) arm.pat arm.expr arm.guard ts
-      ∙ turn_ended s chain (chain a.here) (chain a.constant) [] (frame s (arm.pat ∷ []) ∷ []) (arm_calls arm) a ts refl refl
+      ∙ turn_ended s chain (chain a.here) (chain a.constant) [] (frame s (arm.pat ∷ []) ∷ []) (met_in_arm arm) a ts refl refl

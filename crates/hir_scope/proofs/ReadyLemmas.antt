@@ -12,16 +12,16 @@ use Rattle.hir_node.specs.declared.node_id.NodeId.{NodeId}
 use Rattle.hir_node.specs.declared.node_id.NodeId.TheVariants as node
 use Rattle.hir_faults.specs.Nodes.{Nodes, Has, kids_of}
 use Rattle.hir_faults.specs.Down.{KidsFall}
+use Rattle.hir_scope.specs.Order.{met_in_closure, met_in_form}
 use Rattle.hir_scope.specs.declared.tasks.Around.{Around}
 use Rattle.hir_scope.specs.declared.tasks.Task.{Task}
 use Rattle.hir_scope.specs.declared.tasks.Task.TheVariants as task
 use Rattle.hir_scope.specs.Forms.{ScopingForm, form_of}
 use Rattle.hir_scope.specs.Forms as form
 use Rattle.hir_scope.specs.Slots.{slots}
-use Rattle.hir_scope.specs.walk.Pending.{tasks_of, arm_task, guarded_task, statement_tasks, closure_calls, form_tasks, task_kids, leave}
+use Rattle.hir_scope.specs.walk.Pending.{tasks_of, arm_task, guarded_task, statement_tasks, form_tasks, task_kids, leave}
 use Rattle.hir_scope.specs.walk.Machine.{about, AreThere, LeavesWithin}
-use Rattle.hir_scope.proofs.KidLemmas.{met_in_form, kids_of_form}
-use Rattle.hir_scope.proofs.SlotLemmas.{kids_in, slots_kids}
+use Rattle.hir_scope.proofs.KidLemmas.{kids_of_form, kids_in, slots_kids}
 use Rattle.hir_scope.proofs.TaskLemmas.{about_form}
 
 -- 1. Nodes
@@ -55,7 +55,7 @@ module _ (s : Nodes) where
   pub closure_pats : KidsFall s → (n : NodeId) (types : List (Option ℕ)) (ret : Option ℕ) (args : List ℕ) (body : ℕ) → Has s n → form_of s n ≡ form.Closure types ret args body → AreThere s (map node.Pat args)
   closure_pats fall n types ret args body h q =
       let first = flat_map (opt t) types ++ opt t ret in
-      let all : AreThere s (kids (closure_calls types ret args body)) = subst (λ (x : ScopingForm). AreThere s (kids (met_in_form x))) q (kids_there fall n h) in
+      let all : AreThere s (kids (met_in_closure types ret args body)) = subst (λ (x : ScopingForm). AreThere s (kids (met_in_form x))) q (kids_there fall n h) in
       let last = (there_parts (kids first) (kids (flat_map p args ++ e body)) (subst (AreThere s) (flat_map-append kid first (flat_map p args ++ e body)) all)).1 in
       pats_there args (there_parts (kids (flat_map p args)) (kids (e body)) (subst (AreThere s) (flat_map-append kid (flat_map p args) (e body)) last)).0
 
@@ -120,7 +120,7 @@ module _ (n : ℕ) where
       (leaves_join (flat_map statement_tasks xs) (tasks_of (opt e tail) ++ leave a ∷ []) (leaves_statements xs) (leaves_calls (opt e tail) (leave a ∷ []) (h, k, tt))) l
   leaves_met a (form.Loop label body) ts h k l = (h, k, l)
   leaves_met a (form.Closure types ret args body) ts h k l =
-      leaves_join (form_tasks a (form.Closure types ret args body)) ts (leaves_calls (closure_calls types ret args body) (leave a ∷ []) (h, k, tt)) l
+      leaves_join (form_tasks a (form.Closure types ret args body)) ts (leaves_calls (met_in_closure types ret args body) (leave a ∷ []) (h, k, tt)) l
   leaves_met a (form.Match x arms) ts h k l = leaves_arms arms ts l
   leaves_met a (form.Assignment target value) ts h k l = (h, k, l)
   leaves_met a (form.PatternType ty pat) ts h k l = (h, k, l)

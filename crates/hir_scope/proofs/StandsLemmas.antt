@@ -7,7 +7,7 @@ use Rattle.hir_faults.specs.Nodes.{Nodes, kids_of}
 use Rattle.hir_expr_store.specs.Under.{Under, itself, below, Reached}
 use Rattle.hir_scope.specs.Slots.{Slot, slots}
 use Rattle.hir_scope.specs.Chains.{Place, place_kid, places_of_kids, Stands, top, kid}
-use Rattle.hir_scope.proofs.SlotLemmas.{kids_in, slots_kids}
+use Rattle.hir_scope.proofs.KidLemmas.{kids_in, slots_kids}
 
 module _ {X Y : Type 0} (f : X → Y) where
   mapped : (xs : List X) (x : X) → Contains xs x → Contains (map f xs) (f x)

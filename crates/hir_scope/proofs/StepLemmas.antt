@@ -4,12 +4,13 @@ use Rattle.std.specs.List.{flat_map, filter}
 use Rattle.std.proofs.Math.Path.{fun_ext}
 use Rattle.std.proofs.lemmas.List.{append-nil}
 use Rattle.std.proofs.lemmas.List.Sorted.{IsPermutation-sym, Contains-permutation}
-use Rattle.hir_node.specs.ChildCalls.{Call, OnExpr, OnAnonConst, OnPat, OnType, OnLifetime, opt, e, kid, kids}
+use Rattle.hir_node.specs.ChildCalls.{Call, OnExpr, OnAnonConst, OnPat, OnType, OnLifetime, opt, e, kids}
 use Rattle.hir_node.specs.declared.node_id.NodeId.{NodeId}
 use Rattle.hir_node.specs.declared.node_id.NodeId.TheVariants as node
-use Rattle.hir_faults.specs.Nodes.{Nodes, Has, calls_of, kids_of}
+use Rattle.hir_faults.specs.Nodes.{Nodes, Has, kids_of}
 use Rattle.hir_faults.specs.Down.{KidsFall, value, AgreeOn, AsksKids}
 use Rattle.hir_faults.proofs.DownLemmas.{value_at}
+use Rattle.hir_scope.specs.Order.{met_in_form}
 use Rattle.hir_scope.specs.Frames.{Chain}
 use Rattle.hir_scope.specs.Forms.{ScopingForm, form_of}
 use Rattle.hir_scope.specs.Forms as form
@@ -18,36 +19,24 @@ use Rattle.hir_scope.specs.Slots.{Slot, slots, slots_of_form}
 use Rattle.hir_scope.specs.Chains.{Place, place_kid, places_of_kids}
 use Rattle.hir_scope.specs.Built.{is_expr}
 use Rattle.hir_scope.specs.walk.PlacesUnder.{place, places_under, under_step, exprs_under}
-use Rattle.hir_scope.proofs.KidLemmas.{met_in_form, calls_shuffled, kids_of_form}
+use Rattle.hir_scope.proofs.KidLemmas.{met_kids, kids_of_form}
 
 -- 1. What agrees on the kids of a node agrees on its slots
 
-agree_append : {A : Type 0} (f g : NodeId → A) (xs ys : List NodeId) → AgreeOn f g (xs ++ ys) → AgreeOn f g xs × AgreeOn f g ys
-agree_append f g [] ys h = (tt, h)
-agree_append f g (x ∷ xs) ys h = let r = agree_append f g xs ys h.1 in ((h.0, r.0), r.1)
+agree_at : {A : Type 0} (f g : NodeId → A) (xs : List NodeId) → AgreeOn f g xs → (x : NodeId) → Contains xs x → f x ≡ g x
+agree_at f g [] h x (k, lt, is) = absurd (omega (arith, lt))
+agree_at f g (y ∷ xs) h x (zero, lt, is) = subst (λ z. f z ≡ g z) is h.0
+agree_at f g (y ∷ xs) h x (suc k, lt, is) = agree_at f g xs h.1 x (k, omega (arith, lt), is)
 
--- what each call's kid agrees on
-abbrev AgreeAt : {A : Type 0} → (NodeId → A) → (NodeId → A) → Call → Type 0
-AgreeAt f g c = AgreeOn f g (kid c)
-
-calls_agree : {A : Type 0} (f g : NodeId → A) (cs : List Call) → AgreeOn f g (kids cs) → (c : Call) → Contains cs c → AgreeAt f g c
-calls_agree f g [] h c (k, lt, is) = absurd (omega (arith, lt))
-calls_agree f g (x ∷ cs) h c (zero, lt, is) = subst (AgreeAt f g) is (agree_append f g (kid x) (kids cs) h).0
-calls_agree f g (x ∷ cs) h c (suc k, lt, is) = calls_agree f g cs (agree_append f g (kid x) (kids cs) h).1 c (k, omega (arith, lt), is)
-
-agree_join : {A : Type 0} (f g : NodeId → A) (xs ys : List NodeId) → AgreeOn f g xs → AgreeOn f g ys → AgreeOn f g (xs ++ ys)
-agree_join f g [] ys h r = r
-agree_join f g (x ∷ xs) ys h r = (h.0, agree_join f g xs ys h.1 r)
-
-agree_from_calls : {A : Type 0} (f g : NodeId → A) (cs : List Call) → ((c : Call) → Contains cs c → AgreeAt f g c) → AgreeOn f g (kids cs)
-agree_from_calls f g [] h = tt
-agree_from_calls f g (x ∷ cs) h = agree_join f g (kid x) (kids cs) (h x (0, omega arith, refl)) (agree_from_calls f g cs (λ c m. h c (suc m.0, omega (arith, m.1), m.2)))
+agree_on : {A : Type 0} (f g : NodeId → A) (xs : List NodeId) → ((x : NodeId) → Contains xs x → f x ≡ g x) → AgreeOn f g xs
+agree_on f g [] h = tt
+agree_on f g (x ∷ xs) h = (h x (0, omega arith, refl), agree_on f g xs (λ y c. h y (suc c.0, omega (arith, c.1), c.2)))
 
 met_agree : {A : Type 0} (f g : NodeId → A) (s : Nodes) (n : NodeId) → AgreeOn f g (kids_of s n) → AgreeOn f g (kids (met_in_form (form_of s n)))
 met_agree f g s n h =
-    let back = IsPermutation-sym (calls_of s n) (met_in_form (form_of s n)) (calls_shuffled s n) in
-    agree_from_calls f g (met_in_form (form_of s n)) (λ c m.
-    calls_agree f g (calls_of s n) h c (Contains-permutation (met_in_form (form_of s n)) (calls_of s n) c back m))
+    let met = kids (met_in_form (form_of s n)) in
+    let back = IsPermutation-sym (kids_of s n) met (met_kids s n) in
+    agree_on f g met (λ x m. agree_at f g (kids_of s n) h x (Contains-permutation met (kids_of s n) x back m))
 
 -- 2. Leaks
 

@@ -13,7 +13,7 @@ use Rattle.hir_scope.specs.Chains.{Place, place_kid, places_of_kids}
 use Rattle.hir_scope.specs.walk.PlacesUnder.{places_under, exprs_under}
 use Rattle.hir_scope.proofs.MemberLemmas.{In, contains_in}
 use Rattle.hir_scope.proofs.StepLemmas.{under_at}
-use Rattle.hir_scope.proofs.SlotLemmas.{kids_in, slots_kids}
+use Rattle.hir_scope.proofs.KidLemmas.{kids_in, slots_kids}
 use Rattle.hir_scope.specs.walk.Machine.{total}
 use Rattle.hir_scope.proofs.TotalLemmas.{total_at}
 use Rattle.hir_scope.proofs.UnderLemmas.{kid_there, kid_lower}

@@ -10,14 +10,14 @@ use Rattle.hir_node.specs.declared.expr_types.Statement.{Statement}
 use Rattle.hir_node.specs.declared.expr_types.Statement.TheVariants as statement
 use Rattle.hir_node.specs.declared.node_id.NodeId.{NodeId}
 use Rattle.hir_node.specs.declared.node_id.NodeId.TheVariants as node
+use Rattle.hir_scope.specs.Order.{met_in_arm, met_in_closure, met_in_form, met_in_statement}
 use Rattle.hir_scope.specs.declared.tasks.Around.{Around}
 use Rattle.hir_scope.specs.declared.tasks.Task.{Task}
 use Rattle.hir_scope.specs.declared.tasks.Task.TheVariants as task
 use Rattle.hir_scope.specs.Forms.{ScopingForm}
 use Rattle.hir_scope.specs.Forms as form
 use Rattle.hir_scope.specs.walk.Machine.{about}
-use Rattle.hir_scope.specs.walk.Pending.{tasks_of, arm_task, arm_calls, guarded_task, leave, statement_tasks, closure_calls, form_tasks, task_kids}
-use Rattle.hir_scope.proofs.KidLemmas.{met_in_statement, met_in_form}
+use Rattle.hir_scope.specs.walk.Pending.{tasks_of, arm_task, guarded_task, leave, statement_tasks, form_tasks, task_kids}
 
 about-append : (xs ys : List Task) → about (xs ++ ys) ≡ about xs ++ about ys
 about-append xs ys = flat_map-append task_kids xs ys
@@ -54,12 +54,12 @@ about_guarded : (pat expr : ℕ) (guard : Option ℕ) → task_kids (guarded_tas
 about_guarded pat expr None = refl
 about_guarded pat expr (Some guard) = refl
 
-about_arms : (arms : List MatchArm) → about (map arm_task arms) ≡ kids (flat_map arm_calls arms)
+about_arms : (arms : List MatchArm) → about (map arm_task arms) ≡ kids (flat_map met_in_arm arms)
 about_arms [] = refl
 about_arms (arm ∷ arms) =
     let f = about_guarded arm.pat arm.expr arm.guard in
     let g = about_arms arms in
-    let m = kids-append (arm_calls arm) (flat_map arm_calls arms) in
+    let m = kids-append (met_in_arm arm) (flat_map met_in_arm arms) in
     cc
 
 -- the tasks of what is inside a node are about its kids, in the order of its slots
@@ -68,7 +68,7 @@ about_form a (form.If c y f) = two (tasks_of (e c ++ e y)) (leave a ∷ tasks_of
 about_form a (form.Let pat x) = refl
 about_form a (form.Block id label xs tail) = two (flat_map statement_tasks xs) (tasks_of (opt e tail) ++ leave a ∷ []) (flat_map met_in_statement xs) (opt e tail) (about_statements xs) (left_after (opt e tail) a)
 about_form a (form.Loop label body) = refl
-about_form a (form.Closure types ret args body) = left_after (closure_calls types ret args body) a
+about_form a (form.Closure types ret args body) = left_after (met_in_closure types ret args body) a
 about_form a (form.Match x arms) = ap (λ (ns : List NodeId). node.Expr x ∷ ns) (about_arms arms)
 about_form a (form.Assignment target value) = refl
 about_form a (form.PatternType ty pat) = refl

@@ -16,7 +16,7 @@ use Rattle.hir_scope.specs.Tops.{root_frame, body_tops, signature_tops}
 use Rattle.hir_scope.specs.walk.PlacesUnder.{place, exprs_under}
 use Rattle.hir_scope.specs.walk.Pending.{tasks_of, future}
 use Rattle.hir_scope.specs.walk.Begins.{root_tasks}
-use Rattle.hir_scope.proofs.SlotLemmas.{kids_in, turn_kids}
+use Rattle.hir_scope.proofs.KidLemmas.{kids_in, turn_kids}
 use Rattle.hir_scope.proofs.FutureLemmas.{future_turn, exprs_under-nil, exprs_under-append}
 
 nodes_of_placed : (h k : Chain) (xs : List Slot) → map (λ (at : Place). at.node) (map (place_kid h k) xs) ≡ kids_in xs

@@ -9,13 +9,13 @@ use Rattle.hir_node.specs.declared.node_id.NodeId.{NodeId}
 use Rattle.hir_faults.specs.Nodes.{Nodes, Has, kids_of}
 use Rattle.hir_faults.specs.Down.{KidsFall, AgreeOn}
 use Rattle.hir_faults.proofs.DownLemmas.{value_at}
+use Rattle.hir_scope.specs.Order.{met_in_form}
 use Rattle.hir_scope.specs.declared.tasks.Around.{Around}
 use Rattle.hir_scope.specs.declared.tasks.Task.{Task}
 use Rattle.hir_scope.specs.Forms.{form_of}
 use Rattle.hir_scope.specs.Slots.{slots}
 use Rattle.hir_scope.specs.walk.Pending.{form_tasks, task_kids}
-use Rattle.hir_scope.proofs.KidLemmas.{met_in_form, kids_of_form}
-use Rattle.hir_scope.proofs.SlotLemmas.{kids_in, slots_kids}
+use Rattle.hir_scope.proofs.KidLemmas.{kids_of_form, kids_in, slots_kids}
 use Rattle.hir_scope.specs.walk.Machine.{about, total_step, total, left}
 use Rattle.hir_scope.proofs.TaskLemmas.{about_form}
 

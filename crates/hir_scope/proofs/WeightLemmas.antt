@@ -6,13 +6,14 @@ use Rattle.hir_node.specs.ChildCalls.{e, opt}
 use Rattle.hir_node.specs.declared.node_id.NodeId.{NodeId}
 use Rattle.hir_faults.specs.Nodes.{Nodes, Has}
 use Rattle.hir_faults.specs.Down.{KidsFall}
+use Rattle.hir_scope.specs.Order.{met_in_closure}
 use Rattle.hir_scope.specs.declared.tasks.Around.{Around}
 use Rattle.hir_scope.specs.declared.tasks.Task.{Task}
 use Rattle.hir_scope.specs.declared.tasks.Task.TheVariants as task
 use Rattle.hir_scope.specs.Frames.{Frame}
 use Rattle.hir_scope.specs.Forms.{ScopingForm, form_of}
 use Rattle.hir_scope.specs.Forms as form
-use Rattle.hir_scope.specs.walk.Pending.{tasks_of, statement_tasks, closure_calls, form_tasks, leave, task_kids, task_frames, opens_here, opens_constant}
+use Rattle.hir_scope.specs.walk.Pending.{tasks_of, statement_tasks, form_tasks, leave, task_kids, task_frames, opens_here, opens_constant}
 use Rattle.hir_scope.specs.walk.Machine.{about, total, left, node_tasks, node_frames, weight_left, task_turns, node_turns, turns_left}
 use Rattle.hir_scope.proofs.TotalLemmas.{left_met}
 
@@ -48,7 +49,7 @@ module _ (v : Task → ℕ) (a b : Around) (same : v (leave a) ≡ v (leave b)) 
       let m = around_last ts in
       omega (arith, p, q, m)
   around_same (form.Loop label body) = around_last (task.Expr body ∷ [])
-  around_same (form.Closure types ret args body) = around_last (tasks_of (closure_calls types ret args body))
+  around_same (form.Closure types ret args body) = around_last (tasks_of (met_in_closure types ret args body))
   around_same (form.Match x arms) = refl
   around_same (form.Assignment target value) = omega (arith, same)
   around_same (form.PatternType ty pat) = around_last (task.TypeRef ty ∷ task.Bound pat ∷ [])

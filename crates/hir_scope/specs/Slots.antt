@@ -39,6 +39,17 @@ call_slot constants add (OnAnonConst id) = record { kid = node.Expr id; base = C
 call_slot constants add (OnType id) = record { kid = node.TypeRef id; base = Const; add = []; constants = constants } ∷ []
 call_slot constants add (OnLifetime id) = []
 
+-- the kid of a slot, or of a call, with the chain that it is on
+abbrev pub slot_kid : Slot → NodeId × Base
+slot_kid slot = (slot.kid, slot.base)
+
+abbrev pub call_kids : Call → List (NodeId × Base)
+call_kids (OnExpr id) = (node.Expr id, Here) ∷ []
+call_kids (OnPat id) = (node.Pat id, Here) ∷ []
+call_kids (OnAnonConst id) = (node.Expr id, Const) ∷ []
+call_kids (OnType id) = (node.TypeRef id, Const) ∷ []
+call_kids (OnLifetime id) = []
+
 -- kids in turn: each has these frames added, and on them what the kids before it leak
 abbrev pub in_turn : Nodes → Chain → Chain → List Call → List Slot
 in_turn s constants add [] = []

@@ -3,3 +3,5 @@ pub mod PlacesUnder
 pub mod Pending
 pub mod Machine
 pub mod Begins
+pub mod Seen
+pub mod Entered

@@ -2,13 +2,15 @@
 //! Each is a function that does nothing: its contract is the law.
 
 ghost use Rattle.std.specs.Prelude.{◌≡◌, ◌<◌, ◌≤◌, ◌∷◌, ℕ, None, Some, List, Option, IsPermutation, length, map, slice_get};
-ghost use Rattle.std.specs.List.{All};
+ghost use Rattle.std.specs.List.{All, flat_map};
 ghost use Rattle.hir_node.specs.declared.node_id.NodeId.{NodeId};
 ghost use Rattle.hir_faults.specs.Nodes.{Nodes, Has, kids_of};
 ghost use Rattle.hir_expr_store.specs.Contents.{Contents, contents_fault};
 ghost use Rattle.hir_expr_store.specs.Under.{Reached};
 ghost use Rattle.hir_scope.specs.Leak.{leak, leak_step};
-ghost use Rattle.hir_scope.specs.Slots.{slots};
+ghost use Rattle.hir_scope.specs.Forms.{form_of};
+ghost use Rattle.hir_scope.specs.Order.{met_in_form};
+ghost use Rattle.hir_scope.specs.Slots.{call_kids, slot_kid, slots};
 ghost use Rattle.hir_scope.specs.Frames.{Chain};
 ghost use Rattle.hir_scope.specs.Built.{tops_of_body, tops_of_signature};
 ghost use Rattle.hir_scope.specs.Chains.{Place, Stands, HasChain};
@@ -32,6 +34,11 @@ pub fn leak_is_its_step()
 /// The kids of a node's slots are the node's kids, each once.
 pub fn slots_hold_the_kids()
     ensures { (s : Nodes) (n : NodeId) → IsPermutation (kids_of s n) (map (λ slot. slot.kid) (slots s n)) }
+{}
+
+/// The slots of a node are for its child calls in the order in which scopes are made.
+pub fn slots_follow_the_order()
+    ensures { (s : Nodes) (n : NodeId) → map slot_kid (slots s n) ≡ flat_map call_kids (met_in_form (form_of s n)) }
 {}
 
 /// A node stands in a place exactly where it is reached.

@@ -1,8 +1,9 @@
 -- What is turned over lies in the order in which it was pushed.
-use Rattle.std.proofs.Common.{◌≡◌, ℕ, List, [], ◌∷◌, ◌++◌, length, take, drop, refl, sym, ap, ◌∙◌}
+use Rattle.std.proofs.Common.{◌≡◌, ℕ, List, [], ◌∷◌, ◌++◌, append_assoc, length, take, drop, refl, sym, ap, ◌∙◌}
 use Rattle.std.specs.Prelude.{reverse}
 use Rattle.std.proofs.Math.Seq.{take-append_seam, drop-append_seam}
 use Rattle.std.proofs.lemmas.List.{reverse-append, length-reverse}
+use Rattle.hir_stack.specs.Stacks.{Stacked, Puts}
 
 module _ {X : Type 0} where
   reverse-twice : (xs : List X) → reverse (reverse xs) ≡ xs
@@ -21,3 +22,18 @@ module _ {X : Type 0} where
       let high : drop below row ≡ pushed = (λ i. drop (long i) (is i)) ∙ drop-append_seam (reverse before) pushed in
       (λ i. reverse (low i ++ reverse (high i)))
       ∙ (reverse-append (reverse before) (reverse pushed) ∙ (λ i. reverse-twice pushed i ++ reverse-twice before i))
+
+  -- what is put in two parts
+
+  pub puts_none : (v : Stacked X) → Puts v [] v
+  puts_none v h = (h, refl)
+
+  pub puts_two : {u v w : Stacked X} (xs ys : List X) → Puts u xs v → Puts v ys w → Puts u (xs ++ ys) w
+  puts_two {u} xs ys p q h =
+      let second = q h in
+      let first = p second.0 in (
+        first.0,
+        second.1
+            ∙ (ap (λ (zs : List X). reverse ys ++ zs) first.1
+            ∙ (sym (append_assoc (reverse ys) (reverse xs) u.items) ∙ ap (λ (zs : List X). zs ++ u.items) (sym (reverse-append xs ys)))),
+      )

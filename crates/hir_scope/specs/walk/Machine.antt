@@ -33,7 +33,11 @@ machine w tasks = record { scopes = w.scopes; around = w.around; tasks = tasks }
 
 -- with all that is still to do
 abbrev pub state : Walk → Machine
-state w = machine w w.tasks
+state w = machine w w.tasks.items
+
+-- where this task is to be done first
+abbrev pub doing : Walk → Task → Machine
+doing w task = machine w (task ∷ w.tasks.items)
 
 -- the chain of each scope
 abbrev pub chain_of : List Scope → ℕ → Chain

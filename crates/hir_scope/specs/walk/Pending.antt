@@ -1,7 +1,7 @@
 -- What a walk has still to do: the tasks of each scoping form, and the expressions that tasks will meet, each in its place.
 use Rattle.std.specs.Prelude.{ℕ, List, [], ◌∷◌, ◌++◌, map, Option, Some, None}
 use Rattle.std.specs.List.{flat_map}
-use Rattle.hir_node.specs.ChildCalls.{Call, OnExpr, OnAnonConst, OnPat, OnType, OnLifetime, e, p, t, opt, kids}
+use Rattle.hir_node.specs.ChildCalls.{Call, OnExpr, OnAnonConst, OnPat, OnType, OnLifetime, e, t, opt, kids}
 use Rattle.hir_node.specs.declared.expr_types.Item.{Item}
 use Rattle.hir_node.specs.declared.expr_types.Item.TheVariants as item
 use Rattle.hir_node.specs.declared.expr_types.MatchArm.{MatchArm}
@@ -10,6 +10,7 @@ use Rattle.hir_node.specs.declared.expr_types.Statement.TheVariants as statement
 use Rattle.hir_node.specs.declared.node_id.NodeId.{NodeId}
 use Rattle.hir_node.specs.declared.node_id.NodeId.TheVariants as node
 use Rattle.hir_faults.specs.Nodes.{Nodes}
+use Rattle.hir_stack.specs.Stacks.{Stacked, Puts}
 use Rattle.hir_scope.specs.declared.scope.ScopeKind.TheVariants as kind
 use Rattle.hir_scope.specs.declared.tasks.Around.{Around}
 use Rattle.hir_scope.specs.declared.tasks.Task.{Task}
@@ -18,9 +19,14 @@ use Rattle.hir_scope.specs.Frames.{Frame, Chain, frame, of_kind, empty}
 use Rattle.hir_scope.specs.Forms.{ScopingForm}
 use Rattle.hir_scope.specs.Forms as form
 use Rattle.hir_scope.specs.Leak.{leak}
+use Rattle.hir_scope.specs.Order.{met_in_arm, met_in_closure}
 use Rattle.hir_scope.specs.Slots.{own_frame, block_constants, arm_slots, loop_kind}
 use Rattle.hir_scope.specs.Chains.{Place, place_kid}
 use Rattle.hir_scope.specs.walk.PlacesUnder.{place, exprs_under}
+
+-- a task is put onto others
+abbrev pub Put : Stacked Task → Task → Stacked Task → Type 0
+Put v task w = Puts v (task ∷ []) w
 
 -- the task of a call: a lifetime has none
 abbrev pub task_of : Call → List Task
@@ -51,15 +57,14 @@ guarded_task pat expr (Some guard) = task.GuardedArm pat guard expr
 abbrev pub arm_task : MatchArm → Task
 arm_task arm = guarded_task arm.pat arm.expr arm.guard
 
+abbrev pub one_arm : MatchArm → List Task
+one_arm arm = arm_task arm ∷ []
+
 abbrev pub arm_with : ℕ → ℕ → Option ℕ → MatchArm
 arm_with pat expr guard = record { pat = pat; guard = guard; expr = expr }
 
 abbrev pub leave : Around → Task
 leave around = task.Leave around.here around.constant
-
--- the calls of a closure in the order in which they are met: types see none of its bindings
-abbrev pub closure_calls : List (Option ℕ) → Option ℕ → List ℕ → ℕ → List Call
-closure_calls arg_types ret_type args body = (flat_map (opt t) arg_types ++ opt t ret_type) ++ (flat_map p args ++ e body)
 
 -- the tasks of what is inside a node; leaving it restores `around`
 abbrev pub form_tasks : Around → ScopingForm → List Task
@@ -68,7 +73,7 @@ form_tasks around (form.If condition then_branch else_branch) =
 form_tasks around (form.Let pat expr) = task.Expr expr ∷ task.Bound pat ∷ []
 form_tasks around (form.Block id label statements tail) = flat_map statement_tasks statements ++ (tasks_of (opt e tail) ++ leave around ∷ [])
 form_tasks around (form.Loop label body) = task.Expr body ∷ leave around ∷ []
-form_tasks around (form.Closure arg_types ret_type args body) = tasks_of (closure_calls arg_types ret_type args body) ++ leave around ∷ []
+form_tasks around (form.Closure arg_types ret_type args body) = tasks_of (met_in_closure arg_types ret_type args body) ++ leave around ∷ []
 form_tasks around (form.Match scrutinee arms) = task.Expr scrutinee ∷ map arm_task arms
 form_tasks around (form.Assignment target value) = task.Pat target ∷ leave around ∷ task.Expr value ∷ []
 form_tasks around (form.PatternType type pat) = task.TypeRef type ∷ task.Bound pat ∷ leave around ∷ []
@@ -121,17 +126,14 @@ future s chain here constant (task.MacroDef id ∷ rest) =
 future s chain here constant (task.Leave outer outer_constant ∷ rest) = future s chain (chain outer) (chain outer_constant) rest
 
 -- the nodes that a task is about
-abbrev pub arm_calls : MatchArm → List Call
-arm_calls arm = p arm.pat ++ opt e arm.guard ++ e arm.expr
-
 abbrev pub task_kids : Task → List NodeId
 task_kids (task.Expr id) = node.Expr id ∷ []
 task_kids (task.Constant id) = node.Expr id ∷ []
 task_kids (task.Pat id) = node.Pat id ∷ []
 task_kids (task.TypeRef id) = node.TypeRef id ∷ []
 task_kids (task.Bound id) = node.Pat id ∷ []
-task_kids (task.Arm pat expr) = kids (arm_calls (arm_with pat expr None))
-task_kids (task.GuardedArm pat guard expr) = kids (arm_calls (arm_with pat expr (Some guard)))
+task_kids (task.Arm pat expr) = kids (met_in_arm (arm_with pat expr None))
+task_kids (task.GuardedArm pat guard expr) = kids (met_in_arm (arm_with pat expr (Some guard)))
 task_kids (task.MacroDef id) = []
 task_kids (task.Leave outer outer_constant) = []
 

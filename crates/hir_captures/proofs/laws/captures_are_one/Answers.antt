@@ -13,6 +13,7 @@ returns c = λ b sound accepted closure is xs ys p q.
       fall = c.kids_fall.ensures b.store sound;
       parents = c.who_has_kids_is_there.ensures s;
       kids = c.slots_hold_the_kids.ensures s;
+      order = c.slots_follow_the_order.ensures s;
     } in
     let same = one_list b.store (tops_of_body b) (tops b) laws (c.kids_of_reached_are_reached.ensures s (tops b))
     (c.a_reached_node_has_one_chain.ensures.bodies b sound accepted) closure is.0 is.1 p.chain q.chain p.are_chains q.are_chains in

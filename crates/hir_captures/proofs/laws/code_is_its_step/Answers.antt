@@ -7,5 +7,6 @@ returns c = λ store fine n a.
       fall = c.kids_fall.ensures store fine;
       parents = c.who_has_kids_is_there.ensures store.nodes;
       kids = c.slots_hold_the_kids.ensures store.nodes;
+      order = c.slots_follow_the_order.ensures store.nodes;
     } in
     code_at store.nodes laws n a

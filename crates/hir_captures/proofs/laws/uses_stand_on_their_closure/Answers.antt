@@ -14,6 +14,7 @@ returns c = λ b sound accepted closure is chain are.
       fall = c.kids_fall.ensures b.store sound;
       parents = c.who_has_kids_is_there.ensures s;
       kids = c.slots_hold_the_kids.ensures s;
+      order = c.slots_follow_the_order.ensures s;
     } in
     All-from_recursion (λ (u : Use). IsOn (chain closure) (chain u.expr)) (uses_in b.store closure)
     (uses_stand_on b.store (tops_of_body b) (tops b) laws (c.kids_of_reached_are_reached.ensures s (tops b))

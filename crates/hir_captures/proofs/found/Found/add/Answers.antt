@@ -2,7 +2,7 @@ use Rattle.std.proofs.Common.{rules, ◌≡◌, ◌∙◌, ap, sym, List, ℕ, �
 use Rattle.std.specs.Prelude.{is_some}
 use Rattle.std.specs.Ordering.{nat_cmp}
 use Rattle.std.specs.FinMap as map
-use Rattle.hir_captures.specs.Marks.{is_listed}
+use Rattle.hir_captures.specs.walk.Marks.{is_listed}
 use Rattle.hir_captures.proofs.FoundLemmas.{marks_more}
 use Rattle.hir_captures.proofs.found.Found.add.Goals as goal
 

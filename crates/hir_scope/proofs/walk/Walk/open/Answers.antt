@@ -1,0 +1,30 @@
+use Rattle.std.proofs.Common.{rules, ◌≡◌, List, ℕ, [], ◌∷◌, ◌++◌, map, ◌<◌, ◌+◌, ◌⊎◌, length, refl, ap, ◌∙◌, subst}
+use Rattle.std.specs.List.{flat_map}
+use Rattle.hir_scope.specs.declared.scope.ScopeEntry.{ScopeEntry}
+use Rattle.hir_scope.specs.declared.scope.ScopeKind.TheVariants as kind
+use Rattle.hir_scope.specs.Frames.{binds}
+use Rattle.hir_scope.specs.Scopes.{Scopes, entry_count, frame_of}
+use Rattle.hir_scope.specs.walk.Machine.{state, Over}
+use Rattle.hir_scope.proofs.MovingLemmas.{child, opened_here, over_new}
+use Rattle.hir_scope.proofs.walk.Walk.open.Goals as goal
+
+pub returns-in_err-here-clause-full : goal.returns-in_err-here-clause-full
+returns-in_err-here-clause-full c =
+    let S = c.args.self.now.scopes.scopes in
+    let es = c.add_pats.new.self.list.items in
+    let bound : es ≡ flat_map (binds c.args.store.now.nodes) c.args.pats.now =
+    (c.add_pats.ensures c.in_ok-are_there.ensures.ok).1 ∙ ap (λ (xs : List ScopeEntry). xs ++ flat_map (binds c.args.store.now.nodes) c.args.pats.now) c.clear.ensures in
+    λ h.
+    let o : (4294967295 < length S + 1) ⊎ (4294967295 < entry_count S + length es) = search rules in
+    subst (λ (xs : List ScopeEntry). Over (map frame_of S ++ record { kind = kind.None; entries = xs } ∷ [])) bound
+    (over_new S (record { kind = kind.None; entries = es }) o)
+
+pub returns-clause-opened : goal.returns-clause-opened
+returns-clause-opened c =
+    let w = c.args.self.now in
+    let ok = c.in_ok-here.ensures.ok in
+    let bound = (c.add_pats.ensures c.in_ok-are_there.ensures.ok).1 ∙ ap (λ (xs : List ScopeEntry). xs ++ flat_map (binds c.args.store.now.nodes) c.args.pats.now) c.clear.ensures in
+    opened_here (state w) _ kind.None (flat_map (binds c.args.store.now.nodes) c.args.pats.now)
+    (ap (λ (x : Scopes). x.scopes) ok ∙ ap (λ (xs : List ScopeEntry). w.scopes.scopes ++ child w.around.here kind.None xs ∷ []) bound)
+    (ap (λ (x : Scopes). x.scope_by_expr) ok)
+    c.in_ok-here.ensures.id refl refl c.requires.constant

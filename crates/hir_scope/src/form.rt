@@ -1,0 +1,174 @@
+//! What an expression does with scopes: by its form the walk knows what comes when, and in which scope.
+
+ghost use Rattle.std.specs.Prelude.{◌≡◌};
+ghost use Rattle.hir_scope.specs.Forms.{expr_form};
+ghost use Rattle.hir_scope.specs.walk.Machine.{scope_within};
+ghost use Rattle.hir_scope.specs.walk.Seen.{seen};
+
+use crate::scope::ScopeId;
+use hir_base::BlockId;
+use hir_node::{Expr, ExprId, LabelId, MatchArm, PatId, Statement, TypeRefId};
+
+/// An expression by its scoping form, borrowed.
+#[derive(Clone, Copy)]
+pub(crate) enum Form<'a> {
+    /// `if`: the condition and the first branch are in a scope of their own.
+    If {
+        condition: ExprId,
+        then_branch: ExprId,
+        else_branch: Option<ExprId>,
+    },
+    /// `let` in a condition: what the pattern binds is known from there on.
+    Let { pat: PatId, expr: ExprId },
+    /// A block: each statement sees what those before it bind.
+    Block {
+        id: Option<BlockId>,
+        label: Option<LabelId>,
+        statements: &'a [Statement],
+        tail: Option<ExprId>,
+    },
+    /// A loop, in a scope of its own.
+    Loop { label: Option<LabelId>, body: ExprId },
+    /// A closure: only its body sees what the arguments bind.
+    Closure {
+        arg_types: &'a [Option<TypeRefId>],
+        ret_type: Option<TypeRefId>,
+        args: &'a [PatId],
+        body: ExprId,
+    },
+    /// A match: each arm is in a scope of its own.
+    Match {
+        scrutinee: ExprId,
+        arms: &'a [MatchArm],
+    },
+    /// An assignment: the target is in a scope of its own.
+    Assignment { target: PatId, value: ExprId },
+    /// Any other expression: its children come one after the other.
+    InTurn(&'a Expr),
+}
+
+impl<'a> Form<'a> {
+    /// The form of an expression.
+    // One arm a form: split, the function would name variants twice.
+    pub(crate) fn of(expr: &'a Expr) -> Form<'a>
+        ensures { seen result ≡ expr_form expr.now }
+    {
+        match expr {
+            Expr::If {
+                condition,
+                then_branch,
+                else_branch,
+            } => Form::If {
+                condition: *condition,
+                then_branch: *then_branch,
+                else_branch: *else_branch,
+            },
+            Expr::Let { pat, expr } => Form::Let {
+                pat: *pat,
+                expr: *expr,
+            },
+            Expr::Block {
+                id,
+                statements,
+                tail,
+                label,
+                unsafe_: _,
+            } => Form::Block {
+                id: *id,
+                label: *label,
+                statements: statements.as_slice(),
+                tail: *tail,
+            },
+            Expr::Loop {
+                body,
+                label,
+                source: _,
+            } => Form::Loop {
+                label: *label,
+                body: *body,
+            },
+            Expr::Closure {
+                args,
+                arg_types,
+                ret_type,
+                body,
+                closure_kind: _,
+                capture_by: _,
+            } => Form::Closure {
+                arg_types: arg_types.as_slice(),
+                ret_type: *ret_type,
+                args: args.as_slice(),
+                body: *body,
+            },
+            Expr::Match { expr, arms } => Form::Match {
+                scrutinee: *expr,
+                arms: arms.as_slice(),
+            },
+            Expr::Assignment { target, value } => Form::Assignment {
+                target: *target,
+                value: *value,
+            },
+            Expr::Missing
+            | Expr::Underscore
+            | Expr::IncludeBytes
+            | Expr::Literal(_)
+            | Expr::Continue { label: _ }
+            | Expr::Path(_)
+            | Expr::Array(_)
+            | Expr::OffsetOf(_)
+            | Expr::Const(_)
+            | Expr::Call { callee: _, args: _ }
+            | Expr::MethodCall {
+                receiver: _,
+                method_name: _,
+                args: _,
+                generic_args: _,
+            }
+            | Expr::Break { expr: _, label: _ }
+            | Expr::Return { expr: _ }
+            | Expr::Yield { expr: _ }
+            | Expr::Yeet { expr: _ }
+            | Expr::Become { expr: _ }
+            | Expr::Await { expr: _ }
+            | Expr::Field { expr: _, name: _ }
+            | Expr::Ref {
+                expr: _,
+                rawness: _,
+                mutability: _,
+            }
+            | Expr::UnaryOp { expr: _, op: _ }
+            | Expr::RecordLit {
+                path: _,
+                fields: _,
+                spread: _,
+            }
+            | Expr::Cast {
+                expr: _,
+                type_ref: _,
+            }
+            | Expr::BinaryOp {
+                lhs: _,
+                rhs: _,
+                op: _,
+            }
+            | Expr::Index { base: _, index: _ }
+            | Expr::Tuple { exprs: _ } => Form::InTurn(expr),
+        }
+    }
+
+    /// The scope of an expression of this form: of a block the one inside it, of any other the one around it.
+    pub(crate) fn scope(&self, inside: ScopeId, outside: ScopeId) -> ScopeId
+        ensures { result ≡ scope_within (seen self.now) inside outside }
+    {
+        if let Form::Block {
+            id: _,
+            label: _,
+            statements: _,
+            tail: _,
+        } = self
+        {
+            return inside;
+        }
+        outside
+    }
+}

@@ -1,0 +1,220 @@
+//! The scopes of a body or a signature, made by a walk over what it reaches; and where the walk begins.
+ghost use Rattle.std.specs.Prelude.{◌≡◌, ◌+◌, ◌<◌, ◌≤◌, ◌∷◌, ◌++◌, [], length, option_map, Err, IfOk, IfSome, OnErr, OnOk, Contains};
+ghost use Rattle.std.specs.List.{All, flat_map};
+ghost use Rattle.hir_node.specs.declared.node_id.NodeId.{NodeId};
+ghost use Rattle.hir_faults.specs.Nodes.{Has};
+ghost use Rattle.hir_faults.specs.Tested.{all_of};
+ghost use Rattle.hir_items.specs.Bodies.{AreBelow, body_nodes, formals_of, tops};
+ghost use Rattle.hir_items.specs.Signatures.{root_tops};
+ghost use Rattle.hir_scope.specs.Built.{AreBodyScopes, AreSignatureScopes, BodyIsTooLarge, SignatureIsTooLarge, expr_count};
+ghost use Rattle.hir_scope.specs.Frames.{entry_at, binds};
+ghost use Rattle.hir_scope.specs.walk.Begins.{IsSound, at_first, for_none, root_entries, body_root, body_begins, formal_tasks, signature_begins};
+ghost use Rattle.hir_scope.specs.walk.Entered.{Adds};
+ghost use Rattle.hir_scope.specs.walk.Machine.{state};
+
+use crate::entries::Entries;
+use crate::expr_scopes::ExprScopes;
+use crate::fault::ScopesFault;
+use crate::scope::{ScopeId, ScopeKind};
+use crate::tasks::{Around, Task, Tasks};
+use crate::walk::Walk;
+use hir_base::{MOST_ITEMS, Steps};
+use hir_expr_store::ExpressionStore;
+use hir_expr_store::laws::{
+    bindings_in_is, kids_fall, nodes_are_sound, nodes_under_is, roots_stand_apart,
+};
+use hir_items::body_laws::tops_are_there;
+use hir_items::{Body, Param};
+use hir_node::{BindingId, PatId};
+use std::alloc::Global;
+
+/// Tells a proof what the laws say of the store's nodes, and does nothing.
+fn is_sound(store: &ExpressionStore)
+    ensures { IsSound store.now.nodes }
+{
+    store.has_no_fault();
+    kids_fall();
+    nodes_under_is();
+    bindings_in_is();
+    nodes_are_sound();
+}
+
+/// Tells a proof that the roots of the store are there, and does nothing.
+fn roots_are_there(store: &ExpressionStore)
+    ensures { (n : NodeId) → Contains (root_tops store.now) n → Has store.now.nodes n }
+{
+    store.has_no_fault();
+    roots_stand_apart();
+}
+
+/// Tells a proof that the formals and the last root of the body are there, and does nothing.
+fn tops_of_body_are_there(body: &Body)
+    ensures { (n : NodeId) → Contains (tops body.now) n → Has body.now.store.nodes n }
+{
+    body.has_no_fault();
+    body.store().has_no_fault();
+    tops_are_there();
+}
+
+/// Adds the entry of `self`, where there is one.
+fn add_self(
+    store: &ExpressionStore,
+    entries: &mut Entries,
+    self_param: Option<Param<BindingId>>,
+)
+    ensures { Adds entries.old (all_of (entry_at store.now.nodes)
+        (option_map (λ p. p.formal) self_param)) entries.new }
+{
+    if let Some(param) = self_param {
+        entries.add(store, param.formal);
+    }
+}
+
+/// Adds the entries of what the formals bind.
+fn add_formals(store: &ExpressionStore, entries: &mut Entries, params: &[Param<PatId>])
+    requires { All (AreBelow (length store.now.nodes.pats)) params.now }
+    ensures { Adds entries.old (flat_map (binds store.now.nodes) (formals_of params.now)) entries.new }
+{
+    for param in params {
+        entries.add_pat(store, param.formal);
+    }
+}
+
+/// Pushes the formals, the first on top.
+fn push_formals(tasks: &mut Tasks, params: &[Param<PatId>]) -> Result<(), ScopesFault>
+    ensures ok { OnOk result (tasks.new.items ≡ formal_tasks (formals_of params.now) ++ tasks.old.items) }
+    ensures memory { OnErr result (result ≡ Err ScopesFault.Memory) }
+{
+    let mut rest = params.len();
+    while rest > 0 {
+        rest -= 1;
+        tasks.push(Task::Pat(params[rest].formal))?;
+    }
+    Ok(())
+}
+
+impl Walk {
+    /// A walk without scopes. It has room for those of the store's expressions, and for an entry of each binding.
+    fn without_scopes(alloc: Global, store: &ExpressionStore) -> Result<Walk, ScopesFault>
+        ensures scopes { IfOk result (λ walk. walk.scopes ≡ for_none []) }
+        ensures around { IfOk result (λ walk. walk.around ≡ at_first) }
+        ensures tasks { IfOk result (λ walk. walk.tasks.items ≡ []) }
+        ensures entries { IfOk result (λ walk. walk.entries.list.items ≡ []) }
+        ensures memory { OnErr result (result ≡ Err ScopesFault.Memory) }
+    {
+        let scopes = ExprScopes::with_room(alloc, store.exprs().len(), store.bindings().len())?;
+        let first = ScopeId::from_raw(0);
+        let around = Around {
+            here: first,
+            constant: first,
+        };
+        Ok(Walk::new(alloc, scopes, around))
+    }
+
+    /// Opens the root scope of a body: what `self` and the formals bind.
+    fn open_root(&mut self, body: &Body) -> Result<(), ScopesFault>
+        requires scopes { self.old.scopes ≡ for_none [] }
+        requires entries { self.old.entries.list.items ≡ [] }
+        ensures ok { OnOk result (self.new.scopes ≡ for_none (body_root body.now ∷ [])) }
+        ensures around { self.new.around ≡ self.old.around }
+        ensures tasks { self.new.tasks ≡ self.old.tasks }
+        ensures full { result ≡ Err ScopesFault.Full → MOST_ITEMS < length (root_entries body.now) }
+        ensures missing { result ≡ Err ScopesFault.Missing → ⊥ }
+    {
+        let store = body.store();
+        add_self(store, &mut self.entries, body.self_param());
+        add_formals(store, &mut self.entries, body.params());
+        self.entries.are_there()?;
+        let entries = &mut self.entries.list;
+        self.scopes.new_scope(None, ScopeKind::None, entries)?;
+        Ok(())
+    }
+
+    /// The walk over a body, before its first step.
+    fn over_body(alloc: Global, body: &Body) -> Result<Walk, ScopesFault>
+        ensures ok { IfOk result (λ walk. state walk ≡ body_begins body.now) }
+        ensures full { result ≡ Err ScopesFault.Full → MOST_ITEMS < length (root_entries body.now) }
+        ensures missing { result ≡ Err ScopesFault.Missing → ⊥ }
+    {
+        let mut walk = Walk::without_scopes(alloc, body.store())?;
+        walk.open_root(body)?;
+        walk.tasks.push(Task::Expr(body.root_expr()))?;
+        push_formals(&mut walk.tasks, body.params())?;
+        Ok(walk)
+    }
+
+    /// The walk over a signature, before its first step: a scope for each root in the root scope, which is empty.
+    fn over_roots(alloc: Global, store: &ExpressionStore) -> Result<Walk, ScopesFault>
+        ensures ok { IfOk result (λ walk. state walk ≡ signature_begins store.now) }
+        ensures full { result ≡ Err ScopesFault.Full → MOST_ITEMS < 1 + length store.now.roots }
+        ensures missing { result ≡ Err ScopesFault.Missing → ⊥ }
+    {
+        let mut walk = Walk::without_scopes(alloc, store)?;
+        let mut none = Vec::new(alloc);
+        let root_scope = walk.scopes.new_scope(None, ScopeKind::None, &mut none)?;
+        let mut roots = store.expr_roots();
+        while let Some(root) = roots.next_back() {
+            let scope = walk
+                .scopes
+                .new_scope(Some(root_scope), ScopeKind::None, &mut none)?;
+            walk.tasks.push(Task::Expr(root))?;
+            walk.tasks.push(Task::Leave(scope, scope))?;
+        }
+        Ok(walk)
+    }
+}
+
+impl ExprScopes {
+    /// The scopes of a body: each expression that the body reaches, from its formals and its last root, gets its scope, and no other.
+    ///
+    /// Answers `Full` only where the body needs more than 2^32 - 1 scopes or entries, and `Memory` where room was refused. It takes
+    /// time in the number of nodes and entries, and doesn't recurse.
+    pub fn new_body(alloc: Global, body: &Body) -> Result<ExprScopes, ScopesFault>
+        ensures scopes { IfOk result (AreBodyScopes body.now) }
+        ensures full { result ≡ Err ScopesFault.Full → BodyIsTooLarge body.now }
+        ensures missing { result ≡ Err ScopesFault.Missing → ⊥ }
+    {
+        let mut steps = Steps::new();
+        ExprScopes::new_body_counted(alloc, body, &mut steps)
+    }
+
+    /// The same, counting a step for each expression that gets its scope: each that the body reaches gets it once.
+    pub fn new_body_counted(
+        alloc: Global,
+        body: &Body,
+        steps: &mut Steps,
+    ) -> Result<ExprScopes, ScopesFault>
+        ensures scopes { IfOk result (AreBodyScopes body.now) }
+        ensures once { OnOk result (steps.new ≡ steps.old + expr_count (body_nodes body.now)) }
+        ensures rises { steps.old ≤ steps.new }
+        ensures most { OnErr result (steps.new ≤ steps.old + expr_count (body_nodes body.now)) }
+        ensures full { result ≡ Err ScopesFault.Full → BodyIsTooLarge body.now }
+        ensures missing { result ≡ Err ScopesFault.Missing → ⊥ }
+    {
+        let store = body.store();
+        // (its contract says that the binding of `self` is in the store)
+        let _ = body.self_param();
+        is_sound(store);
+        tops_of_body_are_there(body);
+        let mut walk = Walk::over_body(alloc, body)?;
+        walk.run(store, steps)?;
+        Ok(walk.scopes)
+    }
+
+    /// The scopes of a signature: each expression under a root of its store gets its scope, and no other.
+    ///
+    /// Answers `Full` only where more than 2^32 - 1 scopes or entries are needed, and `Memory` where room was refused. It takes
+    /// time in the number of nodes and entries, and doesn't recurse.
+    pub fn new_store(alloc: Global, store: &ExpressionStore) -> Result<ExprScopes, ScopesFault>
+        ensures scopes { IfOk result (AreSignatureScopes store.now) }
+        ensures full { result ≡ Err ScopesFault.Full → SignatureIsTooLarge store.now }
+        ensures missing { result ≡ Err ScopesFault.Missing → ⊥ }
+    {
+        is_sound(store);
+        roots_are_there(store);
+        let mut steps = Steps::new();
+        let mut walk = Walk::over_roots(alloc, store)?;
+        walk.run(store, &mut steps)?;
+        Ok(walk.scopes)
+    }
+}
