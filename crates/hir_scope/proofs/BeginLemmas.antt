@@ -56,6 +56,11 @@ roots_there s roots h n c =
     let at = contained_at roots r.0 (contains_in roots r.0 r.1) in
     subst (Has s) r.2 (subst (λ (x : ℕ). x < length s.exprs) at.2 (h at.0 at.1))
 
+-- what formals bind, parameter by parameter
+pub of_formals : (f : ℕ → List ScopeEntry) (params : List (Param ℕ)) → flat_map (λ (q : Param ℕ). f q.formal) params ≡ flat_map f (formals_of params)
+of_formals f [] = refl
+of_formals f (q ∷ params) = ap (λ (es : List ScopeEntry). f q.formal ++ es) (of_formals f params)
+
 -- 1. What all states weigh
 
 pub scopes_weigh : (scopes : List Scope) → sum_by one (map frame_of scopes) ≡ length scopes

@@ -1,4 +1,4 @@
-pub mod BinderLemmas
+pub mod EntriesLemmas
 mod DoneLemmas
 mod FutureLemmas
 mod GoneLemmas

@@ -1,6 +1,7 @@
 -- What the tasks of a node name is there: the node's kids, and the scopes that are taken back.
-use Rattle.std.proofs.Common.{◌≡◌, ℕ, suc, ◌<◌, List, [], ◌∷◌, ◌++◌, Option, Some, None, map, refl, sym, subst, arith, Contains}
-use Rattle.std.specs.List.{flat_map}
+use Rattle.std.proofs.Common.{◌≡◌, ℕ, suc, ◌<◌, List, [], ◌∷◌, ◌++◌, Option, Some, None, length, map, refl, sym, subst, arith, Contains}
+use Rattle.std.specs.List.{All, flat_map}
+use Rattle.std.proofs.lemmas.List.Elements.{All-nil, All-cons}
 use Rattle.std.proofs.lemmas.List.Concat.{flat_map-append}
 use Rattle.std.proofs.lemmas.List.Sorted.{IsPermutation-sym, Contains-permutation}
 use Rattle.hir_node.specs.ChildCalls.{Call, OnExpr, OnAnonConst, OnPat, OnType, OnLifetime, e, p, t, opt, kid, kids}
@@ -50,6 +51,10 @@ module _ (s : Nodes) where
   pats_there : (ps : List ℕ) → AreThere s (kids (flat_map p ps)) → AreThere s (map node.Pat ps)
   pats_there [] h = tt
   pats_there (x ∷ ps) h = (h.0, pats_there ps h.1)
+
+  pub all_there : (ps : List ℕ) → AreThere s (map node.Pat ps) → All (λ p. p < length s.pats) ps
+  all_there [] h = All-nil (λ p. p < length s.pats)
+  all_there (x ∷ ps) h = All-cons (λ p. p < length s.pats) x ps h.0 (all_there ps h.1)
 
   -- the patterns that a closure binds
   pub closure_pats : KidsFall s → (n : NodeId) (types : List (Option ℕ)) (ret : Option ℕ) (args : List ℕ) (body : ℕ) → Has s n → form_of s n ≡ form.Closure types ret args body → AreThere s (map node.Pat args)

@@ -1,11 +1,9 @@
 //! The entries of what patterns bind, until a scope takes them.
 
-ghost use Rattle.std.specs.Prelude.{◌≡◌, ◌<◌, [], ◌∷◌, false, map, length, Err, OnErr, OnOk};
-ghost use Rattle.std.specs.List.{flat_map};
-ghost use Rattle.hir_node.specs.declared.node_id.NodeId.TheVariants as node;
+ghost use Rattle.std.specs.Prelude.{◌≡◌, ◌<◌, [], ◌∷◌, false, length, Err, OnErr, OnOk};
+ghost use Rattle.std.specs.List.{All, flat_map};
 ghost use Rattle.hir_scope.specs.Frames.{entry_at, binds};
 ghost use Rattle.hir_scope.specs.walk.Entered.{Adds};
-ghost use Rattle.hir_scope.specs.walk.Machine.{AreThere};
 
 use crate::fault::ScopesFault;
 use crate::scope::ScopeEntry;
@@ -80,7 +78,7 @@ impl Entries {
 
     /// Appends the entries of what patterns bind, in the order of the patterns.
     pub(crate) fn add_pats(&mut self, store: &ExpressionStore, pats: &[PatId])
-        requires { AreThere store.now.nodes (map node.Pat pats.now) }
+        requires { All (λ pat. pat < length store.now.nodes.pats) pats.now }
         ensures { Adds self.old (flat_map (binds store.now.nodes) pats.now) self.new }
     {
         for pat in pats {

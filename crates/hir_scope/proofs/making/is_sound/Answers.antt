@@ -1,4 +1,4 @@
-use Rattle.hir_scope.proofs.start.is_sound.Goals as goal
+use Rattle.hir_scope.proofs.making.is_sound.Goals as goal
 
 pub returns : goal.returns
 returns c =

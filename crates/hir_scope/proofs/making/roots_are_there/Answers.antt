@@ -2,7 +2,7 @@ use Rattle.std.proofs.Common.{arith}
 use Rattle.std.proofs.lemmas.List.{length-map}
 use Rattle.hir_forest.specs.Faults.{root_nodes}
 use Rattle.hir_scope.proofs.BeginLemmas.{roots_there}
-use Rattle.hir_scope.proofs.start.roots_are_there.Goals as goal
+use Rattle.hir_scope.proofs.making.roots_are_there.Goals as goal
 
 pub returns : goal.returns
 returns c =
