@@ -1,6 +1,6 @@
 -- Reading a node leaves what is to be found as it was.
 use Rattle.std.proofs.Common.{◌≡◌, ◌<◌, ℕ, List, [], ◌∷◌, ◌++◌, Option, Some, None, fold, length, refl, sym, ap, ◌∙◌, subst, arith}
-use Rattle.std.specs.Prelude.{IsSome, ◌↔◌}
+use Rattle.std.specs.Prelude.{IsSome, ◌↔◌, ◌-◌}
 use Rattle.std.specs.List.{flat_map, filter_map, slice_get}
 use Rattle.std.specs.FinMap as map
 use Rattle.std.proofs.lemmas.List.{append-nil}
@@ -23,9 +23,10 @@ use Rattle.hir_scope.specs.Paths.{chain}
 use Rattle.hir_scope.specs.Chains.{HasChain}
 use Rattle.hir_scope.specs.Built.{ChainsAreFrames, tops_of_body}
 use Rattle.hir_items.specs.Bodies.{BodyContents, BodyReaches}
+use Rattle.hir_captures.specs.declared.code.Code.{Code}
 use Rattle.hir_captures.specs.declared.unread.Task.{Task}
 use Rattle.hir_captures.specs.declared.unread.Task.TheVariants as task
-use Rattle.hir_captures.specs.Captures.{with_new, AreChains, AreCaptures}
+use Rattle.hir_captures.specs.Captures.{meant_behind, with_new, AreChains, AreCaptures}
 use Rattle.hir_scope.specs.Order.{met_in_form}
 use Rattle.hir_captures.specs.walk.Pending.{pat_task, tasks_of, task_node, task_target, code_of, AreThere}
 use Rattle.hir_captures.specs.walk.Reading.{chain_in, captured_in, with_uses, with_code, Reads}
@@ -41,11 +42,14 @@ pub pat_there : (s : Nodes) (a : Option ℕ) (id : ℕ) (rest : List Task) → A
 pat_there s None id rest h = h.0
 pat_there s (Some a) id rest h = h.0
 
-module _ (c : Contents) (scopes : Scopes) (outermost : ℕ) where
-  uses_two : (found : List ℕ) (us vs : List Use) → with_uses scopes outermost found (us ++ vs) ≡ with_uses scopes outermost (with_uses scopes outermost found us) vs
+module _ (code : Code) where
+  abbrev c : Contents
+  c = code.store.now
+
+  uses_two : (found : List ℕ) (us vs : List Use) → with_uses code found (us ++ vs) ≡ with_uses code (with_uses code found us) vs
   uses_two found us vs =
-      ap (fold with_new found) (filter_map-append (captured_in scopes outermost) us vs)
-      ∙ fold-append with_new found (filter_map (captured_in scopes outermost) us) (filter_map (captured_in scopes outermost) vs)
+      ap (fold with_new found) (filter_map-append (captured_in code) us vs)
+      ∙ fold-append with_new found (filter_map (captured_in code) us) (filter_map (captured_in code) vs)
 
   module _ (laws : Laws c.nodes) (t : Task) (rest new : List Task) (before after : List ℕ) where
     abbrev put : List Task
@@ -58,14 +62,14 @@ module _ (c : Contents) (scopes : Scopes) (outermost : ℕ) where
         ∙ ap (λ (xs : List Spot). spot (task_node t) (task_target t) ∷ xs) (sym (flat_map-append (λ (x : Task). code_under c.nodes (task_node x) (task_target x)) kids rest))
 
     -- one node is read
-    read_one : AreThere c.nodes (t ∷ rest) → after ≡ with_uses scopes outermost before (uses_at c (task_node t) (task_target t)) → new ≡ put → Reads c scopes outermost before (t ∷ rest) after new
+    read_one : AreThere c.nodes (t ∷ rest) → after ≡ with_uses code before (uses_at c (task_node t) (task_target t)) → new ≡ put → Reads code before (t ∷ rest) after new
     read_one there found is = record {
       there = subst (AreThere c.nodes) (sym is) (kids_there c.nodes laws (task_node t) (assignment_at c.nodes (task_node t) (task_target t)) rest there.0 there.1);
       finds =
-          ap (with_code c scopes outermost before) code_now
+          ap (λ (spots : List Spot). with_uses code before (flat_map (spot_uses c) spots)) code_now
           ∙ (uses_two before (uses_at c (task_node t) (task_target t)) (flat_map (spot_uses c) (code_of c.nodes put))
-          ∙ (ap (λ (xs : List ℕ). with_code c scopes outermost xs (code_of c.nodes put)) (sym found)
-          ∙ ap (λ (ts : List Task). with_code c scopes outermost after (code_of c.nodes ts)) (sym is)));
+          ∙ (ap (λ (xs : List ℕ). with_code code xs put) (sym found)
+          ∙ ap (with_code code after) (sym is)));
       shorter =
           let now = ap (length {A = Spot}) code_now in
           let left = ap (λ (ts : List Task). length (code_of c.nodes ts)) is in
@@ -73,15 +77,15 @@ module _ (c : Contents) (scopes : Scopes) (outermost : ℕ) where
     }
 
   pub read_expr : Laws c.nodes → (id : ℕ) (x : Expr) (rest new : List Task) (before after : List ℕ) → slice_get c.nodes.exprs id ≡ Some x → AreThere c.nodes (task.Expr id ∷ rest) →
-      after ≡ with_uses scopes outermost before (uses_at c (node.Expr id) None) →
-      new ≡ tasks_of (if_assignment id (Some x)) (met_in_form (expr_form x)) ++ rest → Reads c scopes outermost before (task.Expr id ∷ rest) after new
+      after ≡ with_uses code before (uses_at c (node.Expr id) None) →
+      new ≡ tasks_of (if_assignment id (Some x)) (met_in_form (expr_form x)) ++ rest → Reads code before (task.Expr id ∷ rest) after new
   read_expr laws id x rest new before after is there found put =
       read_one laws (task.Expr id) rest new before after there found
       (put ∙ ap (λ (o : Option Expr). tasks_of (if_assignment id o) (met_in_form (form_at expr_form o)) ++ rest) (sym is))
 
   pub read_pat : Laws c.nodes → (id : ℕ) (x : Pat) (a : Option ℕ) (rest new : List Task) (before after : List ℕ) → slice_get c.nodes.pats id ≡ Some x → AreThere c.nodes (pat_task a id ∷ rest) →
-      after ≡ with_uses scopes outermost before (uses_at c (node.Pat id) a) →
-      new ≡ tasks_of a (pat_calls x) ++ rest → Reads c scopes outermost before (pat_task a id ∷ rest) after new
+      after ≡ with_uses code before (uses_at c (node.Pat id) a) →
+      new ≡ tasks_of a (pat_calls x) ++ rest → Reads code before (pat_task a id ∷ rest) after new
   read_pat laws id x None rest new before after is there found put =
       read_one laws (task.Pat id) rest new before after there found
       (put ∙ ap (λ (o : Option Pat). tasks_of None (met_in_form (form_at pat_form o)) ++ rest) (sym is))
@@ -98,16 +102,21 @@ chains_are b scopes reached chains x r = at (map.get scopes.scope_by_expr x) ref
   at None e h = absurd cc
   at (Some scope) e h = subst (λ (o : Option ℕ). HasChain b.store.nodes (tops_of_body b) x (chain scopes.scopes o)) (sym e) (chains x scope e)
 
-pub are_captures : (b : BodyContents) (scopes : Scopes) (closure scope : ℕ) (found : List ℕ) → ((x : ℕ) → IsSome (map.get scopes.scope_by_expr x) ↔ BodyReaches b (node.Expr x)) → ChainsAreFrames b.store.nodes (tops_of_body b) scopes →
-    map.get scopes.scope_by_expr closure ≡ Some scope → found ≡ with_code b.store scopes (length (chain scopes.scopes (Some scope))) [] (code_of b.store.nodes (task.Expr closure ∷ [])) → AreCaptures b closure found
+pub are_captures : (b : BodyContents) (code : Code) (closure scope : ℕ) (found : List ℕ) → code.store.now ≡ b.store → code.outermost ≡ length (chain code.scopes.now.scopes (Some scope)) →
+    ((x : ℕ) → IsSome (map.get code.scopes.now.scope_by_expr x) ↔ BodyReaches b (node.Expr x)) → ChainsAreFrames b.store.nodes (tops_of_body b) code.scopes.now →
+    map.get code.scopes.now.scope_by_expr closure ≡ Some scope → found ≡ with_code code [] (task.Expr closure ∷ []) → AreCaptures b closure found
 unfolding uses_in
-are_captures b scopes closure scope found reached chains is e = record {
-  chain = chain_in scopes;
-  are_chains = chains_are b scopes reached chains;
-  are =
-      e
-      ∙ (ap (λ (o : Option ℕ). with_code b.store scopes (length (chain scopes.scopes o)) [] (code_of b.store.nodes (task.Expr closure ∷ []))) (sym is)
-      ∙ ap (with_code b.store scopes (length (chain_in scopes closure)) []) (append-nil (code_under b.store.nodes (node.Expr closure) None)));
-}
+are_captures b code closure scope found same out reached chains is e =
+    let scopes = code.scopes.now in
+    let own : code.outermost ≡ length (chain_in scopes closure) = out ∙ ap (λ (o : Option ℕ). length (chain scopes.scopes o)) (sym is) in
+    let by : ℕ → Use → Option ℕ = λ n u. meant_behind (length (chain_in scopes u.expr) - n) (chain_in scopes u.expr) u.name u.hygiene in
+    record {
+      chain = chain_in scopes;
+      are_chains = chains_are b scopes reached chains;
+      are =
+          e
+          ∙ (ap (λ (spots : List Spot). with_uses code [] (flat_map (spot_uses code.store.now) spots)) (append-nil (code_under code.store.now.nodes (node.Expr closure) None))
+          ∙ (λ i. fold with_new [] (filter_map (by (own i)) (uses_in (same i) closure))));
+    }
 
 pub ruleset reads = (read_expr, read_pat)

@@ -20,6 +20,6 @@ puts_all {v} no_call = (refl, puts_none v.stack)
 puts_all {v} {w} (a_call {v = u} {c = c} {cs = cs} step rest) =
     let later = puts_all rest in
     let same = subst (λ (a : Option ℕ). Puts u.stack (tasks_of a cs) w.stack) step.0 later.1 in
-    (later.0 ∙ step.0, puts_two (task_of v.assignment c) (tasks_of v.assignment cs) step.1 same)
+    (later.0 ∙ step.0, puts_two v.stack u.stack w.stack (task_of v.assignment c) (tasks_of v.assignment cs) step.1 same)
 
 pub ruleset kids = (may_freely)

@@ -37,12 +37,9 @@ impl Found {
         ensures ok { IfOk result (λ found. found ≡ []) }
         ensures memory { OnErr result (result ≡ Err CapturesFault.Memory) }
     {
-        let Ok(marks) = ArenaMap::with_capacity(alloc, bindings) else {
-            return Err(CapturesFault::Memory);
-        };
         Ok(Found {
             bindings: Vec::new(alloc),
-            marks,
+            marks: ArenaMap::with_capacity(alloc, bindings)?,
         })
     }
 

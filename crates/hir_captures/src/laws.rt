@@ -9,9 +9,7 @@ ghost use Rattle.hir_captures.specs.Captures.{AreCaptures, AreChains, IsOn, IsRe
 ghost use Rattle.hir_captures.specs.Uses.{code_step, code_under, uses_in};
 
 use hir_expr_store::laws::{kids_fall, kids_of_reached_are_reached, who_has_kids_is_there};
-use hir_scope::laws::{
-    a_reached_node_has_one_chain, slots_follow_the_order, slots_hold_the_kids,
-};
+use hir_scope::laws::{a_reached_node_has_one_chain, slots_follow_the_order, slots_hold_the_kids};
 
 /// The code under a node is the node, and then the code under its kids, in the order in which scopes are made.
 pub fn code_is_its_step()

@@ -3,11 +3,11 @@
 
 mod asks;
 mod closures;
+mod code;
 mod fault;
 mod found;
 pub mod laws;
 mod unread;
-mod walk;
 
 pub use closures::captures;
 pub use fault::CapturesFault;

@@ -123,7 +123,3 @@ module _ (s : Nodes) where
 pub ok_map : {T E : Type 0} (r : Result T E) (P Q : Type 0) → (P → Q) → IfOk r (λ (x : T). P) → IfOk r (λ (x : T). Q)
 ok_map (Ok x) P Q f h = f h
 ok_map (Err e) P Q f h = tt
-
-pub ok_both : {T E : Type 0} (r : Result T E) (A B Q : Type 0) → (A → B → Q) → OnOk r A → OnOk r B → IfOk r (λ (x : T). Q)
-ok_both (Ok x) A B Q f a b = f a b
-ok_both (Err e) A B Q f a b = tt

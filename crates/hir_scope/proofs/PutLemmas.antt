@@ -54,25 +54,10 @@ arms_alone (arm ∷ arms) = ap (λ (ts : List Task). arm_task arm ∷ ts) (arms_
 pub put_match : {u v w : Stacked Task} (first : Task) (arms : List MatchArm) → Runs Put u (first ∷ []) v → Runs Put v (flat_map one_arm arms) w → Runs Put u (first ∷ map arm_task arms) w
 put_match {u} {v} {w} first arms a b = subst (λ (ts : List Task). Runs Put u (first ∷ ts) w) (arms_alone arms) (runs_append a b)
 
-types_alone : (types : List (Option ℕ)) → flat_map (λ ty. tasks_of (opt t ty)) types ≡ tasks_of (flat_map (opt t) types)
-types_alone [] = refl
-types_alone (ty ∷ types) = ap (λ (ts : List Task). tasks_of (opt t ty) ++ ts) (types_alone types) ∙ sym (flat_map-append task_of (opt t ty) (flat_map (opt t) types))
-
--- of a closure
-pub put_closure : {u v w x y z : Stacked Task} (types : List (Option ℕ)) (ret : Option ℕ) (args : List ℕ) (body : ℕ) (leave : Task) → Runs Put u (flat_map (λ ty. tasks_of (opt t ty)) types) v → Runs Calls v (opt t ret) w → Runs Calls w (flat_map p args) x → Runs Calls x (e body) y → Runs Put y (leave ∷ []) z
-    → Runs Put u (tasks_of ((flat_map (opt t) types ++ opt t ret) ++ (flat_map p args ++ e body)) ++ leave ∷ []) z
-put_closure {u} {v} {w} {x} {y} {z} types ret args body leave a b c d l =
-    let rest = opt t ret ++ (flat_map p args ++ e body) in
-    let one : Runs Put v (tasks_of rest) y = through (runs_append b (runs_append c d)) in
-    let same : tasks_of (flat_map (opt t) types) ++ tasks_of rest ≡ tasks_of ((flat_map (opt t) types ++ opt t ret) ++ (flat_map p args ++ e body)) =
-    sym (flat_map-append task_of (flat_map (opt t) types) rest) ∙ ap tasks_of (sym (append_assoc (flat_map (opt t) types) (opt t ret) (flat_map p args ++ e body))) in
-    let all : Runs Put u (flat_map (λ ty. tasks_of (opt t ty)) types ++ tasks_of rest) y = runs_append a one in
-    runs_append (subst (λ (ts : List Task). Runs Put u ts y) (ap (λ (ts : List Task). ts ++ tasks_of rest) (types_alone types) ∙ same) all) l
-
 -- 4. On the stack
 
 pub puts_all : {v w : Stacked Task} {ts : List Task} → Runs Put v ts w → Puts v ts w
 puts_all {v} no_call = puts_none v
-puts_all (a_call {c = task} {cs = ts} step rest) = puts_two (task ∷ []) ts step (puts_all rest)
+puts_all {v} {w} (a_call {v = u} {c = task} {cs = ts} step rest) = puts_two v u w (task ∷ []) ts step (puts_all rest)
 
-pub ruleset puts = (may_freely, runs_one, runs_append, no_call, through, put_let, put_match, put_closure, puts_all)
+pub ruleset puts = (may_freely, runs_one, runs_append, no_call, through, put_let, put_match, puts_all)

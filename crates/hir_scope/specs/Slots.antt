@@ -57,11 +57,15 @@ in_turn s constants add (c ∷ cs) = call_slot constants add c ++ in_turn s cons
 
 -- 1. Blocks
 
+-- the kind of a loop's frame, and of that of a block without an id
+abbrev pub loop_kind : Option ℕ → ScopeKind
+loop_kind None = kind.None
+loop_kind (Some label) = kind.Label label
+
 -- the kind of a block's own frame
 abbrev pub kind_of_block : Option ℕ → Option ℕ → ScopeKind
 kind_of_block (Some id) label = kind.Block id label
-kind_of_block None (Some label) = kind.Label label
-kind_of_block None None = kind.None
+kind_of_block None label = loop_kind label
 
 -- a block's own frame
 abbrev pub own_frame : Option ℕ → Option ℕ → Frame
@@ -105,10 +109,6 @@ block_slots s constants add (x ∷ xs) tail =
     statement_slots s constants add x ++ block_slots s (made_for_constants x ++ constants) (made s x ++ add) xs tail
 
 -- 2. Other forms
-
-abbrev pub loop_kind : Option ℕ → ScopeKind
-loop_kind None = kind.None
-loop_kind (Some label) = kind.Label label
 
 -- the pattern, the guard and the body of an arm see what its pattern binds
 abbrev pub arm_slots : Nodes → Chain → MatchArm → List Slot

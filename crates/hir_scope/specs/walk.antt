@@ -4,4 +4,3 @@ pub mod Pending
 pub mod Machine
 pub mod Begins
 pub mod Seen
-pub mod Entered

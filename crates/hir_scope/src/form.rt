@@ -19,7 +19,10 @@ pub(crate) enum Form<'a> {
         else_branch: Option<ExprId>,
     },
     /// `let` in a condition: what the pattern binds is known from there on.
-    Let { pat: PatId, expr: ExprId },
+    Let {
+        pat: PatId,
+        expr: ExprId,
+    },
     /// A block: each statement sees what those before it bind.
     Block {
         id: Option<BlockId>,
@@ -28,7 +31,10 @@ pub(crate) enum Form<'a> {
         tail: Option<ExprId>,
     },
     /// A loop, in a scope of its own.
-    Loop { label: Option<LabelId>, body: ExprId },
+    Loop {
+        label: Option<LabelId>,
+        body: ExprId,
+    },
     /// A closure: only its body sees what the arguments bind.
     Closure {
         arg_types: &'a [Option<TypeRefId>],
@@ -42,7 +48,10 @@ pub(crate) enum Form<'a> {
         arms: &'a [MatchArm],
     },
     /// An assignment: the target is in a scope of its own.
-    Assignment { target: PatId, value: ExprId },
+    Assignment {
+        target: PatId,
+        value: ExprId,
+    },
     /// Any other expression: its children come one after the other.
     InTurn(&'a Expr),
 }
@@ -72,18 +81,14 @@ impl<'a> Form<'a> {
                 statements,
                 tail,
                 label,
-                unsafe_: _,
+                ..
             } => Form::Block {
                 id: *id,
                 label: *label,
                 statements: statements.as_slice(),
                 tail: *tail,
             },
-            Expr::Loop {
-                body,
-                label,
-                source: _,
-            } => Form::Loop {
+            Expr::Loop { body, label, .. } => Form::Loop {
                 label: *label,
                 body: *body,
             },
@@ -92,8 +97,7 @@ impl<'a> Form<'a> {
                 arg_types,
                 ret_type,
                 body,
-                closure_kind: _,
-                capture_by: _,
+                ..
             } => Form::Closure {
                 arg_types: arg_types.as_slice(),
                 ret_type: *ret_type,
@@ -112,47 +116,27 @@ impl<'a> Form<'a> {
             | Expr::Underscore
             | Expr::IncludeBytes
             | Expr::Literal(_)
-            | Expr::Continue { label: _ }
+            | Expr::Continue { .. }
             | Expr::Path(_)
             | Expr::Array(_)
             | Expr::OffsetOf(_)
             | Expr::Const(_)
-            | Expr::Call { callee: _, args: _ }
-            | Expr::MethodCall {
-                receiver: _,
-                method_name: _,
-                args: _,
-                generic_args: _,
-            }
-            | Expr::Break { expr: _, label: _ }
-            | Expr::Return { expr: _ }
-            | Expr::Yield { expr: _ }
-            | Expr::Yeet { expr: _ }
-            | Expr::Become { expr: _ }
-            | Expr::Await { expr: _ }
-            | Expr::Field { expr: _, name: _ }
-            | Expr::Ref {
-                expr: _,
-                rawness: _,
-                mutability: _,
-            }
-            | Expr::UnaryOp { expr: _, op: _ }
-            | Expr::RecordLit {
-                path: _,
-                fields: _,
-                spread: _,
-            }
-            | Expr::Cast {
-                expr: _,
-                type_ref: _,
-            }
-            | Expr::BinaryOp {
-                lhs: _,
-                rhs: _,
-                op: _,
-            }
-            | Expr::Index { base: _, index: _ }
-            | Expr::Tuple { exprs: _ } => Form::InTurn(expr),
+            | Expr::Call { .. }
+            | Expr::MethodCall { .. }
+            | Expr::Break { .. }
+            | Expr::Return { .. }
+            | Expr::Yield { .. }
+            | Expr::Yeet { .. }
+            | Expr::Become { .. }
+            | Expr::Await { .. }
+            | Expr::Field { .. }
+            | Expr::Ref { .. }
+            | Expr::UnaryOp { .. }
+            | Expr::RecordLit { .. }
+            | Expr::Cast { .. }
+            | Expr::BinaryOp { .. }
+            | Expr::Index { .. }
+            | Expr::Tuple { .. } => Form::InTurn(expr),
         }
     }
 
@@ -160,13 +144,7 @@ impl<'a> Form<'a> {
     pub(crate) fn scope(&self, inside: ScopeId, outside: ScopeId) -> ScopeId
         ensures { result ≡ scope_within (seen self.now) inside outside }
     {
-        if let Form::Block {
-            id: _,
-            label: _,
-            statements: _,
-            tail: _,
-        } = self
-        {
+        if let Form::Block { .. } = self {
             return inside;
         }
         outside

@@ -9,13 +9,12 @@ ghost use Rattle.hir_items.specs.Signatures.{root_tops};
 ghost use Rattle.hir_scope.specs.Built.{AreBodyScopes, AreSignatureScopes, BodyIsTooLarge, SignatureIsTooLarge, expr_count};
 ghost use Rattle.hir_scope.specs.Frames.{entry_at, binds};
 ghost use Rattle.hir_scope.specs.walk.Begins.{IsSound, at_first, for_none, root_entries, body_root, body_begins, formal_tasks, signature_begins};
-ghost use Rattle.hir_scope.specs.walk.Entered.{Adds};
 ghost use Rattle.hir_scope.specs.walk.Machine.{state};
 
-use crate::entries::Entries;
+use crate::entries::{add_entry, add_pat};
 use crate::expr_scopes::ExprScopes;
 use crate::fault::ScopesFault;
-use crate::scope::{ScopeId, ScopeKind};
+use crate::scope::{ScopeEntry, ScopeId, ScopeKind};
 use crate::tasks::{Around, Task, Tasks};
 use crate::walk::Walk;
 use hir_base::{MOST_ITEMS, Steps};
@@ -26,6 +25,7 @@ use hir_expr_store::laws::{
 use hir_items::body_laws::tops_are_there;
 use hir_items::{Body, Param};
 use hir_node::{BindingId, PatId};
+use hir_stack::Stack;
 use std::alloc::Global;
 
 /// Tells a proof what the laws say of the store's nodes, and does nothing.
@@ -56,28 +56,37 @@ fn tops_of_body_are_there(body: &Body)
     tops_are_there();
 }
 
-/// Adds the entry of `self`, where there is one.
+/// Appends the entry of `self`, where there is one.
 fn add_self(
+    entries: &mut Vec<ScopeEntry>,
     store: &ExpressionStore,
-    entries: &mut Entries,
     self_param: Option<Param<BindingId>>,
-)
-    ensures { Adds entries.old (all_of (entry_at store.now.nodes)
-        (option_map (λ p. p.formal) self_param)) entries.new }
+) -> Result<(), ScopesFault>
+    ensures ok { OnOk result (entries.new.items ≡ entries.old.items
+        ++ all_of (entry_at store.now.nodes) (option_map (λ p. p.formal) self_param)) }
+    ensures memory { OnErr result (result ≡ Err ScopesFault.Memory) }
 {
-    if let Some(param) = self_param {
-        entries.add(store, param.formal);
+    match self_param {
+        None => Ok(()),
+        Some(param) => add_entry(entries, store, param.formal),
     }
 }
 
-/// Adds the entries of what the formals bind.
-fn add_formals(store: &ExpressionStore, entries: &mut Entries, params: &[Param<PatId>])
+/// Appends the entries of what the formals bind.
+fn add_formals(
+    entries: &mut Vec<ScopeEntry>,
+    store: &ExpressionStore,
+    params: &[Param<PatId>],
+) -> Result<(), ScopesFault>
     requires { All (AreBelow (length store.now.nodes.pats)) params.now }
-    ensures { Adds entries.old (flat_map (binds store.now.nodes) (formals_of params.now)) entries.new }
+    ensures ok { OnOk result (entries.new.items ≡ entries.old.items
+        ++ flat_map (binds store.now.nodes) (formals_of params.now)) }
+    ensures memory { OnErr result (result ≡ Err ScopesFault.Memory) }
 {
     for param in params {
-        entries.add_pat(store, param.formal);
+        add_pat(entries, store, param.formal)?;
     }
+    Ok(())
 }
 
 /// Pushes the formals, the first on top.
@@ -94,27 +103,33 @@ fn push_formals(tasks: &mut Tasks, params: &[Param<PatId>]) -> Result<(), Scopes
 }
 
 impl Walk {
-    /// A walk without scopes. It has room for those of the store's expressions, and for an entry of each binding.
-    fn without_scopes(alloc: Global, store: &ExpressionStore) -> Result<Walk, ScopesFault>
+    /// A walk without scopes, with nothing to do. It has room for the scopes of the store's expressions, and for an entry of each binding.
+    fn new(alloc: Global, store: &ExpressionStore) -> Result<Walk, ScopesFault>
         ensures scopes { IfOk result (λ walk. walk.scopes ≡ for_none []) }
         ensures around { IfOk result (λ walk. walk.around ≡ at_first) }
         ensures tasks { IfOk result (λ walk. walk.tasks.items ≡ []) }
-        ensures entries { IfOk result (λ walk. walk.entries.list.items ≡ []) }
+        ensures entries { IfOk result (λ walk. walk.entries.items ≡ []) }
         ensures memory { OnErr result (result ≡ Err ScopesFault.Memory) }
     {
-        let scopes = ExprScopes::with_room(alloc, store.exprs().len(), store.bindings().len())?;
         let first = ScopeId::from_raw(0);
-        let around = Around {
-            here: first,
-            constant: first,
-        };
-        Ok(Walk::new(alloc, scopes, around))
+        Ok(Walk {
+            scopes: ExprScopes::with_room(alloc, store.exprs().len(), store.bindings().len())?,
+            around: Around {
+                here: first,
+                constant: first,
+            },
+            tasks: Tasks {
+                stack: Stack::new(alloc),
+            },
+            entries: Vec::new(alloc),
+            alloc,
+        })
     }
 
     /// Opens the root scope of a body: what `self` and the formals bind.
     fn open_root(&mut self, body: &Body) -> Result<(), ScopesFault>
         requires scopes { self.old.scopes ≡ for_none [] }
-        requires entries { self.old.entries.list.items ≡ [] }
+        requires entries { self.old.entries.items ≡ [] }
         ensures ok { OnOk result (self.new.scopes ≡ for_none (body_root body.now ∷ [])) }
         ensures around { self.new.around ≡ self.old.around }
         ensures tasks { self.new.tasks ≡ self.old.tasks }
@@ -122,10 +137,9 @@ impl Walk {
         ensures missing { result ≡ Err ScopesFault.Missing → ⊥ }
     {
         let store = body.store();
-        add_self(store, &mut self.entries, body.self_param());
-        add_formals(store, &mut self.entries, body.params());
-        self.entries.are_there()?;
-        let entries = &mut self.entries.list;
+        let entries = &mut self.entries;
+        add_self(entries, store, body.self_param())?;
+        add_formals(entries, store, body.params())?;
         self.scopes.new_scope(None, ScopeKind::None, entries)?;
         Ok(())
     }
@@ -136,7 +150,7 @@ impl Walk {
         ensures full { result ≡ Err ScopesFault.Full → MOST_ITEMS < length (root_entries body.now) }
         ensures missing { result ≡ Err ScopesFault.Missing → ⊥ }
     {
-        let mut walk = Walk::without_scopes(alloc, body.store())?;
+        let mut walk = Walk::new(alloc, body.store())?;
         walk.open_root(body)?;
         walk.tasks.push(Task::Expr(body.root_expr()))?;
         push_formals(&mut walk.tasks, body.params())?;
@@ -149,7 +163,7 @@ impl Walk {
         ensures full { result ≡ Err ScopesFault.Full → MOST_ITEMS < 1 + length store.now.roots }
         ensures missing { result ≡ Err ScopesFault.Missing → ⊥ }
     {
-        let mut walk = Walk::without_scopes(alloc, store)?;
+        let mut walk = Walk::new(alloc, store)?;
         let mut none = Vec::new(alloc);
         let root_scope = walk.scopes.new_scope(None, ScopeKind::None, &mut none)?;
         let mut roots = store.expr_roots();

@@ -4,17 +4,17 @@ ghost use Rattle.std.specs.Prelude.{◌≡◌, ◌<◌, [], ◌∷◌, ◌++◌,
 ghost use Rattle.hir_node.specs.declared.node_id.NodeId.TheVariants as node;
 ghost use Rattle.hir_scope.specs.Forms.{form_of};
 ghost use Rattle.hir_scope.specs.Frames.{frame, of_kind};
-ghost use Rattle.hir_scope.specs.Slots.{own_frame, block_constants, loop_kind};
+ghost use Rattle.hir_scope.specs.Slots.{loop_kind};
 ghost use Rattle.hir_scope.specs.Scopes.{frame_of};
 ghost use Rattle.hir_scope.specs.walk.Machine.{state, AreThere, Opened, Over};
 ghost use Rattle.hir_scope.specs.walk.Pending.{opens_here, opens_constant};
 ghost use Rattle.hir_scope.specs.walk.Seen.{seen};
 
+use crate::entries::add_pats;
 use crate::fault::ScopesFault;
 use crate::form::Form;
 use crate::scope::ScopeKind;
 use crate::walk::Walk;
-use hir_base::{BlockId, MacroDefId};
 use hir_expr_store::ExpressionStore;
 use hir_expr_store::laws::kids_fall;
 use hir_node::{ExprId, LabelId, PatId};
@@ -33,16 +33,14 @@ impl Walk {
     fn open_kind(&mut self, kind: ScopeKind) -> Result<(), ScopesFault>
         requires here { self.old.around.here < length self.old.scopes.scopes }
         requires constant { self.old.around.constant < length self.old.scopes.scopes }
-        ensures opened { IfOk result (λ _. Opened (state self.old) (state self.new)
-            (of_kind kind ∷ []) []) }
+        ensures opened { IfOk result (λ _. Opened (state self.old) (state self.new) (of_kind kind ∷ []) []) }
         ensures full { result ≡ Err ScopesFault.Full
             → Over (map frame_of self.old.scopes.scopes ++ of_kind kind ∷ []) }
         ensures missing { result ≡ Err ScopesFault.Missing → ⊥ }
     {
-        let parent = self.around.here;
+        let parent = Some(self.around.here);
         let mut none = Vec::new(self.alloc);
-        let here = self.scopes.new_scope(Some(parent), kind, &mut none)?;
-        self.around.here = here;
+        self.around.here = self.scopes.new_scope(parent, kind, &mut none)?;
         Ok(())
     }
 
@@ -50,21 +48,23 @@ impl Walk {
     fn open_constant(&mut self, kind: ScopeKind) -> Result<(), ScopesFault>
         requires here { self.old.around.here < length self.old.scopes.scopes }
         requires constant { self.old.around.constant < length self.old.scopes.scopes }
-        ensures opened { IfOk result (λ _. Opened (state self.old) (state self.new)
-            [] (of_kind kind ∷ [])) }
+        ensures opened { IfOk result (λ _. Opened (state self.old) (state self.new) [] (of_kind kind ∷ [])) }
         ensures full { result ≡ Err ScopesFault.Full
             → Over (map frame_of self.old.scopes.scopes ++ of_kind kind ∷ []) }
         ensures missing { result ≡ Err ScopesFault.Missing → ⊥ }
     {
-        let parent = self.around.constant;
+        let parent = Some(self.around.constant);
         let mut none = Vec::new(self.alloc);
-        let constant = self.scopes.new_scope(Some(parent), kind, &mut none)?;
-        self.around.constant = constant;
+        self.around.constant = self.scopes.new_scope(parent, kind, &mut none)?;
         Ok(())
     }
 
     /// Opens a scope over the current one, with what patterns bind.
-    pub(crate) fn open(&mut self, store: &ExpressionStore, pats: &[PatId]) -> Result<(), ScopesFault>
+    pub(crate) fn open(
+        &mut self,
+        store: &ExpressionStore,
+        pats: &[PatId],
+    ) -> Result<(), ScopesFault>
         requires there { AreThere store.now.nodes (map node.Pat pats.now) }
         requires here { self.old.around.here < length self.old.scopes.scopes }
         requires constant { self.old.around.constant < length self.old.scopes.scopes }
@@ -74,49 +74,31 @@ impl Walk {
             → Over (map frame_of self.old.scopes.scopes ++ frame store.now.nodes pats.now ∷ []) }
         ensures missing { result ≡ Err ScopesFault.Missing → ⊥ }
     {
+        let parent = Some(self.around.here);
         self.entries.clear();
-        self.entries.add_pats(store, pats);
-        self.entries.are_there()?;
-        let parent = self.around.here;
-        let here = self
+        add_pats(&mut self.entries, store, pats)?;
+        self.around.here = self
             .scopes
-            .new_scope(Some(parent), ScopeKind::None, &mut self.entries.list)?;
-        self.around.here = here;
+            .new_scope(parent, ScopeKind::None, &mut self.entries)?;
         Ok(())
     }
 
-    /// Opens the scopes of a block: with an id, around its constants too.
-    fn open_block(&mut self, id: Option<BlockId>, label: Option<LabelId>) -> Result<(), ScopesFault>
+    /// Opens two scopes without entries: one over the current one, and one over that of constants.
+    pub(crate) fn open_both(
+        &mut self,
+        here: ScopeKind,
+        constant: ScopeKind,
+    ) -> Result<(), ScopesFault>
         requires here { self.old.around.here < length self.old.scopes.scopes }
         requires constant { self.old.around.constant < length self.old.scopes.scopes }
         ensures opened { IfOk result (λ _. Opened (state self.old) (state self.new)
-            (own_frame id label ∷ []) (block_constants id)) }
-        ensures full { result ≡ Err ScopesFault.Full → Over (map frame_of self.old.scopes.scopes
-            ++ own_frame id label ∷ block_constants id) }
+            (of_kind here ∷ []) (of_kind constant ∷ [])) }
+        ensures full { result ≡ Err ScopesFault.Full
+            → Over (map frame_of self.old.scopes.scopes ++ of_kind here ∷ of_kind constant ∷ []) }
         ensures missing { result ≡ Err ScopesFault.Missing → ⊥ }
     {
-        match id {
-            None => self.open_kind(loop_kind(label)),
-            Some(id) => {
-                self.open_kind(ScopeKind::Block { id, label })?;
-                self.open_constant(ScopeKind::Block { id, label: None })?;
-                Ok(())
-            }
-        }
-    }
-
-    /// Opens the scopes of a macro's definition: one for what follows, and one for the constants in it.
-    pub(crate) fn open_macro(&mut self, id: MacroDefId) -> Result<(), ScopesFault>
-        requires here { self.old.around.here < length self.old.scopes.scopes }
-        requires constant { self.old.around.constant < length self.old.scopes.scopes }
-        ensures opened { IfOk result (λ _. Opened (state self.old) (state self.new)
-            (of_kind (ScopeKind.MacroDef id) ∷ []) (of_kind (ScopeKind.MacroDef id) ∷ [])) }
-        ensures full { result ≡ Err ScopesFault.Full → Over (map frame_of self.old.scopes.scopes
-            ++ of_kind (ScopeKind.MacroDef id) ∷ of_kind (ScopeKind.MacroDef id) ∷ []) }
-        ensures missing { result ≡ Err ScopesFault.Missing → ⊥ }
-    {
-        self.open_kind(ScopeKind::MacroDef(id))?;
-        self.open_constant(ScopeKind::MacroDef(id))?;
+        self.open_kind(here)?;
+        self.open_constant(constant)?;
         Ok(())
     }
 
@@ -140,31 +122,30 @@ impl Walk {
         store.has_no_fault();
         kids_fall();
         match form {
-            Form::If {
-                condition: _,
-                then_branch: _,
-                else_branch: _,
-            } => self.open_kind(ScopeKind::None),
+            Form::If { .. } => self.open_kind(ScopeKind::None),
             Form::Block {
-                id,
+                id: None,
                 label,
-                statements: _,
-                tail: _,
-            } => self.open_block(*id, *label),
-            Form::Loop { label, body: _ } => self.open_kind(loop_kind(*label)),
-            Form::Closure {
-                arg_types: _,
-                ret_type: _,
-                args,
-                body: _,
-            } => self.open(store, args),
-            Form::Assignment { target, value: _ } => self.open(store, &[*target]),
-            Form::Let { pat: _, expr: _ }
-            | Form::Match {
-                scrutinee: _,
-                arms: _,
-            }
-            | Form::InTurn(_) => Ok(()),
+                ..
+            } => self.open_kind(loop_kind(*label)),
+            Form::Block {
+                id: Some(id),
+                label,
+                ..
+            } => self.open_both(
+                ScopeKind::Block {
+                    id: *id,
+                    label: *label,
+                },
+                ScopeKind::Block {
+                    id: *id,
+                    label: None,
+                },
+            ),
+            Form::Loop { label, .. } => self.open_kind(loop_kind(*label)),
+            Form::Closure { args, .. } => self.open(store, args),
+            Form::Assignment { target, .. } => self.open(store, &[*target]),
+            Form::Let { .. } | Form::Match { .. } | Form::InTurn(_) => Ok(()),
         }
     }
 }

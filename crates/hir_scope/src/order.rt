@@ -60,7 +60,7 @@ impl Visit for Statement {
                 visitor.on_expr_opt(*else_branch);
                 visitor.on_pat(*pat);
             }
-            Statement::Expr { expr, has_semi: _ } => visitor.on_expr(*expr),
+            Statement::Expr { expr, .. } => visitor.on_expr(*expr),
             Statement::Item(_) => {}
         }
     }
@@ -87,7 +87,8 @@ pub fn visit_in_scope_order<V: StoreVisitor>(expr: &Expr, visitor: &mut V)
     visit_form(&Form::of(expr), visitor);
 }
 
-fn visit_form<V: StoreVisitor>(form: &Form<'_>, visitor: &mut V)
+/// The same of an expression of this form.
+pub(crate) fn visit_form<V: StoreVisitor>(form: &Form<'_>, visitor: &mut V)
     requires { MayRun V.may V.step visitor.old (met_in_form (seen form.now)) }
     ensures { Runs V.step visitor.old (met_in_form (seen form.now)) visitor.new }
 {
@@ -106,15 +107,14 @@ fn visit_form<V: StoreVisitor>(form: &Form<'_>, visitor: &mut V)
             visitor.on_pat(*pat);
         }
         Form::Block {
-            id: _,
-            label: _,
             statements,
             tail,
+            ..
         } => {
             visit_each(visitor, statements);
             visitor.on_expr_opt(*tail);
         }
-        Form::Loop { label: _, body } => visitor.on_expr(*body),
+        Form::Loop { body, .. } => visitor.on_expr(*body),
         Form::Closure {
             arg_types,
             ret_type,

@@ -12,6 +12,7 @@ ghost use Rattle.hir_scope.specs.walk.Seen.{seen};
 
 use crate::fault::ScopesFault;
 use crate::form::Form;
+use crate::order::visit_form;
 use crate::scope::ScopeId;
 use hir_base::MacroDefId;
 use hir_node::{
@@ -19,7 +20,6 @@ use hir_node::{
     TypeRef, TypeRefId,
 };
 use hir_stack::Stack;
-use std::alloc::Global;
 use std::marker::Model;
 
 /// The scope around what is met next, and that around the constants in it.
@@ -56,7 +56,7 @@ pub(crate) enum Task {
 /// The tasks that are still to be done, the next one on top.
 #[derive(Drop)]
 pub(crate) struct Tasks {
-    stack: Stack<Task>,
+    pub(crate) stack: Stack<Task>,
 }
 
 impl Model for Tasks {
@@ -128,7 +128,7 @@ impl Brings for Statement {
                 onto.on_expr_opt(*else_branch);
                 onto.stack.put(Task::Bound(*pat));
             }
-            Statement::Expr { expr, has_semi: _ } => onto.on_expr(*expr),
+            Statement::Expr { expr, .. } => onto.on_expr(*expr),
             Statement::Item(Item::MacroDef(id)) => onto.stack.put(Task::MacroDef(*id)),
             Statement::Item(Item::Other) => {}
         }
@@ -148,27 +148,7 @@ impl Brings for MatchArm {
     }
 }
 
-impl Brings for Option<TypeRefId> {
-    ghost use Rattle.hir_scope.specs.walk.Pending.{tasks_of};
-    ghost use Rattle.hir_node.specs.ChildCalls.{t, opt};
-
-    ghost tasks = { λ ty. tasks_of (opt t ty) };
-
-    fn put(&self, onto: &mut Tasks) {
-        onto.on_type_opt(*self);
-    }
-}
-
 impl Tasks {
-    /// No tasks. It allocates from `alloc`, and nothing now.
-    pub(crate) fn new(alloc: Global) -> Tasks
-        ensures { result ≡ record { items = []; refused = false } }
-    {
-        Tasks {
-            stack: Stack::new(alloc),
-        }
-    }
-
     /// Pushes a task.
     pub(crate) fn push(&mut self, task: Task) -> Result<(), ScopesFault>
         ensures ok { OnOk result (self.new.items ≡ task ∷ self.old.items) }
@@ -224,29 +204,16 @@ impl Tasks {
                 self.stack.put(Task::Bound(*pat));
             }
             Form::Block {
-                id: _,
-                label: _,
                 statements,
                 tail,
+                ..
             } => {
                 put_each(self, statements);
                 self.on_expr_opt(*tail);
                 self.put_leave(around);
             }
-            Form::Loop { label: _, body } => {
-                self.on_expr(*body);
-                self.put_leave(around);
-            }
-            Form::Closure {
-                arg_types,
-                ret_type,
-                args,
-                body,
-            } => {
-                put_each(self, arg_types);
-                self.on_type_opt(*ret_type);
-                self.on_pats(args);
-                self.on_expr(*body);
+            Form::Loop { .. } | Form::Closure { .. } => {
+                visit_form(form, self);
                 self.put_leave(around);
             }
             Form::Match { scrutinee, arms } => {
@@ -258,7 +225,7 @@ impl Tasks {
                 self.put_leave(around);
                 self.on_expr(*value);
             }
-            Form::InTurn(expr) => expr.visit_children(self),
+            Form::InTurn(_) => visit_form(form, self),
         }
     }
 

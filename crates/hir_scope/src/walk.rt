@@ -10,13 +10,12 @@ ghost use Rattle.hir_scope.specs.walk.PlacesUnder.{place};
 ghost use Rattle.hir_scope.specs.walk.Pending.{guarded_task};
 ghost use Rattle.hir_scope.specs.walk.Machine.{doing, machine, state, here_of, constant_of, future_of, IsReady, Exceeds, HasFrames, Moves, Goes, Gone};
 
-use crate::entries::Entries;
 use crate::expr_scopes::ExprScopes;
 use crate::fault::ScopesFault;
 use crate::form::Form;
-use crate::scope::ScopeId;
+use crate::scope::{ScopeEntry, ScopeId, ScopeKind};
 use crate::tasks::{Around, Task, Tasks};
-use hir_base::{MacroDefId, Steps};
+use hir_base::Steps;
 use hir_expr_store::ExpressionStore;
 use hir_expr_store::laws::kids_fall;
 use hir_node::{ExprId, PatId, TypeRefId};
@@ -29,28 +28,12 @@ pub(crate) struct Walk {
     pub(crate) around: Around,
     pub(crate) tasks: Tasks,
     /// The entries of what patterns bind, until a scope takes them.
-    pub(crate) entries: Entries,
+    pub(crate) entries: Vec<ScopeEntry>,
     /// Where memory comes from.
     pub(crate) alloc: Global,
 }
 
 impl Walk {
-    /// A walk that has nothing to do yet. It allocates from `alloc`, and nothing now.
-    pub(crate) fn new(alloc: Global, scopes: ExprScopes, around: Around) -> Walk
-        ensures scopes { result.scopes ≡ scopes }
-        ensures around { result.around ≡ around }
-        ensures tasks { result.tasks.items ≡ [] }
-        ensures entries { result.entries.list.items ≡ [] }
-    {
-        Walk {
-            scopes,
-            around,
-            tasks: Tasks::new(alloc),
-            entries: Entries::new(alloc),
-            alloc,
-        }
-    }
-
     /// Meets an expression, and answers its scope: what is inside it comes next.
     fn meet_expr(&mut self, store: &ExpressionStore, expr: ExprId) -> Result<ScopeId, ScopesFault>
         requires ready { IsReady store.now.nodes (doing self.old (Task.Expr expr)) }
@@ -72,28 +55,9 @@ impl Walk {
         Ok(form.scope(self.around.here, outside))
     }
 
-    /// Gives an expression its scope, and counts it.
-    fn give(&mut self, expr: ExprId, scope: ScopeId, steps: &mut Steps) -> Result<(), ScopesFault>
-        requires { scope < length self.old.scopes.scopes }
-        ensures ok { OnOk result (self.new.scopes ≡ record {
-          scopes = self.old.scopes.scopes;
-          scope_by_expr = finmap.insert self.old.scopes.scope_by_expr expr scope;
-        }) }
-        ensures around { self.new.around ≡ self.old.around }
-        ensures tasks { self.new.tasks ≡ self.old.tasks }
-        ensures counted { OnOk result (steps.new ≡ steps.old + 1) }
-        ensures not_counted { OnErr result (steps.new ≡ steps.old) }
-        ensures memory { OnErr result (result ≡ Err ScopesFault.Memory) }
-    {
-        self.scopes.set_scope(expr, scope)?;
-        steps.tick();
-        Ok(())
-    }
-
     /// Meets an anonymous constant.
     fn meet_constant(&mut self, expr: ExprId) -> Result<(), ScopesFault>
-        ensures moves { IfOk result (λ _. (s : Nodes)
-            → IsReady s (doing self.old (Task.Constant expr))
+        ensures moves { IfOk result (λ _. (s : Nodes) → IsReady s (doing self.old (Task.Constant expr))
             → Moves s (doing self.old (Task.Constant expr)) (state self.new) []) }
         ensures memory { OnErr result (result ≡ Err ScopesFault.Memory) }
     {
@@ -119,8 +83,7 @@ impl Walk {
 
     /// Meets a type, in the scope of constants.
     fn meet_type(&mut self, store: &ExpressionStore, type_ref: TypeRefId) -> Result<(), ScopesFault>
-        requires ready { IsReady store.now.nodes
-            (doing self.old (Task.TypeRef type_ref)) }
+        requires ready { IsReady store.now.nodes (doing self.old (Task.TypeRef type_ref)) }
         ensures moves { IfOk result (λ _. Moves store.now.nodes
             (doing self.old (Task.TypeRef type_ref)) (state self.new) []) }
         ensures memory { OnErr result (result ≡ Err ScopesFault.Memory) }
@@ -136,8 +99,7 @@ impl Walk {
 
     /// Meets a pattern in a scope of its own, which stays.
     fn bind(&mut self, store: &ExpressionStore, bound: PatId) -> Result<(), ScopesFault>
-        requires ready { IsReady store.now.nodes
-            (doing self.old (Task.Bound bound)) }
+        requires ready { IsReady store.now.nodes (doing self.old (Task.Bound bound)) }
         ensures moves { IfOk result (λ _. Moves store.now.nodes
             (doing self.old (Task.Bound bound)) (state self.new) []) }
         ensures full { result ≡ Err ScopesFault.Full
@@ -157,8 +119,7 @@ impl Walk {
         guard: Option<ExprId>,
         expr: ExprId,
     ) -> Result<(), ScopesFault>
-        requires ready { IsReady store.now.nodes
-            (doing self.old (guarded_task pat expr guard)) }
+        requires ready { IsReady store.now.nodes (doing self.old (guarded_task pat expr guard)) }
         ensures moves { IfOk result (λ _. Moves store.now.nodes
             (doing self.old (guarded_task pat expr guard)) (state self.new) []) }
         ensures full { result ≡ Err ScopesFault.Full → Exceeds store.now.nodes
@@ -176,21 +137,6 @@ impl Walk {
         Ok(())
     }
 
-    /// Meets a macro's definition.
-    fn meet_macro(&mut self, id: MacroDefId) -> Result<(), ScopesFault>
-        requires here { self.old.around.here < length self.old.scopes.scopes }
-        requires constant { self.old.around.constant < length self.old.scopes.scopes }
-        ensures moves { IfOk result (λ _. (s : Nodes)
-            → IsReady s (doing self.old (Task.MacroDef id))
-            → Moves s (doing self.old (Task.MacroDef id)) (state self.new) []) }
-        ensures full { result ≡ Err ScopesFault.Full → (s : Nodes)
-            → Exceeds s (doing self.old (Task.MacroDef id)) }
-        ensures missing { result ≡ Err ScopesFault.Missing → ⊥ }
-    {
-        self.open_macro(id)?;
-        Ok(())
-    }
-
     /// Does one task.
     fn go_on(
         &mut self,
@@ -202,14 +148,15 @@ impl Walk {
         ensures goes { IfOk result (λ _. Goes store.now.nodes
             (doing self.old task) (state self.new) steps.old steps.new) }
         ensures not_counted { OnErr result (steps.new ≡ steps.old) }
-        ensures full { result ≡ Err ScopesFault.Full
-            → Exceeds store.now.nodes (doing self.old task) }
+        ensures full { result ≡ Err ScopesFault.Full → Exceeds store.now.nodes (doing self.old task) }
         ensures missing { result ≡ Err ScopesFault.Missing → ⊥ }
     {
         match task {
             Task::Expr(expr) => {
                 let scope = self.meet_expr(store, expr)?;
-                self.give(expr, scope, steps)
+                self.scopes.set_scope(expr, scope)?;
+                steps.tick();
+                Ok(())
             }
             Task::Constant(expr) => self.meet_constant(expr),
             Task::Pat(pat) => self.meet_pat(store, pat),
@@ -217,7 +164,9 @@ impl Walk {
             Task::Bound(pat) => self.bind(store, pat),
             Task::Arm(pat, expr) => self.meet_arm(store, pat, None, expr),
             Task::GuardedArm(pat, guard, expr) => self.meet_arm(store, pat, Some(guard), expr),
-            Task::MacroDef(id) => self.meet_macro(id),
+            Task::MacroDef(id) => {
+                self.open_both(ScopeKind::MacroDef(id), ScopeKind::MacroDef(id))
+            }
             Task::Leave(here, constant) => {
                 self.around = Around { here, constant };
                 Ok(())

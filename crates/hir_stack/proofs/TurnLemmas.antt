@@ -28,8 +28,8 @@ module _ {X : Type 0} where
   pub puts_none : (v : Stacked X) → Puts v [] v
   puts_none v h = (h, refl)
 
-  pub puts_two : {u v w : Stacked X} (xs ys : List X) → Puts u xs v → Puts v ys w → Puts u (xs ++ ys) w
-  puts_two {u} xs ys p q h =
+  pub puts_two : (u v w : Stacked X) (xs ys : List X) → Puts u xs v → Puts v ys w → Puts u (xs ++ ys) w
+  puts_two u v w xs ys p q h =
       let second = q h in
       let first = p second.0 in (
         first.0,

@@ -1,20 +1,23 @@
-use Rattle.std.proofs.Common.{◌∷◌, ap, subst}
-use Rattle.hir_stack.specs.Stacks.{Stacked}
+use Rattle.std.proofs.Common.{rules, [], ◌∷◌, ◌++◌, map, refl, sym, subst}
+use Rattle.hir_scope.specs.declared.scope.ScopeKind.TheVariants as kind
 use Rattle.hir_scope.specs.declared.tasks.Task.{Task}
+use Rattle.hir_scope.specs.declared.tasks.Task.TheVariants as task
 use Rattle.hir_scope.specs.declared.tasks.Around.{Around}
-use Rattle.hir_scope.specs.walk.Machine.{machine, state, IsReady}
-use Rattle.hir_scope.proofs.DoneLemmas.{leave_moves}
-use Rattle.hir_scope.proofs.GoneLemmas.{ok_map, ok_both, goes_task, goes_given}
+use Rattle.hir_scope.specs.Frames.{of_kind}
+use Rattle.hir_scope.specs.Scopes.{frame_of}
+use Rattle.hir_scope.specs.walk.Machine.{machine, state, IsReady, Over, Exceeds}
+use Rattle.hir_scope.proofs.DoneLemmas.{leave_moves, macro_moves, macro_frames}
+use Rattle.hir_scope.proofs.MovingLemmas.{over_exceeds}
+use Rattle.hir_scope.proofs.GoneLemmas.{ok_map, goes_task, goes_given}
 use Rattle.hir_scope.proofs.walk.Walk.go_on.Goals as goal
 
-pub returns-in_ok-scope-in-Expr-clause-goes : goal.returns-in_ok-scope-in-Expr-clause-goes
-returns-in_ok-scope-in-Expr-clause-goes c =
+pub returns-in-Expr-clause-goes : goal.returns-in-Expr-clause-goes
+returns-in-Expr-clause-goes c =
     let w = c.args.self.now in
     let m = c.in_ok-scope-in-Expr in
-    let n = c.give.new.self in
-    ok_both c.give.result _ _ _
-    (λ ok counted. goes_given c.args.store.now.nodes w.scopes w.around c.args.task w.tasks.items (state c.meet_expr.new.self) n.scopes n.around n.tasks.items c.in-Expr.expr m.scope c.args.steps.now c.give.new.steps
-    c.in-Expr.is m.ensures.moves m.ensures.scope ok c.give.ensures.around (ap (λ (t : Stacked Task). t.items) c.give.ensures.tasks) counted) c.give.ensures.ok c.give.ensures.counted
+    let met = c.meet_expr.new.self in
+    goes_given c.args.store.now.nodes w.scopes w.around c.args.task w.tasks.items (state met) c.set_scope.new.self met.around met.tasks.items c.in-Expr.expr m.scope c.args.steps.now c.tick.new.self
+    c.in-Expr.is m.ensures.moves m.ensures.scope c.in_ok-set_scope.ensures.ok refl refl c.tick.ensures
 
 pub returns-in-Pat-clause-goes : goal.returns-in-Pat-clause-goes
 returns-in-Pat-clause-goes c =
@@ -53,7 +56,18 @@ returns-in-MacroDef-clause-goes c =
     let w = c.args.self.now in
     let s = c.args.store.now.nodes in
     let ready = subst (λ (t : Task). IsReady s (machine w (t ∷ w.tasks.items))) c.in-MacroDef.is c.requires.ready in
-    ok_map c.meet_macro.result _ _ (λ m. goes_task s w.scopes w.around c.args.task _ w.tasks.items (state c.meet_macro.new.self) c.args.steps.now c.in-MacroDef.is (m s ready)) c.meet_macro.ensures.moves
+    let new = state c.open_both.new.self in
+    ok_map c.open_both.result _ _ (λ o. goes_task s w.scopes w.around c.args.task _ w.tasks.items new c.args.steps.now c.in-MacroDef.is
+    (macro_moves s w.scopes w.around c.in-MacroDef.id w.tasks.items new o ready)) c.open_both.ensures.opened
+
+pub returns-in-MacroDef-clause-full : goal.returns-in-MacroDef-clause-full
+returns-in-MacroDef-clause-full c = λ h.
+    let w = c.args.self.now in
+    let s = c.args.store.now.nodes in
+    let f = of_kind (kind.MacroDef c.in-MacroDef.id) in
+    let o : Over (map frame_of w.scopes.scopes ++ f ∷ f ∷ []) = search rules in
+    let exceeds = over_exceeds s w.scopes w.around (task.MacroDef c.in-MacroDef.id ∷ w.tasks.items) (f ∷ f ∷ []) (macro_frames s c.in-MacroDef.id w.tasks.items) o in
+    subst (λ (t : Task). Exceeds s (machine w (t ∷ w.tasks.items))) (sym c.in-MacroDef.is) exceeds
 
 pub returns-in-Leave-clause-goes : goal.returns-in-Leave-clause-goes
 returns-in-Leave-clause-goes c =

@@ -12,12 +12,12 @@ use Rattle.hir_scope.proofs.walk.Walk.open.Goals as goal
 pub add_pats-requires : goal.add_pats-requires
 add_pats-requires c = all_there c.args.store.now.nodes c.args.pats.now c.requires.there
 
-pub returns-in_err-here-clause-full : goal.returns-in_err-here-clause-full
-returns-in_err-here-clause-full c =
+pub returns-in_err-new_scope-clause-full : goal.returns-in_err-new_scope-clause-full
+returns-in_err-new_scope-clause-full c =
     let S = c.args.self.now.scopes.scopes in
-    let es = c.add_pats.new.self.list.items in
+    let es = c.add_pats.new.entries.items in
     let bound : es ≡ flat_map (binds c.args.store.now.nodes) c.args.pats.now =
-    (c.add_pats.ensures c.in_ok-are_there.ensures.ok).1 ∙ ap (λ (xs : List ScopeEntry). xs ++ flat_map (binds c.args.store.now.nodes) c.args.pats.now) c.clear.ensures in
+    c.in_ok-add_pats.ensures.ok ∙ ap (λ (xs : List ScopeEntry). xs ++ flat_map (binds c.args.store.now.nodes) c.args.pats.now) c.clear.ensures in
     λ h.
     let o : (4294967295 < length S + 1) ⊎ (4294967295 < entry_count S + length es) = search rules in
     subst (λ (xs : List ScopeEntry). Over (map frame_of S ++ record { kind = kind.None; entries = xs } ∷ [])) bound
@@ -26,9 +26,9 @@ returns-in_err-here-clause-full c =
 pub returns-clause-opened : goal.returns-clause-opened
 returns-clause-opened c =
     let w = c.args.self.now in
-    let ok = c.in_ok-here.ensures.ok in
-    let bound = (c.add_pats.ensures c.in_ok-are_there.ensures.ok).1 ∙ ap (λ (xs : List ScopeEntry). xs ++ flat_map (binds c.args.store.now.nodes) c.args.pats.now) c.clear.ensures in
+    let ok = c.in_ok-new_scope.ensures.ok in
+    let bound = c.in_ok-add_pats.ensures.ok ∙ ap (λ (xs : List ScopeEntry). xs ++ flat_map (binds c.args.store.now.nodes) c.args.pats.now) c.clear.ensures in
     opened_here (state w) _ kind.None (flat_map (binds c.args.store.now.nodes) c.args.pats.now)
     (ap (λ (x : Scopes). x.scopes) ok ∙ ap (λ (xs : List ScopeEntry). w.scopes.scopes ++ child w.around.here kind.None xs ∷ []) bound)
     (ap (λ (x : Scopes). x.scope_by_expr) ok)
-    c.in_ok-here.ensures.id refl refl c.requires.constant
+    c.in_ok-new_scope.ensures.id refl refl c.requires.constant
