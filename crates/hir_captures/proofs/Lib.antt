@@ -4,4 +4,3 @@ mod UnreadLemmas
 mod FoundLemmas
 mod ReadLemmas
 mod WithinLemmas
-mod Rows

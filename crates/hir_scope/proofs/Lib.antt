@@ -13,7 +13,6 @@ mod TotalLemmas
 mod WeightLemmas
 pub mod OrderLemmas
 pub mod PutLemmas
-mod Rows
 pub mod FlatLemmas
 pub mod PathLemmas
 pub mod ResolveLemmas
