@@ -1,6 +1,4 @@
 mod AskLemmas
-mod CodeLemmas
-mod UnreadLemmas
+pub mod CodeLemmas
+pub mod ReadLemmas
 mod FoundLemmas
-mod ReadLemmas
-mod WithinLemmas

@@ -1,5 +1,13 @@
--- Reading a node leaves what is to be found as it was.
-use Rattle.std.proofs.Common.{◌≡◌, ◌<◌, ℕ, List, [], ◌∷◌, ◌++◌, Option, Some, None, fold, length, refl, sym, ap, ◌∙◌, subst, arith}
+-- What a run of child calls leaves to be read, and what reading a node finds.
+use Rattle.std.proofs.Common.{◌≡◌, ℕ, List, ◌∷◌, refl, ap, ◌∙◌, subst, Option, ◌<◌, [], ◌++◌, Some, None, fold, length, sym, arith}
+use Rattle.hir_node.specs.ChildCalls.{Call, pat_calls}
+use Rattle.hir_node.specs.Runs.{Runs, no_call, a_call}
+use Rattle.hir_node.proofs.RunLemmas.{may_freely}
+use Rattle.hir_stack.specs.Stacks.{Stacked, Puts}
+use Rattle.hir_stack.proofs.TurnLemmas.{puts_none, puts_two}
+use Rattle.hir_captures.specs.declared.unread.Task.{Task}
+use Rattle.hir_captures.specs.declared.unread.Unread.{Unread}
+use Rattle.hir_captures.specs.walk.Pending.{task_of, tasks_of, pat_task, task_node, task_target, code_of, AreThere}
 use Rattle.std.specs.Prelude.{IsSome, ◌↔◌, ◌-◌}
 use Rattle.std.specs.List.{flat_map, filter_map, slice_get}
 use Rattle.std.specs.FinMap as map
@@ -7,7 +15,6 @@ use Rattle.std.proofs.lemmas.List.{append-nil}
 use Rattle.std.proofs.lemmas.List.Elements.{filter_map-append}
 use Rattle.std.proofs.lemmas.List.Concat.{flat_map-append}
 use Rattle.std.proofs.lemmas.List.Sums.{fold-append}
-use Rattle.hir_node.specs.ChildCalls.{pat_calls}
 use Rattle.hir_node.specs.declared.expr.Expr.{Expr}
 use Rattle.hir_node.specs.declared.expr.Expr.TheVariants as expr
 use Rattle.hir_node.specs.declared.pat.Pat.{Pat}
@@ -24,14 +31,31 @@ use Rattle.hir_scope.specs.Chains.{HasChain}
 use Rattle.hir_scope.specs.Built.{ChainsAreFrames, tops_of_body}
 use Rattle.hir_items.specs.Bodies.{BodyContents, BodyReaches}
 use Rattle.hir_captures.specs.declared.code.Code.{Code}
-use Rattle.hir_captures.specs.declared.unread.Task.{Task}
 use Rattle.hir_captures.specs.declared.unread.Task.TheVariants as task
 use Rattle.hir_captures.specs.Captures.{meant_behind, with_new, AreChains, AreCaptures}
 use Rattle.hir_scope.specs.Order.{met_in_form}
-use Rattle.hir_captures.specs.walk.Pending.{pat_task, tasks_of, task_node, task_target, code_of, AreThere}
 use Rattle.hir_captures.specs.walk.Reading.{chain_in, captured_in, with_uses, with_code, Reads}
 use Rattle.hir_captures.specs.Uses.{Spot, Use, uses_in, spot, if_assignment, assignment_at, expr_uses, pat_uses, uses_at, spot_uses, code_under}
 use Rattle.hir_captures.proofs.CodeLemmas.{Laws, code_read, kids_there}
+
+-- 1. What a run of child calls leaves to be read.
+
+abbrev pub PutsCalls : Unread → List Call → Unread → Type 0
+PutsCalls v cs w = (w.assignment ≡ v.assignment) × Puts v.stack (tasks_of v.assignment cs) w.stack
+
+abbrev pub PutsCall : Unread → Call → Unread → Type 0
+PutsCall v c w = (w.assignment ≡ v.assignment) × Puts v.stack (task_of v.assignment c) w.stack
+
+pub puts_all : {v w : Unread} {cs : List Call} → Runs PutsCall v cs w → PutsCalls v cs w
+puts_all {v} no_call = (refl, puts_none v.stack)
+puts_all {v} {w} (a_call {v = u} {c = c} {cs = cs} step rest) =
+    let later = puts_all rest in
+    let same = subst (λ (a : Option ℕ). Puts u.stack (tasks_of a cs) w.stack) step.0 later.1 in
+    (later.0 ∙ step.0, puts_two v.stack u.stack w.stack (task_of v.assignment c) (tasks_of v.assignment cs) step.1 same)
+
+pub ruleset kids = (may_freely)
+
+-- 2. Reading a node leaves what is to be found as it was.
 
 pub no_assignment : (id : ℕ) (x : Expr) → ((target value : ℕ) → x ≡ expr.Assignment target value → ⊥) → None ≡ if_assignment id (Some x)
 no_assignment id (expr.Assignment target value) h = absurd (h target value refl)
@@ -93,7 +117,7 @@ module _ (code : Code) where
       read_one laws (task.Target id a) rest new before after there found
       (put ∙ ap (λ (o : Option Pat). tasks_of (Some a) (met_in_form (form_at pat_form o)) ++ rest) (sym is))
 
--- 2. The whole
+-- The whole
 
 -- each reached expression has a scope, along which its frames stand
 chains_are : (b : BodyContents) (scopes : Scopes) → ((x : ℕ) → IsSome (map.get scopes.scope_by_expr x) ↔ BodyReaches b (node.Expr x)) → ChainsAreFrames b.store.nodes (tops_of_body b) scopes → AreChains b (chain_in scopes)

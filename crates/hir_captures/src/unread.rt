@@ -1,5 +1,5 @@
 //! What is still to be read of a closure's code.
-#![tactic(auto, using(crate::proofs::UnreadLemmas::kids))]
+#![tactic(auto, using(crate::proofs::ReadLemmas::kids))]
 
 ghost use Rattle.std.specs.Prelude.{◌≡◌, [], ◌∷◌, ◌++◌, Err, None, OnErr, OnOk};
 ghost use Rattle.hir_node.specs.ChildCalls.{pat_calls};

@@ -34,13 +34,12 @@ use Rattle.hir_scope.specs.Paths.{paths, frame_at}
 use Rattle.hir_scope.specs.walk.Pending.{tasks_of, task_frames, future}
 use Rattle.hir_scope.specs.walk.PlacesUnder.{exprs_under}
 use Rattle.hir_scope.specs.Scopes.{Scope, Scopes, entry_count, frame_of, IsBelow, ParentsStandEarlier}
-use Rattle.hir_scope.proofs.CountLemmas.{bound_by, calls_open, form_ones, frame_entries, sum_one}
+use Rattle.hir_scope.proofs.CountLemmas.{bound_by, calls_open, form_ones, frame_entries, sum_one, reached_total, sum_same, sum_mapped}
 use Rattle.hir_scope.proofs.EntryLemmas.{entries_of_node, entries_total, no_around, one_entry}
 use Rattle.hir_scope.proofs.MemberLemmas.{In, in_contains, contains_in, in_map}
 use Rattle.hir_scope.proofs.PathLemmas.{path_step}
-use Rattle.hir_scope.proofs.SumLemmas.{reached_total, sum_same, sum_mapped}
-use Rattle.hir_scope.proofs.TaskLemmas.{about_calls}
-use Rattle.hir_scope.proofs.TopLemmas.{body_future, body_top_nodes, signature_future, signature_top_nodes, top_kids}
+use Rattle.hir_scope.proofs.KidLemmas.{about_calls}
+use Rattle.hir_scope.proofs.FutureLemmas.{body_future, body_top_nodes, signature_future, signature_top_nodes, top_kids}
 
 all_there : (s : Nodes) (ns : List NodeId) → ((n : NodeId) → In n ns → Has s n) → AreThere s ns
 all_there s [] h = tt

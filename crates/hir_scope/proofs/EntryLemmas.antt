@@ -28,12 +28,10 @@ use Rattle.hir_scope.specs.walk.Machine.{about, count_entries, total, node_frame
 use Rattle.hir_scope.specs.walk.Pending.{form_tasks}
 use Rattle.hir_scope.specs.Slots.{slots}
 use Rattle.hir_scope.specs.declared.tasks.Around.{Around}
-use Rattle.hir_scope.proofs.CountLemmas.{MeetsNone, expr_meets, type_meets, bound_by, form_entries, turn_entries, form_frames}
-use Rattle.hir_scope.proofs.KidLemmas.{kids_of_form, kids_in, slots_kids}
+use Rattle.hir_scope.proofs.CountLemmas.{MeetsNone, expr_meets, type_meets, bound_by, form_entries, turn_entries, form_frames, sum_same, sum_plus}
+use Rattle.hir_scope.proofs.KidLemmas.{kids_of_form, kids_in, slots_kids, about_form}
 use Rattle.hir_scope.proofs.MemberLemmas.{In, contains_in, flat_map_in}
-use Rattle.hir_scope.proofs.SumLemmas.{sum_same, sum_plus}
-use Rattle.hir_scope.proofs.TaskLemmas.{about_form}
-use Rattle.hir_scope.proofs.TotalLemmas.{total_at}
+use Rattle.hir_scope.proofs.WeightLemmas.{total_at}
 
 -- 1. Each binding of a pattern is there, and is one entry
 

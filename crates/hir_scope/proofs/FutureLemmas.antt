@@ -1,10 +1,10 @@
--- What is still to do before a task is what it does, and then what is still to do after it.
-use Rattle.std.proofs.Common.{◌≡◌, ℕ, List, [], ◌∷◌, ◌++◌, map, refl, sym, ap, ◌∙◌, append_assoc, Option, Some, None}
+-- What tasks will meet: of a form, and of the tops of a body or a signature.
+use Rattle.std.proofs.Common.{◌≡◌, ℕ, List, [], ◌∷◌, ◌++◌, map, refl, sym, ap, ◌∙◌, append_assoc, Option, Some, None, suc, ◌<◌, ◌≤◌, length, arith}
 use Rattle.std.specs.List.{flat_map}
 use Rattle.std.proofs.lemmas.List.{append-nil, map-append}
 use Rattle.std.proofs.lemmas.List.Concat.{flat_map-append}
 use Rattle.std.proofs.lemmas.List.Elements.{filter-append}
-use Rattle.hir_node.specs.ChildCalls.{Call, OnExpr, OnAnonConst, OnPat, OnType, OnLifetime, e, p, t, opt}
+use Rattle.hir_node.specs.ChildCalls.{Call, OnExpr, OnAnonConst, OnPat, OnType, OnLifetime, e, p, t, opt, kids}
 use Rattle.hir_node.specs.declared.expr_types.Item.TheVariants as item
 use Rattle.hir_node.specs.declared.expr_types.MatchArm.{MatchArm}
 use Rattle.hir_node.specs.declared.expr_types.Statement.{Statement}
@@ -23,6 +23,13 @@ use Rattle.hir_scope.specs.Slots.{Slot, call_slot, in_turn, own_frame, block_con
 use Rattle.hir_scope.specs.Chains.{Place, place_kid}
 use Rattle.hir_scope.specs.walk.PlacesUnder.{place, exprs_under}
 use Rattle.hir_scope.specs.walk.Pending.{tasks_of, arm_task, arm_with, leave, statement_tasks, form_tasks, opens_here, opens_constant, future}
+use Rattle.std.specs.Option.{option_to_list, option_map}
+use Rattle.hir_node.specs.declared.node_id.NodeId.{NodeId}
+use Rattle.hir_scope.specs.Tops.{root_frame, body_tops, signature_tops}
+use Rattle.hir_scope.specs.walk.Begins.{root_tasks}
+use Rattle.hir_scope.proofs.KidLemmas.{kids_in, turn_kids}
+
+-- 1. What is still to do before a task is what it does, and then what is still to do after it.
 
 pub exprs_under-nil : (s : Nodes) → exprs_under s [] ≡ []
 unfolding exprs_under
@@ -218,3 +225,51 @@ module _ (s : Nodes) (chain : ℕ → Chain) where
       let k = chain a.constant in
       head (place (node.TypeRef ty) k k) (place (node.Pat pat) (frame s (pat ∷ []) ∷ h) k ∷ []) _
   future_form a (form.InTurn cs) ts = turn_bare (chain a.here) (chain a.constant) cs ts
+
+-- 2. The tops of a body and of a signature: which nodes they are, and that the tasks of a walk over them meet what is under them.
+
+nodes_of_placed : (h k : Chain) (xs : List Slot) → map (λ (at : Place). at.node) (map (place_kid h k) xs) ≡ kids_in xs
+nodes_of_placed h k [] = refl
+nodes_of_placed h k (x ∷ xs) = ap (λ (ns : List NodeId). x.kid ∷ ns) (nodes_of_placed h k xs)
+
+pub top_kids : (formals : List ℕ) (last : Option ℕ) → kids (flat_map p formals ++ opt e last) ≡ map node.Pat formals ++ option_to_list (option_map node.Expr last)
+top_kids [] None = refl
+top_kids [] (Some root) = refl
+top_kids (x ∷ formals) last = ap (λ (ns : List NodeId). node.Pat x ∷ ns) (top_kids formals last)
+
+-- Bodies
+
+pub body_top_nodes : (s : Nodes) (self : Option ℕ) (formals : List ℕ) (last : Option ℕ) → map (λ (at : Place). at.node) (body_tops s self formals last) ≡ map node.Pat formals ++ option_to_list (option_map node.Expr last)
+unfolding body_tops
+body_top_nodes s self formals last =
+    let root = root_frame s self formals ∷ [] in
+    let cs = flat_map p formals ++ opt e last in
+    nodes_of_placed [] [] (in_turn s root root cs) ∙ (turn_kids s root root cs ∙ top_kids formals last)
+
+-- what is still to do at first is what is under the tops
+pub body_future : (s : Nodes) (chain : ℕ → Chain) (self : Option ℕ) (formals : List ℕ) (last : Option ℕ) → let root = root_frame s self formals ∷ [] in future s chain root root (tasks_of (flat_map p formals ++ opt e last)) ≡ exprs_under s (body_tops s self formals last)
+unfolding body_tops future
+body_future s chain self formals last =
+    let root = root_frame s self formals ∷ [] in
+    let cs = flat_map p formals ++ opt e last in
+    ap (λ (ts : List Task). future s chain root root ts) (sym (append-nil (tasks_of cs)))
+    ∙ (sym (future_turn s chain [] [] root root cs [])
+    ∙ append-nil (exprs_under s (map (place_kid [] []) (in_turn s root root cs))))
+
+-- Signatures
+
+pub signature_top_nodes : (roots : List ℕ) → map (λ (at : Place). at.node) (signature_tops roots) ≡ map node.Expr roots
+unfolding signature_tops
+signature_top_nodes [] = refl
+signature_top_nodes (root ∷ roots) = ap (λ (ns : List NodeId). node.Expr root ∷ ns) (signature_top_nodes roots)
+
+pub signature_future : (s : Nodes) (chain : ℕ → Chain) (here constant : Chain) (roots : List ℕ) → ((k : ℕ) → 0 < k → k ≤ length roots → chain k ≡ empty ∷ empty ∷ []) → future s chain here constant (root_tasks roots) ≡ exprs_under s (signature_tops roots)
+unfolding signature_tops future
+signature_future s chain here constant [] h = sym (exprs_under-nil s)
+signature_future s chain here constant (root ∷ roots) h =
+    let c = empty ∷ empty ∷ [] in
+    let at : chain (suc (length roots)) ≡ c = h (suc (length roots)) (omega arith) (omega arith) in
+    ap (λ (x : Chain). exprs_under s (place (node.Expr root) x x ∷ []) ++ future s chain (leak s (node.Expr root) ++ x) x (root_tasks roots)) at
+    ∙ (ap (λ (ps : List Place). exprs_under s (place (node.Expr root) c c ∷ []) ++ ps)
+    (signature_future s chain (leak s (node.Expr root) ++ c) c roots (λ k l m. h k l (omega (arith, m))))
+    ∙ sym (exprs_under-append s (place (node.Expr root) c c ∷ []) (signature_tops roots)))

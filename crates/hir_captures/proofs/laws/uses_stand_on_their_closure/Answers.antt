@@ -3,8 +3,7 @@ use Rattle.hir_items.specs.Bodies.{tops}
 use Rattle.hir_scope.specs.Built.{tops_of_body}
 use Rattle.hir_captures.specs.Captures.{IsOn}
 use Rattle.hir_captures.specs.Uses.{Use, uses_in}
-use Rattle.hir_captures.proofs.CodeLemmas.{Laws}
-use Rattle.hir_captures.proofs.WithinLemmas.{uses_stand_on}
+use Rattle.hir_captures.proofs.CodeLemmas.{Laws, uses_stand_on}
 use Rattle.hir_captures.proofs.laws.uses_stand_on_their_closure.Goals as goal
 
 pub returns : goal.returns

@@ -1,4 +1,4 @@
-use Rattle.hir_scope.proofs.PutLemmas.{goes_begin, goes_on, goes_end}
+use Rattle.hir_scope.proofs.OrderLemmas.{goes_begin, goes_on, goes_end}
 use Rattle.hir_scope.proofs.tasks.put_each.Goals as goal
 
 pub loop-item-init : goal.loop-item-init

@@ -1,6 +1,6 @@
 use Rattle.std.proofs.Common.{drop}
 use Rattle.std.specs.List.{flat_map}
-use Rattle.hir_scope.proofs.PutLemmas.{Goes}
+use Rattle.hir_scope.proofs.OrderLemmas.{Goes}
 use Rattle.hir_scope.proofs.tasks.put_each.Given as goal
 
 abbrev pub invariant-loop-item : goal.invariant-loop-item

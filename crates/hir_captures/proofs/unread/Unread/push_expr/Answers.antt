@@ -1,7 +1,7 @@
 use Rattle.std.proofs.Common.{sym, ap}
 use Rattle.hir_stack.specs.Stacks.{Stacked}
 use Rattle.hir_captures.specs.declared.unread.Task.{Task}
-use Rattle.hir_captures.proofs.UnreadLemmas.{puts_all}
+use Rattle.hir_captures.proofs.ReadLemmas.{puts_all}
 use Rattle.hir_captures.proofs.unread.Unread.push_expr.Goals as goal
 
 pub returns-clause-ok : goal.returns-clause-ok

@@ -6,7 +6,7 @@ use Rattle.hir_items.specs.declared.formals.Param.{Param}
 use Rattle.hir_scope.specs.walk.Begins.{IsSound, root_entries}
 use Rattle.hir_scope.specs.Built.{expr_count, limit}
 use Rattle.hir_scope.specs.walk.Machine.{machine, state, IsReady, Gone, Exceeds, future_of}
-use Rattle.hir_scope.proofs.WholeLemmas.{body_starts, body_at_most, body_fails, body_made, body_ticks, root_fails}
+use Rattle.hir_scope.proofs.BuiltLemmas.{body_starts, body_at_most, body_fails, body_made, body_ticks, root_fails}
 use Rattle.hir_scope.proofs.expr_scopes.ExprScopes.new_body_counted.Goals as goal
 
 pub returns-in_err-walk-clause-full : goal.returns-in_err-walk-clause-full

@@ -1,6 +1,6 @@
 use Rattle.std.proofs.Common.{rules, [], refl}
 use Rattle.hir_scope.specs.walk.Machine.{machine, state, Exceeds}
-use Rattle.hir_scope.proofs.WholeLemmas.{signature_starts, signature_fails, signature_made}
+use Rattle.hir_scope.proofs.BuiltLemmas.{signature_starts, signature_fails, signature_made}
 use Rattle.hir_scope.proofs.expr_scopes.ExprScopes.new_store.Goals as goal
 
 pub run-requires : goal.run-requires

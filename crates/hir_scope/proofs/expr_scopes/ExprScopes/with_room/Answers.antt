@@ -1,4 +1,4 @@
-use Rattle.hir_scope.proofs.FlatLemmas.{flat_empty}
+use Rattle.hir_scope.proofs.SameLemmas.{flat_empty}
 use Rattle.hir_scope.proofs.expr_scopes.ExprScopes.with_room.Goals as goal
 
 pub invariant_of-result : goal.invariant_of-result

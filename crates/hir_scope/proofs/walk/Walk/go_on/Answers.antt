@@ -7,8 +7,7 @@ use Rattle.hir_scope.specs.Frames.{of_kind}
 use Rattle.hir_scope.specs.Scopes.{frame_of}
 use Rattle.hir_scope.specs.walk.Machine.{machine, state, IsReady, Over, Exceeds}
 use Rattle.hir_scope.proofs.DoneLemmas.{leave_moves, macro_moves, macro_frames}
-use Rattle.hir_scope.proofs.MovingLemmas.{over_exceeds}
-use Rattle.hir_scope.proofs.GoneLemmas.{ok_map, goes_task, goes_given}
+use Rattle.hir_scope.proofs.MovingLemmas.{over_exceeds, ok_map, goes_task, goes_given}
 use Rattle.hir_scope.proofs.walk.Walk.go_on.Goals as goal
 
 pub returns-in-Expr-clause-goes : goal.returns-in-Expr-clause-goes

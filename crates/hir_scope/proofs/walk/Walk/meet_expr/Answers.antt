@@ -9,8 +9,7 @@ use Rattle.hir_scope.specs.walk.Pending.{form_tasks, opens_here, opens_constant}
 use Rattle.hir_scope.specs.Scopes.{frame_of}
 use Rattle.hir_scope.specs.walk.Machine.{state, here_of, Over, HasFrames, Opened, scope_within}
 use Rattle.hir_scope.specs.walk.Seen.{seen}
-use Rattle.hir_scope.proofs.GrownLemmas.{frames_grown}
-use Rattle.hir_scope.proofs.MovingLemmas.{at, own_frames, over_exceeds}
+use Rattle.hir_scope.proofs.MovingLemmas.{frames_grown, at, own_frames, over_exceeds}
 use Rattle.hir_scope.proofs.DoneLemmas.{expr_moves, met_frames}
 use Rattle.hir_scope.proofs.walk.Walk.meet_expr.Goals as goal
 

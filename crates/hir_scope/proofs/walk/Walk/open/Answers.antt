@@ -6,7 +6,7 @@ use Rattle.hir_scope.specs.Frames.{binds}
 use Rattle.hir_scope.specs.Scopes.{Scopes, entry_count, frame_of}
 use Rattle.hir_scope.specs.walk.Machine.{state, Over}
 use Rattle.hir_scope.proofs.MovingLemmas.{child, opened_here, over_new}
-use Rattle.hir_scope.proofs.ReadyLemmas.{all_there}
+use Rattle.hir_scope.proofs.DoneLemmas.{all_there}
 use Rattle.hir_scope.proofs.walk.Walk.open.Goals as goal
 
 pub add_pats-requires : goal.add_pats-requires

@@ -1,7 +1,7 @@
 use Rattle.std.proofs.Common.{sym, ap, ◌∙◌}
 use Rattle.hir_node.specs.declared.node_id.NodeId.TheVariants as node
 use Rattle.hir_scope.specs.walk.Seen.{seen}
-use Rattle.hir_scope.proofs.ReadyLemmas.{closure_pats, target_pat}
+use Rattle.hir_scope.proofs.DoneLemmas.{closure_pats, target_pat}
 use Rattle.hir_scope.proofs.walk.Walk.open_inside.Goals as goal
 
 pub open-requires-clause-there : goal.open-requires-clause-there

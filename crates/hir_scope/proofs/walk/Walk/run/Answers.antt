@@ -1,7 +1,7 @@
 use Rattle.std.proofs.Common.{◌≡◌, List, ◌∷◌, subst}
 use Rattle.hir_scope.specs.declared.tasks.Task.{Task}
 use Rattle.hir_scope.specs.walk.Machine.{machine, state, Gone}
-use Rattle.hir_scope.proofs.GoneLemmas.{gone_start, gone_then}
+use Rattle.hir_scope.proofs.MovingLemmas.{gone_start, gone_then}
 use Rattle.hir_scope.proofs.walk.Walk.run.Goals as goal
 
 pub loop-task-init : goal.loop-task-init
