@@ -237,7 +237,6 @@ module _ (s : Nodes) where
       let d = calls_open one (e c ++ e y) in
       let g = calls_open one (opt e f) in
       omega (arith, a, b, d, g)
-  tasks_ones around (form.Let pat x) = refl
   tasks_ones around (form.Block id label xs tail) =
       let a = sum_by-append (ones s) (flat_map statement_tasks xs) (tasks_of (opt e tail) ++ leave around ∷ []) in
       let b = sum_by-append (ones s) (tasks_of (opt e tail)) (leave around ∷ []) in
@@ -245,7 +244,6 @@ module _ (s : Nodes) where
       let g = calls_open one (opt e tail) in
       let h = constants_one id in
       omega (arith, a, b, d, g, h)
-  tasks_ones around (form.Loop label body) = refl
   tasks_ones around (form.Closure types ret args body) =
       let a = sum_by-append (ones s) (tasks_of (met_in_closure types ret args body)) (leave around ∷ []) in
       let d = calls_open one (met_in_closure types ret args body) in
@@ -254,9 +252,8 @@ module _ (s : Nodes) where
       let a = sum_by-cons (ones s) (task.Expr x) (map arm_task arms) in
       let b = arms_ones arms in
       omega (arith, a, b)
-  tasks_ones around (form.Assignment target value) = refl
-  tasks_ones around (form.PatternType ty pat) = refl
   tasks_ones around (form.InTurn cs) = let r = calls_open one cs in omega (arith, r)
+  tasks_ones around _ = refl
 
   -- a node opens as many scopes as its form says
   pub form_ones : (around : Around) (x : ScopingForm) → sum_by one (form_frames s around x) ≡ form_scopes x
@@ -307,14 +304,7 @@ none-spread (spread.Expr id) = refl
 -- no pattern is among what a form meets in turn
 abbrev pub MeetsNone : ScopingForm → Type 0
 MeetsNone (form.InTurn cs) = none cs
-MeetsNone (form.If c y f) = Unit {0}
-MeetsNone (form.Let pat x) = Unit {0}
-MeetsNone (form.Block id label xs tail) = Unit {0}
-MeetsNone (form.Loop label body) = Unit {0}
-MeetsNone (form.Closure types ret args body) = Unit {0}
-MeetsNone (form.Match x arms) = Unit {0}
-MeetsNone (form.Assignment target value) = Unit {0}
-MeetsNone (form.PatternType ty pat) = Unit {0}
+MeetsNone x = Unit {0}
 
 pub expr_meets : (x : Expr) → MeetsNone (expr_form x)
 expr_meets (expr.If c y f) = tt
@@ -338,37 +328,17 @@ expr_meets (expr.RecordLit path fields spread) =
 expr_meets (expr.Array x) = none-array x
 expr_meets (expr.Tuple exprs) = none-each e (λ x. refl) exprs
 expr_meets (expr.Path path) = none-path path
-expr_meets (expr.Become x) = refl
-expr_meets (expr.Field x name) = refl
-expr_meets (expr.Await x) = refl
-expr_meets (expr.Ref x rawness mutability) = refl
-expr_meets (expr.UnaryOp x op) = refl
-expr_meets (expr.Cast x type_ref) = refl
-expr_meets (expr.BinaryOp lhs rhs op) = refl
-expr_meets (expr.Index base index) = refl
-expr_meets (expr.Const x) = refl
-expr_meets (expr.OffsetOf offset) = refl
-expr_meets expr.Missing = refl
-expr_meets (expr.Literal literal) = refl
-expr_meets expr.Underscore = refl
-expr_meets (expr.Continue label) = refl
-expr_meets expr.IncludeBytes = refl
+expr_meets _ = refl
 
 pub type_meets : (x : TypeRef) → MeetsNone (type_form x)
 type_meets (type.PatternType ty pat) = tt
 type_meets (type.Tuple types) = none-each t (λ x. refl) types
 type_meets (type.Path path) = none-path path
-type_meets (type.RawPtr id mutability) = refl
 type_meets (type.Reference reference) = none-append (t reference.ty) (opt l reference.lifetime) refl (none-opt l (λ x. refl) reference.lifetime)
-type_meets (type.Array array) = refl
-type_meets (type.Slice id) = refl
 type_meets (type.Fn function) = none-each (λ entry. t entry.1) (λ x. refl) function.params
 type_meets (type.ImplTrait bounds) = none-each bound_calls none-bound bounds
 type_meets (type.DynTrait bounds) = none-each bound_calls none-bound bounds
-type_meets type.Never = refl
-type_meets type.Placeholder = refl
-type_meets (type.TypeParam param) = refl
-type_meets type.Error = refl
+type_meets _ = refl
 
 -- As entries
 
@@ -385,14 +355,7 @@ module _ (s : Nodes) where
   -- what a task's pattern binds in a frame that the task does not open
   abbrev rest_of : Task → ℕ
   rest_of (task.Pat id) = length (binds s id)
-  rest_of (task.Expr id) = 0
-  rest_of (task.Constant id) = 0
-  rest_of (task.TypeRef id) = 0
-  rest_of (task.Bound id) = 0
-  rest_of (task.Arm pat expr) = 0
-  rest_of (task.GuardedArm pat guard expr) = 0
-  rest_of (task.MacroDef id) = 0
-  rest_of (task.Leave outer outer_constant) = 0
+  rest_of x = 0
 
   pub frame_entries : (ps : List ℕ) → length (frame s ps).entries ≡ sum_by (λ q. length (binds s q)) ps
   frame_entries [] = refl
@@ -406,15 +369,10 @@ module _ (s : Nodes) where
   one_frame q = let r = frame_entries (q ∷ []) in omega (arith, r)
 
   task_bound : (x : Task) → sum_by bound_by (task_kids x) ≡ weights_of x + rest_of x
-  task_bound (task.Expr id) = refl
-  task_bound (task.Constant id) = refl
-  task_bound (task.Pat id) = refl
-  task_bound (task.TypeRef id) = refl
   task_bound (task.Bound id) = let r = one_frame id in omega (arith, r)
   task_bound (task.Arm pat expr) = let r = one_frame pat in omega (arith, r)
   task_bound (task.GuardedArm pat guard expr) = let r = one_frame pat in omega (arith, r)
-  task_bound (task.MacroDef id) = refl
-  task_bound (task.Leave outer outer_constant) = refl
+  task_bound _ = refl
 
   tasks_bound : (ts : List Task) → sum_by bound_by (about ts) ≡ sum_by weights_of ts + sum_by rest_of ts
   tasks_bound ts =
@@ -488,7 +446,6 @@ module _ (s : Nodes) where
       let d = calls_none (e c ++ e y) refl in
       let g = opt_none f in
       omega (arith, a, b, d, g)
-  opens_rest around (form.Let pat x) h = refl
   opens_rest around (form.Block id label xs tail) h =
       let a = sum_by-append rest_of (flat_map statement_tasks xs) (tasks_of (opt e tail) ++ leave around ∷ []) in
       let b = sum_by-append rest_of (tasks_of (opt e tail)) (leave around ∷ []) in
@@ -496,7 +453,6 @@ module _ (s : Nodes) where
       let g = opt_none tail in
       let k = constants_empty id in
       omega (arith, a, b, d, g, k)
-  opens_rest around (form.Loop label body) h = refl
   opens_rest around (form.Closure types ret args body) h =
       let cs = met_in_closure types ret args body in
       let a = sum_by-append rest_of (tasks_of cs) (leave around ∷ []) in
@@ -508,8 +464,8 @@ module _ (s : Nodes) where
       let b = arms_rest arms in
       omega (arith, a, b)
   opens_rest around (form.Assignment target value) h = let r = one_frame target in omega (arith, r)
-  opens_rest around (form.PatternType ty pat) h = refl
   opens_rest around (form.InTurn cs) h = let r = calls_none cs h in omega (arith, r)
+  opens_rest around _ h = refl
 
   -- so a node's frames hold what the patterns among its kids bind
   pub form_entries : (around : Around) (x : ScopingForm) → MeetsNone x → sum_by count_entries (form_frames s around x) ≡ sum_by bound_by (about (form_tasks around x))

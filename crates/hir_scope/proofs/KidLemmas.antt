@@ -118,11 +118,8 @@ two : (xs ys : List Slot) (cs ds : List Call) → places xs ≡ of_calls cs → 
 two xs ys cs ds f g = map-append slot_kid xs ys ∙ (let m = flat_map-append call_kids cs ds in cc)
 
 of_call : (constants add : Chain) (c : Call) → places (call_slot constants add c) ≡ call_kids c
-of_call constants add (OnExpr id) = refl
-of_call constants add (OnPat id) = refl
-of_call constants add (OnAnonConst id) = refl
-of_call constants add (OnType id) = refl
 of_call constants add (OnLifetime id) = refl
+of_call constants add _ = refl
 
 module _ (s : Nodes) where
   of_turn : (constants add : Chain) (cs : List Call) → places (in_turn s constants add cs) ≡ of_calls cs
@@ -244,11 +241,8 @@ about_arms (arm ∷ arms) =
 -- the tasks of what is inside a node are about its kids, in the order of its slots
 pub about_form : (a : Around) (x : ScopingForm) → about (form_tasks a x) ≡ kids (met_in_form x)
 about_form a (form.If c y f) = two_about (tasks_of (e c ++ e y)) (leave a ∷ tasks_of (opt e f)) (e c ++ e y) (opt e f) refl (about_calls (opt e f))
-about_form a (form.Let pat x) = refl
 about_form a (form.Block id label xs tail) = two_about (flat_map statement_tasks xs) (tasks_of (opt e tail) ++ leave a ∷ []) (flat_map met_in_statement xs) (opt e tail) (about_statements xs) (left_after (opt e tail) a)
-about_form a (form.Loop label body) = refl
 about_form a (form.Closure types ret args body) = left_after (met_in_closure types ret args body) a
 about_form a (form.Match x arms) = ap (λ (ns : List NodeId). node.Expr x ∷ ns) (about_arms arms)
-about_form a (form.Assignment target value) = refl
-about_form a (form.PatternType ty pat) = refl
 about_form a (form.InTurn cs) = about_calls cs
+about_form a _ = refl

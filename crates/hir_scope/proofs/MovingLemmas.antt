@@ -236,14 +236,7 @@ opened_none m h c =
 -- the scope of an expression is that of its chain
 pub own_frames : (s : Nodes) (x : ScopingForm) (scopes : List Scope) (inside outside : ℕ) (h : Chain) → HasFrames scopes inside (opens_here s x ++ h) → HasFrames scopes outside h → HasFrames scopes (scope_within x inside outside) (within_own x h)
 own_frames s (form.Block id label xs tail) scopes inside outside h i o = i
-own_frames s (form.If c y f) scopes inside outside h i o = o
-own_frames s (form.Let pat x) scopes inside outside h i o = o
-own_frames s (form.Loop label body) scopes inside outside h i o = o
-own_frames s (form.Closure types ret args body) scopes inside outside h i o = o
-own_frames s (form.Match x arms) scopes inside outside h i o = o
-own_frames s (form.Assignment target value) scopes inside outside h i o = o
-own_frames s (form.PatternType ty pat) scopes inside outside h i o = o
-own_frames s (form.InTurn cs) scopes inside outside h i o = o
+own_frames s _ scopes inside outside h i o = o
 
 -- Too many
 

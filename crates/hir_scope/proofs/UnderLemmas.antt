@@ -55,13 +55,10 @@ leaks_read f g (OnLifetime x ∷ cs) h = let r = leaks_read f g cs h in cc
 form_reads : (s : Nodes) (f g : NodeId → Chain) (x : ScopingForm) → AgreeOn f g (kids (met_in_form x)) → leak_of_form s f x ≡ leak_of_form s g x
 form_reads s f g (form.If c y o) h = leaks_read f g (opt e o) h.1.1
 form_reads s f g (form.Let pat x) h = let q = h.0 in let r = h.1.0 in cc
-form_reads s f g (form.Block id label xs tail) h = refl
-form_reads s f g (form.Loop label body) h = refl
-form_reads s f g (form.Closure types ret args body) h = refl
 form_reads s f g (form.Match x arms) h = h.0
 form_reads s f g (form.Assignment target value) h = h.1.0
-form_reads s f g (form.PatternType ty pat) h = refl
 form_reads s f g (form.InTurn cs) h = leaks_read f g cs h
+form_reads s f g _ h = refl
 
 leak_asks : (s : Nodes) → AsksKids s (leak_step s)
 leak_asks s f g n h = form_reads s f g (form_of s n) (met_agree f g s n h)

@@ -62,14 +62,7 @@ about tasks = flat_map task_kids tasks
 abbrev pub LeavesWithin : ℕ → List Task → Type 0
 LeavesWithin n [] = ⊤
 LeavesWithin n (task.Leave outer outer_constant ∷ rest) = (outer < n) × (outer_constant < n) × LeavesWithin n rest
-LeavesWithin n (task.Expr id ∷ rest) = LeavesWithin n rest
-LeavesWithin n (task.Constant id ∷ rest) = LeavesWithin n rest
-LeavesWithin n (task.Pat id ∷ rest) = LeavesWithin n rest
-LeavesWithin n (task.TypeRef id ∷ rest) = LeavesWithin n rest
-LeavesWithin n (task.Bound id ∷ rest) = LeavesWithin n rest
-LeavesWithin n (task.Arm pat expr ∷ rest) = LeavesWithin n rest
-LeavesWithin n (task.GuardedArm pat guard expr ∷ rest) = LeavesWithin n rest
-LeavesWithin n (task.MacroDef id ∷ rest) = LeavesWithin n rest
+LeavesWithin n (t ∷ rest) = LeavesWithin n rest
 
 abbrev pub AreThere : Nodes → List NodeId → Type 0
 AreThere s [] = ⊤
@@ -192,14 +185,7 @@ IsRight s scopes g = HasFrames scopes g.scope (within_own (form_of s (node.Expr 
 -- the scope of an expression: of a block the one inside it, of any other the one around it
 abbrev pub scope_within : ScopingForm → ℕ → ℕ → ℕ
 scope_within (form.Block id label statements tail) inside outside = inside
-scope_within (form.If condition then_branch else_branch) inside outside = outside
-scope_within (form.Let pat expr) inside outside = outside
-scope_within (form.Loop label body) inside outside = outside
-scope_within (form.Closure arg_types ret_type args body) inside outside = outside
-scope_within (form.Match scrutinee arms) inside outside = outside
-scope_within (form.Assignment target value) inside outside = outside
-scope_within (form.PatternType type pat) inside outside = outside
-scope_within (form.InTurn calls) inside outside = outside
+scope_within x inside outside = outside
 
 -- all that was done since a state
 pub record Gone (s : Nodes) (old new : Machine) (before after : ℕ) : Type 0 where

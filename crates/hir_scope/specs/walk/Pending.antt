@@ -82,26 +82,16 @@ form_tasks around (form.InTurn calls) = tasks_of calls
 -- the frames that are opened as a node is met, around what is inside it
 abbrev pub opens_here : Nodes → ScopingForm → Chain
 opens_here s (form.If condition then_branch else_branch) = empty ∷ []
-opens_here s (form.Let pat expr) = []
 opens_here s (form.Block id label statements tail) = own_frame id label ∷ []
 opens_here s (form.Loop label body) = of_kind (loop_kind label) ∷ []
 opens_here s (form.Closure arg_types ret_type args body) = frame s args ∷ []
-opens_here s (form.Match scrutinee arms) = []
 opens_here s (form.Assignment target value) = frame s (target ∷ []) ∷ []
-opens_here s (form.PatternType type pat) = []
-opens_here s (form.InTurn calls) = []
+opens_here s x = []
 
 -- and around its constants
 abbrev pub opens_constant : ScopingForm → Chain
-opens_constant (form.If condition then_branch else_branch) = []
-opens_constant (form.Let pat expr) = []
 opens_constant (form.Block id label statements tail) = block_constants id
-opens_constant (form.Loop label body) = []
-opens_constant (form.Closure arg_types ret_type args body) = []
-opens_constant (form.Match scrutinee arms) = []
-opens_constant (form.Assignment target value) = []
-opens_constant (form.PatternType type pat) = []
-opens_constant (form.InTurn calls) = []
+opens_constant x = []
 
 -- the expressions that tasks will meet, each in its place: `here` and `constant` are the chains now, and `chain` that of each scope
 unfoldable pub future : Nodes → (ℕ → Chain) → Chain → Chain → List Task → List Place
@@ -139,12 +129,8 @@ task_kids (task.Leave outer outer_constant) = []
 
 -- the frames that a task opens itself
 abbrev pub task_frames : Nodes → Task → List Frame
-task_frames s (task.Expr id) = []
-task_frames s (task.Constant id) = []
-task_frames s (task.Pat id) = []
-task_frames s (task.TypeRef id) = []
 task_frames s (task.Bound id) = frame s (id ∷ []) ∷ []
 task_frames s (task.Arm pat expr) = frame s (pat ∷ []) ∷ []
 task_frames s (task.GuardedArm pat guard expr) = frame s (pat ∷ []) ∷ []
 task_frames s (task.MacroDef id) = of_kind (kind.MacroDef id) ∷ of_kind (kind.MacroDef id) ∷ []
-task_frames s (task.Leave outer outer_constant) = []
+task_frames s t = []
