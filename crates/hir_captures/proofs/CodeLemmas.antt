@@ -312,14 +312,7 @@ no_own _ is here = absurd is
 
 own_on : (f : ScopingForm) (here : Chain) → IsOn here (within_own f here)
 own_on (form.Block id label statements tail) here = (own_frame id label ∷ [], refl)
-own_on (form.If condition then_branch else_branch) here = ([], refl)
-own_on (form.Let pat expr) here = ([], refl)
-own_on (form.Loop label body) here = ([], refl)
-own_on (form.Closure arg_types ret_type args body) here = ([], refl)
-own_on (form.Match scrutinee arms) here = ([], refl)
-own_on (form.Assignment target value) here = ([], refl)
-own_on (form.PatternType type pat) here = ([], refl)
-own_on (form.InTurn calls) here = ([], refl)
+own_on _ here = ([], refl)
 
 is_on_two : (a b c : Chain) → IsOn a b → IsOn b c → IsOn a c
 is_on_two a b c p q = (q.0 ++ p.0, q.1 ∙ (ap (λ (x : Chain). q.0 ++ x) p.1 ∙ sym (append_assoc q.0 p.0 a)))

@@ -2,7 +2,6 @@
 use Rattle.std.proofs.Common.{◌≡◌, ℕ, List, ◌∷◌, refl, ap, ◌∙◌, subst, Option, ◌<◌, [], ◌++◌, Some, None, fold, length, sym, arith}
 use Rattle.hir_node.specs.ChildCalls.{Call, pat_calls}
 use Rattle.hir_node.specs.Runs.{Runs, no_call, a_call}
-use Rattle.hir_node.proofs.RunLemmas.{may_freely}
 use Rattle.hir_stack.specs.Stacks.{Stacked, Puts}
 use Rattle.hir_stack.proofs.TurnLemmas.{puts_none, puts_two}
 use Rattle.hir_captures.specs.declared.unread.Task.{Task}
@@ -52,8 +51,6 @@ puts_all {v} {w} (a_call {v = u} {c = c} {cs = cs} step rest) =
     let later = puts_all rest in
     let same = subst (λ (a : Option ℕ). Puts u.stack (tasks_of a cs) w.stack) step.0 later.1 in
     (later.0 ∙ step.0, puts_two v.stack u.stack w.stack (task_of v.assignment c) (tasks_of v.assignment cs) step.1 same)
-
-pub ruleset kids = (may_freely)
 
 -- 2. Reading a node leaves what is to be found as it was.
 

@@ -1,5 +1,5 @@
 //! What is still to be read of a closure's code.
-#![tactic(auto, using(crate::proofs::ReadLemmas::kids))]
+#![tactic(auto, using(hir_node::proofs::RunLemmas::freely))]
 
 ghost use Rattle.std.specs.Prelude.{◌≡◌, [], ◌∷◌, ◌++◌, Err, None, OnErr, OnOk};
 ghost use Rattle.hir_node.specs.ChildCalls.{pat_calls};

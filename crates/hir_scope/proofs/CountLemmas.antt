@@ -47,7 +47,7 @@ use Rattle.hir_scope.specs.Counts.{count_if_there, statement_scopes, form_scopes
 use Rattle.hir_scope.specs.Frames.{Frame, binds, frame}
 use Rattle.hir_scope.specs.Forms.{ScopingForm, expr_form, type_form}
 use Rattle.hir_scope.specs.Forms as form
-use Rattle.hir_scope.specs.walk.Pending.{tasks_of, arm_task, guarded_task, leave, statement_tasks, form_tasks, opens_here, opens_constant, task_kids, task_frames}
+use Rattle.hir_scope.specs.walk.Pending.{tasks_of, arm_task, one_arm, guarded_task, leave, statement_tasks, form_tasks, opens_here, opens_constant, task_kids, task_frames}
 
 -- 1. Sums over what is reached, however it is listed: by nodes, by places, or told from each node by its kids.
 
@@ -217,10 +217,10 @@ module _ (s : Nodes) where
   guarded_one pat expr None = refl
   guarded_one pat expr (Some guard) = refl
 
-  arms_ones : (arms : List MatchArm) → sum_by (ones s) (map arm_task arms) ≡ length arms
+  arms_ones : (arms : List MatchArm) → sum_by (ones s) (flat_map one_arm arms) ≡ length arms
   arms_ones [] = refl
   arms_ones (arm ∷ arms) =
-      let a = sum_by-cons (ones s) (arm_task arm) (map arm_task arms) in
+      let a = sum_by-cons (ones s) (arm_task arm) (flat_map one_arm arms) in
       let b = guarded_one arm.pat arm.expr arm.guard in
       let r = arms_ones arms in
       omega (arith, a, b, r)
@@ -249,7 +249,7 @@ module _ (s : Nodes) where
       let d = calls_open one (met_in_closure types ret args body) in
       omega (arith, a, d)
   tasks_ones around (form.Match x arms) =
-      let a = sum_by-cons (ones s) (task.Expr x) (map arm_task arms) in
+      let a = sum_by-cons (ones s) (task.Expr x) (flat_map one_arm arms) in
       let b = arms_ones arms in
       omega (arith, a, b)
   tasks_ones around (form.InTurn cs) = let r = calls_open one cs in omega (arith, r)
@@ -420,10 +420,10 @@ module _ (s : Nodes) where
   guarded_rest pat expr None = refl
   guarded_rest pat expr (Some guard) = refl
 
-  arms_rest : (arms : List MatchArm) → sum_by rest_of (map arm_task arms) ≡ 0
+  arms_rest : (arms : List MatchArm) → sum_by rest_of (flat_map one_arm arms) ≡ 0
   arms_rest [] = refl
   arms_rest (arm ∷ arms) =
-      let a = sum_by-cons rest_of (arm_task arm) (map arm_task arms) in
+      let a = sum_by-cons rest_of (arm_task arm) (flat_map one_arm arms) in
       let b = guarded_rest arm.pat arm.expr arm.guard in
       let r = arms_rest arms in
       omega (arith, a, b, r)
@@ -460,7 +460,7 @@ module _ (s : Nodes) where
       let d = frame_entries args in
       omega (arith, a, b, d)
   opens_rest around (form.Match x arms) h =
-      let a = sum_by-cons rest_of (task.Expr x) (map arm_task arms) in
+      let a = sum_by-cons rest_of (task.Expr x) (flat_map one_arm arms) in
       let b = arms_rest arms in
       omega (arith, a, b)
   opens_rest around (form.Assignment target value) h = let r = one_frame target in omega (arith, r)

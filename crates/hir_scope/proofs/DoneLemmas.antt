@@ -20,7 +20,7 @@ use Rattle.hir_scope.specs.declared.tasks.Task.TheVariants as task
 use Rattle.hir_scope.specs.Forms.{ScopingForm, form_of, form_at, pat_form, type_form}
 use Rattle.hir_scope.specs.Forms as form
 use Rattle.hir_scope.specs.Slots.{slots, slots_of_form}
-use Rattle.hir_scope.specs.walk.Pending.{tasks_of, arm_task, guarded_task, statement_tasks, form_tasks, task_kids, leave, opens_here, opens_constant, future, arm_with, task_frames}
+use Rattle.hir_scope.specs.walk.Pending.{tasks_of, arm_task, one_arm, guarded_task, statement_tasks, form_tasks, task_kids, leave, opens_here, opens_constant, future, arm_with, task_frames}
 use Rattle.hir_scope.specs.walk.Machine.{about, AreThere, LeavesWithin, Machine, chain_of, IsReady, total, left, node_frames, weight_left, node_turns, task_turns, turns_left, Opened, Moves}
 use Rattle.hir_scope.proofs.KidLemmas.{kids_of_form, kids_in, slots_kids, about_form}
 use Rattle.hir_scope.specs.Frames.{Chain, frame, Frame, of_kind}
@@ -127,9 +127,9 @@ module _ (n : ℕ) where
   leaves_arm pat expr None ts l = l
   leaves_arm pat expr (Some guard) ts l = l
 
-  leaves_arms : (arms : List MatchArm) (ts : List Task) → LeavesWithin n ts → LeavesWithin n (map arm_task arms ++ ts)
+  leaves_arms : (arms : List MatchArm) (ts : List Task) → LeavesWithin n ts → LeavesWithin n (flat_map one_arm arms ++ ts)
   leaves_arms [] ts l = l
-  leaves_arms (arm ∷ arms) ts l = leaves_arm arm.pat arm.expr arm.guard (map arm_task arms ++ ts) (leaves_arms arms ts l)
+  leaves_arms (arm ∷ arms) ts l = leaves_arm arm.pat arm.expr arm.guard (flat_map one_arm arms ++ ts) (leaves_arms arms ts l)
 
   pub leaves_met : (a : Around) (x : ScopingForm) (ts : List Task) → a.here < n → a.constant < n → LeavesWithin n ts → LeavesWithin n (form_tasks a x ++ ts)
   leaves_met a (form.If c y f) ts h k l = (h, k, leaves_calls (opt e f) ts l)

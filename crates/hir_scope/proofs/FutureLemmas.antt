@@ -22,7 +22,7 @@ use Rattle.hir_scope.specs.Leak.{leak, leaks, leak_of_form}
 use Rattle.hir_scope.specs.Slots.{Slot, call_slot, in_turn, own_frame, block_constants, made, made_for_constants, statement_slots, block_slots, arm_slots, loop_kind, slots_of_form, slots}
 use Rattle.hir_scope.specs.Chains.{Place, place_kid}
 use Rattle.hir_scope.specs.walk.PlacesUnder.{place, exprs_under}
-use Rattle.hir_scope.specs.walk.Pending.{tasks_of, arm_task, arm_with, leave, statement_tasks, form_tasks, opens_here, opens_constant, future}
+use Rattle.hir_scope.specs.walk.Pending.{tasks_of, arm_task, one_arm, arm_with, leave, statement_tasks, form_tasks, opens_here, opens_constant, future}
 use Rattle.std.specs.Option.{option_to_list, option_map}
 use Rattle.hir_node.specs.declared.node_id.NodeId.{NodeId}
 use Rattle.hir_scope.specs.Tops.{root_frame, body_tops, signature_tops}
@@ -134,14 +134,14 @@ module _ (s : Nodes) (chain : ℕ → Chain) where
   future_arm_task h k pat expr None ts = refl
   future_arm_task h k pat expr (Some guard) ts = refl
 
-  future_arms : (h k outer : Chain) (arms : List MatchArm) (ts : List Task) → exprs_under s (map (place_kid h k) (flat_map (arm_slots s outer) arms)) ++ future s chain (outer ++ h) k ts ≡ future s chain (outer ++ h) k (map arm_task arms ++ ts)
+  future_arms : (h k outer : Chain) (arms : List MatchArm) (ts : List Task) → exprs_under s (map (place_kid h k) (flat_map (arm_slots s outer) arms)) ++ future s chain (outer ++ h) k ts ≡ future s chain (outer ++ h) k (flat_map one_arm arms ++ ts)
   unfolding future
   future_arms h k outer [] ts = none _
   future_arms h k outer (arm ∷ arms) ts =
       two h k (arm_slots s outer arm) (flat_map (arm_slots s outer) arms) _
       ∙ (ap (λ (ps : List Place). exprs_under s (map (place_kid h k) (arm_slots s outer arm)) ++ ps) (future_arms h k outer arms ts)
-      ∙ (ap (λ (ps : List Place). exprs_under s ps ++ future s chain (outer ++ h) k (map arm_task arms ++ ts)) (moved h k [] outer (frame s (arm.pat ∷ []) ∷ []) (met_in_arm arm))
-      ∙ sym (future_arm_task (outer ++ h) k arm.pat arm.expr arm.guard (map arm_task arms ++ ts))))
+      ∙ (ap (λ (ps : List Place). exprs_under s ps ++ future s chain (outer ++ h) k (flat_map one_arm arms ++ ts)) (moved h k [] outer (frame s (arm.pat ∷ []) ∷ []) (met_in_arm arm))
+      ∙ sym (future_arm_task (outer ++ h) k arm.pat arm.expr arm.guard (flat_map one_arm arms ++ ts))))
 
   -- a type leaks nothing
   leaks_let : (ty x y : Option ℕ) → leaks (leak s) (opt t ty ++ opt e x ++ opt e y) ≡ leaks (leak s) (opt e x ++ opt e y)

@@ -27,7 +27,7 @@ use Rattle.hir_scope.specs.declared.tasks.Around.{Around}
 use Rattle.hir_scope.specs.declared.tasks.Task.{Task}
 use Rattle.hir_scope.specs.declared.tasks.Task.TheVariants as task
 use Rattle.hir_scope.specs.walk.Machine.{about}
-use Rattle.hir_scope.specs.walk.Pending.{tasks_of, arm_task, guarded_task, leave, statement_tasks, form_tasks, task_kids}
+use Rattle.hir_scope.specs.walk.Pending.{tasks_of, arm_task, one_arm, guarded_task, leave, statement_tasks, form_tasks, task_kids}
 
 -- 1. The slots of a node follow the order in which scopes are made; its calls in that order are its child calls, each once.
 
@@ -230,7 +230,7 @@ about_guarded : (pat expr : ℕ) (guard : Option ℕ) → task_kids (guarded_tas
 about_guarded pat expr None = refl
 about_guarded pat expr (Some guard) = refl
 
-about_arms : (arms : List MatchArm) → about (map arm_task arms) ≡ kids (flat_map met_in_arm arms)
+about_arms : (arms : List MatchArm) → about (flat_map one_arm arms) ≡ kids (flat_map met_in_arm arms)
 about_arms [] = refl
 about_arms (arm ∷ arms) =
     let f = about_guarded arm.pat arm.expr arm.guard in

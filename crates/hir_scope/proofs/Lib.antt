@@ -4,7 +4,8 @@ pub mod MovingLemmas
 pub mod KidLemmas
 pub mod UnderLemmas
 pub mod WeightLemmas
-pub mod OrderLemmas
+pub mod PutLemmas
+pub mod TryLemmas
 pub mod SameLemmas
 pub mod PathLemmas
 pub mod ResolveLemmas

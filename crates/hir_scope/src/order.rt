@@ -1,5 +1,5 @@
 //! The visit of an expression's children in the order in which scopes are made.
-#![tactic(auto, using(crate::proofs::OrderLemmas::orders))]
+#![tactic(auto, using(hir_node::proofs::RunLemmas::runs))]
 
 ghost use Rattle.std.specs.Prelude.{List};
 ghost use Rattle.std.specs.List.{flat_map};

@@ -1,5 +1,5 @@
 //! What a walk has still to do: tasks, and those that a node brings.
-#![tactic(auto, using(crate::proofs::OrderLemmas::puts))]
+#![tactic(auto, using(crate::proofs::PutLemmas::puts))]
 
 ghost use Rattle.std.specs.Prelude.{◌≡◌, List, [], ◌∷◌, ◌++◌, false, Err, None, OnErr, OnOk, IfSome};
 ghost use Rattle.std.specs.List.{flat_map};

@@ -1,12 +1,12 @@
-use Rattle.hir_scope.proofs.OrderLemmas.{goes_begin, goes_on, goes_end}
+use Rattle.hir_node.proofs.RunLemmas.{going_from, going_item, going_over, may_freely}
 use Rattle.hir_scope.proofs.tasks.put_each.Goals as goal
 
 pub loop-item-init : goal.loop-item-init
-loop-item-init g c = goes_begin g.T.Brings.tasks c.args.onto.now c.args.items.now
+loop-item-init g c = going_from (may_freely _)
 
 pub loop-item-preserved : goal.loop-item-preserved
 loop-item-preserved g c =
-    goes_on g.T.Brings.tasks c.args.onto.now c.args.items.now c.loop-item.onto c.loop-item.item-index c.loop-item.invariant c.put.new.onto c.item-item.result c.loop-item-test.true c.item-item.is c.put.ensures
+    going_item g.T.Brings.tasks c.args.items.now c.loop-item.item-index c.item-item.result c.loop-item-test.true c.item-item.is c.loop-item.invariant c.put.ensures
 
 pub returns : goal.returns
-returns g c = goes_end g.T.Brings.tasks c.args.onto.now c.args.items.now c.loop-item.onto c.loop-item.item-index c.loop-item.invariant c.loop-item-test.false
+returns g c = going_over g.T.Brings.tasks c.args.items.now c.loop-item.item-index c.loop-item-test.false c.loop-item.invariant
