@@ -6,6 +6,7 @@ use Rattle.std.specs.List.{flat_map, slice_get, sum_by}
 use Rattle.std.specs.Option.{option_to_list, option_map}
 use Rattle.std.proofs.lemmas.List.{length-map, length-replicate}
 use Rattle.std.proofs.lemmas.Grind.{get_or_default_zero}
+use Rattle.std.proofs.lemmas.List.Folds.{sum_by-replicate}
 use Rattle.std.proofs.lemmas.List.Sums.{sum_by-cons}
 use Rattle.hir_forest.specs.Faults.{root_nodes}
 use Rattle.hir_node.specs.ChildCalls.{Call, OnExpr, OnAnonConst, OnPat, OnType, OnLifetime, e, p, opt}
@@ -34,9 +35,9 @@ use Rattle.hir_scope.specs.Paths.{paths, frame_at}
 use Rattle.hir_scope.specs.walk.Pending.{tasks_of, task_frames, future}
 use Rattle.hir_scope.specs.walk.PlacesUnder.{exprs_under}
 use Rattle.hir_scope.specs.Scopes.{Scope, Scopes, entry_count, frame_of, IsBelow, ParentsStandEarlier}
-use Rattle.hir_scope.proofs.CountLemmas.{bound_by, calls_open, form_ones, frame_entries, sum_one, reached_total, sum_same, sum_mapped}
+use Rattle.hir_scope.proofs.CountLemmas.{bound_by, calls_open, form_ones, frame_entries, reached_total}
 use Rattle.hir_scope.proofs.EntryLemmas.{entries_of_node, entries_total, no_around, one_entry}
-use Rattle.hir_scope.proofs.MemberLemmas.{In, in_contains, contains_in, in_map}
+use Rattle.hir_scope.proofs.MemberLemmas.{In, in_contains, contains_in, in_map, sum_same, sum_mapped, sum_none, sum_ones}
 use Rattle.hir_scope.proofs.PathLemmas.{path_step}
 use Rattle.hir_scope.proofs.KidLemmas.{about_calls}
 use Rattle.hir_scope.proofs.FutureLemmas.{body_future, body_top_nodes, signature_future, signature_top_nodes, top_kids}
@@ -63,7 +64,7 @@ of_formals f (q ∷ params) = ap (λ (es : List ScopeEntry). f q.formal ++ es) (
 -- 1. What all states weigh
 
 pub scopes_weigh : (scopes : List Scope) → sum_by one (map frame_of scopes) ≡ length scopes
-scopes_weigh scopes = sum_one (map frame_of scopes) ∙ length-map scopes frame_of
+scopes_weigh scopes = sum_ones one (map frame_of scopes) (λ f i. refl) ∙ length-map scopes frame_of
 
 pub entries_weigh : (scopes : List Scope) → sum_by count_entries (map frame_of scopes) ≡ sum_by (λ (x : Scope). length x.entries) scopes
 entries_weigh scopes = sum_mapped count_entries frame_of scopes
@@ -233,11 +234,7 @@ replicate_more zero x = refl
 replicate_more (suc n) x = ap (λ xs. x ∷ xs) (replicate_more n x)
 
 pub empty_in_root : (n : ℕ) → sum_by (λ (x : Scope). length x.entries) (replicate n scope_in_root) ≡ 0
-empty_in_root zero = refl
-empty_in_root (suc n) =
-    let a = sum_by-cons (λ (x : Scope). length x.entries) scope_in_root (replicate n scope_in_root) in
-    let r = empty_in_root n in
-    omega (arith, a, r)
+empty_in_root n = let r = sum_by-replicate (λ (x : Scope). length x.entries) n scope_in_root in omega (arith, r)
 
 -- one root more is to be met, in one scope more
 pub one_root_more : (old new : Machine) (roots : List ℕ) (root id first : ℕ) (entries : List ScopeEntry) → old ≡ roots_begin roots → id ≡ length old.scopes.scopes → first ≡ 0 → entries ≡ []
@@ -270,11 +267,7 @@ roots_full most roots old met entries is none less full =
     ⊎_elim (λ l. omega (arith, long, a, l, less)) (λ l. omega (arith, b, d, e, f, l)) full
 
 bound_roots : (s : Nodes) (roots : List ℕ) → sum_by (bound_by s) (map node.Expr roots) ≡ 0
-bound_roots s [] = refl
-bound_roots s (root ∷ roots) =
-    let a = sum_by-cons (bound_by s) (node.Expr root) (map node.Expr roots) in
-    let r = bound_roots s roots in
-    omega (arith, a, r)
+bound_roots s roots = sum_mapped (bound_by s) node.Expr roots ∙ sum_none (λ root. bound_by s (node.Expr root)) roots (λ root. refl)
 
 module _ (c : Contents) where
   abbrev t : Nodes

@@ -11,12 +11,12 @@ use Rattle.hir_scope.specs.Built.{expr_count, is_expr}
 use Rattle.hir_scope.specs.Slots.{Slot, slots, block_constants}
 use Rattle.hir_scope.specs.Chains.{Place, place_kid, places_of_kids}
 use Rattle.hir_scope.specs.walk.PlacesUnder.{places_under, exprs_under}
-use Rattle.hir_scope.proofs.MemberLemmas.{In, contains_in}
+use Rattle.hir_scope.proofs.MemberLemmas.{In, contains_in, sum_flat, sum_same, sum_mapped, sum_plus, sum_none, sum_ones}
 use Rattle.hir_scope.proofs.UnderLemmas.{under_at, kid_there, kid_lower}
 use Rattle.hir_scope.proofs.KidLemmas.{kids_in, slots_kids}
 use Rattle.hir_scope.specs.walk.Machine.{total, about, one, count_entries}
 use Rattle.hir_scope.proofs.WeightLemmas.{total_at}
-use Rattle.std.proofs.lemmas.List.Concat.{flat_map-append}
+use Rattle.std.proofs.lemmas.List.Concat.{flat_map-append, length-flat_map}
 use Rattle.hir_path.specs.declared.bound.TypeBound.{TypeBound}
 use Rattle.hir_path.specs.declared.bound.TypeBound.TheVariants as bound
 use Rattle.hir_path.specs.declared.bound.UseArgRef.{UseArgRef}
@@ -47,45 +47,9 @@ use Rattle.hir_scope.specs.Counts.{count_if_there, statement_scopes, form_scopes
 use Rattle.hir_scope.specs.Frames.{Frame, binds, frame}
 use Rattle.hir_scope.specs.Forms.{ScopingForm, expr_form, type_form}
 use Rattle.hir_scope.specs.Forms as form
-use Rattle.hir_scope.specs.walk.Pending.{tasks_of, arm_task, one_arm, guarded_task, leave, statement_tasks, form_tasks, opens_here, opens_constant, task_kids, task_frames}
+use Rattle.hir_scope.specs.walk.Pending.{task_of, tasks_of, one_arm, guarded_task, leave, statement_tasks, form_tasks, opens_here, opens_constant, task_kids, task_frames}
 
 -- 1. Sums over what is reached, however it is listed: by nodes, by places, or told from each node by its kids.
-
--- Sums over lists
-
-pub sum_flat : {X Y : Type 0} (f : Y → ℕ) (g : X → List Y) (xs : List X) → sum_by f (flat_map g xs) ≡ sum_by (λ x. sum_by f (g x)) xs
-sum_flat f g [] = refl
-sum_flat f g (x ∷ xs) =
-    let a = sum_by-append f (g x) (flat_map g xs) in
-    let b = sum_flat f g xs in
-    let d = sum_by-cons (λ y. sum_by f (g y)) x xs in
-    omega (arith, a, b, d)
-
-pub sum_same : {X : Type 0} (f g : X → ℕ) (xs : List X) → ((x : X) → In x xs → f x ≡ g x) → sum_by f xs ≡ sum_by g xs
-sum_same f g [] h = refl
-sum_same f g (x ∷ xs) h =
-    let a = sum_by-cons f x xs in
-    let b = sum_by-cons g x xs in
-    let d = h x (inl refl) in
-    let r = sum_same f g xs (λ y i. h y (inr i)) in
-    omega (arith, a, b, d, r)
-
-pub sum_mapped : {X Y : Type 0} (f : Y → ℕ) (g : X → Y) (xs : List X) → sum_by f (map g xs) ≡ sum_by (λ x. f (g x)) xs
-sum_mapped f g [] = refl
-sum_mapped f g (x ∷ xs) =
-    let a = sum_by-cons f (g x) (map g xs) in
-    let b = sum_by-cons (λ y. f (g y)) x xs in
-    let r = sum_mapped f g xs in
-    omega (arith, a, b, r)
-
-pub sum_plus : {X : Type 0} (f g : X → ℕ) (xs : List X) → sum_by (λ x. f x + g x) xs ≡ sum_by f xs + sum_by g xs
-sum_plus f g [] = refl
-sum_plus f g (x ∷ xs) =
-    let a = sum_by-cons f x xs in
-    let b = sum_by-cons g x xs in
-    let d = sum_by-cons (λ y. f y + g y) x xs in
-    let r = sum_plus f g xs in
-    omega (arith, a, b, d, r)
 
 abbrev pub one_if : Bool → ℕ
 one_if true = 1
@@ -171,13 +135,6 @@ exprs_counted s fall listing tops nodes same there there_too =
 abbrev pub form_frames : Nodes → Around → ScopingForm → List Frame
 form_frames s around x = (opens_here s x ++ opens_constant x) ++ flat_map (task_frames s) (form_tasks around x)
 
-pub sum_one : (fs : List Frame) → sum_by one fs ≡ length fs
-sum_one [] = refl
-sum_one (f ∷ fs) =
-    let a = sum_by-cons one f fs in
-    let r = sum_one fs in
-    omega (arith, a, r)
-
 frames_split : (s : Nodes) (w : Frame → ℕ) (around : Around) (x : ScopingForm) → sum_by w (form_frames s around x) ≡ (sum_by w (opens_here s x) + sum_by w (opens_constant x)) + sum_by (λ t. sum_by w (task_frames s t)) (form_tasks around x)
 frames_split s w around x =
     let a = sum_by-append w (opens_here s x ++ opens_constant x) (flat_map (task_frames s) (form_tasks around x)) in
@@ -192,13 +149,12 @@ ones s x = sum_by one (task_frames s x)
 
 module _ (s : Nodes) where
   -- the tasks of calls open nothing
+  call_opens : (w : Frame → ℕ) (c : Call) → sum_by (λ x. sum_by w (task_frames s x)) (task_of c) ≡ 0
+  call_opens w (OnLifetime x) = refl
+  call_opens w _ = refl
+
   pub calls_open : (w : Frame → ℕ) (cs : List Call) → sum_by (λ x. sum_by w (task_frames s x)) (tasks_of cs) ≡ 0
-  calls_open w [] = refl
-  calls_open w (OnExpr x ∷ cs) = let r = calls_open w cs in sum_by-cons (λ y. sum_by w (task_frames s y)) (task.Expr x) (tasks_of cs) ∙ omega (arith, r)
-  calls_open w (OnAnonConst x ∷ cs) = let r = calls_open w cs in sum_by-cons (λ y. sum_by w (task_frames s y)) (task.Constant x) (tasks_of cs) ∙ omega (arith, r)
-  calls_open w (OnPat x ∷ cs) = let r = calls_open w cs in sum_by-cons (λ y. sum_by w (task_frames s y)) (task.Pat x) (tasks_of cs) ∙ omega (arith, r)
-  calls_open w (OnType x ∷ cs) = let r = calls_open w cs in sum_by-cons (λ y. sum_by w (task_frames s y)) (task.TypeRef x) (tasks_of cs) ∙ omega (arith, r)
-  calls_open w (OnLifetime x ∷ cs) = calls_open w cs
+  calls_open w cs = sum_flat (λ x. sum_by w (task_frames s x)) task_of cs ∙ sum_none (λ c. sum_by (λ x. sum_by w (task_frames s x)) (task_of c)) cs (call_opens w)
 
   statement_ones : (x : Statement) → sum_by (ones s) (statement_tasks x) ≡ statement_scopes x
   statement_ones (statement.Let pat ty x y) =
@@ -218,12 +174,7 @@ module _ (s : Nodes) where
   guarded_one pat expr (Some guard) = refl
 
   arms_ones : (arms : List MatchArm) → sum_by (ones s) (flat_map one_arm arms) ≡ length arms
-  arms_ones [] = refl
-  arms_ones (arm ∷ arms) =
-      let a = sum_by-cons (ones s) (arm_task arm) (flat_map one_arm arms) in
-      let b = guarded_one arm.pat arm.expr arm.guard in
-      let r = arms_ones arms in
-      omega (arith, a, b, r)
+  arms_ones arms = sum_flat (ones s) one_arm arms ∙ sum_ones (λ arm. sum_by (ones s) (one_arm arm)) arms (λ arm i. guarded_one arm.pat arm.expr arm.guard)
 
   constants_one : (id : Option ℕ) → sum_by one (block_constants id) ≡ count_if_there id
   constants_one None = refl
@@ -358,12 +309,7 @@ module _ (s : Nodes) where
   rest_of x = 0
 
   pub frame_entries : (ps : List ℕ) → length (frame s ps).entries ≡ sum_by (λ q. length (binds s q)) ps
-  frame_entries [] = refl
-  frame_entries (q ∷ ps) =
-      let a = length-append (binds s q) (flat_map (binds s) ps) in
-      let b = sum_by-cons (λ x. length (binds s x)) q ps in
-      let r = frame_entries ps in
-      omega (arith, a, b, r)
+  frame_entries ps = length-flat_map (binds s) ps
 
   one_frame : (q : ℕ) → length (frame s (q ∷ [])).entries ≡ length (binds s q)
   one_frame q = let r = frame_entries (q ∷ []) in omega (arith, r)
@@ -381,16 +327,15 @@ module _ (s : Nodes) where
       ∙ sum_plus weights_of rest_of ts)
 
   -- of calls, what the patterns among them bind
+  call_rest : (c : Call) → sum_by rest_of (task_of c) ≡ sum_by (λ q. length (binds s q)) (pat_of_call c)
+  call_rest (OnLifetime x) = refl
+  call_rest _ = refl
+
   calls_rest : (cs : List Call) → sum_by rest_of (tasks_of cs) ≡ sum_by (λ q. length (binds s q)) (flat_map pat_of_call cs)
-  calls_rest [] = refl
-  calls_rest (OnExpr x ∷ cs) = let r = calls_rest cs in sum_by-cons rest_of (task.Expr x) (tasks_of cs) ∙ omega (arith, r)
-  calls_rest (OnAnonConst x ∷ cs) = let r = calls_rest cs in sum_by-cons rest_of (task.Constant x) (tasks_of cs) ∙ omega (arith, r)
-  calls_rest (OnPat x ∷ cs) =
-      let r = calls_rest cs in
-      let b = sum_by-cons (λ q. length (binds s q)) x (flat_map pat_of_call cs) in
-      sum_by-cons rest_of (task.Pat x) (tasks_of cs) ∙ omega (arith, r, b)
-  calls_rest (OnType x ∷ cs) = let r = calls_rest cs in sum_by-cons rest_of (task.TypeRef x) (tasks_of cs) ∙ omega (arith, r)
-  calls_rest (OnLifetime x ∷ cs) = calls_rest cs
+  calls_rest cs =
+      sum_flat rest_of task_of cs
+      ∙ (sum_same (λ c. sum_by rest_of (task_of c)) (λ c. sum_by (λ q. length (binds s q)) (pat_of_call c)) cs (λ c i. call_rest c)
+      ∙ sym (sum_flat (λ q. length (binds s q)) pat_of_call cs))
 
   calls_none : (cs : List Call) → none cs → sum_by rest_of (tasks_of cs) ≡ 0
   calls_none cs h = calls_rest cs ∙ ap (λ (ps : List ℕ). sum_by (λ q. length (binds s q)) ps) h
@@ -409,24 +354,14 @@ module _ (s : Nodes) where
   statement_rest (statement.Item item.Other) = refl
 
   statements_rest : (xs : List Statement) → sum_by rest_of (flat_map statement_tasks xs) ≡ 0
-  statements_rest [] = refl
-  statements_rest (x ∷ xs) =
-      let a = sum_by-append rest_of (statement_tasks x) (flat_map statement_tasks xs) in
-      let b = statement_rest x in
-      let r = statements_rest xs in
-      omega (arith, a, b, r)
+  statements_rest xs = sum_flat rest_of statement_tasks xs ∙ sum_none (λ x. sum_by rest_of (statement_tasks x)) xs statement_rest
 
   guarded_rest : (pat expr : ℕ) (guard : Option ℕ) → rest_of (guarded_task pat expr guard) ≡ 0
   guarded_rest pat expr None = refl
   guarded_rest pat expr (Some guard) = refl
 
   arms_rest : (arms : List MatchArm) → sum_by rest_of (flat_map one_arm arms) ≡ 0
-  arms_rest [] = refl
-  arms_rest (arm ∷ arms) =
-      let a = sum_by-cons rest_of (arm_task arm) (flat_map one_arm arms) in
-      let b = guarded_rest arm.pat arm.expr arm.guard in
-      let r = arms_rest arms in
-      omega (arith, a, b, r)
+  arms_rest arms = sum_flat rest_of one_arm arms ∙ sum_none (λ arm. sum_by rest_of (one_arm arm)) arms (λ arm. guarded_rest arm.pat arm.expr arm.guard)
 
   constants_empty : (id : Option ℕ) → sum_by count_entries (block_constants id) ≡ 0
   constants_empty None = refl

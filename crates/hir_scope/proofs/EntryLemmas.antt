@@ -7,7 +7,7 @@ use Rattle.std.proofs.lemmas.Bool.{ltb-true}
 use Rattle.std.proofs.lemmas.List.Sums.{sum_by-cons}
 use Rattle.std.proofs.lemmas.List.Concat.{length-flat_map}
 use Rattle.std.proofs.lemmas.List.Sorted.{sum_by-IsPermutation}
-use Rattle.hir_node.specs.ChildCalls.{Call, OnExpr, OnAnonConst, OnPat, OnType, OnLifetime, kids, pat_of_call, pat_calls}
+use Rattle.hir_node.specs.ChildCalls.{Call, OnLifetime, kid, kids, pat_of_call, pat_calls}
 use Rattle.hir_node.specs.OtherIds.{pat_bindings}
 use Rattle.hir_node.specs.declared.binding.Binding.{Binding}
 use Rattle.hir_node.specs.declared.expr.Expr.{Expr}
@@ -28,9 +28,9 @@ use Rattle.hir_scope.specs.walk.Machine.{about, count_entries, total, node_frame
 use Rattle.hir_scope.specs.walk.Pending.{form_tasks}
 use Rattle.hir_scope.specs.Slots.{slots}
 use Rattle.hir_scope.specs.declared.tasks.Around.{Around}
-use Rattle.hir_scope.proofs.CountLemmas.{MeetsNone, expr_meets, type_meets, bound_by, form_entries, turn_entries, form_frames, sum_same, sum_plus}
+use Rattle.hir_scope.proofs.CountLemmas.{MeetsNone, expr_meets, type_meets, bound_by, form_entries, turn_entries, form_frames}
 use Rattle.hir_scope.proofs.KidLemmas.{kids_of_form, kids_in, slots_kids, about_form}
-use Rattle.hir_scope.proofs.MemberLemmas.{In, contains_in, flat_map_in}
+use Rattle.hir_scope.proofs.MemberLemmas.{In, contains_in, flat_map_in, sum_flat, sum_same, sum_plus, sum_ones}
 use Rattle.hir_scope.proofs.WeightLemmas.{total_at}
 
 -- 1. Each binding of a pattern is there, and is one entry
@@ -57,18 +57,10 @@ read (x ∷ xs) (suc i) h = read xs i (omega (arith, h))
 pub one_entry : (s : Nodes) (b : ℕ) → b < length s.bindings → length (entry_at s b) ≡ 1
 one_entry s b h = let x = read s.bindings b h in ap (λ (o : Option Binding). length (all_of (λ (y : Binding). entry_of b y ∷ []) o)) x.1
 
-each_one : {X : Type 0} (f : X → ℕ) (xs : List X) → ((x : X) → In x xs → f x ≡ 1) → sum_by f xs ≡ length xs
-each_one f [] h = refl
-each_one f (x ∷ xs) h =
-    let a = sum_by-cons f x xs in
-    let b = h x (inl refl) in
-    let r = each_one f xs (λ y i. h y (inr i)) in
-    omega (arith, a, b, r)
-
 binds_length : (s : Nodes) → PatsSound s → (id : ℕ) → length (binds s id) ≡ length (bindings_in s id)
 binds_length s sound id =
     length-flat_map (entry_at s) (bindings_in s id)
-    ∙ each_one (λ b. length (entry_at s b)) (bindings_in s id) (λ b i.
+    ∙ sum_ones (λ b. length (entry_at s b)) (bindings_in s id) (λ b i.
     let q = flat_map_in (bindings_at s) b (pats s id) i in
     one_entry s b (binding_known s sound q.0 b q.2))
 
@@ -104,16 +96,15 @@ module _ (s : Nodes) (fall : KidsFall s) where
     at (Some x) = type_meets x
 
   -- over calls, what their patterns bind
+  call_bound : (c : Call) → sum_by (bound_by s) (kid c) ≡ sum_by (λ q. length (binds s q)) (pat_of_call c)
+  call_bound (OnLifetime x) = refl
+  call_bound _ = refl
+
   calls_bound : (cs : List Call) → sum_by (bound_by s) (kids cs) ≡ sum_by (λ q. length (binds s q)) (flat_map pat_of_call cs)
-  calls_bound [] = refl
-  calls_bound (OnExpr x ∷ cs) = let r = calls_bound cs in sum_by-cons (bound_by s) (node.Expr x) (kids cs) ∙ omega (arith, r)
-  calls_bound (OnAnonConst x ∷ cs) = let r = calls_bound cs in sum_by-cons (bound_by s) (node.Expr x) (kids cs) ∙ omega (arith, r)
-  calls_bound (OnPat x ∷ cs) =
-      let r = calls_bound cs in
-      let b = sum_by-cons (λ q. length (binds s q)) x (flat_map pat_of_call cs) in
-      sum_by-cons (bound_by s) (node.Pat x) (kids cs) ∙ omega (arith, r, b)
-  calls_bound (OnType x ∷ cs) = let r = calls_bound cs in sum_by-cons (bound_by s) (node.TypeRef x) (kids cs) ∙ omega (arith, r)
-  calls_bound (OnLifetime x ∷ cs) = calls_bound cs
+  calls_bound cs =
+      sum_flat (bound_by s) kid cs
+      ∙ (sum_same (λ c. sum_by (bound_by s) (kid c)) (λ c. sum_by (λ q. length (binds s q)) (pat_of_call c)) cs (λ c i. call_bound c)
+      ∙ sym (sum_flat (λ q. length (binds s q)) pat_of_call cs))
 
   pat_empty : (id : ℕ) → entries_of_node s (node.Pat id) ≡ 0
   pat_empty id = at (slice_get s.pats id) where

@@ -14,10 +14,10 @@ use Rattle.hir_scope.specs.Forms.{form_of}
 use Rattle.hir_scope.specs.Frames.{Chain}
 use Rattle.hir_scope.specs.Slots.{Slot, slots}
 use Rattle.hir_scope.specs.Chains.{Place, place_kid, places_of_kids, Stands, top, kid, HasChain, within_own}
-use Rattle.hir_scope.proofs.MemberLemmas.{In, in_contains, contains_in, get_in}
+use Rattle.hir_scope.proofs.MemberLemmas.{In, in_contains, contains_in, get_in, sum_mapped}
 use Rattle.hir_scope.proofs.KidLemmas.{kids_in, slots_kids}
 use Rattle.hir_scope.proofs.UnderLemmas.{kid_of_place, under_kid, stands_reached, stands_there}
-use Rattle.hir_scope.proofs.CountLemmas.{one_if, sum_mapped}
+use Rattle.hir_scope.proofs.CountLemmas.{one_if}
 
 -- 1. How often a node stands in a list
 

@@ -15,6 +15,7 @@ use Rattle.hir_scope.specs.declared.tasks.Task.{Task}
 use Rattle.hir_scope.specs.Forms.{form_of, ScopingForm}
 use Rattle.hir_scope.specs.Slots.{slots}
 use Rattle.hir_scope.specs.walk.Pending.{form_tasks, task_kids, tasks_of, statement_tasks, leave, task_frames, opens_here, opens_constant}
+use Rattle.hir_scope.proofs.MemberLemmas.{sum_flat}
 use Rattle.hir_scope.proofs.KidLemmas.{kids_of_form, kids_in, slots_kids, about_form}
 use Rattle.hir_scope.specs.walk.Machine.{about, total_step, total, left, node_tasks, node_frames, weight_left, task_turns, node_turns, turns_left}
 use Rattle.hir_scope.specs.declared.tasks.Task.TheVariants as task
@@ -96,14 +97,6 @@ module _ (v : Task → ℕ) (a b : Around) (same : v (leave a) ≡ v (leave b)) 
 
 -- Frames
 
-pub frames_sum : (s : Nodes) (w : Frame → ℕ) (ts : List Task) → sum_by w (flat_map (task_frames s) ts) ≡ sum_by (λ (t : Task). sum_by w (task_frames s t)) ts
-frames_sum s w [] = refl
-frames_sum s w (t ∷ ts) =
-    let r = frames_sum s w ts in
-    let a = sum_by-append w (task_frames s t) (flat_map (task_frames s) ts) in
-    let b = sum_by-cons (λ (t : Task). sum_by w (task_frames s t)) t ts in
-    omega (arith, r, a, b)
-
 module _ (s : Nodes) (fall : KidsFall s) where
   -- a node is met: the frames that it opens are there, those of its tasks are still to come
   pub weight_met : (w : Frame → ℕ) (a : Around) (n : NodeId) (ts : List Task) → Has s n → let x = form_of s n in
@@ -113,7 +106,7 @@ module _ (s : Nodes) (fall : KidsFall s) where
       let v : Task → ℕ = λ t. sum_by w (task_frames s t) in
       let met = left_met s fall (λ (m : NodeId). sum_by w (node_frames s m)) v a n ts h in
       let own = sum_by-append w (opens_here s x ++ opens_constant x) (flat_map (task_frames s) (node_tasks s n)) in
-      let inside = frames_sum s w (node_tasks s n) in
+      let inside = sum_flat w (task_frames s) (node_tasks s n) in
       let same = around_same v a (record { here = 0; constant = 0 }) refl x in
       omega (arith, met, own, inside, same)
 
