@@ -1,16 +1,16 @@
 -- The code of a closure, and the chains of what is in it.
 use Rattle.std.proofs.Common.{◌≡◌, ◌<◌, ℕ, List, [], ◌∷◌, ◌++◌, Option, Some, None, map, refl, sym, ap, ◌∙◌, append_assoc, Contains, arith, subst, zero, suc, length, ◌-◌}
 use Rattle.std.specs.List.{flat_map, slice_get, cons_option, AllByRecursion}
-use Rattle.std.specs.List.Sorted.{IsPermutation}
 use Rattle.std.proofs.Math.Path.{fun_ext}
-use Rattle.std.proofs.lemmas.List.{append-nil}
-use Rattle.std.proofs.lemmas.List.Concat.{flat_map-append}
 use Rattle.std.proofs.lemmas.List.Sorted.{IsPermutation-sym, Contains-permutation}
 use Rattle.hir_node.specs.ChildCalls.{Call, OnExpr, OnAnonConst, OnPat, OnType, OnLifetime}
 use Rattle.hir_node.specs.declared.node_id.NodeId.{NodeId}
 use Rattle.hir_node.specs.declared.node_id.NodeId.TheVariants as node
 use Rattle.hir_faults.specs.Nodes.{Nodes, Has, kids_of}
-use Rattle.hir_faults.specs.Down.{rank, KidsFall, value_within, value, AgreeOn, AsksKids}
+use Rattle.hir_faults.specs.Down.{rank, KidsFall, AgreeOn, AsksKids}
+use Rattle.hir_faults.proofs.DownLemmas.{value_at, parent_there}
+use Rattle.hir_scope.proofs.KidLemmas.{kids_in, slots_kids, slots_follow}
+use Rattle.hir_scope.proofs.UnderLemmas.{slots_agree}
 use Rattle.hir_scope.specs.Forms.{form_of, ScopingForm, form_at, expr_form}
 use Rattle.hir_scope.specs.Slots.{Base, Here, Const, Slot, slot_kid, call_kids, slots, own_frame}
 use Rattle.hir_captures.specs.declared.unread.Task.{Task}
@@ -37,29 +37,10 @@ use Rattle.hir_captures.specs.Captures.{IsClosure, IsOn, captured, meant_behind}
 
 -- The code under a node
 
-abbrev pub kids_in : List Slot → List NodeId
-kids_in xs = map (λ (x : Slot). x.kid) xs
-
--- what laws say of the nodes of a store
-pub record Laws (s : Nodes) : Type 0 where
-  pub fall : KidsFall s
-  pub parents : (n k : NodeId) → Contains (kids_of s n) k → Has s n
-  pub kids : (n : NodeId) → IsPermutation (kids_of s n) (kids_in (slots s n))
-  pub order : (n : NodeId) → map slot_kid (slots s n) ≡ flat_map call_kids (met_in_form (form_of s n))
-
 abbrev pub Codes : Type 0
 Codes = NodeId → Option ℕ → List Spot
 
 module _ (f g : Codes) where
-  agree_at : (xs : List NodeId) → AgreeOn f g xs → (x : NodeId) → Contains xs x → f x ≡ g x
-  agree_at [] h x (k, lt, is) = absurd (omega (arith, lt))
-  agree_at (y ∷ xs) h x (zero, lt, is) = subst (λ z. f z ≡ g z) is h.0
-  agree_at (y ∷ xs) h x (suc k, lt, is) = agree_at xs h.1 x (k, omega (arith, lt), is)
-
-  agree_on : (xs : List NodeId) → ((x : NodeId) → Contains xs x → f x ≡ g x) → AgreeOn f g xs
-  agree_on [] h = tt
-  agree_on (x ∷ xs) h = (h x (0, omega arith, refl), agree_on xs (λ y c. h y (suc c.0, omega (arith, c.1), c.2)))
-
   slots_read : (a : Option ℕ) (xs : List Slot) → AgreeOn f g (kids_in xs) → flat_map (kid_code f a) xs ≡ flat_map (kid_code g a) xs
   slots_read a [] h = refl
   slots_read a (x ∷ xs) h =
@@ -67,35 +48,17 @@ module _ (f g : Codes) where
       let rest = slots_read a xs h.1 in
       cc
 
-module _ (s : Nodes) (laws : Laws s) where
+module _ (s : Nodes) where
   pub kid_there : (n k : NodeId) → Contains (kids_in (slots s n)) k → Contains (kids_of s n) k
-  kid_there n k m = Contains-permutation (kids_in (slots s n)) (kids_of s n) k (IsPermutation-sym (kids_of s n) (kids_in (slots s n)) (laws.kids n)) m
+  kid_there n k m = Contains-permutation (kids_in (slots s n)) (kids_of s n) k (IsPermutation-sym (kids_of s n) (kids_in (slots s n)) (slots_kids s n)) m
 
   code_asks : AsksKids s (code_step s)
-  code_asks f g n h =
-      let same = agree_on f g (kids_in (slots s n)) (λ x m. agree_at f g (kids_of s n) h x (kid_there n x m)) in
-      fun_ext (λ a. ap (λ (xs : List Spot). spot n a ∷ xs) (slots_read f g (assignment_at s n a) (slots s n) same))
-
-  abbrev within : ℕ → Codes
-  within depth = value_within (code_step s) (λ assignment. []) depth
-
-  -- a greater depth changes nothing
-  stable : (d e : ℕ) (n : NodeId) → rank s n < d → rank s n < e → within d n ≡ within e n
-  stable zero e n v w = absurd (omega arith)
-  stable (suc d) zero n v w = absurd (omega arith)
-  stable (suc d) (suc e) n v w =
-      code_asks (within d) (within e) n (agree_on (within d) (within e) (kids_of s n) (λ k m.
-      let low = laws.fall.lower n (laws.parents n k m) k m in
-      stable d e k (omega arith) (omega arith)))
+  code_asks f g n h = fun_ext (λ a. ap (λ (xs : List Spot). spot n a ∷ xs) (slots_read f g (assignment_at s n a) (slots s n) (slots_agree f g s n h)))
 
   -- the code under a node is its step's, at the code under its kids
-  pub code_at : (n : NodeId) (a : Option ℕ) → code_under s n a ≡ code_step s (code_under s) n a
-  unfolding code_under value
-  code_at n a =
-      ap (λ (w : Option ℕ → List Spot). w a)
-      (code_asks (within (rank s n)) (code_under s) n (agree_on (within (rank s n)) (code_under s) (kids_of s n) (λ k m.
-      let low = laws.fall.lower n (laws.parents n k m) k m in
-      stable (rank s n) (suc (rank s k)) k low (omega arith))))
+  pub code_at : KidsFall s → (n : NodeId) (a : Option ℕ) → code_under s n a ≡ code_step s (code_under s) n a
+  unfolding code_under
+  code_at fall n a = ap (λ (w : Option ℕ → List Spot). w a) (value_at s fall (code_step s) (λ assignment. []) code_asks n)
 
 -- The code of kids, by their calls
 
@@ -122,8 +85,8 @@ module _ (f : Codes) (a : Option ℕ) where
   of_calls (OnType id ∷ cs) = of_calls cs
   of_calls (OnLifetime id ∷ cs) = of_calls cs
 
-  of_node : (s : Nodes) → Laws s → (n : NodeId) → flat_map (kid_code f a) (slots s n) ≡ flat_map (call_code f a) (met_in_form (form_of s n))
-  of_node s laws n = of_slots (slots s n) ∙ (ap (flat_map at_base) (laws.order n) ∙ of_calls (met_in_form (form_of s n)))
+  of_node : (s : Nodes) (n : NodeId) → flat_map (kid_code f a) (slots s n) ≡ flat_map (call_code f a) (met_in_form (form_of s n))
+  of_node s n = of_slots (slots s n) ∙ (ap (flat_map at_base) (slots_follow s n) ∙ of_calls (met_in_form (form_of s n)))
 
 -- the code of tasks is that of their calls
 task_code : (s : Nodes) (a : Option ℕ) (cs : List Call) → code_of s (tasks_of a cs) ≡ flat_map (call_code (code_under s) a) cs
@@ -136,11 +99,11 @@ task_code s a (OnType id ∷ cs) = task_code s a cs
 task_code s a (OnLifetime id ∷ cs) = task_code s a cs
 
 -- reading a node leaves the code of its kids
-pub code_read : (s : Nodes) → Laws s → (n : NodeId) (a : Option ℕ) → code_under s n a ≡ spot n a ∷ code_of s (tasks_of (assignment_at s n a) (met_in_form (form_of s n)))
-code_read s laws n a =
-    code_at s laws n a
+pub code_read : (s : Nodes) → KidsFall s → (n : NodeId) (a : Option ℕ) → code_under s n a ≡ spot n a ∷ code_of s (tasks_of (assignment_at s n a) (met_in_form (form_of s n)))
+code_read s fall n a =
+    code_at s fall n a
     ∙ ap (λ (xs : List Spot). spot n a ∷ xs)
-    (of_node (code_under s) (assignment_at s n a) s laws n ∙ sym (task_code s (assignment_at s n a) (met_in_form (form_of s n))))
+    (of_node (code_under s) (assignment_at s n a) s n ∙ sym (task_code s (assignment_at s n a) (met_in_form (form_of s n))))
 
 -- What tasks name is there
 
@@ -174,11 +137,11 @@ tasks_there s a (OnType id ∷ cs) h = tasks_there s a cs h
 tasks_there s a (OnLifetime id ∷ cs) h = tasks_there s a cs h
 
 -- the kids of a node are there
-pub kids_there : (s : Nodes) → Laws s → (n : NodeId) (a : Option ℕ) (rest : List Task) → Has s n → AreThere s rest → AreThere s (tasks_of a (met_in_form (form_of s n)) ++ rest)
-kids_there s laws n a rest h r =
-    let have = slots_there s a (slots s n) (λ k m. laws.fall.there n h k (kid_there s laws n k m)) in
+pub kids_there : (s : Nodes) → KidsFall s → (n : NodeId) (a : Option ℕ) (rest : List Task) → Has s n → AreThere s rest → AreThere s (tasks_of a (met_in_form (form_of s n)) ++ rest)
+kids_there s fall n a rest h r =
+    let have = slots_there s a (slots s n) (λ k m. fall.there n h k (kid_there s n k m)) in
     there_two s (tasks_of a (met_in_form (form_of s n))) rest
-    (tasks_there s a (met_in_form (form_of s n)) (subst (HaveNodes s) (of_node itself a s laws n) have)) r
+    (tasks_there s a (met_in_form (form_of s n)) (subst (HaveNodes s) (of_node itself a s n) have)) r
 
 -- 2. What is in a closure's code stands on the closure's chain: the chains of its uses are some frames on it.
 
@@ -238,7 +201,7 @@ module _ (s : Nodes) (tops : List Place) (from : List NodeId) (base : Chain) whe
         one Here e = h x (0, omega arith, refl) e (of_pattern x.kid a) (target_of x.kid a t)
         one Const e = tt
 
-  module _ (laws : Laws s) (go : (n k : NodeId) → Reached s from n → Contains (kids_of s n) k → Reached s from k) where
+  module _ (fall : KidsFall s) (go : (n k : NodeId) → Reached s from n → Contains (kids_of s n) k → Reached s from k) where
     -- a kid in the code stands there too
     kid_on : (n : NodeId) → On n → (x : Slot) → Contains (slots s n) x → x.base ≡ Here → On x.kid
     kid_on n on x m here =
@@ -248,7 +211,7 @@ module _ (s : Nodes) (tops : List Place) (from : List NodeId) (base : Chain) whe
           at = place x;
           stands = kid on.stands (contains_map place (slots s at.node) x (subst (λ (k : NodeId). Contains (slots s k) x) (sym on.is_node) m));
           is_node = refl;
-          reached = go n x.kid on.reached (kid_there s laws n x.kid (contains_map (λ (y : Slot). y.kid) (slots s n) x m));
+          reached = go n x.kid on.reached (kid_there s n x.kid (contains_map (λ (y : Slot). y.kid) (slots s n) x m));
           on = (
             x.add ++ on.on.0,
             ap (λ (b : Base). x.add ++ on_base b at.here (x.constants ++ at.constant)) here
@@ -259,11 +222,11 @@ module _ (s : Nodes) (tops : List Place) (from : List NodeId) (base : Chain) whe
     code_on : (d : ℕ) (n : NodeId) (a : Option ℕ) → rank s n < d → On n → TargetOn a → SpotsOn (code_under s n a)
     code_on zero n a l on t = absurd (omega (arith, l))
     code_on (suc d) n a l on t =
-        subst SpotsOn (sym (code_at s laws n a)) (
+        subst SpotsOn (sym (code_at s fall n a)) (
           (on, t),
           kids_on (code_under s) (assignment_at s n a) (assignment_on n a on t) (slots s n) (λ x m here b u.
-              let among = kid_there s laws n x.kid (contains_map (λ (y : Slot). y.kid) (slots s n) x m) in
-              let low = laws.fall.lower n (laws.parents n x.kid among) x.kid among in
+              let among = kid_there s n x.kid (contains_map (λ (y : Slot). y.kid) (slots s n) x m) in
+              let low = fall.lower n (parent_there s n x.kid among) x.kid among in
               code_on d x.kid b (omega (arith, l, low)) (kid_on n on x m here) u),
         )
 
@@ -317,7 +280,7 @@ own_on _ here = ([], refl)
 is_on_two : (a b c : Chain) → IsOn a b → IsOn b c → IsOn a c
 is_on_two a b c p q = (q.0 ++ p.0, q.1 ∙ (ap (λ (x : Chain). q.0 ++ x) p.1 ∙ sym (append_assoc q.0 p.0 a)))
 
-module _ (c : Contents) (tops : List Place) (from : List NodeId) (laws : Laws c.nodes) (go : (n k : NodeId) → Reached c.nodes from n → Contains (kids_of c.nodes n) k → Reached c.nodes from k)
+module _ (c : Contents) (tops : List Place) (from : List NodeId) (fall : KidsFall c.nodes) (go : (n k : NodeId) → Reached c.nodes from n → Contains (kids_of c.nodes n) k → Reached c.nodes from k)
     (one : (expr : ℕ) (x y : Chain) → HasChain c.nodes tops expr x → HasChain c.nodes tops expr y → x ≡ y)
     (closure : ℕ) (is : IsClosure (slice_get c.nodes.exprs closure)) (reached : Reached c.nodes from (node.Expr closure)) where
   abbrev Chains : Type 0
@@ -332,7 +295,7 @@ module _ (c : Contents) (tops : List Place) (from : List NodeId) (laws : Laws c.
       let has = are closure reached in
       let same : chain closure ≡ has.at.here = has.is_chain ∙ no_own (slice_get c.nodes.exprs closure) is has.at.here in
       let on : StandsOn c.nodes tops from (chain closure) (node.Expr closure) = record { at = has.at; stands = has.stands; is_node = has.is_node; reached = reached; on = ([], sym same) } in
-      uses_on c tops from (chain closure) (code_under c.nodes (node.Expr closure) None) (all_code_on c.nodes tops from (chain closure) laws go (node.Expr closure) on)
+      uses_on c tops from (chain closure) (code_under c.nodes (node.Expr closure) None) (all_code_on c.nodes tops from (chain closure) fall go (node.Expr closure) on)
 
   chains_on : (chain : Chains) → AreTheirs chain → (us : List Use) → UsesOn c.nodes tops from (chain closure) us → AllByRecursion (λ (u : Use). IsOn (chain closure) (chain u.expr)) us
   chains_on chain are [] h = tt

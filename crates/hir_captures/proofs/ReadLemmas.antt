@@ -2,7 +2,7 @@
 use Rattle.std.proofs.Common.{◌≡◌, ℕ, List, ◌∷◌, refl, ap, ◌∙◌, subst, Option, ◌<◌, [], ◌++◌, Some, None, fold, length, sym, arith}
 use Rattle.hir_node.specs.ChildCalls.{Call, pat_calls}
 use Rattle.hir_node.specs.Runs.{Runs, no_call, a_call}
-use Rattle.hir_stack.specs.Stacks.{Stacked, Puts}
+use Rattle.hir_stack.specs.Stacks.{Puts}
 use Rattle.hir_stack.proofs.TurnLemmas.{puts_none, puts_two}
 use Rattle.hir_captures.specs.declared.unread.Task.{Task}
 use Rattle.hir_captures.specs.declared.unread.Unread.{Unread}
@@ -17,10 +17,8 @@ use Rattle.std.proofs.lemmas.List.Sums.{fold-append}
 use Rattle.hir_node.specs.declared.expr.Expr.{Expr}
 use Rattle.hir_node.specs.declared.expr.Expr.TheVariants as expr
 use Rattle.hir_node.specs.declared.pat.Pat.{Pat}
-use Rattle.hir_node.specs.declared.pat.Pat.TheVariants as pat
-use Rattle.hir_base.specs.declared.hygiene.SyntaxContext.{SyntaxContext}
-use Rattle.hir_path.specs.declared.path.Path.{Path}
 use Rattle.hir_node.specs.declared.node_id.NodeId.TheVariants as node
+use Rattle.hir_faults.specs.Down.{KidsFall}
 use Rattle.hir_faults.specs.Nodes.{Nodes}
 use Rattle.hir_expr_store.specs.Contents.{Contents}
 use Rattle.hir_scope.specs.Forms.{form_of, form_at, expr_form, pat_form}
@@ -34,8 +32,8 @@ use Rattle.hir_captures.specs.declared.unread.Task.TheVariants as task
 use Rattle.hir_captures.specs.Captures.{meant_behind, with_new, AreChains, AreCaptures}
 use Rattle.hir_scope.specs.Order.{met_in_form}
 use Rattle.hir_captures.specs.walk.Reading.{chain_in, captured_in, with_uses, with_code, Reads}
-use Rattle.hir_captures.specs.Uses.{Spot, Use, uses_in, spot, if_assignment, assignment_at, expr_uses, pat_uses, uses_at, spot_uses, code_under}
-use Rattle.hir_captures.proofs.CodeLemmas.{Laws, code_read, kids_there}
+use Rattle.hir_captures.specs.Uses.{Spot, Use, uses_in, spot, if_assignment, assignment_at, uses_at, spot_uses, code_under}
+use Rattle.hir_captures.proofs.CodeLemmas.{code_read, kids_there}
 
 -- 1. What a run of child calls leaves to be read.
 
@@ -72,20 +70,20 @@ module _ (code : Code) where
       ap (fold with_new found) (filter_map-append (captured_in code) us vs)
       ∙ fold-append with_new found (filter_map (captured_in code) us) (filter_map (captured_in code) vs)
 
-  module _ (laws : Laws c.nodes) (t : Task) (rest new : List Task) (before after : List ℕ) where
+  module _ (fall : KidsFall c.nodes) (t : Task) (rest new : List Task) (before after : List ℕ) where
     abbrev put : List Task
     put = tasks_of (assignment_at c.nodes (task_node t) (task_target t)) (met_in_form (form_of c.nodes (task_node t))) ++ rest
 
     code_now : code_of c.nodes (t ∷ rest) ≡ spot (task_node t) (task_target t) ∷ code_of c.nodes put
     code_now =
         let kids = tasks_of (assignment_at c.nodes (task_node t) (task_target t)) (met_in_form (form_of c.nodes (task_node t))) in
-        ap (λ (xs : List Spot). xs ++ code_of c.nodes rest) (code_read c.nodes laws (task_node t) (task_target t))
+        ap (λ (xs : List Spot). xs ++ code_of c.nodes rest) (code_read c.nodes fall (task_node t) (task_target t))
         ∙ ap (λ (xs : List Spot). spot (task_node t) (task_target t) ∷ xs) (sym (flat_map-append (λ (x : Task). code_under c.nodes (task_node x) (task_target x)) kids rest))
 
     -- one node is read
     read_one : AreThere c.nodes (t ∷ rest) → after ≡ with_uses code before (uses_at c (task_node t) (task_target t)) → new ≡ put → Reads code before (t ∷ rest) after new
     read_one there found is = record {
-      there = subst (AreThere c.nodes) (sym is) (kids_there c.nodes laws (task_node t) (assignment_at c.nodes (task_node t) (task_target t)) rest there.0 there.1);
+      there = subst (AreThere c.nodes) (sym is) (kids_there c.nodes fall (task_node t) (assignment_at c.nodes (task_node t) (task_target t)) rest there.0 there.1);
       finds =
           ap (λ (spots : List Spot). with_uses code before (flat_map (spot_uses c) spots)) code_now
           ∙ (uses_two before (uses_at c (task_node t) (task_target t)) (flat_map (spot_uses c) (code_of c.nodes put))
@@ -97,21 +95,21 @@ module _ (code : Code) where
           omega (arith, now, left);
     }
 
-  pub read_expr : Laws c.nodes → (id : ℕ) (x : Expr) (rest new : List Task) (before after : List ℕ) → slice_get c.nodes.exprs id ≡ Some x → AreThere c.nodes (task.Expr id ∷ rest) →
+  pub read_expr : KidsFall c.nodes → (id : ℕ) (x : Expr) (rest new : List Task) (before after : List ℕ) → slice_get c.nodes.exprs id ≡ Some x → AreThere c.nodes (task.Expr id ∷ rest) →
       after ≡ with_uses code before (uses_at c (node.Expr id) None) →
       new ≡ tasks_of (if_assignment id (Some x)) (met_in_form (expr_form x)) ++ rest → Reads code before (task.Expr id ∷ rest) after new
-  read_expr laws id x rest new before after is there found put =
-      read_one laws (task.Expr id) rest new before after there found
+  read_expr fall id x rest new before after is there found put =
+      read_one fall (task.Expr id) rest new before after there found
       (put ∙ ap (λ (o : Option Expr). tasks_of (if_assignment id o) (met_in_form (form_at expr_form o)) ++ rest) (sym is))
 
-  pub read_pat : Laws c.nodes → (id : ℕ) (x : Pat) (a : Option ℕ) (rest new : List Task) (before after : List ℕ) → slice_get c.nodes.pats id ≡ Some x → AreThere c.nodes (pat_task a id ∷ rest) →
+  pub read_pat : KidsFall c.nodes → (id : ℕ) (x : Pat) (a : Option ℕ) (rest new : List Task) (before after : List ℕ) → slice_get c.nodes.pats id ≡ Some x → AreThere c.nodes (pat_task a id ∷ rest) →
       after ≡ with_uses code before (uses_at c (node.Pat id) a) →
       new ≡ tasks_of a (pat_calls x) ++ rest → Reads code before (pat_task a id ∷ rest) after new
-  read_pat laws id x None rest new before after is there found put =
-      read_one laws (task.Pat id) rest new before after there found
+  read_pat fall id x None rest new before after is there found put =
+      read_one fall (task.Pat id) rest new before after there found
       (put ∙ ap (λ (o : Option Pat). tasks_of None (met_in_form (form_at pat_form o)) ++ rest) (sym is))
-  read_pat laws id x (Some a) rest new before after is there found put =
-      read_one laws (task.Target id a) rest new before after there found
+  read_pat fall id x (Some a) rest new before after is there found put =
+      read_one fall (task.Target id a) rest new before after there found
       (put ∙ ap (λ (o : Option Pat). tasks_of (Some a) (met_in_form (form_at pat_form o)) ++ rest) (sym is))
 
 -- The whole

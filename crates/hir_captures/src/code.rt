@@ -14,9 +14,8 @@ use crate::found::Found;
 use crate::unread::{Task, Unread};
 use hir_base::HygieneId;
 use hir_expr_store::ExpressionStore;
-use hir_expr_store::laws::{kids_fall, who_has_kids_is_there};
+use hir_expr_store::laws::kids_fall;
 use hir_node::{Expr, ExprId, Pat, PatId, Path};
-use hir_scope::laws::{slots_follow_the_order, slots_hold_the_kids};
 use hir_scope::{ExprScopes, asked_name};
 
 /// Where a closure's code is read: in this store and these scopes, which are those of its body.
@@ -111,9 +110,6 @@ impl<'a> Code<'a> {
     {
         self.store.has_no_fault();
         kids_fall();
-        who_has_kids_is_there();
-        slots_hold_the_kids();
-        slots_follow_the_order();
         self.ask_expr(found, id)?;
         let expr = &self.store[id];
         unread.push_expr(expr, if_assignment(id, expr))?;
@@ -135,9 +131,6 @@ impl<'a> Code<'a> {
     {
         self.store.has_no_fault();
         kids_fall();
-        who_has_kids_is_there();
-        slots_hold_the_kids();
-        slots_follow_the_order();
         self.ask_pat(found, id, assignment)?;
         unread.push_pat(&self.store[id], assignment)?;
         Ok(())

@@ -1,5 +1,5 @@
 -- Sums over what is reached; and what the frames of a node are, counted as scopes and as entries.
-use Rattle.std.proofs.Common.{◌≡◌, ℕ, zero, suc, ◌+◌, ◌<◌, List, [], ◌∷◌, map, length, refl, sym, ap, ◌∙◌, arith, inl, inr, Bool, true, false, cond, ◌++◌, append-nil, Option, Some, None, length-append}
+use Rattle.std.proofs.Common.{◌≡◌, ℕ, zero, suc, ◌+◌, ◌<◌, List, [], ◌∷◌, map, length, refl, sym, ap, ◌∙◌, arith, Bool, true, false, cond, ◌++◌, append-nil, Option, Some, None}
 use Rattle.std.specs.List.{flat_map, filter, sum_by}
 use Rattle.std.proofs.lemmas.List.Sums.{sum_by-append, sum_by-cons}
 use Rattle.std.proofs.lemmas.List.Sorted.{sum_by-IsPermutation}
@@ -24,7 +24,7 @@ use Rattle.hir_path.specs.declared.bound.UseArgRef.TheVariants as use_arg
 use Rattle.hir_path.specs.declared.path.GenericArgs.{GenericArgs}
 use Rattle.hir_path.specs.declared.path.Path.TheVariants as path
 use Rattle.hir_base.specs.declared.mod_path.PathKind.TheVariants.{Plain}
-use Rattle.hir_node.specs.ChildCalls.{Call, OnExpr, OnAnonConst, OnPat, OnType, OnLifetime, e, p, t, l, opt, pat_of_call, use_calls, bound_calls, args_calls, path_calls, spread_calls, array_calls}
+use Rattle.hir_node.specs.ChildCalls.{Call, OnLifetime, e, p, t, l, opt, pat_of_call, use_calls, bound_calls, args_calls, path_calls, spread_calls, array_calls}
 use Rattle.hir_node.specs.declared.expr_types.Array.{Array}
 use Rattle.hir_node.specs.declared.expr_types.Array.TheVariants as array
 use Rattle.hir_node.specs.declared.expr_types.RecordSpread.{RecordSpread}

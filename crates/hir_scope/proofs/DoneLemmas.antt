@@ -35,7 +35,7 @@ use Rattle.hir_node.specs.declared.pat.Pat.{Pat}
 use Rattle.hir_scope.specs.declared.scope.ScopeKind.TheVariants as kind
 use Rattle.hir_scope.specs.Scopes.{Scopes}
 use Rattle.hir_scope.proofs.WeightLemmas.{left_cons, weight_met, turns_met}
-use Rattle.hir_scope.proofs.MovingLemmas.{at, opened_none, moves_opened, moves_still}
+use Rattle.hir_scope.proofs.MovingLemmas.{at, moves_opened, moves_still}
 
 -- 1. What the tasks of a node name is there: the node's kids, and the scopes that are taken back.
 

@@ -1,10 +1,9 @@
 -- Each entry is in one frame: what is told of entries over all nodes under a node is what its frames hold, and, of a pattern, what it binds.
-use Rattle.std.proofs.Common.{◌≡◌, ℕ, zero, suc, ◌+◌, ◌<◌, List, [], ◌∷◌, ◌++◌, length, refl, sym, ap, ◌∙◌, arith, subst, inl, inr, ⊎_elim, Option, Some, None, true, length-append}
+use Rattle.std.proofs.Common.{◌≡◌, ℕ, zero, suc, ◌+◌, ◌<◌, List, [], ◌∷◌, ◌++◌, length, refl, sym, ap, ◌∙◌, arith, subst, ⊎_elim, Option, Some, None, true, length-append}
 use Rattle.std.specs.List.{flat_map, slice_get, sum_by, list_all}
 use Rattle.std.specs.Prelude.{nat_lt}
 use Rattle.std.specs.Cmp.{first_so, second_so}
 use Rattle.std.proofs.lemmas.Bool.{ltb-true}
-use Rattle.std.proofs.lemmas.List.Sums.{sum_by-cons}
 use Rattle.std.proofs.lemmas.List.Concat.{length-flat_map}
 use Rattle.std.proofs.lemmas.List.Sorted.{sum_by-IsPermutation}
 use Rattle.hir_node.specs.ChildCalls.{Call, OnLifetime, kid, kids, pat_of_call, pat_calls}
@@ -22,7 +21,7 @@ use Rattle.hir_faults.specs.Tested.{all_of, tested_pat}
 use Rattle.hir_expr_store.specs.PatLists.{pats, bindings_at, bindings_in, child_pats_of}
 use Rattle.hir_scope.specs.Counts.{node_entries}
 use Rattle.hir_scope.specs.Frames.{entry_at, entry_of, binds}
-use Rattle.hir_scope.specs.Forms.{ScopingForm, form_at, form_of, expr_form, pat_form, type_form}
+use Rattle.hir_scope.specs.Forms.{form_at, form_of, expr_form, pat_form, type_form}
 use Rattle.hir_scope.specs.Forms as form
 use Rattle.hir_scope.specs.walk.Machine.{about, count_entries, total, node_frames}
 use Rattle.hir_scope.specs.walk.Pending.{form_tasks}

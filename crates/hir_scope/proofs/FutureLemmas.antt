@@ -16,10 +16,10 @@ use Rattle.hir_scope.specs.declared.tasks.Around.{Around}
 use Rattle.hir_scope.specs.declared.tasks.Task.{Task}
 use Rattle.hir_scope.specs.declared.tasks.Task.TheVariants as task
 use Rattle.hir_scope.specs.Frames.{Frame, Chain, frame, of_kind, empty}
-use Rattle.hir_scope.specs.Forms.{ScopingForm, form_of}
+use Rattle.hir_scope.specs.Forms.{ScopingForm}
 use Rattle.hir_scope.specs.Forms as form
 use Rattle.hir_scope.specs.Leak.{leak, leaks, leak_of_form}
-use Rattle.hir_scope.specs.Slots.{Slot, call_slot, in_turn, own_frame, block_constants, made, made_for_constants, statement_slots, block_slots, arm_slots, loop_kind, slots_of_form, slots}
+use Rattle.hir_scope.specs.Slots.{Slot, call_slot, in_turn, own_frame, block_constants, made, made_for_constants, statement_slots, block_slots, arm_slots, loop_kind, slots_of_form}
 use Rattle.hir_scope.specs.Chains.{Place, place_kid}
 use Rattle.hir_scope.specs.walk.PlacesUnder.{place, exprs_under}
 use Rattle.hir_scope.specs.walk.Pending.{tasks_of, arm_task, one_arm, arm_with, leave, statement_tasks, form_tasks, opens_here, opens_constant, future}

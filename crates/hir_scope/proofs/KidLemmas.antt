@@ -21,13 +21,13 @@ use Rattle.hir_scope.specs.Forms.{ScopingForm, form_at, form_of, expr_form, pat_
 use Rattle.hir_scope.specs.Forms as form
 use Rattle.hir_scope.specs.Leak.{leak, leaks, leak_of_call}
 use Rattle.hir_scope.specs.Order.{met_in_statement, met_in_arm, met_in_form, met_in_closure}
-use Rattle.hir_scope.specs.Slots.{Base, Here, Const, Slot, slot_kid, call_kids, call_slot, in_turn, own_frame, block_constants, made, made_for_constants, statement_slots, block_slots, arm_slots, loop_kind, slots_of_form, slots}
+use Rattle.hir_scope.specs.Slots.{Base, Slot, slot_kid, call_kids, call_slot, in_turn, own_frame, block_constants, made, made_for_constants, statement_slots, block_slots, arm_slots, loop_kind, slots_of_form, slots}
 use Rattle.hir_node.specs.declared.expr_types.Item.TheVariants as item
 use Rattle.hir_scope.specs.declared.tasks.Around.{Around}
 use Rattle.hir_scope.specs.declared.tasks.Task.{Task}
 use Rattle.hir_scope.specs.declared.tasks.Task.TheVariants as task
 use Rattle.hir_scope.specs.walk.Machine.{about}
-use Rattle.hir_scope.specs.walk.Pending.{tasks_of, arm_task, one_arm, guarded_task, leave, statement_tasks, form_tasks, task_kids}
+use Rattle.hir_scope.specs.walk.Pending.{tasks_of, one_arm, guarded_task, leave, statement_tasks, form_tasks, task_kids}
 
 -- 1. The slots of a node follow the order in which scopes are made; its calls in that order are its child calls, each once.
 

@@ -1,6 +1,6 @@
 -- How a walk goes on: scopes that are added and opened, a task that is done, and what is done in all.
 use Rattle.std.proofs.Common.{◌≡◌, ℕ, zero, suc, ◌+◌, ◌<◌, ◌≤◌, List, [], ◌∷◌, ◌++◌, Option, Some, None, map, fold, get_or, length, refl, ap, ◌∙◌, arith, sym, append_assoc, subst, length-append, inl, inr, ◌⊎◌, ⊎_elim}
-use Rattle.std.specs.Prelude.{⊤, Result, Ok, Err, IfOk, OnOk}
+use Rattle.std.specs.Prelude.{⊤, Result, Ok, Err, IfOk}
 use Rattle.std.specs.List.{slice_get, flat_map, sum_by, All}
 use Rattle.std.proofs.lemmas.List.{length_push, append-nil, map-append}
 use Rattle.hir_node.specs.declared.node_id.NodeId.TheVariants as node
@@ -218,19 +218,6 @@ opened_then old mid new f gs a b =
           omega (arith, x, y, z, u);
       here = subst (HasFrames new.scopes.scopes new.around.here) a.here.is b.here;
       constant = subst (λ (c : Chain). HasFrames new.scopes.scopes new.around.constant (gs ++ c)) a.constant.is b.constant;
-    }
-
--- the same machine, where none is opened
-pub opened_none : (m : Machine) → m.around.here < length m.scopes.scopes → m.around.constant < length m.scopes.scopes → Opened m m [] []
-opened_none m h c =
-    record {
-      more = [];
-      grows = sym (append-nil m.scopes.scopes);
-      same = refl;
-      tasks = refl;
-      frames = λ w. refl;
-      here = record { within = h; is = refl };
-      constant = record { within = c; is = refl };
     }
 
 -- the scope of an expression is that of its chain

@@ -1,18 +1,14 @@
 -- What a name means, also through macros.
 use Rattle.std.proofs.Common.{◌≡◌, ℕ, suc, ◌<◌, Bool, true, false, cond, List, [], ◌∷◌, ◌++◌, Option, Some, None, length, refl, ap, sym, ◌∙◌, subst, arith, append_assoc}
-use Rattle.std.specs.Prelude.{option_map, nat_lt, Contains, IfSome}
+use Rattle.std.specs.Prelude.{option_map, Contains, IfSome}
 use Rattle.std.specs.List.{slice_get, flat_map}
-use Rattle.std.specs.FinMap as map
 use Rattle.std.proofs.lemmas.List.{append-nil}
 use Rattle.std.proofs.lemmas.List.Concat.{flat_map-append}
-use Rattle.std.proofs.lemmas.Option.{slice_get_within}
 use Rattle.hir_base.specs.declared.hygiene.SyntaxContext.{SyntaxContext}
-use Rattle.hir_expr_store.specs.Contents.{Contents}
 use Rattle.hir_faults.specs.Tested.{all_of}
 use Rattle.hir_scope.specs.declared.scope.ScopeEntry.{ScopeEntry}
 use Rattle.hir_scope.specs.Frames.{Frame, Chain}
-use Rattle.hir_scope.specs.Meanings.{binding_of, meant}
-use Rattle.hir_scope.specs.Scopes.{Scope, Scopes, IsBelow, IsIn, ParentsStandEarlier, frame_of, macro_def_of}
+use Rattle.hir_scope.specs.Scopes.{Scope, IsBelow, IsIn, ParentsStandEarlier, frame_of, macro_def_of}
 use Rattle.hir_scope.specs.Paths.{path, frame_at, chain}
 use Rattle.hir_scope.specs.Resolution.{is_asked, first_asked, entries_of, resolve, IsFound}
 use Rattle.hir_scope.proofs.PathLemmas.{path_step, read}
@@ -127,26 +123,6 @@ found_resolves scopes earlier from n h s entry f =
     ∙ (ap (λ (o : Option ScopeEntry). or_else o (resolve (frame_at scopes s ++ outer) n h)) f.none_before
     ∙ (resolve_append n h (frame_at scopes s) outer
     ∙ ap (λ (o : Option ScopeEntry). or_else o (resolve outer n h)) f.is_first))))
-
--- What a path means
-
-module _ (c : Contents) (s : Scopes) (expr : ℕ) (h : SyntaxContext) (asked : Option (List ℕ)) where
-  -- it asks for no name
-  pub means_unasked : asked ≡ None → meant c s expr h asked ≡ None
-  means_unasked e = ap (meant c s expr h) e
-
-  module _ (n : List ℕ) (asks : asked ≡ Some n) where
-    at_name : meant c s expr h asked ≡ binding_of c (resolve (chain s.scopes (map.get s.scope_by_expr expr)) n h)
-    at_name = ap (meant c s expr h) asks
-
-    -- there is no scope
-    pub means_nowhere : map.get s.scope_by_expr expr ≡ None → meant c s expr h asked ≡ None
-    means_nowhere e = at_name ∙ ap (λ (o : Option ℕ). binding_of c (resolve (chain s.scopes o) n h)) e
-
-    module _ (from : ℕ) (at : map.get s.scope_by_expr expr ≡ Some from) where
-      -- what is found in that scope is meant, or nothing
-      pub means_found : (o : Option ScopeEntry) → resolve (chain s.scopes (Some from)) n h ≡ o → meant c s expr h asked ≡ binding_of c o
-      means_found o e = at_name ∙ (ap (λ (o : Option ℕ). binding_of c (resolve (chain s.scopes o) n h)) at ∙ ap (binding_of c) e)
 
 -- 2. A name's meaning through the definitions of macros: that among the scope's entries, and where there is none that outward of it.
 

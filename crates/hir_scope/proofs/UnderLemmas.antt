@@ -1,5 +1,5 @@
 -- The leak of a node by its kids, what is under a place, and where a node stands.
-use Rattle.std.proofs.Common.{◌≡◌, ℕ, zero, suc, List, [], ◌∷◌, ◌++◌, map, refl, sym, ap, ◌∙◌, Contains, arith, subst, ◌<◌, length, inl, inr, ⊎_elim}
+use Rattle.std.proofs.Common.{◌≡◌, ℕ, zero, suc, List, [], ◌∷◌, map, refl, sym, ap, ◌∙◌, Contains, arith, subst, ◌<◌, length, inl, inr, ⊎_elim}
 use Rattle.std.specs.List.{flat_map, filter, slice_index_or}
 use Rattle.std.proofs.Math.Path.{fun_ext}
 use Rattle.std.proofs.lemmas.List.{append-nil}
@@ -9,7 +9,7 @@ use Rattle.hir_node.specs.declared.node_id.NodeId.{NodeId}
 use Rattle.hir_node.specs.declared.node_id.NodeId.TheVariants as node
 use Rattle.hir_faults.specs.Nodes.{Nodes, Has, kids_of}
 use Rattle.hir_faults.specs.Down.{KidsFall, value, AgreeOn, AsksKids, rank}
-use Rattle.hir_faults.proofs.DownLemmas.{value_at}
+use Rattle.hir_faults.proofs.DownLemmas.{agree_from_members, value_at}
 use Rattle.hir_scope.specs.Order.{met_in_form}
 use Rattle.hir_scope.specs.Frames.{Chain}
 use Rattle.hir_scope.specs.Forms.{ScopingForm, form_of}
@@ -32,15 +32,15 @@ agree_at f g [] h x (k, lt, is) = absurd (omega (arith, lt))
 agree_at f g (y ∷ xs) h x (zero, lt, is) = subst (λ z. f z ≡ g z) is h.0
 agree_at f g (y ∷ xs) h x (suc k, lt, is) = agree_at f g xs h.1 x (k, omega (arith, lt), is)
 
-agree_on : {A : Type 0} (f g : NodeId → A) (xs : List NodeId) → ((x : NodeId) → Contains xs x → f x ≡ g x) → AgreeOn f g xs
-agree_on f g [] h = tt
-agree_on f g (x ∷ xs) h = (h x (0, omega arith, refl), agree_on f g xs (λ y c. h y (suc c.0, omega (arith, c.1), c.2)))
-
 met_agree : {A : Type 0} (f g : NodeId → A) (s : Nodes) (n : NodeId) → AgreeOn f g (kids_of s n) → AgreeOn f g (kids (met_in_form (form_of s n)))
 met_agree f g s n h =
     let met = kids (met_in_form (form_of s n)) in
     let back = IsPermutation-sym (kids_of s n) met (met_kids s n) in
-    agree_on f g met (λ x m. agree_at f g (kids_of s n) h x (Contains-permutation met (kids_of s n) x back m))
+    agree_from_members f g met (λ x m. agree_at f g (kids_of s n) h x (Contains-permutation met (kids_of s n) x back m))
+
+pub slots_agree : {A : Type 0} (f g : NodeId → A) (s : Nodes) (n : NodeId) → AgreeOn f g (kids_of s n) → AgreeOn f g (kids_in (slots s n))
+unfolding slots
+slots_agree f g s n h = subst (λ (ks : List NodeId). AgreeOn f g ks) (sym (kids_of_form s (form_of s n))) (met_agree f g s n h)
 
 -- Leaks
 
@@ -79,12 +79,8 @@ slots_read f g h k (x ∷ xs) agree =
     cc
 
 under_asks : (s : Nodes) → AsksKids s (under_step s)
-unfolding slots
 under_asks s f g n agree =
-    let met = met_agree f g s n agree in
-    let P : List NodeId → Type 0 = AgreeOn f g in
-    let on_slots = subst P (sym (kids_of_form s (form_of s n))) met in
-    fun_ext (λ h. fun_ext (λ k. ap (λ (ps : List Place). place n h k ∷ ps) (slots_read f g h k (slots_of_form s (form_of s n)) on_slots)))
+    fun_ext (λ h. fun_ext (λ k. ap (λ (ps : List Place). place n h k ∷ ps) (slots_read f g h k (slots s n) (slots_agree f g s n agree))))
 
 -- what is under a place is the place, and what is under the places of the kids
 pub under_at : (s : Nodes) → KidsFall s → (at : Place) → Has s at.node → places_under s at ≡ at ∷ flat_map (places_under s) (places_of_kids s at)

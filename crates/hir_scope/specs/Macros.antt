@@ -10,7 +10,7 @@ use Rattle.hir_base.specs.Hygiene.{is_root}
 use Rattle.hir_base.specs.contracts.hygiene.HygieneIdPartialEq.TheImpl as hygienes
 use Rattle.hir_scope.specs.declared.macros.Expansion.{Expansion}
 use Rattle.hir_scope.specs.declared.scope.ScopeEntry.{ScopeEntry}
-use Rattle.hir_scope.specs.Frames.{Frame, Chain}
+use Rattle.hir_scope.specs.Frames.{Chain}
 use Rattle.hir_scope.specs.Scopes.{macro_def_of}
 use Rattle.hir_scope.specs.Resolution.{first_asked}
 

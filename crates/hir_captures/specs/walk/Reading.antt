@@ -9,7 +9,7 @@ use Rattle.hir_captures.specs.declared.code.Code.{Code}
 use Rattle.hir_captures.specs.declared.unread.Task.{Task}
 use Rattle.hir_captures.specs.Captures.{meant_behind, with_new}
 use Rattle.hir_captures.specs.walk.Pending.{AreThere, code_of}
-use Rattle.hir_captures.specs.Uses.{Spot, Use, spot_uses}
+use Rattle.hir_captures.specs.Uses.{Use, spot_uses}
 
 -- the chain that the scopes have of an expression
 abbrev pub chain_in : Scopes → ℕ → Chain

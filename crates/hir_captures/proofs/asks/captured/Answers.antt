@@ -1,4 +1,4 @@
-use Rattle.std.proofs.Common.{◌≡◌, ◌<◌, ◌≤◌, ◌∙◌, refl, sym, ap, subst, ℕ, Some, None, length}
+use Rattle.std.proofs.Common.{◌<◌, ◌≤◌, ◌∙◌, refl, sym, ap, subst, ℕ, Some}
 use Rattle.hir_scope.specs.Paths.{chain}
 use Rattle.hir_captures.proofs.AskLemmas.{none_captured, found_behind, found_within}
 use Rattle.hir_captures.proofs.asks.captured.Goals as goal

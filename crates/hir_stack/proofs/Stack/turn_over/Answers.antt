@@ -1,4 +1,4 @@
-use Rattle.std.proofs.Common.{◌≡◌, ◌++◌, false, List, length, sym, ◌∙◌, ap, take, drop, ℕ, arith, vec_len}
+use Rattle.std.proofs.Common.{◌≡◌, ◌++◌, false, length, ◌∙◌, ap, take, drop, ℕ, arith, vec_len}
 use Rattle.std.specs.Prelude.{is_some, reverse}
 use Rattle.std.specs.Vec.{with_items}
 use Rattle.std.proofs.Math.Seq.{take-append_seam}

@@ -1,4 +1,3 @@
-use Rattle.hir_captures.proofs.CodeLemmas.{Laws}
 use Rattle.hir_captures.proofs.ReadLemmas.{read_pat, pat_there}
 use Rattle.hir_captures.proofs.code.Code.read_pat.Goals as goal
 
@@ -11,11 +10,6 @@ index-requires c = pat_there c.args.self.now.store.now.nodes c.args.assignment c
 pub returns-clause-reads : goal.returns-clause-reads
 returns-clause-reads c =
     let store = c.args.self.now.store.now in
-    let laws : Laws store.nodes = record {
-      fall = c.kids_fall.ensures store c.has_no_fault.ensures;
-      parents = c.who_has_kids_is_there.ensures store.nodes;
-      kids = c.slots_hold_the_kids.ensures store.nodes;
-      order = c.slots_follow_the_order.ensures store.nodes;
-    } in
-    read_pat c.args.self.now laws c.args.id c.index.result.now c.args.assignment c.args.unread.now.stack.items c.push_pat.new.self.stack.items c.args.found.now c.ask_pat.new.found
+    let fall = c.kids_fall.ensures store c.has_no_fault.ensures in
+    read_pat c.args.self.now fall c.args.id c.index.result.now c.args.assignment c.args.unread.now.stack.items c.push_pat.new.self.stack.items c.args.found.now c.ask_pat.new.found
     c.index.ensures c.requires.there c.in_ok-ask_pat.ensures.found c.in_ok-push_pat.ensures.ok
