@@ -125,8 +125,8 @@ impl<'a> Code<'a> {
         assignment: Option<ExprId>,
     ) -> Result<(), CapturesFault>
         requires there { AreThere self.now.store.now.nodes (pat_task assignment id ∷ unread.old.stack.items) }
-        ensures reads { OnOk result (Reads self.now found.old (pat_task assignment id ∷ unread.old.stack.items)
-            found.new unread.new.stack.items) }
+        ensures reads { OnOk result (Reads self.now found.old
+            (pat_task assignment id ∷ unread.old.stack.items) found.new unread.new.stack.items) }
         ensures memory { OnErr result (result ≡ Err CapturesFault.Memory) }
     {
         self.store.has_no_fault();

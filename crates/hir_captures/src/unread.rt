@@ -90,7 +90,8 @@ impl Unread {
         pat: &Pat,
         assignment: Option<ExprId>,
     ) -> Result<(), CapturesFault>
-        ensures ok { OnOk result (self.new.stack.items ≡ tasks_of assignment (pat_calls pat.now) ++ self.old.stack.items) }
+        ensures ok { OnOk result (self.new.stack.items
+            ≡ tasks_of assignment (pat_calls pat.now) ++ self.old.stack.items) }
         ensures memory { OnErr result (result ≡ Err CapturesFault.Memory) }
     {
         let below = self.stack.len();

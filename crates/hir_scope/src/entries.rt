@@ -42,7 +42,8 @@ pub(crate) fn add_pat(
     store.try_walk_bindings_in_pat(
         pat,
         &mut |id: BindingId| -> Result<(), ScopesFault>
-            ensures ok { OnOk result (entries.exit.now.items ≡ entries.entry.now.items ++ entry_at store.entry.now.nodes id) }
+            ensures ok { OnOk result (entries.exit.now.items
+                ≡ entries.entry.now.items ++ entry_at store.entry.now.nodes id) }
             ensures memory { OnErr result (result ≡ Err ScopesFault.Memory) }
         { add_entry(entries, store, id) },
     )
@@ -55,7 +56,8 @@ pub(crate) fn add_pats(
     pats: &[PatId],
 ) -> Result<(), ScopesFault>
     requires { All (λ pat. pat < length store.now.nodes.pats) pats.now }
-    ensures ok { OnOk result (entries.new.items ≡ entries.old.items ++ flat_map (binds store.now.nodes) pats.now) }
+    ensures ok { OnOk result (entries.new.items
+        ≡ entries.old.items ++ flat_map (binds store.now.nodes) pats.now) }
     ensures memory { OnErr result (result ≡ Err ScopesFault.Memory) }
 {
     for pat in pats {

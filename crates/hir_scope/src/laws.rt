@@ -38,7 +38,8 @@ pub fn slots_hold_the_kids()
 
 /// The slots of a node are for its child calls in the order in which scopes are made.
 pub fn slots_follow_the_order()
-    ensures { (s : Nodes) (n : NodeId) → map slot_kid (slots s n) ≡ flat_map call_kids (met_in_form (form_of s n)) }
+    ensures { (s : Nodes) (n : NodeId)
+        → map slot_kid (slots s n) ≡ flat_map call_kids (met_in_form (form_of s n)) }
 {}
 
 /// A node stands in a place exactly where it is reached.

@@ -283,7 +283,8 @@ impl Tasks {
         type_ref: &TypeRef,
         around: Around,
     ) -> Result<(), ScopesFault>
-        ensures ok { OnOk result (self.new.items ≡ form_tasks around (type_form type_ref.now) ++ self.old.items) }
+        ensures ok { OnOk result (self.new.items
+            ≡ form_tasks around (type_form type_ref.now) ++ self.old.items) }
         ensures memory { OnErr result (result ≡ Err ScopesFault.Memory) }
     {
         let below = self.stack.len();

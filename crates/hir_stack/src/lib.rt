@@ -78,8 +78,9 @@ impl<T> Stack<T> {
     ///
     /// Answers `AllocError` where memory for an item that was put was refused. The stack is of no use then.
     pub fn turn_over(&mut self, below: usize) -> Result<(), AllocError>
-        ensures { OnOk result ((before : Stacked T) (items : List T) → length before.items ≡ below
-            → Puts before items self.old → self.new ≡ record { items = items ++ before.items; refused = false }) }
+        ensures { OnOk result ((before : Stacked T) (items : List T)
+            → length before.items ≡ below → Puts before items self.old
+            → self.new ≡ record { items = items ++ before.items; refused = false }) }
     {
         match self.refused {
             Some(refused) => Err(refused),
