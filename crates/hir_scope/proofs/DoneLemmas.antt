@@ -35,7 +35,7 @@ use Rattle.hir_node.specs.declared.pat.Pat.{Pat}
 use Rattle.hir_scope.specs.declared.scope.ScopeKind.TheVariants as kind
 use Rattle.hir_scope.specs.Scopes.{Scopes}
 use Rattle.hir_scope.proofs.WeightLemmas.{left_cons, weight_met, turns_met}
-use Rattle.hir_scope.proofs.MovingLemmas.{at, moves_opened, moves_still}
+use Rattle.hir_scope.proofs.MovingLemmas.{at, opened_none, moves_opened, moves_still}
 
 -- 1. What the tasks of a node name is there: the node's kids, and the scopes that are taken back.
 
@@ -241,6 +241,13 @@ module _ (s : Nodes) where
         let c = turns_cons (task.Expr id) ts in
         let q = ap (turns_left s) e in
         omega (arith, m, c, q))
+
+    -- an expression in which nothing is
+    pub empty_moves : (S : Scopes) (a : Around) (id : ℕ) (ts : List Task) → form_of s (node.Expr id) ≡ form.InTurn [] → IsReady s (at S a (task.Expr id ∷ ts)) →
+        Moves s (at S a (task.Expr id ∷ ts)) (at S a ts) (place (node.Expr id) (chain_of S.scopes a.here) (chain_of S.scopes a.constant) ∷ [])
+    empty_moves S a id ts e r =
+        expr_moves S a id ts ts (at S a ts) (ap (λ (x : ScopingForm). form_tasks a x ++ ts) (sym e))
+        (subst (λ (x : ScopingForm). Opened (at S a ts) (at S a ts) (opens_here s x) (opens_constant x)) (sym e) (opened_none (at S a ts) r.here r.constant)) r
 
     pat_opens : (x : Option Pat) → (opens_here s (form_at pat_form x) ≡ []) × (opens_constant (form_at pat_form x) ≡ [])
     pat_opens None = (refl, refl)

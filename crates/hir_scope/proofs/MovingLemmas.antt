@@ -220,6 +220,19 @@ opened_then old mid new f gs a b =
       constant = subst (λ (c : Chain). HasFrames new.scopes.scopes new.around.constant (gs ++ c)) a.constant.is b.constant;
     }
 
+-- the same machine, where none is opened
+pub opened_none : (m : Machine) → m.around.here < length m.scopes.scopes → m.around.constant < length m.scopes.scopes → Opened m m [] []
+opened_none m h c =
+    record {
+      more = [];
+      grows = sym (append-nil m.scopes.scopes);
+      same = refl;
+      tasks = refl;
+      frames = λ w. refl;
+      here = record { within = h; is = refl };
+      constant = record { within = c; is = refl };
+    }
+
 -- the scope of an expression is that of its chain
 pub own_frames : (s : Nodes) (x : ScopingForm) (scopes : List Scope) (inside outside : ℕ) (h : Chain) → HasFrames scopes inside (opens_here s x ++ h) → HasFrames scopes outside h → HasFrames scopes (scope_within x inside outside) (within_own x h)
 own_frames s (form.Block id label xs tail) scopes inside outside h i o = i

@@ -1,13 +1,24 @@
 //! What an expression does with scopes: by its form the walk knows what comes when, and in which scope.
 
-ghost use Rattle.std.specs.Prelude.{◌≡◌};
-ghost use Rattle.hir_scope.specs.Forms.{expr_form};
+ghost use Rattle.std.specs.Prelude.{◌≡◌, [], IsTrue};
+ghost use Rattle.hir_scope.specs.Forms.{InTurn, expr_form};
 ghost use Rattle.hir_scope.specs.walk.Machine.{scope_within};
 ghost use Rattle.hir_scope.specs.walk.Seen.{seen};
 
 use crate::scope::ScopeId;
 use hir_base::BlockId;
-use hir_node::{Expr, ExprId, LabelId, MatchArm, PatId, Statement, TypeRefId};
+use hir_node::{Expr, ExprId, LabelId, MatchArm, PatId, Path, Statement, TypeRefId};
+
+/// Whether an expression is a bare path, a literal or missing: nothing is inside these.
+// Half of all expressions are such. That they take no turn is for speed alone: 3 % of a run with all questions.
+pub(crate) fn is_alone(expr: &Expr) -> bool
+    ensures { IsTrue result → expr_form expr.now ≡ InTurn [] }
+{
+    if let Expr::Path(Path::BarePath(_)) | Expr::Literal(_) | Expr::Missing = expr {
+        return true;
+    }
+    false
+}
 
 /// An expression by its scoping form, borrowed.
 #[derive(Clone, Copy)]

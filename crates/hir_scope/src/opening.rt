@@ -121,30 +121,24 @@ impl Walk {
     {
         store.has_no_fault();
         kids_fall();
-        match form {
+        match *form {
             Form::If { .. } => self.open_kind(ScopeKind::None),
             Form::Block {
                 id: None,
                 label,
                 ..
-            } => self.open_kind(loop_kind(*label)),
+            } => self.open_kind(loop_kind(label)),
             Form::Block {
                 id: Some(id),
                 label,
                 ..
             } => self.open_both(
-                ScopeKind::Block {
-                    id: *id,
-                    label: *label,
-                },
-                ScopeKind::Block {
-                    id: *id,
-                    label: None,
-                },
+                ScopeKind::Block { id, label },
+                ScopeKind::Block { id, label: None },
             ),
-            Form::Loop { label, .. } => self.open_kind(loop_kind(*label)),
+            Form::Loop { label, .. } => self.open_kind(loop_kind(label)),
             Form::Closure { args, .. } => self.open(store, args),
-            Form::Assignment { target, .. } => self.open(store, &[*target]),
+            Form::Assignment { target, .. } => self.open(store, &[target]),
             Form::Let { .. } | Form::Match { .. } | Form::InTurn(_) => Ok(()),
         }
     }

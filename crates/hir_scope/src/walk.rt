@@ -12,7 +12,7 @@ ghost use Rattle.hir_scope.specs.walk.Machine.{doing, machine, state, here_of, c
 
 use crate::expr_scopes::ExprScopes;
 use crate::fault::ScopesFault;
-use crate::form::Form;
+use crate::form::{Form, is_alone};
 use crate::scope::{ScopeEntry, ScopeId, ScopeKind};
 use crate::tasks::{Around, Task, Tasks};
 use hir_base::Steps;
@@ -49,7 +49,11 @@ impl Walk {
         store.has_no_fault();
         kids_fall();
         let outside = self.around.here;
-        let form = Form::of(&store[expr]);
+        let inner = &store[expr];
+        if is_alone(inner) {
+            return Ok(outside);
+        }
+        let form = Form::of(inner);
         self.tasks.push_form(&form, self.around)?;
         self.open_inside(store, expr, &form)?;
         Ok(form.scope(self.around.here, outside))
