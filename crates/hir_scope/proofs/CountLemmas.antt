@@ -174,7 +174,7 @@ module _ (s : Nodes) where
   guarded_one pat expr (Some guard) = refl
 
   arms_ones : (arms : List MatchArm) → sum_by (ones s) (flat_map one_arm arms) ≡ length arms
-  arms_ones arms = sum_flat (ones s) one_arm arms ∙ sum_ones (λ arm. sum_by (ones s) (one_arm arm)) arms (λ arm i. guarded_one arm.pat arm.expr arm.guard)
+  arms_ones arms = sum_flat (ones s) one_arm arms ∙ sum_ones (λ arm. sum_by (ones s) (one_arm arm)) arms (λ arm i. let r = guarded_one arm.pat arm.expr arm.guard in omega (arith, r))
 
   constants_one : (id : Option ℕ) → sum_by one (block_constants id) ≡ count_if_there id
   constants_one None = refl
@@ -361,7 +361,7 @@ module _ (s : Nodes) where
   guarded_rest pat expr (Some guard) = refl
 
   arms_rest : (arms : List MatchArm) → sum_by rest_of (flat_map one_arm arms) ≡ 0
-  arms_rest arms = sum_flat rest_of one_arm arms ∙ sum_none (λ arm. sum_by rest_of (one_arm arm)) arms (λ arm. guarded_rest arm.pat arm.expr arm.guard)
+  arms_rest arms = sum_flat rest_of one_arm arms ∙ sum_none (λ arm. sum_by rest_of (one_arm arm)) arms (λ arm. let r = guarded_rest arm.pat arm.expr arm.guard in omega (arith, r))
 
   constants_empty : (id : Option ℕ) → sum_by count_entries (block_constants id) ≡ 0
   constants_empty None = refl

@@ -3,7 +3,7 @@ use Rattle.std.proofs.Common.{◌≡◌, List, [], ◌∷◌, ◌++◌, Ok, Err,
 use Rattle.std.specs.Prelude.{Result, OnOk, OnErr}
 use Rattle.std.specs.List.{flat_map}
 use Rattle.std.proofs.lemmas.Fn.{chained_keeps}
-use Rattle.std.proofs.lemmas.List.Concat.{flat_map_more}
+use Rattle.std.proofs.lemmas.List.{flat_map_more}
 use Rattle.hir_expr_store.specs.Tries.{Tries}
 
 module _ {P A E : Type 0} (step : P → A → Result (Unit {0}) E → P → Type 0) where
@@ -17,4 +17,4 @@ module _ {P A E : Type 0} (step : P → A → Result (Unit {0}) E → P → Type
 
 -- one item more, at the end of what was added
 pub added_more : {A X : Type 0} (f : A → List X) (before now new : List X) (xs : List A) (x : A) → now ≡ before ++ flat_map f xs → new ≡ now ++ f x → new ≡ before ++ flat_map f (xs ++ x ∷ [])
-added_more f before now new xs x h s = s ∙ (ap (λ (es : List X). es ++ f x) h ∙ flat_map_more f before xs x)
+added_more {X = X} f before now new xs x h s = s ∙ (ap (λ (es : List X). es ++ f x) h ∙ flat_map_more f before xs x)

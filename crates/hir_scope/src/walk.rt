@@ -18,7 +18,9 @@ use crate::tasks::{Around, Task, Tasks};
 use hir_base::Steps;
 use hir_expr_store::ExpressionStore;
 use hir_expr_store::laws::kids_fall;
-use hir_node::{ExprId, PatId, TypeRefId};
+use hir_node::{ExprId, MatchArm, PatId, Statement, TypeRefId};
+
+type Parts = (MatchArm, Statement);
 use std::alloc::Global;
 
 /// A walk: the scopes so far, those around what is met next, and what is still to do.

@@ -10,8 +10,8 @@ use Rattle.hir_scope.proofs.DoneLemmas.{leave_moves, macro_moves, macro_frames}
 use Rattle.hir_scope.proofs.MovingLemmas.{over_exceeds, ok_map, goes_task, goes_given}
 use Rattle.hir_scope.proofs.walk.Walk.go_on.Goals as goal
 
-pub returns-in-Expr-clause-goes : goal.returns-in-Expr-clause-goes
-returns-in-Expr-clause-goes c =
+pub returns-in_ok-set_scope-in-Expr-clause-goes : goal.returns-in_ok-set_scope-in-Expr-clause-goes
+returns-in_ok-set_scope-in-Expr-clause-goes c =
     let w = c.args.self.now in
     let m = c.in_ok-scope-in-Expr in
     let met = c.meet_expr.new.self in

@@ -12,8 +12,8 @@ use Rattle.hir_scope.proofs.walk.Walk.open.Goals as goal
 pub add_pats-requires : goal.add_pats-requires
 add_pats-requires c = all_there c.args.store.now.nodes c.args.pats.now c.requires.there
 
-pub returns-in_err-new_scope-clause-full : goal.returns-in_err-new_scope-clause-full
-returns-in_err-new_scope-clause-full c =
+pub returns-in_err-self-clause-full : goal.returns-in_err-self-clause-full
+returns-in_err-self-clause-full c =
     let S = c.args.self.now.scopes.scopes in
     let es = c.add_pats.new.entries.items in
     let bound : es ≡ flat_map (binds c.args.store.now.nodes) c.args.pats.now =
@@ -26,9 +26,9 @@ returns-in_err-new_scope-clause-full c =
 pub returns-clause-opened : goal.returns-clause-opened
 returns-clause-opened c =
     let w = c.args.self.now in
-    let ok = c.in_ok-new_scope.ensures.ok in
+    let ok = c.in_ok-self.ensures.ok in
     let bound = c.in_ok-add_pats.ensures.ok ∙ ap (λ (xs : List ScopeEntry). xs ++ flat_map (binds c.args.store.now.nodes) c.args.pats.now) c.clear.ensures in
     opened_here (state w) _ kind.None (flat_map (binds c.args.store.now.nodes) c.args.pats.now)
     (ap (λ (x : Scopes). x.scopes) ok ∙ ap (λ (xs : List ScopeEntry). w.scopes.scopes ++ child w.around.here kind.None xs ∷ []) bound)
     (ap (λ (x : Scopes). x.scope_by_expr) ok)
-    c.in_ok-new_scope.ensures.id refl refl c.requires.constant
+    c.in_ok-self.ensures.id refl refl c.requires.constant

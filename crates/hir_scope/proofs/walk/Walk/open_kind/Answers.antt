@@ -5,8 +5,8 @@ use Rattle.hir_scope.specs.walk.Machine.{state, Over}
 use Rattle.hir_scope.proofs.MovingLemmas.{child, opened_here, over_new}
 use Rattle.hir_scope.proofs.walk.Walk.open_kind.Goals as goal
 
-pub returns-in_err-new_scope-clause-full : goal.returns-in_err-new_scope-clause-full
-returns-in_err-new_scope-clause-full c =
+pub returns-in_err-self-clause-full : goal.returns-in_err-self-clause-full
+returns-in_err-self-clause-full c =
     let S = c.args.self.now.scopes.scopes in
     let es = c.new-none.result.items in
     let none : es ≡ [] = search rules in
@@ -18,9 +18,9 @@ returns-in_err-new_scope-clause-full c =
 pub returns-clause-opened : goal.returns-clause-opened
 returns-clause-opened c =
     let w = c.args.self.now in
-    let ok = c.in_ok-new_scope.ensures.ok in
+    let ok = c.in_ok-self.ensures.ok in
     let none : c.new-none.result.items ≡ [] = search rules in
     opened_here (state w) _ c.args.kind []
     (ap (λ (x : Scopes). x.scopes) ok ∙ ap (λ (xs : List ScopeEntry). w.scopes.scopes ++ child w.around.here c.args.kind xs ∷ []) none)
     (ap (λ (x : Scopes). x.scope_by_expr) ok)
-    c.in_ok-new_scope.ensures.id refl refl c.requires.constant
+    c.in_ok-self.ensures.id refl refl c.requires.constant
