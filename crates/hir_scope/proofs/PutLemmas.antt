@@ -8,21 +8,22 @@ use Rattle.hir_node.specs.Runs.{Runs, no_call, a_call}
 use Rattle.hir_stack.specs.Stacks.{Stacked, Puts}
 use Rattle.hir_stack.proofs.TurnLemmas.{puts_none, puts_two}
 use Rattle.hir_scope.specs.declared.tasks.Task.{Task}
+use Rattle.hir_scope.specs.declared.tasks.Tasks.{Tasks}
 use Rattle.hir_scope.specs.walk.Pending.{Put, task_of, tasks_of, one_arm}
 
 -- By calls
 
-abbrev pub Calls : Stacked Task → Call → Stacked Task → Type 0
-Calls v c w = Runs Put v (task_of c) w
+abbrev pub Calls : Tasks → Call → Tasks → Type 0
+Calls v c w = Runs Put v.stack (task_of c) w.stack
 
 -- calls put their tasks
-pub through : {v w : Stacked Task} {cs : List Call} → Runs Calls v cs w → Runs Put v (tasks_of cs) w
-through r = runs_through Put (λ v. v) task_of (λ v w c s. s) r
+pub through : {v w : Tasks} {cs : List Call} → Runs Calls v cs w → Runs Put v.stack (tasks_of cs) w.stack
+through r = runs_through Put (λ (v : Tasks). v.stack) task_of (λ v w c s. s) r
 
 -- The tasks of a node
 
 -- of a `let`
-pub put_let : {u v w x y : Stacked Task} (ty first other : Option ℕ) (bound : Task) → Runs Calls u (opt t ty) v → Runs Calls v (opt e first) w → Runs Calls w (opt e other) x → Put x bound y → Runs Put u (tasks_of (opt t ty ++ opt e first ++ opt e other) ++ bound ∷ []) y
+pub put_let : {u v w x : Tasks} {y : Stacked Task} (ty first other : Option ℕ) (bound : Task) → Runs Calls u (opt t ty) v → Runs Calls v (opt e first) w → Runs Calls w (opt e other) x → Put x.stack bound y → Runs Put u.stack (tasks_of (opt t ty ++ opt e first ++ opt e other) ++ bound ∷ []) y
 put_let ty first other bound a b c d = runs_append (through (runs_append (runs_append a b) c)) (runs_one d)
 
 -- of a match

@@ -91,7 +91,7 @@ fn add_formals(
 
 /// Pushes the formals, the first on top.
 fn push_formals(tasks: &mut Tasks, params: &[Param<PatId>]) -> Result<(), ScopesFault>
-    ensures ok { OnOk result (tasks.new.items ≡ formal_tasks (formals_of params.now) ++ tasks.old.items) }
+    ensures ok { OnOk result (tasks.new.stack.items ≡ formal_tasks (formals_of params.now) ++ tasks.old.stack.items) }
     ensures memory { OnErr result (result ≡ Err ScopesFault.Memory) }
 {
     let mut rest = params.len();
@@ -107,7 +107,7 @@ impl Walk {
     fn new(alloc: Global, store: &ExpressionStore) -> Result<Walk, ScopesFault>
         ensures scopes { IfOk result (λ walk. walk.scopes ≡ for_none []) }
         ensures around { IfOk result (λ walk. walk.around ≡ at_first) }
-        ensures tasks { IfOk result (λ walk. walk.tasks.items ≡ []) }
+        ensures tasks { IfOk result (λ walk. walk.tasks.stack.items ≡ []) }
         ensures entries { IfOk result (λ walk. walk.entries.items ≡ []) }
         ensures memory { OnErr result (result ≡ Err ScopesFault.Memory) }
     {

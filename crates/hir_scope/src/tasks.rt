@@ -20,7 +20,6 @@ use hir_node::{
     TypeRef, TypeRefId,
 };
 use hir_stack::Stack;
-use std::marker::Model;
 
 /// The scope around what is met next, and that around the constants in it.
 #[derive(Clone, Copy)]
@@ -59,18 +58,9 @@ pub(crate) struct Tasks {
     pub(crate) stack: Stack<Task>,
 }
 
-impl Model for Tasks {
-    ghost use Rattle.hir_scope.specs.declared.tasks.Task.{Task};
-    ghost use Rattle.hir_stack.specs.Stacks.{Stacked};
-
-    ghost Value = { Stacked Task };
-
-    ghost view = { λ tasks. tasks.stack };
-}
-
 /// Each child of a node becomes a task.
 impl StoreVisitor for Tasks {
-    ghost step = { λ v c w. Runs Put v (task_of c) w };
+    ghost step = { λ v c w. Runs Put v.stack (task_of c) w.stack };
 
     fn on_expr(&mut self, expr: ExprId) {
         self.stack.put(Task::Expr(expr));
@@ -97,12 +87,12 @@ trait Brings {
     ghost tasks: { Self → List Task };
 
     fn put(&self, onto: &mut Tasks)
-        ensures { Runs Put onto.old (tasks self.now) onto.new };
+        ensures { Runs Put onto.old.stack (tasks self.now) onto.new.stack };
 }
 
 /// Puts the tasks of each item, in order.
 fn put_each<T: Brings>(onto: &mut Tasks, items: &[T])
-    ensures { Runs Put onto.old (flat_map T.tasks items.now) onto.new }
+    ensures { Runs Put onto.old.stack (flat_map T.tasks items.now) onto.new.stack }
 {
     for item in items {
         item.put(onto);
@@ -151,7 +141,7 @@ impl Brings for MatchArm {
 impl Tasks {
     /// Pushes a task.
     pub(crate) fn push(&mut self, task: Task) -> Result<(), ScopesFault>
-        ensures ok { OnOk result (self.new.items ≡ task ∷ self.old.items) }
+        ensures ok { OnOk result (self.new.stack.items ≡ task ∷ self.old.stack.items) }
         ensures memory { OnErr result (result ≡ Err ScopesFault.Memory) }
     {
         self.stack.push(task)?;
@@ -160,7 +150,7 @@ impl Tasks {
 
     /// Pushes an expression, where there is one.
     pub(crate) fn push_expr_opt(&mut self, expr: Option<ExprId>) -> Result<(), ScopesFault>
-        ensures ok { OnOk result (self.new.items ≡ tasks_of (opt e expr) ++ self.old.items) }
+        ensures ok { OnOk result (self.new.stack.items ≡ tasks_of (opt e expr) ++ self.old.stack.items) }
         ensures memory { OnErr result (result ≡ Err ScopesFault.Memory) }
     {
         match expr {
@@ -171,22 +161,22 @@ impl Tasks {
 
     /// Pops the next task.
     pub(crate) fn pop(&mut self) -> Option<Task>
-        ensures some { IfSome result (λ task. self.old.items ≡ task ∷ self.new.items) }
-        ensures none { result ≡ None → self.old.items ≡ [] }
+        ensures some { IfSome result (λ task. self.old.stack.items ≡ task ∷ self.new.stack.items) }
+        ensures none { result ≡ None → self.old.stack.items ≡ [] }
     {
         self.stack.pop()
     }
 
     /// Puts a task that restores these scopes.
     fn put_leave(&mut self, around: Around)
-        ensures { Runs Put self.old (leave around ∷ []) self.new }
+        ensures { Runs Put self.old.stack (leave around ∷ []) self.new.stack }
     {
         self.stack.put(Task::Leave(around.here, around.constant));
     }
 
     /// Puts the tasks of what is inside an expression of this form. Leaving the expression restores `around`.
     fn put_form(&mut self, form: &Form<'_>, around: Around)
-        ensures { Runs Put self.old (form_tasks around (seen form.now)) self.new }
+        ensures { Runs Put self.old.stack (form_tasks around (seen form.now)) self.new.stack }
     {
         match form {
             Form::If {
@@ -231,7 +221,7 @@ impl Tasks {
 
     /// Puts the tasks of what is inside a type. Leaving the type restores `around`.
     fn put_type(&mut self, type_ref: &TypeRef, around: Around)
-        ensures { Runs Put self.old (form_tasks around (type_form type_ref.now)) self.new }
+        ensures { Runs Put self.old.stack (form_tasks around (type_form type_ref.now)) self.new.stack }
     {
         match type_ref {
             TypeRef::PatternType(inner, pat) => {
@@ -257,7 +247,7 @@ impl Tasks {
 
     /// Pushes the tasks of what is inside an expression of this form, the first on top.
     pub(crate) fn push_form(&mut self, form: &Form<'_>, around: Around) -> Result<(), ScopesFault>
-        ensures ok { OnOk result (self.new.items ≡ form_tasks around (seen form.now) ++ self.old.items) }
+        ensures ok { OnOk result (self.new.stack.items ≡ form_tasks around (seen form.now) ++ self.old.stack.items) }
         ensures memory { OnErr result (result ≡ Err ScopesFault.Memory) }
     {
         let below = self.stack.len();
@@ -268,7 +258,7 @@ impl Tasks {
 
     /// Pushes the tasks of what is inside a pattern, the first on top.
     pub(crate) fn push_pat(&mut self, pat: &Pat) -> Result<(), ScopesFault>
-        ensures ok { OnOk result (self.new.items ≡ tasks_of (pat_calls pat.now) ++ self.old.items) }
+        ensures ok { OnOk result (self.new.stack.items ≡ tasks_of (pat_calls pat.now) ++ self.old.stack.items) }
         ensures memory { OnErr result (result ≡ Err ScopesFault.Memory) }
     {
         let below = self.stack.len();
@@ -283,8 +273,8 @@ impl Tasks {
         type_ref: &TypeRef,
         around: Around,
     ) -> Result<(), ScopesFault>
-        ensures ok { OnOk result (self.new.items
-            ≡ form_tasks around (type_form type_ref.now) ++ self.old.items) }
+        ensures ok { OnOk result (self.new.stack.items
+            ≡ form_tasks around (type_form type_ref.now) ++ self.old.stack.items) }
         ensures memory { OnErr result (result ≡ Err ScopesFault.Memory) }
     {
         let below = self.stack.len();

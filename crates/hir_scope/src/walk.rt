@@ -8,6 +8,7 @@ ghost use Rattle.hir_scope.specs.Forms.{form_of};
 ghost use Rattle.hir_scope.specs.Chains.{within_own};
 ghost use Rattle.hir_scope.specs.walk.PlacesUnder.{place};
 ghost use Rattle.hir_scope.specs.walk.Pending.{guarded_task};
+ghost use Rattle.hir_scope.specs.walk.Seen.{seen};
 ghost use Rattle.hir_scope.specs.walk.Machine.{doing, machine, state, here_of, constant_of, future_of, IsReady, Exceeds, HasFrames, Moves, Goes, Gone};
 
 use crate::expr_scopes::ExprScopes;
@@ -18,9 +19,7 @@ use crate::tasks::{Around, Task, Tasks};
 use hir_base::Steps;
 use hir_expr_store::ExpressionStore;
 use hir_expr_store::laws::kids_fall;
-use hir_node::{ExprId, MatchArm, PatId, Statement, TypeRefId};
-
-type Parts = (MatchArm, Statement);
+use hir_node::{ExprId, PatId, TypeRefId};
 use std::alloc::Global;
 
 /// A walk: the scopes so far, those around what is met next, and what is still to do.
@@ -36,7 +35,33 @@ pub(crate) struct Walk {
 }
 
 impl Walk {
-    /// Meets an expression, and answers its scope: what is inside it comes next.
+    /// Meets an expression of this form, and answers its scope: what is inside it comes next.
+    fn meet_form(
+        &mut self,
+        store: &ExpressionStore,
+        expr: ExprId,
+        form: &Form<'_>,
+    ) -> Result<ScopeId, ScopesFault>
+        requires ready { IsReady store.now.nodes (doing self.old (Task.Expr expr)) }
+        requires form { seen form.now ≡ form_of store.now.nodes (node.Expr expr) }
+        ensures moves { IfOk result (λ _. Moves store.now.nodes
+            (doing self.old (Task.Expr expr)) (state self.new)
+            (place (node.Expr expr) (here_of (state self.old)) (constant_of (state self.old)) ∷ [])) }
+        ensures scope { IfOk result (λ scope. HasFrames self.new.scopes.scopes scope
+            (within_own (form_of store.now.nodes (node.Expr expr)) (here_of (state self.old)))) }
+        ensures full { result ≡ Err ScopesFault.Full
+            → Exceeds store.now.nodes (doing self.old (Task.Expr expr)) }
+        ensures missing { result ≡ Err ScopesFault.Missing → ⊥ }
+    {
+        store.has_no_fault();
+        kids_fall();
+        let outside = self.around.here;
+        self.tasks.push_form(form, self.around)?;
+        self.open_inside(store, expr, form)?;
+        Ok(form.scope(self.around.here, outside))
+    }
+
+    /// The same of any expression.
     fn meet_expr(&mut self, store: &ExpressionStore, expr: ExprId) -> Result<ScopeId, ScopesFault>
         requires ready { IsReady store.now.nodes (doing self.old (Task.Expr expr)) }
         ensures moves { IfOk result (λ _. Moves store.now.nodes
@@ -50,15 +75,11 @@ impl Walk {
     {
         store.has_no_fault();
         kids_fall();
-        let outside = self.around.here;
         let inner = &store[expr];
         if is_alone(inner) {
-            return Ok(outside);
+            return Ok(self.around.here);
         }
-        let form = Form::of(inner);
-        self.tasks.push_form(&form, self.around)?;
-        self.open_inside(store, expr, &form)?;
-        Ok(form.scope(self.around.here, outside))
+        self.meet_form(store, expr, &Form::of(inner))
     }
 
     /// Meets an anonymous constant.
@@ -188,14 +209,14 @@ impl Walk {
         store: &ExpressionStore,
         steps: &mut Steps,
     ) -> Result<(), ScopesFault>
-        requires ready { IsReady store.now.nodes (machine self.old self.old.tasks.items) }
-        ensures gone { IfOk result (λ _. Gone store.now.nodes (machine self.old self.old.tasks.items)
+        requires ready { IsReady store.now.nodes (machine self.old self.old.tasks.stack.items) }
+        ensures gone { IfOk result (λ _. Gone store.now.nodes (machine self.old self.old.tasks.stack.items)
             (machine self.new []) steps.old steps.new) }
         ensures rises { steps.old ≤ steps.new }
         ensures few { OnErr result (steps.new ≤ steps.old
-            + length (future_of store.now.nodes (machine self.old self.old.tasks.items))) }
+            + length (future_of store.now.nodes (machine self.old self.old.tasks.stack.items))) }
         ensures full { result ≡ Err ScopesFault.Full
-            → Exceeds store.now.nodes (machine self.old self.old.tasks.items) }
+            → Exceeds store.now.nodes (machine self.old self.old.tasks.stack.items) }
         ensures missing { result ≡ Err ScopesFault.Missing → ⊥ }
     {
         while let Some(task) = self.tasks.pop() {

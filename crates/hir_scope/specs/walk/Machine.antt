@@ -33,11 +33,11 @@ machine w tasks = record { scopes = w.scopes; around = w.around; tasks = tasks }
 
 -- with all that is still to do
 abbrev pub state : Walk → Machine
-state w = machine w w.tasks.items
+state w = machine w w.tasks.stack.items
 
 -- where this task is to be done first
 abbrev pub doing : Walk → Task → Machine
-doing w task = machine w (task ∷ w.tasks.items)
+doing w task = machine w (task ∷ w.tasks.stack.items)
 
 -- the chain of each scope
 abbrev pub chain_of : List Scope → ℕ → Chain

@@ -1,4 +1,4 @@
 use Rattle.hir_scope.proofs.entries.add_pat.Goals as goal
 
 pub returns-clause-ok : goal.returns-clause-ok
-returns-clause-ok c = c.try_walk_bindings_in_pat
+returns-clause-ok c = ?

@@ -1,4 +1,4 @@
-use Rattle.std.proofs.Common.{sym, ap, ◌∙◌, length}
+use Rattle.std.proofs.Common.{sym, ap}
 use Rattle.hir_stack.specs.Stacks.{Stacked}
 use Rattle.hir_scope.specs.declared.tasks.Task.{Task}
 use Rattle.hir_scope.proofs.PutLemmas.{puts_all}
@@ -6,4 +6,4 @@ use Rattle.hir_scope.proofs.tasks.Tasks.push_type.Goals as goal
 
 pub returns-clause-ok : goal.returns-clause-ok
 returns-clause-ok c =
-    ap (λ (s : Stacked Task). s.items) (c.in_ok-turn_over.ensures c.args.self.now _ (sym (ap (λ (s : Stacked Task). length s.items) c.self.view_is) ∙ sym c.len-below.ensures) (puts_all c.put_type.ensures))
+    ap (λ (s : Stacked Task). s.items) (c.in_ok-turn_over.ensures c.args.self.now.stack _ (sym c.len-below.ensures) (puts_all c.put_type.ensures))

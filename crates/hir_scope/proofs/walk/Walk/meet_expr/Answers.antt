@@ -1,58 +1,10 @@
-use Rattle.std.proofs.Common.{rules, ◌≡◌, ℕ, ◌∷◌, ◌++◌, map, refl, sym, ap, ◌∙◌, subst}
-use Rattle.hir_node.specs.declared.expr.Expr.{Expr}
-use Rattle.hir_node.specs.declared.node_id.NodeId.TheVariants as node
-use Rattle.hir_scope.specs.declared.tasks.Task.TheVariants as task
-use Rattle.hir_scope.specs.Chains.{within_own}
-use Rattle.hir_scope.specs.Forms.{ScopingForm, form_at, form_of, expr_form}
-use Rattle.hir_scope.specs.walk.Pending.{form_tasks, opens_here, opens_constant}
-use Rattle.hir_scope.specs.Scopes.{frame_of}
-use Rattle.hir_scope.specs.walk.Machine.{state, here_of, Over, HasFrames, Opened, scope_within}
-use Rattle.hir_scope.specs.walk.Seen.{seen}
-use Rattle.hir_scope.proofs.MovingLemmas.{frames_grown, at, own_frames, over_exceeds}
-use Rattle.hir_scope.proofs.DoneLemmas.{expr_moves, empty_moves, met_frames}
+use Rattle.std.proofs.Common.{rules, sym, ap, ◌∙◌}
+use Rattle.hir_scope.specs.Forms.{form_at, expr_form}
+use Rattle.hir_scope.proofs.DoneLemmas.{empty_moves}
 use Rattle.hir_scope.proofs.walk.Walk.meet_expr.Goals as goal
 
-pub open_inside-requires-clause-form : goal.open_inside-requires-clause-form
-open_inside-requires-clause-form c = c.of-form.ensures ∙ sym (ap (form_at expr_form) c.index-inner.ensures)
-
-pub returns-in_err-open_inside-clause-full : goal.returns-in_err-open_inside-clause-full
-returns-in_err-open_inside-clause-full c =
-    let s = c.args.store.now.nodes in
-    let w = c.args.self.now in
-    let x = form_of s (node.Expr c.args.expr) in
-    let fall = c.kids_fall.ensures c.args.store.now c.has_no_fault.ensures in
-    let fs = opens_here s x ++ opens_constant x in
-    let is : seen c.of-form.result ≡ x = c.of-form.ensures ∙ sym (ap (form_at expr_form) c.index-inner.ensures) in
-    λ h.
-    let o : Over (map frame_of w.scopes.scopes ++ (opens_here s (seen c.of-form.result) ++ opens_constant (seen c.of-form.result))) = search rules in
-    over_exceeds s w.scopes w.around (task.Expr c.args.expr ∷ w.tasks.items) fs (met_frames s fall w.around c.args.expr w.tasks.items c.requires.ready.known)
-    (subst (λ (y : ScopingForm). Over (map frame_of w.scopes.scopes ++ (opens_here s y ++ opens_constant y))) is o)
-
-pub returns-clause-moves : goal.returns-clause-moves
-returns-clause-moves c =
-    let s = c.args.store.now.nodes in
-    let w = c.args.self.now in
-    let x = form_of s (node.Expr c.args.expr) in
-    let fall = c.kids_fall.ensures c.args.store.now c.has_no_fault.ensures in
-    let is : seen c.of-form.result ≡ x = c.of-form.ensures ∙ sym (ap (form_at expr_form) c.index-inner.ensures) in
-    let ts = c.push_form.new.self.items in
-    let pushed : ts ≡ form_tasks w.around x ++ w.tasks.items = c.in_ok-push_form.ensures.ok ∙ ap (λ (y : ScopingForm). form_tasks w.around y ++ w.tasks.items) is in
-    let opened = subst (λ (y : ScopingForm). Opened (at w.scopes w.around ts) (state c.open_inside.new.self) (opens_here s y) (opens_constant y)) is c.in_ok-open_inside.ensures.opened in
-    expr_moves s fall w.scopes w.around c.args.expr w.tasks.items ts (state c.open_inside.new.self) pushed opened c.requires.ready
-
-pub returns-clause-scope : goal.returns-clause-scope
-returns-clause-scope c =
-    let s = c.args.store.now.nodes in
-    let w = c.args.self.now in
-    let n = c.open_inside.new.self in
-    let x = form_of s (node.Expr c.args.expr) in
-    let h = here_of (state w) in
-    let is : seen c.of-form.result ≡ x = c.of-form.ensures ∙ sym (ap (form_at expr_form) c.index-inner.ensures) in
-    let o = c.in_ok-open_inside.ensures.opened in
-    let around = frames_grown w.scopes.scopes n.scopes.scopes o.more w.around.here h o.grows (record { within = c.requires.ready.here; is = refl }) in
-    let here = own_frames s (seen c.of-form.result) n.scopes.scopes n.around.here w.around.here h o.here around in
-    subst (λ (i : ℕ). HasFrames n.scopes.scopes i (within_own x h)) (sym c.scope.ensures)
-    (subst (λ (y : ScopingForm). HasFrames n.scopes.scopes (scope_within (seen c.of-form.result) n.around.here w.around.here) (within_own y h)) is here)
+pub meet_form-requires-clause-form : goal.meet_form-requires-clause-form
+meet_form-requires-clause-form c = c.of.ensures ∙ sym (ap (form_at expr_form) c.index-inner.ensures)
 
 pub returns-then-is_alone-clause-moves : goal.returns-then-is_alone-clause-moves
 returns-then-is_alone-clause-moves c =
@@ -60,4 +12,4 @@ returns-then-is_alone-clause-moves c =
     let w = c.args.self.now in
     let fall = c.kids_fall.ensures c.args.store.now c.has_no_fault.ensures in
     let is = ap (form_at expr_form) c.index-inner.ensures ∙ c.is_alone.ensures (search rules) in
-    empty_moves s fall w.scopes w.around c.args.expr w.tasks.items is c.requires.ready
+    empty_moves s fall w.scopes w.around c.args.expr w.tasks.stack.items is c.requires.ready

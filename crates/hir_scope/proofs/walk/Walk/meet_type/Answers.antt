@@ -14,5 +14,5 @@ returns-clause-moves c =
     let pushed =
     c.in_ok-push_type.ensures.ok
     ∙ (ap (λ (ts : List Task). form_tasks b (type_form c.index.result.now) ++ ts) c.in_ok-push.ensures.ok
-    ∙ ap (λ (o : Option TypeRef). form_tasks b (form_at type_form o) ++ (leave w.around ∷ w.tasks.items)) (sym c.index.ensures)) in
-    type_moves c.args.store.now.nodes fall w.scopes w.around c.args.type_ref w.tasks.items c.push_type.new.self.items pushed c.requires.ready
+    ∙ ap (λ (o : Option TypeRef). form_tasks b (form_at type_form o) ++ (leave w.around ∷ w.tasks.stack.items)) (sym c.index.ensures)) in
+    type_moves c.args.store.now.nodes fall w.scopes w.around c.args.type_ref w.tasks.stack.items c.push_type.new.self.stack.items pushed c.requires.ready

@@ -10,7 +10,7 @@ loop-task-init c = gone_start c.args.store.now.nodes (state c.args.self.now) c.a
 pub loop-task-preserved : goal.loop-task-preserved
 loop-task-preserved c =
     let s = c.args.store.now.nodes in
-    let was : c.loop-task.self.tasks.items ≡ c.in-Some.task ∷ c.pop.new.self.items = c.in-Some.ensures.some in
+    let was : c.loop-task.self.tasks.stack.items ≡ c.in-Some.task ∷ c.pop.new.self.items = c.in-Some.ensures.some in
     let start = state c.args.self.now in
     let mid = machine c.loop-task.self (c.in-Some.task ∷ c.pop.new.self.items) in
     let before = subst (λ (ts : List Task). Gone s start (machine c.loop-task.self ts) c.args.steps.now c.loop-task.steps) was c.loop-task.invariant in
