@@ -1,19 +1,19 @@
--- Along a walk that can stop: what each item keeps holds where the walk went to its end, and a refusal is that of an item.
+-- Along a walk that can stop: what each item keeps holds where the walk went to its end.
 use Rattle.std.proofs.Common.{◌≡◌, List, [], ◌∷◌, ◌++◌, Ok, Err, ap, ◌∙◌}
-use Rattle.std.specs.Prelude.{Result, OnOk, OnErr}
+use Rattle.std.specs.Prelude.{Result, OnOk}
 use Rattle.std.specs.List.{flat_map}
 use Rattle.std.proofs.lemmas.Fn.{chained_keeps}
 use Rattle.std.proofs.lemmas.List.{flat_map_more}
 use Rattle.hir_expr_store.specs.Tries.{Tries}
 
-module _ {P A E : Type 0} (step : P → A → Result (Unit {0}) E → P → Type 0) where
-  pub tries_keep : (J : List A → P → Type 0) → ((xs : List A) (p : P) (x : A) (q : P) → J xs p → step p x (Ok tt) q → J (xs ++ x ∷ []) q) → (xs : List A) (p q : P) (r : Result (Unit {0}) E) → J [] p → Tries step p xs r q → OnOk r (J xs q)
-  tries_keep J keeps xs p q (Ok done) j t = chained_keeps (λ u y v. step u y (Ok tt) v) J keeps xs p q j t.ok
-  tries_keep J keeps xs p q (Err e) j t = tt
+module _ {P A E : Type 0} {step : P → A → Result (Unit {0}) E → P → Type 0} where
+  pub tries_keep : {xs : List A} {p q : P} (r : Result (Unit {0}) E) → Tries step p xs r q → (J : List A → P → Type 0) → ((ys : List A) (u : P) (x : A) (v : P) → J ys u → step u x (Ok tt) v → J (ys ++ x ∷ []) v) → J [] p → OnOk r (J xs q)
+  tries_keep {xs} {p} {q} (Ok done) t J keeps j = chained_keeps (λ u y v. step u y (Ok tt) v) J keeps xs p q j t.ok
+  tries_keep (Err e) t J keeps j = tt
 
-  pub tries_err : (fault : E) → ((p : P) (x : A) (e : E) (q : P) → step p x (Err e) q → e ≡ fault) → (xs : List A) (p q : P) (r : Result (Unit {0}) E) → Tries step p xs r q → OnErr r (r ≡ Err fault)
-  tries_err fault is xs p q (Ok done) t = tt
-  tries_err fault is xs p q (Err e) t = let s = t.err in ap Err (is s.3 s.2 e q s.6)
+pub on_ok : {T E : Type 0} (r : Result T E) (A B : Type 0) → (A → B) → OnOk r A → OnOk r B
+on_ok (Ok x) A B f h = f h
+on_ok (Err e) A B f h = tt
 
 -- one item more, at the end of what was added
 pub added_more : {A X : Type 0} (f : A → List X) (before now new : List X) (xs : List A) (x : A) → now ≡ before ++ flat_map f xs → new ≡ now ++ f x → new ≡ before ++ flat_map f (xs ++ x ∷ [])

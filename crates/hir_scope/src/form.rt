@@ -1,12 +1,20 @@
 //! What an expression does with scopes: by its form the walk knows what comes when, and in which scope.
 
-ghost use Rattle.std.specs.Prelude.{◌≡◌, [], IsTrue};
-ghost use Rattle.hir_scope.specs.Forms.{InTurn, expr_form};
-ghost use Rattle.hir_scope.specs.walk.Machine.{scope_within};
+ghost use Rattle.std.specs.Prelude.{◌≡◌, [], ◌∷◌, Err, IfOk, IsTrue, Some, slice_get};
+ghost use Rattle.hir_node.specs.declared.node_id.NodeId.TheVariants as node;
+ghost use Rattle.hir_scope.specs.Chains.{within_own};
+ghost use Rattle.hir_scope.specs.Forms.{InTurn, expr_form, form_of};
+ghost use Rattle.hir_scope.specs.walk.Machine.{doing, state, here_of, constant_of, scope_within, IsReady, Exceeds, HasFrames, Moves};
+ghost use Rattle.hir_scope.specs.walk.PlacesUnder.{place};
 ghost use Rattle.hir_scope.specs.walk.Seen.{seen};
 
+use crate::fault::ScopesFault;
 use crate::scope::ScopeId;
+use crate::tasks::Task;
+use crate::walk::Walk;
 use hir_base::BlockId;
+use hir_expr_store::ExpressionStore;
+use hir_expr_store::laws::kids_fall;
 use hir_node::{Expr, ExprId, LabelId, MatchArm, PatId, Path, Statement, TypeRefId};
 
 /// Whether an expression is a bare path, a literal or missing: nothing is inside these.
@@ -14,10 +22,10 @@ use hir_node::{Expr, ExprId, LabelId, MatchArm, PatId, Path, Statement, TypeRefI
 pub(crate) fn is_alone(expr: &Expr) -> bool
     ensures { IsTrue result → expr_form expr.now ≡ InTurn [] }
 {
-    if let Expr::Path(Path::BarePath(_)) | Expr::Literal(_) | Expr::Missing = expr {
-        return true;
-    }
-    false
+    matches!(
+        expr,
+        Expr::Path(Path::BarePath(_)) | Expr::Literal(_) | Expr::Missing
+    )
 }
 
 /// An expression by its scoping form, borrowed.
@@ -159,5 +167,59 @@ impl<'a> Form<'a> {
             return inside;
         }
         outside
+    }
+}
+
+impl Walk {
+    /// Meets this expression, and answers its scope: what is inside it comes next.
+    fn meet_inner(
+        &mut self,
+        store: &ExpressionStore,
+        expr: ExprId,
+        inner: &Expr,
+    ) -> Result<ScopeId, ScopesFault>
+        requires ready { IsReady store.now.nodes (doing self.old (Task.Expr expr)) }
+        requires inner { slice_get store.now.nodes.exprs expr ≡ Some inner.now }
+        ensures moves { IfOk result (λ _. Moves store.now.nodes
+            (doing self.old (Task.Expr expr)) (state self.new)
+            (place (node.Expr expr) (here_of (state self.old)) (constant_of (state self.old)) ∷ [])) }
+        ensures scope { IfOk result (λ scope. HasFrames self.new.scopes.scopes scope
+            (within_own (form_of store.now.nodes (node.Expr expr)) (here_of (state self.old)))) }
+        ensures full { result ≡ Err ScopesFault.Full
+            → Exceeds store.now.nodes (doing self.old (Task.Expr expr)) }
+        ensures missing { result ≡ Err ScopesFault.Missing → ⊥ }
+    {
+        store.has_no_fault();
+        kids_fall();
+        let outside = self.around.here;
+        let form = Form::of(inner);
+        self.tasks.push_form(&form, self.around)?;
+        self.open_inside(store, expr, &form)?;
+        Ok(form.scope(self.around.here, outside))
+    }
+
+    /// The same of any expression.
+    pub(crate) fn meet_expr(
+        &mut self,
+        store: &ExpressionStore,
+        expr: ExprId,
+    ) -> Result<ScopeId, ScopesFault>
+        requires ready { IsReady store.now.nodes (doing self.old (Task.Expr expr)) }
+        ensures moves { IfOk result (λ _. Moves store.now.nodes
+            (doing self.old (Task.Expr expr)) (state self.new)
+            (place (node.Expr expr) (here_of (state self.old)) (constant_of (state self.old)) ∷ [])) }
+        ensures scope { IfOk result (λ scope. HasFrames self.new.scopes.scopes scope
+            (within_own (form_of store.now.nodes (node.Expr expr)) (here_of (state self.old)))) }
+        ensures full { result ≡ Err ScopesFault.Full
+            → Exceeds store.now.nodes (doing self.old (Task.Expr expr)) }
+        ensures missing { result ≡ Err ScopesFault.Missing → ⊥ }
+    {
+        store.has_no_fault();
+        kids_fall();
+        let inner = &store[expr];
+        if is_alone(inner) {
+            return Ok(self.around.here);
+        }
+        self.meet_inner(store, expr, inner)
     }
 }

@@ -159,14 +159,6 @@ impl Tasks {
         }
     }
 
-    /// Pops the next task.
-    pub(crate) fn pop(&mut self) -> Option<Task>
-        ensures some { IfSome result (λ task. self.old.stack.items ≡ task ∷ self.new.stack.items) }
-        ensures none { result ≡ None → self.old.stack.items ≡ [] }
-    {
-        self.stack.pop()
-    }
-
     /// Puts a task that restores these scopes.
     fn put_leave(&mut self, around: Around)
         ensures { Runs Put self.old.stack (leave around ∷ []) self.new.stack }
@@ -202,7 +194,11 @@ impl Tasks {
                 self.on_expr_opt(*tail);
                 self.put_leave(around);
             }
-            Form::Loop { .. } | Form::Closure { .. } => {
+            Form::Loop { body, .. } => {
+                self.on_expr(*body);
+                self.put_leave(around);
+            }
+            Form::Closure { .. } => {
                 visit_form(form, self);
                 self.put_leave(around);
             }

@@ -1,19 +1,11 @@
 //! The walk that gives each expression its scope: one loop over what is still to do.
-
-ghost use Rattle.std.specs.Prelude.{◌≡◌, ◌<◌, ◌≤◌, ◌+◌, [], ◌∷◌, ◌++◌, length, map, Err, IfOk, OnOk, OnErr};
-ghost use Rattle.std.specs.FinMap as finmap;
-ghost use Rattle.hir_node.specs.declared.node_id.NodeId.TheVariants as node;
+ghost use Rattle.std.specs.Prelude.{◌≡◌, ◌<◌, ◌≤◌, ◌+◌, [], length, Err, IfOk, OnErr};
 ghost use Rattle.hir_faults.specs.Nodes.{Nodes};
-ghost use Rattle.hir_scope.specs.Forms.{form_of};
-ghost use Rattle.hir_scope.specs.Chains.{within_own};
-ghost use Rattle.hir_scope.specs.walk.PlacesUnder.{place};
 ghost use Rattle.hir_scope.specs.walk.Pending.{guarded_task};
-ghost use Rattle.hir_scope.specs.walk.Seen.{seen};
-ghost use Rattle.hir_scope.specs.walk.Machine.{doing, machine, state, here_of, constant_of, future_of, IsReady, Exceeds, HasFrames, Moves, Goes, Gone};
+ghost use Rattle.hir_scope.specs.walk.Machine.{doing, machine, state, future_of, IsReady, Exceeds, Moves, Goes, Gone};
 
 use crate::expr_scopes::ExprScopes;
 use crate::fault::ScopesFault;
-use crate::form::{Form, is_alone};
 use crate::scope::{ScopeEntry, ScopeId, ScopeKind};
 use crate::tasks::{Around, Task, Tasks};
 use hir_base::Steps;
@@ -35,53 +27,6 @@ pub(crate) struct Walk {
 }
 
 impl Walk {
-    /// Meets an expression of this form, and answers its scope: what is inside it comes next.
-    fn meet_form(
-        &mut self,
-        store: &ExpressionStore,
-        expr: ExprId,
-        form: &Form<'_>,
-    ) -> Result<ScopeId, ScopesFault>
-        requires ready { IsReady store.now.nodes (doing self.old (Task.Expr expr)) }
-        requires form { seen form.now ≡ form_of store.now.nodes (node.Expr expr) }
-        ensures moves { IfOk result (λ _. Moves store.now.nodes
-            (doing self.old (Task.Expr expr)) (state self.new)
-            (place (node.Expr expr) (here_of (state self.old)) (constant_of (state self.old)) ∷ [])) }
-        ensures scope { IfOk result (λ scope. HasFrames self.new.scopes.scopes scope
-            (within_own (form_of store.now.nodes (node.Expr expr)) (here_of (state self.old)))) }
-        ensures full { result ≡ Err ScopesFault.Full
-            → Exceeds store.now.nodes (doing self.old (Task.Expr expr)) }
-        ensures missing { result ≡ Err ScopesFault.Missing → ⊥ }
-    {
-        store.has_no_fault();
-        kids_fall();
-        let outside = self.around.here;
-        self.tasks.push_form(form, self.around)?;
-        self.open_inside(store, expr, form)?;
-        Ok(form.scope(self.around.here, outside))
-    }
-
-    /// The same of any expression.
-    fn meet_expr(&mut self, store: &ExpressionStore, expr: ExprId) -> Result<ScopeId, ScopesFault>
-        requires ready { IsReady store.now.nodes (doing self.old (Task.Expr expr)) }
-        ensures moves { IfOk result (λ _. Moves store.now.nodes
-            (doing self.old (Task.Expr expr)) (state self.new)
-            (place (node.Expr expr) (here_of (state self.old)) (constant_of (state self.old)) ∷ [])) }
-        ensures scope { IfOk result (λ scope. HasFrames self.new.scopes.scopes scope
-            (within_own (form_of store.now.nodes (node.Expr expr)) (here_of (state self.old)))) }
-        ensures full { result ≡ Err ScopesFault.Full
-            → Exceeds store.now.nodes (doing self.old (Task.Expr expr)) }
-        ensures missing { result ≡ Err ScopesFault.Missing → ⊥ }
-    {
-        store.has_no_fault();
-        kids_fall();
-        let inner = &store[expr];
-        if is_alone(inner) {
-            return Ok(self.around.here);
-        }
-        self.meet_form(store, expr, &Form::of(inner))
-    }
-
     /// Meets an anonymous constant.
     fn meet_constant(&mut self, expr: ExprId) -> Result<(), ScopesFault>
         ensures moves { IfOk result (λ _. (s : Nodes) → IsReady s (doing self.old (Task.Constant expr))
@@ -219,7 +164,7 @@ impl Walk {
             → Exceeds store.now.nodes (machine self.old self.old.tasks.stack.items) }
         ensures missing { result ≡ Err ScopesFault.Missing → ⊥ }
     {
-        while let Some(task) = self.tasks.pop() {
+        while let Some(task) = self.tasks.stack.pop() {
             self.go_on(store, task, steps)?;
         }
         Ok(())

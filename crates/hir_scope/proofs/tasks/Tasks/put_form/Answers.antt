@@ -1,4 +1,3 @@
-use Rattle.std.proofs.Common.{⊎_elim}
 use Rattle.hir_node.proofs.RunLemmas.{runs_one, runs_append}
 use Rattle.hir_scope.proofs.PutLemmas.{through}
 use Rattle.hir_scope.proofs.tasks.Tasks.put_form.Goals as goal
@@ -10,6 +9,4 @@ pub returns-in-Let : goal.returns-in-Let
 returns-in-Let c = rw c.in-Let.is (runs_append c.on_expr-in-Let.ensures (runs_one c.put.ensures))
 
 pub returns-in-Loop : goal.returns-in-Loop
-returns-in-Loop c =
-    ⊎_elim (λ q. rw q.1 (runs_append (through (rw q.1 at c.visit_form-in-Loop.ensures)) c.put_leave-in-Loop.ensures))
-    (λ q. rw q.1 (runs_append (through (rw q.1 at c.visit_form-in-Loop.ensures)) c.put_leave-in-Loop.ensures)) c.in-Loop.is
+returns-in-Loop c = rw c.in-Loop.is (runs_append c.on_expr-in-Loop.ensures c.put_leave-in-Loop.ensures)

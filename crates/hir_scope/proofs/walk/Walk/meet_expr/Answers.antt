@@ -3,9 +3,6 @@ use Rattle.hir_scope.specs.Forms.{form_at, expr_form}
 use Rattle.hir_scope.proofs.DoneLemmas.{empty_moves}
 use Rattle.hir_scope.proofs.walk.Walk.meet_expr.Goals as goal
 
-pub meet_form-requires-clause-form : goal.meet_form-requires-clause-form
-meet_form-requires-clause-form c = c.of.ensures ∙ sym (ap (form_at expr_form) c.index-inner.ensures)
-
 pub returns-then-is_alone-clause-moves : goal.returns-then-is_alone-clause-moves
 returns-then-is_alone-clause-moves c =
     let s = c.args.store.now.nodes in
