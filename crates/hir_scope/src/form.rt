@@ -171,8 +171,34 @@ impl<'a> Form<'a> {
 }
 
 impl Walk {
-    /// Meets this expression, and answers its scope: what is inside it comes next.
-    fn meet_inner(
+    /// Meets an expression of this form, and answers its scope: what is inside it comes next.
+    fn meet_form(
+        &mut self,
+        store: &ExpressionStore,
+        expr: ExprId,
+        form: &Form<'_>,
+    ) -> Result<ScopeId, ScopesFault>
+        requires ready { IsReady store.now.nodes (doing self.old (Task.Expr expr)) }
+        requires form { seen form.now ≡ form_of store.now.nodes (node.Expr expr) }
+        ensures moves { IfOk result (λ _. Moves store.now.nodes
+            (doing self.old (Task.Expr expr)) (state self.new)
+            (place (node.Expr expr) (here_of (state self.old)) (constant_of (state self.old)) ∷ [])) }
+        ensures scope { IfOk result (λ scope. HasFrames self.new.scopes.scopes scope
+            (within_own (form_of store.now.nodes (node.Expr expr)) (here_of (state self.old)))) }
+        ensures full { result ≡ Err ScopesFault.Full
+            → Exceeds store.now.nodes (doing self.old (Task.Expr expr)) }
+        ensures missing { result ≡ Err ScopesFault.Missing → ⊥ }
+    {
+        store.has_no_fault();
+        kids_fall();
+        let outside = self.around.here;
+        self.tasks.push_form(form, self.around)?;
+        self.open_inside(store, expr, form)?;
+        Ok(form.scope(self.around.here, outside))
+    }
+
+    /// The same of this expression.
+    pub(crate) fn meet_expr(
         &mut self,
         store: &ExpressionStore,
         expr: ExprId,
@@ -191,35 +217,9 @@ impl Walk {
     {
         store.has_no_fault();
         kids_fall();
-        let outside = self.around.here;
-        let form = Form::of(inner);
-        self.tasks.push_form(&form, self.around)?;
-        self.open_inside(store, expr, &form)?;
-        Ok(form.scope(self.around.here, outside))
-    }
-
-    /// The same of any expression.
-    pub(crate) fn meet_expr(
-        &mut self,
-        store: &ExpressionStore,
-        expr: ExprId,
-    ) -> Result<ScopeId, ScopesFault>
-        requires ready { IsReady store.now.nodes (doing self.old (Task.Expr expr)) }
-        ensures moves { IfOk result (λ _. Moves store.now.nodes
-            (doing self.old (Task.Expr expr)) (state self.new)
-            (place (node.Expr expr) (here_of (state self.old)) (constant_of (state self.old)) ∷ [])) }
-        ensures scope { IfOk result (λ scope. HasFrames self.new.scopes.scopes scope
-            (within_own (form_of store.now.nodes (node.Expr expr)) (here_of (state self.old)))) }
-        ensures full { result ≡ Err ScopesFault.Full
-            → Exceeds store.now.nodes (doing self.old (Task.Expr expr)) }
-        ensures missing { result ≡ Err ScopesFault.Missing → ⊥ }
-    {
-        store.has_no_fault();
-        kids_fall();
-        let inner = &store[expr];
         if is_alone(inner) {
             return Ok(self.around.here);
         }
-        self.meet_inner(store, expr, inner)
+        self.meet_form(store, expr, &Form::of(inner))
     }
 }

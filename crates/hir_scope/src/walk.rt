@@ -6,7 +6,7 @@ ghost use Rattle.hir_scope.specs.walk.Machine.{doing, machine, state, future_of,
 
 use crate::expr_scopes::ExprScopes;
 use crate::fault::ScopesFault;
-use crate::scope::{ScopeEntry, ScopeId, ScopeKind};
+use crate::scope::{ScopeEntry, ScopeKind};
 use crate::tasks::{Around, Task, Tasks};
 use hir_base::Steps;
 use hir_expr_store::ExpressionStore;
@@ -125,7 +125,7 @@ impl Walk {
     {
         match task {
             Task::Expr(expr) => {
-                let scope = self.meet_expr(store, expr)?;
+                let scope = self.meet_expr(store, expr, &store[expr])?;
                 self.scopes.set_scope(expr, scope)?;
                 steps.tick();
                 Ok(())

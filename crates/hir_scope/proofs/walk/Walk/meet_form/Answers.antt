@@ -10,10 +10,7 @@ use Rattle.hir_scope.specs.walk.Machine.{state, here_of, Over, HasFrames, Opened
 use Rattle.hir_scope.specs.walk.Seen.{seen}
 use Rattle.hir_scope.proofs.MovingLemmas.{frames_grown, at, own_frames, over_exceeds}
 use Rattle.hir_scope.proofs.DoneLemmas.{expr_moves, met_frames}
-use Rattle.hir_scope.proofs.walk.Walk.meet_inner.Goals as goal
-
-pub open_inside-requires-clause-form : goal.open_inside-requires-clause-form
-open_inside-requires-clause-form c = c.of-form.ensures ∙ sym (ap (form_at expr_form) c.requires.inner)
+use Rattle.hir_scope.proofs.walk.Walk.meet_form.Goals as goal
 
 pub returns-in_err-open_inside-clause-full : goal.returns-in_err-open_inside-clause-full
 returns-in_err-open_inside-clause-full c =
@@ -22,9 +19,9 @@ returns-in_err-open_inside-clause-full c =
     let x = form_of s (node.Expr c.args.expr) in
     let fall = c.kids_fall.ensures c.args.store.now c.has_no_fault.ensures in
     let fs = opens_here s x ++ opens_constant x in
-    let is : seen c.of-form.result ≡ x = c.of-form.ensures ∙ sym (ap (form_at expr_form) c.requires.inner) in
+    let is : seen c.args.form.now ≡ x = c.requires.form in
     λ h.
-    let o : Over (map frame_of w.scopes.scopes ++ (opens_here s (seen c.of-form.result) ++ opens_constant (seen c.of-form.result))) = search rules in
+    let o : Over (map frame_of w.scopes.scopes ++ (opens_here s (seen c.args.form.now) ++ opens_constant (seen c.args.form.now))) = search rules in
     over_exceeds s w.scopes w.around (task.Expr c.args.expr ∷ w.tasks.stack.items) fs (met_frames s fall w.around c.args.expr w.tasks.stack.items c.requires.ready.known)
     (subst (λ (y : ScopingForm). Over (map frame_of w.scopes.scopes ++ (opens_here s y ++ opens_constant y))) is o)
 
@@ -34,7 +31,7 @@ returns-clause-moves c =
     let w = c.args.self.now in
     let x = form_of s (node.Expr c.args.expr) in
     let fall = c.kids_fall.ensures c.args.store.now c.has_no_fault.ensures in
-    let is : seen c.of-form.result ≡ x = c.of-form.ensures ∙ sym (ap (form_at expr_form) c.requires.inner) in
+    let is : seen c.args.form.now ≡ x = c.requires.form in
     let ts = c.push_form.new.self.stack.items in
     let pushed : ts ≡ form_tasks w.around x ++ w.tasks.stack.items = c.in_ok-push_form.ensures.ok ∙ ap (λ (y : ScopingForm). form_tasks w.around y ++ w.tasks.stack.items) is in
     let opened = subst (λ (y : ScopingForm). Opened (at w.scopes w.around ts) (state c.open_inside.new.self) (opens_here s y) (opens_constant y)) is c.in_ok-open_inside.ensures.opened in
@@ -47,9 +44,9 @@ returns-clause-scope c =
     let n = c.open_inside.new.self in
     let x = form_of s (node.Expr c.args.expr) in
     let h = here_of (state w) in
-    let is : seen c.of-form.result ≡ x = c.of-form.ensures ∙ sym (ap (form_at expr_form) c.requires.inner) in
+    let is : seen c.args.form.now ≡ x = c.requires.form in
     let o = c.in_ok-open_inside.ensures.opened in
     let around = frames_grown w.scopes.scopes n.scopes.scopes o.more w.around.here h o.grows (record { within = c.requires.ready.here; is = refl }) in
-    let here = own_frames s (seen c.of-form.result) n.scopes.scopes n.around.here w.around.here h o.here around in
+    let here = own_frames s (seen c.args.form.now) n.scopes.scopes n.around.here w.around.here h o.here around in
     subst (λ (i : ℕ). HasFrames n.scopes.scopes i (within_own x h)) (sym c.scope.ensures)
-    (subst (λ (y : ScopingForm). HasFrames n.scopes.scopes (scope_within (seen c.of-form.result) n.around.here w.around.here) (within_own y h)) is here)
+    (subst (λ (y : ScopingForm). HasFrames n.scopes.scopes (scope_within (seen c.args.form.now) n.around.here w.around.here) (within_own y h)) is here)
