@@ -13,7 +13,7 @@ use Rattle.hir_scope.specs.Paths.{path, frame_at, chain}
 use Rattle.hir_scope.specs.Resolution.{resolve, IsFound}
 use Rattle.hir_scope.proofs.PathLemmas.{path_step, read}
 use Rattle.hir_scope.proofs.ResolveLemmas.{or_else, resolve_append, found_resolves}
-use Rattle.hir_captures.specs.Captures.{unless_within, meant_behind}
+use Rattle.hir_captures.specs.Captures.{unless_within, meaning_behind}
 
 -- 1. Scopes of a chain
 
@@ -43,7 +43,7 @@ module _ (n : List ℕ) (h : SyntaxContext) where
     at (Some x) q = absurd cc
 
   -- what means nothing captures nothing
-  pub none_captured : (m : ℕ) (xs : Chain) → resolve xs n h ≡ None → meant_behind m xs n h ≡ None
+  pub none_captured : (m : ℕ) (xs : Chain) → resolve xs n h ≡ None → meaning_behind m xs n h ≡ None
   none_captured m xs e = λ i. unless_within (none_in_front m xs e i) (e i)
 
   -- an entry of the first frame is in front
@@ -72,7 +72,7 @@ module _ (scopes : List Scope) (earlier : ParentsStandEarlier scopes) (from : �
   means = found_resolves scopes earlier from n h s entry f
 
   -- among the outermost scopes
-  pub found_behind : length outer ≤ outermost → meant_behind (length whole - outermost) whole n h ≡ Some entry.binding
+  pub found_behind : length outer ≤ outermost → meaning_behind (length whole - outermost) whole n h ≡ Some entry.binding
   found_behind l =
       let m = length whole - outermost in
       let few : m ≤ length inner = omega (arith, long, l) in
@@ -81,7 +81,7 @@ module _ (scopes : List Scope) (earlier : ParentsStandEarlier scopes) (from : �
       λ i. unless_within (front i) (means i)
 
   -- further in
-  pub found_within : outermost < length outer → meant_behind (length whole - outermost) whole n h ≡ None
+  pub found_within : outermost < length outer → meaning_behind (length whole - outermost) whole n h ≡ None
   found_within l =
       let k = length outer - outermost - 1 in
       let x = read scopes s f.there in

@@ -31,7 +31,7 @@ use Rattle.hir_scope.specs.Frames.{Chain}
 use Rattle.hir_scope.specs.Forms as form
 use Rattle.hir_scope.specs.Chains.{Place, place_kid, on_base, Stands, kid, HasChain, within_own}
 use Rattle.hir_scope.specs.Meanings.{asked_name}
-use Rattle.hir_captures.specs.Captures.{IsClosure, IsOn, captured, meant_behind}
+use Rattle.hir_captures.specs.Captures.{IsClosure, IsOn, captured_binding, meaning_behind}
 
 -- 1. The code under a node is the node, and then the code of its kids in the order of its slots: that of the tasks that reading it puts.
 
@@ -311,13 +311,13 @@ module _ (c : Contents) (tops : List Place) (from : List NodeId) (fall : KidsFal
   uses_stand_on chain are = chains_on chain are (uses_in c closure) (all_on chain are)
 
   -- they capture the same by any chains
-  same_captures : (f g : Chains) → AreTheirs f → AreTheirs g → f closure ≡ g closure → (us : List Use) → UsesOn c.nodes tops from (f closure) us → filter_map (captured f closure) us ≡ filter_map (captured g closure) us
+  same_captures : (f g : Chains) → AreTheirs f → AreTheirs g → f closure ≡ g closure → (us : List Use) → UsesOn c.nodes tops from (f closure) us → filter_map (captured_binding f closure) us ≡ filter_map (captured_binding g closure) us
   same_captures f g p q e [] h = refl
   same_captures f g p q e (u ∷ us) h =
       let x = one u.expr (f u.expr) (g u.expr) (p u.expr h.0.reached) (q u.expr h.0.reached) in
-      let first : captured f closure u ≡ captured g closure u = λ i. meant_behind (length (x i) - length (e i)) (x i) u.name u.hygiene in
+      let first : captured_binding f closure u ≡ captured_binding g closure u = λ i. meaning_behind (length (x i) - length (e i)) (x i) u.name u.hygiene in
       let rest = same_captures f g p q e us h.1 in
       λ i. cons_option (first i) (rest i)
 
-  pub one_list : (f g : Chains) → AreTheirs f → AreTheirs g → filter_map (captured f closure) (uses_in c closure) ≡ filter_map (captured g closure) (uses_in c closure)
+  pub one_list : (f g : Chains) → AreTheirs f → AreTheirs g → filter_map (captured_binding f closure) (uses_in c closure) ≡ filter_map (captured_binding g closure) (uses_in c closure)
   one_list f g p q = same_captures f g p q (one closure (f closure) (g closure) (p closure reached) (q closure reached)) (uses_in c closure) (all_on f p)

@@ -29,9 +29,9 @@ use Rattle.hir_scope.specs.Built.{ChainsAreFrames, tops_of_body}
 use Rattle.hir_items.specs.Bodies.{BodyContents, BodyReaches}
 use Rattle.hir_captures.specs.declared.code.Code.{Code}
 use Rattle.hir_captures.specs.declared.unread.Task.TheVariants as task
-use Rattle.hir_captures.specs.Captures.{meant_behind, with_new, AreChains, AreCaptures}
+use Rattle.hir_captures.specs.Captures.{meaning_behind, with_new, AreChains, AreCaptures}
 use Rattle.hir_scope.specs.Order.{met_in_form}
-use Rattle.hir_captures.specs.walk.Reading.{chain_in, captured_in, with_uses, with_code, Reads}
+use Rattle.hir_captures.specs.walk.Reading.{chain_in, captured_binding_in, with_uses, with_code, Reads}
 use Rattle.hir_captures.specs.Uses.{Spot, Use, uses_in, spot, if_assignment, assignment_at, uses_at, spot_uses, code_under}
 use Rattle.hir_captures.proofs.CodeLemmas.{code_read, kids_there}
 
@@ -67,8 +67,8 @@ module _ (code : Code) where
 
   uses_two : (found : List ℕ) (us vs : List Use) → with_uses code found (us ++ vs) ≡ with_uses code (with_uses code found us) vs
   uses_two found us vs =
-      ap (fold with_new found) (filter_map-append (captured_in code) us vs)
-      ∙ fold-append with_new found (filter_map (captured_in code) us) (filter_map (captured_in code) vs)
+      ap (fold with_new found) (filter_map-append (captured_binding_in code) us vs)
+      ∙ fold-append with_new found (filter_map (captured_binding_in code) us) (filter_map (captured_binding_in code) vs)
 
   module _ (fall : KidsFall c.nodes) (t : Task) (rest new : List Task) (before after : List ℕ) where
     abbrev put : List Task
@@ -128,7 +128,7 @@ unfolding uses_in
 are_captures b code closure scope found same out reached chains is e =
     let scopes = code.scopes.now in
     let own : code.outermost ≡ length (chain_in scopes closure) = out ∙ ap (λ (o : Option ℕ). length (chain scopes.scopes o)) (sym is) in
-    let by : ℕ → Use → Option ℕ = λ n u. meant_behind (length (chain_in scopes u.expr) - n) (chain_in scopes u.expr) u.name u.hygiene in
+    let by : ℕ → Use → Option ℕ = λ n u. meaning_behind (length (chain_in scopes u.expr) - n) (chain_in scopes u.expr) u.name u.hygiene in
     record {
       chain = chain_in scopes;
       are_chains = chains_are b scopes reached chains;

@@ -7,9 +7,9 @@ ghost use Rattle.hir_scope.specs.Built.{ChainsAreFrames, tops_of_body};
 ghost use Rattle.hir_captures.specs.Captures.{AreCaptures, IsClosure, IsReachedClosure};
 
 use crate::asks::depth;
+use crate::binding_list::BindingList;
 use crate::code::Code;
 use crate::fault::CapturesFault;
-use crate::found::Found;
 use crate::unread::{Task, Unread};
 use hir_expr_store::ExpressionStore;
 use hir_items::Body;
@@ -68,7 +68,7 @@ pub fn captures(
         scopes,
         outermost: depth(scopes, scope),
     };
-    let mut found = Found::new(alloc, store.bindings().len())?;
+    let mut found = BindingList::new(alloc, store.bindings().len())?;
     let mut unread = Unread::new(alloc);
     unread.stack.push(Task::Expr(closure))?;
     code.read_all(&mut unread, &mut found)?;

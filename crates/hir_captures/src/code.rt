@@ -8,9 +8,9 @@ ghost use Rattle.hir_captures.specs.Uses.{if_assignment, use_of, uses_at};
 ghost use Rattle.hir_captures.specs.walk.Pending.{AreThere, pat_task};
 ghost use Rattle.hir_captures.specs.walk.Reading.{with_uses, with_code, Reads};
 
-use crate::asks::captured;
+use crate::asks::captured_binding;
+use crate::binding_list::BindingList;
 use crate::fault::CapturesFault;
-use crate::found::Found;
 use crate::unread::{Task, Unread};
 use hir_base::HygieneId;
 use hir_expr_store::ExpressionStore;
@@ -41,7 +41,7 @@ impl<'a> Code<'a> {
     /// Adds what a path captures, where it may name a variable: it is resolved in the chain of this expression.
     fn ask(
         &self,
-        found: &mut Found,
+        found: &mut BindingList,
         expr: ExprId,
         path: &Path,
         hygiene: HygieneId,
@@ -56,14 +56,14 @@ impl<'a> Code<'a> {
         let Some(scope) = self.scopes.scope_for(expr) else {
             return Ok(());
         };
-        match captured(self.scopes, scope, name, hygiene, self.outermost) {
+        match captured_binding(self.scopes, scope, name, hygiene, self.outermost) {
             Some(binding) => found.add(binding),
             None => Ok(()),
         }
     }
 
     /// Adds what an expression itself captures: where it is a path, it asks in its own chain.
-    fn ask_expr(&self, found: &mut Found, id: ExprId) -> Result<(), CapturesFault>
+    fn ask_expr(&self, found: &mut BindingList, id: ExprId) -> Result<(), CapturesFault>
         requires there { id < length self.now.store.now.nodes.exprs }
         ensures found { OnOk result (found.new ≡ with_uses self.now found.old
             (uses_at self.now.store.now (node.Expr id) None)) }
@@ -78,7 +78,7 @@ impl<'a> Code<'a> {
     /// Adds what a pattern captures: where it is a path in the target of an assignment, it asks in the assignment's chain.
     fn ask_pat(
         &self,
-        found: &mut Found,
+        found: &mut BindingList,
         id: PatId,
         assignment: Option<ExprId>,
     ) -> Result<(), CapturesFault>
@@ -100,7 +100,7 @@ impl<'a> Code<'a> {
     fn read_expr(
         &self,
         unread: &mut Unread,
-        found: &mut Found,
+        found: &mut BindingList,
         id: ExprId,
     ) -> Result<(), CapturesFault>
         requires there { AreThere self.now.store.now.nodes (Task.Expr id ∷ unread.old.stack.items) }
@@ -120,7 +120,7 @@ impl<'a> Code<'a> {
     fn read_pat(
         &self,
         unread: &mut Unread,
-        found: &mut Found,
+        found: &mut BindingList,
         id: PatId,
         assignment: Option<ExprId>,
     ) -> Result<(), CapturesFault>
@@ -137,7 +137,12 @@ impl<'a> Code<'a> {
     }
 
     /// Reads the node of one task.
-    fn read(&self, unread: &mut Unread, found: &mut Found, task: Task) -> Result<(), CapturesFault>
+    fn read(
+        &self,
+        unread: &mut Unread,
+        found: &mut BindingList,
+        task: Task,
+    ) -> Result<(), CapturesFault>
         requires there { AreThere self.now.store.now.nodes (task ∷ unread.old.stack.items) }
         ensures reads { OnOk result (Reads self.now found.old (task ∷ unread.old.stack.items)
             found.new unread.new.stack.items) }
@@ -154,7 +159,7 @@ impl<'a> Code<'a> {
     pub(crate) fn read_all(
         &self,
         unread: &mut Unread,
-        found: &mut Found,
+        found: &mut BindingList,
     ) -> Result<(), CapturesFault>
         requires there { AreThere self.now.store.now.nodes unread.old.stack.items }
         ensures found { OnOk result (found.new ≡ with_code self.now found.old unread.old.stack.items) }

@@ -2,10 +2,10 @@
 #![tactic(auto)]
 
 mod asks;
+mod binding_list;
 mod closures;
 mod code;
 mod fault;
-mod found;
 pub mod laws;
 mod unread;
 

@@ -19,7 +19,7 @@ use Rattle.hir_scope.specs.Frames.{Frame, Chain, frame, of_kind, empty}
 use Rattle.hir_scope.specs.Forms.{ScopingForm}
 use Rattle.hir_scope.specs.Forms as form
 use Rattle.hir_scope.specs.Leak.{leak, leaks, leak_of_form}
-use Rattle.hir_scope.specs.Slots.{Slot, call_slot, in_turn, own_frame, block_constants, made, made_for_constants, statement_slots, block_slots, arm_slots, loop_kind, slots_of_form}
+use Rattle.hir_scope.specs.Slots.{Slot, call_slot, in_turn, own_frame, block_constants, frames_behind, constants_behind, statement_slots, block_slots, arm_slots, loop_kind, slots_of_form}
 use Rattle.hir_scope.specs.Chains.{Place, place_kid}
 use Rattle.hir_scope.specs.walk.PlacesUnder.{place, exprs_under}
 use Rattle.hir_scope.specs.walk.Pending.{tasks_of, arm_task, one_arm, arm_with, leave, statement_tasks, form_tasks, opens_here, opens_constant, future}
@@ -151,7 +151,7 @@ module _ (s : Nodes) (chain : ℕ → Chain) where
   let_chain : (l : Chain) (f : Frame) (c a h : Chain) → ((l ++ (f ∷ c)) ++ a) ++ h ≡ l ++ (f ∷ ((c ++ a) ++ h))
   let_chain l f c a h = ap (λ (x : Chain). x ++ h) (append_assoc l (f ∷ c) a) ∙ append_assoc l (f ∷ (c ++ a)) h
 
-  future_statement : (h k constants add : Chain) (x : Statement) (ts : List Task) → exprs_under s (map (place_kid h k) (statement_slots s constants add x)) ++ future s chain ((made s x ++ add) ++ h) ((made_for_constants x ++ constants) ++ k) ts ≡ future s chain (add ++ h) (constants ++ k) (statement_tasks x ++ ts)
+  future_statement : (h k constants add : Chain) (x : Statement) (ts : List Task) → exprs_under s (map (place_kid h k) (statement_slots s constants add x)) ++ future s chain ((frames_behind s x ++ add) ++ h) ((constants_behind x ++ constants) ++ k) ts ≡ future s chain (add ++ h) (constants ++ k) (statement_tasks x ++ ts)
   unfolding future
   future_statement h k constants add (statement.Let pat ty x y) ts =
       let cs = opt t ty ++ opt e x ++ opt e y in
@@ -172,8 +172,8 @@ module _ (s : Nodes) (chain : ℕ → Chain) where
   future_block h k constants add a [] tail ts eh ek = turn_ended h k constants add (opt e tail) a ts eh ek
   future_block h k constants add a (x ∷ xs) tail ts eh ek =
       let X = tasks_of (opt e tail) ++ leave a ∷ [] in
-      two h k (statement_slots s constants add x) (block_slots s (made_for_constants x ++ constants) (made s x ++ add) xs tail) _
-      ∙ (ap (λ (ps : List Place). exprs_under s (map (place_kid h k) (statement_slots s constants add x)) ++ ps) (future_block h k (made_for_constants x ++ constants) (made s x ++ add) a xs tail ts eh ek)
+      two h k (statement_slots s constants add x) (block_slots s (constants_behind x ++ constants) (frames_behind s x ++ add) xs tail) _
+      ∙ (ap (λ (ps : List Place). exprs_under s (map (place_kid h k) (statement_slots s constants add x)) ++ ps) (future_block h k (constants_behind x ++ constants) (frames_behind s x ++ add) a xs tail ts eh ek)
       ∙ (future_statement h k constants add x ((flat_map statement_tasks xs ++ X) ++ ts)
       ∙ ap (λ (us : List Task). future s chain (add ++ h) (constants ++ k) us) (sym (append_assoc (statement_tasks x) (flat_map statement_tasks xs ++ X) ts) ∙ ap (λ (us : List Task). us ++ ts) (sym (append_assoc (statement_tasks x) (flat_map statement_tasks xs) X)))))
 

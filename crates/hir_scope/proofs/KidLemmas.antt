@@ -21,7 +21,7 @@ use Rattle.hir_scope.specs.Forms.{ScopingForm, form_at, form_of, expr_form, pat_
 use Rattle.hir_scope.specs.Forms as form
 use Rattle.hir_scope.specs.Leak.{leak, leaks, leak_of_call}
 use Rattle.hir_scope.specs.Order.{met_in_statement, met_in_arm, met_in_form, met_in_closure}
-use Rattle.hir_scope.specs.Slots.{Base, Slot, slot_kid, call_kids, call_slot, in_turn, own_frame, block_constants, made, made_for_constants, statement_slots, block_slots, arm_slots, loop_kind, slots_of_form, slots}
+use Rattle.hir_scope.specs.Slots.{Base, Slot, slot_kid, call_kids, call_slot, in_turn, own_frame, block_constants, frames_behind, constants_behind, statement_slots, block_slots, arm_slots, loop_kind, slots_of_form, slots}
 use Rattle.hir_node.specs.declared.expr_types.Item.TheVariants as item
 use Rattle.hir_scope.specs.declared.tasks.Around.{Around}
 use Rattle.hir_scope.specs.declared.tasks.Task.{Task}
@@ -145,8 +145,8 @@ module _ (s : Nodes) where
   of_block : (constants add : Chain) (xs : List Statement) (tail : Option ℕ) → places (block_slots s constants add xs tail) ≡ of_calls (flat_map met_in_statement xs ++ opt e tail)
   of_block constants add [] tail = of_turn constants add (opt e tail)
   of_block constants add (x ∷ xs) tail =
-      two (statement_slots s constants add x) (block_slots s (made_for_constants x ++ constants) (made s x ++ add) xs tail) (met_in_statement x) (flat_map met_in_statement xs ++ opt e tail)
-      (of_statement constants add x) (of_block (made_for_constants x ++ constants) (made s x ++ add) xs tail)
+      two (statement_slots s constants add x) (block_slots s (constants_behind x ++ constants) (frames_behind s x ++ add) xs tail) (met_in_statement x) (flat_map met_in_statement xs ++ opt e tail)
+      (of_statement constants add x) (of_block (constants_behind x ++ constants) (frames_behind s x ++ add) xs tail)
       ∙ ap of_calls (sym (append_assoc (met_in_statement x) (flat_map met_in_statement xs) (opt e tail)))
 
   places_of_form : (x : ScopingForm) → places (slots_of_form s x) ≡ of_calls (met_in_form x)

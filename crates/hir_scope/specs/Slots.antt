@@ -82,17 +82,17 @@ item_frames (item.MacroDef id) = of_kind (kind.MacroDef id) ∷ []
 item_frames item.Other = []
 
 -- the frames that a statement makes for the later ones
-abbrev pub made : Nodes → Statement → Chain
-made s (statement.Let pat type_ref initializer else_branch) =
+abbrev pub frames_behind : Nodes → Statement → Chain
+frames_behind s (statement.Let pat type_ref initializer else_branch) =
     leak s (node.Pat pat) ++ (frame s (pat ∷ []) ∷ leaks (leak s) (opt e initializer ++ opt e else_branch))
-made s (statement.Expr expr has_semi) = leak s (node.Expr expr)
-made s (statement.Item item) = item_frames item
+frames_behind s (statement.Expr expr has_semi) = leak s (node.Expr expr)
+frames_behind s (statement.Item item) = item_frames item
 
 -- and for the constants in them
-abbrev pub made_for_constants : Statement → Chain
-made_for_constants (statement.Let pat type_ref initializer else_branch) = []
-made_for_constants (statement.Expr expr has_semi) = []
-made_for_constants (statement.Item item) = item_frames item
+abbrev pub constants_behind : Statement → Chain
+constants_behind (statement.Let pat type_ref initializer else_branch) = []
+constants_behind (statement.Expr expr has_semi) = []
+constants_behind (statement.Item item) = item_frames item
 
 -- the type, the initializer and the else branch don't see what the pattern binds
 abbrev pub statement_slots : Nodes → Chain → Chain → Statement → List Slot
@@ -106,7 +106,7 @@ statement_slots s constants add (statement.Item item) = []
 abbrev pub block_slots : Nodes → Chain → Chain → List Statement → Option ℕ → List Slot
 block_slots s constants add [] tail = in_turn s constants add (opt e tail)
 block_slots s constants add (x ∷ xs) tail =
-    statement_slots s constants add x ++ block_slots s (made_for_constants x ++ constants) (made s x ++ add) xs tail
+    statement_slots s constants add x ++ block_slots s (constants_behind x ++ constants) (frames_behind s x ++ add) xs tail
 
 -- 2. Other forms
 

@@ -7,7 +7,7 @@ use Rattle.hir_scope.specs.Paths.{chain}
 use Rattle.hir_scope.specs.Scopes.{Scopes}
 use Rattle.hir_captures.specs.declared.code.Code.{Code}
 use Rattle.hir_captures.specs.declared.unread.Task.{Task}
-use Rattle.hir_captures.specs.Captures.{meant_behind, with_new}
+use Rattle.hir_captures.specs.Captures.{meaning_behind, with_new}
 use Rattle.hir_captures.specs.walk.Pending.{AreThere, code_of}
 use Rattle.hir_captures.specs.Uses.{Use, spot_uses}
 
@@ -16,14 +16,14 @@ abbrev pub chain_in : Scopes → ℕ → Chain
 chain_in scopes expr = chain scopes.scopes (map.get scopes.scope_by_expr expr)
 
 -- what a use captures, by the scopes
-abbrev pub captured_in : Code → Use → Option ℕ
-captured_in code use_ =
+abbrev pub captured_binding_in : Code → Use → Option ℕ
+captured_binding_in code use_ =
     let at = chain_in code.scopes.now use_.expr in
-    meant_behind (length at - code.outermost) at use_.name use_.hygiene
+    meaning_behind (length at - code.outermost) at use_.name use_.hygiene
 
 -- the captures of uses are added to what was found, each once
 abbrev pub with_uses : Code → List ℕ → List Use → List ℕ
-with_uses code found uses = fold with_new found (filter_map (captured_in code) uses)
+with_uses code found uses = fold with_new found (filter_map (captured_binding_in code) uses)
 
 -- and those of what is still to be read
 abbrev pub with_code : Code → List ℕ → List Task → List ℕ

@@ -1,7 +1,7 @@
 use Rattle.std.proofs.Common.{◌<◌, ◌≤◌, ◌∙◌, refl, sym, ap, subst, ℕ, Some}
 use Rattle.hir_scope.specs.Paths.{chain}
 use Rattle.hir_captures.proofs.AskLemmas.{none_captured, found_behind, found_within}
-use Rattle.hir_captures.proofs.asks.captured.Goals as goal
+use Rattle.hir_captures.proofs.asks.captured_binding.Goals as goal
 
 pub returns-then-outer-outermost : goal.returns-then-outer-outermost
 returns-then-outer-outermost c =

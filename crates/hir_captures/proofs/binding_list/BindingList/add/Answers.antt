@@ -3,8 +3,8 @@ use Rattle.std.specs.Prelude.{is_some}
 use Rattle.std.specs.Ordering.{nat_cmp}
 use Rattle.std.specs.FinMap as map
 use Rattle.hir_captures.specs.walk.Marks.{is_listed}
-use Rattle.hir_captures.proofs.FoundLemmas.{marks_more}
-use Rattle.hir_captures.proofs.found.Found.add.Goals as goal
+use Rattle.hir_captures.proofs.BindingListLemmas.{marks_more}
+use Rattle.hir_captures.proofs.binding_list.BindingList.add.Goals as goal
 
 -- what was pushed was marked
 pub invariant_of-self-2 : goal.invariant_of-self-2

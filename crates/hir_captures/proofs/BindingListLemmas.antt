@@ -48,4 +48,4 @@ not_new found x e = ap (λ b. cond b found (found ++ x ∷ [])) e
 pub is_new : (found : List ℕ) (x : ℕ) → is_listed found x ≡ false → with_new found x ≡ found ++ x ∷ []
 is_new found x e = ap (λ b. cond b found (found ++ x ∷ [])) e
 
-pub ruleset founds = (marks_none, marks_more, not_new, is_new)
+pub ruleset marking = (marks_none, marks_more, not_new, is_new)

@@ -1,5 +1,5 @@
 //! The bindings that were found, each once.
-#![tactic(auto, using(crate::proofs::FoundLemmas::founds))]
+#![tactic(auto, using(crate::proofs::BindingListLemmas::marking))]
 
 ghost use Rattle.std.specs.Prelude.{◌≡◌, [], Err, IfOk, OnOk, OnErr};
 ghost use Rattle.hir_captures.specs.Captures.{with_new};
@@ -12,13 +12,13 @@ use std::marker::Model;
 
 /// Bindings in the order in which they were found, each once.
 #[derive(Drop)]
-pub(crate) struct Found {
+pub(crate) struct BindingList {
     bindings: Vec<BindingId>,
     /// Marks those that are listed.
     marks: ArenaMap<BindingKind, ()>,
 }
 
-impl Model for Found {
+impl Model for BindingList {
     ghost use Rattle.std.specs.Prelude.{List, ℕ};
     ghost use Rattle.hir_captures.specs.walk.Marks.{AreMarks};
 
@@ -29,15 +29,15 @@ impl Model for Found {
     ghost invariant = { λ s. AreMarks s.bindings.items s.marks };
 }
 
-impl Found {
+impl BindingList {
     /// No bindings, with room for the marks of this many.
     ///
     /// Answers `Memory` where that room was refused.
-    pub(crate) fn new(alloc: Global, bindings: usize) -> Result<Found, CapturesFault>
+    pub(crate) fn new(alloc: Global, bindings: usize) -> Result<BindingList, CapturesFault>
         ensures ok { IfOk result (λ found. found ≡ []) }
         ensures memory { OnErr result (result ≡ Err CapturesFault.Memory) }
     {
-        Ok(Found {
+        Ok(BindingList {
             bindings: Vec::new(alloc),
             marks: ArenaMap::with_capacity(alloc, bindings)?,
         })
