@@ -22,13 +22,15 @@ unless_within (Some entry) found = None
 
 -- the binding that a name means along a chain, unless the entry is in its innermost frames, of which there are this many
 abbrev pub meaning_behind : ℕ → Chain → List ℕ → SyntaxContext → Option ℕ
-meaning_behind innermost chain name hygiene = unless_within (resolve (take innermost chain) name hygiene) (resolve chain name hygiene)
+meaning_behind innermost chain name hygiene =
+    unless_within (resolve (take innermost chain) name hygiene) (resolve chain name hygiene)
 
 -- What a use captures: the binding that it resolves to, where the entry is in the closure's part of the chain. The closure's own chain
 -- is the outermost frames; those within them are between the use and the closure.
 abbrev pub captured_binding : (ℕ → Chain) → ℕ → Use → Option ℕ
 captured_binding chain closure use_ =
-    meaning_behind (length (chain use_.expr) - length (chain closure)) (chain use_.expr) use_.name use_.hygiene
+    let at = chain use_.expr in
+    meaning_behind (length at - length (chain closure)) at use_.name use_.hygiene
 
 -- each number of a list once, where it comes first
 abbrev pub with_new : List ℕ → ℕ → List ℕ
@@ -43,7 +45,8 @@ captures_by chain c closure = each_once (filter_map (captured_binding chain clos
 
 -- each expression that the body reaches has this chain
 abbrev pub AreChains : BodyContents → (ℕ → Chain) → Type 0
-AreChains b chain = (expr : ℕ) → BodyReaches b (node.Expr expr) → HasChain b.store.nodes (tops_of_body b) expr (chain expr)
+AreChains b chain =
+    (expr : ℕ) → BodyReaches b (node.Expr expr) → HasChain b.store.nodes (tops_of_body b) expr (chain expr)
 
 pub record AreCaptures (b : BodyContents) (closure : ℕ) (captures : List ℕ) : Type 0 where
   pub chain : ℕ → Chain

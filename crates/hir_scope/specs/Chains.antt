@@ -21,7 +21,8 @@ on_base Const here constant = constant
 -- a kid, by its slot, of a node with these chains
 abbrev pub place_kid : Chain → Chain → Slot → Place
 place_kid here constant slot =
-    record { node = slot.kid; here = slot.add ++ on_base slot.base here (slot.constants ++ constant); constant = slot.constants ++ constant }
+    let constants = slot.constants ++ constant in
+    record { node = slot.kid; here = slot.add ++ on_base slot.base here constants; constant = constants }
 
 -- the places of a node's kids
 abbrev pub places_of_kids : Nodes → Place → List Place

@@ -32,7 +32,8 @@ asked_name (path.LangItem target name) = None
 -- the binding of an entry, where it is one of the store
 abbrev pub binding_of : Contents → Option ScopeEntry → Option ℕ
 binding_of c None = None
-binding_of c (Some entry) = if nat_lt entry.binding (length c.nodes.bindings) then Some entry.binding else None
+binding_of c (Some entry) =
+    if nat_lt entry.binding (length c.nodes.bindings) then Some entry.binding else None
 
 -- the binding that a name means at an expression, where a name is asked for
 abbrev pub meaning : Contents → Scopes → ℕ → SyntaxContext → Option (List ℕ) → Option ℕ

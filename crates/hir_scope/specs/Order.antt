@@ -10,7 +10,8 @@ use Rattle.hir_scope.specs.Forms.{ScopingForm}
 use Rattle.hir_scope.specs.Forms as form
 
 abbrev pub met_in_statement : Statement → List Call
-met_in_statement (statement.Let pat type_ref initializer else_branch) = (opt t type_ref ++ opt e initializer ++ opt e else_branch) ++ p pat
+met_in_statement (statement.Let pat type_ref initializer else_branch) =
+    (opt t type_ref ++ opt e initializer ++ opt e else_branch) ++ p pat
 met_in_statement (statement.Expr expr has_semi) = e expr
 met_in_statement (statement.Item item) = []
 
@@ -18,7 +19,8 @@ abbrev pub met_in_arm : MatchArm → List Call
 met_in_arm arm = p arm.pat ++ opt e arm.guard ++ e arm.expr
 
 abbrev pub met_in_closure : List (Option ℕ) → Option ℕ → List ℕ → ℕ → List Call
-met_in_closure arg_types ret_type args body = (flat_map (opt t) arg_types ++ opt t ret_type) ++ (flat_map p args ++ e body)
+met_in_closure arg_types ret_type args body =
+    (flat_map (opt t) arg_types ++ opt t ret_type) ++ (flat_map p args ++ e body)
 
 abbrev pub met_in_form : ScopingForm → List Call
 met_in_form (form.If condition then_branch else_branch) = (e condition ++ e then_branch) ++ opt e else_branch

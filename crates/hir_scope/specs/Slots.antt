@@ -31,12 +31,15 @@ pub record Slot : Type 0 where
   -- the frames put on the chain of constants
   pub constants : Chain
 
+abbrev pub slot_of : NodeId → Base → Chain → Chain → Slot
+slot_of kid base add constants = record { kid = kid; base = base; add = add; constants = constants }
+
 -- the slot of a call's kid: a type or an anonymous constant is on the chain of constants, and sees none of the frames added
 abbrev pub call_slot : Chain → Chain → Call → List Slot
-call_slot constants add (OnExpr id) = record { kid = node.Expr id; base = Here; add = add; constants = constants } ∷ []
-call_slot constants add (OnPat id) = record { kid = node.Pat id; base = Here; add = add; constants = constants } ∷ []
-call_slot constants add (OnAnonConst id) = record { kid = node.Expr id; base = Const; add = []; constants = constants } ∷ []
-call_slot constants add (OnType id) = record { kid = node.TypeRef id; base = Const; add = []; constants = constants } ∷ []
+call_slot constants add (OnExpr id) = slot_of (node.Expr id) Here add constants ∷ []
+call_slot constants add (OnPat id) = slot_of (node.Pat id) Here add constants ∷ []
+call_slot constants add (OnAnonConst id) = slot_of (node.Expr id) Const [] constants ∷ []
+call_slot constants add (OnType id) = slot_of (node.TypeRef id) Const [] constants ∷ []
 call_slot constants add (OnLifetime id) = []
 
 -- the kid of a slot, or of a call, with the chain that it is on
@@ -53,7 +56,8 @@ call_kids (OnLifetime id) = []
 -- kids in turn: each has these frames added, and on them what the kids before it leak
 abbrev pub in_turn : Nodes → Chain → Chain → List Call → List Slot
 in_turn s constants add [] = []
-in_turn s constants add (c ∷ cs) = call_slot constants add c ++ in_turn s constants (leak_of_call (leak s) c ++ add) cs
+in_turn s constants add (c ∷ cs) =
+    call_slot constants add c ++ in_turn s constants (leak_of_call (leak s) c ++ add) cs
 
 -- 1. Blocks
 
@@ -97,8 +101,9 @@ constants_behind (statement.Item item) = item_frames item
 -- the type, the initializer and the else branch don't see what the pattern binds
 abbrev pub statement_slots : Nodes → Chain → Chain → Statement → List Slot
 statement_slots s constants add (statement.Let pat type_ref initializer else_branch) =
+    let before = leaks (leak s) (opt e initializer ++ opt e else_branch) ++ add in
     in_turn s constants add (opt t type_ref ++ opt e initializer ++ opt e else_branch)
-    ++ in_turn s constants (frame s (pat ∷ []) ∷ (leaks (leak s) (opt e initializer ++ opt e else_branch) ++ add)) (p pat)
+    ++ in_turn s constants (frame s (pat ∷ []) ∷ before) (p pat)
 statement_slots s constants add (statement.Expr expr has_semi) = in_turn s constants add (e expr)
 statement_slots s constants add (statement.Item item) = []
 
@@ -106,7 +111,8 @@ statement_slots s constants add (statement.Item item) = []
 abbrev pub block_slots : Nodes → Chain → Chain → List Statement → Option ℕ → List Slot
 block_slots s constants add [] tail = in_turn s constants add (opt e tail)
 block_slots s constants add (x ∷ xs) tail =
-    statement_slots s constants add x ++ block_slots s (constants_behind x ++ constants) (frames_behind s x ++ add) xs tail
+    statement_slots s constants add x
+    ++ block_slots s (constants_behind x ++ constants) (frames_behind s x ++ add) xs tail
 
 -- 2. Other forms
 
@@ -115,15 +121,22 @@ abbrev pub arm_slots : Nodes → Chain → MatchArm → List Slot
 arm_slots s add arm = in_turn s [] (frame s (arm.pat ∷ []) ∷ add) (p arm.pat ++ opt e arm.guard ++ e arm.expr)
 
 abbrev pub slots_of_form : Nodes → ScopingForm → List Slot
-slots_of_form s (form.If condition then_branch else_branch) = in_turn s [] (empty ∷ []) (e condition ++ e then_branch) ++ in_turn s [] [] (opt e else_branch)
-slots_of_form s (form.Let pat expr) = in_turn s [] [] (e expr) ++ in_turn s [] (frame s (pat ∷ []) ∷ leak s (node.Expr expr)) (p pat)
-slots_of_form s (form.Block id label statements tail) = block_slots s (block_constants id) (own_frame id label ∷ []) statements tail
+slots_of_form s (form.If condition then_branch else_branch) =
+    in_turn s [] (empty ∷ []) (e condition ++ e then_branch) ++ in_turn s [] [] (opt e else_branch)
+slots_of_form s (form.Let pat expr) =
+    in_turn s [] [] (e expr) ++ in_turn s [] (frame s (pat ∷ []) ∷ leak s (node.Expr expr)) (p pat)
+slots_of_form s (form.Block id label statements tail) =
+    block_slots s (block_constants id) (own_frame id label ∷ []) statements tail
 slots_of_form s (form.Loop label body) = in_turn s [] (of_kind (loop_kind label) ∷ []) (e body)
 slots_of_form s (form.Closure arg_types ret_type args body) =
-    in_turn s [] [] (flat_map (opt t) arg_types ++ opt t ret_type) ++ in_turn s [] (frame s args ∷ []) (flat_map p args ++ e body)
-slots_of_form s (form.Match scrutinee arms) = in_turn s [] [] (e scrutinee) ++ flat_map (arm_slots s (leak s (node.Expr scrutinee))) arms
-slots_of_form s (form.Assignment target value) = in_turn s [] (frame s (target ∷ []) ∷ []) (p target) ++ in_turn s [] [] (e value)
-slots_of_form s (form.PatternType type pat) = in_turn s [] [] (t type) ++ in_turn s [] (frame s (pat ∷ []) ∷ []) (p pat)
+    in_turn s [] [] (flat_map (opt t) arg_types ++ opt t ret_type)
+    ++ in_turn s [] (frame s args ∷ []) (flat_map p args ++ e body)
+slots_of_form s (form.Match scrutinee arms) =
+    in_turn s [] [] (e scrutinee) ++ flat_map (arm_slots s (leak s (node.Expr scrutinee))) arms
+slots_of_form s (form.Assignment target value) =
+    in_turn s [] (frame s (target ∷ []) ∷ []) (p target) ++ in_turn s [] [] (e value)
+slots_of_form s (form.PatternType type pat) =
+    in_turn s [] [] (t type) ++ in_turn s [] (frame s (pat ∷ []) ∷ []) (p pat)
 slots_of_form s (form.InTurn calls) = in_turn s [] [] calls
 
 -- the slots of a node's kids

@@ -60,7 +60,8 @@ pub fn chains_are_short()
 pub fn a_chain_goes_outward()
     ensures step { (scopes : List Scope) → ParentsStandEarlier scopes → (scope : ℕ) (found : Scope)
         → slice_get scopes scope ≡ Some found → path scopes (Some scope) ≡ scope ∷ path scopes found.parent }
-    ensures there { (scopes : List Scope) → ParentsStandEarlier scopes → (scope : Option ℕ) → IsIn scopes scope
+    ensures there { (scopes : List Scope) → ParentsStandEarlier scopes → (scope : Option ℕ)
+        → IsIn scopes scope
         → All (λ member. member < length scopes) (path scopes scope) }
 {}
 

@@ -91,7 +91,8 @@ fn add_formals(
 
 /// Pushes the formals, the first on top.
 fn push_formals(tasks: &mut Tasks, params: &[Param<PatId>]) -> Result<(), ScopesFault>
-    ensures ok { OnOk result (tasks.new.stack.items ≡ formal_tasks (formals_of params.now) ++ tasks.old.stack.items) }
+    ensures ok { OnOk result (tasks.new.stack.items
+        ≡ formal_tasks (formals_of params.now) ++ tasks.old.stack.items) }
     ensures memory { OnErr result (result ≡ Err ScopesFault.Memory) }
 {
     let mut rest = params.len();

@@ -55,7 +55,8 @@ impl ExprScopes {
         hygiene: HygieneId,
     ) -> Option<(ScopeId, &ScopeEntry)>
         requires { scope < length self.now.scopes }
-        ensures found { IfSome result (λ found. IsFound self.now.scopes scope name.now hygiene found.0 found.1.now) }
+        ensures found { IfSome result (λ found.
+            IsFound self.now.scopes scope name.now hygiene found.0 found.1.now) }
         ensures none { result ≡ None → resolve (chain self.now.scopes (Some scope)) name.now hygiene ≡ None }
     {
         let mut current = Some(scope);

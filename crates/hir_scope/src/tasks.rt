@@ -243,7 +243,8 @@ impl Tasks {
 
     /// Pushes the tasks of what is inside an expression of this form, the first on top.
     pub(crate) fn push_form(&mut self, form: &Form<'_>, around: Around) -> Result<(), ScopesFault>
-        ensures ok { OnOk result (self.new.stack.items ≡ form_tasks around (seen form.now) ++ self.old.stack.items) }
+        ensures ok { OnOk result (self.new.stack.items
+            ≡ form_tasks around (seen form.now) ++ self.old.stack.items) }
         ensures memory { OnErr result (result ≡ Err ScopesFault.Memory) }
     {
         let below = self.stack.len();
@@ -254,7 +255,8 @@ impl Tasks {
 
     /// Pushes the tasks of what is inside a pattern, the first on top.
     pub(crate) fn push_pat(&mut self, pat: &Pat) -> Result<(), ScopesFault>
-        ensures ok { OnOk result (self.new.stack.items ≡ tasks_of (pat_calls pat.now) ++ self.old.stack.items) }
+        ensures ok { OnOk result (self.new.stack.items
+            ≡ tasks_of (pat_calls pat.now) ++ self.old.stack.items) }
         ensures memory { OnErr result (result ≡ Err ScopesFault.Memory) }
     {
         let below = self.stack.len();

@@ -27,10 +27,12 @@ with_uses code found uses = fold with_new found (filter_map (captured_binding_in
 
 -- and those of what is still to be read
 abbrev pub with_code : Code → List ℕ → List Task → List ℕ
-with_code code found tasks = with_uses code found (flat_map (spot_uses code.store.now) (code_of code.store.now.nodes tasks))
+with_code code found tasks =
+    with_uses code found (flat_map (spot_uses code.store.now) (code_of code.store.now.nodes tasks))
 
 -- one task was done: all that is to be found stays the same
-pub record Reads (code : Code) (before : List ℕ) (old : List Task) (after : List ℕ) (new : List Task) : Type 0 where
+pub record Reads (code : Code) (before : List ℕ) (old : List Task) (after : List ℕ) (new : List Task)
+    : Type 0 where
   pub there : AreThere code.store.now.nodes new
   pub finds : with_code code before old ≡ with_code code after new
   pub shorter : length (code_of code.store.now.nodes new) < length (code_of code.store.now.nodes old)

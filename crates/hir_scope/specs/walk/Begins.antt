@@ -28,7 +28,8 @@ use Rattle.hir_scope.specs.walk.Machine.{Machine}
 pub record IsSound (s : Nodes) : Type 0 where
   pub fall : KidsFall s
   pub under : (n : NodeId) → nodes_under s n ≡ n ∷ flat_map (nodes_under s) (kids_of s n)
-  pub bindings : (id : ℕ) → id < length s.pats → bindings_in s id ≡ bindings_at s id ++ flat_map (bindings_in s) (child_pats_of s id)
+  pub bindings : (id : ℕ) → id < length s.pats
+      → bindings_in s id ≡ bindings_at s id ++ flat_map (bindings_in s) (child_pats_of s id)
   pub pats : (id : ℕ) (x : Pat) → slice_get s.pats id ≡ Some x → IsSoundNode s (tested_pat x)
 
 -- the first scope is current, also for constants
@@ -41,7 +42,8 @@ for_none scopes = record { scopes = scopes; scope_by_expr = map.empty }
 
 -- what the root scope of a body brings in
 abbrev pub root_entries : BodyContents → List ScopeEntry
-root_entries b = (root_frame b.store.nodes (option_map (λ p. p.formal) b.self_param) (formals_of b.params)).entries
+root_entries b =
+    (root_frame b.store.nodes (option_map (λ p. p.formal) b.self_param) (formals_of b.params)).entries
 
 abbrev pub body_root : BodyContents → Scope
 body_root b = record { parent = None; kind = kind.None; entries = root_entries b }
@@ -71,7 +73,8 @@ scopes_in_root n = signature_root ∷ replicate n scope_in_root
 -- each root in a scope of its own: the last in the first of these
 abbrev pub root_tasks : List ℕ → List Task
 root_tasks [] = []
-root_tasks (root ∷ roots) = task.Leave (suc (length roots)) (suc (length roots)) ∷ task.Expr root ∷ root_tasks roots
+root_tasks (root ∷ roots) =
+    task.Leave (suc (length roots)) (suc (length roots)) ∷ task.Expr root ∷ root_tasks roots
 
 -- a signature's, where these of its roots are to be met
 abbrev pub roots_begin : List ℕ → Machine

@@ -61,7 +61,8 @@ about tasks = flat_map task_kids tasks
 -- the scopes that tasks take back are there
 abbrev pub LeavesWithin : ℕ → List Task → Type 0
 LeavesWithin n [] = ⊤
-LeavesWithin n (task.Leave outer outer_constant ∷ rest) = (outer < n) × (outer_constant < n) × LeavesWithin n rest
+LeavesWithin n (task.Leave outer outer_constant ∷ rest) =
+    (outer < n) × (outer_constant < n) × LeavesWithin n rest
 LeavesWithin n (t ∷ rest) = LeavesWithin n rest
 
 abbrev pub AreThere : Nodes → List NodeId → Type 0
@@ -94,7 +95,8 @@ node_tasks s n = form_tasks (record { here = 0; constant = 0 }) (form_of s n)
 
 -- the frames that a node opens: as it is met, and by its tasks
 abbrev pub node_frames : Nodes → NodeId → List Frame
-node_frames s n = (opens_here s (form_of s n) ++ opens_constant (form_of s n)) ++ flat_map (task_frames s) (node_tasks s n)
+node_frames s n =
+    (opens_here s (form_of s n) ++ opens_constant (form_of s n)) ++ flat_map (task_frames s) (node_tasks s n)
 
 -- what frames weigh that are still to be opened
 abbrev pub weight_left : Nodes → (Frame → ℕ) → List Task → ℕ

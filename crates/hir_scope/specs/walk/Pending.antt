@@ -22,7 +22,7 @@ use Rattle.hir_scope.specs.Leak.{leak}
 use Rattle.hir_scope.specs.Order.{met_in_arm, met_in_closure}
 use Rattle.hir_scope.specs.Slots.{own_frame, block_constants, arm_slots, loop_kind}
 use Rattle.hir_scope.specs.Chains.{Place, place_kid}
-use Rattle.hir_scope.specs.walk.PlacesUnder.{place, exprs_under}
+use Rattle.hir_scope.specs.walk.PlacesUnder.{exprs_at, exprs_under}
 
 -- a task is put onto others
 abbrev pub Put : Stacked Task → Task → Stacked Task → Type 0
@@ -71,9 +71,11 @@ abbrev pub form_tasks : Around → ScopingForm → List Task
 form_tasks around (form.If condition then_branch else_branch) =
     tasks_of (e condition ++ e then_branch) ++ (leave around ∷ tasks_of (opt e else_branch))
 form_tasks around (form.Let pat expr) = task.Expr expr ∷ task.Bound pat ∷ []
-form_tasks around (form.Block id label statements tail) = flat_map statement_tasks statements ++ (tasks_of (opt e tail) ++ leave around ∷ [])
+form_tasks around (form.Block id label statements tail) =
+    flat_map statement_tasks statements ++ (tasks_of (opt e tail) ++ leave around ∷ [])
 form_tasks around (form.Loop label body) = task.Expr body ∷ leave around ∷ []
-form_tasks around (form.Closure arg_types ret_type args body) = tasks_of (met_in_closure arg_types ret_type args body) ++ leave around ∷ []
+form_tasks around (form.Closure arg_types ret_type args body) =
+    tasks_of (met_in_closure arg_types ret_type args body) ++ leave around ∷ []
 form_tasks around (form.Match scrutinee arms) = task.Expr scrutinee ∷ flat_map one_arm arms
 form_tasks around (form.Assignment target value) = task.Pat target ∷ leave around ∷ task.Expr value ∷ []
 form_tasks around (form.PatternType type pat) = task.TypeRef type ∷ task.Bound pat ∷ leave around ∷ []
@@ -93,27 +95,34 @@ abbrev pub opens_constant : ScopingForm → Chain
 opens_constant (form.Block id label statements tail) = block_constants id
 opens_constant x = []
 
+-- the places of what an arm has in it
+abbrev pub places_of_arm : Nodes → Chain → Chain → MatchArm → List Place
+places_of_arm s here constant arm = map (place_kid here constant) (arm_slots s [] arm)
+
 -- the expressions that tasks will meet, each in its place: `here` and `constant` are the chains now, and `chain` that of each scope
 unfoldable pub future : Nodes → (ℕ → Chain) → Chain → Chain → List Task → List Place
 future s chain here constant [] = []
 future s chain here constant (task.Expr id ∷ rest) =
-    exprs_under s (place (node.Expr id) here constant ∷ []) ++ future s chain (leak s (node.Expr id) ++ here) constant rest
+    exprs_at s (node.Expr id) here constant ++ future s chain (leak s (node.Expr id) ++ here) constant rest
 future s chain here constant (task.Constant id ∷ rest) =
-    exprs_under s (place (node.Expr id) constant constant ∷ []) ++ future s chain here constant rest
+    exprs_at s (node.Expr id) constant constant ++ future s chain here constant rest
 future s chain here constant (task.Pat id ∷ rest) =
-    exprs_under s (place (node.Pat id) here constant ∷ []) ++ future s chain (leak s (node.Pat id) ++ here) constant rest
+    exprs_at s (node.Pat id) here constant ++ future s chain (leak s (node.Pat id) ++ here) constant rest
 future s chain here constant (task.TypeRef id ∷ rest) =
-    exprs_under s (place (node.TypeRef id) constant constant ∷ []) ++ future s chain here constant rest
+    exprs_at s (node.TypeRef id) constant constant ++ future s chain here constant rest
 future s chain here constant (task.Bound id ∷ rest) =
-    exprs_under s (place (node.Pat id) (frame s (id ∷ []) ∷ here) constant ∷ [])
+    exprs_at s (node.Pat id) (frame s (id ∷ []) ∷ here) constant
     ++ future s chain (leak s (node.Pat id) ++ (frame s (id ∷ []) ∷ here)) constant rest
 future s chain here constant (task.Arm pat expr ∷ rest) =
-    exprs_under s (map (place_kid here constant) (arm_slots s [] (arm_with pat expr None))) ++ future s chain here constant rest
+    exprs_under s (places_of_arm s here constant (arm_with pat expr None))
+    ++ future s chain here constant rest
 future s chain here constant (task.GuardedArm pat guard expr ∷ rest) =
-    exprs_under s (map (place_kid here constant) (arm_slots s [] (arm_with pat expr (Some guard)))) ++ future s chain here constant rest
+    exprs_under s (places_of_arm s here constant (arm_with pat expr (Some guard)))
+    ++ future s chain here constant rest
 future s chain here constant (task.MacroDef id ∷ rest) =
     future s chain (of_kind (kind.MacroDef id) ∷ here) (of_kind (kind.MacroDef id) ∷ constant) rest
-future s chain here constant (task.Leave outer outer_constant ∷ rest) = future s chain (chain outer) (chain outer_constant) rest
+future s chain here constant (task.Leave outer outer_constant ∷ rest) =
+    future s chain (chain outer) (chain outer_constant) rest
 
 -- the nodes that a task is about
 abbrev pub task_kids : Task → List NodeId
