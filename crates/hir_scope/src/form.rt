@@ -1,11 +1,9 @@
 //! What an expression does with scopes: by its form the walk knows what comes when, and in which scope.
 
-ghost use Rattle.std.specs.Prelude.{◌≡◌, [], ◌∷◌, Err, IfOk, IsTrue, Some, slice_get};
+ghost use Rattle.std.specs.Prelude.{◌≡◌, [], Err, IfOk, IsTrue, Some, slice_get};
 ghost use Rattle.hir_node.specs.declared.node_id.NodeId.TheVariants as node;
-ghost use Rattle.hir_scope.specs.Chains.{within_own};
 ghost use Rattle.hir_scope.specs.Forms.{InTurn, expr_form, form_of};
-ghost use Rattle.hir_scope.specs.walk.Machine.{doing, state, here_of, constant_of, scope_within, IsReady, Exceeds, HasFrames, Moves};
-ghost use Rattle.hir_scope.specs.walk.PlacesUnder.{place};
+ghost use Rattle.hir_scope.specs.walk.Machine.{doing, scope_within, IsReady, Exceeds, Meets};
 ghost use Rattle.hir_scope.specs.walk.Seen.{seen};
 
 use crate::fault::ScopesFault;
@@ -180,11 +178,7 @@ impl Walk {
     ) -> Result<ScopeId, ScopesFault>
         requires ready { IsReady store.now.nodes (doing self.old (Task.Expr expr)) }
         requires form { seen form.now ≡ form_of store.now.nodes (node.Expr expr) }
-        ensures moves { IfOk result (λ _. Moves store.now.nodes
-            (doing self.old (Task.Expr expr)) (state self.new)
-            (place (node.Expr expr) (here_of (state self.old)) (constant_of (state self.old)) ∷ [])) }
-        ensures scope { IfOk result (λ scope. HasFrames self.new.scopes.scopes scope
-            (within_own (form_of store.now.nodes (node.Expr expr)) (here_of (state self.old)))) }
+        ensures meets { IfOk result (Meets store.now.nodes self.old expr self.new) }
         ensures full { result ≡ Err ScopesFault.Full
             → Exceeds store.now.nodes (doing self.old (Task.Expr expr)) }
         ensures missing { result ≡ Err ScopesFault.Missing → ⊥ }
@@ -206,11 +200,7 @@ impl Walk {
     ) -> Result<ScopeId, ScopesFault>
         requires ready { IsReady store.now.nodes (doing self.old (Task.Expr expr)) }
         requires inner { slice_get store.now.nodes.exprs expr ≡ Some inner.now }
-        ensures moves { IfOk result (λ _. Moves store.now.nodes
-            (doing self.old (Task.Expr expr)) (state self.new)
-            (place (node.Expr expr) (here_of (state self.old)) (constant_of (state self.old)) ∷ [])) }
-        ensures scope { IfOk result (λ scope. HasFrames self.new.scopes.scopes scope
-            (within_own (form_of store.now.nodes (node.Expr expr)) (here_of (state self.old)))) }
+        ensures meets { IfOk result (Meets store.now.nodes self.old expr self.new) }
         ensures full { result ≡ Err ScopesFault.Full
             → Exceeds store.now.nodes (doing self.old (Task.Expr expr)) }
         ensures missing { result ≡ Err ScopesFault.Missing → ⊥ }

@@ -123,7 +123,6 @@ impl Walk {
                 stack: Stack::new(alloc),
             },
             entries: Vec::new(alloc),
-            alloc,
         })
     }
 

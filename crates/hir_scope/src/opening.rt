@@ -3,7 +3,7 @@
 ghost use Rattle.std.specs.Prelude.{◌≡◌, ◌<◌, [], ◌∷◌, ◌++◌, length, map, Err, IfOk};
 ghost use Rattle.hir_node.specs.declared.node_id.NodeId.TheVariants as node;
 ghost use Rattle.hir_scope.specs.Forms.{form_of};
-ghost use Rattle.hir_scope.specs.Frames.{frame, of_kind};
+ghost use Rattle.hir_scope.specs.Frames.{frame_with, of_kind};
 ghost use Rattle.hir_scope.specs.Slots.{loop_kind};
 ghost use Rattle.hir_scope.specs.Scopes.{frame_of};
 ghost use Rattle.hir_scope.specs.walk.Machine.{state, AreThere, Opened, Over};
@@ -29,63 +29,33 @@ fn loop_kind(label: Option<LabelId>) -> ScopeKind
 }
 
 impl Walk {
-    /// Opens a scope without entries over the current one.
-    fn open_kind(&mut self, kind: ScopeKind) -> Result<(), ScopesFault>
-        requires here { self.old.around.here < length self.old.scopes.scopes }
-        requires constant { self.old.around.constant < length self.old.scopes.scopes }
-        ensures opened { IfOk result (λ _. Opened (state self.old) (state self.new) (of_kind kind ∷ []) []) }
-        ensures full { result ≡ Err ScopesFault.Full
-            → Over (map frame_of self.old.scopes.scopes ++ of_kind kind ∷ []) }
-        ensures missing { result ≡ Err ScopesFault.Missing → ⊥ }
-    {
-        let parent = Some(self.around.here);
-        let mut none = Vec::new(self.alloc);
-        self.around.here = self.scopes.new_scope(parent, kind, &mut none)?;
-        Ok(())
-    }
-
-    /// Opens a scope without entries over that of constants.
-    fn open_constant(&mut self, kind: ScopeKind) -> Result<(), ScopesFault>
-        requires here { self.old.around.here < length self.old.scopes.scopes }
-        requires constant { self.old.around.constant < length self.old.scopes.scopes }
-        ensures opened { IfOk result (λ _. Opened (state self.old) (state self.new) [] (of_kind kind ∷ [])) }
-        ensures full { result ≡ Err ScopesFault.Full
-            → Over (map frame_of self.old.scopes.scopes ++ of_kind kind ∷ []) }
-        ensures missing { result ≡ Err ScopesFault.Missing → ⊥ }
-    {
-        let parent = Some(self.around.constant);
-        let mut none = Vec::new(self.alloc);
-        self.around.constant = self.scopes.new_scope(parent, kind, &mut none)?;
-        Ok(())
-    }
-
-    /// Opens a scope over the current one, with what patterns bind.
+    /// Opens a scope of this kind over the current one, with what patterns bind.
     pub(crate) fn open(
         &mut self,
         store: &ExpressionStore,
+        kind: ScopeKind,
         pats: &[PatId],
     ) -> Result<(), ScopesFault>
         requires there { AreThere store.now.nodes (map node.Pat pats.now) }
         requires here { self.old.around.here < length self.old.scopes.scopes }
         requires constant { self.old.around.constant < length self.old.scopes.scopes }
         ensures opened { IfOk result (λ _. Opened (state self.old) (state self.new)
-            (frame store.now.nodes pats.now ∷ []) []) }
-        ensures full { result ≡ Err ScopesFault.Full
-            → Over (map frame_of self.old.scopes.scopes ++ frame store.now.nodes pats.now ∷ []) }
+            (frame_with store.now.nodes kind pats.now ∷ []) []) }
+        ensures full { result ≡ Err ScopesFault.Full → Over (map frame_of self.old.scopes.scopes
+            ++ frame_with store.now.nodes kind pats.now ∷ []) }
         ensures missing { result ≡ Err ScopesFault.Missing → ⊥ }
     {
         let parent = Some(self.around.here);
         self.entries.clear();
         add_pats(&mut self.entries, store, pats)?;
-        self.around.here = self
-            .scopes
-            .new_scope(parent, ScopeKind::None, &mut self.entries)?;
+        self.around.here = self.scopes.new_scope(parent, kind, &mut self.entries)?;
         Ok(())
     }
 
     /// Opens two scopes without entries: one over the current one, and one over that of constants.
     pub(crate) fn open_both(
         &mut self,
+        store: &ExpressionStore,
         here: ScopeKind,
         constant: ScopeKind,
     ) -> Result<(), ScopesFault>
@@ -97,8 +67,10 @@ impl Walk {
             → Over (map frame_of self.old.scopes.scopes ++ of_kind here ∷ of_kind constant ∷ []) }
         ensures missing { result ≡ Err ScopesFault.Missing → ⊥ }
     {
-        self.open_kind(here)?;
-        self.open_constant(constant)?;
+        self.open(store, here, &[])?;
+        let parent = Some(self.around.constant);
+        self.entries.clear();
+        self.around.constant = self.scopes.new_scope(parent, constant, &mut self.entries)?;
         Ok(())
     }
 
@@ -122,23 +94,24 @@ impl Walk {
         store.has_no_fault();
         kids_fall();
         match *form {
-            Form::If { .. } => self.open_kind(ScopeKind::None),
+            Form::If { .. } => self.open(store, ScopeKind::None, &[]),
             Form::Block {
                 id: None,
                 label,
                 ..
-            } => self.open_kind(loop_kind(label)),
+            } => self.open(store, loop_kind(label), &[]),
             Form::Block {
                 id: Some(id),
                 label,
                 ..
             } => self.open_both(
+                store,
                 ScopeKind::Block { id, label },
                 ScopeKind::Block { id, label: None },
             ),
-            Form::Loop { label, .. } => self.open_kind(loop_kind(label)),
-            Form::Closure { args, .. } => self.open(store, args),
-            Form::Assignment { target, .. } => self.open(store, &[target]),
+            Form::Loop { label, .. } => self.open(store, loop_kind(label), &[]),
+            Form::Closure { args, .. } => self.open(store, ScopeKind::None, args),
+            Form::Assignment { target, .. } => self.open(store, ScopeKind::None, &[target]),
             Form::Let { .. } | Form::Match { .. } | Form::InTurn(_) => Ok(()),
         }
     }

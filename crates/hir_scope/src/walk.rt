@@ -12,7 +12,6 @@ use hir_base::Steps;
 use hir_expr_store::ExpressionStore;
 use hir_expr_store::laws::kids_fall;
 use hir_node::{ExprId, PatId, TypeRefId};
-use std::alloc::Global;
 
 /// A walk: the scopes so far, those around what is met next, and what is still to do.
 #[derive(Drop)]
@@ -22,8 +21,6 @@ pub(crate) struct Walk {
     pub(crate) tasks: Tasks,
     /// The entries of what patterns bind, until a scope takes them.
     pub(crate) entries: Vec<ScopeEntry>,
-    /// Where memory comes from.
-    pub(crate) alloc: Global,
 }
 
 impl Walk {
@@ -79,7 +76,7 @@ impl Walk {
         ensures missing { result ≡ Err ScopesFault.Missing → ⊥ }
     {
         self.tasks.push(Task::Pat(bound))?;
-        self.open(store, &[bound])?;
+        self.open(store, ScopeKind::None, &[bound])?;
         Ok(())
     }
 
@@ -105,7 +102,7 @@ impl Walk {
         self.tasks.push(Task::Expr(expr))?;
         self.tasks.push_expr_opt(guard)?;
         self.tasks.push(Task::Pat(pat))?;
-        self.open(store, &[pat])?;
+        self.open(store, ScopeKind::None, &[pat])?;
         Ok(())
     }
 
@@ -137,7 +134,7 @@ impl Walk {
             Task::Arm(pat, expr) => self.meet_arm(store, pat, None, expr),
             Task::GuardedArm(pat, guard, expr) => self.meet_arm(store, pat, Some(guard), expr),
             Task::MacroDef(id) => {
-                self.open_both(ScopeKind::MacroDef(id), ScopeKind::MacroDef(id))
+                self.open_both(store, ScopeKind::MacroDef(id), ScopeKind::MacroDef(id))
             }
             Task::Leave(here, constant) => {
                 self.around = Around { here, constant };

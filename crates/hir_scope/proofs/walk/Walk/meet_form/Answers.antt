@@ -25,28 +25,23 @@ returns-in_err-open_inside-clause-full c =
     over_exceeds s w.scopes w.around (task.Expr c.args.expr ∷ w.tasks.stack.items) fs (met_frames s fall w.around c.args.expr w.tasks.stack.items c.requires.ready.known)
     (subst (λ (y : ScopingForm). Over (map frame_of w.scopes.scopes ++ (opens_here s y ++ opens_constant y))) is o)
 
-pub returns-clause-moves : goal.returns-clause-moves
-returns-clause-moves c =
-    let s = c.args.store.now.nodes in
-    let w = c.args.self.now in
-    let x = form_of s (node.Expr c.args.expr) in
-    let fall = c.kids_fall.ensures c.args.store.now c.has_no_fault.ensures in
-    let is : seen c.args.form.now ≡ x = c.requires.form in
-    let ts = c.push_form.new.self.stack.items in
-    let pushed : ts ≡ form_tasks w.around x ++ w.tasks.stack.items = c.in_ok-push_form.ensures.ok ∙ ap (λ (y : ScopingForm). form_tasks w.around y ++ w.tasks.stack.items) is in
-    let opened = subst (λ (y : ScopingForm). Opened (at w.scopes w.around ts) (state c.open_inside.new.self) (opens_here s y) (opens_constant y)) is c.in_ok-open_inside.ensures.opened in
-    expr_moves s fall w.scopes w.around c.args.expr w.tasks.stack.items ts (state c.open_inside.new.self) pushed opened c.requires.ready
-
-pub returns-clause-scope : goal.returns-clause-scope
-returns-clause-scope c =
+pub returns-clause-meets : goal.returns-clause-meets
+returns-clause-meets c =
     let s = c.args.store.now.nodes in
     let w = c.args.self.now in
     let n = c.open_inside.new.self in
     let x = form_of s (node.Expr c.args.expr) in
     let h = here_of (state w) in
+    let fall = c.kids_fall.ensures c.args.store.now c.has_no_fault.ensures in
     let is : seen c.args.form.now ≡ x = c.requires.form in
-    let o = c.in_ok-open_inside.ensures.opened in
+    let ts = c.push_form.new.self.stack.items in
+    let pushed : ts ≡ form_tasks w.around x ++ w.tasks.stack.items = c.in_ok-push_form.ensures.ok ∙ ap (λ (y : ScopingForm). form_tasks w.around y ++ w.tasks.stack.items) is in
+    let o : Opened (at w.scopes w.around ts) (state n) (opens_here s x) (opens_constant x) =
+        subst (λ (y : ScopingForm). Opened (at w.scopes w.around ts) (state n) (opens_here s y) (opens_constant y)) is c.in_ok-open_inside.ensures.opened in
     let around = frames_grown w.scopes.scopes n.scopes.scopes o.more w.around.here h o.grows (record { within = c.requires.ready.here; is = refl }) in
-    let here = own_frames s (seen c.args.form.now) n.scopes.scopes n.around.here w.around.here h o.here around in
-    subst (λ (i : ℕ). HasFrames n.scopes.scopes i (within_own x h)) (sym c.scope.ensures)
-    (subst (λ (y : ScopingForm). HasFrames n.scopes.scopes (scope_within (seen c.args.form.now) n.around.here w.around.here) (within_own y h)) is here)
+    let scope = c.scope.ensures ∙ ap (λ (y : ScopingForm). scope_within y n.around.here w.around.here) is in
+    record {
+      moves = expr_moves s fall w.scopes w.around c.args.expr w.tasks.stack.items ts (state n) pushed o c.requires.ready;
+      scope = subst (λ (i : ℕ). HasFrames n.scopes.scopes i (within_own x h)) (sym scope)
+          (own_frames s x n.scopes.scopes n.around.here w.around.here h o.here around);
+    }

@@ -1,7 +1,6 @@
 use Rattle.std.proofs.Common.{rules, ◌≡◌, List, [], ◌∷◌, ◌++◌, map, ◌<◌, ◌+◌, ◌⊎◌, length, refl, ap, ◌∙◌, subst}
 use Rattle.std.specs.List.{flat_map}
 use Rattle.hir_scope.specs.declared.scope.ScopeEntry.{ScopeEntry}
-use Rattle.hir_scope.specs.declared.scope.ScopeKind.TheVariants as kind
 use Rattle.hir_scope.specs.Frames.{binds}
 use Rattle.hir_scope.specs.Scopes.{Scopes, entry_count, frame_of}
 use Rattle.hir_scope.specs.walk.Machine.{state, Over}
@@ -20,15 +19,15 @@ returns-in_err-self-clause-full c =
     c.in_ok-add_pats.ensures.ok ∙ ap (λ (xs : List ScopeEntry). xs ++ flat_map (binds c.args.store.now.nodes) c.args.pats.now) c.clear.ensures.items in
     λ h.
     let o : (4294967295 < length S + 1) ⊎ (4294967295 < entry_count S + length es) = search rules in
-    subst (λ (xs : List ScopeEntry). Over (map frame_of S ++ record { kind = kind.None; entries = xs } ∷ [])) bound
-    (over_new S (record { kind = kind.None; entries = es }) o)
+    subst (λ (xs : List ScopeEntry). Over (map frame_of S ++ record { kind = c.args.kind; entries = xs } ∷ [])) bound
+    (over_new S (record { kind = c.args.kind; entries = es }) o)
 
 pub returns-clause-opened : goal.returns-clause-opened
 returns-clause-opened c =
     let w = c.args.self.now in
     let ok = c.in_ok-self.ensures.ok in
     let bound = c.in_ok-add_pats.ensures.ok ∙ ap (λ (xs : List ScopeEntry). xs ++ flat_map (binds c.args.store.now.nodes) c.args.pats.now) c.clear.ensures.items in
-    opened_here (state w) _ kind.None (flat_map (binds c.args.store.now.nodes) c.args.pats.now)
-    (ap (λ (x : Scopes). x.scopes) ok ∙ ap (λ (xs : List ScopeEntry). w.scopes.scopes ++ child w.around.here kind.None xs ∷ []) bound)
+    opened_here (state w) _ c.args.kind (flat_map (binds c.args.store.now.nodes) c.args.pats.now)
+    (ap (λ (x : Scopes). x.scopes) ok ∙ ap (λ (xs : List ScopeEntry). w.scopes.scopes ++ child w.around.here c.args.kind xs ∷ []) bound)
     (ap (λ (x : Scopes). x.scope_by_expr) ok)
     c.in_ok-self.ensures.id refl refl c.requires.constant

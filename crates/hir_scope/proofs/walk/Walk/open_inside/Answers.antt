@@ -4,8 +4,8 @@ use Rattle.hir_scope.specs.walk.Seen.{seen}
 use Rattle.hir_scope.proofs.DoneLemmas.{closure_pats, target_pat}
 use Rattle.hir_scope.proofs.walk.Walk.open_inside.Goals as goal
 
-pub open-requires-clause-there : goal.open-requires-clause-there
-open-requires-clause-there c =
+pub open-requires-in-Closure-clause-there : goal.open-requires-in-Closure-clause-there
+open-requires-in-Closure-clause-there c =
     let x = c.in-Closure in
     let fall = c.kids_fall.ensures c.args.store.now c.has_no_fault.ensures in
     closure_pats c.args.store.now.nodes fall (node.Expr c.args.expr) _ _ x.args.now _ c.requires.there (sym c.requires.form ∙ ap seen x.is)
