@@ -1,20 +1,20 @@
 -- What a whole walk made.
 use Rattle.std.proofs.Common.{◌≡◌, ℕ, List, [], ◌∷◌, refl, sym, ap, ◌∙◌, subst, Option, Some, None, inl, inr, ◌⊎◌, ⊎_elim, Bool, true, false, cond, ◌↔◌, ◌+◌, ◌++◌, map, length, arith, append-nil, ◌<◌, Contains}
-use Rattle.std.specs.Prelude.{IsSome, IfSome}
+use Rattle.std.specs.Prelude.{IsSome}
 use Rattle.std.specs.declared.cmp.Ordering.{Ordering}
 use Rattle.std.specs.declared.cmp.Ordering.TheVariants as order
 use Rattle.std.specs.Ordering.{nat_cmp, is_eq, eq_by_cmp}
 use Rattle.std.specs.FinMap.{get-insert, get-empty, nat_cmp-IsAntisymmetric}
 use Rattle.std.specs.Cmp.{nat_cmp_total, tied_itself}
-use Rattle.hir_scope.specs.walk.Machine.{Given, write_all, Machine, Gone, IsRight, place_given, future_of, chain_of, IsReady, Exceeds, one, count_entries, weight_left}
-use Rattle.hir_scope.proofs.MemberLemmas.{In, in_map, map_in, in_all, contains_in}
+use Rattle.hir_scope.specs.walk.Machine.{Given, write_all, Machine, Gone, IsRight, place_given, future_of, chain_of, IsReady, Exceeds, one, count_entries, weight, weight_left}
+use Rattle.hir_scope.proofs.MemberLemmas.{In, in_map, map_in, in_all}
 use Rattle.std.specs.FinMap as finmap
 use Rattle.std.proofs.lemmas.List.{length-map}
 use Rattle.hir_node.specs.declared.node_id.NodeId.{NodeId}
 use Rattle.hir_node.specs.declared.node_id.NodeId.TheVariants as node
 use Rattle.hir_faults.specs.Nodes.{Nodes, Has}
 use Rattle.hir_expr_store.specs.Under.{Reached, reached_nodes}
-use Rattle.hir_scope.specs.walk.Begins.{IsSound, root_entries, body_begins, signature_begins}
+use Rattle.hir_scope.specs.walk.Begins.{IsSound, IsSoundBody, IsSoundStore, root_entries, body_begins, signature_begins}
 use Rattle.hir_scope.specs.Built.{ChainsAreFrames, expr_count, tops_of_body, tops_of_signature, AreBodyScopes, AreSignatureScopes, BodyIsTooLarge, SignatureIsTooLarge, limit}
 use Rattle.hir_scope.specs.Chains.{Place, Stands, within_own}
 use Rattle.hir_scope.specs.Forms.{form_of}
@@ -22,21 +22,18 @@ use Rattle.hir_scope.specs.walk.Pending.{future}
 use Rattle.hir_scope.specs.walk.PlacesUnder.{exprs_under}
 use Rattle.hir_scope.proofs.UnderLemmas.{reached_stands, stands_reached, exprs_stand, standing_exprs}
 use Rattle.hir_scope.proofs.CountLemmas.{exprs_counted}
+use Rattle.hir_scope.proofs.SameLemmas.{at_or_before}
 use Rattle.hir_expr_store.specs.Contents.{Contents}
-use Rattle.hir_items.specs.Bodies.{BodyContents, AreBelow, body_nodes, tops}
+use Rattle.hir_items.specs.Bodies.{BodyContents, body_nodes, tops}
 use Rattle.hir_items.specs.Signatures.{root_tops}
-use Rattle.hir_scope.specs.declared.tasks.Task.{Task}
-use Rattle.hir_scope.specs.Frames.{Frame}
-use Rattle.hir_scope.proofs.BeginLemmas.{body_ready, body_exceeds, root_exceeds, signature_ready, signature_exceeds, body_same, body_whole, body_scopes_weigh, body_entries_weigh, signature_same, signature_whole, signature_scopes_weigh, signature_entries_weigh, scopes_weigh, entries_weigh}
+use Rattle.hir_scope.proofs.BeginLemmas.{body_ready, body_exceeds, root_exceeds, signature_ready, signature_exceeds, body_same, body_whole, body_scopes_weigh, body_entries_weigh, signature_same, signature_whole, signature_scopes_weigh, signature_entries_weigh, roots_in, tops_there}
+use Rattle.hir_scope.proofs.MovingLemmas.{scopes_weigh, entries_weigh}
+use Rattle.hir_scope.specs.Scopes.{entry_count}
 
 -- 1. What a list of writes leaves in a finite map: at each id that was written one of the values written there, and nothing else.
 
 abbrev Written : Type 0
 Written = finmap.FinMap nat_cmp ℕ
-
-at_or_before : (b : Bool) (v : ℕ) (o : Option ℕ) (w : ℕ) → cond b (Some v) o ≡ Some w → ((b ≡ true) × (v ≡ w)) ⊎ (o ≡ Some w)
-at_or_before true v o w e = inl (refl, (cc))
-at_or_before false v o w e = inr e
 
 tied_same : (q k : ℕ) → eq_by_cmp nat_cmp q k ≡ true → q ≡ k
 tied_same q k e = nat_cmp-IsAntisymmetric q k (is_equal (nat_cmp q k) e) where
@@ -163,86 +160,79 @@ module _ (s : Nodes) (sound : IsSound s) (tops : List Place) (nodes : List NodeI
 
 -- 3. What the whole walk over a body or a signature has made: its scopes, with the counts of scopes and entries, in a step for each expression.
 
-nothing_left : (s : Nodes) (w : Frame → ℕ) (ts : List Task) → ts ≡ [] → weight_left s w ts ≡ 0
-nothing_left s w ts e = ap (weight_left s w) e
+-- at the end all that was weighed is in scopes
+module _ (s : Nodes) (old new : Machine) (done : new.tasks ≡ []) where
+  all_scopes : weight s one old ≡ weight s one new → length new.scopes.scopes ≡ weight s one old
+  all_scopes e =
+      let l : weight_left s one new.tasks ≡ 0 = ap (weight_left s one) done in
+      let n = scopes_weigh new.scopes.scopes in
+      omega (arith, e, l, n)
 
-module _ (b : BodyContents) (sound : IsSound b.store.nodes) (all : (n : NodeId) → Contains (tops b) n → Has b.store.nodes n) where
-  there : (n : NodeId) → In n (tops b) → Has b.store.nodes n
-  there n i = all n (contains_in (tops b) n i)
+  all_entries : weight s count_entries old ≡ weight s count_entries new → entry_count new.scopes.scopes ≡ weight s count_entries old
+  all_entries e =
+      let l : weight_left s count_entries new.tasks ≡ 0 = ap (weight_left s count_entries) done in
+      let n = entries_weigh new.scopes.scopes in
+      omega (arith, e, l, n)
 
-  pub body_most : length (future_of b.store.nodes (body_begins b)) ≡ expr_count (body_nodes b)
-  body_most = ap (λ ps. length ps) (body_whole b) ∙ counted b.store.nodes sound (tops_of_body b) (tops b) (body_same b) there
+module _ (b : BodyContents) (sound : IsSoundBody b) where
+  abbrev nodes : Nodes
+  nodes = b.store.nodes
 
-  module _ (new : Machine) (before after : ℕ) (gone : Gone b.store.nodes (body_begins b) new before after) (done : new.tasks ≡ []) where
-    pub body_steps : after ≡ before + expr_count (body_nodes b)
-    body_steps = ticked b.store.nodes sound (tops_of_body b) (tops b) (body_same b) there (body_begins b) new before after gone (body_whole b) refl done
+  pub root_fails : limit < length (root_entries b) → BodyIsTooLarge b
+  root_fails h = root_exceeds b sound h
 
-    pub body_built : IfSome b.self_param (AreBelow (length b.store.nodes.bindings)) → AreBodyScopes b new.scopes
-    body_built self = record {
-      reached = λ expr. reached b.store.nodes sound (tops_of_body b) (tops b) (body_same b) there (body_begins b) new before after gone (body_whole b) refl done expr;
-      chains = chains b.store.nodes sound (tops_of_body b) (tops b) (body_same b) there (body_begins b) new before after gone (body_whole b) refl done;
-      scopes =
-          let w = gone.weights one in
-          let a = body_scopes_weigh b sound there in
-          let l = nothing_left b.store.nodes one new.tasks done in
-          let n = scopes_weigh new.scopes.scopes in
-          omega (arith, w, a, l, n);
-      entries =
-          let w = gone.weights count_entries in
-          let a = body_entries_weigh b sound there self in
-          let l = nothing_left b.store.nodes count_entries new.tasks done in
-          let n = entries_weigh new.scopes.scopes in
-          omega (arith, w, a, l, n);
+  -- in the store of the body, from the state in which its walk begins
+  module _ (c : Contents) (same : c ≡ b.store) (start : Machine) (is : start ≡ body_begins b) where
+    whole : future_of nodes start ≡ exprs_under nodes (tops_of_body b)
+    whole = ap (future_of nodes) is ∙ body_whole b
+
+    pub body_starts : IsReady c.nodes start
+    body_starts = subst (λ (x : Contents). IsReady x.nodes start) (sym same) (subst (IsReady nodes) (sym is) (body_ready b sound))
+
+    pub body_at_most : length (future_of c.nodes start) ≡ expr_count (body_nodes b)
+    body_at_most =
+        ap (λ (x : Contents). length (future_of x.nodes start)) same
+        ∙ (ap (λ ps. length ps) whole ∙ counted nodes sound.nodes (tops_of_body b) (tops b) (body_same b) (tops_there b sound))
+
+    pub body_fails : Exceeds c.nodes start → BodyIsTooLarge b
+    body_fails h = body_exceeds b sound (subst (Exceeds nodes) is (subst (λ (x : Contents). Exceeds x.nodes start) same h))
+
+    module _ (new : Machine) (before after : ℕ) (went : Gone c.nodes start new before after) (done : new.tasks ≡ []) where
+      gone : Gone nodes start new before after
+      gone = subst (λ (x : Contents). Gone x.nodes start new before after) same went
+
+      none : start.scopes.scope_by_expr ≡ finmap.empty
+      none = ap (λ m. m.scopes.scope_by_expr) is
+
+      pub body_ticks : after ≡ before + expr_count (body_nodes b)
+      body_ticks = ticked nodes sound.nodes (tops_of_body b) (tops b) (body_same b) (tops_there b sound) start new before after gone whole none done
+
+      pub body_made : AreBodyScopes b new.scopes
+      body_made = record {
+        reached = reached nodes sound.nodes (tops_of_body b) (tops b) (body_same b) (tops_there b sound) start new before after gone whole none done;
+        chains = chains nodes sound.nodes (tops_of_body b) (tops b) (body_same b) (tops_there b sound) start new before after gone whole none done;
+        scopes = all_scopes nodes start new done (gone.weights one) ∙ (ap (weight nodes one) is ∙ body_scopes_weigh b sound);
+        entries = all_entries nodes start new done (gone.weights count_entries) ∙ (ap (weight nodes count_entries) is ∙ body_entries_weigh b sound);
+      }
+
+module _ (c : Contents) (sound : IsSoundStore c) (start : Machine) (is : start ≡ signature_begins c) where
+  pub signature_starts : IsReady c.nodes start
+  signature_starts = subst (IsReady c.nodes) (sym is) (signature_ready c sound)
+
+  pub signature_fails : Exceeds c.nodes start → SignatureIsTooLarge c
+  signature_fails h = signature_exceeds c sound (subst (Exceeds c.nodes) is h)
+
+  module _ (new : Machine) (before after : ℕ) (gone : Gone c.nodes start new before after) (done : new.tasks ≡ []) where
+    met_all : future_of c.nodes start ≡ exprs_under c.nodes (tops_of_signature c)
+    met_all = ap (future_of c.nodes) is ∙ signature_whole c
+
+    no_scope : start.scopes.scope_by_expr ≡ finmap.empty
+    no_scope = ap (λ m. m.scopes.scope_by_expr) is
+
+    pub signature_made : AreSignatureScopes c new.scopes
+    signature_made = record {
+      reached = reached c.nodes sound.nodes (tops_of_signature c) (root_tops c) (signature_same c) (roots_in c sound) start new before after gone met_all no_scope done;
+      chains = chains c.nodes sound.nodes (tops_of_signature c) (root_tops c) (signature_same c) (roots_in c sound) start new before after gone met_all no_scope done;
+      scopes = all_scopes c.nodes start new done (gone.weights one) ∙ (ap (weight c.nodes one) is ∙ signature_scopes_weigh c sound);
+      entries = all_entries c.nodes start new done (gone.weights count_entries) ∙ (ap (weight c.nodes count_entries) is ∙ signature_entries_weigh c sound);
     }
-
-  module _ (start : Machine) (is : start ≡ body_begins b) where
-    pub body_starts : IsReady b.store.nodes start
-    body_starts = subst (IsReady b.store.nodes) (sym is) (body_ready b sound there)
-
-    pub body_at_most : length (future_of b.store.nodes start) ≡ expr_count (body_nodes b)
-    body_at_most = ap (λ m. length (future_of b.store.nodes m)) is ∙ body_most
-
-    pub body_fails : IfSome b.self_param (AreBelow (length b.store.nodes.bindings)) → Exceeds b.store.nodes start → BodyIsTooLarge b
-    body_fails self h = body_exceeds b sound there self (subst (Exceeds b.store.nodes) is h)
-
-    pub body_made : (new : Machine) (before after : ℕ) → IfSome b.self_param (AreBelow (length b.store.nodes.bindings)) → Gone b.store.nodes start new before after → new.tasks ≡ [] → AreBodyScopes b new.scopes
-    body_made new before after self gone done = body_built new before after (subst (λ m. Gone b.store.nodes m new before after) is gone) done self
-
-    pub body_ticks : (new : Machine) (before after : ℕ) → Gone b.store.nodes start new before after → new.tasks ≡ [] → after ≡ before + expr_count (body_nodes b)
-    body_ticks new before after gone done = body_steps new before after (subst (λ m. Gone b.store.nodes m new before after) is gone) done
-
-  pub root_fails : IfSome b.self_param (AreBelow (length b.store.nodes.bindings)) → limit < length (root_entries b) → BodyIsTooLarge b
-  root_fails self h = root_exceeds b sound there self h
-
-module _ (c : Contents) (sound : IsSound c.nodes) (all : (n : NodeId) → Contains (root_tops c) n → Has c.nodes n) where
-  roots_in : (n : NodeId) → In n (root_tops c) → Has c.nodes n
-  roots_in n i = all n (contains_in (root_tops c) n i)
-
-  module _ (new : Machine) (before after : ℕ) (gone : Gone c.nodes (signature_begins c) new before after) (done : new.tasks ≡ []) where
-    pub signature_built : AreSignatureScopes c new.scopes
-    signature_built = record {
-      reached = λ expr. reached c.nodes sound (tops_of_signature c) (root_tops c) (signature_same c) roots_in (signature_begins c) new before after gone (signature_whole c) refl done expr;
-      chains = chains c.nodes sound (tops_of_signature c) (root_tops c) (signature_same c) roots_in (signature_begins c) new before after gone (signature_whole c) refl done;
-      scopes =
-          let w = gone.weights one in
-          let a = signature_scopes_weigh c sound roots_in in
-          let l = nothing_left c.nodes one new.tasks done in
-          let n = scopes_weigh new.scopes.scopes in
-          omega (arith, w, a, l, n);
-      entries =
-          let w = gone.weights count_entries in
-          let a = signature_entries_weigh c sound roots_in in
-          let l = nothing_left c.nodes count_entries new.tasks done in
-          let n = entries_weigh new.scopes.scopes in
-          omega (arith, w, a, l, n);
-    }
-
-  module _ (start : Machine) (is : start ≡ signature_begins c) where
-    pub signature_starts : IsReady c.nodes start
-    signature_starts = subst (IsReady c.nodes) (sym is) (signature_ready c sound roots_in)
-
-    pub signature_fails : Exceeds c.nodes start → SignatureIsTooLarge c
-    signature_fails h = signature_exceeds c sound roots_in (subst (Exceeds c.nodes) is h)
-
-    pub signature_made : (new : Machine) (before after : ℕ) → Gone c.nodes start new before after → new.tasks ≡ [] → AreSignatureScopes c new.scopes
-    signature_made new before after gone done = signature_built new before after (subst (λ m. Gone c.nodes m new before after) is gone) done

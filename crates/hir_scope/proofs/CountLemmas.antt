@@ -255,16 +255,9 @@ none-spread (spread.Expr id) = refl
 -- no pattern is among what a form meets in turn
 abbrev pub MeetsNone : ScopingForm → Type 0
 MeetsNone (form.InTurn cs) = none cs
-MeetsNone x = Unit {0}
+MeetsNone x = none []
 
 pub expr_meets : (x : Expr) → MeetsNone (expr_form x)
-expr_meets (expr.If c y f) = tt
-expr_meets (expr.Let pat x) = tt
-expr_meets (expr.Block id xs tail label unsafe_) = tt
-expr_meets (expr.Loop body label source) = tt
-expr_meets (expr.Closure args arg_types ret_type body kind by) = tt
-expr_meets (expr.Match x arms) = tt
-expr_meets (expr.Assignment target value) = tt
 expr_meets (expr.Call callee args) = none-append (e callee) (flat_map e args) refl (none-each e (λ x. refl) args)
 expr_meets (expr.MethodCall receiver name args generic_args) =
     none-append (e receiver ++ flat_map e args) (opt args_calls generic_args)
@@ -282,7 +275,6 @@ expr_meets (expr.Path path) = none-path path
 expr_meets _ = refl
 
 pub type_meets : (x : TypeRef) → MeetsNone (type_form x)
-type_meets (type.PatternType ty pat) = tt
 type_meets (type.Tuple types) = none-each t (λ x. refl) types
 type_meets (type.Path path) = none-path path
 type_meets (type.Reference reference) = none-append (t reference.ty) (opt l reference.lifetime) refl (none-opt l (λ x. refl) reference.lifetime)

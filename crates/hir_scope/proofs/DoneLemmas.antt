@@ -4,7 +4,7 @@ use Rattle.std.specs.List.{All, flat_map, sum_by, slice_get}
 use Rattle.std.proofs.lemmas.List.Elements.{All-nil, All-cons}
 use Rattle.std.proofs.lemmas.List.Concat.{flat_map-append}
 use Rattle.std.proofs.lemmas.List.Sorted.{IsPermutation-sym, Contains-permutation}
-use Rattle.hir_node.specs.ChildCalls.{Call, OnExpr, OnAnonConst, OnPat, OnType, OnLifetime, e, p, t, opt, kid, kids}
+use Rattle.hir_node.specs.ChildCalls.{Call, OnLifetime, e, p, t, opt, kid, kids}
 use Rattle.hir_node.specs.declared.expr_types.Item.TheVariants as item
 use Rattle.hir_node.specs.declared.expr_types.MatchArm.{MatchArm}
 use Rattle.hir_node.specs.declared.expr_types.Statement.{Statement}
@@ -96,22 +96,12 @@ module _ (n : ℕ) where
   leaves_join : (us ts : List Task) → LeavesWithin n us → LeavesWithin n ts → LeavesWithin n (us ++ ts)
   leaves_join [] ts h l = l
   leaves_join (task.Leave a b ∷ us) ts h l = (h.0, h.1, leaves_join us ts h.2 l)
-  leaves_join (task.Expr id ∷ us) ts h l = leaves_join us ts h l
-  leaves_join (task.Constant id ∷ us) ts h l = leaves_join us ts h l
-  leaves_join (task.Pat id ∷ us) ts h l = leaves_join us ts h l
-  leaves_join (task.TypeRef id ∷ us) ts h l = leaves_join us ts h l
-  leaves_join (task.Bound id ∷ us) ts h l = leaves_join us ts h l
-  leaves_join (task.Arm p x ∷ us) ts h l = leaves_join us ts h l
-  leaves_join (task.GuardedArm p g x ∷ us) ts h l = leaves_join us ts h l
-  leaves_join (task.MacroDef id ∷ us) ts h l = leaves_join us ts h l
+  leaves_join (_ ∷ us) ts h l = leaves_join us ts h l
 
   pub leaves_calls : (cs : List Call) (ts : List Task) → LeavesWithin n ts → LeavesWithin n (tasks_of cs ++ ts)
   leaves_calls [] ts l = l
-  leaves_calls (OnExpr x ∷ cs) ts l = leaves_calls cs ts l
-  leaves_calls (OnAnonConst x ∷ cs) ts l = leaves_calls cs ts l
-  leaves_calls (OnPat x ∷ cs) ts l = leaves_calls cs ts l
-  leaves_calls (OnType x ∷ cs) ts l = leaves_calls cs ts l
   leaves_calls (OnLifetime x ∷ cs) ts l = leaves_calls cs ts l
+  leaves_calls (_ ∷ cs) ts l = leaves_calls cs ts l
 
   leaves_statement : (x : Statement) → LeavesWithin n (statement_tasks x)
   leaves_statement (statement.Let pat ty x y) = leaves_calls (opt t ty ++ opt e x ++ opt e y) (task.Bound pat ∷ []) tt

@@ -29,7 +29,7 @@ use Rattle.hir_scope.specs.Slots.{slots}
 use Rattle.hir_scope.specs.declared.tasks.Around.{Around}
 use Rattle.hir_scope.proofs.CountLemmas.{MeetsNone, expr_meets, type_meets, bound_by, form_entries, turn_entries, form_frames}
 use Rattle.hir_scope.proofs.KidLemmas.{kids_of_form, kids_in, slots_kids, about_form}
-use Rattle.hir_scope.proofs.MemberLemmas.{In, contains_in, flat_map_in, sum_flat, sum_same, sum_plus, sum_ones}
+use Rattle.hir_scope.proofs.MemberLemmas.{In, contains_in, flat_map_in, read, sum_flat, sum_same, sum_plus, sum_ones}
 use Rattle.hir_scope.proofs.WeightLemmas.{total_at}
 
 -- 1. Each binding of a pattern is there, and is one entry
@@ -47,11 +47,6 @@ binding_known s sound id b = at (slice_get s.pats id) refl where
   at : (o : Option Pat) → slice_get s.pats id ≡ o → In b (all_of pat_bindings o) → b < length s.bindings
   at None e i = absurd i
   at (Some x) e i = all_below (length s.bindings) (pat_bindings x) (second_so _ _ (first_so _ _ (sound id x e).there)) b i
-
-read : {X : Type 0} (xs : List X) (i : ℕ) → i < length xs → (x : X) × (slice_get xs i ≡ Some x)
-read [] i h = absurd (omega (arith, h))
-read (x ∷ xs) zero h = (x, refl)
-read (x ∷ xs) (suc i) h = read xs i (omega (arith, h))
 
 pub one_entry : (s : Nodes) (b : ℕ) → b < length s.bindings → length (entry_at s b) ≡ 1
 one_entry s b h = let x = read s.bindings b h in ap (λ (o : Option Binding). length (all_of (λ (y : Binding). entry_of b y ∷ []) o)) x.1

@@ -40,6 +40,11 @@ flat_map_in f y [] h = absurd h
 flat_map_in f y (z ∷ xs) h =
     ⊎_elim (λ a. (z, inl refl, a)) (λ b. let r = flat_map_in f y xs b in (r.0, inr r.1, r.2)) (in_append y (f z) (flat_map f xs) h)
 
+pub read : {X : Type 0} (xs : List X) (i : ℕ) → i < length xs → (x : X) × (slice_get xs i ≡ Some x)
+read [] i h = absurd (omega (arith, h))
+read (x ∷ xs) zero h = (x, refl)
+read (x ∷ xs) (suc i) h = read xs i (omega (arith, h))
+
 pub get_in : {X : Type 0} (xs : List X) (x : X) → In x xs → (k : ℕ) × (slice_get xs k ≡ Some x)
 get_in [] x h = absurd h
 get_in (y ∷ xs) x h = ⊎_elim (λ e. (0, ap Some e)) (λ r. let i = get_in xs x r in (suc i.0, i.1)) h

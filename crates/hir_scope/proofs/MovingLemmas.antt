@@ -2,7 +2,7 @@
 use Rattle.std.proofs.Common.{◌≡◌, ℕ, zero, suc, ◌+◌, ◌<◌, ◌≤◌, List, [], ◌∷◌, ◌++◌, Option, Some, None, map, fold, get_or, length, refl, ap, ◌∙◌, arith, sym, append_assoc, subst, length-append, inl, inr, ◌⊎◌, ⊎_elim}
 use Rattle.std.specs.Prelude.{⊤, Result, Ok, Err, IfOk}
 use Rattle.std.specs.List.{slice_get, flat_map, sum_by, All}
-use Rattle.std.proofs.lemmas.List.{length_push, append-nil, map-append}
+use Rattle.std.proofs.lemmas.List.{length_push, append-nil, length-map, map-append}
 use Rattle.hir_node.specs.declared.node_id.NodeId.TheVariants as node
 use Rattle.hir_faults.specs.Tested.{all_of}
 use Rattle.hir_faults.specs.Nodes.{Nodes}
@@ -15,10 +15,11 @@ use Rattle.hir_scope.specs.Slots.{arm_slots}
 use Rattle.hir_scope.specs.Chains.{Place, place_kid, within_own}
 use Rattle.hir_scope.specs.walk.PlacesUnder.{place, exprs_under}
 use Rattle.hir_scope.specs.Scopes.{Scope, frame_of, Scopes, entry_count}
-use Rattle.hir_scope.specs.Paths.{path_among, with_path, paths, path, frame_at, chain}
+use Rattle.hir_scope.specs.Paths.{path, frame_at, chain}
 use Rattle.hir_scope.specs.walk.Pending.{future, arm_with, opens_here}
 use Rattle.hir_scope.specs.walk.Machine.{chain_of, LeavesWithin, HasFrames, Machine, here_of, constant_of, future_of, about, AreThere, IsReady, weight_left, one, count_entries, Over, Exceeds, turns_left, Opened, Moves, scope_within, Given, place_given, write_all, IsRight, Gone, Goes}
-use Rattle.hir_scope.proofs.PathLemmas.{path_kept, path_new, length_paths}
+use Rattle.hir_scope.proofs.MemberLemmas.{sum_mapped, sum_ones}
+use Rattle.hir_scope.proofs.PathLemmas.{path_kept, path_new, path_members}
 use Rattle.std.proofs.lemmas.List.Sums.{sum_by-append, sum_by-cons}
 use Rattle.hir_scope.specs.declared.scope.ScopeEntry.{ScopeEntry}
 use Rattle.hir_scope.specs.declared.scope.ScopeKind.{ScopeKind}
@@ -30,50 +31,6 @@ use Rattle.std.specs.FinMap as finmap
 use Rattle.std.proofs.lemmas.List.Elements.{All-nil, All-cons, All-append, All-weaker}
 
 -- 1. Later scopes change nothing: no chain of an earlier scope, and nothing of what is still to do.
-
--- The members of a path are scopes that are there
-
-abbrev AllBelow : ℕ → List ℕ → Type 0
-AllBelow n [] = ⊤
-AllBelow n (x ∷ xs) = (x < n) × AllBelow n xs
-
-abbrev PathsBelow : ℕ → List (List ℕ) → Type 0
-PathsBelow n [] = ⊤
-PathsBelow n (p ∷ ps) = AllBelow n p × PathsBelow n ps
-
-below_more : (m n : ℕ) (xs : List ℕ) → m ≤ n → AllBelow m xs → AllBelow n xs
-below_more m n [] l h = tt
-below_more m n (x ∷ xs) l h = (omega (arith, l, h.0), below_more m n xs l h.1)
-
-paths_more : (m n : ℕ) (ps : List (List ℕ)) → m ≤ n → PathsBelow m ps → PathsBelow n ps
-paths_more m n [] l h = tt
-paths_more m n (p ∷ ps) l h = (below_more m n p l h.0, paths_more m n ps l h.1)
-
-path_below : (n : ℕ) (ps : List (List ℕ)) (i : ℕ) → PathsBelow n ps → AllBelow n (get_or ps i [])
-path_below n [] i h = tt
-path_below n (p ∷ ps) zero h = h.0
-path_below n (p ∷ ps) (suc i) h = path_below n ps i h.1
-
-among_below : (n : ℕ) (ps : List (List ℕ)) (o : Option ℕ) → PathsBelow n ps → AllBelow n (path_among ps o)
-among_below n ps None h = tt
-among_below n ps (Some i) h = path_below n ps i h
-
-paths_push : (n : ℕ) (ps : List (List ℕ)) (p : List ℕ) → PathsBelow n ps → AllBelow n p → PathsBelow n (ps ++ p ∷ [])
-paths_push n [] p h k = (k, tt)
-paths_push n (q ∷ ps) p h k = (h.0, paths_push n ps p h.1 k)
-
-paths_with : (earlier : List (List ℕ)) (more : List Scope) → PathsBelow (length earlier) earlier → PathsBelow (length (fold with_path earlier more)) (fold with_path earlier more)
-paths_with earlier [] h = h
-paths_with earlier (s ∷ more) h =
-    let n = length earlier in
-    let m = length (with_path earlier s) in
-    let long : m ≡ n + 1 = omega (arith, length_push earlier (n ∷ path_among earlier s.parent)) in
-    let inner = below_more n m (path_among earlier s.parent) (omega (arith, long)) (among_below n earlier s.parent h) in
-    paths_with (with_path earlier s) more (paths_push m earlier (n ∷ path_among earlier s.parent) (paths_more n m earlier (omega (arith, long)) h) (omega (arith, long), inner))
-
-members_there : (scopes : List Scope) (o : Option ℕ) → AllBelow (length (paths scopes)) (path scopes o)
-unfolding paths
-members_there scopes o = among_below (length (fold with_path [] scopes)) (fold with_path [] scopes) o (paths_with [] scopes tt)
 
 -- Chains
 
@@ -91,16 +48,15 @@ slice_last (y ∷ xs) x (suc i) h = slice_last xs x i (omega (arith, h))
 abbrev frames_of : Option Scope → List Frame
 frames_of o = all_of (λ s. frame_of s ∷ []) o
 
-frames_kept : (scopes more : List Scope) (p : List ℕ) → AllBelow (length scopes) p → flat_map (frame_at (scopes ++ more)) p ≡ flat_map (frame_at scopes) p
+frames_kept : (scopes more : List Scope) (p : List ℕ) → All (λ x. x < length scopes) p → flat_map (frame_at (scopes ++ more)) p ≡ flat_map (frame_at scopes) p
 frames_kept scopes more [] h = refl
 frames_kept scopes more (x ∷ p) h =
-    let r = frames_kept scopes more p h.1 in
-    ap (λ (o : Option Scope). frames_of o ++ flat_map (frame_at (scopes ++ more)) p) (slice_kept scopes more x h.0)
+    let r = frames_kept scopes more p (λ k d l. h (suc k) d (omega (arith, l))) in
+    ap (λ (o : Option Scope). frames_of o ++ flat_map (frame_at (scopes ++ more)) p) (slice_kept scopes more x (h 0 x (omega arith)))
     ∙ ap (λ (fs : List Frame). frame_at scopes x ++ fs) r
 
 path_frames_kept : (scopes more : List Scope) (o : Option ℕ) → flat_map (frame_at (scopes ++ more)) (path scopes o) ≡ chain scopes o
-path_frames_kept scopes more o =
-    frames_kept scopes more (path scopes o) (below_more (length (paths scopes)) (length scopes) (path scopes o) (omega (arith, length_paths scopes)) (members_there scopes o))
+path_frames_kept scopes more o = frames_kept scopes more (path scopes o) (path_members scopes o)
 
 -- later scopes change no chain
 pub chain_kept : (scopes more : List Scope) (s : ℕ) → s < length scopes → chain_of (scopes ++ more) s ≡ chain_of scopes s
@@ -127,14 +83,7 @@ frames_grown scopes grown more s frames e h =
 pub leaves_more : (m n : ℕ) (ts : List Task) → m ≤ n → LeavesWithin m ts → LeavesWithin n ts
 leaves_more m n [] l h = tt
 leaves_more m n (task.Leave a b ∷ ts) l h = (omega (arith, l, h.0), omega (arith, l, h.1), leaves_more m n ts l h.2)
-leaves_more m n (task.Expr id ∷ ts) l h = leaves_more m n ts l h
-leaves_more m n (task.Constant id ∷ ts) l h = leaves_more m n ts l h
-leaves_more m n (task.Pat id ∷ ts) l h = leaves_more m n ts l h
-leaves_more m n (task.TypeRef id ∷ ts) l h = leaves_more m n ts l h
-leaves_more m n (task.Bound id ∷ ts) l h = leaves_more m n ts l h
-leaves_more m n (task.Arm p x ∷ ts) l h = leaves_more m n ts l h
-leaves_more m n (task.GuardedArm p g x ∷ ts) l h = leaves_more m n ts l h
-leaves_more m n (task.MacroDef id ∷ ts) l h = leaves_more m n ts l h
+leaves_more m n (_ ∷ ts) l h = leaves_more m n ts l h
 
 -- the chains of scopes that are taken back are all that is asked of them
 pub future_agrees : (s : Nodes) (f g : ℕ → Chain) (n : ℕ) → ((i : ℕ) → i < n → f i ≡ g i) → (h k : Chain) (ts : List Task) → LeavesWithin n ts → future s f h k ts ≡ future s g h k ts
@@ -240,22 +189,17 @@ own_frames s _ scopes inside outside h i o = o
 
 -- Too many
 
+pub scopes_weigh : (scopes : List Scope) → sum_by one (map frame_of scopes) ≡ length scopes
+scopes_weigh scopes = sum_ones one (map frame_of scopes) (λ f i. refl) ∙ length-map scopes frame_of
+
+pub entries_weigh : (scopes : List Scope) → sum_by count_entries (map frame_of scopes) ≡ entry_count scopes
+entries_weigh scopes = sum_mapped count_entries frame_of scopes
+
 -- what a refusal says of the lists is over
 pub over_new : (scopes : List Scope) (f : Frame) → (4294967295 < length scopes + 1) ⊎ (4294967295 < entry_count scopes + length f.entries) → Over (map frame_of scopes ++ f ∷ [])
 over_new scopes f o =
-    ⊎_elim (λ l. inl (let a = sum_by-append one (map frame_of scopes) (f ∷ []) in let b = ones scopes in omega (arith, l, a, b)))
-    (λ l. inr (let a = sum_by-append count_entries (map frame_of scopes) (f ∷ []) in let b = counts scopes in omega (arith, l, a, b))) o where
-      ones : (xs : List Scope) → sum_by one (map frame_of xs) ≡ length xs
-      ones [] = refl
-      ones (x ∷ xs) = let r = ones xs in let a = sum_by-cons one (frame_of x) (map frame_of xs) in omega (arith, r, a)
-
-      counts : (xs : List Scope) → sum_by count_entries (map frame_of xs) ≡ entry_count xs
-      counts [] = refl
-      counts (x ∷ xs) =
-          let r = counts xs in
-          let a = sum_by-cons count_entries (frame_of x) (map frame_of xs) in
-          let b = sum_by-cons (λ (s : Scope). length s.entries) x xs in
-          omega (arith, r, a, b)
+    ⊎_elim (λ l. inl (let a = sum_by-append one (map frame_of scopes) (f ∷ []) in let b = scopes_weigh scopes in omega (arith, l, a, b)))
+    (λ l. inr (let a = sum_by-append count_entries (map frame_of scopes) (f ∷ []) in let b = entries_weigh scopes in omega (arith, l, a, b))) o
 
 -- what is over with the frames so far is over with those from before
 pub over_after : (old mid : Machine) (f : Frame) (gs : List Frame) → Opened old mid (f ∷ []) [] → Over (map frame_of mid.scopes.scopes ++ gs) → Over (map frame_of old.scopes.scopes ++ f ∷ gs)

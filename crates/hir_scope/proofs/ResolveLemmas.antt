@@ -11,7 +11,8 @@ use Rattle.hir_scope.specs.Frames.{Frame, Chain}
 use Rattle.hir_scope.specs.Scopes.{Scope, IsBelow, IsIn, ParentsStandEarlier, frame_of, macro_def_of}
 use Rattle.hir_scope.specs.Paths.{path, frame_at, chain}
 use Rattle.hir_scope.specs.Resolution.{is_asked, first_asked, entries_of, resolve, IsFound}
-use Rattle.hir_scope.proofs.PathLemmas.{path_step, read}
+use Rattle.hir_scope.proofs.MemberLemmas.{read}
+use Rattle.hir_scope.proofs.PathLemmas.{path_step}
 use Rattle.std.specs.Option.{option_or}
 use Rattle.std.proofs.lemmas.List.Elements.{Contains-append_left, Contains-append_right, Contains-push}
 use Rattle.hir_scope.specs.declared.macros.Expansion.{Expansion}

@@ -97,14 +97,15 @@ AreBelow m n = (expr scope : ℕ) → finmap.get m expr ≡ Some scope → scope
 pub there_seen : (es : List ScopeEntry) (rows : List ScopeData) (m : finmap.FinMap nat_cmp ℕ) → AreBelow m (length rows) → AreBelow m (length (scopes_of es rows))
 there_seen es rows m h expr scope e = subst (λ n. scope < n) (sym (length_seen es rows)) (h expr scope e)
 
-chosen : (b : Bool) (v s : ℕ) (o : Option ℕ) → cond b (Some v) o ≡ Some s → (v ≡ s) ⊎ (o ≡ Some s)
-chosen true v s o e = inl cc
-chosen false v s o e = inr e
+-- a value that was written is the one written, or that from before
+pub at_or_before : (b : Bool) (v : ℕ) (o : Option ℕ) (w : ℕ) → cond b (Some v) o ≡ Some w → ((b ≡ true) × (v ≡ w)) ⊎ (o ≡ Some w)
+at_or_before true v o w e = inl (refl, (cc))
+at_or_before false v o w e = inr e
 
 pub below_inserted : (m : finmap.FinMap nat_cmp ℕ) (n e s : ℕ) → AreBelow m n → s < n → AreBelow (finmap.insert m e s) n
 below_inserted m n e s h l expr scope q =
-    elim (chosen (eq_by_cmp nat_cmp expr e) s scope (finmap.get m expr) (sym (finmap.get-insert nat_cmp_total m e s expr) ∙ q)) [
-      | inl w ↦ subst (λ x. x < n) w l
+    elim (at_or_before (eq_by_cmp nat_cmp expr e) s (finmap.get m expr) scope (sym (finmap.get-insert nat_cmp_total m e s expr) ∙ q)) [
+      | inl w ↦ subst (λ x. x < n) w.1 l
       | inr w ↦ h expr scope w
     ]
 

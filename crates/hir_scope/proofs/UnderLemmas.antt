@@ -1,6 +1,6 @@
 -- The leak of a node by its kids, what is under a place, and where a node stands.
 use Rattle.std.proofs.Common.{◌≡◌, ℕ, zero, suc, List, [], ◌∷◌, map, refl, sym, ap, ◌∙◌, Contains, arith, subst, ◌<◌, length, inl, inr, ⊎_elim}
-use Rattle.std.specs.List.{flat_map, filter, slice_index_or}
+use Rattle.std.specs.List.{flat_map, filter}
 use Rattle.std.proofs.Math.Path.{fun_ext}
 use Rattle.std.proofs.lemmas.List.{append-nil}
 use Rattle.std.proofs.lemmas.List.Sorted.{IsPermutation-sym, Contains-permutation}
@@ -21,7 +21,7 @@ use Rattle.hir_scope.specs.Built.{is_expr}
 use Rattle.hir_scope.specs.walk.PlacesUnder.{place, places_under, under_step, exprs_under}
 use Rattle.hir_scope.proofs.KidLemmas.{met_kids, kids_of_form, kids_in, slots_kids}
 use Rattle.hir_expr_store.specs.Under.{Under, itself, below, Reached}
-use Rattle.hir_scope.proofs.MemberLemmas.{In, in_contains, contains_in, in_flat_map, flat_map_in, map_in, in_filter, filter_in}
+use Rattle.hir_scope.proofs.MemberLemmas.{In, in_contains, contains_in, in_flat_map, flat_map_in, in_map, map_in, in_filter, filter_in}
 
 -- 1. The leak of a node is told by the leaks of its kids, and what is under a place by what is under the places of the kids.
 
@@ -110,19 +110,10 @@ exprs_under_type s fall id here constant h = exprs_under_at s fall (place (node.
 
 module _ {X Y : Type 0} (f : X → Y) where
   mapped : (xs : List X) (x : X) → Contains xs x → Contains (map f xs) (f x)
-  mapped [] x c = absurd (omega (arith, c.1))
-  mapped (y ∷ xs) x c = at (mapped xs x) c.0 c.1 c.2 where
-    at : (Contains xs x → Contains (map f xs) (f x)) → (k : ℕ) → k < length (y ∷ xs) → slice_index_or (y ∷ xs) k x ≡ x → Contains (map f (y ∷ xs)) (f x)
-    at again zero l e = (0, omega arith, ap f e)
-    at again (suc k) l e = let r = again (k, omega (arith, l), e) in (suc r.0, omega (arith, r.1), r.2)
+  mapped xs x c = contains_in (map f xs) (f x) (map_in f x xs (in_contains xs x c))
 
   unmapped : (xs : List X) (y : Y) → Contains (map f xs) y → (x : X) × Contains xs x × (f x ≡ y)
-  unmapped [] y c = absurd (omega (arith, c.1))
-  unmapped (x ∷ xs) y c = at (unmapped xs y) c.0 c.1 c.2 where
-    at : (Contains (map f xs) y → (z : X) × Contains xs z × (f z ≡ y)) → (k : ℕ) → k < length (map f (x ∷ xs)) → slice_index_or (map f (x ∷ xs)) k y ≡ y →
-        (z : X) × Contains (x ∷ xs) z × (f z ≡ y)
-    at again zero l e = (x, (0, omega arith, refl), e)
-    at again (suc k) l e = let r = again (k, omega (arith, l), e) in (r.0, (suc r.1.0, omega (arith, r.1.1), r.1.2), r.2)
+  unmapped xs y c = let r = in_map f y xs (in_contains (map f xs) y c) in (r.0, contains_in xs r.0 r.1, r.2)
 
 module _ (s : Nodes) where
   -- a kid of a node with a place has a place among those of its kids

@@ -1,14 +1,11 @@
 //! The scopes of a body or a signature, made by a walk over what it reaches; and where the walk begins.
-ghost use Rattle.std.specs.Prelude.{◌≡◌, ◌+◌, ◌<◌, ◌≤◌, ◌∷◌, ◌++◌, [], length, option_map, Err, IfOk, IfSome, OnErr, OnOk, Contains};
+ghost use Rattle.std.specs.Prelude.{◌≡◌, ◌+◌, ◌<◌, ◌≤◌, ◌∷◌, ◌++◌, [], length, option_map, Err, IfOk, OnErr, OnOk};
 ghost use Rattle.std.specs.List.{All, flat_map};
-ghost use Rattle.hir_node.specs.declared.node_id.NodeId.{NodeId};
-ghost use Rattle.hir_faults.specs.Nodes.{Has};
 ghost use Rattle.hir_faults.specs.Tested.{all_of};
-ghost use Rattle.hir_items.specs.Bodies.{AreBelow, body_nodes, formals_of, tops};
-ghost use Rattle.hir_items.specs.Signatures.{root_tops};
+ghost use Rattle.hir_items.specs.Bodies.{AreBelow, body_nodes, formals_of};
 ghost use Rattle.hir_scope.specs.Built.{AreBodyScopes, AreSignatureScopes, BodyIsTooLarge, SignatureIsTooLarge, expr_count};
 ghost use Rattle.hir_scope.specs.Frames.{entry_at, binds};
-ghost use Rattle.hir_scope.specs.walk.Begins.{IsSound, at_first, for_none, root_entries, body_root, body_begins, formal_tasks, signature_begins};
+ghost use Rattle.hir_scope.specs.walk.Begins.{IsSoundBody, IsSoundStore, at_first, for_none, root_entries, body_root, body_begins, formal_tasks, signature_begins};
 ghost use Rattle.hir_scope.specs.walk.Machine.{state};
 
 use crate::entries::{add_entry, add_pat};
@@ -28,32 +25,29 @@ use hir_node::{BindingId, PatId};
 use hir_stack::Stack;
 use std::alloc::Global;
 
-/// Tells a proof what the laws say of the store's nodes, and does nothing.
-fn is_sound(store: &ExpressionStore)
-    ensures { IsSound store.now.nodes }
+/// Tells a proof what the laws say of the store, and does nothing.
+fn is_sound_store(store: &ExpressionStore)
+    ensures { IsSoundStore store.now }
 {
     store.has_no_fault();
     kids_fall();
     nodes_under_is();
     bindings_in_is();
     nodes_are_sound();
-}
-
-/// Tells a proof that the roots of the store are there, and does nothing.
-fn roots_are_there(store: &ExpressionStore)
-    ensures { (n : NodeId) → Contains (root_tops store.now) n → Has store.now.nodes n }
-{
-    store.has_no_fault();
     roots_stand_apart();
 }
 
-/// Tells a proof that the formals and the last root of the body are there, and does nothing.
-fn tops_of_body_are_there(body: &Body)
-    ensures { (n : NodeId) → Contains (tops body.now) n → Has body.now.store.nodes n }
+/// Tells a proof what the laws say of the body, and does nothing.
+fn is_sound_body(body: &Body)
+    ensures { IsSoundBody body.now }
 {
+    let store = body.store();
+    is_sound_store(store);
+    store.has_no_fault();
     body.has_no_fault();
-    body.store().has_no_fault();
     tops_are_there();
+    // (its contract says that the binding of `self` is in the store)
+    let _ = body.self_param();
 }
 
 /// Appends the entry of `self`, where there is one.
@@ -205,13 +199,9 @@ impl ExprScopes {
         ensures full { result ≡ Err ScopesFault.Full → BodyIsTooLarge body.now }
         ensures missing { result ≡ Err ScopesFault.Missing → ⊥ }
     {
-        let store = body.store();
-        // (its contract says that the binding of `self` is in the store)
-        let _ = body.self_param();
-        is_sound(store);
-        tops_of_body_are_there(body);
+        is_sound_body(body);
         let mut walk = Walk::over_body(alloc, body)?;
-        walk.run(store, steps)?;
+        walk.run(body.store(), steps)?;
         Ok(walk.scopes)
     }
 
@@ -224,8 +214,7 @@ impl ExprScopes {
         ensures full { result ≡ Err ScopesFault.Full → SignatureIsTooLarge store.now }
         ensures missing { result ≡ Err ScopesFault.Missing → ⊥ }
     {
-        is_sound(store);
-        roots_are_there(store);
+        is_sound_store(store);
         let mut steps = Steps::new();
         let mut walk = Walk::over_roots(alloc, store)?;
         walk.run(store, &mut steps)?;

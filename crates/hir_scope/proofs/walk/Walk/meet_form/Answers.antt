@@ -37,7 +37,7 @@ returns-clause-meets c =
     let ts = c.push_form.new.self.stack.items in
     let pushed : ts ≡ form_tasks w.around x ++ w.tasks.stack.items = c.in_ok-push_form.ensures.ok ∙ ap (λ (y : ScopingForm). form_tasks w.around y ++ w.tasks.stack.items) is in
     let o : Opened (at w.scopes w.around ts) (state n) (opens_here s x) (opens_constant x) =
-        subst (λ (y : ScopingForm). Opened (at w.scopes w.around ts) (state n) (opens_here s y) (opens_constant y)) is c.in_ok-open_inside.ensures.opened in
+    subst (λ (y : ScopingForm). Opened (at w.scopes w.around ts) (state n) (opens_here s y) (opens_constant y)) is c.in_ok-open_inside.ensures.opened in
     let around = frames_grown w.scopes.scopes n.scopes.scopes o.more w.around.here h o.grows (record { within = c.requires.ready.here; is = refl }) in
     let scope = c.scope.ensures ∙ ap (λ (y : ScopingForm). scope_within y n.around.here w.around.here) is in
     record {
