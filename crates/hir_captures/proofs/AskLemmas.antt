@@ -11,7 +11,8 @@ use Rattle.hir_scope.specs.Frames.{Frame, Chain}
 use Rattle.hir_scope.specs.Scopes.{Scope, ParentsStandEarlier, frame_of}
 use Rattle.hir_scope.specs.Paths.{path, frame_at, chain}
 use Rattle.hir_scope.specs.Resolution.{resolve, IsFound}
-use Rattle.hir_scope.proofs.PathLemmas.{path_step, read}
+use Rattle.hir_scope.proofs.MemberLemmas.{read}
+use Rattle.hir_scope.proofs.PathLemmas.{path_step}
 use Rattle.hir_scope.proofs.ResolveLemmas.{or_else, resolve_append, found_resolves}
 use Rattle.hir_captures.specs.Captures.{unless_within, meaning_behind}
 

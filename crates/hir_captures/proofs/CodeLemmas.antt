@@ -10,12 +10,12 @@ use Rattle.hir_faults.specs.Nodes.{Nodes, Has, kids_of}
 use Rattle.hir_faults.specs.Down.{rank, KidsFall, AgreeOn, AsksKids}
 use Rattle.hir_faults.proofs.DownLemmas.{value_at, parent_there}
 use Rattle.hir_scope.proofs.KidLemmas.{kids_in, slots_kids, slots_follow}
-use Rattle.hir_scope.proofs.UnderLemmas.{slots_agree}
+use Rattle.hir_scope.proofs.UnderLemmas.{mapped, slots_agree}
 use Rattle.hir_scope.specs.Forms.{form_of, ScopingForm, form_at, expr_form}
 use Rattle.hir_scope.specs.Slots.{Base, Here, Const, Slot, slot_kid, call_kids, slots, own_frame}
 use Rattle.hir_captures.specs.declared.unread.Task.{Task}
 use Rattle.hir_scope.specs.Order.{met_in_form}
-use Rattle.hir_captures.specs.walk.Pending.{tasks_of, code_of, AreThere}
+use Rattle.hir_captures.specs.walk.Pending.{tasks_of, task_node, code_of, AreThere}
 use Rattle.hir_captures.specs.Uses.{Spot, spot, in_code, of_pattern, kid_code, assignment_at, code_step, code_under, Use, if_assignment, use_of, expr_uses, pat_uses, uses_at, spot_uses, uses_in}
 use Rattle.std.specs.Prelude.{filter_map}
 use Rattle.hir_base.specs.declared.hygiene.SyntaxContext.{SyntaxContext}
@@ -107,14 +107,13 @@ code_read s fall n a =
 
 -- What tasks name is there
 
-there_two : (s : Nodes) (xs ys : List Task) → AreThere s xs → AreThere s ys → AreThere s (xs ++ ys)
-there_two s [] ys h k = k
-there_two s (x ∷ xs) ys h k = (h.0, there_two s xs ys h.1 k)
+all_two : {X : Type 0} (P : X → Type 0) (xs ys : List X) → AllByRecursion P xs → AllByRecursion P ys → AllByRecursion P (xs ++ ys)
+all_two P [] ys h k = k
+all_two P (x ∷ xs) ys h k = (h.0, all_two P xs ys h.1 k)
 
 -- the nodes of spots are there
 abbrev HaveNodes : Nodes → List Spot → Type 0
-HaveNodes s [] = Unit {0}
-HaveNodes s (x ∷ xs) = Has s x.node × HaveNodes s xs
+HaveNodes s xs = AllByRecursion (λ (x : Spot). Has s x.node) xs
 
 -- a node alone
 abbrev itself : Codes
@@ -140,15 +139,10 @@ tasks_there s a (OnLifetime id ∷ cs) h = tasks_there s a cs h
 pub kids_there : (s : Nodes) → KidsFall s → (n : NodeId) (a : Option ℕ) (rest : List Task) → Has s n → AreThere s rest → AreThere s (tasks_of a (met_in_form (form_of s n)) ++ rest)
 kids_there s fall n a rest h r =
     let have = slots_there s a (slots s n) (λ k m. fall.there n h k (kid_there s n k m)) in
-    there_two s (tasks_of a (met_in_form (form_of s n))) rest
+    all_two (λ (t : Task). Has s (task_node t)) (tasks_of a (met_in_form (form_of s n))) rest
     (tasks_there s a (met_in_form (form_of s n)) (subst (HaveNodes s) (of_node itself a s n) have)) r
 
 -- 2. What is in a closure's code stands on the closure's chain: the chains of its uses are some frames on it.
-
-contains_map : {X Y : Type 0} (f : X → Y) (xs : List X) (x : X) → Contains xs x → Contains (map f xs) (f x)
-contains_map f [] x (k, lt, is) = absurd (omega (arith, lt))
-contains_map f (y ∷ xs) x (zero, lt, is) = (zero, omega arith, ap f is)
-contains_map f (y ∷ xs) x (suc k, lt, is) = let r = contains_map f xs x (k, omega (arith, lt), is) in (suc r.0, omega (arith, r.1), r.2)
 
 -- What stands on a chain
 
@@ -174,10 +168,6 @@ module _ (s : Nodes) (tops : List Place) (from : List NodeId) (base : Chain) whe
   abbrev pub SpotsOn : List Spot → Type 0
   SpotsOn xs = AllByRecursion SpotOn xs
 
-  spots_two : (xs ys : List Spot) → SpotsOn xs → SpotsOn ys → SpotsOn (xs ++ ys)
-  spots_two [] ys h k = k
-  spots_two (x ∷ xs) ys h k = (h.0, spots_two xs ys h.1 k)
-
   target_of : (n : NodeId) (a : Option ℕ) → TargetOn a → TargetOn (of_pattern n a)
   target_of (node.Pat id) a t = t
   target_of (node.Expr id) a t = tt
@@ -195,7 +185,7 @@ module _ (s : Nodes) (tops : List Place) (from : List NodeId) (base : Chain) whe
   kids_on : (f : Codes) (a : Option ℕ) → TargetOn a → (xs : List Slot) → ((x : Slot) → Contains xs x → x.base ≡ Here → (b : Option ℕ) → TargetOn b → SpotsOn (f x.kid b)) → SpotsOn (flat_map (kid_code f a) xs)
   kids_on f a t [] h = tt
   kids_on f a t (x ∷ xs) h =
-      spots_two (kid_code f a x) (flat_map (kid_code f a) xs) (one x.base refl)
+      all_two SpotOn (kid_code f a x) (flat_map (kid_code f a) xs) (one x.base refl)
       (kids_on f a t xs (λ y m. h y (suc m.0, omega (arith, m.1), m.2))) where
         one : (b : Base) → x.base ≡ b → SpotsOn (in_code b (f x.kid (of_pattern x.kid a)))
         one Here e = h x (0, omega arith, refl) e (of_pattern x.kid a) (target_of x.kid a t)
@@ -209,9 +199,9 @@ module _ (s : Nodes) (tops : List Place) (from : List NodeId) (base : Chain) whe
         let place = place_kid at.here at.constant in
         record {
           at = place x;
-          stands = kid on.stands (contains_map place (slots s at.node) x (subst (λ (k : NodeId). Contains (slots s k) x) (sym on.is_node) m));
+          stands = kid on.stands (mapped place (slots s at.node) x (subst (λ (k : NodeId). Contains (slots s k) x) (sym on.is_node) m));
           is_node = refl;
-          reached = go n x.kid on.reached (kid_there s n x.kid (contains_map (λ (y : Slot). y.kid) (slots s n) x m));
+          reached = go n x.kid on.reached (kid_there s n x.kid (mapped (λ (y : Slot). y.kid) (slots s n) x m));
           on = (
             x.add ++ on.on.0,
             ap (λ (b : Base). x.add ++ on_base b at.here (x.constants ++ at.constant)) here
@@ -225,7 +215,7 @@ module _ (s : Nodes) (tops : List Place) (from : List NodeId) (base : Chain) whe
         subst SpotsOn (sym (code_at s fall n a)) (
           (on, t),
           kids_on (code_under s) (assignment_at s n a) (assignment_on n a on t) (slots s n) (λ x m here b u.
-              let among = kid_there s n x.kid (contains_map (λ (y : Slot). y.kid) (slots s n) x m) in
+              let among = kid_there s n x.kid (mapped (λ (y : Slot). y.kid) (slots s n) x m) in
               let low = fall.lower n (parent_there s n x.kid among) x.kid among in
               code_on d x.kid b (omega (arith, l, low)) (kid_on n on x m here) u),
         )
@@ -240,10 +230,6 @@ module _ (s : Nodes) (tops : List Place) (from : List NodeId) (base : Chain) whe
 
   abbrev pub UsesOn : List Use → Type 0
   UsesOn us = AllByRecursion UseOn us
-
-  uses_two : (us vs : List Use) → UsesOn us → UsesOn vs → UsesOn (us ++ vs)
-  uses_two [] vs h k = k
-  uses_two (u ∷ us) vs h k = (h.0, uses_two us vs h.1 k)
 
   one_use : (h : SyntaxContext) (id : ℕ) (o : Option (List ℕ)) → On (node.Expr id) → UsesOn (use_of h id o)
   one_use h id None on = tt
@@ -260,7 +246,7 @@ module _ (s : Nodes) (tops : List Place) (from : List NodeId) (base : Chain) whe
 pub uses_on : (c : Contents) (tops : List Place) (from : List NodeId) (base : Chain) (xs : List Spot) → SpotsOn c.nodes tops from base xs → UsesOn c.nodes tops from base (flat_map (spot_uses c) xs)
 uses_on c tops from base [] h = tt
 uses_on c tops from base (x ∷ xs) h =
-    uses_two c.nodes tops from base (spot_uses c x) (flat_map (spot_uses c) xs) (one x.node x.assignment h.0.0 h.0.1) (uses_on c tops from base xs h.1) where
+    all_two (UseOn c.nodes tops from base) (spot_uses c x) (flat_map (spot_uses c) xs) (one x.node x.assignment h.0.0 h.0.1) (uses_on c tops from base xs h.1) where
       one : (n : NodeId) (a : Option ℕ) → StandsOn c.nodes tops from base n → TargetOn c.nodes tops from base a → UsesOn c.nodes tops from base (uses_at c n a)
       one (node.Expr id) a on t = of_expr c.nodes tops from base (hygiene_of c.side_tables (ExprId id)) id (slice_get c.nodes.exprs id) on
       one (node.Pat id) a on t = of_pat c.nodes tops from base (hygiene_of c.side_tables (PatId id)) a (slice_get c.nodes.pats id) t

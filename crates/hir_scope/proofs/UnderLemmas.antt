@@ -109,7 +109,7 @@ exprs_under_type s fall id here constant h = exprs_under_at s fall (place (node.
 -- 2. A node stands in a place exactly where it is reached.
 
 module _ {X Y : Type 0} (f : X → Y) where
-  mapped : (xs : List X) (x : X) → Contains xs x → Contains (map f xs) (f x)
+  pub mapped : (xs : List X) (x : X) → Contains xs x → Contains (map f xs) (f x)
   mapped xs x c = contains_in (map f xs) (f x) (map_in f x xs (in_contains xs x c))
 
   unmapped : (xs : List X) (y : Y) → Contains (map f xs) y → (x : X) × Contains xs x × (f x ≡ y)

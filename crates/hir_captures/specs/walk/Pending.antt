@@ -1,6 +1,6 @@
 -- What is still to be read of a closure's code: the tasks of child calls.
 use Rattle.std.specs.Prelude.{ℕ, List, [], ◌∷◌, Option, Some, None}
-use Rattle.std.specs.List.{flat_map}
+use Rattle.std.specs.List.{flat_map, AllByRecursion}
 use Rattle.hir_node.specs.ChildCalls.{Call, OnExpr, OnAnonConst, OnPat, OnType, OnLifetime}
 use Rattle.hir_node.specs.declared.node_id.NodeId.{NodeId}
 use Rattle.hir_node.specs.declared.node_id.NodeId.TheVariants as node
@@ -42,5 +42,4 @@ code_of s tasks = flat_map (λ t. code_under s (task_node t) (task_target t)) ta
 
 -- all that tasks name is there
 abbrev pub AreThere : Nodes → List Task → Type 0
-AreThere s [] = Unit {0}
-AreThere s (t ∷ ts) = Has s (task_node t) × AreThere s ts
+AreThere s tasks = AllByRecursion (λ t. Has s (task_node t)) tasks
