@@ -1,6 +1,6 @@
 //! The scopes that a walk opens.
 
-ghost use Rattle.std.specs.Prelude.{◌≡◌, ◌<◌, [], ◌∷◌, ◌++◌, length, map, Err, IfOk};
+ghost use Rattle.std.specs.Prelude.{◌≡◌, ◌<◌, [], ◌∷◌, ◌++◌, length, map, Err, IfOk, OnOk};
 ghost use Rattle.hir_node.specs.declared.node_id.NodeId.TheVariants as node;
 ghost use Rattle.hir_scope.specs.Forms.{form_of};
 ghost use Rattle.hir_scope.specs.Frames.{frame_with, of_kind};
@@ -44,6 +44,7 @@ impl Walk {
         ensures full { result ≡ Err ScopesFault.Full → Over (map frame_of self.old.scopes.scopes
             ++ frame_with store.now.nodes kind pats.now ∷ []) }
         ensures missing { result ≡ Err ScopesFault.Missing → ⊥ }
+        ensures taken { OnOk result (self.new.entries.items ≡ []) }
     {
         let parent = Some(self.around.here);
         self.entries.clear();
@@ -69,7 +70,6 @@ impl Walk {
     {
         self.open(store, here, &[])?;
         let parent = Some(self.around.constant);
-        self.entries.clear();
         self.around.constant = self.scopes.new_scope(parent, constant, &mut self.entries)?;
         Ok(())
     }

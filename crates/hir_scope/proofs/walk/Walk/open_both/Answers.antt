@@ -13,7 +13,7 @@ returns-clause-opened c =
     let opened = c.in_ok-open.ensures.opened in
     opened_then (state c.args.self.now) (state mid) _ (of_kind c.args.here) (of_kind c.args.constant ∷ []) opened
     (opened_constant (state mid) _ c.args.constant []
-    (ap (λ (x : Scopes). x.scopes) ok ∙ ap (λ (xs : List ScopeEntry). mid.scopes.scopes ++ child mid.around.constant c.args.constant xs ∷ []) c.clear.ensures.items)
+    (ap (λ (x : Scopes). x.scopes) ok ∙ ap (λ (xs : List ScopeEntry). mid.scopes.scopes ++ child mid.around.constant c.args.constant xs ∷ []) c.in_ok-open.ensures.taken)
     (ap (λ (x : Scopes). x.scope_by_expr) ok)
     c.in_ok-self.ensures.id refl refl opened.here.within)
 
@@ -27,8 +27,8 @@ pub returns-in_err-self-clause-full : goal.returns-in_err-self-clause-full
 returns-in_err-self-clause-full c = λ h.
     let mid = c.open.new.self in
     let S = mid.scopes.scopes in
-    let es = c.clear.new.self.items in
+    let es = mid.entries.items in
     let o : (4294967295 < length S + 1) ⊎ (4294967295 < entry_count S + length es) = search rules in
     over_after (state c.args.self.now) (state mid) (of_kind c.args.here) (of_kind c.args.constant ∷ []) c.in_ok-open.ensures.opened
-    (subst (λ (xs : List ScopeEntry). Over (map frame_of S ++ record { kind = c.args.constant; entries = xs } ∷ [])) c.clear.ensures.items
+    (subst (λ (xs : List ScopeEntry). Over (map frame_of S ++ record { kind = c.args.constant; entries = xs } ∷ [])) c.in_ok-open.ensures.taken
     (over_new S (record { kind = c.args.constant; entries = es }) o))
