@@ -3,7 +3,7 @@ use Rattle.std.proofs.Common.{◌≡◌, ◌<◌, ℕ, List, [], ◌∷◌, ◌+
 use Rattle.std.specs.List.{flat_map, slice_get, cons_option, AllByRecursion}
 use Rattle.std.proofs.Math.Path.{fun_ext}
 use Rattle.std.proofs.lemmas.List.Sorted.{IsPermutation-sym, Contains-permutation}
-use Rattle.hir_node.specs.ChildCalls.{Call, OnExpr, OnAnonConst, OnPat, OnType, OnLifetime}
+use Rattle.hir_node.specs.ChildCalls.{Call, OnExpr, OnPat}
 use Rattle.hir_node.specs.declared.node_id.NodeId.{NodeId}
 use Rattle.hir_node.specs.declared.node_id.NodeId.TheVariants as node
 use Rattle.hir_faults.specs.Nodes.{Nodes, Has, kids_of}
@@ -65,9 +65,7 @@ module _ (s : Nodes) where
 abbrev call_code : Codes → Option ℕ → Call → List Spot
 call_code f a (OnExpr id) = f (node.Expr id) None
 call_code f a (OnPat id) = f (node.Pat id) a
-call_code f a (OnAnonConst id) = []
-call_code f a (OnType id) = []
-call_code f a (OnLifetime id) = []
+call_code f a _ = []
 
 module _ (f : Codes) (a : Option ℕ) where
   abbrev at_base : NodeId × Base → List Spot
@@ -81,9 +79,7 @@ module _ (f : Codes) (a : Option ℕ) where
   of_calls [] = refl
   of_calls (OnExpr id ∷ cs) = ap (λ (ys : List Spot). f (node.Expr id) None ++ ys) (of_calls cs)
   of_calls (OnPat id ∷ cs) = ap (λ (ys : List Spot). f (node.Pat id) a ++ ys) (of_calls cs)
-  of_calls (OnAnonConst id ∷ cs) = of_calls cs
-  of_calls (OnType id ∷ cs) = of_calls cs
-  of_calls (OnLifetime id ∷ cs) = of_calls cs
+  of_calls (_ ∷ cs) = of_calls cs
 
   of_node : (s : Nodes) (n : NodeId) → flat_map (kid_code f a) (slots s n) ≡ flat_map (call_code f a) (met_in_form (form_of s n))
   of_node s n = of_slots (slots s n) ∙ (ap (flat_map at_base) (slots_follow s n) ∙ of_calls (met_in_form (form_of s n)))
@@ -94,9 +90,7 @@ task_code s a [] = refl
 task_code s a (OnExpr id ∷ cs) = ap (λ (xs : List Spot). code_under s (node.Expr id) None ++ xs) (task_code s a cs)
 task_code s None (OnPat id ∷ cs) = ap (λ (xs : List Spot). code_under s (node.Pat id) None ++ xs) (task_code s None cs)
 task_code s (Some a) (OnPat id ∷ cs) = ap (λ (xs : List Spot). code_under s (node.Pat id) (Some a) ++ xs) (task_code s (Some a) cs)
-task_code s a (OnAnonConst id ∷ cs) = task_code s a cs
-task_code s a (OnType id ∷ cs) = task_code s a cs
-task_code s a (OnLifetime id ∷ cs) = task_code s a cs
+task_code s a (_ ∷ cs) = task_code s a cs
 
 -- reading a node leaves the code of its kids
 pub code_read : (s : Nodes) → KidsFall s → (n : NodeId) (a : Option ℕ) → code_under s n a ≡ spot n a ∷ code_of s (tasks_of (assignment_at s n a) (met_in_form (form_of s n)))
@@ -131,9 +125,7 @@ tasks_there s a [] h = tt
 tasks_there s a (OnExpr id ∷ cs) h = (h.0, tasks_there s a cs h.1)
 tasks_there s None (OnPat id ∷ cs) h = (h.0, tasks_there s None cs h.1)
 tasks_there s (Some a) (OnPat id ∷ cs) h = (h.0, tasks_there s (Some a) cs h.1)
-tasks_there s a (OnAnonConst id ∷ cs) h = tasks_there s a cs h
-tasks_there s a (OnType id ∷ cs) h = tasks_there s a cs h
-tasks_there s a (OnLifetime id ∷ cs) h = tasks_there s a cs h
+tasks_there s a (_ ∷ cs) h = tasks_there s a cs h
 
 -- the kids of a node are there
 pub kids_there : (s : Nodes) → KidsFall s → (n : NodeId) (a : Option ℕ) (rest : List Task) → Has s n → AreThere s rest → AreThere s (tasks_of a (met_in_form (form_of s n)) ++ rest)
@@ -170,8 +162,7 @@ module _ (s : Nodes) (tops : List Place) (from : List NodeId) (base : Chain) whe
 
   target_of : (n : NodeId) (a : Option ℕ) → TargetOn a → TargetOn (of_pattern n a)
   target_of (node.Pat id) a t = t
-  target_of (node.Expr id) a t = tt
-  target_of (node.TypeRef id) a t = tt
+  target_of _ a t = tt
 
   if_on : (id : ℕ) (o : Option Expr) → On (node.Expr id) → TargetOn (if_assignment id o)
   if_on id (Some (expr.Assignment target value)) on = on

@@ -1,5 +1,5 @@
 -- What a whole walk made.
-use Rattle.std.proofs.Common.{◌≡◌, ℕ, List, [], ◌∷◌, refl, sym, ap, ◌∙◌, subst, Option, Some, None, inl, inr, ◌⊎◌, ⊎_elim, Bool, true, false, cond, ◌↔◌, ◌+◌, ◌++◌, map, length, arith, append-nil, ◌<◌, Contains}
+use Rattle.std.proofs.Common.{◌≡◌, ℕ, List, [], ◌∷◌, refl, sym, ap, ◌∙◌, subst, Option, Some, None, inl, inr, ◌⊎◌, ⊎_elim, Bool, true, false, cond, ◌↔◌, ◌+◌, ◌++◌, map, length, arith, append-nil, ◌<◌}
 use Rattle.std.specs.Prelude.{IsSome}
 use Rattle.std.specs.declared.cmp.Ordering.{Ordering}
 use Rattle.std.specs.declared.cmp.Ordering.TheVariants as order
@@ -60,20 +60,17 @@ written_once gs expr scope e =
     ⊎_elim (λ q. absurd (let none : finmap.get {K = ℕ} {X = ℕ} {R = nat_cmp} finmap.empty expr ≡ None = get-empty nat_cmp expr in cc)) (λ r. r)
     (written_or finmap.empty gs expr scope e)
 
-some_of : (b : Bool) (v : ℕ) (o : Option ℕ) → IsSome o → IsSome (cond b (Some v) o)
-some_of true v o h = refl
-some_of false v o h = h
-
-some_here : (b : Bool) (v : ℕ) (o : Option ℕ) → b ≡ true → IsSome (cond b (Some v) o)
-some_here true v o e = refl
-some_here false v o e = absurd cc
+some_if : (b : Bool) (v : ℕ) (o : Option ℕ) → (b ≡ true) ⊎ IsSome o → IsSome (cond b (Some v) o)
+some_if true v o h = refl
+some_if false v o (inl e) = absurd cc
+some_if false v o (inr h) = h
 
 -- what is there stays
 stays : (m : Written) (gs : List Given) (expr : ℕ) → IsSome (finmap.get m expr) → IsSome (finmap.get (write_all m gs) expr)
 stays m [] expr h = h
 stays m (g ∷ gs) expr h =
     stays (finmap.insert m g.expr g.scope) gs expr
-    (subst IsSome (sym (get-insert nat_cmp_total m g.expr g.scope expr)) (some_of (eq_by_cmp nat_cmp expr g.expr) g.scope (finmap.get m expr) h))
+    (subst IsSome (sym (get-insert nat_cmp_total m g.expr g.scope expr)) (some_if (eq_by_cmp nat_cmp expr g.expr) g.scope (finmap.get m expr) (inr h)))
 
 -- what was written is there
 pub written_there : (m : Written) (gs : List Given) (g : Given) → In g gs → IsSome (finmap.get (write_all m gs) g.expr)
@@ -82,7 +79,7 @@ written_there m (f ∷ gs) g h =
     ⊎_elim
     (λ e. stays (finmap.insert m f.expr f.scope) gs g.expr
     (subst IsSome (sym (get-insert nat_cmp_total m f.expr f.scope g.expr))
-    (some_here (eq_by_cmp nat_cmp g.expr f.expr) f.scope (finmap.get m g.expr) (ap (λ (x : Given). eq_by_cmp nat_cmp g.expr x.expr) e ∙ ap is_eq (tied_itself nat_cmp_total g.expr)))))
+    (some_if (eq_by_cmp nat_cmp g.expr f.expr) f.scope (finmap.get m g.expr) (inl (ap (λ (x : Given). eq_by_cmp nat_cmp g.expr x.expr) e ∙ ap is_eq (tied_itself nat_cmp_total g.expr))))))
     (λ i. written_there (finmap.insert m f.expr f.scope) gs g i)
     h
 

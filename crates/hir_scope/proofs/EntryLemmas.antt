@@ -22,7 +22,6 @@ use Rattle.hir_expr_store.specs.PatLists.{pats, bindings_at, bindings_in, child_
 use Rattle.hir_scope.specs.Counts.{node_entries}
 use Rattle.hir_scope.specs.Frames.{entry_at, entry_of, binds}
 use Rattle.hir_scope.specs.Forms.{form_at, form_of, expr_form, pat_form, type_form}
-use Rattle.hir_scope.specs.Forms as form
 use Rattle.hir_scope.specs.walk.Machine.{about, count_entries, total, node_frames}
 use Rattle.hir_scope.specs.walk.Pending.{form_tasks}
 use Rattle.hir_scope.specs.Slots.{slots}
@@ -66,9 +65,6 @@ no_around = record { here = 0; constant = 0 }
 abbrev pub entries_of_node : Nodes → NodeId → ℕ
 entries_of_node s n = sum_by count_entries (node_frames s n)
 
-none_meets : MeetsNone (form.InTurn [])
-none_meets = refl
-
 module _ (s : Nodes) (fall : KidsFall s) where
   -- over the kids of a node, or those that its tasks are about
   kids_bound : (n : NodeId) → sum_by (bound_by s) (about (form_tasks no_around (form_of s n))) ≡ sum_by (bound_by s) (kids_of s n)
@@ -80,13 +76,13 @@ module _ (s : Nodes) (fall : KidsFall s) where
   expr_meets_at : (id : ℕ) → MeetsNone (form_of s (node.Expr id))
   expr_meets_at id = at (slice_get s.exprs id) where
     at : (o : Option Expr) → MeetsNone (form_at expr_form o)
-    at None = none_meets
+    at None = refl
     at (Some x) = expr_meets x
 
   type_meets_at : (id : ℕ) → MeetsNone (form_of s (node.TypeRef id))
   type_meets_at id = at (slice_get s.types id) where
     at : (o : Option TypeRef) → MeetsNone (form_at type_form o)
-    at None = none_meets
+    at None = refl
     at (Some x) = type_meets x
 
   -- over calls, what their patterns bind

@@ -5,7 +5,7 @@ use Rattle.std.specs.List.Sorted.{IsPermutation}
 use Rattle.std.proofs.lemmas.List.{map-append, append-nil}
 use Rattle.std.proofs.lemmas.List.Concat.{flat_map-append}
 use Rattle.std.proofs.lemmas.List.Sorted.{IsPermutation-refl, IsPermutation-trans, IsPermutation-append_comm, IsPermutation-append_left, IsPermutation-append_right}
-use Rattle.hir_node.specs.ChildCalls.{Call, OnExpr, OnAnonConst, OnPat, OnType, OnLifetime, e, p, t, opt, kid, kids, arm_calls, statement_calls, expr_calls, pat_calls, type_calls}
+use Rattle.hir_node.specs.ChildCalls.{Call, OnLifetime, e, p, t, opt, kid, kids, arm_calls, statement_calls, expr_calls, pat_calls, type_calls}
 use Rattle.hir_node.specs.declared.expr_types.MatchArm.{MatchArm}
 use Rattle.hir_node.specs.declared.expr_types.Statement.{Statement}
 use Rattle.hir_node.specs.declared.expr_types.Statement.TheVariants as statement
@@ -176,11 +176,8 @@ kids_of_places (x ∷ xs) = ap (λ (ns : List NodeId). x.kid ∷ ns) (kids_of_pl
 
 kids_of_calls : (cs : List Call) → map (λ (k : NodeId × Base). k.0) (of_calls cs) ≡ kids cs
 kids_of_calls [] = refl
-kids_of_calls (OnExpr id ∷ cs) = ap (λ (ns : List NodeId). node.Expr id ∷ ns) (kids_of_calls cs)
-kids_of_calls (OnAnonConst id ∷ cs) = ap (λ (ns : List NodeId). node.Expr id ∷ ns) (kids_of_calls cs)
-kids_of_calls (OnPat id ∷ cs) = ap (λ (ns : List NodeId). node.Pat id ∷ ns) (kids_of_calls cs)
-kids_of_calls (OnType id ∷ cs) = ap (λ (ns : List NodeId). node.TypeRef id ∷ ns) (kids_of_calls cs)
 kids_of_calls (OnLifetime id ∷ cs) = kids_of_calls cs
+kids_of_calls (c ∷ cs) = ap (λ (ns : List NodeId). kid c ++ ns) (kids_of_calls cs)
 
 in_kids : (xs : List Slot) (cs : List Call) → places xs ≡ of_calls cs → kids_in xs ≡ kids cs
 in_kids xs cs h = kids_of_places xs ∙ (ap (map (λ (k : NodeId × Base). k.0)) h ∙ kids_of_calls cs)
@@ -203,11 +200,8 @@ about-append xs ys = flat_map-append task_kids xs ys
 
 pub about_calls : (cs : List Call) → about (tasks_of cs) ≡ kids cs
 about_calls [] = refl
-about_calls (OnExpr x ∷ cs) = ap (λ (ns : List NodeId). node.Expr x ∷ ns) (about_calls cs)
-about_calls (OnAnonConst x ∷ cs) = ap (λ (ns : List NodeId). node.Expr x ∷ ns) (about_calls cs)
-about_calls (OnPat x ∷ cs) = ap (λ (ns : List NodeId). node.Pat x ∷ ns) (about_calls cs)
-about_calls (OnType x ∷ cs) = ap (λ (ns : List NodeId). node.TypeRef x ∷ ns) (about_calls cs)
 about_calls (OnLifetime x ∷ cs) = about_calls cs
+about_calls (c ∷ cs) = ap (λ (ns : List NodeId). kid c ++ ns) (about_calls cs)
 
 two_about : (xs ys : List Task) (cs ds : List Call) → about xs ≡ kids cs → about ys ≡ kids ds → about (xs ++ ys) ≡ kids (cs ++ ds)
 two_about xs ys cs ds f g = about-append xs ys ∙ (let m = kids_append cs ds in cc)

@@ -2,6 +2,8 @@
 use Rattle.std.proofs.Common.{◌≡◌, ℕ, suc, zero, ◌<◌, List, [], ◌∷◌, ◌++◌, ◌+◌, map, length, refl, sym, ap, ◌∙◌, arith, Some, subst, inl, inr, ◌⊎◌, ⊎_elim, Bool, true, false, cond, Contains}
 use Rattle.std.specs.List.{All, flat_map, filter, slice_get, slice_index_or, sum_by}
 use Rattle.std.proofs.lemmas.List.Sums.{sum_by-append, sum_by-cons}
+use Rattle.hir_node.specs.declared.node_id.NodeId.{NodeId}
+use Rattle.hir_faults.specs.Down.{AgreeOn}
 
 abbrev pub In : {X : Type 0} → X → List X → Type 0
 In x [] = ⊥
@@ -78,6 +80,11 @@ filter_in test x (y ∷ xs) h =
 pub in_all : {X : Type 0} (P : X → Type 0) (x : X) (xs : List X) → All P xs → In x xs → P x
 in_all P x [] a h = absurd h
 in_all P x (y ∷ xs) a h = ⊎_elim (λ e. subst P e (a 0 y (omega arith))) (λ r. in_all P x xs (λ k d l. a (suc k) d (omega arith)) r) h
+
+-- what agrees on some nodes does so on each
+pub agree_in : {A : Type 0} (f g : NodeId → A) (xs : List NodeId) → AgreeOn f g xs → (x : NodeId) → In x xs → f x ≡ g x
+agree_in f g [] h x i = absurd i
+agree_in f g (y ∷ xs) h x i = ⊎_elim (λ e. subst (λ z. f z ≡ g z) e h.0) (λ r. agree_in f g xs h.1 x r) i
 
 -- Sums over lists
 

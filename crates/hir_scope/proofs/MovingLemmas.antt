@@ -1,6 +1,6 @@
 -- How a walk goes on: scopes that are added and opened, a task that is done, and what is done in all.
-use Rattle.std.proofs.Common.{◌≡◌, ℕ, zero, suc, ◌+◌, ◌<◌, ◌≤◌, List, [], ◌∷◌, ◌++◌, Option, Some, None, map, fold, get_or, length, refl, ap, ◌∙◌, arith, sym, append_assoc, subst, length-append, inl, inr, ◌⊎◌, ⊎_elim}
-use Rattle.std.specs.Prelude.{⊤, Result, Ok, Err, IfOk}
+use Rattle.std.proofs.Common.{◌≡◌, ℕ, zero, suc, ◌+◌, ◌<◌, ◌≤◌, List, [], ◌∷◌, ◌++◌, Option, Some, None, map, length, refl, ap, ◌∙◌, arith, sym, append_assoc, subst, length-append, inl, inr, ◌⊎◌, ⊎_elim}
+use Rattle.std.specs.Prelude.{Result, Ok, Err, IfOk}
 use Rattle.std.specs.List.{slice_get, flat_map, sum_by, All}
 use Rattle.std.proofs.lemmas.List.{length_push, append-nil, length-map, map-append}
 use Rattle.hir_node.specs.declared.node_id.NodeId.TheVariants as node

@@ -1,10 +1,10 @@
 -- The leak of a node by its kids, what is under a place, and where a node stands.
-use Rattle.std.proofs.Common.{◌≡◌, ℕ, zero, suc, List, [], ◌∷◌, map, refl, sym, ap, ◌∙◌, Contains, arith, subst, ◌<◌, length, inl, inr, ⊎_elim}
+use Rattle.std.proofs.Common.{◌≡◌, ℕ, zero, suc, List, [], ◌∷◌, map, refl, sym, ap, ◌∙◌, Contains, arith, subst, ◌<◌, inl, inr, ⊎_elim}
 use Rattle.std.specs.List.{flat_map, filter}
 use Rattle.std.proofs.Math.Path.{fun_ext}
 use Rattle.std.proofs.lemmas.List.{append-nil}
 use Rattle.std.proofs.lemmas.List.Sorted.{IsPermutation-sym, Contains-permutation}
-use Rattle.hir_node.specs.ChildCalls.{Call, OnExpr, OnAnonConst, OnPat, OnType, OnLifetime, opt, e, kids}
+use Rattle.hir_node.specs.ChildCalls.{Call, OnExpr, OnPat, OnLifetime, opt, e, kids}
 use Rattle.hir_node.specs.declared.node_id.NodeId.{NodeId}
 use Rattle.hir_node.specs.declared.node_id.NodeId.TheVariants as node
 use Rattle.hir_faults.specs.Nodes.{Nodes, Has, kids_of}
@@ -21,22 +21,17 @@ use Rattle.hir_scope.specs.Built.{is_expr}
 use Rattle.hir_scope.specs.walk.PlacesUnder.{place, places_under, under_step, exprs_under}
 use Rattle.hir_scope.proofs.KidLemmas.{met_kids, kids_of_form, kids_in, slots_kids}
 use Rattle.hir_expr_store.specs.Under.{Under, itself, below, Reached}
-use Rattle.hir_scope.proofs.MemberLemmas.{In, in_contains, contains_in, in_flat_map, flat_map_in, in_map, map_in, in_filter, filter_in}
+use Rattle.hir_scope.proofs.MemberLemmas.{In, agree_in, in_contains, contains_in, in_flat_map, flat_map_in, in_map, map_in, in_filter, filter_in}
 
 -- 1. The leak of a node is told by the leaks of its kids, and what is under a place by what is under the places of the kids.
 
 -- What agrees on the kids of a node agrees on its slots
 
-agree_at : {A : Type 0} (f g : NodeId → A) (xs : List NodeId) → AgreeOn f g xs → (x : NodeId) → Contains xs x → f x ≡ g x
-agree_at f g [] h x (k, lt, is) = absurd (omega (arith, lt))
-agree_at f g (y ∷ xs) h x (zero, lt, is) = subst (λ z. f z ≡ g z) is h.0
-agree_at f g (y ∷ xs) h x (suc k, lt, is) = agree_at f g xs h.1 x (k, omega (arith, lt), is)
-
 met_agree : {A : Type 0} (f g : NodeId → A) (s : Nodes) (n : NodeId) → AgreeOn f g (kids_of s n) → AgreeOn f g (kids (met_in_form (form_of s n)))
 met_agree f g s n h =
     let met = kids (met_in_form (form_of s n)) in
     let back = IsPermutation-sym (kids_of s n) met (met_kids s n) in
-    agree_from_members f g met (λ x m. agree_at f g (kids_of s n) h x (Contains-permutation met (kids_of s n) x back m))
+    agree_from_members f g met (λ x m. agree_in f g (kids_of s n) h x (in_contains (kids_of s n) x (Contains-permutation met (kids_of s n) x back m)))
 
 pub slots_agree : {A : Type 0} (f g : NodeId → A) (s : Nodes) (n : NodeId) → AgreeOn f g (kids_of s n) → AgreeOn f g (kids_in (slots s n))
 unfolding slots
@@ -47,10 +42,9 @@ slots_agree f g s n h = subst (λ (ks : List NodeId). AgreeOn f g ks) (sym (kids
 leaks_read : (f g : NodeId → Chain) (cs : List Call) → AgreeOn f g (kids cs) → leaks f cs ≡ leaks g cs
 leaks_read f g [] h = refl
 leaks_read f g (OnExpr x ∷ cs) h = let r = leaks_read f g cs h.1 in let q = h.0 in cc
-leaks_read f g (OnAnonConst x ∷ cs) h = let r = leaks_read f g cs h.1 in cc
 leaks_read f g (OnPat x ∷ cs) h = let r = leaks_read f g cs h.1 in let q = h.0 in cc
-leaks_read f g (OnType x ∷ cs) h = let r = leaks_read f g cs h.1 in cc
 leaks_read f g (OnLifetime x ∷ cs) h = let r = leaks_read f g cs h in cc
+leaks_read f g (_ ∷ cs) h = let r = leaks_read f g cs h.1 in cc
 
 form_reads : (s : Nodes) (f g : NodeId → Chain) (x : ScopingForm) → AgreeOn f g (kids (met_in_form x)) → leak_of_form s f x ≡ leak_of_form s g x
 form_reads s f g (form.If c y o) h = leaks_read f g (opt e o) h.1.1

@@ -7,7 +7,7 @@ use Rattle.std.proofs.lemmas.List.Sorted.{sum_by-IsPermutation}
 use Rattle.hir_node.specs.ChildCalls.{kids, e, opt}
 use Rattle.hir_node.specs.declared.node_id.NodeId.{NodeId}
 use Rattle.hir_faults.specs.Nodes.{Nodes, Has, kids_of}
-use Rattle.hir_faults.specs.Down.{KidsFall, AgreeOn}
+use Rattle.hir_faults.specs.Down.{KidsFall}
 use Rattle.hir_faults.proofs.DownLemmas.{value_at}
 use Rattle.hir_scope.specs.Order.{met_in_form, met_in_closure}
 use Rattle.hir_scope.specs.declared.tasks.Around.{Around}
@@ -15,7 +15,7 @@ use Rattle.hir_scope.specs.declared.tasks.Task.{Task}
 use Rattle.hir_scope.specs.Forms.{form_of, ScopingForm}
 use Rattle.hir_scope.specs.Slots.{slots}
 use Rattle.hir_scope.specs.walk.Pending.{form_tasks, task_kids, tasks_of, statement_tasks, leave, task_frames, opens_here, opens_constant}
-use Rattle.hir_scope.proofs.MemberLemmas.{sum_flat}
+use Rattle.hir_scope.proofs.MemberLemmas.{agree_in, sum_flat, sum_same}
 use Rattle.hir_scope.proofs.KidLemmas.{kids_of_form, kids_in, slots_kids, about_form}
 use Rattle.hir_scope.specs.walk.Machine.{about, total_step, total, left, node_tasks, node_frames, weight_left, task_turns, node_turns, turns_left}
 use Rattle.hir_scope.specs.declared.tasks.Task.TheVariants as task
@@ -24,19 +24,11 @@ use Rattle.hir_scope.specs.Forms as form
 
 -- 1. Sums over tasks and all nodes under those that they are about: what a node weighs is what it weighs itself, and what its tasks weigh.
 
-sum_reads : (f g : NodeId → ℕ) (ns : List NodeId) → AgreeOn f g ns → sum_by f ns ≡ sum_by g ns
-sum_reads f g [] h = refl
-sum_reads f g (n ∷ ns) h =
-    let r = sum_reads f g ns h.1 in
-    let q = h.0 in
-    let a = sum_by-cons f n ns in
-    let b = sum_by-cons g n ns in
-    cc
-
 module _ (s : Nodes) (fall : KidsFall s) (u : NodeId → ℕ) where
   pub total_at : (n : NodeId) → Has s n → total s u n ≡ u n + sum_by (total s u) (kids_of s n)
   unfolding total
-  total_at n h = value_at s fall (total_step s u) 0 (λ f g m agree. ap (λ (x : ℕ). u m + x) (sum_reads f g (kids_of s m) agree)) n
+  total_at n h =
+      value_at s fall (total_step s u) 0 (λ f g m agree. ap (λ (x : ℕ). u m + x) (sum_same f g (kids_of s m) (agree_in f g (kids_of s m) agree))) n
 
   met_total : (n : NodeId) → sum_by (total s u) (kids (met_in_form (form_of s n))) ≡ sum_by (total s u) (kids_of s n)
   unfolding slots

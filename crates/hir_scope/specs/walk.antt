@@ -3,4 +3,3 @@ pub mod PlacesUnder
 pub mod Pending
 pub mod Machine
 pub mod Begins
-pub mod Seen

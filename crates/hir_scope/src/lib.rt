@@ -5,7 +5,6 @@
 mod entries;
 mod expr_scopes;
 mod fault;
-mod form;
 pub mod laws;
 mod lookups;
 pub mod macro_laws;

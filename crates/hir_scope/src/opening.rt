@@ -4,20 +4,19 @@ ghost use Rattle.std.specs.Prelude.{◌≡◌, ◌<◌, [], ◌∷◌, ◌++◌,
 ghost use Rattle.hir_node.specs.declared.node_id.NodeId.TheVariants as node;
 ghost use Rattle.hir_scope.specs.Forms.{form_of};
 ghost use Rattle.hir_scope.specs.Frames.{frame_with, of_kind};
-ghost use Rattle.hir_scope.specs.Slots.{loop_kind};
+ghost use Rattle.hir_scope.specs.Slots.{block_constants, loop_kind, own_frame};
 ghost use Rattle.hir_scope.specs.Scopes.{frame_of};
 ghost use Rattle.hir_scope.specs.walk.Machine.{state, AreThere, Opened, Over};
 ghost use Rattle.hir_scope.specs.walk.Pending.{opens_here, opens_constant};
-ghost use Rattle.hir_scope.specs.walk.Seen.{seen};
 
 use crate::entries::add_pats;
 use crate::fault::ScopesFault;
-use crate::form::Form;
 use crate::scope::ScopeKind;
 use crate::walk::Walk;
+use hir_base::BlockId;
 use hir_expr_store::ExpressionStore;
 use hir_expr_store::laws::kids_fall;
-use hir_node::{ExprId, LabelId, PatId};
+use hir_node::{Expr, ExprId, LabelId, PatId};
 
 fn loop_kind(label: Option<LabelId>) -> ScopeKind
     ensures { result ≡ loop_kind label }
@@ -74,45 +73,83 @@ impl Walk {
         Ok(())
     }
 
-    /// Opens the scopes that an expression of this form has around what is inside it.
-    pub(crate) fn open_inside(
+    /// Opens the scopes of a block: where it has an id, one around its constants too.
+    fn open_block(
         &mut self,
         store: &ExpressionStore,
-        expr: ExprId,
-        form: &Form<'_>,
+        id: Option<BlockId>,
+        label: Option<LabelId>,
     ) -> Result<(), ScopesFault>
-        requires there { expr < length store.now.nodes.exprs }
-        requires form { seen form.now ≡ form_of store.now.nodes (node.Expr expr) }
         requires here { self.old.around.here < length self.old.scopes.scopes }
         requires constant { self.old.around.constant < length self.old.scopes.scopes }
         ensures opened { IfOk result (λ _. Opened (state self.old) (state self.new)
-            (opens_here store.now.nodes (seen form.now)) (opens_constant (seen form.now))) }
+            (own_frame id label ∷ []) (block_constants id)) }
         ensures full { result ≡ Err ScopesFault.Full → Over (map frame_of self.old.scopes.scopes
-            ++ (opens_here store.now.nodes (seen form.now) ++ opens_constant (seen form.now))) }
+            ++ own_frame id label ∷ block_constants id) }
         ensures missing { result ≡ Err ScopesFault.Missing → ⊥ }
     {
-        store.has_no_fault();
-        kids_fall();
-        match *form {
-            Form::If { .. } => self.open(store, ScopeKind::None, &[]),
-            Form::Block {
-                id: None,
-                label,
-                ..
-            } => self.open(store, loop_kind(label), &[]),
-            Form::Block {
-                id: Some(id),
-                label,
-                ..
-            } => self.open_both(
+        match id {
+            None => self.open(store, loop_kind(label), &[]),
+            Some(id) => self.open_both(
                 store,
                 ScopeKind::Block { id, label },
                 ScopeKind::Block { id, label: None },
             ),
-            Form::Loop { label, .. } => self.open(store, loop_kind(label), &[]),
-            Form::Closure { args, .. } => self.open(store, ScopeKind::None, args),
-            Form::Assignment { target, .. } => self.open(store, ScopeKind::None, &[target]),
-            Form::Let { .. } | Form::Match { .. } | Form::InTurn(_) => Ok(()),
+        }
+    }
+
+    /// Opens the scopes that an expression has around what is inside it.
+    // One arm a form: split, the function would name variants twice.
+    pub(crate) fn open_inside(
+        &mut self,
+        store: &ExpressionStore,
+        expr: ExprId,
+    ) -> Result<(), ScopesFault>
+        requires there { expr < length store.now.nodes.exprs }
+        requires here { self.old.around.here < length self.old.scopes.scopes }
+        requires constant { self.old.around.constant < length self.old.scopes.scopes }
+        ensures opened { IfOk result (λ _. Opened (state self.old) (state self.new)
+            (opens_here store.now.nodes (form_of store.now.nodes (node.Expr expr)))
+            (opens_constant (form_of store.now.nodes (node.Expr expr)))) }
+        ensures full { result ≡ Err ScopesFault.Full → Over (map frame_of self.old.scopes.scopes
+            ++ (opens_here store.now.nodes (form_of store.now.nodes (node.Expr expr))
+            ++ opens_constant (form_of store.now.nodes (node.Expr expr)))) }
+        ensures missing { result ≡ Err ScopesFault.Missing → ⊥ }
+    {
+        store.has_no_fault();
+        kids_fall();
+        match &store[expr] {
+            Expr::If { .. } => self.open(store, ScopeKind::None, &[]),
+            Expr::Block { id, label, .. } => self.open_block(store, *id, *label),
+            Expr::Loop { label, .. } => self.open(store, loop_kind(*label), &[]),
+            Expr::Closure { args, .. } => self.open(store, ScopeKind::None, args.as_slice()),
+            Expr::Assignment { target, .. } => self.open(store, ScopeKind::None, &[*target]),
+            Expr::Let { .. } | Expr::Match { .. } => Ok(()),
+            Expr::Missing
+            | Expr::Underscore
+            | Expr::IncludeBytes
+            | Expr::Literal(_)
+            | Expr::Continue { .. }
+            | Expr::Path(_)
+            | Expr::Array(_)
+            | Expr::OffsetOf(_)
+            | Expr::Const(_)
+            | Expr::Call { .. }
+            | Expr::MethodCall { .. }
+            | Expr::Break { .. }
+            | Expr::Return { .. }
+            | Expr::Yield { .. }
+            | Expr::Yeet { .. }
+            | Expr::Become { .. }
+            | Expr::Await { .. }
+            | Expr::Field { .. }
+            | Expr::Ref { .. }
+            | Expr::UnaryOp { .. }
+            | Expr::RecordLit { .. }
+            | Expr::Cast { .. }
+            | Expr::BinaryOp { .. }
+            | Expr::Index { .. }
+            | Expr::Tuple { .. } => Ok(()),
         }
     }
 }

@@ -7,9 +7,7 @@ ghost use Rattle.hir_node.specs.ChildCalls.{Call};
 ghost use Rattle.hir_node.specs.Runs.{Runs, MayRun};
 ghost use Rattle.hir_scope.specs.Forms.{expr_form};
 ghost use Rattle.hir_scope.specs.Order.{met_in_form};
-ghost use Rattle.hir_scope.specs.walk.Seen.{seen};
 
-use crate::form::Form;
 use hir_node::{Expr, MatchArm, Statement, StoreVisitor, StoreVisitorExt, TypeRefId};
 
 /// A part of an expression whose children are visited.
@@ -80,20 +78,13 @@ impl Visit for MatchArm {
 
 /// Calls the visitor with each child of an expression, as `Expr::visit_children` does, in the order in which scopes are made: where a
 /// value is matched with a pattern it comes before the pattern, an arm's guard before its body, a closure's types before its arguments.
+// One arm a form: split, the function would name variants twice.
 pub fn visit_in_scope_order<V: StoreVisitor>(expr: &Expr, visitor: &mut V)
     requires { MayRun V.may V.step visitor.old (met_in_form (expr_form expr.now)) }
     ensures { Runs V.step visitor.old (met_in_form (expr_form expr.now)) visitor.new }
 {
-    visit_form(&Form::of(expr), visitor);
-}
-
-/// The same of an expression of this form.
-pub(crate) fn visit_form<V: StoreVisitor>(form: &Form<'_>, visitor: &mut V)
-    requires { MayRun V.may V.step visitor.old (met_in_form (seen form.now)) }
-    ensures { Runs V.step visitor.old (met_in_form (seen form.now)) visitor.new }
-{
-    match form {
-        Form::If {
+    match expr {
+        Expr::If {
             condition,
             then_branch,
             else_branch,
@@ -102,38 +93,63 @@ pub(crate) fn visit_form<V: StoreVisitor>(form: &Form<'_>, visitor: &mut V)
             visitor.on_expr(*then_branch);
             visitor.on_expr_opt(*else_branch);
         }
-        Form::Let { pat, expr } => {
+        Expr::Let { pat, expr } => {
             visitor.on_expr(*expr);
             visitor.on_pat(*pat);
         }
-        Form::Block {
+        Expr::Block {
             statements,
             tail,
             ..
         } => {
-            visit_each(visitor, statements);
+            visit_each(visitor, statements.as_slice());
             visitor.on_expr_opt(*tail);
         }
-        Form::Loop { body, .. } => visitor.on_expr(*body),
-        Form::Closure {
+        Expr::Loop { body, .. } => visitor.on_expr(*body),
+        Expr::Closure {
+            args,
             arg_types,
             ret_type,
-            args,
             body,
+            ..
         } => {
-            visit_each(visitor, arg_types);
+            visit_each(visitor, arg_types.as_slice());
             visitor.on_type_opt(*ret_type);
-            visitor.on_pats(args);
+            visitor.on_pats(args.as_slice());
             visitor.on_expr(*body);
         }
-        Form::Match { scrutinee, arms } => {
-            visitor.on_expr(*scrutinee);
-            visit_each(visitor, arms);
+        Expr::Match { expr, arms } => {
+            visitor.on_expr(*expr);
+            visit_each(visitor, arms.as_slice());
         }
-        Form::Assignment { target, value } => {
+        Expr::Assignment { target, value } => {
             visitor.on_pat(*target);
             visitor.on_expr(*value);
         }
-        Form::InTurn(expr) => expr.visit_children(visitor),
+        Expr::Missing
+        | Expr::Underscore
+        | Expr::IncludeBytes
+        | Expr::Literal(_)
+        | Expr::Continue { .. }
+        | Expr::Path(_)
+        | Expr::Array(_)
+        | Expr::OffsetOf(_)
+        | Expr::Const(_)
+        | Expr::Call { .. }
+        | Expr::MethodCall { .. }
+        | Expr::Break { .. }
+        | Expr::Return { .. }
+        | Expr::Yield { .. }
+        | Expr::Yeet { .. }
+        | Expr::Become { .. }
+        | Expr::Await { .. }
+        | Expr::Field { .. }
+        | Expr::Ref { .. }
+        | Expr::UnaryOp { .. }
+        | Expr::RecordLit { .. }
+        | Expr::Cast { .. }
+        | Expr::BinaryOp { .. }
+        | Expr::Index { .. }
+        | Expr::Tuple { .. } => expr.visit_children(visitor),
     }
 }

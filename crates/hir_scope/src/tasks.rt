@@ -6,18 +6,16 @@ ghost use Rattle.std.specs.List.{flat_map};
 ghost use Rattle.hir_node.specs.ChildCalls.{e, opt, pat_calls};
 ghost use Rattle.hir_node.specs.Runs.{Runs};
 ghost use Rattle.hir_scope.specs.declared.tasks.Task.{Task};
-ghost use Rattle.hir_scope.specs.Forms.{type_form};
+ghost use Rattle.hir_scope.specs.Forms.{expr_form, type_form};
 ghost use Rattle.hir_scope.specs.walk.Pending.{Put, task_of, tasks_of, form_tasks, leave};
-ghost use Rattle.hir_scope.specs.walk.Seen.{seen};
 
 use crate::fault::ScopesFault;
-use crate::form::Form;
-use crate::order::visit_form;
+use crate::order::visit_in_scope_order;
 use crate::scope::ScopeId;
 use hir_base::MacroDefId;
 use hir_node::{
-    ExprId, Item, LifetimeRefId, MatchArm, Pat, PatId, Statement, StoreVisitor, StoreVisitorExt,
-    TypeRef, TypeRefId,
+    Expr, ExprId, Item, LifetimeRefId, MatchArm, Pat, PatId, Statement, StoreVisitor,
+    StoreVisitorExt, TypeRef, TypeRefId,
 };
 use hir_stack::Stack;
 
@@ -166,12 +164,13 @@ impl Tasks {
         self.stack.put(Task::Leave(around.here, around.constant));
     }
 
-    /// Puts the tasks of what is inside an expression of this form. Leaving the expression restores `around`.
-    fn put_form(&mut self, form: &Form<'_>, around: Around)
-        ensures { Runs Put self.old.stack (form_tasks around (seen form.now)) self.new.stack }
+    /// Puts the tasks of what is inside an expression. Leaving the expression restores `around`.
+    // One arm a form: split, the function would name variants twice.
+    fn put_in_expr(&mut self, expr: &Expr, around: Around)
+        ensures { Runs Put self.old.stack (form_tasks around (expr_form expr.now)) self.new.stack }
     {
-        match form {
-            Form::If {
+        match expr {
+            Expr::If {
                 condition,
                 then_branch,
                 else_branch,
@@ -181,42 +180,66 @@ impl Tasks {
                 self.put_leave(around);
                 self.on_expr_opt(*else_branch);
             }
-            Form::Let { pat, expr } => {
+            Expr::Let { pat, expr } => {
                 self.on_expr(*expr);
                 self.stack.put(Task::Bound(*pat));
             }
-            Form::Block {
+            Expr::Block {
                 statements,
                 tail,
                 ..
             } => {
-                put_each(self, statements);
+                put_each(self, statements.as_slice());
                 self.on_expr_opt(*tail);
                 self.put_leave(around);
             }
-            Form::Loop { body, .. } => {
+            Expr::Loop { body, .. } => {
                 self.on_expr(*body);
                 self.put_leave(around);
             }
-            Form::Closure { .. } => {
-                visit_form(form, self);
+            Expr::Closure { .. } => {
+                visit_in_scope_order(expr, self);
                 self.put_leave(around);
             }
-            Form::Match { scrutinee, arms } => {
-                self.on_expr(*scrutinee);
-                put_each(self, arms);
+            Expr::Match { expr, arms } => {
+                self.on_expr(*expr);
+                put_each(self, arms.as_slice());
             }
-            Form::Assignment { target, value } => {
+            Expr::Assignment { target, value } => {
                 self.on_pat(*target);
                 self.put_leave(around);
                 self.on_expr(*value);
             }
-            Form::InTurn(_) => visit_form(form, self),
+            Expr::Missing
+            | Expr::Underscore
+            | Expr::IncludeBytes
+            | Expr::Literal(_)
+            | Expr::Continue { .. }
+            | Expr::Path(_)
+            | Expr::Array(_)
+            | Expr::OffsetOf(_)
+            | Expr::Const(_)
+            | Expr::Call { .. }
+            | Expr::MethodCall { .. }
+            | Expr::Break { .. }
+            | Expr::Return { .. }
+            | Expr::Yield { .. }
+            | Expr::Yeet { .. }
+            | Expr::Become { .. }
+            | Expr::Await { .. }
+            | Expr::Field { .. }
+            | Expr::Ref { .. }
+            | Expr::UnaryOp { .. }
+            | Expr::RecordLit { .. }
+            | Expr::Cast { .. }
+            | Expr::BinaryOp { .. }
+            | Expr::Index { .. }
+            | Expr::Tuple { .. } => expr.visit_children(self),
         }
     }
 
     /// Puts the tasks of what is inside a type. Leaving the type restores `around`.
-    fn put_type(&mut self, type_ref: &TypeRef, around: Around)
+    fn put_in_type(&mut self, type_ref: &TypeRef, around: Around)
         ensures { Runs Put self.old.stack (form_tasks around (type_form type_ref.now)) self.new.stack }
     {
         match type_ref {
@@ -241,20 +264,20 @@ impl Tasks {
         }
     }
 
-    /// Pushes the tasks of what is inside an expression of this form, the first on top.
-    pub(crate) fn push_form(&mut self, form: &Form<'_>, around: Around) -> Result<(), ScopesFault>
+    /// Pushes the tasks of what is inside an expression, the first on top.
+    pub(crate) fn push_in_expr(&mut self, expr: &Expr, around: Around) -> Result<(), ScopesFault>
         ensures ok { OnOk result (self.new.stack.items
-            ≡ form_tasks around (seen form.now) ++ self.old.stack.items) }
+            ≡ form_tasks around (expr_form expr.now) ++ self.old.stack.items) }
         ensures memory { OnErr result (result ≡ Err ScopesFault.Memory) }
     {
         let below = self.stack.len();
-        self.put_form(form, around);
+        self.put_in_expr(expr, around);
         self.stack.turn_over(below)?;
         Ok(())
     }
 
     /// Pushes the tasks of what is inside a pattern, the first on top.
-    pub(crate) fn push_pat(&mut self, pat: &Pat) -> Result<(), ScopesFault>
+    pub(crate) fn push_in_pat(&mut self, pat: &Pat) -> Result<(), ScopesFault>
         ensures ok { OnOk result (self.new.stack.items
             ≡ tasks_of (pat_calls pat.now) ++ self.old.stack.items) }
         ensures memory { OnErr result (result ≡ Err ScopesFault.Memory) }
@@ -266,7 +289,7 @@ impl Tasks {
     }
 
     /// Pushes the tasks of what is inside a type, the first on top.
-    pub(crate) fn push_type(
+    pub(crate) fn push_in_type(
         &mut self,
         type_ref: &TypeRef,
         around: Around,
@@ -276,7 +299,7 @@ impl Tasks {
         ensures memory { OnErr result (result ≡ Err ScopesFault.Memory) }
     {
         let below = self.stack.len();
-        self.put_type(type_ref, around);
+        self.put_in_type(type_ref, around);
         self.stack.turn_over(below)?;
         Ok(())
     }

@@ -10,12 +10,6 @@ use Rattle.hir_scope.proofs.DoneLemmas.{leave_moves, macro_moves, macro_frames}
 use Rattle.hir_scope.proofs.MovingLemmas.{over_exceeds, ok_map, goes_task, goes_given}
 use Rattle.hir_scope.proofs.walk.Walk.go_on.Goals as goal
 
-pub index-requires : goal.index-requires
-index-requires c =
-    let w = c.args.self.now in
-    let s = c.args.store.now.nodes in
-    (subst (λ (t : Task). IsReady s (machine w (t ∷ w.tasks.stack.items))) c.in-Expr.is c.requires.ready).known.0
-
 pub returns-in_ok-set_scope-in-Expr-clause-goes : goal.returns-in_ok-set_scope-in-Expr-clause-goes
 returns-in_ok-set_scope-in-Expr-clause-goes c =
     let w = c.args.self.now in

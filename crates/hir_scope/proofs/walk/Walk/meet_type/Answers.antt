@@ -12,7 +12,7 @@ returns-clause-moves c =
     let fall = c.kids_fall.ensures c.args.store.now c.has_no_fault.ensures in
     let b = for_constants w.around in
     let pushed =
-    c.in_ok-push_type.ensures.ok
+    c.in_ok-push_in_type.ensures.ok
     ∙ (ap (λ (ts : List Task). form_tasks b (type_form c.index.result.now) ++ ts) c.in_ok-push.ensures.ok
     ∙ ap (λ (o : Option TypeRef). form_tasks b (form_at type_form o) ++ (leave w.around ∷ w.tasks.stack.items)) (sym c.index.ensures)) in
-    type_moves c.args.store.now.nodes fall w.scopes w.around c.args.type_ref w.tasks.stack.items c.push_type.new.self.stack.items pushed c.requires.ready
+    type_moves c.args.store.now.nodes fall w.scopes w.around c.args.type_ref w.tasks.stack.items c.push_in_type.new.self.stack.items pushed c.requires.ready

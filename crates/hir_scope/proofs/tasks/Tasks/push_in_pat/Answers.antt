@@ -2,7 +2,7 @@ use Rattle.std.proofs.Common.{sym, ap}
 use Rattle.hir_stack.specs.Stacks.{Stacked}
 use Rattle.hir_scope.specs.declared.tasks.Task.{Task}
 use Rattle.hir_scope.proofs.PutLemmas.{puts_all, through}
-use Rattle.hir_scope.proofs.tasks.Tasks.push_pat.Goals as goal
+use Rattle.hir_scope.proofs.tasks.Tasks.push_in_pat.Goals as goal
 
 pub returns-clause-ok : goal.returns-clause-ok
 returns-clause-ok c =
