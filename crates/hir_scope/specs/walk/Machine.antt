@@ -170,7 +170,8 @@ pub record Moves (s : Nodes) (old new : Machine) (met : List Place) : Type 0 whe
 pub record Meets (s : Nodes) (old : Walk) (expr : ℕ) (new : Walk) (scope : ℕ) : Type 0 where
   pub moves : Moves s (doing old (task.Expr expr)) (state new)
       (place (node.Expr expr) (here_of (state old)) (constant_of (state old)) ∷ [])
-  pub scope : HasFrames new.scopes.scopes scope (within_own (form_of s (node.Expr expr)) (here_of (state old)))
+  pub frames : HasFrames new.scopes.scopes scope
+      (within_own (form_of s (node.Expr expr)) (here_of (state old)))
 
 -- an expression that was given its scope, with the frames around it
 pub record Given : Type 0 where

@@ -16,7 +16,7 @@ returns-in_ok-set_scope-in-Expr-clause-goes c =
     let m = c.in_ok-scope-in-Expr in
     let met = c.meet_expr.new.self in
     goes_given c.args.store.now.nodes w.scopes w.around c.args.task w.tasks.stack.items (state met) c.set_scope.new.self met.around met.tasks.stack.items c.in-Expr.expr m.scope c.args.steps.now c.tick.new.self
-    c.in-Expr.is m.ensures.meets.moves m.ensures.meets.scope c.in_ok-set_scope-in-Expr.ensures.ok refl refl c.tick.ensures
+    c.in-Expr.is m.ensures.meets.moves m.ensures.meets.frames c.in_ok-set_scope-in-Expr.ensures.ok refl refl c.tick.ensures
 
 pub returns-in-Pat-clause-goes : goal.returns-in-Pat-clause-goes
 returns-in-Pat-clause-goes c =

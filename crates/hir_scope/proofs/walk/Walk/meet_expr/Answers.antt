@@ -38,7 +38,7 @@ returns-clause-meets c =
     let scope = c.scope_within.ensures ∙ ap (λ (o : Option Expr). scope_within (form_at expr_form o) n.around.here w.around.here) (sym c.index-inner.ensures) in
     record {
       moves = expr_moves s fall w.scopes w.around c.args.expr ts c.push_in_expr.new.self.stack.items (state n) pushed o c.requires.ready;
-      scope = subst (λ (i : ℕ). HasFrames n.scopes.scopes i (within_own x h)) (sym scope)
+      frames = subst (λ (i : ℕ). HasFrames n.scopes.scopes i (within_own x h)) (sym scope)
           (own_frames s x n.scopes.scopes n.around.here w.around.here h o.here around);
     }
 
@@ -50,5 +50,5 @@ returns-then-is_alone-clause-meets c =
     let is = ap (form_at expr_form) c.index-inner.ensures ∙ c.is_alone.ensures (search rules) in
     record {
       moves = empty_moves s fall w.scopes w.around c.args.expr w.tasks.stack.items is c.requires.ready;
-      scope = record { within = c.requires.ready.here; is = ap (λ (x : ScopingForm). within_own x (here_of (state w))) (sym is) };
+      frames = record { within = c.requires.ready.here; is = ap (λ (x : ScopingForm). within_own x (here_of (state w))) (sym is) };
     }
