@@ -132,7 +132,8 @@ impl<'a> Code<'a> {
         self.store.has_no_fault();
         kids_fall();
         self.ask_pat(found, id, assignment)?;
-        unread.push_pat(&self.store[id], assignment)?;
+        let pat = &self.store[id];
+        unread.push_pat(pat, assignment)?;
         Ok(())
     }
 
