@@ -131,9 +131,10 @@ impl<'a> Code<'a> {
     {
         self.store.has_no_fault();
         kids_fall();
+        // (a copy: the prover's borrow checker takes an option that was handed on for one without a value)
+        let target = assignment;
         self.ask_pat(found, id, assignment)?;
-        let pat = &self.store[id];
-        unread.push_pat(pat, assignment)?;
+        unread.push_pat(&self.store[id], target)?;
         Ok(())
     }
 
