@@ -1,5 +1,5 @@
 //! What rows of text can't ask of `hir_scope`: what tables lack, the same call again where memory was refused, scopes that differ, the
-//! iterators call by call, and trees 1,000,000 deep. What names mean is in the rows of `hir_rows`.
+//! iterators call by call, the order in which a visitor is called, and trees 1,000,000 deep. What names mean is in the rows of `hir_rows`.
 #![tactic(auto)]
 
 #[cfg(test)]
@@ -10,3 +10,5 @@ mod deep;
 mod iterators;
 #[cfg(test)]
 mod lookups;
+#[cfg(test)]
+mod order;
