@@ -1,4 +1,4 @@
-//! What waits for the next body, signature or fields: parameters, `self` and where it is written, generic parameters, predicates and fields.
+//! What waits for the next body, signature or fields: parameters, `self` and its source, generic parameters, predicates and fields.
 
 use crate::fields::read_field;
 use hir_base::{
