@@ -1,11 +1,37 @@
 //! The scopes along a chain, all scopes, and the expressions that have a scope, item by item, to their end and behind it.
-use crate::again::of_body;
-use example_bodies::nested_closures;
+#![tactic(auto)]
+
 use hir_base::Idx;
+use hir_error::HirError;
 use hir_items::Body;
-use hir_scope::{ExprScopes, ScopeId};
+use hir_make::{bind, body, closure, local};
+use hir_scope::{ExprScopes, ScopeId, ScopesFault};
+use hir_store::ExpressionStoreBuilder;
+use std::alloc::Global;
 use std::mem::size_of;
 use std::test::Fail;
+
+/// The body of `fn f(a) |x| |x| a`. `a` is expression 0, the inner closure is 1, and the outer one is 2.
+///
+/// The binding of the parameter is 0, and those of the closures are numbered as these are.
+fn closures(alloc: Global) -> Result<Body, HirError> {
+    let mut builder = ExpressionStoreBuilder::new(alloc);
+    let a = bind(alloc, &mut builder, "a")?;
+    let mut value = local(alloc, &mut builder, "a")?;
+    for _ in 0..2 {
+        let x = bind(alloc, &mut builder, "x")?;
+        value = closure(alloc, &mut builder, &[x], value)?;
+    }
+    body(alloc, builder, &[a], value)
+}
+
+/// The scopes that were made, in a box: what is dropped is then a pointer.
+fn opened(
+    alloc: Global,
+    outcome: Result<ExprScopes, ScopesFault>,
+) -> Result<Box<ExprScopes>, Fail> {
+    Ok(Box::new(alloc, outcome?)?)
+}
 
 /// Whether from `a` in `|x| |x| a` there are three scopes, the inner closure's first and the body's last, and none behind them.
 fn chain_ends(scopes: &ExprScopes) -> bool {
@@ -83,8 +109,8 @@ fn has_one_entry(scopes: &ExprScopes) -> bool {
 
 #[test]
 fn chains_maps_and_entries(rt: HostRuntime) -> Result<(), Fail> {
-    let body = Box::new(rt.alloc(), nested_closures(rt.alloc(), 2)?)?;
-    let scopes = of_body(rt.alloc(), &body)?;
+    let body = Box::new(rt.alloc(), closures(rt.alloc())?)?;
+    let scopes = opened(rt.alloc(), ExprScopes::new_body(rt.alloc(), &body))?;
     let are_asked = [
         chain_ends(&scopes),
         is_empty_from_none(&scopes),
