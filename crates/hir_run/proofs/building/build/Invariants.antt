@@ -1,21 +1,19 @@
-use Rattle.std.proofs.Common.{◌≡◌, ◌+◌, ◌≤◌, List, ℕ, [], length}
-use Rattle.hir_io.specs.NextLine.{untaken}
-use Rattle.hir_io.specs.Reads.{Reads}
-use Rattle.hir_run.specs.Made.{made_of}
-use Rattle.hir_run.specs.Stages.{Makes}
-use Rattle.hir_run.proofs.Scripts.{Tells}
+use Rattle.std.proofs.Common.{◌≡◌, ◌+◌, ◌≤◌, ℕ, length}
+use Rattle.hir_run.specs.Output.{output_of}
+use Rattle.hir_run.specs.Parts.{parts_of}
+use Rattle.hir_run.specs.Places.{SameStreams, place_of, unread}
+use Rattle.hir_run.proofs.BuildingLemmas.{SoFar}
 use Rattle.hir_run.proofs.building.build.Given as goal
 
-abbrev pub invariant-loop-alloc : goal.invariant-loop-alloc
-invariant-loop-alloc g l = record {
-  same_mark : g.R.Source.failed l.reader ≡ g.R.Source.failed l.fn.reader;
-  quiet : l.output ≡ [];
-  unwritten : l.writer ≡ l.fn.writer;
-  falls : length l.lines.pending + g.R.Source.allowance l.reader + l.lines.count ≤ length l.fn.lines.pending + g.R.Source.allowance l.fn.reader;
-  so_far : (texts : List (List ℕ)) × Makes texts (made_of l.made) × Tells (made_of l.made) texts
-      × Reads (untaken l.fn.lines.pending l.fn.lines.at_end (g.R.Source.remaining l.fn.reader)) texts (untaken l.lines.pending l.lines.at_end (g.R.Source.remaining l.reader)) l.lines.at_end
-      × (l.lines.count ≡ length texts);
+abbrev pub invariant-loop-streams : goal.invariant-loop-streams
+invariant-loop-streams g l = record {
+  same_streams : SameStreams (place_of g.R.Source g.W.Sink l.fn.streams) (place_of g.R.Source g.W.Sink l.streams);
+  same_mark : g.R.Source.failed l.streams.reader.now ≡ g.R.Source.failed l.fn.streams.reader.now;
+  untouched : output_of g.W.Sink l.streams.output ≡ output_of g.W.Sink l.fn.streams.output;
+  falls : length l.streams.lines.now.pending + g.R.Source.allowance l.streams.reader.now + l.streams.lines.now.count
+      ≤ length l.fn.streams.lines.now.pending + g.R.Source.allowance l.fn.streams.reader.now + l.fn.streams.lines.now.count;
+  so_far : SoFar (unread (place_of g.R.Source g.W.Sink l.fn.streams)) (place_of g.R.Source g.W.Sink l.streams) (parts_of l.builder);
 }
 
-abbrev pub decreases-loop-alloc : goal.decreases-loop-alloc
-decreases-loop-alloc g l = length l.lines.pending + g.R.Source.allowance l.reader
+abbrev pub decreases-loop-streams : goal.decreases-loop-streams
+decreases-loop-streams g l = length l.streams.lines.now.pending + g.R.Source.allowance l.streams.reader.now
