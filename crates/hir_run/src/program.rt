@@ -103,13 +103,29 @@ fn answer_script<R: Source, W: Sink>(
     }
 }
 
+/// Runs the program, and writes what waits at its end.
+fn run_script<R: Source, W: Sink>(
+    disposal: Disposal,
+    streams: &mut Streams<'_, R, W>,
+) -> Result<(), RunFault>
+    requires fresh { streams.old.lines.now ≡ no_lines }
+    requires quiet { streams.old.output.waiting ≡ [] }
+    requires unfailed { Unfailed R.Source W.Sink streams.old.reader.now streams.old.output.writer.now }
+    ensures runs { IsRun R.Source W.Sink streams.old.reader.now streams.new.reader.now
+        streams.old.output.writer.now streams.new.output.writer.now streams.new.lines.now result }
+    ensures same { Between R.Source W.Sink SameStreams streams.old streams.new }
+{
+    let outcome = answer_script(disposal, streams);
+    streams.output.close(outcome)
+}
+
 /// Runs the program as `run_lines` does; the memory of what was made is given back, or left.
-fn run_lines_with<R: Source, W: Sink>(
+fn run_lines_with<'a, R: Source, W: Sink>(
     alloc: Global,
     disposal: Disposal,
-    lines: &mut LineReader,
-    reader: &mut R,
-    writer: &mut W,
+    lines: &'a mut LineReader,
+    reader: &'a mut R,
+    writer: &'a mut W,
 ) -> Result<(), RunFault>
     requires fresh { lines.old ≡ no_lines }
     requires unfailed { Unfailed R.Source W.Sink reader.old writer.old }
@@ -124,8 +140,7 @@ fn run_lines_with<R: Source, W: Sink>(
         reader,
         output: Output { waiting, writer },
     };
-    let outcome = answer_script(disposal, &mut streams);
-    streams.output.close(outcome)
+    run_script(disposal, &mut streams)
 }
 
 /// Runs the program as `run_lines_with` does, on the lines that the source gives.
