@@ -15,13 +15,12 @@ use Rattle.hir_run.specs.declared.fault.RunFault.TheVariants.{BadLine, Refused, 
 use Rattle.hir_run.specs.Faults.{fault_of_line}
 use Rattle.hir_run.specs.Output.{Output, Wrote}
 use Rattle.hir_run.specs.Outcomes.{is_input_failed, is_output_failed}
-use Rattle.hir_run.specs.Places.{Place, unread}
+use Rattle.hir_run.specs.Places.{Place, TakesNext, unread}
 use Rattle.hir_run.specs.Program.{IsLineAnswer, AreAnswers}
 use Rattle.hir_run.specs.Stages.{IsAsked, TakesLine, AsksLine, asked, HaveAnswers, Answered, AsksUpTo, Asks}
 use Rattle.hir_run.proofs.Refusals.{behind_line, behind_none, some_text}
 use Rattle.hir_run.proofs.Scripts.{says-push}
 use Rattle.hir_run.proofs.WritingLemmas.{Wrote-then, WroteFront-then, all_written, cut, kept}
-use Rattle.hir_run.proofs.Taken.{TakesNext}
 
 -- a line that isn't read as a question ends no end of the run
 pub asked_marks_none : (X : Type 0) (lines : LineState) (fault : RunFault) → IsAsked lines (Err fault) → (is_input_failed {X = X} (Err fault) ≡ false) × (is_output_failed {X = X} (Err fault) ≡ false)

@@ -16,12 +16,11 @@ use Rattle.hir_run.specs.declared.fault.RunFault.TheVariants.{BadLine, Refused, 
 use Rattle.hir_run.specs.Faults.{fault_of_line}
 use Rattle.hir_run.specs.Outcomes.{is_input_failed}
 use Rattle.hir_run.specs.Parts.{Parts, is_second}
-use Rattle.hir_run.specs.Places.{Place, unread}
+use Rattle.hir_run.specs.Places.{Place, TakesNext, unread}
 use Rattle.hir_run.specs.Program.{line_behind}
 use Rattle.hir_run.specs.Stages.{Makes, Builds, BuildsLine, IsAsked}
 use Rattle.hir_run.proofs.Refusals.{behind_line, behind_none, some_text}
 use Rattle.hir_run.proofs.Scripts.{Tells, bad_is, behind_make, behind_question}
-use Rattle.hir_run.proofs.Taken.{TakesNext}
 
 neither : (line : Line) → makes line ≡ false → asks line ≡ false → line ≡ Bad
 neither Blank m a = absurd (false≢true (sym m))

@@ -14,13 +14,6 @@ use Rattle.hir_run.specs.Parts.{parts_of, with_line, with_maker, is_second}
 use Rattle.hir_run.specs.Places.{Place, unread}
 use Rattle.hir_run.specs.Stages.{MakesOrLeaves}
 
--- the next line is taken, or why none is
-pub record TakesNext (old new : Place) (result : Result Bool LineFault) : Type 0 where
-  pub takes : NextTakes (unread old) (unread new) new.remaining old.lines new.lines result
-  pub writes : NextWrites old.output.contents new.output.contents old.output.waiting new.output.waiting result
-  pub count : new.lines.count ≡ old.lines.count + cond (is_found result) 1 0
-  pub stays_ended : old.lines.at_end ≡ true → new.lines.at_end ≡ true
-
 -- the code has what the line makes
 made_with : (m : code.BodyBuilder) (maker : Maker) → parts_of (with_maker m maker) ≡ with_line (parts_of m) maker
 made_with m (make.Binding binding) = refl

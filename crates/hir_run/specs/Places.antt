@@ -1,18 +1,15 @@
 -- Where a run stands: what is read and not yet taken, what was written and what waits.
-use Rattle.std.specs.Prelude.{◌≡◌, ◌+◌, ◌<◌, ◌^◌, ℕ, List, Bool, Option, length}
-use Rattle.std.specs.Borrow.{GName}
+use Rattle.std.specs.Prelude.{◌≡◌, ◌+◌, ◌<◌, ◌^◌, ℕ, List, Bool, true, Option, Result, cond, length}
 use Rattle.hir_io.specs.declared.ends.Source as source
 use Rattle.hir_io.specs.declared.ends.Sink as sink
 use Rattle.hir_io.specs.LineState.{LineState}
-use Rattle.hir_io.specs.NextLine.{untaken}
-use Rattle.hir_run.specs.declared.streams.Streams as code
+use Rattle.hir_io.specs.declared.next.LineFault.{LineFault}
+use Rattle.hir_io.specs.NextLine.{NextTakes, NextWrites, is_found, untaken}
+use Rattle.hir_run.specs.declared.output.Output as code
 use Rattle.hir_run.specs.Output.{Output, output_of}
 
--- which reader of lines and which source it has, the lines, what the source has left and by what number its reads are bounded, whether a
--- read has failed, and the output
+-- the lines, what the source has left and by what number its reads are bounded, whether a read has failed, and the output
 pub record Place : Type 0 where
-  pub lines_name : GName
-  pub source_name : GName
   pub lines : LineState
   pub remaining : Option (List ℕ)
   pub allowance : ℕ
@@ -20,21 +17,14 @@ pub record Place : Type 0 where
   pub output : Output
 
 -- where the code stands
-abbrev pub place_of : {R W : Type 0} → source.Ghosts R → sink.Ghosts W → code.Streams R W → Place
-place_of r w streams = record {
-  lines_name = streams.lines.ghost_name;
-  source_name = streams.reader.ghost_name;
-  lines = streams.lines.now;
-  remaining = r.remaining streams.reader.now;
-  allowance = r.allowance streams.reader.now;
-  failed = r.failed streams.reader.now;
-  output = output_of w streams.output;
+abbrev pub place_of : {R W : Type 0} → source.Ghosts R → sink.Ghosts W → LineState → R → code.Output W → Place
+place_of r w lines reader output = record {
+  lines = lines;
+  remaining = r.remaining reader;
+  allowance = r.allowance reader;
+  failed = r.failed reader;
+  output = output_of w output;
 }
-
--- what is true from one place of the code to another
-abbrev pub Between : {R W : Type 0} → source.Ghosts R → sink.Ghosts W → (Place → Place → Type 0) →
-    code.Streams R W → code.Streams R W → Type 0
-Between r w Leads old new = Leads (place_of r w old) (place_of r w new)
 
 -- the bytes that are still to be taken
 abbrev pub unread : Place → Option (List ℕ)
@@ -44,8 +34,10 @@ unread p = untaken p.lines.pending p.lines.at_end p.remaining
 abbrev pub HasRoom : Place → Type 0
 HasRoom p = p.lines.count + length p.lines.pending + p.allowance < 2 ^ 64
 
--- the reader of lines, the source and the sink are the same ones
-abbrev pub SameStreams : Place → Place → Type 0
-SameStreams old new =
-    (new.lines_name ≡ old.lines_name) × (new.source_name ≡ old.source_name)
-    × (new.output.sink_name ≡ old.output.sink_name)
+-- the next line is taken, or why none is
+pub record TakesNext (old new : Place) (result : Result Bool LineFault) : Type 0 where
+  pub takes : NextTakes (unread old) (unread new) new.remaining old.lines new.lines result
+  pub writes :
+      NextWrites old.output.contents new.output.contents old.output.waiting new.output.waiting result
+  pub count : new.lines.count ≡ old.lines.count + cond (is_found result) 1 0
+  pub stays_ended : old.lines.at_end ≡ true → new.lines.at_end ≡ true

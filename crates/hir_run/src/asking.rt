@@ -4,12 +4,11 @@ ghost use Rattle.std.specs.Prelude.{◌≡◌, ◌||◌, ℕ, List, [], Bool, tr
 ghost use Rattle.hir_lines.specs.Line.{Ask, line_of};
 ghost use Rattle.hir_run.specs.Outcomes.{is_input_failed, is_output_failed};
 ghost use Rattle.hir_run.specs.Output.{Untouched, output_of};
-ghost use Rattle.hir_run.specs.Places.{Between, HasRoom, SameStreams, place_of};
+ghost use Rattle.hir_run.specs.Places.{HasRoom, place_of};
 ghost use Rattle.hir_run.specs.Stages.{Asks, AsksLine, IsAsked, Replies};
 
 use crate::fault::RunFault;
 use crate::output::Output;
-use crate::streams::Streams;
 use hir_io::{LineReader, Sink, Source};
 use hir_lines::{Question, Stop, ask};
 use std::alloc::Global;
@@ -96,28 +95,30 @@ fn answer_next<A: Answers, W: Sink>(
 /// Answers the first question and those after it, and gives the first that may not be asked, if there is one. Some of the answers may
 /// still wait.
 pub(crate) fn answer_lines<A: Answers, R: Source, W: Sink>(
+    alloc: Global,
     asked: &mut A,
     first: Question,
-    streams: &mut Streams<'_, R, W>,
+    lines: &mut LineReader,
+    reader: &mut R,
+    output: &mut Output<'_, W>,
 ) -> Result<Option<Question>, RunFault>
-    requires fits { HasRoom (place_of R.Source W.Sink streams.old) }
-    requires unfailed { W.failed streams.old.output.writer.now ≡ false }
-    ensures asks { Between R.Source W.Sink (λ old new. Asks A.may (A.Is asked.old) old new first result)
-        streams.old streams.new }
-    ensures read_failure { R.failed streams.new.reader.now ≡
-        (is_input_failed result || R.failed streams.old.reader.now) }
-    ensures write_failure { W.failed streams.new.output.writer.now ≡ is_output_failed result }
+    requires fits { HasRoom (place_of R.Source W.Sink lines.old reader.old output.old) }
+    requires unfailed { W.failed output.old.writer.now ≡ false }
+    ensures asks { Asks A.may (A.Is asked.old) (place_of R.Source W.Sink lines.old reader.old output.old)
+        (place_of R.Source W.Sink lines.new reader.new output.new) first result }
+    ensures read_failure { R.failed reader.new ≡ (is_input_failed result || R.failed reader.old) }
+    ensures write_failure { W.failed output.new.writer.now ≡ is_output_failed result }
     // A read is made only where nothing waits.
-    ensures quiet { is_input_failed result ≡ true → streams.new.output.waiting ≡ [] }
-    ensures still_fits { OnOk result (HasRoom (place_of R.Source W.Sink streams.new)) }
-    ensures same { (asked.new ≡ asked.old) × Between R.Source W.Sink SameStreams streams.old streams.new }
+    ensures quiet { is_input_failed result ≡ true → output.new.waiting ≡ [] }
+    ensures still_fits { OnOk result (HasRoom (place_of R.Source W.Sink lines.new reader.new output.new)) }
+    ensures same { (asked.new ≡ asked.old) × (output.new.writer.ghost_name ≡ output.old.writer.ghost_name) }
 {
-    let left = answer_question(streams.alloc, asked, first, &mut streams.output)?;
+    let left = answer_question(alloc, asked, first, output)?;
     if left.is_some() {
         return Ok(left);
     }
-    while streams.next_line()? {
-        let later = answer_next(streams.alloc, asked, streams.lines, &mut streams.output)?;
+    while output.next_line(lines, reader)? {
+        let later = answer_next(alloc, asked, lines, output)?;
         if later.is_some() {
             return Ok(later);
         }

@@ -4,13 +4,13 @@ ghost use Rattle.std.specs.Prelude.{◌≡◌, ◌||◌, [], false, OnOk};
 ghost use Rattle.hir_run.specs.Outcomes.{is_input_failed};
 ghost use Rattle.hir_run.specs.Output.{Untouched};
 ghost use Rattle.hir_run.specs.Parts.{parts_of, no_parts};
-ghost use Rattle.hir_run.specs.Places.{Between, HasRoom, SameStreams, place_of, unread};
+ghost use Rattle.hir_run.specs.Places.{HasRoom, place_of, unread};
 ghost use Rattle.hir_run.specs.Stages.{Builds, BuildsLine};
 
 use crate::asking::asked_by;
 use crate::body_builder::BodyBuilder;
 use crate::fault::RunFault;
-use crate::streams::Streams;
+use crate::output::Output;
 use hir_io::{LineReader, Sink, Source};
 use hir_lines::{Question, Stop, make};
 use std::alloc::Global;
@@ -32,25 +32,26 @@ fn build_line(
 
 /// Builds by the lines before the first question, and gives that question, if there is one.
 pub(crate) fn build<R: Source, W: Sink>(
-    streams: &mut Streams<'_, R, W>,
+    alloc: Global,
     builder: &mut BodyBuilder,
+    lines: &mut LineReader,
+    reader: &mut R,
+    output: &mut Output<'_, W>,
 ) -> Result<Option<Question>, RunFault>
-    requires fits { HasRoom (place_of R.Source W.Sink streams.old) }
-    requires fresh { (streams.old.lines.now.count ≡ 0) × (streams.old.lines.now.at_end ≡ false)
+    requires fits { HasRoom (place_of R.Source W.Sink lines.old reader.old output.old) }
+    requires fresh { (lines.old.count ≡ 0) × (lines.old.at_end ≡ false)
         × (parts_of builder.old ≡ no_parts) }
-    requires quiet { streams.old.output.waiting ≡ [] }
-    ensures builds { Between R.Source W.Sink (λ old new.
-        Builds (unread old) new (parts_of builder.new) result)
-        streams.old streams.new }
-    ensures still_quiet { Untouched W.Sink streams.old.output streams.new.output }
-    ensures failure { R.failed streams.new.reader.now ≡
-        (is_input_failed result || R.failed streams.old.reader.now) }
-    ensures still_fits { OnOk result (HasRoom (place_of R.Source W.Sink streams.new)) }
-    ensures same { Between R.Source W.Sink SameStreams streams.old streams.new }
+    requires quiet { output.old.waiting ≡ [] }
+    ensures builds { Builds (unread (place_of R.Source W.Sink lines.old reader.old output.old))
+        (place_of R.Source W.Sink lines.new reader.new output.new) (parts_of builder.new) result }
+    ensures still_quiet { Untouched W.Sink output.old output.new }
+    ensures failure { R.failed reader.new ≡ (is_input_failed result || R.failed reader.old) }
+    ensures still_fits { OnOk result (HasRoom (place_of R.Source W.Sink lines.new reader.new output.new)) }
+    ensures same { output.new.writer.ghost_name ≡ output.old.writer.ghost_name }
 {
-    while streams.next_line()? {
-        if !build_line(streams.alloc, streams.lines, builder)? {
-            return asked_by(streams.alloc, streams.lines);
+    while output.next_line(lines, reader)? {
+        if !build_line(alloc, lines, builder)? {
+            return asked_by(alloc, lines);
         }
     }
     Ok(None)

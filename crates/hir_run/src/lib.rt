@@ -16,7 +16,6 @@ mod printing;
 mod program;
 mod reporting;
 mod scope_answers;
-mod streams;
 
 pub use fault::RunFault;
 pub use program::{run, run_and_report, run_lines, run_to_exit};

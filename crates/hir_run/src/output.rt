@@ -1,14 +1,16 @@
 //! The output of a run. Text is put behind what waits, unless the sink has failed: to put several pieces, test for a failure once,
 //! after the last.
 
-ghost use Rattle.std.specs.Prelude.{◌≡◌, ◌∷◌, ◌++◌, ◌||◌};
+ghost use Rattle.std.specs.Prelude.{◌≡◌, ◌+◌, ◌≤◌, ◌∷◌, ◌++◌, ◌||◌, [], false, length, cond};
 ghost use Rattle.std.specs.Fmt.{decimal};
+ghost use Rattle.hir_io.specs.NextLine.{is_found, is_failed_input, is_failed_output};
 ghost use Rattle.hir_run.specs.Outcomes.{is_output_failed};
-ghost use Rattle.hir_run.specs.Output.{output_of, Puts};
+ghost use Rattle.hir_run.specs.Output.{output_of, Puts, Untouched};
+ghost use Rattle.hir_run.specs.Places.{HasRoom, TakesNext, place_of};
 ghost use Rattle.hir_run.specs.Stages.{Accepts, Closes};
 
 use crate::fault::RunFault;
-use hir_io::{OutputBuffer, Sink};
+use hir_io::{LineFault, LineReader, OutputBuffer, Sink, Source, next_line};
 use hir_node::ExprId;
 
 /// A sink, and the bytes that wait to be written to it.
@@ -51,6 +53,28 @@ impl<W: Sink> Output<'_, W> {
     {
         self.put(word);
         self.put_number(id.into_raw());
+    }
+
+    /// Takes the next line, and answers whether there is one, as `hir_io` does: what waits is written before a read.
+    pub(crate) fn next_line<R: Source>(
+        &mut self,
+        lines: &mut LineReader,
+        reader: &mut R,
+    ) -> Result<bool, LineFault>
+        requires { HasRoom (place_of R.Source W.Sink lines.old reader.old self.old) }
+        ensures takes { TakesNext (place_of R.Source W.Sink lines.old reader.old self.old)
+            (place_of R.Source W.Sink lines.new reader.new self.new) result }
+        ensures falls { is_failed_input result ≡ false →
+            length lines.new.pending + R.allowance reader.new + cond (is_found result) 1 0
+            ≤ length lines.old.pending + R.allowance reader.old }
+        ensures input_failure { R.failed reader.new ≡ (is_failed_input result || R.failed reader.old) }
+        ensures output_failure { W.failed self.new.writer.now ≡
+            (is_failed_output result || W.failed self.old.writer.now) }
+        ensures idle { self.old.waiting ≡ [] →
+            (is_failed_output result ≡ false) × Untouched W.Sink self.old self.new }
+        ensures same { self.new.writer.ghost_name ≡ self.old.writer.ghost_name }
+    {
+        next_line(lines, reader, &mut self.waiting, self.writer)
     }
 
     /// Writes that the store is accepted.

@@ -8,7 +8,8 @@ ghost use Rattle.hir_items.specs.Bodies.{body_of};
 ghost use Rattle.hir_store.specs.Building.{building_of};
 ghost use Rattle.hir_run.specs.Faults.{status_of};
 ghost use Rattle.hir_run.specs.Outcomes.{is_input_failed, is_output_failed};
-ghost use Rattle.hir_run.specs.Places.{Between, SameStreams};
+ghost use Rattle.hir_run.specs.Output.{output_of};
+ghost use Rattle.hir_run.specs.Places.{place_of};
 ghost use Rattle.hir_run.specs.Program.{Outcome};
 ghost use Rattle.hir_run.specs.Run.{IsRun, Unfailed, no_lines};
 ghost use Rattle.hir_run.specs.Stages.{Finishes, IsBodyOf, RunsUpTo};
@@ -22,7 +23,6 @@ use crate::disposal::Disposal;
 use crate::fault::RunFault;
 use crate::output::Output;
 use crate::reporting::report;
-use crate::streams::Streams;
 use hir_base::Seq;
 use hir_io::{LineReader, OutputBuffer, Sink, Source};
 use hir_items::{Body, Param};
@@ -53,23 +53,25 @@ fn body_of_parts(
 
 /// Makes what the lines before the first question make, and answers the questions. The last answers may still wait.
 fn answer_script<R: Source, W: Sink>(
+    alloc: Global,
     disposal: Disposal,
-    streams: &mut Streams<'_, R, W>,
+    lines: &mut LineReader,
+    reader: &mut R,
+    output: &mut Output<'_, W>,
 ) -> Result<(), RunFault>
-    requires fresh { streams.old.lines.now ≡ no_lines }
-    requires quiet { streams.old.output.waiting ≡ [] }
-    requires unfailed { Unfailed R.Source W.Sink streams.old.reader.now streams.old.output.writer.now }
-    ensures runs { Between R.Source W.Sink (λ old new. RunsUpTo old.remaining old.output new result)
-        streams.old streams.new }
-    ensures input_failed { R.failed streams.new.reader.now ≡ is_input_failed result }
-    ensures output_failed { W.failed streams.new.output.writer.now ≡ is_output_failed result }
+    requires fresh { lines.old ≡ no_lines }
+    requires quiet { output.old.waiting ≡ [] }
+    requires unfailed { Unfailed R.Source W.Sink reader.old output.old.writer.now }
+    ensures runs { RunsUpTo (R.remaining reader.old) (output_of W.Sink output.old)
+        (place_of R.Source W.Sink lines.new reader.new output.new) result }
+    ensures input_failed { R.failed reader.new ≡ is_input_failed result }
+    ensures output_failed { W.failed output.new.writer.now ≡ is_output_failed result }
     // A read is made only where nothing waits.
-    ensures quiet { is_input_failed result ≡ true → streams.new.output.waiting ≡ [] }
-    ensures same { Between R.Source W.Sink SameStreams streams.old streams.new }
+    ensures quiet { is_input_failed result ≡ true → output.new.waiting ≡ [] }
+    ensures same { output.new.writer.ghost_name ≡ output.old.writer.ghost_name }
 {
-    let alloc = streams.alloc;
     let mut parts = BodyBuilder::new(alloc);
-    let first = build(streams, &mut parts)?;
+    let first = build(alloc, &mut parts, lines, reader, output)?;
     let BodyBuilder {
         builder,
         self_param,
@@ -81,10 +83,10 @@ fn answer_script<R: Source, W: Sink>(
         Some(on_store) => on_store,
         None => {
             disposal.end(store);
-            return streams.output.accept();
+            return output.accept();
         }
     };
-    let left = answer_lines(&mut store, on_store, streams)?;
+    let left = answer_lines(alloc, &mut store, on_store, lines, reader, output)?;
     let on_body = match left {
         Some(on_body) => on_body,
         None => {
@@ -95,7 +97,7 @@ fn answer_script<R: Source, W: Sink>(
     said_is_written();
     let whole = body_of_parts(alloc, store, params, self_param)?;
     let mut body = BodyOfLines::new(whole, name);
-    let unasked = answer_lines(&mut body, on_body, streams)?;
+    let unasked = answer_lines(alloc, &mut body, on_body, lines, reader, output)?;
     disposal.end(body);
     match unasked {
         None => Ok(()),
@@ -103,29 +105,13 @@ fn answer_script<R: Source, W: Sink>(
     }
 }
 
-/// Runs the program, and writes what waits at its end.
-fn run_script<R: Source, W: Sink>(
-    disposal: Disposal,
-    streams: &mut Streams<'_, R, W>,
-) -> Result<(), RunFault>
-    requires fresh { streams.old.lines.now ≡ no_lines }
-    requires quiet { streams.old.output.waiting ≡ [] }
-    requires unfailed { Unfailed R.Source W.Sink streams.old.reader.now streams.old.output.writer.now }
-    ensures runs { IsRun R.Source W.Sink streams.old.reader.now streams.new.reader.now
-        streams.old.output.writer.now streams.new.output.writer.now streams.new.lines.now result }
-    ensures same { Between R.Source W.Sink SameStreams streams.old streams.new }
-{
-    let outcome = answer_script(disposal, streams);
-    streams.output.close(outcome)
-}
-
 /// Runs the program as `run_lines` does; the memory of what was made is given back, or left.
-fn run_lines_with<'a, R: Source, W: Sink>(
+fn run_lines_with<R: Source, W: Sink>(
     alloc: Global,
     disposal: Disposal,
-    lines: &'a mut LineReader,
-    reader: &'a mut R,
-    writer: &'a mut W,
+    lines: &mut LineReader,
+    reader: &mut R,
+    writer: &mut W,
 ) -> Result<(), RunFault>
     requires fresh { lines.old ≡ no_lines }
     requires unfailed { Unfailed R.Source W.Sink reader.old writer.old }
@@ -134,13 +120,9 @@ fn run_lines_with<'a, R: Source, W: Sink>(
     let Ok(waiting) = OutputBuffer::new(alloc) else {
         return Err(RunFault::OutOfMemory);
     };
-    let mut streams = Streams {
-        alloc,
-        lines,
-        reader,
-        output: Output { waiting, writer },
-    };
-    run_script(disposal, &mut streams)
+    let mut output = Output { waiting, writer };
+    let outcome = answer_script(alloc, disposal, lines, reader, &mut output);
+    output.close(outcome)
 }
 
 /// Runs the program as `run_lines_with` does, on the lines that the source gives.

@@ -4,17 +4,16 @@ use Rattle.std.proofs.lemmas.Result.{err_from_is_err_and}
 use Rattle.hir_io.proofs.ReadLemmas.{Reads-none, ReadsAll-end}
 use Rattle.hir_run.specs.Output.{Output}
 use Rattle.hir_run.specs.Parts.{Parts, parts_of, no_parts}
-use Rattle.hir_run.specs.Places.{place_of, unread}
+use Rattle.hir_run.specs.Places.{TakesNext, place_of, unread}
 use Rattle.hir_run.specs.Stages.{Builds, BuildsLine}
 use Rattle.hir_run.proofs.BuildingLemmas.{build_fails, build_line_fails, asked_next, asked_reads_none, read_on, counted_on}
 use Rattle.hir_run.proofs.Scripts.{tells_nothing}
 use Rattle.hir_run.proofs.Making.{Makes-none, makes_line}
-use Rattle.hir_run.proofs.Taken.{TakesNext}
 use Rattle.hir_run.proofs.building.build.Goals as goal
 
 pub loop-streams-init : goal.loop-streams-init
 loop-streams-init g c = record {
-  same_streams = (refl, refl, refl);
+  same_sink = refl;
   same_mark = refl;
   untouched = refl;
   falls = omega arith;
@@ -24,34 +23,33 @@ loop-streams-init g c = record {
 pub returns-in_err-next_line-clause-builds : goal.returns-in_err-next_line-clause-builds
 returns-in_err-next_line-clause-builds g c =
     let e = err_from_is_err_and c.from_residual.result c.from_residual.ensures.1 in
-    let known = unread (place_of g.R.Source g.W.Sink c.args.streams.now) in
-    let p = place_of g.R.Source g.W.Sink c.loop-streams.streams in
-    let q = place_of g.R.Source g.W.Sink c.next_line.new.self in
+    let known = unread (place_of g.R.Source g.W.Sink c.args.lines.now c.args.reader.now c.args.output.now) in
+    let p = place_of g.R.Source g.W.Sink c.loop-streams.lines c.loop-streams.reader c.loop-streams.output in
+    let q = place_of g.R.Source g.W.Sink c.next_line.new.lines c.next_line.new.reader c.next_line.new.self in
     let old = parts_of c.loop-streams.builder in
     let all = c.loop-streams.invariant.so_far in
     let told = c.in_err-next_line.ensures {u = tt} in
     let quiet = told.idle (ap (λ (o : Output). o.waiting) c.loop-streams.invariant.untouched ∙ c.requires.quiet) in
-    let next : TakesNext p q (Err c.in_err-next_line.field-0.0) = record { takes = told.takes; writes = told.writes; count = told.count; stays_ended = told.stays_ended } in
+    let next : TakesNext p q (Err c.in_err-next_line.field-0.0) = told.takes in
     rw (e.1, e.2) (build_fails known p old all q c.in_err-next_line.field-0.0 next quiet.0)
 
 pub loop-streams-preserved : goal.loop-streams-preserved
 loop-streams-preserved g c =
-    let known = unread (place_of g.R.Source g.W.Sink c.args.streams.now) in
-    let p = place_of g.R.Source g.W.Sink c.loop-streams.streams in
-    let q = place_of g.R.Source g.W.Sink c.next_line.new.self in
+    let known = unread (place_of g.R.Source g.W.Sink c.args.lines.now c.args.reader.now c.args.output.now) in
+    let p = place_of g.R.Source g.W.Sink c.loop-streams.lines c.loop-streams.reader c.loop-streams.output in
+    let q = place_of g.R.Source g.W.Sink c.next_line.new.lines c.next_line.new.reader c.next_line.new.self in
     let old = parts_of c.loop-streams.builder in
     let all = c.loop-streams.invariant.so_far in
     let new = parts_of c.build_line.new.builder in
-    let streams = c.loop-streams.invariant.same_streams in
     let told = c.in_ok-next_line.ensures {u = tt} in
-    let next : TakesNext p q (Ok true) = record { takes = rw c.if-branch.true at told.takes; writes = told.writes; count = rw c.if-branch.true at told.count; stays_ended = told.stays_ended } in
+    let next : TakesNext p q (Ok true) = rw c.if-branch.true at told.takes in
     let fell = rw c.if-branch.true at told.falls refl in
     let quiet = told.idle (ap (λ (o : Output). o.waiting) c.loop-streams.invariant.untouched ∙ c.requires.quiet) in
     let does = subst (λ (taken : Bool). BuildsLine q.lines old new (Ok taken)) c.if-not-branch.false (c.in_ok-build_line.ensures {u = tt}) in
     let made = makes_line q.lines old new all.0 all.1 all.2 does in
     let count = counted_on known p old all q next in
     record {
-      same_streams = (told.same.0 ∙ streams.0, told.same.1 ∙ streams.1, told.same.2 ∙ streams.2);
+      same_sink = told.same ∙ c.loop-streams.invariant.same_sink;
       same_mark = told.input_failure ∙ c.loop-streams.invariant.same_mark;
       untouched = quiet.1 ∙ c.loop-streams.invariant.untouched;
       falls = omega (arith, c.loop-streams.invariant.falls, fell, next.count);
@@ -61,64 +59,39 @@ loop-streams-preserved g c =
 pub returns-in_err-build_line-clause-builds : goal.returns-in_err-build_line-clause-builds
 returns-in_err-build_line-clause-builds g c =
     let e = err_from_is_err_and c.from_residual-in_err-build_line.result c.from_residual-in_err-build_line.ensures.1 in
-    let known = unread (place_of g.R.Source g.W.Sink c.args.streams.now) in
-    let p = place_of g.R.Source g.W.Sink c.loop-streams.streams in
-    let q = place_of g.R.Source g.W.Sink c.next_line.new.self in
+    let known = unread (place_of g.R.Source g.W.Sink c.args.lines.now c.args.reader.now c.args.output.now) in
+    let p = place_of g.R.Source g.W.Sink c.loop-streams.lines c.loop-streams.reader c.loop-streams.output in
+    let q = place_of g.R.Source g.W.Sink c.next_line.new.lines c.next_line.new.reader c.next_line.new.self in
     let old = parts_of c.loop-streams.builder in
     let all = c.loop-streams.invariant.so_far in
     let told = c.in_ok-next_line.ensures {u = tt} in
-    let next : TakesNext p q (Ok true) = record { takes = rw c.if-branch.true at told.takes; writes = told.writes; count = rw c.if-branch.true at told.count; stays_ended = told.stays_ended } in
+    let next : TakesNext p q (Ok true) = rw c.if-branch.true at told.takes in
     let new = parts_of c.build_line.new.builder in
     rw (e.1, e.2) (build_line_fails known p old all q next new new c.in_err-build_line.field-0.0 (c.in_err-build_line.ensures {u = tt}))
 
 pub returns-then-not-branch-clause-builds : goal.returns-then-not-branch-clause-builds
 returns-then-not-branch-clause-builds g c =
-    let known = unread (place_of g.R.Source g.W.Sink c.args.streams.now) in
-    let p = place_of g.R.Source g.W.Sink c.loop-streams.streams in
-    let q = place_of g.R.Source g.W.Sink c.next_line.new.self in
+    let known = unread (place_of g.R.Source g.W.Sink c.args.lines.now c.args.reader.now c.args.output.now) in
+    let p = place_of g.R.Source g.W.Sink c.loop-streams.lines c.loop-streams.reader c.loop-streams.output in
+    let q = place_of g.R.Source g.W.Sink c.next_line.new.lines c.next_line.new.reader c.next_line.new.self in
     let old = parts_of c.loop-streams.builder in
     let all = c.loop-streams.invariant.so_far in
     let told = c.in_ok-next_line.ensures {u = tt} in
-    let next : TakesNext p q (Ok true) = record { takes = rw c.if-branch.true at told.takes; writes = told.writes; count = rw c.if-branch.true at told.count; stays_ended = told.stays_ended } in
+    let next : TakesNext p q (Ok true) = rw c.if-branch.true at told.takes in
     let left = subst (λ (taken : Bool). BuildsLine q.lines old (parts_of c.build_line.new.builder) (Ok taken)) c.if-not-branch.true (c.in_ok-build_line.ensures {u = tt}) in
     subst (λ (parts : Parts). Builds known q parts c.asked_by.result) (sym left.1) (asked_next known p old all q next c.asked_by.result left.0 c.asked_by.ensures)
 
 pub returns-then-not-branch-clause-failure : goal.returns-then-not-branch-clause-failure
 returns-then-not-branch-clause-failure g c =
     let told = c.in_ok-next_line.ensures {u = tt} in
-    told.input_failure ∙ c.loop-streams.invariant.same_mark ∙ sym (ap (λ b. b || g.R.Source.failed c.args.streams.now.reader.now) (asked_reads_none c.next_line.new.self.lines.now c.asked_by.result c.asked_by.ensures))
+    told.input_failure ∙ c.loop-streams.invariant.same_mark ∙ sym (ap (λ b. b || g.R.Source.failed c.args.reader.now) (asked_reads_none c.next_line.new.lines c.asked_by.result c.asked_by.ensures))
 
 pub returns-clause-builds : goal.returns-clause-builds
 returns-clause-builds g c =
     let all = c.loop-streams.invariant.so_far in
     let told = c.in_ok-next_line.ensures {u = tt} in
-    let ended = rw c.if-branch.false at told.takes in
-    let counted = rw c.if-branch.false at told.count in
-    (all.0, all.1, ReadsAll-end _ _ all.0 _ all.3 ended.0, ended.2, omega (arith, all.4, counted))
-
-pub returns-in_err-next_line-clause-same : goal.returns-in_err-next_line-clause-same
-returns-in_err-next_line-clause-same g c =
-    let streams = c.loop-streams.invariant.same_streams in
-    let told = c.in_err-next_line.ensures {u = tt} in
-    (told.same.0 ∙ streams.0, told.same.1 ∙ streams.1, told.same.2 ∙ streams.2)
-
-pub returns-in_err-build_line-clause-same : goal.returns-in_err-build_line-clause-same
-returns-in_err-build_line-clause-same g c =
-    let streams = c.loop-streams.invariant.same_streams in
-    let told = c.in_ok-next_line.ensures {u = tt} in
-    (told.same.0 ∙ streams.0, told.same.1 ∙ streams.1, told.same.2 ∙ streams.2)
-
-pub returns-then-not-branch-clause-same : goal.returns-then-not-branch-clause-same
-returns-then-not-branch-clause-same g c =
-    let streams = c.loop-streams.invariant.same_streams in
-    let told = c.in_ok-next_line.ensures {u = tt} in
-    (told.same.0 ∙ streams.0, told.same.1 ∙ streams.1, told.same.2 ∙ streams.2)
-
-pub returns-clause-same : goal.returns-clause-same
-returns-clause-same g c =
-    let streams = c.loop-streams.invariant.same_streams in
-    let told = c.in_ok-next_line.ensures {u = tt} in
-    (told.same.0 ∙ streams.0, told.same.1 ∙ streams.1, told.same.2 ∙ streams.2)
+    let next : TakesNext p q (Ok false) = rw c.if-branch.false at told.takes in
+    (all.0, all.1, ReadsAll-end _ _ all.0 _ all.3 next.takes.0, next.takes.2, omega (arith, all.4, next.count))
 
 pub returns-in_err-next_line-clause-still_quiet : goal.returns-in_err-next_line-clause-still_quiet
 returns-in_err-next_line-clause-still_quiet g c =

@@ -20,8 +20,8 @@ build-requires-clause-fresh g c = (ap (λ (l : LineState). l.count) c.requires.f
 pub returns-in_err-first-clause-runs : goal.returns-in_err-first-clause-runs
 returns-in_err-first-clause-runs g c =
     let e = err_from_is_err_and c.from_residual.result c.from_residual.ensures.1 in
-    let start = place_of g.R.Source g.W.Sink c.args.streams.now in
-    let p = place_of g.R.Source g.W.Sink c.build.new.streams in
+    let start = place_of g.R.Source g.W.Sink c.args.lines.now c.args.reader.now c.args.output.now in
+    let p = place_of g.R.Source g.W.Sink c.build.new.lines c.build.new.reader c.build.new.output in
     let parts = parts_of c.build.new.builder in
     let told = c.in_err-first.ensures {u = tt} in
     rw (e.1, e.2) (script_build start.output p parts told.still_quiet start.remaining c.in_err-first.field-0.0 (from_the_start start p parts (Err c.in_err-first.field-0.0) c.requires.fresh told.builds))
@@ -29,8 +29,8 @@ returns-in_err-first-clause-runs g c =
 pub returns-in_err-store-clause-runs : goal.returns-in_err-store-clause-runs
 returns-in_err-store-clause-runs g c =
     let e = err_from_is_err_and c.from_residual-in_err-store.result c.from_residual-in_err-store.ensures.1 in
-    let start = place_of g.R.Source g.W.Sink c.args.streams.now in
-    let p = place_of g.R.Source g.W.Sink c.build.new.streams in
+    let start = place_of g.R.Source g.W.Sink c.args.lines.now c.args.reader.now c.args.output.now in
+    let p = place_of g.R.Source g.W.Sink c.build.new.lines c.build.new.reader c.build.new.output in
     let parts = parts_of c.build.new.builder in
     let told = c.in_ok-first.ensures {u = tt} in
     let builds = from_the_start start p parts (Ok c.in_ok-first.first) c.requires.fresh told.builds in
@@ -38,8 +38,8 @@ returns-in_err-store-clause-runs g c =
 
 pub returns-in-None-clause-runs : goal.returns-in-None-clause-runs
 returns-in-None-clause-runs g c =
-    let start = place_of g.R.Source g.W.Sink c.args.streams.now in
-    let p = place_of g.R.Source g.W.Sink c.build.new.streams in
+    let start = place_of g.R.Source g.W.Sink c.args.lines.now c.args.reader.now c.args.output.now in
+    let p = place_of g.R.Source g.W.Sink c.build.new.lines c.build.new.reader c.build.new.output in
     let parts = parts_of c.build.new.builder in
     let told = c.in_ok-first.ensures {u = tt} in
     let builds = from_the_start start p parts (Ok c.in_ok-first.first) c.requires.fresh told.builds in
@@ -49,39 +49,39 @@ returns-in-None-clause-runs g c =
 pub returns-in_err-left-clause-runs : goal.returns-in_err-left-clause-runs
 returns-in_err-left-clause-runs g c =
     let e = err_from_is_err_and c.from_residual-in_err-left.result c.from_residual-in_err-left.ensures.1 in
-    let start = place_of g.R.Source g.W.Sink c.args.streams.now in
-    let p = place_of g.R.Source g.W.Sink c.build.new.streams in
+    let start = place_of g.R.Source g.W.Sink c.args.lines.now c.args.reader.now c.args.output.now in
+    let p = place_of g.R.Source g.W.Sink c.build.new.lines c.build.new.reader c.build.new.output in
     let parts = parts_of c.build.new.builder in
     let told = c.in_ok-first.ensures {u = tt} in
     let builds = from_the_start start p parts (Ok c.in_ok-first.first) c.requires.fresh told.builds in
     let met : Builds start.remaining p parts (Ok (Some c.in-Some.on_store)) = rw c.in-Some.is at builds in
     let store = c.in_ok-store.ensures {u = tt} in
-    let q = place_of g.R.Source g.W.Sink c.answer_lines.new.streams in
+    let q = place_of g.R.Source g.W.Sink c.answer_lines.new.lines c.answer_lines.new.reader c.answer_lines.new.output in
     rw (e.1, e.2) (script_store_ends start.output p parts told.still_quiet c.in_ok-store.store store c.in-Some.on_store start.remaining q c.in_err-left.field-0.0 met c.in_err-left.ensures.asks)
 
 pub returns-in-None-left-clause-runs : goal.returns-in-None-left-clause-runs
 returns-in-None-left-clause-runs g c =
-    let start = place_of g.R.Source g.W.Sink c.args.streams.now in
-    let p = place_of g.R.Source g.W.Sink c.build.new.streams in
+    let start = place_of g.R.Source g.W.Sink c.args.lines.now c.args.reader.now c.args.output.now in
+    let p = place_of g.R.Source g.W.Sink c.build.new.lines c.build.new.reader c.build.new.output in
     let parts = parts_of c.build.new.builder in
     let told = c.in_ok-first.ensures {u = tt} in
     let builds = from_the_start start p parts (Ok c.in_ok-first.first) c.requires.fresh told.builds in
     let met : Builds start.remaining p parts (Ok (Some c.in-Some.on_store)) = rw c.in-Some.is at builds in
     let store = c.in_ok-store.ensures {u = tt} in
-    let q = place_of g.R.Source g.W.Sink c.answer_lines.new.streams in
+    let q = place_of g.R.Source g.W.Sink c.answer_lines.new.lines c.answer_lines.new.reader c.answer_lines.new.output in
     script_store_done start.output p parts told.still_quiet c.in_ok-store.store store c.in-Some.on_store start.remaining q met (rw c.in-None-left.is at (c.in_ok-left.ensures {u = tt}).asks)
 
 pub returns-in_err-whole-clause-runs : goal.returns-in_err-whole-clause-runs
 returns-in_err-whole-clause-runs g c =
     let e = err_from_is_err_and c.from_residual-in_err-whole.result c.from_residual-in_err-whole.ensures.1 in
-    let start = place_of g.R.Source g.W.Sink c.args.streams.now in
-    let p = place_of g.R.Source g.W.Sink c.build.new.streams in
+    let start = place_of g.R.Source g.W.Sink c.args.lines.now c.args.reader.now c.args.output.now in
+    let p = place_of g.R.Source g.W.Sink c.build.new.lines c.build.new.reader c.build.new.output in
     let parts = parts_of c.build.new.builder in
     let told = c.in_ok-first.ensures {u = tt} in
     let builds = from_the_start start p parts (Ok c.in_ok-first.first) c.requires.fresh told.builds in
     let met : Builds start.remaining p parts (Ok (Some c.in-Some.on_store)) = rw c.in-Some.is at builds in
     let store = c.in_ok-store.ensures {u = tt} in
-    let q = place_of g.R.Source g.W.Sink c.answer_lines.new.streams in
+    let q = place_of g.R.Source g.W.Sink c.answer_lines.new.lines c.answer_lines.new.reader c.answer_lines.new.output in
     let left = rw c.in-Some-left.is at (c.in_ok-left.ensures {u = tt}).asks in
     let refused : IsBodyOf (body_of c.in_ok-store.store parts.params parts.self_param) (Err c.in_err-whole.field-0.0) = rw (c.in_ok-left.ensures {u = tt}).same.0 at c.in_err-whole.ensures in
     rw (e.1, e.2) (script_body start.output p parts told.still_quiet c.in_ok-store.store store c.in-Some.on_store q c.in-Some-left.on_body left start.remaining c.in_err-whole.field-0.0 met refused)
@@ -89,36 +89,36 @@ returns-in_err-whole-clause-runs g c =
 pub returns-in_err-unasked-clause-runs : goal.returns-in_err-unasked-clause-runs
 returns-in_err-unasked-clause-runs g c =
     let e = err_from_is_err_and c.from_residual-in_err-unasked.result c.from_residual-in_err-unasked.ensures.1 in
-    let start = place_of g.R.Source g.W.Sink c.args.streams.now in
-    let p = place_of g.R.Source g.W.Sink c.build.new.streams in
+    let start = place_of g.R.Source g.W.Sink c.args.lines.now c.args.reader.now c.args.output.now in
+    let p = place_of g.R.Source g.W.Sink c.build.new.lines c.build.new.reader c.build.new.output in
     let parts = parts_of c.build.new.builder in
     let told = c.in_ok-first.ensures {u = tt} in
     let builds = from_the_start start p parts (Ok c.in_ok-first.first) c.requires.fresh told.builds in
     let met : Builds start.remaining p parts (Ok (Some c.in-Some.on_store)) = rw c.in-Some.is at builds in
     let store = c.in_ok-store.ensures {u = tt} in
-    let q = place_of g.R.Source g.W.Sink c.answer_lines.new.streams in
+    let q = place_of g.R.Source g.W.Sink c.answer_lines.new.lines c.answer_lines.new.reader c.answer_lines.new.output in
     let left = rw c.in-Some-left.is at (c.in_ok-left.ensures {u = tt}).asks in
     let body : IsBodyOf (body_of c.in_ok-store.store parts.params parts.self_param) (Ok c.in_ok-whole.whole) = rw (c.in_ok-left.ensures {u = tt}).same.0 at (c.in_ok-whole.ensures {u = tt}) in
-    rw (e.1, e.2) (script_body_ends start.output p parts told.still_quiet c.in_ok-store.store store c.in-Some.on_store q c.in-Some-left.on_body left c.new-body.result c.in_ok-whole.whole body c.new-body.ensures start.remaining (place_of g.R.Source g.W.Sink c.answer_lines-2.new.streams) c.in_err-unasked.field-0.0 met c.in_err-unasked.ensures.asks)
+    rw (e.1, e.2) (script_body_ends start.output p parts told.still_quiet c.in_ok-store.store store c.in-Some.on_store q c.in-Some-left.on_body left c.new-body.result c.in_ok-whole.whole body c.new-body.ensures start.remaining (place_of g.R.Source g.W.Sink c.answer_lines-2.new.lines c.answer_lines-2.new.reader c.answer_lines-2.new.output) c.in_err-unasked.field-0.0 met c.in_err-unasked.ensures.asks)
 
 pub returns-clause-runs : goal.returns-clause-runs
 returns-clause-runs g c =
-    let start = place_of g.R.Source g.W.Sink c.args.streams.now in
-    let p = place_of g.R.Source g.W.Sink c.build.new.streams in
+    let start = place_of g.R.Source g.W.Sink c.args.lines.now c.args.reader.now c.args.output.now in
+    let p = place_of g.R.Source g.W.Sink c.build.new.lines c.build.new.reader c.build.new.output in
     let parts = parts_of c.build.new.builder in
     let told = c.in_ok-first.ensures {u = tt} in
     let builds = from_the_start start p parts (Ok c.in_ok-first.first) c.requires.fresh told.builds in
     let met : Builds start.remaining p parts (Ok (Some c.in-Some.on_store)) = rw c.in-Some.is at builds in
     let store = c.in_ok-store.ensures {u = tt} in
-    let q = place_of g.R.Source g.W.Sink c.answer_lines.new.streams in
+    let q = place_of g.R.Source g.W.Sink c.answer_lines.new.lines c.answer_lines.new.reader c.answer_lines.new.output in
     let left = rw c.in-Some-left.is at (c.in_ok-left.ensures {u = tt}).asks in
     let body : IsBodyOf (body_of c.in_ok-store.store parts.params parts.self_param) (Ok c.in_ok-whole.whole) = rw (c.in_ok-left.ensures {u = tt}).same.0 at (c.in_ok-whole.ensures {u = tt}) in
-    script_body_done start.output p parts told.still_quiet c.in_ok-store.store store c.in-Some.on_store q c.in-Some-left.on_body left c.new-body.result c.in_ok-whole.whole body c.new-body.ensures start.remaining (place_of g.R.Source g.W.Sink c.answer_lines-2.new.streams) met (rw c.in-None-unasked.is at (c.in_ok-unasked.ensures {u = tt}).asks)
+    script_body_done start.output p parts told.still_quiet c.in_ok-store.store store c.in-Some.on_store q c.in-Some-left.on_body left c.new-body.result c.in_ok-whole.whole body c.new-body.ensures start.remaining (place_of g.R.Source g.W.Sink c.answer_lines-2.new.lines c.answer_lines-2.new.reader c.answer_lines-2.new.output) met (rw c.in-None-unasked.is at (c.in_ok-unasked.ensures {u = tt}).asks)
 
 pub new-body-requires : goal.new-body-requires
 new-body-requires g c =
-    let start = place_of g.R.Source g.W.Sink c.args.streams.now in
-    let p = place_of g.R.Source g.W.Sink c.build.new.streams in
+    let start = place_of g.R.Source g.W.Sink c.args.lines.now c.args.reader.now c.args.output.now in
+    let p = place_of g.R.Source g.W.Sink c.build.new.lines c.build.new.reader c.build.new.output in
     let parts = parts_of c.build.new.builder in
     let told = c.in_ok-first.ensures {u = tt} in
     let builds = from_the_start start p parts (Ok c.in_ok-first.first) c.requires.fresh told.builds in
@@ -145,8 +145,8 @@ returns-in_err-first-clause-input_failed g c =
 pub returns-in_err-first-clause-output_failed : goal.returns-in_err-first-clause-output_failed
 returns-in_err-first-clause-output_failed g c =
     let e = err_from_is_err_and c.from_residual.result c.from_residual.ensures.1 in
-    let start = place_of g.R.Source g.W.Sink c.args.streams.now in
-    let p = place_of g.R.Source g.W.Sink c.build.new.streams in
+    let start = place_of g.R.Source g.W.Sink c.args.lines.now c.args.reader.now c.args.output.now in
+    let p = place_of g.R.Source g.W.Sink c.build.new.lines c.build.new.reader c.build.new.output in
     let told = c.in_err-first.ensures {u = tt} in
     rw (e.1, e.2) (ap (λ (o : Output). o.failed) told.still_quiet ∙ c.requires.unfailed.1 ∙ sym (build_writes_none (Unit {0}) _ p (parts_of c.build.new.builder) c.in_err-first.field-0.0 told.builds))
 
@@ -157,7 +157,7 @@ pub returns-in_err-store-clause-quiet : goal.returns-in_err-store-clause-quiet
 returns-in_err-store-clause-quiet g c = λ failed. ap (λ (o : Output). o.waiting) (c.in_ok-first.ensures {u = tt}).still_quiet ∙ c.requires.quiet
 
 pub returns-in-None-clause-quiet : goal.returns-in-None-clause-quiet
-returns-in-None-clause-quiet g c = λ failed. absurd (false≢true (sym (accept_reads_none (output_of g.W.Sink c.build.new.streams.output) (output_of g.W.Sink c.accept.new.self) c.accept.result c.accept.ensures.accepts) ∙ failed))
+returns-in-None-clause-quiet g c = λ failed. absurd (false≢true (sym (accept_reads_none (output_of g.W.Sink c.build.new.output) (output_of g.W.Sink c.accept.new.self) c.accept.result c.accept.ensures.accepts) ∙ failed))
 
 pub returns-in_err-left-clause-quiet : goal.returns-in_err-left-clause-quiet
 returns-in_err-left-clause-quiet g c =
@@ -174,46 +174,3 @@ pub returns-in_err-unasked-clause-quiet : goal.returns-in_err-unasked-clause-qui
 returns-in_err-unasked-clause-quiet g c =
     let e = err_from_is_err_and c.from_residual-in_err-unasked.result c.from_residual-in_err-unasked.ensures.1 in
     rw (e.1, e.2) (λ failed. c.in_err-unasked.ensures.quiet (reads_as (Option Question) (Unit {0}) c.in_err-unasked.field-0.0 ∙ failed))
-
-pub returns-in_err-first-clause-same : goal.returns-in_err-first-clause-same
-returns-in_err-first-clause-same g c = (c.in_err-first.ensures {u = tt}).same
-
-pub returns-in_err-store-clause-same : goal.returns-in_err-store-clause-same
-returns-in_err-store-clause-same g c = (c.in_ok-first.ensures {u = tt}).same
-
-pub returns-in-None-clause-same : goal.returns-in-None-clause-same
-returns-in-None-clause-same g c =
-    let built = (c.in_ok-first.ensures {u = tt}).same in
-    (built.0, built.1, c.accept.ensures.same ∙ built.2)
-
-pub returns-in_err-left-clause-same : goal.returns-in_err-left-clause-same
-returns-in_err-left-clause-same g c =
-    let built = (c.in_ok-first.ensures {u = tt}).same in
-    let asked = c.in_err-left.ensures.same.1 in
-    (asked.0 ∙ built.0, asked.1 ∙ built.1, asked.2 ∙ built.2)
-
-pub returns-in-None-left-clause-same : goal.returns-in-None-left-clause-same
-returns-in-None-left-clause-same g c =
-    let built = (c.in_ok-first.ensures {u = tt}).same in
-    let asked = (c.in_ok-left.ensures {u = tt}).same.1 in
-    (asked.0 ∙ built.0, asked.1 ∙ built.1, asked.2 ∙ built.2)
-
-pub returns-in_err-whole-clause-same : goal.returns-in_err-whole-clause-same
-returns-in_err-whole-clause-same g c =
-    let built = (c.in_ok-first.ensures {u = tt}).same in
-    let asked = (c.in_ok-left.ensures {u = tt}).same.1 in
-    (asked.0 ∙ built.0, asked.1 ∙ built.1, asked.2 ∙ built.2)
-
-pub returns-in_err-unasked-clause-same : goal.returns-in_err-unasked-clause-same
-returns-in_err-unasked-clause-same g c =
-    let built = (c.in_ok-first.ensures {u = tt}).same in
-    let asked = (c.in_ok-left.ensures {u = tt}).same.1 in
-    let more = c.in_err-unasked.ensures.same.1 in
-    (more.0 ∙ asked.0 ∙ built.0, more.1 ∙ asked.1 ∙ built.1, more.2 ∙ asked.2 ∙ built.2)
-
-pub returns-clause-same : goal.returns-clause-same
-returns-clause-same g c =
-    let built = (c.in_ok-first.ensures {u = tt}).same in
-    let asked = (c.in_ok-left.ensures {u = tt}).same.1 in
-    let more = (c.in_ok-unasked.ensures {u = tt}).same.1 in
-    (more.0 ∙ asked.0 ∙ built.0, more.1 ∙ asked.1 ∙ built.1, more.2 ∙ asked.2 ∙ built.2)
