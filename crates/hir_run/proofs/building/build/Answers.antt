@@ -11,8 +11,8 @@ use Rattle.hir_run.proofs.Scripts.{tells_nothing}
 use Rattle.hir_run.proofs.Making.{Makes-none, makes_line}
 use Rattle.hir_run.proofs.building.build.Goals as goal
 
-pub loop-streams-init : goal.loop-streams-init
-loop-streams-init g c = record {
+pub loop-alloc-init : goal.loop-alloc-init
+loop-alloc-init g c = record {
   same_sink = refl;
   same_mark = refl;
   untouched = refl;
@@ -24,35 +24,35 @@ pub returns-in_err-next_line-clause-builds : goal.returns-in_err-next_line-claus
 returns-in_err-next_line-clause-builds g c =
     let e = err_from_is_err_and c.from_residual.result c.from_residual.ensures.1 in
     let known = unread (place_of g.R.Source g.W.Sink c.args.lines.now c.args.reader.now c.args.output.now) in
-    let p = place_of g.R.Source g.W.Sink c.loop-streams.lines c.loop-streams.reader c.loop-streams.output in
+    let p = place_of g.R.Source g.W.Sink c.loop-alloc.lines c.loop-alloc.reader c.loop-alloc.output in
     let q = place_of g.R.Source g.W.Sink c.next_line.new.lines c.next_line.new.reader c.next_line.new.self in
-    let old = parts_of c.loop-streams.builder in
-    let all = c.loop-streams.invariant.so_far in
+    let old = parts_of c.loop-alloc.builder in
+    let all = c.loop-alloc.invariant.so_far in
     let told = c.in_err-next_line.ensures {u = tt} in
-    let quiet = told.idle (ap (λ (o : Output). o.waiting) c.loop-streams.invariant.untouched ∙ c.requires.quiet) in
+    let quiet = told.idle (ap (λ (o : Output). o.waiting) c.loop-alloc.invariant.untouched ∙ c.requires.quiet) in
     let next : TakesNext p q (Err c.in_err-next_line.field-0.0) = told.takes in
     rw (e.1, e.2) (build_fails known p old all q c.in_err-next_line.field-0.0 next quiet.0)
 
-pub loop-streams-preserved : goal.loop-streams-preserved
-loop-streams-preserved g c =
+pub loop-alloc-preserved : goal.loop-alloc-preserved
+loop-alloc-preserved g c =
     let known = unread (place_of g.R.Source g.W.Sink c.args.lines.now c.args.reader.now c.args.output.now) in
-    let p = place_of g.R.Source g.W.Sink c.loop-streams.lines c.loop-streams.reader c.loop-streams.output in
+    let p = place_of g.R.Source g.W.Sink c.loop-alloc.lines c.loop-alloc.reader c.loop-alloc.output in
     let q = place_of g.R.Source g.W.Sink c.next_line.new.lines c.next_line.new.reader c.next_line.new.self in
-    let old = parts_of c.loop-streams.builder in
-    let all = c.loop-streams.invariant.so_far in
+    let old = parts_of c.loop-alloc.builder in
+    let all = c.loop-alloc.invariant.so_far in
     let new = parts_of c.build_line.new.builder in
     let told = c.in_ok-next_line.ensures {u = tt} in
     let next : TakesNext p q (Ok true) = rw c.if-branch.true at told.takes in
     let fell = rw c.if-branch.true at told.falls refl in
-    let quiet = told.idle (ap (λ (o : Output). o.waiting) c.loop-streams.invariant.untouched ∙ c.requires.quiet) in
+    let quiet = told.idle (ap (λ (o : Output). o.waiting) c.loop-alloc.invariant.untouched ∙ c.requires.quiet) in
     let does = subst (λ (taken : Bool). BuildsLine q.lines old new (Ok taken)) c.if-not-branch.false (c.in_ok-build_line.ensures {u = tt}) in
     let made = makes_line q.lines old new all.0 all.1 all.2 does in
     let count = counted_on known p old all q next in
     record {
-      same_sink = told.same ∙ c.loop-streams.invariant.same_sink;
-      same_mark = told.input_failure ∙ c.loop-streams.invariant.same_mark;
-      untouched = quiet.1 ∙ c.loop-streams.invariant.untouched;
-      falls = omega (arith, c.loop-streams.invariant.falls, fell, next.count);
+      same_sink = told.same ∙ c.loop-alloc.invariant.same_sink;
+      same_mark = told.input_failure ∙ c.loop-alloc.invariant.same_mark;
+      untouched = quiet.1 ∙ c.loop-alloc.invariant.untouched;
+      falls = omega (arith, c.loop-alloc.invariant.falls, fell, next.count);
       so_far = (all.0 ++ q.lines.line ∷ [], made.0, made.1, read_on known p old all q next, omega (arith, count, length-append all.0 (q.lines.line ∷ [])));
     }
 
@@ -60,10 +60,10 @@ pub returns-in_err-build_line-clause-builds : goal.returns-in_err-build_line-cla
 returns-in_err-build_line-clause-builds g c =
     let e = err_from_is_err_and c.from_residual-in_err-build_line.result c.from_residual-in_err-build_line.ensures.1 in
     let known = unread (place_of g.R.Source g.W.Sink c.args.lines.now c.args.reader.now c.args.output.now) in
-    let p = place_of g.R.Source g.W.Sink c.loop-streams.lines c.loop-streams.reader c.loop-streams.output in
+    let p = place_of g.R.Source g.W.Sink c.loop-alloc.lines c.loop-alloc.reader c.loop-alloc.output in
     let q = place_of g.R.Source g.W.Sink c.next_line.new.lines c.next_line.new.reader c.next_line.new.self in
-    let old = parts_of c.loop-streams.builder in
-    let all = c.loop-streams.invariant.so_far in
+    let old = parts_of c.loop-alloc.builder in
+    let all = c.loop-alloc.invariant.so_far in
     let told = c.in_ok-next_line.ensures {u = tt} in
     let next : TakesNext p q (Ok true) = rw c.if-branch.true at told.takes in
     let new = parts_of c.build_line.new.builder in
@@ -72,10 +72,10 @@ returns-in_err-build_line-clause-builds g c =
 pub returns-then-not-branch-clause-builds : goal.returns-then-not-branch-clause-builds
 returns-then-not-branch-clause-builds g c =
     let known = unread (place_of g.R.Source g.W.Sink c.args.lines.now c.args.reader.now c.args.output.now) in
-    let p = place_of g.R.Source g.W.Sink c.loop-streams.lines c.loop-streams.reader c.loop-streams.output in
+    let p = place_of g.R.Source g.W.Sink c.loop-alloc.lines c.loop-alloc.reader c.loop-alloc.output in
     let q = place_of g.R.Source g.W.Sink c.next_line.new.lines c.next_line.new.reader c.next_line.new.self in
-    let old = parts_of c.loop-streams.builder in
-    let all = c.loop-streams.invariant.so_far in
+    let old = parts_of c.loop-alloc.builder in
+    let all = c.loop-alloc.invariant.so_far in
     let told = c.in_ok-next_line.ensures {u = tt} in
     let next : TakesNext p q (Ok true) = rw c.if-branch.true at told.takes in
     let left = subst (λ (taken : Bool). BuildsLine q.lines old (parts_of c.build_line.new.builder) (Ok taken)) c.if-not-branch.true (c.in_ok-build_line.ensures {u = tt}) in
@@ -84,11 +84,11 @@ returns-then-not-branch-clause-builds g c =
 pub returns-then-not-branch-clause-failure : goal.returns-then-not-branch-clause-failure
 returns-then-not-branch-clause-failure g c =
     let told = c.in_ok-next_line.ensures {u = tt} in
-    told.input_failure ∙ c.loop-streams.invariant.same_mark ∙ sym (ap (λ b. b || g.R.Source.failed c.args.reader.now) (asked_reads_none c.next_line.new.lines c.asked_by.result c.asked_by.ensures))
+    told.input_failure ∙ c.loop-alloc.invariant.same_mark ∙ sym (ap (λ b. b || g.R.Source.failed c.args.reader.now) (asked_reads_none c.next_line.new.lines c.asked_by.result c.asked_by.ensures))
 
 pub returns-clause-builds : goal.returns-clause-builds
 returns-clause-builds g c =
-    let all = c.loop-streams.invariant.so_far in
+    let all = c.loop-alloc.invariant.so_far in
     let told = c.in_ok-next_line.ensures {u = tt} in
     let next : TakesNext p q (Ok false) = rw c.if-branch.false at told.takes in
     (all.0, all.1, ReadsAll-end _ _ all.0 _ all.3 next.takes.0, next.takes.2, omega (arith, all.4, next.count))
@@ -96,19 +96,19 @@ returns-clause-builds g c =
 pub returns-in_err-next_line-clause-still_quiet : goal.returns-in_err-next_line-clause-still_quiet
 returns-in_err-next_line-clause-still_quiet g c =
     let told = c.in_err-next_line.ensures {u = tt} in
-    (told.idle (ap (λ (o : Output). o.waiting) c.loop-streams.invariant.untouched ∙ c.requires.quiet)).1 ∙ c.loop-streams.invariant.untouched
+    (told.idle (ap (λ (o : Output). o.waiting) c.loop-alloc.invariant.untouched ∙ c.requires.quiet)).1 ∙ c.loop-alloc.invariant.untouched
 
 pub returns-in_err-build_line-clause-still_quiet : goal.returns-in_err-build_line-clause-still_quiet
 returns-in_err-build_line-clause-still_quiet g c =
     let told = c.in_ok-next_line.ensures {u = tt} in
-    (told.idle (ap (λ (o : Output). o.waiting) c.loop-streams.invariant.untouched ∙ c.requires.quiet)).1 ∙ c.loop-streams.invariant.untouched
+    (told.idle (ap (λ (o : Output). o.waiting) c.loop-alloc.invariant.untouched ∙ c.requires.quiet)).1 ∙ c.loop-alloc.invariant.untouched
 
 pub returns-then-not-branch-clause-still_quiet : goal.returns-then-not-branch-clause-still_quiet
 returns-then-not-branch-clause-still_quiet g c =
     let told = c.in_ok-next_line.ensures {u = tt} in
-    (told.idle (ap (λ (o : Output). o.waiting) c.loop-streams.invariant.untouched ∙ c.requires.quiet)).1 ∙ c.loop-streams.invariant.untouched
+    (told.idle (ap (λ (o : Output). o.waiting) c.loop-alloc.invariant.untouched ∙ c.requires.quiet)).1 ∙ c.loop-alloc.invariant.untouched
 
 pub returns-clause-still_quiet : goal.returns-clause-still_quiet
 returns-clause-still_quiet g c =
     let told = c.in_ok-next_line.ensures {u = tt} in
-    (told.idle (ap (λ (o : Output). o.waiting) c.loop-streams.invariant.untouched ∙ c.requires.quiet)).1 ∙ c.loop-streams.invariant.untouched
+    (told.idle (ap (λ (o : Output). o.waiting) c.loop-alloc.invariant.untouched ∙ c.requires.quiet)).1 ∙ c.loop-alloc.invariant.untouched

@@ -5,8 +5,8 @@ use Rattle.hir_run.specs.Places.{place_of, unread}
 use Rattle.hir_run.proofs.BuildingLemmas.{SoFar}
 use Rattle.hir_run.proofs.building.build.Given as goal
 
-abbrev pub invariant-loop-streams : goal.invariant-loop-streams
-invariant-loop-streams g l = record {
+abbrev pub invariant-loop-alloc : goal.invariant-loop-alloc
+invariant-loop-alloc g l = record {
   same_sink : l.output.writer.ghost_name ≡ l.fn.output.writer.ghost_name;
   same_mark : g.R.Source.failed l.reader ≡ g.R.Source.failed l.fn.reader;
   untouched : output_of g.W.Sink l.output ≡ output_of g.W.Sink l.fn.output;
@@ -15,5 +15,5 @@ invariant-loop-streams g l = record {
   so_far : SoFar (unread (place_of g.R.Source g.W.Sink l.fn.lines l.fn.reader l.fn.output)) (place_of g.R.Source g.W.Sink l.lines l.reader l.output) (parts_of l.builder);
 }
 
-abbrev pub decreases-loop-streams : goal.decreases-loop-streams
-decreases-loop-streams g l = length l.lines.pending + g.R.Source.allowance l.reader
+abbrev pub decreases-loop-alloc : goal.decreases-loop-alloc
+decreases-loop-alloc g l = length l.lines.pending + g.R.Source.allowance l.reader
