@@ -1,27 +1,44 @@
 -- What is answered in a section of questions, line by line.
-use Rattle.std.proofs.Common.{◌≡◌, ◌+◌, ℕ, Bool, true, false, List, [], ◌∷◌, ◌++◌, Option, None, Some, is_some, subst, ◌&&◌, Err, length, inl, inr, refl, sym, ap, ◌∙◌, arith, append_assoc, append-nil}
+use Rattle.std.proofs.Common.{◌≡◌, ◌+◌, ℕ, Bool, true, false, List, [], ◌∷◌, ◌++◌, Option, None, Some, is_some, subst, ◌&&◌, Ok, Err, length, inl, inr, refl, sym, ap, ◌∙◌, arith, append_assoc, append-nil}
 use Rattle.std.specs.List.{list_all}
 use Rattle.std.proofs.lemmas.List.Folds.{list_all-append}
 use Rattle.hir_io.specs.declared.next.LineFault.{LineFault}
 use Rattle.hir_io.specs.declared.next.LineFault.TheVariants as line
 use Rattle.hir_io.specs.Ends.{IsWrittenUpTo}
 use Rattle.hir_io.specs.LineState.{LineState}
-use Rattle.hir_io.specs.NextLine.{NextTakes, NextWrites}
-use Rattle.hir_io.specs.Reads.{Reads}
-use Rattle.hir_io.proofs.ReadLemmas.{Reads-none, ReadsFront-now, ReadsUntilFailure-now}
+use Rattle.hir_io.specs.Reads.{Reads, ReadsFront}
+use Rattle.hir_io.proofs.ReadLemmas.{Reads-none, Reads-more, ReadsFront-now, ReadsUntilFailure-now}
 use Rattle.hir_lines.specs.Line.{Line, Ask, line_of, may_ask, asks}
 use Rattle.hir_lines.specs.declared.question.Question.{Question}
 use Rattle.hir_run.specs.declared.fault.RunFault.{RunFault}
 use Rattle.hir_run.specs.declared.fault.RunFault.TheVariants.{BadLine, Refused, BodyRefused, InputFailed, OutputFailed, OutOfMemory}
 use Rattle.hir_run.specs.Faults.{fault_of_line}
+use Rattle.hir_run.specs.Output.{Output, Wrote}
+use Rattle.hir_run.specs.Outcomes.{is_input_failed, is_output_failed}
+use Rattle.hir_run.specs.Places.{Place, TakesNext, unread}
 use Rattle.hir_run.specs.Program.{IsLineAnswer, AreAnswers}
-use Rattle.hir_run.specs.Stages.{TakesLine, AsksLine, asked, HaveAnswers, Answered, AsksUpTo, Asks}
+use Rattle.hir_run.specs.Stages.{IsAsked, TakesLine, AsksLine, asked, HaveAnswers, Answered, AsksUpTo, Asks}
 use Rattle.hir_run.proofs.Refusals.{behind_line, behind_none, some_text}
 use Rattle.hir_run.proofs.Scripts.{says-push}
-use Rattle.hir_run.proofs.WritingLemmas.{IsWrittenUpTo-then, GrowsByFront-then, kept}
+use Rattle.hir_run.proofs.WritingLemmas.{Wrote-then, WroteFront-then, all_written, cut, kept}
+
+-- a line that isn't read as a question ends no end of the run
+pub asked_marks_none : (X : Type 0) (lines : LineState) (fault : RunFault) → IsAsked lines (Err fault) → (is_input_failed {X = X} (Err fault) ≡ false) × (is_output_failed {X = X} (Err fault) ≡ false)
+asked_marks_none X lines (BadLine number) a = (refl, refl)
+asked_marks_none X lines OutOfMemory a = (refl, refl)
+asked_marks_none X lines InputFailed a = absurd a
+asked_marks_none X lines OutputFailed a = absurd a
+asked_marks_none X lines (Refused fault) a = absurd a
+asked_marks_none X lines (BodyRefused fault) a = absurd a
+
+-- so far these lines were read, and the section that begins with the first question was answered
+abbrev pub SoFar : (Question → Bool) → (Question → List ℕ → Type 0) → Question → Place → Place → Type 0
+SoFar may Is first start now =
+    (texts : List (List ℕ)) × Answered may Is (asked first texts) start.output now.output
+    × Reads (unread start) texts (unread now) now.lines.at_end × (now.lines.count ≡ start.lines.count + length texts)
 
 -- the end isn't met now, so it wasn't before
-pub unmet_then : (was now : Bool) → (was ≡ true → now ≡ true) → now ≡ false → was ≡ false
+unmet_then : (was now : Bool) → (was ≡ true → now ≡ true) → now ≡ false → was ≡ false
 unmet_then false now stays unmet = refl
 unmet_then true now stays unmet = cc (stays refl)
 
@@ -48,86 +65,107 @@ module _ (may : Question → Bool) (Is : Question → List ℕ → Type 0) where
   have_first : (first : Question) (text : List ℕ) → may first ≡ true → IsLineAnswer Is (Ask first) text → HaveAnswers may Is (asked first []) text
   have_first first text may_be is = (rw may_be refl, (text, [], is, refl, sym (append-nil text)))
 
-  module _ (known : Option (List ℕ)) (first : Question) (old : Option (List ℕ)) (waited : List ℕ) (start : LineState) where
+  -- a line that isn't read as a question
+  pub asked_fails : (lines : LineState) (now : Output) (fault : RunFault) → IsAsked lines (Err fault) → AsksLine may Is (line_of lines.line) lines.count now now (Err fault)
+  asked_fails lines now (BadLine number) (bad, is) = (bad, is, refl)
+  asked_fails lines now OutOfMemory (question, says) = (question, says, refl)
+  asked_fails lines now InputFailed a = absurd a
+  asked_fails lines now OutputFailed a = absurd a
+  asked_fails lines now (Refused fault) a = absurd a
+  asked_fails lines now (BodyRefused fault) a = absurd a
+
+  module _ (first : Question) (start : Place) where
     -- the first question was answered
-    pub first_answered : (new : Option (List ℕ)) (waiting : List ℕ) (left : Option Question) → is_some left ≡ false → TakesLine may Is (Ask first) old waited new waiting left → Answered may Is (asked first []) old waited new waiting
-    first_answered new waiting None none (may_be, text, is, written) = (text, have_first first text may_be is, written)
-    first_answered new waiting (Some left) none t = cc
+    pub first_answered : (new : Output) (left : Option Question) → is_some left ≡ false → TakesLine may Is (Ask first) start.output new left → Answered may Is (asked first []) start.output new
+    first_answered new None none (may_be, text, is, written) = (text, have_first first text may_be is, written)
+    first_answered new (Some left) none t = cc
 
     -- it may not be asked
-    pub first_left : (new : Option (List ℕ)) (waiting : List ℕ) (left : Option Question) → is_some left ≡ true → TakesLine may Is (Ask first) old waited new waiting left → AsksUpTo may Is known known start start old waited new waiting first left
-    first_left new waiting None some t = cc
-    first_left new waiting (Some left) some (refuses, e, same, waits) = (refuses, inl (cc, same, waits, refl, refl))
+    pub first_left : (new : Output) (left : Option Question) → is_some left ≡ true → TakesLine may Is (Ask first) start.output new left → AsksUpTo may Is start (record start { output = new }) first left
+    first_left new None some t = cc
+    first_left new (Some left) some (refuses, e, same) = (refuses, inl (cc, ap (λ (o : Output). record start { output = o }) same))
 
     -- it wasn't answered
-    pub first_fails : (remaining : Option (List ℕ)) (number : ℕ) (new : Option (List ℕ)) (waiting : List ℕ) (fault : RunFault) → AsksLine may Is (Ask first) number old waited new waiting (Err fault) → Asks may Is known known remaining start start old waited new waiting first (Err fault)
-    first_fails remaining number new waiting (BadLine told) a = absurd (cc a.0)
-    first_fails remaining number new waiting OutputFailed (may_be, text, is, grows, none) =
-        ([], text, have_first first text may_be is, ReadsFront-now known known [] start.at_end (Reads-none known start.at_end), grows, none)
-    first_fails remaining number new waiting OutOfMemory (question, is, same, waits) = inr (same, waits, refl)
-    first_fails remaining number new waiting InputFailed a = absurd a
-    first_fails remaining number new waiting (Refused fault) a = absurd a
-    first_fails remaining number new waiting (BodyRefused fault) a = absurd a
+    pub first_fails : (number : ℕ) (new : Output) (fault : RunFault) → AsksLine may Is (Ask first) number start.output new (Err fault) → Asks may Is start (record start { output = new }) first (Err fault)
+    first_fails number new (BadLine told) a = absurd (cc a.0)
+    first_fails number new OutputFailed (may_be, text, is, written) =
+        ([], text, have_first first text may_be is, ReadsFront-now (unread start) (unread start) [] start.lines.at_end (Reads-none (unread start) start.lines.at_end), written)
+    first_fails number new OutOfMemory (question, is, same) = inr (ap (λ (o : Output). record start { output = o }) same)
+    first_fails number new InputFailed a = absurd a
+    first_fails number new (Refused fault) a = absurd a
+    first_fails number new (BodyRefused fault) a = absurd a
 
     -- so far the lines were answered
-    module _ (before : Option (List ℕ)) (was : List ℕ) (mid_known : Option (List ℕ)) (ls : LineState) (texts : List (List ℕ)) (so_far : Answered may Is (asked first texts) old waited before was) (read : Reads known texts mid_known ls.at_end) (count : ls.count ≡ start.count + length texts) (stays : start.at_end ≡ true → ls.at_end ≡ true) where
+    module _ (p : Place) (all : SoFar may Is first start p) (stays : start.lines.at_end ≡ true → p.lines.at_end ≡ true) where
+      abbrev texts : List (List ℕ)
+      texts = all.0
+
+      abbrev so_far : Answered may Is (asked first texts) start.output p.output
+      so_far = all.1
+
+      read : Reads (unread start) texts (unread p) p.lines.at_end
+      read = all.2
+
+      count : p.lines.count ≡ start.lines.count + length texts
+      count = all.3
+
       -- some of what waited was written before a read
-      answered_kept : (new : Option (List ℕ)) (waiting : List ℕ) → IsWrittenUpTo before new was waiting → Answered may Is (asked first texts) old waited new waiting
-      answered_kept new waiting w = (so_far.0, so_far.1, kept old before new (waited ++ so_far.0) was waiting so_far.2 w)
-
-      -- no line is left
-      pub none_left : (new : Option (List ℕ)) (waiting : List ℕ) → IsWrittenUpTo before new was waiting → Answered may Is (asked first texts) old waited new waiting
-      none_left new waiting w = answered_kept new waiting w
-
-      unmet_before : ls.at_end ≡ false → start.at_end ≡ false
-      unmet_before unmet = unmet_then start.at_end ls.at_end stays unmet
+      pub answered_kept : (q : Place) → IsWrittenUpTo p.output.contents q.output.contents p.output.waiting q.output.waiting → Answered may Is (asked first texts) start.output q.output
+      answered_kept q w = (so_far.0, so_far.1, kept start.output p.output q.output so_far.0 so_far.2 w)
 
       -- no line could be had
-      pub fails_to_read : (rest remaining new : Option (List ℕ)) (waiting : List ℕ) (ls' : LineState) (fault : LineFault) → ls'.count ≡ ls.count + 0 → NextTakes mid_known rest remaining ls ls' (Err fault) → NextWrites before new was waiting (Err fault) → Asks may Is known rest remaining start ls' old waited new waiting first (Err (fault_of_line fault))
-      fails_to_read rest remaining new waiting ls' line.OutOfMemory counted takes writes =
-          inl (texts, answered_kept new waiting (was, rw (writes.1) (sym (append-nil was)), writes.0), behind_none (λ text. asks (line_of text) ≡ true) start.count known texts ls'.line ls'.count takes.1 (ReadsFront-now known mid_known texts ls.at_end read) (omega (arith, count, counted)))
-      fails_to_read rest remaining new waiting ls' line.InputFailed counted takes writes =
-          (texts, answered_kept new waiting (was, rw (writes.1) (sym (append-nil was)), writes.0), unmet_before takes.1, ReadsUntilFailure-now known mid_known remaining texts ls'.pending ls.at_end read takes.1 takes.0)
-      fails_to_read rest remaining new waiting ls' line.OutputFailed counted takes writes =
-          (texts, so_far.0, so_far.1, ReadsFront-now known mid_known texts ls.at_end read, (rw append-nil at (GrowsByFront-then old before new (waited ++ so_far.0) [] was so_far.2 (rw (← append-nil was) at writes.0))), writes.1)
+      pub fails_to_read : (q : Place) (fault : LineFault) → TakesNext p q (Err fault) → Asks may Is start q first (Err (fault_of_line fault))
+      fails_to_read q line.OutOfMemory t =
+          let counted : q.lines.count ≡ p.lines.count + 0 = t.count in
+          inl (texts, answered_kept q (all_written p.output q.output t.writes.0 t.writes.1), behind_none (λ text. asks (line_of text) ≡ true) start.lines.count (unread start) texts q.lines.line q.lines.count t.takes.1 (ReadsFront-now (unread start) (unread p) texts p.lines.at_end read) (omega (arith, count, counted)))
+      fails_to_read q line.InputFailed t =
+          (texts, answered_kept q (all_written p.output q.output t.writes.0 t.writes.1), unmet_then start.lines.at_end p.lines.at_end stays t.takes.1, ReadsUntilFailure-now (unread start) (unread p) q.remaining texts q.lines.pending p.lines.at_end read t.takes.1 t.takes.0)
+      fails_to_read q line.OutputFailed t =
+          (texts, so_far.0, so_far.1, ReadsFront-now (unread start) (unread p) texts p.lines.at_end read, cut start.output p.output q.output so_far.0 so_far.2 t.writes.0 t.writes.1)
 
       -- a line was taken
-      module _ (mid new rest : Option (List ℕ)) (waits waiting : List ℕ) (ls' : LineState) (w : IsWrittenUpTo before mid was waits) (read' : Reads known (texts ++ ls'.line ∷ []) rest ls'.at_end) (count' : ls'.count ≡ start.count + length texts + 1) where
-        so_far_then : (answer : List ℕ) → IsWrittenUpTo mid new (waits ++ answer) waiting → IsWrittenUpTo old new (waited ++ (so_far.0 ++ answer)) waiting
-        so_far_then answer v =
-            rw append_assoc at (IsWrittenUpTo-then old mid new (waited ++ so_far.0) answer waits waiting (kept old before mid (waited ++ so_far.0) was waits so_far.2 w) v)
+      module _ (q : Place) (t : TakesNext p q (Ok true)) where
+        pub read_on : Reads (unread start) (texts ++ q.lines.line ∷ []) (unread q) q.lines.at_end
+        read_on = Reads-more (unread start) (unread p) (unread q) texts q.lines.line p.lines.at_end q.lines.at_end read t.takes t.stays_ended
+
+        pub counted_on : q.lines.count ≡ start.lines.count + length texts + 1
+        counted_on =
+            let counted : q.lines.count ≡ p.lines.count + 1 = t.count in
+            omega (arith, count, counted)
+
+        front_on : ReadsFront (unread start) (texts ++ q.lines.line ∷ [])
+        front_on = ReadsFront-now (unread start) (unread q) (texts ++ q.lines.line ∷ []) q.lines.at_end read_on
+
+        before : Wrote start.output q.output so_far.0
+        before = kept start.output p.output q.output so_far.0 so_far.2 t.writes
+
+        untouched : (new : Output) → new ≡ q.output → Answered may Is (asked first texts) start.output new
+        untouched new same = subst (λ (o : Output). Answered may Is (asked first texts) start.output o) (sym same) (answered_kept q t.writes)
 
         -- and answered
-        pub line_answered : (left : Option Question) → is_some left ≡ false → TakesLine may Is (line_of ls'.line) mid waits new waiting left → Answered may Is (asked first (texts ++ ls'.line ∷ [])) old waited new waiting
-        line_answered (Some left) none t = cc
-        line_answered None none (may_be, answer, is, written) =
-            (so_far.0 ++ answer, have_more first texts ls'.line so_far.0 answer so_far.1 may_be is, so_far_then answer written)
+        pub line_answered : (new : Output) (left : Option Question) → is_some left ≡ false → TakesLine may Is (line_of q.lines.line) q.output new left → Answered may Is (asked first (texts ++ q.lines.line ∷ [])) start.output new
+        line_answered new (Some left) none a = cc
+        line_answered new None none (may_be, answer, is, written) =
+            (so_far.0 ++ answer, have_more first texts q.lines.line so_far.0 answer so_far.1 may_be is, Wrote-then start.output q.output new so_far.0 answer before written)
 
         -- its question may not be asked
-        pub line_left : (left : Option Question) → is_some left ≡ true → TakesLine may Is (line_of ls'.line) mid waits new waiting left → (start.at_end ≡ true → ls'.at_end ≡ true) → AsksUpTo may Is known rest start ls' old waited new waiting first left
-        line_left None some t stays' = cc
-        line_left (Some left) some (refuses, is, same, waits_on) stays' =
-            (refuses, inr (texts, ls'.line, answered_kept new waiting (rw (same, waits_on) w), refl, is, read', stays', count'))
+        pub line_left : (new : Output) (left : Option Question) → is_some left ≡ true → TakesLine may Is (line_of q.lines.line) q.output new left → AsksUpTo may Is start (record q { output = new }) first left
+        line_left new None some a = cc
+        line_left new (Some left) some (refuses, is, same) =
+            (refuses, inr (texts, q.lines.line, untouched new same, refl, is, read_on, λ ended. t.stays_ended (stays ended), counted_on))
 
         -- it wasn't answered
-        pub line_fails : (remaining : Option (List ℕ)) (fault : RunFault) → AsksLine may Is (line_of ls'.line) ls'.count mid waits new waiting (Err fault) → Asks may Is known rest remaining start ls' old waited new waiting first (Err fault)
-        line_fails remaining (BadLine told) (bad, is, same, waits_on) =
-            (texts, ls'.line, answered_kept new waiting (rw (same, waits_on) w), bad, ReadsFront-now known rest (texts ++ ls'.line ∷ []) ls'.at_end read', is ∙ count')
-        line_fails remaining OutputFailed (may_be, answer, is, grows, none) = (
-          texts ++ ls'.line ∷ [],
+        pub line_fails : (new : Output) (fault : RunFault) → AsksLine may Is (line_of q.lines.line) q.lines.count q.output new (Err fault) → Asks may Is start (record q { output = new }) first (Err fault)
+        line_fails new (BadLine told) (bad, is, same) = (texts, q.lines.line, untouched new same, bad, front_on, is ∙ counted_on)
+        line_fails new OutputFailed (may_be, answer, is, written) = (
+          texts ++ q.lines.line ∷ [],
           so_far.0 ++ answer,
-          have_more first texts ls'.line so_far.0 answer so_far.1 may_be is,
-          ReadsFront-now known rest (texts ++ ls'.line ∷ []) ls'.at_end read',
-          rw append_assoc at (GrowsByFront-then old mid new (waited ++ so_far.0) answer waits (kept old before mid (waited ++ so_far.0) was waits so_far.2 w) grows),
-          none,
+          have_more first texts q.lines.line so_far.0 answer so_far.1 may_be is,
+          front_on,
+          WroteFront-then start.output q.output new so_far.0 answer before written,
         )
-        line_fails remaining OutOfMemory (question, says, same, waits_on) =
-            inl (
-              texts,
-              answered_kept new waiting (rw (same, waits_on) w),
-              behind_line (λ text. asks (line_of text) ≡ true) start.count known texts ls'.line ls'.count (some_text ls'.line (Ask question) says (λ e. cc))
-                  (ReadsFront-now known rest (texts ++ ls'.line ∷ []) ls'.at_end read') count' (ap asks says),
-            )
-        line_fails remaining InputFailed a = absurd a
-        line_fails remaining (Refused fault) a = absurd a
-        line_fails remaining (BodyRefused fault) a = absurd a
+        line_fails new OutOfMemory (question, says, same) =
+            inl (texts, untouched new same, behind_line (λ text. asks (line_of text) ≡ true) start.lines.count (unread start) texts q.lines.line q.lines.count (some_text q.lines.line (Ask question) says (λ e. cc)) front_on counted_on (ap asks says))
+        line_fails new InputFailed a = absurd a
+        line_fails new (Refused fault) a = absurd a
+        line_fails new (BodyRefused fault) a = absurd a

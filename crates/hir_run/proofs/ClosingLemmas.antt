@@ -1,78 +1,82 @@
 -- What a run comes to once what waits was written, or its write failed; and which end has failed.
-use Rattle.std.proofs.Common.{◌≡◌, ℕ, Bool, true, false, List, [], ◌++◌, Option, None, Some, Ok, Err, inl, inr, refl, sym, ap, ◌∙◌, append_assoc, append-nil}
+use Rattle.std.proofs.Common.{◌≡◌, ℕ, Bool, true, false, List, [], ◌++◌, Option, None, Some, Ok, Err, inl, inr, refl, sym, ap, ◌∙◌, subst, append_assoc}
 use Rattle.std.specs.Prelude.{◌||◌}
 use Rattle.std.specs.Io.KnownBytes.{Appends}
 use Rattle.std.proofs.Math.Bool.{or-false}
-use Rattle.hir_io.specs.Ends.{GrowsByFront, IsWrittenUpTo}
-use Rattle.hir_io.specs.LineState.{LineState}
+use Rattle.hir_io.specs.Ends.{GrowsByFront}
 use Rattle.hir_io.specs.declared.next.LineFault.{LineFault}
 use Rattle.hir_io.specs.declared.next.LineFault.TheVariants as line
 use Rattle.hir_io.specs.NextLine.{NextWrites}
 use Rattle.hir_lines.specs.Line.{Line}
-use Rattle.hir_run.specs.Faults.{fault_of_line}
 use Rattle.hir_io.specs.Text.{lines, IsCutShort}
-use Rattle.hir_io.proofs.EndLemmas.{Appends-twice}
+use Rattle.hir_io.proofs.EndLemmas.{Appends-twice, GrowsByFront-after}
 use Rattle.hir_io.proofs.TextLemmas.{lines-ended}
 use Rattle.hir_lines.specs.declared.question.Question.{Question}
 use Rattle.hir_items.specs.Bodies.{BodyContents}
 use Rattle.hir_run.specs.declared.fault.RunFault.{RunFault}
 use Rattle.hir_run.specs.declared.fault.RunFault.TheVariants.{BadLine, Refused, BodyRefused, InputFailed, OutputFailed, OutOfMemory}
-use Rattle.hir_run.specs.Made.{Made}
+use Rattle.hir_run.specs.Faults.{fault_of_line}
 use Rattle.hir_run.specs.Outcomes.{is_input_failed, is_output_failed}
+use Rattle.hir_run.specs.Output.{Output, Wrote, WroteFront}
+use Rattle.hir_run.specs.Parts.{Parts}
+use Rattle.hir_run.specs.Places.{Place}
 use Rattle.hir_run.specs.Program.{Outcome}
 use Rattle.hir_run.specs.Run.{EndsWith, RunsTo}
-use Rattle.hir_run.specs.Stages.{Builds, IsMadeBody, Accepts, AsksLine, RunsUpTo, Closes}
-use Rattle.hir_run.proofs.WritingLemmas.{GrowsByFront-then}
+use Rattle.hir_run.specs.Stages.{Builds, IsBodyOf, Accepts, AsksLine, RunsUpTo, Closes}
 
--- what waited was written too
-closed : (old mid new : Option (List ℕ)) (text waiting : List ℕ) → IsWrittenUpTo old mid text waiting → Appends mid new waiting → Appends old new text
-closed old mid new text waiting w a = rw (← w.1) at (Appends-twice old mid new w.0 waiting w.2 a)
+-- what waited was written too, of a run that began where nothing waited
+closed : (start p : Output) (new : Option (List ℕ)) (text : List ℕ) → start.waiting ≡ [] → Wrote start p text → Appends p.contents new p.waiting → Appends start.contents new text
+closed start p new text none w a =
+    subst (λ (x : List ℕ). Appends start.contents new (x ++ text)) none (subst (λ (x : List ℕ). Appends start.contents new x) (sym w.1) (Appends-twice start.contents p.contents new w.0 p.waiting w.2 a))
 
 -- a write of what waited failed
-cut : (old mid new : Option (List ℕ)) (text waiting : List ℕ) → IsWrittenUpTo old mid text waiting → GrowsByFront mid new waiting → GrowsByFront old new text
-cut old mid new text waiting w g = rw append-nil at (GrowsByFront-then old mid new text [] waiting w (rw (← append-nil waiting) at g))
+cut : (start p : Output) (new : Option (List ℕ)) (text : List ℕ) → start.waiting ≡ [] → Wrote start p text → GrowsByFront p.contents new p.waiting → GrowsByFront start.contents new text
+cut start p new text none w g =
+    subst (λ (x : List ℕ). GrowsByFront start.contents new (x ++ text)) none (subst (λ (x : List ℕ). GrowsByFront start.contents new x) (sym w.1) (GrowsByFront-after start.contents p.contents new w.0 p.waiting w.2 g))
+
+-- a front of the text, where nothing waited
+front : (start p : Output) (text : List ℕ) → start.waiting ≡ [] → WroteFront start p text → GrowsByFront start.contents p.contents text
+front start p text none g = subst (λ (x : List ℕ). GrowsByFront start.contents p.contents (x ++ text)) none g.0
 
 -- all lines of an input that was cut short
 first_lines : (input : List ℕ) (texts : List (List ℕ)) (begun unread : List ℕ) → IsCutShort input texts begun unread → lines input ≡ texts ++ lines (begun ++ unread)
 first_lines input texts begun unread short =
     ap lines (short.whole ∙ append_assoc _ begun unread) ∙ lines-ended texts (begun ++ unread) short.each
 
-module _ (input : List ℕ) (remaining old mid new : Option (List ℕ)) (waiting : List ℕ) (ls : LineState) where
+module _ (input : List ℕ) (start : Output) (p : Place) (new : Option (List ℕ)) (fresh : start.waiting ≡ []) where
   abbrev Before : Outcome → Type 0
-  Before outcome = EndsWith input (λ text. IsWrittenUpTo old mid text waiting) (λ text. GrowsByFront old mid text × (waiting ≡ [])) remaining ls outcome
+  Before outcome = EndsWith input (Wrote start p.output) (WroteFront start p.output) p.remaining p.lines outcome
 
   abbrev After : Outcome → Type 0
-  After outcome = EndsWith input (Appends old new) (GrowsByFront old new) remaining ls outcome
+  After outcome = EndsWith input (Appends start.contents new) (GrowsByFront start.contents new) p.remaining p.lines outcome
 
-  closes_well : (outcome : Outcome) → Before outcome → Appends mid new waiting → (waiting ≡ [] → new ≡ mid) → After outcome
-  closes_well (Ok done) (text, means, w) a idle = (text, means, closed old mid new text waiting w a)
-  closes_well (Err (BadLine n)) (text, means, w) a idle = (text, means, closed old mid new text waiting w a)
-  closes_well (Err (Refused fault)) (text, means, w) a idle = (text, means, closed old mid new text waiting w a)
-  closes_well (Err (BodyRefused fault)) (text, means, w) a idle = (text, means, closed old mid new text waiting w a)
+  closes_well : (outcome : Outcome) → Before outcome → Appends p.output.contents new p.output.waiting → (p.output.waiting ≡ [] → new ≡ p.output.contents) → After outcome
+  closes_well (Ok done) (text, means, w) a idle = (text, means, closed start p.output new text fresh w a)
+  closes_well (Err (BadLine n)) (text, means, w) a idle = (text, means, closed start p.output new text fresh w a)
+  closes_well (Err (Refused fault)) (text, means, w) a idle = (text, means, closed start p.output new text fresh w a)
+  closes_well (Err (BodyRefused fault)) (text, means, w) a idle = (text, means, closed start p.output new text fresh w a)
   closes_well (Err InputFailed) (texts, begun, unread, short, left, text, has, w) a idle =
-      (texts, begun, unread, short, left, text, has, closed old mid new text waiting w a)
-  closes_well (Err OutputFailed) (text, of, (grows, none)) a idle = (text, of, rw (idle none) grows)
+      (texts, begun, unread, short, left, text, has, closed start p.output new text fresh w a)
+  closes_well (Err OutputFailed) (text, of, (grows, none)) a idle =
+      (text, of, subst (λ (v : Option (List ℕ)). GrowsByFront start.contents v text) (sym (idle none)) (front start p.output text fresh (grows, none)))
   closes_well (Err OutOfMemory) (texts, more, every, at, text, has, w) a idle =
-      (texts, more, every, at, text, has, closed old mid new text waiting w a)
+      (texts, more, every, at, text, has, closed start p.output new text fresh w a)
 
-  closes_ill : (outcome : Outcome) → Before outcome → GrowsByFront mid new waiting → (waiting ≡ [] → ⊥) → After (Err OutputFailed)
-  closes_ill (Ok done) (text, means, w) g some = (text, inr (Ok done, means), cut old mid new text waiting w g)
-  closes_ill (Err (BadLine n)) (text, means, w) g some = (text, inr (_, means), cut old mid new text waiting w g)
-  closes_ill (Err (Refused fault)) (text, means, w) g some = (text, inr (_, means), cut old mid new text waiting w g)
-  closes_ill (Err (BodyRefused fault)) (text, means, w) g some = (text, inr (_, means), cut old mid new text waiting w g)
+  closes_ill : (outcome : Outcome) → Before outcome → GrowsByFront p.output.contents new p.output.waiting → (p.output.waiting ≡ [] → ⊥) → After (Err OutputFailed)
+  closes_ill (Ok done) (text, means, w) g some = (text, inr (Ok done, means), cut start p.output new text fresh w g)
+  closes_ill (Err (BadLine n)) (text, means, w) g some = (text, inr (_, means), cut start p.output new text fresh w g)
+  closes_ill (Err (Refused fault)) (text, means, w) g some = (text, inr (_, means), cut start p.output new text fresh w g)
+  closes_ill (Err (BodyRefused fault)) (text, means, w) g some = (text, inr (_, means), cut start p.output new text fresh w g)
   closes_ill (Err InputFailed) (texts, begun, unread, short, left, text, has, w) g some =
-      (text, inl (texts, lines (begun ++ unread), first_lines input texts begun unread short, has), cut old mid new text waiting w g)
+      (text, inl (texts, lines (begun ++ unread), first_lines input texts begun unread short, has), cut start p.output new text fresh w g)
   closes_ill (Err OutputFailed) (text, of, (grows, none)) g some = absurd (some none)
   closes_ill (Err OutOfMemory) (texts, more, every, at, text, has, w) g some =
-      (text, inl (texts, more, every, has), cut old mid new text waiting w g)
+      (text, inl (texts, more, every, has), cut start p.output new text fresh w g)
 
-  closes_told : (outcome result : Outcome) → Before outcome → Closes mid new waiting outcome result → After result
-  closes_told outcome result b (inl (same, a, idle)) = rw same (closes_well outcome b a idle)
-  closes_told outcome result b (inr (same, g, some)) = rw same (closes_ill outcome b g some)
-
-pub closes : (known remaining old mid new : Option (List ℕ)) (waiting : List ℕ) (ls : LineState) (outcome result : Outcome) → RunsUpTo known old remaining mid waiting ls outcome → Closes mid new waiting outcome result → RunsTo known old remaining new ls result
-closes None remaining old mid new waiting ls outcome result r c = tt
-closes (Some input) remaining old mid new waiting ls outcome result r c = closes_told input remaining old mid new waiting ls outcome result r c
+pub closes : (known : Option (List ℕ)) (start : Output) (p : Place) (new : Output) (outcome result : Outcome) → start.waiting ≡ [] → RunsUpTo known start p outcome → Closes p.output new outcome result → RunsTo known start.contents p.remaining new.contents p.lines result
+closes None start p new outcome result fresh r c = tt
+closes (Some input) start p new outcome result fresh r (inl (same, a, idle)) = rw same (closes_well input start p new.contents fresh outcome r a idle)
+closes (Some input) start p new outcome result fresh r (inr (same, g, some)) = rw same (closes_ill input start p new.contents fresh outcome r g some)
 
 -- a fault is told of a run as it is of a part
 pub reads_as : (X Y : Type 0) (e : RunFault) → is_input_failed {X = X} (Err e) ≡ is_input_failed {X = Y} (Err e)
@@ -84,16 +88,16 @@ reads_as X Y OutputFailed = refl
 reads_as X Y OutOfMemory = refl
 
 -- the lines that make are read, and nothing is written
-pub build_writes_none : (X : Type 0) (known rest remaining : Option (List ℕ)) (ls : LineState) (built : Made) (e : RunFault) → Builds known rest remaining ls built (Err e) → is_output_failed {X = X} (Err e) ≡ false
-build_writes_none X known rest remaining ls built (BadLine n) b = refl
-build_writes_none X known rest remaining ls built InputFailed b = refl
-build_writes_none X known rest remaining ls built OutOfMemory b = refl
-build_writes_none X known rest remaining ls built OutputFailed b = absurd b
-build_writes_none X known rest remaining ls built (Refused fault) b = absurd b
-build_writes_none X known rest remaining ls built (BodyRefused fault) b = absurd b
+pub build_writes_none : (X : Type 0) (known : Option (List ℕ)) (now : Place) (parts : Parts) (e : RunFault) → Builds known now parts (Err e) → is_output_failed {X = X} (Err e) ≡ false
+build_writes_none X known now parts (BadLine n) b = refl
+build_writes_none X known now parts InputFailed b = refl
+build_writes_none X known now parts OutOfMemory b = refl
+build_writes_none X known now parts OutputFailed b = absurd b
+build_writes_none X known now parts (Refused fault) b = absurd b
+build_writes_none X known now parts (BodyRefused fault) b = absurd b
 
 -- what was made is tested, and nothing is read or written
-pub body_reads_none : (X : Type 0) (parts : BodyContents) (e : RunFault) → IsMadeBody parts (Err e) → (is_input_failed {X = X} (Err e) ≡ false) × (is_output_failed {X = X} (Err e) ≡ false)
+pub body_reads_none : (X : Type 0) (parts : BodyContents) (e : RunFault) → IsBodyOf parts (Err e) → (is_input_failed {X = X} (Err e) ≡ false) × (is_output_failed {X = X} (Err e) ≡ false)
 body_reads_none X parts (Refused fault) m = (refl, refl)
 body_reads_none X parts (BodyRefused fault) m = (refl, refl)
 body_reads_none X parts OutOfMemory m = (refl, refl)
@@ -101,23 +105,23 @@ body_reads_none X parts (BadLine n) m = absurd m
 body_reads_none X parts InputFailed m = absurd m
 body_reads_none X parts OutputFailed m = absurd m
 
-pub accept_reads_none : (old new : Option (List ℕ)) (waiting waiting' : List ℕ) (outcome : Outcome) → Accepts old waiting new waiting' outcome → is_input_failed outcome ≡ false
-accept_reads_none old new waiting waiting' (Ok done) a = refl
-accept_reads_none old new waiting waiting' (Err OutputFailed) a = refl
-accept_reads_none old new waiting waiting' (Err OutOfMemory) a = absurd a
-accept_reads_none old new waiting waiting' (Err InputFailed) a = absurd a
-accept_reads_none old new waiting waiting' (Err (BadLine n)) a = absurd a
-accept_reads_none old new waiting waiting' (Err (Refused fault)) a = absurd a
-accept_reads_none old new waiting waiting' (Err (BodyRefused fault)) a = absurd a
+pub accept_reads_none : (old new : Output) (outcome : Outcome) → Accepts old new outcome → is_input_failed outcome ≡ false
+accept_reads_none old new (Ok done) a = refl
+accept_reads_none old new (Err OutputFailed) a = refl
+accept_reads_none old new (Err OutOfMemory) a = absurd a
+accept_reads_none old new (Err InputFailed) a = absurd a
+accept_reads_none old new (Err (BadLine n)) a = absurd a
+accept_reads_none old new (Err (Refused fault)) a = absurd a
+accept_reads_none old new (Err (BodyRefused fault)) a = absurd a
 
 -- the end of one part, where the part before it had no failure
 pub none_before : (now old : Bool) (failed : Bool) → now ≡ (failed || old) → old ≡ false → now ≡ failed
 none_before now old failed is none = is ∙ ap (λ b. failed || b) none ∙ or-false failed
 
 -- what waits can't be lost behind a failed read
-pub closes_reads : (old new : Option (List ℕ)) (waiting : List ℕ) (outcome result : Outcome) → Closes old new waiting outcome result → (is_input_failed outcome ≡ true → waiting ≡ []) → is_input_failed outcome ≡ is_input_failed result
-closes_reads old new waiting outcome result (inl c) quiet = ap (λ (r : Outcome). is_input_failed r) (sym c.0)
-closes_reads old new waiting outcome result (inr c) quiet =
+pub closes_reads : (old new : Output) (outcome result : Outcome) → Closes old new outcome result → (is_input_failed outcome ≡ true → old.waiting ≡ []) → is_input_failed outcome ≡ is_input_failed result
+closes_reads old new outcome result (inl c) quiet = ap (λ (r : Outcome). is_input_failed r) (sym c.0)
+closes_reads old new outcome result (inr c) quiet =
     by_mark (is_input_failed outcome) (λ e. c.2 (quiet e)) ∙ ap (λ (r : Outcome). is_input_failed r) (sym c.0)
   where
     by_mark : (b : Bool) → (b ≡ true → ⊥) → b ≡ false
@@ -125,24 +129,16 @@ closes_reads old new waiting outcome result (inr c) quiet =
     by_mark false h = refl
 
 -- no line of a section fails to be read
-pub line_reads_none : (X : Type 0) (may : Question → Bool) (Is : Question → List ℕ → Type 0) (line : Line) (number : ℕ) (old new : Option (List ℕ)) (waiting waiting' : List ℕ) (e : RunFault) → AsksLine may Is line number old waiting new waiting' (Err e) → is_input_failed {X = Option Question} (Err e) ≡ true → X
-line_reads_none X may Is line number old new waiting waiting' InputFailed a h = absurd a
-line_reads_none X may Is line number old new waiting waiting' (BadLine n) a h = cc
-line_reads_none X may Is line number old new waiting waiting' (Refused fault) a h = cc
-line_reads_none X may Is line number old new waiting waiting' (BodyRefused fault) a h = cc
-line_reads_none X may Is line number old new waiting waiting' OutputFailed a h = cc
-line_reads_none X may Is line number old new waiting waiting' OutOfMemory a h = cc
+pub line_reads_none : (X : Type 0) (may : Question → Bool) (Is : Question → List ℕ → Type 0) (line : Line) (number : ℕ) (old new : Output) (e : RunFault) → AsksLine may Is line number old new (Err e) → is_input_failed {X = X} (Err e) ≡ false
+line_reads_none X may Is line number old new InputFailed a = absurd a
+line_reads_none X may Is line number old new (BadLine n) a = refl
+line_reads_none X may Is line number old new (Refused fault) a = refl
+line_reads_none X may Is line number old new (BodyRefused fault) a = refl
+line_reads_none X may Is line number old new OutputFailed a = refl
+line_reads_none X may Is line number old new OutOfMemory a = refl
 
--- so no read has failed that hadn't failed before
-pub line_reads : (failed : Bool) (may : Question → Bool) (Is : Question → List ℕ → Type 0) (line : Line) (number : ℕ) (old new : Option (List ℕ)) (waiting waiting' : List ℕ) (e : RunFault) → AsksLine may Is line number old waiting new waiting' (Err e) → failed ≡ (is_input_failed {X = Option Question} (Err e) || failed)
-line_reads failed may Is line number old new waiting waiting' InputFailed a = absurd a
-line_reads failed may Is line number old new waiting waiting' (BadLine n) a = refl
-line_reads failed may Is line number old new waiting waiting' (Refused fault) a = refl
-line_reads failed may Is line number old new waiting waiting' (BodyRefused fault) a = refl
-line_reads failed may Is line number old new waiting waiting' OutputFailed a = refl
-line_reads failed may Is line number old new waiting waiting' OutOfMemory a = refl
-
-pub next_reads : (old new : Option (List ℕ)) (waiting waiting' : List ℕ) (fault : LineFault) → NextWrites old new waiting waiting' (Err fault) → is_input_failed {X = Option Question} (Err (fault_of_line fault)) ≡ true → waiting' ≡ []
-next_reads old new waiting waiting' line.OutOfMemory w h = cc
-next_reads old new waiting waiting' line.InputFailed w h = w.1
-next_reads old new waiting waiting' line.OutputFailed w h = cc
+-- where a read fails, nothing waits
+pub next_reads : (old new : Output) (fault : LineFault) → NextWrites old.contents new.contents old.waiting new.waiting (Err fault) → is_input_failed {X = Option Question} (Err (fault_of_line fault)) ≡ true → new.waiting ≡ []
+next_reads old new line.OutOfMemory w h = cc
+next_reads old new line.InputFailed w h = w.1
+next_reads old new line.OutputFailed w h = cc

@@ -2,25 +2,26 @@
 use Rattle.std.proofs.Common.{◌≡◌, ◌+◌, ℕ, true, false, List, [], ◌∷◌, ◌++◌, Option, None, Some, Result, Ok, Err, length, inr, refl, sym, ap, ◌∙◌, append_assoc, append-nil, arith, subst}
 use Rattle.std.specs.Prelude.{codes}
 use Rattle.std.specs.List.{list_all}
-use Rattle.hir_io.specs.Ends.{GrowsByFront, IsWrittenUpTo}
-use Rattle.hir_io.specs.LineState.{LineState}
 use Rattle.hir_io.specs.NextLine.{untaken}
-use Rattle.hir_io.proofs.EndLemmas.{IsWrittenUpTo-start}
+use Rattle.hir_io.specs.LineState.{LineState}
 use Rattle.hir_lines.specs.Line.{Line, Ask, Bad, makes, asks, any_question}
 use Rattle.hir_lines.specs.declared.question.Question.{Question}
 use Rattle.hir_store.specs.Building.{contents_of, finish_fault}
 use Rattle.hir_items.specs.Bodies.{body_fault}
 use Rattle.hir_run.specs.declared.fault.RunFault.{RunFault}
 use Rattle.hir_run.specs.declared.fault.RunFault.TheVariants.{BadLine, Refused, BodyRefused, InputFailed, OutputFailed, OutOfMemory}
-use Rattle.hir_run.specs.Made.{Made, body_parts}
+use Rattle.hir_run.specs.Parts.{Parts, body_parts}
 use Rattle.hir_run.specs.Answer.{IsStoreAnswer, IsAnswer}
+use Rattle.hir_run.specs.Output.{Output, Wrote, WroteFront}
+use Rattle.hir_run.specs.Places.{Place, unread}
 use Rattle.hir_run.specs.Program.{is_of_store, Outcome, writes, section, stops, behind_store, on_body, on_store, accepts, built_by, IsMeaning, HasAnswers, script, script_of}
-use Rattle.hir_run.specs.Run.{EndsWith, IsRefusedBehind}
-use Rattle.hir_run.specs.Stages.{Builds, Finishes, IsMadeBody, Accepts}
+use Rattle.hir_run.specs.Run.{EndsWith, IsRefusedBehind, no_lines}
+use Rattle.hir_run.specs.Stages.{Builds, Finishes, IsBodyOf, Accepts}
 use Rattle.hir_run.proofs.Scripts.{script-append, script-length, behind_texts, behind-cons}
 use Rattle.hir_run.proofs.CourseLemmas.{no_line, outside, runs_behind, means_behind}
 use Rattle.hir_run.proofs.QuestionLemmas.{StandsAt, stands_on, ends_there, refused_there}
 use Rattle.hir_run.proofs.Refusals.{refused_making}
+use Rattle.hir_run.proofs.WritingLemmas.{Wrote-then, WroteFront-then}
 
 -- nothing is asked, and the lines make something
 pub answers-alone : (ls : List Line) → list_all makes ls ≡ true → HasAnswers ls []
@@ -43,46 +44,40 @@ untaken_all None = refl
 untaken_all (Some rest) = refl
 
 -- a new reader of lines has taken nothing
-pub from_the_start : (start : LineState) (known rest remaining : Option (List ℕ)) (ls : LineState) (built : Made) (r : Result (Option Question) RunFault) → start ≡ record { line = []; pending = []; at_end = false; count = 0 } → Builds (untaken start.pending start.at_end known) rest remaining ls built r → Builds known rest remaining ls built r
-from_the_start start known rest remaining ls built r e b =
-    subst (λ (v : Option (List ℕ)). Builds v rest remaining ls built r) (ap (λ (l : LineState). untaken l.pending l.at_end known) e ∙ untaken_all known) b
+pub from_the_start : (start now : Place) (parts : Parts) (r : Result (Option Question) RunFault) → start.lines ≡ no_lines → Builds (unread start) now parts r → Builds start.remaining now parts r
+from_the_start start now parts r e b =
+    subst (λ (v : Option (List ℕ)). Builds v now parts r) (ap (λ (l : LineState). untaken l.pending l.at_end start.remaining) e ∙ untaken_all start.remaining) b
 
--- nothing was written, and nothing waits
-module _ (input : List ℕ) (rest : Option (List ℕ)) (old : Option (List ℕ)) (ls : LineState) (built : Made) where
-  abbrev Wrote : List ℕ → Type 0
-  Wrote text = IsWrittenUpTo old old text []
-
-  abbrev WroteFront : List ℕ → Type 0
-  WroteFront text = GrowsByFront old old text × (◌≡◌ {A = List ℕ} [] [])
-
-  nothing : Wrote []
-  nothing = IsWrittenUpTo-start old []
+-- nothing was written so far
+module _ (input : List ℕ) (start : Output) (p : Place) (built : Parts) (nothing : Wrote start p.output []) where
+  abbrev Ending : Outcome → Type 0
+  Ending outcome = EndsWith input (Wrote start p.output) (WroteFront start p.output) p.remaining p.lines outcome
 
   -- the lines that make end early
-  pub build_ends : (remaining : Option (List ℕ)) (fault : RunFault) → Builds (Some input) rest remaining ls built (Err fault) → EndsWith input Wrote WroteFront remaining ls (Err fault)
-  build_ends remaining (BadLine n) (texts, text, all, bad, front, number) =
+  pub build_ends : (fault : RunFault) → Builds (Some input) p built (Err fault) → Ending (Err fault)
+  build_ends (BadLine n) (texts, text, all, bad, front, number) =
       let is : script_of input ≡ script texts ++ Bad ∷ behind_texts (texts ++ text ∷ []) front.0 =
       ap script (front.1 ∙ append_assoc texts (text ∷ []) front.0) ∙ script-append texts (text ∷ front.0)
       ∙ ap (λ v. script texts ++ v) (behind-cons texts front.0 text) ∙ ap (λ l. script texts ++ l ∷ behind_texts (texts ++ text ∷ []) front.0) bad in
       let count : n ≡ length (script texts) + 1 = omega (arith, number, script-length texts) in
       ([], rw (is, count) (meaning-bad (script texts) _ all), nothing)
-  build_ends remaining InputFailed (texts, all, (unread, short, left)) =
-      (texts, ls.pending, unread, short, left, [], answers-alone (script texts) all, nothing)
-  build_ends remaining OutOfMemory (texts, all, refuses) =
-      let refused = refused_making input texts ls.line ls.count all refuses in
+  build_ends InputFailed (texts, all, (rest, short, left)) =
+      (texts, p.lines.pending, rest, short, left, [], answers-alone (script texts) all, nothing)
+  build_ends OutOfMemory (texts, all, refuses) =
+      let refused = refused_making input texts p.lines.line p.lines.count all refuses in
       (texts, refused.0, refused.1, refused.2, [], answers-alone (script texts) all, nothing)
-  build_ends remaining OutputFailed b = absurd b
-  build_ends remaining (Refused fault) b = absurd b
-  build_ends remaining (BodyRefused fault) b = absurd b
+  build_ends OutputFailed b = absurd b
+  build_ends (Refused fault) b = absurd b
+  build_ends (BodyRefused fault) b = absurd b
 
   -- a question was met
-  pub built_at : (remaining : Option (List ℕ)) (question : Question) → Builds (Some input) rest remaining ls built (Ok (Some question)) → StandsAt input rest ls question (on_store built) []
-  built_at remaining question (texts, makes_all, is, read, count) =
+  pub built_at : (question : Question) → Builds (Some input) p built (Ok (Some question)) → StandsAt input p question (on_store built) []
+  built_at question (texts, makes_all, is, read, count) =
       let all = makes_all.0 in
       let counted : length (script texts) ≡ length texts = script-length texts in
       record {
         texts = texts;
-        last = ls.line;
+        last = p.lines.line;
         here = refl;
         read = read;
         count = count;
@@ -93,69 +88,68 @@ module _ (input : List ℕ) (rest : Option (List ℕ)) (old : Option (List ℕ))
       }
 
   -- what was made is no store
-  pub finish_ends : (remaining : Option (List ℕ)) (first : Option Question) (fault : RunFault) → Builds (Some input) rest remaining ls built (Ok first) → Finishes built.built (Err fault) → EndsWith input Wrote WroteFront remaining ls (Err fault)
-  finish_ends remaining None (Refused fault) (texts, makes_all, every, none, count) (first, same, verdict) =
+  pub finish_ends : (first : Option Question) (fault : RunFault) → Builds (Some input) p built (Ok first) → Finishes built.built (Err fault) → Ending (Err fault)
+  finish_ends None (Refused fault) (texts, makes_all, every, none, count) (first, same, verdict) =
       let is : script_of input ≡ script texts = ap script every in
       ([], rw (is, same) (meaning-alone (script texts) [] _ makes_all.0 (rw (← makes_all.1) (Some first, verdict, (refl, refl)))), nothing)
-  finish_ends remaining None (BodyRefused fault) b (first, same, verdict) = cc
-  finish_ends remaining None OutOfMemory (texts, makes_all, every, none, count) f =
-      (texts, [], every ∙ sym (append-nil texts), subst (λ (l : List ℕ). IsRefusedBehind texts [] l ls.count) (sym none) count, [], answers-alone (script texts) makes_all.0, nothing)
-  finish_ends remaining (Some question) (Refused fault) b (first, same, verdict) =
-      rw same (ends_there input rest ls question (on_store built) [] (built_at remaining question b) Wrote _ nothing (λ good more. (Some first, verdict, (refl, refl))))
-  finish_ends remaining (Some question) (BodyRefused fault) b (first, same, verdict) = cc
-  finish_ends remaining (Some question) OutOfMemory b f =
-      refused_there input rest ls question (on_store built) [] (built_at remaining question b) Wrote WroteFront remaining nothing
-  finish_ends remaining first (BadLine n) b f = absurd f
-  finish_ends remaining first InputFailed b f = absurd f
-  finish_ends remaining first OutputFailed b f = absurd f
+  finish_ends None (BodyRefused fault) b (first, same, verdict) = cc
+  finish_ends None OutOfMemory (texts, makes_all, every, none, count) f =
+      (texts, [], every ∙ sym (append-nil texts), subst (λ (l : List ℕ). IsRefusedBehind texts [] l p.lines.count) (sym none) count, [], answers-alone (script texts) makes_all.0, nothing)
+  finish_ends (Some question) (Refused fault) b (first, same, verdict) =
+      rw same (ends_there input p question (on_store built) [] (built_at question b) (Wrote start p.output) _ nothing (λ good more. (Some first, verdict, (refl, refl))))
+  finish_ends (Some question) (BodyRefused fault) b (first, same, verdict) = cc
+  finish_ends (Some question) OutOfMemory b f =
+      refused_there input p question (on_store built) [] (built_at question b) (Wrote start p.output) (WroteFront start p.output) p.remaining nothing
+  finish_ends first (BadLine n) b f = absurd f
+  finish_ends first InputFailed b f = absurd f
+  finish_ends first OutputFailed b f = absurd f
 
--- there is no question
-pub accept_ends : (input : List ℕ) (rest remaining old new : Option (List ℕ)) (waiting : List ℕ) (ls : LineState) (built : Made) (outcome : Outcome) → Builds (Some input) rest remaining ls built (Ok None) → finish_fault built.built None → Accepts old [] new waiting outcome
-    → EndsWith input (λ text. IsWrittenUpTo old new text waiting) (λ text. GrowsByFront old new text × (waiting ≡ [])) remaining ls outcome
-accept_ends input rest remaining old new waiting ls built outcome (texts, makes_all, every, none, count) verdict a = by outcome a
-  where
-    means : IsMeaning (script_of input) (codes "accepted\n") (Ok tt)
-    means =
-        let is : script_of input ≡ script texts = ap script every in
-        rw is (meaning-alone (script texts) (codes "accepted\n") (Ok tt) makes_all.0 (rw (← makes_all.1) (None, verdict, (refl, refl))))
+  -- there is no question
+  pub accept_ends : (q : Place) (outcome : Outcome) → Builds (Some input) p built (Ok None) → finish_fault built.built None → Accepts p.output q.output outcome → EndsWith input (Wrote start q.output) (WroteFront start q.output) q.remaining q.lines outcome
+  accept_ends q outcome (texts, makes_all, every, none, count) verdict a = by outcome a
+    where
+      means : IsMeaning (script_of input) (codes "accepted\n") (Ok tt)
+      means =
+          let is : script_of input ≡ script texts = ap script every in
+          rw is (meaning-alone (script texts) (codes "accepted\n") (Ok tt) makes_all.0 (rw (← makes_all.1) (None, verdict, (refl, refl))))
 
-    by : (outcome : Outcome) → Accepts old [] new waiting outcome → EndsWith input (λ text. IsWrittenUpTo old new text waiting) (λ text. GrowsByFront old new text × (waiting ≡ [])) remaining ls outcome
-    by (Ok done) a = (codes "accepted\n", means, a)
-    by (Err OutputFailed) a = (codes "accepted\n", inr (Ok tt, means), a)
-    by (Err (BadLine n)) a = absurd a
-    by (Err (Refused fault)) a = absurd a
-    by (Err (BodyRefused fault)) a = absurd a
-    by (Err InputFailed) a = absurd a
-    by (Err OutOfMemory) a = absurd a
+      by : (outcome : Outcome) → Accepts p.output q.output outcome → EndsWith input (Wrote start q.output) (WroteFront start q.output) q.remaining q.lines outcome
+      by (Ok done) a = (codes "accepted\n", means, Wrote-then start p.output q.output [] (codes "accepted\n") nothing a)
+      by (Err OutputFailed) a = (codes "accepted\n", inr (Ok tt, means), WroteFront-then start p.output q.output [] (codes "accepted\n") nothing a)
+      by (Err (BadLine n)) a = absurd a
+      by (Err (Refused fault)) a = absurd a
+      by (Err (BodyRefused fault)) a = absurd a
+      by (Err InputFailed) a = absurd a
+      by (Err OutOfMemory) a = absurd a
 
 -- the parts of a body have a fault, or memory was refused
-pub body_ends : (input : List ℕ) (rest remaining : Option (List ℕ)) (ls : LineState) (question : Question) (built : Made) (text : List ℕ) (Wrote WroteFront : List ℕ → Type 0) (fault : RunFault) → StandsAt input rest ls question (on_body built) text → IsMadeBody (body_parts built) (Err fault) → Wrote text → EndsWith input Wrote WroteFront remaining ls (Err fault)
-body_ends input rest remaining ls question built text Wrote WroteFront (BodyRefused fault) at (first, same, verdict) wrote =
-    rw same (ends_there input rest ls question (on_body built) text at Wrote _ wrote (λ good more. (Some first, verdict, (refl, refl))))
-body_ends input rest remaining ls question built text Wrote WroteFront (Refused fault) at (first, same, verdict) wrote = cc
-body_ends input rest remaining ls question built text Wrote WroteFront OutOfMemory at m wrote =
-    refused_there input rest ls question (on_body built) text at Wrote WroteFront remaining wrote
-body_ends input rest remaining ls question built text Wrote WroteFront (BadLine n) at m wrote = absurd m
-body_ends input rest remaining ls question built text Wrote WroteFront InputFailed at m wrote = absurd m
-body_ends input rest remaining ls question built text Wrote WroteFront OutputFailed at m wrote = absurd m
+pub body_ends : (input : List ℕ) (start : Output) (p : Place) (question : Question) (built : Parts) (text : List ℕ) (fault : RunFault) → StandsAt input p question (on_body built) text → IsBodyOf (body_parts built) (Err fault) → Wrote start p.output text → EndsWith input (Wrote start p.output) (WroteFront start p.output) p.remaining p.lines (Err fault)
+body_ends input start p question built text (BodyRefused fault) at (first, same, verdict) wrote =
+    rw same (ends_there input p question (on_body built) text at (Wrote start p.output) _ wrote (λ good more. (Some first, verdict, (refl, refl))))
+body_ends input start p question built text (Refused fault) at (first, same, verdict) wrote = cc
+body_ends input start p question built text OutOfMemory at m wrote =
+    refused_there input p question (on_body built) text at (Wrote start p.output) (WroteFront start p.output) p.remaining wrote
+body_ends input start p question built text (BadLine n) at m wrote = absurd m
+body_ends input start p question built text InputFailed at m wrote = absurd m
+body_ends input start p question built text OutputFailed at m wrote = absurd m
 
 -- what comes behind the questions on the store: nothing, or a bad line, ends the run; a question on the body goes on
-pub store_end : (built : Made) (n : ℕ) → behind_store built n [] [] (Ok tt)
+pub store_end : (built : Parts) (n : ℕ) → behind_store built n [] [] (Ok tt)
 store_end built n = (refl, refl)
 
-pub store_bad : (built : Made) (n : ℕ) (bad : Line) (more : List Line) → asks bad ≡ false → behind_store built n (bad ∷ more) [] (Err (BadLine (n + 1)))
+pub store_bad : (built : Parts) (n : ℕ) (bad : Line) (more : List Line) → asks bad ≡ false → behind_store built n (bad ∷ more) [] (Err (BadLine (n + 1)))
 store_bad built n bad more e = rw e (refl, refl)
 
 -- at the first question, of what has no fault
-pub at_store : (input : List ℕ) (rest : Option (List ℕ)) (ls : LineState) (question : Question) (built : Made) → finish_fault built.built None → StandsAt input rest ls question (on_store built) [] → StandsAt input rest ls question (section is_of_store (IsStoreAnswer (contents_of built.built)) (behind_store built)) []
-at_store input rest ls question built verdict at = stands_on (on_store built) _ (λ good more t outcome c. (None, verdict, c)) at
+pub at_store : (input : List ℕ) (p : Place) (question : Question) (built : Parts) → finish_fault built.built None → StandsAt input p question (on_store built) [] → StandsAt input p question (section is_of_store (IsStoreAnswer (contents_of built.built)) (behind_store built)) []
+at_store input p question built verdict at = stands_on (on_store built) _ (λ good more t outcome c. (None, verdict, c)) at
 
 -- at the first question on the body
-pub at_body : (input : List ℕ) (rest : Option (List ℕ)) (ls : LineState) (question : Question) (built : Made) (text : List ℕ) → StandsAt input rest ls question (behind_store built) text → StandsAt input rest ls question (on_body built) text
-at_body input rest ls question built text at = stands_on (behind_store built) _ (λ good more t outcome c. c) at
+pub at_body : (input : List ℕ) (p : Place) (question : Question) (built : Parts) (text : List ℕ) → StandsAt input p question (behind_store built) text → StandsAt input p question (on_body built) text
+at_body input p question built text at = stands_on (behind_store built) _ (λ good more t outcome c. c) at
 
-pub in_body : (input : List ℕ) (rest : Option (List ℕ)) (ls : LineState) (question : Question) (built : Made) (text : List ℕ) → body_fault (body_parts built) None → StandsAt input rest ls question (on_body built) text → StandsAt input rest ls question (section any_question (IsAnswer built.name (body_parts built)) stops) text
-in_body input rest ls question built text verdict at = stands_on (on_body built) _ (λ good more t outcome c. (None, verdict, c)) at
+pub in_body : (input : List ℕ) (p : Place) (question : Question) (built : Parts) (text : List ℕ) → body_fault (body_parts built) None → StandsAt input p question (on_body built) text → StandsAt input p question (section any_question (IsAnswer built.name (body_parts built)) stops) text
+in_body input p question built text verdict at = stands_on (on_body built) _ (λ good more t outcome c. (None, verdict, c)) at
 
 pub stops_end : (n : ℕ) → stops n [] [] (Ok tt)
 stops_end n = (refl, refl)

@@ -2,14 +2,13 @@ pub mod Scripts
 pub mod Making
 mod OfLinesLemmas
 mod OutsideLemmas
-mod PrintedLemmas
-pub mod Failing
+mod PrintingLemmas
+pub mod BuildingLemmas
 pub mod CourseLemmas
 pub mod QuestionLemmas
 pub mod Refusals
 pub mod SectionLemmas
 pub mod AskedLemmas
-pub mod OnBodyLemmas
 pub mod EndingLemmas
 pub mod ClosingLemmas
 pub mod ScriptLemmas
@@ -18,3 +17,4 @@ pub mod WritingLemmas
 pub mod Taken
 pub mod Texts
 pub mod Children
+pub mod BodyLemmas

@@ -16,9 +16,9 @@ use Rattle.hir_scope.specs.Built.{tops_of_body}
 use Rattle.hir_scope.specs.Chains.{HasChain}
 use Rattle.hir_scope.specs.Frames.{Chain}
 use Rattle.hir_run.specs.declared.fault.RunFault.{RunFault}
-use Rattle.hir_run.specs.Made.{Made, body_parts}
-use Rattle.hir_run.specs.Answer.{IsChainOf, AreCapturesOf, IsBodyAnswer, IsStoreAnswer, IsAnswer, answer_line, asked_text, chain_text, resolve_text, captures_text}
-use Rattle.hir_run.specs.Program.{Outcome, Course, writes, stops, unless_refused, fault_or, if_so, is_of_store, front, behind, IsLineAnswer, AreAnswers, section, on_body, behind_store, on_store, behind_making, accepts, made, making, Runs, IsMeaning}
+use Rattle.hir_run.specs.Parts.{Parts, body_parts}
+use Rattle.hir_run.specs.Answer.{IsChainOf, AreCapturesOf, IsBodyAnswer, IsStoreAnswer, IsAnswer, chain_answer, resolve_answer, captures_answer}
+use Rattle.hir_run.specs.Program.{Outcome, Course, writes, stops, unless_refused, fault_or, if_so, is_of_store, front, behind, IsLineAnswer, AreAnswers, section, on_body, behind_store, on_store, behind_making, accepts, first_parts, making, Runs, IsMeaning}
 
 -- a course writes one text and ends in one way
 abbrev pub One : Course → Type 0
@@ -77,10 +77,10 @@ captures_one b one expr (Some x) None p q = absurd (q p.0)
 captures_one b one expr (Some x) (Some y) p q = ap Some (one expr p.0 x y p.1 q.1)
 
 body_answer_one : (function : Option (List ℕ)) (b : BodyContents) → HasOneChain b → HasOneCapture b → (question : BodyQuestion) (t u : List ℕ) → IsBodyAnswer function b question t → IsBodyAnswer function b question u → t ≡ u
-body_answer_one function b one alone (ask.Chain e) t u (x, is, s) (y, is', r) = s ∙ ap (λ v. answer_line (codes "chain ") e (chain_text v)) (chain_one b one e x y is is') ∙ sym r
-body_answer_one function b one alone (ask.Resolve e name hygiene) t u (x, is, s) (y, is', r) = s ∙ ap (λ v. answer_line (codes "resolve ") e (asked_text name hygiene ++ resolve_text v name hygiene)) (chain_one b one e x y is is') ∙ sym r
+body_answer_one function b one alone (ask.Chain e) t u (x, is, s) (y, is', r) = s ∙ ap (chain_answer e) (chain_one b one e x y is is') ∙ sym r
+body_answer_one function b one alone (ask.Resolve e name hygiene) t u (x, is, s) (y, is', r) = s ∙ ap (resolve_answer e name hygiene) (chain_one b one e x y is is') ∙ sym r
 body_answer_one function b one alone ask.Print t u p q = p ∙ sym q
-body_answer_one function b one alone (ask.Captures e) t u (x, is, s) (y, is', r) = s ∙ ap (λ v. answer_line (codes "captures ") e (captures_text v)) (captures_one b alone e x y is is') ∙ sym r
+body_answer_one function b one alone (ask.Captures e) t u (x, is, s) (y, is', r) = s ∙ ap (captures_answer e) (captures_one b alone e x y is is') ∙ sym r
 
 store_answer_one : (c : Contents) (question : Question) (t u : List ℕ) → IsStoreAnswer c question t → IsStoreAnswer c question u → t ≡ u
 store_answer_one c (OfStore question) t u p q = p ∙ sym q
@@ -95,33 +95,33 @@ unfolding finish_fault
 sound_contents b v = v.1
 
 module _ (finish_one : (b : Building) (f g : Option FinishFault) → finish_fault b f → finish_fault b g → f ≡ g) (body_one : (b : BodyContents) (f g : Option BodyFault) → body_fault b f → body_fault b g → f ≡ g) (one_chain : (b : BodyContents) → contents_fault b.store None → body_fault b None → HasOneChain b) (one_capture : (b : BodyContents) → contents_fault b.store None → body_fault b None → HasOneCapture b) where
-  on_body_one : (made : Made) → finish_fault made.built None → (good : ℕ) (script : List Line) → One (on_body made good script)
-  on_body_one made sound good script =
-      unless_one (body_fault (body_parts made)) _ _ (body_one (body_parts made))
-      (λ v. section_one any_question (IsAnswer made.name (body_parts made)) stops (answer_one made.name (body_parts made) (one_chain (body_parts made) (sound_contents made.built sound) v) (one_capture (body_parts made) (sound_contents made.built sound) v)) stops_one good script)
+  on_body_one : (parts : Parts) → finish_fault parts.built None → (good : ℕ) (script : List Line) → One (on_body parts good script)
+  on_body_one parts sound good script =
+      unless_one (body_fault (body_parts parts)) _ _ (body_one (body_parts parts))
+      (λ v. section_one any_question (IsAnswer parts.name (body_parts parts)) stops (answer_one parts.name (body_parts parts) (one_chain (body_parts parts) (sound_contents parts.built sound) v) (one_capture (body_parts parts) (sound_contents parts.built sound) v)) stops_one good script)
 
-  behind_store_one : (made : Made) → finish_fault made.built None → (good : ℕ) (script : List Line) → One (behind_store made good script)
-  behind_store_one made sound good [] = stops_one good []
-  behind_store_one made sound good (line ∷ rest) = by (asks line)
+  behind_store_one : (parts : Parts) → finish_fault parts.built None → (good : ℕ) (script : List Line) → One (behind_store parts good script)
+  behind_store_one parts sound good [] = stops_one good []
+  behind_store_one parts sound good (line ∷ rest) = by (asks line)
     where
-      by : (b : Bool) → One (if_so b (on_body made good (line ∷ rest)) (stops good (line ∷ rest)))
-      by true = on_body_one made sound good (line ∷ rest)
+      by : (b : Bool) → One (if_so b (on_body parts good (line ∷ rest)) (stops good (line ∷ rest)))
+      by true = on_body_one parts sound good (line ∷ rest)
       by false = stops_one good (line ∷ rest)
 
-  on_store_one : (made : Made) (good : ℕ) (script : List Line) → One (on_store made good script)
-  on_store_one made good script =
-      unless_one (finish_fault made.built) _ _ (finish_one made.built)
-      (λ v. section_one is_of_store (IsStoreAnswer (contents_of made.built)) (behind_store made) (store_answer_one (contents_of made.built)) (behind_store_one made v) good script)
+  on_store_one : (parts : Parts) (good : ℕ) (script : List Line) → One (on_store parts good script)
+  on_store_one parts good script =
+      unless_one (finish_fault parts.built) _ _ (finish_one parts.built)
+      (λ v. section_one is_of_store (IsStoreAnswer (contents_of parts.built)) (behind_store parts) (store_answer_one (contents_of parts.built)) (behind_store_one parts v) good script)
 
-  behind_making_one : (idle : Course) → One idle → (made : Made) (good : ℕ) (script : List Line) → One (behind_making idle made good script)
-  behind_making_one idle one made good [] = one
-  behind_making_one idle one made good (line ∷ rest) = by (asks line)
+  behind_making_one : (idle : Course) → One idle → (parts : Parts) (good : ℕ) (script : List Line) → One (behind_making idle parts good script)
+  behind_making_one idle one parts good [] = one
+  behind_making_one idle one parts good (line ∷ rest) = by (asks line)
     where
-      by : (b : Bool) → One (if_so b (on_store made good (line ∷ rest)) (stops good (line ∷ rest)))
-      by true = on_store_one made good (line ∷ rest)
+      by : (b : Bool) → One (if_so b (on_store parts good (line ∷ rest)) (stops good (line ∷ rest)))
+      by true = on_store_one parts good (line ∷ rest)
       by false = stops_one good (line ∷ rest)
 
   pub IsMeaning-one : (script : List Line) → One (IsMeaning script)
   unfolding Runs
   IsMeaning-one script =
-      behind_making_one (accepts (made script)) (unless_one (finish_fault (made script).built) _ _ (finish_one (made script).built) (λ v. writes_one _ _)) (made script) (length (making script)) (behind _ script)
+      behind_making_one (accepts (first_parts script)) (unless_one (finish_fault (first_parts script).built) _ _ (finish_one (first_parts script).built) (λ v. writes_one _ _)) (first_parts script) (length (making script)) (behind _ script)

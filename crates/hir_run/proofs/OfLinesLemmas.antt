@@ -2,15 +2,16 @@
 use Rattle.std.proofs.Common.{◌≡◌, ℕ, zero, suc, Bool, true, false, ◌⊎◌, inl, inr, List, [], ◌∷◌, ◌++◌, if◌then◌else◌, ◌||◌, Option, Some, None, Ok, refl, sym, subst, fold}
 use Rattle.std.specs.Prelude.{slice_get, filter_map}
 use Rattle.std.specs.List.{cons_option}
-use Rattle.hir_io.specs.LineState.{LineState}
 use Rattle.hir_lines.specs.Line.{Line, Blank, Make, Ask, Bad, line_of}
 use Rattle.hir_lines.specs.Makers.{Maker}
+use Rattle.hir_lines.specs.Taking.{is_second as is_second_of}
 use Rattle.hir_lines.specs.declared.question.Question.{Question}
 use Rattle.hir_lines.specs.Grammar.{IsLine, IsMaker}
 use Rattle.hir_lines.specs.Grammar as line
 use Rattle.hir_lines.specs.Tokens.{Token}
-use Rattle.hir_run.specs.Made.{Made, nothing_made, with_line}
+use Rattle.hir_run.specs.Parts.{Parts, no_parts, with_line}
 use Rattle.hir_run.specs.OfLines.{IsExprOfLine, IsPatOfLine, IsTypeOfLine, AreOfLines}
+use Rattle.hir_run.specs.Places.{Place}
 use Rattle.hir_run.specs.Program.{maker_of, built_by, gives_self, gives_name, unless_second, once_each, says, script}
 use Rattle.hir_expr_store.specs.Contents.{Contents}
 use Rattle.hir_store.specs.Building.{Building}
@@ -29,7 +30,7 @@ more P xs x all here i y e = by (pushed xs x i y e) where
   by (inl there) = all i y there
   by (inr same) = subst P same here
 
-with_more : (m : Made) {maker : Maker} {tokens : List Token} → AreOfLines m.built.nodes → IsMaker maker tokens → AreOfLines (with_line m maker).built.nodes
+with_more : (m : Parts) {maker : Maker} {tokens : List Token} → AreOfLines m.built.nodes → IsMaker maker tokens → AreOfLines (with_line m maker).built.nodes
 with_more m h line.bind = record { exprs = h.exprs; pats = h.pats; types = h.types }
 with_more m h line.bind_expanded = record { exprs = h.exprs; pats = h.pats; types = h.types }
 with_more m h (line.pat {p = x} {tokens = tokens} is) = record { exprs = h.exprs; pats = more IsPatOfLine m.built.nodes.pats x h.pats (tokens, is); types = h.types }
@@ -47,24 +48,30 @@ with_more m h line.root = h
 written : ((text : List ℕ) → IsLine (line_of text) text) → (text : List ℕ) (maker : Maker) → line_of text ≡ Make maker → (tokens : List Token) × IsMaker maker tokens
 written said text maker e = let is = subst (λ (l : Line). IsLine l text) e (said text) in (is.0, is.1)
 
-unless_make : (b : Bool) (line : Line) (maker : Maker) → (if b then Bad else line) ≡ Make maker → line ≡ Make maker
-unless_make true line maker e = cc
-unless_make false line maker e = e
+unless_make : (has_self has_name : Bool) (line : Line) (maker : Maker) → unless_second has_self has_name line ≡ Make maker → line ≡ Make maker
+unless_make has_self has_name Blank maker e = cc
+unless_make has_self has_name (Make other) maker e = by (is_second_of has_self has_name other) e
+  where
+    by : (second : Bool) → (if second then Bad else Make other) ≡ Make maker → Make other ≡ Make maker
+    by true e = cc
+    by false e = e
+unless_make has_self has_name (Ask question) maker e = cc
+unless_make has_self has_name Bad maker e = cc
 
 module _ (said : (text : List ℕ) → IsLine (line_of text) text) where
-  one_made : (text : List ℕ) (has_self has_name : Bool) (m : Made) → AreOfLines m.built.nodes → (makers : List Maker)
-      → ((n : Made) → AreOfLines n.built.nodes → AreOfLines (fold with_line n makers).built.nodes)
+  one_made : (text : List ℕ) (has_self has_name : Bool) (m : Parts) → AreOfLines m.built.nodes → (makers : List Maker)
+      → ((n : Parts) → AreOfLines n.built.nodes → AreOfLines (fold with_line n makers).built.nodes)
       → AreOfLines (fold with_line m (cons_option (maker_of (unless_second has_self has_name (line_of text))) makers)).built.nodes
   one_made text has_self has_name m h makers rest = by (unless_second has_self has_name (line_of text)) refl where
     by : (line : Line) → unless_second has_self has_name (line_of text) ≡ line → AreOfLines (fold with_line m (cons_option (maker_of line) makers)).built.nodes
     by Blank e = rest m h
     by (Make maker) e =
-        let is = written said text maker (unless_make _ (line_of text) maker e) in
+        let is = written said text maker (unless_make has_self has_name (line_of text) maker e) in
         rest (with_line m maker) (with_more m h is.1)
     by (Ask question) e = rest m h
     by Bad e = rest m h
 
-  each_made : (texts : List (List ℕ)) (has_self has_name : Bool) (m : Made) → AreOfLines m.built.nodes → AreOfLines (fold with_line m (filter_map maker_of (once_each has_self has_name (says texts)))).built.nodes
+  each_made : (texts : List (List ℕ)) (has_self has_name : Bool) (m : Parts) → AreOfLines m.built.nodes → AreOfLines (fold with_line m (filter_map maker_of (once_each has_self has_name (says texts)))).built.nodes
   each_made [] has_self has_name m h = h
   each_made (text ∷ texts) has_self has_name m h =
       let self_too = has_self || gives_self (line_of text) in
@@ -73,12 +80,12 @@ module _ (said : (text : List ℕ) → IsLine (line_of text) text) where
 
   pub made_of_lines : (texts : List (List ℕ)) → AreOfLines (built_by (script texts)).built.nodes
   unfolding built_by
-  made_of_lines texts = each_made texts false false nothing_made (record { exprs = λ id x e. cc; pats = λ id x e. cc; types = λ id x e. cc })
+  made_of_lines texts = each_made texts false false no_parts (record { exprs = λ id x e. cc; pats = λ id x e. cc; types = λ id x e. cc })
 
-  pub built_of_lines : (known rest remaining : Option (List ℕ)) (ls : LineState) (built : Made) (first : Option Question) → Builds known rest remaining ls built (Ok first) → AreOfLines built.built.nodes
-  built_of_lines known rest remaining ls built None b = rw b.1.1 (made_of_lines b.0)
-  built_of_lines known rest remaining ls built (Some question) b = rw b.1.1 (made_of_lines b.0)
+  pub built_of_lines : (known : Option (List ℕ)) (now : Place) (parts : Parts) (first : Option Question) → Builds known now parts (Ok first) → AreOfLines parts.built.nodes
+  built_of_lines known now parts None b = rw b.1.1 (made_of_lines b.0)
+  built_of_lines known now parts (Some question) b = rw b.1.1 (made_of_lines b.0)
 
 -- so are those of the store that is made of it
-pub of_built : (given built : Building) (store : Contents) → given ≡ built → Finishes given (Ok store) → AreOfLines built.nodes → AreOfLines store.nodes
-of_built given built store e f h = subst (λ (c : Contents). AreOfLines c.nodes) (sym f.0) (subst (λ (b : Building). AreOfLines b.nodes) (sym e) h)
+pub of_built : (built : Building) (store : Contents) → Finishes built (Ok store) → AreOfLines built.nodes → AreOfLines store.nodes
+of_built built store f h = subst (λ (c : Contents). AreOfLines c.nodes) (sym f.0) h

@@ -45,7 +45,7 @@ use Rattle.hir_pretty.specs.Paths.{found_name}
 use Rattle.hir_print_defs.specs.Bodies.{body_items, formal_params, formal_self}
 use Rattle.hir_print_defs.specs.Found.{parents}
 use Rattle.hir_run.specs.OfLines.{IsExprOfLine, IsPatOfLine, IsTypeOfLine, AreOfLines}
-use Rattle.hir_run.specs.Printed.{tables_of, printed_from, body_pieces}
+use Rattle.hir_run.specs.Printing.{tables_of, printed_from, body_pieces}
 
 -- 1. Items of which none is a missing definition
 

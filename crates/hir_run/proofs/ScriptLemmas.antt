@@ -1,124 +1,104 @@
 -- What a run over its lines comes to, by the part that ends it.
-use Rattle.std.proofs.Common.{◌≡◌, ℕ, List, [], Option, None, Some, Result, Ok, Err, false, refl, sym, subst, append-nil}
+use Rattle.std.proofs.Common.{◌≡◌, ℕ, List, [], Option, None, Some, Ok, Err, refl, sym, subst, append-nil}
 use Rattle.std.specs.Io.KnownBytes.{Appends}
 use Rattle.hir_io.specs.Text.{lines}
-use Rattle.hir_io.specs.Ends.{IsWrittenUpTo}
 use Rattle.hir_io.specs.LineState.{LineState}
-use Rattle.hir_io.proofs.EndLemmas.{IsWrittenUpTo-start}
+use Rattle.hir_lines.specs.Line.{any_question}
 use Rattle.hir_lines.specs.declared.question.Question.{Question}
 use Rattle.hir_expr_store.specs.Contents.{Contents}
-use Rattle.hir_store.specs.Building.{Building, contents_of}
-use Rattle.hir_items.specs.declared.formals.Param.{Param}
 use Rattle.hir_items.specs.Bodies.{BodyContents, body_of}
-use Rattle.hir_lines.specs.Line.{any_question}
 use Rattle.hir_run.specs.declared.fault.RunFault.{RunFault}
 use Rattle.hir_run.specs.declared.fault.RunFault.TheVariants.{OutOfMemory}
-use Rattle.hir_run.specs.Made.{Made, body_parts}
-use Rattle.hir_run.specs.Answer.{IsStoreAnswer, IsAnswer}
+use Rattle.hir_run.specs.Answer.{NamedBody, IsStoreAnswer, IsAnswerOf}
+use Rattle.hir_run.specs.Output.{Output, Wrote}
+use Rattle.hir_run.specs.Parts.{Parts, body_parts}
+use Rattle.hir_run.specs.Places.{Place}
 use Rattle.hir_run.specs.Program.{Outcome, is_of_store, section, stops, behind_store, on_body}
-use Rattle.hir_run.specs.Run.{RunsTo}
-use Rattle.hir_run.specs.Stages.{Builds, Finishes, IsMadeBody, Accepts, Asks, AsksUpTo, RunsUpTo}
+use Rattle.hir_run.specs.Run.{RunsTo, no_lines}
+use Rattle.hir_run.specs.Stages.{Builds, Finishes, IsBodyOf, Accepts, Asks, AsksUpTo, RunsUpTo}
 use Rattle.hir_run.proofs.QuestionLemmas.{StandsAt}
 use Rattle.hir_run.proofs.SectionLemmas.{section_done, section_ends, section_left}
 use Rattle.hir_run.proofs.EndingLemmas.{answers-alone, build_ends, built_at, finish_ends, accept_ends, body_ends, store_end, store_bad, stops_end, stops_bad, at_store, at_body, in_body}
+use Rattle.hir_run.proofs.WritingLemmas.{Wrote-none}
 
 nothing_appended : (known : Option (List ℕ)) → Appends known known []
 nothing_appended None = tt
 nothing_appended (Some bytes) = sym (append-nil bytes)
 
--- a reader that has taken no line
-abbrev pub nothing_taken : LineState
-nothing_taken = record { line = []; pending = []; at_end = false; count = 0 }
-
 -- memory is refused before any line is read
-pub runs_out_first : (known old remaining : Option (List ℕ)) (ls : LineState) → ls ≡ nothing_taken → RunsTo known old remaining old ls (Err OutOfMemory)
+pub runs_out_first : (known old remaining : Option (List ℕ)) (ls : LineState) → ls ≡ no_lines → RunsTo known old remaining old ls (Err OutOfMemory)
 runs_out_first None old remaining ls fresh = tt
 runs_out_first (Some input) old remaining ls fresh = rw fresh ([], lines input, refl, refl, [], answers-alone [] refl, nothing_appended old)
 
--- what holds where nothing is written and nothing waits, at other names
-moved : (input : List ℕ) (old remaining new : Option (List ℕ)) (waiting : List ℕ) (ls : LineState) (outcome : Outcome) → new ≡ old → waiting ≡ [] → RunsUpTo (Some input) old remaining old [] ls outcome → RunsUpTo (Some input) old remaining new waiting ls outcome
-moved input old remaining new waiting ls outcome same none r =
-    subst (λ (v : Option (List ℕ)). RunsUpTo (Some input) old remaining v waiting ls outcome) (sym same)
-    (subst (λ (w : List ℕ). RunsUpTo (Some input) old remaining old w ls outcome) (sym none) r)
+-- where the lines that make ended, nothing was written
+module _ (start : Output) (p : Place) (parts : Parts) (still : p.output ≡ start) where
+  nothing : Wrote start p.output []
+  nothing = subst (λ (o : Output). Wrote start o []) (sym still) (Wrote-none start)
 
-same_parts : (result : Result BodyContents RunFault) (store contents : Contents) (params more : List (Param ℕ)) (self_param other : Option (Param ℕ)) → store ≡ contents → params ≡ more → self_param ≡ other → IsMadeBody (body_of store params self_param) result → IsMadeBody (body_of contents more other) result
-same_parts result store contents params more self_param other s p q m =
-    subst (λ (v : Option (Param ℕ)). IsMadeBody (body_of contents more v) result) q
-    (subst (λ (v : List (Param ℕ)). IsMadeBody (body_of contents v self_param) result) p
-    (subst (λ (v : Contents). IsMadeBody (body_of v params self_param) result) s m))
+  -- the lines that make end early
+  pub script_build : (known : Option (List ℕ)) (fault : RunFault) → Builds known p parts (Err fault) → RunsUpTo known start p (Err fault)
+  script_build None fault b = tt
+  script_build (Some input) fault b = build_ends input start p parts nothing fault b
 
--- the lines that make end early
-pub script_build : (known rest remaining old new : Option (List ℕ)) (waiting : List ℕ) (ls : LineState) (built : Made) (fault : RunFault) → new ≡ old → waiting ≡ [] → Builds known rest remaining ls built (Err fault) → RunsUpTo known old remaining new waiting ls (Err fault)
-script_build None rest remaining old new waiting ls built fault same none b = tt
-script_build (Some input) rest remaining old new waiting ls built fault same none b = moved input old remaining new waiting ls (Err fault) same none (build_ends input rest old ls built remaining fault b)
+  -- what was made is refused
+  pub script_finish : (known : Option (List ℕ)) (first : Option Question) (fault : RunFault) → Builds known p parts (Ok first) → Finishes parts.built (Err fault) → RunsUpTo known start p (Err fault)
+  script_finish None first fault b f = tt
+  script_finish (Some input) first fault b f = finish_ends input start p parts nothing first fault b f
 
--- what was made is refused
-pub script_finish : (known rest remaining old new : Option (List ℕ)) (waiting : List ℕ) (ls : LineState) (built : Made) (finished : Building) (first : Option Question) (fault : RunFault) → new ≡ old → waiting ≡ [] → finished ≡ built.built → Builds known rest remaining ls built (Ok first) → Finishes finished (Err fault) → RunsUpTo known old remaining new waiting ls (Err fault)
-script_finish None rest remaining old new waiting ls built finished first fault same none is b f = tt
-script_finish (Some input) rest remaining old new waiting ls built finished first fault same none is b f =
-    moved input old remaining new waiting ls (Err fault) same none (finish_ends input rest old ls built remaining first fault b (subst (λ (x : Building). Finishes x (Err fault)) is f))
+  module _ (store : Contents) (f : Finishes parts.built (Ok store)) where
+    -- there is no question
+    pub script_accept : (known : Option (List ℕ)) (q : Place) (outcome : Outcome) → Builds known p parts (Ok None) → Accepts p.output q.output outcome → RunsUpTo known start q outcome
+    script_accept None q outcome b a = tt
+    script_accept (Some input) q outcome b a = accept_ends input start p parts nothing q outcome b f.1 a
 
--- there is no question
-pub script_accept : (known rest remaining old mid new : Option (List ℕ)) (waited waiting : List ℕ) (ls : LineState) (built : Made) (finished : Building) (store : Contents) (outcome : Outcome) → mid ≡ old → waited ≡ [] → finished ≡ built.built → Builds known rest remaining ls built (Ok None) → Finishes finished (Ok store) → Accepts mid waited new waiting outcome → RunsUpTo known old remaining new waiting ls outcome
-script_accept None rest remaining old mid new waited waiting ls built finished store outcome same none is b f a = tt
-script_accept (Some input) rest remaining old mid new waited waiting ls built finished store outcome same none is b f a =
-    accept_ends input rest remaining old new waiting ls built outcome b (rw is at f.1) (rw (same, none) at a)
+    module _ (question : Question) where
+      asked_store : (input : List ℕ) → Builds (Some input) p parts (Ok (Some question)) → StandsAt input p question (section is_of_store (IsStoreAnswer store) (behind_store parts)) []
+      asked_store input b = rw f.0 (at_store input p question parts f.1 (built_at input start p parts nothing question b))
 
-module _ (rest remaining old mid : Option (List ℕ)) (waited : List ℕ) (ls : LineState) (built : Made) (finished : Building) (question : Question) (store : Contents) (same : mid ≡ old) (none : waited ≡ []) (is : finished ≡ built.built) (f : Finishes finished (Ok store)) where
-  finishes : Finishes built.built (Ok store)
-  finishes = rw is at f
+      -- the questions on the store end early
+      pub script_store_ends : (known : Option (List ℕ)) (q : Place) (fault : RunFault) → Builds known p parts (Ok (Some question)) → Asks is_of_store (IsStoreAnswer store) p q question (Err fault) → RunsUpTo known start q (Err fault)
+      script_store_ends None q fault b a = tt
+      script_store_ends (Some input) q fault b a =
+          section_ends input p question is_of_store (IsStoreAnswer store) (behind_store parts) [] (asked_store input b) (store_end parts) (store_bad parts) start q nothing fault a
 
-  nothing_written : IsWrittenUpTo old mid [] waited
-  nothing_written = rw (same, none) (IsWrittenUpTo-start old [])
+      -- no question is on the body
+      pub script_store_done : (known : Option (List ℕ)) (q : Place) → Builds known p parts (Ok (Some question)) → AsksUpTo is_of_store (IsStoreAnswer store) p q question None → RunsUpTo known start q (Ok tt)
+      script_store_done None q b a = tt
+      script_store_done (Some input) q b a =
+          section_done input p question is_of_store (IsStoreAnswer store) (behind_store parts) [] (asked_store input b) (store_end parts) (store_bad parts) start q nothing a
 
-  module _ (input : List ℕ) (b : Builds (Some input) rest remaining ls built (Ok (Some question))) where
-    asked_store : StandsAt input rest ls question (section is_of_store (IsStoreAnswer store) (behind_store built)) []
-    asked_store = rw finishes.0 (at_store input rest ls question built finishes.1 (built_at input rest old ls built remaining question b))
+      module _ (q : Place) (left : Question) (a : AsksUpTo is_of_store (IsStoreAnswer store) p q question (Some left)) where
+        left_store : (input : List ℕ) → Builds (Some input) p parts (Ok (Some question)) → (t : List ℕ) × StandsAt input q left (on_body parts) t × Wrote start q.output t
+        left_store input b =
+            let stands = section_left input p question is_of_store (IsStoreAnswer store) (behind_store parts) [] (asked_store input b) (store_end parts) (store_bad parts) start q nothing left a in
+            (stands.0, at_body input q left parts stands.0 stands.1, stands.2)
 
-    left_store : (rest' new : Option (List ℕ)) (waiting : List ℕ) (ls' : LineState) (left : Question) → AsksUpTo is_of_store (IsStoreAnswer store) rest rest' ls ls' mid waited new waiting question (Some left) → (t : List ℕ) × StandsAt input rest' ls' left (on_body built) t × IsWrittenUpTo old new t waiting
-    left_store rest' new waiting ls' left a =
-        let stands = section_left input rest ls question is_of_store (IsStoreAnswer store) (behind_store built) [] asked_store (store_end built) (store_bad built) old mid new waited waiting nothing_written rest' ls' left a in
-        (stands.0, at_body input rest' ls' left built stands.0 stands.1, stands.2)
+        -- the body is refused
+        pub script_body : (known : Option (List ℕ)) (fault : RunFault) → Builds known p parts (Ok (Some question)) → IsBodyOf (body_of store parts.params parts.self_param) (Err fault) → RunsUpTo known start q (Err fault)
+        script_body None fault b m = tt
+        script_body (Some input) fault b m =
+            let stands = left_store input b in
+            body_ends input start q left parts stands.0 fault stands.1 (rw f.0 at m) stands.2
 
-  -- the questions on the store end early
-  pub script_store_ends : (known rest' remaining' new : Option (List ℕ)) (waiting : List ℕ) (ls' : LineState) (fault : RunFault) → Builds known rest remaining ls built (Ok (Some question)) → Asks is_of_store (IsStoreAnswer store) rest rest' remaining' ls ls' mid waited new waiting question (Err fault) → RunsUpTo known old remaining' new waiting ls' (Err fault)
-  script_store_ends None rest' remaining' new waiting ls' fault b a = tt
-  script_store_ends (Some input) rest' remaining' new waiting ls' fault b a =
-      section_ends input rest ls question is_of_store (IsStoreAnswer store) (behind_store built) [] (asked_store input b) (store_end built) (store_bad built) old mid new waited waiting nothing_written rest' remaining' ls' fault a
+        module _ (named : NamedBody) (body : BodyContents) (m : IsBodyOf (body_of store parts.params parts.self_param) (Ok body)) (is : named ≡ record { body = body; name = parts.name }) where
+          whole : IsBodyOf (body_parts parts) (Ok body)
+          whole = rw f.0 at m
 
-  -- no question is on the body
-  pub script_store_done : (known rest' remaining' new : Option (List ℕ)) (waiting : List ℕ) (ls' : LineState) → Builds known rest remaining ls built (Ok (Some question)) → AsksUpTo is_of_store (IsStoreAnswer store) rest rest' ls ls' mid waited new waiting question None → RunsUpTo known old remaining' new waiting ls' (Ok tt)
-  script_store_done None rest' remaining' new waiting ls' b a = tt
-  script_store_done (Some input) rest' remaining' new waiting ls' b a =
-      section_done input rest ls question is_of_store (IsStoreAnswer store) (behind_store built) [] (asked_store input b) (store_end built) (store_bad built) old mid new waited waiting nothing_written rest' remaining' ls' a
+          asked_body : (input : List ℕ) → Builds (Some input) p parts (Ok (Some question)) → (t : List ℕ) × StandsAt input q left (section any_question (IsAnswerOf named) stops) t × Wrote start q.output t
+          asked_body input b =
+              let stands = left_store input b in
+              rw (is, whole.0) (stands.0, in_body input q left parts stands.0 whole.1 stands.1, stands.2)
 
-  module _ (rest' new : Option (List ℕ)) (waiting : List ℕ) (ls' : LineState) (left : Question) (a : AsksUpTo is_of_store (IsStoreAnswer store) rest rest' ls ls' mid waited new waiting question (Some left)) (params : List (Param ℕ)) (self_param : Option (Param ℕ)) (same_params : params ≡ built.params) (same_self : self_param ≡ built.self_param) where
-    -- the body is refused
-    pub script_body : (known remaining' : Option (List ℕ)) (fault : RunFault) → Builds known rest remaining ls built (Ok (Some question)) → IsMadeBody (body_of store params self_param) (Err fault) → RunsUpTo known old remaining' new waiting ls' (Err fault)
-    script_body None remaining' fault b m = tt
-    script_body (Some input) remaining' fault b m =
-        let stands = left_store input b rest' new waiting ls' left a in
-        body_ends input rest' remaining' ls' left built stands.0 (λ t. IsWrittenUpTo old new t waiting) _ fault stands.1 (same_parts (Err fault) store (contents_of built.built) params built.params self_param built.self_param finishes.0 same_params same_self m) stands.2
+          -- the questions on the body end early
+          pub script_body_ends : (known : Option (List ℕ)) (r : Place) (fault : RunFault) → Builds known p parts (Ok (Some question)) → Asks any_question (IsAnswerOf named) q r left (Err fault) → RunsUpTo known start r (Err fault)
+          script_body_ends None r fault b d = tt
+          script_body_ends (Some input) r fault b d =
+              let stands = asked_body input b in
+              section_ends input q left any_question (IsAnswerOf named) stops stands.0 stands.1 stops_end stops_bad start r stands.2 fault d
 
-    module _ (body : BodyContents) (m : IsMadeBody (body_of store params self_param) (Ok body)) (name : Option (List ℕ)) (same_name : name ≡ built.name) where
-      made_body : IsMadeBody (body_parts built) (Ok body)
-      made_body = rw (finishes.0, same_params, same_self) at m
-
-      asked_body : (input : List ℕ) → Builds (Some input) rest remaining ls built (Ok (Some question)) → (t : List ℕ) × StandsAt input rest' ls' left (section any_question (IsAnswer name body) stops) t × IsWrittenUpTo old new t waiting
-      asked_body input b =
-          let stands = left_store input b rest' new waiting ls' left a in
-          rw (made_body.0, same_name) (stands.0, in_body input rest' ls' left built stands.0 made_body.1 stands.1, stands.2)
-
-      -- the questions on the body end early
-      pub script_body_ends : (known rest'' remaining'' new' : Option (List ℕ)) (waiting' : List ℕ) (ls'' : LineState) (fault : RunFault) → Builds known rest remaining ls built (Ok (Some question)) → Asks any_question (IsAnswer name body) rest' rest'' remaining'' ls' ls'' new waiting new' waiting' left (Err fault) → RunsUpTo known old remaining'' new' waiting' ls'' (Err fault)
-      script_body_ends None rest'' remaining'' new' waiting' ls'' fault b d = tt
-      script_body_ends (Some input) rest'' remaining'' new' waiting' ls'' fault b d =
-          let stands = asked_body input b in
-          section_ends input rest' ls' left any_question (IsAnswer name body) stops stands.0 stands.1 stops_end stops_bad old new new' waiting waiting' stands.2 rest'' remaining'' ls'' fault d
-
-      -- all lines are answered
-      pub script_body_done : (known rest'' remaining'' new' : Option (List ℕ)) (waiting' : List ℕ) (ls'' : LineState) → Builds known rest remaining ls built (Ok (Some question)) → AsksUpTo any_question (IsAnswer name body) rest' rest'' ls' ls'' new waiting new' waiting' left None → RunsUpTo known old remaining'' new' waiting' ls'' (Ok tt)
-      script_body_done None rest'' remaining'' new' waiting' ls'' b d = tt
-      script_body_done (Some input) rest'' remaining'' new' waiting' ls'' b d =
-          let stands = asked_body input b in
-          section_done input rest' ls' left any_question (IsAnswer name body) stops stands.0 stands.1 stops_end stops_bad old new new' waiting waiting' stands.2 rest'' remaining'' ls'' d
+          -- all lines are answered
+          pub script_body_done : (known : Option (List ℕ)) (r : Place) → Builds known p parts (Ok (Some question)) → AsksUpTo any_question (IsAnswerOf named) q r left None → RunsUpTo known start r (Ok tt)
+          script_body_done None r b d = tt
+          script_body_done (Some input) r b d =
+              let stands = asked_body input b in
+              section_done input q left any_question (IsAnswerOf named) stops stands.0 stands.1 stops_end stops_bad start r stands.2 d

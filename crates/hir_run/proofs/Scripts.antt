@@ -9,8 +9,9 @@ use Rattle.std.proofs.lemmas.List.Folds.{list_any-append}
 use Rattle.hir_lines.specs.Line.{Line, Blank, Make, Ask, Bad, line_of, asks}
 use Rattle.hir_lines.specs.Makers.{Maker}
 use Rattle.hir_lines.specs.Makers as make
-use Rattle.hir_run.specs.Made.{Made, with_line, is_second}
-use Rattle.hir_run.specs.Program.{gives_self, gives_name, maker_gives_self, maker_gives_name, unless_second, once_each, says, script, line_behind}
+use Rattle.hir_lines.specs.Taking.{is_second as is_second_of}
+use Rattle.hir_run.specs.Parts.{Parts, with_line, is_second}
+use Rattle.hir_run.specs.Program.{gives_self, gives_name, unless_second, once_each, says, script, line_behind}
 
 or_assoc : (a b c : Bool) → ((a || b) || c) ≡ (a || (b || c))
 or_assoc true b c = refl
@@ -55,28 +56,22 @@ any-push p texts text =
 pub behind-cons : (texts more : List (List ℕ)) (text : List ℕ) → behind_texts texts (text ∷ more) ≡ line_behind texts text ∷ behind_texts (texts ++ text ∷ []) more
 behind-cons texts more text = rw (any-push gives_self texts text, any-push gives_name texts text) refl
 
--- what makes nothing is no second self parameter and no second name
-unless-neither : (s n : Bool) (line : Line) → gives_self line ≡ false → gives_name line ≡ false → unless_second s n line ≡ line
-unless-neither true true line h k = ap (λ b. if b || gives_name line then Bad else line) h ∙ ap (λ b. if b then Bad else line) k
-unless-neither true false line h k = ap (λ b. if b || false then Bad else line) h
-unless-neither false true line h k = ap (λ b. if b then Bad else line) k
-unless-neither false false line h k = refl
-
+-- what asks is no second self parameter and no second name
 unless-asks : (s n : Bool) (line : Line) → asks line ≡ true → unless_second s n line ≡ line
-unless-asks s n Blank h = unless-neither s n Blank refl refl
+unless-asks s n Blank h = refl
 unless-asks s n (Make maker) h = absurd (false≢true h)
-unless-asks s n (Ask question) h = unless-neither s n (Ask question) refl refl
+unless-asks s n (Ask question) h = refl
 unless-asks s n Bad h = absurd (false≢true h)
 
 pub behind_is : (texts : List (List ℕ)) (text : List ℕ) → asks (line_of text) ≡ true → line_behind texts text ≡ line_of text
-behind_is texts text h = unless-asks _ _ (line_of text) h
+behind_is texts text h = unless-asks (list_any gives_self (says texts)) (list_any gives_name (says texts)) (line_of text) h
 
 pub behind_question : (texts : List (List ℕ)) (text : List ℕ) (question : Question) → line_of text ≡ Ask question → line_behind texts text ≡ Ask question
 behind_question texts text question e = behind_is texts text (ap asks e) ∙ e
 
 -- a bad line stays bad
 pub bad_is : (texts : List (List ℕ)) (text : List ℕ) → line_of text ≡ Bad → line_behind texts text ≡ Bad
-bad_is texts text e = unless-neither _ _ (line_of text) (ap gives_self e) (ap gives_name e) ∙ e
+bad_is texts text e = ap (unless_second (list_any gives_self (says texts)) (list_any gives_name (says texts))) e
 
 -- questions behind others stand as they are
 pub behind-asked : (texts questions more : List (List ℕ)) → list_all asks (says questions) ≡ true → behind_texts texts (questions ++ more) ≡ says questions ++ behind_texts (texts ++ questions) more
@@ -90,81 +85,50 @@ behind-asked texts (text ∷ questions) more h =
 asks-second : (s n : Bool) (line : Line) → asks line ≡ false → asks (unless_second s n line) ≡ false
 asks-second s n Blank h = absurd (false≢true (sym h))
 asks-second s n (Ask question) h = absurd (false≢true (sym h))
-asks-second true true (Make maker) h = either (maker_gives_self maker || maker_gives_name maker) maker
+asks-second s n (Make maker) h = either (is_second_of s n maker)
   where
-    either : (b : Bool) (maker : Maker) → asks (if b then Bad else Make maker) ≡ false
-    either true maker = refl
-    either false maker = refl
-asks-second true false (Make maker) h = either (maker_gives_self maker || false) maker
-  where
-    either : (b : Bool) (maker : Maker) → asks (if b then Bad else Make maker) ≡ false
-    either true maker = refl
-    either false maker = refl
-asks-second false true (Make maker) h = either (maker_gives_name maker) maker
-  where
-    either : (b : Bool) (maker : Maker) → asks (if b then Bad else Make maker) ≡ false
-    either true maker = refl
-    either false maker = refl
-asks-second false false (Make maker) h = refl
-asks-second true true Bad h = refl
-asks-second true false Bad h = refl
-asks-second false true Bad h = refl
-asks-second false false Bad h = refl
+    either : (b : Bool) → asks (if b then Bad else Make maker) ≡ false
+    either true = refl
+    either false = refl
+asks-second s n Bad h = refl
 
 -- what is no question stays none
 pub behind-bad : (texts : List (List ℕ)) (text : List ℕ) → asks (line_of text) ≡ false → asks (line_behind texts text) ≡ false
-behind-bad texts text h = asks-second _ _ (line_of text) h
+behind-bad texts text h = asks-second (list_any gives_self (says texts)) (list_any gives_name (says texts)) (line_of text) h
 
--- whether a self parameter and a name were given is told by what is made
-pub record Tells (made : Made) (texts : List (List ℕ)) : Type 0 where
-  pub self_param : is_some made.self_param ≡ list_any gives_self (says texts)
-  pub name : is_some made.name ≡ list_any gives_name (says texts)
-
-second-is : (made : Made) (s n : Bool) (maker : Maker) → is_some made.self_param ≡ s → is_some made.name ≡ n → unless_second s n (Make maker) ≡ (if is_second made maker then Bad else Make maker)
-second-is made true true (make.SelfParam id) h k = rw h refl
-second-is made true false (make.SelfParam id) h k = rw h refl
-second-is made false true (make.SelfParam id) h k = rw h refl
-second-is made false false (make.SelfParam id) h k = rw h refl
-second-is made true true (make.FnName name) h k = rw k refl
-second-is made true false (make.FnName name) h k = rw k refl
-second-is made false true (make.FnName name) h k = rw k refl
-second-is made false false (make.FnName name) h k = rw k refl
-second-is made s n (make.Binding binding) h k = unless-neither s n (Make (make.Binding binding)) refl refl
-second-is made s n (make.Pat pat) h k = unless-neither s n (Make (make.Pat pat)) refl refl
-second-is made s n (make.TypeRef type_ref) h k = unless-neither s n (Make (make.TypeRef type_ref)) refl refl
-second-is made s n (make.Expr expr) h k = unless-neither s n (Make (make.Expr expr)) refl refl
-second-is made s n (make.Hygiene id hygiene) h k = unless-neither s n (Make (make.Hygiene id hygiene)) refl refl
-second-is made s n (make.Param id) h k = unless-neither s n (Make (make.Param id)) refl refl
-second-is made s n make.Roots h k = unless-neither s n (Make make.Roots) refl refl
-second-is made s n (make.Root id) h k = unless-neither s n (Make (make.Root id)) refl refl
+-- whether a self parameter and a name were given is told by what was made
+pub record Tells (parts : Parts) (texts : List (List ℕ)) : Type 0 where
+  pub self_param : is_some parts.self_param ≡ list_any gives_self (says texts)
+  pub name : is_some parts.name ≡ list_any gives_name (says texts)
 
 -- a line that makes something, behind others
-pub behind_make : (made : Made) (texts : List (List ℕ)) (text : List ℕ) (maker : Maker) → Tells made texts → line_of text ≡ Make maker → line_behind texts text ≡ (if is_second made maker then Bad else Make maker)
-behind_make made texts text maker t e =
+pub behind_make : (parts : Parts) (texts : List (List ℕ)) (text : List ℕ) (maker : Maker) → Tells parts texts → line_of text ≡ Make maker → line_behind texts text ≡ (if is_second parts maker then Bad else Make maker)
+behind_make parts texts text maker t e =
     ap (unless_second (list_any gives_self (says texts)) (list_any gives_name (says texts))) e
-    ∙ second-is made (list_any gives_self (says texts)) (list_any gives_name (says texts)) maker t.self_param t.name
+    ∙ ap (λ b. if is_second_of b (list_any gives_name (says texts)) maker then Bad else Make maker) (sym t.self_param)
+    ∙ ap (λ b. if is_second_of (is_some parts.self_param) b maker then Bad else Make maker) (sym t.name)
 
-pub tells_nothing : (made : Made) → made.self_param ≡ None → made.name ≡ None → Tells made []
-tells_nothing made h k = record { self_param = ap is_some h; name = ap is_some k }
+pub tells_nothing : (parts : Parts) → parts.self_param ≡ None → parts.name ≡ None → Tells parts []
+tells_nothing parts h k = record { self_param = ap is_some h; name = ap is_some k }
 
-tells-by : (made made' : Made) (line : Line) → is_some made'.self_param ≡ (is_some made.self_param || gives_self line) → is_some made'.name ≡ (is_some made.name || gives_name line)
-    → (texts : List (List ℕ)) (text : List ℕ) → line_of text ≡ line → Tells made texts → Tells made' (texts ++ text ∷ [])
-tells-by made made' line h k texts text e t = record {
+tells-by : (parts parts' : Parts) (line : Line) → is_some parts'.self_param ≡ (is_some parts.self_param || gives_self line) → is_some parts'.name ≡ (is_some parts.name || gives_name line)
+    → (texts : List (List ℕ)) (text : List ℕ) → line_of text ≡ line → Tells parts texts → Tells parts' (texts ++ text ∷ [])
+tells-by parts parts' line h k texts text e t = record {
   self_param = h ∙ (rw (t.self_param, ← e) (sym (any-push gives_self texts text)));
   name = k ∙ (rw (t.name, ← e) (sym (any-push gives_name texts text)));
 }
 
-pub tells_blank : (made : Made) (texts : List (List ℕ)) (text : List ℕ) → line_of text ≡ Blank → Tells made texts → Tells made (texts ++ text ∷ [])
-tells_blank made texts text e t = tells-by made made Blank (sym (or_false _)) (sym (or_false _)) texts text e t
+pub tells_blank : (parts : Parts) (texts : List (List ℕ)) (text : List ℕ) → line_of text ≡ Blank → Tells parts texts → Tells parts (texts ++ text ∷ [])
+tells_blank parts texts text e t = tells-by parts parts Blank (sym (or_false _)) (sym (or_false _)) texts text e t
 
 or_true : (a : Bool) → true ≡ (a || true)
 or_true true = refl
 or_true false = refl
 
-pub tells_more : (made : Made) (maker : Maker) (texts : List (List ℕ)) (text : List ℕ) → line_of text ≡ Make maker → Tells made texts → Tells (with_line made maker) (texts ++ text ∷ [])
-tells_more made maker texts text e t = tells-by made (with_line made maker) (Make maker) (self-is maker) (name-is maker) texts text e t
+pub tells_more : (parts : Parts) (maker : Maker) (texts : List (List ℕ)) (text : List ℕ) → line_of text ≡ Make maker → Tells parts texts → Tells (with_line parts maker) (texts ++ text ∷ [])
+tells_more parts maker texts text e t = tells-by parts (with_line parts maker) (Make maker) (self-is maker) (name-is maker) texts text e t
   where
-    self-is : (maker : Maker) → is_some (with_line made maker).self_param ≡ (is_some made.self_param || maker_gives_self maker)
+    self-is : (maker : Maker) → is_some (with_line parts maker).self_param ≡ (is_some parts.self_param || is_second_of true false maker)
     self-is (make.SelfParam id) = or_true _
     self-is (make.FnName name) = sym (or_false _)
     self-is (make.Binding binding) = sym (or_false _)
@@ -176,7 +140,7 @@ tells_more made maker texts text e t = tells-by made (with_line made maker) (Mak
     self-is make.Roots = sym (or_false _)
     self-is (make.Root id) = sym (or_false _)
 
-    name-is : (maker : Maker) → is_some (with_line made maker).name ≡ (is_some made.name || maker_gives_name maker)
+    name-is : (maker : Maker) → is_some (with_line parts maker).name ≡ (is_some parts.name || is_second_of false true maker)
     name-is (make.FnName name) = or_true _
     name-is (make.SelfParam id) = sym (or_false _)
     name-is (make.Binding binding) = sym (or_false _)

@@ -1,62 +1,84 @@
--- Texts that are put piece by piece behind what waits.
-use Rattle.std.proofs.Common.{◌≡◌, [], ◌++◌, List, ℕ, Bool, true, false, Option, refl, sym, ap, ◌∙◌, append_assoc, append-nil}
-use Rattle.hir_io.specs.Ends.{GrowsByFront, IsWrittenUpTo}
-use Rattle.hir_io.proofs.EndLemmas.{Appends-twice, GrowsByFront-after, GrowsByFront-more, IsWrittenUpTo-start}
-use Rattle.std.proofs.Common.{◌+◌, ◌<◌, ◌∷◌, get_or, take, length}
+-- Text that is put piece by piece behind what waits.
+use Rattle.std.proofs.Common.{◌≡◌, ◌+◌, ◌<◌, [], ◌∷◌, ◌++◌, List, ℕ, Bool, true, false, Option, refl, sym, ap, ◌∙◌, subst, append_assoc, append-nil, get_or, take, length}
 use Rattle.std.proofs.lemmas.Grind.{flat_map-append}
 use Rattle.std.proofs.lemmas.List.{take_more}
 use Rattle.std.specs.Fmt.{decimal}
+use Rattle.std.specs.Io.KnownBytes.{Appends}
+use Rattle.std.specs.List.{flat_map}
+use Rattle.hir_io.specs.declared.ends.Sink.{Ghosts}
+use Rattle.hir_io.specs.Ends.{GrowsByFront, IsWrittenUpTo}
+use Rattle.hir_io.proofs.EndLemmas.{Appends-twice, GrowsByFront-after, GrowsByFront-more, IsWrittenUpTo-start}
 use Rattle.hir_scope.specs.declared.scope.ScopeEntry.{ScopeEntry}
 use Rattle.hir_scope.specs.Paths.{frame_at}
 use Rattle.hir_scope.specs.Scopes.{Scope}
 use Rattle.hir_scope.specs.Frames.{Frame}
 use Rattle.hir_scope.specs.Resolution.{entries_of}
-use Rattle.std.specs.List.{flat_map}
 use Rattle.hir_run.specs.Answer.{spaced, entry_text, names_text}
-use Rattle.hir_run.specs.Puts.{Puts}
+use Rattle.hir_run.specs.declared.output.Output as code
+use Rattle.hir_run.specs.Output.{Output, Wrote, WroteFront, PutsBy, PutsText, Puts, output_of}
+
+pub Wrote-none : (a : Output) → Wrote a a []
+Wrote-none a = rw (append-nil a.waiting) (IsWrittenUpTo-start a.contents a.waiting)
 
 -- what was written, and then more
-pub IsWrittenUpTo-then : (old mid new : Option (List ℕ)) (bytes more waiting rest : List ℕ) → IsWrittenUpTo old mid bytes waiting → IsWrittenUpTo mid new (waiting ++ more) rest → IsWrittenUpTo old new (bytes ++ more) rest
-IsWrittenUpTo-then old mid new bytes more waiting rest w v =
-    (w.0 ++ v.0, ap (λ x. x ++ more) w.1 ∙ append_assoc w.0 waiting more ∙ ap (λ x. w.0 ++ x) v.1 ∙ sym (append_assoc w.0 v.0 rest), Appends-twice old mid new w.0 v.0 w.2 v.2)
+pub Wrote-then : (a b c : Output) (text more : List ℕ) → Wrote a b text → Wrote b c more → Wrote a c (text ++ more)
+Wrote-then a b c text more w v =
+    (w.0 ++ v.0, sym (append_assoc a.waiting text more) ∙ ap (λ x. x ++ more) w.1 ∙ append_assoc w.0 b.waiting more ∙ ap (λ x. w.0 ++ x) v.1 ∙ sym (append_assoc w.0 v.0 c.waiting), Appends-twice a.contents b.contents c.contents w.0 v.0 w.2 v.2)
 
-pub GrowsByFront-then : (old mid new : Option (List ℕ)) (bytes more waiting : List ℕ) → IsWrittenUpTo old mid bytes waiting → GrowsByFront mid new (waiting ++ more) → GrowsByFront old new (bytes ++ more)
-GrowsByFront-then old mid new bytes more waiting w g =
-    let regrouped : w.0 ++ (waiting ++ more) ≡ bytes ++ more = sym (append_assoc w.0 waiting more) ∙ ap (λ x. x ++ more) (sym w.1) in
-    rw regrouped at (GrowsByFront-after old mid new w.0 (waiting ++ more) w.2 g)
+pub WroteFront-then : (a b c : Output) (text more : List ℕ) → Wrote a b text → WroteFront b c more → WroteFront a c (text ++ more)
+WroteFront-then a b c text more w g =
+    let regrouped : w.0 ++ (b.waiting ++ more) ≡ a.waiting ++ (text ++ more) = sym (append_assoc w.0 b.waiting more) ∙ ap (λ x. x ++ more) (sym w.1) ∙ append_assoc a.waiting text more in
+    (subst (λ (x : List ℕ). GrowsByFront a.contents c.contents x) regrouped (GrowsByFront-after a.contents b.contents c.contents w.0 (b.waiting ++ more) w.2 g.0), g.1)
+
+WroteFront-more : (a b : Output) (text more : List ℕ) → WroteFront a b text → WroteFront a b (text ++ more)
+WroteFront-more a b text more g =
+    (subst (λ (x : List ℕ). GrowsByFront a.contents b.contents x) (append_assoc a.waiting text more) (GrowsByFront-more a.contents b.contents (a.waiting ++ text) more g.0), g.1)
 
 -- some of what waited was written
-pub kept : (old mid new : Option (List ℕ)) (bytes waiting rest : List ℕ) → IsWrittenUpTo old mid bytes waiting → IsWrittenUpTo mid new waiting rest → IsWrittenUpTo old new bytes rest
-kept old mid new bytes waiting rest w v = rw append-nil at (IsWrittenUpTo-then old mid new bytes [] waiting rest w (rw (← append-nil waiting) at v))
+pub kept : (a b c : Output) (text : List ℕ) → Wrote a b text → IsWrittenUpTo b.contents c.contents b.waiting c.waiting → Wrote a c text
+kept a b c text w v =
+    subst (λ (x : List ℕ). Wrote a c x) (append-nil text)
+    (Wrote-then a b c text [] w (subst (λ (x : List ℕ). IsWrittenUpTo b.contents c.contents x c.waiting) (sym (append-nil b.waiting)) v))
+
+-- all of it was
+pub all_written : (b c : Output) → Appends b.contents c.contents b.waiting → c.waiting ≡ [] → IsWrittenUpTo b.contents c.contents b.waiting c.waiting
+all_written b c a none =
+    (b.waiting, subst (λ (x : List ℕ). b.waiting ≡ b.waiting ++ x) (sym none) (sym (append-nil b.waiting)), a)
+
+-- or a front of it
+pub cut : (a b c : Output) (text : List ℕ) → Wrote a b text → GrowsByFront b.contents c.contents b.waiting → c.waiting ≡ [] → WroteFront a c text
+cut a b c text w g none =
+    subst (λ (x : List ℕ). WroteFront a c x) (append-nil text)
+    (WroteFront-then a b c text [] w (subst (λ (x : List ℕ). GrowsByFront b.contents c.contents x) (sym (append-nil b.waiting)) g, none))
 
 -- two pieces, one behind the other
-pub Puts-then : (old mid new : Option (List ℕ)) (f g h : Bool) (w v u bytes more : List ℕ) → Puts old f w mid g v bytes → Puts mid g v new h u more → Puts old f w new h u (bytes ++ more)
-Puts-then old mid new true true h w v u bytes more p q = (q.0, q.1 ∙ p.1, q.2 ∙ p.2)
-Puts-then old mid new true false h w v u bytes more p q = cc
-Puts-then old mid new false false false w v u bytes more p q =
-    rw append_assoc at (IsWrittenUpTo-then old mid new (w ++ bytes) more v u p q)
-Puts-then old mid new false false true w v u bytes more p q =
-    (rw append_assoc at (GrowsByFront-then old mid new (w ++ bytes) more v p q.0), q.1)
-Puts-then old mid new false true true w v u bytes more p q =
-    (rw (← q.1, append_assoc) at (GrowsByFront-more old mid (w ++ bytes) more p.0), q.2 ∙ p.1)
-Puts-then old mid new false true false w v u bytes more p q = cc
+pub put_then : {W : Type 0} (w : Ghosts W) (old mid new : code.Output W) (text more : List ℕ) → Puts w old mid text → Puts w mid new more → Puts w old new (text ++ more)
+put_then w old mid new text more p q =
+    (q.0 ∙ p.0, by (output_of w old).failed (output_of w mid).failed (output_of w new).failed p.1 q.1)
+  where
+    by : (f g h : Bool) → PutsBy f g (output_of w old) (output_of w mid) text → PutsBy g h (output_of w mid) (output_of w new) more → PutsBy f h (output_of w old) (output_of w new) (text ++ more)
+    by true true h p q = (q.0, q.1 ∙ p.1, q.2 ∙ p.2)
+    by true false h p q = cc
+    by false false false p q = Wrote-then (output_of w old) (output_of w mid) (output_of w new) text more p q
+    by false false true p q = WroteFront-then (output_of w old) (output_of w mid) (output_of w new) text more p q
+    by false true true p q =
+        let grows = WroteFront-more (output_of w old) (output_of w mid) text more p in
+        (subst (λ (v : Option (List ℕ)). GrowsByFront (output_of w old).contents v (old.waiting ++ (text ++ more))) (sym q.1) grows.0, q.2 ∙ grows.1)
+    by false true false p q = cc
 
-pub Puts-none : (old : Option (List ℕ)) (f : Bool) (w : List ℕ) → Puts old f w old f w []
-Puts-none old true w = (refl, refl, refl)
-Puts-none old false w = rw (append-nil w) (IsWrittenUpTo-start old w)
-
--- the same, by the sink
-pub put_then : {W : Type 0} (contents : W → Option (List ℕ)) (failed : W → Bool) (old mid new : W) (w v u bytes more : List ℕ) → Puts (contents old) (failed old) w (contents mid) (failed mid) v bytes → Puts (contents mid) (failed mid) v (contents new) (failed new) u more → Puts (contents old) (failed old) w (contents new) (failed new) u (bytes ++ more)
-put_then contents failed old mid new w v u bytes more p q =
-    Puts-then (contents old) (contents mid) (contents new) (failed old) (failed mid) (failed new) w v u bytes more p q
+pub put_none : {W : Type 0} (w : Ghosts W) (old : code.Output W) → Puts w old old []
+put_none w old = (refl, by (output_of w old).failed)
+  where
+    by : (f : Bool) → PutsBy f f (output_of w old) (output_of w old) []
+    by true = (refl, refl, refl)
+    by false = Wrote-none (output_of w old)
 
 -- one number more
 spaced-more : (numbers : List ℕ) (n : ℕ) → spaced (numbers ++ n ∷ []) ≡ spaced numbers ++ (32 ∷ decimal n)
 spaced-more numbers n = flat_map-append (λ n. 32 ∷ decimal n) numbers (n ∷ []) ∙ ap (λ v. spaced numbers ++ v) (append-nil (32 ∷ decimal n))
 
-pub spaced_then : {W : Type 0} (contents : W → Option (List ℕ)) (failed : W → Bool) (old mid new : W) (w v u numbers : List ℕ) (n : ℕ) → Puts (contents old) (failed old) w (contents mid) (failed mid) v (spaced numbers) → Puts (contents mid) (failed mid) v (contents new) (failed new) u (32 ∷ decimal n) → Puts (contents old) (failed old) w (contents new) (failed new) u (spaced (numbers ++ n ∷ []))
-spaced_then contents failed old mid new w v u numbers n p q =
-    rw (spaced-more numbers n) (put_then contents failed old mid new w v u (spaced numbers) (32 ∷ decimal n) p q)
+pub spaced_then : {W : Type 0} (w : Ghosts W) (old mid new : code.Output W) (numbers : List ℕ) (n : ℕ) → Puts w old mid (spaced numbers) → Puts w mid new (32 ∷ decimal n) → Puts w old new (spaced (numbers ++ n ∷ []))
+spaced_then w old mid new numbers n p q = rw (spaced-more numbers n) (put_then w old mid new (spaced numbers) (32 ∷ decimal n) p q)
 
 -- one number more of a list
 pub numbers_more : (xs : List ℕ) (i x : ℕ) → i < length xs → x ≡ get_or xs i x → spaced (take (i + 1) xs) ≡ spaced (take i xs) ++ (32 ∷ decimal x)

@@ -1,6 +1,8 @@
 -- The answers to questions.
 use Rattle.std.specs.Prelude.{◌≡◌, ℕ, List, [], ◌∷◌, ◌++◌, Option, None, Some, codes, length, nat_lt, if◌then◌else◌, flat_map}
 use Rattle.std.specs.Fmt.{decimal}
+use Rattle.std.specs.FinMap as map
+use Rattle.std.specs.Option.{option_map}
 use Rattle.hir_base.specs.declared.hygiene.SyntaxContext.{SyntaxContext}
 use Rattle.hir_base.specs.declared.hygiene.SyntaxContext.TheVariants.{Root, Expansion}
 use Rattle.hir_node.specs.declared.node_id.NodeId.TheVariants as node
@@ -20,10 +22,11 @@ use Rattle.hir_scope.specs.declared.scope.ScopeEntry.{ScopeEntry}
 use Rattle.hir_scope.specs.Built.{tops_of_body}
 use Rattle.hir_scope.specs.Chains.{HasChain}
 use Rattle.hir_scope.specs.Frames.{Chain}
+use Rattle.hir_scope.specs.Paths as path
 use Rattle.hir_scope.specs.Resolution.{resolve, entries_of}
+use Rattle.hir_scope.specs.Scopes.{Scopes}
 use Rattle.hir_captures.specs.Captures.{AreCaptures, IsReachedClosure}
-use Rattle.hir_run.specs.declared.named_body.NamedBody.{NamedBody}
-use Rattle.hir_run.specs.Printed.{print_text}
+use Rattle.hir_run.specs.Printing.{print_text}
 
 -- an answer: the question's word, the expression, what is known of it, and a line end
 abbrev pub answer_line : List ℕ → ℕ → List ℕ → List ℕ
@@ -56,6 +59,10 @@ abbrev pub IsChainOf : BodyContents → ℕ → Option Chain → Type 0
 IsChainOf b expr None = BodyReaches b (node.Expr expr) → ⊥
 IsChainOf b expr (Some chain) =
     BodyReaches b (node.Expr expr) × HasChain b.store.nodes (tops_of_body b) expr chain
+
+-- the chain of an expression by the scopes that were made, if it has one
+abbrev pub chain_by : Scopes → ℕ → Option Chain
+chain_by s expr = option_map (λ scope. path.chain s.scopes (Some scope)) (map.get s.scope_by_expr expr)
 
 -- the names of entries, each after a space
 abbrev pub entry_text : ScopeEntry → List ℕ
@@ -96,27 +103,26 @@ abbrev pub captures_text : Option (List ℕ) → List ℕ
 captures_text None = codes " no closure"
 captures_text (Some bindings) = codes " =" ++ spaced bindings
 
--- the text is the answer to `chain`, to `resolve`, to `captures`
-abbrev pub IsChainAnswer : BodyContents → ℕ → List ℕ → Type 0
-IsChainAnswer b e text =
-    (chain : Option Chain) × IsChainOf b e chain × (text ≡ answer_line (codes "chain ") e (chain_text chain))
+-- the answers to `chain`, `resolve` and `captures`, by what is known
+abbrev pub chain_answer : ℕ → Option Chain → List ℕ
+chain_answer e known = answer_line (codes "chain ") e (chain_text known)
 
-abbrev pub IsResolveAnswer : BodyContents → ℕ → List ℕ → SyntaxContext → List ℕ → Type 0
-IsResolveAnswer b e name hygiene text =
-    (chain : Option Chain) × IsChainOf b e chain
-    × (text ≡ answer_line (codes "resolve ") e (asked_text name hygiene ++ resolve_text chain name hygiene))
+abbrev pub resolve_answer : ℕ → List ℕ → SyntaxContext → Option Chain → List ℕ
+resolve_answer e name hygiene known =
+    answer_line (codes "resolve ") e (asked_text name hygiene ++ resolve_text known name hygiene)
 
-abbrev pub IsCapturesAnswer : BodyContents → ℕ → List ℕ → Type 0
-IsCapturesAnswer b e text =
-    (bindings : Option (List ℕ)) × AreCapturesOf b e bindings
-    × (text ≡ answer_line (codes "captures ") e (captures_text bindings))
+abbrev pub captures_answer : ℕ → Option (List ℕ) → List ℕ
+captures_answer e bindings = answer_line (codes "captures ") e (captures_text bindings)
 
 -- the text is the answer to a question on a body, which is that of the function of this name
 abbrev pub IsBodyAnswer : Option (List ℕ) → BodyContents → BodyQuestion → List ℕ → Type 0
-IsBodyAnswer function b (ask.Chain e) text = IsChainAnswer b e text
-IsBodyAnswer function b (ask.Resolve e name hygiene) text = IsResolveAnswer b e name hygiene text
+IsBodyAnswer function b (ask.Chain e) text =
+    (known : Option Chain) × IsChainOf b e known × (text ≡ chain_answer e known)
+IsBodyAnswer function b (ask.Resolve e name hygiene) text =
+    (known : Option Chain) × IsChainOf b e known × (text ≡ resolve_answer e name hygiene known)
 IsBodyAnswer function b ask.Print text = text ≡ print_text function b
-IsBodyAnswer function b (ask.Captures e) text = IsCapturesAnswer b e text
+IsBodyAnswer function b (ask.Captures e) text =
+    (bindings : Option (List ℕ)) × AreCapturesOf b e bindings × (text ≡ captures_answer e bindings)
 
 -- where only the store was tested, no question on the body is answered
 abbrev pub IsStoreAnswer : Contents → Question → List ℕ → Type 0
@@ -128,6 +134,10 @@ abbrev pub IsAnswer : Option (List ℕ) → BodyContents → Question → List �
 IsAnswer function b (OfStore question) text = text ≡ store_answer b.store question
 IsAnswer function b (OfBody question) text = IsBodyAnswer function b question text
 
--- the same, of a body with the name
+-- the same, of a body with the name of its function
+pub record NamedBody : Type 0 where
+  pub body : BodyContents
+  pub name : Option (List ℕ)
+
 abbrev pub IsAnswerOf : NamedBody → Question → List ℕ → Type 0
 IsAnswerOf named question text = IsAnswer named.name named.body question text

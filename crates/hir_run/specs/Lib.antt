@@ -1,8 +1,9 @@
-pub mod Made
+pub mod Parts
 pub mod Answer
 pub mod OfLines
-pub mod Printed
-pub mod Puts
+pub mod Printing
+pub mod Output
+pub mod Places
 pub mod Program
 pub mod Outcomes
 pub mod Run

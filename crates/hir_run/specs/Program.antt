@@ -4,14 +4,14 @@ use Rattle.std.specs.List.{list_all, list_any}
 use Rattle.hir_io.specs.Text.{lines}
 use Rattle.hir_lines.specs.Line.{Line, Blank, Make, Ask, Bad, any_question, asks, line_of, makes, may_ask}
 use Rattle.hir_lines.specs.Makers.{Maker}
-use Rattle.hir_lines.specs.Makers as make
+use Rattle.hir_lines.specs.Taking.{is_second}
 use Rattle.hir_lines.specs.declared.question.Question.{Question}
 use Rattle.hir_lines.specs.declared.question.Question.TheVariants.{OfStore, OfBody}
 use Rattle.hir_items.specs.Bodies.{body_fault}
 use Rattle.hir_store.specs.Building.{contents_of, finish_fault}
 use Rattle.hir_run.specs.declared.fault.RunFault.{RunFault}
 use Rattle.hir_run.specs.declared.fault.RunFault.TheVariants.{BadLine, Refused, BodyRefused}
-use Rattle.hir_run.specs.Made.{Made, nothing_made, with_line, body_parts}
+use Rattle.hir_run.specs.Parts.{Parts, no_parts, with_line, body_parts}
 use Rattle.hir_run.specs.Answer.{IsStoreAnswer, IsAnswer}
 
 -- a question on the store alone
@@ -72,34 +72,35 @@ AreAnswers Is (line ∷ rest) text =
     (first more : List ℕ) × IsLineAnswer Is line first × AreAnswers Is rest more × (text ≡ first ++ more)
 
 -- A section of questions, after this many good lines: those that may be asked are answered, as far as they come. Then the run goes on
-abbrev pub section : (Question → Bool) → (Question → List ℕ → Type 0) → (ℕ → List Line → Course) → ℕ → List Line → Course
+abbrev pub section : (Question → Bool) → (Question → List ℕ → Type 0) → (ℕ → List Line → Course) → ℕ
+    → List Line → Course
 section may Is next good script text outcome =
     (answers more : List ℕ) × AreAnswers Is (front (may_ask may) script) answers
     × next (good + length (front (may_ask may) script)) (behind (may_ask may) script) more outcome
     × (text ≡ answers ++ more)
 
 -- the section from the first question on the body on: the first fault of the body's parts is looked for, and any question is answered
-abbrev pub on_body : Made → ℕ → List Line → Course
-on_body made good script =
-    unless_refused (body_fault (body_parts made)) BodyRefused
-    (section any_question (IsAnswer made.name (body_parts made)) stops good script)
+abbrev pub on_body : Parts → ℕ → List Line → Course
+on_body parts good script =
+    unless_refused (body_fault (body_parts parts)) BodyRefused
+    (section any_question (IsAnswer parts.name (body_parts parts)) stops good script)
 
-abbrev pub behind_store : Made → ℕ → List Line → Course
-behind_store made good [] = stops good []
-behind_store made good (line ∷ rest) =
-    if_so (asks line) (on_body made good (line ∷ rest)) (stops good (line ∷ rest))
+abbrev pub behind_store : Parts → ℕ → List Line → Course
+behind_store parts good [] = stops good []
+behind_store parts good (line ∷ rest) =
+    if_so (asks line) (on_body parts good (line ∷ rest)) (stops good (line ∷ rest))
 
 -- the section from the first question on: the builder's first fault is looked for, and questions on the store are answered
-abbrev pub on_store : Made → ℕ → List Line → Course
-on_store made good script =
-    unless_refused (finish_fault made.built) Refused
-    (section is_of_store (IsStoreAnswer (contents_of made.built)) (behind_store made) good script)
+abbrev pub on_store : Parts → ℕ → List Line → Course
+on_store parts good script =
+    unless_refused (finish_fault parts.built) Refused
+    (section is_of_store (IsStoreAnswer (contents_of parts.built)) (behind_store parts) good script)
 
 -- behind the lines that make something: this is the course where no line is left
-abbrev pub behind_making : Course → Made → ℕ → List Line → Course
-behind_making idle made good [] = idle
-behind_making idle made good (line ∷ rest) =
-    if_so (asks line) (on_store made good (line ∷ rest)) (stops good (line ∷ rest))
+abbrev pub behind_making : Course → Parts → ℕ → List Line → Course
+behind_making idle parts good [] = idle
+behind_making idle parts good (line ∷ rest) =
+    if_so (asks line) (on_store parts good (line ∷ rest)) (stops good (line ∷ rest))
 
 -- the lines before the first question
 unfoldable pub making : List Line → List Line
@@ -112,70 +113,48 @@ maker_of (Ask question) = None
 maker_of Bad = None
 
 -- what these lines make, one after the other
-unfoldable pub built_by : List Line → Made
-built_by script = fold with_line nothing_made (filter_map maker_of script)
+unfoldable pub built_by : List Line → Parts
+built_by script = fold with_line no_parts (filter_map maker_of script)
 
 -- what the lines before the first question make
-abbrev pub made : List Line → Made
-made script = built_by (making script)
+abbrev pub first_parts : List Line → Parts
+first_parts script = built_by (making script)
 
 -- the course of a script, where this is the course of one without a question and without a bad line
 unfoldable pub Runs : Course → List Line → Course
-Runs idle script = behind_making idle (made script) (length (making script)) (behind makes script)
+Runs idle script = behind_making idle (first_parts script) (length (making script)) (behind makes script)
 
 -- without a question the builder's first fault is looked for at the end
-abbrev pub accepts : Made → Course
-accepts made = unless_refused (finish_fault made.built) Refused (writes (codes "accepted\n") (Ok tt))
+abbrev pub accepts : Parts → Course
+accepts parts = unless_refused (finish_fault parts.built) Refused (writes (codes "accepted\n") (Ok tt))
 
 -- the text that a script has written, and its outcome
 abbrev pub IsMeaning : List Line → Course
-IsMeaning script = Runs (accepts (made script)) script
+IsMeaning script = Runs (accepts (first_parts script)) script
 
 -- no fault comes in these lines, and this is the text of their answers; what comes after them is not looked at
 abbrev pub HasAnswers : List Line → List ℕ → Type 0
 HasAnswers script text = Runs (writes [] (Ok tt)) script text (Ok tt)
 
--- whether a line gives the self parameter; the name
-abbrev pub maker_gives_self : Maker → Bool
-maker_gives_self (make.SelfParam id) = true
-maker_gives_self (make.Binding binding) = false
-maker_gives_self (make.Pat pat) = false
-maker_gives_self (make.TypeRef type_ref) = false
-maker_gives_self (make.Expr expr) = false
-maker_gives_self (make.Hygiene id hygiene) = false
-maker_gives_self (make.Param id) = false
-maker_gives_self (make.FnName name) = false
-maker_gives_self make.Roots = false
-maker_gives_self (make.Root id) = false
-
-abbrev pub maker_gives_name : Maker → Bool
-maker_gives_name (make.FnName name) = true
-maker_gives_name (make.Binding binding) = false
-maker_gives_name (make.Pat pat) = false
-maker_gives_name (make.TypeRef type_ref) = false
-maker_gives_name (make.Expr expr) = false
-maker_gives_name (make.Hygiene id hygiene) = false
-maker_gives_name (make.SelfParam id) = false
-maker_gives_name (make.Param id) = false
-maker_gives_name make.Roots = false
-maker_gives_name (make.Root id) = false
-
+-- whether a line gives the self parameter: it would be a second one where there was one before. And whether it gives the name
 abbrev pub gives_self : Line → Bool
 gives_self Blank = false
-gives_self (Make maker) = maker_gives_self maker
+gives_self (Make maker) = is_second true false maker
 gives_self (Ask question) = false
 gives_self Bad = false
 
 abbrev pub gives_name : Line → Bool
 gives_name Blank = false
-gives_name (Make maker) = maker_gives_name maker
+gives_name (Make maker) = is_second false true maker
 gives_name (Ask question) = false
 gives_name Bad = false
 
 -- a line, where a self parameter was given before or wasn't, and a name: a second one is bad
 abbrev pub unless_second : Bool → Bool → Line → Line
-unless_second has_self has_name line =
-    if (has_self && gives_self line) || (has_name && gives_name line) then Bad else line
+unless_second has_self has_name Blank = Blank
+unless_second has_self has_name (Make maker) = if is_second has_self has_name maker then Bad else Make maker
+unless_second has_self has_name (Ask question) = Ask question
+unless_second has_self has_name Bad = Bad
 
 -- the lines, where a second self parameter and a second name are bad
 abbrev pub once_each : Bool → Bool → List Line → List Line

@@ -1,11 +1,13 @@
 -- How a run of the program ends, with the bytes that it leaves unread and those that it has written.
-use Rattle.std.specs.Prelude.{◌≡◌, ◌⊎◌, ℕ, ◌+◌, true, List, [], ◌∷◌, ◌++◌, length, Option, Ok, Err, IfSome}
+use Rattle.std.specs.Prelude.{◌≡◌, ◌⊎◌, ℕ, ◌+◌, true, false, List, [], ◌∷◌, ◌++◌, length, Option, Ok, Err, IfSome}
 use Rattle.std.specs.Io.KnownBytes.{Appends}
+use Rattle.hir_io.specs.declared.ends.Source as source
+use Rattle.hir_io.specs.declared.ends.Sink as sink
 use Rattle.hir_io.specs.Ends.{GrowsByFront}
 use Rattle.hir_io.specs.LineState.{LineState}
 use Rattle.hir_io.specs.Text.{lines, IsCutShort}
 use Rattle.hir_run.specs.declared.fault.RunFault.TheVariants.{BadLine}
-use Rattle.hir_run.specs.Outcomes.{Ends}
+use Rattle.hir_run.specs.Outcomes.{Ends, is_input_failed, is_output_failed}
 use Rattle.hir_run.specs.Program.{Outcome, script, script_of, line_behind, may_come, IsMeaning, HasAnswers}
 
 -- the program's own output and ending. What it means that a text was written is defined elsewhere
@@ -42,17 +44,35 @@ IsRefusedBehind texts more (b ∷ bs) count =
 -- memory was refused at some line: the answers of all lines before it are written, and no fault comes in these
 abbrev pub IsWithoutMemory : List ℕ → (List ℕ → Type 0) → LineState → Type 0
 IsWithoutMemory input Wrote taken =
-    (texts more : List (List ℕ)) × (lines input ≡ texts ++ more) × IsRefusedBehind texts more taken.line taken.count
+    (texts more : List (List ℕ)) × (lines input ≡ texts ++ more)
+    × IsRefusedBehind texts more taken.line taken.count
     × (text : List ℕ) × HasAnswers (script texts) text × Wrote text
 
 -- how a run over this input ends, where these lines were taken
-abbrev pub EndsWith : List ℕ → (List ℕ → Type 0) → (List ℕ → Type 0) → Option (List ℕ) → LineState → Outcome → Type 0
+abbrev pub EndsWith : List ℕ → (List ℕ → Type 0) → (List ℕ → Type 0) → Option (List ℕ) → LineState
+    → Outcome → Type 0
 EndsWith input Wrote WroteFront remaining taken outcome =
     Ends (λ done. IsComplete input Wrote (Ok done)) (λ number. IsComplete input Wrote (Err (BadLine number)))
     (λ fault. IsComplete input Wrote (Err fault)) (IsInputCutShort input Wrote remaining)
     (IsOutputCutShort input WroteFront) (IsWithoutMemory input Wrote taken) outcome
 
 -- what a run does over the bytes that its source tells, where these lines were taken, to those that its sink tells
-abbrev pub RunsTo : Option (List ℕ) → Option (List ℕ) → Option (List ℕ) → Option (List ℕ) → LineState → Outcome → Type 0
+abbrev pub RunsTo : Option (List ℕ) → Option (List ℕ) → Option (List ℕ) → Option (List ℕ) → LineState
+    → Outcome → Type 0
 RunsTo known old remaining new taken outcome =
     IfSome known (λ input. EndsWith input (Appends old new) (GrowsByFront old new) remaining taken outcome)
+
+-- a reader of lines that has taken none
+abbrev pub no_lines : LineState
+no_lines = record { line = []; pending = []; at_end = false; count = 0 }
+
+-- neither a read nor a write has failed
+abbrev pub Unfailed : {R W : Type 0} → source.Ghosts R → sink.Ghosts W → R → W → Type 0
+Unfailed r w reader writer = (r.failed reader ≡ false) × (w.failed writer ≡ false)
+
+-- what a run does from one source and sink to another, where these lines were taken: one of them has failed where the outcome says so
+abbrev pub IsRun : {R W : Type 0} → source.Ghosts R → sink.Ghosts W → R → R → W → W → LineState
+    → Outcome → Type 0
+IsRun r w reader reader' writer writer' taken outcome =
+    RunsTo (r.remaining reader) (w.contents writer) (r.remaining reader') (w.contents writer') taken outcome
+    × (r.failed reader' ≡ is_input_failed outcome) × (w.failed writer' ≡ is_output_failed outcome)

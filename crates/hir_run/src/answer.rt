@@ -1,125 +1,89 @@
 //! The answers to questions on a store.
 
-ghost use Rattle.std.specs.Prelude.{◌∷◌, ◌++◌, ◌<◌, length, codes};
+ghost use Rattle.std.specs.Prelude.{◌≡◌, ◌∷◌, ◌<◌, length, codes};
 ghost use Rattle.std.specs.Fmt.{decimal};
 ghost use Rattle.hir_expr_store.specs.PatLists.{children};
 ghost use Rattle.hir_run.specs.Answer.{store_answer, answer_line, children_text, root_text, spaced};
-ghost use Rattle.hir_run.specs.Puts.{Puts};
+ghost use Rattle.hir_run.specs.Output.{Puts, PutsText, output_of};
 
 use crate::asking::{Answers, MemoryRefused};
-use crate::put::{put, put_number, put_spaced};
-use hir_io::{OutputBuffer, Sink};
+use crate::output::Output;
+use hir_io::Sink;
 use hir_lines::{Question, StoreQuestion};
 use hir_node::ExprId;
 use hir_store::ExpressionStore;
 use std::alloc::Global;
 
 /// Puts the children of an expression, each after a space.
-fn put_children<W: Sink>(
-    store: &ExpressionStore,
-    id: ExprId,
-    output: &mut OutputBuffer,
-    writer: &mut W,
-)
+fn put_children<W: Sink>(store: &ExpressionStore, id: ExprId, output: &mut Output<'_, W>)
     requires { id < length store.now.nodes.exprs }
-    ensures { Puts (W.contents writer.old) (W.failed writer.old) output.old (W.contents writer.new)
-        (W.failed writer.new) output.new (spaced (children store.now.nodes id)) }
+    ensures { Puts W.Sink output.old output.new (spaced (children store.now.nodes id)) }
 {
     store.walk_child_exprs(
         id,
         &mut |child: ExprId| -> ()
-            ensures { Puts (W.contents writer.entry.now) (W.failed writer.entry.now) output.entry.now
-                (W.contents writer.exit.now) (W.failed writer.exit.now) output.exit.now (32 ∷ decimal child) }
+            ensures { PutsText (output_of W.Sink output.entry.now) (output_of W.Sink output.exit.now)
+                (32 ∷ decimal child) }
         {
-            put_spaced(child.into_raw(), output, writer);
+            output.put_spaced(child.into_raw());
         },
     );
 }
 
 /// Puts what is known of an expression: its children, or that it isn't there.
-fn put_known<W: Sink>(
-    store: &ExpressionStore,
-    id: ExprId,
-    output: &mut OutputBuffer,
-    writer: &mut W,
-)
-    ensures { Puts (W.contents writer.old) (W.failed writer.old) output.old (W.contents writer.new)
-        (W.failed writer.new) output.new (children_text store.now.nodes id) }
+fn put_known<W: Sink>(store: &ExpressionStore, id: ExprId, output: &mut Output<'_, W>)
+    ensures { Puts W.Sink output.old output.new (children_text store.now.nodes id) }
 {
     if !store.has_expr(id) {
-        put(b" unknown", output, writer);
+        output.put(b" unknown");
         return;
     }
-    put(b" =", output, writer);
-    put_children(store, id, output, writer);
+    output.put(b" =");
+    put_children(store, id, output);
 }
 
 /// Puts the root that an expression belongs to, or that there is none.
-fn put_root<W: Sink>(store: &ExpressionStore, id: ExprId, output: &mut OutputBuffer, writer: &mut W)
-    ensures { Puts (W.contents writer.old) (W.failed writer.old) output.old (W.contents writer.new)
-        (W.failed writer.new) output.new (root_text store.now.roots id) }
+fn put_root<W: Sink>(store: &ExpressionStore, id: ExprId, output: &mut Output<'_, W>)
+    ensures { Puts W.Sink output.old output.new (root_text store.now.roots id) }
 {
     if !store.covers_expr(id) {
-        put(b" none", output, writer);
+        output.put(b" none");
         return;
     }
     let root = store.find_root_for_expr(id);
-    put(b" = ", output, writer);
-    put_number(root.into_raw(), output, writer);
+    output.put(b" = ");
+    output.put_number(root.into_raw());
 }
 
-/// Puts the first words of an answer: what was asked, and of which expression.
-pub(crate) fn put_asked<W: Sink>(word: &[u8], id: ExprId, output: &mut OutputBuffer, writer: &mut W)
-    ensures { Puts (W.contents writer.old) (W.failed writer.old) output.old (W.contents writer.new)
-        (W.failed writer.new) output.new (word.now ++ decimal id) }
-{
-    put(word, output, writer);
-    put_number(id.into_raw(), output, writer);
-}
-
-fn answer_children<W: Sink>(
-    store: &ExpressionStore,
-    id: ExprId,
-    output: &mut OutputBuffer,
-    writer: &mut W,
-)
-    ensures { Puts (W.contents writer.old) (W.failed writer.old) output.old (W.contents writer.new)
-        (W.failed writer.new) output.new
+fn answer_children<W: Sink>(store: &ExpressionStore, id: ExprId, output: &mut Output<'_, W>)
+    ensures { Puts W.Sink output.old output.new
         (answer_line (codes "children ") id (children_text store.now.nodes id)) }
 {
-    put_asked(b"children ", id, output, writer);
-    put_known(store, id, output, writer);
-    put(b"\n", output, writer);
+    output.put_asked(b"children ", id);
+    put_known(store, id, output);
+    output.put(b"\n");
 }
 
-fn answer_root<W: Sink>(
-    store: &ExpressionStore,
-    id: ExprId,
-    output: &mut OutputBuffer,
-    writer: &mut W,
-)
-    ensures { Puts (W.contents writer.old) (W.failed writer.old) output.old (W.contents writer.new)
-        (W.failed writer.new) output.new
+fn answer_root<W: Sink>(store: &ExpressionStore, id: ExprId, output: &mut Output<'_, W>)
+    ensures { Puts W.Sink output.old output.new
         (answer_line (codes "root-of ") id (root_text store.now.roots id)) }
 {
-    put_asked(b"root-of ", id, output, writer);
-    put_root(store, id, output, writer);
-    put(b"\n", output, writer);
+    output.put_asked(b"root-of ", id);
+    put_root(store, id, output);
+    output.put(b"\n");
 }
 
 /// Answers a question on a store by one line.
 pub(crate) fn answer_store<W: Sink>(
     store: &ExpressionStore,
     question: StoreQuestion,
-    output: &mut OutputBuffer,
-    writer: &mut W,
+    output: &mut Output<'_, W>,
 )
-    ensures { Puts (W.contents writer.old) (W.failed writer.old) output.old (W.contents writer.new)
-        (W.failed writer.new) output.new (store_answer store.now question) }
+    ensures { Puts W.Sink output.old output.new (store_answer store.now question) }
 {
     match question {
-        StoreQuestion::Children(id) => answer_children(store, id, output, writer),
-        StoreQuestion::RootOf(id) => answer_root(store, id, output, writer),
+        StoreQuestion::Children(id) => answer_children(store, id, output),
+        StoreQuestion::RootOf(id) => answer_root(store, id, output),
     }
 }
 
@@ -133,18 +97,17 @@ impl Answers for ExpressionStore {
     ghost Is = { IsStoreAnswer };
 
     fn answer<W: Sink>(
-        &self,
+        &mut self,
         _alloc: Global,
         question: Question,
-        output: &mut OutputBuffer,
-        writer: &mut W,
+        output: &mut Output<'_, W>,
     ) -> Result<Option<Question>, MemoryRefused> {
         match question {
             Question::OfStore(asked) => {
-                answer_store(self, asked, output, writer);
+                answer_store(self, asked, output);
                 Ok(None)
             }
-            Question::OfBody(asked) => Ok(Some(Question::OfBody(asked))),
+            Question::OfBody(_) => Ok(Some(question)),
         }
     }
 }

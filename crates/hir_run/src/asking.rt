@@ -1,13 +1,15 @@
 //! A section of questions: from its first question on, each line is answered, as far as such questions come.
 
-ghost use Rattle.std.specs.Prelude.{◌≡◌, ◌+◌, ◌<◌, ◌^◌, ◌||◌, List, ℕ, Bool, [], true, false, length, OnOk, IfOk, OnErr};
-ghost use Rattle.hir_io.specs.NextLine.{untaken};
+ghost use Rattle.std.specs.Prelude.{◌≡◌, ◌||◌, ℕ, List, [], Bool, true, false, IfOk, OnErr, OnOk};
 ghost use Rattle.hir_lines.specs.Line.{Ask, line_of};
 ghost use Rattle.hir_run.specs.Outcomes.{is_input_failed, is_output_failed};
-ghost use Rattle.hir_run.specs.Stages.{Asks, AsksLine, Replies};
+ghost use Rattle.hir_run.specs.Output.{Untouched, output_of};
+ghost use Rattle.hir_run.specs.Places.{HasRoom, place_of};
+ghost use Rattle.hir_run.specs.Stages.{Asks, AsksLine, IsAsked, Replies};
 
 use crate::fault::RunFault;
-use hir_io::{LineReader, OutputBuffer, Sink, Source, next_line};
+use crate::output::Output;
+use hir_io::{LineReader, Sink, Source};
 use hir_lines::{Question, Stop, ask};
 use std::alloc::Global;
 
@@ -29,34 +31,43 @@ pub(crate) trait Answers {
     ///
     /// Answers `MemoryRefused` where memory was refused: nothing is put then.
     fn answer<W: Sink>(
-        &self,
+        &mut self,
         alloc: Global,
         question: Question,
-        output: &mut OutputBuffer,
-        writer: &mut W,
+        output: &mut Output<'_, W>,
     ) -> Result<Option<Question>, MemoryRefused>
-        ensures replies { IfOk result (Replies may (Is self.now) question (W.contents writer.old) (W.failed writer.old)
-            output.old (W.contents writer.new) (W.failed writer.new) output.new) }
-        ensures memory { OnErr result ((writer.new ≡ writer.old) × (output.new ≡ output.old)) };
+        ensures same { self.new ≡ self.old }
+        ensures replies { IfOk result (Replies may (Is self.old) question (output_of W.Sink output.old)
+            (output_of W.Sink output.new)) }
+        ensures memory { OnErr result (Untouched W.Sink output.old output.new) };
+}
+
+/// What the line that was taken last asks, if it isn't empty.
+pub(crate) fn asked_by(alloc: Global, lines: &LineReader) -> Result<Option<Question>, RunFault>
+    ensures { IsAsked lines.now result }
+{
+    match ask(alloc, lines.line()) {
+        Ok(question) => Ok(question),
+        Err(Stop::Bad) => Err(RunFault::BadLine(lines.count())),
+        Err(Stop::Memory) => Err(RunFault::OutOfMemory),
+    }
 }
 
 /// Answers a question. Its clause holds for a line of any number, since a question is never a bad line.
 fn answer_question<A: Answers, W: Sink>(
     alloc: Global,
-    asked: &A,
+    asked: &mut A,
     question: Question,
-    output: &mut OutputBuffer,
-    writer: &mut W,
+    output: &mut Output<'_, W>,
 ) -> Result<Option<Question>, RunFault>
-    requires { W.failed writer.old ≡ false }
-    ensures asks { (number : ℕ) → AsksLine A.may (A.Is asked.now) (Ask question) number (W.contents writer.old)
-        output.old (W.contents writer.new) output.new result }
-    ensures failure { W.failed writer.new ≡ is_output_failed result }
+    requires { W.failed output.old.writer.now ≡ false }
+    ensures asks { (number : ℕ) → AsksLine A.may (A.Is asked.old) (Ask question) number
+        (output_of W.Sink output.old) (output_of W.Sink output.new) result }
+    ensures failure { W.failed output.new.writer.now ≡ is_output_failed result }
+    ensures same { (asked.new ≡ asked.old) × (output.new.writer.ghost_name ≡ output.old.writer.ghost_name) }
 {
-    let Ok(left) = asked.answer(alloc, question, output, writer) else {
-        return Err(RunFault::OutOfMemory);
-    };
-    if writer.has_failed() {
+    let left = asked.answer(alloc, question, output)?;
+    if output.writer.has_failed() {
         return Err(RunFault::OutputFailed);
     }
     Ok(left)
@@ -65,21 +76,19 @@ fn answer_question<A: Answers, W: Sink>(
 /// Answers the line that was taken last.
 fn answer_next<A: Answers, W: Sink>(
     alloc: Global,
-    asked: &A,
+    asked: &mut A,
     lines: &LineReader,
-    output: &mut OutputBuffer,
-    writer: &mut W,
+    output: &mut Output<'_, W>,
 ) -> Result<Option<Question>, RunFault>
-    requires { W.failed writer.old ≡ false }
-    ensures asks { AsksLine A.may (A.Is asked.now) (line_of lines.now.line) lines.now.count
-        (W.contents writer.old) output.old (W.contents writer.new) output.new result }
-    ensures failure { W.failed writer.new ≡ is_output_failed result }
+    requires { W.failed output.old.writer.now ≡ false }
+    ensures asks { AsksLine A.may (A.Is asked.old) (line_of lines.now.line) lines.now.count
+        (output_of W.Sink output.old) (output_of W.Sink output.new) result }
+    ensures failure { W.failed output.new.writer.now ≡ is_output_failed result }
+    ensures same { (asked.new ≡ asked.old) × (output.new.writer.ghost_name ≡ output.old.writer.ghost_name) }
 {
-    match ask(alloc, lines.line()) {
-        Ok(Some(question)) => answer_question(alloc, asked, question, output, writer),
-        Ok(None) => Ok(None),
-        Err(Stop::Bad) => Err(RunFault::BadLine(lines.count())),
-        Err(Stop::Memory) => Err(RunFault::OutOfMemory),
+    match asked_by(alloc, lines)? {
+        Some(question) => answer_question(alloc, asked, question, output),
+        None => Ok(None),
     }
 }
 
@@ -87,33 +96,29 @@ fn answer_next<A: Answers, W: Sink>(
 /// still wait.
 pub(crate) fn answer_lines<A: Answers, R: Source, W: Sink>(
     alloc: Global,
-    asked: &A,
+    asked: &mut A,
     first: Question,
     lines: &mut LineReader,
     reader: &mut R,
-    output: &mut OutputBuffer,
-    writer: &mut W,
+    output: &mut Output<'_, W>,
 ) -> Result<Option<Question>, RunFault>
-    requires fits { lines.old.count + length lines.old.pending + R.allowance reader.old < 2 ^ 64 }
-    requires unfailed { W.failed writer.old ≡ false }
-    ensures asks { Asks A.may (A.Is asked.now)
-        (untaken lines.old.pending lines.old.at_end (R.remaining reader.old))
-        (untaken lines.new.pending lines.new.at_end (R.remaining reader.new))
-        (R.remaining reader.new) lines.old lines.new
-        (W.contents writer.old) output.old (W.contents writer.new) output.new first result }
+    requires fits { HasRoom (place_of R.Source W.Sink lines.old reader.old output.old) }
+    requires unfailed { W.failed output.old.writer.now ≡ false }
+    ensures asks { Asks A.may (A.Is asked.old) (place_of R.Source W.Sink lines.old reader.old output.old)
+        (place_of R.Source W.Sink lines.new reader.new output.new) first result }
     ensures read_failure { R.failed reader.new ≡ (is_input_failed result || R.failed reader.old) }
-    ensures write_failure { W.failed writer.new ≡ is_output_failed result }
+    ensures write_failure { W.failed output.new.writer.now ≡ is_output_failed result }
     // A read is made only where nothing waits.
-    ensures quiet { is_input_failed result ≡ true → output.new ≡ [] }
-    ensures still_fits { OnOk result
-        (lines.new.count + length lines.new.pending + R.allowance reader.new < 2 ^ 64) }
+    ensures quiet { is_input_failed result ≡ true → output.new.waiting ≡ [] }
+    ensures still_fits { OnOk result (HasRoom (place_of R.Source W.Sink lines.new reader.new output.new)) }
+    ensures same { (asked.new ≡ asked.old) × (output.new.writer.ghost_name ≡ output.old.writer.ghost_name) }
 {
-    let left = answer_question(alloc, asked, first, output, writer)?;
+    let left = answer_question(alloc, asked, first, output)?;
     if left.is_some() {
         return Ok(left);
     }
-    while next_line(lines, reader, output, writer)? {
-        let later = answer_next(alloc, asked, lines, output, writer)?;
+    while output.next_line(lines, reader)? {
+        let later = answer_next(alloc, asked, lines, output)?;
         if later.is_some() {
             return Ok(later);
         }

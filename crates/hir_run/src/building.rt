@@ -1,34 +1,30 @@
 //! The first part of a run: lines that make something, up to the first question.
 
-ghost use Rattle.std.specs.Prelude.{◌≡◌, ◌+◌, ◌<◌, ◌^◌, ◌||◌, [], false, length, OnOk};
-ghost use Rattle.hir_io.specs.NextLine.{untaken};
-ghost use Rattle.hir_run.specs.Made.{made_of, nothing_made};
+ghost use Rattle.std.specs.Prelude.{◌≡◌, ◌||◌, [], false, OnOk};
 ghost use Rattle.hir_run.specs.Outcomes.{is_input_failed};
-ghost use Rattle.hir_run.specs.Stages.{AsksFirst, Builds, BuildsLine};
+ghost use Rattle.hir_run.specs.Output.{Untouched};
+ghost use Rattle.hir_run.specs.Parts.{parts_of, no_parts};
+ghost use Rattle.hir_run.specs.Places.{HasRoom, place_of, unread};
+ghost use Rattle.hir_run.specs.Stages.{Builds, BuildsLine};
 
+use crate::asking::asked_by;
+use crate::body_builder::BodyBuilder;
 use crate::fault::RunFault;
-use crate::made::Made;
-use hir_io::{LineReader, OutputBuffer, Sink, Source, next_line};
-use hir_lines::{Question, Stop, ask, make};
+use crate::output::Output;
+use hir_io::{LineReader, Sink, Source};
+use hir_lines::{Question, Stop, make};
 use std::alloc::Global;
 
 /// Makes what the line that was taken last makes, and answers whether it makes something or is empty.
-fn build_line(alloc: Global, lines: &LineReader, made: &mut Made) -> Result<bool, RunFault>
-    ensures { BuildsLine lines.now (made_of made.old) (made_of made.new) result }
+fn build_line(
+    alloc: Global,
+    lines: &LineReader,
+    builder: &mut BodyBuilder,
+) -> Result<bool, RunFault>
+    ensures { BuildsLine lines.now (parts_of builder.old) (parts_of builder.new) result }
 {
-    match make(alloc, lines.line(), made) {
+    match make(alloc, lines.line(), builder) {
         Ok(taken) => Ok(taken),
-        Err(Stop::Bad) => Err(RunFault::BadLine(lines.count())),
-        Err(Stop::Memory) => Err(RunFault::OutOfMemory),
-    }
-}
-
-/// The question of the line that was taken last, which makes nothing.
-fn first_question(alloc: Global, lines: &LineReader) -> Result<Option<Question>, RunFault>
-    ensures { AsksFirst lines.now result }
-{
-    match ask(alloc, lines.line()) {
-        Ok(question) => Ok(question),
         Err(Stop::Bad) => Err(RunFault::BadLine(lines.count())),
         Err(Stop::Memory) => Err(RunFault::OutOfMemory),
     }
@@ -37,26 +33,25 @@ fn first_question(alloc: Global, lines: &LineReader) -> Result<Option<Question>,
 /// Builds by the lines before the first question, and gives that question, if there is one.
 pub(crate) fn build<R: Source, W: Sink>(
     alloc: Global,
+    builder: &mut BodyBuilder,
     lines: &mut LineReader,
     reader: &mut R,
-    output: &mut OutputBuffer,
-    writer: &mut W,
-    made: &mut Made,
+    output: &mut Output<'_, W>,
 ) -> Result<Option<Question>, RunFault>
-    requires fits { length lines.old.pending + R.allowance reader.old < 2 ^ 64 }
-    requires fresh { (lines.old.count ≡ 0) × (lines.old.at_end ≡ false) × (made_of made.old ≡ nothing_made) }
-    requires quiet { output.old ≡ [] }
-    ensures builds { Builds (untaken lines.old.pending lines.old.at_end (R.remaining reader.old))
-        (untaken lines.new.pending lines.new.at_end (R.remaining reader.new))
-        (R.remaining reader.new) lines.new (made_of made.new) result }
-    ensures still_quiet { (output.new ≡ []) × (writer.new ≡ writer.old) }
+    requires fits { HasRoom (place_of R.Source W.Sink lines.old reader.old output.old) }
+    requires fresh { (lines.old.count ≡ 0) × (lines.old.at_end ≡ false)
+        × (parts_of builder.old ≡ no_parts) }
+    requires quiet { output.old.waiting ≡ [] }
+    ensures builds { Builds (unread (place_of R.Source W.Sink lines.old reader.old output.old))
+        (place_of R.Source W.Sink lines.new reader.new output.new) (parts_of builder.new) result }
+    ensures still_quiet { Untouched W.Sink output.old output.new }
     ensures failure { R.failed reader.new ≡ (is_input_failed result || R.failed reader.old) }
-    ensures still_fits { OnOk result
-        (lines.new.count + length lines.new.pending + R.allowance reader.new < 2 ^ 64) }
+    ensures still_fits { OnOk result (HasRoom (place_of R.Source W.Sink lines.new reader.new output.new)) }
+    ensures same { output.new.writer.ghost_name ≡ output.old.writer.ghost_name }
 {
-    while next_line(lines, reader, output, writer)? {
-        if !build_line(alloc, lines, made)? {
-            return first_question(alloc, lines);
+    while output.next_line(lines, reader)? {
+        if !build_line(alloc, lines, builder)? {
+            return asked_by(alloc, lines);
         }
     }
     Ok(None)

@@ -2,6 +2,7 @@
 
 ghost use Rattle.std.specs.Prelude.{◌≡◌};
 
+use crate::asking::MemoryRefused;
 use hir_base::ExactEq;
 use hir_io::LineFault;
 use hir_items::{BodyFault, RefusedBody};
@@ -49,6 +50,17 @@ impl ExactEq for RunFault {
     ghost use Rattle.hir_base.specs.Exact.{exact};
 
     ghost eq_decides = { Prim.search exact };
+}
+
+impl From<MemoryRefused> for RunFault {
+    ghost use Rattle.std.specs.Prelude.{◌≡◌};
+    ghost use Rattle.hir_run.specs.declared.fault.RunFault.TheVariants as to;
+
+    ghost from_gives = { λ _ failure. failure ≡ to.OutOfMemory };
+
+    fn from(_refused: MemoryRefused) -> RunFault {
+        RunFault::OutOfMemory
+    }
 }
 
 impl From<LineFault> for RunFault {

@@ -4,19 +4,18 @@
 
 mod answer;
 mod asking;
+mod body_builder;
+mod body_of_lines;
 mod building;
-mod captured;
+mod captures;
 mod disposal;
 mod fault;
 pub mod laws;
-mod made;
-mod named_body;
-mod on_body;
-mod printed;
+mod output;
+mod printing;
 mod program;
-mod put;
 mod reporting;
-mod scoped_body;
+mod scope_answers;
 
 pub use fault::RunFault;
 pub use program::{run, run_and_report, run_lines, run_to_exit};

@@ -1,6 +1,6 @@
 //! The program: lines in, answers out.
 
-ghost use Rattle.std.specs.Prelude.{◌≡◌, ◌||◌, [], true, false};
+ghost use Rattle.std.specs.Prelude.{◌≡◌, [], true, false};
 ghost use Rattle.std.specs.Io.KnownBytes.{Appends};
 ghost use Rattle.hir_io.specs.Ends.{GrowsByFront};
 ghost use Rattle.hir_io.specs.LineState.{LineState};
@@ -8,18 +8,20 @@ ghost use Rattle.hir_items.specs.Bodies.{body_of};
 ghost use Rattle.hir_store.specs.Building.{building_of};
 ghost use Rattle.hir_run.specs.Faults.{status_of};
 ghost use Rattle.hir_run.specs.Outcomes.{is_input_failed, is_output_failed};
+ghost use Rattle.hir_run.specs.Output.{output_of};
+ghost use Rattle.hir_run.specs.Places.{place_of};
 ghost use Rattle.hir_run.specs.Program.{Outcome};
-ghost use Rattle.hir_run.specs.Run.{RunsTo};
-ghost use Rattle.hir_run.specs.Stages.{Accepts, Closes, Finishes, IsMadeBody, RunsUpTo};
+ghost use Rattle.hir_run.specs.Run.{IsRun, Unfailed, no_lines};
+ghost use Rattle.hir_run.specs.Stages.{Finishes, IsBodyOf, RunsUpTo};
 ghost use Rattle.hir_run.specs.Texts.{text_of};
 
 use crate::asking::answer_lines;
+use crate::body_builder::BodyBuilder;
+use crate::body_of_lines::BodyOfLines;
 use crate::building::build;
 use crate::disposal::Disposal;
 use crate::fault::RunFault;
-use crate::made::{Made, Parts};
-use crate::on_body::{UnscopedBody, answer_on_body};
-use crate::printed::BodyOfLines;
+use crate::output::Output;
 use crate::reporting::report;
 use hir_base::Seq;
 use hir_io::{LineReader, OutputBuffer, Sink, Source};
@@ -30,7 +32,7 @@ use hir_store::{ExpressionStore, ExpressionStoreBuilder};
 use std::alloc::Global;
 
 /// The store of what was built, or why there is none.
-fn finished(builder: ExpressionStoreBuilder) -> Result<ExpressionStore, RunFault>
+fn finish(builder: ExpressionStoreBuilder) -> Result<ExpressionStore, RunFault>
     ensures { Finishes (building_of builder) result }
 {
     let (store, _) = builder.finish()?;
@@ -38,26 +40,15 @@ fn finished(builder: ExpressionStoreBuilder) -> Result<ExpressionStore, RunFault
 }
 
 /// The body of these parts, or why there is none.
-fn made_body(
+fn body_of_parts(
     alloc: Global,
     store: ExpressionStore,
     params: Seq<Param<PatId>>,
     self_param: Option<Param<BindingId>>,
 ) -> Result<Body, RunFault>
-    ensures { IsMadeBody (body_of store params self_param) result }
+    ensures { IsBodyOf (body_of store params self_param) result }
 {
     Ok(Body::new(alloc, store, params, self_param)?)
-}
-
-/// Writes that the store is accepted.
-fn accept<W: Sink>(output: &mut OutputBuffer, writer: &mut W) -> Result<(), RunFault>
-    ensures accepts { Accepts (W.contents writer.old) output.old (W.contents writer.new) output.new result }
-    ensures failure { W.failed writer.new ≡ (is_output_failed result || W.failed writer.old) }
-{
-    match output.write(b"accepted\n", writer) {
-        Ok(()) => Ok(()),
-        Err(_) => Err(RunFault::OutputFailed),
-    }
 }
 
 /// Makes what the lines before the first question make, and answers the questions. The last answers may still wait.
@@ -66,37 +57,36 @@ fn answer_script<R: Source, W: Sink>(
     disposal: Disposal,
     lines: &mut LineReader,
     reader: &mut R,
-    output: &mut OutputBuffer,
-    writer: &mut W,
+    output: &mut Output<'_, W>,
 ) -> Result<(), RunFault>
-    requires fresh { lines.old ≡ record { line = []; pending = []; at_end = false; count = 0 } }
-    requires quiet { output.old ≡ [] }
-    requires reading { R.failed reader.old ≡ false }
-    requires writing { W.failed writer.old ≡ false }
-    ensures runs { RunsUpTo (R.remaining reader.old) (W.contents writer.old) (R.remaining reader.new)
-        (W.contents writer.new) output.new lines.new result }
+    requires fresh { lines.old ≡ no_lines }
+    requires quiet { output.old.waiting ≡ [] }
+    requires unfailed { Unfailed R.Source W.Sink reader.old output.old.writer.now }
+    ensures runs { RunsUpTo (R.remaining reader.old) (output_of W.Sink output.old)
+        (place_of R.Source W.Sink lines.new reader.new output.new) result }
     ensures input_failed { R.failed reader.new ≡ is_input_failed result }
-    ensures output_failed { W.failed writer.new ≡ is_output_failed result }
+    ensures output_failed { W.failed output.new.writer.now ≡ is_output_failed result }
     // A read is made only where nothing waits.
-    ensures quiet { is_input_failed result ≡ true → output.new ≡ [] }
+    ensures quiet { is_input_failed result ≡ true → output.new.waiting ≡ [] }
+    ensures same { output.new.writer.ghost_name ≡ output.old.writer.ghost_name }
 {
-    let mut made = Made::new(alloc);
-    let first = build(alloc, lines, reader, output, writer, &mut made)?;
-    let Parts {
+    let mut parts = BodyBuilder::new(alloc);
+    let first = build(alloc, &mut parts, lines, reader, output)?;
+    let BodyBuilder {
         builder,
-        params,
         self_param,
+        params,
         name,
-    } = made.into_parts();
-    let store = finished(builder)?;
+    } = parts;
+    let mut store = finish(builder)?;
     let on_store = match first {
         Some(on_store) => on_store,
         None => {
             disposal.end(store);
-            return accept(output, writer);
+            return output.accept();
         }
     };
-    let left = answer_lines(alloc, &store, on_store, lines, reader, output, writer)?;
+    let left = answer_lines(alloc, &mut store, on_store, lines, reader, output)?;
     let on_body = match left {
         Some(on_body) => on_body,
         None => {
@@ -105,34 +95,13 @@ fn answer_script<R: Source, W: Sink>(
         }
     };
     said_is_written();
-    let body = made_body(alloc, store, params, self_param)?;
-    let unscoped = UnscopedBody {
-        body: BodyOfLines::new(body),
-        name,
-    };
-    let unasked = answer_on_body(
-        alloc, disposal, unscoped, on_body, lines, reader, output, writer,
-    )?;
+    let whole = body_of_parts(alloc, store, params, self_param)?;
+    let mut body = BodyOfLines::new(whole, name);
+    let unasked = answer_lines(alloc, &mut body, on_body, lines, reader, output)?;
+    disposal.end(body);
     match unasked {
         None => Ok(()),
         Some(_) => unreachable!(),
-    }
-}
-
-/// Writes what waits, before the outcome is answered.
-fn close<W: Sink>(
-    outcome: Result<(), RunFault>,
-    output: &mut OutputBuffer,
-    writer: &mut W,
-) -> Result<(), RunFault>
-    ensures closes { Closes (W.contents writer.old) (W.contents writer.new) output.old outcome result }
-    ensures failure { W.failed writer.old ≡ is_output_failed outcome →
-        W.failed writer.new ≡ is_output_failed result }
-{
-    let flushed = output.flush(writer);
-    match flushed {
-        Ok(()) => outcome,
-        Err(_) => Err(RunFault::OutputFailed),
     }
 }
 
@@ -144,19 +113,33 @@ fn run_lines_with<R: Source, W: Sink>(
     reader: &mut R,
     writer: &mut W,
 ) -> Result<(), RunFault>
-    requires fresh { lines.old ≡ record { line = []; pending = []; at_end = false; count = 0 } }
-    requires reading { R.failed reader.old ≡ false }
-    requires writing { W.failed writer.old ≡ false }
-    ensures runs { RunsTo (R.remaining reader.old) (W.contents writer.old) (R.remaining reader.new)
-        (W.contents writer.new) lines.new result }
-    ensures input_failed { R.failed reader.new ≡ is_input_failed result }
-    ensures output_failed { W.failed writer.new ≡ is_output_failed result }
+    requires fresh { lines.old ≡ no_lines }
+    requires unfailed { Unfailed R.Source W.Sink reader.old writer.old }
+    ensures { IsRun R.Source W.Sink reader.old reader.new writer.old writer.new lines.new result }
 {
-    let Ok(mut output) = OutputBuffer::new(alloc) else {
+    let Ok(waiting) = OutputBuffer::new(alloc) else {
         return Err(RunFault::OutOfMemory);
     };
-    let outcome = answer_script(alloc, disposal, lines, reader, &mut output, writer);
-    close(outcome, &mut output, writer)
+    let mut output = Output { waiting, writer };
+    let outcome = answer_script(alloc, disposal, lines, reader, &mut output);
+    output.close(outcome)
+}
+
+/// Runs the program as `run_lines_with` does, on the lines that the source gives.
+fn run_with<R: Source, W: Sink>(
+    alloc: Global,
+    disposal: Disposal,
+    reader: &mut R,
+    writer: &mut W,
+) -> Result<(), RunFault>
+    requires unfailed { Unfailed R.Source W.Sink reader.old writer.old }
+    ensures { (taken : LineState)
+        × IsRun R.Source W.Sink reader.old reader.new writer.old writer.new taken result }
+{
+    let Ok(mut lines) = LineReader::new(alloc) else {
+        return Err(RunFault::OutOfMemory);
+    };
+    run_lines_with(alloc, disposal, &mut lines, reader, writer)
 }
 
 /// Runs the program as `run` does, on the lines that a fresh reader takes from the source. Where memory was refused, the reader tells
@@ -168,13 +151,9 @@ pub fn run_lines<R: Source, W: Sink>(
     reader: &mut R,
     writer: &mut W,
 ) -> Result<(), RunFault>
-    requires fresh { lines.old ≡ record { line = []; pending = []; at_end = false; count = 0 } }
-    requires reading { R.failed reader.old ≡ false }
-    requires writing { W.failed writer.old ≡ false }
-    ensures runs { RunsTo (R.remaining reader.old) (W.contents writer.old) (R.remaining reader.new)
-        (W.contents writer.new) lines.new result }
-    ensures input_failed { R.failed reader.new ≡ is_input_failed result }
-    ensures output_failed { W.failed writer.new ≡ is_output_failed result }
+    requires fresh { lines.old ≡ no_lines }
+    requires unfailed { Unfailed R.Source W.Sink reader.old writer.old }
+    ensures { IsRun R.Source W.Sink reader.old reader.new writer.old writer.new lines.new result }
 {
     run_lines_with(alloc, Disposal::GiveBack, lines, reader, writer)
 }
@@ -192,18 +171,11 @@ pub fn run<R: Source, W: Sink>(
     reader: &mut R,
     writer: &mut W,
 ) -> Result<(), RunFault>
-    requires reading { R.failed reader.old ≡ false }
-    requires writing { W.failed writer.old ≡ false }
-    ensures runs { (taken : LineState)
-        × RunsTo (R.remaining reader.old) (W.contents writer.old) (R.remaining reader.new)
-        (W.contents writer.new) taken result }
-    ensures input_failed { R.failed reader.new ≡ is_input_failed result }
-    ensures output_failed { W.failed writer.new ≡ is_output_failed result }
+    requires unfailed { Unfailed R.Source W.Sink reader.old writer.old }
+    ensures { (taken : LineState)
+        × IsRun R.Source W.Sink reader.old reader.new writer.old writer.new taken result }
 {
-    let Ok(mut lines) = LineReader::new(alloc) else {
-        return Err(RunFault::OutOfMemory);
-    };
-    run_lines(alloc, &mut lines, reader, writer)
+    run_with(alloc, Disposal::GiveBack, reader, writer)
 }
 
 /// Runs the program as `run` does, for a process that ends behind it.
@@ -216,18 +188,11 @@ pub fn run_to_exit<R: Source, W: Sink>(
     reader: &mut R,
     writer: &mut W,
 ) -> Result<(), RunFault>
-    requires reading { R.failed reader.old ≡ false }
-    requires writing { W.failed writer.old ≡ false }
-    ensures runs { (taken : LineState)
-        × RunsTo (R.remaining reader.old) (W.contents writer.old) (R.remaining reader.new)
-        (W.contents writer.new) taken result }
-    ensures input_failed { R.failed reader.new ≡ is_input_failed result }
-    ensures output_failed { W.failed writer.new ≡ is_output_failed result }
+    requires unfailed { Unfailed R.Source W.Sink reader.old writer.old }
+    ensures { (taken : LineState)
+        × IsRun R.Source W.Sink reader.old reader.new writer.old writer.new taken result }
 {
-    let Ok(mut lines) = LineReader::new(alloc) else {
-        return Err(RunFault::OutOfMemory);
-    };
-    run_lines_with(alloc, Disposal::Leave, &mut lines, reader, writer)
+    run_with(alloc, Disposal::Leave, reader, writer)
 }
 
 /// Runs the program as `run_to_exit` does, reports on the sink of errors how it failed, if it did, as `report` does, and answers the
@@ -238,13 +203,9 @@ pub fn run_and_report<R: Source, W: Sink, E: Sink>(
     writer: &mut W,
     errors: &mut E,
 ) -> u8
-    requires reading { R.failed reader.old ≡ false }
-    requires writing { W.failed writer.old ≡ false }
+    requires unfailed { Unfailed R.Source W.Sink reader.old writer.old }
     ensures { (taken : LineState) × (outcome : Outcome)
-        × RunsTo (R.remaining reader.old) (W.contents writer.old) (R.remaining reader.new)
-        (W.contents writer.new) taken outcome
-        × (R.failed reader.new ≡ is_input_failed outcome)
-        × (W.failed writer.new ≡ is_output_failed outcome)
+        × IsRun R.Source W.Sink reader.old reader.new writer.old writer.new taken outcome
         × (E.failed errors.new ≡ false →
         Appends (E.contents errors.old) (E.contents errors.new) (text_of outcome))
         × GrowsByFront (E.contents errors.old) (E.contents errors.new) (text_of outcome)

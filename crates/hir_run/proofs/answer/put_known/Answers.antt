@@ -16,4 +16,4 @@ pub returns : goal.returns
 returns g c =
     let there : c.args.id < length c.args.store.now.nodes.exprs = c.has_expr.ensures.0 c.if-not-has_expr.false in
     rw (children_found c.args.store.now.nodes c.args.id there)
-    (put_then g.W.Sink.contents g.W.Sink.failed c.args.writer.now c.put-2.new.writer c.put_children.new.writer c.args.output.now c.put-2.new.output c.put_children.new.output (codes " =") (spaced (children c.args.store.now.nodes c.args.id)) c.put-2.ensures c.put_children.ensures)
+    (put_then g.W.Sink c.args.output.now c.put-2.new.self c.put_children.new.output (codes " =") (spaced (children c.args.store.now.nodes c.args.id)) c.put-2.ensures c.put_children.ensures)

@@ -1,18 +1,18 @@
-use Rattle.std.proofs.Common.{◌≡◌, ◌+◌, ◌≤◌, List, ℕ, length, true, false}
-use Rattle.hir_io.specs.NextLine.{untaken}
-use Rattle.hir_io.specs.Reads.{Reads}
-use Rattle.hir_run.specs.Stages.{asked, Answered}
+use Rattle.std.proofs.Common.{◌≡◌, ◌+◌, ◌≤◌, ℕ, length, true, false}
+use Rattle.hir_run.specs.Places.{place_of}
+use Rattle.hir_run.proofs.AskedLemmas.{SoFar}
 use Rattle.hir_run.proofs.asking.answer_lines.Given as goal
 
 abbrev pub invariant-loop-left : goal.invariant-loop-left
 invariant-loop-left g l = record {
+  same_asked : l.asked ≡ l.fn.asked;
+  same_sink : l.output.writer.ghost_name ≡ l.fn.output.writer.ghost_name;
   same_read_mark : g.R.Source.failed l.reader ≡ g.R.Source.failed l.fn.reader;
-  unfailed : g.W.Sink.failed l.writer ≡ false;
-  falls : length l.lines.pending + g.R.Source.allowance l.reader + l.lines.count ≤ length l.fn.lines.pending + g.R.Source.allowance l.fn.reader + l.fn.lines.count;
+  unfailed : g.W.Sink.failed l.output.writer.now ≡ false;
+  falls : length l.lines.pending + g.R.Source.allowance l.reader + l.lines.count
+      ≤ length l.fn.lines.pending + g.R.Source.allowance l.fn.reader + l.fn.lines.count;
   stays_ended : l.fn.lines.at_end ≡ true → l.lines.at_end ≡ true;
-  so_far : (texts : List (List ℕ)) × Answered g.A.Answers.may (g.A.Answers.Is l.asked) (asked l.fn.first texts) (g.W.Sink.contents l.fn.writer) l.fn.output (g.W.Sink.contents l.writer) l.output
-      × Reads (untaken l.fn.lines.pending l.fn.lines.at_end (g.R.Source.remaining l.fn.reader)) texts (untaken l.lines.pending l.lines.at_end (g.R.Source.remaining l.reader)) l.lines.at_end
-      × (l.lines.count ≡ l.fn.lines.count + length texts);
+  so_far : SoFar g.A.Answers.may (g.A.Answers.Is l.fn.asked) l.fn.first (place_of g.R.Source g.W.Sink l.fn.lines l.fn.reader l.fn.output) (place_of g.R.Source g.W.Sink l.lines l.reader l.output);
 }
 
 abbrev pub decreases-loop-left : goal.decreases-loop-left

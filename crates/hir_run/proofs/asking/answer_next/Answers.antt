@@ -1,26 +1,28 @@
-use Rattle.std.proofs.Common.{[], refl, append-nil}
-use Rattle.hir_io.proofs.EndLemmas.{IsWrittenUpTo-start}
-use Rattle.hir_lines.specs.Line.{line_of}
-use Rattle.hir_run.proofs.Taken.{question_of}
+use Rattle.std.proofs.Common.{Option, [], refl}
+use Rattle.std.proofs.lemmas.Result.{err_from_is_err_and}
+use Rattle.hir_lines.specs.declared.question.Question.{Question}
+use Rattle.hir_run.specs.Output.{output_of}
+use Rattle.hir_run.proofs.AskedLemmas.{asked_fails, asked_marks_none}
+use Rattle.hir_run.proofs.WritingLemmas.{Wrote-none}
 use Rattle.hir_run.proofs.asking.answer_next.Goals as goal
 
-pub returns-in-Ok-Some-clause-asks : goal.returns-in-Ok-Some-clause-asks
-returns-in-Ok-Some-clause-asks g c =
-    let asked = rw (c.in-Ok-Some.field-0-is, c.line.ensures) at c.in-Ok-Some.ensures.asks in
-    rw asked (c.answer_question.ensures.asks c.args.lines.now.count)
+pub returns-in_err-asked_by-clause-asks : goal.returns-in_err-asked_by-clause-asks
+returns-in_err-asked_by-clause-asks g c =
+    let p = err_from_is_err_and c.from_residual.result c.from_residual.ensures.1 in
+    rw (p.1, p.2) (asked_fails g.A.Answers.may (g.A.Answers.Is c.args.asked.now) c.args.lines.now (output_of g.W.Sink c.args.output.now) c.in_err-asked_by.field-0.0 c.in_err-asked_by.ensures)
 
-pub returns-in-Ok-None-clause-asks : goal.returns-in-Ok-None-clause-asks
-returns-in-Ok-None-clause-asks g c =
-    let asked = rw (c.in-Ok-None.field-0-is, c.line.ensures) at c.in-Ok-None.ensures.asks in
-    rw asked (refl, [], refl, rw append-nil (IsWrittenUpTo-start (g.W.Sink.contents c.args.writer.now) c.args.output.now))
+pub returns-in_err-asked_by-clause-failure : goal.returns-in_err-asked_by-clause-failure
+returns-in_err-asked_by-clause-failure g c =
+    let p = err_from_is_err_and c.from_residual.result c.from_residual.ensures.1 in
+    let none = asked_marks_none (Option Question) c.args.lines.now c.in_err-asked_by.field-0.0 c.in_err-asked_by.ensures in
+    rw (p.1, p.2, none.1) c.requires
 
-pub returns-in-Err-Bad-clause-asks : goal.returns-in-Err-Bad-clause-asks
-returns-in-Err-Bad-clause-asks g c =
-    let does = rw (c.in-Err-Bad.field-0-is, c.line.ensures) at c.in-Err-Bad.ensures.asks in
-    (does.1.0 refl, c.count.ensures, refl, refl)
+pub returns-in-Some-clause-asks : goal.returns-in-Some-clause-asks
+returns-in-Some-clause-asks g c =
+    let says = rw c.in-Some.is at (c.in_ok-asked_by.ensures {u = tt}) in
+    rw says (c.answer_question.ensures.asks c.args.lines.now.count)
 
-pub returns-in-Err-Memory-clause-asks : goal.returns-in-Err-Memory-clause-asks
-returns-in-Err-Memory-clause-asks g c =
-    let does = rw (c.in-Err-Memory.field-0-is, c.line.ensures) at c.in-Err-Memory.ensures.asks in
-    let asked = question_of (line_of c.args.lines.now.line) does.0 (λ other. let wrong = does.1.1 other in cc) in
-    (asked.0, asked.1, refl, refl)
+pub returns-in-None-clause-asks : goal.returns-in-None-clause-asks
+returns-in-None-clause-asks g c =
+    let says = rw c.in-None.is at (c.in_ok-asked_by.ensures {u = tt}) in
+    rw says (refl, [], refl, Wrote-none (output_of g.W.Sink c.args.output.now))

@@ -1,82 +1,114 @@
-use Rattle.std.proofs.Common.{Bool, Ok, ◌++◌, ◌∷◌, [], sym, ap, subst, ◌∙◌, arith, length-append, refl}
+use Rattle.std.proofs.Common.{Bool, true, Ok, Err, ◌++◌, ◌∷◌, [], sym, ap, subst, ◌∙◌, arith, length-append, refl}
 use Rattle.std.specs.Prelude.{◌||◌}
 use Rattle.std.proofs.lemmas.Result.{err_from_is_err_and}
-use Rattle.hir_io.specs.NextLine.{untaken}
-use Rattle.hir_io.proofs.ReadLemmas.{Reads-none, Reads-more, ReadsAll-end}
-use Rattle.hir_run.proofs.Failing.{build_fails, build_line_fails}
-use Rattle.hir_run.specs.Made.{made_of, nothing_made}
-use Rattle.hir_run.specs.Stages.{BuildsLine}
+use Rattle.hir_io.proofs.ReadLemmas.{Reads-none, ReadsAll-end}
+use Rattle.hir_run.specs.Output.{Output}
+use Rattle.hir_run.specs.Parts.{Parts, parts_of, no_parts}
+use Rattle.hir_run.specs.Places.{TakesNext, place_of, unread}
+use Rattle.hir_run.specs.Stages.{Builds, BuildsLine}
+use Rattle.hir_run.proofs.BuildingLemmas.{build_fails, build_line_fails, asked_next, asked_reads_none, read_on, counted_on}
 use Rattle.hir_run.proofs.Scripts.{tells_nothing}
-use Rattle.hir_run.proofs.Making.{Makes-none, makes_line, asks_or_none, asks_reads_none}
+use Rattle.hir_run.proofs.Making.{Makes-none, makes_line}
 use Rattle.hir_run.proofs.building.build.Goals as goal
 
 pub loop-alloc-init : goal.loop-alloc-init
 loop-alloc-init g c = record {
+  same_sink = refl;
   same_mark = refl;
-  quiet = c.requires.quiet;
-  unwritten = refl;
-  falls = omega (arith, c.requires.fresh.0);
-  so_far = ([], rw c.requires.fresh.2 Makes-none, rw c.requires.fresh.2 (tells_nothing nothing_made refl refl), Reads-none _ _, c.requires.fresh.0);
+  untouched = refl;
+  falls = omega arith;
+  so_far = ([], rw c.requires.fresh.2 Makes-none, rw c.requires.fresh.2 (tells_nothing no_parts refl refl), Reads-none _ _, c.requires.fresh.0);
 }
 
 pub returns-in_err-next_line-clause-builds : goal.returns-in_err-next_line-clause-builds
 returns-in_err-next_line-clause-builds g c =
-    let p = err_from_is_err_and c.from_residual.result c.from_residual.ensures.1 in
-    let so_far = c.loop-alloc.invariant.so_far in
+    let e = err_from_is_err_and c.from_residual.result c.from_residual.ensures.1 in
+    let known = unread (place_of g.R.Source g.W.Sink c.args.lines.now c.args.reader.now c.args.output.now) in
+    let p = place_of g.R.Source g.W.Sink c.loop-alloc.lines c.loop-alloc.reader c.loop-alloc.output in
+    let q = place_of g.R.Source g.W.Sink c.next_line.new.lines c.next_line.new.reader c.next_line.new.self in
+    let old = parts_of c.loop-alloc.builder in
+    let all = c.loop-alloc.invariant.so_far in
     let told = c.in_err-next_line.ensures {u = tt} in
-    let quiet = told.idle c.loop-alloc.invariant.quiet in
-    rw (p.1, p.2) (build_fails _ _ _ _ c.loop-alloc.lines c.next_line.new.lines (made_of c.loop-alloc.made) so_far.0 c.in_err-next_line.field-0.0 so_far.1.0 so_far.3 so_far.4 told.count told.takes quiet.0)
+    let quiet = told.idle (ap (λ (o : Output). o.waiting) c.loop-alloc.invariant.untouched ∙ c.requires.quiet) in
+    let next : TakesNext p q (Err c.in_err-next_line.field-0.0) = told.takes in
+    rw (e.1, e.2) (build_fails known p old all q c.in_err-next_line.field-0.0 next quiet.0)
 
 pub loop-alloc-preserved : goal.loop-alloc-preserved
 loop-alloc-preserved g c =
-    let so_far = c.loop-alloc.invariant.so_far in
+    let known = unread (place_of g.R.Source g.W.Sink c.args.lines.now c.args.reader.now c.args.output.now) in
+    let p = place_of g.R.Source g.W.Sink c.loop-alloc.lines c.loop-alloc.reader c.loop-alloc.output in
+    let q = place_of g.R.Source g.W.Sink c.next_line.new.lines c.next_line.new.reader c.next_line.new.self in
+    let old = parts_of c.loop-alloc.builder in
+    let all = c.loop-alloc.invariant.so_far in
+    let new = parts_of c.build_line.new.builder in
     let told = c.in_ok-next_line.ensures {u = tt} in
-    let taken = rw c.if-branch.true at told.takes in
-    let counted = rw c.if-branch.true at told.count in
-    let text = c.next_line.new.lines.line in
+    let next : TakesNext p q (Ok true) = rw c.if-branch.true at told.takes in
     let fell = rw c.if-branch.true at told.falls refl in
-    let quiet = told.idle c.loop-alloc.invariant.quiet in
-    let does = subst (λ (taken : Bool). BuildsLine c.next_line.new.lines (made_of c.loop-alloc.made) (made_of c.build_line.new.made) (Ok taken)) c.if-not-branch.false (c.in_ok-build_line.ensures {u = tt}) in
-    let made = makes_line c.next_line.new.lines (made_of c.loop-alloc.made) (made_of c.build_line.new.made) so_far.0 so_far.1 so_far.2 does in
+    let quiet = told.idle (ap (λ (o : Output). o.waiting) c.loop-alloc.invariant.untouched ∙ c.requires.quiet) in
+    let does = subst (λ (taken : Bool). BuildsLine q.lines old new (Ok taken)) c.if-not-branch.false (c.in_ok-build_line.ensures {u = tt}) in
+    let made = makes_line q.lines old new all.0 all.1 all.2 does in
+    let count = counted_on known p old all q next in
     record {
+      same_sink = told.same ∙ c.loop-alloc.invariant.same_sink;
       same_mark = told.input_failure ∙ c.loop-alloc.invariant.same_mark;
-      quiet = quiet.2;
-      unwritten = quiet.1 ∙ c.loop-alloc.invariant.unwritten;
-      falls = omega (arith, c.loop-alloc.invariant.falls);
-      so_far = (so_far.0 ++ text ∷ [], made.0, made.1, Reads-more _ _ _ so_far.0 text _ _ so_far.3 taken told.stays_ended, omega (arith, so_far.4, length-append so_far.0 (text ∷ [])));
+      untouched = quiet.1 ∙ c.loop-alloc.invariant.untouched;
+      falls = omega (arith, c.loop-alloc.invariant.falls, fell, next.count);
+      so_far = (all.0 ++ q.lines.line ∷ [], made.0, made.1, read_on known p old all q next, omega (arith, count, length-append all.0 (q.lines.line ∷ [])));
     }
 
 pub returns-in_err-build_line-clause-builds : goal.returns-in_err-build_line-clause-builds
 returns-in_err-build_line-clause-builds g c =
-    let p = err_from_is_err_and c.from_residual-in_err-build_line.result c.from_residual-in_err-build_line.ensures.1 in
-    let so_far = c.loop-alloc.invariant.so_far in
+    let e = err_from_is_err_and c.from_residual-in_err-build_line.result c.from_residual-in_err-build_line.ensures.1 in
+    let known = unread (place_of g.R.Source g.W.Sink c.args.lines.now c.args.reader.now c.args.output.now) in
+    let p = place_of g.R.Source g.W.Sink c.loop-alloc.lines c.loop-alloc.reader c.loop-alloc.output in
+    let q = place_of g.R.Source g.W.Sink c.next_line.new.lines c.next_line.new.reader c.next_line.new.self in
+    let old = parts_of c.loop-alloc.builder in
+    let all = c.loop-alloc.invariant.so_far in
     let told = c.in_ok-next_line.ensures {u = tt} in
-    let taken = rw c.if-branch.true at told.takes in
-    let counted = rw c.if-branch.true at told.count in
-    let text = c.next_line.new.lines.line in
-    let read = Reads-more _ _ _ so_far.0 text _ _ so_far.3 taken told.stays_ended in
-    rw (p.1, p.2) (build_line_fails _ _ (untaken c.next_line.new.lines.pending c.next_line.new.lines.at_end (g.R.Source.remaining c.next_line.new.reader)) _ (g.R.Source.remaining c.next_line.new.reader) c.loop-alloc.lines c.next_line.new.lines (made_of c.loop-alloc.made) (made_of c.build_line.new.made) (made_of c.build_line.new.made) so_far.0 c.in_err-build_line.field-0.0 so_far.1.0 so_far.2 so_far.3 read (omega (arith, so_far.4)) (c.in_err-build_line.ensures {u = tt}))
+    let next : TakesNext p q (Ok true) = rw c.if-branch.true at told.takes in
+    let new = parts_of c.build_line.new.builder in
+    rw (e.1, e.2) (build_line_fails known p old all q next new new c.in_err-build_line.field-0.0 (c.in_err-build_line.ensures {u = tt}))
 
 pub returns-then-not-branch-clause-builds : goal.returns-then-not-branch-clause-builds
 returns-then-not-branch-clause-builds g c =
-    let so_far = c.loop-alloc.invariant.so_far in
+    let known = unread (place_of g.R.Source g.W.Sink c.args.lines.now c.args.reader.now c.args.output.now) in
+    let p = place_of g.R.Source g.W.Sink c.loop-alloc.lines c.loop-alloc.reader c.loop-alloc.output in
+    let q = place_of g.R.Source g.W.Sink c.next_line.new.lines c.next_line.new.reader c.next_line.new.self in
+    let old = parts_of c.loop-alloc.builder in
+    let all = c.loop-alloc.invariant.so_far in
     let told = c.in_ok-next_line.ensures {u = tt} in
-    let taken = rw c.if-branch.true at told.takes in
-    let counted = rw c.if-branch.true at told.count in
-    let text = c.next_line.new.lines.line in
-    let read = Reads-more _ _ _ so_far.0 text _ _ so_far.3 taken told.stays_ended in
-    let left = subst (λ (taken : Bool). BuildsLine c.next_line.new.lines (made_of c.loop-alloc.made) (made_of c.build_line.new.made) (Ok taken)) c.if-not-branch.true (c.in_ok-build_line.ensures {u = tt}) in
-    rw left.1 (asks_or_none _ (untaken c.next_line.new.lines.pending c.next_line.new.lines.at_end (g.R.Source.remaining c.next_line.new.reader)) (g.R.Source.remaining c.next_line.new.reader) c.next_line.new.lines (made_of c.loop-alloc.made) so_far.0 c.first_question.result so_far.1 left.0 read (omega (arith, so_far.4)) c.first_question.ensures)
+    let next : TakesNext p q (Ok true) = rw c.if-branch.true at told.takes in
+    let left = subst (λ (taken : Bool). BuildsLine q.lines old (parts_of c.build_line.new.builder) (Ok taken)) c.if-not-branch.true (c.in_ok-build_line.ensures {u = tt}) in
+    subst (λ (parts : Parts). Builds known q parts c.asked_by.result) (sym left.1) (asked_next known p old all q next c.asked_by.result left.0 c.asked_by.ensures)
 
 pub returns-then-not-branch-clause-failure : goal.returns-then-not-branch-clause-failure
 returns-then-not-branch-clause-failure g c =
     let told = c.in_ok-next_line.ensures {u = tt} in
-    told.input_failure ∙ c.loop-alloc.invariant.same_mark ∙ sym (ap (λ b. b || g.R.Source.failed c.args.reader.now) (asks_reads_none c.next_line.new.lines c.first_question.result c.first_question.ensures))
+    told.input_failure ∙ c.loop-alloc.invariant.same_mark ∙ sym (ap (λ b. b || g.R.Source.failed c.args.reader.now) (asked_reads_none c.next_line.new.lines c.asked_by.result c.asked_by.ensures))
 
 pub returns-clause-builds : goal.returns-clause-builds
 returns-clause-builds g c =
-    let so_far = c.loop-alloc.invariant.so_far in
+    let all = c.loop-alloc.invariant.so_far in
     let told = c.in_ok-next_line.ensures {u = tt} in
-    let ended = rw c.if-branch.false at told.takes in
-    let counted = rw c.if-branch.false at told.count in
-    (so_far.0, so_far.1, ReadsAll-end _ _ so_far.0 _ so_far.3 ended.0, ended.2, omega (arith, so_far.4))
+    let next : TakesNext p q (Ok false) = rw c.if-branch.false at told.takes in
+    (all.0, all.1, ReadsAll-end _ _ all.0 _ all.3 next.takes.0, next.takes.2, omega (arith, all.4, next.count))
+
+pub returns-in_err-next_line-clause-still_quiet : goal.returns-in_err-next_line-clause-still_quiet
+returns-in_err-next_line-clause-still_quiet g c =
+    let told = c.in_err-next_line.ensures {u = tt} in
+    (told.idle (ap (λ (o : Output). o.waiting) c.loop-alloc.invariant.untouched ∙ c.requires.quiet)).1 ∙ c.loop-alloc.invariant.untouched
+
+pub returns-in_err-build_line-clause-still_quiet : goal.returns-in_err-build_line-clause-still_quiet
+returns-in_err-build_line-clause-still_quiet g c =
+    let told = c.in_ok-next_line.ensures {u = tt} in
+    (told.idle (ap (λ (o : Output). o.waiting) c.loop-alloc.invariant.untouched ∙ c.requires.quiet)).1 ∙ c.loop-alloc.invariant.untouched
+
+pub returns-then-not-branch-clause-still_quiet : goal.returns-then-not-branch-clause-still_quiet
+returns-then-not-branch-clause-still_quiet g c =
+    let told = c.in_ok-next_line.ensures {u = tt} in
+    (told.idle (ap (λ (o : Output). o.waiting) c.loop-alloc.invariant.untouched ∙ c.requires.quiet)).1 ∙ c.loop-alloc.invariant.untouched
+
+pub returns-clause-still_quiet : goal.returns-clause-still_quiet
+returns-clause-still_quiet g c =
+    let told = c.in_ok-next_line.ensures {u = tt} in
+    (told.idle (ap (λ (o : Output). o.waiting) c.loop-alloc.invariant.untouched ∙ c.requires.quiet)).1 ∙ c.loop-alloc.invariant.untouched

@@ -1,20 +1,18 @@
-use Rattle.std.proofs.Common.{◌≡◌, ◌+◌, ◌≤◌, List, ℕ, [], length}
-use Rattle.hir_io.specs.NextLine.{untaken}
-use Rattle.hir_io.specs.Reads.{Reads}
-use Rattle.hir_run.specs.Made.{made_of}
-use Rattle.hir_run.specs.Stages.{Makes}
-use Rattle.hir_run.proofs.Scripts.{Tells}
+use Rattle.std.proofs.Common.{◌≡◌, ◌+◌, ◌≤◌, ℕ, length}
+use Rattle.hir_run.specs.Output.{output_of}
+use Rattle.hir_run.specs.Parts.{parts_of}
+use Rattle.hir_run.specs.Places.{place_of, unread}
+use Rattle.hir_run.proofs.BuildingLemmas.{SoFar}
 use Rattle.hir_run.proofs.building.build.Given as goal
 
 abbrev pub invariant-loop-alloc : goal.invariant-loop-alloc
 invariant-loop-alloc g l = record {
+  same_sink : l.output.writer.ghost_name ≡ l.fn.output.writer.ghost_name;
   same_mark : g.R.Source.failed l.reader ≡ g.R.Source.failed l.fn.reader;
-  quiet : l.output ≡ [];
-  unwritten : l.writer ≡ l.fn.writer;
-  falls : length l.lines.pending + g.R.Source.allowance l.reader + l.lines.count ≤ length l.fn.lines.pending + g.R.Source.allowance l.fn.reader;
-  so_far : (texts : List (List ℕ)) × Makes texts (made_of l.made) × Tells (made_of l.made) texts
-      × Reads (untaken l.fn.lines.pending l.fn.lines.at_end (g.R.Source.remaining l.fn.reader)) texts (untaken l.lines.pending l.lines.at_end (g.R.Source.remaining l.reader)) l.lines.at_end
-      × (l.lines.count ≡ length texts);
+  untouched : output_of g.W.Sink l.output ≡ output_of g.W.Sink l.fn.output;
+  falls : length l.lines.pending + g.R.Source.allowance l.reader + l.lines.count
+      ≤ length l.fn.lines.pending + g.R.Source.allowance l.fn.reader + l.fn.lines.count;
+  so_far : SoFar (unread (place_of g.R.Source g.W.Sink l.fn.lines l.fn.reader l.fn.output)) (place_of g.R.Source g.W.Sink l.lines l.reader l.output) (parts_of l.builder);
 }
 
 abbrev pub decreases-loop-alloc : goal.decreases-loop-alloc

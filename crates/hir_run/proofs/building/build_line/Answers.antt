@@ -6,14 +6,14 @@ use Rattle.hir_run.proofs.building.build_line.Goals as goal
 pub returns-in-Ok : goal.returns-in-Ok
 returns-in-Ok c =
     let does = rw c.line.ensures at c.in-Ok.ensures.makes in
-    made_or_left (line_of c.args.lines.now.line) c.args.made.now c.make.new.builder c.in-Ok.taken does.0 does.1
+    made_or_left (line_of c.args.lines.now.line) c.args.builder.now c.make.new.builder c.in-Ok.taken does.0 does.1
 
 pub returns-in-Err-Bad : goal.returns-in-Err-Bad
 returns-in-Err-Bad c =
     let does = rw (c.in-Err-Bad.field-0-is, c.line.ensures) at c.in-Err-Bad.ensures.makes in
-    (no_line (line_of c.args.lines.now.line) c.args.made.now does.1 (does.2.0 refl), c.count.ensures)
+    (no_line (line_of c.args.lines.now.line) c.args.builder.now does.1 (does.2.0 refl), c.count.ensures)
 
 pub returns-in-Err-Memory : goal.returns-in-Err-Memory
 returns-in-Err-Memory c =
     let does = rw (c.in-Err-Memory.field-0-is, c.line.ensures) at c.in-Err-Memory.ensures.makes in
-    no_memory (line_of c.args.lines.now.line) c.args.made.now does.1 (λ none. let wrong = does.2.1 none in cc)
+    no_memory (line_of c.args.lines.now.line) c.args.builder.now does.1 (λ none. let wrong = does.2.1 none in cc)

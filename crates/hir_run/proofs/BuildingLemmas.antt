@@ -1,0 +1,113 @@
+-- How the lines that make end: where no line can be had, at a line that makes nothing, or at a question.
+use Rattle.std.proofs.Common.{◌≡◌, ◌≢◌, ◌+◌, ◌++◌, ◌∷◌, [], ℕ, true, false, List, Option, None, Some, Result, Ok, Err, length, inl, inr, refl, sym, ap, ◌∙◌, if◌then◌else◌, arith}
+use Rattle.std.proofs.lemmas.Bool.{false≢true}
+use Rattle.hir_io.specs.declared.next.LineFault.{LineFault}
+use Rattle.hir_io.specs.declared.next.LineFault.TheVariants as line
+use Rattle.hir_io.specs.LineState.{LineState}
+use Rattle.hir_io.specs.NextLine.{is_failed_output}
+use Rattle.hir_io.specs.Reads.{Reads, ReadsFront}
+use Rattle.hir_io.proofs.ReadLemmas.{Reads-more, ReadsFront-now, ReadsUntilFailure-now}
+use Rattle.hir_lines.specs.Line.{Line, Blank, Make, Ask, Bad, line_of, makes, asks}
+use Rattle.hir_lines.specs.Makers.{Maker}
+use Rattle.hir_lines.specs.Taking.{line_asked}
+use Rattle.hir_lines.specs.declared.question.Question.{Question}
+use Rattle.hir_run.specs.declared.fault.RunFault.{RunFault}
+use Rattle.hir_run.specs.declared.fault.RunFault.TheVariants.{BadLine, Refused, BodyRefused, InputFailed, OutputFailed, OutOfMemory}
+use Rattle.hir_run.specs.Faults.{fault_of_line}
+use Rattle.hir_run.specs.Outcomes.{is_input_failed}
+use Rattle.hir_run.specs.Parts.{Parts, is_second}
+use Rattle.hir_run.specs.Places.{Place, TakesNext, unread}
+use Rattle.hir_run.specs.Program.{line_behind}
+use Rattle.hir_run.specs.Stages.{Makes, Builds, BuildsLine, IsAsked}
+use Rattle.hir_run.proofs.Refusals.{behind_line, behind_none, some_text}
+use Rattle.hir_run.proofs.Scripts.{Tells, bad_is, behind_make, behind_question}
+
+neither : (line : Line) → makes line ≡ false → asks line ≡ false → line ≡ Bad
+neither Blank m a = absurd (false≢true (sym m))
+neither (Make maker) m a = absurd (false≢true (sym m))
+neither (Ask question) m a = absurd (false≢true (sym a))
+neither Bad m a = refl
+
+-- so far these lines were read, and this is what they make
+abbrev pub SoFar : Option (List ℕ) → Place → Parts → Type 0
+SoFar known now parts =
+    (texts : List (List ℕ)) × Makes texts parts × Tells parts texts
+    × Reads known texts (unread now) now.lines.at_end × (now.lines.count ≡ length texts)
+
+module _ (known : Option (List ℕ)) (p : Place) (parts : Parts) (all : SoFar known p parts) where
+  abbrev texts : List (List ℕ)
+  texts = all.0
+
+  m : Makes texts parts
+  m = all.1
+
+  tells : Tells parts texts
+  tells = all.2
+
+  read : Reads known texts (unread p) p.lines.at_end
+  read = all.3
+
+  count : p.lines.count ≡ length texts
+  count = all.4
+
+  -- no line can be had
+  pub build_fails : (q : Place) (fault : LineFault) → TakesNext p q (Err fault) → is_failed_output (Err fault) ≡ false → Builds known q parts (Err (fault_of_line fault))
+  build_fails q line.OutOfMemory t quiet =
+      let counted : q.lines.count ≡ p.lines.count + 0 = t.count in
+      (texts, m.0, behind_none (λ text. line_behind texts text ≢ Bad) 0 known texts q.lines.line q.lines.count t.takes.1 (ReadsFront-now known (unread p) texts p.lines.at_end read) (omega (arith, count, counted)))
+  build_fails q line.InputFailed t quiet =
+      (texts, m.0, ReadsUntilFailure-now known (unread p) q.remaining texts q.lines.pending p.lines.at_end read t.takes.1 t.takes.0)
+  build_fails q line.OutputFailed t quiet = cc
+
+  -- a line was taken
+  module _ (q : Place) (t : TakesNext p q (Ok true)) where
+    pub read_on : Reads known (texts ++ q.lines.line ∷ []) (unread q) q.lines.at_end
+    read_on = Reads-more known (unread p) (unread q) texts q.lines.line p.lines.at_end q.lines.at_end read t.takes t.stays_ended
+
+    pub counted_on : q.lines.count ≡ length texts + 1
+    counted_on =
+        let counted : q.lines.count ≡ p.lines.count + 1 = t.count in
+        omega (arith, count, counted)
+
+    front_on : ReadsFront known (texts ++ q.lines.line ∷ [])
+    front_on = ReadsFront-now known (unread q) (texts ++ q.lines.line ∷ []) q.lines.at_end read_on
+
+    -- it makes something, and is the second of its kind or isn't
+    there : (maker : Maker) → line_of q.lines.line ≡ Make maker → line_behind texts q.lines.line ≡ (if is_second parts maker then Bad else Make maker)
+    there maker says = behind_make parts texts q.lines.line maker tells says
+
+    -- it is bad there, or memory was refused to it
+    pub build_line_fails : (new after : Parts) (fault : RunFault) → BuildsLine q.lines parts new (Err fault) → Builds known q after (Err fault)
+    build_line_fails new after OutOfMemory (maker, says, first) =
+        let good : line_behind texts q.lines.line ≡ Make maker = there maker says ∙ ap (λ b. if b then Bad else Make maker) first in
+        (texts, m.0, behind_line (λ text. line_behind texts text ≢ Bad) 0 known texts q.lines.line q.lines.count (some_text q.lines.line (Make maker) says (λ e. cc)) front_on (omega (arith, counted_on)) (λ bad. let wrong : Make maker ≡ Bad = sym good ∙ bad in cc))
+    build_line_fails new after (BadLine number) (inl bad, is) = (texts, q.lines.line, m.0, bad_is texts q.lines.line bad, front_on, is ∙ counted_on)
+    build_line_fails new after (BadLine number) (inr (maker, says, second), is) =
+        (texts, q.lines.line, m.0, there maker says ∙ ap (λ b. if b then Bad else Make maker) second, front_on, is ∙ counted_on)
+    build_line_fails new after InputFailed does = absurd does
+    build_line_fails new after OutputFailed does = absurd does
+    build_line_fails new after (Refused fault) does = absurd does
+    build_line_fails new after (BodyRefused fault) does = absurd does
+
+    -- it makes nothing: it is a question, or bad, or memory was refused to it
+    pub asked_next : (result : Result (Option Question) RunFault) → makes (line_of q.lines.line) ≡ false → IsAsked q.lines result → Builds known q parts result
+    asked_next (Ok None) left says = absurd (false≢true (sym left ∙ ap makes says))
+    asked_next (Ok (Some question)) left says = (texts, m, says, read_on, counted_on)
+    asked_next (Err (BadLine number)) left (other, is) =
+        (texts, q.lines.line, m.0, bad_is texts q.lines.line (neither (line_of q.lines.line) left other), front_on, is ∙ counted_on)
+    asked_next (Err OutOfMemory) left (question, says) =
+        (texts, m.0, behind_line (λ text. line_behind texts text ≢ Bad) 0 known texts q.lines.line q.lines.count (some_text q.lines.line (Ask question) says (λ e. cc)) front_on (omega (arith, counted_on)) (λ bad. let wrong : Ask question ≡ Bad = sym (behind_question texts q.lines.line question says) ∙ bad in cc))
+    asked_next (Err InputFailed) left does = absurd does
+    asked_next (Err OutputFailed) left does = absurd does
+    asked_next (Err (Refused fault)) left does = absurd does
+    asked_next (Err (BodyRefused fault)) left does = absurd does
+
+-- what the line asks is no failed read
+pub asked_reads_none : (lines : LineState) (result : Result (Option Question) RunFault) → IsAsked lines result → is_input_failed result ≡ false
+asked_reads_none lines (Ok asked) a = refl
+asked_reads_none lines (Err (BadLine number)) a = refl
+asked_reads_none lines (Err OutOfMemory) a = refl
+asked_reads_none lines (Err InputFailed) a = absurd a
+asked_reads_none lines (Err OutputFailed) a = absurd a
+asked_reads_none lines (Err (Refused fault)) a = absurd a
+asked_reads_none lines (Err (BodyRefused fault)) a = absurd a
