@@ -1,10 +1,8 @@
-//! The tests of `hir_pretty` that rows of text can't be: trees 1,000,000 deep, and prints of which a growth is refused.
-//! A test in which a growth is refused ends with that error. What each form is printed as stands in the rows of `hir_rows`.
+//! The tests of `hir_print_defs` that rows of text can't be: prints of which a growth is refused are made again.
+//! A test in which another growth is refused ends with that error. What each is printed as stands in the rows of `hir_rows`.
 #![tactic(auto)]
 
 #[cfg(test)]
 mod build;
-#[cfg(test)]
-mod deep;
 #[cfg(test)]
 mod growths;

@@ -1,0 +1,11 @@
+pub mod WorkedRows
+pub mod StepLemmas
+pub mod ArgsItems
+pub mod FallLemmas
+pub mod NodesFall
+pub mod ItemsFall
+pub mod AddLemmas
+pub mod TurnLemmas
+pub mod PageOfPieces
+pub mod AnswerLemmas
+pub mod NameLemmas

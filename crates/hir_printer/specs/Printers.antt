@@ -1,0 +1,100 @@
+-- What works stand for, and what becomes of them.
+use Rattle.std.specs.Prelude.{◌≡◌, ◌<◌, ◌≤◌, ℕ, Bool, true, false, List, [], ◌∷◌, ◌++◌, Option, Some, None, ⊤, codes}
+use Rattle.std.specs.List.{flat_map}
+use Rattle.std.specs.Fmt.{decimal}
+use Rattle.hir_expr_store.specs.declared.missing.Missing.{Missing}
+use Rattle.hir_page.specs.Pieces.{Piece}
+use Rattle.hir_printer.specs.declared.work.Work.{Work}
+use Rattle.hir_printer.specs.declared.work.Work.TheVariants as work
+use Rattle.hir_printer.specs.Questions.{Setting}
+use Rattle.hir_printer.specs.Items.{Item, Lacks, text, sp, br, into, out, e, under, p, t, when}
+use Rattle.hir_printer.specs.Names.{name_items}
+use Rattle.hir_printer.specs.Literals.{literal_items}
+use Rattle.hir_printer.specs.Paths.{args_items, turbofish}
+use Rattle.hir_printer.specs.Pieces.{NodePiece, Layout, Absent, printed}
+use Rattle.hir_printer.specs.Weights.{heft}
+use Rattle.hir_printer.specs.Printing.{Printing}
+
+-- the items that a work stands for
+abbrev pub stands_for : Setting → Work → List Item
+stands_for s (work.Text x) = text x.now
+stands_for s work.Space = sp
+stands_for s work.Break = br
+stands_for s work.Indent = into
+stands_for s work.Outdent = out
+stands_for s (work.Number n) = text (decimal n)
+stands_for s (work.Literal x) = literal_items x.now
+stands_for s (work.Name name) = name_items s name.now
+stands_for s (work.Whole id) = e id
+stands_for s (work.Under id parent) = under parent id
+stands_for s (work.Pattern id) = p id
+stands_for s (work.Type id) = t id
+stands_for s (work.Args x) = turbofish (args_items s x.now)
+stands_for s (work.Lacks missing) = Lacks missing ∷ []
+
+-- a work that is neither text nor layout
+abbrev pub IsNode : Work → Type 0
+IsNode (work.Text x) = ⊥
+IsNode work.Space = ⊥
+IsNode work.Break = ⊥
+IsNode work.Indent = ⊥
+IsNode work.Outdent = ⊥
+IsNode (work.Number n) = ⊥
+IsNode (work.Literal x) = ⊥
+IsNode (work.Name name) = ⊥
+IsNode (work.Whole id) = ⊤
+IsNode (work.Under id parent) = ⊤
+IsNode (work.Pattern id) = ⊤
+IsNode (work.Type id) = ⊤
+IsNode (work.Args x) = ⊤
+IsNode (work.Lacks missing) = ⊤
+
+-- the items that works stand for, the first first
+abbrev pub meant : Setting → List Work → List Item
+meant s works = flat_map (stands_for s) works
+
+-- the same, put behind others one by one
+abbrev pub stood_after : Setting → List Item → List Work → List Item
+stood_after s is [] = is
+stood_after s is (w ∷ ws) = stood_after s (is ++ stands_for s w) ws
+
+abbrev pub stood : Setting → List Work → List Item
+stood s [] = []
+stood s (w ∷ ws) = stood_after s (stands_for s w) ws
+
+-- each after a separator, the first only where something is before it
+abbrev pub following : List Item → Bool → List (List Item) → List Item
+following separator after [] = []
+following separator after (x ∷ xs) = when after separator ++ x ++ following separator true xs
+
+-- items, in parentheses where they need them
+abbrev pub enclosed : Bool → List Item → List Item
+enclosed b is = when b (text (codes "(")) ++ is ++ when b (text (codes ")"))
+
+-- A writer is led over the pieces to their end, or to the first definition that is missing.
+pub data Prints {W : Type 0} (step : W → Piece → W → Type 0) : W → List NodePiece → Option Missing → W → Type 0 where
+  ended : {v : W} → Prints step v [] None v
+  written : {u v w : W} {q : Piece} {ps : List NodePiece} {m : Option Missing} → step u q v → Prints step v ps m w → Prints step u (Layout q ∷ ps) m w
+  absent : {v : W} {m : Missing} {ps : List NodePiece} → Prints step v (Absent m ∷ ps) (Some m) v
+
+-- What follows from the second writer and items follows from the first and its items, whatever is printed behind them.
+pub record Leads {W : Type 0} (step : W → Piece → W → Type 0) (s : Setting) (u : W) (is : List Item) (v : W) (js : List Item) : Type 0 where
+  pub leads : (more : List Item) (m : Option Missing) (last : W) → Prints step v (printed s (js ++ more)) m last → Prints step u (printed s (is ++ more)) m last
+
+-- A printer whose writer was led over a work, which is something.
+pub record Wrote {W : Type 0} (step : W → Piece → W → Type 0) (w : Work) (old new : Printing W) : Type 0 where
+  pub same : new ≡ record old { writer = new.writer }
+  pub leads : Leads step old.from old.writer (stands_for old.from w) new.writer []
+  pub some : 0 < heft old.from (stands_for old.from w)
+
+-- A printer after items were added: they were written, or are kept behind those that were.
+pub record Adds {W : Type 0} (step : W → Piece → W → Type 0) (old : Printing W) (items : Setting → List Item) (new : Printing W) : Type 0 where
+  pub same : new ≡ record old { kept = new.kept; writer = new.writer }
+  pub leads : Leads step old.from old.writer (meant old.from old.kept ++ items old.from) new.writer (meant old.from new.kept)
+  pub less : heft old.from (meant old.from new.kept) ≤ heft old.from (meant old.from old.kept ++ items old.from)
+
+-- A turn: a work was written, or gave way to works that are kept, and less is to be done.
+pub record Turned {W : Type 0} (step : W → Piece → W → Type 0) (w : Work) (old new : Printing W) : Type 0 where
+  pub same : new ≡ record old { kept = new.kept; writer = new.writer }
+  pub leads : Leads step old.from old.writer (stands_for old.from w) new.writer (meant old.from new.kept)
+  pub less : heft old.from (meant old.from new.kept) < heft old.from (stands_for old.from w)

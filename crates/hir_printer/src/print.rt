@@ -1,0 +1,193 @@
+//! The printer's loop, and the text that it gives.
+#![tactic(auto, using(crate::proofs::TurnLemmas::turns))]
+
+ghost use Rattle.std.specs.Prelude.{◌≡◌, ◌++◌, [], List, Some, None, Err, OnOk, slice_get};
+ghost use Rattle.hir_base.specs.RawWords.{words_of};
+ghost use Rattle.hir_node.specs.declared.node_id.NodeId.TheVariants as node;
+ghost use Rattle.hir_expr_store.specs.declared.missing.Missing.{Missing};
+ghost use Rattle.hir_printer.specs.declared.fault.PrintFault.TheVariants as fault;
+ghost use Rattle.hir_printer.specs.Answers.{answers};
+ghost use Rattle.hir_printer.specs.Settings.{setting};
+ghost use Rattle.hir_printer.specs.Items.{Item};
+ghost use Rattle.hir_printer.specs.Paths.{args_items, turbofish};
+ghost use Rattle.hir_printer.specs.Pieces.{items_of, format_of, printed, is_chain, stands_in_parentheses, precedence_found};
+ghost use Rattle.hir_printer.specs.Falls.{ItemsFall};
+ghost use Rattle.hir_printer.specs.Printed.{PrintsPieces};
+ghost use Rattle.hir_printer.specs.Printers.{meant, Adds, Prints, Turned, enclosed};
+ghost use Rattle.hir_printer.specs.OnPage.{on_page, AddsOnPage};
+
+use crate::fault::PrintFault;
+use crate::laws::items_fall;
+use crate::printer::Printer;
+use crate::work::Work;
+use hir_base::{Edition, ExprPrecedence};
+use hir_defs::Tables;
+use hir_expr_store::ExpressionStore;
+use hir_node::{ExprId, GenericArgs, PatId, TypeRefId};
+use hir_page::{LineFormat, PageBuffer, PieceWriter};
+use std::alloc::{AllocError, Global};
+
+fn precedence_at(store: &ExpressionStore, id: ExprId) -> ExprPrecedence
+    ensures { result ≡ precedence_found (slice_get store.now.nodes.exprs id) }
+{
+    if store.has_expr(id) {
+        return store[id].precedence();
+    }
+    ExprPrecedence::Unambiguous
+}
+
+/// `||` under `||` and `&&` under `&&` are without parentheses.
+fn is_chain(child: ExprPrecedence, parent: ExprPrecedence) -> bool
+    ensures { result ≡ is_chain child parent }
+{
+    matches!(
+        (child, parent),
+        (ExprPrecedence::LOr, ExprPrecedence::LOr) | (ExprPrecedence::LAnd, ExprPrecedence::LAnd)
+    )
+}
+
+/// Whether an expression of one precedence stands in parentheses under another.
+fn stands_in_parentheses(child: ExprPrecedence, parent: ExprPrecedence) -> bool
+    ensures { result ≡ stands_in_parentheses child parent }
+{
+    child.needs_parentheses_in(parent) && !is_chain(child, parent)
+}
+
+fn line_format(one_line: bool) -> LineFormat
+    ensures { result ≡ format_of one_line }
+{
+    if one_line {
+        LineFormat::Oneline
+    } else {
+        LineFormat::Newline
+    }
+}
+
+impl<'a, W: PieceWriter> Printer<'a, W> {
+    fn add_expr_at(&mut self, id: ExprId) -> Result<(), AllocError>
+        ensures { OnOk result (Adds W.step self.old (λ s. items_of s (node.Expr id)) self.new) }
+    {
+        let store = self.store();
+        if store.has_expr(id) {
+            return self.add_expr(&store[id]);
+        }
+        Ok(())
+    }
+
+    fn add_pat_at(&mut self, id: PatId) -> Result<(), AllocError>
+        ensures { OnOk result (Adds W.step self.old (λ s. items_of s (node.Pat id)) self.new) }
+    {
+        let store = self.store();
+        if store.has_pat(id) {
+            return self.add_pat(&store[id]);
+        }
+        Ok(())
+    }
+
+    fn add_type_at(&mut self, id: TypeRefId) -> Result<(), AllocError>
+        ensures { OnOk result (Adds W.step self.old (λ s. items_of s (node.TypeRef id)) self.new) }
+    {
+        let store = self.store();
+        if store.has_type(id) {
+            return self.add_type(&store[id]);
+        }
+        Ok(())
+    }
+
+    /// Adds an expression, in parentheses where its precedence asks for them under that of its parent.
+    fn add_under(&mut self, id: ExprId, parent: ExprPrecedence) -> Result<(), AllocError>
+        ensures { OnOk result (Adds W.step self.old (λ s. enclosed
+            (stands_in_parentheses (precedence_found (slice_get s.nodes.exprs id)) parent)
+            (items_of s (node.Expr id))) self.new) }
+    {
+        let is_enclosed = stands_in_parentheses(precedence_at(self.store(), id), parent);
+        self.add_if(is_enclosed, "(")?;
+        self.add_expr_at(id)?;
+        self.add_if(is_enclosed, ")")
+    }
+
+    /// Adds generic arguments in `::<` and `>`.
+    fn add_fish(&mut self, args: &'a GenericArgs) -> Result<(), AllocError>
+        ensures { OnOk result (Adds W.step self.old (λ s. turbofish (args_items s args.now)) self.new) }
+    {
+        self.add(&[Work::Text("::<")])?;
+        self.add_args(args)?;
+        self.add(&[Work::Text(">")])
+    }
+
+    /// Writes a work, or adds what it gives way to.
+    #[inline(always)]
+    fn turn(&mut self, work: Work<'a>) -> Result<(), PrintFault>
+        requires fall { ItemsFall self.old.from }
+        requires none { self.old.kept ≡ [] }
+        ensures ok { OnOk result (Turned W.step work self.old self.new) }
+        ensures missing { (m : Missing) → result ≡ Err (fault.Missing m) → work ≡ Work.Lacks m }
+    {
+        if self.write_work(work)? {
+            return Ok(());
+        }
+        match work {
+            Work::Whole(id) => self.add_expr_at(id)?,
+            Work::Under(id, parent) => self.add_under(id, parent)?,
+            Work::Pattern(id) => self.add_pat_at(id)?,
+            Work::Type(id) => self.add_type_at(id)?,
+            Work::Args(args) => self.add_fish(args)?,
+            Work::Lacks(missing) => return Err(PrintFault::Missing(missing)),
+            Work::Text(_)
+            | Work::Space
+            | Work::Break
+            | Work::Indent
+            | Work::Outdent
+            | Work::Number(_)
+            | Work::Literal(_)
+            | Work::Name(_) => unreachable!(),
+        }
+        Ok(())
+    }
+
+    /// Writes the pieces of what was added, up to the first fault.
+    fn write(&mut self) -> Result<(), PrintFault>
+        ensures ok { OnOk result (Prints W.step self.old.writer
+            (printed self.old.from (meant self.old.from (self.old.kept ++ self.old.waiting))) None self.new.writer) }
+        ensures missing { (m : Missing) → result ≡ Err (fault.Missing m) → Prints W.step self.old.writer
+            (printed self.old.from (meant self.old.from (self.old.kept ++ self.old.waiting))) (Some m) self.new.writer }
+    {
+        self.store().has_no_fault();
+        items_fall();
+        self.end_turn();
+        while let Some(work) = self.begin_turn() {
+            self.turn(work)?;
+            self.end_turn();
+        }
+        Ok(())
+    }
+}
+
+impl<'a> Printer<'a, PageBuffer> {
+    /// A printer onto a page, with the words of an edition, to which nothing was added. It allocates from `alloc`, and nothing now.
+    pub fn new(
+        alloc: Global,
+        store: &'a ExpressionStore,
+        tables: &'a Tables,
+        edition: Edition,
+        one_line: bool,
+    ) -> Printer<'a, PageBuffer>
+        ensures { result ≡ on_page
+            (setting store.now (answers tables.now) (words_of tables.now.words edition) one_line) }
+    {
+        let page = PageBuffer::new(alloc, line_format(one_line));
+        Printer::over(alloc, store, tables, edition, one_line, page)
+    }
+
+    /// The text of what was added.
+    ///
+    /// Answers `Missing` of the first definition outside that the text names and that the tables don't have, and `Memory` where memory
+    /// was refused. A text that was begun is dropped.
+    pub fn print(mut self) -> Result<String, PrintFault>
+        ensures { (items : List Item) → AddsOnPage (on_page self.from) (λ s. items) self
+            → PrintsPieces self.from (printed self.from items) result }
+    {
+        self.write()?;
+        Ok(self.into_writer().into_text())
+    }
+}

@@ -1,0 +1,207 @@
+//! The printer: what it prints from, what it writes to, and what still waits.
+
+ghost use Rattle.std.specs.Prelude.{◌≡◌, ◌∷◌, [], ◌++◌, true, false, IfOk, IfSome, IsOk, None, OnOk};
+ghost use Rattle.std.specs.Bool.{IsTrue};
+ghost use Rattle.hir_base.specs.RawWords.{words_of};
+ghost use Rattle.hir_printer.specs.Items.{text, when};
+ghost use Rattle.hir_printer.specs.Settings.{setting};
+ghost use Rattle.hir_printer.specs.Answers.{answers};
+ghost use Rattle.hir_printer.specs.Printers.{Adds, Wrote, IsNode, stands_for, stood};
+
+use crate::literals::write_literal;
+use crate::names::write_name;
+use crate::work::Work;
+use hir_base::{Edition, Text};
+use hir_defs::Tables;
+use hir_expr_store::ExpressionStore;
+use hir_page::{PieceWriter, write_number};
+use std::alloc::{AllocError, Global};
+use std::marker::Model;
+
+/// Prints what is added to it, the first first. Contracts see what it prints from, the works that were kept in this turn, those that wait,
+/// and the writer.
+///
+/// What comes first in a turn is written at once; from the first node on it is kept. Where all is kept and written in a turn of its own,
+/// a run with all questions takes a tenth of its instructions more.
+#[derive(Drop)]
+pub struct Printer<'a, W> {
+    store: &'a ExpressionStore,
+    tables: &'a Tables,
+    words: &'a [Text],
+    one_line: bool,
+    writer: W,
+    // those that wait, the next last, and behind them those that were kept in this turn, the first first
+    works: Vec<Work<'a>>,
+    waiting: usize,
+}
+
+impl<'a, W> Model for Printer<'a, W> {
+    ghost use Rattle.std.specs.Prelude.{◌≤◌, length, reverse, take, drop};
+    ghost use Rattle.hir_printer.specs.Settings.{setting};
+    ghost use Rattle.hir_printer.specs.Answers.{answers};
+    ghost use Rattle.hir_printer.specs.Printing.{Printing};
+
+    ghost Value = { Printing W };
+
+    ghost view = { λ p. record {
+      from = setting p.store.now (answers p.tables.now) p.words.now p.one_line;
+      kept = drop p.waiting p.works.items;
+      waiting = reverse (take p.waiting p.works.items);
+      writer = p.writer;
+    } };
+
+    ghost invariant = { λ p. p.waiting ≤ length p.works.items };
+}
+
+impl<'a, W: PieceWriter> Printer<'a, W> {
+    /// A printer from a store and tables, with the words of an edition, to which nothing was added. It allocates from `alloc`, and nothing now.
+    pub fn over(
+        alloc: Global,
+        store: &'a ExpressionStore,
+        tables: &'a Tables,
+        edition: Edition,
+        one_line: bool,
+        writer: W,
+    ) -> Printer<'a, W>
+        ensures { result ≡ record {
+          from = setting store.now (answers tables.now) (words_of tables.now.words edition) one_line;
+          kept = [];
+          waiting = [];
+          writer = writer;
+        } }
+    {
+        Printer {
+            store,
+            tables,
+            words: tables.raw_words(edition),
+            one_line,
+            writer,
+            works: Vec::new(alloc),
+            waiting: 0,
+        }
+    }
+
+    /// The store that it prints from.
+    pub(crate) fn store(&self) -> &'a ExpressionStore
+        ensures { result.now.nodes ≡ self.now.from.nodes }
+    {
+        self.store
+    }
+
+    /// The tables that it prints from.
+    pub(crate) fn tables(&self) -> &'a Tables
+        ensures { answers result.now ≡ self.now.from.tables }
+    {
+        self.tables
+    }
+
+    /// The words that are printed with `r#`.
+    pub(crate) fn words(&self) -> &'a [Text]
+        ensures { result.now ≡ self.now.from.words }
+    {
+        self.words
+    }
+
+    /// Whether all is printed in one line.
+    pub(crate) fn is_one_line(&self) -> bool
+        ensures { result ≡ self.now.from.one_line }
+    {
+        self.one_line
+    }
+
+    /// Writes a work that is text or layout. Answers whether it is.
+    #[inline(always)]
+    pub(crate) fn write_work(&mut self, work: Work<'a>) -> Result<bool, AllocError>
+        ensures wrote { IfOk result (λ b. b ≡ true → Wrote W.step work self.old self.new) }
+        ensures node { IfOk result (λ b. b ≡ false → IsNode work × (self.new ≡ self.old)) }
+    {
+        match work {
+            Work::Text(text) => self.writer.text(text)?,
+            Work::Space => self.writer.soft_space()?,
+            Work::Break => self.writer.line_break()?,
+            Work::Indent => self.writer.indent()?,
+            Work::Outdent => self.writer.outdent()?,
+            Work::Number(number) => write_number(&mut self.writer, number)?,
+            Work::Literal(literal) => write_literal(&mut self.writer, literal)?,
+            Work::Name(name) => write_name(&mut self.writer, self.words, name)?,
+            Work::Whole(_)
+            | Work::Under(_, _)
+            | Work::Pattern(_)
+            | Work::Type(_)
+            | Work::Args(_)
+            | Work::Lacks(_) => return Ok(false),
+        }
+        Ok(true)
+    }
+
+    /// Adds a work.
+    #[inline(always)]
+    fn add_work(&mut self, work: Work<'a>) -> Result<(), AllocError>
+        ensures { OnOk result (Adds W.step self.old (λ s. stands_for s work) self.new) }
+    {
+        if self.works.len() == self.waiting && self.write_work(work)? {
+            return Ok(());
+        }
+        self.works.push(work)?;
+        Ok(())
+    }
+
+    /// Adds works.
+    #[inline(always)]
+    pub fn add(&mut self, works: &[Work<'a>]) -> Result<(), AllocError>
+        ensures { OnOk result (Adds W.step self.old (λ s. stood s works.now) self.new) }
+    {
+        for work in works {
+            self.add_work(*work)?;
+        }
+        Ok(())
+    }
+
+    /// Adds a text, where the condition holds.
+    pub fn add_if(&mut self, holds: bool, shown: &'a str) -> Result<(), AllocError>
+        ensures { OnOk result (Adds W.step self.old (λ s. when holds (text shown.now)) self.new) }
+    {
+        if holds {
+            return self.add(&[Work::Text(shown)]);
+        }
+        Ok(())
+    }
+
+    /// Lets what was kept in this turn wait, before all that waits.
+    pub(crate) fn end_turn(&mut self)
+        ensures { self.new ≡ record self.old { kept = []; waiting = self.old.kept ++ self.old.waiting } }
+    {
+        self.works[self.waiting..].reverse();
+        self.waiting = self.works.len();
+    }
+
+    /// Begins a turn: the next that waits, where something does.
+    pub(crate) fn begin_turn(&mut self) -> Option<Work<'a>>
+        requires { self.old.kept ≡ [] }
+        ensures next { IfSome result (λ work. (self.old.waiting ≡ work ∷ self.new.waiting)
+            × (self.new ≡ record self.old { waiting = self.new.waiting })) }
+        ensures over { result ≡ None → self.old.waiting ≡ [] }
+    {
+        let work = self.works.pop();
+        self.waiting = self.works.len();
+        work
+    }
+
+    /// What it wrote to.
+    pub(crate) fn into_writer(self) -> W
+    where
+        W: Drop,
+        ensures { result ≡ self.writer }
+    {
+        let Printer {
+            store: _,
+            tables: _,
+            words: _,
+            one_line: _,
+            writer,
+            works: _,
+            waiting: _,
+        } = self;
+        writer
+    }
+}

@@ -1,0 +1,201 @@
+//! What types and bounds are printed as.
+#![tactic(auto, using(crate::proofs::AddLemmas::adding))]
+
+ghost use Rattle.std.specs.Prelude.{◌++◌, List, ℕ, Option, OnOk, codes, map};
+ghost use Rattle.hir_printer.specs.Items.{text, t, opt};
+ghost use Rattle.hir_printer.specs.Paths.{for_names, use_items, bound_items};
+ghost use Rattle.hir_printer.specs.Types.{extern_items, signature_items, fn_items, type_items};
+ghost use Rattle.hir_printer.specs.Printers.{Adds};
+
+use crate::part::Part;
+use crate::printer::Printer;
+use crate::work::Work;
+use hir_base::{ExprPrecedence, ExternAbi, Name, Seq};
+use hir_node::{
+    FnType, RefType, TraitBoundModifier, TypeBound, TypeRef, TypeRefId, UseArgRef,
+};
+use hir_page::PieceWriter;
+use std::alloc::AllocError;
+
+/// A parameter of a function's type, whose name isn't printed.
+impl Part for (Option<Name>, TypeRefId) {
+    ghost items = { λ s param. t param.1 };
+
+    fn add_to<'a, W: PieceWriter>(&'a self, printer: &mut Printer<'a, W>) -> Result<(), AllocError> {
+        printer.add(&[Work::Type(self.1)])
+    }
+}
+
+impl Part for UseArgRef {
+    ghost items = { use_items };
+
+    fn add_to<'a, W: PieceWriter>(&'a self, printer: &mut Printer<'a, W>) -> Result<(), AllocError> {
+        match self {
+            UseArgRef::Name(name) => name.add_to(printer),
+            UseArgRef::Lifetime(id) => id.add_to(printer),
+        }
+    }
+}
+
+impl Part for TypeBound {
+    ghost items = { bound_items };
+
+    fn add_to<'a, W: PieceWriter>(&'a self, printer: &mut Printer<'a, W>) -> Result<(), AllocError> {
+        match self {
+            TypeBound::Path(id, modifier) => {
+                printer.add_if(matches!(modifier, TraitBoundModifier::Maybe), "?")?;
+                printer.add(&[Work::Type(id.type_ref())])
+            }
+            TypeBound::ForLifetime(names, id) => {
+                printer.add_for(names.as_slice())?;
+                printer.add(&[Work::Type(id.type_ref())])
+            }
+            TypeBound::Lifetime(id) => id.add_to(printer),
+            TypeBound::Use(args) => {
+                printer.add(&[Work::Text("use<")])?;
+                printer.add_list(false, ", ", args.as_slice())?;
+                printer.add(&[Work::Text(">")])
+            }
+            TypeBound::Error => printer.add(&[Work::Text("{unknown}")]),
+        }
+    }
+}
+
+impl<'a, W: PieceWriter> Printer<'a, W> {
+    /// Adds names behind `for`.
+    fn add_for(&mut self, names: &'a [Name]) -> Result<(), AllocError>
+        ensures { OnOk result (Adds W.step self.old (λ s. for_names s names.now) self.new) }
+    {
+        self.add(&[Work::Text("for<")])?;
+        self.add_list(false, ", ", names)?;
+        self.add(&[Work::Text("> ")])
+    }
+
+    /// Adds names behind `for`, where there are any.
+    pub fn add_binder(&mut self, names: &'a Option<Seq<Name>>) -> Result<(), AllocError>
+        ensures { OnOk result (Adds W.step self.old (λ s. opt (for_names s) names.now) self.new) }
+    {
+        match names {
+            None => Ok(()),
+            Some(names) => self.add_for(names.as_slice()),
+        }
+    }
+
+    /// Adds `extern` and a calling convention, unless it is that of Rust.
+    fn add_extern(&mut self, abi: &'a ExternAbi) -> Result<(), AllocError>
+        ensures { OnOk result (Adds W.step self.old (λ s. extern_items abi.now) self.new) }
+    {
+        match abi {
+            ExternAbi::Rust => Ok(()),
+            ExternAbi::C
+            | ExternAbi::CUnwind
+            | ExternAbi::System
+            | ExternAbi::SystemUnwind
+            | ExternAbi::Named(_) => self.add(&[
+                Work::Text("extern "),
+                Work::Text(abi.as_str()),
+                Work::Text(" "),
+            ]),
+        }
+    }
+
+    /// Adds a function's type by its parameters and, last, its result.
+    fn add_signature(
+        &mut self,
+        params: &'a [(Option<Name>, TypeRefId)],
+        is_varargs: bool,
+    ) -> Result<(), AllocError>
+        ensures { OnOk result (Adds W.step self.old (λ s. signature_items is_varargs
+            (map (λ (entry : Option (List ℕ) × ℕ). entry.1) params.now)) self.new) }
+    {
+        self.add(&[Work::Text("fn(")])?;
+        let (front, ret) = match params {
+            [] => (params, None),
+            [front @ .., ret] => (front, Some(ret.1)),
+        };
+        self.add_list(false, ", ", front)?;
+        self.add_if(is_varargs && !front.is_empty(), ", ")?;
+        self.add_if(is_varargs, "...")?;
+        self.add(&[Work::Text(") -> ")])?;
+        match ret {
+            None => Ok(()),
+            Some(ret) => self.add(&[Work::Type(ret)]),
+        }
+    }
+
+    fn add_fn(&mut self, function: &'a FnType) -> Result<(), AllocError>
+        ensures { OnOk result (Adds W.step self.old (λ s. fn_items s function.now) self.new) }
+    {
+        self.add_binder(&function.binder)?;
+        self.add_if(function.is_unsafe, "unsafe ")?;
+        self.add_extern(&function.abi)?;
+        self.add_signature(function.params.as_slice(), function.is_varargs)
+    }
+
+    fn add_reference(&mut self, reference: &'a RefType) -> Result<(), AllocError>
+        ensures { OnOk result (Adds W.step self.old (λ s. type_items s (TypeRef.Reference reference.now)) self.new) }
+    {
+        self.add(&[Work::Text("&")])?;
+        if let Some(lifetime) = &reference.lifetime {
+            lifetime.add_to(self)?;
+            self.add(&[Work::Text(" ")])?;
+        }
+        self.add(&[
+            Work::Text(reference.mutability.as_keyword_for_ref()),
+            Work::Type(reference.ty),
+        ])
+    }
+
+    fn add_bounds(
+        &mut self,
+        keyword: &'a str,
+        bounds: &'a [TypeBound],
+    ) -> Result<(), AllocError>
+        ensures { OnOk result (Adds W.step self.old (λ s. text keyword.now ++ bounds_items s bounds.now) self.new) }
+    {
+        self.add(&[Work::Text(keyword)])?;
+        self.add_list(false, " + ", bounds)
+    }
+
+    /// Adds what a type is printed as.
+    pub(crate) fn add_type(&mut self, type_ref: &'a TypeRef) -> Result<(), AllocError>
+        ensures { OnOk result (Adds W.step self.old (λ s. type_items s type_ref.now) self.new) }
+    {
+        match type_ref {
+            TypeRef::Never => self.add(&[Work::Text("!")]),
+            TypeRef::Placeholder => self.add(&[Work::Text("_")]),
+            TypeRef::Error => self.add(&[Work::Text("{error}")]),
+            TypeRef::TypeParam(id) => self.add_type_param(*id),
+            TypeRef::Tuple(types) => {
+                self.add(&[Work::Text("(")])?;
+                self.add_list(false, ", ", types.as_slice())?;
+                self.add(&[Work::Text(")")])
+            }
+            TypeRef::Slice(id) => {
+                self.add(&[Work::Text("["), Work::Type(*id), Work::Text("]")])
+            }
+            TypeRef::RawPtr(id, mutability) => self.add(&[
+                Work::Text("*"),
+                Work::Text(mutability.as_keyword_for_ptr()),
+                Work::Type(*id),
+            ]),
+            TypeRef::Reference(reference) => self.add_reference(reference.get()),
+            TypeRef::Array(array) => self.add(&[
+                Work::Text("["),
+                Work::Type(array.ty),
+                Work::Text("; "),
+                Work::Under(array.len.expr, ExprPrecedence::Unambiguous),
+                Work::Text("]"),
+            ]),
+            TypeRef::Fn(function) => self.add_fn(function.get()),
+            TypeRef::ImplTrait(bounds) => self.add_bounds("impl ", bounds.as_slice()),
+            TypeRef::DynTrait(bounds) => self.add_bounds("dyn ", bounds.as_slice()),
+            TypeRef::PatternType(id, pat) => self.add(&[
+                Work::Type(*id),
+                Work::Text(" is "),
+                Work::Pattern(*pat),
+            ]),
+            TypeRef::Path(path) => self.add_path(path),
+        }
+    }
+}
