@@ -414,32 +414,18 @@ mod tests {
         "Missing(DefMap(8))",
     ];
 
+    /// Each text is read, and written as it was.
+    fn come_back<T: ToString>(texts: &[&str], read: impl Fn(&str) -> Option<T>) {
+        for text in texts {
+            assert_eq!(read(text).map(|it| it.to_string()).as_deref(), Some(*text));
+        }
+    }
+
     #[test]
     fn faults_have_the_library_s_texts() {
-        for text in FINISH {
-            assert_eq!(
-                FinishFault::from_text(text)
-                    .map(|fault| fault.to_string())
-                    .as_deref(),
-                Some(text)
-            );
-        }
-        for text in BODY {
-            assert_eq!(
-                BodyFault::from_text(text)
-                    .map(|fault| fault.to_string())
-                    .as_deref(),
-                Some(text)
-            );
-        }
-        for text in MISSING {
-            assert_eq!(
-                Missing::from_text(text)
-                    .map(|missing| missing.to_string())
-                    .as_deref(),
-                Some(text)
-            );
-        }
+        come_back(&FINISH, FinishFault::from_text);
+        come_back(&BODY, BodyFault::from_text);
+        come_back(&MISSING, Missing::from_text);
         assert_eq!(FinishFault::from_text("NoRoots 1"), None);
         assert_eq!(BodyFault::from_text("ParamUnder"), None);
         assert_eq!(Missing::from_text("Missing(Name(ImplId(0)))"), None);

@@ -50,16 +50,7 @@ fn children(alloc: Global, store: &ExpressionStore, expr: ExprId) -> Result<Vec<
     requires { expr < length store.now.nodes.exprs }
 {
     let mut found = Vec::new(alloc);
-    let mut pushed = Ok(());
-    store.walk_child_exprs(
-        expr,
-        &mut |child: ExprId| {
-            if pushed.is_ok() {
-                pushed = found.push(child);
-            }
-        },
-    );
-    pushed?;
+    store.try_walk_child_exprs(expr, &mut |child: ExprId| found.push(child))?;
     Ok(found)
 }
 

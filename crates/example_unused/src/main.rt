@@ -16,20 +16,11 @@ type Bindings = ArenaMap<BindingKind, ()>;
 /// The patterns in the target of an assignment, of which each path is a variable that is assigned to; none of another expression.
 fn targets(alloc: Global, store: &ExpressionStore, expr: &Expr) -> Result<Vec<PatId>, HirError> {
     let mut found = Vec::new(alloc);
-    let mut pushed = Ok(());
     if let Expr::Assignment { target, value: _ } = expr
         && store.has_pat(*target)
     {
-        store.walk_pats(
-            *target,
-            &mut |pat: PatId| {
-                if pushed.is_ok() {
-                    pushed = found.push(pat);
-                }
-            },
-        );
+        store.try_walk_pats(*target, &mut |pat: PatId| found.push(pat))?;
     }
-    pushed?;
     Ok(found)
 }
 

@@ -2,6 +2,7 @@ pub mod PatLemmas
 pub mod WalkLemmas
 pub mod LinkLemmas
 pub mod TurnLemmas
+pub mod TryLemmas
 pub mod TurnWalk
 pub mod UnderLemmas
 pub mod ApartLemmas

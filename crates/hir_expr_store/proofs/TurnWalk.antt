@@ -1,8 +1,9 @@
 -- A walk by turns, as far as it has come: what was done and what is still to come are all the turns of the top.
 use Rattle.std.proofs.Common.{◌≡◌, ℕ, suc, ◌<◌, ◌≤◌, List, [], ◌∷◌, ◌++◌, Option, Some, None, length, refl, ap, subst, arith}
 use Rattle.std.specs.List.{flat_map}
-use Rattle.hir_node.specs.Runs.{Runs, MayRun}
-use Rattle.hir_node.proofs.RunLemmas.{Going, going_from, going_on, going_ended, may_here, runs_one}
+use Rattle.std.specs.Prelude.{Result, Ok, Err}
+use Rattle.hir_node.specs.Runs.{MayRun}
+use Rattle.hir_node.proofs.RunLemmas.{may_here}
 use Rattle.hir_faults.specs.Nodes.{Nodes}
 use Rattle.hir_faults.specs.Down.{KidsFall}
 use Rattle.hir_expr_store.specs.declared.pat_links.PatLink.{PatLink}
@@ -10,42 +11,47 @@ use Rattle.hir_expr_store.specs.declared.turns.Turn.{Turn}
 use Rattle.hir_expr_store.specs.declared.turns.Turn.TheVariants.{Enter, Leave}
 use Rattle.hir_expr_store.specs.PatLists.{child_pats_of}
 use Rattle.hir_expr_store.specs.PatLinks.{HasPatLinks}
+use Rattle.hir_expr_store.specs.Tries.{Tries}
 use Rattle.hir_expr_store.specs.Turns.{pat_of, turns, turn_after}
+use Rattle.hir_expr_store.proofs.TryLemmas.{goes, Trying, trying_from, trying_on, trying_refused, trying_ended}
 use Rattle.hir_expr_store.proofs.TurnLemmas.{Follows, at_top, turns_is, behind_there, follows, steps_step, steps, steps_is}
 
-module _ {V : Type 0} (may : V → Turn → Type 0) (step : V → Turn → V → Type 0) (s : Nodes) (top : ℕ) where
+module _ {V E : Type 0} (may : V → Turn → Type 0) (step : V → Turn → Result (Unit {0}) E → V → Type 0) (s : Nodes) (top : ℕ) where
   -- the turns so far were taken, and this one and those that come behind it are still to come; none where there is no turn
   abbrev pub WalksOn : V → V → Option Turn → Type 0
-  WalksOn start now o = (rest : List Turn) × Follows s top rest o × (length rest ≤ length (turns s top)) × Going may step start (turns s top) now rest
+  WalksOn start now o = (rest : List Turn) × Follows s top rest o × (length rest ≤ length (turns s top)) × Trying may step start (turns s top) now rest
 
-  pub walk_begins : KidsFall s → {start : V} → MayRun may step start (turns s top) → WalksOn start start (Some (Enter top))
-  walk_begins fall can = (
+  pub walk_begins : KidsFall s → {start : V} → MayRun may (goes step) start (turns s top) → WalksOn start start (Some (Enter top))
+  walk_begins fall {start} can = (
     turns s top,
     (flat_map (turns s) (child_pats_of s top) ++ Leave top ∷ [], turns_is s fall top, ([], at_top, refl)),
     omega arith,
-    going_from can,
+    trying_from may step start (turns s top) can,
   )
 
-  pub walk_ended : {start now : V} → WalksOn start now None → Runs step start (turns s top) now
-  walk_ended {start} {now} w = going_ended (subst (λ (r : List Turn). Going may step start (turns s top) now r) w.1 w.3)
+  pub walk_ended : {start now : V} → WalksOn start now None → Tries step start (turns s top) (Ok tt) now
+  walk_ended {start} {now} w = trying_ended may step start (turns s top) now (subst (λ (r : List Turn). Trying may step start (turns s top) now r) w.1 w.3)
 
   module _ {start now : V} (t : Turn) (w : WalksOn start now (Some t)) where
-    to_come : Going may step start (turns s top) now (t ∷ w.1.0)
-    to_come = subst (λ (r : List Turn). Going may step start (turns s top) now r) w.1.1 w.3
+    to_come : Trying may step start (turns s top) now (t ∷ w.1.0)
+    to_come = subst (λ (r : List Turn). Trying may step start (turns s top) now r) w.1.1 w.3
 
     pub walk_may : may now t
     walk_may = may_here to_come.can
+
+    pub walk_refused : {last : V} {e : E} → step now t (Err e) last → Tries step start (turns s top) (Err e) last
+    walk_refused {last} {e} st = trying_refused may step start (turns s top) now t w.1.0 to_come last e st
 
     module _ (fall : KidsFall s) (here : top < length s.pats) where
       pub walk_there : pat_of t < length s.pats
       walk_there = behind_there s fall top here t w.1.0 w.1.2
 
       module _ (links : List PatLink) (known : HasPatLinks s.pats links) where
-        pub walk_next : {then : V} → step now t then → WalksOn start then (turn_after s links top t)
-        walk_next st =
+        pub walk_next : {then : V} → step now t (Ok tt) then → WalksOn start then (turn_after s links top t)
+        walk_next {then} st =
             let len : length w.0 ≡ suc (length w.1.0) = ap length w.1.1 in
             let le = w.2 in
-            (w.1.0, follows s fall top here links known t w.1.0 w.1.2, omega arith, going_on {xs = t ∷ []} {ys = w.1.0} to_come (runs_one st))
+            (w.1.0, follows s fall top here links known t w.1.0 w.1.2, omega arith, trying_on may step start (turns s top) now t w.1.0 to_come then st)
 
         pub walk_fewer : steps_step (steps s links top (length (turns s top))) (turn_after s links top t) < suc (steps s links top (length (turns s top)) t)
         walk_fewer =

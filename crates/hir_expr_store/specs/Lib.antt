@@ -6,6 +6,7 @@ pub mod MissingTexts
 pub mod StoreParts
 pub mod PatLists
 pub mod PatLinks
+pub mod Tries
 pub mod Turns
 pub mod RootSearch
 pub mod Bounds

@@ -19,6 +19,7 @@ mod roots;
 mod side_tables;
 mod store;
 mod store_iter;
+mod try_walks;
 mod turns;
 mod under;
 mod visits;

@@ -1,10 +1,11 @@
 //! The walk over the patterns of a pattern, by turns: each pattern is entered before its child patterns and left after them. It goes
 //! from turn to turn by the links that the store keeps, so it takes no memory and doesn't recurse.
 
-ghost use Rattle.std.specs.Prelude.{◌≡◌, ◌<◌, Some, length};
-ghost use Rattle.hir_node.specs.Runs.{Runs, MayRun};
+ghost use Rattle.std.specs.Prelude.{◌≡◌, ◌<◌, Some, Ok, length};
+ghost use Rattle.hir_node.specs.Runs.{MayRun};
 ghost use Rattle.hir_expr_store.specs.PatLinks.{HasPatLinks};
 ghost use Rattle.hir_expr_store.specs.PatLists.{child_pats_of};
+ghost use Rattle.hir_expr_store.specs.Tries.{Tries};
 ghost use Rattle.hir_expr_store.specs.Turns.{turn_within, turn_behind, turns};
 
 use crate::pat_links::{PatLink, PatLinks};
@@ -20,26 +21,27 @@ pub(crate) enum Turn {
     Leave(PatId),
 }
 
-/// What is done at each turn.
-pub(crate) trait TurnVisitor {
+/// What is done at each turn, which may refuse it.
+pub(crate) trait TurnVisitor<E> {
+    ghost use Rattle.std.specs.Prelude.{Result};
     ghost use Rattle.hir_expr_store.specs.declared.turns.Turn.{Turn};
     ghost use Rattle.hir_expr_store.specs.declared.turns.Turn.TheVariants.{Enter, Leave};
 
     // what has to hold of the value for a turn
     ghost may: { Self → Turn → Type 0 };
 
-    // relates the value before a turn, the turn, and the value after it
-    ghost step: { Self → Turn → Self → Type 0 };
+    // relates the value before a turn, the turn, the answer, and the value after it
+    ghost step: { Self → Turn → Result (Unit {0}) E → Self → Type 0 };
 
     /// The pattern is entered.
-    fn on_enter(&mut self, id: PatId)
+    fn on_enter(&mut self, id: PatId) -> Result<(), E>
         requires { may self.old (Enter id) }
-        ensures { step self.old (Enter id) self.new };
+        ensures { step self.old (Enter id) result self.new };
 
     /// The pattern is left.
-    fn on_leave(&mut self, id: PatId)
+    fn on_leave(&mut self, id: PatId) -> Result<(), E>
         requires { may self.old (Leave id) }
-        ensures { step self.old (Leave id) self.new };
+        ensures { step self.old (Leave id) result self.new };
 }
 
 impl ExpressionStore {
@@ -54,37 +56,48 @@ impl ExpressionStore {
         }
     }
 
-    /// Calls the visitor at each turn of the walk over a pattern, by these links.
-    fn walk_by<V: TurnVisitor>(&self, links: &PatLinks, top: PatId, visitor: &mut V)
+    /// Calls the visitor at each turn of the walk over a pattern, by these links, up to the first that it refuses.
+    fn walk_by<E, V: TurnVisitor<E>>(
+        &self,
+        links: &PatLinks,
+        top: PatId,
+        visitor: &mut V,
+    ) -> Result<(), E>
         requires there { top < length self.now.nodes.pats }
         requires links { HasPatLinks self.now.nodes.pats links.now }
-        requires may { MayRun V.may V.step visitor.old (turns self.now.nodes top) }
-        ensures { Runs V.step visitor.old (turns self.now.nodes top) visitor.new }
+        requires may { MayRun V.may (λ v t w. V.step v t (Ok tt) w) visitor.old (turns self.now.nodes top) }
+        ensures { Tries V.step visitor.old (turns self.now.nodes top) result visitor.new }
     {
         self.has_no_fault();
         let mut coming = Some(Turn::Enter(top));
         while let Some(turn) = coming {
             coming = match turn {
                 Turn::Enter(id) => {
-                    visitor.on_enter(id);
+                    visitor.on_enter(id)?;
                     self.turn_within(id)
                 }
                 Turn::Leave(id) => {
-                    visitor.on_leave(id);
+                    visitor.on_leave(id)?;
                     turn_behind(links, top, id)
                 }
             };
         }
+        Ok(())
     }
 
-    /// Calls the visitor at each turn of the walk over a pattern.
-    pub(crate) fn walk_turns<V: TurnVisitor>(&self, top: PatId, visitor: &mut V)
+    /// Calls the visitor at each turn of the walk over a pattern, up to the first that it refuses.
+    pub(crate) fn walk_turns<E, V: TurnVisitor<E>>(
+        &self,
+        top: PatId,
+        visitor: &mut V,
+    ) -> Result<(), E>
         requires there { top < length self.now.nodes.pats }
-        requires may { MayRun V.may V.step visitor.old (turns self.now.nodes top) }
-        ensures { Runs V.step visitor.old (turns self.now.nodes top) visitor.new }
+        requires may { MayRun V.may (λ v t w. V.step v t (Ok tt) w) visitor.old (turns self.now.nodes top) }
+        ensures { Tries V.step visitor.old (turns self.now.nodes top) result visitor.new }
     {
-        if let Some(kept) = self.kept() {
-            self.walk_by(&kept.links, top, visitor);
+        match self.kept() {
+            Some(kept) => self.walk_by(&kept.links, top, visitor),
+            None => Ok(()),
         }
     }
 }

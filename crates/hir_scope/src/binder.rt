@@ -189,7 +189,6 @@ impl Binder {
     /// Adds the entries of what patterns bind, in the order of the patterns.
     ///
     /// Answers `Memory` where room was refused.
-    // Not by `walk_bindings_in_pat`, whose closure could not hand on that room was refused.
     pub(crate) fn add_pats(
         &mut self,
         store: &ExpressionStore,

@@ -18,6 +18,7 @@ mod questions;
 mod recorder;
 mod searches;
 mod sources;
+mod try_walks;
 mod walks;
 
 pub use building::done;

@@ -1,7 +1,10 @@
 //! All questions that a store and its source map answer.
 
+use crate::try_walks::TryWalk;
 use crate::walks::Walk;
-use crate::{blocks, calls, equality, nodes, numbers, paths, places, searches, sources, walks};
+use crate::{
+    blocks, calls, equality, nodes, numbers, paths, places, searches, sources, try_walks, walks,
+};
 use hir_notation::{Answer, Stop, Words};
 use hir_store::{ExpressionStore, ExpressionStoreSourceMap};
 use hir_words::value_of;
@@ -28,6 +31,7 @@ enum OfStore {
     Blocks,
     Calls,
     Walk(Walk),
+    TryWalk(TryWalk),
     ChildPats,
     Path,
     Sound,
@@ -45,7 +49,7 @@ enum OfSources {
 }
 
 /// The first words of questions.
-const QUESTIONS: [(&str, Question); 43] = [
+const QUESTIONS: [(&str, Question); 48] = [
     ("nodes", Question::Nodes(nodes::Kind::Counts)),
     ("list-roots", Question::Nodes(nodes::Kind::Roots)),
     ("has", Question::Has),
@@ -83,6 +87,26 @@ const QUESTIONS: [(&str, Question); 43] = [
         Question::OfStore(OfStore::Walk(Walk::Bindings)),
     ),
     ("exprs-in", Question::OfStore(OfStore::Walk(Walk::Exprs))),
+    (
+        "try-children",
+        Question::OfStore(OfStore::TryWalk(TryWalk::Children)),
+    ),
+    (
+        "try-children-without-pats",
+        Question::OfStore(OfStore::TryWalk(TryWalk::ChildrenWithoutPats)),
+    ),
+    (
+        "try-walk-pats",
+        Question::OfStore(OfStore::TryWalk(TryWalk::Pats)),
+    ),
+    (
+        "try-bindings-in",
+        Question::OfStore(OfStore::TryWalk(TryWalk::Bindings)),
+    ),
+    (
+        "try-exprs-in",
+        Question::OfStore(OfStore::TryWalk(TryWalk::Exprs)),
+    ),
     ("child-pats", Question::OfStore(OfStore::ChildPats)),
     ("path", Question::OfStore(OfStore::Path)),
     ("sound", Question::OfStore(OfStore::Sound)),
@@ -160,6 +184,7 @@ fn ask_store(
         OfStore::Blocks => blocks::ask(alloc, store, words, answer),
         OfStore::Calls => calls::ask(alloc, store, words, answer),
         OfStore::Walk(walk) => walks::ask(alloc, store, walk, words, answer),
+        OfStore::TryWalk(walk) => try_walks::ask(alloc, store, walk, words, answer),
         OfStore::ChildPats => walks::ask_child_pats(alloc, store, words, answer),
         OfStore::Path => paths::ask(alloc, words, answer),
         OfStore::Sound => paths::ask_sound(alloc, store, words, answer),

@@ -7,6 +7,15 @@ use hir_node::{ExprId, LifetimeRefId, PatId, StoreVisitor, TypeRefId};
 use hir_notation::Answer;
 use std::alloc::{AllocError, Global};
 
+/// Why a walk stopped.
+#[derive(Clone, Copy, Drop)]
+pub(crate) enum Halt {
+    /// It came to the end that was asked for.
+    Here,
+    /// Out of memory.
+    Memory,
+}
+
 /// What a visitor is called with, in the order of the calls, or what a walk meets.
 #[derive(Drop)]
 pub(crate) struct Recorder {
@@ -39,6 +48,17 @@ impl Recorder {
         if let Err(refused) = self.text.id(id) {
             self.outcome = Err(refused);
         }
+    }
+
+    /// Notes an id, and refuses to go on behind this one.
+    pub(crate) fn meet_up_to<K>(&mut self, id: Idx<K>, end: u32) -> Result<(), Halt> {
+        if self.text.id(id).is_err() {
+            return Err(Halt::Memory);
+        }
+        if id.into_raw() == end {
+            return Err(Halt::Here);
+        }
+        Ok(())
     }
 
     /// What was noted, or that memory was refused.

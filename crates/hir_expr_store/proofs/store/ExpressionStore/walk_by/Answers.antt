@@ -2,7 +2,8 @@ use Rattle.std.proofs.Common.{arith}
 use Rattle.hir_faults.proofs.SoundLemmas.{sound_falls}
 use Rattle.hir_expr_store.specs.Contents.{rooted_of}
 use Rattle.hir_expr_store.specs.declared.turns.Turn.TheVariants.{Enter, Leave}
-use Rattle.hir_expr_store.proofs.TurnWalk.{walk_begins, walk_there, walk_may, walk_next, walk_fewer, walk_ended}
+use Rattle.hir_expr_store.proofs.TryLemmas.{err_is}
+use Rattle.hir_expr_store.proofs.TurnWalk.{walk_begins, walk_there, walk_may, walk_refused, walk_next, walk_fewer, walk_ended}
 use Rattle.hir_expr_store.proofs.store.ExpressionStore.walk_by.Goals as goal
 
 pub loop-coming-init : goal.loop-coming-init
@@ -28,17 +29,17 @@ turn_behind-coming-requires g c =
     let each = c.requires.links.each in
     omega arith
 
-pub loop-coming-smaller-in-Enter : goal.loop-coming-smaller-in-Enter
-loop-coming-smaller-in-Enter g c =
+pub loop-coming-smaller-in_ok-on_enter-in-Enter : goal.loop-coming-smaller-in_ok-on_enter-in-Enter
+loop-coming-smaller-in_ok-on_enter-in-Enter g c =
     let fall = sound_falls (rooted_of c.args.self.now) c.has_no_fault.ensures in
     rw (c.in-Some.is, c.in-Enter.is, c.turn_within-coming.ensures)
     (walk_fewer _ _ c.args.self.now.nodes c.args.top (Enter c.in-Enter.id) (rw (c.in-Some.is, c.in-Enter.is) at c.loop-coming.invariant) fall c.requires.there c.args.links.now c.requires.links)
 
-pub loop-coming-preserved-in-Enter : goal.loop-coming-preserved-in-Enter
-loop-coming-preserved-in-Enter g c =
+pub loop-coming-preserved-in_ok-on_enter-in-Enter : goal.loop-coming-preserved-in_ok-on_enter-in-Enter
+loop-coming-preserved-in_ok-on_enter-in-Enter g c =
     let fall = sound_falls (rooted_of c.args.self.now) c.has_no_fault.ensures in
     rw c.turn_within-coming.ensures
-    (walk_next _ _ c.args.self.now.nodes c.args.top (Enter c.in-Enter.id) (rw (c.in-Some.is, c.in-Enter.is) at c.loop-coming.invariant) fall c.requires.there c.args.links.now c.requires.links c.on_enter.ensures)
+    (walk_next _ _ c.args.self.now.nodes c.args.top (Enter c.in-Enter.id) (rw (c.in-Some.is, c.in-Enter.is) at c.loop-coming.invariant) fall c.requires.there c.args.links.now c.requires.links (c.in_ok-on_enter-in-Enter.ensures))
 
 pub loop-coming-smaller : goal.loop-coming-smaller
 loop-coming-smaller g c =
@@ -50,7 +51,17 @@ pub loop-coming-preserved : goal.loop-coming-preserved
 loop-coming-preserved g c =
     let fall = sound_falls (rooted_of c.args.self.now) c.has_no_fault.ensures in
     rw c.turn_behind-coming.ensures
-    (walk_next _ _ c.args.self.now.nodes c.args.top (Leave c.in-Leave.id) (rw (c.in-Some.is, c.in-Leave.is) at c.loop-coming.invariant) fall c.requires.there c.args.links.now c.requires.links c.on_leave.ensures)
+    (walk_next _ _ c.args.self.now.nodes c.args.top (Leave c.in-Leave.id) (rw (c.in-Some.is, c.in-Leave.is) at c.loop-coming.invariant) fall c.requires.there c.args.links.now c.requires.links (c.in_ok-on_leave-in-Leave.ensures))
+
+pub returns-in_err-on_enter-in-Enter : goal.returns-in_err-on_enter-in-Enter
+returns-in_err-on_enter-in-Enter g c =
+    rw (err_is c.from_residual.result c.in_err-on_enter-in-Enter.field-0.0 c.from_residual.ensures.1)
+    (walk_refused _ _ c.args.self.now.nodes c.args.top (Enter c.in-Enter.id) (rw (c.in-Some.is, c.in-Enter.is) at c.loop-coming.invariant) (c.in_err-on_enter-in-Enter.ensures))
+
+pub returns-in_err-on_leave-in-Leave : goal.returns-in_err-on_leave-in-Leave
+returns-in_err-on_leave-in-Leave g c =
+    rw (err_is c.from_residual-in_err-on_leave-in-Leave.result c.in_err-on_leave-in-Leave.field-0.0 c.from_residual-in_err-on_leave-in-Leave.ensures.1)
+    (walk_refused _ _ c.args.self.now.nodes c.args.top (Leave c.in-Leave.id) (rw (c.in-Some.is, c.in-Leave.is) at c.loop-coming.invariant) (c.in_err-on_leave-in-Leave.ensures))
 
 pub returns : goal.returns
 returns g c = walk_ended _ _ c.args.self.now.nodes c.args.top (rw c.in_default.is at c.loop-coming.invariant)

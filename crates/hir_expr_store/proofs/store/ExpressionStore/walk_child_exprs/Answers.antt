@@ -1,29 +1,22 @@
-use Rattle.std.proofs.Common.{rules, sym, ◌≡◌, ◌∙◌, refl}
-use Rattle.hir_node.proofs.RunLemmas.{runs_keep, runs_leave}
-use Rattle.hir_node.specs.declared.node_id.NodeId.TheVariants as node
-use Rattle.hir_faults.specs.Sizes.{is_there}
-use Rattle.hir_faults.specs.Nodes.{sizes_of}
-use Rattle.hir_expr_store.specs.Contents.{rooted_of}
-use Rattle.hir_expr_store.specs.PatLists.{exprs_from, exprs_in}
-use Rattle.hir_faults.proofs.SoundLemmas.{calls_there}
-use Rattle.hir_expr_store.proofs.WalkLemmas.{folds_kept, folds_to, may_each}
+use Rattle.std.proofs.Common.{refl, sym}
+use denote.Param.Always.{mut_by, mut_next}
+use Rattle.std.proofs.lemmas.Fn.{chained_keeps}
+use Rattle.hir_expr_store.proofs.TryLemmas.{turns_keep, all_ran}
 use Rattle.hir_expr_store.proofs.store.ExpressionStore.walk_child_exprs.Goals as goal
 
-pub visit_expr_children-requires-clause-may : goal.visit_expr_children-requires-clause-may
-visit_expr_children-requires-clause-may g c =
-    let there = calls_there (rooted_of c.args.self.now) c.has_no_fault.ensures (node.Expr c.args.id) c.requires.there in
-    may_each _ (λ v. goal.F-IsAlwaysCallable g v.f.now × (v.store ≡ c.args.self)) (is_there (sizes_of c.args.self.now.nodes))
-    (λ v d h t. (h.0, rw h.1 t)) (λ v w d h s. (s.1, s.2 ∙ h.1)) _ (c.requires.callable, refl) there
+pub try_walk_child_exprs-requires-clause-callable : goal.try_walk_child_exprs-requires-clause-callable
+try_walk_child_exprs-requires-clause-callable g c =
+    mut_by _ (λ s. goal.F-IsAlwaysCallable g s.0.now) (λ s a i. i) (λ s a r t i called. mut_next g.F.FnMut _ _ _ _ _ called.met.1.1.1 refl i) _ c.requires.callable
 
 pub returns-clause-runs : goal.returns-clause-runs
 returns-clause-runs g c =
-    let all = folds_kept (λ p x q. goal.F-step g p x tt q) (λ v. v.f.now) (exprs_from (exprs_in c.args.self.now.nodes)) (λ v. v.store ≡ c.args.self)
-    (λ v w d h s. (rw h at s.0, s.2 ∙ h)) refl c.visit_expr_children.ensures in
-    let same = sym (runs_keep (λ v. v.f.ghost_name) (λ v w d s. s.3) c.visit_expr_children.ensures) in
-    folds_to _ _ _ _ _ (search (rules, same)) all
+    let kept = turns_keep (λ s. s.0.ghost_name) (λ s t x r called. called.met.1.0) _ c.try_walk_child_exprs.result c.try_walk_child_exprs.ensures.runs in
+    let all = all_ran (λ p x q. goal.F-step g p x tt q) (λ s. s.0.now) (λ s t x r called. called.met.1.1) _ c.try_walk_child_exprs.result c.try_walk_child_exprs.ensures.runs in
+    rw (c.f-1.given.1 (sym kept)) all
 
 pub returns-clause-callable : goal.returns-clause-callable
 returns-clause-callable g c =
-    let same = sym (runs_keep (λ v. v.f.ghost_name) (λ v w d s. s.3) c.visit_expr_children.ensures) in
-    let left = runs_leave (λ v. goal.F-IsAlwaysCallable g v.f.now) (λ v w d s. s.1) c.visit_expr_children.ensures c.requires.callable in
-    search (rules, same, left)
+    let kept = turns_keep (λ s. s.0.ghost_name) (λ s t x r called. called.met.1.0) _ c.try_walk_child_exprs.result c.try_walk_child_exprs.ensures.runs in
+    let all = all_ran (λ p x q. goal.F-step g p x tt q) (λ s. s.0.now) (λ s t x r called. called.met.1.1) _ c.try_walk_child_exprs.result c.try_walk_child_exprs.ensures.runs in
+    let still = chained_keeps _ (λ xs p. goal.F-IsAlwaysCallable g p) (λ xs p x q h s. mut_next g.F.FnMut _ _ _ _ _ s refl h) _ _ _ c.requires.callable all in
+    rw (c.f-1.given.1 (sym kept)) still

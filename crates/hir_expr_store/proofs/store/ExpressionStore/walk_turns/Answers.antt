@@ -2,5 +2,5 @@ use Rattle.hir_node.specs.declared.node_id.NodeId.TheVariants as node
 use Rattle.hir_expr_store.proofs.KeptLemmas.{no_node}
 use Rattle.hir_expr_store.proofs.store.ExpressionStore.walk_turns.Goals as goal
 
-pub returns-in_default : goal.returns-in_default
-returns-in_default g c = absurd (no_node c.args.self.now.nodes (c.kept.ensures.none c.in_default.is) (node.Pat c.args.top) c.requires.there)
+pub returns-in-None : goal.returns-in-None
+returns-in-None g c = absurd (no_node c.args.self.now.nodes (c.kept.ensures.none c.in-None.is) (node.Pat c.args.top) c.requires.there)
