@@ -10,7 +10,7 @@ ghost use Rattle.hir_printer.specs.Names.{binding_items};
 ghost use Rattle.hir_printer.specs.Answers.{answers};
 ghost use Rattle.hir_printer.specs.Printed.{PrintsPieces};
 ghost use Rattle.hir_printer.specs.Pieces.{printed};
-ghost use Rattle.hir_printer.specs.OnPage.{AddsOnPage};
+ghost use Rattle.hir_printer.specs.Printers.{Adds};
 ghost use Rattle.hir_pretty.specs.Bodies.{formal_self, formal_params, body_params, body_end, body_items};
 ghost use Rattle.hir_pretty.specs.Found.{parents};
 
@@ -18,17 +18,16 @@ use crate::heads::add_body_head;
 use hir_base::{DefWithBodyId, Edition};
 use hir_defs::{Body, Param, Tables};
 use hir_node::{BindingId, PatId};
-use hir_page::PageBuffer;
 use hir_printer::{PrintFault, Printer, Work};
 use std::alloc::{AllocError, Global};
 
 /// Adds the binding of `self`, where there is one, and the formal patterns.
 fn add_all_formals(
-    printer: &mut Printer<'_, PageBuffer>,
+    printer: &mut Printer<'_>,
     self_binding: Option<BindingId>,
     params: &[Param<PatId>],
 ) -> Result<(), AllocError>
-    ensures { OnOk result (AddsOnPage printer.old
+    ensures { OnOk result (Adds printer.old
         (λ s. comma_joined (formal_params s self_binding (formals_of params.now))) printer.new) }
 {
     let mut after = false;
@@ -46,11 +45,11 @@ fn add_all_formals(
 
 /// Adds the parameters in parentheses.
 fn add_in_parentheses(
-    printer: &mut Printer<'_, PageBuffer>,
+    printer: &mut Printer<'_>,
     self_binding: Option<BindingId>,
     params: &[Param<PatId>],
 ) -> Result<(), AllocError>
-    ensures { OnOk result (AddsOnPage printer.old
+    ensures { OnOk result (Adds printer.old
         (λ s. text (codes "(") ++ comma_joined (formal_params s self_binding (formals_of params.now)) ++ text (codes ") "))
         printer.new) }
 {
@@ -61,12 +60,12 @@ fn add_in_parentheses(
 
 /// Adds the parameters, which only a function has.
 fn add_params(
-    printer: &mut Printer<'_, PageBuffer>,
+    printer: &mut Printer<'_>,
     owner: &DefWithBodyId,
     self_binding: Option<BindingId>,
     params: &[Param<PatId>],
 ) -> Result<(), AllocError>
-    ensures { OnOk result (AddsOnPage printer.old
+    ensures { OnOk result (Adds printer.old
         (λ s. body_params s self_binding (formals_of params.now) owner.now) printer.new) }
 {
     match owner {
@@ -78,8 +77,8 @@ fn add_params(
 }
 
 /// Adds what follows the last root.
-fn add_end(printer: &mut Printer<'_, PageBuffer>, owner: &DefWithBodyId) -> Result<(), AllocError>
-    ensures { OnOk result (AddsOnPage printer.old (λ s. body_end owner.now) printer.new) }
+fn add_end(printer: &mut Printer<'_>, owner: &DefWithBodyId) -> Result<(), AllocError>
+    ensures { OnOk result (Adds printer.old (λ s. body_end owner.now) printer.new) }
 {
     match owner {
         DefWithBodyId::FunctionId(_) | DefWithBodyId::VariantId(_) => Ok(()),
@@ -98,12 +97,12 @@ fn formal_self(body: &Body) -> Option<BindingId>
 }
 
 fn add_body(
-    printer: &mut Printer<'_, PageBuffer>,
+    printer: &mut Printer<'_>,
     tables: &Tables,
     body: &Body,
     owner: &DefWithBodyId,
 ) -> Result<(), AllocError>
-    ensures { OnOk result (AddsOnPage printer.old
+    ensures { OnOk result (Adds printer.old
         (λ s. body_items s (parents tables.now) owner.now body.now) printer.new) }
 {
     add_body_head(printer, tables, owner)?;

@@ -10,7 +10,7 @@ ghost use Rattle.hir_printer.specs.Items.{text, comma_joined};
 ghost use Rattle.hir_printer.specs.Answers.{answers};
 ghost use Rattle.hir_printer.specs.Printed.{PrintsPieces};
 ghost use Rattle.hir_printer.specs.Pieces.{printed};
-ghost use Rattle.hir_printer.specs.OnPage.{AddsOnPage};
+ghost use Rattle.hir_printer.specs.Printers.{Adds};
 ghost use Rattle.hir_pretty.specs.Added.{marked_items};
 ghost use Rattle.hir_pretty.specs.Signatures.{abi_items, arguments, flags, function_front, function_types, function_items};
 
@@ -18,13 +18,12 @@ use crate::generics::{add_generics, add_where};
 use hir_base::{Edition, ExternAbi, FunctionId};
 use hir_defs::{FunctionSignature, Tables};
 use hir_node::TypeRefId;
-use hir_page::PageBuffer;
 use hir_printer::{PrintFault, Printer, Work};
 use std::alloc::{AllocError, Global};
 
 /// Adds the calling convention, unless it is that of Rust.
-fn add_abi<'a>(printer: &mut Printer<'a, PageBuffer>, abi: &'a ExternAbi) -> Result<(), AllocError>
-    ensures { OnOk result (AddsOnPage printer.old (λ s. abi_items abi.now) printer.new) }
+fn add_abi<'a>(printer: &mut Printer<'a>, abi: &'a ExternAbi) -> Result<(), AllocError>
+    ensures { OnOk result (Adds printer.old (λ s. abi_items abi.now) printer.new) }
 {
     match abi {
         ExternAbi::Rust => Ok(()),
@@ -56,9 +55,9 @@ fn marks_of(alloc: Global, places: &[u32], count: usize) -> Result<Vec<bool>, Al
 }
 
 /// Adds the types of arguments, each with `const: ` before it where its place is marked.
-fn add_marked(printer: &mut Printer<'_, PageBuffer>, marks: &[bool], params: &[TypeRefId]) -> Result<(), AllocError>
+fn add_marked(printer: &mut Printer<'_>, marks: &[bool], params: &[TypeRefId]) -> Result<(), AllocError>
     requires { length marks.now ≡ length params.now }
-    ensures { OnOk result (AddsOnPage printer.old
+    ensures { OnOk result (Adds printer.old
         (λ s. comma_joined (map (marked_items marks.now) (enumerate_from 0 params.now))) printer.new) }
 {
     for (at, param) in params.iter().enumerate() {
@@ -70,12 +69,12 @@ fn add_marked(printer: &mut Printer<'_, PageBuffer>, marks: &[bool], params: &[T
 }
 
 fn add_listed(
-    printer: &mut Printer<'_, PageBuffer>,
+    printer: &mut Printer<'_>,
     alloc: Global,
     places: &[u32],
     params: &[TypeRefId],
 ) -> Result<(), AllocError>
-    ensures { OnOk result (AddsOnPage printer.old (λ s. arguments (Some places.now) params.now) printer.new) }
+    ensures { OnOk result (Adds printer.old (λ s. arguments (Some places.now) params.now) printer.new) }
 {
     let marks = marks_of(alloc, places, params.len())?;
     add_marked(printer, &marks, params)
@@ -83,12 +82,12 @@ fn add_listed(
 
 /// Adds the types of arguments, each with `const: ` before it where its place is listed.
 fn add_arguments<'a>(
-    printer: &mut Printer<'a, PageBuffer>,
+    printer: &mut Printer<'a>,
     alloc: Global,
     places: Option<&[u32]>,
     params: &'a [TypeRefId],
 ) -> Result<(), AllocError>
-    ensures { OnOk result (AddsOnPage printer.old
+    ensures { OnOk result (Adds printer.old
         (λ s. arguments (option_map (λ list. list.now) places.entry) params.now) printer.new) }
 {
     match places {
@@ -97,8 +96,8 @@ fn add_arguments<'a>(
     }
 }
 
-fn add_flags(printer: &mut Printer<'_, PageBuffer>, signature: &FunctionSignature) -> Result<(), AllocError>
-    ensures { OnOk result (AddsOnPage printer.old (λ s. flags signature.now) printer.new) }
+fn add_flags(printer: &mut Printer<'_>, signature: &FunctionSignature) -> Result<(), AllocError>
+    ensures { OnOk result (Adds printer.old (λ s. flags signature.now) printer.new) }
 {
     printer.add_if(signature.is_const(), "const ")?;
     printer.add_if(signature.is_async(), "async ")?;
@@ -107,8 +106,8 @@ fn add_flags(printer: &mut Printer<'_, PageBuffer>, signature: &FunctionSignatur
 }
 
 /// Adds all up to the list of arguments.
-fn add_front<'a>(printer: &mut Printer<'a, PageBuffer>, signature: &'a FunctionSignature) -> Result<(), AllocError>
-    ensures { OnOk result (AddsOnPage printer.old (λ s. function_front s signature.now) printer.new) }
+fn add_front<'a>(printer: &mut Printer<'a>, signature: &'a FunctionSignature) -> Result<(), AllocError>
+    ensures { OnOk result (Adds printer.old (λ s. function_front s signature.now) printer.new) }
 {
     add_flags(printer, signature)?;
     add_abi(printer, signature.abi())?;
@@ -118,11 +117,11 @@ fn add_front<'a>(printer: &mut Printer<'a, PageBuffer>, signature: &'a FunctionS
 
 /// Adds the arguments and the return type.
 fn add_types<'a>(
-    printer: &mut Printer<'a, PageBuffer>,
+    printer: &mut Printer<'a>,
     alloc: Global,
     signature: &'a FunctionSignature,
 ) -> Result<(), AllocError>
-    ensures { OnOk result (AddsOnPage printer.old (λ s. function_types signature.now) printer.new) }
+    ensures { OnOk result (Adds printer.old (λ s. function_types signature.now) printer.new) }
 {
     printer.add(&[Work::Text("(")])?;
     add_arguments(
@@ -139,11 +138,11 @@ fn add_types<'a>(
 }
 
 fn add_function<'a>(
-    printer: &mut Printer<'a, PageBuffer>,
+    printer: &mut Printer<'a>,
     alloc: Global,
     signature: &'a FunctionSignature,
 ) -> Result<(), AllocError>
-    ensures { OnOk result (AddsOnPage printer.old (λ s. function_items s signature.now) printer.new) }
+    ensures { OnOk result (Adds printer.old (λ s. function_items s signature.now) printer.new) }
 {
     add_front(printer, signature)?;
     add_types(printer, alloc, signature)?;

@@ -5,7 +5,7 @@ ghost use Rattle.std.specs.Prelude.{◌++◌, OnOk, codes, false};
 ghost use Rattle.std.specs.List.{enumerate_from};
 ghost use Rattle.std.specs.Option.{option_copied};
 ghost use Rattle.hir_printer.specs.Items.{text, e, opt, comma_joined};
-ghost use Rattle.hir_printer.specs.OnPage.{AddsOnPage};
+ghost use Rattle.hir_printer.specs.Printers.{Adds};
 ghost use Rattle.hir_pretty.specs.Signatures.{type_name, generic_param_items, each_lifetime, each_type_or_const, each_param, generics_items, predicate_items, each_predicate, where_items};
 
 use hir_base::Name;
@@ -14,25 +14,24 @@ use hir_defs::{
     WherePredicate,
 };
 use hir_node::ConstRef;
-use hir_page::PageBuffer;
 use hir_printer::{Part, Printer, Work};
 use std::alloc::AllocError;
 
 /// Adds a type: its name or its place, and its default.
 fn add_type<'a>(
-    printer: &mut Printer<'a, PageBuffer>,
+    printer: &mut Printer<'a>,
     at: u32,
     param: &'a TypeParamData,
 ) -> Result<(), AllocError>
-    ensures { OnOk result (AddsOnPage printer.old
+    ensures { OnOk result (Adds printer.old
         (λ s. generic_param_items s at (TypeOrConstParamData.TypeParamData param.now)) printer.new) }
 {
     printer.add_param_name(at, param.name.as_ref())?;
     printer.add_after(" = ", &param.default)
 }
 
-fn add_default(printer: &mut Printer<'_, PageBuffer>, default: Option<ConstRef>) -> Result<(), AllocError>
-    ensures { OnOk result (AddsOnPage printer.old (λ s. opt (λ d. text (codes " = ") ++ e d.expr) default) printer.new) }
+fn add_default(printer: &mut Printer<'_>, default: Option<ConstRef>) -> Result<(), AllocError>
+    ensures { OnOk result (Adds printer.old (λ s. opt (λ d. text (codes " = ") ++ e d.expr) default) printer.new) }
 {
     match default {
         None => Ok(()),
@@ -42,11 +41,11 @@ fn add_default(printer: &mut Printer<'_, PageBuffer>, default: Option<ConstRef>)
 
 /// Adds a constant with its type and its default.
 fn add_const<'a>(
-    printer: &mut Printer<'a, PageBuffer>,
+    printer: &mut Printer<'a>,
     at: u32,
     param: &'a ConstParamData,
 ) -> Result<(), AllocError>
-    ensures { OnOk result (AddsOnPage printer.old
+    ensures { OnOk result (Adds printer.old
         (λ s. generic_param_items s at (TypeOrConstParamData.ConstParamData param.now)) printer.new) }
 {
     printer.add(&[
@@ -59,11 +58,11 @@ fn add_const<'a>(
 }
 
 fn add_type_or_const<'a>(
-    printer: &mut Printer<'a, PageBuffer>,
+    printer: &mut Printer<'a>,
     at: u32,
     param: &'a TypeOrConstParamData,
 ) -> Result<(), AllocError>
-    ensures { OnOk result (AddsOnPage printer.old (λ s. generic_param_items s at param.now) printer.new) }
+    ensures { OnOk result (Adds printer.old (λ s. generic_param_items s at param.now) printer.new) }
 {
     match param {
         TypeOrConstParamData::TypeParamData(param) => add_type(printer, at, param),
@@ -72,8 +71,8 @@ fn add_type_or_const<'a>(
 }
 
 /// Adds the lifetimes, with `, ` between them.
-fn add_lifetimes<'a>(printer: &mut Printer<'a, PageBuffer>, params: &'a GenericParams) -> Result<(), AllocError>
-    ensures { OnOk result (AddsOnPage printer.old
+fn add_lifetimes<'a>(printer: &mut Printer<'a>, params: &'a GenericParams) -> Result<(), AllocError>
+    ensures { OnOk result (Adds printer.old
         (λ s. following (text (codes ", ")) false (each_lifetime s params.now.lifetimes)) printer.new) }
 {
     let mut after = false;
@@ -87,11 +86,11 @@ fn add_lifetimes<'a>(printer: &mut Printer<'a, PageBuffer>, params: &'a GenericP
 
 /// Adds types and constants in their places, each after `, `; the first only where something is before it.
 fn add_types_and_consts<'a>(
-    printer: &mut Printer<'a, PageBuffer>,
+    printer: &mut Printer<'a>,
     params: &'a GenericParams,
     first: bool,
 ) -> Result<(), AllocError>
-    ensures { OnOk result (AddsOnPage printer.old
+    ensures { OnOk result (Adds printer.old
         (λ s. following (text (codes ", ")) first (each_type_or_const s (enumerate_from 0 params.now.type_or_consts))) printer.new) }
 {
     let mut after = first;
@@ -104,8 +103,8 @@ fn add_types_and_consts<'a>(
 }
 
 /// Adds all parameters in `<` and `>`.
-fn add_in_angles<'a>(printer: &mut Printer<'a, PageBuffer>, params: &'a GenericParams) -> Result<(), AllocError>
-    ensures { OnOk result (AddsOnPage printer.old
+fn add_in_angles<'a>(printer: &mut Printer<'a>, params: &'a GenericParams) -> Result<(), AllocError>
+    ensures { OnOk result (Adds printer.old
         (λ s. text (codes "<") ++ comma_joined (each_param s params.now) ++ text (codes ">")) printer.new) }
 {
     printer.add(&[Work::Text("<")])?;
@@ -116,10 +115,10 @@ fn add_in_angles<'a>(printer: &mut Printer<'a, PageBuffer>, params: &'a GenericP
 
 /// Adds all parameters in `<` and `>`, where there are any.
 pub(crate) fn add_generics<'a>(
-    printer: &mut Printer<'a, PageBuffer>,
+    printer: &mut Printer<'a>,
     params: &'a GenericParams,
 ) -> Result<(), AllocError>
-    ensures { OnOk result (AddsOnPage printer.old (λ s. generics_items s params.now) printer.new) }
+    ensures { OnOk result (Adds printer.old (λ s. generics_items s params.now) printer.new) }
 {
     if params.is_empty() {
         return Ok(());
@@ -128,8 +127,8 @@ pub(crate) fn add_generics<'a>(
 }
 
 /// Adds a predicate.
-fn add_predicate<'a>(printer: &mut Printer<'a, PageBuffer>, predicate: &'a WherePredicate) -> Result<(), AllocError>
-    ensures { OnOk result (AddsOnPage printer.old (λ s. predicate_items s predicate.now) printer.new) }
+fn add_predicate<'a>(printer: &mut Printer<'a>, predicate: &'a WherePredicate) -> Result<(), AllocError>
+    ensures { OnOk result (Adds printer.old (λ s. predicate_items s predicate.now) printer.new) }
 {
     match predicate {
         WherePredicate::TypeBound {
@@ -150,10 +149,10 @@ fn add_predicate<'a>(printer: &mut Printer<'a, PageBuffer>, predicate: &'a Where
 }
 
 fn add_each_predicate<'a>(
-    printer: &mut Printer<'a, PageBuffer>,
+    printer: &mut Printer<'a>,
     predicates: &'a [WherePredicate],
 ) -> Result<(), AllocError>
-    ensures { OnOk result (AddsOnPage printer.old (λ s. each_predicate s predicates.now) printer.new) }
+    ensures { OnOk result (Adds printer.old (λ s. each_predicate s predicates.now) printer.new) }
 {
     let mut after = false;
     for predicate in predicates {
@@ -166,10 +165,10 @@ fn add_each_predicate<'a>(
 
 /// Adds the predicates, each on a line of its own after `where`, where there are any.
 pub(crate) fn add_where<'a>(
-    printer: &mut Printer<'a, PageBuffer>,
+    printer: &mut Printer<'a>,
     predicates: &'a [WherePredicate],
 ) -> Result<(), AllocError>
-    ensures { OnOk result (AddsOnPage printer.old (λ s. where_items s predicates.now) printer.new) }
+    ensures { OnOk result (Adds printer.old (λ s. where_items s predicates.now) printer.new) }
 {
     if predicates.is_empty() {
         return Ok(());

@@ -9,7 +9,7 @@ ghost use Rattle.hir_printer.specs.Answers.{answers};
 ghost use Rattle.hir_expr_store.specs.Contents.{Contents};
 ghost use Rattle.hir_printer.specs.Settings.{setting};
 ghost use Rattle.hir_printer.specs.Pieces.{printed, first_missing};
-ghost use Rattle.hir_printer.specs.OnPage.{AddsOnPage};
+ghost use Rattle.hir_printer.specs.Printers.{Adds};
 ghost use Rattle.hir_pretty.specs.Added.{error_of};
 ghost use Rattle.hir_pretty.specs.Bodies.{variant_name, body_head, of_enum};
 ghost use Rattle.hir_pretty.specs.Variants.{variant_head};
@@ -18,16 +18,15 @@ ghost use Rattle.hir_pretty.specs.Found.{parents};
 use hir_base::{DefWithBodyId, EnumId, EnumVariantId, NamedDef, VariantId};
 use hir_defs::Tables;
 use hir_expr_store::Missing;
-use hir_page::PageBuffer;
 use hir_printer::{Printer, Work};
 use std::alloc::AllocError;
 
 fn add_enum(
-    printer: &mut Printer<'_, PageBuffer>,
+    printer: &mut Printer<'_>,
     id: EnumVariantId,
     parent: EnumId,
 ) -> Result<(), AllocError>
-    ensures { OnOk result (AddsOnPage printer.old (λ s. of_enum s id (Ok parent)) printer.new) }
+    ensures { OnOk result (Adds printer.old (λ s. of_enum s id (Ok parent)) printer.new) }
 {
     printer.add(&[Work::Text("enum ")])?;
     printer.add_named(NamedDef::EnumId(parent))?;
@@ -37,11 +36,11 @@ fn add_enum(
 
 /// Adds the names of the variant's enum and of the variant. The enum is looked up first.
 fn add_variant_name(
-    printer: &mut Printer<'_, PageBuffer>,
+    printer: &mut Printer<'_>,
     tables: &Tables,
     id: EnumVariantId,
 ) -> Result<(), AllocError>
-    ensures { OnOk result (AddsOnPage printer.old (λ s. variant_name s (parents tables.now) id) printer.new) }
+    ensures { OnOk result (Adds printer.old (λ s. variant_name s (parents tables.now) id) printer.new) }
 {
     match tables.variant_parent(id) {
         Ok(parent) => add_enum(printer, id, parent),
@@ -51,11 +50,11 @@ fn add_variant_name(
 
 /// Adds a keyword and the name of a definition.
 fn add_keyword(
-    printer: &mut Printer<'_, PageBuffer>,
+    printer: &mut Printer<'_>,
     keyword: &'static str,
     def: NamedDef,
 ) -> Result<(), AllocError>
-    ensures { OnOk result (AddsOnPage printer.old
+    ensures { OnOk result (Adds printer.old
         (λ s. text keyword.now ++ found_name (codes "<missing>") (s.tables.name def)) printer.new) }
 {
     printer.add(&[Work::Text(keyword)])?;
@@ -64,11 +63,11 @@ fn add_keyword(
 
 /// Adds what a body begins with. A constant without a name is `_`.
 pub(crate) fn add_body_head(
-    printer: &mut Printer<'_, PageBuffer>,
+    printer: &mut Printer<'_>,
     tables: &Tables,
     owner: &DefWithBodyId,
 ) -> Result<(), AllocError>
-    ensures { OnOk result (AddsOnPage printer.old (λ s. body_head s (parents tables.now) owner.now) printer.new) }
+    ensures { OnOk result (Adds printer.old (λ s. body_head s (parents tables.now) owner.now) printer.new) }
 {
     match owner {
         DefWithBodyId::FunctionId(id) => add_keyword(printer, "fn ", NamedDef::FunctionId(*id)),
@@ -87,11 +86,11 @@ pub(crate) fn add_body_head(
 
 /// Adds what a struct, a union or a variant begins with.
 pub(crate) fn add_variant_head(
-    printer: &mut Printer<'_, PageBuffer>,
+    printer: &mut Printer<'_>,
     tables: &Tables,
     owner: &VariantId,
 ) -> Result<(), AllocError>
-    ensures { OnOk result (AddsOnPage printer.old (λ s. variant_head s (parents tables.now) owner.now) printer.new) }
+    ensures { OnOk result (Adds printer.old (λ s. variant_head s (parents tables.now) owner.now) printer.new) }
 {
     match owner {
         VariantId::EnumVariantId(id) => add_variant_name(printer, tables, *id),

@@ -10,22 +10,21 @@ ghost use Rattle.hir_printer.specs.Items.{text, br, opt, when};
 ghost use Rattle.hir_printer.specs.Answers.{answers};
 ghost use Rattle.hir_printer.specs.Printed.{PrintsPieces};
 ghost use Rattle.hir_printer.specs.Pieces.{printed};
-ghost use Rattle.hir_printer.specs.OnPage.{AddsOnPage};
+ghost use Rattle.hir_printer.specs.Printers.{Adds};
 ghost use Rattle.hir_pretty.specs.Signatures.{repr_items, shape_begin, shape_end, struct_front, struct_items};
 
 use crate::generics::{add_generics, add_where};
 use hir_base::{Edition, StructId};
 use hir_defs::{FieldsShape, Repr, StructSignature, Tables};
-use hir_page::PageBuffer;
 use hir_printer::{PrintFault, Printer, Work};
 use std::alloc::{AllocError, Global};
 
 fn add_attribute_if(
-    printer: &mut Printer<'_, PageBuffer>,
+    printer: &mut Printer<'_>,
     holds: bool,
     attribute: &'static str,
 ) -> Result<(), AllocError>
-    ensures { OnOk result (AddsOnPage printer.old (λ s. when holds (text attribute.now ++ br)) printer.new) }
+    ensures { OnOk result (Adds printer.old (λ s. when holds (text attribute.now ++ br)) printer.new) }
 {
     if holds {
         return printer.add(&[Work::Text(attribute), Work::Break]);
@@ -35,11 +34,11 @@ fn add_attribute_if(
 
 /// Adds an attribute with this many bytes, where there are any.
 fn add_bytes(
-    printer: &mut Printer<'_, PageBuffer>,
+    printer: &mut Printer<'_>,
     before: &'static str,
     bytes: Option<u64>,
 ) -> Result<(), AllocError>
-    ensures { OnOk result (AddsOnPage printer.old
+    ensures { OnOk result (Adds printer.old
         (λ s. opt (λ n. text before.now ++ text (decimal n) ++ text (codes "))]") ++ br) bytes) printer.new) }
 {
     match bytes {
@@ -53,16 +52,16 @@ fn add_bytes(
     }
 }
 
-fn add_repr(printer: &mut Printer<'_, PageBuffer>, repr: Repr) -> Result<(), AllocError>
-    ensures { OnOk result (AddsOnPage printer.old (λ s. repr_items (Some repr)) printer.new) }
+fn add_repr(printer: &mut Printer<'_>, repr: Repr) -> Result<(), AllocError>
+    ensures { OnOk result (Adds printer.old (λ s. repr_items (Some repr)) printer.new) }
 {
     add_attribute_if(printer, repr.c, "#[repr(C)]")?;
     add_bytes(printer, "#[repr(align(", repr.align)?;
     add_bytes(printer, "#[repr(pack(", repr.pack)
 }
 
-fn add_repr_opt(printer: &mut Printer<'_, PageBuffer>, repr: Option<Repr>) -> Result<(), AllocError>
-    ensures { OnOk result (AddsOnPage printer.old (λ s. repr_items repr) printer.new) }
+fn add_repr_opt(printer: &mut Printer<'_>, repr: Option<Repr>) -> Result<(), AllocError>
+    ensures { OnOk result (Adds printer.old (λ s. repr_items repr) printer.new) }
 {
     match repr {
         None => Ok(()),
@@ -70,8 +69,8 @@ fn add_repr_opt(printer: &mut Printer<'_, PageBuffer>, repr: Option<Repr>) -> Re
     }
 }
 
-fn add_begin(printer: &mut Printer<'_, PageBuffer>, shape: FieldsShape) -> Result<(), AllocError>
-    ensures { OnOk result (AddsOnPage printer.old (λ s. shape_begin shape) printer.new) }
+fn add_begin(printer: &mut Printer<'_>, shape: FieldsShape) -> Result<(), AllocError>
+    ensures { OnOk result (Adds printer.old (λ s. shape_begin shape) printer.new) }
 {
     match shape {
         FieldsShape::Record => printer.add(&[Work::Text(" {...}"), Work::Break]),
@@ -80,8 +79,8 @@ fn add_begin(printer: &mut Printer<'_, PageBuffer>, shape: FieldsShape) -> Resul
     }
 }
 
-fn add_end(printer: &mut Printer<'_, PageBuffer>, shape: FieldsShape) -> Result<(), AllocError>
-    ensures { OnOk result (AddsOnPage printer.old (λ s. shape_end shape) printer.new) }
+fn add_end(printer: &mut Printer<'_>, shape: FieldsShape) -> Result<(), AllocError>
+    ensures { OnOk result (Adds printer.old (λ s. shape_end shape) printer.new) }
 {
     match shape {
         FieldsShape::Record => printer.add(&[Work::Break]),
@@ -91,11 +90,11 @@ fn add_end(printer: &mut Printer<'_, PageBuffer>, shape: FieldsShape) -> Result<
 
 /// Adds the attributes, the name and the parameters.
 fn add_front<'a>(
-    printer: &mut Printer<'a, PageBuffer>,
+    printer: &mut Printer<'a>,
     repr: Option<Repr>,
     signature: &'a StructSignature,
 ) -> Result<(), AllocError>
-    ensures { OnOk result (AddsOnPage printer.old (λ s. struct_front s repr signature.now) printer.new) }
+    ensures { OnOk result (Adds printer.old (λ s. struct_front s repr signature.now) printer.new) }
 {
     add_repr_opt(printer, repr)?;
     add_attribute_if(printer, signature.is_fundamental(), "#[fundamental]")?;
@@ -104,11 +103,11 @@ fn add_front<'a>(
 }
 
 fn add_struct<'a>(
-    printer: &mut Printer<'a, PageBuffer>,
+    printer: &mut Printer<'a>,
     repr: Option<Repr>,
     signature: &'a StructSignature,
 ) -> Result<(), AllocError>
-    ensures { OnOk result (AddsOnPage printer.old (λ s. struct_items s repr signature.now) printer.new) }
+    ensures { OnOk result (Adds printer.old (λ s. struct_items s repr signature.now) printer.new) }
 {
     add_front(printer, repr, signature)?;
     add_begin(printer, signature.shape())?;

@@ -12,7 +12,7 @@ ghost use Rattle.hir_printer.specs.Paths.{supers};
 ghost use Rattle.hir_printer.specs.Answers.{answers};
 ghost use Rattle.hir_printer.specs.Printed.{PrintsPieces};
 ghost use Rattle.hir_printer.specs.Pieces.{printed};
-ghost use Rattle.hir_printer.specs.OnPage.{AddsOnPage};
+ghost use Rattle.hir_printer.specs.Printers.{Adds};
 ghost use Rattle.hir_pretty.specs.Variants.{LacksFields, module_items, visibility_items, field_line, fields_begin, fields_end, fields_items, variant_items, without_fields};
 ghost use Rattle.hir_pretty.specs.Found.{parents, fields_found};
 
@@ -20,13 +20,12 @@ use crate::heads::{add_variant_head, missing_in_head};
 use hir_base::{Edition, ModPath, PathKind, VariantId};
 use hir_defs::{FieldData, FieldsShape, RawVisibility, Tables, VariantFields};
 use hir_expr_store::Missing;
-use hir_page::PageBuffer;
 use hir_printer::{PrintFault, Printer, Work};
 use std::alloc::{AllocError, Global};
 
 /// Adds the path of a module: where it begins, and its names.
-fn add_module<'a>(printer: &mut Printer<'a, PageBuffer>, path: &'a ModPath) -> Result<(), AllocError>
-    ensures { OnOk result (AddsOnPage printer.old (λ s. module_items s path.now) printer.new) }
+fn add_module<'a>(printer: &mut Printer<'a>, path: &'a ModPath) -> Result<(), AllocError>
+    ensures { OnOk result (Adds printer.old (λ s. module_items s path.now) printer.new) }
 {
     match path.kind() {
         PathKind::Plain => return printer.add_list(false, "::", path.segments()),
@@ -38,8 +37,8 @@ fn add_module<'a>(printer: &mut Printer<'a, PageBuffer>, path: &'a ModPath) -> R
     printer.add_list(true, "::", path.segments())
 }
 
-fn add_in_module<'a>(printer: &mut Printer<'a, PageBuffer>, path: &'a ModPath) -> Result<(), AllocError>
-    ensures { OnOk result (AddsOnPage printer.old
+fn add_in_module<'a>(printer: &mut Printer<'a>, path: &'a ModPath) -> Result<(), AllocError>
+    ensures { OnOk result (Adds printer.old
         (λ s. text (codes "pub(in ") ++ module_items s path.now ++ text (codes ") ")) printer.new) }
 {
     printer.add(&[Work::Text("pub(in ")])?;
@@ -48,10 +47,10 @@ fn add_in_module<'a>(printer: &mut Printer<'a, PageBuffer>, path: &'a ModPath) -
 }
 
 fn add_visibility<'a>(
-    printer: &mut Printer<'a, PageBuffer>,
+    printer: &mut Printer<'a>,
     visibility: &'a RawVisibility,
 ) -> Result<(), AllocError>
-    ensures { OnOk result (AddsOnPage printer.old (λ s. visibility_items s visibility.now) printer.new) }
+    ensures { OnOk result (Adds printer.old (λ s. visibility_items s visibility.now) printer.new) }
 {
     match visibility {
         RawVisibility::Module(path) => add_in_module(printer, path),
@@ -62,8 +61,8 @@ fn add_visibility<'a>(
 }
 
 /// Adds a field, on a line of its own.
-fn add_field<'a>(printer: &mut Printer<'a, PageBuffer>, field: &'a FieldData) -> Result<(), AllocError>
-    ensures { OnOk result (AddsOnPage printer.old (λ s. field_line s field.now) printer.new) }
+fn add_field<'a>(printer: &mut Printer<'a>, field: &'a FieldData) -> Result<(), AllocError>
+    ensures { OnOk result (Adds printer.old (λ s. field_line s field.now) printer.new) }
 {
     add_visibility(printer, &field.visibility)?;
     printer.add_if(field.is_unsafe, "unsafe ")?;
@@ -76,8 +75,8 @@ fn add_field<'a>(printer: &mut Printer<'a, PageBuffer>, field: &'a FieldData) ->
     ])
 }
 
-fn add_each_field<'a>(printer: &mut Printer<'a, PageBuffer>, fields: &'a [FieldData]) -> Result<(), AllocError>
-    ensures { OnOk result (AddsOnPage printer.old (λ s. flat_map (field_line s) fields.now) printer.new) }
+fn add_each_field<'a>(printer: &mut Printer<'a>, fields: &'a [FieldData]) -> Result<(), AllocError>
+    ensures { OnOk result (Adds printer.old (λ s. flat_map (field_line s) fields.now) printer.new) }
 {
     for field in fields {
         add_field(printer, field)?;
@@ -85,8 +84,8 @@ fn add_each_field<'a>(printer: &mut Printer<'a, PageBuffer>, fields: &'a [FieldD
     Ok(())
 }
 
-fn add_begin(printer: &mut Printer<'_, PageBuffer>, shape: FieldsShape) -> Result<(), AllocError>
-    ensures { OnOk result (AddsOnPage printer.old (λ s. fields_begin shape) printer.new) }
+fn add_begin(printer: &mut Printer<'_>, shape: FieldsShape) -> Result<(), AllocError>
+    ensures { OnOk result (Adds printer.old (λ s. fields_begin shape) printer.new) }
 {
     match shape {
         FieldsShape::Record => printer.add(&[Work::Text(" {"), Work::Break]),
@@ -95,8 +94,8 @@ fn add_begin(printer: &mut Printer<'_, PageBuffer>, shape: FieldsShape) -> Resul
     }
 }
 
-fn add_end(printer: &mut Printer<'_, PageBuffer>, shape: FieldsShape) -> Result<(), AllocError>
-    ensures { OnOk result (AddsOnPage printer.old (λ s. fields_end shape) printer.new) }
+fn add_end(printer: &mut Printer<'_>, shape: FieldsShape) -> Result<(), AllocError>
+    ensures { OnOk result (Adds printer.old (λ s. fields_end shape) printer.new) }
 {
     match shape {
         FieldsShape::Record => printer.add(&[Work::Text("}"), Work::Break]),
@@ -107,11 +106,11 @@ fn add_end(printer: &mut Printer<'_, PageBuffer>, shape: FieldsShape) -> Result<
 
 /// Adds fields, and what is around them.
 fn add_fields<'a>(
-    printer: &mut Printer<'a, PageBuffer>,
+    printer: &mut Printer<'a>,
     shape: FieldsShape,
     fields: &'a [FieldData],
 ) -> Result<(), AllocError>
-    ensures { OnOk result (AddsOnPage printer.old (λ s. fields_items s shape fields.now) printer.new) }
+    ensures { OnOk result (Adds printer.old (λ s. fields_items s shape fields.now) printer.new) }
 {
     add_begin(printer, shape)?;
     add_each_field(printer, fields)?;
@@ -119,12 +118,12 @@ fn add_fields<'a>(
 }
 
 fn add_variant<'a>(
-    printer: &mut Printer<'a, PageBuffer>,
+    printer: &mut Printer<'a>,
     tables: &Tables,
     owner: &VariantId,
     fields: &'a VariantFields,
 ) -> Result<(), AllocError>
-    ensures { OnOk result (AddsOnPage printer.old
+    ensures { OnOk result (Adds printer.old
         (λ s. variant_items s (parents tables.now) owner.now fields.now) printer.new) }
 {
     add_variant_head(printer, tables, owner)?;

@@ -1,19 +1,18 @@
 -- What a printer has to print after items were added.
--- Draft: not yet run through the prover.
-use Rattle.std.proofs.Common.{◌≡◌, ◌+◌, ◌<◌, ◌≤◌, ℕ, Bool, true, false, List, [], ◌∷◌, ◌++◌, refl, sym, ap, subst, ◌∙◌, append_assoc, append-nil, Option, None, arith, length, slice_get, inl, inr}
+use Rattle.std.proofs.Common.{◌≡◌, ◌+◌, ◌<◌, ◌≤◌, ℕ, Bool, true, false, List, [], ◌∷◌, ◌++◌, refl, sym, ap, subst, ◌∙◌, append_assoc, append-nil, Option, Some, None, arith, length, slice_get, inl, inr}
 use Rattle.std.specs.Bool.{IsTrue}
 use Rattle.std.specs.List.{flat_map}
 use Rattle.std.proofs.lemmas.Bool.{cases_lt}
 use Rattle.std.proofs.lemmas.Option.{slice_get_past}
 use Rattle.std.proofs.lemmas.List.Concat.{flat_map-append}
-use Rattle.hir_page.specs.Pieces.{Piece}
+use Rattle.hir_page.specs.Page.{Page}
 use Rattle.hir_printer.specs.declared.work.Work.{Work}
 use Rattle.hir_printer.specs.Questions.{Setting}
-use Rattle.hir_printer.specs.Items.{Item}
+use Rattle.hir_printer.specs.Items.{Item, opt}
 use Rattle.hir_printer.specs.Pieces.{printed}
 use Rattle.hir_printer.specs.Weights.{total, item_weight, weight, heft}
 use Rattle.hir_printer.specs.Printing.{Printing}
-use Rattle.hir_printer.specs.Printers.{stands_for, meant, stood, stood_after, Prints, Leads, Wrote, Adds}
+use Rattle.hir_printer.specs.Printers.{stands_for, meant, stood, stood_after, printing, Leads, Wrote, Adds}
 
 pub total-append : {X : Type 0} (f : X → ℕ) (xs ys : List X) → total f (xs ++ ys) ≡ total f xs + total f ys
 total-append f [] ys = omega arith
@@ -30,77 +29,108 @@ pub stood_is : (s : Setting) (works : List Work) → meant s works ≡ stood s w
 stood_is s [] = refl
 stood_is s (w ∷ ws) = stood_is-after s (stands_for s w) ws
 
-module _ {W : Type 0} {step : W → Piece → W → Type 0} where
-  pub leads_then : {s : Setting} {u v w : W} {is js ks : List Item} → Leads step s u is v js → Leads step s v js w ks → Leads step s u is w ks
-  leads_then a b = record { leads = λ more m last r. a.leads more m last (b.leads more m last r) }
+pub meant-append : (s : Setting) (xs ys : List Work) → meant s (xs ++ ys) ≡ meant s xs ++ meant s ys
+meant-append s xs ys = flat_map-append (stands_for s) xs ys
 
-  pub leads_behind : {s : Setting} {u v : W} {is js : List Item} (ks : List Item) → Leads step s u is v js → Leads step s u (is ++ ks) v (js ++ ks)
-  leads_behind {s} {u} {v} {is} {js} ks a = record {
-    leads = λ more m last r. subst (λ xs. Prints step u (printed s xs) m last) (sym (append_assoc is ks more))
-        (a.leads (ks ++ more) m last (subst (λ xs. Prints step v (printed s xs) m last) (append_assoc js ks more) r));
-  }
+-- 1. What comes to the same
 
-  -- nothing
-  pub adds_none : {old : Printing W} {items : Setting → List Item} → ((s : Setting) → [] ≡ items s) → Adds step old items old
-  adds_none {old} {items} e = record {
-    same = refl;
-    leads = record { leads = λ more m last r. subst (λ xs. Prints step old.writer (printed old.from (xs ++ more)) m last)
-        (sym (append-nil (meant old.from old.kept)) ∙ ap (λ is. meant old.from old.kept ++ is) (e old.from)) r };
-    less = let k = heft-append old.from (meant old.from old.kept) (items old.from) in omega arith;
-  }
+pub leads_then : {s : Setting} {u v w : Page} {is js ks : List Item} → Leads s u is v js → Leads s v js w ks → Leads s u is w ks
+leads_then a b = record { leads = λ more. a.leads more ∙ b.leads more }
 
-  -- items behind others
-  pub adds_then : {old between new : Printing W} {f g : Setting → List Item} → Adds step old f between → Adds step between g new → Adds step old (λ s. f s ++ g s) new
-  adds_then {old} {between} {new} {f} {g} a b =
-      let s = old.from in
-      let kept = meant s old.kept in
-      let from : between.from ≡ s = ap (λ (p : Printing W). p.from) a.same in
-      let b_leads : Leads step s between.writer (meant s between.kept ++ g s) new.writer (meant s new.kept)
-          = subst (λ t. Leads step t between.writer (meant t between.kept ++ g t) new.writer (meant t new.kept)) from b.leads in
-      let b_less : heft s (meant s new.kept) ≤ heft s (meant s between.kept ++ g s)
-          = subst (λ t. heft t (meant t new.kept) ≤ heft t (meant t between.kept ++ g t)) from b.less in
-      record {
-        same = b.same ∙ ap (λ (p : Printing W). record p { kept = new.kept; writer = new.writer }) a.same;
-        leads = subst (λ xs. Leads step s old.writer xs new.writer (meant s new.kept)) (append_assoc kept (f s) (g s))
-            (leads_then (leads_behind (g s) a.leads) b_leads);
-        less =
-            let h = a.less in let k = heft-append s (meant s between.kept) (g s) in let l = heft-append s (kept ++ f s) (g s) in
-            let m = ap (heft s) (append_assoc kept (f s) (g s)) in omega arith;
-      }
+pub leads_behind : {s : Setting} {u v : Page} {is js : List Item} (ks : List Item) → Leads s u is v js → Leads s u (is ++ ks) v (js ++ ks)
+leads_behind {s} {u} {v} {is} {js} ks a = record {
+  leads = λ more. ap (λ xs. printing u (printed s xs)) (append_assoc is ks more) ∙ a.leads (ks ++ more) ∙ ap (λ xs. printing v (printed s xs)) (sym (append_assoc js ks more));
+}
 
-  -- the same items in other words
-  pub adds_as : {old new : Printing W} {f g : Setting → List Item} → Adds step old f new → ((s : Setting) → f s ≡ g s) → Adds step old g new
-  adds_as {old} {new} {f} {g} a e = subst (λ is. AddsItems old new is) (e old.from) a
-    where
-      abbrev AddsItems : Printing W → Printing W → List Item → Type 0
-      AddsItems old new is = Adds step old (λ s. is) new
+-- the same items on the same page
+pub leads_as : {s : Setting} {u : Page} {is js : List Item} → is ≡ js → Leads s u is u js
+leads_as {s} {u} e = record { leads = λ more. ap (λ xs. printing u (printed s (xs ++ more))) e }
 
-  -- works behind others
-  pub adds_more : {works : List Work} {old between new : Printing W} {f : Setting → List Item} → Adds step old f between → Adds step between (λ s. stood s works) new
-      → Adds step old (λ s. stood_after s (f s) works) new
-  adds_more {works} {f = f} a b = adds_as (adds_then a b) (λ s. ap (λ is. f s ++ is) (sym (stood_is s works)) ∙ stood_is-after s (f s) works)
+-- 2. Items that were added
 
-  -- Loops: items were added, and with those of the rest they are all.
-  pub record Left (old : Printing W) (all : Setting → List Item) (now : Printing W) (rest : Setting → List Item) : Type 0 where
-    pub done : Setting → List Item
-    pub adds : Adds step old done now
-    pub same : (s : Setting) → done s ++ rest s ≡ all s
+-- nothing
+pub adds_none : {old : Printing} {items : Setting → List Item} → ((s : Setting) → [] ≡ items s) → Adds old items old
+adds_none {old} {items} e =
+    let same : meant old.from old.kept ++ items old.from ≡ meant old.from old.kept = ap (λ is. meant old.from old.kept ++ is) (sym (e old.from)) ∙ append-nil (meant old.from old.kept) in
+    record {
+      same = refl;
+      leads = leads_as same;
+      less = let k = ap (heft old.from) same in omega arith;
+    }
 
-  pub left_begins : {old : Printing W} {all rest : Setting → List Item} → ((s : Setting) → rest s ≡ all s) → Left old all old rest
-  left_begins e = record { done = λ s. []; adds = adds_none (λ s. refl); same = e }
+-- items behind others
+pub adds_then : {old between new : Printing} {f g : Setting → List Item} → Adds old f between → Adds between g new → Adds old (λ s. f s ++ g s) new
+adds_then {old} {between} {new} {f} {g} a b =
+    let s = old.from in
+    let kept = meant s old.kept in
+    let from : between.from ≡ s = ap (λ (p : Printing). p.from) a.same in
+    let b_leads : Leads s between.page (meant s between.kept ++ g s) new.page (meant s new.kept)
+    = subst (λ t. Leads t between.page (meant t between.kept ++ g t) new.page (meant t new.kept)) from b.leads in
+    let b_less : heft s (meant s new.kept) ≤ heft s (meant s between.kept ++ g s)
+    = subst (λ t. heft t (meant t new.kept) ≤ heft t (meant t between.kept ++ g t)) from b.less in
+    record {
+      same = b.same ∙ ap (λ (p : Printing). record p { kept = new.kept; page = new.page }) a.same;
+      leads = leads_then (leads_as (sym (append_assoc kept (f s) (g s)))) (leads_then (leads_behind (g s) a.leads) b_leads);
+      less =
+          let h = a.less in let k = heft-append s (meant s between.kept) (g s) in let l = heft-append s (kept ++ f s) (g s) in
+          let m = ap (heft s) (append_assoc kept (f s) (g s)) in omega arith;
+    }
 
-  pub left_goes_on : {old between new : Printing W} {all rest is more : Setting → List Item} → Left old all between rest → Adds step between is new
-      → ((s : Setting) → is s ++ more s ≡ rest s) → Left old all new more
-  left_goes_on {is = is} {more = more} l a e = record {
-    done = λ s. l.done s ++ is s;
-    adds = adds_then l.adds a;
-    same = λ s. append_assoc (l.done s) (is s) (more s) ∙ ap (λ xs. l.done s ++ xs) (e s) ∙ l.same s;
-  }
+-- the same items in other words
+pub adds_as : {old new : Printing} {f g : Setting → List Item} → Adds old f new → ((s : Setting) → f s ≡ g s) → Adds old g new
+adds_as {old} {new} {f} {g} a e = record {
+  same = a.same;
+  leads = leads_then (leads_as (ap (λ is. meant old.from old.kept ++ is) (sym (e old.from)))) a.leads;
+  less = let h = a.less in let k = ap (λ is. heft old.from (meant old.from old.kept ++ is)) (e old.from) in omega arith;
+}
 
-  pub left_ends : {old now : Printing W} {all rest : Setting → List Item} → Left old all now rest → ((s : Setting) → [] ≡ rest s) → Adds step old all now
-  left_ends l e = adds_as l.adds (λ s. sym (append-nil (l.done s)) ∙ ap (λ xs. l.done s ++ xs) (e s) ∙ l.same s)
+-- works behind others
+pub adds_more : {works : List Work} {old between new : Printing} {f : Setting → List Item} → Adds old f between → Adds between (λ s. stood s works) new
+    → Adds old (λ s. stood_after s (f s) works) new
+adds_more {works} {f = f} a b = adds_as (adds_then a b) (λ s. ap (λ is. f s ++ is) (sym (stood_is s works)) ∙ stood_is-after s (f s) works)
 
--- What is found in a store, and what isn't.
+-- 3. Loops
+
+-- Items were added, and with those of the rest they are all.
+pub record Left (old : Printing) (all : Setting → List Item) (now : Printing) (rest : Setting → List Item) : Type 0 where
+  pub done : Setting → List Item
+  pub adds : Adds old done now
+  pub same : (s : Setting) → done s ++ rest s ≡ all s
+
+pub left_begins : {old : Printing} {all rest : Setting → List Item} → ((s : Setting) → rest s ≡ all s) → Left old all old rest
+left_begins e = record { done = λ s. []; adds = adds_none (λ s. refl); same = e }
+
+pub left_goes_on : {old between new : Printing} {all rest is more : Setting → List Item} → Left old all between rest → Adds between is new
+    → ((s : Setting) → is s ++ more s ≡ rest s) → Left old all new more
+left_goes_on {is = is} {more = more} l a e = record {
+  done = λ s. l.done s ++ is s;
+  adds = adds_then l.adds a;
+  same = λ s. append_assoc (l.done s) (is s) (more s) ∙ ap (λ xs. l.done s ++ xs) (e s) ∙ l.same s;
+}
+
+pub left_ends : {old now : Printing} {all rest : Setting → List Item} → Left old all now rest → ((s : Setting) → [] ≡ rest s) → Adds old all now
+left_ends l e = adds_as l.adds (λ s. sym (append-nil (l.done s)) ∙ ap (λ xs. l.done s ++ xs) (e s) ∙ l.same s)
+
+-- 4. What is found in a store, and what isn't
+
+pub adds_found : {X : Type 0} {old new : Printing} (items : Setting → X → List Item) (found : Setting → Option X) (x : X) → found old.from ≡ Some x → Adds old (λ s. items s x) new
+    → Adds old (λ s. opt (items s) (found s)) new
+adds_found {X} {old} {new} items found x e a = record {
+  same = a.same;
+  leads = leads_then (leads_as (ap (λ o. meant old.from old.kept ++ opt (items old.from) o) e)) a.leads;
+  less = let h = a.less in let k = ap (λ o. heft old.from (meant old.from old.kept ++ opt (items old.from) o)) e in omega arith;
+}
+
+pub adds_absent : {X : Type 0} {old : Printing} (items : Setting → X → List Item) (found : Setting → Option X) → found old.from ≡ None → Adds old (λ s. opt (items s) (found s)) old
+adds_absent {X} {old} items found e =
+    let same : meant old.from old.kept ++ opt (items old.from) (found old.from) ≡ meant old.from old.kept
+    = ap (λ o. meant old.from old.kept ++ opt (items old.from) o) e ∙ append-nil (meant old.from old.kept) in
+    record {
+      same = refl;
+      leads = leads_as same;
+      less = let k = ap (heft old.from) same in omega arith;
+    }
+
 pub not_there : {X : Type 0} (xs : List X) (id : ℕ) (b : Bool) → (IsTrue b → id < length xs) × (id < length xs → IsTrue b) → b ≡ false → slice_get xs id ≡ None
 not_there xs id b k e = elim (cases_lt id (length xs)) [
   | inl h ↦ absurd (let yes : b ≡ true = k.1 h in let bad : false ≡ true = sym e ∙ yes in grind arith)

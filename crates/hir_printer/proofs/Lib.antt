@@ -5,7 +5,8 @@ pub mod FallLemmas
 pub mod NodesFall
 pub mod ItemsFall
 pub mod AddLemmas
+pub mod PieceLemmas
+pub mod WeightLemmas
 pub mod TurnLemmas
-pub mod PageOfPieces
 pub mod AnswerLemmas
 pub mod NameLemmas

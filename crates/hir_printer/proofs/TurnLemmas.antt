@@ -1,162 +1,152 @@
 -- A turn of the loop, by what its work is.
--- Draft: not yet run through the prover.
-use Rattle.std.proofs.Common.{◌≡◌, ℕ, zero, suc, ◌+◌, ◌<◌, ◌≤◌, Bool, true, false, List, [], ◌∷◌, ◌++◌, map, codes, Option, Some, None, refl, sym, ap, subst, ◌∙◌, arith, append-nil, append_assoc}
-use Rattle.std.specs.Prelude.{◌==◌, if◌then◌else◌}
-use Rattle.std.specs.List.{flat_map, slice_get}
-use Rattle.std.proofs.lemmas.List.Concat.{flat_map-append}
+use Rattle.std.proofs.Common.{◌≡◌, ℕ, ◌+◌, ◌<◌, ◌≤◌, Bool, true, false, List, [], ◌∷◌, ◌++◌, map, codes, Option, Some, None, refl, sym, ap, ap₂, subst, ◌∙◌, arith, append_assoc, append-nil}
+use Rattle.std.specs.Prelude.{⊤}
 use Rattle.hir_base.specs.declared.prec.ExprPrecedence.{ExprPrecedence}
 use Rattle.hir_path.specs.declared.path.GenericArgs.{GenericArgs}
-use Rattle.hir_node.specs.declared.literal.Literal.{Literal}
-use Rattle.hir_node.specs.declared.literal.Literal.TheVariants as literal
 use Rattle.hir_node.specs.declared.node_id.NodeId.{NodeId}
 use Rattle.hir_node.specs.declared.node_id.NodeId.TheVariants as node
-use Rattle.hir_faults.specs.Down.{rank, value_within, value}
-use Rattle.hir_page.specs.Pieces.{Piece, Text}
-use Rattle.hir_page.specs.Literals.{string_literal, char_literal, bytes_literal, c_string_literal}
-use Rattle.hir_page.specs.Writes.{Writes, all_written}
-use Rattle.hir_page.specs.Writes as writes
-use Rattle.hir_printer.specs.declared.fault.PrintFault.{PrintFault}
-use Rattle.hir_printer.specs.declared.fault.PrintFault.TheVariants as fault
+use Rattle.hir_expr_store.specs.declared.missing.Missing.{Missing}
+use Rattle.std.specs.List.{slice_get}
+use Rattle.hir_page.specs.Page.{Page, all_rendered}
+use Rattle.hir_page.specs.Pieces.{Piece}
 use Rattle.hir_printer.specs.declared.work.Work.{Work}
 use Rattle.hir_printer.specs.declared.work.Work.TheVariants as work
 use Rattle.hir_printer.specs.Questions.{Setting}
-use Rattle.hir_printer.specs.Items.{Item, Put, Lacks, Whole, Under, Pattern, TypeItem, text, when}
-use Rattle.hir_printer.specs.Names.{is_word, raw_parts, name_parts, name_items, same_text}
-use Rattle.hir_printer.specs.Literals.{literal_items}
-use Rattle.hir_printer.specs.Paths.{args_items, turbofish}
-use Rattle.hir_printer.specs.Pieces.{NodePiece, Layout, items_of, item_pieces, pieces, printed, parenthesized, stands_in_parentheses, precedence_found}
-use Rattle.hir_printer.specs.Falls.{AllNodes, ItemsFall}
-use Rattle.hir_printer.specs.Weights.{total, item_weight, weight_step, weight, heft}
-use Rattle.hir_printer.specs.Printers.{stands_for, meant, Adds, Prints, ended, written, absent, Leads, Wrote, Turned, enclosed}
-use Rattle.hir_printer.proofs.StepLemmas.{nodes_weaker, pieces_at}
-use Rattle.hir_printer.proofs.AddLemmas.{total-append}
+use Rattle.hir_printer.specs.Items.{Item, Whole, Under, Pattern, TypeItem, text}
+use Rattle.hir_printer.specs.Pieces.{Layout, items_of, pieces, printed, stands_in_parentheses, precedence_found}
+use Rattle.hir_printer.specs.Falls.{ItemsFall}
+use Rattle.hir_printer.specs.Weights.{weight, heft}
+use Rattle.hir_printer.specs.Printing.{Printing}
+use Rattle.hir_printer.specs.Printers.{stands_for, meant, printing, Leads, Wrote, Adds, GaveWay, Turned, enclosed}
+use Rattle.hir_printer.proofs.StepLemmas.{pieces_at}
+use Rattle.hir_printer.proofs.AddLemmas.{heft-append, meant-append, leads_as, leads_then}
+use Rattle.hir_printer.proofs.PieceLemmas.{printed-append, enclosed_printed, pieces_lead, nothing_left, is_missing}
+use Rattle.hir_printer.proofs.WeightLemmas.{weight_at, enclosed_heft}
 
--- 1. The weight of a node is its step's
+-- 1. What was written
 
-same_weights : (f g : NodeId → ℕ) (is : List Item) → AllNodes (λ k. f k ≡ g k) is → total (item_weight f) is ≡ total (item_weight g) is
-same_weights f g [] a = refl
-same_weights f g (Put piece ∷ is) a = omega (arith, same_weights f g is a)
-same_weights f g (Lacks missing ∷ is) a = omega (arith, same_weights f g is a)
-same_weights f g (Whole id ∷ is) a = omega (arith, same_weights f g is a.1, a.0)
-same_weights f g (Under id parent ∷ is) a = omega (arith, same_weights f g is a.1, a.0)
-same_weights f g (Pattern id ∷ is) a = omega (arith, same_weights f g is a.1, a.0)
-same_weights f g (TypeItem id ∷ is) a = omega (arith, same_weights f g is a.1, a.0)
+pub wrote : {w : Work} {old new : Printing} (ps : List Piece) → new ≡ record old { page = new.page } → printed old.from (stands_for old.from w) ≡ map Layout ps
+    → new.page ≡ all_rendered ps old.page → 0 < heft old.from (stands_for old.from w) → Wrote w old new
+wrote ps s e f h = record { same = s; leads = pieces_lead ps e f; some = h }
 
-module _ (s : Setting) (fall : ItemsFall s) where
-  same_step : (f g : NodeId → ℕ) (n : NodeId) → AllNodes (λ k. f k ≡ g k) (items_of s n) → weight_step s f n ≡ weight_step s g n
-  same_step f g n a = same_weights f g (items_of s n) a
+-- a work that was written where none is kept, and one that is kept
+pub wrote_adds : {w : Work} {old new : Printing} → old.kept ≡ [] → Wrote w old new → Adds old (λ s. stands_for s w) new
+wrote_adds {w} {old} {new} none a =
+    let s = old.from in
+    let still : new.kept ≡ [] = ap (λ (p : Printing). p.kept) a.same ∙ none in
+    record {
+      same = a.same ∙ ap (λ k. record old { kept = k; page = new.page }) (none ∙ sym still);
+      leads = leads_then (leads_as (ap (λ ks. meant s ks ++ stands_for s w) none)) (leads_then a.leads (leads_as (ap (meant s) (sym still))));
+      less = let k = ap (λ ks. heft s (meant s ks)) still in omega arith;
+    }
 
-  stable : (d e : ℕ) (n : NodeId) → rank s.nodes n < d → rank s.nodes n < e → value_within (weight_step s) 0 d n ≡ value_within (weight_step s) 0 e n
-  stable zero e n v w = absurd (omega arith)
-  stable (suc d) zero n v w = absurd (omega arith)
-  stable (suc d) (suc e) n v w =
-      same_step (value_within (weight_step s) 0 d) (value_within (weight_step s) 0 e) n
-      (nodes_weaker (λ k. rank s.nodes k < rank s.nodes n) _ (λ k low. stable d e k (omega arith) (omega arith)) (items_of s n) (fall n))
+pub kept_adds : {w : Work} {old new : Printing} → new ≡ record old { kept = old.kept ++ (w ∷ []) } → Adds old (λ s. stands_for s w) new
+kept_adds {w} {old} {new} e =
+    let s = old.from in
+    let kept : new.kept ≡ old.kept ++ (w ∷ []) = ap (λ (p : Printing). p.kept) e in
+    let page : new.page ≡ old.page = ap (λ (p : Printing). p.page) e in
+    let means : meant s old.kept ++ stands_for s w ≡ meant s new.kept
+    = ap (λ xs. meant s old.kept ++ xs) (sym (append-nil (stands_for s w))) ∙ sym (meant-append s old.kept (w ∷ [])) ∙ ap (meant s) (sym kept) in
+    record {
+      same = e ∙ ap₂ (λ k p. record old { kept = k; page = p }) (sym kept) (sym page);
+      leads = subst (λ p. Leads s old.page (meant s old.kept ++ stands_for s w) p (meant s new.kept)) (sym page) (leads_as means);
+      less = let k = ap (heft s) means in omega arith;
+    }
 
-  pub weight_at : (n : NodeId) → weight s n ≡ weight_step s (weight s) n
-  unfolding weight value
-  weight_at n =
-      same_step (value_within (weight_step s) 0 (rank s.nodes n)) (weight s) n
-      (nodes_weaker (λ k. rank s.nodes k < rank s.nodes n) _ (λ k low. stable (rank s.nodes n) (suc (rank s.nodes k)) k low (omega arith)) (items_of s n) (fall n))
+-- 2. What a node gives way to
 
--- 2. Items and pieces
+pub gives_way : {w : Work} {old new : Printing} {is : Setting → List Item} → old.kept ≡ [] → Adds old is new
+    → ((more : List Item) → printed old.from (stands_for old.from w ++ more) ≡ printed old.from (is old.from ++ more))
+    → heft old.from (is old.from) < heft old.from (stands_for old.from w) → GaveWay w old new
+gives_way {w} {old} {new} {is} none a e h =
+    let s = old.from in
+    let begins : is s ≡ meant s old.kept ++ is s = ap (λ ks. meant s ks ++ is s) (sym none) in
+    record {
+      same = a.same;
+      leads = leads_then (record { leads = λ more. ap (printing old.page) (e more) }) (leads_then (leads_as begins) a.leads);
+      less = let k = a.less in let m = ap (heft s) begins in omega arith;
+    }
 
-pub printed-append : (s : Setting) (xs ys : List Item) → printed s (xs ++ ys) ≡ printed s xs ++ printed s ys
-printed-append s xs ys = flat_map-append (item_pieces s (pieces s)) xs ys
+module _ {old new : Printing} (fall : ItemsFall old.from) (none : old.kept ≡ []) where
+  node_printed : (n : NodeId) (more : List Item) → pieces old.from n ++ printed old.from more ≡ printed old.from (items_of old.from n ++ more)
+  node_printed n more = ap (λ ps. ps ++ printed old.from more) (pieces_at old.from fall n) ∙ sym (printed-append old.from (items_of old.from n) more)
 
--- items that are pieces
-abbrev AllPut : List Item → Type 0
-AllPut [] = Unit {0}
-AllPut (Put piece ∷ is) = AllPut is
-AllPut (Lacks missing ∷ is) = ⊥
-AllPut (Whole id ∷ is) = ⊥
-AllPut (Under id parent ∷ is) = ⊥
-AllPut (Pattern id ∷ is) = ⊥
-AllPut (TypeItem id ∷ is) = ⊥
+  pub whole_gives : (id : ℕ) → Adds old (λ s. items_of s (node.Expr id)) new → GaveWay (work.Whole id) old new
+  whole_gives id a = gives_way none a (node_printed (node.Expr id)) (let k = weight_at old.from fall (node.Expr id) in omega arith)
 
-put_printed : (s : Setting) (is : List Item) → AllPut is → printed s is ≡ map Layout (put_pieces is)
-put_printed s [] a = refl
-put_printed s (Put piece ∷ is) a = ap (λ ps. Layout piece ∷ ps) (put_printed s is a)
-put_printed s (Lacks missing ∷ is) a = absurd a
-put_printed s (Whole id ∷ is) a = absurd a
-put_printed s (Under id parent ∷ is) a = absurd a
-put_printed s (Pattern id ∷ is) a = absurd a
-put_printed s (TypeItem id ∷ is) a = absurd a
+  pub pattern_gives : (id : ℕ) → Adds old (λ s. items_of s (node.Pat id)) new → GaveWay (work.Pattern id) old new
+  pattern_gives id a = gives_way none a (node_printed (node.Pat id)) (let k = weight_at old.from fall (node.Pat id) in omega arith)
 
-all_put : (ps : List Piece) → AllPut (map Put ps)
-all_put [] = tt
-all_put (piece ∷ ps) = all_put ps
+  pub type_gives : (id : ℕ) → Adds old (λ s. items_of s (node.TypeRef id)) new → GaveWay (work.Type id) old new
+  type_gives id a = gives_way none a (node_printed (node.TypeRef id)) (let k = weight_at old.from fall (node.TypeRef id) in omega arith)
 
-literal_put : (x : Literal) → AllPut (literal_items x)
-literal_put (literal.String text) = all_put (string_literal text)
-literal_put (literal.ByteString bytes) = all_put (bytes_literal bytes)
-literal_put (literal.CString bytes) = all_put (c_string_literal bytes)
-literal_put (literal.Char c) = all_put (char_literal c)
-literal_put (literal.Bool b) = tt
-literal_put (literal.Int n None) = tt
-literal_put (literal.Int n (Some suffix)) = tt
-literal_put (literal.Uint n None) = tt
-literal_put (literal.Uint n (Some suffix)) = tt
-literal_put (literal.Float n None) = tt
-literal_put (literal.Float n (Some suffix)) = tt
+  pub under_gives : (id : ℕ) (parent : ExprPrecedence)
+      → Adds old (λ s. enclosed (stands_in_parentheses (precedence_found (slice_get s.nodes.exprs id)) parent) (items_of s (node.Expr id))) new → GaveWay (work.Under id parent) old new
+  under_gives id parent a =
+      let s = old.from in
+      let b = stands_in_parentheses (precedence_found (slice_get s.nodes.exprs id)) parent in
+      gives_way none a
+      (λ more. printed-append s (Under id parent ∷ []) more ∙ ap (λ ps. ps ++ printed s more) (sym (enclosed_printed s fall b id)) ∙ sym (printed-append s (enclosed b (items_of s (node.Expr id))) more))
+      (let k = weight_at s fall (node.Expr id) in let m = enclosed_heft s b (items_of s (node.Expr id)) in omega arith)
 
-pub pieces_put : (ps : List Piece) → put_pieces (map Put ps) ≡ ps
-pieces_put [] = refl
-pieces_put (piece ∷ ps) = ap (λ qs. piece ∷ qs) (pieces_put ps)
+-- generic arguments, the first text of which was written
+pub written_then : {w : Work} {old between new : Printing} {first : Work} {is : Setting → List Item} → old.kept ≡ [] → Wrote first old between → Adds between is new
+    → stands_for old.from first ++ is old.from ≡ stands_for old.from w → GaveWay w old new
+written_then {w} {old} {between} {new} {first} {is} none a b e =
+    let s = old.from in
+    let still : between.kept ≡ [] = ap (λ (p : Printing). p.kept) a.same ∙ none in
+    let from : between.from ≡ s = ap (λ (p : Printing). p.from) a.same in
+    let b_leads : Leads s between.page (meant s between.kept ++ is s) new.page (meant s new.kept)
+    = subst (λ t. Leads t between.page (meant t between.kept ++ is t) new.page (meant t new.kept)) from b.leads in
+    let b_less : heft s (meant s new.kept) ≤ heft s (meant s between.kept ++ is s)
+    = subst (λ t. heft t (meant t new.kept) ≤ heft t (meant t between.kept ++ is t)) from b.less in
+    let begins : is s ≡ meant s between.kept ++ is s = ap (λ ks. meant s ks ++ is s) (sym still) in
+    record {
+      same = b.same ∙ ap (λ (p : Printing). record p { kept = new.kept; page = new.page }) a.same;
+      leads = leads_then (leads_as (sym e)) (leads_then (record {
+        leads = λ more. ap (λ xs. printing old.page (printed s xs)) (append_assoc (stands_for s first) (is s) more) ∙ a.leads.leads (is s ++ more);
+      }) (leads_then (leads_as begins) b_leads));
+      less = let h = a.some in let k = ap (heft s) begins in let m = ap (heft s) e in let n = heft-append s (stands_for s first) (is s) in omega arith;
+    }
 
--- texts
-printed_texts : (s : Setting) (ts : List (List ℕ)) → printed s (flat_map text ts) ≡ map Layout (map Text ts)
-printed_texts s [] = refl
-printed_texts s (t ∷ ts) = ap (λ ps. Layout (Text t) ∷ ps) (printed_texts s ts)
+-- 3. Turns
 
-pub name_printed : (s : Setting) (name : List ℕ) → printed s (name_items s name) ≡ map Layout (map Text (name_parts s.words name))
-name_printed s name = printed_texts s (name_parts s.words name)
+pub turned_wrote : {w : Work} {old new : Printing} → Wrote w old new → Turned w old new
+turned_wrote a = record { way = []; same = a.same; leads = a.leads; less = a.some }
 
-pub literal_pieces : (s : Setting) (x : Literal) → printed s (literal_items x) ≡ map Layout (put_pieces (literal_items x))
-literal_pieces s x = put_printed s (literal_items x) (literal_put x)
+pub turned_gave : {w : Work} {old between new : Printing} → old.kept ≡ [] → GaveWay w old between
+    → new ≡ record between { kept = []; waiting = between.kept ++ between.waiting } → Turned w old new
+turned_gave {w} {old} {between} {new} none a e =
+    let page : new.page ≡ between.page = ap (λ (p : Printing). p.page) e in
+    record {
+      way = between.kept;
+      same = e ∙ ap (λ (p : Printing). record p { kept = []; waiting = between.kept ++ p.waiting }) a.same
+          ∙ ap₂ (λ k p. record old { kept = k; waiting = between.kept ++ old.waiting; page = p }) (sym none) (sym page);
+      leads = subst (λ p. Leads old.from old.page (stands_for old.from w) p (meant old.from between.kept)) (sym page) a.leads;
+      less = a.less;
+    }
 
+-- what is still to be printed comes to the same
+module _ (s : Setting) {w : Work} {old between new : Printing} (from : old.from ≡ s) (next : old.waiting ≡ w ∷ between.waiting)
+    (same : between ≡ record old { waiting = between.waiting }) (a : Turned w between new) where
+  on : between.from ≡ s
+  on = ap (λ (p : Printing). p.from) same ∙ from
 
--- an expression in parentheses, or without
-enclosed_printed : (s : Setting) → ItemsFall s → (b : Bool) (id : ℕ) → printed s (enclosed b (items_of s (node.Expr id))) ≡ parenthesized b (pieces s (node.Expr id)) ++ []
-enclosed_printed s fall false id = ap (printed s) (append-nil (items_of s (node.Expr id))) ∙ sym (append-nil (pieces s (node.Expr id)) ∙ pieces_at s fall (node.Expr id))
-enclosed_printed s fall true id =
-    let close = Layout (Text (codes ")")) ∷ [] in
-    ap (λ ps. Layout (Text (codes "(")) ∷ ps) (printed-append s (items_of s (node.Expr id)) (text (codes ")")) ∙ ap (λ ps. ps ++ close) (sym (pieces_at s fall (node.Expr id))))
-    ∙ sym (append-nil (Layout (Text (codes "(")) ∷ (pieces s (node.Expr id) ++ close)))
+  rest : new.waiting ≡ a.way ++ between.waiting
+  rest = ap (λ (p : Printing). p.waiting) a.same
 
-enclosed_heft : (s : Setting) (b : Bool) (is : List Item) → heft s (enclosed b is) ≤ 2 + heft s is
-enclosed_heft s false is = let k = total-append (item_weight (weight s)) is [] in omega arith
-enclosed_heft s true is = let k = total-append (item_weight (weight s)) is (text (codes ")")) in omega arith
+  pub turn_leads : printing old.page (printed s (meant s old.waiting)) ≡ printing new.page (printed s (meant s new.waiting))
+  turn_leads =
+      let leads : Leads s between.page (stands_for s w) new.page (meant s a.way) = subst (λ t. Leads t between.page (stands_for t w) new.page (meant t a.way)) on a.leads in
+      ap (λ ws. printing old.page (printed s (meant s ws))) next ∙ ap (λ p. printing p (printed s (stands_for s w ++ meant s between.waiting))) (sym (ap (λ (p : Printing). p.page) same))
+      ∙ leads.leads (meant s between.waiting)
+      ∙ ap (λ xs. printing new.page (printed s xs)) (sym (meant-append s a.way between.waiting) ∙ ap (meant s) (sym rest))
 
--- what is printed of a name and of a literal is something
-some_texts : (s : Setting) (t : List ℕ) (ts : List (List ℕ)) → 0 < heft s (flat_map text (t ∷ ts))
-some_texts s t ts = omega arith
+  pub turn_less : heft s (meant s new.waiting) < heft s (meant s old.waiting)
+  turn_less =
+      let less : heft s (meant s a.way) < heft s (stands_for s w) = subst (λ t. heft t (meant t a.way) < heft t (stands_for t w)) on a.less in
+      let k = ap (λ ws. heft s (meant s ws)) next in let l = heft-append s (stands_for s w) (meant s between.waiting) in
+      let m = ap (λ ws. heft s (meant s ws)) rest in let n = ap (heft s) (meant-append s a.way between.waiting) in
+      let o = heft-append s (meant s a.way) (meant s between.waiting) in omega arith
 
-raw_heft : (s : Setting) (b : Bool) (name : List ℕ) → 0 < heft s (flat_map text (if b then codes "r#" ∷ name ∷ [] else name ∷ []))
-raw_heft s true name = omega arith
-raw_heft s false name = omega arith
-
-quoted_heft : (s : Setting) (b : Bool) (whole quote : List ℕ) (parts : List (List ℕ)) → 0 < heft s (flat_map text (if b then whole ∷ [] else quote ∷ parts))
-quoted_heft s true whole quote parts = omega arith
-quoted_heft s false whole quote parts = omega arith
-
-either_heft : (s : Setting) (b : Bool) (xs ys : List (List ℕ)) → 0 < heft s (flat_map text xs) → 0 < heft s (flat_map text ys) → 0 < heft s (flat_map text (if b then xs else ys))
-either_heft s true xs ys k l = k
-either_heft s false xs ys k l = l
-
-pub name_heft : (s : Setting) (name : List ℕ) → 0 < heft s (name_items s name)
-name_heft s [] = raw_heft s (is_word s.words []) []
-name_heft s (c ∷ cs) = either_heft s (c == 39) _ _ (quoted_heft s (same_text cs (codes "static")) (c ∷ cs) (c ∷ []) (raw_parts s.words cs)) (raw_heft s (is_word s.words (c ∷ cs)) (c ∷ cs))
-
-pub literal_heft : (s : Setting) (x : Literal) → 0 < heft s (literal_items x)
-literal_heft s (literal.String text) = omega arith
-literal_heft s (literal.ByteString bytes) = omega arith
-literal_heft s (literal.CString bytes) = omega arith
-literal_heft s (literal.Char c) = omega arith
-literal_heft s (literal.Bool b) = omega arith
-literal_heft s (literal.Int n suffix) = omega arith
-literal_heft s (literal.Uint n suffix) = omega arith
-literal_heft s (literal.Float n suffix) = omega arith
-
--- 3. Turns: to be written for `Wrote` and `Turned` of specs/Printers.antt. A piece: what the writer was led over; a node: `Adds` of its items,
--- whose pieces are the node's (`pieces_at`) and which weigh less (`weight_at`).
+pub ruleset turns = (turned_wrote, turned_gave)

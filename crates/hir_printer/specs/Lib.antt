@@ -13,5 +13,4 @@ pub mod Printed
 pub mod Weights
 pub mod Printing
 pub mod Printers
-pub mod OnPage
 pub mod Answers

@@ -3,7 +3,7 @@ use Rattle.std.specs.Prelude.{◌≡◌, ◌<◌, ◌≤◌, ℕ, Bool, true, fa
 use Rattle.std.specs.List.{flat_map}
 use Rattle.std.specs.Fmt.{decimal}
 use Rattle.hir_expr_store.specs.declared.missing.Missing.{Missing}
-use Rattle.hir_page.specs.Pieces.{Piece}
+use Rattle.hir_page.specs.Page.{Page, rendered}
 use Rattle.hir_printer.specs.declared.work.Work.{Work}
 use Rattle.hir_printer.specs.declared.work.Work.TheVariants as work
 use Rattle.hir_printer.specs.Questions.{Setting}
@@ -71,30 +71,37 @@ following separator after (x ∷ xs) = when after separator ++ x ++ following se
 abbrev pub enclosed : Bool → List Item → List Item
 enclosed b is = when b (text (codes "(")) ++ is ++ when b (text (codes ")"))
 
--- A writer is led over the pieces to their end, or to the first definition that is missing.
-pub data Prints {W : Type 0} (step : W → Piece → W → Type 0) : W → List NodePiece → Option Missing → W → Type 0 where
-  ended : {v : W} → Prints step v [] None v
-  written : {u v w : W} {q : Piece} {ps : List NodePiece} {m : Option Missing} → step u q v → Prints step v ps m w → Prints step u (Layout q ∷ ps) m w
-  absent : {v : W} {m : Missing} {ps : List NodePiece} → Prints step v (Absent m ∷ ps) (Some m) v
+-- What printing makes of a page: the page after the pieces before the first definition that is missing, and that definition.
+unfoldable pub printing : Page → List NodePiece → Page × Option Missing
+printing page [] = (page, None)
+printing page (Layout piece ∷ ps) = printing (rendered piece page) ps
+printing page (Absent missing ∷ ps) = (page, Some missing)
 
--- What follows from the second writer and items follows from the first and its items, whatever is printed behind them.
-pub record Leads {W : Type 0} (step : W → Piece → W → Type 0) (s : Setting) (u : W) (is : List Item) (v : W) (js : List Item) : Type 0 where
-  pub leads : (more : List Item) (m : Option Missing) (last : W) → Prints step v (printed s (js ++ more)) m last → Prints step u (printed s (is ++ more)) m last
+-- To print the first items on the first page comes to the same as the second on the second, whatever is printed behind them.
+pub record Leads (s : Setting) (first : Page) (is : List Item) (second : Page) (js : List Item) : Type 0 where
+  pub leads : (more : List Item) → printing first (printed s (is ++ more)) ≡ printing second (printed s (js ++ more))
 
--- A printer whose writer was led over a work, which is something.
-pub record Wrote {W : Type 0} (step : W → Piece → W → Type 0) (w : Work) (old new : Printing W) : Type 0 where
-  pub same : new ≡ record old { writer = new.writer }
-  pub leads : Leads step old.from old.writer (stands_for old.from w) new.writer []
+-- A printer after a work was written, which is something.
+pub record Wrote (w : Work) (old new : Printing) : Type 0 where
+  pub same : new ≡ record old { page = new.page }
+  pub leads : Leads old.from old.page (stands_for old.from w) new.page []
   pub some : 0 < heft old.from (stands_for old.from w)
 
 -- A printer after items were added: they were written, or are kept behind those that were.
-pub record Adds {W : Type 0} (step : W → Piece → W → Type 0) (old : Printing W) (items : Setting → List Item) (new : Printing W) : Type 0 where
-  pub same : new ≡ record old { kept = new.kept; writer = new.writer }
-  pub leads : Leads step old.from old.writer (meant old.from old.kept ++ items old.from) new.writer (meant old.from new.kept)
+pub record Adds (old : Printing) (items : Setting → List Item) (new : Printing) : Type 0 where
+  pub same : new ≡ record old { kept = new.kept; page = new.page }
+  pub leads : Leads old.from old.page (meant old.from old.kept ++ items old.from) new.page (meant old.from new.kept)
   pub less : heft old.from (meant old.from new.kept) ≤ heft old.from (meant old.from old.kept ++ items old.from)
 
--- A turn: a work was written, or gave way to works that are kept, and less is to be done.
-pub record Turned {W : Type 0} (step : W → Piece → W → Type 0) (w : Work) (old new : Printing W) : Type 0 where
-  pub same : new ≡ record old { kept = new.kept; writer = new.writer }
-  pub leads : Leads step old.from old.writer (stands_for old.from w) new.writer (meant old.from new.kept)
+-- A printer after a node gave way to what is kept, which is less.
+pub record GaveWay (w : Work) (old new : Printing) : Type 0 where
+  pub same : new ≡ record old { kept = new.kept; page = new.page }
+  pub leads : Leads old.from old.page (stands_for old.from w) new.page (meant old.from new.kept)
   pub less : heft old.from (meant old.from new.kept) < heft old.from (stands_for old.from w)
+
+-- A turn: a work was written, or gave way to works that wait before all others, and less is to be done.
+pub record Turned (w : Work) (old new : Printing) : Type 0 where
+  pub way : List Work
+  pub same : new ≡ record old { waiting = way ++ old.waiting; page = new.page }
+  pub leads : Leads old.from old.page (stands_for old.from w) new.page (meant old.from way)
+  pub less : heft old.from (meant old.from way) < heft old.from (stands_for old.from w)

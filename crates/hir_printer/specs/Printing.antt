@@ -1,11 +1,17 @@
 -- A printer, as contracts see it.
-use Rattle.std.specs.Prelude.{List}
+use Rattle.std.specs.Prelude.{List, []}
+use Rattle.hir_page.specs.Page.{Page, empty_page}
 use Rattle.hir_printer.specs.declared.work.Work.{Work}
 use Rattle.hir_printer.specs.Questions.{Setting}
+use Rattle.hir_printer.specs.Pieces.{format_of}
 
--- what is printed from; the works that were kept in this turn, and those that wait, each the next first; and what is written to
-pub record Printing (W : Type 0) : Type 0 where
+-- what is printed from; the works that were kept in this turn, and those that wait, each the next first; and the page that is written to
+pub record Printing : Type 0 where
   pub from : Setting
   pub kept : List Work
   pub waiting : List Work
-  pub writer : W
+  pub page : Page
+
+-- one to which nothing was added
+abbrev pub on_page : Setting → Printing
+on_page s = record { from = s; kept = []; waiting = []; page = empty_page (format_of s.one_line) }

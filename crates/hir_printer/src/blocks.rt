@@ -10,13 +10,12 @@ use crate::part::Part;
 use crate::printer::Printer;
 use crate::work::Work;
 use hir_node::{ExprId, MatchArm, RecordLitField, Statement};
-use hir_page::PieceWriter;
 use std::alloc::AllocError;
 
 impl Part for MatchArm {
     ghost items = { λ s arm. arm_items arm };
 
-    fn add_to<'a, W: PieceWriter>(&'a self, printer: &mut Printer<'a, W>) -> Result<(), AllocError> {
+    fn add_to<'a>(&'a self, printer: &mut Printer<'a>) -> Result<(), AllocError> {
         printer.add(&[Work::Pattern(self.pat)])?;
         printer.add_after(" if ", &self.guard)?;
         printer.add(&[
@@ -31,7 +30,7 @@ impl Part for MatchArm {
 impl Part for RecordLitField {
     ghost items = { field_items };
 
-    fn add_to<'a, W: PieceWriter>(&'a self, printer: &mut Printer<'a, W>) -> Result<(), AllocError> {
+    fn add_to<'a>(&'a self, printer: &mut Printer<'a>) -> Result<(), AllocError> {
         printer.add(&[
             Work::Name(self.name.as_str()),
             Work::Text(": "),
@@ -45,7 +44,7 @@ impl Part for RecordLitField {
 impl Part for Statement {
     ghost items = { λ s statement. statement_items statement };
 
-    fn add_to<'a, W: PieceWriter>(&'a self, printer: &mut Printer<'a, W>) -> Result<(), AllocError> {
+    fn add_to<'a>(&'a self, printer: &mut Printer<'a>) -> Result<(), AllocError> {
         match self {
             Statement::Let {
                 pat,
@@ -69,14 +68,14 @@ impl Part for Statement {
     }
 }
 
-impl<'a, W: PieceWriter> Printer<'a, W> {
+impl<'a> Printer<'a> {
     /// Adds the braces of a block, and what is between them.
     pub(crate) fn add_braces(
         &mut self,
         statements: &'a [Statement],
         tail: Option<ExprId>,
     ) -> Result<(), AllocError>
-        ensures { OnOk result (Adds W.step self.old
+        ensures { OnOk result (Adds self.old
             (λ s. text (codes "{") ++ inside_block statements.now tail ++ text (codes "}")) self.new) }
     {
         if statements.is_empty() && tail.is_none() {

@@ -10,10 +10,7 @@ ghost use Rattle.hir_printer.specs.Printers.{Adds};
 use crate::printer::Printer;
 use crate::work::Work;
 use hir_expr_store::ExpressionStore;
-use hir_node::{
-    CaptureBy, ClosureKind, CoroutineKind, Expr, ExprId, Movability, PatId, TypeRefId,
-};
-use hir_page::PieceWriter;
+use hir_node::{CaptureBy, ClosureKind, CoroutineKind, Expr, ExprId, Movability, PatId, TypeRefId};
 use std::alloc::AllocError;
 
 fn coroutine_keyword(kind: CoroutineKind) -> &'static str
@@ -90,14 +87,14 @@ fn printed_body(store: &ExpressionStore, kind: ClosureKind, body: ExprId) -> Exp
     }
 }
 
-impl<'a, W: PieceWriter> Printer<'a, W> {
+impl<'a> Printer<'a> {
     /// Adds parameters with their types, as many as both lists have.
     fn add_params(
         &mut self,
         args: &'a [PatId],
         types: &'a [Option<TypeRefId>],
     ) -> Result<(), AllocError>
-        ensures { OnOk result (Adds W.step self.old (λ s. comma_joined (params args.now types.now)) self.new) }
+        ensures { OnOk result (Adds self.old (λ s. comma_joined (params args.now types.now)) self.new) }
     {
         let mut left = (args, types);
         let mut after = false;
@@ -117,7 +114,7 @@ impl<'a, W: PieceWriter> Printer<'a, W> {
         types: &'a [Option<TypeRefId>],
         ret: &'a Option<TypeRefId>,
     ) -> Result<(), AllocError>
-        ensures { OnOk result (Adds W.step self.old
+        ensures { OnOk result (Adds self.old
             (λ s. header ClosureKind.Closure (params args.now types.now) ret.now) self.new) }
     {
         self.add(&[Work::Text("|")])?;
@@ -135,7 +132,7 @@ impl<'a, W: PieceWriter> Printer<'a, W> {
         types: &'a [Option<TypeRefId>],
         ret: &'a Option<TypeRefId>,
     ) -> Result<(), AllocError>
-        ensures { OnOk result (Adds W.step self.old
+        ensures { OnOk result (Adds self.old
             (λ s. header kind (params args.now types.now) ret.now) self.new) }
     {
         match kind {
@@ -156,7 +153,7 @@ impl<'a, W: PieceWriter> Printer<'a, W> {
         kind: ClosureKind,
         capture: CaptureBy,
     ) -> Result<(), AllocError>
-        ensures { OnOk result (Adds W.step self.old (λ s. expr_items s
+        ensures { OnOk result (Adds self.old (λ s. expr_items s
             (expr.Closure args.now arg_types.now ret_type.now body kind capture)) self.new) }
     {
         self.add(&[

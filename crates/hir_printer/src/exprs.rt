@@ -18,7 +18,6 @@ use hir_node::{
     Array, Boxed, Expr, ExprId, GenericArgs, LabelId, MatchArm, Path, Rawness, RecordLitField,
     RecordSpread, Unsafe,
 };
-use hir_page::PieceWriter;
 use std::alloc::AllocError;
 
 fn raw_keyword(rawness: Rawness) -> &'static str
@@ -40,10 +39,10 @@ fn operator_text(op: Option<BinaryOp>) -> &'static str
     }
 }
 
-impl<'a, W: PieceWriter> Printer<'a, W> {
+impl<'a> Printer<'a> {
     /// Adds the names of fields with a text between them.
     pub fn add_names(&mut self, between: &'a str, names: &'a [Name]) -> Result<(), AllocError>
-        ensures { OnOk result (Adds W.step self.old
+        ensures { OnOk result (Adds self.old
             (λ s. joined (text between.now) (map (name_items s) names.now)) self.new) }
     {
         self.add_list(false, between, names)
@@ -51,7 +50,7 @@ impl<'a, W: PieceWriter> Printer<'a, W> {
 
     /// Adds a label before a loop or a block.
     fn add_labelled(&mut self, label: &'a Option<LabelId>) -> Result<(), AllocError>
-        ensures { OnOk result (Adds W.step self.old (λ s. labelled s label.now) self.new) }
+        ensures { OnOk result (Adds self.old (λ s. labelled s label.now) self.new) }
     {
         match label {
             None => Ok(()),
@@ -64,7 +63,7 @@ impl<'a, W: PieceWriter> Printer<'a, W> {
 
     /// Adds what stands behind a keyword such as `return`.
     fn add_operand(&mut self, expr: Option<ExprId>) -> Result<(), AllocError>
-        ensures { OnOk result (Adds W.step self.old (λ s. operand expr) self.new) }
+        ensures { OnOk result (Adds self.old (λ s. operand expr) self.new) }
     {
         match expr {
             None => Ok(()),
@@ -73,7 +72,7 @@ impl<'a, W: PieceWriter> Printer<'a, W> {
     }
 
     fn add_keyword(&mut self, keyword: &'a str, expr: Option<ExprId>) -> Result<(), AllocError>
-        ensures { OnOk result (Adds W.step self.old (λ s. text keyword.now ++ operand expr) self.new) }
+        ensures { OnOk result (Adds self.old (λ s. text keyword.now ++ operand expr) self.new) }
     {
         self.add(&[Work::Text(keyword)])?;
         self.add_operand(expr)
@@ -81,7 +80,7 @@ impl<'a, W: PieceWriter> Printer<'a, W> {
 
     /// Adds arguments in parentheses, each on a line of its own.
     fn add_arguments(&mut self, args: &'a [ExprId]) -> Result<(), AllocError>
-        ensures { OnOk result (Adds W.step self.old (λ s. arguments args.now) self.new) }
+        ensures { OnOk result (Adds self.old (λ s. arguments args.now) self.new) }
     {
         if args.is_empty() {
             return self.add(&[Work::Text("("), Work::Text(")")]);
@@ -92,7 +91,7 @@ impl<'a, W: PieceWriter> Printer<'a, W> {
     }
 
     fn add_method_args(&mut self, args: &'a Option<Boxed<GenericArgs>>) -> Result<(), AllocError>
-        ensures { OnOk result (Adds W.step self.old
+        ensures { OnOk result (Adds self.old
             (λ s. opt (λ a. turbofish (args_items s a)) args.now) self.new) }
     {
         match args {
@@ -108,7 +107,7 @@ impl<'a, W: PieceWriter> Printer<'a, W> {
         args: &'a [ExprId],
         generic_args: &'a Option<Boxed<GenericArgs>>,
     ) -> Result<(), AllocError>
-        ensures { OnOk result (Adds W.step self.old
+        ensures { OnOk result (Adds self.old
             (λ s. expr_items s (expr.MethodCall receiver name.now args.now generic_args.now)) self.new) }
     {
         self.add(&[
@@ -121,7 +120,7 @@ impl<'a, W: PieceWriter> Printer<'a, W> {
     }
 
     fn add_match(&mut self, expr: ExprId, arms: &'a [MatchArm]) -> Result<(), AllocError>
-        ensures { OnOk result (Adds W.step self.old (λ s. expr_items s (expr.Match expr arms.now)) self.new) }
+        ensures { OnOk result (Adds self.old (λ s. expr_items s (expr.Match expr arms.now)) self.new) }
     {
         self.add(&[
             Work::Text("match "),
@@ -134,7 +133,7 @@ impl<'a, W: PieceWriter> Printer<'a, W> {
     }
 
     fn add_spread(&mut self, spread: RecordSpread) -> Result<(), AllocError>
-        ensures { OnOk result (Adds W.step self.old (λ s. spread_items spread) self.new) }
+        ensures { OnOk result (Adds self.old (λ s. spread_items spread) self.new) }
     {
         match spread {
             RecordSpread::None => Ok(()),
@@ -151,7 +150,7 @@ impl<'a, W: PieceWriter> Printer<'a, W> {
         fields: &'a [RecordLitField],
         spread: RecordSpread,
     ) -> Result<(), AllocError>
-        ensures { OnOk result (Adds W.step self.old
+        ensures { OnOk result (Adds self.old
             (λ s. expr_items s (expr.RecordLit path.now fields.now spread)) self.new) }
     {
         self.add_path(path)?;
@@ -163,14 +162,14 @@ impl<'a, W: PieceWriter> Printer<'a, W> {
 
     /// Adds expressions, each with a comma behind it.
     fn add_elements(&mut self, exprs: &'a [ExprId]) -> Result<(), AllocError>
-        ensures { OnOk result (Adds W.step self.old
+        ensures { OnOk result (Adds self.old
             (λ s. flat_map (λ id. e id ++ text (codes ", ")) exprs.now) self.new) }
     {
         self.add_each(exprs, &[Work::Text(", ")])
     }
 
     fn add_array(&mut self, array: &'a Array) -> Result<(), AllocError>
-        ensures { OnOk result (Adds W.step self.old (λ s. array_items array.now) self.new) }
+        ensures { OnOk result (Adds self.old (λ s. array_items array.now) self.new) }
     {
         match array {
             Array::ElementList { elements } if elements.is_empty() => {
@@ -198,7 +197,7 @@ impl<'a, W: PieceWriter> Printer<'a, W> {
     }
 
     fn add_unsafe(&mut self, unsafe_: Unsafe) -> Result<(), AllocError>
-        ensures { OnOk result (Adds W.step self.old (λ s. unsafe_items unsafe_) self.new) }
+        ensures { OnOk result (Adds self.old (λ s. unsafe_items unsafe_) self.new) }
     {
         match unsafe_ {
             Unsafe::Yes => self.add(&[Work::Text("unsafe ")]),
@@ -208,7 +207,7 @@ impl<'a, W: PieceWriter> Printer<'a, W> {
 
     /// Adds the kind of an id and its number, as `ExprId(3)`.
     pub(crate) fn add_numbered(&mut self, kind: &'a str, number: u32) -> Result<(), AllocError>
-        ensures { OnOk result (Adds W.step self.old (λ s. numbered kind.now number) self.new) }
+        ensures { OnOk result (Adds self.old (λ s. numbered kind.now number) self.new) }
     {
         self.add(&[
             Work::Text(kind),
@@ -220,7 +219,7 @@ impl<'a, W: PieceWriter> Printer<'a, W> {
 
     /// Adds what an expression is printed as.
     pub(crate) fn add_expr(&mut self, expr: &'a Expr) -> Result<(), AllocError>
-        ensures { OnOk result (Adds W.step self.old (λ s. expr_items s expr.now) self.new) }
+        ensures { OnOk result (Adds self.old (λ s. expr_items s expr.now) self.new) }
     {
         match expr {
             Expr::Missing => self.add(&[Work::Text("\u{fffd}")]),

@@ -16,7 +16,6 @@ use hir_base::{CrateId, LifetimeParamId, Name, NamedDef, Text, TypeParamId};
 use hir_defs::{GenericParams, Tables};
 use hir_expr_store::Missing;
 use hir_node::{LabelId, LifetimeRef, LifetimeRefId};
-use hir_page::PieceWriter;
 use std::alloc::AllocError;
 
 /// The name of a type or constant parameter; `None` where it has no name.
@@ -45,7 +44,7 @@ fn lifetime_param(tables: &Tables, id: LifetimeParamId) -> Result<&Name, Missing
 impl Part for LabelId {
     ghost items = { label_items };
 
-    fn add_to<'a, W: PieceWriter>(&'a self, printer: &mut Printer<'a, W>) -> Result<(), AllocError> {
+    fn add_to<'a>(&'a self, printer: &mut Printer<'a>) -> Result<(), AllocError> {
         let store = printer.store();
         if store.has_label(*self) {
             return store[*self].name.add_to(printer);
@@ -57,7 +56,7 @@ impl Part for LabelId {
 impl Part for LifetimeRefId {
     ghost items = { l };
 
-    fn add_to<'a, W: PieceWriter>(&'a self, printer: &mut Printer<'a, W>) -> Result<(), AllocError> {
+    fn add_to<'a>(&'a self, printer: &mut Printer<'a>) -> Result<(), AllocError> {
         let store = printer.store();
         if store.has_lifetime(*self) {
             return printer.add_lifetime(&store[*self]);
@@ -66,7 +65,7 @@ impl Part for LifetimeRefId {
     }
 }
 
-impl<'a, W: PieceWriter> Printer<'a, W> {
+impl<'a> Printer<'a> {
     /// Adds a name as the tables have it, a default where there is none, or that nothing is known of it.
     fn add_found(
         &mut self,
@@ -82,32 +81,28 @@ impl<'a, W: PieceWriter> Printer<'a, W> {
 
     /// Adds the name of a definition, or a default where it has none.
     pub fn add_def_name(&mut self, def: NamedDef, default: &'a str) -> Result<(), AllocError>
-        ensures { OnOk result (Adds W.step self.old (λ s. found_name default.now (s.tables.name def)) self.new) }
+        ensures { OnOk result (Adds self.old (λ s. found_name default.now (s.tables.name def)) self.new) }
     {
         self.add_found(self.tables().name(def), default)
     }
 
     /// Adds the name of a definition, or `<missing>` where it has none.
     pub fn add_named(&mut self, def: NamedDef) -> Result<(), AllocError>
-        ensures { OnOk result (Adds W.step self.old
+        ensures { OnOk result (Adds self.old
             (λ s. found_name (codes "<missing>") (s.tables.name def)) self.new) }
     {
         self.add_def_name(def, "<missing>")
     }
 
     pub(crate) fn add_crate_name(&mut self, id: CrateId) -> Result<(), AllocError>
-        ensures { OnOk result (Adds W.step self.old (λ s. found_name (codes "$crate") (s.tables.crate_name id)) self.new) }
+        ensures { OnOk result (Adds self.old (λ s. found_name (codes "$crate") (s.tables.crate_name id)) self.new) }
     {
         self.add_found(self.tables().crate_name(id), "$crate")
     }
 
     /// Adds the name of a type parameter, or its number.
-    pub fn add_param_name(
-        &mut self,
-        number: u32,
-        name: Option<&'a Name>,
-    ) -> Result<(), AllocError>
-        ensures { OnOk result (Adds W.step self.old (λ s. type_param_items s number (Ok (option_copied name.entry))) self.new) }
+    pub fn add_param_name(&mut self, number: u32, name: Option<&'a Name>) -> Result<(), AllocError>
+        ensures { OnOk result (Adds self.old (λ s. type_param_items s number (Ok (option_copied name.entry))) self.new) }
     {
         match name {
             None => self.add(&[
@@ -120,7 +115,7 @@ impl<'a, W: PieceWriter> Printer<'a, W> {
     }
 
     pub(crate) fn add_type_param(&mut self, id: TypeParamId) -> Result<(), AllocError>
-        ensures { OnOk result (Adds W.step self.old (λ s. type_param_items s id.local_id (s.tables.type_param id)) self.new) }
+        ensures { OnOk result (Adds self.old (λ s. type_param_items s id.local_id (s.tables.type_param id)) self.new) }
     {
         match type_param(self.tables(), id) {
             Ok(name) => self.add_param_name(id.local_id().into_raw(), name),
@@ -129,7 +124,7 @@ impl<'a, W: PieceWriter> Printer<'a, W> {
     }
 
     fn add_lifetime(&mut self, lifetime: &'a LifetimeRef) -> Result<(), AllocError>
-        ensures { OnOk result (Adds W.step self.old (λ s. lifetime_items s lifetime.now) self.new) }
+        ensures { OnOk result (Adds self.old (λ s. lifetime_items s lifetime.now) self.new) }
     {
         match lifetime {
             LifetimeRef::Named(name) => self.add(&[Work::Name(name.as_str())]),

@@ -12,7 +12,6 @@ use crate::printer::Printer;
 use crate::work::Work;
 use hir_base::Name;
 use hir_node::{ExprId, PatId, TypeRefId};
-use hir_page::PieceWriter;
 use std::alloc::AllocError;
 
 /// A part of a node.
@@ -21,14 +20,14 @@ pub trait Part {
     ghost items: { Setting → Self → List Item };
 
     /// Adds what the part is printed as.
-    fn add_to<'a, W: PieceWriter>(&'a self, printer: &mut Printer<'a, W>) -> Result<(), AllocError>
-        ensures { OnOk result (Adds W.step printer.old (λ s. items s self.now) printer.new) };
+    fn add_to<'a>(&'a self, printer: &mut Printer<'a>) -> Result<(), AllocError>
+        ensures { OnOk result (Adds printer.old (λ s. items s self.now) printer.new) };
 }
 
 impl Part for ExprId {
     ghost items = { λ s id. e id };
 
-    fn add_to<'a, W: PieceWriter>(&'a self, printer: &mut Printer<'a, W>) -> Result<(), AllocError> {
+    fn add_to<'a>(&'a self, printer: &mut Printer<'a>) -> Result<(), AllocError> {
         printer.add(&[Work::Whole(*self)])
     }
 }
@@ -36,7 +35,7 @@ impl Part for ExprId {
 impl Part for PatId {
     ghost items = { λ s id. p id };
 
-    fn add_to<'a, W: PieceWriter>(&'a self, printer: &mut Printer<'a, W>) -> Result<(), AllocError> {
+    fn add_to<'a>(&'a self, printer: &mut Printer<'a>) -> Result<(), AllocError> {
         printer.add(&[Work::Pattern(*self)])
     }
 }
@@ -44,7 +43,7 @@ impl Part for PatId {
 impl Part for TypeRefId {
     ghost items = { λ s id. t id };
 
-    fn add_to<'a, W: PieceWriter>(&'a self, printer: &mut Printer<'a, W>) -> Result<(), AllocError> {
+    fn add_to<'a>(&'a self, printer: &mut Printer<'a>) -> Result<(), AllocError> {
         printer.add(&[Work::Type(*self)])
     }
 }
@@ -52,12 +51,12 @@ impl Part for TypeRefId {
 impl Part for Name {
     ghost items = { name_items };
 
-    fn add_to<'a, W: PieceWriter>(&'a self, printer: &mut Printer<'a, W>) -> Result<(), AllocError> {
+    fn add_to<'a>(&'a self, printer: &mut Printer<'a>) -> Result<(), AllocError> {
         printer.add(&[Work::Name(self.as_str())])
     }
 }
 
-impl<'a, W: PieceWriter> Printer<'a, W> {
+impl<'a> Printer<'a> {
     /// Adds the members of a list with a text between them, which is also before the first where `after` says so.
     pub fn add_list<T: Part>(
         &mut self,
@@ -65,9 +64,10 @@ impl<'a, W: PieceWriter> Printer<'a, W> {
         between: &'a str,
         members: &'a [T],
     ) -> Result<(), AllocError>
-        ensures { OnOk result (Adds W.step self.old
+        ensures { OnOk result (Adds self.old
             (λ s. following (text between.now) after (map (T.items s) members.now)) self.new) }
     {
+        self.reserve(members.len())?;
         let mut after = after;
         for member in members {
             self.add_if(after, between)?;
@@ -83,9 +83,10 @@ impl<'a, W: PieceWriter> Printer<'a, W> {
         members: &'a [T],
         behind: &[Work<'a>],
     ) -> Result<(), AllocError>
-        ensures { OnOk result (Adds W.step self.old
+        ensures { OnOk result (Adds self.old
             (λ s. flat_map (λ x. T.items s x ++ stood s behind.now) members.now) self.new) }
     {
+        self.reserve(members.len())?;
         for member in members {
             member.add_to(self)?;
             self.add(behind)?;
@@ -99,7 +100,7 @@ impl<'a, W: PieceWriter> Printer<'a, W> {
         before: &'a str,
         part: &'a Option<T>,
     ) -> Result<(), AllocError>
-        ensures { OnOk result (Adds W.step self.old
+        ensures { OnOk result (Adds self.old
             (λ s. opt (λ x. text before.now ++ T.items s x) part.now) self.new) }
     {
         match part {

@@ -14,10 +14,7 @@ use crate::printer::Printer;
 use crate::work::Work;
 use hir_base::{ExprPrecedence, Text};
 use hir_expr_store::ExpressionStore;
-use hir_node::{
-    Binding, BindingAnnotation, BindingId, ExprId, Pat, PatId, Path, RecordFieldPat,
-};
-use hir_page::PieceWriter;
+use hir_node::{Binding, BindingAnnotation, BindingId, ExprId, Pat, PatId, Path, RecordFieldPat};
 use std::alloc::AllocError;
 
 fn annotation_text(mode: BindingAnnotation) -> &'static str
@@ -41,10 +38,10 @@ fn has_printed_name(words: &[Text], name: &str, binding: &Binding) -> bool
     }
 }
 
-impl<'a, W: PieceWriter> Printer<'a, W> {
+impl<'a> Printer<'a> {
     /// Adds a binding.
     pub fn add_binding(&mut self, id: BindingId) -> Result<(), AllocError>
-        ensures { OnOk result (Adds W.step self.old (λ s. binding_items s id) self.new) }
+        ensures { OnOk result (Adds self.old (λ s. binding_items s id) self.new) }
     {
         let store = self.store();
         if store.has_binding(id) {
@@ -76,7 +73,7 @@ impl<'a, W: PieceWriter> Printer<'a, W> {
     }
 
     fn add_field_pat(&mut self, field: &'a RecordFieldPat) -> Result<(), AllocError>
-        ensures { OnOk result (Adds W.step self.old (λ s. field_pattern s field.now) self.new) }
+        ensures { OnOk result (Adds self.old (λ s. field_pattern s field.now) self.new) }
     {
         self.add(&[Work::Name(field.name.as_str())])?;
         if self.is_short(field) {
@@ -87,7 +84,7 @@ impl<'a, W: PieceWriter> Printer<'a, W> {
 
     /// Adds what stands behind a field. In one line, behind the last without a rest, that is a space.
     fn add_field_end(&mut self, is_last: bool) -> Result<(), AllocError>
-        ensures { OnOk result (Adds W.step self.old (λ s. field_end s is_last) self.new) }
+        ensures { OnOk result (Adds self.old (λ s. field_end s is_last) self.new) }
     {
         if is_last && self.is_one_line() {
             return self.add(&[Work::Text(" ")]);
@@ -96,12 +93,8 @@ impl<'a, W: PieceWriter> Printer<'a, W> {
     }
 
     /// Adds the fields of a record, which a rest may follow.
-    fn add_field_pats(
-        &mut self,
-        fields: &'a [RecordFieldPat],
-        rest: bool,
-    ) -> Result<(), AllocError>
-        ensures { OnOk result (Adds W.step self.old (λ s. field_patterns s rest fields.now) self.new) }
+    fn add_field_pats(&mut self, fields: &'a [RecordFieldPat], rest: bool) -> Result<(), AllocError>
+        ensures { OnOk result (Adds self.old (λ s. field_patterns s rest fields.now) self.new) }
     {
         let mut left = fields;
         while let [field, others @ ..] = left {
@@ -118,7 +111,7 @@ impl<'a, W: PieceWriter> Printer<'a, W> {
         fields: &'a [RecordFieldPat],
         rest: bool,
     ) -> Result<(), AllocError>
-        ensures { OnOk result (Adds W.step self.old (λ s. pat_items s (pat.Record rest path.now fields.now)) self.new) }
+        ensures { OnOk result (Adds self.old (λ s. pat_items s (pat.Record rest path.now fields.now)) self.new) }
     {
         self.add_path(path)?;
         self.add(&[Work::Text(" {"), Work::Indent])?;
@@ -131,7 +124,7 @@ impl<'a, W: PieceWriter> Printer<'a, W> {
 
     /// Adds patterns with `..` before the one in this place, or behind all.
     fn add_with_rest(&mut self, pats: &'a [PatId], at: u32) -> Result<(), AllocError>
-        ensures { OnOk result (Adds W.step self.old (λ s. comma_joined (with_rest (Some at) (map p pats.now))) self.new) }
+        ensures { OnOk result (Adds self.old (λ s. comma_joined (with_rest (Some at) (map p pats.now))) self.new) }
     {
         let (before, behind) = pats.split_at(pats.len().min(at as usize));
         self.add_list(false, ", ", before)?;
@@ -140,12 +133,8 @@ impl<'a, W: PieceWriter> Printer<'a, W> {
         self.add_list(true, ", ", behind)
     }
 
-    fn add_in_parentheses(
-        &mut self,
-        pats: &'a [PatId],
-        rest: Option<u32>,
-    ) -> Result<(), AllocError>
-        ensures { OnOk result (Adds W.step self.old (λ s. in_parentheses rest pats.now) self.new) }
+    fn add_in_parentheses(&mut self, pats: &'a [PatId], rest: Option<u32>) -> Result<(), AllocError>
+        ensures { OnOk result (Adds self.old (λ s. in_parentheses rest pats.now) self.new) }
     {
         self.add(&[Work::Text("(")])?;
         match rest {
@@ -161,7 +150,7 @@ impl<'a, W: PieceWriter> Printer<'a, W> {
         slice: Option<PatId>,
         suffix: &'a [PatId],
     ) -> Result<(), AllocError>
-        ensures { OnOk result (Adds W.step self.old (λ s. pat_items s (pat.Slice prefix.now slice suffix.now)) self.new) }
+        ensures { OnOk result (Adds self.old (λ s. pat_items s (pat.Slice prefix.now slice suffix.now)) self.new) }
     {
         self.add(&[Work::Text("[")])?;
         self.add_each(prefix, &[Work::Text(", ")])?;
@@ -174,7 +163,7 @@ impl<'a, W: PieceWriter> Printer<'a, W> {
 
     /// Adds an end of a range, where there is one.
     fn add_range_end(&mut self, expr: Option<ExprId>) -> Result<(), AllocError>
-        ensures { OnOk result (Adds W.step self.old (λ s. opt (under ExprPrecedence.Shift) expr) self.new) }
+        ensures { OnOk result (Adds self.old (λ s. opt (under ExprPrecedence.Shift) expr) self.new) }
     {
         match expr {
             None => Ok(()),
@@ -184,7 +173,7 @@ impl<'a, W: PieceWriter> Printer<'a, W> {
 
     /// Adds what a pattern is printed as.
     pub(crate) fn add_pat(&mut self, pat: &'a Pat) -> Result<(), AllocError>
-        ensures { OnOk result (Adds W.step self.old (λ s. pat_items s pat.now) self.new) }
+        ensures { OnOk result (Adds self.old (λ s. pat_items s pat.now) self.new) }
     {
         match pat {
             Pat::Missing => self.add(&[Work::Text("\u{fffd}")]),

@@ -2,30 +2,26 @@
 #![tactic(auto, using(crate::proofs::TurnLemmas::turns))]
 
 ghost use Rattle.std.specs.Prelude.{◌≡◌, ◌++◌, [], List, Some, None, Err, OnOk, slice_get};
-ghost use Rattle.hir_base.specs.RawWords.{words_of};
 ghost use Rattle.hir_node.specs.declared.node_id.NodeId.TheVariants as node;
 ghost use Rattle.hir_expr_store.specs.declared.missing.Missing.{Missing};
 ghost use Rattle.hir_printer.specs.declared.fault.PrintFault.TheVariants as fault;
-ghost use Rattle.hir_printer.specs.Answers.{answers};
-ghost use Rattle.hir_printer.specs.Settings.{setting};
+ghost use Rattle.hir_printer.specs.declared.work.Work.TheVariants as works;
 ghost use Rattle.hir_printer.specs.Items.{Item};
 ghost use Rattle.hir_printer.specs.Paths.{args_items, turbofish};
-ghost use Rattle.hir_printer.specs.Pieces.{items_of, format_of, printed, is_chain, stands_in_parentheses, precedence_found};
+ghost use Rattle.hir_printer.specs.Pieces.{items_of, printed, is_chain, stands_in_parentheses, precedence_found};
 ghost use Rattle.hir_printer.specs.Falls.{ItemsFall};
 ghost use Rattle.hir_printer.specs.Printed.{PrintsPieces};
-ghost use Rattle.hir_printer.specs.Printers.{meant, Adds, Prints, Turned, enclosed};
-ghost use Rattle.hir_printer.specs.OnPage.{on_page, AddsOnPage};
+ghost use Rattle.hir_printer.specs.Printing.{on_page};
+ghost use Rattle.hir_printer.specs.Printers.{meant, printing, Adds, IsNode, GaveWay, Turned, enclosed};
 
 use crate::fault::PrintFault;
 use crate::laws::items_fall;
 use crate::printer::Printer;
 use crate::work::Work;
-use hir_base::{Edition, ExprPrecedence};
-use hir_defs::Tables;
+use hir_base::ExprPrecedence;
 use hir_expr_store::ExpressionStore;
 use hir_node::{ExprId, GenericArgs, PatId, TypeRefId};
-use hir_page::{LineFormat, PageBuffer, PieceWriter};
-use std::alloc::{AllocError, Global};
+use std::alloc::AllocError;
 
 fn precedence_at(store: &ExpressionStore, id: ExprId) -> ExprPrecedence
     ensures { result ≡ precedence_found (slice_get store.now.nodes.exprs id) }
@@ -53,19 +49,9 @@ fn stands_in_parentheses(child: ExprPrecedence, parent: ExprPrecedence) -> bool
     child.needs_parentheses_in(parent) && !is_chain(child, parent)
 }
 
-fn line_format(one_line: bool) -> LineFormat
-    ensures { result ≡ format_of one_line }
-{
-    if one_line {
-        LineFormat::Oneline
-    } else {
-        LineFormat::Newline
-    }
-}
-
-impl<'a, W: PieceWriter> Printer<'a, W> {
+impl<'a> Printer<'a> {
     fn add_expr_at(&mut self, id: ExprId) -> Result<(), AllocError>
-        ensures { OnOk result (Adds W.step self.old (λ s. items_of s (node.Expr id)) self.new) }
+        ensures { OnOk result (Adds self.old (λ s. items_of s (node.Expr id)) self.new) }
     {
         let store = self.store();
         if store.has_expr(id) {
@@ -75,7 +61,7 @@ impl<'a, W: PieceWriter> Printer<'a, W> {
     }
 
     fn add_pat_at(&mut self, id: PatId) -> Result<(), AllocError>
-        ensures { OnOk result (Adds W.step self.old (λ s. items_of s (node.Pat id)) self.new) }
+        ensures { OnOk result (Adds self.old (λ s. items_of s (node.Pat id)) self.new) }
     {
         let store = self.store();
         if store.has_pat(id) {
@@ -85,7 +71,7 @@ impl<'a, W: PieceWriter> Printer<'a, W> {
     }
 
     fn add_type_at(&mut self, id: TypeRefId) -> Result<(), AllocError>
-        ensures { OnOk result (Adds W.step self.old (λ s. items_of s (node.TypeRef id)) self.new) }
+        ensures { OnOk result (Adds self.old (λ s. items_of s (node.TypeRef id)) self.new) }
     {
         let store = self.store();
         if store.has_type(id) {
@@ -96,7 +82,7 @@ impl<'a, W: PieceWriter> Printer<'a, W> {
 
     /// Adds an expression, in parentheses where its precedence asks for them under that of its parent.
     fn add_under(&mut self, id: ExprId, parent: ExprPrecedence) -> Result<(), AllocError>
-        ensures { OnOk result (Adds W.step self.old (λ s. enclosed
+        ensures { OnOk result (Adds self.old (λ s. enclosed
             (stands_in_parentheses (precedence_found (slice_get s.nodes.exprs id)) parent)
             (items_of s (node.Expr id))) self.new) }
     {
@@ -106,26 +92,24 @@ impl<'a, W: PieceWriter> Printer<'a, W> {
         self.add_if(is_enclosed, ")")
     }
 
-    /// Adds generic arguments in `::<` and `>`.
+    /// Adds generic arguments in `::<` and `>`. The first text is written at once, so that less is kept than they are.
     fn add_fish(&mut self, args: &'a GenericArgs) -> Result<(), AllocError>
-        ensures { OnOk result (Adds W.step self.old (λ s. turbofish (args_items s args.now)) self.new) }
+        requires none { self.old.kept ≡ [] }
+        ensures { OnOk result (GaveWay (works.Args args) self.old self.new) }
     {
-        self.add(&[Work::Text("::<")])?;
+        self.write_work(Work::Text("::<"))?;
         self.add_args(args)?;
         self.add(&[Work::Text(">")])
     }
 
-    /// Writes a work, or adds what it gives way to.
-    #[inline(always)]
-    fn turn(&mut self, work: Work<'a>) -> Result<(), PrintFault>
+    /// Adds what a node gives way to, or answers that it is missing.
+    fn give_way(&mut self, work: Work<'a>) -> Result<(), PrintFault>
+        requires node { IsNode work }
         requires fall { ItemsFall self.old.from }
         requires none { self.old.kept ≡ [] }
-        ensures ok { OnOk result (Turned W.step work self.old self.new) }
-        ensures missing { (m : Missing) → result ≡ Err (fault.Missing m) → work ≡ Work.Lacks m }
+        ensures ok { OnOk result (GaveWay work self.old self.new) }
+        ensures missing { (m : Missing) → result ≡ Err (fault.Missing m) → work ≡ works.Lacks m }
     {
-        if self.write_work(work)? {
-            return Ok(());
-        }
         match work {
             Work::Whole(id) => self.add_expr_at(id)?,
             Work::Under(id, parent) => self.add_under(id, parent)?,
@@ -145,38 +129,35 @@ impl<'a, W: PieceWriter> Printer<'a, W> {
         Ok(())
     }
 
+    /// Writes a work, or lets what it gives way to wait before all that waits.
+    #[inline(always)]
+    fn turn(&mut self, work: Work<'a>) -> Result<(), PrintFault>
+        requires fall { ItemsFall self.old.from }
+        requires none { self.old.kept ≡ [] }
+        ensures ok { OnOk result (Turned work self.old self.new) }
+        ensures missing { (m : Missing) → result ≡ Err (fault.Missing m) → work ≡ works.Lacks m }
+    {
+        if !self.write_work(work)? {
+            self.give_way(work)?;
+            self.end_turn();
+        }
+        Ok(())
+    }
+
     /// Writes the pieces of what was added, up to the first fault.
     fn write(&mut self) -> Result<(), PrintFault>
-        ensures ok { OnOk result (Prints W.step self.old.writer
-            (printed self.old.from (meant self.old.from (self.old.kept ++ self.old.waiting))) None self.new.writer) }
-        ensures missing { (m : Missing) → result ≡ Err (fault.Missing m) → Prints W.step self.old.writer
-            (printed self.old.from (meant self.old.from (self.old.kept ++ self.old.waiting))) (Some m) self.new.writer }
+        ensures ok { OnOk result (printing self.old.page
+            (printed self.old.from (meant self.old.from (self.old.kept ++ self.old.waiting))) ≡ (self.new.page, None)) }
+        ensures missing { (m : Missing) → result ≡ Err (fault.Missing m) → (printing self.old.page
+            (printed self.old.from (meant self.old.from (self.old.kept ++ self.old.waiting)))).1 ≡ Some m }
     {
         self.store().has_no_fault();
         items_fall();
         self.end_turn();
         while let Some(work) = self.begin_turn() {
             self.turn(work)?;
-            self.end_turn();
         }
         Ok(())
-    }
-}
-
-impl<'a> Printer<'a, PageBuffer> {
-    /// A printer onto a page, with the words of an edition, to which nothing was added. It allocates from `alloc`, and nothing now.
-    pub fn new(
-        alloc: Global,
-        store: &'a ExpressionStore,
-        tables: &'a Tables,
-        edition: Edition,
-        one_line: bool,
-    ) -> Printer<'a, PageBuffer>
-        ensures { result ≡ on_page
-            (setting store.now (answers tables.now) (words_of tables.now.words edition) one_line) }
-    {
-        let page = PageBuffer::new(alloc, line_format(one_line));
-        Printer::over(alloc, store, tables, edition, one_line, page)
     }
 
     /// The text of what was added.
@@ -184,10 +165,10 @@ impl<'a> Printer<'a, PageBuffer> {
     /// Answers `Missing` of the first definition outside that the text names and that the tables don't have, and `Memory` where memory
     /// was refused. A text that was begun is dropped.
     pub fn print(mut self) -> Result<String, PrintFault>
-        ensures { (items : List Item) → AddsOnPage (on_page self.from) (λ s. items) self
+        ensures { (items : List Item) → Adds (on_page self.from) (λ s. items) self
             → PrintsPieces self.from (printed self.from items) result }
     {
         self.write()?;
-        Ok(self.into_writer().into_text())
+        Ok(self.into_text())
     }
 }

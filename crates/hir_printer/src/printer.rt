@@ -1,11 +1,13 @@
-//! The printer: what it prints from, what it writes to, and what still waits.
+//! The printer: what it prints from, the page that it writes to, and what still waits.
 
-ghost use Rattle.std.specs.Prelude.{◌≡◌, ◌∷◌, [], ◌++◌, true, false, IfOk, IfSome, IsOk, None, OnOk};
-ghost use Rattle.std.specs.Bool.{IsTrue};
+ghost use Rattle.std.specs.Prelude.{◌≡◌, ◌∷◌, [], ◌++◌, true, false, IfOk, IfSome, None, OnOk, string_bytes};
 ghost use Rattle.hir_base.specs.RawWords.{words_of};
+ghost use Rattle.hir_page.specs.Page.{page_text};
 ghost use Rattle.hir_printer.specs.Items.{text, when};
 ghost use Rattle.hir_printer.specs.Settings.{setting};
 ghost use Rattle.hir_printer.specs.Answers.{answers};
+ghost use Rattle.hir_printer.specs.Pieces.{format_of};
+ghost use Rattle.hir_printer.specs.Printing.{on_page};
 ghost use Rattle.hir_printer.specs.Printers.{Adds, Wrote, IsNode, stands_for, stood};
 
 use crate::literals::write_literal;
@@ -14,68 +16,73 @@ use crate::work::Work;
 use hir_base::{Edition, Text};
 use hir_defs::Tables;
 use hir_expr_store::ExpressionStore;
-use hir_page::{PieceWriter, write_number};
+use hir_page::{LineFormat, PageBuffer, PieceWriter, write_number};
 use std::alloc::{AllocError, Global};
 use std::marker::Model;
 
 /// Prints what is added to it, the first first. Contracts see what it prints from, the works that were kept in this turn, those that wait,
-/// and the writer.
+/// and the page.
 ///
 /// What comes first in a turn is written at once; from the first node on it is kept. Where all is kept and written in a turn of its own,
 /// a run with all questions takes a tenth of its instructions more.
 #[derive(Drop)]
-pub struct Printer<'a, W> {
+pub struct Printer<'a> {
     store: &'a ExpressionStore,
     tables: &'a Tables,
     words: &'a [Text],
     one_line: bool,
-    writer: W,
+    page: PageBuffer,
     // those that wait, the next last, and behind them those that were kept in this turn, the first first
     works: Vec<Work<'a>>,
     waiting: usize,
 }
 
-impl<'a, W> Model for Printer<'a, W> {
+impl<'a> Model for Printer<'a> {
     ghost use Rattle.std.specs.Prelude.{◌≤◌, length, reverse, take, drop};
     ghost use Rattle.hir_printer.specs.Settings.{setting};
     ghost use Rattle.hir_printer.specs.Answers.{answers};
     ghost use Rattle.hir_printer.specs.Printing.{Printing};
 
-    ghost Value = { Printing W };
+    ghost Value = { Printing };
 
     ghost view = { λ p. record {
       from = setting p.store.now (answers p.tables.now) p.words.now p.one_line;
       kept = drop p.waiting p.works.items;
       waiting = reverse (take p.waiting p.works.items);
-      writer = p.writer;
+      page = p.page;
     } };
 
     ghost invariant = { λ p. p.waiting ≤ length p.works.items };
 }
 
-impl<'a, W: PieceWriter> Printer<'a, W> {
+fn line_format(one_line: bool) -> LineFormat
+    ensures { result ≡ format_of one_line }
+{
+    if one_line {
+        LineFormat::Oneline
+    } else {
+        LineFormat::Newline
+    }
+}
+
+impl<'a> Printer<'a> {
     /// A printer from a store and tables, with the words of an edition, to which nothing was added. It allocates from `alloc`, and nothing now.
-    pub fn over(
+    pub fn new(
         alloc: Global,
         store: &'a ExpressionStore,
         tables: &'a Tables,
         edition: Edition,
         one_line: bool,
-        writer: W,
-    ) -> Printer<'a, W>
-        ensures { result ≡ record {
-          from = setting store.now (answers tables.now) (words_of tables.now.words edition) one_line;
-          kept = [];
-          waiting = [];
-          writer = writer;
-        } }
+    ) -> Printer<'a>
+        ensures { result ≡ on_page
+            (setting store.now (answers tables.now) (words_of tables.now.words edition) one_line) }
     {
         Printer {
             store,
             tables,
             words: tables.raw_words(edition),
             one_line,
-            writer,
+            page: PageBuffer::new(alloc, line_format(one_line)),
             works: Vec::new(alloc),
             waiting: 0,
         }
@@ -112,18 +119,18 @@ impl<'a, W: PieceWriter> Printer<'a, W> {
     /// Writes a work that is text or layout. Answers whether it is.
     #[inline(always)]
     pub(crate) fn write_work(&mut self, work: Work<'a>) -> Result<bool, AllocError>
-        ensures wrote { IfOk result (λ b. b ≡ true → Wrote W.step work self.old self.new) }
+        ensures wrote { IfOk result (λ b. b ≡ true → Wrote work self.old self.new) }
         ensures node { IfOk result (λ b. b ≡ false → IsNode work × (self.new ≡ self.old)) }
     {
         match work {
-            Work::Text(text) => self.writer.text(text)?,
-            Work::Space => self.writer.soft_space()?,
-            Work::Break => self.writer.line_break()?,
-            Work::Indent => self.writer.indent()?,
-            Work::Outdent => self.writer.outdent()?,
-            Work::Number(number) => write_number(&mut self.writer, number)?,
-            Work::Literal(literal) => write_literal(&mut self.writer, literal)?,
-            Work::Name(name) => write_name(&mut self.writer, self.words, name)?,
+            Work::Text(text) => self.page.text(text)?,
+            Work::Space => self.page.soft_space()?,
+            Work::Break => self.page.line_break()?,
+            Work::Indent => self.page.indent()?,
+            Work::Outdent => self.page.outdent()?,
+            Work::Number(number) => write_number(&mut self.page, number)?,
+            Work::Literal(literal) => write_literal(&mut self.page, literal)?,
+            Work::Name(name) => write_name(&mut self.page, self.words, name)?,
             Work::Whole(_)
             | Work::Under(_, _)
             | Work::Pattern(_)
@@ -134,22 +141,38 @@ impl<'a, W: PieceWriter> Printer<'a, W> {
         Ok(true)
     }
 
+    /// Keeps a work behind those that were kept in this turn.
+    #[inline(always)]
+    fn keep(&mut self, work: Work<'a>) -> Result<(), AllocError>
+        ensures { OnOk result (self.new ≡ record self.old { kept = self.old.kept ++ (work ∷ []) }) }
+    {
+        self.works.push(work)?;
+        Ok(())
+    }
+
     /// Adds a work.
     #[inline(always)]
     fn add_work(&mut self, work: Work<'a>) -> Result<(), AllocError>
-        ensures { OnOk result (Adds W.step self.old (λ s. stands_for s work) self.new) }
+        ensures { OnOk result (Adds self.old (λ s. stands_for s work) self.new) }
     {
         if self.works.len() == self.waiting && self.write_work(work)? {
             return Ok(());
         }
-        self.works.push(work)?;
+        self.keep(work)
+    }
+
+    /// Makes room for so many works.
+    pub(crate) fn reserve(&mut self, works: usize) -> Result<(), AllocError>
+        ensures { OnOk result (self.new ≡ self.old) }
+    {
+        self.works.reserve(works)?;
         Ok(())
     }
 
     /// Adds works.
     #[inline(always)]
     pub fn add(&mut self, works: &[Work<'a>]) -> Result<(), AllocError>
-        ensures { OnOk result (Adds W.step self.old (λ s. stood s works.now) self.new) }
+        ensures { OnOk result (Adds self.old (λ s. stood s works.now) self.new) }
     {
         for work in works {
             self.add_work(*work)?;
@@ -159,7 +182,7 @@ impl<'a, W: PieceWriter> Printer<'a, W> {
 
     /// Adds a text, where the condition holds.
     pub fn add_if(&mut self, holds: bool, shown: &'a str) -> Result<(), AllocError>
-        ensures { OnOk result (Adds W.step self.old (λ s. when holds (text shown.now)) self.new) }
+        ensures { OnOk result (Adds self.old (λ s. when holds (text shown.now)) self.new) }
     {
         if holds {
             return self.add(&[Work::Text(shown)]);
@@ -187,21 +210,19 @@ impl<'a, W: PieceWriter> Printer<'a, W> {
         work
     }
 
-    /// What it wrote to.
-    pub(crate) fn into_writer(self) -> W
-    where
-        W: Drop,
-        ensures { result ≡ self.writer }
+    /// The text that was written.
+    pub(crate) fn into_text(self) -> String
+        ensures { string_bytes result ≡ page_text self.page }
     {
         let Printer {
             store: _,
             tables: _,
             words: _,
             one_line: _,
-            writer,
+            page,
             works: _,
             waiting: _,
         } = self;
-        writer
+        page.into_text()
     }
 }

@@ -11,17 +11,14 @@ use crate::part::Part;
 use crate::printer::Printer;
 use crate::work::Work;
 use hir_base::{ExprPrecedence, ExternAbi, Name, Seq};
-use hir_node::{
-    FnType, RefType, TraitBoundModifier, TypeBound, TypeRef, TypeRefId, UseArgRef,
-};
-use hir_page::PieceWriter;
+use hir_node::{FnType, RefType, TraitBoundModifier, TypeBound, TypeRef, TypeRefId, UseArgRef};
 use std::alloc::AllocError;
 
 /// A parameter of a function's type, whose name isn't printed.
 impl Part for (Option<Name>, TypeRefId) {
     ghost items = { λ s param. t param.1 };
 
-    fn add_to<'a, W: PieceWriter>(&'a self, printer: &mut Printer<'a, W>) -> Result<(), AllocError> {
+    fn add_to<'a>(&'a self, printer: &mut Printer<'a>) -> Result<(), AllocError> {
         printer.add(&[Work::Type(self.1)])
     }
 }
@@ -29,7 +26,7 @@ impl Part for (Option<Name>, TypeRefId) {
 impl Part for UseArgRef {
     ghost items = { use_items };
 
-    fn add_to<'a, W: PieceWriter>(&'a self, printer: &mut Printer<'a, W>) -> Result<(), AllocError> {
+    fn add_to<'a>(&'a self, printer: &mut Printer<'a>) -> Result<(), AllocError> {
         match self {
             UseArgRef::Name(name) => name.add_to(printer),
             UseArgRef::Lifetime(id) => id.add_to(printer),
@@ -40,7 +37,7 @@ impl Part for UseArgRef {
 impl Part for TypeBound {
     ghost items = { bound_items };
 
-    fn add_to<'a, W: PieceWriter>(&'a self, printer: &mut Printer<'a, W>) -> Result<(), AllocError> {
+    fn add_to<'a>(&'a self, printer: &mut Printer<'a>) -> Result<(), AllocError> {
         match self {
             TypeBound::Path(id, modifier) => {
                 printer.add_if(matches!(modifier, TraitBoundModifier::Maybe), "?")?;
@@ -61,10 +58,10 @@ impl Part for TypeBound {
     }
 }
 
-impl<'a, W: PieceWriter> Printer<'a, W> {
+impl<'a> Printer<'a> {
     /// Adds names behind `for`.
     fn add_for(&mut self, names: &'a [Name]) -> Result<(), AllocError>
-        ensures { OnOk result (Adds W.step self.old (λ s. for_names s names.now) self.new) }
+        ensures { OnOk result (Adds self.old (λ s. for_names s names.now) self.new) }
     {
         self.add(&[Work::Text("for<")])?;
         self.add_list(false, ", ", names)?;
@@ -73,7 +70,7 @@ impl<'a, W: PieceWriter> Printer<'a, W> {
 
     /// Adds names behind `for`, where there are any.
     pub fn add_binder(&mut self, names: &'a Option<Seq<Name>>) -> Result<(), AllocError>
-        ensures { OnOk result (Adds W.step self.old (λ s. opt (for_names s) names.now) self.new) }
+        ensures { OnOk result (Adds self.old (λ s. opt (for_names s) names.now) self.new) }
     {
         match names {
             None => Ok(()),
@@ -83,7 +80,7 @@ impl<'a, W: PieceWriter> Printer<'a, W> {
 
     /// Adds `extern` and a calling convention, unless it is that of Rust.
     fn add_extern(&mut self, abi: &'a ExternAbi) -> Result<(), AllocError>
-        ensures { OnOk result (Adds W.step self.old (λ s. extern_items abi.now) self.new) }
+        ensures { OnOk result (Adds self.old (λ s. extern_items abi.now) self.new) }
     {
         match abi {
             ExternAbi::Rust => Ok(()),
@@ -105,7 +102,7 @@ impl<'a, W: PieceWriter> Printer<'a, W> {
         params: &'a [(Option<Name>, TypeRefId)],
         is_varargs: bool,
     ) -> Result<(), AllocError>
-        ensures { OnOk result (Adds W.step self.old (λ s. signature_items is_varargs
+        ensures { OnOk result (Adds self.old (λ s. signature_items is_varargs
             (map (λ (entry : Option (List ℕ) × ℕ). entry.1) params.now)) self.new) }
     {
         self.add(&[Work::Text("fn(")])?;
@@ -124,7 +121,7 @@ impl<'a, W: PieceWriter> Printer<'a, W> {
     }
 
     fn add_fn(&mut self, function: &'a FnType) -> Result<(), AllocError>
-        ensures { OnOk result (Adds W.step self.old (λ s. fn_items s function.now) self.new) }
+        ensures { OnOk result (Adds self.old (λ s. fn_items s function.now) self.new) }
     {
         self.add_binder(&function.binder)?;
         self.add_if(function.is_unsafe, "unsafe ")?;
@@ -133,7 +130,7 @@ impl<'a, W: PieceWriter> Printer<'a, W> {
     }
 
     fn add_reference(&mut self, reference: &'a RefType) -> Result<(), AllocError>
-        ensures { OnOk result (Adds W.step self.old (λ s. type_items s (TypeRef.Reference reference.now)) self.new) }
+        ensures { OnOk result (Adds self.old (λ s. type_items s (TypeRef.Reference reference.now)) self.new) }
     {
         self.add(&[Work::Text("&")])?;
         if let Some(lifetime) = &reference.lifetime {
@@ -146,12 +143,8 @@ impl<'a, W: PieceWriter> Printer<'a, W> {
         ])
     }
 
-    fn add_bounds(
-        &mut self,
-        keyword: &'a str,
-        bounds: &'a [TypeBound],
-    ) -> Result<(), AllocError>
-        ensures { OnOk result (Adds W.step self.old (λ s. text keyword.now ++ bounds_items s bounds.now) self.new) }
+    fn add_bounds(&mut self, keyword: &'a str, bounds: &'a [TypeBound]) -> Result<(), AllocError>
+        ensures { OnOk result (Adds self.old (λ s. text keyword.now ++ bounds_items s bounds.now) self.new) }
     {
         self.add(&[Work::Text(keyword)])?;
         self.add_list(false, " + ", bounds)
@@ -159,7 +152,7 @@ impl<'a, W: PieceWriter> Printer<'a, W> {
 
     /// Adds what a type is printed as.
     pub(crate) fn add_type(&mut self, type_ref: &'a TypeRef) -> Result<(), AllocError>
-        ensures { OnOk result (Adds W.step self.old (λ s. type_items s type_ref.now) self.new) }
+        ensures { OnOk result (Adds self.old (λ s. type_items s type_ref.now) self.new) }
     {
         match type_ref {
             TypeRef::Never => self.add(&[Work::Text("!")]),
@@ -171,9 +164,7 @@ impl<'a, W: PieceWriter> Printer<'a, W> {
                 self.add_list(false, ", ", types.as_slice())?;
                 self.add(&[Work::Text(")")])
             }
-            TypeRef::Slice(id) => {
-                self.add(&[Work::Text("["), Work::Type(*id), Work::Text("]")])
-            }
+            TypeRef::Slice(id) => { self.add(&[Work::Text("["), Work::Type(*id), Work::Text("]")]) }
             TypeRef::RawPtr(id, mutability) => self.add(&[
                 Work::Text("*"),
                 Work::Text(mutability.as_keyword_for_ptr()),
