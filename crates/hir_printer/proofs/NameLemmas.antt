@@ -1,10 +1,13 @@
 -- Names by their parts.
-use Rattle.std.proofs.Common.{◌≡◌, ◌≢◌, ℕ, Bool, true, false, List, [], ◌∷◌, ◌++◌, codes, refl, ap, ◌∙◌, append-nil}
-use Rattle.std.specs.Prelude.{◌==◌, if◌then◌else◌}
+use Rattle.std.proofs.Common.{◌≡◌, ◌≢◌, ℕ, Bool, true, false, List, [], ◌∷◌, ◌++◌, map, codes, refl, ap, ◌∙◌, append-nil}
+use Rattle.std.specs.Prelude.{◌==◌, ◌&&◌, if◌then◌else◌, nat_eq}
+use Rattle.hir_page.specs.Pieces.{Text}
 use Rattle.std.specs.List.{flat_map}
 use Rattle.std.specs.Cmp.Lexicographic.{bytes_decides}
 use Rattle.std.proofs.lemmas.Bool.Decides.{Decides-eqb}
-use Rattle.hir_printer.specs.Names.{is_word, raw_parts, raw_text, name_parts, printed_name, same_text}
+use Rattle.hir_printer.specs.Names.{is_word, raw_parts, name_parts, behind, same_text}
+
+-- 1. Parts
 
 -- a name that doesn't begin with a quote
 pub unquoted : (words : List (List ℕ)) (name : List ℕ) → ((rest : List ℕ) → name ≢ 39 ∷ rest) → name_parts words name ≡ raw_parts words name
@@ -28,25 +31,33 @@ raw_word words name e = ap (λ b. if b then codes "r#" ∷ name ∷ [] else name
 pub plain_word : (words : List (List ℕ)) (name : List ℕ) → is_word words name ≡ false → raw_parts words name ≡ name ∷ []
 plain_word words name e = ap (λ b. if b then codes "r#" ∷ name ∷ [] else name ∷ []) e
 
--- the same as texts
-pub raw_word_text : (words : List (List ℕ)) (name : List ℕ) → is_word words name ≡ true → raw_text words name ≡ codes "r#" ++ name
-raw_word_text words name e = ap (λ (parts : List (List ℕ)). flat_map (λ part. part) parts) (raw_word words name e) ∙ ap (λ rest. codes "r#" ++ rest) (append-nil name)
+-- 2. Parts as they were found
 
-pub plain_word_text : (words : List (List ℕ)) (name : List ℕ) → is_word words name ≡ false → raw_text words name ≡ name
-plain_word_text words name e = ap (λ (parts : List (List ℕ)). flat_map (λ part. part) parts) (plain_word words name e) ∙ append-nil name
+-- what is written of them, one text after another
+pub written_parts : (q r : Bool) (name : List ℕ) → map Text (behind q (codes "'") []) ++ (map Text (behind r (codes "r#") []) ++ (Text name ∷ [])) ≡ map Text (behind q (codes "'") (behind r (codes "r#") (name ∷ [])))
+written_parts true true name = refl
+written_parts true false name = refl
+written_parts false true name = refl
+written_parts false false name = refl
 
-pub unquoted_text : (words : List (List ℕ)) (name : List ℕ) → ((rest : List ℕ) → name ≢ 39 ∷ rest) → printed_name words name ≡ raw_text words name
-unquoted_text words name h = ap (λ (parts : List (List ℕ)). flat_map (λ part. part) parts) (unquoted words name h)
+-- as one text
+pub parts_text : (q r : Bool) (name : List ℕ) → flat_map (λ part. part) (behind q (codes "'") (behind r (codes "r#") (name ∷ []))) ≡ (if q then codes "'" else []) ++ ((if r then codes "r#" else []) ++ name)
+parts_text true true name = ap (λ rest. codes "'" ++ (codes "r#" ++ rest)) (append-nil name)
+parts_text true false name = ap (λ rest. codes "'" ++ rest) (append-nil name)
+parts_text false true name = ap (λ rest. codes "r#" ++ rest) (append-nil name)
+parts_text false false name = append-nil name
 
-pub quoted_static_text : (words : List (List ℕ)) (rest : List ℕ) → same_text rest (codes "static") ≡ true → printed_name words (39 ∷ rest) ≡ 39 ∷ rest
-quoted_static_text words rest e = ap (λ (parts : List (List ℕ)). flat_map (λ part. part) parts) (quoted_static words rest e) ∙ append-nil (39 ∷ rest)
+-- texts that begin with the same
+same_byte : (c : ℕ) → nat_eq c c ≡ true
+same_byte c = (Decides-eqb c c).1 refl
 
-pub quoted_other_text : (words : List (List ℕ)) (rest : List ℕ) → same_text rest (codes "static") ≡ false → printed_name words (39 ∷ rest) ≡ 39 ∷ raw_text words rest
-quoted_other_text words rest e = ap (λ (parts : List (List ℕ)). flat_map (λ part. part) parts) (quoted_other words rest e)
+pub same_rest : (first xs ys : List ℕ) → same_text (first ++ xs) (first ++ ys) ≡ same_text xs ys
+same_rest [] xs ys = refl
+same_rest (c ∷ first) xs ys = ap (λ b. b && same_text (first ++ xs) (first ++ ys)) (same_byte c) ∙ same_rest first xs ys
 
--- a text that doesn't begin with a quote is none that does
-pub not_quoted : (text rest : List ℕ) → ((others : List ℕ) → text ≢ 39 ∷ others) → same_text text (39 ∷ rest) ≡ false
-not_quoted text rest h = other (same_text text (39 ∷ rest)) (λ e. h rest ((bytes_decides text (39 ∷ rest)).0 e)) where
+-- a text that doesn't begin with this is none that does
+pub not_same : (text first rest : List ℕ) → ((others : List ℕ) → text ≢ first ++ others) → same_text text (first ++ rest) ≡ false
+not_same text first rest h = other (same_text text (first ++ rest)) (λ e. h rest ((bytes_decides text (first ++ rest)).0 e)) where
   other : (b : Bool) → (b ≡ true → ⊥) → b ≡ false
   other true k = absurd (k refl)
   other false k = refl

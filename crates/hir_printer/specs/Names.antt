@@ -10,6 +10,7 @@ use Rattle.hir_node.specs.declared.binding.Label.{Label}
 use Rattle.hir_node.specs.declared.binding.BindingAnnotation.{BindingAnnotation}
 use Rattle.hir_node.specs.declared.binding.BindingAnnotation.TheVariants.{Unannotated, Mutable, Ref, RefMut}
 use Rattle.hir_expr_store.specs.declared.missing.Missing.{Missing}
+use Rattle.hir_printer.specs.declared.names.NameParts.{NameParts}
 use Rattle.hir_printer.specs.Questions.{Setting}
 use Rattle.hir_printer.specs.Items.{Item, Lacks, text, opt}
 
@@ -25,14 +26,18 @@ is_word (word ∷ words) name = same_text word name || is_word words name
 abbrev pub raw_parts : List (List ℕ) → List ℕ → List (List ℕ)
 raw_parts words name = if is_word words name then codes "r#" ∷ name ∷ [] else name ∷ []
 
--- as one text
-abbrev pub raw_text : List (List ℕ) → List ℕ → List ℕ
-raw_text words name = flat_map (λ part. part) (raw_parts words name)
-
 -- The parts of a printed name. A leading `'` comes first and isn't looked up, and `'static` is printed as it is.
 abbrev pub name_parts : List (List ℕ) → List ℕ → List (List ℕ)
 name_parts words [] = raw_parts words []
 name_parts words (c ∷ cs) = if c == 39 then (if same_text cs (codes "static") then (c ∷ cs) ∷ [] else (c ∷ []) ∷ raw_parts words cs) else raw_parts words (c ∷ cs)
+
+-- texts, the first of which is there where the condition holds
+abbrev pub behind : Bool → List ℕ → List (List ℕ) → List (List ℕ)
+behind holds first texts = if holds then first ∷ texts else texts
+
+-- the parts as they were found
+abbrev pub texts_of : NameParts → List (List ℕ)
+texts_of parts = behind parts.is_quoted (codes "'") (behind parts.is_raw (codes "r#") (parts.text.now ∷ []))
 
 -- the text of a printed name
 abbrev pub printed_name : List (List ℕ) → List ℕ → List ℕ
