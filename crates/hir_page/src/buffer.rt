@@ -1,19 +1,18 @@
 //! The one buffer of a printing: a text that is written at its end alone, and looks back over its last characters.
-ghost use Rattle.std.specs.Prelude.{◌≡◌, ◌≢◌, ◌<◌, ◌∷◌, [], ◌++◌, ◌+◌, ◌-◌, ◌*◌, replicate, OnOk, OnErr, IsTrue, ◌↔◌, string_bytes};
-ghost use Rattle.hir_page.specs.Buffer.{HasNoEnd, IsTrimmedLen, IsCutText, EndsInLineEnd, IsGrown};
+ghost use Rattle.std.specs.Prelude.{◌≡◌, ◌≢◌, ◌<◌, ◌∷◌, [], ◌++◌, ◌+◌, ◌-◌, ◌*◌, OnOk, IsTrue, ◌↔◌, string_bytes};
+ghost use Rattle.hir_page.specs.Buffer.{HasNoEnd, IsTrimmedLen, IsCutText, EndsInLineEnd};
 ghost use Rattle.hir_page.specs.LastByte.{IsLastByte};
 ghost use Rattle.hir_page.specs.Page.{begun, parted, indented, put, put_all, trimmed, spaced, line_ended, joined, without_empty_lines, is_blank, empty_page, page_text, format_in_line, format_after_end};
 
 use crate::{LineFormat, PieceWriter};
 use std::alloc::{AllocError, Global};
-use std::fmt;
 use std::marker::Model;
 
 /// A page of text, written piece by piece. Contracts see it as its lines, its level and its format.
 ///
 /// No step goes over the text again: the length without trailing spaces is kept, and the indentation is a text of spaces that
-/// grows and shrinks with the level. A step fails only if memory for the text or the indentation was refused, and then it
-/// leaves the page as it was.
+/// grows and shrinks with the level. A step fails only if memory for the text or the indentation was refused; then the page holds a part
+/// of what it was to write.
 #[derive(Drop)]
 pub struct PageBuffer {
     text: String,
@@ -70,11 +69,10 @@ impl PageBuffer {
 
     /// Adds a line end, whatever the format.
     fn end_line(&mut self) -> Result<(), AllocError>
-        ensures ok { OnOk result (self.new ≡ record self.old {
+        ensures { OnOk result (self.new ≡ record self.old {
           above = self.old.last ∷ self.old.above;
           last = [];
         }) }
-        ensures err { OnErr result (self.new ≡ self.old) }
     {
         self.text.push('\n')?;
         self.kept = self.text.len();
@@ -82,11 +80,9 @@ impl PageBuffer {
     }
 
     /// Adds characters to the last line, whatever the format.
-    #[inline(always)]
     fn add(&mut self, part: &str) -> Result<(), AllocError>
         requires { HasNoEnd part.now }
-        ensures ok { OnOk result (self.new ≡ record self.old { last = self.old.last ++ part.now }) }
-        ensures err { OnErr result (self.new ≡ self.old) }
+        ensures { OnOk result (self.new ≡ record self.old { last = self.old.last ++ part.now }) }
     {
         let before = self.text.len();
         self.text.push_str(part)?;
@@ -97,24 +93,9 @@ impl PageBuffer {
         Ok(())
     }
 
-    /// Adds a character to the last line, whatever the format.
-    #[inline(always)]
-    fn add_byte(&mut self, byte: u8) -> Result<(), AllocError>
-        requires { (byte < 128) × (byte ≢ 10) }
-        ensures ok { OnOk result (self.new ≡ record self.old { last = self.old.last ++ (byte ∷ []) }) }
-        ensures err { OnErr result (self.new ≡ self.old) }
-    {
-        self.text.push(char::from(byte))?;
-        if byte != b' ' {
-            self.kept = self.text.len();
-        }
-        Ok(())
-    }
-
     /// Adds four spaces for each level.
     fn indent_line(&mut self) -> Result<(), AllocError>
-        ensures ok { OnOk result (self.new ≡ indented self.old) }
-        ensures err { OnErr result (self.new ≡ self.old) }
+        ensures { OnOk result (self.new ≡ indented self.old) }
     {
         self.text.push_str(self.indentation.as_str())?;
         Ok(())
@@ -122,8 +103,7 @@ impl PageBuffer {
 
     /// Begins a line, unless the last is blank.
     fn part_line(&mut self) -> Result<(), AllocError>
-        ensures ok { OnOk result (self.new ≡ parted self.old) }
-        ensures err { OnErr result (self.new ≡ self.old) }
+        ensures { OnOk result (self.new ≡ parted self.old) }
     {
         if !self.ends_in_blank_line() {
             self.end_line()?;
@@ -132,20 +112,16 @@ impl PageBuffer {
     }
 
     /// Begins a line, unless the last is blank, and indents it.
-    #[inline(never)]
     fn begin_line(&mut self) -> Result<(), AllocError>
-        ensures ok { OnOk result (self.new ≡ indented (parted self.old)) }
-        ensures err { OnErr result (IsGrown self.old self.new) }
+        ensures { OnOk result (self.new ≡ indented (parted self.old)) }
     {
         self.part_line()?;
         self.indent_line()
     }
 
     /// Begins a line, and indents it, if the next text has to begin one.
-    #[inline(always)]
     fn begin(&mut self) -> Result<(), AllocError>
-        ensures ok { OnOk result (self.new ≡ begun self.old) }
-        ensures err { OnErr result (IsGrown self.old self.new) }
+        ensures { OnOk result (self.new ≡ begun self.old) }
     {
         match self.format {
             LineFormat::Oneline => Ok(()),
@@ -155,11 +131,9 @@ impl PageBuffer {
     }
 
     /// Writes text without a line end.
-    #[inline(always)]
     fn line(&mut self, line: &str) -> Result<(), AllocError>
         requires { HasNoEnd line.now }
-        ensures ok { OnOk result (self.new ≡ put_all line.now self.old) }
-        ensures err { OnErr result (IsGrown self.old self.new) }
+        ensures { OnOk result (self.new ≡ put_all line.now self.old) }
     {
         if !line.is_empty() {
             self.begin()?;
@@ -169,96 +143,9 @@ impl PageBuffer {
         Ok(())
     }
 
-    /// Whether so many bytes go into the line that was begun, and the text has room for them.
-    #[inline(always)]
-    fn has_room(&self, bytes: usize) -> bool
-        ensures { IsTrue result → self.now.format ≡ format_in_line self.now.format }
-    {
-        let in_line = match self.format {
-            LineFormat::Oneline => true,
-            LineFormat::Newline => true,
-            LineFormat::Indentation => false,
-        };
-        in_line && bytes <= self.text.capacity() - self.text.len()
-    }
-
-    /// Writes text of one character, as most texts are. Where there is room for it, it calls nothing.
-    #[inline(never)]
-    fn character(&mut self, text: &str, byte: u8) -> Result<(), AllocError>
-        requires { text.now ≡ byte ∷ [] }
-        ensures ok { OnOk result (self.new ≡ put_all text.now self.old) }
-        ensures err { OnErr result (self.new ≡ self.old) }
-    {
-        if self.has_room(1) && is_plain(byte) {
-            return self.add_byte(byte);
-        }
-        self.all_or_none(text)
-    }
-
-    /// Writes text of several characters. Most has two, three or four bytes: in an arm of its own their number is known to the
-    /// compiler, which copies them without a call.
-    #[inline(never)]
-    fn several(&mut self, text: &str) -> Result<(), AllocError>
-        ensures ok { OnOk result (self.new ≡ put_all text.now self.old) }
-        ensures err { OnErr result (self.new ≡ self.old) }
-    {
-        match text.len() {
-            2 => self.few(text),
-            3 => self.few(text),
-            4 => self.few(text),
-            _ => self.all_or_none(text),
-        }
-    }
-
-    /// Writes text of few characters. Where there is room for it, it calls nothing.
-    #[inline(always)]
-    fn few(&mut self, text: &str) -> Result<(), AllocError>
-        ensures ok { OnOk result (self.new ≡ put_all text.now self.old) }
-        ensures err { OnErr result (self.new ≡ self.old) }
-    {
-        if self.has_room(text.len()) && has_no_end(text.as_bytes()) {
-            return self.add(text);
-        }
-        self.all_or_none(text)
-    }
-
-    /// Writes text: all of it, or nothing where memory is refused.
-    #[cold]
-    #[inline(never)]
-    fn all_or_none(&mut self, text: &str) -> Result<(), AllocError>
-        ensures ok { OnOk result (self.new ≡ put_all text.now self.old) }
-        ensures err { OnErr result (self.new ≡ self.old) }
-    {
-        let len = self.text.len();
-        let kept = self.kept;
-        let format = self.format;
-        let written = self.many(text);
-        if written.is_err() {
-            self.text.truncate(len);
-            self.kept = kept;
-            self.format = format;
-        }
-        written
-    }
-
-    /// Writes text, which seldom has a line end.
-    #[inline(always)]
-    fn many(&mut self, text: &str) -> Result<(), AllocError>
-        ensures ok { OnOk result (self.new ≡ put_all text.now self.old) }
-        ensures err { OnErr result (IsGrown self.old self.new) }
-    {
-        if text.as_bytes().contains(&b'\n') {
-            return self.lines(text);
-        }
-        self.line(text)
-    }
-
     /// Writes text line by line.
-    #[cold]
-    #[inline(never)]
     fn lines(&mut self, text: &str) -> Result<(), AllocError>
-        ensures ok { OnOk result (self.new ≡ put_all text.now self.old) }
-        ensures err { OnErr result (IsGrown self.old self.new) }
+        ensures { OnOk result (self.new ≡ put_all text.now self.old) }
     {
         let mut rest = text;
         while let Some((line, after)) = rest.split_once('\n') {
@@ -271,8 +158,7 @@ impl PageBuffer {
 
     /// Writes a line end.
     fn line_end(&mut self) -> Result<(), AllocError>
-        ensures ok { OnOk result (self.new ≡ put 10 self.old) }
-        ensures err { OnErr result (IsGrown self.old self.new) }
+        ensures { OnOk result (self.new ≡ put 10 self.old) }
     {
         self.begin()?;
         self.end_line()?;
@@ -280,60 +166,27 @@ impl PageBuffer {
         Ok(())
     }
 
-    /// Ends the last line without its trailing spaces. It is refused only where there were none: their room is enough for a line end.
-    fn end_trimmed(&mut self) -> Result<(), AllocError>
-        ensures ok { OnOk result (self.new ≡ record self.old {
-          above = trimmed self.old.last ∷ self.old.above;
-          last = [];
-          format = format_after_end self.old.format;
-        }) }
-        ensures err { OnErr result (self.new ≡ self.old) }
+    /// Removes the trailing spaces of the last line.
+    fn trim(&mut self)
+        ensures { self.new ≡ record self.old { last = trimmed self.old.last } }
     {
-        let after = self.format.after_end();
         self.text.truncate(self.kept);
-        self.text.push('\n')?;
-        self.kept = self.text.len();
-        self.format = after;
-        Ok(())
-    }
-
-    /// Ends the last line without its trailing spaces, and a line of indentation. Room for all is asked for first, since spaces
-    /// that were removed could not be written again.
-    fn end_two_lines(&mut self) -> Result<(), AllocError>
-        ensures ok { OnOk result (self.new ≡ record self.old {
-          above = replicate (4 * self.old.level) 32 ∷ trimmed self.old.last ∷ self.old.above;
-          last = [];
-        }) }
-        ensures err { OnErr result (self.new ≡ self.old) }
-    {
-        let indentation = self.indentation.as_str();
-        self.text.reserve(indentation.len() + 2)?;
-        self.text.truncate(self.kept);
-        self.text.push('\n')?;
-        self.text.push_str(indentation)?;
-        self.text.push('\n')?;
-        self.kept = self.text.len();
-        Ok(())
     }
 
     /// Writes a break in lines.
     fn break_line(&mut self) -> Result<(), AllocError>
-        ensures ok { OnOk result (self.new ≡ line_ended self.old) }
-        ensures err { OnErr result (self.new ≡ self.old) }
+        ensures { OnOk result (self.new ≡ line_ended self.old) }
     {
         if self.ends_in_blank_line() {
             return Ok(());
         }
-        match self.format {
-            LineFormat::Oneline | LineFormat::Newline => self.end_trimmed(),
-            LineFormat::Indentation => self.end_two_lines(),
-        }
+        self.trim();
+        self.line_end()
     }
 
     /// Adds a space, whatever the format.
     fn add_space(&mut self) -> Result<(), AllocError>
-        ensures ok { OnOk result (self.new ≡ record self.old { last = self.old.last ++ (32 ∷ []) }) }
-        ensures err { OnErr result (self.new ≡ self.old) }
+        ensures { OnOk result (self.new ≡ record self.old { last = self.old.last ++ (32 ∷ []) }) }
     {
         self.text.push(' ')?;
         Ok(())
@@ -360,8 +213,7 @@ impl PageBuffer {
 
     /// Writes a soft space.
     fn space(&mut self) -> Result<(), AllocError>
-        ensures ok { OnOk result (self.new ≡ spaced self.old) }
-        ensures err { OnErr result (self.new ≡ self.old) }
+        ensures { OnOk result (self.new ≡ spaced self.old) }
     {
         match self.last_byte() {
             LastByte::Absent | LastByte::LineEnd | LastByte::Space => Ok(()),
@@ -371,8 +223,7 @@ impl PageBuffer {
 
     /// Writes a break in one line.
     fn join(&mut self) -> Result<(), AllocError>
-        ensures ok { OnOk result (self.new ≡ joined self.old) }
-        ensures err { OnErr result (self.new ≡ self.old) }
+        ensures { OnOk result (self.new ≡ joined self.old) }
     {
         match self.last_byte() {
             LastByte::Absent | LastByte::Space => Ok(()),
@@ -382,8 +233,7 @@ impl PageBuffer {
 
     /// Raises the level by one.
     fn raise_level(&mut self) -> Result<(), AllocError>
-        ensures ok { OnOk result (self.new ≡ record self.old { level = self.old.level + 1 }) }
-        ensures err { OnErr result (self.new ≡ self.old) }
+        ensures { OnOk result (self.new ≡ record self.old { level = self.old.level + 1 }) }
     {
         self.indentation.push_str("    ")?;
         Ok(())
@@ -416,15 +266,11 @@ impl PieceWriter for PageBuffer {
 
     ghost step = { λ page piece after. after ≡ rendered piece page };
 
-    ghost refuses = { λ page piece after. after ≡ page };
-
-    #[inline(always)]
     fn text(&mut self, text: &str) -> Result<(), AllocError> {
-        match text.as_bytes() {
-            [] => Ok(()),
-            [byte] => self.character(text, *byte),
-            [_, _, ..] => self.several(text),
+        if has_no_end(text.as_bytes()) {
+            return self.line(text);
         }
+        self.lines(text)
     }
 
     fn soft_space(&mut self) -> Result<(), AllocError> {
@@ -441,34 +287,13 @@ impl PieceWriter for PageBuffer {
 
     fn indent(&mut self) -> Result<(), AllocError> {
         self.raise_level()?;
-        let broken = self.line_break();
-        if broken.is_err() {
-            self.lower_level();
-        }
-        broken
+        self.line_break()
     }
 
     fn outdent(&mut self) -> Result<(), AllocError> {
         self.lower_level();
         self.cut_empty_lines();
         Ok(())
-    }
-}
-
-impl fmt::Write for PageBuffer {
-    ghost use Rattle.std.specs.Prelude.{◌≡◌, IsOk, OnErr};
-    ghost use Rattle.hir_page.specs.Page.{put_all};
-
-    ghost write_str_gives = { λ page text after. after ≡ put_all text page };
-
-    fn write_str(&mut self, text: &str) -> fmt::Result
-        ensures ok { IsOk result → self.new ≡ put_all text.now self.old }
-        ensures err { OnErr result (self.new ≡ self.old) }
-    {
-        match self.text(text) {
-            Ok(()) => Ok(()),
-            Err(_) => Err(fmt::Error),
-        }
     }
 }
 
@@ -501,8 +326,7 @@ fn cut_line_ends(text: &mut String)
     }
 }
 
-/// Whether a text of few bytes is without a line end.
-#[inline(always)]
+/// Whether a text is without a line end.
 fn has_no_end(text: &[u8]) -> bool
     ensures { IsTrue result ↔ HasNoEnd text.now }
 {
@@ -521,12 +345,4 @@ fn ends_in_line_end(text: &[u8]) -> bool
 {
     let len = text.len();
     len > 0 && text[len - 1] == b'\n'
-}
-
-/// Whether a byte is a character above the line end in ASCII, as nearly all are. One comparison tells it.
-#[inline(always)]
-fn is_plain(byte: u8) -> bool
-    ensures { IsTrue result → (byte < 128) × (byte ≢ 10) }
-{
-    b'\n' < byte && byte < 128
 }

@@ -1,6 +1,5 @@
 //! Shapes of layout, in lines and in one line.
-use hir_page::{LineFormat, PageBuffer, PieceWriter};
-use std::fmt::Write;
+use hir_page::{LineFormat, PageBuffer, PieceWriter, write_number};
 use std::test::Fail;
 
 #[test]
@@ -132,7 +131,9 @@ fn numbers_are_written_in_place(rt: HostRuntime) -> Result<(), Fail> {
     let mut page = PageBuffer::new(rt.alloc(), LineFormat::Newline);
     page.indent()?;
     page.text("x\n")?;
-    write!(page, "ExprId({})", 3u32)?;
+    page.text("ExprId(")?;
+    write_number(&mut page, 3u32)?;
+    page.text(")")?;
     assert_eq!(rt; page.into_text().as_str(), "x\n    ExprId(3)");
     Ok(())
 }

@@ -91,7 +91,7 @@ fn add_arguments<'a>(
         (λ s. arguments (option_map (λ list. list.now) places.entry) params.now) printer.new) }
 {
     match places {
-        None => printer.add_list(false, ", ", params),
+        None => printer.add_joined(", ", params),
         Some(places) => add_listed(printer, alloc, places, params),
     }
 }

@@ -28,7 +28,7 @@ fn add_module<'a>(printer: &mut Printer<'a>, path: &'a ModPath) -> Result<(), Al
     ensures { OnOk result (Adds printer.old (λ s. module_items s path.now) printer.new) }
 {
     match path.kind() {
-        PathKind::Plain => return printer.add_list(false, "::", path.segments()),
+        PathKind::Plain => return printer.add_joined("::", path.segments()),
         PathKind::Super(times) => printer.add_supers(times)?,
         PathKind::Crate => printer.add(&[Work::Text("crate")])?,
         PathKind::Abs => {}

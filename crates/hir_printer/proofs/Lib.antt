@@ -5,6 +5,7 @@ pub mod FallLemmas
 pub mod NodesFall
 pub mod ItemsFall
 pub mod AddLemmas
+pub mod ListLemmas
 pub mod PieceLemmas
 pub mod WeightLemmas
 pub mod TurnLemmas

@@ -40,14 +40,6 @@ fn operator_text(op: Option<BinaryOp>) -> &'static str
 }
 
 impl<'a> Printer<'a> {
-    /// Adds the names of fields with a text between them.
-    pub fn add_names(&mut self, between: &'a str, names: &'a [Name]) -> Result<(), AllocError>
-        ensures { OnOk result (Adds self.old
-            (λ s. joined (text between.now) (map (name_items s) names.now)) self.new) }
-    {
-        self.add_list(false, between, names)
-    }
-
     /// Adds a label before a loop or a block.
     fn add_labelled(&mut self, label: &'a Option<LabelId>) -> Result<(), AllocError>
         ensures { OnOk result (Adds self.old (λ s. labelled s label.now) self.new) }
@@ -231,7 +223,7 @@ impl<'a> Printer<'a> {
                     Work::Type(offset.container),
                     Work::Text(", "),
                 ])?;
-                self.add_names(".", offset.fields.as_slice())?;
+                self.add_joined(".", offset.fields.as_slice())?;
                 self.add(&[Work::Text(")")])
             }
             Expr::If {

@@ -182,7 +182,7 @@ impl<'a> Printer<'a> {
     {
         let has_args = !args.args.is_empty();
         self.add_if(has_args && args.has_self_type, "Self=")?;
-        self.add_list(false, ", ", args.args.as_slice())?;
+        self.add_joined(", ", args.args.as_slice())?;
         self.add_list(has_args, ", ", args.bindings.as_slice())
     }
 
@@ -191,6 +191,6 @@ impl<'a> Printer<'a> {
         ensures { OnOk result (Adds self.old (λ s. bounds_after s bounds.now) self.new) }
     {
         self.add_if(!bounds.is_empty(), ": ")?;
-        self.add_list(false, " + ", bounds)
+        self.add_joined(" + ", bounds)
     }
 }

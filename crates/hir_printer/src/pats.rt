@@ -127,7 +127,7 @@ impl<'a> Printer<'a> {
         ensures { OnOk result (Adds self.old (λ s. comma_joined (with_rest (Some at) (map p pats.now))) self.new) }
     {
         let (before, behind) = pats.split_at(pats.len().min(at as usize));
-        self.add_list(false, ", ", before)?;
+        self.add_joined(", ", before)?;
         self.add_if(!before.is_empty(), ", ")?;
         self.add(&[Work::Text("..")])?;
         self.add_list(true, ", ", behind)
@@ -138,7 +138,7 @@ impl<'a> Printer<'a> {
     {
         self.add(&[Work::Text("(")])?;
         match rest {
-            None => self.add_list(false, ", ", pats)?,
+            None => self.add_joined(", ", pats)?,
             Some(at) => self.add_with_rest(pats, at)?,
         }
         self.add(&[Work::Text(")")])
@@ -183,7 +183,7 @@ impl<'a> Printer<'a> {
             Pat::Tuple { args, ellipsis } => self.add_in_parentheses(args.as_slice(), *ellipsis),
             Pat::Or(args) => {
                 self.add(&[Work::Text("(")])?;
-                self.add_list(false, " | ", args.as_slice())?;
+                self.add_joined(" | ", args.as_slice())?;
                 self.add(&[Work::Text(")")])
             }
             Pat::Record {

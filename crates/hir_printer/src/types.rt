@@ -50,7 +50,7 @@ impl Part for TypeBound {
             TypeBound::Lifetime(id) => id.add_to(printer),
             TypeBound::Use(args) => {
                 printer.add(&[Work::Text("use<")])?;
-                printer.add_list(false, ", ", args.as_slice())?;
+                printer.add_joined(", ", args.as_slice())?;
                 printer.add(&[Work::Text(">")])
             }
             TypeBound::Error => printer.add(&[Work::Text("{unknown}")]),
@@ -64,7 +64,7 @@ impl<'a> Printer<'a> {
         ensures { OnOk result (Adds self.old (λ s. for_names s names.now) self.new) }
     {
         self.add(&[Work::Text("for<")])?;
-        self.add_list(false, ", ", names)?;
+        self.add_joined(", ", names)?;
         self.add(&[Work::Text("> ")])
     }
 
@@ -110,7 +110,7 @@ impl<'a> Printer<'a> {
             [] => (params, None),
             [front @ .., ret] => (front, Some(ret.1)),
         };
-        self.add_list(false, ", ", front)?;
+        self.add_joined(", ", front)?;
         self.add_if(is_varargs && !front.is_empty(), ", ")?;
         self.add_if(is_varargs, "...")?;
         self.add(&[Work::Text(") -> ")])?;
@@ -147,7 +147,7 @@ impl<'a> Printer<'a> {
         ensures { OnOk result (Adds self.old (λ s. text keyword.now ++ bounds_items s bounds.now) self.new) }
     {
         self.add(&[Work::Text(keyword)])?;
-        self.add_list(false, " + ", bounds)
+        self.add_joined(" + ", bounds)
     }
 
     /// Adds what a type is printed as.
@@ -161,7 +161,7 @@ impl<'a> Printer<'a> {
             TypeRef::TypeParam(id) => self.add_type_param(*id),
             TypeRef::Tuple(types) => {
                 self.add(&[Work::Text("(")])?;
-                self.add_list(false, ", ", types.as_slice())?;
+                self.add_joined(", ", types.as_slice())?;
                 self.add(&[Work::Text(")")])
             }
             TypeRef::Slice(id) => { self.add(&[Work::Text("["), Work::Type(*id), Work::Text("]")]) }
