@@ -12,7 +12,7 @@ use Rattle.hir_printer.specs.Items.{Item, opt}
 use Rattle.hir_printer.specs.Pieces.{printed}
 use Rattle.hir_printer.specs.Weights.{total, item_weight, weight, heft}
 use Rattle.hir_printer.specs.Printing.{Printing}
-use Rattle.hir_printer.specs.Printers.{stands_for, meant, stood, stood_after, printing, Leads, Wrote, Adds}
+use Rattle.hir_printer.specs.Printers.{stands_for, meant, stood, stood_after, printing, Leads, WroteWork, AddsItems}
 
 pub total-append : {X : Type 0} (f : X → ℕ) (xs ys : List X) → total f (xs ++ ys) ≡ total f xs + total f ys
 total-append f [] ys = omega arith
@@ -49,7 +49,7 @@ leads_as {s} {u} e = record { leads = λ more. ap (λ xs. printing u (printed s 
 -- 2. Items that were added
 
 -- nothing
-pub adds_none : {old : Printing} {items : Setting → List Item} → ((s : Setting) → [] ≡ items s) → Adds old items old
+pub adds_none : {old : Printing} {items : Setting → List Item} → ((s : Setting) → [] ≡ items s) → AddsItems old items old
 adds_none {old} {items} e =
     let same : meant old.from old.kept ++ items old.from ≡ meant old.from old.kept = ap (λ is. meant old.from old.kept ++ is) (sym (e old.from)) ∙ append-nil (meant old.from old.kept) in
     record {
@@ -59,7 +59,7 @@ adds_none {old} {items} e =
     }
 
 -- items behind others
-pub adds_then : {old between new : Printing} {f g : Setting → List Item} → Adds old f between → Adds between g new → Adds old (λ s. f s ++ g s) new
+pub adds_then : {old between new : Printing} {f g : Setting → List Item} → AddsItems old f between → AddsItems between g new → AddsItems old (λ s. f s ++ g s) new
 adds_then {old} {between} {new} {f} {g} a b =
     let s = old.from in
     let kept = meant s old.kept in
@@ -77,7 +77,7 @@ adds_then {old} {between} {new} {f} {g} a b =
     }
 
 -- the same items in other words
-pub adds_as : {old new : Printing} {f g : Setting → List Item} → Adds old f new → ((s : Setting) → f s ≡ g s) → Adds old g new
+pub adds_as : {old new : Printing} {f g : Setting → List Item} → AddsItems old f new → ((s : Setting) → f s ≡ g s) → AddsItems old g new
 adds_as {old} {new} {f} {g} a e = record {
   same = a.same;
   leads = leads_then (leads_as (ap (λ is. meant old.from old.kept ++ is) (sym (e old.from)))) a.leads;
@@ -85,22 +85,22 @@ adds_as {old} {new} {f} {g} a e = record {
 }
 
 -- works behind others
-pub adds_more : {works : List Work} {old between new : Printing} {f : Setting → List Item} → Adds old f between → Adds between (λ s. stood s works) new
-    → Adds old (λ s. stood_after s (f s) works) new
-adds_more {works} {f = f} a b = adds_as (adds_then a b) (λ s. ap (λ is. f s ++ is) (sym (stood_is s works)) ∙ stood_is-after s (f s) works)
+pub adds_more : (works : List Work) {old between new : Printing} {f : Setting → List Item} → AddsItems old f between → AddsItems between (λ s. stood s works) new
+    → AddsItems old (λ s. stood_after s (f s) works) new
+adds_more works {f = f} a b = adds_as (adds_then a b) (λ s. ap (λ is. f s ++ is) (sym (stood_is s works)) ∙ stood_is-after s (f s) works)
 
 -- 3. Loops
 
 -- Items were added, and with those of the rest they are all.
 pub record Left (old : Printing) (all : Setting → List Item) (now : Printing) (rest : Setting → List Item) : Type 0 where
   pub done : Setting → List Item
-  pub adds : Adds old done now
+  pub adds : AddsItems old done now
   pub same : (s : Setting) → done s ++ rest s ≡ all s
 
 pub left_begins : {old : Printing} {all rest : Setting → List Item} → ((s : Setting) → rest s ≡ all s) → Left old all old rest
 left_begins e = record { done = λ s. []; adds = adds_none (λ s. refl); same = e }
 
-pub left_goes_on : {old between new : Printing} {all rest is more : Setting → List Item} → Left old all between rest → Adds between is new
+pub left_goes_on : {old between new : Printing} {all rest is more : Setting → List Item} → Left old all between rest → AddsItems between is new
     → ((s : Setting) → is s ++ more s ≡ rest s) → Left old all new more
 left_goes_on {is = is} {more = more} l a e = record {
   done = λ s. l.done s ++ is s;
@@ -108,20 +108,20 @@ left_goes_on {is = is} {more = more} l a e = record {
   same = λ s. append_assoc (l.done s) (is s) (more s) ∙ ap (λ xs. l.done s ++ xs) (e s) ∙ l.same s;
 }
 
-pub left_ends : {old now : Printing} {all rest : Setting → List Item} → Left old all now rest → ((s : Setting) → [] ≡ rest s) → Adds old all now
+pub left_ends : {old now : Printing} {all rest : Setting → List Item} → Left old all now rest → ((s : Setting) → [] ≡ rest s) → AddsItems old all now
 left_ends l e = adds_as l.adds (λ s. sym (append-nil (l.done s)) ∙ ap (λ xs. l.done s ++ xs) (e s) ∙ l.same s)
 
 -- 4. What is found in a store, and what isn't
 
-pub adds_found : {X : Type 0} {old new : Printing} (items : Setting → X → List Item) (found : Setting → Option X) (x : X) → found old.from ≡ Some x → Adds old (λ s. items s x) new
-    → Adds old (λ s. opt (items s) (found s)) new
+pub adds_found : {X : Type 0} {old new : Printing} (items : Setting → X → List Item) (found : Setting → Option X) (x : X) → found old.from ≡ Some x → AddsItems old (λ s. items s x) new
+    → AddsItems old (λ s. opt (items s) (found s)) new
 adds_found {X} {old} {new} items found x e a = record {
   same = a.same;
   leads = leads_then (leads_as (ap (λ o. meant old.from old.kept ++ opt (items old.from) o) e)) a.leads;
   less = let h = a.less in let k = ap (λ o. heft old.from (meant old.from old.kept ++ opt (items old.from) o)) e in omega arith;
 }
 
-pub adds_absent : {X : Type 0} {old : Printing} (items : Setting → X → List Item) (found : Setting → Option X) → found old.from ≡ None → Adds old (λ s. opt (items s) (found s)) old
+pub adds_absent : {X : Type 0} {old : Printing} (items : Setting → X → List Item) (found : Setting → Option X) → found old.from ≡ None → AddsItems old (λ s. opt (items s) (found s)) old
 adds_absent {X} {old} items found e =
     let same : meant old.from old.kept ++ opt (items old.from) (found old.from) ≡ meant old.from old.kept
     = ap (λ o. meant old.from old.kept ++ opt (items old.from) o) e ∙ append-nil (meant old.from old.kept) in

@@ -6,6 +6,7 @@ pub mod NodesFall
 pub mod ItemsFall
 pub mod AddLemmas
 pub mod ListLemmas
+pub mod WorksLemmas
 pub mod PieceLemmas
 pub mod WeightLemmas
 pub mod TurnLemmas

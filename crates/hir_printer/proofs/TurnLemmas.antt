@@ -17,7 +17,7 @@ use Rattle.hir_printer.specs.Pieces.{Layout, items_of, pieces, printed, stands_i
 use Rattle.hir_printer.specs.Falls.{ItemsFall}
 use Rattle.hir_printer.specs.Weights.{weight, heft}
 use Rattle.hir_printer.specs.Printing.{Printing}
-use Rattle.hir_printer.specs.Printers.{stands_for, meant, printing, Leads, Wrote, Adds, GaveWay, Turned, enclosed}
+use Rattle.hir_printer.specs.Printers.{stands_for, meant, printing, Leads, WroteWork, AddsItems, GaveWayTo, TurnedBy, enclosed}
 use Rattle.hir_printer.proofs.StepLemmas.{pieces_at}
 use Rattle.hir_printer.proofs.AddLemmas.{heft-append, meant-append, leads_as, leads_then}
 use Rattle.hir_printer.proofs.PieceLemmas.{printed-append, enclosed_printed, pieces_lead, nothing_left, is_missing}
@@ -26,11 +26,11 @@ use Rattle.hir_printer.proofs.WeightLemmas.{weight_at, enclosed_heft}
 -- 1. What was written
 
 pub wrote : {w : Work} {old new : Printing} (ps : List Piece) → new ≡ record old { page = new.page } → printed old.from (stands_for old.from w) ≡ map Layout ps
-    → new.page ≡ all_rendered ps old.page → 0 < heft old.from (stands_for old.from w) → Wrote w old new
+    → new.page ≡ all_rendered ps old.page → 0 < heft old.from (stands_for old.from w) → WroteWork w old new
 wrote ps s e f h = record { same = s; leads = pieces_lead ps e f; some = h }
 
 -- a work that was written where none is kept, and one that is kept
-pub wrote_adds : {w : Work} {old new : Printing} → old.kept ≡ [] → Wrote w old new → Adds old (λ s. stands_for s w) new
+pub wrote_adds : {w : Work} {old new : Printing} → old.kept ≡ [] → WroteWork w old new → AddsItems old (λ s. stands_for s w) new
 wrote_adds {w} {old} {new} none a =
     let s = old.from in
     let still : new.kept ≡ [] = ap (λ (p : Printing). p.kept) a.same ∙ none in
@@ -40,7 +40,7 @@ wrote_adds {w} {old} {new} none a =
       less = let k = ap (λ ks. heft s (meant s ks)) still in omega arith;
     }
 
-pub kept_adds : {w : Work} {old new : Printing} → new ≡ record old { kept = old.kept ++ (w ∷ []) } → Adds old (λ s. stands_for s w) new
+pub kept_adds : {w : Work} {old new : Printing} → new ≡ record old { kept = old.kept ++ (w ∷ []) } → AddsItems old (λ s. stands_for s w) new
 kept_adds {w} {old} {new} e =
     let s = old.from in
     let kept : new.kept ≡ old.kept ++ (w ∷ []) = ap (λ (p : Printing). p.kept) e in
@@ -55,9 +55,9 @@ kept_adds {w} {old} {new} e =
 
 -- 2. What a node gives way to
 
-pub gives_way : {w : Work} {old new : Printing} {is : Setting → List Item} → old.kept ≡ [] → Adds old is new
+pub gives_way : {w : Work} {old new : Printing} {is : Setting → List Item} → old.kept ≡ [] → AddsItems old is new
     → ((more : List Item) → printed old.from (stands_for old.from w ++ more) ≡ printed old.from (is old.from ++ more))
-    → heft old.from (is old.from) < heft old.from (stands_for old.from w) → GaveWay w old new
+    → heft old.from (is old.from) < heft old.from (stands_for old.from w) → GaveWayTo w old new
 gives_way {w} {old} {new} {is} none a e h =
     let s = old.from in
     let begins : is s ≡ meant s old.kept ++ is s = ap (λ ks. meant s ks ++ is s) (sym none) in
@@ -71,17 +71,17 @@ module _ {old new : Printing} (fall : ItemsFall old.from) (none : old.kept ≡ [
   node_printed : (n : NodeId) (more : List Item) → pieces old.from n ++ printed old.from more ≡ printed old.from (items_of old.from n ++ more)
   node_printed n more = ap (λ ps. ps ++ printed old.from more) (pieces_at old.from fall n) ∙ sym (printed-append old.from (items_of old.from n) more)
 
-  pub whole_gives : (id : ℕ) → Adds old (λ s. items_of s (node.Expr id)) new → GaveWay (work.Whole id) old new
+  pub whole_gives : (id : ℕ) → AddsItems old (λ s. items_of s (node.Expr id)) new → GaveWayTo (work.Whole id) old new
   whole_gives id a = gives_way none a (node_printed (node.Expr id)) (let k = weight_at old.from fall (node.Expr id) in omega arith)
 
-  pub pattern_gives : (id : ℕ) → Adds old (λ s. items_of s (node.Pat id)) new → GaveWay (work.Pattern id) old new
+  pub pattern_gives : (id : ℕ) → AddsItems old (λ s. items_of s (node.Pat id)) new → GaveWayTo (work.Pattern id) old new
   pattern_gives id a = gives_way none a (node_printed (node.Pat id)) (let k = weight_at old.from fall (node.Pat id) in omega arith)
 
-  pub type_gives : (id : ℕ) → Adds old (λ s. items_of s (node.TypeRef id)) new → GaveWay (work.Type id) old new
+  pub type_gives : (id : ℕ) → AddsItems old (λ s. items_of s (node.TypeRef id)) new → GaveWayTo (work.Type id) old new
   type_gives id a = gives_way none a (node_printed (node.TypeRef id)) (let k = weight_at old.from fall (node.TypeRef id) in omega arith)
 
   pub under_gives : (id : ℕ) (parent : ExprPrecedence)
-      → Adds old (λ s. enclosed (stands_in_parentheses (precedence_found (slice_get s.nodes.exprs id)) parent) (items_of s (node.Expr id))) new → GaveWay (work.Under id parent) old new
+      → AddsItems old (λ s. enclosed (stands_in_parentheses (precedence_found (slice_get s.nodes.exprs id)) parent) (items_of s (node.Expr id))) new → GaveWayTo (work.Under id parent) old new
   under_gives id parent a =
       let s = old.from in
       let b = stands_in_parentheses (precedence_found (slice_get s.nodes.exprs id)) parent in
@@ -90,8 +90,8 @@ module _ {old new : Printing} (fall : ItemsFall old.from) (none : old.kept ≡ [
       (let k = weight_at s fall (node.Expr id) in let m = enclosed_heft s b (items_of s (node.Expr id)) in omega arith)
 
 -- generic arguments, the first text of which was written
-pub written_then : {w : Work} {old between new : Printing} {first : Work} {is : Setting → List Item} → old.kept ≡ [] → Wrote first old between → Adds between is new
-    → stands_for old.from first ++ is old.from ≡ stands_for old.from w → GaveWay w old new
+pub written_then : {w : Work} {old between new : Printing} {first : Work} {is : Setting → List Item} → old.kept ≡ [] → WroteWork first old between → AddsItems between is new
+    → stands_for old.from first ++ is old.from ≡ stands_for old.from w → GaveWayTo w old new
 written_then {w} {old} {between} {new} {first} {is} none a b e =
     let s = old.from in
     let still : between.kept ≡ [] = ap (λ (p : Printing). p.kept) a.same ∙ none in
@@ -111,11 +111,11 @@ written_then {w} {old} {between} {new} {first} {is} none a b e =
 
 -- 3. Turns
 
-pub turned_wrote : {w : Work} {old new : Printing} → Wrote w old new → Turned w old new
+pub turned_wrote : {w : Work} {old new : Printing} → WroteWork w old new → TurnedBy w old new
 turned_wrote a = record { way = []; same = a.same; leads = a.leads; less = a.some }
 
-pub turned_gave : {w : Work} {old between new : Printing} → old.kept ≡ [] → GaveWay w old between
-    → new ≡ record between { kept = []; waiting = between.kept ++ between.waiting } → Turned w old new
+pub turned_gave : {w : Work} {old between new : Printing} → old.kept ≡ [] → GaveWayTo w old between
+    → new ≡ record between { kept = []; waiting = between.kept ++ between.waiting } → TurnedBy w old new
 turned_gave {w} {old} {between} {new} none a e =
     let page : new.page ≡ between.page = ap (λ (p : Printing). p.page) e in
     record {
@@ -128,7 +128,7 @@ turned_gave {w} {old} {between} {new} none a e =
 
 -- what is still to be printed comes to the same
 module _ (s : Setting) {w : Work} {old between new : Printing} (from : old.from ≡ s) (next : old.waiting ≡ w ∷ between.waiting)
-    (same : between ≡ record old { waiting = between.waiting }) (a : Turned w between new) where
+    (same : between ≡ record old { waiting = between.waiting }) (a : TurnedBy w between new) where
   on : between.from ≡ s
   on = ap (λ (p : Printing). p.from) same ∙ from
 

@@ -13,7 +13,8 @@ use Rattle.hir_printer.specs.Literals.{literal_items}
 use Rattle.hir_printer.specs.Paths.{args_items, turbofish}
 use Rattle.hir_printer.specs.Pieces.{NodePiece, Layout, Absent, printed}
 use Rattle.hir_printer.specs.Weights.{heft}
-use Rattle.hir_printer.specs.Printing.{Printing}
+use Rattle.hir_printer.specs.declared.printer.Printer.{Printer}
+use Rattle.hir_printer.specs.Printing.{Printing, seen}
 
 -- the items that a work stands for
 abbrev pub stands_for : Setting → Work → List Item
@@ -82,26 +83,39 @@ pub record Leads (s : Setting) (first : Page) (is : List Item) (second : Page) (
   pub leads : (more : List Item) → printing first (printed s (is ++ more)) ≡ printing second (printed s (js ++ more))
 
 -- A printer after a work was written, which is something.
-pub record Wrote (w : Work) (old new : Printing) : Type 0 where
+pub record WroteWork (w : Work) (old new : Printing) : Type 0 where
   pub same : new ≡ record old { page = new.page }
   pub leads : Leads old.from old.page (stands_for old.from w) new.page []
   pub some : 0 < heft old.from (stands_for old.from w)
 
 -- A printer after items were added: they were written, or are kept behind those that were.
-pub record Adds (old : Printing) (items : Setting → List Item) (new : Printing) : Type 0 where
+pub record AddsItems (old : Printing) (items : Setting → List Item) (new : Printing) : Type 0 where
   pub same : new ≡ record old { kept = new.kept; page = new.page }
   pub leads : Leads old.from old.page (meant old.from old.kept ++ items old.from) new.page (meant old.from new.kept)
   pub less : heft old.from (meant old.from new.kept) ≤ heft old.from (meant old.from old.kept ++ items old.from)
 
 -- A printer after a node gave way to what is kept, which is less.
-pub record GaveWay (w : Work) (old new : Printing) : Type 0 where
+pub record GaveWayTo (w : Work) (old new : Printing) : Type 0 where
   pub same : new ≡ record old { kept = new.kept; page = new.page }
   pub leads : Leads old.from old.page (stands_for old.from w) new.page (meant old.from new.kept)
   pub less : heft old.from (meant old.from new.kept) < heft old.from (stands_for old.from w)
 
 -- A turn: a work was written, or gave way to works that wait before all others, and less is to be done.
-pub record Turned (w : Work) (old new : Printing) : Type 0 where
+pub record TurnedBy (w : Work) (old new : Printing) : Type 0 where
   pub way : List Work
   pub same : new ≡ record old { waiting = way ++ old.waiting; page = new.page }
   pub leads : Leads old.from old.page (stands_for old.from w) new.page (meant old.from way)
   pub less : heft old.from (meant old.from way) < heft old.from (stands_for old.from w)
+
+-- the same of printers
+abbrev pub Wrote : Work → Printer → Printer → Type 0
+Wrote w old new = WroteWork w (seen old) (seen new)
+
+abbrev pub Adds : Printer → (Setting → List Item) → Printer → Type 0
+Adds old items new = AddsItems (seen old) items (seen new)
+
+abbrev pub GaveWay : Work → Printer → Printer → Type 0
+GaveWay w old new = GaveWayTo w (seen old) (seen new)
+
+abbrev pub Turned : Work → Printer → Printer → Type 0
+Turned w old new = TurnedBy w (seen old) (seen new)

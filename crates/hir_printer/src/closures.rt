@@ -161,6 +161,6 @@ impl<'a> Printer<'a> {
             Work::Text(capture_keyword(capture)),
         ])?;
         self.add_header(kind, args, arg_types, ret_type)?;
-        self.add(&[Work::Whole(printed_body(self.store(), kind, body))])
+        self.add(&[Work::Whole(printed_body(self.store, kind, body))])
     }
 }

@@ -1,6 +1,7 @@
 //! What nodes are printed as, and the printer of them.
 #![tactic(auto)]
 
+mod adding;
 mod blocks;
 mod closures;
 mod exprs;

@@ -45,7 +45,7 @@ impl Part for LabelId {
     ghost items = { label_items };
 
     fn add_to<'a>(&'a self, printer: &mut Printer<'a>) -> Result<(), AllocError> {
-        let store = printer.store();
+        let store = printer.store;
         if store.has_label(*self) {
             return store[*self].name.add_to(printer);
         }
@@ -57,7 +57,7 @@ impl Part for LifetimeRefId {
     ghost items = { l };
 
     fn add_to<'a>(&'a self, printer: &mut Printer<'a>) -> Result<(), AllocError> {
-        let store = printer.store();
+        let store = printer.store;
         if store.has_lifetime(*self) {
             return printer.add_lifetime(&store[*self]);
         }
@@ -83,7 +83,7 @@ impl<'a> Printer<'a> {
     pub fn add_def_name(&mut self, def: NamedDef, default: &'a str) -> Result<(), AllocError>
         ensures { OnOk result (Adds self.old (λ s. found_name default.now (s.tables.name def)) self.new) }
     {
-        self.add_found(self.tables().name(def), default)
+        self.add_found(self.tables.name(def), default)
     }
 
     /// Adds the name of a definition, or `<missing>` where it has none.
@@ -97,7 +97,7 @@ impl<'a> Printer<'a> {
     pub(crate) fn add_crate_name(&mut self, id: CrateId) -> Result<(), AllocError>
         ensures { OnOk result (Adds self.old (λ s. found_name (codes "$crate") (s.tables.crate_name id)) self.new) }
     {
-        self.add_found(self.tables().crate_name(id), "$crate")
+        self.add_found(self.tables.crate_name(id), "$crate")
     }
 
     /// Adds the name of a type parameter, or its number.
@@ -117,7 +117,7 @@ impl<'a> Printer<'a> {
     pub(crate) fn add_type_param(&mut self, id: TypeParamId) -> Result<(), AllocError>
         ensures { OnOk result (Adds self.old (λ s. type_param_items s id.local_id (s.tables.type_param id)) self.new) }
     {
-        match type_param(self.tables(), id) {
+        match type_param(self.tables, id) {
             Ok(name) => self.add_param_name(id.local_id().into_raw(), name),
             Err(missing) => self.add(&[Work::Lacks(missing)]),
         }
@@ -130,7 +130,7 @@ impl<'a> Printer<'a> {
             LifetimeRef::Named(name) => self.add(&[Work::Name(name.as_str())]),
             LifetimeRef::Static => self.add(&[Work::Text("'static")]),
             LifetimeRef::Placeholder => self.add(&[Work::Text("'_")]),
-            LifetimeRef::Param(id) => match lifetime_param(self.tables(), *id) {
+            LifetimeRef::Param(id) => match lifetime_param(self.tables, *id) {
                 Ok(name) => self.add(&[Work::Name(name.as_str())]),
                 Err(missing) => self.add(&[Work::Lacks(missing)]),
             },

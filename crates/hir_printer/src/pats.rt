@@ -7,6 +7,7 @@ ghost use Rattle.hir_node.specs.declared.pat.Pat.TheVariants as pat;
 ghost use Rattle.hir_printer.specs.Items.{p, text, opt, under, comma_joined};
 ghost use Rattle.hir_printer.specs.Names.{binding_items};
 ghost use Rattle.hir_printer.specs.Pats.{with_rest, in_parentheses, has_printed_name, is_short, field_pattern, field_patterns, pat_items};
+ghost use Rattle.hir_printer.specs.Printing.{seen};
 ghost use Rattle.hir_printer.specs.Printers.{Adds};
 
 use crate::names::is_printed;
@@ -43,7 +44,7 @@ impl<'a> Printer<'a> {
     pub fn add_binding(&mut self, id: BindingId) -> Result<(), AllocError>
         ensures { OnOk result (Adds self.old (λ s. binding_items s id) self.new) }
     {
-        let store = self.store();
+        let store = self.store;
         if store.has_binding(id) {
             let binding = &store[id];
             return self.add(&[
@@ -55,17 +56,17 @@ impl<'a> Printer<'a> {
     }
 
     fn binds_name(&self, name: &str, id: BindingId) -> bool
-        ensures { result ≡ has_printed_name self.now.from name.now (slice_get self.now.from.nodes.bindings id) }
+        ensures { result ≡ has_printed_name (seen self.now).from name.now (slice_get (seen self.now).from.nodes.bindings id) }
     {
-        self.store().has_binding(id) && has_printed_name(self.words(), name, &self.store()[id])
+        self.store.has_binding(id) && has_printed_name(self.words, name, &self.store[id])
     }
 
     /// Whether a field's pattern binds its name as it is printed, so that the name alone is printed.
     fn is_short(&self, field: &RecordFieldPat) -> bool
-        ensures { result ≡ is_short self.now.from field.now.name (slice_get self.now.from.nodes.pats field.now.pat) }
+        ensures { result ≡ is_short (seen self.now).from field.now.name (slice_get (seen self.now).from.nodes.pats field.now.pat) }
     {
-        if self.store().has_pat(field.pat) {
-            if let Pat::Bind { id, subpat: None } = &self.store()[field.pat] {
+        if self.store.has_pat(field.pat) {
+            if let Pat::Bind { id, subpat: None } = &self.store[field.pat] {
                 return self.binds_name(field.name.as_str(), *id);
             }
         }
@@ -86,7 +87,7 @@ impl<'a> Printer<'a> {
     fn add_field_end(&mut self, is_last: bool) -> Result<(), AllocError>
         ensures { OnOk result (Adds self.old (λ s. field_end s is_last) self.new) }
     {
-        if is_last && self.is_one_line() {
+        if is_last && self.one_line {
             return self.add(&[Work::Text(" ")]);
         }
         self.add(&[Work::Text(","), Work::Break])

@@ -11,8 +11,8 @@ ghost use Rattle.hir_printer.specs.Paths.{args_items, turbofish};
 ghost use Rattle.hir_printer.specs.Pieces.{items_of, printed, is_chain, stands_in_parentheses, precedence_found};
 ghost use Rattle.hir_printer.specs.Falls.{ItemsFall};
 ghost use Rattle.hir_printer.specs.Printed.{PrintsPieces};
-ghost use Rattle.hir_printer.specs.Printing.{on_page};
-ghost use Rattle.hir_printer.specs.Printers.{meant, printing, Adds, IsNode, GaveWay, Turned, enclosed};
+ghost use Rattle.hir_printer.specs.Printing.{on_page, seen};
+ghost use Rattle.hir_printer.specs.Printers.{meant, printing, Adds, AddsItems, IsNode, GaveWay, Turned, enclosed};
 
 use crate::fault::PrintFault;
 use crate::laws::items_fall;
@@ -53,7 +53,7 @@ impl<'a> Printer<'a> {
     fn add_expr_at(&mut self, id: ExprId) -> Result<(), AllocError>
         ensures { OnOk result (Adds self.old (λ s. items_of s (node.Expr id)) self.new) }
     {
-        let store = self.store();
+        let store = self.store;
         if store.has_expr(id) {
             return self.add_expr(&store[id]);
         }
@@ -63,7 +63,7 @@ impl<'a> Printer<'a> {
     fn add_pat_at(&mut self, id: PatId) -> Result<(), AllocError>
         ensures { OnOk result (Adds self.old (λ s. items_of s (node.Pat id)) self.new) }
     {
-        let store = self.store();
+        let store = self.store;
         if store.has_pat(id) {
             return self.add_pat(&store[id]);
         }
@@ -73,7 +73,7 @@ impl<'a> Printer<'a> {
     fn add_type_at(&mut self, id: TypeRefId) -> Result<(), AllocError>
         ensures { OnOk result (Adds self.old (λ s. items_of s (node.TypeRef id)) self.new) }
     {
-        let store = self.store();
+        let store = self.store;
         if store.has_type(id) {
             return self.add_type(&store[id]);
         }
@@ -86,7 +86,7 @@ impl<'a> Printer<'a> {
             (stands_in_parentheses (precedence_found (slice_get s.nodes.exprs id)) parent)
             (items_of s (node.Expr id))) self.new) }
     {
-        let is_enclosed = stands_in_parentheses(precedence_at(self.store(), id), parent);
+        let is_enclosed = stands_in_parentheses(precedence_at(self.store, id), parent);
         self.add_if(is_enclosed, "(")?;
         self.add_expr_at(id)?;
         self.add_if(is_enclosed, ")")
@@ -94,7 +94,7 @@ impl<'a> Printer<'a> {
 
     /// Adds generic arguments in `::<` and `>`. The first text is written at once, so that less is kept than they are.
     fn add_fish(&mut self, args: &'a GenericArgs) -> Result<(), AllocError>
-        requires none { self.old.kept ≡ [] }
+        requires none { (seen self.old).kept ≡ [] }
         ensures { OnOk result (GaveWay (works.Args args) self.old self.new) }
     {
         self.write_work(Work::Text("::<"))?;
@@ -105,8 +105,8 @@ impl<'a> Printer<'a> {
     /// Adds what a node gives way to, or answers that it is missing.
     fn give_way(&mut self, work: Work<'a>) -> Result<(), PrintFault>
         requires node { IsNode work }
-        requires fall { ItemsFall self.old.from }
-        requires none { self.old.kept ≡ [] }
+        requires fall { ItemsFall (seen self.old).from }
+        requires none { (seen self.old).kept ≡ [] }
         ensures ok { OnOk result (GaveWay work self.old self.new) }
         ensures missing { (m : Missing) → result ≡ Err (fault.Missing m) → work ≡ works.Lacks m }
     {
@@ -132,8 +132,8 @@ impl<'a> Printer<'a> {
     /// Writes a work, or lets what it gives way to wait before all that waits.
     #[inline(always)]
     fn turn(&mut self, work: Work<'a>) -> Result<(), PrintFault>
-        requires fall { ItemsFall self.old.from }
-        requires none { self.old.kept ≡ [] }
+        requires fall { ItemsFall (seen self.old).from }
+        requires none { (seen self.old).kept ≡ [] }
         ensures ok { OnOk result (Turned work self.old self.new) }
         ensures missing { (m : Missing) → result ≡ Err (fault.Missing m) → work ≡ works.Lacks m }
     {
@@ -146,12 +146,13 @@ impl<'a> Printer<'a> {
 
     /// Writes the pieces of what was added, up to the first fault.
     fn write(&mut self) -> Result<(), PrintFault>
-        ensures ok { OnOk result (printing self.old.page
-            (printed self.old.from (meant self.old.from (self.old.kept ++ self.old.waiting))) ≡ (self.new.page, None)) }
-        ensures missing { (m : Missing) → result ≡ Err (fault.Missing m) → (printing self.old.page
-            (printed self.old.from (meant self.old.from (self.old.kept ++ self.old.waiting)))).1 ≡ Some m }
+        ensures ok { let old = seen self.old in
+            OnOk result (printing old.page (printed old.from (meant old.from (old.kept ++ old.waiting))) ≡ (self.new.page, None)) }
+        ensures missing { let old = seen self.old in
+            (m : Missing) → result ≡ Err (fault.Missing m)
+            → (printing old.page (printed old.from (meant old.from (old.kept ++ old.waiting)))).1 ≡ Some m }
     {
-        self.store().has_no_fault();
+        self.store.has_no_fault();
         items_fall();
         self.end_turn();
         while let Some(work) = self.begin_turn() {
@@ -165,8 +166,8 @@ impl<'a> Printer<'a> {
     /// Answers `Missing` of the first definition outside that the text names and that the tables don't have, and `Memory` where memory
     /// was refused. A text that was begun is dropped.
     pub fn print(mut self) -> Result<String, PrintFault>
-        ensures { (items : List Item) → Adds (on_page self.from) (λ s. items) self
-            → PrintsPieces self.from (printed self.from items) result }
+        ensures { let s = (seen self).from in
+            (items : List Item) → AddsItems (on_page s) (λ s. items) (seen self) → PrintsPieces s (printed s items) result }
     {
         self.write()?;
         Ok(self.into_text())
