@@ -12,7 +12,7 @@ use Rattle.hir_printer.specs.Items.{Item, opt}
 use Rattle.hir_printer.specs.Pieces.{printed}
 use Rattle.hir_printer.specs.Weights.{total, item_weight, weight, heft}
 use Rattle.hir_printer.specs.Printing.{Printing}
-use Rattle.hir_printer.specs.Printers.{stands_for, meant, stood, stood_after, printing, Leads, WroteWork, AddsItems}
+use Rattle.hir_printer.specs.Printers.{stands_for, meant, stood, stood_after, printing, Leads, AddsItems, AddsList}
 
 pub total-append : {X : Type 0} (f : X → ℕ) (xs ys : List X) → total f (xs ++ ys) ≡ total f xs + total f ys
 total-append f [] ys = omega arith
@@ -84,10 +84,13 @@ adds_as {old} {new} {f} {g} a e = record {
   less = let h = a.less in let k = ap (λ is. heft old.from (meant old.from old.kept ++ is)) (e old.from) in omega arith;
 }
 
--- works behind others
-pub adds_more : (works : List Work) {old between new : Printing} {f : Setting → List Item} → AddsItems old f between → AddsItems between (λ s. stood s works) new
+-- works that stand for the items, and works behind others
+pub adds : {works : List Work} {old new : Printing} {is : Setting → List Item} → AddsList old works new → ((s : Setting) → stood s works ≡ is s) → AddsItems old is new
+adds a e = adds_as a.adds e
+
+pub adds_more : {works : List Work} {old between new : Printing} {f : Setting → List Item} → AddsItems old f between → AddsList between works new
     → AddsItems old (λ s. stood_after s (f s) works) new
-adds_more works {f = f} a b = adds_as (adds_then a b) (λ s. ap (λ is. f s ++ is) (sym (stood_is s works)) ∙ stood_is-after s (f s) works)
+adds_more {works} {f = f} a b = adds_as (adds_then a b.adds) (λ s. ap (λ is. f s ++ is) (sym (stood_is s works)) ∙ stood_is-after s (f s) works)
 
 -- 3. Loops
 
@@ -99,6 +102,9 @@ pub record Left (old : Printing) (all : Setting → List Item) (now : Printing) 
 
 pub left_begins : {old : Printing} {all rest : Setting → List Item} → ((s : Setting) → rest s ≡ all s) → Left old all old rest
 left_begins e = record { done = λ s. []; adds = adds_none (λ s. refl); same = e }
+
+pub left_begins_at : {old now : Printing} {all rest : Setting → List Item} → now ≡ old → ((s : Setting) → rest s ≡ all s) → Left old all now rest
+left_begins_at {old} {now} {all} {rest} h e = subst (λ p. Left old all p rest) (sym h) (left_begins e)
 
 pub left_goes_on : {old between new : Printing} {all rest is more : Setting → List Item} → Left old all between rest → AddsItems between is new
     → ((s : Setting) → is s ++ more s ≡ rest s) → Left old all new more
@@ -137,4 +143,4 @@ not_there xs id b k e = elim (cases_lt id (length xs)) [
   | inr h ↦ slice_get_past xs id h
 ]
 
-pub ruleset adding = (adds_none)
+pub ruleset adding = (adds, adds_none)

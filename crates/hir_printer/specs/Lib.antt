@@ -10,6 +10,7 @@ pub mod Pieces
 pub mod Falls
 pub mod Settings
 pub mod Printed
+pub mod Kinds
 pub mod Weights
 pub mod Printing
 pub mod Printers

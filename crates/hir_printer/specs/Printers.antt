@@ -33,23 +33,6 @@ stands_for s (work.Type id) = t id
 stands_for s (work.Args x) = turbofish (args_items s x.now)
 stands_for s (work.Lacks missing) = Lacks missing ∷ []
 
--- a work that is neither text nor layout
-abbrev pub IsNode : Work → Type 0
-IsNode (work.Text x) = ⊥
-IsNode work.Space = ⊥
-IsNode work.Break = ⊥
-IsNode work.Indent = ⊥
-IsNode work.Outdent = ⊥
-IsNode (work.Number n) = ⊥
-IsNode (work.Literal x) = ⊥
-IsNode (work.Name name) = ⊥
-IsNode (work.Whole id) = ⊤
-IsNode (work.Under id parent) = ⊤
-IsNode (work.Pattern id) = ⊤
-IsNode (work.Type id) = ⊤
-IsNode (work.Args x) = ⊤
-IsNode (work.Lacks missing) = ⊤
-
 -- the items that works stand for, the first first
 abbrev pub meant : Setting → List Work → List Item
 meant s works = flat_map (stands_for s) works
@@ -94,6 +77,10 @@ pub record AddsItems (old : Printing) (items : Setting → List Item) (new : Pri
   pub leads : Leads old.from old.page (meant old.from old.kept ++ items old.from) new.page (meant old.from new.kept)
   pub less : heft old.from (meant old.from new.kept) ≤ heft old.from (meant old.from old.kept ++ items old.from)
 
+-- The same of works.
+pub record AddsList (old : Printing) (works : List Work) (new : Printing) : Type 0 where
+  pub adds : AddsItems old (λ s. stood s works) new
+
 -- A printer after a node gave way to what is kept, which is less.
 pub record GaveWayTo (w : Work) (old new : Printing) : Type 0 where
   pub same : new ≡ record old { kept = new.kept; page = new.page }
@@ -113,6 +100,9 @@ Wrote w old new = WroteWork w (seen old) (seen new)
 
 abbrev pub Adds : Printer → (Setting → List Item) → Printer → Type 0
 Adds old items new = AddsItems (seen old) items (seen new)
+
+abbrev pub AddsWorks : Printer → List Work → Printer → Type 0
+AddsWorks old works new = AddsList (seen old) works (seen new)
 
 abbrev pub GaveWay : Work → Printer → Printer → Type 0
 GaveWay w old new = GaveWayTo w (seen old) (seen new)

@@ -1,6 +1,6 @@
 //! What is added to a printer: it is written at once, or kept.
 
-ghost use Rattle.std.specs.Prelude.{◌≡◌, ◌∷◌, [], ◌++◌, true, false, IfOk, IfSome, None, OnOk, string_bytes};
+ghost use Rattle.std.specs.Prelude.{◌≡◌, ◌∷◌, [], ◌++◌, false, IfSome, None, OnOk, string_bytes};
 ghost use Rattle.hir_base.specs.RawWords.{words_of};
 ghost use Rattle.hir_page.specs.Page.{page_text};
 ghost use Rattle.hir_printer.specs.Items.{text, when};
@@ -8,7 +8,8 @@ ghost use Rattle.hir_printer.specs.Settings.{setting};
 ghost use Rattle.hir_printer.specs.Answers.{answers};
 ghost use Rattle.hir_printer.specs.Pieces.{format_of};
 ghost use Rattle.hir_printer.specs.Printing.{on_page, seen};
-ghost use Rattle.hir_printer.specs.Printers.{Adds, Wrote, IsNode, stands_for, stood};
+ghost use Rattle.hir_printer.specs.Kinds.{is_node};
+ghost use Rattle.hir_printer.specs.Printers.{Adds, AddsWorks, Wrote, stands_for};
 
 use crate::literals::write_literal;
 use crate::names::write_name;
@@ -28,6 +29,13 @@ fn line_format(one_line: bool) -> LineFormat
     } else {
         LineFormat::Newline
     }
+}
+
+fn push_copy<T: Copy>(onto: &mut Vec<T>, item: &T) -> Result<(), AllocError>
+    ensures { OnOk result (onto.new.items ≡ onto.old.items ++ (item.now ∷ [])) }
+{
+    onto.push(*item)?;
+    Ok(())
 }
 
 impl<'a> Printer<'a> {
@@ -53,49 +61,47 @@ impl<'a> Printer<'a> {
         }
     }
 
-    /// Writes a work that is text or layout. Answers whether it is.
+    /// Writes a work that is text or layout.
     #[inline(always)]
-    pub(crate) fn write_work(&mut self, work: Work<'a>) -> Result<bool, AllocError>
-        ensures wrote { IfOk result (λ b. b ≡ true → Wrote work self.old self.new) }
-        ensures node { IfOk result (λ b. b ≡ false → IsNode work × (seen self.new ≡ seen self.old)) }
+    pub(crate) fn write_work(&mut self, work: &Work<'a>) -> Result<(), AllocError>
+        requires { is_node work.now ≡ false }
+        ensures { OnOk result (Wrote work.now self.old self.new) }
     {
         match work {
-            Work::Text(text) => self.page.text(text)?,
-            Work::Space => self.page.soft_space()?,
-            Work::Break => self.page.line_break()?,
-            Work::Indent => self.page.indent()?,
-            Work::Outdent => self.page.outdent()?,
-            Work::Number(number) => write_number(&mut self.page, number)?,
-            Work::Literal(literal) => write_literal(&mut self.page, literal)?,
-            Work::Name(name) => write_name(&mut self.page, self.words, name)?,
+            Work::Text(text) => self.page.text(*text),
+            Work::Space => self.page.soft_space(),
+            Work::Break => self.page.line_break(),
+            Work::Indent => self.page.indent(),
+            Work::Outdent => self.page.outdent(),
+            Work::Number(number) => write_number(&mut self.page, *number),
+            Work::Literal(literal) => write_literal(&mut self.page, *literal),
+            Work::Name(name) => write_name(&mut self.page, self.words, *name),
             Work::Whole(_)
             | Work::Under(_, _)
             | Work::Pattern(_)
             | Work::Type(_)
             | Work::Args(_)
-            | Work::Lacks(_) => return Ok(false),
+            | Work::Lacks(_) => unreachable!(),
         }
-        Ok(true)
     }
 
     /// Keeps a work behind those that were kept in this turn.
     #[inline(always)]
-    fn keep(&mut self, work: Work<'a>) -> Result<(), AllocError>
-        ensures { OnOk result (seen self.new ≡ record (seen self.old) { kept = (seen self.old).kept ++ (work ∷ []) }) }
+    fn keep(&mut self, work: &Work<'a>) -> Result<(), AllocError>
+        ensures { OnOk result (seen self.new ≡ record (seen self.old) { kept = (seen self.old).kept ++ (work.now ∷ []) }) }
     {
-        self.works.push(work)?;
-        Ok(())
+        push_copy(&mut self.works, work)
     }
 
     /// Adds a work.
     #[inline(always)]
-    fn add_work(&mut self, work: Work<'a>) -> Result<(), AllocError>
-        ensures { OnOk result (Adds self.old (λ s. stands_for s work) self.new) }
+    fn add_work(&mut self, work: &Work<'a>) -> Result<(), AllocError>
+        ensures { OnOk result (Adds self.old (λ s. stands_for s work.now) self.new) }
     {
-        if self.works.len() == self.waiting && self.write_work(work)? {
-            return Ok(());
+        if self.works.len() > self.waiting || work.is_node() {
+            return self.keep(work);
         }
-        self.keep(work)
+        self.write_work(work)
     }
 
     /// Makes room for so many works.
@@ -109,10 +115,10 @@ impl<'a> Printer<'a> {
     /// Adds works.
     #[inline(always)]
     pub fn add(&mut self, works: &[Work<'a>]) -> Result<(), AllocError>
-        ensures { OnOk result (Adds self.old (λ s. stood s works.now) self.new) }
+        ensures { OnOk result (AddsWorks self.old works.now self.new) }
     {
         for work in works {
-            self.add_work(*work)?;
+            self.add_work(work)?;
         }
         Ok(())
     }

@@ -2,7 +2,8 @@
 #![tactic(auto, using(crate::proofs::AddLemmas::adding))]
 
 ghost use Rattle.std.specs.Prelude.{◌≡◌, OnOk, Some};
-ghost use Rattle.hir_node.specs.declared.expr.Expr.TheVariants as expr;
+ghost use Rattle.hir_node.specs.declared.expr.Expr.TheVariants as of_expr;
+ghost use Rattle.hir_node.specs.declared.expr_types.ClosureKind.TheVariants as kinds;
 ghost use Rattle.hir_printer.specs.Items.{comma_joined};
 ghost use Rattle.hir_printer.specs.Exprs.{coroutine_keyword, movability_keyword, closure_head, capture_keyword, coroutine_body, printed_body, params, header, expr_items};
 ghost use Rattle.hir_printer.specs.Printers.{Adds};
@@ -115,7 +116,7 @@ impl<'a> Printer<'a> {
         ret: &'a Option<TypeRefId>,
     ) -> Result<(), AllocError>
         ensures { OnOk result (Adds self.old
-            (λ s. header ClosureKind.Closure (params args.now types.now) ret.now) self.new) }
+            (λ s. header kinds.Closure (params args.now types.now) ret.now) self.new) }
     {
         self.add(&[Work::Text("|")])?;
         self.add_params(args, types)?;
@@ -154,7 +155,7 @@ impl<'a> Printer<'a> {
         capture: CaptureBy,
     ) -> Result<(), AllocError>
         ensures { OnOk result (Adds self.old (λ s. expr_items s
-            (expr.Closure args.now arg_types.now ret_type.now body kind capture)) self.new) }
+            (of_expr.Closure args.now arg_types.now ret_type.now body kind capture)) self.new) }
     {
         self.add(&[
             Work::Text(closure_head(kind)),

@@ -2,12 +2,11 @@
 #![tactic(auto, using(crate::proofs::AddLemmas::adding))]
 
 ghost use Rattle.std.specs.Prelude.{◌≡◌, ◌++◌, OnOk, codes, map};
-ghost use Rattle.hir_node.specs.declared.expr.Expr.TheVariants as expr;
+ghost use Rattle.hir_node.specs.declared.expr.Expr.TheVariants as of_expr;
 ghost use Rattle.std.specs.List.{flat_map};
-ghost use Rattle.hir_printer.specs.Items.{e, text, opt, joined, numbered};
+ghost use Rattle.hir_printer.specs.Items.{e, text, opt, numbered};
 ghost use Rattle.hir_printer.specs.Paths.{args_items, turbofish};
 ghost use Rattle.hir_printer.specs.Exprs.{labelled, operand, arguments, raw_keyword, operator_items, spread_items, array_items, unsafe_items, expr_items};
-ghost use Rattle.hir_printer.specs.Names.{name_items};
 ghost use Rattle.hir_printer.specs.Printers.{Adds};
 
 use crate::part::Part;
@@ -100,7 +99,7 @@ impl<'a> Printer<'a> {
         generic_args: &'a Option<Boxed<GenericArgs>>,
     ) -> Result<(), AllocError>
         ensures { OnOk result (Adds self.old
-            (λ s. expr_items s (expr.MethodCall receiver name.now args.now generic_args.now)) self.new) }
+            (λ s. expr_items s (of_expr.MethodCall receiver name.now args.now generic_args.now)) self.new) }
     {
         self.add(&[
             Work::Under(receiver, ExprPrecedence::Postfix),
@@ -112,7 +111,7 @@ impl<'a> Printer<'a> {
     }
 
     fn add_match(&mut self, expr: ExprId, arms: &'a [MatchArm]) -> Result<(), AllocError>
-        ensures { OnOk result (Adds self.old (λ s. expr_items s (expr.Match expr arms.now)) self.new) }
+        ensures { OnOk result (Adds self.old (λ s. expr_items s (of_expr.Match expr arms.now)) self.new) }
     {
         self.add(&[
             Work::Text("match "),
@@ -143,7 +142,7 @@ impl<'a> Printer<'a> {
         spread: RecordSpread,
     ) -> Result<(), AllocError>
         ensures { OnOk result (Adds self.old
-            (λ s. expr_items s (expr.RecordLit path.now fields.now spread)) self.new) }
+            (λ s. expr_items s (of_expr.RecordLit path.now fields.now spread)) self.new) }
     {
         self.add_path(path)?;
         self.add(&[Work::Text("{"), Work::Indent])?;

@@ -1,12 +1,12 @@
 //! What is looked up in the tables and in the store: names of definitions and of parameters, lifetimes and labels.
 #![tactic(auto, using(crate::proofs::AddLemmas::adding))]
 
-ghost use Rattle.std.specs.Prelude.{◌≡◌, Ok, OnOk, codes};
+ghost use Rattle.std.specs.Prelude.{◌≡◌, Ok, Err, IfOk, IfErr, OnOk, codes};
 ghost use Rattle.std.specs.Option.{option_copied};
-ghost use Rattle.hir_printer.specs.Names.{lifetime_items, label_items, name_items, param_items, l};
+ghost use Rattle.hir_printer.specs.Names.{lifetime_items, label_items, param_items, l};
 ghost use Rattle.hir_printer.specs.Paths.{found_name};
 ghost use Rattle.hir_printer.specs.Types.{type_param_items};
-ghost use Rattle.hir_printer.specs.Answers.{param_answer, lifetime_answer};
+ghost use Rattle.hir_printer.specs.Answers.{answers};
 ghost use Rattle.hir_printer.specs.Printers.{Adds};
 
 use crate::part::Part;
@@ -66,16 +66,14 @@ impl Part for LifetimeRefId {
 }
 
 impl<'a> Printer<'a> {
-    /// Adds a name as the tables have it, a default where there is none, or that nothing is known of it.
-    fn add_found(
-        &mut self,
-        found: Result<Option<&'a Text>, Missing>,
-        default: &'a str,
-    ) -> Result<(), AllocError> {
+    /// Adds a name as the tables have it, or a default where there is none.
+    fn add_found(&mut self, found: Option<&'a Text>, default: &'a str) -> Result<(), AllocError>
+        ensures { OnOk result (Adds self.old
+            (λ s. found_name default.now (Ok (option_copied found.entry))) self.new) }
+    {
         match found {
-            Ok(Some(name)) => self.add(&[Work::Text(name.as_str())]),
-            Ok(None) => self.add(&[Work::Text(default)]),
-            Err(missing) => self.add(&[Work::Lacks(missing)]),
+            None => self.add(&[Work::Text(default)]),
+            Some(name) => self.add(&[Work::Text(name.as_str())]),
         }
     }
 
@@ -83,7 +81,10 @@ impl<'a> Printer<'a> {
     pub fn add_def_name(&mut self, def: NamedDef, default: &'a str) -> Result<(), AllocError>
         ensures { OnOk result (Adds self.old (λ s. found_name default.now (s.tables.name def)) self.new) }
     {
-        self.add_found(self.tables.name(def), default)
+        match self.tables.name(def) {
+            Ok(found) => self.add_found(found, default),
+            Err(missing) => self.add(&[Work::Lacks(missing)]),
+        }
     }
 
     /// Adds the name of a definition, or `<missing>` where it has none.
@@ -97,7 +98,10 @@ impl<'a> Printer<'a> {
     pub(crate) fn add_crate_name(&mut self, id: CrateId) -> Result<(), AllocError>
         ensures { OnOk result (Adds self.old (λ s. found_name (codes "$crate") (s.tables.crate_name id)) self.new) }
     {
-        self.add_found(self.tables.crate_name(id), "$crate")
+        match self.tables.crate_name(id) {
+            Ok(found) => self.add_found(found, "$crate"),
+            Err(missing) => self.add(&[Work::Lacks(missing)]),
+        }
     }
 
     /// Adds the name of a type parameter, or its number.

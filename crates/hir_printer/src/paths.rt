@@ -2,9 +2,9 @@
 #![tactic(auto, using(crate::proofs::AddLemmas::adding))]
 
 ghost use Rattle.std.specs.Prelude.{◌≡◌, OnOk};
-ghost use Rattle.hir_node.specs.declared.path.Path.TheVariants as path;
+ghost use Rattle.hir_path.specs.declared.path.Path.TheVariants as of_path;
 ghost use Rattle.hir_printer.specs.Items.{opt};
-ghost use Rattle.hir_printer.specs.Paths.{bounds_after, arg_items, args_items, assoc_items, each_arg, turbofish, path_items, kind_items, supers, target_items, segments_from, start_items, colons_first};
+ghost use Rattle.hir_printer.specs.Paths.{bounds_after, arg_items, args_items, assoc_items, turbofish, path_items, kind_items, supers, target_items, segments_from, colons_first};
 ghost use Rattle.hir_printer.specs.Printers.{Adds};
 
 use crate::part::Part;
@@ -102,17 +102,16 @@ impl<'a> Printer<'a> {
     }
 
     fn add_normal_path(&mut self, path: &'a NormalPath) -> Result<(), AllocError>
-        ensures { OnOk result (Adds self.old (λ s. path_items s (path.Normal path.now)) self.new) }
+        ensures { OnOk result (Adds self.old (λ s. path_items s (of_path.Normal path.now)) self.new) }
     {
-        let kind = path.mod_path.kind();
         match path.type_anchor {
-            None => self.add_kind(kind)?,
+            None => self.add_kind(path.mod_path.kind())?,
             Some(anchor) => {
                 self.add(&[Work::Text("<"), Work::Type(anchor), Work::Text(">::")])?;
             }
         }
         self.add_segments(
-            colons_first(kind),
+            colons_first(path.mod_path.kind()),
             path.mod_path.segments(),
             path.generic_args.as_slice(),
         )
@@ -142,7 +141,7 @@ impl<'a> Printer<'a> {
         target: LangItemTarget,
         name: &'a Option<Boxed<Name>>,
     ) -> Result<(), AllocError>
-        ensures { OnOk result (Adds self.old (λ s. path_items s (path.LangItem target name.now)) self.new) }
+        ensures { OnOk result (Adds self.old (λ s. path_items s (of_path.LangItem target name.now)) self.new) }
     {
         self.add(&[Work::Text("builtin#lang(")])?;
         self.add_target(target)?;

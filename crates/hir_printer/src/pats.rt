@@ -1,12 +1,13 @@
 //! What a pattern is printed as.
 #![tactic(auto, using(crate::proofs::AddLemmas::adding))]
 
-ghost use Rattle.std.specs.Prelude.{◌≡◌, ◌++◌, OnOk, codes, length, map, slice_get, Some};
-ghost use Rattle.std.specs.List.{flat_map};
-ghost use Rattle.hir_node.specs.declared.pat.Pat.TheVariants as pat;
+ghost use Rattle.std.specs.Prelude.{◌≡◌, OnOk, map, slice_get, Some};
+ghost use Rattle.hir_node.specs.declared.pat.Pat.TheVariants as of_pat;
+ghost use Rattle.hir_base.specs.declared.prec.ExprPrecedence.TheVariants.{Shift};
+ghost use Rattle.hir_printer.specs.Questions.{Setting};
 ghost use Rattle.hir_printer.specs.Items.{p, text, opt, under, comma_joined};
-ghost use Rattle.hir_printer.specs.Names.{binding_items};
-ghost use Rattle.hir_printer.specs.Pats.{with_rest, in_parentheses, has_printed_name, is_short, field_pattern, field_patterns, pat_items};
+ghost use Rattle.hir_printer.specs.Names.{annotation_text, binding_items};
+ghost use Rattle.hir_printer.specs.Pats.{with_rest, in_parentheses, has_printed_name, is_short, field_pattern, after_last, field_patterns, pat_items};
 ghost use Rattle.hir_printer.specs.Printing.{seen};
 ghost use Rattle.hir_printer.specs.Printers.{Adds};
 
@@ -31,7 +32,7 @@ fn annotation_text(mode: BindingAnnotation) -> &'static str
 
 /// Whether the text of a binding is this name as it is printed.
 fn has_printed_name(words: &[Text], name: &str, binding: &Binding) -> bool
-    ensures { result ≡ has_printed_name words.now name.now (Some binding.now) }
+    ensures { (s : Setting) → s.words ≡ words.now → result ≡ has_printed_name s name.now (Some binding.now) }
 {
     match binding.mode {
         BindingAnnotation::Unannotated => is_printed(words, name, binding.name.as_str()),
@@ -83,11 +84,11 @@ impl<'a> Printer<'a> {
         self.add(&[Work::Text(": "), Work::Pattern(field.pat)])
     }
 
-    /// Adds what stands behind a field. In one line, behind the last without a rest, that is a space.
-    fn add_field_end(&mut self, is_last: bool) -> Result<(), AllocError>
-        ensures { OnOk result (Adds self.old (λ s. field_end s is_last) self.new) }
+    /// Adds what stands behind a field: where nothing follows in one line, a space.
+    fn add_field_end(&mut self, has_more: bool) -> Result<(), AllocError>
+        ensures { OnOk result (Adds self.old (λ s. after_last s has_more) self.new) }
     {
-        if is_last && self.one_line {
+        if !has_more && self.one_line {
             return self.add(&[Work::Text(" ")]);
         }
         self.add(&[Work::Text(","), Work::Break])
@@ -100,7 +101,7 @@ impl<'a> Printer<'a> {
         let mut left = fields;
         while let [field, others @ ..] = left {
             self.add_field_pat(field)?;
-            self.add_field_end(others.is_empty() && !rest)?;
+            self.add_field_end(rest || !others.is_empty())?;
             left = others;
         }
         Ok(())
@@ -112,7 +113,7 @@ impl<'a> Printer<'a> {
         fields: &'a [RecordFieldPat],
         rest: bool,
     ) -> Result<(), AllocError>
-        ensures { OnOk result (Adds self.old (λ s. pat_items s (pat.Record rest path.now fields.now)) self.new) }
+        ensures { OnOk result (Adds self.old (λ s. pat_items s (of_pat.Record rest path.now fields.now)) self.new) }
     {
         self.add_path(path)?;
         self.add(&[Work::Text(" {"), Work::Indent])?;
@@ -151,7 +152,7 @@ impl<'a> Printer<'a> {
         slice: Option<PatId>,
         suffix: &'a [PatId],
     ) -> Result<(), AllocError>
-        ensures { OnOk result (Adds self.old (λ s. pat_items s (pat.Slice prefix.now slice suffix.now)) self.new) }
+        ensures { OnOk result (Adds self.old (λ s. pat_items s (of_pat.Slice prefix.now slice suffix.now)) self.new) }
     {
         self.add(&[Work::Text("[")])?;
         self.add_each(prefix, &[Work::Text(", ")])?;
@@ -164,7 +165,7 @@ impl<'a> Printer<'a> {
 
     /// Adds an end of a range, where there is one.
     fn add_range_end(&mut self, expr: Option<ExprId>) -> Result<(), AllocError>
-        ensures { OnOk result (Adds self.old (λ s. opt (under ExprPrecedence.Shift) expr) self.new) }
+        ensures { OnOk result (Adds self.old (λ s. opt (under Shift) expr) self.new) }
     {
         match expr {
             None => Ok(()),

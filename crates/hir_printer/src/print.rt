@@ -1,18 +1,18 @@
 //! The printer's loop, and the text that it gives.
 #![tactic(auto, using(crate::proofs::TurnLemmas::turns))]
 
-ghost use Rattle.std.specs.Prelude.{◌≡◌, ◌++◌, [], List, Some, None, Err, OnOk, slice_get};
+ghost use Rattle.std.specs.Prelude.{◌≡◌, ◌++◌, [], true, List, Some, None, Err, OnOk, slice_get};
 ghost use Rattle.hir_node.specs.declared.node_id.NodeId.TheVariants as node;
 ghost use Rattle.hir_expr_store.specs.declared.missing.Missing.{Missing};
 ghost use Rattle.hir_printer.specs.declared.fault.PrintFault.TheVariants as fault;
 ghost use Rattle.hir_printer.specs.declared.work.Work.TheVariants as works;
 ghost use Rattle.hir_printer.specs.Items.{Item};
-ghost use Rattle.hir_printer.specs.Paths.{args_items, turbofish};
 ghost use Rattle.hir_printer.specs.Pieces.{items_of, printed, is_chain, stands_in_parentheses, precedence_found};
 ghost use Rattle.hir_printer.specs.Falls.{ItemsFall};
+ghost use Rattle.hir_printer.specs.Kinds.{is_node};
 ghost use Rattle.hir_printer.specs.Printed.{PrintsPieces};
 ghost use Rattle.hir_printer.specs.Printing.{on_page, seen};
-ghost use Rattle.hir_printer.specs.Printers.{meant, printing, Adds, AddsItems, IsNode, GaveWay, Turned, enclosed};
+ghost use Rattle.hir_printer.specs.Printers.{meant, printing, Adds, AddsItems, GaveWay, Turned, enclosed};
 
 use crate::fault::PrintFault;
 use crate::laws::items_fall;
@@ -95,28 +95,28 @@ impl<'a> Printer<'a> {
     /// Adds generic arguments in `::<` and `>`. The first text is written at once, so that less is kept than they are.
     fn add_fish(&mut self, args: &'a GenericArgs) -> Result<(), AllocError>
         requires none { (seen self.old).kept ≡ [] }
-        ensures { OnOk result (GaveWay (works.Args args) self.old self.new) }
+        ensures { OnOk result (GaveWay (works.Args args.entry) self.old self.new) }
     {
-        self.write_work(Work::Text("::<"))?;
+        self.write_work(&Work::Text("::<"))?;
         self.add_args(args)?;
         self.add(&[Work::Text(">")])
     }
 
     /// Adds what a node gives way to, or answers that it is missing.
-    fn give_way(&mut self, work: Work<'a>) -> Result<(), PrintFault>
-        requires node { IsNode work }
+    fn give_way(&mut self, work: &Work<'a>) -> Result<(), PrintFault>
+        requires node { is_node work.now ≡ true }
         requires fall { ItemsFall (seen self.old).from }
         requires none { (seen self.old).kept ≡ [] }
-        ensures ok { OnOk result (GaveWay work self.old self.new) }
-        ensures missing { (m : Missing) → result ≡ Err (fault.Missing m) → work ≡ works.Lacks m }
+        ensures ok { OnOk result (GaveWay work.now self.old self.new) }
+        ensures missing { (m : Missing) → result ≡ Err (fault.Missing m) → work.now ≡ works.Lacks m }
     {
         match work {
-            Work::Whole(id) => self.add_expr_at(id)?,
-            Work::Under(id, parent) => self.add_under(id, parent)?,
-            Work::Pattern(id) => self.add_pat_at(id)?,
-            Work::Type(id) => self.add_type_at(id)?,
-            Work::Args(args) => self.add_fish(args)?,
-            Work::Lacks(missing) => return Err(PrintFault::Missing(missing)),
+            Work::Whole(id) => self.add_expr_at(*id)?,
+            Work::Under(id, parent) => self.add_under(*id, *parent)?,
+            Work::Pattern(id) => self.add_pat_at(*id)?,
+            Work::Type(id) => self.add_type_at(*id)?,
+            Work::Args(args) => self.add_fish(*args)?,
+            Work::Lacks(missing) => return Err(PrintFault::Missing(*missing)),
             Work::Text(_)
             | Work::Space
             | Work::Break
@@ -131,16 +131,18 @@ impl<'a> Printer<'a> {
 
     /// Writes a work, or lets what it gives way to wait before all that waits.
     #[inline(always)]
-    fn turn(&mut self, work: Work<'a>) -> Result<(), PrintFault>
+    fn turn(&mut self, work: &Work<'a>) -> Result<(), PrintFault>
         requires fall { ItemsFall (seen self.old).from }
         requires none { (seen self.old).kept ≡ [] }
-        ensures ok { OnOk result (Turned work self.old self.new) }
-        ensures missing { (m : Missing) → result ≡ Err (fault.Missing m) → work ≡ works.Lacks m }
+        ensures ok { OnOk result (Turned work.now self.old self.new) }
+        ensures missing { (m : Missing) → result ≡ Err (fault.Missing m) → work.now ≡ works.Lacks m }
     {
-        if !self.write_work(work)? {
+        if work.is_node() {
             self.give_way(work)?;
             self.end_turn();
+            return Ok(());
         }
+        self.write_work(work)?;
         Ok(())
     }
 
@@ -156,7 +158,7 @@ impl<'a> Printer<'a> {
         items_fall();
         self.end_turn();
         while let Some(work) = self.begin_turn() {
-            self.turn(work)?;
+            self.turn(&work)?;
         }
         Ok(())
     }

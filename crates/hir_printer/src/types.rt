@@ -1,9 +1,10 @@
 //! What types and bounds are printed as.
 #![tactic(auto, using(crate::proofs::AddLemmas::adding))]
 
-ghost use Rattle.std.specs.Prelude.{◌++◌, List, ℕ, Option, OnOk, codes, map};
+ghost use Rattle.std.specs.Prelude.{◌++◌, List, ℕ, Option, OnOk, map};
+ghost use Rattle.hir_node.specs.declared.type_ref.TypeRef.TheVariants as of_type;
 ghost use Rattle.hir_printer.specs.Items.{text, t, opt};
-ghost use Rattle.hir_printer.specs.Paths.{for_names, use_items, bound_items};
+ghost use Rattle.hir_printer.specs.Paths.{for_names, use_items, bound_items, bounds_items};
 ghost use Rattle.hir_printer.specs.Types.{extern_items, signature_items, fn_items, type_items};
 ghost use Rattle.hir_printer.specs.Printers.{Adds};
 
@@ -130,7 +131,7 @@ impl<'a> Printer<'a> {
     }
 
     fn add_reference(&mut self, reference: &'a RefType) -> Result<(), AllocError>
-        ensures { OnOk result (Adds self.old (λ s. type_items s (TypeRef.Reference reference.now)) self.new) }
+        ensures { OnOk result (Adds self.old (λ s. type_items s (of_type.Reference reference.now)) self.new) }
     {
         self.add(&[Work::Text("&")])?;
         if let Some(lifetime) = &reference.lifetime {
