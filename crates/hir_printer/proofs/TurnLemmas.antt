@@ -40,8 +40,8 @@ wrote_adds {w} {old} {new} none a =
       less = let k = ap (λ ks. heft s (meant s ks)) still in omega arith;
     }
 
-pub kept_adds : {w : Work} {old new : Printing} → new ≡ record old { kept = old.kept ++ (w ∷ []) } → AddsItems old (λ s. stands_for s w) new
-kept_adds {w} {old} {new} e =
+pub kept_adds : (w : Work) {old new : Printing} → new ≡ record old { kept = old.kept ++ (w ∷ []) } → AddsItems old (λ s. stands_for s w) new
+kept_adds w {old} {new} e =
     let s = old.from in
     let kept : new.kept ≡ old.kept ++ (w ∷ []) = ap (λ (p : Printing). p.kept) e in
     let page : new.page ≡ old.page = ap (λ (p : Printing). p.page) e in
@@ -67,18 +67,18 @@ gives_way {w} {old} {new} {is} none a e h =
       less = let k = a.less in let m = ap (heft s) begins in omega arith;
     }
 
-module _ {old new : Printing} (fall : ItemsFall old.from) (none : old.kept ≡ []) where
-  node_printed : (n : NodeId) (more : List Item) → pieces old.from n ++ printed old.from more ≡ printed old.from (items_of old.from n ++ more)
-  node_printed n more = ap (λ ps. ps ++ printed old.from more) (pieces_at old.from fall n) ∙ sym (printed-append old.from (items_of old.from n) more)
+node_printed : (s : Setting) → ItemsFall s → (n : NodeId) (more : List Item) → pieces s n ++ printed s more ≡ printed s (items_of s n ++ more)
+node_printed s fall n more = ap (λ ps. ps ++ printed s more) (pieces_at s fall n) ∙ sym (printed-append s (items_of s n) more)
 
+module _ {old new : Printing} (fall : ItemsFall old.from) (none : old.kept ≡ []) where
   pub whole_gives : (id : ℕ) → AddsItems old (λ s. items_of s (node.Expr id)) new → GaveWayTo (work.Whole id) old new
-  whole_gives id a = gives_way none a (node_printed (node.Expr id)) (let k = weight_at old.from fall (node.Expr id) in omega arith)
+  whole_gives id a = gives_way none a (node_printed old.from fall (node.Expr id)) (let k = weight_at old.from fall (node.Expr id) in omega arith)
 
   pub pattern_gives : (id : ℕ) → AddsItems old (λ s. items_of s (node.Pat id)) new → GaveWayTo (work.Pattern id) old new
-  pattern_gives id a = gives_way none a (node_printed (node.Pat id)) (let k = weight_at old.from fall (node.Pat id) in omega arith)
+  pattern_gives id a = gives_way none a (node_printed old.from fall (node.Pat id)) (let k = weight_at old.from fall (node.Pat id) in omega arith)
 
   pub type_gives : (id : ℕ) → AddsItems old (λ s. items_of s (node.TypeRef id)) new → GaveWayTo (work.Type id) old new
-  type_gives id a = gives_way none a (node_printed (node.TypeRef id)) (let k = weight_at old.from fall (node.TypeRef id) in omega arith)
+  type_gives id a = gives_way none a (node_printed old.from fall (node.TypeRef id)) (let k = weight_at old.from fall (node.TypeRef id) in omega arith)
 
   pub under_gives : (id : ℕ) (parent : ExprPrecedence)
       → AddsItems old (λ s. enclosed (stands_in_parentheses (precedence_found (slice_get s.nodes.exprs id)) parent) (items_of s (node.Expr id))) new → GaveWayTo (work.Under id parent) old new

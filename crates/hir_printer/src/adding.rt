@@ -1,6 +1,6 @@
 //! What is added to a printer: it is written at once, or kept.
 
-ghost use Rattle.std.specs.Prelude.{◌≡◌, ◌∷◌, [], ◌++◌, false, IfSome, None, OnOk, string_bytes};
+ghost use Rattle.std.specs.Prelude.{◌≡◌, ◌≤◌, length, ◌∷◌, [], ◌++◌, false, IfSome, None, OnOk, string_bytes};
 ghost use Rattle.hir_base.specs.RawWords.{words_of};
 ghost use Rattle.hir_page.specs.Page.{page_text};
 ghost use Rattle.hir_printer.specs.Items.{text, when};
@@ -32,7 +32,8 @@ fn line_format(one_line: bool) -> LineFormat
 }
 
 fn push_copy<T: Copy>(onto: &mut Vec<T>, item: &T) -> Result<(), AllocError>
-    ensures { OnOk result (onto.new.items ≡ onto.old.items ++ (item.now ∷ [])) }
+    ensures added { OnOk result (onto.new.items ≡ onto.old.items ++ (item.now ∷ [])) }
+    ensures kept { length onto.old.items ≤ length onto.new.items }
 {
     onto.push(*item)?;
     Ok(())
@@ -155,7 +156,7 @@ impl<'a> Printer<'a> {
 
     /// The text that was written.
     pub(crate) fn into_text(self) -> String
-        ensures { string_bytes result ≡ page_text self.page }
+        ensures { string_bytes result ≡ page_text self.entry.page }
     {
         let Printer {
             store: _,

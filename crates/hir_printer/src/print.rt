@@ -168,8 +168,8 @@ impl<'a> Printer<'a> {
     /// Answers `Missing` of the first definition outside that the text names and that the tables don't have, and `Memory` where memory
     /// was refused. A text that was begun is dropped.
     pub fn print(mut self) -> Result<String, PrintFault>
-        ensures { let s = (seen self).from in
-            (items : List Item) → AddsItems (on_page s) (λ s. items) (seen self) → PrintsPieces s (printed s items) result }
+        ensures { let s = (seen self.entry).from in
+            (items : List Item) → AddsItems (on_page s) (λ s. items) (seen self.entry) → PrintsPieces s (printed s items) result }
     {
         self.write()?;
         Ok(self.into_text())

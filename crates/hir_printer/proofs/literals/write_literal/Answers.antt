@@ -1,7 +1,7 @@
 use Rattle.std.proofs.Common.{arith}
 use Rattle.std.proofs.lemmas.Int.{ints, to_z-of_z}
 use Rattle.hir_page.specs.Literals.{string_literal, bytes_literal, c_string_literal}
-use Rattle.hir_printer.proofs.TurnLemmas.{pieces_put}
+use Rattle.hir_printer.proofs.PieceLemmas.{pieces_put}
 use Rattle.hir_printer.proofs.literals.write_literal.Goals as goal
 
 pub returns-in-String : goal.returns-in-String

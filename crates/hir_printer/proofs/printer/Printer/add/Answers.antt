@@ -1,0 +1,16 @@
+use Rattle.std.proofs.Common.{refl, ap, sym, ◌∙◌, arith}
+use Rattle.std.proofs.lemmas.List.{take_all, take_more}
+use Rattle.hir_printer.specs.Printers.{meant}
+use Rattle.hir_printer.proofs.AddLemmas.{adds_none, adds_then, adds_as, stood_is}
+use Rattle.hir_printer.proofs.printer.Printer.add.Goals as goal
+
+pub loop-work-init : goal.loop-work-init
+loop-work-init c = adds_none (λ s. refl)
+
+pub loop-work-preserved : goal.loop-work-preserved
+loop-work-preserved c = ?
+
+pub returns : goal.returns
+returns c = record {
+  adds = adds_as c.loop-work.invariant (λ s. ap (meant s) (take_all _ c.args.works.now (omega arith)) ∙ stood_is s c.args.works.now);
+}
