@@ -77,12 +77,15 @@ adds_then {old} {between} {new} {f} {g} a b =
     }
 
 -- the same items in other words
-pub adds_as : {old new : Printing} {f g : Setting → List Item} → AddsItems old f new → ((s : Setting) → f s ≡ g s) → AddsItems old g new
-adds_as {old} {new} {f} {g} a e = record {
+pub adds_here : {old new : Printing} {f g : Setting → List Item} → AddsItems old f new → f old.from ≡ g old.from → AddsItems old g new
+adds_here {old} {new} {f} {g} a e = record {
   same = a.same;
-  leads = leads_then (leads_as (ap (λ is. meant old.from old.kept ++ is) (sym (e old.from)))) a.leads;
-  less = let h = a.less in let k = ap (λ is. heft old.from (meant old.from old.kept ++ is)) (e old.from) in omega arith;
+  leads = leads_then (leads_as (ap (λ is. meant old.from old.kept ++ is) (sym e))) a.leads;
+  less = let h = a.less in let k = ap (λ is. heft old.from (meant old.from old.kept ++ is)) e in omega arith;
 }
+
+pub adds_as : {old new : Printing} {f g : Setting → List Item} → AddsItems old f new → ((s : Setting) → f s ≡ g s) → AddsItems old g new
+adds_as {old} a e = adds_here a (e old.from)
 
 -- works that stand for the items, and works behind others
 pub adds : {works : List Work} {old new : Printing} {is : Setting → List Item} → AddsList old works new → ((s : Setting) → stood s works ≡ is s) → AddsItems old is new
