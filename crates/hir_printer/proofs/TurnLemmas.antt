@@ -1,6 +1,7 @@
 -- A turn of the loop, by what its work is.
 use Rattle.std.proofs.Common.{◌≡◌, ℕ, ◌+◌, ◌<◌, ◌≤◌, Bool, true, false, List, [], ◌∷◌, ◌++◌, map, codes, Option, Some, None, refl, sym, ap, ap₂, subst, ◌∙◌, arith, append_assoc, append-nil}
-use Rattle.std.specs.Prelude.{⊤}
+use Rattle.std.specs.Prelude.{Result, Ok, Err, OnOk, MatchResult, is_ok}
+use Rattle.hir_page.specs.Writes.{Writes}
 use Rattle.hir_base.specs.declared.prec.ExprPrecedence.{ExprPrecedence}
 use Rattle.hir_path.specs.declared.path.GenericArgs.{GenericArgs}
 use Rattle.hir_node.specs.declared.node_id.NodeId.{NodeId}
@@ -24,6 +25,16 @@ use Rattle.hir_printer.proofs.PieceLemmas.{printed-append, enclosed_printed, pie
 use Rattle.hir_printer.proofs.WeightLemmas.{weight_at, enclosed_heft}
 
 -- 1. What was written
+
+-- what follows from a call that wasn't refused
+pub on_ok_of : {T E P Q R : Type 0} (r : Result T E) → (P → Q) → MatchResult r (λ _. P) (λ _. R) → OnOk r Q
+on_ok_of (Ok x) f m = f m
+on_ok_of (Err e) f m = tt
+
+pub on_ok_writes : {T E Q W : Type 0} {step refuses : W → Piece → W → Type 0} {u v : W} {ps : List Piece} (r : Result T E) → (Writes step refuses u ps true v → Q)
+    → Writes step refuses u ps (is_ok r) v → OnOk r Q
+on_ok_writes (Ok x) f m = f m
+on_ok_writes (Err e) f m = tt
 
 pub wrote : {w : Work} {old new : Printing} (ps : List Piece) → new ≡ record old { page = new.page } → printed old.from (stands_for old.from w) ≡ map Layout ps
     → new.page ≡ all_rendered ps old.page → 0 < heft old.from (stands_for old.from w) → WroteWork w old new
