@@ -55,7 +55,11 @@ fn marks_of(alloc: Global, places: &[u32], count: usize) -> Result<Vec<bool>, Al
 }
 
 /// Adds the types of arguments, each with `const: ` before it where its place is marked.
-fn add_marked(printer: &mut Printer<'_>, marks: &[bool], params: &[TypeRefId]) -> Result<(), AllocError>
+fn add_marked(
+    printer: &mut Printer<'_>,
+    marks: &[bool],
+    params: &[TypeRefId],
+) -> Result<(), AllocError>
     requires { length marks.now ≡ length params.now }
     ensures { OnOk result (Adds printer.old
         (λ s. comma_joined (map (marked_items marks.now) (enumerate_from 0 params.now))) printer.new) }
@@ -106,7 +110,10 @@ fn add_flags(printer: &mut Printer<'_>, signature: &FunctionSignature) -> Result
 }
 
 /// Adds all up to the list of arguments.
-fn add_front<'a>(printer: &mut Printer<'a>, signature: &'a FunctionSignature) -> Result<(), AllocError>
+fn add_front<'a>(
+    printer: &mut Printer<'a>,
+    signature: &'a FunctionSignature,
+) -> Result<(), AllocError>
     ensures { OnOk result (Adds printer.old (λ s. function_front s signature.now) printer.new) }
 {
     add_flags(printer, signature)?;

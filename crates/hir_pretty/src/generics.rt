@@ -127,7 +127,10 @@ pub(crate) fn add_generics<'a>(
 }
 
 /// Adds a predicate.
-fn add_predicate<'a>(printer: &mut Printer<'a>, predicate: &'a WherePredicate) -> Result<(), AllocError>
+fn add_predicate<'a>(
+    printer: &mut Printer<'a>,
+    predicate: &'a WherePredicate,
+) -> Result<(), AllocError>
     ensures { OnOk result (Adds printer.old (λ s. predicate_items s predicate.now) printer.new) }
 {
     match predicate {

@@ -21,11 +21,7 @@ use hir_expr_store::Missing;
 use hir_printer::{Printer, Work};
 use std::alloc::AllocError;
 
-fn add_enum(
-    printer: &mut Printer<'_>,
-    id: EnumVariantId,
-    parent: EnumId,
-) -> Result<(), AllocError>
+fn add_enum(printer: &mut Printer<'_>, id: EnumVariantId, parent: EnumId) -> Result<(), AllocError>
     ensures { OnOk result (Adds printer.old (λ s. of_enum s id (Ok parent)) printer.new) }
 {
     printer.add(&[Work::Text("enum ")])?;

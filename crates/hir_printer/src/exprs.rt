@@ -1,10 +1,9 @@
 //! What an expression is printed as.
 #![tactic(auto, using(crate::proofs::AddLemmas::adding))]
 
-ghost use Rattle.std.specs.Prelude.{◌≡◌, ◌++◌, OnOk, codes, map};
+ghost use Rattle.std.specs.Prelude.{◌≡◌, ◌++◌, OnOk};
 ghost use Rattle.hir_node.specs.declared.expr.Expr.TheVariants as of_expr;
-ghost use Rattle.std.specs.List.{flat_map};
-ghost use Rattle.hir_printer.specs.Items.{e, text, opt, numbered};
+ghost use Rattle.hir_printer.specs.Items.{text, opt, numbered};
 ghost use Rattle.hir_printer.specs.Paths.{args_items, turbofish};
 ghost use Rattle.hir_printer.specs.Exprs.{labelled, operand, arguments, raw_keyword, operator_items, spread_items, array_items, unsafe_items, expr_items};
 ghost use Rattle.hir_printer.specs.Printers.{Adds};
@@ -151,14 +150,6 @@ impl<'a> Printer<'a> {
         self.add(&[Work::Outdent, Work::Text("}")])
     }
 
-    /// Adds expressions, each with a comma behind it.
-    fn add_elements(&mut self, exprs: &'a [ExprId]) -> Result<(), AllocError>
-        ensures { OnOk result (Adds self.old
-            (λ s. flat_map (λ id. e id ++ text (codes ", ")) exprs.now) self.new) }
-    {
-        self.add_each(exprs, &[Work::Text(", ")])
-    }
-
     fn add_array(&mut self, array: &'a Array) -> Result<(), AllocError>
         ensures { OnOk result (Adds self.old (λ s. array_items array.now) self.new) }
     {
@@ -168,7 +159,7 @@ impl<'a> Printer<'a> {
             }
             Array::ElementList { elements } => {
                 self.add(&[Work::Text("["), Work::Indent])?;
-                self.add_elements(elements.as_slice())?;
+                self.add_each(elements.as_slice(), &[Work::Text(", ")])?;
                 self.add(&[Work::Outdent, Work::Break, Work::Text("]")])
             }
             Array::Repeat {
@@ -327,7 +318,7 @@ impl<'a> Printer<'a> {
             ]),
             Expr::Tuple { exprs } => {
                 self.add(&[Work::Text("(")])?;
-                self.add_elements(exprs.as_slice())?;
+                self.add_each(exprs.as_slice(), &[Work::Text(", ")])?;
                 self.add(&[Work::Text(")")])
             }
             Expr::Array(array) => self.add_array(array),
