@@ -91,7 +91,8 @@ owner_text (owner.VariantFields id) = codes "VariantFields(" ++ fields_text id +
 
 -- the kind of parameter, its parent and its number there, as `TypeParamId(FunctionId(7), 0)`
 abbrev pub param_text : List ℕ → GenericDefId → ℕ → List ℕ
-param_text kind parent number = kind ++ codes "(" ++ generic_text parent ++ codes ", " ++ decimal number ++ codes ")"
+param_text kind parent number = kind ++ codes "(" ++ generic_text parent ++ codes ", " ++ decimal number
+    ++ codes ")"
 
 abbrev pub type_or_const_param_text : List ℕ → TypeOrConstParamId → List ℕ
 type_or_const_param_text kind id = param_text kind id.parent id.local_id

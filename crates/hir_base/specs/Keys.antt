@@ -16,7 +16,8 @@ pub number_tells : (x y : ℕ) → Decides (x == y) (x ∷ [] ≡ y ∷ [])
 number_tells x y = (λ h i. (unsigned_Decides x y).0 h i ∷ [], λ e. (unsigned_Decides x y).1 (cc))
 
 -- a number before a code
-pub cons_tells : (a b : Bool) (n m : ℕ) (xs ys : List ℕ) → Decides a (n ≡ m) → Decides b (xs ≡ ys) → Decides (a && b) (n ∷ xs ≡ m ∷ ys)
+pub cons_tells : (a b : Bool) (n m : ℕ) (xs ys : List ℕ) → Decides a (n ≡ m) → Decides b (xs ≡ ys)
+    → Decides (a && b) (n ∷ xs ≡ m ∷ ys)
 cons_tells a b n m xs ys first rest = (
   λ h.
       let head = first.0 (first_so _ _ h) in
@@ -32,15 +33,24 @@ same_value : {X : Type 0} (x y : X) → Some x ≡ Some y → x ≡ y
 same_value x y e = cc
 
 -- a code from which the key can be read back
-pub read_back_tells : {X : Type 0} (code : X → List ℕ) (back : List ℕ → Option X) → ((x : X) → back (code x) ≡ Some x) → (b : Bool) (x y : X) → Decides b (x ≡ y) → Decides b (code x ≡ code y)
-read_back_tells code back reads b x y same = (λ h. ap code (same.0 h), λ e. same.1 (same_value x y (sym (reads x) ∙ ap back e ∙ reads y)))
+pub read_back_tells : {X : Type 0} (code : X → List ℕ) (back : List ℕ → Option X)
+    → ((x : X) → back (code x) ≡ Some x) → (b : Bool) (x y : X) → Decides b (x ≡ y)
+    → Decides b (code x ≡ code y)
+read_back_tells code back reads b x y same = (
+  λ h. ap code (same.0 h),
+  λ e.
+      same.1 (same_value x y (sym (reads x) ∙ ap back e ∙ reads y)),
+)
 
 -- a node: its kind and its range
 abbrev pub node_code : SyntaxNodePtr → List ℕ
 node_code node = node.kind ∷ node.range.start ∷ node.range.end ∷ []
 
 node_back : List ℕ → Option SyntaxNodePtr
-node_back (kind ∷ start ∷ end ∷ []) = Some (record { kind = kind; range = record { start = start; end = end } })
+node_back (kind ∷ start ∷ end ∷ []) = Some (record {
+  kind = kind;
+  range = record { start = start; end = end };
+})
 node_back code = None
 
 pub node_tells : (b : Bool) (x y : SyntaxNodePtr) → Decides b (x ≡ y) → Decides b (node_code x ≡ node_code y)
@@ -59,7 +69,8 @@ body_code (body_const id) = 2 ∷ id ∷ []
 body_code (body_variant id) = 3 ∷ id ∷ []
 
 body_makers : List (ℕ → DefWithBodyId)
-body_makers = (λ id. body_function id) ∷ (λ id. body_static id) ∷ (λ id. body_const id) ∷ (λ id. body_variant id) ∷ []
+body_makers = (λ id. body_function id) ∷ (λ id. body_static id) ∷ (λ id. body_const id)
+    ∷ (λ id. body_variant id) ∷ []
 
 body_reads : (x : DefWithBodyId) → read_id body_makers (body_code x) ≡ Some x
 unfolding body_makers
@@ -85,7 +96,8 @@ fields_reads (fields_variant id) = refl
 fields_reads (fields_struct id) = refl
 fields_reads (fields_union id) = refl
 
-pub fields_tells : (b : Bool) (x y : VariantId) → Decides b (x ≡ y) → Decides b (fields_code x ≡ fields_code y)
+pub fields_tells : (b : Bool) (x y : VariantId) → Decides b (x ≡ y)
+    → Decides b (fields_code x ≡ fields_code y)
 fields_tells = read_back_tells fields_code (read_id fields_makers) fields_reads
 
 abbrev pub named_code : NamedDef → List ℕ
@@ -103,7 +115,10 @@ named_code (named_macro (by_rules id)) = 10 ∷ id ∷ []
 named_code (named_macro (by_proc id)) = 11 ∷ id ∷ []
 
 named_makers : List (ℕ → NamedDef)
-named_makers = (λ id. named_enum id) ∷ (λ id. named_function id) ∷ (λ id. named_static id) ∷ (λ id. named_struct id) ∷ (λ id. named_union id) ∷ (λ id. named_alias id) ∷ (λ id. named_trait id) ∷ (λ id. named_variant id) ∷ (λ id. named_const id) ∷ (λ id. named_macro (by_macro2 id)) ∷ (λ id. named_macro (by_rules id)) ∷ (λ id. named_macro (by_proc id)) ∷ []
+named_makers = (λ id. named_enum id) ∷ (λ id. named_function id) ∷ (λ id. named_static id)
+    ∷ (λ id. named_struct id) ∷ (λ id. named_union id) ∷ (λ id. named_alias id) ∷ (λ id. named_trait id)
+    ∷ (λ id. named_variant id) ∷ (λ id. named_const id) ∷ (λ id. named_macro (by_macro2 id))
+    ∷ (λ id. named_macro (by_rules id)) ∷ (λ id. named_macro (by_proc id)) ∷ []
 
 named_reads : (x : NamedDef) → read_id named_makers (named_code x) ≡ Some x
 unfolding named_makers

@@ -4,7 +4,8 @@ use Rattle.std.specs.declared.cmp.Ordering.{Ordering}
 use Rattle.std.specs.declared.cmp.Ordering.TheVariants.{Equal}
 
 -- two values are equal exactly if they are the same, exactly if neither is the greater, and then they write the same into a hash
-pub record OrderAgrees {X : Type 0} (eq : X → X → Bool) (cmp : X → X → Ordering) (hash_input : X → List (List ℕ)) : Type 0 where
+pub record OrderAgrees {X : Type 0} (eq : X → X → Bool) (cmp : X → X → Ordering) (hash_input : X
+    → List (List ℕ)) : Type 0 where
   pub same : (x y : X) → IsTrue (eq x y) ↔ (x ≡ y)
   pub order : (x y : X) → IsTrue (eq x y) ↔ (cmp x y ≡ Equal)
   pub hash : (x y : X) → IsTrue (eq x y) → hash_input x ≡ hash_input y

@@ -21,15 +21,22 @@ equal_of Less h = absurd (cc)
 equal_of Equal h = λ i. Equal
 equal_of Greater h = absurd (cc)
 
-pub same_key : {K : Type 0} {R : K → K → Ordering} → IsTotalOrder R → map.IsAntisymmetric R → (x y : K) → Decides (eq_by_cmp R x y) (x ≡ y)
-same_key {R = R} o same x y = (λ h. same x y (equal_of (R x y) h), λ e. ap is_eq (ap (R x) (sym e) ∙ tied_itself o x))
+pub same_key : {K : Type 0} {R : K → K → Ordering} → IsTotalOrder R → map.IsAntisymmetric R → (x y : K)
+    → Decides (eq_by_cmp R x y) (x ≡ y)
+same_key {R = R} o same x y = (
+  λ h. same x y (equal_of (R x y) h),
+  λ e.
+      ap is_eq (ap (R x) (sym e) ∙ tied_itself o x),
+)
 
 module _ {K X : Type 0} {R : K → K → Ordering} (o : IsTotalOrder R) (E : X → X → Bool) where
   pub same_maps_per : IsPartialEquivalence E → IsPartialEquivalence (same_maps R E)
-  same_maps_per laws = on_per map.entries (lists_per (and_per (on_per (λ p. p.0) (partial_equiv_from_equiv (eq_by_cmp_equiv o))) (on_per (λ p. p.1) laws)))
+  same_maps_per laws = on_per map.entries (lists_per
+      (and_per (on_per (λ p. p.0) (partial_equiv_from_equiv (eq_by_cmp_equiv o))) (on_per (λ p. p.1) laws)))
 
   pub same_maps_equiv : IsEquivalence E → IsEquivalence (same_maps R E)
-  same_maps_equiv laws = on_equiv map.entries (lists_equiv (and_equiv (on_equiv (λ p. p.0) (eq_by_cmp_equiv o)) (on_equiv (λ p. p.1) laws)))
+  same_maps_equiv laws = on_equiv map.entries (lists_equiv
+      (and_equiv (on_equiv (λ p. p.0) (eq_by_cmp_equiv o)) (on_equiv (λ p. p.1) laws)))
 
   module _ (same : map.IsAntisymmetric R) (decides : (x y : X) → Decides (E x y) (x ≡ y)) where
     same_entry_decides : (p q : K × X) → Decides (same_entry R E p q) (p ≡ q)

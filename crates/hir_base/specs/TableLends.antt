@@ -10,7 +10,9 @@ abbrev pub KeyMembers : Type 0 → Type 0
 KeyMembers K = record { hash_input : K → List (List ℕ); eq : K → K → Bool; code : K → List ℕ }
 
 -- once the borrow ends, the table has the last value written through r at the key of this code, and nothing else has changed
-abbrev pub lends_value : (K V : RattleType) → KeyMembers K.Denot → MutBor (map.FinMap by_code V.Denot) → List ℕ → Option (MutBor V.Denot) → Fml
+abbrev pub lends_value : (K V : RattleType) → KeyMembers K.Denot → MutBor (map.FinMap by_code V.Denot)
+    → List ℕ → Option (MutBor V.Denot) → Fml
 lends_value K V g table code r =
-    LendsSo (the_row K V (record { code = g.code }) (record { eq = g.eq }) (record { hash_input = g.hash_input })) V table r
+    LendsSo (the_row K V (record { code = g.code }) (record { eq = g.eq })
+    (record { hash_input = g.hash_input })) V table r
     (λ n value. OnSome r (n ≡ map.insert table.now code value)) (λ n. n ≡ table.now)

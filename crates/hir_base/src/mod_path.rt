@@ -96,7 +96,8 @@ impl ModPath {
         names: Seq<Name>,
     ) -> Result<ModPath, AllocFailed<Seq<Name>>>
         ensures ok { IfOk result (λ path. path ≡ record { kind = kind; segments = names }) }
-        ensures ident_never_refused { IsSome (ident_of record { kind = kind; segments = names }) → IsOk result }
+        ensures ident_never_refused { IsSome (ident_of record { kind = kind; segments = names })
+            → IsOk result }
         ensures value_returned { IfErr result (λ failed. failed.value ≡ names) }
     {
         if kind == PathKind::Plain && names.len() == 1 {
@@ -176,7 +177,8 @@ fn only_name(names: Seq<Name>) -> Name
 impl PartialEq for ModPath {
     ghost use Rattle.hir_base.specs.contracts.mod_path.PathKindPartialEq.TheImpl.Laws as kind_laws;
 
-    ghost eq = { λ x y. ⟦<PathKind as PartialEq>⟧.eq x.kind y.kind && pointwise (pointwise nat_eq) x.segments y.segments };
+    ghost eq = { λ x y. ⟦<PathKind as PartialEq>⟧.eq x.kind y.kind
+        && pointwise (pointwise nat_eq) x.segments y.segments };
 
     ghost laws = { and_per (on_per (λ path. path.kind) kind_laws.lawful.laws)
         (on_per (λ path. path.segments) (lists_per (partial_equiv_from_equiv nat_list_eq_equiv))) };
@@ -196,9 +198,11 @@ impl Eq for ModPath {
 impl Hash for ModPath {
     ghost use Rattle.hir_base.specs.contracts.mod_path.PathKindHash.TheImpl.Laws as kind_laws;
 
-    ghost hash_input = { λ path. ⟦<PathKind as Hash>⟧.hash_input path.kind ++ fed.slice fed.str path.segments };
+    ghost hash_input = { λ path. ⟦<PathKind as Hash>⟧.hash_input path.kind
+        ++ fed.slice fed.str path.segments };
 
-    ghost respects_eq = { (and-Alike (on_Alike (λ path. path.kind) (record { fed = kind_laws.lawful.respects_eq }))
+    ghost respects_eq = { (and-Alike (on_Alike (λ path. path.kind)
+        (record { fed = kind_laws.lawful.respects_eq }))
         (on_Alike (λ path. path.segments) (items_Alike (same_Alike fed.str bytes_decides)))).fed };
 
     fn hash<H: Hasher>(&self, state: &mut H) {
@@ -221,7 +225,8 @@ impl Clone for ModPath {
 
 // A copy of the parts, in memory of its own.
 fn clone_parts(parts: &Box<Parts>) -> Result<Box<Parts>, AllocError>
-    ensures { IfOk result (λ copy. (copy.value.kind ≡ parts.now.value.kind) × (copy.value.names ≡ parts.now.value.names)) }
+    ensures { IfOk result (λ copy. (copy.value.kind ≡ parts.now.value.kind)
+        × (copy.value.names ≡ parts.now.value.names)) }
 {
     let names = parts.names.clone()?;
     let copy = Parts {

@@ -9,5 +9,6 @@ filled answers old = take (length old) answers ++ drop (length answers) old
 -- the buffer has the front of the answers, of which the report says how many bytes there were, and how many were written
 abbrev pub IsFrontOfAnswers : Report → List ℕ → List ℕ → Type 0
 IsFrontOfAnswers report old new =
-    (answers : List ℕ) × (report.length ≡ length answers) × (report.written ≡ min (length answers) (length old))
+    (answers : List ℕ) × (report.length ≡ length answers)
+    × (report.written ≡ min (length answers) (length old))
     × (new ≡ filled answers old)

@@ -12,6 +12,7 @@ missing_text (Crate id) = codes "Crate(" ++ id_text (codes "CrateId") id ++ code
 missing_text (Signature id) = codes "Signature(" ++ generic_text id ++ codes ")"
 missing_text (Body id) = codes "Body(" ++ body_text id ++ codes ")"
 missing_text (Fields id) = codes "Fields(" ++ fields_text id ++ codes ")"
-missing_text (TypeParam id) = codes "TypeParam(" ++ type_or_const_param_text (codes "TypeParamId") id ++ codes ")"
+missing_text (TypeParam id) = codes "TypeParam(" ++ type_or_const_param_text (codes "TypeParamId") id
+    ++ codes ")"
 missing_text (LifetimeParam id) = codes "LifetimeParam(" ++ lifetime_param_text id ++ codes ")"
 missing_text (DefMap id) = codes "DefMap(" ++ id_text (codes "BlockId") id ++ codes ")"

@@ -3,4 +3,15 @@ use Rattle.hir_expr_store.specs.declared.store.StoreParts.{StoreParts}
 use Rattle.hir_expr_store.specs.Contents.{Contents}
 
 abbrev pub contents_of_parts : StoreParts → Contents
-contents_of_parts p = record { nodes = record { exprs = p.exprs; pats = p.pats; types = p.types; bindings = p.bindings; labels = p.labels; lifetimes = p.lifetimes }; roots = p.roots; side_tables = p.side_tables }
+contents_of_parts p = record {
+  nodes = record {
+    exprs = p.exprs;
+    pats = p.pats;
+    types = p.types;
+    bindings = p.bindings;
+    labels = p.labels;
+    lifetimes = p.lifetimes;
+  };
+  roots = p.roots;
+  side_tables = p.side_tables;
+}

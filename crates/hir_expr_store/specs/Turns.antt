@@ -19,7 +19,8 @@ pat_of (Leave p) = p
 
 -- a pattern is entered, then come the turns of each of its child patterns, then it is left
 abbrev pub turns_step : Nodes → (NodeId → List Turn) → NodeId → List Turn
-turns_step s self (node.Pat p) = Enter p ∷ flat_map (λ q. self (node.Pat q)) (child_pats_of s p) ++ Leave p ∷ []
+turns_step s self (node.Pat p) = Enter p ∷ flat_map (λ q. self (node.Pat q)) (child_pats_of s p)
+    ++ Leave p ∷ []
 turns_step s self (node.Expr e) = []
 turns_step s self (node.TypeRef t) = []
 

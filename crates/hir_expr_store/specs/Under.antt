@@ -16,7 +16,8 @@ LiesUnderOther s Among n = (r : NodeId) × Has s r × Among r × (n ≡ r → �
 
 -- nothing lies under two of these nodes
 abbrev pub LieApart : Nodes → List NodeId → Type 0
-LieApart s tops = (i j : ℕ) (a b n : NodeId) → i < j → slice_get tops i ≡ Some a → slice_get tops j ≡ Some b → Under s n a → Under s n b → ⊥
+LieApart s tops = (i j : ℕ) (a b n : NodeId) → i < j → slice_get tops i ≡ Some a → slice_get tops j ≡ Some b
+    → Under s n a → Under s n b → ⊥
 
 -- the node is *reached* from these: it is under one of them
 abbrev pub Reached : Nodes → List NodeId → NodeId → Type 0

@@ -30,4 +30,5 @@ AgreeOn self other (k ∷ ks) = (self k ≡ other k) × AgreeOn self other ks
 
 -- the step asks only for the values of a node's kids
 abbrev pub AsksKids : {A : Type 0} → Nodes → ((NodeId → A) → NodeId → A) → Type 0
-AsksKids s step = (self other : NodeId → _) (n : NodeId) → AgreeOn self other (kids_of s n) → step self n ≡ step other n
+AsksKids s step = (self other : NodeId → _) (n : NodeId) → AgreeOn self other (kids_of s n)
+    → step self n ≡ step other n

@@ -23,7 +23,8 @@ pub record Noted (v : EdgeVisitor) (are_there : Bool) (new_kids : List ℕ) (w :
   pub room : length w.parents.parents ≡ length v.parents.parents
   pub rows : w.parents.rows ≡ v.parents.rows
   pub there : w.all_there ≡ (v.all_there && are_there)
-  pub kids : IsTrue w.all_there → (g : List (List ℕ)) → IsParentageOf g v.parents → IsParentageOf (with_kids g new_kids) w.parents
+  pub kids : IsTrue w.all_there → (g : List (List ℕ)) → IsParentageOf g v.parents
+      → IsParentageOf (with_kids g new_kids) w.parents
 
 abbrev pub Notes : EdgeVisitor → Call → EdgeVisitor → Type 0
 Notes v c w = Noted v (is_there v.sizes c) (places v.sizes (c ∷ [])) w
@@ -40,7 +41,8 @@ pub record Visited (v : EdgeVisitor) (nodes : List Tested) (w : EdgeVisitor) : T
   pub room : length w.parents.parents ≡ length v.parents.parents
   pub rows : w.parents.rows ≡ v.parents.rows + length nodes
   pub there : IsTrue w.all_there
-  pub kids : (g : List (List ℕ)) → IsParentageOf g v.parents → IsParentageOf (g ++ map (λ x. places v.sizes x.calls) nodes) w.parents
+  pub kids : (g : List (List ℕ)) → IsParentageOf g v.parents
+      → IsParentageOf (g ++ map (λ x. places v.sizes x.calls) nodes) w.parents
 
 -- all nodes: the expressions, then the patterns, then the types
 abbrev pub all_tested : Nodes → List Tested

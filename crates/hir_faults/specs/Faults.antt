@@ -19,7 +19,14 @@ use Rattle.hir_faults.specs.Nodes.{Nodes, sizes_of, graph}
 
 -- the nodes that are borrowed
 abbrev pub nodes_in : NodeSlices → Nodes
-nodes_in n = record { exprs = n.exprs.now; pats = n.pats.now; types = n.types.now; bindings = n.bindings.now; labels = n.labels.now; lifetimes = n.lifetimes.now }
+nodes_in n = record {
+  exprs = n.exprs.now;
+  pats = n.pats.now;
+  types = n.types.now;
+  bindings = n.bindings.now;
+  labels = n.labels.now;
+  lifetimes = n.lifetimes.now;
+}
 
 -- nodes with their roots
 pub record Rooted : Type 0 where
@@ -40,11 +47,18 @@ node_fault sizes types id x =
     before (ArgumentLists id unless IsTrue (lists_fit x.held))
 
 abbrev pub nothing_tested : Tested
-nothing_tested = record { calls = []; bindings = []; labels = []; held = record { path = None; args = None; bounds = [] }; returns = true }
+nothing_tested = record {
+  calls = [];
+  bindings = [];
+  labels = [];
+  held = record { path = None; args = None; bounds = [] };
+  returns = true;
+}
 
 -- the first fault of one node, of nodes of one sort
 abbrev pub first_of : Sizes → List TypeRef → (ℕ → NodeId) → List Tested → Option FinishFault → Type 0
-first_of sizes types name parts = first_below (length parts) (λ n. node_fault sizes types (name n) (slice_index_or parts n nothing_tested))
+first_of sizes types name parts = first_below (length parts)
+    (λ n. node_fault sizes types (name n) (slice_index_or parts n nothing_tested))
 
 -- the first fault of one node: of an expression, then of a pattern, then of a type
 unfoldable pub first_bad_node : Nodes → Option FinishFault → Type 0

@@ -12,13 +12,16 @@ use Rattle.hir_faults.specs.Nodes.{Nodes, sizes_of}
 -- of a path each id that it names is there, each type that it names as a path is one, each list that begins with a self type isn't empty,
 -- and a `Normal` path has one list for each segment
 abbrev pub path_fits : Nodes → Path → Bool
-path_fits s x = list_all (is_there (sizes_of s)) (path_calls x) && list_all (is_path_at s.types) (path_paths x) && path_gives_self x && one_list_each x
+path_fits s x = list_all (is_there (sizes_of s)) (path_calls x)
+    && list_all (is_path_at s.types) (path_paths x) && path_gives_self x && one_list_each x
 
 -- of generic arguments each id that they name is there, each type that they name as a path is one, and each list that begins with a
 -- self type isn't empty: of them and of those in their bindings, however deep
 abbrev pub args_fit : Nodes → GenericArgs → Bool
-args_fit s x = list_all (is_there (sizes_of s)) (args_calls x) && list_all (is_path_at s.types) (args_paths x) && args_give_self x
+args_fit s x = list_all (is_there (sizes_of s)) (args_calls x) && list_all (is_path_at s.types) (args_paths x)
+    && args_give_self x
 
 -- of a bound each id that it names is there, and what it names as a path is one
 abbrev pub bound_fits : Nodes → TypeBound → Bool
-bound_fits s x = list_all (is_there (sizes_of s)) (bound_calls x) && list_all (is_path_at s.types) (bound_paths x)
+bound_fits s x = list_all (is_there (sizes_of s)) (bound_calls x)
+    && list_all (is_path_at s.types) (bound_paths x)

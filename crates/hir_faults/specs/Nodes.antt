@@ -22,7 +22,14 @@ pub record Nodes : Type 0 where
   pub lifetimes : List LifetimeRef
 
 abbrev pub sizes_of : Nodes → Sizes
-sizes_of s = record { exprs = length s.exprs; pats = length s.pats; types = length s.types; bindings = length s.bindings; labels = length s.labels; lifetimes = length s.lifetimes }
+sizes_of s = record {
+  exprs = length s.exprs;
+  pats = length s.pats;
+  types = length s.types;
+  bindings = length s.bindings;
+  labels = length s.labels;
+  lifetimes = length s.lifetimes;
+}
 
 abbrev pub Has : Nodes → NodeId → Type 0
 Has s n = HasNode (sizes_of s) n

@@ -19,6 +19,10 @@ pub record IsSoundNode (s : Nodes) (x : Tested) : Type 0 where
 -- arenas.
 pub record RootsStandApart (c : Rooted) : Type 0 where
   pub there : (i : ℕ) → i < length c.roots → slice_index (root_nodes c.roots) i < length c.nodes.exprs
-  pub listed_once : (i j : ℕ) → i < j → j < length c.roots → slice_index (root_nodes c.roots) i ≢ slice_index (root_nodes c.roots) j
-  pub not_under : (i j : ℕ) → i < length c.roots → j < length c.roots → LiesUnder (graph c.nodes) (slice_index (root_nodes c.roots) i) (slice_index (root_nodes c.roots) j) → ⊥
-  pub ends_rise : (i : ℕ) → i < length c.roots → EndsFit (ends_of c.nodes) (ends_before c.roots i) (ends_before c.roots (suc i))
+  pub listed_once : (i j : ℕ) → i < j → j < length c.roots
+      → slice_index (root_nodes c.roots) i ≢ slice_index (root_nodes c.roots) j
+  pub not_under : (i j : ℕ) → i < length c.roots → j < length c.roots
+      → LiesUnder (graph c.nodes) (slice_index (root_nodes c.roots) i) (slice_index (root_nodes c.roots) j)
+      → ⊥
+  pub ends_rise : (i : ℕ) → i < length c.roots
+      → EndsFit (ends_of c.nodes) (ends_before c.roots i) (ends_before c.roots (suc i))

@@ -137,13 +137,31 @@ pub record Tested : Type 0 where
   pub returns : Bool
 
 abbrev pub tested_expr : Expr → Tested
-tested_expr x = record { calls = expr_calls x; bindings = []; labels = expr_labels x; held = expr_holds x; returns = true }
+tested_expr x = record {
+  calls = expr_calls x;
+  bindings = [];
+  labels = expr_labels x;
+  held = expr_holds x;
+  returns = true;
+}
 
 abbrev pub tested_pat : Pat → Tested
-tested_pat x = record { calls = pat_calls x; bindings = pat_bindings x; labels = []; held = pat_holds x; returns = true }
+tested_pat x = record {
+  calls = pat_calls x;
+  bindings = pat_bindings x;
+  labels = [];
+  held = pat_holds x;
+  returns = true;
+}
 
 abbrev pub tested_type : TypeRef → Tested
-tested_type x = record { calls = type_calls x; bindings = []; labels = []; held = type_holds x; returns = type_returns x }
+tested_type x = record {
+  calls = type_calls x;
+  bindings = [];
+  labels = [];
+  held = type_holds x;
+  returns = type_returns x;
+}
 
 -- the types that bounds name as paths
 abbrev pub bound_paths : TypeBound → List ℕ
@@ -250,4 +268,6 @@ names_paths types h = list_all (is_path_at types) (held_paths h)
 
 -- each id that is named is there
 abbrev pub names_there : Sizes → Tested → Bool
-names_there sizes x = list_all (is_there sizes) x.calls && list_all (λ id. nat_lt id sizes.bindings) x.bindings && list_all (λ id. nat_lt id sizes.labels) x.labels
+names_there sizes x = list_all (is_there sizes) x.calls
+    && list_all (λ id. nat_lt id sizes.bindings) x.bindings
+    && list_all (λ id. nat_lt id sizes.labels) x.labels

@@ -184,7 +184,8 @@ fn first_graph_fault(
     requires parents { IsParentageOf (graph (nodes_in nodes.now)) parents.now }
     requires rows { parents.now.rows ≡ length parents.now.parents }
     ensures fault { IfOk result (graph_fault record { nodes = nodes_in nodes.now; roots = roots.now }) }
-    ensures parents { IfOk result (λ fault. IfNone fault (HasParents (graph (nodes_in nodes.now)) parents.now.parents)) }
+    ensures parents { IfOk result (λ fault. IfNone fault
+        (HasParents (graph (nodes_in nodes.now)) parents.now.parents)) }
 {
     match parents.first_fault(alloc, nodes.ends(), roots)? {
         Some(fault) => Ok(Some(tell(nodes.sizes(), roots.len(), fault))),
@@ -203,7 +204,10 @@ pub fn tested_parents(
     roots: &[Root],
 ) -> Result<Parents, FinishFault>
     requires { Few (sizes_of (nodes_in nodes.now)) }
-    ensures ok { IfOk result (λ parents. rooted_fault record { nodes = nodes_in nodes.now; roots = roots.now } None
+    ensures ok { IfOk result (λ parents. rooted_fault record {
+      nodes = nodes_in nodes.now;
+      roots = roots.now;
+    } None
         × HasParents (graph (nodes_in nodes.now)) parents.parents) }
     ensures err { IfErr result (λ fault. fault ≡ FinishFault.Memory
         ⊎ rooted_fault record { nodes = nodes_in nodes.now; roots = roots.now } (Some fault)) }

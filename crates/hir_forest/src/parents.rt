@@ -64,7 +64,8 @@ impl Parents {
     /// Begins the row of the next node, which must be one of those that there is room for.
     pub fn begin_row(&mut self)
         requires { self.old.rows < length self.old.parents }
-        ensures noted { (g : List (List ℕ)) → IsParentageOf g self.old → IsParentageOf (g ++ [] ∷ []) self.new }
+        ensures noted { (g : List (List ℕ)) → IsParentageOf g self.old
+            → IsParentageOf (g ++ [] ∷ []) self.new }
         ensures rows { self.new.rows ≡ self.old.rows + 1 }
         ensures room { length self.new.parents ≡ length self.old.parents }
     {

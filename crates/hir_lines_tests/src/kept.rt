@@ -35,11 +35,11 @@ struct Kept {
 }
 
 impl Kept {
+    ghost use Rattle.std.specs.Prelude.{[], ◌∷◌, ◌++◌, Some};
     ghost use Rattle.hir_lines.specs.Taking.{Steps};
-    ghost use Rattle.hir_lines_tests.specs.Kept.{and_one};
 
     fn keep(&mut self, maker: Maker) -> Result<(), Stop>
-        ensures { Steps (and_one self.old maker) self.old self.new result }
+        ensures { Steps (Some record { makers = self.old.makers ++ maker ∷ [] }) self.old self.new result }
     {
         self.makers.push(maker)?;
         Ok(())
@@ -47,9 +47,25 @@ impl Kept {
 }
 
 impl Builder for Kept {
-    ghost use Rattle.hir_lines_tests.specs.Kept.{and_kept};
+    ghost use Rattle.std.specs.Prelude.{[], ◌∷◌, ◌++◌, Some};
+    ghost use Rattle.hir_lines.specs.Makers as make;
+    ghost use Rattle.hir_lines_tests.specs.declared.kept.Maker.TheVariants as kept;
 
-    ghost add = { and_kept };
+    // What a line makes is kept as it came.
+    ghost add = { λ before maker. Some record {
+      makers = before.makers ++ elim maker [
+        | make.Binding binding ↦ kept.Binding binding
+        | make.Pat pat ↦ kept.Pat pat
+        | make.TypeRef type_ref ↦ kept.«Type» type_ref
+        | make.Expr expr ↦ kept.Expr expr
+        | make.Hygiene id hygiene ↦ kept.Hygiene id hygiene
+        | make.SelfParam id ↦ kept.SelfParam id
+        | make.Param id ↦ kept.Param id
+        | make.FnName name ↦ kept.FnName name
+        | make.Roots ↦ kept.Roots
+        | make.Root id ↦ kept.Root id
+      ] ∷ [];
+    } };
 
     fn binding(&mut self, binding: Binding) -> Result<(), Stop> {
         self.keep(Maker::Binding(binding))

@@ -6,6 +6,7 @@
 mod exprs;
 #[cfg(test)]
 mod good;
+#[cfg(test)]
 mod kept;
 #[cfg(test)]
 mod says;

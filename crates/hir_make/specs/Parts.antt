@@ -17,7 +17,12 @@ use Rattle.hir_store.specs.declared.builder.ExpressionStoreBuilder.{ExpressionSt
 
 -- the binding of this name, without `mut`, `ref` or hygiene
 abbrev pub plain_binding : List ℕ → Binding
-plain_binding name = record { name = name; mode = Unannotated; problems = None; hygiene = context.Root Edition2015 }
+plain_binding name = record {
+  name = name;
+  mode = Unannotated;
+  problems = None;
+  hygiene = context.Root Edition2015;
+}
 
 -- no type for each argument
 abbrev pub untyped : List ℕ → List (Option ℕ)

@@ -37,7 +37,8 @@ pub fn local(
 ///
 /// An error, where memory is refused or no id is left, leaves the builder as it was.
 pub fn int(builder: &mut ExpressionStoreBuilder, value: i128) -> Result<ExprId, HirError>
-    ensures ok { IfOk result (λ id. AddsExpr builder.old (Expr.Literal (literal.Int value None)) id builder.new) }
+    ensures ok { IfOk result (λ id. AddsExpr builder.old
+        (Expr.Literal (literal.Int value None)) id builder.new) }
     ensures err { IfErr result (λ fault. RefusesExpr builder.old fault builder.new) }
 {
     add_expr(builder, Expr::Literal(Literal::Int(value, None)))

@@ -119,7 +119,8 @@ arm_calls arm = e arm.expr ++ opt e arm.guard ++ p arm.pat
 
 -- of a `let` the initializer, the else branch, the pattern, the type
 abbrev pub statement_calls : Statement → List Call
-statement_calls (statement.Let pat type_ref initializer else_branch) = opt e initializer ++ opt e else_branch ++ p pat ++ opt t type_ref
+statement_calls (statement.Let pat type_ref initializer else_branch) =
+    opt e initializer ++ opt e else_branch ++ p pat ++ opt t type_ref
 statement_calls (statement.Expr expr has_semi) = e expr
 statement_calls (statement.Item item) = []
 
@@ -129,7 +130,8 @@ expr_calls (expr.Let pat expr) = p pat ++ e expr
 expr_calls (expr.Block id statements tail label unsafe_) = flat_map statement_calls statements ++ opt e tail
 expr_calls (expr.Loop body label source) = e body
 expr_calls (expr.Call callee args) = e callee ++ flat_map e args
-expr_calls (expr.MethodCall receiver method_name args generic_args) = e receiver ++ flat_map e args ++ opt args_calls generic_args
+expr_calls (expr.MethodCall receiver method_name args generic_args) =
+    e receiver ++ flat_map e args ++ opt args_calls generic_args
 expr_calls (expr.Match expr arms) = e expr ++ flat_map arm_calls arms
 expr_calls (expr.Break expr label) = opt e expr
 expr_calls (expr.Return expr) = opt e expr
@@ -141,8 +143,10 @@ expr_calls (expr.Await expr) = e expr
 expr_calls (expr.Ref expr rawness mutability) = e expr
 expr_calls (expr.UnaryOp expr op) = e expr
 expr_calls (expr.Cast expr type_ref) = e expr ++ t type_ref
-expr_calls (expr.RecordLit path fields spread) = flat_map (λ field. e field.expr) fields ++ spread_calls spread ++ path_calls path
-expr_calls (expr.Closure args arg_types ret_type body closure_kind capture_by) = e body ++ flat_map p args ++ flat_map (opt t) arg_types ++ opt t ret_type
+expr_calls (expr.RecordLit path fields spread) =
+    flat_map (λ field. e field.expr) fields ++ spread_calls spread ++ path_calls path
+expr_calls (expr.Closure args arg_types ret_type body closure_kind capture_by) =
+    e body ++ flat_map p args ++ flat_map (opt t) arg_types ++ opt t ret_type
 expr_calls (expr.BinaryOp lhs rhs op) = e lhs ++ e rhs
 expr_calls (expr.Index base index) = e base ++ e index
 expr_calls (expr.Assignment target value) = p target ++ e value

@@ -9,4 +9,5 @@ pub data Runs {V C : Type 0} (step : V → C → V → Type 0) : V → List C �
 -- each call may be made, whatever the steps of the calls before it left
 pub data MayRun {V C : Type 0} (may : V → C → Type 0) (step : V → C → V → Type 0) : V → List C → Type 0 where
   at_end : {v : V} → MayRun may step v []
-  at_call : {v : V} {c : C} {cs : List C} → may v c → ((w : V) → step v c w → MayRun may step w cs) → MayRun may step v (c ∷ cs)
+  at_call : {v : V} {c : C} {cs : List C} → may v c → ((w : V) → step v c w → MayRun may step w cs)
+      → MayRun may step v (c ∷ cs)

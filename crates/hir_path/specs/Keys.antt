@@ -19,5 +19,6 @@ unfolding makers
 reads (ExprId id) = refl
 reads (PatId id) = refl
 
-pub expr_or_pat_tells : (b : Bool) (x y : ExprOrPatId) → Decides b (x ≡ y) → Decides b (expr_or_pat_code x ≡ expr_or_pat_code y)
+pub expr_or_pat_tells : (b : Bool) (x y : ExprOrPatId) → Decides b (x ≡ y)
+    → Decides b (expr_or_pat_code x ≡ expr_or_pat_code y)
 expr_or_pat_tells = read_back_tells expr_or_pat_code (read_id makers) reads

@@ -89,5 +89,6 @@ qualifier (LangItem target name) = None
 abbrev pub IsSelfType : Path → Type 0
 IsSelfType (BarePath path) = ident_of path ≡ Some (codes "Self")
 IsSelfType (Normal normal) =
-    (normal.type_anchor ≡ None) × (ident_of normal.mod_path ≡ Some (codes "Self")) × IsTrue (no_args normal.generic_args)
+    (normal.type_anchor ≡ None) × (ident_of normal.mod_path ≡ Some (codes "Self"))
+    × IsTrue (no_args normal.generic_args)
 IsSelfType (LangItem target name) = ⊥

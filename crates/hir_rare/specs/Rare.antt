@@ -11,5 +11,6 @@ abbrev pub lends_made : (T : RattleType) → MutBor (Option T.Denot) → MutBor 
 lends_made T place r = Lends (option.the_row (boxed.the_row T)) T place r (λ value. Some value)
 
 -- once the borrow ends, the value is the last one written through r; it is unchanged where there is no r
-abbrev pub lends_value : {E : Type 0} (T : RattleType) → blank.Ghosts T.Denot → MutBor T.Denot → Result (MutBor T.Denot) E → Fml
+abbrev pub lends_value : {E : Type 0} (T : RattleType) → blank.Ghosts T.Denot → MutBor T.Denot
+    → Result (MutBor T.Denot) E → Fml
 lends_value T g rare r = LendsIfOk (the_row T g) T rare r (λ value. value) rare.now

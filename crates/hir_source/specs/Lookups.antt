@@ -10,7 +10,8 @@ use Rattle.hir_source.specs.declared.sources.ExprSources.{ExprSources}
 use Rattle.hir_source.specs.declared.source_map.ExpressionStoreSourceMap.{ExpressionStoreSourceMap}
 use Rattle.hir_source.specs.Sources.{Source, source_key, id_key, patterns_of}
 
-abbrev pub entry : {V : Type 0} → (ExprSources → map.FinMap by_code V) → Option ExprSources → List ℕ → Option V
+abbrev pub entry : {V : Type 0} → (ExprSources → map.FinMap by_code V) → Option ExprSources → List ℕ
+    → Option V
 entry family None key = None
 entry family (Some part) key = map.get (family part) key
 

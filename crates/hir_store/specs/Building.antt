@@ -22,11 +22,32 @@ pub record Building : Type 0 where
 
 -- an empty builder, which takes its memory from here
 abbrev pub empty_builder : Global → ExpressionStoreBuilder
-empty_builder alloc = record { exprs = []; pats = []; bindings = []; labels = []; lifetimes = []; types = []; binding_owners = map.empty; hygiene = map.empty; block_scopes = []; source_map = no_sources alloc; roots = None; alloc = alloc }
+empty_builder alloc = record {
+  exprs = [];
+  pats = [];
+  bindings = [];
+  labels = [];
+  lifetimes = [];
+  types = [];
+  binding_owners = map.empty;
+  hygiene = map.empty;
+  block_scopes = [];
+  source_map = no_sources alloc;
+  roots =
+      None;
+  alloc = alloc;
+}
 
 -- what a builder has
 abbrev pub nodes_of : ExpressionStoreBuilder → Nodes
-nodes_of b = record { exprs = b.exprs; pats = b.pats; types = b.types; bindings = b.bindings; labels = b.labels; lifetimes = b.lifetimes }
+nodes_of b = record {
+  exprs = b.exprs;
+  pats = b.pats;
+  types = b.types;
+  bindings = b.bindings;
+  labels = b.labels;
+  lifetimes = b.lifetimes;
+}
 
 abbrev pub side_tables_of : ExpressionStoreBuilder → SideTables
 side_tables_of b = record { owners = b.binding_owners; hygiene = b.hygiene; blocks = b.block_scopes }
@@ -44,7 +65,8 @@ roots_or_none (Some roots) = roots
 
 -- an expression, a label, a pattern or a binding exists: the expression part is kept
 abbrev pub has_exprs : Nodes → Bool
-has_exprs s = not (nat_eq (length s.exprs) 0) || not (nat_eq (length s.labels) 0) || not (nat_eq (length s.pats) 0) || not (nat_eq (length s.bindings) 0)
+has_exprs s = not (nat_eq (length s.exprs) 0) || not (nat_eq (length s.labels) 0)
+    || not (nat_eq (length s.pats) 0) || not (nat_eq (length s.bindings) 0)
 
 -- the side tables where the expression part is kept, and else empty ones
 abbrev pub kept_side_tables : Bool → SideTables → SideTables
@@ -52,7 +74,11 @@ kept_side_tables kept side_tables = cond kept side_tables no_side_tables
 
 -- what the store of a builder holds
 abbrev pub contents_of : Building → Contents
-contents_of b = record { nodes = b.nodes; roots = roots_or_none b.roots; side_tables = kept_side_tables (has_exprs b.nodes) b.side_tables }
+contents_of b = record {
+  nodes = b.nodes;
+  roots = roots_or_none b.roots;
+  side_tables = kept_side_tables (has_exprs b.nodes) b.side_tables;
+}
 
 -- the roots and one more, whose ends are the lengths of the arenas at that moment
 abbrev pub and_root : Building → ℕ → Option (List Root)
@@ -64,7 +90,8 @@ some_roots roots = Some (roots_or_none roots)
 
 -- a list of roots was begun, or there is nothing that needs one
 abbrev pub HasRoots : Building → Type 0
-HasRoots b = IsSome b.roots ⊎ ((b.nodes.exprs ≡ []) × (b.nodes.pats ≡ []) × (b.nodes.bindings ≡ []) × (b.nodes.labels ≡ []))
+HasRoots b = IsSome b.roots ⊎ ((b.nodes.exprs ≡ []) × (b.nodes.pats ≡ []) × (b.nodes.bindings ≡ [])
+    × (b.nodes.labels ≡ []))
 
 -- the first fault of a builder
 unfoldable pub finish_fault : Building → Option FinishFault → Type 0

@@ -33,8 +33,10 @@ fn walk_expr(
     Some(if with_pats {
         store.try_walk_child_exprs(id, &mut |child: ExprId| found.meet_up_to(child, end))
     } else {
-        store
-            .try_walk_child_exprs_without_pats(id, &mut |child: ExprId| found.meet_up_to(child, end))
+        store.try_walk_child_exprs_without_pats(
+            id,
+            &mut |child: ExprId| found.meet_up_to(child, end),
+        )
     })
 }
 

@@ -1,6 +1,9 @@
 //! Questions on the texts of faults.
 
-use hir_base::{ArenaFault, Id};
+use hir_base::{
+    ArenaFault, DefWithBodyId, FunctionId, GenericDefId, Id, Idx, LifetimeParamId, NamedDef,
+    TypeOrConstParamId, TypeParamId, VariantId,
+};
 use hir_captures::CapturesFault;
 use hir_defs::{BodyFault, SignatureFault};
 use hir_error::HirError;
@@ -30,9 +33,10 @@ enum Kind {
     Fill,
     End,
     Hir,
+    Missing,
 }
 
-const KINDS: [(&str, Kind); 12] = [
+const KINDS: [(&str, Kind); 13] = [
     ("ArenaFault", Kind::Arena),
     ("FinishFault", Kind::Finish),
     ("BodyFault", Kind::Body),
@@ -45,6 +49,7 @@ const KINDS: [(&str, Kind); 12] = [
     ("FillFault", Kind::Fill),
     ("EndFailed", Kind::End),
     ("HirError", Kind::Hir),
+    ("Missing", Kind::Missing),
 ];
 
 const ARENA: [(&str, ArenaFault); 2] = [("Memory", ArenaFault::Memory), ("Full", ArenaFault::Full)];
@@ -113,14 +118,50 @@ fn write<F: Display + Copy>(
     Ok(answer.word(format!(in alloc; "{fault}")?.as_str())?)
 }
 
-/// The same of an error that holds the first fault of its kind that has no parts; what is missing is the name of crate 0.
+/// What is missing, of this name, with 0 for each number of its id.
+fn missing_of(name: &[u8]) -> Option<Missing> {
+    let function: FunctionId = Id::from_raw(0);
+    let parent = GenericDefId::FunctionId(function);
+    match name {
+        b"Name" => Some(Missing::Name(NamedDef::FunctionId(function))),
+        b"Variant" => Some(Missing::Variant(Id::from_raw(0))),
+        b"Crate" => Some(Missing::Crate(Id::from_raw(0))),
+        b"Signature" => Some(Missing::Signature(parent)),
+        b"Body" => Some(Missing::Body(DefWithBodyId::FunctionId(function))),
+        b"Fields" => Some(Missing::Fields(VariantId::StructId(Id::from_raw(0)))),
+        b"TypeParam" => {
+            let id = TypeOrConstParamId {
+                parent,
+                local_id: Idx::from_raw(0),
+            };
+            Some(Missing::TypeParam(TypeParamId::from_unchecked(id)))
+        }
+        b"LifetimeParam" => Some(Missing::LifetimeParam(LifetimeParamId {
+            parent,
+            local_id: Idx::from_raw(0),
+        })),
+        b"DefMap" => Some(Missing::DefMap(Id::from_raw(0))),
+        _ => None,
+    }
+}
+
+/// Writes what is missing, as it says it and as an error of it does.
+fn write_missing(alloc: Global, name: &[u8], answer: &mut Answer) -> Result<(), Stop> {
+    let Some(missing) = missing_of(name) else {
+        return Err(Stop::Bad);
+    };
+    answer.word(format!(in alloc; "{missing}:")?.as_str())?;
+    let error = HirError::from(missing);
+    Ok(answer.word(format!(in alloc; "{error}")?.as_str())?)
+}
+
+/// The same of an error that holds the first fault of its kind that has no parts.
 fn write_error(alloc: Global, name: &[u8], answer: &mut Answer) -> Result<(), Stop> {
     let errors = [
         ("Arena", HirError::from(ArenaFault::Memory)),
         ("Store", HirError::from(FinishFault::NoRoots)),
         ("Body", HirError::from(BodyFault::NoRoot)),
         ("Signature", HirError::from(SignatureFault::IdOutOfRange)),
-        ("Missing", HirError::from(Missing::Crate(Id::from_raw(0)))),
         ("Scopes", HirError::from(ScopesFault::Missing)),
         ("Print", HirError::from(PrintFault::Memory)),
         ("Captures", HirError::from(CapturesFault::NotAClosure)),
@@ -143,6 +184,7 @@ fn write_fault(alloc: Global, kind: Kind, name: &[u8], answer: &mut Answer) -> R
         Kind::Fill => write(alloc, &FILL, name, answer),
         Kind::End => write(alloc, &END, name, answer),
         Kind::Hir => write_error(alloc, name, answer),
+        Kind::Missing => write_missing(alloc, name, answer),
     }
 }
 

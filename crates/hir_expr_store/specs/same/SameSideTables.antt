@@ -11,8 +11,10 @@ use Rattle.hir_expr_store.specs.contracts.side_tables.SideTablesPartialEq.TheImp
 
 pub side_tables_decide : (x y : SideTables) → Decides (side_tables.ghosts.eq x y) (x ≡ y)
 side_tables_decide x y =
-    and_decides _ _ (same_maps_decides nat_list_cmp_total _ by_code-IsAntisymmetric (search exact) x.owners y.owners)
-    (both _ _ (same_maps_decides nat_list_cmp_total _ by_code-IsAntisymmetric (search exact) x.hygiene y.hygiene) (pointwise_decides (search exact) x.blocks y.blocks))
+    and_decides _ _ (same_maps_decides nat_list_cmp_total _ by_code-IsAntisymmetric
+    (search exact) x.owners y.owners)
+    (both _ _ (same_maps_decides nat_list_cmp_total _ by_code-IsAntisymmetric
+    (search exact) x.hygiene y.hygiene) (pointwise_decides (search exact) x.blocks y.blocks))
     (λ o r i. record { owners = o i; hygiene = r.0 i; blocks = r.1 i })
     (λ e i. (e i).owners)
     (λ e. (λ i. (e i).hygiene, λ i. (e i).blocks))

@@ -41,10 +41,34 @@ stores_decide x y =
     (both _ _ (pointwise_decides types_decide x.nodes.types y.nodes.types)
     (both _ _ (pointwise_decides bindings_decide x.nodes.bindings y.nodes.bindings)
     (both _ _ (pointwise_decides labels_law.lawful.eq_decides x.nodes.labels y.nodes.labels)
-    (both _ _ (pointwise_decides lifetimes_law.lawful.eq_decides x.nodes.lifetimes y.nodes.lifetimes) (both _ _ (root_lists_decide x.roots y.roots) (side_tables_decide x.side_tables y.side_tables)))))))
-    (λ e r i. record { nodes = record { exprs = e i; pats = r.0 i; types = r.1.0 i; bindings = r.1.1.0 i; labels = r.1.1.1.0 i; lifetimes = r.1.1.1.1.0 i }; roots = r.1.1.1.1.1.0 i; side_tables = r.1.1.1.1.1.1 i })
+    (both _ _ (pointwise_decides lifetimes_law.lawful.eq_decides x.nodes.lifetimes y.nodes.lifetimes)
+    (both _ _ (root_lists_decide x.roots y.roots) (side_tables_decide x.side_tables y.side_tables)))))))
+    (λ e r i. record {
+      nodes = record {
+        exprs = e i;
+        pats = r.0 i;
+        types = r.1.0 i;
+        bindings = r.1.1.0 i;
+        labels = r.1.1.1.0 i;
+        lifetimes = r.1.1.1.1.0 i;
+      };
+      roots = r.1.1.1.1.1.0 i;
+      side_tables = r.1.1.1.1.1.1 i;
+    })
     (λ e i. (e i).nodes.exprs)
-    (λ e. (λ i. (e i).nodes.pats, (λ i. (e i).nodes.types, (λ i. (e i).nodes.bindings, (λ i. (e i).nodes.labels, (λ i. (e i).nodes.lifetimes, (λ i. (e i).roots, λ i. (e i).side_tables)))))))
+    (λ e. (
+      λ i. (e i).nodes.pats,
+      (
+        λ i. (e i).nodes.types,
+        (
+          λ i. (e i).nodes.bindings,
+          (
+            λ i. (e i).nodes.labels,
+            (λ i. (e i).nodes.lifetimes, (λ i. (e i).roots, λ i. (e i).side_tables)),
+          ),
+        ),
+      ),
+    ))
 
 -- so it is an equality
 pub stores_equiv : IsEquivalence same_stores

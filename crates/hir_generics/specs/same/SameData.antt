@@ -27,7 +27,8 @@ names_decide = names_law.lawful.eq_decides
 pub optional_names_decide : (x y : Option (List ℕ)) → Decides (option_eq names.ghosts.eq x y) (x ≡ y)
 optional_names_decide = options_decide names_decide
 
-pub optional_name_lists_decide : (x y : Option (List (List ℕ))) → Decides (option_eq (pointwise names.ghosts.eq) x y) (x ≡ y)
+pub optional_name_lists_decide : (x y : Option (List (List ℕ)))
+    → Decides (option_eq (pointwise names.ghosts.eq) x y) (x ≡ y)
 optional_name_lists_decide = options_decide (pointwise_decides names_decide)
 
 pub bounds_decide : (x y : TypeBound) → Decides (bounds.ghosts.eq x y) (x ≡ y)

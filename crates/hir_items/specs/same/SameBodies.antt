@@ -17,13 +17,17 @@ use Rattle.hir_items.specs.contracts.body.BodyPartialEq.TheImpl as body
 use Rattle.hir_items.specs.contracts.body_source_map.BodySourceMapPartialEq.TheImpl as body_maps
 use Rattle.hir_items.specs.Bodies.{BodyContents}
 
-params_decide : (x y : Param ℕ) → Decides ((id.ghosts pat.the_row).eq x.formal y.formal && (id.ghosts pat.the_row).eq x.user_written y.user_written) (x ≡ y)
+params_decide : (x y : Param ℕ) → Decides ((id.ghosts pat.the_row).eq x.formal y.formal
+    && (id.ghosts pat.the_row).eq x.user_written y.user_written) (x ≡ y)
 params_decide x y = search exact
 
-self_decides : (x y : Param ℕ) → Decides ((id.ghosts binding.the_row).eq x.formal y.formal && (id.ghosts binding.the_row).eq x.user_written y.user_written) (x ≡ y)
+self_decides : (x y : Param ℕ) → Decides ((id.ghosts binding.the_row).eq x.formal y.formal
+    && (id.ghosts binding.the_row).eq x.user_written y.user_written) (x ≡ y)
 self_decides x y = search exact
 
-selves_decide : (x y : Option (Param ℕ)) → Decides (option_eq (λ x y. (id.ghosts binding.the_row).eq x.formal y.formal && (id.ghosts binding.the_row).eq x.user_written y.user_written) x y) (x ≡ y)
+selves_decide : (x y : Option (Param ℕ)) → Decides
+    (option_eq (λ x y. (id.ghosts binding.the_row).eq x.formal y.formal
+    && (id.ghosts binding.the_row).eq x.user_written y.user_written) x y) (x ≡ y)
 selves_decide x y = search (exact, self_decides)
 
 pub bodies_decide : (x y : BodyContents) → Decides (body.ghosts.eq x y) (x ≡ y)
@@ -35,5 +39,7 @@ bodies_decide x y =
     (λ e. (λ i. (e i).params, λ i. (e i).self_param))
 
 -- source maps of stores are compared by a part
-pub body_maps_decide : (x y : BodySourceMap) → Decides (body_maps.ghosts.eq x y) ((compared x.store ≡ compared y.store) × (x.self_param_syntax ≡ y.self_param_syntax))
-body_maps_decide x y = both _ _ (maps_decide x.store y.store) (options_decide (λ p q. search exact) x.self_param_syntax y.self_param_syntax)
+pub body_maps_decide : (x y : BodySourceMap) → Decides (body_maps.ghosts.eq x y)
+    ((compared x.store ≡ compared y.store) × (x.self_param_syntax ≡ y.self_param_syntax))
+body_maps_decide x y = both _ _ (maps_decide x.store y.store)
+    (options_decide (λ p q. search exact) x.self_param_syntax y.self_param_syntax)

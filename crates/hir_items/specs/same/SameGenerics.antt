@@ -31,8 +31,12 @@ predicates_decide = pointwise_decides predicates_law.lawful.eq_decides
 pub generics_decide : (x y : Generics) → Decides (generics.ghosts.eq x y) (x ≡ y)
 generics_decide x y =
     and_decides _ _ (params_decide x.type_or_consts y.type_or_consts)
-    (and_decides {R = (x.lifetimes ≡ y.lifetimes) × (x.predicates ≡ y.predicates)} _ _ (lifetimes_decide x.lifetimes y.lifetimes)
-    (and_decides {R = (x.predicates ≡ y.predicates) × (count_bound EarlyBound x.lifetimes ≡ count_bound EarlyBound y.lifetimes)} _ _ (predicates_decide x.predicates y.predicates) (unsigned_Decides (count_bound EarlyBound x.lifetimes) (count_bound EarlyBound y.lifetimes))
+    (and_decides {R = (x.lifetimes ≡ y.lifetimes)
+    × (x.predicates ≡ y.predicates)} _ _ (lifetimes_decide x.lifetimes y.lifetimes)
+    (and_decides {R = (x.predicates ≡ y.predicates)
+    × (count_bound EarlyBound x.lifetimes ≡ count_bound EarlyBound y.lifetimes)} _ _
+    (predicates_decide x.predicates y.predicates)
+    (unsigned_Decides (count_bound EarlyBound x.lifetimes) (count_bound EarlyBound y.lifetimes))
     (λ p c. (p, c)) (λ r. r.0) (λ r. r.1))
     (λ l r. (l, r.0)) (λ r. r.0) (λ r. (r.1, ap (count_bound EarlyBound) r.0)))
     (λ p r i. record { type_or_consts = p i; lifetimes = r.0 i; predicates = r.1 i })

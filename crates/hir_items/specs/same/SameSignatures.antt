@@ -37,8 +37,15 @@ fields_decide x y =
     and_decides _ _ (names_decide x.name y.name)
     (both _ _ (unsigned_Decides x.type_ref y.type_ref)
     (both _ _ (visibilities_decide x.visibility y.visibility)
-    (both _ _ (flags_decide x.is_unsafe y.is_unsafe) (optional_numbers_decide x.default_value y.default_value))))
-    (λ e r i. record { name = e i; type_ref = r.0 i; visibility = r.1.0 i; is_unsafe = r.1.1.0 i; default_value = r.1.1.1 i })
+    (both _ _ (flags_decide x.is_unsafe y.is_unsafe)
+    (optional_numbers_decide x.default_value y.default_value))))
+    (λ e r i. record {
+      name = e i;
+      type_ref = r.0 i;
+      visibility = r.1.0 i;
+      is_unsafe = r.1.1.0 i;
+      default_value = r.1.1.1 i;
+    })
     (λ e i. (e i).name)
     (λ e. (λ i. (e i).type_ref, (λ i. (e i).visibility, (λ i. (e i).is_unsafe, λ i. (e i).default_value))))
 
@@ -56,10 +63,48 @@ functions_decide x y =
     (both _ _ (flags_decide x.is_const y.is_const)
     (both _ _ (flags_decide x.is_async y.is_async)
     (both _ _ (flags_decide x.is_unsafe y.is_unsafe)
-    (both _ _ (flags_decide x.is_explicit_safe y.is_explicit_safe) (indices_decide x.legacy_const_indices y.legacy_const_indices))))))))))
-    (λ e r i. record { name = e i; generic_params = r.0 i; store = r.1.0 i; params = r.1.1.0 i; ret_type = r.1.1.1.0 i; abi = r.1.1.1.1.0 i; is_const = r.1.1.1.1.1.0 i; is_async = r.1.1.1.1.1.1.0 i; is_unsafe = r.1.1.1.1.1.1.1.0 i; is_explicit_safe = r.1.1.1.1.1.1.1.1.0 i; legacy_const_indices = r.1.1.1.1.1.1.1.1.1 i })
+    (both _ _ (flags_decide x.is_explicit_safe y.is_explicit_safe)
+    (indices_decide x.legacy_const_indices y.legacy_const_indices))))))))))
+    (λ e r i. record {
+      name = e i;
+      generic_params = r.0 i;
+      store = r.1.0 i;
+      params = r.1.1.0 i;
+      ret_type = r.1.1.1.0 i;
+      abi = r.1.1.1.1.0 i;
+      is_const = r.1.1.1.1.1.0 i;
+      is_async = r.1.1.1.1.1.1.0 i;
+      is_unsafe = r.1.1.1.1.1.1.1.0 i;
+      is_explicit_safe = r.1.1.1.1.1.1.1.1.0 i;
+      legacy_const_indices =
+          r.1.1.1.1.1.1.1.1.1 i;
+    })
     (λ e i. (e i).name)
-    (λ e. (λ i. (e i).generic_params, (λ i. (e i).store, (λ i. (e i).params, (λ i. (e i).ret_type, (λ i. (e i).abi, (λ i. (e i).is_const, (λ i. (e i).is_async, (λ i. (e i).is_unsafe, (λ i. (e i).is_explicit_safe, λ i. (e i).legacy_const_indices))))))))))
+    (λ e. (
+      λ i. (e i).generic_params,
+      (
+        λ i. (e i).store,
+        (
+          λ i. (e i).params,
+          (
+            λ i. (e i).ret_type,
+            (
+              λ i. (e i).abi,
+              (
+                λ i. (e i).is_const,
+                (
+                  λ i. (e i).is_async,
+                  (
+                    λ i. (e i).is_unsafe,
+                    (λ i. (e i).is_explicit_safe, λ i. (e i).legacy_const_indices),
+                  ),
+                ),
+              ),
+            ),
+          ),
+        ),
+      ),
+    ))
 
 pub structs_decide : (x y : StructParts) → Decides (structs.ghosts.eq x y) (x ≡ y)
 structs_decide x y =
@@ -67,7 +112,13 @@ structs_decide x y =
     (both _ _ (generics_decide x.generic_params y.generic_params)
     (both _ _ (stores_decide x.store y.store)
     (both _ _ (flags_decide x.is_fundamental y.is_fundamental) (shapes_decide x.shape y.shape))))
-    (λ e r i. record { name = e i; generic_params = r.0 i; store = r.1.0 i; is_fundamental = r.1.1.0 i; shape = r.1.1.1 i })
+    (λ e r i. record {
+      name = e i;
+      generic_params = r.0 i;
+      store = r.1.0 i;
+      is_fundamental = r.1.1.0 i;
+      shape = r.1.1.1 i;
+    })
     (λ e i. (e i).name)
     (λ e. (λ i. (e i).generic_params, (λ i. (e i).store, (λ i. (e i).is_fundamental, λ i. (e i).shape))))
 

@@ -43,13 +43,16 @@ annotations_decide = annotations_law.lawful.eq_decides
 pub floats_decide : (x y : List ℕ) → Decides (floats.ghosts.eq x y) (x ≡ y)
 floats_decide = floats_law.lawful.eq_decides
 
-pub suffixes_of_ints_decide : (x y : Option BuiltinInt) → Decides (option_eq suffixes_of_ints.ghosts.eq x y) (x ≡ y)
+pub suffixes_of_ints_decide : (x y : Option BuiltinInt)
+    → Decides (option_eq suffixes_of_ints.ghosts.eq x y) (x ≡ y)
 suffixes_of_ints_decide = options_decide suffixes_of_ints_law.lawful.eq_decides
 
-pub suffixes_of_uints_decide : (x y : Option BuiltinUint) → Decides (option_eq suffixes_of_uints.ghosts.eq x y) (x ≡ y)
+pub suffixes_of_uints_decide : (x y : Option BuiltinUint)
+    → Decides (option_eq suffixes_of_uints.ghosts.eq x y) (x ≡ y)
 suffixes_of_uints_decide = options_decide suffixes_of_uints_law.lawful.eq_decides
 
-pub suffixes_of_floats_decide : (x y : Option BuiltinFloat) → Decides (option_eq suffixes_of_floats.ghosts.eq x y) (x ≡ y)
+pub suffixes_of_floats_decide : (x y : Option BuiltinFloat)
+    → Decides (option_eq suffixes_of_floats.ghosts.eq x y) (x ≡ y)
 suffixes_of_floats_decide = options_decide suffixes_of_floats_law.lawful.eq_decides
 
 pub problems_decide : (x y : Option BindingProblems) → Decides (option_eq problems.ghosts.eq x y) (x ≡ y)
@@ -58,7 +61,20 @@ problems_decide = options_decide problems_law.lawful.eq_decides
 pub name_lists_decide : (xs ys : List (List ℕ)) → Decides (pointwise names.ghosts.eq xs ys) (xs ≡ ys)
 name_lists_decide = pointwise_decides names_decide
 
-pub optional_name_lists_decide : (x y : Option (List (List ℕ))) → Decides (option_eq (pointwise names.ghosts.eq) x y) (x ≡ y)
+pub optional_name_lists_decide : (x y : Option (List (List ℕ)))
+    → Decides (option_eq (pointwise names.ghosts.eq) x y) (x ≡ y)
 optional_name_lists_decide = options_decide name_lists_decide
 
-pub ruleset leaves = (paths.leaves, abis_decide, hygienes_decide, annotations_decide, floats_decide, suffixes_of_ints_decide, suffixes_of_uints_decide, suffixes_of_floats_decide, problems_decide, name_lists_decide, optional_name_lists_decide)
+pub ruleset leaves = (
+  paths.leaves,
+  abis_decide,
+  hygienes_decide,
+  annotations_decide,
+  floats_decide,
+  suffixes_of_ints_decide,
+  suffixes_of_uints_decide,
+  suffixes_of_floats_decide,
+  problems_decide,
+  name_lists_decide,
+  optional_name_lists_decide,
+)

@@ -42,6 +42,8 @@ exprs_decide x y = values_decide enum x y (
     (then _ _ (λ a b. search small_types)
     (then _ _ (λ a b. search small_types)
     (then _ _ (λ a b. search small_types)
-    (then _ _ (also _ _ bytes_decide (also _ _ optional_number_lists_decide (also _ _ optional_numbers_decide (also _ _ unsigned_Decides (also _ _ closure_kinds_decide (last _ captures_decide))))))
+    (then _ _ (also _ _ bytes_decide (also _ _ optional_number_lists_decide
+    (also _ _ optional_numbers_decide (also _ _ unsigned_Decides
+    (also _ _ closure_kinds_decide (last _ captures_decide))))))
     (then _ _ (λ a b. search small_types)
     (λ c d. absurd c))))))))))))))))))))))))))))))))) _ _)

@@ -137,7 +137,8 @@ arms_decide = pointwise_decides arms_law.lawful.eq_decides
 pub fields_decide : (xs ys : List RecordLitField) → Decides (pointwise fields.ghosts.eq xs ys) (xs ≡ ys)
 fields_decide = pointwise_decides fields_law.lawful.eq_decides
 
-pub field_pats_decide : (xs ys : List RecordFieldPat) → Decides (pointwise field_pats.ghosts.eq xs ys) (xs ≡ ys)
+pub field_pats_decide : (xs ys : List RecordFieldPat)
+    → Decides (pointwise field_pats.ghosts.eq xs ys) (xs ≡ ys)
 field_pats_decide = pointwise_decides field_pats_law.lawful.eq_decides
 
 pub bounds_decide : (xs ys : List TypeBound) → Decides (pointwise bounds.ghosts.eq xs ys) (xs ≡ ys)
@@ -149,4 +150,30 @@ operators_decide = options_decide operators_law.lawful.eq_decides
 pub given_args_decide : (x y : Option GenericArgs) → Decides (option_eq given_args.ghosts.eq x y) (x ≡ y)
 given_args_decide = options_decide given_args_law.lawful.eq_decides
 
-pub ruleset small_types = (exact, paths_decide, literals_decide, mutabilities_decide, rawnesses_decide, ref_types_decide, array_types_decide, fn_types_decide, arrays_decide, offsets_decide, spreads_decide, unsafes_decide, loop_sources_decide, closure_kinds_decide, captures_decide, ranges_decide, unary_ops_decide, params_decide, statements_decide, arms_decide, fields_decide, field_pats_decide, bounds_decide, operators_decide, given_args_decide)
+pub ruleset small_types = (
+  exact,
+  paths_decide,
+  literals_decide,
+  mutabilities_decide,
+  rawnesses_decide,
+  ref_types_decide,
+  array_types_decide,
+  fn_types_decide,
+  arrays_decide,
+  offsets_decide,
+  spreads_decide,
+  unsafes_decide,
+  loop_sources_decide,
+  closure_kinds_decide,
+  captures_decide,
+  ranges_decide,
+  unary_ops_decide,
+  params_decide,
+  statements_decide,
+  arms_decide,
+  fields_decide,
+  field_pats_decide,
+  bounds_decide,
+  operators_decide,
+  given_args_decide,
+)

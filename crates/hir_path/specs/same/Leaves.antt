@@ -28,10 +28,19 @@ targets_decide = targets_law.lawful.eq_decides
 pub given_decide : (x y : Option GenericArgs) → Decides (option_eq given.ghosts.eq x y) (x ≡ y)
 given_decide = options_decide given_law.lawful.eq_decides
 
-pub given_lists_decide : (xs ys : List (Option GenericArgs)) → Decides (pointwise (option_eq given.ghosts.eq) xs ys) (xs ≡ ys)
+pub given_lists_decide : (xs ys : List (Option GenericArgs))
+    → Decides (pointwise (option_eq given.ghosts.eq) xs ys) (xs ≡ ys)
 given_lists_decide = pointwise_decides given_decide
 
 pub optional_names_decide : (x y : Option (List ℕ)) → Decides (option_eq names.ghosts.eq x y) (x ≡ y)
 optional_names_decide = options_decide names_decide
 
-pub ruleset leaves = (exact, mod_paths_decide, names_decide, targets_decide, given_decide, given_lists_decide, optional_names_decide)
+pub ruleset leaves = (
+  exact,
+  mod_paths_decide,
+  names_decide,
+  targets_decide,
+  given_decide,
+  given_lists_decide,
+  optional_names_decide,
+)

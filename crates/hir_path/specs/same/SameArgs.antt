@@ -28,7 +28,8 @@ Told {X} E = (x : X) × ((y : X) → Decides (E x y) (x ≡ y))
 abbrev told : {X : Type 0} {E : X → X → Bool} → List (Told E) → List X
 told xs = map (λ e. e.0) xs
 
-list_decides : {X : Type 0} (E : X → X → Bool) (xs : List (Told E)) (ys : List X) → Decides (pointwise E (told xs) ys) (told xs ≡ ys)
+list_decides : {X : Type 0} (E : X → X → Bool) (xs : List (Told E)) (ys : List X)
+    → Decides (pointwise E (told xs) ys) (told xs ≡ ys)
 list_decides E [] [] = (λ h. refl, λ e. refl)
 list_decides E [] (y ∷ ys) = (λ h. absurd (cc), λ e. absurd (cc))
 list_decides E (x ∷ xs) [] = (λ h. absurd (cc), λ e. absurd (cc))
@@ -39,7 +40,8 @@ abbrev option_told : {X : Type 0} {E : X → X → Bool} → Option (Told E) →
 option_told None = None
 option_told (Some x) = Some x.0
 
-option_decides : {X : Type 0} (E : X → X → Bool) (o : Option (Told E)) (p : Option X) → Decides (option_eq E (option_told o) p) (option_told o ≡ p)
+option_decides : {X : Type 0} (E : X → X → Bool) (o : Option (Told E)) (p : Option X)
+    → Decides (option_eq E (option_told o) p) (option_told o ≡ p)
 option_decides E None None = (λ h. refl, λ e. refl)
 option_decides E None (Some y) = (λ h. absurd (cc), λ e. absurd (cc))
 option_decides E (Some x) None = (λ h. absurd (cc), λ e. absurd (cc))
@@ -57,14 +59,17 @@ parentheses_decide x y = search exact
 flags_decide : (x y : Bool) → Decides (flag.ghosts.eq x y) (x ≡ y)
 flags_decide x y = search exact
 
-same_args : (x y : GenericArgs-F AssociatedTypeBinding GenericArgs) → x.args ≡ y.args → x.has_self_type ≡ y.has_self_type → x.bindings ≡ y.bindings → x.parenthesized ≡ y.parenthesized → x ≡ y
+same_args : (x y : GenericArgs-F AssociatedTypeBinding GenericArgs) → x.args ≡ y.args
+    → x.has_self_type ≡ y.has_self_type → x.bindings ≡ y.bindings → x.parenthesized ≡ y.parenthesized → x ≡ y
 same_args x y a h b p = λ i. record { args = a i; has_self_type = h i; bindings = b i; parenthesized = p i }
 
 opened_args : (x y : GenericArgs) → out-GenericArgs x ≡ out-GenericArgs y → x ≡ y
 opened_args x y e = sym (roll-out-GenericArgs x) ∙ ap roll-GenericArgs e ∙ roll-out-GenericArgs y
 
 -- generic arguments, where a test decides whether their bindings are the same
-args_step : (x y : GenericArgs) → Decides (pointwise binding.ghosts.eq (out-GenericArgs x).bindings (out-GenericArgs y).bindings) ((out-GenericArgs x).bindings ≡ (out-GenericArgs y).bindings) → Decides (args.ghosts.eq x y) (x ≡ y)
+args_step : (x y : GenericArgs) → Decides (pointwise binding.ghosts.eq (out-GenericArgs x).bindings
+    (out-GenericArgs y).bindings) ((out-GenericArgs x).bindings ≡ (out-GenericArgs y).bindings)
+    → Decides (args.ghosts.eq x y) (x ≡ y)
 args_step x y bindings =
     let u = out-GenericArgs x in
     let v = out-GenericArgs y in
@@ -72,22 +77,37 @@ args_step x y bindings =
     let lists = generic_args_decide u.args v.args in
     let marks = parentheses_decide u.parenthesized v.parenthesized in
     let shown : Decides (args_laws.unfolded x y) (x ≡ y) =
-    and_decides _ _ lists (and_decides {R = (u.has_self_type ≡ v.has_self_type) × (u.bindings ≡ v.bindings) × (u.parenthesized ≡ v.parenthesized)} _ _ flags (and_decides {R = (u.bindings ≡ v.bindings) × (u.parenthesized ≡ v.parenthesized)} _ _ bindings marks (λ b p. (b, p)) (λ r. r.0) (λ r. r.1)) (λ h r. (h, r.0, r.1)) (λ r. r.0) (λ r. (r.1, r.2)))
-    (λ a r. opened_args x y (same_args u v a r.0 r.1 r.2)) (λ e i. (out-GenericArgs (e i)).args) (λ e. (λ i. (out-GenericArgs (e i)).has_self_type, λ i. (out-GenericArgs (e i)).bindings, λ i. (out-GenericArgs (e i)).parenthesized))
+    and_decides _ _ lists (and_decides {R = (u.has_self_type ≡ v.has_self_type) × (u.bindings ≡ v.bindings)
+    × (u.parenthesized ≡ v.parenthesized)} _ _ flags
+    (and_decides {R = (u.bindings ≡ v.bindings) × (u.parenthesized ≡ v.parenthesized)} _ _ bindings marks
+    (λ b p. (b, p)) (λ r. r.0) (λ r. r.1)) (λ h r. (h, r.0, r.1)) (λ r. r.0) (λ r. (r.1, r.2)))
+    (λ a r. opened_args x y (same_args u v a r.0 r.1 r.2)) (λ e i. (out-GenericArgs (e i)).args)
+    (λ e. (
+      λ i. (out-GenericArgs (e i)).has_self_type,
+      λ i. (out-GenericArgs (e i)).bindings,
+      λ i.
+          (out-GenericArgs (e i)).parenthesized,
+    ))
     in
     subst (λ b. Decides b (x ≡ y)) (sym (args_laws.is x y)) shown
 
-same_binding : (x y : AssociatedTypeBinding-F AssociatedTypeBinding GenericArgs) → x.name ≡ y.name → x.args ≡ y.args → x.type_ref ≡ y.type_ref → x.bounds ≡ y.bounds → x ≡ y
+same_binding : (x y : AssociatedTypeBinding-F AssociatedTypeBinding GenericArgs) → x.name ≡ y.name
+    → x.args ≡ y.args → x.type_ref ≡ y.type_ref → x.bounds ≡ y.bounds → x ≡ y
 same_binding x y n a t b = λ i. record { name = n i; args = a i; type_ref = t i; bounds = b i }
 
-opened_binding : (x y : AssociatedTypeBinding) → out-AssociatedTypeBinding x ≡ out-AssociatedTypeBinding y → x ≡ y
-opened_binding x y e = sym (roll-out-AssociatedTypeBinding x) ∙ ap roll-AssociatedTypeBinding e ∙ roll-out-AssociatedTypeBinding y
+opened_binding : (x y : AssociatedTypeBinding)
+    → out-AssociatedTypeBinding x ≡ out-AssociatedTypeBinding y → x ≡ y
+opened_binding x y e = sym (roll-out-AssociatedTypeBinding x) ∙ ap roll-AssociatedTypeBinding e
+    ∙ roll-out-AssociatedTypeBinding y
 
 types_decide : (x y : Option ℕ) → Decides (option_eq eqb x y) (x ≡ y)
 types_decide x y = search exact
 
 -- an associated type binding, where a test decides whether its own arguments are the same
-binding_step : (x y : AssociatedTypeBinding) → Decides (option_eq args.ghosts.eq (out-AssociatedTypeBinding x).args (out-AssociatedTypeBinding y).args) ((out-AssociatedTypeBinding x).args ≡ (out-AssociatedTypeBinding y).args) → Decides (binding.ghosts.eq x y) (x ≡ y)
+binding_step : (x y : AssociatedTypeBinding) → Decides
+    (option_eq args.ghosts.eq (out-AssociatedTypeBinding x).args (out-AssociatedTypeBinding y).args)
+    ((out-AssociatedTypeBinding x).args ≡ (out-AssociatedTypeBinding y).args)
+    → Decides (binding.ghosts.eq x y) (x ≡ y)
 binding_step x y inner =
     let u = out-AssociatedTypeBinding x in
     let v = out-AssociatedTypeBinding y in
@@ -95,8 +115,18 @@ binding_step x y inner =
     let types = types_decide u.type_ref v.type_ref in
     let bounds = bounds_decide u.bounds v.bounds in
     let shown : Decides (binding_laws.unfolded x y) (x ≡ y) =
-    and_decides _ _ names (and_decides {R = (u.args ≡ v.args) × (u.type_ref ≡ v.type_ref) × (u.bounds ≡ v.bounds)} _ _ inner (and_decides {R = (u.type_ref ≡ v.type_ref) × (u.bounds ≡ v.bounds)} _ _ types bounds (λ t b. (t, b)) (λ r. r.0) (λ r. r.1)) (λ a r. (a, r.0, r.1)) (λ r. r.0) (λ r. (r.1, r.2)))
-    (λ n r. opened_binding x y (same_binding u v n r.0 r.1 r.2)) (λ e i. (out-AssociatedTypeBinding (e i)).name) (λ e. (λ i. (out-AssociatedTypeBinding (e i)).args, λ i. (out-AssociatedTypeBinding (e i)).type_ref, λ i. (out-AssociatedTypeBinding (e i)).bounds))
+    and_decides _ _ names (and_decides {R = (u.args ≡ v.args) × (u.type_ref ≡ v.type_ref)
+    × (u.bounds ≡ v.bounds)} _ _ inner (and_decides {R = (u.type_ref ≡ v.type_ref)
+    × (u.bounds ≡ v.bounds)} _ _ types bounds (λ t b. (t, b)) (λ r. r.0) (λ r. r.1))
+    (λ a r. (a, r.0, r.1)) (λ r. r.0) (λ r. (r.1, r.2)))
+    (λ n r. opened_binding x y (same_binding u v n r.0 r.1 r.2))
+    (λ e i. (out-AssociatedTypeBinding (e i)).name)
+    (λ e. (
+      λ i. (out-AssociatedTypeBinding (e i)).args,
+      λ i.
+          (out-AssociatedTypeBinding (e i)).type_ref,
+      λ i. (out-AssociatedTypeBinding (e i)).bounds,
+    ))
     in
     subst (λ b. Decides b (x ≡ y)) (sym (binding_laws.is x y)) shown
 
@@ -106,21 +136,28 @@ args_told x = (y : GenericArgs) → Decides (args.ghosts.eq x y) (x ≡ y)
 abbrev binding_told : AssociatedTypeBinding → Type 0
 binding_told x = (y : AssociatedTypeBinding) → Decides (binding.ghosts.eq x y) (x ≡ y)
 
-option_map_told : (o : Option (Told args.ghosts.eq)) → former-AssociatedTypeBinding-args.map (Told args.ghosts.eq) GenericArgs (λ e. e.0) o ≡ option_told o
+option_map_told : (o : Option (Told args.ghosts.eq))
+    → former-AssociatedTypeBinding-args.map (Told args.ghosts.eq) GenericArgs (λ e. e.0) o ≡ option_told o
 option_map_told None = refl
 option_map_told (Some x) = refl
 
-binding_made : (x : AssociatedTypeBinding-F AssociatedTypeBinding GenericArgs) (inner : Option (Told args.ghosts.eq)) → option_told inner ≡ x.args → binding_told (roll-AssociatedTypeBinding x)
+binding_made : (x : AssociatedTypeBinding-F AssociatedTypeBinding GenericArgs)
+    (inner : Option (Told args.ghosts.eq)) → option_told inner ≡ x.args
+    → binding_told (roll-AssociatedTypeBinding x)
 binding_made x inner e z =
     let child = e ∙ sym (ap (λ u. u.args) (out-roll-AssociatedTypeBinding x)) in
     let at_z = (out-AssociatedTypeBinding z).args in
-    binding_step (roll-AssociatedTypeBinding x) z (subst (λ o. Decides (option_eq args.ghosts.eq o at_z) (o ≡ at_z)) child (option_decides _ inner at_z))
+    binding_step (roll-AssociatedTypeBinding x) z
+    (subst (λ o. Decides (option_eq args.ghosts.eq o at_z) (o ≡ at_z)) child
+    (option_decides _ inner at_z))
 
-args_made : (x : GenericArgs-F AssociatedTypeBinding GenericArgs) (inner : List (Told binding.ghosts.eq)) → told inner ≡ x.bindings → args_told (roll-GenericArgs x)
+args_made : (x : GenericArgs-F AssociatedTypeBinding GenericArgs) (inner : List (Told binding.ghosts.eq))
+    → told inner ≡ x.bindings → args_told (roll-GenericArgs x)
 args_made x inner e z =
     let children = e ∙ sym (ap (λ u. u.bindings) (out-roll-GenericArgs x)) in
     let zs = (out-GenericArgs z).bindings in
-    args_step (roll-GenericArgs x) z (subst (λ xs. Decides (pointwise binding.ghosts.eq xs zs) (xs ≡ zs)) children (list_decides _ inner zs))
+    args_step (roll-GenericArgs x) z (subst (λ xs. Decides (pointwise binding.ghosts.eq xs zs) (xs ≡ zs))
+    children (list_decides _ inner zs))
 
 pub args_decides : (x y : GenericArgs) → Decides (args.ghosts.eq x y) (x ≡ y)
 args_decides =

@@ -20,12 +20,21 @@ normals_decide x y =
 
 -- variant by variant
 pub paths_decide : (x y : Path) → Decides (paths.ghosts.eq x y) (x ≡ y)
-paths_decide (BarePath x) (BarePath y) = (λ h. ap BarePath ((mod_paths_decide x y).0 h), λ e. (mod_paths_decide x y).1 (cc))
+paths_decide (BarePath x) (BarePath y) = (
+  λ h. ap BarePath ((mod_paths_decide x y).0 h),
+  λ e.
+      (mod_paths_decide x y).1 (cc),
+)
 paths_decide (BarePath x) (Normal y) = (λ h. absurd (cc), λ e. absurd (cc))
 paths_decide (BarePath x) (LangItem y n) = (λ h. absurd (cc), λ e. absurd (cc))
 paths_decide (Normal x) (BarePath y) = (λ h. absurd (cc), λ e. absurd (cc))
-paths_decide (Normal x) (Normal y) = (λ h. ap Normal ((normals_decide x y).0 h), λ e. (normals_decide x y).1 (cc))
+paths_decide (Normal x) (Normal y) = (
+  λ h. ap Normal ((normals_decide x y).0 h),
+  λ e.
+      (normals_decide x y).1 (cc),
+)
 paths_decide (Normal x) (LangItem y n) = (λ h. absurd (cc), λ e. absurd (cc))
 paths_decide (LangItem x m) (BarePath y) = (λ h. absurd (cc), λ e. absurd (cc))
 paths_decide (LangItem x m) (Normal y) = (λ h. absurd (cc), λ e. absurd (cc))
-paths_decide (LangItem x m) (LangItem y n) = and_decides _ _ (targets_decide x y) (optional_names_decide m n) (λ p q i. LangItem (p i) (q i)) (λ e. cc) (λ e. cc)
+paths_decide (LangItem x m) (LangItem y n) = and_decides _ _ (targets_decide x y) (optional_names_decide m n)
+    (λ p q i. LangItem (p i) (q i)) (λ e. cc) (λ e. cc)

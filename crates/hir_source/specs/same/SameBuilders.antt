@@ -17,7 +17,8 @@ use Rattle.hir_source.specs.contracts.source_map_builder.SourceMapBuilderPartial
 use Rattle.hir_source.specs.Additions.{HasSameMaps}
 use Rattle.hir_source.specs.same.SameDiagnostics.{diagnostics_decide}
 
-tables_decide : {X : Type 0} {E : X → X → Bool} → ((x y : X) → Decides (E x y) (x ≡ y)) → (m n : map.FinMap by_code X) → Decides (same_maps by_code E m n) (m ≡ n)
+tables_decide : {X : Type 0} {E : X → X → Bool} → ((x y : X) → Decides (E x y) (x ≡ y))
+    → (m n : map.FinMap by_code X) → Decides (same_maps by_code E m n) (m ≡ n)
 tables_decide {E = E} decides = same_maps_decides nat_list_cmp_total E by_code-IsAntisymmetric decides
 
 exprs_decide : (p q : ExprSources) → Decides (exprs.ghosts.eq p q) (p ≡ q)
@@ -31,17 +32,61 @@ exprs_decide p q =
     (both _ _ (tables_decide bytes_decides p.definitions q.definitions)
     (both _ _ (tables_decide (search exact) p.field_map_back q.field_map_back)
     (both _ _ (tables_decide (search exact) p.pat_field_map_back q.pat_field_map_back)
-    (both _ _ (tables_decide (search exact) p.expansions q.expansions) (pointwise_decides diagnostics_decide p.diagnostics q.diagnostics))))))))))
-    (λ e r i. record { expr_map = e i; expr_map_back = r.0 i; pat_map = r.1.0 i; pat_map_back = r.1.1.0 i; label_map = r.1.1.1.0 i; label_map_back = r.1.1.1.1.0 i; definitions = r.1.1.1.1.1.0 i; field_map_back = r.1.1.1.1.1.1.0 i; pat_field_map_back = r.1.1.1.1.1.1.1.0 i; expansions = r.1.1.1.1.1.1.1.1.0 i; diagnostics = r.1.1.1.1.1.1.1.1.1 i })
+    (both _ _ (tables_decide (search exact) p.expansions q.expansions)
+    (pointwise_decides diagnostics_decide p.diagnostics q.diagnostics))))))))))
+    (λ e r i. record {
+      expr_map = e i;
+      expr_map_back = r.0 i;
+      pat_map = r.1.0 i;
+      pat_map_back = r.1.1.0 i;
+      label_map = r.1.1.1.0 i;
+      label_map_back = r.1.1.1.1.0 i;
+      definitions = r.1.1.1.1.1.0 i;
+      field_map_back = r.1.1.1.1.1.1.0 i;
+      pat_field_map_back = r.1.1.1.1.1.1.1.0 i;
+      expansions =
+          r.1.1.1.1.1.1.1.1.0 i;
+      diagnostics = r.1.1.1.1.1.1.1.1.1 i;
+    })
     (λ e i. (e i).expr_map)
-    (λ e. (λ i. (e i).expr_map_back, (λ i. (e i).pat_map, (λ i. (e i).pat_map_back, (λ i. (e i).label_map, (λ i. (e i).label_map_back, (λ i. (e i).definitions, (λ i. (e i).field_map_back, (λ i. (e i).pat_field_map_back, (λ i. (e i).expansions, λ i. (e i).diagnostics))))))))))
+    (λ e. (
+      λ i. (e i).expr_map_back,
+      (
+        λ i. (e i).pat_map,
+        (
+          λ i. (e i).pat_map_back,
+          (
+            λ i. (e i).label_map,
+            (
+              λ i. (e i).label_map_back,
+              (
+                λ i. (e i).definitions,
+                (
+                  λ i. (e i).field_map_back,
+                  (
+                    λ i. (e i).pat_field_map_back,
+                    (λ i. (e i).expansions, λ i. (e i).diagnostics),
+                  ),
+                ),
+              ),
+            ),
+          ),
+        ),
+      ),
+    ))
 
 types_decide : (p q : TypeSources) → Decides (types.ghosts.eq p q) (p ≡ q)
 types_decide p q =
     and_decides _ _ (tables_decide (search exact) p.type_map q.type_map)
     (both _ _ (tables_decide (search exact) p.type_map_back q.type_map_back)
-    (both _ _ (tables_decide (search exact) p.lifetime_map q.lifetime_map) (tables_decide (search exact) p.lifetime_map_back q.lifetime_map_back)))
-    (λ e r i. record { type_map = e i; type_map_back = r.0 i; lifetime_map = r.1.0 i; lifetime_map_back = r.1.1 i })
+    (both _ _ (tables_decide (search exact) p.lifetime_map q.lifetime_map)
+    (tables_decide (search exact) p.lifetime_map_back q.lifetime_map_back)))
+    (λ e r i. record {
+      type_map = e i;
+      type_map_back = r.0 i;
+      lifetime_map = r.1.0 i;
+      lifetime_map_back = r.1.1 i;
+    })
     (λ e i. (e i).type_map)
     (λ e. (λ i. (e i).type_map_back, (λ i. (e i).lifetime_map, λ i. (e i).lifetime_map_back)))
 

@@ -28,34 +28,54 @@ same_value : {X : Type 0} (x y : X) → Some x ≡ Some y → x ≡ y
 same_value x y e = cc
 
 -- a test of optional values that decides whether f gives the same for them
-options : {X Y : Type 0} {E : X → X → Bool} (f : X → Y) → ((x y : X) → Decides (E x y) (f x ≡ f y)) → (x y : Option X) → Decides (option_eq E x y) (option_map f x ≡ option_map f y)
+options : {X Y : Type 0} {E : X → X → Bool} (f : X → Y) → ((x y : X) → Decides (E x y) (f x ≡ f y))
+    → (x y : Option X) → Decides (option_eq E x y) (option_map f x ≡ option_map f y)
 options f d None None = (λ h. refl, λ e. refl)
 options f d None (Some y) = (λ h. absurd (cc), λ e. absurd (cc))
 options f d (Some x) None = (λ h. absurd (cc), λ e. absurd (cc))
 options f d (Some x) (Some y) = (λ h i. Some ((d x y).0 h i), λ e. (d x y).1 (same_value _ _ e))
 
 -- a test that decides whether f gives the same for two values is an equivalence
-equivalence : {X Y : Type 0} {E : X → X → Bool} (f : X → Y) → ((x y : X) → Decides (E x y) (f x ≡ f y)) → IsEquivalence E
+equivalence : {X Y : Type 0} {E : X → X → Bool} (f : X → Y) → ((x y : X) → Decides (E x y) (f x ≡ f y))
+    → IsEquivalence E
 equivalence {E = E} f d = record {
   refl = λ x. (d x x).1 refl;
   symm = λ x y. one_answer (E x y) (E y x) (d x y) (in_words (d y x) sym sym);
-  congr = λ x y z h. one_answer (E x z) (E y z) (d x z) (in_words (d y z) (λ e. (d x y).0 h ∙ e) (λ e. sym ((d x y).0 h) ∙ e));
+  congr = λ x y z h. one_answer (E x z) (E y z) (d x z)
+      (in_words (d y z) (λ e. (d x y).0 h ∙ e) (λ e. sym ((d x y).0 h) ∙ e));
 }
 
-module _ {S : Source → Source → Bool} {C : ℕ → ℕ → Bool} {D : ExpressionStoreDiagnostics → ExpressionStoreDiagnostics → Bool}
-    (s : (x y : Source) → Decides (S x y) (x ≡ y)) (c : (x y : ℕ) → Decides (C x y) (x ≡ y)) (d : (x y : ExpressionStoreDiagnostics) → Decides (D x y) (x ≡ y)) where
+module _ {S : Source → Source → Bool} {C : ℕ → ℕ → Bool} {D : ExpressionStoreDiagnostics
+    → ExpressionStoreDiagnostics → Bool}
+    (s : (x y : Source) → Decides (S x y) (x ≡ y)) (c : (x y : ℕ)
+    → Decides (C x y) (x ≡ y)) (d : (x y : ExpressionStoreDiagnostics) → Decides (D x y) (x ≡ y)) where
   parts_decide : (p q : ExprSources) → Decides (same_exprs S C D p q) (compared_exprs p ≡ compared_exprs q)
   parts_decide p q =
       let sources = same_maps_decides nat_list_cmp_total S by_code-IsAntisymmetric s in
       let calls = same_maps_decides nat_list_cmp_total C by_code-IsAntisymmetric c in
-      in_words (both _ _ (both _ _ (both _ _ (both _ _ (sources p.expr_map_back q.expr_map_back) (sources p.pat_map_back q.pat_map_back)) (sources p.label_map_back q.label_map_back)) (calls p.expansions q.expansions)) (pointwise_decides d p.diagnostics q.diagnostics))
-      (λ r i. record { exprs = r.0.0.0.0 i; pats = r.0.0.0.1 i; labels = r.0.0.1 i; expansions = r.0.1 i; diagnostics = r.1 i })
-      (λ e. ((((λ i. (e i).exprs, λ i. (e i).pats), λ i. (e i).labels), λ i. (e i).expansions), λ i. (e i).diagnostics))
+      in_words (both _ _ (both _ _ (both _ _ (both _ _ (sources p.expr_map_back q.expr_map_back)
+      (sources p.pat_map_back q.pat_map_back)) (sources p.label_map_back q.label_map_back))
+      (calls p.expansions q.expansions)) (pointwise_decides d p.diagnostics q.diagnostics))
+      (λ r i. record {
+        exprs = r.0.0.0.0 i;
+        pats = r.0.0.0.1 i;
+        labels = r.0.0.1 i;
+        expansions = r.0.1 i;
+        diagnostics = r.1 i;
+      })
+      (λ e. (
+        (((λ i. (e i).exprs, λ i. (e i).pats), λ i. (e i).labels), λ i. (e i).expansions),
+        λ i.
+            (e i).diagnostics,
+      ))
 
-  pub compared_decides : (x y : ExpressionStoreSourceMap) → Decides (same_compared S C D x y) (compared x ≡ compared y)
+  pub compared_decides : (x y : ExpressionStoreSourceMap)
+      → Decides (same_compared S C D x y) (compared x ≡ compared y)
   compared_decides x y =
       let sources = same_maps_decides nat_list_cmp_total S by_code-IsAntisymmetric s in
-      in_words (both _ _ (both _ _ (options compared_exprs parts_decide x.exprs y.exprs) (sources x.types.type_map_back y.types.type_map_back)) (sources x.types.lifetime_map_back y.types.lifetime_map_back))
+      in_words (both _ _ (both _ _ (options compared_exprs parts_decide x.exprs y.exprs)
+      (sources x.types.type_map_back y.types.type_map_back))
+      (sources x.types.lifetime_map_back y.types.lifetime_map_back))
       (λ r i. record { kept = r.0.0 i; types = r.0.1 i; lifetimes = r.1 i })
       (λ e. ((λ i. (e i).kept, λ i. (e i).types), λ i. (e i).lifetimes))
 

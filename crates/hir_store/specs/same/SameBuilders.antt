@@ -31,18 +31,64 @@ builders_decide x y =
     (both _ _ (pointwise_decides labels_law.lawful.eq_decides x.labels y.labels)
     (both _ _ (pointwise_decides lifetimes_law.lawful.eq_decides x.lifetimes y.lifetimes)
     (both _ _ (pointwise_decides types_decide x.types y.types)
-    (both _ _ (same_maps_decides nat_list_cmp_total _ by_code-IsAntisymmetric (search exact) x.binding_owners y.binding_owners)
-    (both _ _ (same_maps_decides nat_list_cmp_total _ by_code-IsAntisymmetric (search exact) x.hygiene y.hygiene)
+    (both _ _ (same_maps_decides nat_list_cmp_total _ by_code-IsAntisymmetric
+    (search exact) x.binding_owners y.binding_owners)
+    (both _ _ (same_maps_decides nat_list_cmp_total _ by_code-IsAntisymmetric
+    (search exact) x.hygiene y.hygiene)
     (both _ _ (pointwise_decides (search exact) x.block_scopes y.block_scopes)
     (both _ _ (source_maps_decide x.source_map y.source_map)
     (both _ _ (options_decide root_lists_decide x.roots y.roots) handles_decide))))))))))
-    (λ exprs (pats, (bindings, (labels, (lifetimes, (types, (owners, (hygiene, (blocks, (sources, (roots, handle)))))))))). (
+    (λ exprs (
+      pats,
+      (
+        bindings,
+        (
+          labels,
+          (
+            lifetimes,
+            (types, (owners, (hygiene, (blocks, (sources, (roots, handle)))))),
+          ),
+        ),
+      ),
+    ). (
       λ i. record {
-        nodes = record { exprs = exprs i; pats = pats i; types = types i; bindings = bindings i; labels = labels i; lifetimes = lifetimes i };
+        nodes = record {
+          exprs = exprs i;
+          pats = pats i;
+          types = types i;
+          bindings = bindings i;
+          labels = labels i;
+          lifetimes = lifetimes i;
+        };
         roots = roots i;
         side_tables = record { owners = owners i; hygiene = hygiene i; blocks = blocks i };
       },
       sources,
     ))
     (λ h i. (h.0 i).nodes.exprs)
-    (λ h. (λ i. (h.0 i).nodes.pats, (λ i. (h.0 i).nodes.bindings, (λ i. (h.0 i).nodes.labels, (λ i. (h.0 i).nodes.lifetimes, (λ i. (h.0 i).nodes.types, (λ i. (h.0 i).side_tables.owners, (λ i. (h.0 i).side_tables.hygiene, (λ i. (h.0 i).side_tables.blocks, (h.1, (λ i. (h.0 i).roots, refl)))))))))))
+    (λ h. (
+      λ i. (h.0 i).nodes.pats,
+      (
+        λ i. (h.0 i).nodes.bindings,
+        (
+          λ i. (h.0 i).nodes.labels,
+          (
+            λ i. (h.0 i).nodes.lifetimes,
+            (
+              λ i. (h.0 i).nodes.types,
+              (
+                λ i. (h.0 i).side_tables.owners,
+                (
+                  λ i. (h.0 i).side_tables.hygiene,
+                  (
+                    λ i.
+                        (h.0 i).side_tables.blocks,
+                    (h.1, (λ i. (h.0 i).roots, refl)),
+                  ),
+                ),
+              ),
+            ),
+          ),
+        ),
+      ),
+    ))
