@@ -107,12 +107,8 @@ fn try_own_exprs<E: Drop, F: FnMut(ExprId) -> Result<(), E>>(
 ) -> Result<(), E>
     requires there { id < length store.now.nodes.pats }
     requires callable { F.IsAlwaysCallable f.old }
-<<<<<<< HEAD
-    ensures runs { Tries F.step f.old (flat_map own_exprs (calls_of store.now.nodes (node.Pat id))) result f.new }
-=======
     ensures runs { Tries F.step f.old (flat_map own_exprs (calls_of store.now.nodes (node.Pat id)))
         result f.new }
->>>>>>> origin/next
     ensures callable { F.IsAlwaysCallable f.new }
 {
     let mut answer = Ok(());
