@@ -52,19 +52,12 @@ impl Recorder {
 
     /// Notes an id, and refuses to go on behind this one.
     pub(crate) fn meet_up_to<K>(&mut self, id: Idx<K>, end: u32) -> Result<(), Halt> {
-<<<<<<< HEAD
-        if self.text.id(id).is_err() {
-            return Err(Halt::Memory);
-        }
-        if id.into_raw() == end {
-=======
         let number = id.into_raw();
         let noted: Idx<K> = Idx::from_raw(number);
         if self.text.id(noted).is_err() {
             return Err(Halt::Memory);
         }
         if number == end {
->>>>>>> origin/next
             return Err(Halt::Here);
         }
         Ok(())
