@@ -1,7 +1,7 @@
 -- A turn of the loop, by what its work is.
 use Rattle.std.proofs.Common.{◌≡◌, ℕ, ◌+◌, ◌<◌, ◌≤◌, Bool, true, false, List, [], ◌∷◌, ◌++◌, map, codes, Option, Some, None, refl, sym, ap, ap₂, subst, ◌∙◌, arith, append_assoc, append-nil}
 use Rattle.std.specs.Prelude.{Result, Ok, Err, OnOk, MatchResult, is_ok}
-use Rattle.hir_page.specs.Writes.{Writes}
+use Rattle.hir_page.specs.Writes.{Writes, all_written, written, refused}
 use Rattle.hir_base.specs.declared.prec.ExprPrecedence.{ExprPrecedence}
 use Rattle.hir_path.specs.declared.path.GenericArgs.{GenericArgs}
 use Rattle.hir_node.specs.declared.node_id.NodeId.{NodeId}
@@ -35,6 +35,12 @@ pub on_ok_writes : {T E Q W : Type 0} {step refuses : W → Piece → W → Type
     → Writes step refuses u ps (is_ok r) v → OnOk r Q
 on_ok_writes (Ok x) f m = f m
 on_ok_writes (Err e) f m = tt
+
+-- a call of the writer that is the answer
+pub text_writes : {T E W : Type 0} {step refuses : W → Piece → W → Type 0} {u v : W} {p : Piece} (r : Result T E) → MatchResult r (λ _. step u p v) (λ _. refuses u p v)
+    → Writes step refuses u (p ∷ []) (is_ok r) v
+text_writes (Ok x) m = written m all_written
+text_writes (Err e) m = refused m
 
 pub wrote : {w : Work} {old new : Printing} (ps : List Piece) → new ≡ record old { page = new.page } → printed old.from (stands_for old.from w) ≡ map Layout ps
     → new.page ≡ all_rendered ps old.page → 0 < heft old.from (stands_for old.from w) → WroteWork w old new

@@ -40,9 +40,11 @@ impl Part for TypeBound {
 
     fn add_to<'a>(&'a self, printer: &mut Printer<'a>) -> Result<(), AllocError> {
         match self {
-            TypeBound::Path(id, modifier) => {
-                printer.add_if(matches!(modifier, TraitBoundModifier::Maybe), "?")?;
+            TypeBound::Path(id, TraitBoundModifier::None) => {
                 printer.add(&[Work::Type(id.type_ref())])
+            }
+            TypeBound::Path(id, TraitBoundModifier::Maybe) => {
+                printer.add(&[Work::Text("?"), Work::Type(id.type_ref())])
             }
             TypeBound::ForLifetime(names, id) => {
                 printer.add_for(names.as_slice())?;

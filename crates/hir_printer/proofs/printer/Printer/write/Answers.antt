@@ -1,0 +1,40 @@
+use Rattle.std.proofs.Common.{sym, ap, ◌∙◌}
+use Rattle.hir_printer.specs.Pieces.{printed}
+use Rattle.hir_printer.specs.Printing.{Printing, seen}
+use Rattle.hir_printer.specs.Printers.{meant, printing}
+use Rattle.hir_printer.proofs.PieceLemmas.{nothing_left, is_missing}
+use Rattle.hir_printer.proofs.TurnLemmas.{turn_leads, turn_less}
+use Rattle.hir_printer.proofs.printer.Printer.write.Goals as goal
+
+pub loop-work-init : goal.loop-work-init
+loop-work-init c =
+    let old = seen c.args.self.now in
+    let e = c.end_turn.ensures in
+    record {
+      none = ap (λ (p : Printing). p.kept) e;
+      from = ap (λ (p : Printing). p.from) e;
+      same = sym (ap (λ (p : Printing). printing p.page (printed old.from (meant old.from p.waiting))) e);
+    }
+
+pub turn-requires-clause-fall : goal.turn-requires-clause-fall
+turn-requires-clause-fall c = ?
+
+pub turn-requires-clause-none : goal.turn-requires-clause-none
+turn-requires-clause-none c = ?
+
+pub loop-work-preserved : goal.loop-work-preserved
+loop-work-preserved c =
+    let s = (seen c.args.self.now).from in
+    let next = c.in-Some.ensures.next in
+    let a = c.in_ok-turn.ensures.ok in
+    record {
+      none = ap (λ (p : Printing). p.kept) a.same ∙ ap (λ (p : Printing). p.kept) next.1 ∙ c.loop-work.invariant.none;
+      from = ap (λ (p : Printing). p.from) a.same ∙ ap (λ (p : Printing). p.from) next.1 ∙ c.loop-work.invariant.from;
+      same = c.loop-work.invariant.same ∙ turn_leads s c.loop-work.invariant.from next.0 next.1 a;
+    }
+
+pub loop-work-smaller : goal.loop-work-smaller
+loop-work-smaller c =
+    let s = (seen c.args.self.now).from in
+    let next = c.in-Some.ensures.next in
+    turn_less s c.loop-work.invariant.from next.0 next.1 c.in_ok-turn.ensures.ok
