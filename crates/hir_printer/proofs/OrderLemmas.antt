@@ -13,12 +13,13 @@ use Rattle.hir_path.specs.declared.bound.TypeBound.{TypeBound}
 use Rattle.hir_path.specs.declared.path.GenericArg.{GenericArg}
 use Rattle.hir_path.specs.declared.path.GenericArgs.{GenericArgs, out-GenericArgs}
 use Rattle.hir_printer.specs.Questions.{Setting}
+use Rattle.hir_printer.specs.Names.{name_items}
 use Rattle.hir_printer.specs.Items.{Item, text, into, out, br, e, p, opt, when, joined, comma_joined}
 use Rattle.hir_printer.specs.Exprs.{arguments, array_items, statement_items, inside_block}
 use Rattle.hir_printer.specs.Pats.{with_rest}
-use Rattle.hir_printer.specs.Paths.{arg_items, each_arg, args_items, assoc_items, bounds_items, bounds_after, supers}
+use Rattle.hir_printer.specs.Paths.{arg_items, each_arg, args_items, assoc_items, turbofish, segments_from, bounds_items, bounds_after, supers}
 use Rattle.hir_printer.specs.Printers.{following}
-use Rattle.hir_printer.proofs.ListLemmas.{is_cons, following_joined, following_append}
+use Rattle.hir_printer.proofs.ListLemmas.{drop_item, is_cons, following_joined, following_append}
 use Rattle.hir_printer.proofs.ArgsItems.{args_items_is}
 
 -- 1. Whether a list has members
@@ -144,3 +145,28 @@ pub slice_is : (prefix suffix : List ℕ) (slice : Option ℕ)
     → text (codes "[") ++ flat_map (λ id. p id ++ text (codes ", ")) prefix ++ opt (λ id. p id ++ text (codes ", ")) slice ++ flat_map (λ id. p id ++ text (codes ", ")) suffix ++ text (codes "]")
     ≡ text (codes "[") ++ flat_map (λ id. p id ++ text (codes ", ")) (prefix ++ option_to_list slice ++ suffix) ++ text (codes "]")
 slice_is prefix suffix slice = ap (λ is. text (codes "[") ++ is ++ text (codes "]")) (slice_parts prefix suffix slice)
+
+-- 6. Segments of a path
+
+pub segment_alone : (s : Setting) (after : Bool) (names : List (List ℕ)) (i : ℕ) (name : List ℕ) (lists : List (Option GenericArgs)) → i < length names → name ≡ get_or names i name → length lists < 1
+    → when after (text (codes "::")) ++ name_items s name ++ segments_from s true (drop (i + 1) names) lists ≡ segments_from s after (drop i names) lists
+segment_alone s after names i name [] h e k = sym (ap (λ ns. segments_from s after ns []) (drop_item names i name h e))
+segment_alone s after names i name (x ∷ xs) h e k = absurd (omega arith)
+
+pub segment_with : (s : Setting) (after : Bool) (names : List (List ℕ)) (i : ℕ) (name : List ℕ) (lists : List (Option GenericArgs)) (args : Option GenericArgs)
+    → i < length names → name ≡ get_or names i name → 0 < length lists → args ≡ get_or lists 0 args
+    → when after (text (codes "::")) ++ name_items s name ++ opt (λ a. turbofish (args_items s a)) args ++ segments_from s true (drop (i + 1) names) (drop 1 lists)
+    ≡ segments_from s after (drop i names) lists
+segment_with s after names i name [] args h e k f = absurd (omega arith)
+segment_with s after names i name (x ∷ xs) args h e k f =
+    ap (λ a. when after (text (codes "::")) ++ name_items s name ++ opt (λ b. turbofish (args_items s b)) a ++ segments_from s true (drop (i + 1) names) xs) f
+    ∙ sym (ap (λ ns. segments_from s after ns (x ∷ xs)) (drop_item names i name h e))
+
+pub no_segments : (s : Setting) (after : Bool) (names : List (List ℕ)) (i : ℕ) (lists : List (Option GenericArgs)) → length names ≤ i → [] ≡ segments_from s after (drop i names) lists
+no_segments s after names i lists h = sym (ap (λ ns. segments_from s after ns lists) (drop_all i names h))
+
+-- 7. A block behind what stands before it
+
+pub braces_behind : (before inside : List Item) → before ++ (text (codes "{") ++ inside ++ text (codes "}")) ≡ before ++ text (codes "{") ++ inside ++ text (codes "}")
+braces_behind before inside =
+    sym (append_assoc (before ++ text (codes "{")) inside (text (codes "}")) ∙ append_assoc before (text (codes "{")) (inside ++ text (codes "}")))

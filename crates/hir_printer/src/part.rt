@@ -90,7 +90,7 @@ impl<'a> Printer<'a> {
     }
 
     /// Adds the members of a list, each with these works behind it.
-    pub(crate) fn add_each<T: Part>(
+    pub fn add_each<T: Part>(
         &mut self,
         members: &'a [T],
         behind: &[Work<'a>],

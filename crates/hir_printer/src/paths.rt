@@ -17,7 +17,7 @@ use hir_node::{
 use std::alloc::AllocError;
 
 /// Whether `::` is before the first segment of a path of this kind.
-fn colons_first(kind: PathKind) -> bool
+pub fn colons_first(kind: PathKind) -> bool
     ensures { result ≡ colons_first kind }
 {
     match kind {
