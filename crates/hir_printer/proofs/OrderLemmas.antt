@@ -1,6 +1,6 @@
 -- Items by what a list has: none, one, or more.
 use Rattle.std.proofs.Common.{◌≡◌, ℕ, zero, suc, ◌+◌, ◌-◌, ◌<◌, ◌≤◌, Bool, true, false, List, [], ◌∷◌, ◌++◌, codes, map, take, drop, length, get_or, Option, Some, None, refl, sym, ap, ap₂, ◌∙◌, arith, append_assoc, append-nil, inl, inr}
-use Rattle.std.specs.Prelude.{◌==◌, ◌&&◌, ◌||◌, not, min}
+use Rattle.std.specs.Prelude.{◌==◌, ◌&&◌, ◌||◌, not}
 use Rattle.std.specs.List.{flat_map}
 use Rattle.std.specs.Option.{option_to_list}
 use Rattle.std.proofs.lemmas.Bool.{cases_lt}
@@ -46,11 +46,10 @@ pub some_arguments : (xs : List ℕ) → (length xs == 0) ≡ false
 some_arguments [] h = absurd (cc)
 some_arguments (x ∷ xs) h = refl
 
-pub no_elements : (xs : List ℕ) → length xs ≡ 0 → text (codes "[]") ≡ array_items (ElementList xs)
-no_elements [] h = refl
-no_elements (x ∷ xs) h = absurd (omega arith)
+pub no_elements : (xs : List ℕ) → xs ≡ [] → text (codes "[]") ≡ array_items (ElementList xs)
+no_elements xs h = sym (ap (λ ys. array_items (ElementList ys)) h)
 
-pub some_elements : (xs : List ℕ) → (length xs ≡ 0 → ⊥)
+pub some_elements : (xs : List ℕ) → (xs ≡ [] → ⊥)
     → text (codes "[") ++ into ++ flat_map (λ id. e id ++ text (codes ", ")) xs ++ out ++ br ++ text (codes "]") ≡ array_items (ElementList xs)
 some_elements [] h = absurd (h refl)
 some_elements (x ∷ xs) h = refl
@@ -112,19 +111,19 @@ around sep x xs ys =
     ∙ ap (λ zs. joined sep xs ++ zs) (sym (append_assoc (when (is_cons xs) sep) x (following sep true ys))) ∙ following_append sep xs (x ∷ ys) ∙ ap (joined sep) (sym (append_assoc xs (x ∷ []) ys))
 
 -- a list cut where it ends, or before
-front_cut : {X Y : Type 0} (f : X → Y) (xs : List X) (n m : ℕ) → m ≡ min (length xs) n → map f (take m xs) ≡ take n (map f xs)
+front_cut : {X Y : Type 0} (f : X → Y) (xs : List X) (n m : ℕ) → m ≡ length xs - (length xs - n) → map f (take m xs) ≡ take n (map f xs)
 front_cut f xs n m h = elim (cases_lt n (length xs)) [
   | inl k ↦ let l : m ≡ n = omega arith in ap (λ i. map f (take i xs)) l ∙ sym (take-map f n xs)
   | inr k ↦ let l : length xs ≤ m = omega arith in let i : length (map f xs) ≤ n = omega (arith, length-map xs f) in ap (map f) (take_all m xs l) ∙ sym (take_all n (map f xs) i)
 ]
 
-back_cut : {X Y : Type 0} (f : X → Y) (xs : List X) (n m : ℕ) → m ≡ min (length xs) n → map f (drop m xs) ≡ drop n (map f xs)
+back_cut : {X Y : Type 0} (f : X → Y) (xs : List X) (n m : ℕ) → m ≡ length xs - (length xs - n) → map f (drop m xs) ≡ drop n (map f xs)
 back_cut f xs n m h = elim (cases_lt n (length xs)) [
   | inl k ↦ let l : m ≡ n = omega arith in ap (λ i. map f (drop i xs)) l ∙ sym (drop-map f n xs)
   | inr k ↦ let l : length xs ≤ m = omega arith in let i : length (map f xs) ≤ n = omega (arith, length-map xs f) in ap (map f) (drop_all m xs l) ∙ sym (drop_all n (map f xs) i)
 ]
 
-pub rest_is : (pats front back : List ℕ) (n m : ℕ) → m ≡ min (length pats) n → front ≡ take m pats → back ≡ drop m pats
+pub rest_is : (pats front back : List ℕ) (n m : ℕ) → m ≡ length pats - (length pats - n) → front ≡ take m pats → back ≡ drop m pats
     → joined (text (codes ", ")) (map p front) ++ when (not (length front == 0)) (text (codes ", ")) ++ text (codes "..") ++ following (text (codes ", ")) true (map p back)
     ≡ comma_joined (with_rest (Some n) (map p pats))
 rest_is pats front back n m h f b =

@@ -136,7 +136,8 @@ impl<'a> Printer<'a> {
         let Some(at) = rest else {
             return self.add_joined(", ", pats);
         };
-        let (before, behind) = pats.split_at(pats.len().min(at as usize));
+        let left = pats.len().saturating_sub(at as usize);
+        let (before, behind) = pats.split_at(pats.len() - left);
         self.add_joined(", ", before)?;
         self.add_if(!before.is_empty(), ", ")?;
         self.add(&[Work::Text("..")])?;
