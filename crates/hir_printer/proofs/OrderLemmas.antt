@@ -1,6 +1,6 @@
 -- Items by what a list has: none, one, or more.
 use Rattle.std.proofs.Common.{◌≡◌, ℕ, zero, suc, ◌+◌, ◌-◌, ◌<◌, ◌≤◌, Bool, true, false, List, [], ◌∷◌, ◌++◌, codes, map, take, drop, length, get_or, Option, Some, None, refl, sym, ap, ap₂, ◌∙◌, arith, append_assoc, append-nil, inl, inr}
-use Rattle.std.specs.Prelude.{◌==◌, ◌&&◌, ◌||◌, not}
+use Rattle.std.specs.Prelude.{◌==◌, ◌&&◌, ◌||◌, not, IsTrue}
 use Rattle.std.specs.List.{flat_map}
 use Rattle.std.specs.Option.{option_to_list}
 use Rattle.std.proofs.lemmas.Bool.{cases_lt}
@@ -34,6 +34,11 @@ not_empty (x ∷ xs) = ap not (cons_length x xs)
 pub cons_map : {X Y : Type 0} (f : X → Y) (xs : List X) → is_cons (map f xs) ≡ is_cons xs
 cons_map f [] = refl
 cons_map f (x ∷ xs) = refl
+
+pub filled : {X : Type 0} (xs : List X) (b : Bool) → (IsTrue b → xs ≡ []) × (xs ≡ [] → IsTrue b) → not b ≡ is_cons xs
+filled [] b k = let e : b ≡ true = k.1 refl in ap not e
+filled (x ∷ xs) true k = absurd (let e = k.0 refl in cc)
+filled (x ∷ xs) false k = refl
 
 -- 2. Arguments, elements and statements
 
@@ -152,14 +157,11 @@ pub segment_alone : (s : Setting) (after : Bool) (names : List (List ℕ)) (i : 
 segment_alone s after names i name [] h e k = sym (ap (λ ns. segments_from s after ns []) (drop_item names i name h e))
 segment_alone s after names i name (x ∷ xs) h e k = absurd (omega arith)
 
-pub segment_with : (s : Setting) (after : Bool) (names : List (List ℕ)) (i : ℕ) (name : List ℕ) (lists : List (Option GenericArgs)) (args : Option GenericArgs)
-    → i < length names → name ≡ get_or names i name → 0 < length lists → args ≡ get_or lists 0 args
-    → when after (text (codes "::")) ++ name_items s name ++ opt (λ a. turbofish (args_items s a)) args ++ segments_from s true (drop (i + 1) names) (drop 1 lists)
+pub segment_with : (s : Setting) (after : Bool) (names : List (List ℕ)) (i : ℕ) (name : List ℕ) (lists rest : List (Option GenericArgs)) (args : Option GenericArgs)
+    → i < length names → name ≡ get_or names i name → lists ≡ args ∷ rest
+    → when after (text (codes "::")) ++ name_items s name ++ opt (λ a. turbofish (args_items s a)) args ++ segments_from s true (drop (i + 1) names) rest
     ≡ segments_from s after (drop i names) lists
-segment_with s after names i name [] args h e k f = absurd (omega arith)
-segment_with s after names i name (x ∷ xs) args h e k f =
-    ap (λ a. when after (text (codes "::")) ++ name_items s name ++ opt (λ b. turbofish (args_items s b)) a ++ segments_from s true (drop (i + 1) names) xs) f
-    ∙ sym (ap (λ ns. segments_from s after ns (x ∷ xs)) (drop_item names i name h e))
+segment_with s after names i name lists rest args h e k = sym (ap₂ (λ ns xs. segments_from s after ns xs) (drop_item names i name h e) k)
 
 pub no_segments : (s : Setting) (after : Bool) (names : List (List ℕ)) (i : ℕ) (lists : List (Option GenericArgs)) → length names ≤ i → [] ≡ segments_from s after (drop i names) lists
 no_segments s after names i lists h = sym (ap (λ ns. segments_from s after ns lists) (drop_all i names h))

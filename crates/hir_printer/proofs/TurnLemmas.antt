@@ -169,6 +169,16 @@ module _ (s : Setting) {w : Work} {old between new : Printing} (from : old.from 
       let m = ap (λ ws. heft s (meant s ws)) rest in let n = ap (heft s) (meant-append s a.way between.waiting) in
       let o = heft-append s (meant s a.way) (meant s between.waiting) in omega arith
 
+-- the next is missing, and nothing is left
+pub missing_next : {s : Setting} {page : Page} {before : Page × Option Missing} {waiting rest : List Work} {w : Work} {m : Missing} → before ≡ printing page (printed s (meant s waiting)) → waiting ≡ w ∷ rest
+    → w ≡ work.Lacks m → before.1 ≡ Some m
+missing_next {s} {page} {rest = rest} {m = m} same next lacks =
+    ap (λ (r : Page × Option Missing). r.1) (same ∙ ap (λ ws. printing page (printed s (meant s ws))) (next ∙ ap (λ v. v ∷ rest) lacks)) ∙ is_missing page m (printed s (meant s rest))
+
+pub all_is_written : {s : Setting} {page last : Page} {before : Page × Option Missing} {waiting : List Work} → before ≡ printing page (printed s (meant s waiting)) → waiting ≡ [] → last ≡ page
+    → before ≡ (last, None)
+all_is_written {s} {page} same over still = same ∙ ap (λ ws. printing page (printed s (meant s ws))) over ∙ nothing_left page ∙ ap (λ (p : Page). (p, None)) (sym still)
+
 -- 4. What is printed of all that was added
 
 all_of : {s : Setting} {items : List Item} {old : Printing} → AddsItems (on_page s) (λ t. items) old
