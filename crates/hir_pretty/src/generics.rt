@@ -151,21 +151,6 @@ fn add_predicate<'a>(
     }
 }
 
-fn add_each_predicate<'a>(
-    printer: &mut Printer<'a>,
-    predicates: &'a [WherePredicate],
-) -> Result<(), AllocError>
-    ensures { OnOk result (Adds printer.old (λ s. each_predicate s predicates.now) printer.new) }
-{
-    let mut after = false;
-    for predicate in predicates {
-        printer.add_if(after, ",\n")?;
-        add_predicate(printer, predicate)?;
-        after = true;
-    }
-    Ok(())
-}
-
 /// Adds the predicates, each on a line of its own after `where`, where there are any.
 pub(crate) fn add_where<'a>(
     printer: &mut Printer<'a>,
@@ -177,6 +162,11 @@ pub(crate) fn add_where<'a>(
         return Ok(());
     }
     printer.add(&[Work::Text("\nwhere\n"), Work::Indent])?;
-    add_each_predicate(printer, predicates)?;
+    let mut after = false;
+    for predicate in predicates {
+        printer.add_if(after, ",\n")?;
+        add_predicate(printer, predicate)?;
+        after = true;
+    }
     printer.add(&[Work::Outdent, Work::Break])
 }

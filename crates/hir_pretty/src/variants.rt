@@ -43,15 +43,6 @@ fn add_module<'a>(printer: &mut Printer<'a>, path: &'a ModPath) -> Result<(), Al
     printer.add_list(colons_first(path.kind()), "::", path.segments())
 }
 
-fn add_in_module<'a>(printer: &mut Printer<'a>, path: &'a ModPath) -> Result<(), AllocError>
-    ensures { OnOk result (Adds printer.old
-        (λ s. text (codes "pub(in ") ++ module_items s path.now ++ text (codes ") ")) printer.new) }
-{
-    printer.add(&[Work::Text("pub(in ")])?;
-    add_module(printer, path)?;
-    printer.add(&[Work::Text(") ")])
-}
-
 fn add_visibility<'a>(
     printer: &mut Printer<'a>,
     visibility: &'a RawVisibility,
@@ -59,7 +50,11 @@ fn add_visibility<'a>(
     ensures { OnOk result (Adds printer.old (λ s. visibility_items s visibility.now) printer.new) }
 {
     match visibility {
-        RawVisibility::Module(path) => add_in_module(printer, path),
+        RawVisibility::Module(path) => {
+            printer.add(&[Work::Text("pub(in ")])?;
+            add_module(printer, path)?;
+            printer.add(&[Work::Text(") ")])
+        }
         RawVisibility::Public => printer.add(&[Work::Text("pub ")]),
         RawVisibility::PubCrate => printer.add(&[Work::Text("pub(crate) ")]),
         RawVisibility::PubSelf => printer.add(&[Work::Text("pub(self) ")]),
@@ -79,15 +74,6 @@ fn add_field<'a>(printer: &mut Printer<'a>, field: &'a FieldData) -> Result<(), 
         Work::Text(","),
         Work::Break,
     ])
-}
-
-fn add_each_field<'a>(printer: &mut Printer<'a>, fields: &'a [FieldData]) -> Result<(), AllocError>
-    ensures { OnOk result (Adds printer.old (λ s. flat_map (field_line s) fields.now) printer.new) }
-{
-    for field in fields {
-        add_field(printer, field)?;
-    }
-    Ok(())
 }
 
 fn add_begin(printer: &mut Printer<'_>, shape: FieldsShape) -> Result<(), AllocError>
@@ -119,7 +105,9 @@ fn add_fields<'a>(
     ensures { OnOk result (Adds printer.old (λ s. fields_items s shape fields.now) printer.new) }
 {
     add_begin(printer, shape)?;
-    add_each_field(printer, fields)?;
+    for field in fields {
+        add_field(printer, field)?;
+    }
     add_end(printer, shape)
 }
 
@@ -169,8 +157,7 @@ fn fields_of<'a>(tables: &'a Tables, owner: &VariantId) -> Result<&'a VariantFie
 /// The text of a struct, a union or a variant of an enum with the fields that the tables have, in lines. The enum of a variant is looked
 /// up first, then the names, and then the fields.
 ///
-/// Answers `Missing` of the first definition outside that the text names and that the tables don't have, and `Memory` where memory was
-/// refused. A text that was begun is dropped.
+/// Answers `Missing` of the first definition that the text names and the tables don't have, and `Memory` where memory was refused.
 pub fn print_variant_body_hir(
     alloc: Global,
     tables: &Tables,
