@@ -1,11 +1,11 @@
 //! Bodies as text.
 #![tactic(auto, using(hir_printer::proofs::AddLemmas::adding))]
 
-ghost use Rattle.std.specs.Prelude.{◌≡◌, ◌++◌, ◌∷◌, OnOk, map, codes, false};
+ghost use Rattle.std.specs.Prelude.{◌≡◌, OnOk, false};
 ghost use Rattle.hir_base.specs.RawWords.{words_of};
 ghost use Rattle.hir_items.specs.Bodies.{formals_of};
 ghost use Rattle.hir_printer.specs.Settings.{setting};
-ghost use Rattle.hir_printer.specs.Items.{p, text, opt, comma_joined};
+ghost use Rattle.hir_printer.specs.Items.{opt, comma_joined};
 ghost use Rattle.hir_printer.specs.Names.{binding_items};
 ghost use Rattle.hir_printer.specs.Answers.{answers};
 ghost use Rattle.hir_printer.specs.Printed.{PrintsPieces};

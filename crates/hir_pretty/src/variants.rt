@@ -1,14 +1,11 @@
 //! Structs, unions and variants of enums as text, with their fields.
 #![tactic(auto, using(hir_printer::proofs::AddLemmas::adding))]
 
-ghost use Rattle.std.specs.Prelude.{◌≡◌, ◌++◌, ◌∷◌, [], OnOk, map, codes, false, IfSome, IfOk, IfErr, Some, None};
-ghost use Rattle.std.specs.List.{flat_map};
+ghost use Rattle.std.specs.Prelude.{◌≡◌, OnOk, codes, false, IfSome, IfOk, IfErr, Some, None};
 ghost use Rattle.hir_base.specs.RawWords.{words_of};
 ghost use Rattle.hir_expr_store.specs.Contents.{Contents};
 ghost use Rattle.hir_printer.specs.Settings.{setting};
 ghost use Rattle.hir_printer.specs.Items.{text, joined};
-ghost use Rattle.hir_printer.specs.Names.{name_items};
-ghost use Rattle.hir_printer.specs.Paths.{supers};
 ghost use Rattle.hir_printer.specs.Answers.{answers};
 ghost use Rattle.hir_printer.specs.Printed.{PrintsPieces};
 ghost use Rattle.hir_printer.specs.Pieces.{printed};
