@@ -14,7 +14,7 @@ use Rattle.hir_path.specs.declared.path.GenericArg.{GenericArg}
 use Rattle.hir_path.specs.declared.path.GenericArgs.{GenericArgs, out-GenericArgs}
 use Rattle.hir_printer.specs.Questions.{Setting}
 use Rattle.hir_printer.specs.Names.{name_items}
-use Rattle.hir_printer.specs.Items.{Item, text, into, out, br, e, p, opt, when, joined, comma_joined}
+use Rattle.hir_printer.specs.Items.{Item, text, sp, into, out, br, e, p, opt, when, joined, comma_joined}
 use Rattle.hir_printer.specs.Exprs.{arguments, array_items, statement_items, inside_block}
 use Rattle.hir_printer.specs.Pats.{with_rest}
 use Rattle.hir_printer.specs.Paths.{arg_items, each_arg, args_items, assoc_items, turbofish, segments_from, bounds_items, bounds_after, supers}
@@ -152,6 +152,10 @@ pub slice_is : (prefix suffix : List ℕ) (slice : Option ℕ)
     → text (codes "[") ++ flat_map (λ id. p id ++ text (codes ", ")) prefix ++ opt (λ id. p id ++ text (codes ", ")) slice ++ flat_map (λ id. p id ++ text (codes ", ")) suffix ++ text (codes "]")
     ≡ text (codes "[") ++ flat_map (λ id. p id ++ text (codes ", ")) (prefix ++ option_to_list slice ++ suffix) ++ text (codes "]")
 slice_is prefix suffix slice = ap (λ is. text (codes "[") ++ is ++ text (codes "]")) (slice_parts prefix suffix slice)
+
+-- a binding with a pattern
+pub bound_to : (is : List Item) (q : ℕ) → is ++ sp ++ text (codes "@ ") ++ p q ≡ is ++ (sp ++ text (codes "@ ") ++ p q)
+bound_to is q = append_assoc (is ++ sp) (text (codes "@ ")) (p q) ∙ append_assoc is sp (text (codes "@ ") ++ p q)
 
 -- 6. Segments of a path
 

@@ -48,7 +48,7 @@ returns-in_ok-add-in-Yeet c = rw c.in-Yeet.is (on_ok_weaker c.add_keyword-in-Yee
     c.add_keyword-in-Yeet.ensures)
 
 pub returns-in-RecordLit : goal.returns-in-RecordLit
-returns-in-RecordLit c = ?
+returns-in-RecordLit c = rw c.in-RecordLit.is (rw (c.as_slice-in-RecordLit.ensures, c.get.ensures) at c.add_record_lit.ensures)
 
 pub returns-in_ok-add_each-in-Tuple : goal.returns-in_ok-add_each-in-Tuple
 returns-in_ok-add_each-in-Tuple c = rw c.in-Tuple.is (on_ok_weaker c.add-in-Tuple-2.result

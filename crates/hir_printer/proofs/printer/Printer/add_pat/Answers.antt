@@ -1,6 +1,8 @@
 use Rattle.std.proofs.Common.{refl, sym, append-nil}
 use Rattle.std.proofs.lemmas.Result.{on_ok_weaker}
 use Rattle.hir_printer.proofs.AddLemmas.{adds, adds_then, adds_more, adds_as}
+use Rattle.hir_printer.specs.Names.{binding_items}
+use Rattle.hir_printer.proofs.OrderLemmas.{bound_to}
 use Rattle.hir_printer.proofs.printer.Printer.add_pat.Goals as goal
 
 pub returns-in_ok-add_joined-in-Or : goal.returns-in_ok-add_joined-in-Or
@@ -14,10 +16,11 @@ returns-in_ok-add-in-Range c = rw c.in-Range.is (on_ok_weaker c.add_range_end-in
     c.add_range_end-in-Range.ensures)
 
 pub returns-in-None : goal.returns-in-None
-returns-in-None c = ?
+returns-in-None c = rw (c.in-Bind.is, c.in-None.is) (adds_as c.in_ok-add_binding-in-Bind.ensures (λ s. sym (append-nil (binding_items s c.in-Bind.id))))
 
 pub returns-in-Some : goal.returns-in-Some
-returns-in-Some c = ?
+returns-in-Some c = rw (c.in-Bind.is, c.in-Some.is) (on_ok_weaker c.add-in-Some.result
+    (λ a. adds_as (adds_more c.in_ok-add_binding-in-Bind.ensures a) (λ s. bound_to (binding_items s c.in-Bind.id) c.in-Some.subpat.now)) c.add-in-Some.ensures)
 
 pub returns-in_ok-add_path-in-TupleStruct : goal.returns-in_ok-add_path-in-TupleStruct
 returns-in_ok-add_path-in-TupleStruct c = rw c.in-TupleStruct.is (on_ok_weaker c.add_in_parentheses-in-TupleStruct.result

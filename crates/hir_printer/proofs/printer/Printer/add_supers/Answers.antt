@@ -17,5 +17,5 @@ loop-left-preserved c = record {
 }
 
 pub returns : goal.returns
-returns c = on_ok_weaker c.add-3.result
-    (λ a. left_ends (left_goes_on c.loop-left.invariant.left (adds a (λ s. refl)) (λ s. supers_last c.loop-left.left (omega arith) (omega arith))) (λ s. refl)) c.add-3.ensures
+returns c = on_ok_weaker c.add-2.result
+    (λ a. left_ends (left_goes_on c.loop-left.invariant.left (adds a (λ s. refl)) (λ s. supers_last c.loop-left.left (omega arith) (omega arith))) (λ s. refl)) c.add-2.ensures
