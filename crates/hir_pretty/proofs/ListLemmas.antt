@@ -1,7 +1,6 @@
 -- Lists with separators, and places of arguments.
-use Rattle.std.proofs.Common.{◌≡◌, ℕ, zero, suc, ◌+◌, ◌-◌, ◌<◌, ◌≤◌, ◌==◌, Bool, true, false, List, [], ◌∷◌, ◌++◌, length, map, drop, get_or, Option, Some, None, refl, sym, ap, ap₂, subst, ◌∙◌, append_assoc, append-nil, arith, add-one, codes, drop-cons, is_some}
+use Rattle.std.proofs.Common.{◌≡◌, ℕ, ◌+◌, ◌-◌, ◌<◌, ◌≤◌, ◌==◌, Bool, true, false, List, [], ◌∷◌, ◌++◌, length, map, drop, get_or, Option, Some, None, refl, sym, ap, ap₂, subst, ◌∙◌, append_assoc, append-nil, arith, codes, is_some}
 use Rattle.std.specs.Prelude.{nat_lt, Ok}
-use Rattle.std.specs.Option.{option_to_list}
 use Rattle.std.specs.List.{enumerate_from, list_any}
 use Rattle.std.proofs.lemmas.Bool.{lt-ltb, true≢false}
 use Rattle.std.proofs.lemmas.List.{drop_all}
@@ -22,7 +21,7 @@ use Rattle.hir_printer.specs.Printers.{following}
 use Rattle.hir_printer.proofs.ListLemmas.{drop_item, is_cons, following_append, following_joined}
 use Rattle.hir_pretty.specs.Added.{marked_items}
 use Rattle.hir_pretty.specs.Bodies.{formal_params}
-use Rattle.hir_pretty.specs.Signatures.{type_name, argument_items, arguments, function_types, is_listed, each_lifetime, each_type_or_const, in_angles, each_predicate, where_items}
+use Rattle.hir_pretty.specs.Signatures.{type_name, argument_items, arguments, function_types, each_lifetime, each_type_or_const, in_angles, each_predicate, where_items}
 use Rattle.hir_pretty.specs.Variants.{kind_word}
 
 -- 1. Separators

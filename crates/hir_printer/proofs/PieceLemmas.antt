@@ -1,5 +1,5 @@
 -- Items that are pieces, and what printing makes of a page with them.
-use Rattle.std.proofs.Common.{◌≡◌, ℕ, Bool, true, false, List, [], ◌∷◌, ◌++◌, map, codes, Option, Some, None, refl, sym, ap, ◌∙◌, append-nil}
+use Rattle.std.proofs.Common.{◌≡◌, ℕ, Bool, true, false, List, [], ◌∷◌, ◌++◌, map, codes, Some, None, refl, sym, ap, ◌∙◌, append-nil}
 use Rattle.std.specs.List.{flat_map}
 use Rattle.std.proofs.lemmas.List.Concat.{flat_map-append}
 use Rattle.hir_node.specs.declared.literal.Literal.{Literal}
@@ -9,7 +9,7 @@ use Rattle.hir_expr_store.specs.declared.missing.Missing.{Missing}
 use Rattle.hir_page.specs.Page.{Page, rendered, all_rendered}
 use Rattle.hir_page.specs.Pieces.{Piece, Text}
 use Rattle.hir_page.specs.Literals.{string_literal, char_literal, bytes_literal, c_string_literal}
-use Rattle.hir_page.specs.Writes.{Writes, all_written, written, refused}
+use Rattle.hir_page.specs.Writes.{Writes, all_written, written}
 use Rattle.hir_printer.specs.Questions.{Setting}
 use Rattle.hir_printer.specs.Items.{Item, Put, Lacks, Whole, Under, Pattern, TypeItem, text}
 use Rattle.hir_printer.specs.Names.{name_parts, name_items}

@@ -1,9 +1,8 @@
 -- A turn of the loop, by what its work is.
-use Rattle.std.proofs.Common.{◌≡◌, ℕ, ◌+◌, ◌<◌, ◌≤◌, Bool, true, false, List, [], ◌∷◌, ◌++◌, map, codes, Option, Some, None, refl, sym, ap, ap₂, subst, ◌∙◌, arith, append_assoc, append-nil}
+use Rattle.std.proofs.Common.{◌≡◌, ℕ, ◌+◌, ◌<◌, ◌≤◌, true, List, [], ◌∷◌, ◌++◌, map, Option, Some, None, refl, sym, ap, ap₂, subst, ◌∙◌, arith, append_assoc, append-nil}
 use Rattle.std.specs.Prelude.{Result, Ok, Err, OnOk, MatchResult, is_ok, String, string_bytes}
 use Rattle.hir_page.specs.Writes.{Writes, all_written, written, refused}
 use Rattle.hir_base.specs.declared.prec.ExprPrecedence.{ExprPrecedence}
-use Rattle.hir_path.specs.declared.path.GenericArgs.{GenericArgs}
 use Rattle.hir_node.specs.declared.node_id.NodeId.{NodeId}
 use Rattle.hir_node.specs.declared.node_id.NodeId.TheVariants as node
 use Rattle.hir_expr_store.specs.declared.missing.Missing.{Missing}
@@ -13,13 +12,13 @@ use Rattle.hir_page.specs.Pieces.{Piece}
 use Rattle.hir_printer.specs.declared.work.Work.{Work}
 use Rattle.hir_printer.specs.declared.work.Work.TheVariants as work
 use Rattle.hir_printer.specs.Questions.{Setting}
-use Rattle.hir_printer.specs.Items.{Item, Whole, Under, Pattern, TypeItem, text}
+use Rattle.hir_printer.specs.Items.{Item, Under, text}
 use Rattle.hir_printer.specs.declared.fault.PrintFault.{PrintFault}
 use Rattle.hir_printer.specs.declared.fault.PrintFault.TheVariants as fault
 use Rattle.hir_printer.specs.Printed.{PrintsPieces}
 use Rattle.hir_printer.specs.Pieces.{Layout, first_missing, items_of, pieces, printed, stands_in_parentheses, precedence_found}
 use Rattle.hir_printer.specs.Falls.{ItemsFall}
-use Rattle.hir_printer.specs.Weights.{weight, heft}
+use Rattle.hir_printer.specs.Weights.{heft}
 use Rattle.hir_printer.specs.Printing.{Printing, on_page}
 use Rattle.hir_printer.specs.Printers.{stands_for, meant, printing, Leads, WroteWork, AddsItems, GaveWayTo, TurnedBy, enclosed}
 use Rattle.hir_printer.proofs.StepLemmas.{pieces_at}

@@ -1,5 +1,5 @@
 -- How much is to be done for what is printed.
-use Rattle.std.proofs.Common.{◌≡◌, ℕ, zero, suc, ◌+◌, ◌<◌, ◌≤◌, Bool, true, false, List, [], ◌∷◌, ◌++◌, codes, refl, arith}
+use Rattle.std.proofs.Common.{◌≡◌, ℕ, zero, suc, ◌+◌, ◌<◌, ◌≤◌, Bool, true, false, List, [], ◌∷◌, codes, refl, arith}
 use Rattle.std.specs.Prelude.{◌==◌, if◌then◌else◌}
 use Rattle.std.specs.List.{flat_map}
 use Rattle.hir_node.specs.declared.literal.Literal.{Literal}
@@ -8,7 +8,7 @@ use Rattle.hir_node.specs.declared.node_id.NodeId.{NodeId}
 use Rattle.hir_faults.specs.Down.{rank, value_within, value}
 use Rattle.hir_printer.specs.Questions.{Setting}
 use Rattle.hir_printer.specs.Items.{Item, Put, Lacks, Whole, Under, Pattern, TypeItem, text}
-use Rattle.hir_printer.specs.Names.{is_word, raw_parts, name_parts, name_items, same_text}
+use Rattle.hir_printer.specs.Names.{is_word, raw_parts, name_items, same_text}
 use Rattle.hir_printer.specs.Literals.{literal_items}
 use Rattle.hir_printer.specs.Pieces.{items_of}
 use Rattle.hir_printer.specs.Falls.{AllNodes, ItemsFall}

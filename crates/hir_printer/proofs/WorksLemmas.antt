@@ -1,6 +1,6 @@
 -- The one list of works: those that wait, the next last, and behind them those that were kept, the first first.
-use Rattle.std.proofs.Common.{◌≡◌, ℕ, ◌≤◌, List, [], ◌∷◌, ◌++◌, length, take, drop, reverse, sym, ap, ◌∙◌, append-nil, arith}
-use Rattle.std.proofs.lemmas.List.{reverse-append, reverse-reverse, take-append-le, drop-append-le, take-append-drop, take_all, drop_all}
+use Rattle.std.proofs.Common.{◌≡◌, ℕ, ◌≤◌, List, [], ◌∷◌, ◌++◌, length, take, drop, reverse, sym, ap, ◌∙◌, append-nil}
+use Rattle.std.proofs.lemmas.List.{reverse-append, reverse-reverse, take-append-le, drop-append-le, take-append-drop, take_all}
 
 pub kept_more : {X : Type 0} (n : ℕ) (xs ys : List X) (x : X) → n ≤ length xs → ys ≡ xs ++ (x ∷ []) → drop n ys ≡ drop n xs ++ (x ∷ [])
 kept_more n xs ys x h e = ap (drop n) e ∙ drop-append-le n xs (x ∷ []) h

@@ -1,5 +1,4 @@
 use Rattle.std.proofs.Common.{refl}
-use Rattle.std.specs.Option.{option_map}
 use Rattle.std.proofs.lemmas.Result.{on_ok_weaker}
 use Rattle.hir_printer.proofs.AddLemmas.{adds, adds_then, adds_more, adds_as}
 use Rattle.hir_pretty.proofs.ListLemmas.{no_result, a_result}

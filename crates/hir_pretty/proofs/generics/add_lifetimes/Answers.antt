@@ -1,4 +1,5 @@
-use Rattle.std.proofs.Common.{◌∙◌, ap, codes, false, refl}
+use Rattle.std.proofs.Common.{ℕ, ap, codes, false, map, sym}
+use Rattle.std.proofs.lemmas.Map.Iter.{rest_more, rest_all}
 use Rattle.hir_generics.specs.declared.data.LifetimeParamData.{LifetimeParamData}
 use Rattle.hir_printer.specs.Items.{text}
 use Rattle.hir_printer.specs.Names.{name_items}
@@ -13,7 +14,13 @@ loop-lifetime-init c = left_begins (λ s. ap (λ ys. following (text (codes ", "
     let e = c.iter_lt-lifetime-items.ensures in let i = c.into_iter-lifetime-iterator.ensures in cc))
 
 pub loop-lifetime-preserved : goal.loop-lifetime-preserved
-loop-lifetime-preserved c = ?
+loop-lifetime-preserved c =
+    let first = rest_more (λ e. (e.0, e.1.now)) c.loop-lifetime.lifetime-iterator c.next.new.self c.next.result _ c.in-Some.is c.next.ensures.steps in
+    left_goes_on c.loop-lifetime.invariant (adds_more c.in_ok-add_if.ensures (rw c.as_str.ensures at c.in_ok-add.ensures))
+    (λ s. sym (ap (λ entries. following (text (codes ", ")) c.loop-lifetime.after (map (λ (entry : ℕ × LifetimeParamData). name_items s entry.1.name) entries)) first))
 
 pub returns : goal.returns
-returns c = ?
+returns c =
+    let none = rest_all (λ e. (e.0, e.1.now)) c.loop-lifetime.lifetime-iterator c.next.new.self c.next.result c.in-None.is c.next.ensures.steps in
+    left_ends c.loop-lifetime.invariant
+    (λ s. sym (ap (λ entries. following (text (codes ", ")) c.loop-lifetime.after (map (λ (entry : ℕ × LifetimeParamData). name_items s entry.1.name) entries)) none))

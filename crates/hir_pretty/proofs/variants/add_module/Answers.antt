@@ -1,4 +1,4 @@
-use Rattle.std.proofs.Common.{refl, map}
+use Rattle.std.proofs.Common.{map}
 use Rattle.std.proofs.lemmas.Result.{on_ok_weaker}
 use Rattle.hir_printer.specs.Names.{name_items}
 use Rattle.hir_printer.proofs.AddLemmas.{adds_then, adds_as}

@@ -1,4 +1,4 @@
-use Rattle.std.proofs.Common.{List, ℕ, ◌∷◌, [], codes, sym, ap, ◌∙◌}
+use Rattle.std.proofs.Common.{◌∷◌, [], codes, sym, ap, ◌∙◌}
 use Rattle.hir_printer.specs.Names.{behind, name_parts}
 use Rattle.hir_printer.proofs.NameLemmas.{unquoted, quoted_static, quoted_other}
 use Rattle.hir_printer.proofs.names.name_parts.Goals as goal

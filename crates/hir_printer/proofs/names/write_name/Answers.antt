@@ -1,7 +1,7 @@
-use Rattle.std.proofs.Common.{◌≡◌, ◌++◌, ◌∷◌, [], List, map, codes, ap, ◌∙◌}
+use Rattle.std.proofs.Common.{◌++◌, ◌∷◌, [], map, codes, ap, ◌∙◌}
 use Rattle.hir_page.specs.Pieces.{Text}
 use Rattle.hir_page.proofs.WritesLemmas.{writes_then, writes_stopped, writes_err}
-use Rattle.hir_printer.specs.Names.{behind, name_parts}
+use Rattle.hir_printer.specs.Names.{behind}
 use Rattle.hir_printer.proofs.NameLemmas.{written_parts}
 use Rattle.hir_printer.proofs.TurnLemmas.{text_writes}
 use Rattle.hir_printer.proofs.names.write_name.Goals as goal

@@ -1,4 +1,4 @@
-use Rattle.std.proofs.Common.{refl, ap, sym, ◌∙◌}
+use Rattle.std.proofs.Common.{refl, ap, ◌∙◌}
 use Rattle.std.proofs.lemmas.List.{take_all}
 use Rattle.hir_printer.specs.Printers.{meant}
 use Rattle.hir_printer.proofs.AddLemmas.{adds_none, adds_then, adds_as, stood_is, meant_more}

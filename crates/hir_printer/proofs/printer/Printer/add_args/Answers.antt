@@ -1,5 +1,5 @@
-use Rattle.std.proofs.Common.{◌++◌, codes, map, refl, ap, ◌∙◌}
-use Rattle.std.specs.Prelude.{◌&&◌, not}
+use Rattle.std.proofs.Common.{◌++◌, codes, map, ap, ◌∙◌}
+use Rattle.std.specs.Prelude.{◌&&◌}
 use Rattle.std.proofs.lemmas.Result.{on_ok_weaker}
 use Rattle.hir_path.specs.declared.path.GenericArgs.{out-GenericArgs}
 use Rattle.hir_printer.specs.Items.{text, when, joined}

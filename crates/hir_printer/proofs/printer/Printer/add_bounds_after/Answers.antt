@@ -1,8 +1,5 @@
-use Rattle.std.proofs.Common.{refl, sym, ◌∙◌, ap}
 use Rattle.std.proofs.lemmas.Result.{on_ok_weaker}
 use Rattle.hir_printer.proofs.AddLemmas.{adds_then, adds_as}
-use Rattle.hir_printer.specs.Items.{text, when}
-use Rattle.hir_printer.specs.Paths.{bounds_items}
 use Rattle.hir_printer.proofs.OrderLemmas.{bounds_is}
 use Rattle.hir_printer.proofs.printer.Printer.add_bounds_after.Goals as goal
 

@@ -1,4 +1,3 @@
-use Rattle.std.proofs.Common.{refl}
 use Rattle.std.proofs.lemmas.Result.{on_ok_weaker}
 use Rattle.hir_printer.proofs.AddLemmas.{adds_as}
 use Rattle.std.proofs.Common.{map}

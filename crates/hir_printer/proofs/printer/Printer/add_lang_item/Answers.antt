@@ -14,5 +14,5 @@ returns-in-None c = rw c.in-None.is (on_ok_weaker c.add-in-None.result
 pub returns-in-Some : goal.returns-in-Some
 returns-in-Some c = rw c.in-Some.is (on_ok_weaker c.add-in-Some.result
     (λ a. adds_as (adds_more (adds_then (adds c.in_ok-add.ensures (λ s. refl)) c.in_ok-add_target.ensures) a)
-    (λ s. ap (λ is. is ++ text (codes ")")) (append_assoc (text (codes "builtin#lang(") ++ target_items s c.args.target) (text (codes "::")) (name_items s c.in-Some.name.now))))
+    (λ s. ap (λ is. is ++ text (codes ")")) (append_assoc (text (codes "builtin#lang(") ++ target_items s c.args.target) (text (codes "::")) (name_items s c.in-Some.name))))
     (rw (c.as_str.ensures, c.get.ensures) at c.add-in-Some.ensures))

@@ -1,4 +1,4 @@
-use Rattle.std.proofs.Common.{◌-◌, codes, drop, length, refl, take}
+use Rattle.std.proofs.Common.{◌-◌, codes, drop, length, take}
 use Rattle.hir_printer.proofs.AddLemmas.{adds_then, adds_more, left_begins, left_goes_on, left_ends}
 use Rattle.hir_printer.specs.Items.{text}
 use Rattle.hir_printer.specs.Exprs.{params}

@@ -20,7 +20,7 @@ returns-in-None c = rw (c.in-Bind.is, c.in-None.is) (adds_as c.in_ok-add_binding
 
 pub returns-in-Some : goal.returns-in-Some
 returns-in-Some c = rw (c.in-Bind.is, c.in-Some.is) (on_ok_weaker c.add-in-Some.result
-    (λ a. adds_as (adds_more c.in_ok-add_binding-in-Bind.ensures a) (λ s. bound_to (binding_items s c.in-Bind.id) c.in-Some.subpat.now)) c.add-in-Some.ensures)
+    (λ a. adds_as (adds_more c.in_ok-add_binding-in-Bind.ensures a) (λ s. bound_to (binding_items s c.in-Bind.id) c.in-Some.subpat)) c.add-in-Some.ensures)
 
 pub returns-in_ok-add_path-in-TupleStruct : goal.returns-in_ok-add_path-in-TupleStruct
 returns-in_ok-add_path-in-TupleStruct c = rw c.in-TupleStruct.is (on_ok_weaker c.add_in_parentheses-in-TupleStruct.result

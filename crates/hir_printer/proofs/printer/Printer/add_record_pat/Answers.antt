@@ -1,6 +1,5 @@
-use Rattle.std.proofs.Common.{◌++◌, codes, refl, ap, sym, append-nil, append_assoc}
 use Rattle.std.proofs.lemmas.Result.{on_ok_weaker}
-use Rattle.hir_printer.proofs.AddLemmas.{adds, adds_then, adds_more, adds_as}
+use Rattle.hir_printer.proofs.AddLemmas.{adds_then, adds_more, adds_as}
 use Rattle.hir_printer.proofs.FieldLemmas.{record_rest, record_plain}
 use Rattle.hir_printer.proofs.printer.Printer.add_record_pat.Goals as goal
 

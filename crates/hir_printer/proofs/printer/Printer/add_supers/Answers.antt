@@ -1,4 +1,4 @@
-use Rattle.std.proofs.Common.{[], refl, arith}
+use Rattle.std.proofs.Common.{refl, arith}
 use Rattle.std.proofs.lemmas.Result.{on_ok_weaker}
 use Rattle.hir_printer.proofs.AddLemmas.{adds, left_begins, left_goes_on, left_ends}
 use Rattle.hir_printer.proofs.OrderLemmas.{supers_more, supers_last}

@@ -1,6 +1,6 @@
-use Rattle.std.proofs.Common.{slice_get, refl}
+use Rattle.std.proofs.Common.{slice_get}
 use Rattle.std.proofs.lemmas.Result.{on_ok_weaker}
-use Rattle.hir_printer.proofs.AddLemmas.{adds, adds_found, adds_absent, not_there}
+use Rattle.hir_printer.proofs.AddLemmas.{adds_found, adds_absent, not_there}
 use Rattle.hir_printer.specs.Questions.{Setting}
 use Rattle.hir_printer.specs.Types.{type_items}
 use Rattle.hir_printer.proofs.printer.Printer.add_type_at.Goals as goal

@@ -1,4 +1,4 @@
-use Rattle.std.proofs.Common.{refl, arith}
+use Rattle.std.proofs.Common.{arith}
 use Rattle.std.proofs.lemmas.Result.{on_ok_weaker}
 use Rattle.hir_printer.proofs.AddLemmas.{adds_then, adds_more, adds_as}
 use Rattle.hir_printer.proofs.OrderLemmas.{rest_is}

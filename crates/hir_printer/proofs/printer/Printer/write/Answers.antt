@@ -1,7 +1,6 @@
 use Rattle.std.proofs.Common.{sym, ap, refl, ◌∙◌}
 use Rattle.std.proofs.lemmas.Result.{err_from_is_err_and}
 use Rattle.hir_printer.specs.Pieces.{printed}
-use Rattle.hir_printer.specs.Falls.{ItemsFall}
 use Rattle.hir_printer.specs.Questions.{Setting}
 use Rattle.hir_printer.specs.Printing.{Printing, seen}
 use Rattle.hir_printer.specs.Printers.{meant, printing}

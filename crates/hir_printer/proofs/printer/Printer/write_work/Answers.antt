@@ -1,4 +1,4 @@
-use Rattle.std.proofs.Common.{List, [], ◌∷◌, map, refl, arith}
+use Rattle.std.proofs.Common.{[], ◌∷◌, map, refl, arith}
 use Rattle.std.specs.Fmt.{decimal}
 use Rattle.hir_page.specs.Pieces.{Text, SoftSpace, Break, Indent, Outdent}
 use Rattle.hir_printer.specs.Literals.{literal_items, put_pieces}
