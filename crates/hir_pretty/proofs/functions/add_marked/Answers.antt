@@ -1,4 +1,4 @@
-use Rattle.std.proofs.Common.{refl, codes, map}
+use Rattle.std.proofs.Common.{refl, codes, map, nat_lt}
 use Rattle.std.specs.List.{enumerate_from}
 use Rattle.hir_printer.specs.Items.{text}
 use Rattle.hir_printer.proofs.AddLemmas.{adds_then, adds_more, left_begins, left_goes_on, left_ends}
@@ -15,4 +15,4 @@ loop-at-preserved c = left_goes_on c.loop-at.invariant (adds_more (adds_then c.i
     (λ s. marked_step (text (codes ", ")) c.args.marks.now c.loop-at.at c.index-params-at.result c.args.params.now c.loop-at-test.true c.index-params-at.is)
 
 pub returns : goal.returns
-returns c = left_ends c.loop-at.invariant (λ s. marked_end (text (codes ", ")) _ c.args.marks.now c.loop-at.at c.args.params.now c.loop-at-test.false)
+returns c = left_ends c.loop-at.invariant (λ s. marked_end (text (codes ", ")) (nat_lt 0 c.loop-at.at) c.args.marks.now c.loop-at.at c.args.params.now c.loop-at-test.false)
