@@ -29,9 +29,9 @@ use Rattle.hir_printer.proofs.WeightLemmas.{weight_at, enclosed_heft}
 -- 1. What was written
 
 -- what follows from a call that wasn't refused
-pub on_ok_of : {T E P Q R : Type 0} (r : Result T E) → (P → Q) → MatchResult r (λ _. P) (λ _. R) → OnOk r Q
-on_ok_of (Ok x) f m = f m
-on_ok_of (Err e) f m = tt
+pub on_ok_of : {T E P Q : Type 0} (R : Type 0) (r : Result T E) → (P → Q) → MatchResult r (λ _. P) (λ _. R) → OnOk r Q
+on_ok_of R (Ok x) f m = f m
+on_ok_of R (Err e) f m = tt
 
 pub on_ok_writes : {T E Q W : Type 0} {step refuses : W → Piece → W → Type 0} {u v : W} {ps : List Piece} (r : Result T E) → (Writes step refuses u ps true v → Q)
     → Writes step refuses u ps (is_ok r) v → OnOk r Q
@@ -169,14 +169,14 @@ module _ (s : Setting) {w : Work} {old between new : Printing} (from : old.from 
       let o = heft-append s (meant s a.way) (meant s between.waiting) in omega arith
 
 -- the next is missing, and nothing is left
-pub missing_next : {s : Setting} {page : Page} {before : Page × Option Missing} {waiting rest : List Work} {w : Work} {m : Missing} → before ≡ printing page (printed s (meant s waiting)) → waiting ≡ w ∷ rest
+pub missing_next : (s : Setting) (page : Page) {before : Page × Option Missing} {waiting others : List Work} {w : Work} {m : Missing} → before ≡ printing page (printed s (meant s waiting)) → waiting ≡ w ∷ others
     → w ≡ work.Lacks m → before.1 ≡ Some m
-missing_next {s} {page} {rest = rest} {m = m} same next lacks =
-    ap (λ (r : Page × Option Missing). r.1) (same ∙ ap (λ ws. printing page (printed s (meant s ws))) (next ∙ ap (λ v. v ∷ rest) lacks)) ∙ is_missing page m (printed s (meant s rest))
+missing_next s page {others = others} {m = m} same next lacks =
+    ap (λ (r : Page × Option Missing). r.1) (same ∙ ap (λ ws. printing page (printed s (meant s ws))) (next ∙ ap (λ v. v ∷ others) lacks)) ∙ is_missing page m (printed s (meant s others))
 
-pub all_is_written : {s : Setting} {page last : Page} {before : Page × Option Missing} {waiting : List Work} → before ≡ printing page (printed s (meant s waiting)) → waiting ≡ [] → last ≡ page
+pub all_is_written : (s : Setting) {page last : Page} {before : Page × Option Missing} {waiting : List Work} → before ≡ printing page (printed s (meant s waiting)) → waiting ≡ [] → last ≡ page
     → before ≡ (last, None)
-all_is_written {s} {page} same over still = same ∙ ap (λ ws. printing page (printed s (meant s ws))) over ∙ nothing_left page ∙ ap (λ (p : Page). (p, None)) (sym still)
+all_is_written s {page} same over still = same ∙ ap (λ ws. printing page (printed s (meant s ws))) over ∙ nothing_left page ∙ ap (λ (p : Page). (p, None)) (sym still)
 
 -- 4. What is printed of all that was added
 

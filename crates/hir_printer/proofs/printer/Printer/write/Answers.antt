@@ -44,8 +44,8 @@ loop-work-smaller c =
 
 pub returns-in_err-turn-clause-missing : goal.returns-in_err-turn-clause-missing
 returns-in_err-turn-clause-missing c = λ m e.
-    missing_next c.loop-work.invariant.same c.in-Some.ensures.next.0
+    missing_next (seen c.args.self.now).from (seen c.loop-work.self).page c.loop-work.invariant.same c.in-Some.ensures.next.0
     (c.in_err-turn.ensures.missing m (let p = err_from_is_err_and c.from_residual.result c.from_residual.ensures.1 in let f = p.1 in let g = p.2 in cc))
 
 pub returns-clause-ok : goal.returns-clause-ok
-returns-clause-ok c = let over = c.in_default.ensures.over refl in all_is_written c.loop-work.invariant.same over.0 over.1
+returns-clause-ok c = let over = c.in_default.ensures.over refl in all_is_written (seen c.args.self.now).from c.loop-work.invariant.same over.0 over.1

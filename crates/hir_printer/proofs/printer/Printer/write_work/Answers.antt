@@ -10,19 +10,19 @@ use Rattle.hir_printer.proofs.TurnLemmas.{on_ok_of, on_ok_writes, wrote}
 use Rattle.hir_printer.proofs.printer.Printer.write_work.Goals as goal
 
 pub returns-in-Text : goal.returns-in-Text
-returns-in-Text c = rw c.in-Text.is (on_ok_of c.text.result (λ e. wrote (Text c.in-Text.text.now ∷ []) refl refl e (omega arith)) c.text.ensures)
+returns-in-Text c = rw c.in-Text.is (on_ok_of _ c.text.result (λ e. wrote (Text c.in-Text.text.now ∷ []) refl refl e (omega arith)) c.text.ensures)
 
 pub returns-in-Space : goal.returns-in-Space
-returns-in-Space c = rw c.in-Space.is (on_ok_of c.soft_space.result (λ e. wrote (SoftSpace ∷ []) refl refl e (omega arith)) c.soft_space.ensures)
+returns-in-Space c = rw c.in-Space.is (on_ok_of _ c.soft_space.result (λ e. wrote (SoftSpace ∷ []) refl refl e (omega arith)) c.soft_space.ensures)
 
 pub returns-in-Break : goal.returns-in-Break
-returns-in-Break c = rw c.in-Break.is (on_ok_of c.line_break.result (λ e. wrote (Break ∷ []) refl refl e (omega arith)) c.line_break.ensures)
+returns-in-Break c = rw c.in-Break.is (on_ok_of _ c.line_break.result (λ e. wrote (Break ∷ []) refl refl e (omega arith)) c.line_break.ensures)
 
 pub returns-in-Indent : goal.returns-in-Indent
-returns-in-Indent c = rw c.in-Indent.is (on_ok_of c.indent.result (λ e. wrote (Indent ∷ []) refl refl e (omega arith)) c.indent.ensures)
+returns-in-Indent c = rw c.in-Indent.is (on_ok_of _ c.indent.result (λ e. wrote (Indent ∷ []) refl refl e (omega arith)) c.indent.ensures)
 
 pub returns-in-Outdent : goal.returns-in-Outdent
-returns-in-Outdent c = rw c.in-Outdent.is (on_ok_of c.outdent.result (λ e. wrote (Outdent ∷ []) refl refl e (omega arith)) c.outdent.ensures)
+returns-in-Outdent c = rw c.in-Outdent.is (on_ok_of _ c.outdent.result (λ e. wrote (Outdent ∷ []) refl refl e (omega arith)) c.outdent.ensures)
 
 pub returns-in-Number : goal.returns-in-Number
 returns-in-Number c =
