@@ -5,8 +5,8 @@ use Rattle.hir_printer.specs.Printing.{seen}
 use Rattle.hir_printer.proofs.TurnLemmas.{wrote_adds, kept_adds}
 use Rattle.hir_printer.proofs.printer.Printer.add_work.Goals as goal
 
-pub returns-then-is_node : goal.returns-then-is_node
-returns-then-is_node c = on_ok_weaker c.keep.result (kept_adds c.args.work.now) c.keep.ensures
+pub returns-then-len-self : goal.returns-then-len-self
+returns-then-len-self c = on_ok_weaker c.keep.result (kept_adds c.args.work.now) c.keep.ensures
 
 pub write_work-requires : goal.write_work-requires
 write_work-requires c = rw c.copy_of-work.ensures (sym c.is_node.ensures ∙ c.if-is_node.false)
