@@ -1,4 +1,6 @@
+use Rattle.std.proofs.Common.{◌≡◌, ◌∙◌, ap}
 use Rattle.std.proofs.lemmas.Result.{err_from_is_err_and}
+use Rattle.hir_printer.specs.declared.work.Work.TheVariants as work
 use Rattle.hir_printer.proofs.TurnLemmas.{whole_gives, under_gives, pattern_gives, type_gives}
 use Rattle.hir_printer.proofs.printer.Printer.give_way.Goals as goal
 
@@ -28,3 +30,9 @@ returns-in_err-add_type_at-in-Type-clause-missing c = λ m e. let p = err_from_i
 
 pub returns-in_err-add_fish-in-Args-clause-missing : goal.returns-in_err-add_fish-in-Args-clause-missing
 returns-in_err-add_fish-in-Args-clause-missing c = λ m e. let p = err_from_is_err_and c.from_residual-in_err-add_fish-in-Args.result c.from_residual-in_err-add_fish-in-Args.ensures.1 in let f = p.1 in let g = p.2 in absurd (cc)
+
+pub returns-in_ok-add_fish-in-Args-clause-ok : goal.returns-in_ok-add_fish-in-Args-clause-ok
+returns-in_ok-add_fish-in-Args-clause-ok c = rw c.in-Args.is c.in_ok-add_fish-in-Args.ensures
+
+pub returns-in-Lacks-clause-missing : goal.returns-in-Lacks-clause-missing
+returns-in-Lacks-clause-missing c = λ m e. let k : c.in-Lacks.missing ≡ m = cc in c.in-Lacks.is ∙ ap (λ x. work.Lacks x) k
