@@ -19,7 +19,8 @@ use std::alloc::Global;
 /// The text of an expression of the store, in lines. The expression has to be there: `has_expr` tests it. What owns the store makes no
 /// difference to the text.
 ///
-/// Answers `Missing` of the first definition that the text names and the tables don't have, and `Memory` where memory was refused.
+/// Answers `Missing` of the first definition that the text names and the tables don't have, and `Memory` where memory was refused. An
+/// error drops the text that was begun.
 pub fn print_expr_hir(
     alloc: Global,
     tables: &Tables,
@@ -40,7 +41,8 @@ pub fn print_expr_hir(
 /// The text of a pattern of the store, in one line or in lines. The pattern has to be there: `has_pat` tests it. What owns the store makes
 /// no difference to the text.
 ///
-/// Answers `Missing` of the first definition that the text names and the tables don't have, and `Memory` where memory was refused.
+/// Answers `Missing` of the first definition that the text names and the tables don't have, and `Memory` where memory was refused. An
+/// error drops the text that was begun.
 pub fn print_pat_hir(
     alloc: Global,
     tables: &Tables,
@@ -61,7 +63,8 @@ pub fn print_pat_hir(
 
 /// The text of a path whose types, lifetimes and constants are of the store, in lines: `path_is_sound` of the store tests it.
 ///
-/// Answers `Missing` of the first definition that the text names and the tables don't have, and `Memory` where memory was refused.
+/// Answers `Missing` of the first definition that the text names and the tables don't have, and `Memory` where memory was refused. An
+/// error drops the text that was begun.
 pub fn print_path(
     alloc: Global,
     tables: &Tables,

@@ -118,7 +118,8 @@ fn add_struct<'a>(
 /// The text of a struct's signature, in lines, after what the tables have of its representation in memory. Other definitions that it
 /// names, and parameters that a type names by their id, its own ones too, are looked up in the tables.
 ///
-/// Answers `Missing` of the first definition that the text names and the tables don't have, and `Memory` where memory was refused.
+/// Answers `Missing` of the first definition that the text names and the tables don't have, and `Memory` where memory was refused. An
+/// error drops the text that was begun.
 pub fn print_struct(
     alloc: Global,
     tables: &Tables,

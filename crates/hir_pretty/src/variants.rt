@@ -154,7 +154,8 @@ fn fields_of<'a>(tables: &'a Tables, owner: &VariantId) -> Result<&'a VariantFie
 /// The text of a struct, a union or a variant of an enum with the fields that the tables have, in lines. The enum of a variant is looked
 /// up first, then the names, and then the fields.
 ///
-/// Answers `Missing` of the first definition that the text names and the tables don't have, and `Memory` where memory was refused.
+/// Answers `Missing` of the first definition that the text names and the tables don't have, and `Memory` where memory was refused. An
+/// error drops the text that was begun.
 pub fn print_variant_body_hir(
     alloc: Global,
     tables: &Tables,
