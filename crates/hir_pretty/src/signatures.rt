@@ -90,8 +90,7 @@ fn print_adt(
 /// `print_struct` of a struct. Of any other it says `unimplemented`, its kind and its number, and nothing is looked up.
 ///
 /// Answers `Missing` of the signature where the tables have none of the function or of the struct, or else of the first definition outside
-/// that the text names and that the tables don't have; and `Memory` where memory was refused. An error
-/// drops the text that was begun.
+/// that the text names and that the tables don't have; and `Memory` where memory was refused. An error drops the text that was begun.
 pub fn print_signature(
     alloc: Global,
     tables: &Tables,
