@@ -16,5 +16,5 @@ returns c =
     on_ok_weaker c.add_list.result
     (λ a. adds_as (adds_then (adds_then c.in_ok-add_if.ensures (rw c.as_slice.ensures at c.in_ok-add_joined.ensures)) a)
     (λ s. ap (λ h. when (h && (out-GenericArgs x).has_self_type) (text (codes "Self=")) ++ joined sep (map (arg_items s) (out-GenericArgs x).args) ++ following sep h (map (assoc_items s) (out-GenericArgs x).bindings))
-    (filled (out-GenericArgs x).args c.is_empty.result c.is_empty.ensures) ∙ args_is s x))
+    (filled (out-GenericArgs x).args c.is_empty-has_args.result c.is_empty-has_args.ensures) ∙ args_is s x))
     (rw c.as_slice-2.ensures at c.add_list.ensures)

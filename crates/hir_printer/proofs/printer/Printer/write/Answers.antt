@@ -1,7 +1,7 @@
-use Rattle.std.proofs.Common.{sym, ap, refl, ◌∙◌}
+use Rattle.std.proofs.Common.{sym, ap, refl, subst, ◌∙◌}
 use Rattle.std.proofs.lemmas.Result.{err_from_is_err_and}
 use Rattle.hir_printer.specs.Pieces.{printed}
-use Rattle.hir_printer.specs.Questions.{Setting}
+use Rattle.hir_printer.specs.Falls.{ItemsFall}
 use Rattle.hir_printer.specs.Printing.{Printing, seen}
 use Rattle.hir_printer.specs.Printers.{meant, printing}
 use Rattle.hir_printer.proofs.TurnLemmas.{turn_leads, turn_less, missing_next, all_is_written}
@@ -20,7 +20,7 @@ loop-work-init c =
 pub turn-requires-clause-fall : goal.turn-requires-clause-fall
 turn-requires-clause-fall c =
     let e = ap (λ (p : Printing). p.from) c.in-Some.ensures.next.1 ∙ c.loop-work.invariant.from in
-    c.items_fall.ensures c.args.self.now.store.now c.has_no_fault.ensures _ (ap (λ (s : Setting). s.nodes) e)
+    subst ItemsFall (sym e) (c.items_fall.ensures c.args.self.now.store.now c.has_no_fault.ensures (seen c.args.self.now).from refl)
 
 pub turn-requires-clause-none : goal.turn-requires-clause-none
 turn-requires-clause-none c = ap (λ (p : Printing). p.kept) c.in-Some.ensures.next.1 ∙ c.loop-work.invariant.none
