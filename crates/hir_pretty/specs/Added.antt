@@ -2,7 +2,7 @@
 use Rattle.std.specs.Prelude.{ℕ, Bool, false, List, [], ◌∷◌, ◌++◌, get_or, codes, Option, Some, None, Result, Ok, Err}
 use Rattle.std.specs.Fmt.{decimal}
 use Rattle.hir_page.specs.Pieces.{Piece, Text}
-use Rattle.hir_printer.specs.Items.{Item, t, when}
+use Rattle.hir_printer.specs.Items.{Item, text, t, when}
 
 -- what the type of an argument is printed as where its place is marked
 abbrev pub marked_items : List Bool → ℕ × ℕ → List Item
