@@ -14,7 +14,6 @@ use Rattle.hir_pretty.proofs.nodes.print_expr_hir.Goals as goal
 pub returns-in_err-add : goal.returns-in_err-add
 returns-in_err-add c = let p = err_from_is_err_and c.from_residual.result c.from_residual.ensures.1 in rw (p.1, p.2) prints_refused
 
-
 pub returns : goal.returns
 returns c =
     let s = setting c.args.store.now (answers c.args.tables.now) (words_of c.args.tables.now.words c.args.edition) false in
