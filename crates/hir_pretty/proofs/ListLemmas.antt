@@ -19,6 +19,7 @@ use Rattle.hir_printer.specs.Paths.{colons_first}
 use Rattle.hir_printer.specs.Types.{type_param_items}
 use Rattle.hir_printer.specs.Printers.{following}
 use Rattle.hir_printer.proofs.ListLemmas.{drop_item, is_cons, following_append, following_joined}
+use Rattle.hir_printer.proofs.OrderLemmas.{cons_length}
 use Rattle.hir_pretty.specs.Added.{marked_items}
 use Rattle.hir_pretty.specs.Bodies.{formal_params}
 use Rattle.hir_pretty.specs.Signatures.{type_name, argument_items, arguments, function_types, each_lifetime, each_type_or_const, in_angles, each_predicate, where_items}
@@ -51,7 +52,7 @@ some_where s (x ∷ xs) b e f = refl
 
 pub no_where : (s : Setting) (predicates : List WherePredicate) (b : Bool) → b ≡ (length predicates == 0) → b ≡ true → [] ≡ where_items s predicates
 no_where s [] b e f = refl
-no_where s (x ∷ xs) b e f = absurd (cc)
+no_where s (x ∷ xs) b e f = absurd (true≢false (sym f ∙ e ∙ cons_length x xs))
 
 -- a path's kind, and its names
 pub kinds_first : (s : Setting) (kind : PathKind) → colons_first kind ≡ is_cons (kind_word s kind)

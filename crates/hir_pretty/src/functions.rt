@@ -1,12 +1,12 @@
 //! Signatures of functions as text.
 #![tactic(auto, using(hir_printer::proofs::AddLemmas::adding))]
 
-ghost use Rattle.std.specs.Prelude.{◌≡◌, ◌<◌, ◌==◌, OnOk, IfOk, map, ℕ, length, Some, get_or, false};
+ghost use Rattle.std.specs.Prelude.{◌≡◌, ◌<◌, ◌==◌, ◌++◌, OnOk, IfOk, map, ℕ, length, Some, get_or, false, codes};
 ghost use Rattle.std.specs.List.{enumerate_from, list_any};
 ghost use Rattle.std.specs.Option.{option_map};
 ghost use Rattle.hir_base.specs.RawWords.{words_of};
 ghost use Rattle.hir_printer.specs.Settings.{setting};
-ghost use Rattle.hir_printer.specs.Items.{comma_joined};
+ghost use Rattle.hir_printer.specs.Items.{text, comma_joined};
 ghost use Rattle.hir_printer.specs.Answers.{answers};
 ghost use Rattle.hir_printer.specs.Printed.{PrintsPieces};
 ghost use Rattle.hir_printer.specs.Pieces.{printed};
@@ -21,21 +21,24 @@ use hir_node::TypeRefId;
 use hir_printer::{PrintFault, Printer, Work};
 use std::alloc::{AllocError, Global};
 
+fn add_quoted<'a>(printer: &mut Printer<'a>, abi: &'a str) -> Result<(), AllocError>
+    ensures { OnOk result (Adds printer.old
+        (λ s. text (codes "extern \"") ++ text abi.now ++ text (codes "\" ")) printer.new) }
+{
+    printer.add(&[Work::Text("extern \""), Work::Text(abi), Work::Text("\" ")])
+}
+
 /// Adds the calling convention, unless it is that of Rust.
 fn add_abi<'a>(printer: &mut Printer<'a>, abi: &'a ExternAbi) -> Result<(), AllocError>
     ensures { OnOk result (Adds printer.old (λ s. abi_items abi.now) printer.new) }
 {
     match abi {
         ExternAbi::Rust => Ok(()),
-        ExternAbi::C
-        | ExternAbi::CUnwind
-        | ExternAbi::System
-        | ExternAbi::SystemUnwind
-        | ExternAbi::Named(_) => printer.add(&[
-            Work::Text("extern \""),
-            Work::Text(abi.as_str()),
-            Work::Text("\" "),
-        ]),
+        ExternAbi::C => add_quoted(printer, abi.as_str()),
+        ExternAbi::CUnwind => add_quoted(printer, abi.as_str()),
+        ExternAbi::System => add_quoted(printer, abi.as_str()),
+        ExternAbi::SystemUnwind => add_quoted(printer, abi.as_str()),
+        ExternAbi::Named(_) => add_quoted(printer, abi.as_str()),
     }
 }
 

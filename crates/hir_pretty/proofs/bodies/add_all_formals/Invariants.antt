@@ -9,5 +9,5 @@ use Rattle.hir_pretty.proofs.bodies.add_all_formals.Given as goal
 
 abbrev pub invariant-loop-param : goal.invariant-loop-param
 invariant-loop-param l =
-    Left (seen l.fn.printer) (λ s. comma_joined (formal_params s l.self_binding (formals_of l.params))) (seen l.printer)
+    Left (seen l.fn.printer) (λ s. comma_joined (formal_params s l.fn.self_binding (formals_of l.params))) (seen l.printer)
     (λ s. following (text (codes ", ")) l.after (map p (formals_of (drop l.param-index l.params))))
