@@ -1,6 +1,6 @@
 //! The one buffer of a printing: a text that is written at its end alone, and looks back over its last characters.
-ghost use Rattle.std.specs.Prelude.{◌≡◌, ◌≢◌, ◌<◌, ◌∷◌, [], ◌++◌, ◌+◌, ◌-◌, ◌*◌, OnOk, IsTrue, ◌↔◌, string_bytes};
-ghost use Rattle.hir_page.specs.Buffer.{HasNoEnd, IsTrimmedLen, IsCutText, EndsInLineEnd};
+ghost use Rattle.std.specs.Prelude.{◌≡◌, ◌≢◌, ◌<◌, ◌∷◌, [], ◌++◌, ◌+◌, ◌-◌, ◌*◌, replicate, MatchResult, IsTrue, ◌↔◌, string_bytes};
+ghost use Rattle.hir_page.specs.Buffer.{HasNoEnd, IsTrimmedLen, IsCutText, EndsInLineEnd, IsGrown};
 ghost use Rattle.hir_page.specs.LastByte.{IsLastByte};
 ghost use Rattle.hir_page.specs.Page.{begun, parted, indented, put, put_all, trimmed, spaced, line_ended, joined, without_empty_lines, is_blank, empty_page, page_text, format_in_line, format_after_end};
 
@@ -11,8 +11,8 @@ use std::marker::Model;
 /// A page of text, written piece by piece. Contracts see it as its lines, its level and its format.
 ///
 /// No step goes over the text again: the length without trailing spaces is kept, and the indentation is a text of spaces that
-/// grows and shrinks with the level. A step fails only if memory for the text or the indentation was refused; then the page holds a part
-/// of what it was to write.
+/// grows and shrinks with the level. A step fails only if memory for the text or the indentation was refused, and then it
+/// leaves the page as it was.
 #[derive(Drop)]
 pub struct PageBuffer {
     text: String,
@@ -69,10 +69,8 @@ impl PageBuffer {
 
     /// Adds a line end, whatever the format.
     fn end_line(&mut self) -> Result<(), AllocError>
-        ensures { OnOk result (self.new ≡ record self.old {
-          above = self.old.last ∷ self.old.above;
-          last = [];
-        }) }
+        ensures { MatchResult result (λ _. self.new ≡ record self.old { above = self.old.last ∷ self.old.above; last = [] })
+            (λ _. self.new ≡ self.old) }
     {
         self.text.push('\n')?;
         self.kept = self.text.len();
@@ -83,7 +81,7 @@ impl PageBuffer {
     #[inline(always)]
     fn add(&mut self, part: &str) -> Result<(), AllocError>
         requires { HasNoEnd part.now }
-        ensures { OnOk result (self.new ≡ record self.old { last = self.old.last ++ part.now }) }
+        ensures { MatchResult result (λ _. self.new ≡ record self.old { last = self.old.last ++ part.now }) (λ _. self.new ≡ self.old) }
     {
         let before = self.text.len();
         self.text.push_str(part)?;
@@ -96,7 +94,7 @@ impl PageBuffer {
 
     /// Adds four spaces for each level.
     fn indent_line(&mut self) -> Result<(), AllocError>
-        ensures { OnOk result (self.new ≡ indented self.old) }
+        ensures { MatchResult result (λ _. self.new ≡ indented self.old) (λ _. self.new ≡ self.old) }
     {
         self.text.push_str(self.indentation.as_str())?;
         Ok(())
@@ -104,7 +102,7 @@ impl PageBuffer {
 
     /// Begins a line, unless the last is blank.
     fn part_line(&mut self) -> Result<(), AllocError>
-        ensures { OnOk result (self.new ≡ parted self.old) }
+        ensures { MatchResult result (λ _. self.new ≡ parted self.old) (λ _. self.new ≡ self.old) }
     {
         if !self.ends_in_blank_line() {
             self.end_line()?;
@@ -115,7 +113,7 @@ impl PageBuffer {
     /// Begins a line, unless the last is blank, and indents it.
     #[inline(never)]
     fn begin_line(&mut self) -> Result<(), AllocError>
-        ensures { OnOk result (self.new ≡ indented (parted self.old)) }
+        ensures { MatchResult result (λ _. self.new ≡ indented (parted self.old)) (λ _. IsGrown self.old self.new) }
     {
         self.part_line()?;
         self.indent_line()
@@ -124,7 +122,7 @@ impl PageBuffer {
     /// Begins a line, and indents it, if the next text has to begin one.
     #[inline(always)]
     fn begin(&mut self) -> Result<(), AllocError>
-        ensures { OnOk result (self.new ≡ begun self.old) }
+        ensures { MatchResult result (λ _. self.new ≡ begun self.old) (λ _. IsGrown self.old self.new) }
     {
         match self.format {
             LineFormat::Oneline => Ok(()),
@@ -137,7 +135,7 @@ impl PageBuffer {
     #[inline(always)]
     fn line(&mut self, line: &str) -> Result<(), AllocError>
         requires { HasNoEnd line.now }
-        ensures { OnOk result (self.new ≡ put_all line.now self.old) }
+        ensures { MatchResult result (λ _. self.new ≡ put_all line.now self.old) (λ _. IsGrown self.old self.new) }
     {
         if !line.is_empty() {
             self.begin()?;
@@ -147,10 +145,50 @@ impl PageBuffer {
         Ok(())
     }
 
-    /// Writes text, which seldom has a line end.
+    /// Whether so many bytes go on in the last line, and the text has room for them.
+    #[inline(always)]
+    fn has_room(&self, bytes: usize) -> bool
+        ensures { IsTrue result → self.now.format ≡ format_in_line self.now.format }
+    {
+        match self.format {
+            LineFormat::Oneline | LineFormat::Newline => {
+                bytes <= self.text.capacity() - self.text.len()
+            }
+            LineFormat::Indentation => false,
+        }
+    }
+
+    /// Writes text. Where there is room for it in the last line, it calls nothing.
     #[inline(always)]
     fn write(&mut self, text: &str) -> Result<(), AllocError>
-        ensures { OnOk result (self.new ≡ put_all text.now self.old) }
+        ensures { MatchResult result (λ _. self.new ≡ put_all text.now self.old) (λ _. self.new ≡ self.old) }
+    {
+        if self.has_room(text.len()) && has_no_end(text.as_bytes()) {
+            return self.add(text);
+        }
+        self.all_or_none(text)
+    }
+
+    /// Writes text: all of it, or nothing where memory is refused.
+    #[inline(never)]
+    fn all_or_none(&mut self, text: &str) -> Result<(), AllocError>
+        ensures { MatchResult result (λ _. self.new ≡ put_all text.now self.old) (λ _. self.new ≡ self.old) }
+    {
+        let len = self.text.len();
+        let kept = self.kept;
+        let format = self.format;
+        let written = self.many(text);
+        if written.is_err() {
+            self.text.truncate(len);
+            self.kept = kept;
+            self.format = format;
+        }
+        written
+    }
+
+    /// Writes text, which seldom has a line end.
+    fn many(&mut self, text: &str) -> Result<(), AllocError>
+        ensures { MatchResult result (λ _. self.new ≡ put_all text.now self.old) (λ _. IsGrown self.old self.new) }
     {
         if has_no_end(text.as_bytes()) {
             return self.line(text);
@@ -159,8 +197,9 @@ impl PageBuffer {
     }
 
     /// Writes text line by line.
+    #[inline(never)]
     fn lines(&mut self, text: &str) -> Result<(), AllocError>
-        ensures { OnOk result (self.new ≡ put_all text.now self.old) }
+        ensures { MatchResult result (λ _. self.new ≡ put_all text.now self.old) (λ _. IsGrown self.old self.new) }
     {
         let mut rest = text;
         while let Some((line, after)) = rest.split_once('\n') {
@@ -173,7 +212,7 @@ impl PageBuffer {
 
     /// Writes a line end.
     fn line_end(&mut self) -> Result<(), AllocError>
-        ensures { OnOk result (self.new ≡ put 10 self.old) }
+        ensures { MatchResult result (λ _. self.new ≡ put 10 self.old) (λ _. IsGrown self.old self.new) }
     {
         self.begin()?;
         self.end_line()?;
@@ -181,27 +220,56 @@ impl PageBuffer {
         Ok(())
     }
 
-    /// Removes the trailing spaces of the last line.
-    fn trim(&mut self)
-        ensures { self.new ≡ record self.old { last = trimmed self.old.last } }
+    /// Ends the last line without its trailing spaces. It is refused only where there were none: their room is enough for a line end.
+    fn end_trimmed(&mut self) -> Result<(), AllocError>
+        ensures { MatchResult result (λ _. self.new ≡ record self.old {
+          above = trimmed self.old.last ∷ self.old.above;
+          last = [];
+          format = format_after_end self.old.format;
+        }) (λ _. self.new ≡ self.old) }
     {
+        let after = self.format.after_end();
         self.text.truncate(self.kept);
+        self.text.push('\n')?;
+        self.kept = self.text.len();
+        self.format = after;
+        Ok(())
+    }
+
+    /// Ends the last line without its trailing spaces, and a line of indentation. Room for all is asked for first, since spaces
+    /// that were removed could not be written again.
+    fn end_two_lines(&mut self) -> Result<(), AllocError>
+        ensures { MatchResult result (λ _. self.new ≡ record self.old {
+          above = replicate (4 * self.old.level) 32 ∷ trimmed self.old.last ∷ self.old.above;
+          last = [];
+        }) (λ _. self.new ≡ self.old) }
+    {
+        let indentation = self.indentation.as_str();
+        self.text.reserve(indentation.len() + 2)?;
+        self.text.truncate(self.kept);
+        self.text.push('\n')?;
+        self.text.push_str(indentation)?;
+        self.text.push('\n')?;
+        self.kept = self.text.len();
+        Ok(())
     }
 
     /// Writes a break in lines.
     fn break_line(&mut self) -> Result<(), AllocError>
-        ensures { OnOk result (self.new ≡ line_ended self.old) }
+        ensures { MatchResult result (λ _. self.new ≡ line_ended self.old) (λ _. self.new ≡ self.old) }
     {
         if self.ends_in_blank_line() {
             return Ok(());
         }
-        self.trim();
-        self.line_end()
+        match self.format {
+            LineFormat::Oneline | LineFormat::Newline => self.end_trimmed(),
+            LineFormat::Indentation => self.end_two_lines(),
+        }
     }
 
     /// Adds a space, whatever the format.
     fn add_space(&mut self) -> Result<(), AllocError>
-        ensures { OnOk result (self.new ≡ record self.old { last = self.old.last ++ (32 ∷ []) }) }
+        ensures { MatchResult result (λ _. self.new ≡ record self.old { last = self.old.last ++ (32 ∷ []) }) (λ _. self.new ≡ self.old) }
     {
         self.text.push(' ')?;
         Ok(())
@@ -228,7 +296,7 @@ impl PageBuffer {
 
     /// Writes a soft space.
     fn space(&mut self) -> Result<(), AllocError>
-        ensures { OnOk result (self.new ≡ spaced self.old) }
+        ensures { MatchResult result (λ _. self.new ≡ spaced self.old) (λ _. self.new ≡ self.old) }
     {
         match self.last_byte() {
             LastByte::Absent | LastByte::LineEnd | LastByte::Space => Ok(()),
@@ -238,7 +306,7 @@ impl PageBuffer {
 
     /// Writes a break in one line.
     fn join(&mut self) -> Result<(), AllocError>
-        ensures { OnOk result (self.new ≡ joined self.old) }
+        ensures { MatchResult result (λ _. self.new ≡ joined self.old) (λ _. self.new ≡ self.old) }
     {
         match self.last_byte() {
             LastByte::Absent | LastByte::Space => Ok(()),
@@ -248,7 +316,7 @@ impl PageBuffer {
 
     /// Raises the level by one.
     fn raise_level(&mut self) -> Result<(), AllocError>
-        ensures { OnOk result (self.new ≡ record self.old { level = self.old.level + 1 }) }
+        ensures { MatchResult result (λ _. self.new ≡ record self.old { level = self.old.level + 1 }) (λ _. self.new ≡ self.old) }
     {
         self.indentation.push_str("    ")?;
         Ok(())
@@ -281,6 +349,8 @@ impl PieceWriter for PageBuffer {
 
     ghost step = { λ page piece after. after ≡ rendered piece page };
 
+    ghost refuses = { λ page piece after. after ≡ page };
+
     // Most text has up to four bytes: where their number is known it is copied without a call. That brings a tenth of a printing's time.
     #[inline(never)]
     fn text(&mut self, text: &str) -> Result<(), AllocError> {
@@ -307,7 +377,11 @@ impl PieceWriter for PageBuffer {
 
     fn indent(&mut self) -> Result<(), AllocError> {
         self.raise_level()?;
-        self.line_break()
+        let broken = self.line_break();
+        if broken.is_err() {
+            self.lower_level();
+        }
+        broken
     }
 
     fn outdent(&mut self) -> Result<(), AllocError> {

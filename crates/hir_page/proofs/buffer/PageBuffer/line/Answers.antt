@@ -3,6 +3,7 @@ use Rattle.std.proofs.lemmas.Bool.Decides.{nat_tests}
 use Rattle.hir_page.specs.declared.line_format.LineFormat.{LineFormat}
 use Rattle.hir_page.specs.Page.{Page, begun, format_in_line}
 use Rattle.hir_page.proofs.PageLemmas.{put_line, begun_format}
+use Rattle.hir_page.proofs.GrownLemmas.{grown_begun, grown_same, on_refused}
 use Rattle.hir_page.proofs.buffer.PageBuffer.line.Goals as goal
 
 pub returns-in_ok-add : goal.returns-in_ok-add
@@ -15,3 +16,6 @@ returns-in_ok-add c =
     let added = c.self.view_is ∙ c.in_ok-add.ensures ∙ ap with_line c.in_ok-begin.ensures in
     let format = c.in_line-self-inside.ensures ∙ ap format_in_line (ap (λ (q : Page). q.format) added ∙ begun_format p) in
     ap (set c.in_line-self-inside.result) added ∙ ap (λ f. set f (with_line (begun p))) format ∙ sym (put_line p line some c.requires)
+
+pub returns-in_err-add : goal.returns-in_err-add
+returns-in_err-add c = on_refused _ c.from_residual-2.ensures.0 (grown_same (grown_same (grown_begun c.args.self.now) c.in_ok-begin.ensures) c.in_err-add.ensures)
