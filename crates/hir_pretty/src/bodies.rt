@@ -5,7 +5,7 @@ ghost use Rattle.std.specs.Prelude.{◌≡◌, ◌++◌, ◌∷◌, OnOk, map, c
 ghost use Rattle.hir_base.specs.RawWords.{words_of};
 ghost use Rattle.hir_items.specs.Bodies.{formals_of};
 ghost use Rattle.hir_printer.specs.Settings.{setting};
-ghost use Rattle.hir_printer.specs.Items.{p, text, comma_joined};
+ghost use Rattle.hir_printer.specs.Items.{p, text, opt, comma_joined};
 ghost use Rattle.hir_printer.specs.Names.{binding_items};
 ghost use Rattle.hir_printer.specs.Answers.{answers};
 ghost use Rattle.hir_printer.specs.Printed.{PrintsPieces};
@@ -21,6 +21,16 @@ use hir_node::{BindingId, PatId};
 use hir_printer::{PrintFault, Printer, Work};
 use std::alloc::{AllocError, Global};
 
+/// Adds the binding of `self`, where there is one.
+fn add_self(printer: &mut Printer<'_>, binding: Option<BindingId>) -> Result<(), AllocError>
+    ensures { OnOk result (Adds printer.old (λ s. opt (binding_items s) binding) printer.new) }
+{
+    match binding {
+        None => Ok(()),
+        Some(binding) => printer.add_binding(binding),
+    }
+}
+
 /// Adds the binding of `self`, where there is one, and the formal patterns.
 fn add_all_formals(
     printer: &mut Printer<'_>,
@@ -30,11 +40,8 @@ fn add_all_formals(
     ensures { OnOk result (Adds printer.old
         (λ s. comma_joined (formal_params s self_binding (formals_of params.now))) printer.new) }
 {
-    let mut after = false;
-    if let Some(binding) = self_binding {
-        printer.add_binding(binding)?;
-        after = true;
-    }
+    add_self(printer, self_binding)?;
+    let mut after = self_binding.is_some();
     for param in params {
         printer.add_if(after, ", ")?;
         printer.add(&[Work::Pattern(param.formal)])?;

@@ -13,28 +13,34 @@ ghost use Rattle.hir_printer.specs.Answers.{answers};
 ghost use Rattle.hir_printer.specs.Printed.{PrintsPieces};
 ghost use Rattle.hir_printer.specs.Pieces.{printed};
 ghost use Rattle.hir_printer.specs.Printers.{Adds};
-ghost use Rattle.hir_pretty.specs.Variants.{LacksFields, module_items, visibility_items, field_line, fields_begin, fields_end, fields_items, variant_items, without_fields};
+ghost use Rattle.hir_pretty.specs.Variants.{LacksFields, kind_word, module_items, visibility_items, field_line, fields_begin, fields_end, fields_items, variant_items, without_fields};
 ghost use Rattle.hir_pretty.specs.Found.{parents, fields_found};
 
 use crate::heads::{add_variant_head, missing_in_head};
 use hir_base::{Edition, ModPath, PathKind, VariantId};
 use hir_defs::{FieldData, FieldsShape, RawVisibility, Tables, VariantFields};
 use hir_expr_store::Missing;
-use hir_printer::{PrintFault, Printer, Work};
+use hir_printer::{PrintFault, Printer, Work, colons_first};
 use std::alloc::{AllocError, Global};
+
+/// Adds what the path of a module begins with.
+fn add_kind(printer: &mut Printer<'_>, kind: PathKind) -> Result<(), AllocError>
+    ensures { OnOk result (Adds printer.old (λ s. joined (text (codes "::")) (kind_word s kind)) printer.new) }
+{
+    match kind {
+        PathKind::Plain | PathKind::Abs => Ok(()),
+        PathKind::Super(times) => printer.add_supers(times),
+        PathKind::Crate => printer.add(&[Work::Text("crate")]),
+        PathKind::DollarCrate(_) => printer.add(&[Work::Text("$crate")]),
+    }
+}
 
 /// Adds the path of a module: where it begins, and its names.
 fn add_module<'a>(printer: &mut Printer<'a>, path: &'a ModPath) -> Result<(), AllocError>
     ensures { OnOk result (Adds printer.old (λ s. module_items s path.now) printer.new) }
 {
-    match path.kind() {
-        PathKind::Plain => return printer.add_joined("::", path.segments()),
-        PathKind::Super(times) => printer.add_supers(times)?,
-        PathKind::Crate => printer.add(&[Work::Text("crate")])?,
-        PathKind::Abs => {}
-        PathKind::DollarCrate(_) => printer.add(&[Work::Text("$crate")])?,
-    }
-    printer.add_list(true, "::", path.segments())
+    add_kind(printer, path.kind())?;
+    printer.add_list(colons_first(path.kind()), "::", path.segments())
 }
 
 fn add_in_module<'a>(printer: &mut Printer<'a>, path: &'a ModPath) -> Result<(), AllocError>

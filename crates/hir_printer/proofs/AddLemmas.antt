@@ -1,9 +1,10 @@
 -- What a printer has to print after items were added.
-use Rattle.std.proofs.Common.{◌≡◌, ◌+◌, ◌<◌, ◌≤◌, ℕ, Bool, true, false, List, [], ◌∷◌, ◌++◌, refl, sym, ap, subst, ◌∙◌, append_assoc, append-nil, Option, Some, None, arith, length, slice_get, inl, inr}
+use Rattle.std.proofs.Common.{◌≡◌, ◌+◌, ◌<◌, ◌≤◌, ℕ, Bool, true, false, List, [], ◌∷◌, ◌++◌, refl, sym, ap, subst, ◌∙◌, append_assoc, append-nil, Option, Some, None, arith, length, take, get_or, slice_get, inl, inr}
 use Rattle.std.specs.Bool.{IsTrue}
 use Rattle.std.specs.List.{flat_map}
 use Rattle.std.proofs.lemmas.Bool.{cases_lt}
 use Rattle.std.proofs.lemmas.Option.{slice_get_past}
+use Rattle.std.proofs.lemmas.List.{take_more}
 use Rattle.std.proofs.lemmas.List.Concat.{flat_map-append}
 use Rattle.hir_page.specs.Page.{Page}
 use Rattle.hir_printer.specs.declared.work.Work.{Work}
@@ -31,6 +32,12 @@ stood_is s (w ∷ ws) = stood_is-after s (stands_for s w) ws
 
 pub meant-append : (s : Setting) (xs ys : List Work) → meant s (xs ++ ys) ≡ meant s xs ++ meant s ys
 meant-append s xs ys = flat_map-append (stands_for s) xs ys
+
+-- one more of a list
+pub meant_more : (s : Setting) (ws : List Work) (i : ℕ) (w : Work) → i < length ws → w ≡ get_or ws i w → meant s (take i ws) ++ stands_for s w ≡ meant s (take (i + 1) ws)
+meant_more s ws i w h e =
+    ap (λ is. meant s (take i ws) ++ is) (sym (append-nil (stands_for s w))) ∙ sym (meant-append s (take i ws) (w ∷ []))
+    ∙ ap (meant s) (ap (λ x. take i ws ++ (x ∷ [])) e ∙ sym (take_more ws i w h))
 
 -- 1. What comes to the same
 

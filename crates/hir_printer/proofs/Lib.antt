@@ -6,6 +6,9 @@ pub mod NodesFall
 pub mod ItemsFall
 pub mod AddLemmas
 pub mod ListLemmas
+pub mod OrderLemmas
+pub mod SignatureLemmas
+pub mod FieldLemmas
 pub mod WorksLemmas
 pub mod PieceLemmas
 pub mod WeightLemmas

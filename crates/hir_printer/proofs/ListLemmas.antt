@@ -1,6 +1,6 @@
 -- Lists that are gone through, and separators.
-use Rattle.std.proofs.Common.{◌≡◌, ℕ, ◌+◌, ◌<◌, ◌≤◌, Bool, true, false, List, [], ◌∷◌, ◌++◌, length, map, drop, get_or, refl, sym, ap, ap₂, ◌∙◌, append_assoc, append-nil, add-one, drop-cons}
-use Rattle.std.proofs.lemmas.List.{drop_all}
+use Rattle.std.proofs.Common.{◌≡◌, ℕ, ◌+◌, ◌-◌, ◌<◌, ◌≤◌, Bool, true, false, List, [], ◌∷◌, ◌++◌, length, map, take, drop, get_or, arith, refl, sym, ap, ap₂, ◌∙◌, append_assoc, append-nil, add-one, drop-cons}
+use Rattle.std.proofs.lemmas.List.{take_all, drop_all}
 use Rattle.std.specs.List.{flat_map}
 use Rattle.hir_printer.specs.Items.{Item, when, joined}
 use Rattle.hir_printer.specs.Printers.{following}
@@ -9,6 +9,11 @@ use Rattle.hir_printer.specs.Printers.{following}
 
 pub drop_item : {X : Type 0} (xs : List X) (i : ℕ) (x : X) → i < length xs → x ≡ get_or xs i x → drop i xs ≡ x ∷ drop (i + 1) xs
 drop_item xs i x h e = drop-cons xs i x h ∙ ap₂ (λ a rest. a ∷ rest) (sym e) (ap (λ j. drop j xs) (sym (add-one i)))
+
+-- a list by its first and the others
+pub parts : {X : Type 0} (l : List X) (x : X) → 0 < length l → x ≡ get_or l 0 x → l ≡ x ∷ take (length l - 1) (drop 1 l)
+parts [] x h e = absurd (omega arith)
+parts (y ∷ ys) x h e = ap₂ (λ a b. a ∷ b) (sym e) (sym (take_all (length (y ∷ ys) - 1) ys (omega arith)))
 
 -- 2. Members behind separators
 

@@ -1,11 +1,11 @@
 -- Names by their parts.
-use Rattle.std.proofs.Common.{◌≡◌, ◌≢◌, ℕ, Bool, true, false, List, [], ◌∷◌, ◌++◌, map, codes, refl, ap, ◌∙◌, append-nil}
+use Rattle.std.proofs.Common.{◌≡◌, ◌≢◌, ℕ, Bool, true, false, List, [], ◌∷◌, ◌++◌, map, codes, refl, sym, ap, ap₂, ◌∙◌, append-nil}
 use Rattle.std.specs.Prelude.{◌==◌, ◌&&◌, if◌then◌else◌, nat_eq}
 use Rattle.hir_page.specs.Pieces.{Text}
 use Rattle.std.specs.List.{flat_map}
 use Rattle.std.specs.Cmp.Lexicographic.{bytes_decides}
 use Rattle.std.proofs.lemmas.Bool.Decides.{Decides-eqb}
-use Rattle.hir_printer.specs.Names.{is_word, raw_parts, name_parts, behind, same_text}
+use Rattle.hir_printer.specs.Names.{is_word, raw_parts, name_parts, behind, printed_name, same_text}
 
 -- 1. Parts
 
@@ -61,3 +61,23 @@ not_same text first rest h = other (same_text text (first ++ rest)) (λ e. h res
   other : (b : Bool) → (b ≡ true → ⊥) → b ≡ false
   other true k = absurd (k refl)
   other false k = refl
+
+-- 3. A text beside what is printed of a name
+
+module _ (words : List (List ℕ)) (name : List ℕ) (q r : Bool) (rest : List ℕ) (e : behind q (codes "'") (behind r (codes "r#") (rest ∷ [])) ≡ name_parts words name) where
+  printed_as : printed_name words name ≡ (if q then codes "'" else []) ++ ((if r then codes "r#" else []) ++ rest)
+  printed_as = ap (λ (ts : List (List ℕ)). flat_map (λ part. part) ts) (sym e) ∙ parts_text q r rest
+
+  pub not_quoted : (text : List ℕ) → ((others : List ℕ) → text ≢ (if q then codes "'" else []) ++ others) → false ≡ same_text text (printed_name words name)
+  not_quoted text h = sym (ap (same_text text) printed_as ∙ not_same text (if q then codes "'" else []) ((if r then codes "r#" else []) ++ rest) h)
+
+  pub not_raw : (text left : List ℕ) → text ≡ (if q then codes "'" else []) ++ left → ((others : List ℕ) → left ≢ (if r then codes "r#" else []) ++ others)
+      → false ≡ same_text text (printed_name words name)
+  not_raw text left k h =
+      sym (ap₂ same_text k printed_as ∙ same_rest (if q then codes "'" else []) left ((if r then codes "r#" else []) ++ rest) ∙ not_same left (if r then codes "r#" else []) rest h)
+
+  pub same_printed : (text left others : List ℕ) → text ≡ (if q then codes "'" else []) ++ left → left ≡ (if r then codes "r#" else []) ++ others
+      → same_text others rest ≡ same_text text (printed_name words name)
+  same_printed text left others k h =
+      sym (ap₂ same_text (k ∙ ap (λ xs. (if q then codes "'" else []) ++ xs) h) printed_as
+      ∙ same_rest (if q then codes "'" else []) ((if r then codes "r#" else []) ++ others) ((if r then codes "r#" else []) ++ rest) ∙ same_rest (if r then codes "r#" else []) others rest)

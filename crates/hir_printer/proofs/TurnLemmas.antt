@@ -1,27 +1,30 @@
 -- A turn of the loop, by what its work is.
 use Rattle.std.proofs.Common.{◌≡◌, ℕ, ◌+◌, ◌<◌, ◌≤◌, Bool, true, false, List, [], ◌∷◌, ◌++◌, map, codes, Option, Some, None, refl, sym, ap, ap₂, subst, ◌∙◌, arith, append_assoc, append-nil}
-use Rattle.std.specs.Prelude.{Result, Ok, Err, OnOk, MatchResult, is_ok}
-use Rattle.hir_page.specs.Writes.{Writes}
+use Rattle.std.specs.Prelude.{Result, Ok, Err, OnOk, MatchResult, is_ok, String, string_bytes}
+use Rattle.hir_page.specs.Writes.{Writes, all_written, written, refused}
 use Rattle.hir_base.specs.declared.prec.ExprPrecedence.{ExprPrecedence}
 use Rattle.hir_path.specs.declared.path.GenericArgs.{GenericArgs}
 use Rattle.hir_node.specs.declared.node_id.NodeId.{NodeId}
 use Rattle.hir_node.specs.declared.node_id.NodeId.TheVariants as node
 use Rattle.hir_expr_store.specs.declared.missing.Missing.{Missing}
 use Rattle.std.specs.List.{slice_get}
-use Rattle.hir_page.specs.Page.{Page, all_rendered}
+use Rattle.hir_page.specs.Page.{Page, all_rendered, page_text}
 use Rattle.hir_page.specs.Pieces.{Piece}
 use Rattle.hir_printer.specs.declared.work.Work.{Work}
 use Rattle.hir_printer.specs.declared.work.Work.TheVariants as work
 use Rattle.hir_printer.specs.Questions.{Setting}
 use Rattle.hir_printer.specs.Items.{Item, Whole, Under, Pattern, TypeItem, text}
-use Rattle.hir_printer.specs.Pieces.{Layout, items_of, pieces, printed, stands_in_parentheses, precedence_found}
+use Rattle.hir_printer.specs.declared.fault.PrintFault.{PrintFault}
+use Rattle.hir_printer.specs.declared.fault.PrintFault.TheVariants as fault
+use Rattle.hir_printer.specs.Printed.{PrintsPieces}
+use Rattle.hir_printer.specs.Pieces.{Layout, first_missing, items_of, pieces, printed, stands_in_parentheses, precedence_found}
 use Rattle.hir_printer.specs.Falls.{ItemsFall}
 use Rattle.hir_printer.specs.Weights.{weight, heft}
-use Rattle.hir_printer.specs.Printing.{Printing}
+use Rattle.hir_printer.specs.Printing.{Printing, on_page}
 use Rattle.hir_printer.specs.Printers.{stands_for, meant, printing, Leads, WroteWork, AddsItems, GaveWayTo, TurnedBy, enclosed}
 use Rattle.hir_printer.proofs.StepLemmas.{pieces_at}
-use Rattle.hir_printer.proofs.AddLemmas.{heft-append, meant-append, leads_as, leads_then}
-use Rattle.hir_printer.proofs.PieceLemmas.{printed-append, enclosed_printed, pieces_lead, nothing_left, is_missing}
+use Rattle.hir_printer.proofs.AddLemmas.{heft-append, meant-append, leads_as, leads_then, adds_here}
+use Rattle.hir_printer.proofs.PieceLemmas.{printed-append, enclosed_printed, pieces_lead, missing_is, page_of_pieces, nothing_left, is_missing}
 use Rattle.hir_printer.proofs.WeightLemmas.{weight_at, enclosed_heft}
 
 -- 1. What was written
@@ -35,6 +38,12 @@ pub on_ok_writes : {T E Q W : Type 0} {step refuses : W → Piece → W → Type
     → Writes step refuses u ps (is_ok r) v → OnOk r Q
 on_ok_writes (Ok x) f m = f m
 on_ok_writes (Err e) f m = tt
+
+-- a call of the writer that is the answer
+pub text_writes : {T E W : Type 0} {step refuses : W → Piece → W → Type 0} {u v : W} {p : Piece} (r : Result T E) → MatchResult r (λ _. step u p v) (λ _. refuses u p v)
+    → Writes step refuses u (p ∷ []) (is_ok r) v
+text_writes (Ok x) m = written m all_written
+text_writes (Err e) m = refused m
 
 pub wrote : {w : Work} {old new : Printing} (ps : List Piece) → new ≡ record old { page = new.page } → printed old.from (stands_for old.from w) ≡ map Layout ps
     → new.page ≡ all_rendered ps old.page → 0 < heft old.from (stands_for old.from w) → WroteWork w old new
@@ -159,5 +168,50 @@ module _ (s : Setting) {w : Work} {old between new : Printing} (from : old.from 
       let k = ap (λ ws. heft s (meant s ws)) next in let l = heft-append s (stands_for s w) (meant s between.waiting) in
       let m = ap (λ ws. heft s (meant s ws)) rest in let n = ap (heft s) (meant-append s a.way between.waiting) in
       let o = heft-append s (meant s a.way) (meant s between.waiting) in omega arith
+
+-- the next is missing, and nothing is left
+pub missing_next : {s : Setting} {page : Page} {before : Page × Option Missing} {waiting rest : List Work} {w : Work} {m : Missing} → before ≡ printing page (printed s (meant s waiting)) → waiting ≡ w ∷ rest
+    → w ≡ work.Lacks m → before.1 ≡ Some m
+missing_next {s} {page} {rest = rest} {m = m} same next lacks =
+    ap (λ (r : Page × Option Missing). r.1) (same ∙ ap (λ ws. printing page (printed s (meant s ws))) (next ∙ ap (λ v. v ∷ rest) lacks)) ∙ is_missing page m (printed s (meant s rest))
+
+pub all_is_written : {s : Setting} {page last : Page} {before : Page × Option Missing} {waiting : List Work} → before ≡ printing page (printed s (meant s waiting)) → waiting ≡ [] → last ≡ page
+    → before ≡ (last, None)
+all_is_written {s} {page} same over still = same ∙ ap (λ ws. printing page (printed s (meant s ws))) over ∙ nothing_left page ∙ ap (λ (p : Page). (p, None)) (sym still)
+
+-- 4. What is printed of all that was added
+
+all_of : {s : Setting} {items : List Item} {old : Printing} → AddsItems (on_page s) (λ t. items) old
+    → printing (on_page s).page (printed s items) ≡ printing old.page (printed s (meant s (old.kept ++ old.waiting)))
+all_of {s} {items} {old} a =
+    let over : old.waiting ≡ [] = ap (λ (p : Printing). p.waiting) a.same in
+    let kept : meant s old.kept ++ [] ≡ meant s (old.kept ++ old.waiting) = ap (λ ws. meant s old.kept ++ meant s ws) (sym over) ∙ sym (meant-append s old.kept old.waiting) in
+    ap (λ is. printing (on_page s).page (printed s is)) (sym (append-nil items)) ∙ a.leads.leads [] ∙ ap (λ is. printing old.page (printed s is)) kept
+
+pub prints_text : {A : Type 0} {s : Setting} {items : List Item} {old : Printing} {page : Page} (result : String A) → AddsItems (on_page s) (λ t. items) old
+    → printing old.page (printed s (meant s (old.kept ++ old.waiting))) ≡ (page, None) → string_bytes result ≡ page_text page → PrintsPieces s (printed s items) (Ok result)
+prints_text {s = s} {items = items} {page = page} result a e t =
+    let whole = all_of a ∙ e in
+    let ps = printed s items in
+    let none : first_missing ps ≡ None = sym (missing_is (on_page s).page ps) ∙ ap (λ (r : Page × Option Missing). r.1) whole in
+    record {
+      text = (none, t ∙ ap page_text (sym (ap (λ (r : Page × Option Missing). r.0) whole) ∙ page_of_pieces (on_page s).page ps none));
+      missing = λ m f. absurd (cc);
+    }
+
+pub prints_fault : {A : Type 0} {s : Setting} {items : List Item} {old : Printing} (found : PrintFault) → AddsItems (on_page s) (λ t. items) old
+    → ((m : Missing) → found ≡ fault.Missing m → (printing old.page (printed s (meant s (old.kept ++ old.waiting)))).1 ≡ Some m) → PrintsPieces {A = A} s (printed s items) (Err found)
+prints_fault {s = s} {items = items} found a h = record {
+  text = tt;
+  missing = λ m e. sym (missing_is (on_page s).page (printed s items)) ∙ ap (λ (r : Page × Option Missing). r.1) (all_of a) ∙ h m (cc);
+}
+
+-- what a call prints that begins a printer and adds to it
+pub prints : {A : Type 0} {s : Setting} {begun added : Printing} {items : Setting → List Item} {result : Result (String A) PrintFault} → begun ≡ on_page s → AddsItems begun items added
+    → ((is : List Item) → AddsItems (on_page added.from) (λ t. is) added → PrintsPieces added.from (printed added.from is) result) → PrintsPieces s (printed s (items s)) result
+prints {s = s} {added = added} {items = items} {result = result} b a h =
+    let from : added.from ≡ s = ap (λ (p : Printing). p.from) a.same ∙ ap (λ (p : Printing). p.from) b in
+    let here : AddsItems (on_page s) (λ t. items s) added = adds_here (subst (λ p. AddsItems p items added) b a) refl in
+    subst (λ t. PrintsPieces t (printed t (items s)) result) from (h (items s) (subst (λ t. AddsItems (on_page t) (λ u. items s) added) (sym from) here))
 
 pub ruleset turns = (turned_wrote, turned_gave)

@@ -149,7 +149,7 @@ impl<'a> Printer<'a> {
         requires { (seen self.old).kept ≡ [] }
         ensures next { IfSome result (λ work. ((seen self.old).waiting ≡ work ∷ (seen self.new).waiting)
             × (seen self.new ≡ record (seen self.old) { waiting = (seen self.new).waiting })) }
-        ensures over { result ≡ None → (seen self.old).waiting ≡ [] }
+        ensures over { result ≡ None → ((seen self.old).waiting ≡ []) × (self.new.page ≡ self.old.page) }
     {
         let work = self.works.pop();
         self.waiting = self.works.len();

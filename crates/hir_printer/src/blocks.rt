@@ -83,9 +83,14 @@ impl<'a> Printer<'a> {
         }
         self.add(&[Work::Text("{"), Work::Indent])?;
         self.add_each(statements, &[])?;
-        if let Some(tail) = tail {
-            self.add(&[Work::Whole(tail)])?;
+        match tail {
+            None => self.add(&[Work::Break, Work::Outdent, Work::Text("}")]),
+            Some(tail) => self.add(&[
+                Work::Whole(tail),
+                Work::Break,
+                Work::Outdent,
+                Work::Text("}"),
+            ]),
         }
-        self.add(&[Work::Break, Work::Outdent, Work::Text("}")])
     }
 }

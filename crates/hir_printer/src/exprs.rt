@@ -5,7 +5,7 @@ ghost use Rattle.std.specs.Prelude.{◌≡◌, ◌++◌, OnOk};
 ghost use Rattle.hir_node.specs.declared.expr.Expr.TheVariants as of_expr;
 ghost use Rattle.hir_printer.specs.Items.{text, opt, numbered};
 ghost use Rattle.hir_printer.specs.Paths.{args_items, turbofish};
-ghost use Rattle.hir_printer.specs.Exprs.{labelled, operand, arguments, raw_keyword, operator_items, spread_items, array_items, unsafe_items, expr_items};
+ghost use Rattle.hir_printer.specs.Exprs.{operand, arguments, raw_keyword, operator_items, spread_items, array_items, unsafe_items, expr_items};
 ghost use Rattle.hir_printer.specs.Printers.{Adds};
 
 use crate::part::Part;
@@ -38,19 +38,6 @@ fn operator_text(op: Option<BinaryOp>) -> &'static str
 }
 
 impl<'a> Printer<'a> {
-    /// Adds a label before a loop or a block.
-    fn add_labelled(&mut self, label: &'a Option<LabelId>) -> Result<(), AllocError>
-        ensures { OnOk result (Adds self.old (λ s. labelled s label.now) self.new) }
-    {
-        match label {
-            None => Ok(()),
-            Some(label) => {
-                label.add_to(self)?;
-                self.add(&[Work::Text(": ")])
-            }
-        }
-    }
-
     /// Adds what stands behind a keyword such as `return`.
     fn add_operand(&mut self, expr: Option<ExprId>) -> Result<(), AllocError>
         ensures { OnOk result (Adds self.old (λ s. operand expr) self.new) }
@@ -240,7 +227,7 @@ impl<'a> Printer<'a> {
                 label,
                 source: _,
             } => {
-                self.add_labelled(label)?;
+                self.add_before(label, ": ")?;
                 self.add(&[Work::Text("loop "), Work::Whole(*body)])
             }
             Expr::Call { callee, args } => {
@@ -340,7 +327,7 @@ impl<'a> Printer<'a> {
                 unsafe_,
             } => {
                 self.add(&[Work::Space])?;
-                self.add_labelled(label)?;
+                self.add_before(label, ": ")?;
                 self.add_unsafe(*unsafe_)?;
                 self.add_braces(statements.as_slice(), *tail)
             }

@@ -20,5 +20,6 @@ mod work;
 
 pub use fault::PrintFault;
 pub use part::Part;
+pub use paths::colons_first;
 pub use printer::Printer;
 pub use work::Work;

@@ -6,7 +6,7 @@ ghost use Rattle.std.specs.List.{flat_map};
 ghost use Rattle.hir_printer.specs.Questions.{Setting};
 ghost use Rattle.hir_printer.specs.Items.{Item, text, opt, p, e, t, joined};
 ghost use Rattle.hir_printer.specs.Names.{name_items};
-ghost use Rattle.hir_printer.specs.Printers.{Adds, following, stood};
+ghost use Rattle.hir_printer.specs.Printers.{Adds, following, stood_after};
 
 use crate::printer::Printer;
 use crate::work::Work;
@@ -90,13 +90,13 @@ impl<'a> Printer<'a> {
     }
 
     /// Adds the members of a list, each with these works behind it.
-    pub(crate) fn add_each<T: Part>(
+    pub fn add_each<T: Part>(
         &mut self,
         members: &'a [T],
         behind: &[Work<'a>],
     ) -> Result<(), AllocError>
         ensures { OnOk result (Adds self.old
-            (λ s. flat_map (λ x. T.items s x ++ stood s behind.now) members.now) self.new) }
+            (λ s. flat_map (λ x. stood_after s (T.items s x) behind.now) members.now) self.new) }
     {
         self.reserve(members.len())?;
         for member in members {
@@ -120,6 +120,24 @@ impl<'a> Printer<'a> {
             Some(part) => {
                 self.add(&[Work::Text(before)])?;
                 part.add_to(self)
+            }
+        }
+    }
+
+    /// Adds a part before a text, where the part is there.
+    pub(crate) fn add_before<T: Part>(
+        &mut self,
+        part: &'a Option<T>,
+        behind: &'a str,
+    ) -> Result<(), AllocError>
+        ensures { OnOk result (Adds self.old
+            (λ s. opt (λ x. T.items s x ++ text behind.now) part.now) self.new) }
+    {
+        match part {
+            None => Ok(()),
+            Some(part) => {
+                part.add_to(self)?;
+                self.add(&[Work::Text(behind)])
             }
         }
     }

@@ -4,7 +4,7 @@
 ghost use Rattle.std.specs.Prelude.{◌≡◌, OnOk};
 ghost use Rattle.hir_path.specs.declared.path.Path.TheVariants as of_path;
 ghost use Rattle.hir_printer.specs.Items.{opt};
-ghost use Rattle.hir_printer.specs.Paths.{bounds_after, arg_items, args_items, assoc_items, turbofish, path_items, kind_items, supers, target_items, segments_from, colons_first};
+ghost use Rattle.hir_printer.specs.Paths.{bounds_after, arg_items, args_items, assoc_items, turbofish, path_items, kind_items, supers, target_items, start_items, segments_from, colons_first};
 ghost use Rattle.hir_printer.specs.Printers.{Adds};
 
 use crate::part::Part;
@@ -12,12 +12,12 @@ use crate::printer::Printer;
 use crate::work::Work;
 use hir_base::{ExprPrecedence, LangItemTarget, Name, NamedDef, PathKind};
 use hir_node::{
-    AssociatedTypeBinding, Boxed, GenericArg, GenericArgs, NormalPath, Path, TypeBound,
+    AssociatedTypeBinding, Boxed, GenericArg, GenericArgs, NormalPath, Path, TypeBound, TypeRefId,
 };
 use std::alloc::AllocError;
 
 /// Whether `::` is before the first segment of a path of this kind.
-fn colons_first(kind: PathKind) -> bool
+pub fn colons_first(kind: PathKind) -> bool
     ensures { result ≡ colons_first kind }
 {
     match kind {
@@ -60,8 +60,10 @@ impl<'a> Printer<'a> {
         if times == 0 {
             return self.add(&[Work::Text("self")]);
         }
-        for _ in 1..times {
+        let mut left = times;
+        while left > 1 {
             self.add(&[Work::Text("super::")])?;
+            left -= 1;
         }
         self.add(&[Work::Text("super")])
     }
@@ -101,15 +103,20 @@ impl<'a> Printer<'a> {
         Ok(())
     }
 
+    /// Adds the type that a path begins at, or else its kind.
+    fn add_start(&mut self, anchor: Option<TypeRefId>, kind: PathKind) -> Result<(), AllocError>
+        ensures { OnOk result (Adds self.old (λ s. start_items s anchor kind) self.new) }
+    {
+        match anchor {
+            None => self.add_kind(kind),
+            Some(anchor) => self.add(&[Work::Text("<"), Work::Type(anchor), Work::Text(">::")]),
+        }
+    }
+
     fn add_normal_path(&mut self, path: &'a NormalPath) -> Result<(), AllocError>
         ensures { OnOk result (Adds self.old (λ s. path_items s (of_path.Normal path.now)) self.new) }
     {
-        match path.type_anchor {
-            None => self.add_kind(path.mod_path.kind())?,
-            Some(anchor) => {
-                self.add(&[Work::Text("<"), Work::Type(anchor), Work::Text(">::")])?;
-            }
-        }
+        self.add_start(path.type_anchor, path.mod_path.kind())?;
         self.add_segments(
             colons_first(path.mod_path.kind()),
             path.mod_path.segments(),
@@ -145,10 +152,14 @@ impl<'a> Printer<'a> {
     {
         self.add(&[Work::Text("builtin#lang(")])?;
         self.add_target(target)?;
-        if let Some(name) = name {
-            self.add(&[Work::Text("::"), Work::Name(name.get().as_str())])?;
+        match name {
+            None => self.add(&[Work::Text(")")]),
+            Some(name) => self.add(&[
+                Work::Text("::"),
+                Work::Name(name.get().as_str()),
+                Work::Text(")"),
+            ]),
         }
-        self.add(&[Work::Text(")")])
     }
 
     /// Adds what a path is printed as.

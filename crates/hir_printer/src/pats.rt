@@ -119,16 +119,25 @@ impl<'a> Printer<'a> {
         self.add(&[Work::Text(" {"), Work::Indent])?;
         self.add_field_pats(fields, rest)?;
         if rest {
-            self.add(&[Work::Text(".."), Work::Break])?;
+            return self.add(&[
+                Work::Text(".."),
+                Work::Break,
+                Work::Outdent,
+                Work::Text("}"),
+            ]);
         }
         self.add(&[Work::Outdent, Work::Text("}")])
     }
 
-    /// Adds patterns with `..` before the one in this place, or behind all.
-    fn add_with_rest(&mut self, pats: &'a [PatId], at: u32) -> Result<(), AllocError>
-        ensures { OnOk result (Adds self.old (λ s. comma_joined (with_rest (Some at) (map p pats.now))) self.new) }
+    /// Adds patterns, with `..` before the one in this place, or behind all.
+    fn add_with_rest(&mut self, pats: &'a [PatId], rest: Option<u32>) -> Result<(), AllocError>
+        ensures { OnOk result (Adds self.old (λ s. comma_joined (with_rest rest (map p pats.now))) self.new) }
     {
-        let (before, behind) = pats.split_at(pats.len().min(at as usize));
+        let Some(at) = rest else {
+            return self.add_joined(", ", pats);
+        };
+        let left = pats.len().saturating_sub(at as usize);
+        let (before, behind) = pats.split_at(pats.len() - left);
         self.add_joined(", ", before)?;
         self.add_if(!before.is_empty(), ", ")?;
         self.add(&[Work::Text("..")])?;
@@ -139,26 +148,21 @@ impl<'a> Printer<'a> {
         ensures { OnOk result (Adds self.old (λ s. in_parentheses rest pats.now) self.new) }
     {
         self.add(&[Work::Text("(")])?;
-        match rest {
-            None => self.add_joined(", ", pats)?,
-            Some(at) => self.add_with_rest(pats, at)?,
-        }
+        self.add_with_rest(pats, rest)?;
         self.add(&[Work::Text(")")])
     }
 
     fn add_slice(
         &mut self,
         prefix: &'a [PatId],
-        slice: Option<PatId>,
+        slice: &'a Option<PatId>,
         suffix: &'a [PatId],
     ) -> Result<(), AllocError>
-        ensures { OnOk result (Adds self.old (λ s. pat_items s (of_pat.Slice prefix.now slice suffix.now)) self.new) }
+        ensures { OnOk result (Adds self.old (λ s. pat_items s (of_pat.Slice prefix.now slice.now suffix.now)) self.new) }
     {
         self.add(&[Work::Text("[")])?;
         self.add_each(prefix, &[Work::Text(", ")])?;
-        if let Some(slice) = slice {
-            self.add(&[Work::Pattern(slice), Work::Text(", ")])?;
-        }
+        self.add_before(slice, ", ")?;
         self.add_each(suffix, &[Work::Text(", ")])?;
         self.add(&[Work::Text("]")])
     }
@@ -206,16 +210,18 @@ impl<'a> Printer<'a> {
                 prefix,
                 slice,
                 suffix,
-            } => self.add_slice(prefix.as_slice(), *slice, suffix.as_slice()),
+            } => self.add_slice(prefix.as_slice(), slice, suffix.as_slice()),
             Pat::Path(path) => self.add_path(path),
             Pat::Lit(expr) => self.add_range_end(Some(*expr)),
             Pat::Expr(expr) => self.add_range_end(Some(*expr)),
             Pat::Bind { id, subpat } => {
                 self.add_binding(*id)?;
-                if let Some(subpat) = subpat {
-                    self.add(&[Work::Space, Work::Text("@ "), Work::Pattern(*subpat)])?;
+                match subpat {
+                    None => Ok(()),
+                    Some(subpat) => {
+                        self.add(&[Work::Space, Work::Text("@ "), Work::Pattern(*subpat)])
+                    }
                 }
-                Ok(())
             }
             Pat::TupleStruct {
                 path,

@@ -111,12 +111,12 @@ impl<'a> Printer<'a> {
         ensures missing { (m : Missing) → result ≡ Err (fault.Missing m) → work.now ≡ works.Lacks m }
     {
         match work {
-            Work::Whole(id) => self.add_expr_at(*id)?,
-            Work::Under(id, parent) => self.add_under(*id, *parent)?,
-            Work::Pattern(id) => self.add_pat_at(*id)?,
-            Work::Type(id) => self.add_type_at(*id)?,
-            Work::Args(args) => self.add_fish(*args)?,
-            Work::Lacks(missing) => return Err(PrintFault::Missing(*missing)),
+            Work::Whole(id) => Ok(self.add_expr_at(*id)?),
+            Work::Under(id, parent) => Ok(self.add_under(*id, *parent)?),
+            Work::Pattern(id) => Ok(self.add_pat_at(*id)?),
+            Work::Type(id) => Ok(self.add_type_at(*id)?),
+            Work::Args(args) => Ok(self.add_fish(*args)?),
+            Work::Lacks(missing) => Err(PrintFault::Missing(*missing)),
             Work::Text(_)
             | Work::Space
             | Work::Break
@@ -126,7 +126,6 @@ impl<'a> Printer<'a> {
             | Work::Literal(_)
             | Work::Name(_) => unreachable!(),
         }
-        Ok(())
     }
 
     /// Writes a work, or lets what it gives way to wait before all that waits.

@@ -40,9 +40,11 @@ impl Part for TypeBound {
 
     fn add_to<'a>(&'a self, printer: &mut Printer<'a>) -> Result<(), AllocError> {
         match self {
-            TypeBound::Path(id, modifier) => {
-                printer.add_if(matches!(modifier, TraitBoundModifier::Maybe), "?")?;
+            TypeBound::Path(id, TraitBoundModifier::None) => {
                 printer.add(&[Work::Type(id.type_ref())])
+            }
+            TypeBound::Path(id, TraitBoundModifier::Maybe) => {
+                printer.add(&[Work::Text("?"), Work::Type(id.type_ref())])
             }
             TypeBound::ForLifetime(names, id) => {
                 printer.add_for(names.as_slice())?;
@@ -106,19 +108,13 @@ impl<'a> Printer<'a> {
         ensures { OnOk result (Adds self.old (λ s. signature_items is_varargs
             (map (λ (entry : Option (List ℕ) × ℕ). entry.1) params.now)) self.new) }
     {
+        let (front, ret) = params.split_at(params.len().saturating_sub(1));
         self.add(&[Work::Text("fn(")])?;
-        let (front, ret) = match params {
-            [] => (params, None),
-            [front @ .., ret] => (front, Some(ret.1)),
-        };
         self.add_joined(", ", front)?;
         self.add_if(is_varargs && !front.is_empty(), ", ")?;
         self.add_if(is_varargs, "...")?;
         self.add(&[Work::Text(") -> ")])?;
-        match ret {
-            None => Ok(()),
-            Some(ret) => self.add(&[Work::Type(ret)]),
-        }
+        self.add_each(ret, &[])
     }
 
     fn add_fn(&mut self, function: &'a FnType) -> Result<(), AllocError>
@@ -134,10 +130,7 @@ impl<'a> Printer<'a> {
         ensures { OnOk result (Adds self.old (λ s. type_items s (of_type.Reference reference.now)) self.new) }
     {
         self.add(&[Work::Text("&")])?;
-        if let Some(lifetime) = &reference.lifetime {
-            lifetime.add_to(self)?;
-            self.add(&[Work::Text(" ")])?;
-        }
+        self.add_before(&reference.lifetime, " ")?;
         self.add(&[
             Work::Text(reference.mutability.as_keyword_for_ref()),
             Work::Type(reference.ty),

@@ -1,11 +1,12 @@
-use Rattle.std.proofs.Common.{length}
-use Rattle.hir_printer.specs.Questions.{Setting}
-use Rattle.hir_pretty.specs.Added.{listed, Left}
-use Rattle.hir_pretty.specs.Signatures.{each_predicate}
+use Rattle.std.proofs.Common.{codes, map, drop}
+use Rattle.hir_printer.specs.Items.{text}
+use Rattle.hir_printer.specs.Printing.{seen}
+use Rattle.hir_printer.specs.Printers.{following}
+use Rattle.hir_printer.proofs.AddLemmas.{Left}
+use Rattle.hir_pretty.specs.Signatures.{predicate_items, each_predicate}
 use Rattle.hir_pretty.proofs.generics.add_each_predicate.Given as goal
 
-abbrev pub invariant-loop-left : goal.invariant-loop-left
-invariant-loop-left l = (s : Setting) → Left s (listed l.fn.works) (each_predicate s l.predicates) (listed l.works) (each_predicate s l.left)
-
-abbrev pub decreases-loop-left : goal.decreases-loop-left
-decreases-loop-left l = length l.left
+abbrev pub invariant-loop-predicate : goal.invariant-loop-predicate
+invariant-loop-predicate l =
+    Left (seen l.fn.printer) (λ s. each_predicate s l.predicates) (seen l.printer)
+    (λ s. following (text (codes ",\n")) l.after (map (predicate_items s) (drop l.predicate-index l.predicates)))

@@ -1,8 +1,6 @@
-use Rattle.std.proofs.Common.{sym, subst}
-use Rattle.std.specs.Option.{option_map}
-use Rattle.hir_printer.specs.Answers.{answers, found_or}
-use Rattle.hir_pretty.specs.Added.{listed, AddsAsked}
-use Rattle.hir_pretty.specs.Bodies.{of_enum}
+use Rattle.std.proofs.Common.{refl}
+use Rattle.std.proofs.lemmas.Result.{on_ok_weaker}
+use Rattle.hir_printer.proofs.AddLemmas.{adds, adds_here}
 use Rattle.hir_pretty.proofs.heads.add_variant_name.Goals as goal
 
 pub returns-in-Ok : goal.returns-in-Ok

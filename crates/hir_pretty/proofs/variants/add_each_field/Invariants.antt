@@ -1,12 +1,9 @@
-use Rattle.std.proofs.Common.{length}
+use Rattle.std.proofs.Common.{drop}
 use Rattle.std.specs.List.{flat_map}
-use Rattle.hir_printer.specs.Questions.{Setting}
-use Rattle.hir_pretty.specs.Added.{listed, Left}
+use Rattle.hir_printer.specs.Printing.{seen}
+use Rattle.hir_printer.proofs.AddLemmas.{Left}
 use Rattle.hir_pretty.specs.Variants.{field_line}
 use Rattle.hir_pretty.proofs.variants.add_each_field.Given as goal
 
-abbrev pub invariant-loop-left : goal.invariant-loop-left
-invariant-loop-left l = (s : Setting) → Left s (listed l.fn.works) (flat_map (field_line s) l.fields) (listed l.works) (flat_map (field_line s) l.left)
-
-abbrev pub decreases-loop-left : goal.decreases-loop-left
-decreases-loop-left l = length l.left
+abbrev pub invariant-loop-field : goal.invariant-loop-field
+invariant-loop-field l = Left (seen l.fn.printer) (λ s. flat_map (field_line s) l.fields) (seen l.printer) (λ s. flat_map (field_line s) (drop l.field-index l.fields))

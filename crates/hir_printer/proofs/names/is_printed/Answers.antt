@@ -1,11 +1,16 @@
-use Rattle.std.proofs.Common.{◌≡◌, List, ℕ, ◌++◌, [], codes, sym, ap, ◌∙◌}
-use Rattle.std.specs.Prelude.{if◌then◌else◌}
-use Rattle.hir_printer.specs.Names.{same_text}
-use Rattle.hir_printer.proofs.NameLemmas.{parts_text, not_same, same_rest}
+use Rattle.hir_printer.proofs.NameLemmas.{not_quoted, not_raw, same_printed}
 use Rattle.hir_printer.proofs.names.is_printed.Goals as goal
 
 pub returns-in-None : goal.returns-in-None
-returns-in-None c = ?
+returns-in-None c =
+    let parts = c.name_parts-parts.result in
+    not_quoted c.args.words.now c.args.name.now parts.is_quoted parts.is_raw parts.text.now c.name_parts-parts.ensures c.args.text.now (rw c.as_bytes.ensures at c.in-None.ensures)
 
 pub returns-in-None-rest_of : goal.returns-in-None-rest_of
-returns-in-None-rest_of c = ?
+returns-in-None-rest_of c =
+    let parts = c.name_parts-parts.result in
+    not_raw c.args.words.now c.args.name.now parts.is_quoted parts.is_raw parts.text.now c.name_parts-parts.ensures c.args.text.now c.in-Some.rest.now
+    (rw c.as_bytes.ensures at c.in-Some.ensures) c.in-None-rest_of.ensures
+
+pub returns : goal.returns
+returns c = ?

@@ -1,14 +1,15 @@
 use Rattle.std.proofs.Common.{refl, ap, sym, ◌∙◌, arith}
-use Rattle.std.proofs.lemmas.List.{take_all, take_more}
+use Rattle.std.proofs.lemmas.List.{take_all}
 use Rattle.hir_printer.specs.Printers.{meant}
-use Rattle.hir_printer.proofs.AddLemmas.{adds_none, adds_then, adds_as, stood_is}
+use Rattle.hir_printer.proofs.AddLemmas.{adds_none, adds_then, adds_as, stood_is, meant_more}
 use Rattle.hir_printer.proofs.printer.Printer.add.Goals as goal
 
 pub loop-work-init : goal.loop-work-init
 loop-work-init c = adds_none (λ s. refl)
 
 pub loop-work-preserved : goal.loop-work-preserved
-loop-work-preserved c = ?
+loop-work-preserved c =
+    adds_as (adds_then c.loop-work.invariant c.in_ok-add_work.ensures) (λ s. meant_more s c.args.works.now c.loop-work.work-index _ (omega arith) refl)
 
 pub returns : goal.returns
 returns c = record {

@@ -17,4 +17,4 @@ invariant-loop-work l =
     }
 
 abbrev pub decreases-loop-work : goal.decreases-loop-work
-decreases-loop-work l = heft (seen l.self).from (meant (seen l.self).from (seen l.self).waiting)
+decreases-loop-work l = heft (seen l.fn.self).from (meant (seen l.fn.self).from (seen l.self).waiting)

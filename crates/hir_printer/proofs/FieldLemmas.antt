@@ -1,0 +1,53 @@
+-- Fields of patterns, and parameters of closures, one after another.
+use Rattle.std.proofs.Common.{◌≡◌, ℕ, ◌<◌, ◌≤◌, Bool, true, false, List, [], ◌∷◌, ◌++◌, codes, length, Option, refl, sym, ap, ◌∙◌, arith, append_assoc, append-nil}
+use Rattle.std.specs.Prelude.{◌||◌, not, slice_get}
+use Rattle.hir_node.specs.declared.pat.RecordFieldPat.{RecordFieldPat}
+use Rattle.hir_printer.specs.Questions.{Setting}
+use Rattle.hir_printer.specs.Items.{Item, text, br, p, t, opt, when}
+use Rattle.hir_printer.specs.Names.{name_items}
+use Rattle.hir_printer.specs.Pats.{is_short, field_pattern, after_last, field_patterns}
+use Rattle.hir_printer.specs.Exprs.{params}
+use Rattle.hir_printer.specs.Printing.{Printing}
+use Rattle.hir_printer.specs.Printers.{AddsItems, following}
+use Rattle.hir_printer.proofs.ListLemmas.{is_cons}
+
+-- what is printed from stays
+pub same_from : {old new : Printing} {items : Setting → List Item} → AddsItems old items new → new.from ≡ old.from
+same_from a = ap (λ (p : Printing). p.from) a.same
+
+pub short_field : (s : Setting) (f : RecordFieldPat) → is_short s f.name (slice_get s.nodes.pats f.pat) ≡ true → name_items s f.name ≡ field_pattern s f
+short_field s f h = sym (ap (λ b. name_items s f.name ++ when (not b) (text (codes ": ") ++ p f.pat)) h ∙ append-nil (name_items s f.name))
+
+pub long_field : (s : Setting) (f : RecordFieldPat) → is_short s f.name (slice_get s.nodes.pats f.pat) ≡ false → name_items s f.name ++ text (codes ": ") ++ p f.pat ≡ field_pattern s f
+long_field s f h =
+    append_assoc (name_items s f.name) (text (codes ": ")) (p f.pat) ∙ sym (ap (λ b. name_items s f.name ++ when (not b) (text (codes ": ") ++ p f.pat)) h)
+
+field_more : (s : Setting) (b : Bool) (f g : RecordFieldPat) (fs : List RecordFieldPat)
+    → field_pattern s f ++ (text (codes ",") ++ br) ++ field_patterns s b (g ∷ fs) ≡ field_patterns s b (f ∷ g ∷ fs)
+field_more s b f g fs = ap (λ is. is ++ field_patterns s b (g ∷ fs)) (sym (append_assoc (field_pattern s f) (text (codes ",")) br))
+
+pub field_step : (s : Setting) (b : Bool) (f : RecordFieldPat) (fs : List RecordFieldPat)
+    → field_pattern s f ++ after_last s (b || is_cons fs) ++ field_patterns s b fs ≡ field_patterns s b (f ∷ fs)
+field_step s true f [] = append-nil (field_pattern s f ++ after_last s true)
+field_step s false f [] = append-nil (field_pattern s f ++ after_last s false)
+field_step s true f (g ∷ fs) = field_more s true f g fs
+field_step s false f (g ∷ fs) = field_more s false f g fs
+
+pub no_fields : (s : Setting) (b : Bool) (fs : List RecordFieldPat) → length fs < 1 → [] ≡ field_patterns s b fs
+no_fields s b [] h = refl
+no_fields s b (f ∷ fs) h = absurd (omega arith)
+
+pub param_step : (after : Bool) (arg : ℕ) (type : Option ℕ) (args : List ℕ) (types : List (Option ℕ))
+    → (when after (text (codes ", ")) ++ p arg ++ opt (λ id. text (codes ": ") ++ t id) type) ++ following (text (codes ", ")) true (params args types)
+    ≡ following (text (codes ", ")) after (params (arg ∷ args) (type ∷ types))
+param_step after arg type args types =
+    ap (λ is. is ++ following (text (codes ", ")) true (params args types)) (append_assoc (when after (text (codes ", "))) (p arg) (opt (λ id. text (codes ": ") ++ t id) type))
+
+pub no_args : (after : Bool) (args : List ℕ) (types : List (Option ℕ)) → length args < 1 → [] ≡ following (text (codes ", ")) after (params args types)
+no_args after [] types h = refl
+no_args after (a ∷ args) types h = absurd (omega arith)
+
+pub no_types : (after : Bool) (args : List ℕ) (types : List (Option ℕ)) → length types < 1 → [] ≡ following (text (codes ", ")) after (params args types)
+no_types after [] types h = refl
+no_types after (a ∷ args) [] h = refl
+no_types after (a ∷ args) (x ∷ types) h = absurd (omega arith)

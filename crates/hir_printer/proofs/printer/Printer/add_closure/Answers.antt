@@ -1,0 +1,9 @@
+use Rattle.std.proofs.Common.{refl}
+use Rattle.std.proofs.lemmas.Result.{on_ok_weaker}
+use Rattle.hir_printer.proofs.AddLemmas.{adds, adds_then, adds_more}
+use Rattle.hir_printer.proofs.printer.Printer.add_closure.Goals as goal
+
+pub returns : goal.returns
+returns c = on_ok_weaker c.add-2.result
+    (adds_more (adds_then (adds (rw (c.closure_head.ensures, c.capture_keyword.ensures) at c.in_ok-add.ensures) (λ s. refl)) c.in_ok-add_header.ensures))
+    (rw c.printed_body.ensures at c.add-2.ensures)
