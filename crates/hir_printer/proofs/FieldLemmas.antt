@@ -1,15 +1,19 @@
 -- Fields of patterns, and parameters of closures, one after another.
 use Rattle.std.proofs.Common.{◌≡◌, ℕ, ◌<◌, ◌≤◌, Bool, true, false, List, [], ◌∷◌, ◌++◌, codes, length, Option, refl, sym, ap, ◌∙◌, arith, append_assoc, append-nil}
-use Rattle.std.specs.Prelude.{◌||◌, not, slice_get}
+use Rattle.std.specs.Prelude.{◌||◌, ◌==◌, not, slice_get}
+use Rattle.hir_path.specs.declared.path.Path.{Path}
+use Rattle.hir_node.specs.declared.pat.Pat.TheVariants as pat
 use Rattle.hir_node.specs.declared.pat.RecordFieldPat.{RecordFieldPat}
 use Rattle.hir_printer.specs.Questions.{Setting}
-use Rattle.hir_printer.specs.Items.{Item, text, br, p, t, opt, when}
+use Rattle.hir_printer.specs.Items.{Item, text, br, into, out, p, t, opt, when}
 use Rattle.hir_printer.specs.Names.{name_items}
-use Rattle.hir_printer.specs.Pats.{is_short, field_pattern, after_last, field_patterns}
+use Rattle.hir_printer.specs.Pats.{is_short, field_pattern, after_last, field_patterns, pat_items}
+use Rattle.hir_printer.specs.Paths.{path_items}
 use Rattle.hir_printer.specs.Exprs.{params}
 use Rattle.hir_printer.specs.Printing.{Printing}
 use Rattle.hir_printer.specs.Printers.{AddsItems, following}
 use Rattle.hir_printer.proofs.ListLemmas.{is_cons}
+use Rattle.hir_printer.proofs.OrderLemmas.{not_empty}
 
 -- what is printed from stays
 pub same_from : {old new : Printing} {items : Setting → List Item} → AddsItems old items new → new.from ≡ old.from
@@ -26,16 +30,30 @@ field_more : (s : Setting) (b : Bool) (f g : RecordFieldPat) (fs : List RecordFi
     → field_pattern s f ++ (text (codes ",") ++ br) ++ field_patterns s b (g ∷ fs) ≡ field_patterns s b (f ∷ g ∷ fs)
 field_more s b f g fs = ap (λ is. is ++ field_patterns s b (g ∷ fs)) (sym (append_assoc (field_pattern s f) (text (codes ",")) br))
 
-pub field_step : (s : Setting) (b : Bool) (f : RecordFieldPat) (fs : List RecordFieldPat)
+step : (s : Setting) (b : Bool) (f : RecordFieldPat) (fs : List RecordFieldPat)
     → field_pattern s f ++ after_last s (b || is_cons fs) ++ field_patterns s b fs ≡ field_patterns s b (f ∷ fs)
-field_step s true f [] = append-nil (field_pattern s f ++ after_last s true)
-field_step s false f [] = append-nil (field_pattern s f ++ after_last s false)
-field_step s true f (g ∷ fs) = field_more s true f g fs
-field_step s false f (g ∷ fs) = field_more s false f g fs
+step s true f [] = append-nil (field_pattern s f ++ after_last s true)
+step s false f [] = append-nil (field_pattern s f ++ after_last s false)
+step s true f (g ∷ fs) = field_more s true f g fs
+step s false f (g ∷ fs) = field_more s false f g fs
+
+pub field_step : (s : Setting) (b : Bool) (f : RecordFieldPat) (fs : List RecordFieldPat)
+    → field_pattern s f ++ after_last s (b || not (length fs == 0)) ++ field_patterns s b fs ≡ field_patterns s b (f ∷ fs)
+field_step s b f fs = ap (λ m. field_pattern s f ++ after_last s (b || m) ++ field_patterns s b fs) (not_empty fs) ∙ step s b f fs
 
 pub no_fields : (s : Setting) (b : Bool) (fs : List RecordFieldPat) → length fs < 1 → [] ≡ field_patterns s b fs
 no_fields s b [] h = refl
 no_fields s b (f ∷ fs) h = absurd (omega arith)
+
+-- a record with and without a rest
+pub record_rest : (s : Setting) (path : Path) (fs : List RecordFieldPat)
+    → path_items s path ++ text (codes " {") ++ into ++ field_patterns s true fs ++ text (codes "..") ++ br ++ out ++ text (codes "}") ≡ pat_items s (pat.Record true path fs)
+record_rest s path fs =
+    ap (λ is. is ++ out ++ text (codes "}")) (append_assoc (path_items s path ++ text (codes " {") ++ into ++ field_patterns s true fs) (text (codes "..")) br)
+
+pub record_plain : (s : Setting) (path : Path) (fs : List RecordFieldPat)
+    → path_items s path ++ text (codes " {") ++ into ++ field_patterns s false fs ++ out ++ text (codes "}") ≡ pat_items s (pat.Record false path fs)
+record_plain s path fs = ap (λ is. is ++ out ++ text (codes "}")) (sym (append-nil (path_items s path ++ text (codes " {") ++ into ++ field_patterns s false fs)))
 
 pub param_step : (after : Bool) (arg : ℕ) (type : Option ℕ) (args : List ℕ) (types : List (Option ℕ))
     → (when after (text (codes ", ")) ++ p arg ++ opt (λ id. text (codes ": ") ++ t id) type) ++ following (text (codes ", ")) true (params args types)

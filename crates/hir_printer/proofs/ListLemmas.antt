@@ -11,7 +11,7 @@ pub drop_item : {X : Type 0} (xs : List X) (i : ℕ) (x : X) → i < length xs �
 drop_item xs i x h e = drop-cons xs i x h ∙ ap₂ (λ a rest. a ∷ rest) (sym e) (ap (λ j. drop j xs) (sym (add-one i)))
 
 -- a list by its first and the others
-pub parts : {X : Type 0} (l : List X) (x : X) → 0 < length l → x ≡ get_or l 0 x → l ≡ x ∷ take (length l - 1) (drop 1 l)
+pub parts : {X : Type 0} (l : List X) (x : X) → 1 ≤ length l → x ≡ get_or l 0 x → l ≡ x ∷ take (length l - 1) (drop 1 l)
 parts [] x h e = absurd (omega arith)
 parts (y ∷ ys) x h e = ap₂ (λ a b. a ∷ b) (sym e) (sym (take_all (length (y ∷ ys) - 1) ys (omega arith)))
 

@@ -1,6 +1,6 @@
 -- Items by what a list has: none, one, or more.
 use Rattle.std.proofs.Common.{◌≡◌, ℕ, zero, suc, ◌+◌, ◌-◌, ◌<◌, ◌≤◌, Bool, true, false, List, [], ◌∷◌, ◌++◌, codes, map, take, drop, length, get_or, Option, Some, None, refl, sym, ap, ap₂, ◌∙◌, arith, append_assoc, append-nil, inl, inr}
-use Rattle.std.specs.Prelude.{◌==◌, ◌&&◌, ◌||◌, not, IsTrue}
+use Rattle.std.specs.Prelude.{◌==◌, ◌&&◌, ◌||◌, not, IsTrue, is_none, is_some}
 use Rattle.std.specs.List.{flat_map}
 use Rattle.std.specs.Option.{option_to_list}
 use Rattle.std.proofs.lemmas.Bool.{cases_lt}
@@ -59,11 +59,18 @@ pub some_elements : (xs : List ℕ) → (xs ≡ [] → ⊥)
 some_elements [] h = absurd (h refl)
 some_elements (x ∷ xs) h = refl
 
-pub no_statements : (xs : List Statement) (tail : Option ℕ) → (length xs == 0) ≡ true → tail ≡ None → text (codes "{") ++ text (codes "}") ≡ text (codes "{") ++ inside_block xs tail ++ text (codes "}")
-no_statements [] tail h k = ap (λ t. text (codes "{") ++ inside_block [] t ++ text (codes "}")) (sym k)
-no_statements (x ∷ xs) tail h k = absurd (let l = cons_length x xs in cc)
+pub none_is : (o : Option ℕ) (r : Bool) → is_some o ≡ not r → r ≡ is_none o
+none_is None true h = refl
+none_is None false h = absurd (cc)
+none_is (Some x) true h = absurd (cc)
+none_is (Some x) false h = refl
 
-pub without_tail : (xs : List Statement) → (length xs == 0) ≡ false
+pub no_statements : (xs : List Statement) (tail : Option ℕ) → ((length xs == 0) && is_none tail) ≡ true → text (codes "{") ++ text (codes "}") ≡ text (codes "{") ++ inside_block xs tail ++ text (codes "}")
+no_statements [] None h = refl
+no_statements [] (Some t) h = absurd (cc)
+no_statements (x ∷ xs) tail h = absurd (let k = ap (λ b. b && is_none tail) (cons_length x xs) in cc)
+
+pub without_tail : (xs : List Statement) → ((length xs == 0) && true) ≡ false
     → text (codes "{") ++ into ++ flat_map statement_items xs ++ br ++ out ++ text (codes "}") ≡ text (codes "{") ++ inside_block xs None ++ text (codes "}")
 without_tail [] h = absurd (cc)
 without_tail (x ∷ xs) h = ap (λ is. text (codes "{") ++ (is ++ br ++ out) ++ text (codes "}")) (sym (append-nil (into ++ flat_map statement_items (x ∷ xs))))

@@ -1,10 +1,11 @@
 -- The items of a function type by its parameters and its result.
 use Rattle.std.proofs.Common.{◌≡◌, ℕ, ◌-◌, Bool, true, false, List, [], ◌∷◌, ◌++◌, codes, map, length, Option, refl, sym, ap, ap₂, ◌∙◌, arith, append_assoc, append-nil, length-append}
-use Rattle.std.specs.Prelude.{◌&&◌}
+use Rattle.std.specs.Prelude.{◌&&◌, ◌==◌, not}
 use Rattle.std.specs.List.{flat_map}
 use Rattle.hir_printer.specs.Items.{Item, text, t, when, joined, comma_joined}
 use Rattle.hir_printer.specs.Types.{front, last, varargs_items, signature_items}
 use Rattle.hir_printer.proofs.ListLemmas.{is_cons}
+use Rattle.hir_printer.proofs.OrderLemmas.{not_empty}
 
 -- the types of parameters
 abbrev pub types_of : List (Option (List ℕ) × ℕ) → List ℕ
@@ -32,14 +33,15 @@ dots true is (b ∷ bs) = append_assoc is (text (codes ", ")) (text (codes "..."
 -- what is written of the parameters and of the result
 abbrev pub written : Bool → List (Option (List ℕ) × ℕ) → List (Option (List ℕ) × ℕ) → List Item
 written v bs ret =
-    text (codes "fn(") ++ joined (text (codes ", ")) (map (λ (entry : Option (List ℕ) × ℕ). t entry.1) bs) ++ when (v && is_cons bs) (text (codes ", "))
+    text (codes "fn(") ++ joined (text (codes ", ")) (map (λ (entry : Option (List ℕ) × ℕ). t entry.1) bs) ++ when (v && not (length bs == 0)) (text (codes ", "))
     ++ when v (text (codes "...")) ++ text (codes ") -> ") ++ flat_map (λ (entry : Option (List ℕ) × ℕ). t entry.1) ret
 
 parts : (v : Bool) (bs ret : List (Option (List ℕ) × ℕ))
     → written v bs ret ≡ text (codes "fn(") ++ comma_joined (map t (types_of bs)) ++ varargs_items v (types_of bs) ++ text (codes ") -> ") ++ flat_map (λ (entry : Option (List ℕ) × ℕ). t entry.1) ret
 parts v bs ret =
     let tail = flat_map (λ (entry : Option (List ℕ) × ℕ). t entry.1) ret in
-    ap (λ xs. text (codes "fn(") ++ comma_joined xs ++ when (v && is_cons bs) (text (codes ", ")) ++ when v (text (codes "...")) ++ text (codes ") -> ") ++ tail) (each_type bs)
+    ap (λ xs. text (codes "fn(") ++ comma_joined xs ++ when (v && not (length bs == 0)) (text (codes ", ")) ++ when v (text (codes "...")) ++ text (codes ") -> ") ++ tail) (each_type bs)
+    ∙ ap (λ b. text (codes "fn(") ++ comma_joined (map t (types_of bs)) ++ when (v && b) (text (codes ", ")) ++ when v (text (codes "...")) ++ text (codes ") -> ") ++ tail) (not_empty bs)
     ∙ ap (λ is. is ++ text (codes ") -> ") ++ tail) (dots v (text (codes "fn(") ++ comma_joined (map t (types_of bs))) bs)
 
 pub signature_is : (v : Bool) (params bs ret : List (Option (List ℕ) × ℕ)) → params ≡ bs ++ ret → length bs ≡ length params - 1

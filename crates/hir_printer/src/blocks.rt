@@ -78,7 +78,8 @@ impl<'a> Printer<'a> {
         ensures { OnOk result (Adds self.old
             (λ s. text (codes "{") ++ inside_block statements.now tail ++ text (codes "}")) self.new) }
     {
-        if statements.is_empty() && tail.is_none() {
+        let is_bare = statements.is_empty() & tail.is_none();
+        if is_bare {
             return self.add(&[Work::Text("{"), Work::Text("}")]);
         }
         self.add(&[Work::Text("{"), Work::Indent])?;

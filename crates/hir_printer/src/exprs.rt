@@ -141,10 +141,10 @@ impl<'a> Printer<'a> {
         ensures { OnOk result (Adds self.old (λ s. array_items array.now) self.new) }
     {
         match array {
-            Array::ElementList { elements } if elements.is_empty() => {
-                self.add(&[Work::Text("[]")])
-            }
             Array::ElementList { elements } => {
+                if elements.is_empty() {
+                    return self.add(&[Work::Text("[]")]);
+                }
                 self.add(&[Work::Text("["), Work::Indent])?;
                 self.add_each(elements.as_slice(), &[Work::Text(", ")])?;
                 self.add(&[Work::Outdent, Work::Break, Work::Text("]")])

@@ -191,7 +191,7 @@ impl<'a> Printer<'a> {
         ensures { OnOk result (Adds self.old (λ s. args_items s args.now) self.new) }
     {
         let has_args = !args.args.is_empty();
-        self.add_if(has_args && args.has_self_type, "Self=")?;
+        self.add_if(has_args & args.has_self_type, "Self=")?;
         self.add_joined(", ", args.args.as_slice())?;
         self.add_list(has_args, ", ", args.bindings.as_slice())
     }

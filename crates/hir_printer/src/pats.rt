@@ -101,7 +101,7 @@ impl<'a> Printer<'a> {
         let mut left = fields;
         while let [field, others @ ..] = left {
             self.add_field_pat(field)?;
-            self.add_field_end(rest || !others.is_empty())?;
+            self.add_field_end(rest | !others.is_empty())?;
             left = others;
         }
         Ok(())

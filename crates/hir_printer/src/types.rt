@@ -111,7 +111,7 @@ impl<'a> Printer<'a> {
         let (front, ret) = params.split_at(params.len().saturating_sub(1));
         self.add(&[Work::Text("fn(")])?;
         self.add_joined(", ", front)?;
-        self.add_if(is_varargs && !front.is_empty(), ", ")?;
+        self.add_if(is_varargs & !front.is_empty(), ", ")?;
         self.add_if(is_varargs, "...")?;
         self.add(&[Work::Text(") -> ")])?;
         self.add_each(ret, &[])
