@@ -177,7 +177,7 @@ impl PageBuffer {
         let len = self.text.len();
         let kept = self.kept;
         let format = self.format;
-        let written = self.many(text);
+        let written = self.lines(text);
         if written.is_err() {
             self.text.truncate(len);
             self.kept = kept;
@@ -186,18 +186,7 @@ impl PageBuffer {
         written
     }
 
-    /// Writes text, which seldom has a line end.
-    fn many(&mut self, text: &str) -> Result<(), AllocError>
-        ensures { MatchResult result (λ _. self.new ≡ put_all text.now self.old) (λ _. IsGrown self.old self.new) }
-    {
-        if has_no_end(text.as_bytes()) {
-            return self.line(text);
-        }
-        self.lines(text)
-    }
-
     /// Writes text line by line.
-    #[inline(never)]
     fn lines(&mut self, text: &str) -> Result<(), AllocError>
         ensures { MatchResult result (λ _. self.new ≡ put_all text.now self.old) (λ _. IsGrown self.old self.new) }
     {

@@ -145,9 +145,7 @@ impl<'a> Printer<'a> {
     pub(crate) fn end_turn(&mut self)
         ensures { let old = seen self.old in seen self.new ≡ record old { kept = []; waiting = old.kept ++ old.waiting } }
     {
-        if self.works.len() - self.waiting > 1 {
-            self.works[self.waiting..].reverse();
-        }
+        self.works[self.waiting..].reverse();
         self.waiting = self.works.len();
     }
 
