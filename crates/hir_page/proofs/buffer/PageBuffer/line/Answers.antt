@@ -18,4 +18,4 @@ returns-in_ok-add c =
     ap (set c.in_line-self-inside.result) added ∙ ap (λ f. set f (with_line (begun p))) format ∙ sym (put_line p line some c.requires)
 
 pub returns-in_err-add : goal.returns-in_err-add
-returns-in_err-add c = on_refused _ c.from_residual-2.ensures.0 (grown_same (grown_same (grown_begun c.args.self.now) c.in_ok-begin.ensures) c.in_err-add.ensures)
+returns-in_err-add c = on_refused _ c.from_residual-in_err-add.ensures.0 (grown_same (grown_same (grown_begun c.args.self.now) c.in_ok-begin.ensures) c.in_err-add.ensures)

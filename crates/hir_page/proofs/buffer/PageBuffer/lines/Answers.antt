@@ -35,7 +35,7 @@ returns-in_err-line c = on_refused _ c.from_residual.ensures.0 (grown_then c.loo
 pub returns-in_err-line_end : goal.returns-in_err-line_end
 returns-in_err-line_end c =
     let line = grown_same (grown_put_all c.in-Some.line.now c.loop-line.self) c.in_ok-line.ensures in
-    on_refused _ c.from_residual-2.ensures.0 (grown_then c.loop-line.invariant.grown (grown_then line c.in_err-line_end.ensures))
+    on_refused _ c.from_residual-in_err-line_end.ensures.0 (grown_then c.loop-line.invariant.grown (grown_then line c.in_err-line_end.ensures))
 
 pub returns : goal.returns
 returns c = MatchResult-weaker c.line-2.result c.line-2.ensures (λ _ e. e ∙ c.loop-line.invariant.puts) (λ _ g. grown_then c.loop-line.invariant.grown g)

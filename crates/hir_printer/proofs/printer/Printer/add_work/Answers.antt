@@ -1,4 +1,4 @@
-use Rattle.std.proofs.Common.{◌≡◌, [], arith}
+use Rattle.std.proofs.Common.{◌≡◌, [], sym, ◌∙◌, arith}
 use Rattle.std.proofs.lemmas.Result.{on_ok_weaker}
 use Rattle.std.proofs.lemmas.List.{drop_all}
 use Rattle.hir_printer.specs.Printing.{seen}
@@ -8,8 +8,11 @@ use Rattle.hir_printer.proofs.printer.Printer.add_work.Goals as goal
 pub returns-then-is_node : goal.returns-then-is_node
 returns-then-is_node c = on_ok_weaker c.keep.result (kept_adds c.args.work.now) c.keep.ensures
 
+pub write_work-requires : goal.write_work-requires
+write_work-requires c = rw c.copy_of-work.ensures (sym c.is_node.ensures ∙ c.if-is_node.false)
+
 pub returns : goal.returns
 returns c =
     let p = c.args.self.now in
     let none : (seen p).kept ≡ [] = drop_all p.waiting p.works.items (omega arith) in
-    on_ok_weaker c.write_work.result (wrote_adds none) c.write_work.ensures
+    rw (← c.copy_of-work.ensures) (on_ok_weaker c.write_work.result (wrote_adds none) c.write_work.ensures)
