@@ -1,11 +1,11 @@
 //! Bodies as text.
 #![tactic(auto, using(hir_printer::proofs::AddLemmas::adding))]
 
-ghost use Rattle.std.specs.Prelude.{◌≡◌, ◌++◌, ◌∷◌, OnOk, map, codes, false};
+ghost use Rattle.std.specs.Prelude.{◌≡◌, OnOk, false};
 ghost use Rattle.hir_base.specs.RawWords.{words_of};
 ghost use Rattle.hir_items.specs.Bodies.{formals_of};
 ghost use Rattle.hir_printer.specs.Settings.{setting};
-ghost use Rattle.hir_printer.specs.Items.{p, text, opt, comma_joined};
+ghost use Rattle.hir_printer.specs.Items.{opt, comma_joined};
 ghost use Rattle.hir_printer.specs.Names.{binding_items};
 ghost use Rattle.hir_printer.specs.Answers.{answers};
 ghost use Rattle.hir_printer.specs.Printed.{PrintsPieces};
@@ -50,22 +50,7 @@ fn add_all_formals(
     Ok(())
 }
 
-/// Adds the parameters in parentheses.
-fn add_in_parentheses(
-    printer: &mut Printer<'_>,
-    self_binding: Option<BindingId>,
-    params: &[Param<PatId>],
-) -> Result<(), AllocError>
-    ensures { OnOk result (Adds printer.old
-        (λ s. text (codes "(") ++ comma_joined (formal_params s self_binding (formals_of params.now)) ++ text (codes ") "))
-        printer.new) }
-{
-    printer.add(&[Work::Text("(")])?;
-    add_all_formals(printer, self_binding, params)?;
-    printer.add(&[Work::Text(") ")])
-}
-
-/// Adds the parameters, which only a function has.
+/// Adds the parameters in parentheses, which only a function has.
 fn add_params(
     printer: &mut Printer<'_>,
     owner: &DefWithBodyId,
@@ -76,7 +61,11 @@ fn add_params(
         (λ s. body_params s self_binding (formals_of params.now) owner.now) printer.new) }
 {
     match owner {
-        DefWithBodyId::FunctionId(_) => add_in_parentheses(printer, self_binding, params),
+        DefWithBodyId::FunctionId(_) => {
+            printer.add(&[Work::Text("(")])?;
+            add_all_formals(printer, self_binding, params)?;
+            printer.add(&[Work::Text(") ")])
+        }
         DefWithBodyId::StaticId(_) | DefWithBodyId::ConstId(_) | DefWithBodyId::VariantId(_) => Ok(
             (),
         ),
@@ -121,8 +110,7 @@ fn add_body(
 /// The text of a body of this owner, in lines: its head with the names that the tables have, the formal parameters where it is a
 /// function's, and what it evaluates to. The enum of a variant is looked up first, then both names.
 ///
-/// Answers `Missing` of the first definition outside that the text names and that the tables don't have, and `Memory` where memory was
-/// refused. A text that was begun is dropped.
+/// Answers `Missing` of the first definition that the text names and the tables don't have, and `Memory` where memory was refused.
 pub fn print_body_hir(
     alloc: Global,
     tables: &Tables,

@@ -1,12 +1,12 @@
 //! Signatures of functions as text.
 #![tactic(auto, using(hir_printer::proofs::AddLemmas::adding))]
 
-ghost use Rattle.std.specs.Prelude.{◌≡◌, ◌++◌, ◌<◌, ◌==◌, OnOk, IfOk, map, codes, ℕ, length, Some, get_or, false};
+ghost use Rattle.std.specs.Prelude.{◌≡◌, ◌<◌, ◌==◌, OnOk, IfOk, map, ℕ, length, Some, get_or, false};
 ghost use Rattle.std.specs.List.{enumerate_from, list_any};
 ghost use Rattle.std.specs.Option.{option_map};
 ghost use Rattle.hir_base.specs.RawWords.{words_of};
 ghost use Rattle.hir_printer.specs.Settings.{setting};
-ghost use Rattle.hir_printer.specs.Items.{text, comma_joined};
+ghost use Rattle.hir_printer.specs.Items.{comma_joined};
 ghost use Rattle.hir_printer.specs.Answers.{answers};
 ghost use Rattle.hir_printer.specs.Printed.{PrintsPieces};
 ghost use Rattle.hir_printer.specs.Pieces.{printed};
@@ -72,18 +72,6 @@ fn add_marked(
     Ok(())
 }
 
-fn add_listed(
-    printer: &mut Printer<'_>,
-    alloc: Global,
-    places: &[u32],
-    params: &[TypeRefId],
-) -> Result<(), AllocError>
-    ensures { OnOk result (Adds printer.old (λ s. arguments (Some places.now) params.now) printer.new) }
-{
-    let marks = marks_of(alloc, places, params.len())?;
-    add_marked(printer, &marks, params)
-}
-
 /// Adds the types of arguments, each with `const: ` before it where its place is listed.
 fn add_arguments<'a>(
     printer: &mut Printer<'a>,
@@ -96,7 +84,10 @@ fn add_arguments<'a>(
 {
     match places {
         None => printer.add_joined(", ", params),
-        Some(places) => add_listed(printer, alloc, places, params),
+        Some(places) => {
+            let marks = marks_of(alloc, places, params.len())?;
+            add_marked(printer, &marks, params)
+        }
     }
 }
 
@@ -160,8 +151,7 @@ fn add_function<'a>(
 /// The text of a function's signature, in lines. Which function has it makes no difference to the text. Other definitions that it names,
 /// and parameters that a type names by their id, its own ones too, are looked up in the tables.
 ///
-/// Answers `Missing` of the first definition outside that the text names and that the tables don't have, and `Memory` where memory was
-/// refused. A text that was begun is dropped.
+/// Answers `Missing` of the first definition that the text names and the tables don't have, and `Memory` where memory was refused.
 pub fn print_function(
     alloc: Global,
     tables: &Tables,

@@ -3,10 +3,9 @@
 
 ghost use Rattle.std.specs.Prelude.{◌++◌, OnOk, codes, false};
 ghost use Rattle.std.specs.List.{enumerate_from};
-ghost use Rattle.std.specs.Option.{option_copied};
 ghost use Rattle.hir_printer.specs.Items.{text, e, opt, comma_joined};
 ghost use Rattle.hir_printer.specs.Printers.{Adds, following};
-ghost use Rattle.hir_pretty.specs.Signatures.{type_name, generic_param_items, each_lifetime, each_type_or_const, each_param, generics_items, predicate_items, each_predicate, where_items};
+ghost use Rattle.hir_pretty.specs.Signatures.{generic_param_items, each_lifetime, each_type_or_const, each_param, generics_items, predicate_items, where_items};
 
 use hir_base::Name;
 use hir_defs::{
@@ -151,21 +150,6 @@ fn add_predicate<'a>(
     }
 }
 
-fn add_each_predicate<'a>(
-    printer: &mut Printer<'a>,
-    predicates: &'a [WherePredicate],
-) -> Result<(), AllocError>
-    ensures { OnOk result (Adds printer.old (λ s. each_predicate s predicates.now) printer.new) }
-{
-    let mut after = false;
-    for predicate in predicates {
-        printer.add_if(after, ",\n")?;
-        add_predicate(printer, predicate)?;
-        after = true;
-    }
-    Ok(())
-}
-
 /// Adds the predicates, each on a line of its own after `where`, where there are any.
 pub(crate) fn add_where<'a>(
     printer: &mut Printer<'a>,
@@ -177,6 +161,11 @@ pub(crate) fn add_where<'a>(
         return Ok(());
     }
     printer.add(&[Work::Text("\nwhere\n"), Work::Indent])?;
-    add_each_predicate(printer, predicates)?;
+    let mut after = false;
+    for predicate in predicates {
+        printer.add_if(after, ",\n")?;
+        add_predicate(printer, predicate)?;
+        after = true;
+    }
     printer.add(&[Work::Outdent, Work::Break])
 }

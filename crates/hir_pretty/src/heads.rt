@@ -1,9 +1,8 @@
 //! What bodies and variants begin with: a keyword and names of the tables.
 #![tactic(auto, using(hir_printer::proofs::AddLemmas::adding))]
 
-ghost use Rattle.std.specs.Prelude.{◌≡◌, OnOk, Ok, codes, Bool, List, ℕ};
-ghost use Rattle.std.specs.Option.{option_copied};
-ghost use Rattle.hir_printer.specs.Questions.{Setting};
+ghost use Rattle.std.specs.Prelude.{◌≡◌, ◌++◌, OnOk, Ok, codes, Bool, List, ℕ};
+ghost use Rattle.hir_printer.specs.Items.{text};
 ghost use Rattle.hir_printer.specs.Paths.{found_name};
 ghost use Rattle.hir_printer.specs.Answers.{answers};
 ghost use Rattle.hir_expr_store.specs.Contents.{Contents};

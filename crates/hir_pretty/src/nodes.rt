@@ -19,8 +19,7 @@ use std::alloc::Global;
 /// The text of an expression of the store, in lines. The expression has to be there: `has_expr` tests it. What owns the store makes no
 /// difference to the text.
 ///
-/// Answers `Missing` of the first definition outside that the text names and that the tables don't have, and `Memory` where memory was
-/// refused. A text that was begun is dropped.
+/// Answers `Missing` of the first definition that the text names and the tables don't have, and `Memory` where memory was refused.
 pub fn print_expr_hir(
     alloc: Global,
     tables: &Tables,
@@ -41,8 +40,7 @@ pub fn print_expr_hir(
 /// The text of a pattern of the store, in one line or in lines. The pattern has to be there: `has_pat` tests it. What owns the store makes
 /// no difference to the text.
 ///
-/// Answers `Missing` of the first definition outside that the text names and that the tables don't have, and `Memory` where memory was
-/// refused. A text that was begun is dropped.
+/// Answers `Missing` of the first definition that the text names and the tables don't have, and `Memory` where memory was refused.
 pub fn print_pat_hir(
     alloc: Global,
     tables: &Tables,
@@ -63,8 +61,7 @@ pub fn print_pat_hir(
 
 /// The text of a path whose types, lifetimes and constants are of the store, in lines: `path_is_sound` of the store tests it.
 ///
-/// Answers `Missing` of the first definition outside that the text names and that the tables don't have, and `Memory` where memory was
-/// refused. A text that was begun is dropped.
+/// Answers `Missing` of the first definition that the text names and the tables don't have, and `Memory` where memory was refused.
 pub fn print_path(
     alloc: Global,
     tables: &Tables,

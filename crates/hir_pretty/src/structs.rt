@@ -118,8 +118,7 @@ fn add_struct<'a>(
 /// The text of a struct's signature, in lines, after what the tables have of its representation in memory. Other definitions that it
 /// names, and parameters that a type names by their id, its own ones too, are looked up in the tables.
 ///
-/// Answers `Missing` of the first definition outside that the text names and that the tables don't have, and `Memory` where memory was
-/// refused. A text that was begun is dropped.
+/// Answers `Missing` of the first definition that the text names and the tables don't have, and `Memory` where memory was refused.
 pub fn print_struct(
     alloc: Global,
     tables: &Tables,

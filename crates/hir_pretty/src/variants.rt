@@ -1,14 +1,11 @@
 //! Structs, unions and variants of enums as text, with their fields.
 #![tactic(auto, using(hir_printer::proofs::AddLemmas::adding))]
 
-ghost use Rattle.std.specs.Prelude.{◌≡◌, ◌++◌, ◌∷◌, [], OnOk, map, codes, false, IfSome, IfOk, IfErr, Some, None};
-ghost use Rattle.std.specs.List.{flat_map};
+ghost use Rattle.std.specs.Prelude.{◌≡◌, OnOk, codes, false, IfSome, IfOk, IfErr, Some, None};
 ghost use Rattle.hir_base.specs.RawWords.{words_of};
 ghost use Rattle.hir_expr_store.specs.Contents.{Contents};
 ghost use Rattle.hir_printer.specs.Settings.{setting};
 ghost use Rattle.hir_printer.specs.Items.{text, joined};
-ghost use Rattle.hir_printer.specs.Names.{name_items};
-ghost use Rattle.hir_printer.specs.Paths.{supers};
 ghost use Rattle.hir_printer.specs.Answers.{answers};
 ghost use Rattle.hir_printer.specs.Printed.{PrintsPieces};
 ghost use Rattle.hir_printer.specs.Pieces.{printed};
@@ -43,15 +40,6 @@ fn add_module<'a>(printer: &mut Printer<'a>, path: &'a ModPath) -> Result<(), Al
     printer.add_list(colons_first(path.kind()), "::", path.segments())
 }
 
-fn add_in_module<'a>(printer: &mut Printer<'a>, path: &'a ModPath) -> Result<(), AllocError>
-    ensures { OnOk result (Adds printer.old
-        (λ s. text (codes "pub(in ") ++ module_items s path.now ++ text (codes ") ")) printer.new) }
-{
-    printer.add(&[Work::Text("pub(in ")])?;
-    add_module(printer, path)?;
-    printer.add(&[Work::Text(") ")])
-}
-
 fn add_visibility<'a>(
     printer: &mut Printer<'a>,
     visibility: &'a RawVisibility,
@@ -59,7 +47,11 @@ fn add_visibility<'a>(
     ensures { OnOk result (Adds printer.old (λ s. visibility_items s visibility.now) printer.new) }
 {
     match visibility {
-        RawVisibility::Module(path) => add_in_module(printer, path),
+        RawVisibility::Module(path) => {
+            printer.add(&[Work::Text("pub(in ")])?;
+            add_module(printer, path)?;
+            printer.add(&[Work::Text(") ")])
+        }
         RawVisibility::Public => printer.add(&[Work::Text("pub ")]),
         RawVisibility::PubCrate => printer.add(&[Work::Text("pub(crate) ")]),
         RawVisibility::PubSelf => printer.add(&[Work::Text("pub(self) ")]),
@@ -79,15 +71,6 @@ fn add_field<'a>(printer: &mut Printer<'a>, field: &'a FieldData) -> Result<(), 
         Work::Text(","),
         Work::Break,
     ])
-}
-
-fn add_each_field<'a>(printer: &mut Printer<'a>, fields: &'a [FieldData]) -> Result<(), AllocError>
-    ensures { OnOk result (Adds printer.old (λ s. flat_map (field_line s) fields.now) printer.new) }
-{
-    for field in fields {
-        add_field(printer, field)?;
-    }
-    Ok(())
 }
 
 fn add_begin(printer: &mut Printer<'_>, shape: FieldsShape) -> Result<(), AllocError>
@@ -119,7 +102,9 @@ fn add_fields<'a>(
     ensures { OnOk result (Adds printer.old (λ s. fields_items s shape fields.now) printer.new) }
 {
     add_begin(printer, shape)?;
-    add_each_field(printer, fields)?;
+    for field in fields {
+        add_field(printer, field)?;
+    }
     add_end(printer, shape)
 }
 
@@ -169,8 +154,7 @@ fn fields_of<'a>(tables: &'a Tables, owner: &VariantId) -> Result<&'a VariantFie
 /// The text of a struct, a union or a variant of an enum with the fields that the tables have, in lines. The enum of a variant is looked
 /// up first, then the names, and then the fields.
 ///
-/// Answers `Missing` of the first definition outside that the text names and that the tables don't have, and `Memory` where memory was
-/// refused. A text that was begun is dropped.
+/// Answers `Missing` of the first definition that the text names and the tables don't have, and `Memory` where memory was refused.
 pub fn print_variant_body_hir(
     alloc: Global,
     tables: &Tables,

@@ -86,10 +86,6 @@ pub bounds_is : (s : Setting) (bs : List TypeBound) → when (not (length bs == 
 bounds_is s [] = refl
 bounds_is s (b ∷ bs) = ap (λ c. when c (text (codes ": ")) ++ bounds_items s (b ∷ bs)) (not_empty (b ∷ bs))
 
-first_joined : (sep : List Item) (x : Item) (first : List Item) (rest : List (List Item)) → x ∷ joined sep (first ∷ rest) ≡ joined sep ((x ∷ first) ∷ rest)
-first_joined sep x first [] = refl
-first_joined sep x first (y ∷ ys) = refl
-
 each_is : (s : Setting) (self : Bool) (args : List GenericArg) (bs : List (List Item))
     → when (is_cons args && self) (text (codes "Self=")) ++ joined (text (codes ", ")) (map (arg_items s) args) ++ following (text (codes ", ")) (is_cons args) bs ≡ comma_joined (each_arg s self args ++ bs)
 each_is s true [] bs = following_joined (text (codes ", ")) bs

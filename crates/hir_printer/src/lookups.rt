@@ -3,7 +3,7 @@
 
 ghost use Rattle.std.specs.Prelude.{◌≡◌, Ok, Err, IfOk, IfErr, OnOk, codes};
 ghost use Rattle.std.specs.Option.{option_copied};
-ghost use Rattle.hir_printer.specs.Names.{lifetime_items, label_items, param_items, l};
+ghost use Rattle.hir_printer.specs.Names.{lifetime_items, label_items, l};
 ghost use Rattle.hir_printer.specs.Paths.{found_name};
 ghost use Rattle.hir_printer.specs.Types.{type_param_items};
 ghost use Rattle.hir_printer.specs.Answers.{answers};

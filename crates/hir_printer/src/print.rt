@@ -164,8 +164,7 @@ impl<'a> Printer<'a> {
 
     /// The text of what was added.
     ///
-    /// Answers `Missing` of the first definition outside that the text names and that the tables don't have, and `Memory` where memory
-    /// was refused. A text that was begun is dropped.
+    /// Answers `Missing` of the first definition that the text names and the tables don't have, and `Memory` where memory was refused.
     pub fn print(mut self) -> Result<String, PrintFault>
         ensures { let s = (seen self.entry).from in
             (items : List Item) → AddsItems (on_page s) (λ s. items) (seen self.entry) → PrintsPieces s (printed s items) result }

@@ -1,4 +1,4 @@
-use Rattle.std.proofs.Common.{refl}
+use Rattle.std.proofs.lemmas.Result.{err_from_is_err_and}
 use Rattle.hir_printer.proofs.TurnLemmas.{whole_gives, under_gives, pattern_gives, type_gives}
 use Rattle.hir_printer.proofs.printer.Printer.give_way.Goals as goal
 
@@ -13,3 +13,18 @@ returns-in_ok-add_pat_at-in-Pattern-clause-ok c = rw c.in-Pattern.is (pattern_gi
 
 pub returns-in_ok-add_type_at-in-Type-clause-ok : goal.returns-in_ok-add_type_at-in-Type-clause-ok
 returns-in_ok-add_type_at-in-Type-clause-ok c = rw c.in-Type.is (type_gives c.requires.fall c.requires.none c.in-Type.id c.in_ok-add_type_at-in-Type.ensures)
+
+pub returns-in_err-add_expr_at-in-Whole-clause-missing : goal.returns-in_err-add_expr_at-in-Whole-clause-missing
+returns-in_err-add_expr_at-in-Whole-clause-missing c = λ m e. let p = err_from_is_err_and c.from_residual.result c.from_residual.ensures.1 in let f = p.1 in let g = p.2 in absurd (cc)
+
+pub returns-in_err-add_under-in-Under-clause-missing : goal.returns-in_err-add_under-in-Under-clause-missing
+returns-in_err-add_under-in-Under-clause-missing c = λ m e. let p = err_from_is_err_and c.from_residual-in_err-add_under-in-Under.result c.from_residual-in_err-add_under-in-Under.ensures.1 in let f = p.1 in let g = p.2 in absurd (cc)
+
+pub returns-in_err-add_pat_at-in-Pattern-clause-missing : goal.returns-in_err-add_pat_at-in-Pattern-clause-missing
+returns-in_err-add_pat_at-in-Pattern-clause-missing c = λ m e. let p = err_from_is_err_and c.from_residual-in_err-add_pat_at-in-Pattern.result c.from_residual-in_err-add_pat_at-in-Pattern.ensures.1 in let f = p.1 in let g = p.2 in absurd (cc)
+
+pub returns-in_err-add_type_at-in-Type-clause-missing : goal.returns-in_err-add_type_at-in-Type-clause-missing
+returns-in_err-add_type_at-in-Type-clause-missing c = λ m e. let p = err_from_is_err_and c.from_residual-in_err-add_type_at-in-Type.result c.from_residual-in_err-add_type_at-in-Type.ensures.1 in let f = p.1 in let g = p.2 in absurd (cc)
+
+pub returns-in_err-add_fish-in-Args-clause-missing : goal.returns-in_err-add_fish-in-Args-clause-missing
+returns-in_err-add_fish-in-Args-clause-missing c = λ m e. let p = err_from_is_err_and c.from_residual-in_err-add_fish-in-Args.result c.from_residual-in_err-add_fish-in-Args.ensures.1 in let f = p.1 in let g = p.2 in absurd (cc)

@@ -4,9 +4,9 @@ use Rattle.hir_printer.specs.Printing.{seen}
 use Rattle.hir_printer.specs.Printers.{following}
 use Rattle.hir_printer.proofs.AddLemmas.{Left}
 use Rattle.hir_pretty.specs.Signatures.{predicate_items, each_predicate}
-use Rattle.hir_pretty.proofs.generics.add_each_predicate.Given as goal
+use Rattle.hir_pretty.proofs.generics.add_where.Given as goal
 
 abbrev pub invariant-loop-predicate : goal.invariant-loop-predicate
 invariant-loop-predicate l =
-    Left (seen l.fn.printer) (λ s. each_predicate s l.predicates) (seen l.printer)
+    Left (seen l.initial.printer) (λ s. each_predicate s l.predicates) (seen l.printer)
     (λ s. following (text (codes ",\n")) l.after (map (predicate_items s) (drop l.predicate-index l.predicates)))

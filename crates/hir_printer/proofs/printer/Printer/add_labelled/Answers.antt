@@ -1,7 +1,0 @@
-use Rattle.std.proofs.Common.{refl}
-use Rattle.std.proofs.lemmas.Result.{on_ok_weaker}
-use Rattle.hir_printer.proofs.AddLemmas.{adds_more}
-use Rattle.hir_printer.proofs.printer.Printer.add_labelled.Goals as goal
-
-pub returns-in_ok-add_to-in-Some : goal.returns-in_ok-add_to-in-Some
-returns-in_ok-add_to-in-Some c = rw c.in-Some.is (on_ok_weaker c.add.result (adds_more c.in_ok-add_to-in-Some.ensures) c.add.ensures)
