@@ -1,7 +1,7 @@
 use Rattle.std.proofs.Common.{sym, ◌∙◌}
 use Rattle.std.proofs.lemmas.Result.{MatchResult-weaker}
 use Rattle.hir_page.proofs.PageLemmas.{put_all_in_line}
-use Rattle.hir_page.proofs.buffer.PageBuffer.write.Goals as goal
+use Rattle.hir_page.proofs.buffer.PageBuffer.several.Goals as goal
 
 pub returns-then-has_no_end : goal.returns-then-has_no_end
 returns-then-has_no_end c =
