@@ -69,7 +69,8 @@ impl PageBuffer {
 
     /// Adds a line end, whatever the format.
     fn end_line(&mut self) -> Result<(), AllocError>
-        ensures { MatchResult result (λ _. self.new ≡ record self.old { above = self.old.last ∷ self.old.above; last = [] })
+        ensures { MatchResult result
+            (λ _. self.new ≡ record self.old { above = self.old.last ∷ self.old.above; last = [] })
             (λ _. self.new ≡ self.old) }
     {
         self.text.push('\n')?;
