@@ -5,7 +5,7 @@ use Rattle.hir_page.proofs.BufferLemmas.{page_plain}
 use Rattle.hir_page.proofs.EndLemmas.{no_end_one}
 use Rattle.hir_page.proofs.buffer.PageBuffer.add_byte.Goals as goal
 
-pub returns-then-byte-ne32 : goal.returns-then-byte-ne32-clause-ok
+pub returns-then-byte-ne32 : goal.returns-then-byte-ne32
 returns-then-byte-ne32 c =
     let old = c.self.inside in
     let bs = string_bytes old.text in
@@ -15,7 +15,7 @@ returns-then-byte-ne32 c =
     c.in_ok-push.ensures.bytes ∙ ap (λ e. bs ++ e) (c.in_ok-push.ensures.ascii (omega arith) ∙ ap (λ b. b ∷ []) is) in
     rw (← c.self.view_is, bytes) (page_plain bs (c.args.byte ∷ []) (level_of (string_bytes old.indentation)) old.format (no_end_one c.args.byte c.requires.1))
 
-pub returns-else-byte-ne32 : goal.returns-else-byte-ne32-clause-ok
+pub returns-else-byte-ne32 : goal.returns-else-byte-ne32
 returns-else-byte-ne32 c =
     let old = c.self.inside in
     let bs = string_bytes old.text in
