@@ -1,6 +1,6 @@
 -- Pages to which text was added.
 use Rattle.std.proofs.Common.{◌≡◌, ℕ, ◌+◌, ◌≤◌, Bool, true, false, List, [], ◌∷◌, ◌++◌, length, take, replicate, ◌*◌, ◌==◌, cond, refl, sym, ap, subst, ◌∙◌, append_assoc, append-nil, length-append, arith}
-use Rattle.std.specs.Prelude.{Result, Ok, Err, MatchResult, is_err}
+use Rattle.std.specs.Prelude.{Result, Ok, Err, OnErr, is_err}
 use Rattle.std.specs.Str.{IsUtf8}
 use Rattle.std.proofs.lemmas.Str.{IsCharBoundary-from_take}
 use Rattle.std.proofs.Math.Seq.{take-append_seam}
@@ -67,18 +67,14 @@ pub grown_put_all : (cs : List ℕ) (p : Page) → IsGrown p (put_all cs p)
 grown_put_all [] p = grown_none p
 grown_put_all (c ∷ cs) p = grown_then (grown_put c p) (grown_put_all cs (put c p))
 
--- what is known of a call that was refused, and of one that wasn't
-pub on_refused : {T E P Q : Type 0} (r : Result T E) → is_err r ≡ true → Q → MatchResult r (λ _. P) (λ _. Q)
-on_refused (Ok x) e q = absurd (cc)
-on_refused (Err y) e q = q
+-- what is true whatever was answered, and what is known of a refusal
+pub on_err : {T E P : Type 0} (r : Result T E) → P → OnErr r P
+on_err (Ok x) p = tt
+on_err (Err e) p = p
 
-pub refused_grown : {T E P Q : Type 0} (r : Result T E) → is_err r ≡ true → MatchResult r (λ _. P) (λ _. Q) → Q
-refused_grown (Ok x) e h = absurd (cc)
-refused_grown (Err y) e h = h
-
-pub on_whole : {T E P Q R : Type 0} (r : Result T E) → is_err r ≡ false → MatchResult r (λ _. P) (λ _. Q) → MatchResult r (λ _. P) (λ _. R)
-on_whole (Ok x) e h = h
-on_whole (Err y) e h = absurd (cc)
+pub from_err : {T E P : Type 0} (r : Result T E) → is_err r ≡ true → OnErr r P → P
+from_err (Ok x) e h = absurd (cc)
+from_err (Err x) e h = h
 
 -- the text that was there, taken from the text that has grown
 pub grown_text : (bs cs : List ℕ) (l m : ℕ) (f g : LineFormat) → IsGrown (page bs l f) (page cs m g) → take (length bs) cs ≡ bs

@@ -1,5 +1,5 @@
 //! The one buffer of a printing: a text that is written at its end alone, and looks back over its last characters.
-ghost use Rattle.std.specs.Prelude.{◌≡◌, ◌≢◌, ◌<◌, ◌∷◌, [], ◌++◌, ◌+◌, ◌-◌, ◌*◌, replicate, MatchResult, IsTrue, ◌↔◌, string_bytes};
+ghost use Rattle.std.specs.Prelude.{◌≡◌, ◌≢◌, ◌<◌, ◌∷◌, [], ◌++◌, ◌+◌, ◌-◌, ◌*◌, replicate, OnOk, OnErr, IsTrue, ◌↔◌, string_bytes};
 ghost use Rattle.hir_page.specs.Buffer.{HasNoEnd, IsTrimmedLen, IsCutText, EndsInLineEnd, IsGrown};
 ghost use Rattle.hir_page.specs.LastByte.{IsLastByte};
 ghost use Rattle.hir_page.specs.Page.{begun, parted, indented, put, put_all, trimmed, spaced, line_ended, joined, without_empty_lines, is_blank, empty_page, page_text, format_in_line, format_after_end};
@@ -69,9 +69,11 @@ impl PageBuffer {
 
     /// Adds a line end, whatever the format.
     fn end_line(&mut self) -> Result<(), AllocError>
-        ensures { MatchResult result
-            (λ _. self.new ≡ record self.old { above = self.old.last ∷ self.old.above; last = [] })
-            (λ _. self.new ≡ self.old) }
+        ensures ok { OnOk result (self.new ≡ record self.old {
+          above = self.old.last ∷ self.old.above;
+          last = [];
+        }) }
+        ensures err { OnErr result (self.new ≡ self.old) }
     {
         self.text.push('\n')?;
         self.kept = self.text.len();
@@ -82,8 +84,8 @@ impl PageBuffer {
     #[inline(always)]
     fn add(&mut self, part: &str) -> Result<(), AllocError>
         requires { HasNoEnd part.now }
-        ensures { MatchResult result (λ _. self.new ≡ record self.old { last = self.old.last ++ part.now })
-            (λ _. self.new ≡ self.old) }
+        ensures ok { OnOk result (self.new ≡ record self.old { last = self.old.last ++ part.now }) }
+        ensures err { OnErr result (self.new ≡ self.old) }
     {
         let before = self.text.len();
         self.text.push_str(part)?;
@@ -98,8 +100,8 @@ impl PageBuffer {
     #[inline(always)]
     fn add_byte(&mut self, byte: u8) -> Result<(), AllocError>
         requires { (byte < 128) × (byte ≢ 10) }
-        ensures { MatchResult result (λ _. self.new ≡ record self.old { last = self.old.last ++ (byte ∷ []) })
-            (λ _. self.new ≡ self.old) }
+        ensures ok { OnOk result (self.new ≡ record self.old { last = self.old.last ++ (byte ∷ []) }) }
+        ensures err { OnErr result (self.new ≡ self.old) }
     {
         self.text.push(char::from(byte))?;
         if byte != b' ' {
@@ -110,7 +112,8 @@ impl PageBuffer {
 
     /// Adds four spaces for each level.
     fn indent_line(&mut self) -> Result<(), AllocError>
-        ensures { MatchResult result (λ _. self.new ≡ indented self.old) (λ _. self.new ≡ self.old) }
+        ensures ok { OnOk result (self.new ≡ indented self.old) }
+        ensures err { OnErr result (self.new ≡ self.old) }
     {
         self.text.push_str(self.indentation.as_str())?;
         Ok(())
@@ -118,7 +121,8 @@ impl PageBuffer {
 
     /// Begins a line, unless the last is blank.
     fn part_line(&mut self) -> Result<(), AllocError>
-        ensures { MatchResult result (λ _. self.new ≡ parted self.old) (λ _. self.new ≡ self.old) }
+        ensures ok { OnOk result (self.new ≡ parted self.old) }
+        ensures err { OnErr result (self.new ≡ self.old) }
     {
         if !self.ends_in_blank_line() {
             self.end_line()?;
@@ -129,8 +133,8 @@ impl PageBuffer {
     /// Begins a line, unless the last is blank, and indents it.
     #[inline(never)]
     fn begin_line(&mut self) -> Result<(), AllocError>
-        ensures { MatchResult result (λ _. self.new ≡ indented (parted self.old))
-            (λ _. IsGrown self.old self.new) }
+        ensures ok { OnOk result (self.new ≡ indented (parted self.old)) }
+        ensures err { OnErr result (IsGrown self.old self.new) }
     {
         self.part_line()?;
         self.indent_line()
@@ -139,7 +143,8 @@ impl PageBuffer {
     /// Begins a line, and indents it, if the next text has to begin one.
     #[inline(always)]
     fn begin(&mut self) -> Result<(), AllocError>
-        ensures { MatchResult result (λ _. self.new ≡ begun self.old) (λ _. IsGrown self.old self.new) }
+        ensures ok { OnOk result (self.new ≡ begun self.old) }
+        ensures err { OnErr result (IsGrown self.old self.new) }
     {
         match self.format {
             LineFormat::Oneline => Ok(()),
@@ -152,8 +157,8 @@ impl PageBuffer {
     #[inline(always)]
     fn line(&mut self, line: &str) -> Result<(), AllocError>
         requires { HasNoEnd line.now }
-        ensures { MatchResult result (λ _. self.new ≡ put_all line.now self.old)
-            (λ _. IsGrown self.old self.new) }
+        ensures ok { OnOk result (self.new ≡ put_all line.now self.old) }
+        ensures err { OnErr result (IsGrown self.old self.new) }
     {
         if !line.is_empty() {
             self.begin()?;
@@ -163,25 +168,25 @@ impl PageBuffer {
         Ok(())
     }
 
-    /// Whether so many bytes go on in the last line, and the text has room for them.
+    /// Whether so many bytes go into the line that was begun, and the text has room for them.
     #[inline(always)]
     fn has_room(&self, bytes: usize) -> bool
         ensures { IsTrue result → self.now.format ≡ format_in_line self.now.format }
     {
-        match self.format {
-            LineFormat::Oneline | LineFormat::Newline => {
-                bytes <= self.text.capacity() - self.text.len()
-            }
+        let in_line = match self.format {
+            LineFormat::Oneline => true,
+            LineFormat::Newline => true,
             LineFormat::Indentation => false,
-        }
+        };
+        in_line && bytes <= self.text.capacity() - self.text.len()
     }
 
-    /// Writes text of one character, as most texts are. Where there is room for it, it calls nothing: that brings a tenth of a
-    /// printing's time.
+    /// Writes text of one character, as most texts are. Where there is room for it, it calls nothing.
     #[inline(never)]
     fn character(&mut self, text: &str, byte: u8) -> Result<(), AllocError>
         requires { text.now ≡ byte ∷ [] }
-        ensures { MatchResult result (λ _. self.new ≡ put_all text.now self.old) (λ _. self.new ≡ self.old) }
+        ensures ok { OnOk result (self.new ≡ put_all text.now self.old) }
+        ensures err { OnErr result (self.new ≡ self.old) }
     {
         if self.has_room(1) && is_plain(byte) {
             return self.add_byte(byte);
@@ -189,10 +194,26 @@ impl PageBuffer {
         self.all_or_none(text)
     }
 
-    /// Writes text, which seldom begins a line.
+    /// Writes text of several characters. Most has two, three or four bytes: in an arm of its own their number is known to the
+    /// compiler, which copies them without a call.
     #[inline(never)]
     fn several(&mut self, text: &str) -> Result<(), AllocError>
-        ensures { MatchResult result (λ _. self.new ≡ put_all text.now self.old) (λ _. self.new ≡ self.old) }
+        ensures ok { OnOk result (self.new ≡ put_all text.now self.old) }
+        ensures err { OnErr result (self.new ≡ self.old) }
+    {
+        match text.len() {
+            2 => self.few(text),
+            3 => self.few(text),
+            4 => self.few(text),
+            _ => self.all_or_none(text),
+        }
+    }
+
+    /// Writes text of few characters. Where there is room for it, it calls nothing.
+    #[inline(always)]
+    fn few(&mut self, text: &str) -> Result<(), AllocError>
+        ensures ok { OnOk result (self.new ≡ put_all text.now self.old) }
+        ensures err { OnErr result (self.new ≡ self.old) }
     {
         if self.has_room(text.len()) && has_no_end(text.as_bytes()) {
             return self.add(text);
@@ -201,14 +222,16 @@ impl PageBuffer {
     }
 
     /// Writes text: all of it, or nothing where memory is refused.
+    #[cold]
     #[inline(never)]
     fn all_or_none(&mut self, text: &str) -> Result<(), AllocError>
-        ensures { MatchResult result (λ _. self.new ≡ put_all text.now self.old) (λ _. self.new ≡ self.old) }
+        ensures ok { OnOk result (self.new ≡ put_all text.now self.old) }
+        ensures err { OnErr result (self.new ≡ self.old) }
     {
         let len = self.text.len();
         let kept = self.kept;
         let format = self.format;
-        let written = self.lines(text);
+        let written = self.many(text);
         if written.is_err() {
             self.text.truncate(len);
             self.kept = kept;
@@ -217,10 +240,24 @@ impl PageBuffer {
         written
     }
 
+    /// Writes text, which seldom has a line end.
+    #[inline(always)]
+    fn many(&mut self, text: &str) -> Result<(), AllocError>
+        ensures ok { OnOk result (self.new ≡ put_all text.now self.old) }
+        ensures err { OnErr result (IsGrown self.old self.new) }
+    {
+        if text.as_bytes().contains(&b'\n') {
+            return self.lines(text);
+        }
+        self.line(text)
+    }
+
     /// Writes text line by line.
+    #[cold]
+    #[inline(never)]
     fn lines(&mut self, text: &str) -> Result<(), AllocError>
-        ensures { MatchResult result (λ _. self.new ≡ put_all text.now self.old)
-            (λ _. IsGrown self.old self.new) }
+        ensures ok { OnOk result (self.new ≡ put_all text.now self.old) }
+        ensures err { OnErr result (IsGrown self.old self.new) }
     {
         let mut rest = text;
         while let Some((line, after)) = rest.split_once('\n') {
@@ -233,7 +270,8 @@ impl PageBuffer {
 
     /// Writes a line end.
     fn line_end(&mut self) -> Result<(), AllocError>
-        ensures { MatchResult result (λ _. self.new ≡ put 10 self.old) (λ _. IsGrown self.old self.new) }
+        ensures ok { OnOk result (self.new ≡ put 10 self.old) }
+        ensures err { OnErr result (IsGrown self.old self.new) }
     {
         self.begin()?;
         self.end_line()?;
@@ -243,11 +281,12 @@ impl PageBuffer {
 
     /// Ends the last line without its trailing spaces. It is refused only where there were none: their room is enough for a line end.
     fn end_trimmed(&mut self) -> Result<(), AllocError>
-        ensures { MatchResult result (λ _. self.new ≡ record self.old {
+        ensures ok { OnOk result (self.new ≡ record self.old {
           above = trimmed self.old.last ∷ self.old.above;
           last = [];
           format = format_after_end self.old.format;
-        }) (λ _. self.new ≡ self.old) }
+        }) }
+        ensures err { OnErr result (self.new ≡ self.old) }
     {
         let after = self.format.after_end();
         self.text.truncate(self.kept);
@@ -260,10 +299,11 @@ impl PageBuffer {
     /// Ends the last line without its trailing spaces, and a line of indentation. Room for all is asked for first, since spaces
     /// that were removed could not be written again.
     fn end_two_lines(&mut self) -> Result<(), AllocError>
-        ensures { MatchResult result (λ _. self.new ≡ record self.old {
+        ensures ok { OnOk result (self.new ≡ record self.old {
           above = replicate (4 * self.old.level) 32 ∷ trimmed self.old.last ∷ self.old.above;
           last = [];
-        }) (λ _. self.new ≡ self.old) }
+        }) }
+        ensures err { OnErr result (self.new ≡ self.old) }
     {
         let indentation = self.indentation.as_str();
         self.text.reserve(indentation.len() + 2)?;
@@ -277,7 +317,8 @@ impl PageBuffer {
 
     /// Writes a break in lines.
     fn break_line(&mut self) -> Result<(), AllocError>
-        ensures { MatchResult result (λ _. self.new ≡ line_ended self.old) (λ _. self.new ≡ self.old) }
+        ensures ok { OnOk result (self.new ≡ line_ended self.old) }
+        ensures err { OnErr result (self.new ≡ self.old) }
     {
         if self.ends_in_blank_line() {
             return Ok(());
@@ -290,8 +331,8 @@ impl PageBuffer {
 
     /// Adds a space, whatever the format.
     fn add_space(&mut self) -> Result<(), AllocError>
-        ensures { MatchResult result (λ _. self.new ≡ record self.old { last = self.old.last ++ (32 ∷ []) })
-            (λ _. self.new ≡ self.old) }
+        ensures ok { OnOk result (self.new ≡ record self.old { last = self.old.last ++ (32 ∷ []) }) }
+        ensures err { OnErr result (self.new ≡ self.old) }
     {
         self.text.push(' ')?;
         Ok(())
@@ -318,7 +359,8 @@ impl PageBuffer {
 
     /// Writes a soft space.
     fn space(&mut self) -> Result<(), AllocError>
-        ensures { MatchResult result (λ _. self.new ≡ spaced self.old) (λ _. self.new ≡ self.old) }
+        ensures ok { OnOk result (self.new ≡ spaced self.old) }
+        ensures err { OnErr result (self.new ≡ self.old) }
     {
         match self.last_byte() {
             LastByte::Absent | LastByte::LineEnd | LastByte::Space => Ok(()),
@@ -328,7 +370,8 @@ impl PageBuffer {
 
     /// Writes a break in one line.
     fn join(&mut self) -> Result<(), AllocError>
-        ensures { MatchResult result (λ _. self.new ≡ joined self.old) (λ _. self.new ≡ self.old) }
+        ensures ok { OnOk result (self.new ≡ joined self.old) }
+        ensures err { OnErr result (self.new ≡ self.old) }
     {
         match self.last_byte() {
             LastByte::Absent | LastByte::Space => Ok(()),
@@ -338,8 +381,8 @@ impl PageBuffer {
 
     /// Raises the level by one.
     fn raise_level(&mut self) -> Result<(), AllocError>
-        ensures { MatchResult result (λ _. self.new ≡ record self.old { level = self.old.level + 1 })
-            (λ _. self.new ≡ self.old) }
+        ensures ok { OnOk result (self.new ≡ record self.old { level = self.old.level + 1 }) }
+        ensures err { OnErr result (self.new ≡ self.old) }
     {
         self.indentation.push_str("    ")?;
         Ok(())
@@ -440,7 +483,7 @@ fn cut_line_ends(text: &mut String)
     }
 }
 
-/// Whether a text is without a line end.
+/// Whether a text of few bytes is without a line end.
 #[inline(always)]
 fn has_no_end(text: &[u8]) -> bool
     ensures { IsTrue result ↔ HasNoEnd text.now }

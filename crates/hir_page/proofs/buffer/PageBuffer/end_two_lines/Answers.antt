@@ -5,8 +5,8 @@ use Rattle.hir_page.specs.Page.{Page}
 use Rattle.hir_page.proofs.BufferLemmas.{page_end, page_spaces, page_trimmed}
 use Rattle.hir_page.proofs.buffer.PageBuffer.end_two_lines.Goals as goal
 
-pub returns : goal.returns
-returns c =
+pub returns-clause-ok : goal.returns-clause-ok
+returns-clause-ok c =
     let old = c.self.inside in
     let cut = take old.kept (string_bytes old.text) in
     let level = level_of (string_bytes old.indentation) in
