@@ -1,6 +1,6 @@
 -- Lists with separators, and places of arguments.
 use Rattle.std.proofs.Common.{◌≡◌, ℕ, zero, suc, ◌+◌, ◌-◌, ◌<◌, ◌≤◌, ◌==◌, Bool, true, false, List, [], ◌∷◌, ◌++◌, length, map, drop, get_or, Option, Some, None, refl, sym, ap, ap₂, subst, ◌∙◌, append_assoc, append-nil, arith, add-one, codes, drop-cons, is_some}
-use Rattle.std.specs.Prelude.{nat_lt}
+use Rattle.std.specs.Prelude.{nat_lt, Ok}
 use Rattle.std.specs.Option.{option_to_list}
 use Rattle.std.specs.List.{enumerate_from, list_any}
 use Rattle.std.proofs.lemmas.Bool.{lt-ltb, true≢false}
@@ -11,16 +11,18 @@ use Rattle.hir_generics.specs.declared.data.LifetimeParamData.{LifetimeParamData
 use Rattle.hir_generics.specs.declared.predicate.WherePredicate.{WherePredicate}
 use Rattle.hir_generics.specs.declared.param.TypeOrConstParamData.{TypeOrConstParamData}
 use Rattle.hir_items.specs.declared.formals.Param.{Param}
+use Rattle.hir_items.specs.declared.signatures.FunctionParts.{FunctionParts}
 use Rattle.hir_items.specs.Bodies.{formals_of}
 use Rattle.hir_printer.specs.Questions.{Setting}
 use Rattle.hir_printer.specs.Items.{Item, text, br, into, out, t, p, opt, when, joined, comma_joined}
 use Rattle.hir_printer.specs.Names.{binding_items}
 use Rattle.hir_printer.specs.Paths.{colons_first}
+use Rattle.hir_printer.specs.Types.{type_param_items}
 use Rattle.hir_printer.specs.Printers.{following}
 use Rattle.hir_printer.proofs.ListLemmas.{drop_item, is_cons, following_append, following_joined}
 use Rattle.hir_pretty.specs.Added.{marked_items}
 use Rattle.hir_pretty.specs.Bodies.{formal_params}
-use Rattle.hir_pretty.specs.Signatures.{argument_items, is_listed, each_lifetime, each_type_or_const, in_angles, each_predicate, where_items}
+use Rattle.hir_pretty.specs.Signatures.{type_name, argument_items, arguments, function_types, is_listed, each_lifetime, each_type_or_const, in_angles, each_predicate, where_items}
 use Rattle.hir_pretty.specs.Variants.{kind_word}
 
 -- 1. Separators
@@ -112,3 +114,24 @@ marked_step sep marks at x xs h e =
 
 pub marked_end : (sep : List Item) (b : Bool) (marks : List Bool) (at : ℕ) (xs : List ℕ) → length xs ≤ at → [] ≡ following sep b (map (marked_items marks) (enumerate_from at (drop at xs)))
 marked_end sep b marks at xs h = sym (ap (λ (r : List ℕ). following sep b (map (marked_items marks) (enumerate_from at r))) (drop_all at xs h))
+
+-- 3. What is read of a signature
+
+pub types_is : (f : FunctionParts) (places : Option (List ℕ)) (params : List ℕ) (ret : Option ℕ) → places ≡ f.legacy_const_indices → params ≡ f.params → ret ≡ f.ret_type
+    → text (codes "(") ++ arguments places params ++ text (codes ")") ++ opt (λ id. text (codes " -> ") ++ t id) ret ≡ function_types f
+types_is f places params ret d e h =
+    ap₂ (λ ps xs. text (codes "(") ++ arguments ps xs ++ text (codes ")") ++ opt (λ id. text (codes " -> ") ++ t id) ret) d e
+    ∙ ap (λ r. text (codes "(") ++ arguments f.legacy_const_indices f.params ++ text (codes ")") ++ opt (λ id. text (codes " -> ") ++ t id) r) h
+
+pub no_result : (f : FunctionParts) (places : Option (List ℕ)) (params : List ℕ) → places ≡ f.legacy_const_indices → params ≡ f.params → None ≡ f.ret_type
+    → text (codes "(") ++ arguments places params ++ text (codes ")") ≡ function_types f
+no_result f places params d e h = sym (append-nil (text (codes "(") ++ arguments places params ++ text (codes ")"))) ∙ types_is f places params None d e h
+
+pub a_result : (f : FunctionParts) (places : Option (List ℕ)) (params : List ℕ) (ret : ℕ) → places ≡ f.legacy_const_indices → params ≡ f.params → Some ret ≡ f.ret_type
+    → text (codes "(") ++ arguments places params ++ text (codes ")") ++ text (codes " -> ") ++ t ret ≡ function_types f
+a_result f places params ret d e h =
+    append_assoc (text (codes "(") ++ arguments places params ++ text (codes ")")) (text (codes " -> ")) (t ret) ∙ types_is f places params (Some ret) d e h
+
+pub type_names : (s : Setting) (at : ℕ) (name : Option (List ℕ)) → type_param_items s at (Ok name) ≡ type_name s at name
+type_names s at None = refl
+type_names s at (Some name) = refl
