@@ -1,5 +1,5 @@
 -- Fields of patterns, and parameters of closures, one after another.
-use Rattle.std.proofs.Common.{◌≡◌, ℕ, ◌<◌, ◌≤◌, Bool, true, false, List, [], ◌∷◌, ◌++◌, codes, length, Option, refl, sym, ap, ◌∙◌, arith, append_assoc, append-nil}
+use Rattle.std.proofs.Common.{◌≡◌, ℕ, ◌+◌, ◌<◌, ◌≤◌, Bool, true, false, List, [], ◌∷◌, ◌++◌, codes, length, drop, get_or, Option, refl, sym, ap, ap₂, ◌∙◌, arith, append_assoc, append-nil}
 use Rattle.std.specs.Prelude.{◌||◌, ◌==◌, not, slice_get}
 use Rattle.hir_path.specs.declared.path.Path.{Path}
 use Rattle.hir_node.specs.declared.pat.Pat.TheVariants as pat
@@ -12,7 +12,8 @@ use Rattle.hir_printer.specs.Paths.{path_items}
 use Rattle.hir_printer.specs.Exprs.{params}
 use Rattle.hir_printer.specs.Printing.{Printing}
 use Rattle.hir_printer.specs.Printers.{AddsItems, following}
-use Rattle.hir_printer.proofs.ListLemmas.{is_cons}
+use Rattle.std.proofs.lemmas.List.{drop_all}
+use Rattle.hir_printer.proofs.ListLemmas.{drop_item, is_cons}
 use Rattle.hir_printer.proofs.OrderLemmas.{not_empty}
 
 -- what is printed from stays
@@ -55,15 +56,15 @@ pub record_plain : (s : Setting) (path : Path) (fs : List RecordFieldPat)
     → path_items s path ++ text (codes " {") ++ into ++ field_patterns s false fs ++ out ++ text (codes "}") ≡ pat_items s (pat.Record false path fs)
 record_plain s path fs = ap (λ is. is ++ out ++ text (codes "}")) (sym (append-nil (path_items s path ++ text (codes " {") ++ into ++ field_patterns s false fs)))
 
-pub param_step : (after : Bool) (arg : ℕ) (type : Option ℕ) (args : List ℕ) (types : List (Option ℕ))
-    → (when after (text (codes ", ")) ++ p arg ++ opt (λ id. text (codes ": ") ++ t id) type) ++ following (text (codes ", ")) true (params args types)
-    ≡ following (text (codes ", ")) after (params (arg ∷ args) (type ∷ types))
-param_step after arg type args types =
-    ap (λ is. is ++ following (text (codes ", ")) true (params args types)) (append_assoc (when after (text (codes ", "))) (p arg) (opt (λ id. text (codes ": ") ++ t id) type))
+pub param_step : (after : Bool) (args : List ℕ) (i : ℕ) (arg : ℕ) (types others : List (Option ℕ)) (type : Option ℕ) → i < length args → arg ≡ get_or args i arg → types ≡ type ∷ others
+    → when after (text (codes ", ")) ++ p arg ++ opt (λ id. text (codes ": ") ++ t id) type ++ following (text (codes ", ")) true (params (drop (i + 1) args) others)
+    ≡ following (text (codes ", ")) after (params (drop i args) types)
+param_step after args i arg types others type h e k =
+    ap (λ is. is ++ following (text (codes ", ")) true (params (drop (i + 1) args) others)) (append_assoc (when after (text (codes ", "))) (p arg) (opt (λ id. text (codes ": ") ++ t id) type))
+    ∙ sym (ap₂ (λ xs ys. following (text (codes ", ")) after (params xs ys)) (drop_item args i arg h e) k)
 
-pub no_args : (after : Bool) (args : List ℕ) (types : List (Option ℕ)) → length args < 1 → [] ≡ following (text (codes ", ")) after (params args types)
-no_args after [] types h = refl
-no_args after (a ∷ args) types h = absurd (omega arith)
+pub no_args : (after : Bool) (args : List ℕ) (i : ℕ) (types : List (Option ℕ)) → length args ≤ i → [] ≡ following (text (codes ", ")) after (params (drop i args) types)
+no_args after args i types h = sym (ap (λ xs. following (text (codes ", ")) after (params xs types)) (drop_all i args h))
 
 pub no_types : (after : Bool) (args : List ℕ) (types : List (Option ℕ)) → length types < 1 → [] ≡ following (text (codes ", ")) after (params args types)
 no_types after [] types h = refl

@@ -97,13 +97,16 @@ impl<'a> Printer<'a> {
     ) -> Result<(), AllocError>
         ensures { OnOk result (Adds self.old (λ s. comma_joined (params args.now types.now)) self.new) }
     {
-        let mut left = (args, types);
+        let mut types = types;
         let mut after = false;
-        while let ([arg, args @ ..], [type_ref, types @ ..]) = left {
+        for arg in args {
+            let [type_ref, others @ ..] = types else {
+                return Ok(());
+            };
             self.add_if(after, ", ")?;
             self.add(&[Work::Pattern(*arg)])?;
             self.add_after(": ", type_ref)?;
-            left = (args, types);
+            types = others;
             after = true;
         }
         Ok(())

@@ -94,11 +94,12 @@ impl<'a> Printer<'a> {
         for name in names {
             self.add_if(after, "::")?;
             self.add(&[Work::Name(name.as_str())])?;
-            if let [args, rest @ ..] = lists {
-                self.add_turbofish(args)?;
-                lists = rest;
-            }
             after = true;
+            let [args, others @ ..] = lists else {
+                continue;
+            };
+            self.add_turbofish(args)?;
+            lists = others;
         }
         Ok(())
     }

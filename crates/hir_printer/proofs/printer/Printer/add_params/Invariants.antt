@@ -1,4 +1,4 @@
-use Rattle.std.proofs.Common.{length, codes, false}
+use Rattle.std.proofs.Common.{codes, drop}
 use Rattle.hir_printer.specs.Items.{text, comma_joined}
 use Rattle.hir_printer.specs.Exprs.{params}
 use Rattle.hir_printer.specs.Printing.{seen}
@@ -8,7 +8,5 @@ use Rattle.hir_printer.proofs.printer.Printer.add_params.Given as goal
 
 abbrev pub invariant-loop-arg : goal.invariant-loop-arg
 invariant-loop-arg l =
-    Left (seen l.fn.self) (λ s. comma_joined (params l.fn.args l.fn.types)) (seen l.self) (λ s. following (text (codes ", ")) l.after (params l.left.0.now l.left.1.now))
-
-abbrev pub decreases-loop-arg : goal.decreases-loop-arg
-decreases-loop-arg l = length l.left.0.now
+    Left (seen l.fn.self) (λ s. comma_joined (params l.args l.fn.types)) (seen l.self)
+    (λ s. following (text (codes ", ")) l.after (params (drop l.arg-index l.args) l.types))
