@@ -1,7 +1,7 @@
 -- How the buffer holds a page.
 use Rattle.std.specs.Prelude.{◌≡◌, ◌≢◌, ℕ, ◌*◌, ◌-◌, ◌/◌, ◌<◌, ◌≤◌, List, [], ◌∷◌, ◌++◌, length, drop, replicate, ◌==◌, if◌then◌else◌, slice_index, string_bytes}
 use Rattle.hir_page.specs.declared.buffer.PageBuffer.TheInside.{Inside}
-use Rattle.hir_page.specs.Page.{Page, Lines, cut_lines}
+use Rattle.hir_page.specs.Page.{Page, Lines, cut_lines, page_text}
 
 -- a character more
 abbrev pub one_more : ℕ → Lines → Lines
@@ -44,3 +44,9 @@ pub record IsPageBuffer (b : Inside) : Type 0 where
 -- without the line ends at its end
 abbrev pub IsCutText : List ℕ → List ℕ → Type 0
 IsCutText old new = let l = lines_of old in lines_of new ≡ cut_lines l.0 l.1
+
+-- a page to which only text was added, in whatever format
+pub record IsGrown (old new : Page) : Type 0 where
+  pub added : List ℕ
+  pub text : page_text new ≡ page_text old ++ added
+  pub level : new.level ≡ old.level

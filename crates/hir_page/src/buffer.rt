@@ -1,6 +1,6 @@
 //! The one buffer of a printing: a text that is written at its end alone, and looks back over its last characters.
-ghost use Rattle.std.specs.Prelude.{◌≡◌, ◌≢◌, ◌<◌, ◌∷◌, [], ◌++◌, ◌+◌, ◌-◌, ◌*◌, OnOk, IsTrue, ◌↔◌, string_bytes};
-ghost use Rattle.hir_page.specs.Buffer.{HasNoEnd, IsTrimmedLen, IsCutText, EndsInLineEnd};
+ghost use Rattle.std.specs.Prelude.{◌≡◌, ◌≢◌, ◌<◌, ◌∷◌, [], ◌++◌, ◌+◌, ◌-◌, ◌*◌, replicate, OnOk, OnErr, IsTrue, ◌↔◌, string_bytes};
+ghost use Rattle.hir_page.specs.Buffer.{HasNoEnd, IsTrimmedLen, IsCutText, EndsInLineEnd, IsGrown};
 ghost use Rattle.hir_page.specs.LastByte.{IsLastByte};
 ghost use Rattle.hir_page.specs.Page.{begun, parted, indented, put, put_all, trimmed, spaced, line_ended, joined, without_empty_lines, is_blank, empty_page, page_text, format_in_line, format_after_end};
 
@@ -11,8 +11,8 @@ use std::marker::Model;
 /// A page of text, written piece by piece. Contracts see it as its lines, its level and its format.
 ///
 /// No step goes over the text again: the length without trailing spaces is kept, and the indentation is a text of spaces that
-/// grows and shrinks with the level. A step fails only if memory for the text or the indentation was refused; then the page holds a part
-/// of what it was to write.
+/// grows and shrinks with the level. A step fails only if memory for the text or the indentation was refused, and then it
+/// leaves the page as it was.
 #[derive(Drop)]
 pub struct PageBuffer {
     text: String,
@@ -69,10 +69,11 @@ impl PageBuffer {
 
     /// Adds a line end, whatever the format.
     fn end_line(&mut self) -> Result<(), AllocError>
-        ensures { OnOk result (self.new ≡ record self.old {
+        ensures ok { OnOk result (self.new ≡ record self.old {
           above = self.old.last ∷ self.old.above;
           last = [];
         }) }
+        ensures err { OnErr result (self.new ≡ self.old) }
     {
         self.text.push('\n')?;
         self.kept = self.text.len();
@@ -83,7 +84,8 @@ impl PageBuffer {
     #[inline(always)]
     fn add(&mut self, part: &str) -> Result<(), AllocError>
         requires { HasNoEnd part.now }
-        ensures { OnOk result (self.new ≡ record self.old { last = self.old.last ++ part.now }) }
+        ensures ok { OnOk result (self.new ≡ record self.old { last = self.old.last ++ part.now }) }
+        ensures err { OnErr result (self.new ≡ self.old) }
     {
         let before = self.text.len();
         self.text.push_str(part)?;
@@ -94,9 +96,24 @@ impl PageBuffer {
         Ok(())
     }
 
+    /// Adds a character to the last line, whatever the format.
+    #[inline(always)]
+    fn add_byte(&mut self, byte: u8) -> Result<(), AllocError>
+        requires { (byte < 128) × (byte ≢ 10) }
+        ensures ok { OnOk result (self.new ≡ record self.old { last = self.old.last ++ (byte ∷ []) }) }
+        ensures err { OnErr result (self.new ≡ self.old) }
+    {
+        self.text.push(char::from(byte))?;
+        if byte != b' ' {
+            self.kept = self.text.len();
+        }
+        Ok(())
+    }
+
     /// Adds four spaces for each level.
     fn indent_line(&mut self) -> Result<(), AllocError>
-        ensures { OnOk result (self.new ≡ indented self.old) }
+        ensures ok { OnOk result (self.new ≡ indented self.old) }
+        ensures err { OnErr result (self.new ≡ self.old) }
     {
         self.text.push_str(self.indentation.as_str())?;
         Ok(())
@@ -104,7 +121,8 @@ impl PageBuffer {
 
     /// Begins a line, unless the last is blank.
     fn part_line(&mut self) -> Result<(), AllocError>
-        ensures { OnOk result (self.new ≡ parted self.old) }
+        ensures ok { OnOk result (self.new ≡ parted self.old) }
+        ensures err { OnErr result (self.new ≡ self.old) }
     {
         if !self.ends_in_blank_line() {
             self.end_line()?;
@@ -115,7 +133,8 @@ impl PageBuffer {
     /// Begins a line, unless the last is blank, and indents it.
     #[inline(never)]
     fn begin_line(&mut self) -> Result<(), AllocError>
-        ensures { OnOk result (self.new ≡ indented (parted self.old)) }
+        ensures ok { OnOk result (self.new ≡ indented (parted self.old)) }
+        ensures err { OnErr result (IsGrown self.old self.new) }
     {
         self.part_line()?;
         self.indent_line()
@@ -124,7 +143,8 @@ impl PageBuffer {
     /// Begins a line, and indents it, if the next text has to begin one.
     #[inline(always)]
     fn begin(&mut self) -> Result<(), AllocError>
-        ensures { OnOk result (self.new ≡ begun self.old) }
+        ensures ok { OnOk result (self.new ≡ begun self.old) }
+        ensures err { OnErr result (IsGrown self.old self.new) }
     {
         match self.format {
             LineFormat::Oneline => Ok(()),
@@ -137,7 +157,8 @@ impl PageBuffer {
     #[inline(always)]
     fn line(&mut self, line: &str) -> Result<(), AllocError>
         requires { HasNoEnd line.now }
-        ensures { OnOk result (self.new ≡ put_all line.now self.old) }
+        ensures ok { OnOk result (self.new ≡ put_all line.now self.old) }
+        ensures err { OnErr result (IsGrown self.old self.new) }
     {
         if !line.is_empty() {
             self.begin()?;
@@ -147,20 +168,96 @@ impl PageBuffer {
         Ok(())
     }
 
+    /// Whether so many bytes go into the line that was begun, and the text has room for them.
+    #[inline(always)]
+    fn has_room(&self, bytes: usize) -> bool
+        ensures { IsTrue result → self.now.format ≡ format_in_line self.now.format }
+    {
+        let in_line = match self.format {
+            LineFormat::Oneline => true,
+            LineFormat::Newline => true,
+            LineFormat::Indentation => false,
+        };
+        in_line && bytes <= self.text.capacity() - self.text.len()
+    }
+
+    /// Writes text of one character, as most texts are. Where there is room for it, it calls nothing.
+    #[inline(never)]
+    fn character(&mut self, text: &str, byte: u8) -> Result<(), AllocError>
+        requires { text.now ≡ byte ∷ [] }
+        ensures ok { OnOk result (self.new ≡ put_all text.now self.old) }
+        ensures err { OnErr result (self.new ≡ self.old) }
+    {
+        if self.has_room(1) && is_plain(byte) {
+            return self.add_byte(byte);
+        }
+        self.all_or_none(text)
+    }
+
+    /// Writes text of several characters. Most has two, three or four bytes: in an arm of its own their number is known to the
+    /// compiler, which copies them without a call.
+    #[inline(never)]
+    fn several(&mut self, text: &str) -> Result<(), AllocError>
+        ensures ok { OnOk result (self.new ≡ put_all text.now self.old) }
+        ensures err { OnErr result (self.new ≡ self.old) }
+    {
+        match text.len() {
+            2 => self.few(text),
+            3 => self.few(text),
+            4 => self.few(text),
+            _ => self.all_or_none(text),
+        }
+    }
+
+    /// Writes text of few characters. Where there is room for it, it calls nothing.
+    #[inline(always)]
+    fn few(&mut self, text: &str) -> Result<(), AllocError>
+        ensures ok { OnOk result (self.new ≡ put_all text.now self.old) }
+        ensures err { OnErr result (self.new ≡ self.old) }
+    {
+        if self.has_room(text.len()) && has_no_end(text.as_bytes()) {
+            return self.add(text);
+        }
+        self.all_or_none(text)
+    }
+
+    /// Writes text: all of it, or nothing where memory is refused.
+    #[cold]
+    #[inline(never)]
+    fn all_or_none(&mut self, text: &str) -> Result<(), AllocError>
+        ensures ok { OnOk result (self.new ≡ put_all text.now self.old) }
+        ensures err { OnErr result (self.new ≡ self.old) }
+    {
+        let len = self.text.len();
+        let kept = self.kept;
+        let format = self.format;
+        let written = self.many(text);
+        if written.is_err() {
+            self.text.truncate(len);
+            self.kept = kept;
+            self.format = format;
+        }
+        written
+    }
+
     /// Writes text, which seldom has a line end.
     #[inline(always)]
-    fn write(&mut self, text: &str) -> Result<(), AllocError>
-        ensures { OnOk result (self.new ≡ put_all text.now self.old) }
+    fn many(&mut self, text: &str) -> Result<(), AllocError>
+        ensures ok { OnOk result (self.new ≡ put_all text.now self.old) }
+        ensures err { OnErr result (IsGrown self.old self.new) }
     {
-        if has_no_end(text.as_bytes()) {
-            return self.line(text);
+        if text.as_bytes().contains(&b'\n') {
+            return self.lines(text);
         }
-        self.lines(text)
+        self.line(text)
     }
 
     /// Writes text line by line.
+    #[cold]
+    #[inline(never)]
     fn lines(&mut self, text: &str) -> Result<(), AllocError>
-        ensures { OnOk result (self.new ≡ put_all text.now self.old) }
+        ensures ok { OnOk result (self.new ≡ put_all text.now self.old) }
+        ensures err { OnErr result (IsGrown self.old self.new) }
     {
         let mut rest = text;
         while let Some((line, after)) = rest.split_once('\n') {
@@ -173,7 +270,8 @@ impl PageBuffer {
 
     /// Writes a line end.
     fn line_end(&mut self) -> Result<(), AllocError>
-        ensures { OnOk result (self.new ≡ put 10 self.old) }
+        ensures ok { OnOk result (self.new ≡ put 10 self.old) }
+        ensures err { OnErr result (IsGrown self.old self.new) }
     {
         self.begin()?;
         self.end_line()?;
@@ -181,27 +279,60 @@ impl PageBuffer {
         Ok(())
     }
 
-    /// Removes the trailing spaces of the last line.
-    fn trim(&mut self)
-        ensures { self.new ≡ record self.old { last = trimmed self.old.last } }
+    /// Ends the last line without its trailing spaces. It is refused only where there were none: their room is enough for a line end.
+    fn end_trimmed(&mut self) -> Result<(), AllocError>
+        ensures ok { OnOk result (self.new ≡ record self.old {
+          above = trimmed self.old.last ∷ self.old.above;
+          last = [];
+          format = format_after_end self.old.format;
+        }) }
+        ensures err { OnErr result (self.new ≡ self.old) }
     {
+        let after = self.format.after_end();
         self.text.truncate(self.kept);
+        self.text.push('\n')?;
+        self.kept = self.text.len();
+        self.format = after;
+        Ok(())
+    }
+
+    /// Ends the last line without its trailing spaces, and a line of indentation. Room for all is asked for first, since spaces
+    /// that were removed could not be written again.
+    fn end_two_lines(&mut self) -> Result<(), AllocError>
+        ensures ok { OnOk result (self.new ≡ record self.old {
+          above = replicate (4 * self.old.level) 32 ∷ trimmed self.old.last ∷ self.old.above;
+          last = [];
+        }) }
+        ensures err { OnErr result (self.new ≡ self.old) }
+    {
+        let indentation = self.indentation.as_str();
+        self.text.reserve(indentation.len() + 2)?;
+        self.text.truncate(self.kept);
+        self.text.push('\n')?;
+        self.text.push_str(indentation)?;
+        self.text.push('\n')?;
+        self.kept = self.text.len();
+        Ok(())
     }
 
     /// Writes a break in lines.
     fn break_line(&mut self) -> Result<(), AllocError>
-        ensures { OnOk result (self.new ≡ line_ended self.old) }
+        ensures ok { OnOk result (self.new ≡ line_ended self.old) }
+        ensures err { OnErr result (self.new ≡ self.old) }
     {
         if self.ends_in_blank_line() {
             return Ok(());
         }
-        self.trim();
-        self.line_end()
+        match self.format {
+            LineFormat::Oneline | LineFormat::Newline => self.end_trimmed(),
+            LineFormat::Indentation => self.end_two_lines(),
+        }
     }
 
     /// Adds a space, whatever the format.
     fn add_space(&mut self) -> Result<(), AllocError>
-        ensures { OnOk result (self.new ≡ record self.old { last = self.old.last ++ (32 ∷ []) }) }
+        ensures ok { OnOk result (self.new ≡ record self.old { last = self.old.last ++ (32 ∷ []) }) }
+        ensures err { OnErr result (self.new ≡ self.old) }
     {
         self.text.push(' ')?;
         Ok(())
@@ -228,7 +359,8 @@ impl PageBuffer {
 
     /// Writes a soft space.
     fn space(&mut self) -> Result<(), AllocError>
-        ensures { OnOk result (self.new ≡ spaced self.old) }
+        ensures ok { OnOk result (self.new ≡ spaced self.old) }
+        ensures err { OnErr result (self.new ≡ self.old) }
     {
         match self.last_byte() {
             LastByte::Absent | LastByte::LineEnd | LastByte::Space => Ok(()),
@@ -238,7 +370,8 @@ impl PageBuffer {
 
     /// Writes a break in one line.
     fn join(&mut self) -> Result<(), AllocError>
-        ensures { OnOk result (self.new ≡ joined self.old) }
+        ensures ok { OnOk result (self.new ≡ joined self.old) }
+        ensures err { OnErr result (self.new ≡ self.old) }
     {
         match self.last_byte() {
             LastByte::Absent | LastByte::Space => Ok(()),
@@ -248,7 +381,8 @@ impl PageBuffer {
 
     /// Raises the level by one.
     fn raise_level(&mut self) -> Result<(), AllocError>
-        ensures { OnOk result (self.new ≡ record self.old { level = self.old.level + 1 }) }
+        ensures ok { OnOk result (self.new ≡ record self.old { level = self.old.level + 1 }) }
+        ensures err { OnErr result (self.new ≡ self.old) }
     {
         self.indentation.push_str("    ")?;
         Ok(())
@@ -281,15 +415,14 @@ impl PieceWriter for PageBuffer {
 
     ghost step = { λ page piece after. after ≡ rendered piece page };
 
-    // Most text has up to four bytes: where their number is known it is copied without a call. That brings a tenth of a printing's time.
-    #[inline(never)]
+    ghost refuses = { λ page piece after. after ≡ page };
+
+    #[inline(always)]
     fn text(&mut self, text: &str) -> Result<(), AllocError> {
-        match text.len() {
-            1 => self.write(text),
-            2 => self.write(text),
-            3 => self.write(text),
-            4 => self.write(text),
-            _ => self.write(text),
+        match text.as_bytes() {
+            [] => Ok(()),
+            [byte] => self.character(text, *byte),
+            [_, _, ..] => self.several(text),
         }
     }
 
@@ -307,7 +440,11 @@ impl PieceWriter for PageBuffer {
 
     fn indent(&mut self) -> Result<(), AllocError> {
         self.raise_level()?;
-        self.line_break()
+        let broken = self.line_break();
+        if broken.is_err() {
+            self.lower_level();
+        }
+        broken
     }
 
     fn outdent(&mut self) -> Result<(), AllocError> {
@@ -346,7 +483,7 @@ fn cut_line_ends(text: &mut String)
     }
 }
 
-/// Whether a text is without a line end.
+/// Whether a text of few bytes is without a line end.
 #[inline(always)]
 fn has_no_end(text: &[u8]) -> bool
     ensures { IsTrue result ↔ HasNoEnd text.now }
@@ -366,4 +503,12 @@ fn ends_in_line_end(text: &[u8]) -> bool
 {
     let len = text.len();
     len > 0 && text[len - 1] == b'\n'
+}
+
+/// Whether a byte is a character above the line end in ASCII, as nearly all are. One comparison tells it.
+#[inline(always)]
+fn is_plain(byte: u8) -> bool
+    ensures { IsTrue result → (byte < 128) × (byte ≢ 10) }
+{
+    b'\n' < byte && byte < 128
 }

@@ -25,12 +25,12 @@ invariant_of-self-else-of_part-gt0 c =
       spaces = c.self.invariant.spaces;
     }
 
-pub returns-then-of_part-gt0 : goal.returns-then-of_part-gt0
-returns-then-of_part-gt0 c =
+pub returns-then-of_part-gt0-clause-ok : goal.returns-then-of_part-gt0-clause-ok
+returns-then-of_part-gt0-clause-ok c =
     let old = c.self.inside in
     rw (← c.self.view_is, c.in_ok-push_str.ensures.bytes) (page_plain (string_bytes old.text) c.args.part.now (level_of (string_bytes old.indentation)) old.format c.requires)
 
-pub returns-else-of_part-gt0 : goal.returns-else-of_part-gt0
-returns-else-of_part-gt0 c =
+pub returns-else-of_part-gt0-clause-ok : goal.returns-else-of_part-gt0-clause-ok
+returns-else-of_part-gt0-clause-ok c =
     let old = c.self.inside in
     rw (← c.self.view_is, c.in_ok-push_str.ensures.bytes) (page_plain (string_bytes old.text) c.args.part.now (level_of (string_bytes old.indentation)) old.format c.requires)

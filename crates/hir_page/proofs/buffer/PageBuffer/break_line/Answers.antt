@@ -1,11 +1,13 @@
-use Rattle.std.proofs.Common.{◌≡◌, false, cond, sym, ap, ◌∙◌}
+use Rattle.std.proofs.Common.{◌≡◌, false, sym, ap, ◌∙◌}
 use Rattle.std.proofs.lemmas.Result.{IfOk-equal}
-use Rattle.hir_page.specs.Page.{is_blank, trimmed, put}
+use Rattle.hir_page.specs.declared.line_format.LineFormat.TheVariants.{Indentation}
+use Rattle.hir_page.specs.Page.{Page, is_blank}
+use Rattle.hir_page.proofs.BreakLemmas.{two_lines_ended}
 use Rattle.hir_page.proofs.buffer.PageBuffer.break_line.Goals as goal
 
-pub returns : goal.returns
-returns c =
+pub returns-in-Indentation-clause-ok : goal.returns-in-Indentation-clause-ok
+returns-in-Indentation-clause-ok c =
     let p = c.args.self.now in
     let some : is_blank p.last ≡ false = sym c.ends_in_blank_line.ensures ∙ c.if-ends_in_blank_line.false in
-    IfOk-equal c.line_end.result c.line_end.new.self _ _ c.line_end.ensures
-    (ap (put 10) c.trim.ensures ∙ sym (ap (λ b. cond b p (put 10 (record p { last = trimmed p.last }))) some))
+    let format : p.format ≡ Indentation = ap (λ (q : Page). q.format) (sym c.self.view_is) ∙ c.in-Indentation.is in
+    IfOk-equal c.end_two_lines.result c.end_two_lines.new.self _ _ c.end_two_lines.ensures.ok (sym (two_lines_ended p format some))

@@ -4,8 +4,8 @@ use Rattle.hir_page.specs.Buffer.{level_of}
 use Rattle.hir_page.proofs.BufferLemmas.{page_end}
 use Rattle.hir_page.proofs.buffer.PageBuffer.end_line.Goals as goal
 
-pub returns : goal.returns
-returns c =
+pub returns-clause-ok : goal.returns-clause-ok
+returns-clause-ok c =
     let old = c.self.inside in
     let bs = string_bytes old.text in
     let bytes : string_bytes c.push.new.self ≡ bs ++ (10 ∷ []) = c.in_ok-push.ensures.bytes ∙ ap (λ e. bs ++ e) (c.in_ok-push.ensures.ascii (omega arith)) in

@@ -13,8 +13,8 @@ invariant_of-self-2 c =
     c.in_ok-push_str.ensures.bytes ∙ ap (λ e. string_bytes old.text ++ e) (c.as_str.ensures.value ∙ c.self.invariant.spaces) in
     record { kept = rw bytes (kept_spaces (string_bytes old.text) old.kept (4 * level) c.self.invariant.kept); spaces = c.self.invariant.spaces }
 
-pub returns : goal.returns
-returns c =
+pub returns-clause-ok : goal.returns-clause-ok
+returns-clause-ok c =
     let old = c.self.inside in
     let level = level_of (string_bytes old.indentation) in
     let bytes : string_bytes c.push_str.new.self ≡ string_bytes old.text ++ replicate (4 * level) 32 =

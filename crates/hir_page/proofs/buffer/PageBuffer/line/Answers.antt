@@ -3,15 +3,19 @@ use Rattle.std.proofs.lemmas.Bool.Decides.{nat_tests}
 use Rattle.hir_page.specs.declared.line_format.LineFormat.{LineFormat}
 use Rattle.hir_page.specs.Page.{Page, begun, format_in_line}
 use Rattle.hir_page.proofs.PageLemmas.{put_line, begun_format}
+use Rattle.hir_page.proofs.GrownLemmas.{grown_begun, grown_same, on_err}
 use Rattle.hir_page.proofs.buffer.PageBuffer.line.Goals as goal
 
-pub returns-in_ok-add : goal.returns-in_ok-add
-returns-in_ok-add c =
+pub returns-in_ok-add-clause-ok : goal.returns-in_ok-add-clause-ok
+returns-in_ok-add-clause-ok c =
     let p = c.args.self.now in
     let line = c.args.line.now in
     let some : 0 < length line = grind (arith, nat_tests) in
     let with_line : Page → Page = λ q. record q { last = q.last ++ line } in
     let set : LineFormat → Page → Page = λ f q. record q { format = f } in
-    let added = c.self.view_is ∙ c.in_ok-add.ensures ∙ ap with_line c.in_ok-begin.ensures in
+    let added = c.self.view_is ∙ c.in_ok-add.ensures.ok ∙ ap with_line c.in_ok-begin.ensures.ok in
     let format = c.in_line-self-inside.ensures ∙ ap format_in_line (ap (λ (q : Page). q.format) added ∙ begun_format p) in
     ap (set c.in_line-self-inside.result) added ∙ ap (λ f. set f (with_line (begun p))) format ∙ sym (put_line p line some c.requires)
+
+pub returns-in_err-add-clause-err : goal.returns-in_err-add-clause-err
+returns-in_err-add-clause-err c = on_err _ (grown_same (grown_same (grown_begun c.args.self.now) c.in_ok-begin.ensures.ok) c.in_err-add.ensures.err)
