@@ -1,4 +1,4 @@
-//! The bodies that the examples and tests work on.
+//! The bodies that the examples work on.
 
 use hir_error::HirError;
 use hir_items::Body;
@@ -43,18 +43,4 @@ pub fn closures(alloc: Global) -> Result<Body, HirError> {
     let statements = vec![in alloc; let_(g, first)]?;
     let value = block(&mut builder, statements, second)?;
     body(alloc, builder, &[a, b], value)
-}
-
-/// The body of `fn f(a) |x| |x| .. a`, of this many closures. `a` is expression 0, the innermost closure is 1, and so on outward.
-///
-/// The binding of the parameter is 0, and those of the closures are numbered as these are.
-pub fn nested_closures(alloc: Global, depth: u32) -> Result<Body, HirError> {
-    let mut builder = ExpressionStoreBuilder::new(alloc);
-    let a = bind(alloc, &mut builder, "a")?;
-    let mut value = local(alloc, &mut builder, "a")?;
-    for _ in 0..depth {
-        let x = bind(alloc, &mut builder, "x")?;
-        value = closure(alloc, &mut builder, &[x], value)?;
-    }
-    body(alloc, builder, &[a], value)
 }

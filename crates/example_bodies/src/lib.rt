@@ -1,6 +1,6 @@
-//! The bodies that the examples and tests work on.
+//! The bodies that the examples work on.
 #![tactic(auto)]
 
 mod bodies;
 
-pub use bodies::{closures, names, nested_closures};
+pub use bodies::{closures, names};

@@ -1,9 +1,8 @@
 -- A name that is found is captured where the scope that brings it in is among the outermost.
-use Rattle.std.proofs.Common.{◌≡◌, ℕ, suc, ◌+◌, ◌<◌, ◌≤◌, ◌-◌, List, [], ◌∷◌, ◌++◌, Option, Some, None, take, drop, length, length-append, refl, ap, sym, ◌∙◌, subst, arith}
-use Rattle.std.specs.Prelude.{option_map}
+use Rattle.std.proofs.Common.{◌≡◌, ℕ, suc, ◌+◌, ◌<◌, ◌≤◌, ◌-◌, List, [], ◌∷◌, ◌++◌, Option, Some, None, take, drop, length, length-append, refl, ap, sym, ◌∙◌, arith}
 use Rattle.std.specs.List.{slice_get, flat_map, AllByRecursion}
 use Rattle.std.proofs.Math.Seq.{take-append-add}
-use Rattle.std.proofs.lemmas.List.{append-nil, take-append-drop, take-append-le}
+use Rattle.std.proofs.lemmas.List.{take-append-drop, take-append-le}
 use Rattle.std.proofs.lemmas.List.Concat.{flat_map-append}
 use Rattle.hir_base.specs.declared.hygiene.SyntaxContext.{SyntaxContext}
 use Rattle.hir_faults.specs.Tested.{all_of}
@@ -12,9 +11,10 @@ use Rattle.hir_scope.specs.Frames.{Frame, Chain}
 use Rattle.hir_scope.specs.Scopes.{Scope, ParentsStandEarlier, frame_of}
 use Rattle.hir_scope.specs.Paths.{path, frame_at, chain}
 use Rattle.hir_scope.specs.Resolution.{resolve, IsFound}
-use Rattle.hir_scope.proofs.PathLemmas.{path_step, read}
+use Rattle.hir_scope.proofs.MemberLemmas.{read}
+use Rattle.hir_scope.proofs.PathLemmas.{path_step}
 use Rattle.hir_scope.proofs.ResolveLemmas.{or_else, resolve_append, found_resolves}
-use Rattle.hir_captures.specs.Captures.{unless_within, meant_behind}
+use Rattle.hir_captures.specs.Captures.{unless_within, meaning_behind}
 
 -- 1. Scopes of a chain
 
@@ -44,7 +44,7 @@ module _ (n : List ℕ) (h : SyntaxContext) where
     at (Some x) q = absurd cc
 
   -- what means nothing captures nothing
-  pub none_captured : (m : ℕ) (xs : Chain) → resolve xs n h ≡ None → meant_behind m xs n h ≡ None
+  pub none_captured : (m : ℕ) (xs : Chain) → resolve xs n h ≡ None → meaning_behind m xs n h ≡ None
   none_captured m xs e = λ i. unless_within (none_in_front m xs e i) (e i)
 
   -- an entry of the first frame is in front
@@ -73,7 +73,7 @@ module _ (scopes : List Scope) (earlier : ParentsStandEarlier scopes) (from : �
   means = found_resolves scopes earlier from n h s entry f
 
   -- among the outermost scopes
-  pub found_behind : length outer ≤ outermost → meant_behind (length whole - outermost) whole n h ≡ Some entry.binding
+  pub found_behind : length outer ≤ outermost → meaning_behind (length whole - outermost) whole n h ≡ Some entry.binding
   found_behind l =
       let m = length whole - outermost in
       let few : m ≤ length inner = omega (arith, long, l) in
@@ -82,7 +82,7 @@ module _ (scopes : List Scope) (earlier : ParentsStandEarlier scopes) (from : �
       λ i. unless_within (front i) (means i)
 
   -- further in
-  pub found_within : outermost < length outer → meant_behind (length whole - outermost) whole n h ≡ None
+  pub found_within : outermost < length outer → meaning_behind (length whole - outermost) whole n h ≡ None
   found_within l =
       let k = length outer - outermost - 1 in
       let x = read scopes s f.there in

@@ -1,52 +1,46 @@
--- The code under a node is the node, and then the code of its kids in the order of its slots: that of the tasks that reading it puts.
-use Rattle.std.proofs.Common.{◌≡◌, ◌<◌, ℕ, List, [], ◌∷◌, ◌++◌, Option, Some, None, map, refl, sym, ap, ◌∙◌, append_assoc, Contains, arith, subst, zero, suc}
-use Rattle.std.specs.List.{flat_map}
-use Rattle.std.specs.List.Sorted.{IsPermutation}
+-- The code of a closure, and the chains of what is in it.
+use Rattle.std.proofs.Common.{◌≡◌, ◌<◌, ℕ, List, [], ◌∷◌, ◌++◌, Option, Some, None, map, refl, sym, ap, ◌∙◌, append_assoc, Contains, arith, subst, zero, suc, length, ◌-◌}
+use Rattle.std.specs.List.{flat_map, slice_get, cons_option, AllByRecursion}
 use Rattle.std.proofs.Math.Path.{fun_ext}
-use Rattle.std.proofs.lemmas.List.{append-nil}
-use Rattle.std.proofs.lemmas.List.Concat.{flat_map-append}
 use Rattle.std.proofs.lemmas.List.Sorted.{IsPermutation-sym, Contains-permutation}
-use Rattle.hir_node.specs.ChildCalls.{Call, OnExpr, OnAnonConst, OnPat, OnType, OnLifetime, e, p, t, opt}
-use Rattle.hir_node.specs.declared.expr_types.MatchArm.{MatchArm}
-use Rattle.hir_node.specs.declared.expr_types.Statement.{Statement}
-use Rattle.hir_node.specs.declared.expr_types.Statement.TheVariants as statement
+use Rattle.hir_node.specs.ChildCalls.{Call, OnExpr, OnPat}
 use Rattle.hir_node.specs.declared.node_id.NodeId.{NodeId}
 use Rattle.hir_node.specs.declared.node_id.NodeId.TheVariants as node
 use Rattle.hir_faults.specs.Nodes.{Nodes, Has, kids_of}
-use Rattle.hir_faults.specs.Down.{rank, KidsFall, value_within, value, AgreeOn, AsksKids}
-use Rattle.hir_scope.specs.Frames.{Chain, frame, of_kind, empty}
-use Rattle.hir_scope.specs.Forms.{ScopingForm, form_of}
+use Rattle.hir_faults.specs.Down.{rank, KidsFall, AgreeOn, AsksKids}
+use Rattle.hir_faults.proofs.DownLemmas.{value_at, parent_there}
+use Rattle.hir_scope.proofs.KidLemmas.{kids_in, slots_kids, slots_follow}
+use Rattle.hir_scope.proofs.UnderLemmas.{mapped, slots_agree}
+use Rattle.hir_scope.specs.Forms.{form_of, ScopingForm, form_at, expr_form}
+use Rattle.hir_scope.specs.Slots.{Base, Here, Const, Slot, slot_kid, call_kids, slots, own_frame}
+use Rattle.hir_captures.specs.declared.unread.Task.{Task}
+use Rattle.hir_scope.specs.Order.{met_in_form}
+use Rattle.hir_captures.specs.walk.Pending.{tasks_of, task_node, code_of, AreThere}
+use Rattle.hir_captures.specs.Uses.{Spot, spot, in_code, of_pattern, kid_code, assignment_at, code_step, code_under, Use, if_assignment, use_of, expr_uses, pat_uses, uses_at, spot_uses, uses_in}
+use Rattle.std.specs.Prelude.{filter_map}
+use Rattle.hir_base.specs.declared.hygiene.SyntaxContext.{SyntaxContext}
+use Rattle.hir_path.specs.declared.ids.ExprOrPatId.TheVariants.{ExprId, PatId}
+use Rattle.hir_node.specs.declared.expr.Expr.{Expr}
+use Rattle.hir_node.specs.declared.expr.Expr.TheVariants as expr
+use Rattle.hir_node.specs.declared.pat.Pat.{Pat}
+use Rattle.hir_node.specs.declared.pat.Pat.TheVariants as pat
+use Rattle.hir_expr_store.specs.Contents.{Contents}
+use Rattle.hir_expr_store.specs.SideTables.{hygiene_of}
+use Rattle.hir_expr_store.specs.Under.{Reached}
+use Rattle.hir_scope.specs.Frames.{Chain}
 use Rattle.hir_scope.specs.Forms as form
-use Rattle.hir_scope.specs.Leak.{leak_of_call, leaks, leak}
-use Rattle.hir_scope.specs.Slots.{Base, Here, Const, Slot, call_slot, in_turn, made, made_for_constants, statement_slots, block_slots, arm_slots, slots_of_form, slots, own_frame, block_constants, loop_kind}
-use Rattle.hir_captures.specs.declared.tasks.Task.{Task}
-use Rattle.hir_captures.specs.Pending.{met_in_statement, met_in_arm, met_in_form, tasks_of, code_of, AreThere}
-use Rattle.hir_captures.specs.Uses.{Spot, spot, in_code, of_pattern, kid_code, assignment_at, code_step, code_under}
+use Rattle.hir_scope.specs.Chains.{Place, place_kid, on_base, Stands, kid, HasChain, within_own}
+use Rattle.hir_scope.specs.Meanings.{asked_name}
+use Rattle.hir_captures.specs.Captures.{IsClosure, IsOn, captured_binding, meaning_behind}
 
--- 1. The code under a node
+-- 1. The code under a node is the node, and then the code of its kids in the order of its slots: that of the tasks that reading it puts.
 
-abbrev pub kids_in : List Slot → List NodeId
-kids_in xs = map (λ (x : Slot). x.kid) xs
-
--- what laws say of the nodes of a store
-pub record Laws (s : Nodes) : Type 0 where
-  pub fall : KidsFall s
-  pub parents : (n k : NodeId) → Contains (kids_of s n) k → Has s n
-  pub kids : (n : NodeId) → IsPermutation (kids_of s n) (kids_in (slots s n))
+-- The code under a node
 
 abbrev pub Codes : Type 0
 Codes = NodeId → Option ℕ → List Spot
 
 module _ (f g : Codes) where
-  agree_at : (xs : List NodeId) → AgreeOn f g xs → (x : NodeId) → Contains xs x → f x ≡ g x
-  agree_at [] h x (k, lt, is) = absurd (omega (arith, lt))
-  agree_at (y ∷ xs) h x (zero, lt, is) = subst (λ z. f z ≡ g z) is h.0
-  agree_at (y ∷ xs) h x (suc k, lt, is) = agree_at xs h.1 x (k, omega (arith, lt), is)
-
-  agree_on : (xs : List NodeId) → ((x : NodeId) → Contains xs x → f x ≡ g x) → AgreeOn f g xs
-  agree_on [] h = tt
-  agree_on (x ∷ xs) h = (h x (0, omega arith, refl), agree_on xs (λ y c. h y (suc c.0, omega (arith, c.1), c.2)))
-
   slots_read : (a : Option ℕ) (xs : List Slot) → AgreeOn f g (kids_in xs) → flat_map (kid_code f a) xs ≡ flat_map (kid_code g a) xs
   slots_read a [] h = refl
   slots_read a (x ∷ xs) h =
@@ -54,104 +48,41 @@ module _ (f g : Codes) where
       let rest = slots_read a xs h.1 in
       cc
 
-module _ (s : Nodes) (laws : Laws s) where
+module _ (s : Nodes) where
   pub kid_there : (n k : NodeId) → Contains (kids_in (slots s n)) k → Contains (kids_of s n) k
-  kid_there n k m = Contains-permutation (kids_in (slots s n)) (kids_of s n) k (IsPermutation-sym (kids_of s n) (kids_in (slots s n)) (laws.kids n)) m
+  kid_there n k m = Contains-permutation (kids_in (slots s n)) (kids_of s n) k (IsPermutation-sym (kids_of s n) (kids_in (slots s n)) (slots_kids s n)) m
 
   code_asks : AsksKids s (code_step s)
-  code_asks f g n h =
-      let same = agree_on f g (kids_in (slots s n)) (λ x m. agree_at f g (kids_of s n) h x (kid_there n x m)) in
-      fun_ext (λ a. ap (λ (xs : List Spot). spot n a ∷ xs) (slots_read f g (assignment_at s n a) (slots s n) same))
-
-  abbrev within : ℕ → Codes
-  within depth = value_within (code_step s) (λ assignment. []) depth
-
-  -- a greater depth changes nothing
-  stable : (d e : ℕ) (n : NodeId) → rank s n < d → rank s n < e → within d n ≡ within e n
-  stable zero e n v w = absurd (omega arith)
-  stable (suc d) zero n v w = absurd (omega arith)
-  stable (suc d) (suc e) n v w =
-      code_asks (within d) (within e) n (agree_on (within d) (within e) (kids_of s n) (λ k m.
-      let low = laws.fall.lower n (laws.parents n k m) k m in
-      stable d e k (omega arith) (omega arith)))
+  code_asks f g n h = fun_ext (λ a. ap (λ (xs : List Spot). spot n a ∷ xs) (slots_read f g (assignment_at s n a) (slots s n) (slots_agree f g s n h)))
 
   -- the code under a node is its step's, at the code under its kids
-  pub code_at : (n : NodeId) (a : Option ℕ) → code_under s n a ≡ code_step s (code_under s) n a
-  unfolding code_under value
-  code_at n a =
-      ap (λ (w : Option ℕ → List Spot). w a)
-      (code_asks (within (rank s n)) (code_under s) n (agree_on (within (rank s n)) (code_under s) (kids_of s n) (λ k m.
-      let low = laws.fall.lower n (laws.parents n k m) k m in
-      stable (rank s n) (suc (rank s k)) k low (omega arith))))
+  pub code_at : KidsFall s → (n : NodeId) (a : Option ℕ) → code_under s n a ≡ code_step s (code_under s) n a
+  unfolding code_under
+  code_at fall n a = ap (λ (w : Option ℕ → List Spot). w a) (value_at s fall (code_step s) (λ assignment. []) code_asks n)
 
--- 2. The code of kids, by their calls
+-- The code of kids, by their calls
 
 abbrev call_code : Codes → Option ℕ → Call → List Spot
 call_code f a (OnExpr id) = f (node.Expr id) None
 call_code f a (OnPat id) = f (node.Pat id) a
-call_code f a (OnAnonConst id) = []
-call_code f a (OnType id) = []
-call_code f a (OnLifetime id) = []
+call_code f a _ = []
 
 module _ (f : Codes) (a : Option ℕ) where
-  abbrev of_slots : List Slot → List Spot
-  of_slots xs = flat_map (kid_code f a) xs
+  abbrev at_base : NodeId × Base → List Spot
+  at_base k = in_code k.1 (f k.0 (of_pattern k.0 a))
 
-  abbrev of_calls : List Call → List Spot
-  of_calls cs = flat_map (call_code f a) cs
+  of_slots : (xs : List Slot) → flat_map (kid_code f a) xs ≡ flat_map at_base (map slot_kid xs)
+  of_slots [] = refl
+  of_slots (x ∷ xs) = ap (λ (ys : List Spot). kid_code f a x ++ ys) (of_slots xs)
 
-  of_call : (constants add : Chain) (c : Call) → of_slots (call_slot constants add c) ≡ call_code f a c
-  of_call constants add (OnExpr id) = append-nil (f (node.Expr id) None)
-  of_call constants add (OnPat id) = append-nil (f (node.Pat id) a)
-  of_call constants add (OnAnonConst id) = refl
-  of_call constants add (OnType id) = refl
-  of_call constants add (OnLifetime id) = refl
+  of_calls : (cs : List Call) → flat_map at_base (flat_map call_kids cs) ≡ flat_map (call_code f a) cs
+  of_calls [] = refl
+  of_calls (OnExpr id ∷ cs) = ap (λ (ys : List Spot). f (node.Expr id) None ++ ys) (of_calls cs)
+  of_calls (OnPat id ∷ cs) = ap (λ (ys : List Spot). f (node.Pat id) a ++ ys) (of_calls cs)
+  of_calls (_ ∷ cs) = of_calls cs
 
-  of_two : (xs ys : List Slot) (cs ds : List Call) → of_slots xs ≡ of_calls cs → of_slots ys ≡ of_calls ds → of_slots (xs ++ ys) ≡ of_calls (cs ++ ds)
-  of_two xs ys cs ds v w =
-      let m = flat_map-append (kid_code f a) xs ys in
-      let q = flat_map-append (call_code f a) cs ds in
-      cc
-
-  of_turn : (s : Nodes) (constants add : Chain) (cs : List Call) → of_slots (in_turn s constants add cs) ≡ of_calls cs
-  of_turn s constants add [] = refl
-  of_turn s constants add (c ∷ cs) =
-      flat_map-append (kid_code f a) (call_slot constants add c) (in_turn s constants (leak_of_call (leak s) c ++ add) cs)
-      ∙ (λ i. of_call constants add c i ++ of_turn s constants (leak_of_call (leak s) c ++ add) cs i)
-
-  of_arms : (s : Nodes) (add : Chain) (arms : List MatchArm) → of_slots (flat_map (arm_slots s add) arms) ≡ of_calls (flat_map met_in_arm arms)
-  of_arms s add [] = refl
-  of_arms s add (arm ∷ arms) =
-      of_two (arm_slots s add arm) (flat_map (arm_slots s add) arms) (met_in_arm arm) (flat_map met_in_arm arms) (of_turn s [] (frame s (arm.pat ∷ []) ∷ add) (met_in_arm arm)) (of_arms s add arms)
-
-  of_statement : (s : Nodes) (constants add : Chain) (x : Statement) → of_slots (statement_slots s constants add x) ≡ of_calls (met_in_statement x)
-  of_statement s constants add (statement.Let pat ty x y) =
-      of_two (in_turn s constants add (opt t ty ++ opt e x ++ opt e y)) (in_turn s constants (frame s (pat ∷ []) ∷ (leaks (leak s) (opt e x ++ opt e y) ++ add)) (p pat)) (opt t ty ++ opt e x ++ opt e y) (p pat)
-      (of_turn s constants add (opt t ty ++ opt e x ++ opt e y)) (of_turn s constants (frame s (pat ∷ []) ∷ (leaks (leak s) (opt e x ++ opt e y) ++ add)) (p pat))
-  of_statement s constants add (statement.Expr x semi) = of_turn s constants add (e x)
-  of_statement s constants add (statement.Item x) = refl
-
-  of_block : (s : Nodes) (constants add : Chain) (xs : List Statement) (tail : Option ℕ) → of_slots (block_slots s constants add xs tail) ≡ of_calls (flat_map met_in_statement xs ++ opt e tail)
-  of_block s constants add [] tail = of_turn s constants add (opt e tail)
-  of_block s constants add (x ∷ xs) tail =
-      of_two (statement_slots s constants add x) (block_slots s (made_for_constants x ++ constants) (made s x ++ add) xs tail) (met_in_statement x) (flat_map met_in_statement xs ++ opt e tail)
-      (of_statement s constants add x) (of_block s (made_for_constants x ++ constants) (made s x ++ add) xs tail)
-      ∙ ap of_calls (sym (append_assoc (met_in_statement x) (flat_map met_in_statement xs) (opt e tail)))
-
-  two_turns : (s : Nodes) (add more : Chain) (cs ds : List Call) → of_slots (in_turn s [] add cs ++ in_turn s [] more ds) ≡ of_calls (cs ++ ds)
-  two_turns s add more cs ds = of_two (in_turn s [] add cs) (in_turn s [] more ds) cs ds (of_turn s [] add cs) (of_turn s [] more ds)
-
-  of_form : (s : Nodes) (x : ScopingForm) → of_slots (slots_of_form s x) ≡ of_calls (met_in_form x)
-  of_form s (form.If c y o) = two_turns s (empty ∷ []) [] (e c ++ e y) (opt e o)
-  of_form s (form.Let pat x) = two_turns s [] (frame s (pat ∷ []) ∷ leak s (node.Expr x)) (e x) (p pat)
-  of_form s (form.Block id label xs tail) = of_block s (block_constants id) (own_frame id label ∷ []) xs tail
-  of_form s (form.Loop label body) = of_turn s [] (of_kind (loop_kind label) ∷ []) (e body)
-  of_form s (form.Closure types ret args body) = two_turns s [] (frame s args ∷ []) (flat_map (opt t) types ++ opt t ret) (flat_map p args ++ e body)
-  of_form s (form.Match x arms) =
-      of_two (in_turn s [] [] (e x)) (flat_map (arm_slots s (leak s (node.Expr x))) arms) (e x) (flat_map met_in_arm arms) (of_turn s [] [] (e x)) (of_arms s (leak s (node.Expr x)) arms)
-  of_form s (form.Assignment target value) = two_turns s (frame s (target ∷ []) ∷ []) [] (p target) (e value)
-  of_form s (form.PatternType ty pat) = two_turns s [] (frame s (pat ∷ []) ∷ []) (t ty) (p pat)
-  of_form s (form.InTurn cs) = of_turn s [] [] cs
+  of_node : (s : Nodes) (n : NodeId) → flat_map (kid_code f a) (slots s n) ≡ flat_map (call_code f a) (met_in_form (form_of s n))
+  of_node s n = of_slots (slots s n) ∙ (ap (flat_map at_base) (slots_follow s n) ∙ of_calls (met_in_form (form_of s n)))
 
 -- the code of tasks is that of their calls
 task_code : (s : Nodes) (a : Option ℕ) (cs : List Call) → code_of s (tasks_of a cs) ≡ flat_map (call_code (code_under s) a) cs
@@ -159,28 +90,24 @@ task_code s a [] = refl
 task_code s a (OnExpr id ∷ cs) = ap (λ (xs : List Spot). code_under s (node.Expr id) None ++ xs) (task_code s a cs)
 task_code s None (OnPat id ∷ cs) = ap (λ (xs : List Spot). code_under s (node.Pat id) None ++ xs) (task_code s None cs)
 task_code s (Some a) (OnPat id ∷ cs) = ap (λ (xs : List Spot). code_under s (node.Pat id) (Some a) ++ xs) (task_code s (Some a) cs)
-task_code s a (OnAnonConst id ∷ cs) = task_code s a cs
-task_code s a (OnType id ∷ cs) = task_code s a cs
-task_code s a (OnLifetime id ∷ cs) = task_code s a cs
+task_code s a (_ ∷ cs) = task_code s a cs
 
 -- reading a node leaves the code of its kids
-pub code_read : (s : Nodes) → Laws s → (n : NodeId) (a : Option ℕ) → code_under s n a ≡ spot n a ∷ code_of s (tasks_of (assignment_at s n a) (met_in_form (form_of s n)))
-unfolding slots
-code_read s laws n a =
-    code_at s laws n a
+pub code_read : (s : Nodes) → KidsFall s → (n : NodeId) (a : Option ℕ) → code_under s n a ≡ spot n a ∷ code_of s (tasks_of (assignment_at s n a) (met_in_form (form_of s n)))
+code_read s fall n a =
+    code_at s fall n a
     ∙ ap (λ (xs : List Spot). spot n a ∷ xs)
-    (of_form (code_under s) (assignment_at s n a) s (form_of s n) ∙ sym (task_code s (assignment_at s n a) (met_in_form (form_of s n))))
+    (of_node (code_under s) (assignment_at s n a) s n ∙ sym (task_code s (assignment_at s n a) (met_in_form (form_of s n))))
 
--- 3. What tasks name is there
+-- What tasks name is there
 
-there_two : (s : Nodes) (xs ys : List Task) → AreThere s xs → AreThere s ys → AreThere s (xs ++ ys)
-there_two s [] ys h k = k
-there_two s (x ∷ xs) ys h k = (h.0, there_two s xs ys h.1 k)
+all_two : {X : Type 0} (P : X → Type 0) (xs ys : List X) → AllByRecursion P xs → AllByRecursion P ys → AllByRecursion P (xs ++ ys)
+all_two P [] ys h k = k
+all_two P (x ∷ xs) ys h k = (h.0, all_two P xs ys h.1 k)
 
 -- the nodes of spots are there
 abbrev HaveNodes : Nodes → List Spot → Type 0
-HaveNodes s [] = Unit {0}
-HaveNodes s (x ∷ xs) = Has s x.node × HaveNodes s xs
+HaveNodes s xs = AllByRecursion (λ (x : Spot). Has s x.node) xs
 
 -- a node alone
 abbrev itself : Codes
@@ -198,14 +125,176 @@ tasks_there s a [] h = tt
 tasks_there s a (OnExpr id ∷ cs) h = (h.0, tasks_there s a cs h.1)
 tasks_there s None (OnPat id ∷ cs) h = (h.0, tasks_there s None cs h.1)
 tasks_there s (Some a) (OnPat id ∷ cs) h = (h.0, tasks_there s (Some a) cs h.1)
-tasks_there s a (OnAnonConst id ∷ cs) h = tasks_there s a cs h
-tasks_there s a (OnType id ∷ cs) h = tasks_there s a cs h
-tasks_there s a (OnLifetime id ∷ cs) h = tasks_there s a cs h
+tasks_there s a (_ ∷ cs) h = tasks_there s a cs h
 
 -- the kids of a node are there
-pub kids_there : (s : Nodes) → Laws s → (n : NodeId) (a : Option ℕ) (rest : List Task) → Has s n → AreThere s rest → AreThere s (tasks_of a (met_in_form (form_of s n)) ++ rest)
-unfolding slots
-kids_there s laws n a rest h r =
-    let have = slots_there s a (slots s n) (λ k m. laws.fall.there n h k (kid_there s laws n k m)) in
-    there_two s (tasks_of a (met_in_form (form_of s n))) rest
-    (tasks_there s a (met_in_form (form_of s n)) (subst (HaveNodes s) (of_form itself a s (form_of s n)) have)) r
+pub kids_there : (s : Nodes) → KidsFall s → (n : NodeId) (a : Option ℕ) (rest : List Task) → Has s n → AreThere s rest → AreThere s (tasks_of a (met_in_form (form_of s n)) ++ rest)
+kids_there s fall n a rest h r =
+    let have = slots_there s a (slots s n) (λ k m. fall.there n h k (kid_there s n k m)) in
+    all_two (λ (t : Task). Has s (task_node t)) (tasks_of a (met_in_form (form_of s n))) rest
+    (tasks_there s a (met_in_form (form_of s n)) (subst (HaveNodes s) (of_node itself a s n) have)) r
+
+-- 2. What is in a closure's code stands on the closure's chain: the chains of its uses are some frames on it.
+
+-- What stands on a chain
+
+-- a reached node has a place whose frames are some put on this chain
+pub record StandsOn (s : Nodes) (tops : List Place) (reached_from : List NodeId) (base : Chain) (n : NodeId) : Type 0 where
+  pub at : Place
+  pub stands : Stands s tops at
+  pub is_node : at.node ≡ n
+  pub reached : Reached s reached_from n
+  pub on : IsOn base at.here
+
+module _ (s : Nodes) (tops : List Place) (from : List NodeId) (base : Chain) where
+  abbrev On : NodeId → Type 0
+  On n = StandsOn s tops from base n
+
+  abbrev TargetOn : Option ℕ → Type 0
+  TargetOn None = Unit {0}
+  TargetOn (Some assignment) = On (node.Expr assignment)
+
+  abbrev SpotOn : Spot → Type 0
+  SpotOn x = On x.node × TargetOn x.assignment
+
+  abbrev pub SpotsOn : List Spot → Type 0
+  SpotsOn xs = AllByRecursion SpotOn xs
+
+  target_of : (n : NodeId) (a : Option ℕ) → TargetOn a → TargetOn (of_pattern n a)
+  target_of (node.Pat id) a t = t
+  target_of _ a t = tt
+
+  if_on : (id : ℕ) (o : Option Expr) → On (node.Expr id) → TargetOn (if_assignment id o)
+  if_on id (Some (expr.Assignment target value)) on = on
+  if_on id _ on = tt
+
+  assignment_on : (n : NodeId) (a : Option ℕ) → On n → TargetOn a → TargetOn (assignment_at s n a)
+  assignment_on (node.Expr id) a on t = if_on id (slice_get s.exprs id) on
+  assignment_on (node.Pat id) a on t = t
+  assignment_on (node.TypeRef id) a on t = tt
+
+  kids_on : (f : Codes) (a : Option ℕ) → TargetOn a → (xs : List Slot) → ((x : Slot) → Contains xs x → x.base ≡ Here → (b : Option ℕ) → TargetOn b → SpotsOn (f x.kid b)) → SpotsOn (flat_map (kid_code f a) xs)
+  kids_on f a t [] h = tt
+  kids_on f a t (x ∷ xs) h =
+      all_two SpotOn (kid_code f a x) (flat_map (kid_code f a) xs) (one x.base refl)
+      (kids_on f a t xs (λ y m. h y (suc m.0, omega (arith, m.1), m.2))) where
+        one : (b : Base) → x.base ≡ b → SpotsOn (in_code b (f x.kid (of_pattern x.kid a)))
+        one Here e = h x (0, omega arith, refl) e (of_pattern x.kid a) (target_of x.kid a t)
+        one Const e = tt
+
+  module _ (fall : KidsFall s) (go : (n k : NodeId) → Reached s from n → Contains (kids_of s n) k → Reached s from k) where
+    -- a kid in the code stands there too
+    kid_on : (n : NodeId) → On n → (x : Slot) → Contains (slots s n) x → x.base ≡ Here → On x.kid
+    kid_on n on x m here =
+        let at = on.at in
+        let place = place_kid at.here at.constant in
+        record {
+          at = place x;
+          stands = kid on.stands (mapped place (slots s at.node) x (subst (λ (k : NodeId). Contains (slots s k) x) (sym on.is_node) m));
+          is_node = refl;
+          reached = go n x.kid on.reached (kid_there s n x.kid (mapped (λ (y : Slot). y.kid) (slots s n) x m));
+          on = (
+            x.add ++ on.on.0,
+            ap (λ (b : Base). x.add ++ on_base b at.here (x.constants ++ at.constant)) here
+                ∙ (ap (λ (c : Chain). x.add ++ c) on.on.1 ∙ sym (append_assoc x.add on.on.0 base)),
+          );
+        }
+
+    code_on : (d : ℕ) (n : NodeId) (a : Option ℕ) → rank s n < d → On n → TargetOn a → SpotsOn (code_under s n a)
+    code_on zero n a l on t = absurd (omega (arith, l))
+    code_on (suc d) n a l on t =
+        subst SpotsOn (sym (code_at s fall n a)) (
+          (on, t),
+          kids_on (code_under s) (assignment_at s n a) (assignment_on n a on t) (slots s n) (λ x m here b u.
+              let among = kid_there s n x.kid (mapped (λ (y : Slot). y.kid) (slots s n) x m) in
+              let low = fall.lower n (parent_there s n x.kid among) x.kid among in
+              code_on d x.kid b (omega (arith, l, low)) (kid_on n on x m here) u),
+        )
+
+    pub all_code_on : (n : NodeId) → On n → SpotsOn (code_under s n None)
+    all_code_on n on = code_on (suc (rank s n)) n None (omega arith) on tt
+
+  -- What its uses ask
+
+  abbrev UseOn : Use → Type 0
+  UseOn u = On (node.Expr u.expr)
+
+  abbrev pub UsesOn : List Use → Type 0
+  UsesOn us = AllByRecursion UseOn us
+
+  one_use : (h : SyntaxContext) (id : ℕ) (o : Option (List ℕ)) → On (node.Expr id) → UsesOn (use_of h id o)
+  one_use h id None on = tt
+  one_use h id (Some name) on = (on, tt)
+
+  of_expr : (h : SyntaxContext) (id : ℕ) (o : Option Expr) → On (node.Expr id) → UsesOn (expr_uses h id o)
+  of_expr h id (Some (expr.Path path)) on = one_use h id (asked_name path) on
+  of_expr h id _ on = tt
+
+  of_pat : (h : SyntaxContext) (a : Option ℕ) (o : Option Pat) → TargetOn a → UsesOn (pat_uses h a o)
+  of_pat h (Some a) (Some (pat.Path path)) t = one_use h a (asked_name path) t
+  of_pat h _ _ t = tt
+
+pub uses_on : (c : Contents) (tops : List Place) (from : List NodeId) (base : Chain) (xs : List Spot) → SpotsOn c.nodes tops from base xs → UsesOn c.nodes tops from base (flat_map (spot_uses c) xs)
+uses_on c tops from base [] h = tt
+uses_on c tops from base (x ∷ xs) h =
+    all_two (UseOn c.nodes tops from base) (spot_uses c x) (flat_map (spot_uses c) xs) (one x.node x.assignment h.0.0 h.0.1) (uses_on c tops from base xs h.1) where
+      one : (n : NodeId) (a : Option ℕ) → StandsOn c.nodes tops from base n → TargetOn c.nodes tops from base a → UsesOn c.nodes tops from base (uses_at c n a)
+      one (node.Expr id) a on t = of_expr c.nodes tops from base (hygiene_of c.side_tables (ExprId id)) id (slice_get c.nodes.exprs id) on
+      one (node.Pat id) a on t = of_pat c.nodes tops from base (hygiene_of c.side_tables (PatId id)) a (slice_get c.nodes.pats id) t
+      one (node.TypeRef id) a on t = tt
+
+-- The chains of uses
+
+-- a closure has no frame of its own
+no_own : (o : Option Expr) → IsClosure o → (here : Chain) → within_own (form_at expr_form o) here ≡ here
+no_own (Some (expr.Closure args arg_types ret_type body kind capture)) is here = refl
+no_own _ is here = absurd is
+
+own_on : (f : ScopingForm) (here : Chain) → IsOn here (within_own f here)
+own_on (form.Block id label statements tail) here = (own_frame id label ∷ [], refl)
+own_on _ here = ([], refl)
+
+is_on_two : (a b c : Chain) → IsOn a b → IsOn b c → IsOn a c
+is_on_two a b c p q = (q.0 ++ p.0, q.1 ∙ (ap (λ (x : Chain). q.0 ++ x) p.1 ∙ sym (append_assoc q.0 p.0 a)))
+
+module _ (c : Contents) (tops : List Place) (from : List NodeId) (fall : KidsFall c.nodes) (go : (n k : NodeId) → Reached c.nodes from n → Contains (kids_of c.nodes n) k → Reached c.nodes from k)
+    (one : (expr : ℕ) (x y : Chain) → HasChain c.nodes tops expr x → HasChain c.nodes tops expr y → x ≡ y)
+    (closure : ℕ) (is : IsClosure (slice_get c.nodes.exprs closure)) (reached : Reached c.nodes from (node.Expr closure)) where
+  abbrev Chains : Type 0
+  Chains = ℕ → Chain
+
+  abbrev AreTheirs : Chains → Type 0
+  AreTheirs chain = (expr : ℕ) → Reached c.nodes from (node.Expr expr) → HasChain c.nodes tops expr (chain expr)
+
+  all_on : (chain : Chains) → AreTheirs chain → UsesOn c.nodes tops from (chain closure) (uses_in c closure)
+  unfolding uses_in
+  all_on chain are =
+      let has = are closure reached in
+      let same : chain closure ≡ has.at.here = has.is_chain ∙ no_own (slice_get c.nodes.exprs closure) is has.at.here in
+      let on : StandsOn c.nodes tops from (chain closure) (node.Expr closure) = record { at = has.at; stands = has.stands; is_node = has.is_node; reached = reached; on = ([], sym same) } in
+      uses_on c tops from (chain closure) (code_under c.nodes (node.Expr closure) None) (all_code_on c.nodes tops from (chain closure) fall go (node.Expr closure) on)
+
+  chains_on : (chain : Chains) → AreTheirs chain → (us : List Use) → UsesOn c.nodes tops from (chain closure) us → AllByRecursion (λ (u : Use). IsOn (chain closure) (chain u.expr)) us
+  chains_on chain are [] h = tt
+  chains_on chain are (u ∷ us) h =
+      let x = h.0 in
+      let f = form_of c.nodes (node.Expr u.expr) in
+      let same : chain u.expr ≡ within_own f x.at.here =
+      one u.expr (chain u.expr) (within_own f x.at.here) (are u.expr x.reached) (record { at = x.at; stands = x.stands; is_node = x.is_node; is_chain = refl }) in
+      (subst (IsOn (chain closure)) (sym same) (is_on_two (chain closure) x.at.here (within_own f x.at.here) x.on (own_on f x.at.here)), chains_on chain are us h.1)
+
+  -- the chain of each use is some frames on the closure's
+  pub uses_stand_on : (chain : Chains) → AreTheirs chain → AllByRecursion (λ (u : Use). IsOn (chain closure) (chain u.expr)) (uses_in c closure)
+  uses_stand_on chain are = chains_on chain are (uses_in c closure) (all_on chain are)
+
+  -- they capture the same by any chains
+  same_captures : (f g : Chains) → AreTheirs f → AreTheirs g → f closure ≡ g closure → (us : List Use) → UsesOn c.nodes tops from (f closure) us → filter_map (captured_binding f closure) us ≡ filter_map (captured_binding g closure) us
+  same_captures f g p q e [] h = refl
+  same_captures f g p q e (u ∷ us) h =
+      let x = one u.expr (f u.expr) (g u.expr) (p u.expr h.0.reached) (q u.expr h.0.reached) in
+      let first : captured_binding f closure u ≡ captured_binding g closure u = λ i. meaning_behind (length (x i) - length (e i)) (x i) u.name u.hygiene in
+      let rest = same_captures f g p q e us h.1 in
+      λ i. cons_option (first i) (rest i)
+
+  pub one_list : (f g : Chains) → AreTheirs f → AreTheirs g → filter_map (captured_binding f closure) (uses_in c closure) ≡ filter_map (captured_binding g closure) (uses_in c closure)
+  one_list f g p q = same_captures f g p q (one closure (f closure) (g closure) (p closure reached) (q closure reached)) (uses_in c closure) (all_on f p)

@@ -1,7 +1,4 @@
 mod AskLemmas
-mod CodeLemmas
-mod KidLemmas
-mod FoundLemmas
-mod ReadLemmas
-mod WithinLemmas
-mod Rows
+pub mod CodeLemmas
+pub mod ReadLemmas
+mod BindingListLemmas

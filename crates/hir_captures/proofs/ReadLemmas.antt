@@ -1,20 +1,25 @@
--- Reading a node leaves what is to be found as it was.
-use Rattle.std.proofs.Common.{◌≡◌, ℕ, List, [], ◌∷◌, ◌++◌, Option, Some, None, fold, length, refl, sym, ap, ◌∙◌, subst, arith}
-use Rattle.std.specs.Prelude.{IsSome, ◌↔◌}
+-- What a run of child calls leaves to be read, and what reading a node finds.
+use Rattle.std.proofs.Common.{◌≡◌, ℕ, List, ◌∷◌, refl, ap, ◌∙◌, subst, Option, ◌<◌, [], ◌++◌, Some, None, fold, length, sym, arith}
+use Rattle.hir_node.specs.ChildCalls.{Call, pat_calls}
+use Rattle.hir_node.specs.Runs.{Runs, no_call, a_call}
+use Rattle.hir_stack.specs.Stacks.{Puts}
+use Rattle.hir_stack.proofs.TurnLemmas.{puts_none, puts_two}
+use Rattle.hir_captures.specs.declared.unread.Task.{Task}
+use Rattle.hir_captures.specs.declared.unread.Unread.{Unread}
+use Rattle.hir_captures.specs.walk.Pending.{task_of, tasks_of, pat_task, task_node, task_target, code_of, AreThere}
+use Rattle.std.specs.Prelude.{IsSome, ◌↔◌, ◌-◌}
 use Rattle.std.specs.List.{flat_map, filter_map, slice_get}
 use Rattle.std.specs.FinMap as map
 use Rattle.std.proofs.lemmas.List.{append-nil}
 use Rattle.std.proofs.lemmas.List.Elements.{filter_map-append}
 use Rattle.std.proofs.lemmas.List.Concat.{flat_map-append}
 use Rattle.std.proofs.lemmas.List.Sums.{fold-append}
-use Rattle.hir_node.specs.ChildCalls.{pat_calls}
 use Rattle.hir_node.specs.declared.expr.Expr.{Expr}
 use Rattle.hir_node.specs.declared.expr.Expr.TheVariants as expr
 use Rattle.hir_node.specs.declared.pat.Pat.{Pat}
-use Rattle.hir_node.specs.declared.pat.Pat.TheVariants as pat
-use Rattle.hir_base.specs.declared.hygiene.SyntaxContext.{SyntaxContext}
-use Rattle.hir_path.specs.declared.path.Path.{Path}
 use Rattle.hir_node.specs.declared.node_id.NodeId.TheVariants as node
+use Rattle.hir_faults.specs.Down.{KidsFall}
+use Rattle.hir_faults.specs.Nodes.{Nodes}
 use Rattle.hir_expr_store.specs.Contents.{Contents}
 use Rattle.hir_scope.specs.Forms.{form_of, form_at, expr_form, pat_form}
 use Rattle.hir_scope.specs.Scopes.{Scopes}
@@ -22,67 +27,92 @@ use Rattle.hir_scope.specs.Paths.{chain}
 use Rattle.hir_scope.specs.Chains.{HasChain}
 use Rattle.hir_scope.specs.Built.{ChainsAreFrames, tops_of_body}
 use Rattle.hir_items.specs.Bodies.{BodyContents, BodyReaches}
-use Rattle.hir_captures.specs.declared.tasks.Task.{Task}
-use Rattle.hir_captures.specs.declared.tasks.Task.TheVariants as task
-use Rattle.hir_captures.specs.Captures.{with_new, AreChains, AreCaptures}
-use Rattle.hir_captures.specs.Pending.{met_in_form, pat_task, tasks_of, task_node, task_target, code_of, AreThere}
-use Rattle.hir_captures.specs.Reading.{chain_in, captured_in, with_uses, with_code, Reads}
-use Rattle.hir_captures.specs.Uses.{Spot, Use, uses_in, spot, if_assignment, assignment_at, expr_uses, pat_uses, uses_at, spot_uses, code_under}
-use Rattle.hir_captures.proofs.CodeLemmas.{Laws, code_read, kids_there}
+use Rattle.hir_captures.specs.declared.code.Code.{Code}
+use Rattle.hir_captures.specs.declared.unread.Task.TheVariants as task
+use Rattle.hir_captures.specs.Captures.{meaning_behind, with_new, AreChains, AreCaptures}
+use Rattle.hir_scope.specs.Order.{met_in_form}
+use Rattle.hir_captures.specs.walk.Reading.{chain_in, captured_binding_in, with_uses, with_code, Reads}
+use Rattle.hir_captures.specs.Uses.{Spot, Use, uses_in, spot, if_assignment, assignment_at, uses_at, spot_uses, code_under}
+use Rattle.hir_captures.proofs.CodeLemmas.{code_read, kids_there}
+
+-- 1. What a run of child calls leaves to be read.
+
+abbrev pub PutsCalls : Unread → List Call → Unread → Type 0
+PutsCalls v cs w = (w.assignment ≡ v.assignment) × Puts v.stack (tasks_of v.assignment cs) w.stack
+
+abbrev pub PutsCall : Unread → Call → Unread → Type 0
+PutsCall v c w = (w.assignment ≡ v.assignment) × Puts v.stack (task_of v.assignment c) w.stack
+
+pub puts_all : {v w : Unread} {cs : List Call} → Runs PutsCall v cs w → PutsCalls v cs w
+puts_all {v} no_call = (refl, puts_none v.stack)
+puts_all {v} {w} (a_call {v = u} {c = c} {cs = cs} step rest) =
+    let later = puts_all rest in
+    let same = subst (λ (a : Option ℕ). Puts u.stack (tasks_of a cs) w.stack) step.0 later.1 in
+    (later.0 ∙ step.0, puts_two v.stack u.stack w.stack (task_of v.assignment c) (tasks_of v.assignment cs) step.1 same)
+
+-- 2. Reading a node leaves what is to be found as it was.
 
 pub no_assignment : (id : ℕ) (x : Expr) → ((target value : ℕ) → x ≡ expr.Assignment target value → ⊥) → None ≡ if_assignment id (Some x)
 no_assignment id (expr.Assignment target value) h = absurd (h target value refl)
 no_assignment id _ h = refl
 
-module _ (c : Contents) (scopes : Scopes) (outermost : ℕ) where
-  uses_two : (found : List ℕ) (us vs : List Use) → with_uses scopes outermost found (us ++ vs) ≡ with_uses scopes outermost (with_uses scopes outermost found us) vs
-  uses_two found us vs =
-      ap (fold with_new found) (filter_map-append (captured_in scopes outermost) us vs)
-      ∙ fold-append with_new found (filter_map (captured_in scopes outermost) us) (filter_map (captured_in scopes outermost) vs)
+-- the pattern of a task is there
+pub pat_there : (s : Nodes) (a : Option ℕ) (id : ℕ) (rest : List Task) → AreThere s (pat_task a id ∷ rest) → id < length s.pats
+pat_there s None id rest h = h.0
+pat_there s (Some a) id rest h = h.0
 
-  module _ (laws : Laws c.nodes) (t : Task) (rest new : List Task) (before after : List ℕ) where
+module _ (code : Code) where
+  abbrev c : Contents
+  c = code.store.now
+
+  uses_two : (found : List ℕ) (us vs : List Use) → with_uses code found (us ++ vs) ≡ with_uses code (with_uses code found us) vs
+  uses_two found us vs =
+      ap (fold with_new found) (filter_map-append (captured_binding_in code) us vs)
+      ∙ fold-append with_new found (filter_map (captured_binding_in code) us) (filter_map (captured_binding_in code) vs)
+
+  module _ (fall : KidsFall c.nodes) (t : Task) (rest new : List Task) (before after : List ℕ) where
     abbrev put : List Task
     put = tasks_of (assignment_at c.nodes (task_node t) (task_target t)) (met_in_form (form_of c.nodes (task_node t))) ++ rest
 
     code_now : code_of c.nodes (t ∷ rest) ≡ spot (task_node t) (task_target t) ∷ code_of c.nodes put
     code_now =
         let kids = tasks_of (assignment_at c.nodes (task_node t) (task_target t)) (met_in_form (form_of c.nodes (task_node t))) in
-        ap (λ (xs : List Spot). xs ++ code_of c.nodes rest) (code_read c.nodes laws (task_node t) (task_target t))
+        ap (λ (xs : List Spot). xs ++ code_of c.nodes rest) (code_read c.nodes fall (task_node t) (task_target t))
         ∙ ap (λ (xs : List Spot). spot (task_node t) (task_target t) ∷ xs) (sym (flat_map-append (λ (x : Task). code_under c.nodes (task_node x) (task_target x)) kids rest))
 
     -- one node is read
-    read_one : AreThere c.nodes (t ∷ rest) → after ≡ with_uses scopes outermost before (uses_at c (task_node t) (task_target t)) → new ≡ put → Reads c scopes outermost before (t ∷ rest) after new
+    read_one : AreThere c.nodes (t ∷ rest) → after ≡ with_uses code before (uses_at c (task_node t) (task_target t)) → new ≡ put → Reads code before (t ∷ rest) after new
     read_one there found is = record {
-      there = subst (AreThere c.nodes) (sym is) (kids_there c.nodes laws (task_node t) (assignment_at c.nodes (task_node t) (task_target t)) rest there.0 there.1);
+      there = subst (AreThere c.nodes) (sym is) (kids_there c.nodes fall (task_node t) (assignment_at c.nodes (task_node t) (task_target t)) rest there.0 there.1);
       finds =
-          ap (with_code c scopes outermost before) code_now
+          ap (λ (spots : List Spot). with_uses code before (flat_map (spot_uses c) spots)) code_now
           ∙ (uses_two before (uses_at c (task_node t) (task_target t)) (flat_map (spot_uses c) (code_of c.nodes put))
-          ∙ (ap (λ (xs : List ℕ). with_code c scopes outermost xs (code_of c.nodes put)) (sym found)
-          ∙ ap (λ (ts : List Task). with_code c scopes outermost after (code_of c.nodes ts)) (sym is)));
+          ∙ (ap (λ (xs : List ℕ). with_code code xs put) (sym found)
+          ∙ ap (with_code code after) (sym is)));
       shorter =
           let now = ap (length {A = Spot}) code_now in
           let left = ap (λ (ts : List Task). length (code_of c.nodes ts)) is in
           omega (arith, now, left);
     }
 
-  pub read_expr : Laws c.nodes → (id : ℕ) (x : Expr) (rest new : List Task) (before after : List ℕ) → slice_get c.nodes.exprs id ≡ Some x → AreThere c.nodes (task.Expr id ∷ rest) →
-      after ≡ with_uses scopes outermost before (uses_at c (node.Expr id) None) →
-      new ≡ tasks_of (if_assignment id (Some x)) (met_in_form (expr_form x)) ++ rest → Reads c scopes outermost before (task.Expr id ∷ rest) after new
-  read_expr laws id x rest new before after is there found put =
-      read_one laws (task.Expr id) rest new before after there found
+  pub read_expr : KidsFall c.nodes → (id : ℕ) (x : Expr) (rest new : List Task) (before after : List ℕ) → slice_get c.nodes.exprs id ≡ Some x → AreThere c.nodes (task.Expr id ∷ rest) →
+      after ≡ with_uses code before (uses_at c (node.Expr id) None) →
+      new ≡ tasks_of (if_assignment id (Some x)) (met_in_form (expr_form x)) ++ rest → Reads code before (task.Expr id ∷ rest) after new
+  read_expr fall id x rest new before after is there found put =
+      read_one fall (task.Expr id) rest new before after there found
       (put ∙ ap (λ (o : Option Expr). tasks_of (if_assignment id o) (met_in_form (form_at expr_form o)) ++ rest) (sym is))
 
-  pub read_pat : Laws c.nodes → (id : ℕ) (x : Pat) (a : Option ℕ) (rest new : List Task) (before after : List ℕ) → slice_get c.nodes.pats id ≡ Some x → AreThere c.nodes (pat_task a id ∷ rest) →
-      after ≡ with_uses scopes outermost before (uses_at c (node.Pat id) a) →
-      new ≡ tasks_of a (pat_calls x) ++ rest → Reads c scopes outermost before (pat_task a id ∷ rest) after new
-  read_pat laws id x None rest new before after is there found put =
-      read_one laws (task.Pat id) rest new before after there found
+  pub read_pat : KidsFall c.nodes → (id : ℕ) (x : Pat) (a : Option ℕ) (rest new : List Task) (before after : List ℕ) → slice_get c.nodes.pats id ≡ Some x → AreThere c.nodes (pat_task a id ∷ rest) →
+      after ≡ with_uses code before (uses_at c (node.Pat id) a) →
+      new ≡ tasks_of a (pat_calls x) ++ rest → Reads code before (pat_task a id ∷ rest) after new
+  read_pat fall id x None rest new before after is there found put =
+      read_one fall (task.Pat id) rest new before after there found
       (put ∙ ap (λ (o : Option Pat). tasks_of None (met_in_form (form_at pat_form o)) ++ rest) (sym is))
-  read_pat laws id x (Some a) rest new before after is there found put =
-      read_one laws (task.Target id a) rest new before after there found
+  read_pat fall id x (Some a) rest new before after is there found put =
+      read_one fall (task.Target id a) rest new before after there found
       (put ∙ ap (λ (o : Option Pat). tasks_of (Some a) (met_in_form (form_at pat_form o)) ++ rest) (sym is))
 
--- 2. The whole
+-- The whole
 
 -- each reached expression has a scope, along which its frames stand
 chains_are : (b : BodyContents) (scopes : Scopes) → ((x : ℕ) → IsSome (map.get scopes.scope_by_expr x) ↔ BodyReaches b (node.Expr x)) → ChainsAreFrames b.store.nodes (tops_of_body b) scopes → AreChains b (chain_in scopes)
@@ -91,16 +121,21 @@ chains_are b scopes reached chains x r = at (map.get scopes.scope_by_expr x) ref
   at None e h = absurd cc
   at (Some scope) e h = subst (λ (o : Option ℕ). HasChain b.store.nodes (tops_of_body b) x (chain scopes.scopes o)) (sym e) (chains x scope e)
 
-pub are_captures : (b : BodyContents) (scopes : Scopes) (closure scope : ℕ) (found : List ℕ) → ((x : ℕ) → IsSome (map.get scopes.scope_by_expr x) ↔ BodyReaches b (node.Expr x)) → ChainsAreFrames b.store.nodes (tops_of_body b) scopes →
-    map.get scopes.scope_by_expr closure ≡ Some scope → found ≡ with_code b.store scopes (length (chain scopes.scopes (Some scope))) [] (code_of b.store.nodes (task.Expr closure ∷ [])) → AreCaptures b closure found
+pub are_captures : (b : BodyContents) (code : Code) (closure scope : ℕ) (found : List ℕ) → code.store.now ≡ b.store → code.outermost ≡ length (chain code.scopes.now.scopes (Some scope)) →
+    ((x : ℕ) → IsSome (map.get code.scopes.now.scope_by_expr x) ↔ BodyReaches b (node.Expr x)) → ChainsAreFrames b.store.nodes (tops_of_body b) code.scopes.now →
+    map.get code.scopes.now.scope_by_expr closure ≡ Some scope → found ≡ with_code code [] (task.Expr closure ∷ []) → AreCaptures b closure found
 unfolding uses_in
-are_captures b scopes closure scope found reached chains is e = record {
-  chain = chain_in scopes;
-  are_chains = chains_are b scopes reached chains;
-  are =
-      e
-      ∙ (ap (λ (o : Option ℕ). with_code b.store scopes (length (chain scopes.scopes o)) [] (code_of b.store.nodes (task.Expr closure ∷ []))) (sym is)
-      ∙ ap (with_code b.store scopes (length (chain_in scopes closure)) []) (append-nil (code_under b.store.nodes (node.Expr closure) None)));
-}
+are_captures b code closure scope found same out reached chains is e =
+    let scopes = code.scopes.now in
+    let own : code.outermost ≡ length (chain_in scopes closure) = out ∙ ap (λ (o : Option ℕ). length (chain scopes.scopes o)) (sym is) in
+    let by : ℕ → Use → Option ℕ = λ n u. meaning_behind (length (chain_in scopes u.expr) - n) (chain_in scopes u.expr) u.name u.hygiene in
+    record {
+      chain = chain_in scopes;
+      are_chains = chains_are b scopes reached chains;
+      are =
+          e
+          ∙ (ap (λ (spots : List Spot). with_uses code [] (flat_map (spot_uses code.store.now) spots)) (append-nil (code_under code.store.now.nodes (node.Expr closure) None))
+          ∙ (λ i. fold with_new [] (filter_map (by (own i)) (uses_in (same i) closure))));
+    }
 
 pub ruleset reads = (read_expr, read_pat)

@@ -21,14 +21,16 @@ unless_within None found = option_map (λ (entry : ScopeEntry). entry.binding) f
 unless_within (Some entry) found = None
 
 -- the binding that a name means along a chain, unless the entry is in its innermost frames, of which there are this many
-abbrev pub meant_behind : ℕ → Chain → List ℕ → SyntaxContext → Option ℕ
-meant_behind innermost chain name hygiene = unless_within (resolve (take innermost chain) name hygiene) (resolve chain name hygiene)
+abbrev pub meaning_behind : ℕ → Chain → List ℕ → SyntaxContext → Option ℕ
+meaning_behind innermost chain name hygiene =
+    unless_within (resolve (take innermost chain) name hygiene) (resolve chain name hygiene)
 
 -- What a use captures: the binding that it resolves to, where the entry is in the closure's part of the chain. The closure's own chain
 -- is the outermost frames; those within them are between the use and the closure.
-abbrev pub captured : (ℕ → Chain) → ℕ → Use → Option ℕ
-captured chain closure use_ =
-    meant_behind (length (chain use_.expr) - length (chain closure)) (chain use_.expr) use_.name use_.hygiene
+abbrev pub captured_binding : (ℕ → Chain) → ℕ → Use → Option ℕ
+captured_binding chain closure use_ =
+    let at = chain use_.expr in
+    meaning_behind (length at - length (chain closure)) at use_.name use_.hygiene
 
 -- each number of a list once, where it comes first
 abbrev pub with_new : List ℕ → ℕ → List ℕ
@@ -39,11 +41,12 @@ each_once xs = fold with_new [] xs
 
 -- the captures of a closure, by the chain of each expression
 abbrev pub captures_by : (ℕ → Chain) → Contents → ℕ → List ℕ
-captures_by chain c closure = each_once (filter_map (captured chain closure) (uses_in c closure))
+captures_by chain c closure = each_once (filter_map (captured_binding chain closure) (uses_in c closure))
 
 -- each expression that the body reaches has this chain
 abbrev pub AreChains : BodyContents → (ℕ → Chain) → Type 0
-AreChains b chain = (expr : ℕ) → BodyReaches b (node.Expr expr) → HasChain b.store.nodes (tops_of_body b) expr (chain expr)
+AreChains b chain =
+    (expr : ℕ) → BodyReaches b (node.Expr expr) → HasChain b.store.nodes (tops_of_body b) expr (chain expr)
 
 pub record AreCaptures (b : BodyContents) (closure : ℕ) (captures : List ℕ) : Type 0 where
   pub chain : ℕ → Chain

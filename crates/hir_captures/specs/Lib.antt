@@ -1,5 +1,3 @@
 pub mod Uses
 pub mod Captures
-pub mod Pending
-pub mod Marks
-pub mod Reading
+pub mod walk

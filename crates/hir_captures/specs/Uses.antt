@@ -54,7 +54,8 @@ kid_code self assignment slot = in_code slot.base (self slot.kid (of_pattern slo
 
 -- a node, and the code of its kids in the order in which scopes are made
 abbrev pub code_step : Nodes → (NodeId → Option ℕ → List Spot) → NodeId → Option ℕ → List Spot
-code_step s self n assignment = spot n assignment ∷ flat_map (kid_code self (assignment_at s n assignment)) (slots s n)
+code_step s self n assignment =
+    spot n assignment ∷ flat_map (kid_code self (assignment_at s n assignment)) (slots s n)
 
 -- the code under a node, itself first
 unfoldable pub code_under : Nodes → NodeId → Option ℕ → List Spot
@@ -83,8 +84,10 @@ pat_uses hygiene (Some assignment) (Some (pat.Path path)) = use_of hygiene assig
 pat_uses hygiene assignment found = []
 
 abbrev pub uses_at : Contents → NodeId → Option ℕ → List Use
-uses_at c (node.Expr id) assignment = expr_uses (hygiene_of c.side_tables (ExprId id)) id (slice_get c.nodes.exprs id)
-uses_at c (node.Pat id) assignment = pat_uses (hygiene_of c.side_tables (PatId id)) assignment (slice_get c.nodes.pats id)
+uses_at c (node.Expr id) assignment =
+    expr_uses (hygiene_of c.side_tables (ExprId id)) id (slice_get c.nodes.exprs id)
+uses_at c (node.Pat id) assignment =
+    pat_uses (hygiene_of c.side_tables (PatId id)) assignment (slice_get c.nodes.pats id)
 uses_at c (node.TypeRef id) assignment = []
 
 abbrev pub spot_uses : Contents → Spot → List Use

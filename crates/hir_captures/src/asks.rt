@@ -1,7 +1,7 @@
 //! The binding that a use captures.
 ghost use Rattle.std.specs.Prelude.{◌≡◌, ◌<◌, ◌-◌, length, Some};
 ghost use Rattle.hir_scope.specs.Paths.{chain};
-ghost use Rattle.hir_captures.specs.Captures.{meant_behind};
+ghost use Rattle.hir_captures.specs.Captures.{meaning_behind};
 
 use hir_base::HygieneId;
 use hir_node::BindingId;
@@ -27,7 +27,7 @@ pub(crate) fn depth(scopes: &ExprScopes, scope: ScopeId) -> usize
 /// The binding that a use of this name and hygiene in this scope captures: the one that it resolves to, where the entry is in one of
 /// the outermost scopes of the chain, of which there are this many.
 // The chain is gone along once: up to where the name is found by its entries, and from there on by its parents.
-pub(crate) fn captured(
+pub(crate) fn captured_binding(
     scopes: &ExprScopes,
     scope: ScopeId,
     name: &str,
@@ -35,7 +35,7 @@ pub(crate) fn captured(
     outermost: usize,
 ) -> Option<BindingId>
     requires { scope < length scopes.now.scopes }
-    ensures { result ≡ meant_behind (length (chain scopes.now.scopes (Some scope)) - outermost)
+    ensures { result ≡ meaning_behind (length (chain scopes.now.scopes (Some scope)) - outermost)
         (chain scopes.now.scopes (Some scope)) name.now hygiene }
 {
     scopes.parents_stand_earlier();

@@ -7,9 +7,10 @@ ghost use Rattle.hir_scope.specs.Built.{ChainsAreFrames, tops_of_body};
 ghost use Rattle.hir_captures.specs.Captures.{AreCaptures, IsClosure, IsReachedClosure};
 
 use crate::asks::depth;
+use crate::binding_list::BindingList;
+use crate::code::Code;
 use crate::fault::CapturesFault;
-use crate::tasks::Task;
-use crate::walk::Walk;
+use crate::unread::{Task, Unread};
 use hir_expr_store::ExpressionStore;
 use hir_items::Body;
 use hir_node::{BindingId, Expr, ExprId};
@@ -32,15 +33,7 @@ fn scope_of_closure(
     if !store.has_expr(closure) {
         return None;
     }
-    if let Expr::Closure {
-        args: _,
-        arg_types: _,
-        ret_type: _,
-        body: _,
-        closure_kind: _,
-        capture_by: _,
-    } = &store[closure]
-    {
+    if let Expr::Closure { .. } = &store[closure] {
         return scopes.scope_for(closure);
     }
     None
@@ -70,8 +63,14 @@ pub fn captures(
     let Some(scope) = scope_of_closure(store, scopes, closure) else {
         return Err(CapturesFault::NotAClosure);
     };
-    let mut walk = Walk::new(alloc, store.bindings().len())?;
-    walk.tasks.push(Task::Expr(closure))?;
-    walk.read_all(store, scopes, depth(scopes, scope))?;
-    Ok(walk.found.into_bindings())
+    let code = Code {
+        store,
+        scopes,
+        outermost: depth(scopes, scope),
+    };
+    let mut found = BindingList::new(alloc, store.bindings().len())?;
+    let mut unread = Unread::new(alloc);
+    unread.stack.push(Task::Expr(closure))?;
+    code.read_all(&mut unread, &mut found)?;
+    Ok(found.into_bindings())
 }

@@ -1,7 +1,9 @@
 //! Why captures were not answered.
+ghost use Rattle.std.specs.Prelude.{◌≡◌};
 ghost use Rattle.hir_base.specs.Exact.{exact};
 
 use hir_base::ExactEq;
+use std::alloc::AllocError;
 use thiserror::Error;
 
 /// Why the captures of an expression were not answered. Its text is its name.
@@ -17,4 +19,14 @@ pub enum CapturesFault {
 
 impl ExactEq for CapturesFault {
     ghost eq_decides = { Prim.search exact };
+}
+
+impl From<AllocError> for CapturesFault {
+    ghost use Rattle.hir_captures.specs.declared.fault.CapturesFault.TheVariants as fault;
+
+    ghost from_gives = { λ _ made. made ≡ fault.Memory };
+
+    fn from(_: AllocError) -> CapturesFault {
+        CapturesFault::Memory
+    }
 }

@@ -8,8 +8,8 @@ ghost use Rattle.hir_scope.specs.Frames.{Chain};
 ghost use Rattle.hir_captures.specs.Captures.{AreCaptures, AreChains, IsOn, IsReachedClosure};
 ghost use Rattle.hir_captures.specs.Uses.{code_step, code_under, uses_in};
 
-use hir_expr_store::laws::{kids_fall, kids_of_reached_are_reached, who_has_kids_is_there};
-use hir_scope::laws::{a_reached_node_has_one_chain, slots_hold_the_kids};
+use hir_expr_store::laws::{kids_fall, kids_of_reached_are_reached};
+use hir_scope::laws::a_reached_node_has_one_chain;
 
 /// The code under a node is the node, and then the code under its kids, in the order in which scopes are made.
 pub fn code_is_its_step()
@@ -17,8 +17,6 @@ pub fn code_is_its_step()
         → code_under c.nodes n assignment ≡ code_step c.nodes (code_under c.nodes) n assignment }
 {
     kids_fall();
-    who_has_kids_is_there();
-    slots_hold_the_kids();
 }
 
 /// The chain of each use in a closure of a body is some frames put on the closure's own.
@@ -28,8 +26,6 @@ pub fn uses_stand_on_their_closure()
         → All (λ one. IsOn (chain closure) (chain one.expr)) (uses_in b.store closure) }
 {
     kids_fall();
-    who_has_kids_is_there();
-    slots_hold_the_kids();
     kids_of_reached_are_reached();
     a_reached_node_has_one_chain();
 }
@@ -41,8 +37,6 @@ pub fn captures_are_one()
         → AreCaptures b closure xs → AreCaptures b closure ys → xs ≡ ys }
 {
     kids_fall();
-    who_has_kids_is_there();
-    slots_hold_the_kids();
     kids_of_reached_are_reached();
     a_reached_node_has_one_chain();
 }

@@ -2,13 +2,12 @@
 #![tactic(auto)]
 
 mod asks;
+mod binding_list;
 mod closures;
+mod code;
 mod fault;
-mod found;
-mod kids;
 pub mod laws;
-mod tasks;
-mod walk;
+mod unread;
 
 pub use closures::captures;
 pub use fault::CapturesFault;

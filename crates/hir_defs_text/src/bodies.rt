@@ -45,7 +45,8 @@ pub(crate) fn make<F: Drop, S: Drop, P: Drop, V: Drop, M: Drop>(
     let params = pending.take_params(alloc);
     match Body::new(alloc, store, params, pending.take_self()) {
         Ok(body) => {
-            done(tables.add_body(*def, body, BodySourceMap::new(sources, None)))?;
+            let sources = BodySourceMap::new(sources, pending.take_self_source());
+            done(tables.add_body(*def, body, sources))?;
             accepted(ExpressionStoreOwnerId::Body(*def), answer)
         }
         Err(refused) => {

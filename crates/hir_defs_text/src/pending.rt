@@ -1,14 +1,16 @@
-//! What waits for the next body, signature or fields: parameters, `self`, generic parameters, predicates and fields.
+//! What waits for the next body, signature or fields: parameters, `self` and its source, generic parameters, predicates and fields.
 
 use crate::fields::read_field;
-use hir_base::{Arena, Idx, LifetimeParamKind, Seq, TryClone, TypeOrConstParamKind};
+use hir_base::{
+    Arena, Idx, InFile, LifetimeParamKind, SelfParamPtr, Seq, TryClone, TypeOrConstParamKind,
+};
 use hir_defs::{
     FieldData, GenericParams, LifetimeParamData, Param, TypeOrConstParamData, WherePredicate,
 };
 use hir_node::{BindingId, PatId};
 use hir_notation::{
-    Stop, Words, read_const_param, read_lifetime_param, read_type_param, read_where,
-    read_where_lifetime,
+    Stop, Words, next_source, pointer, read_const_param, read_lifetime_param, read_type_param,
+    read_where, read_where_lifetime,
 };
 use hir_words::value_of;
 use std::alloc::Global;
@@ -19,6 +21,7 @@ use std::mem;
 pub struct Pending {
     params: Seq<Param<PatId>>,
     self_param: Option<Param<BindingId>>,
+    self_source: Option<InFile<SelfParamPtr>>,
     type_or_consts: Arena<TypeOrConstParamKind, TypeOrConstParamData>,
     lifetimes: Arena<LifetimeParamKind, LifetimeParamData>,
     predicates: Seq<WherePredicate>,
@@ -44,6 +47,7 @@ fn read_param<K>(words: &mut Words<'_>) -> Result<Param<Idx<K>>, Stop> {
 enum Kind {
     Param,
     SelfParam,
+    SelfSource,
     TypeParam,
     ConstParam,
     LifetimeParam,
@@ -52,9 +56,10 @@ enum Kind {
     Field,
 }
 
-const KINDS: [(&str, Kind); 8] = [
+const KINDS: [(&str, Kind); 9] = [
     ("param", Kind::Param),
     ("self", Kind::SelfParam),
+    ("self-source", Kind::SelfSource),
     ("type-param", Kind::TypeParam),
     ("const-param", Kind::ConstParam),
     ("lifetime-param", Kind::LifetimeParam),
@@ -80,6 +85,7 @@ impl Pending {
         Pending {
             params: Seq::new(alloc),
             self_param: None,
+            self_source: None,
             type_or_consts: Arena::new(alloc),
             lifetimes: Arena::new(alloc),
             predicates: Seq::new(alloc),
@@ -93,6 +99,10 @@ impl Pending {
             Kind::Param => push(&mut self.params, read_param(words)),
             Kind::SelfParam => {
                 self.self_param = Some(read_param(words)?);
+                Ok(())
+            }
+            Kind::SelfSource => {
+                self.self_source = Some(pointer(next_source(words)?));
                 Ok(())
             }
             Kind::TypeParam => put(&mut self.type_or_consts, read_type_param(words, alloc)),
@@ -127,6 +137,11 @@ impl Pending {
     /// Takes the `self`, where there is one.
     pub(crate) fn take_self(&mut self) -> Option<Param<BindingId>> {
         self.self_param.take()
+    }
+
+    /// Takes where the `self` is written, where that is known.
+    pub(crate) fn take_self_source(&mut self) -> Option<InFile<SelfParamPtr>> {
+        self.self_source.take()
     }
 
     /// Lets the parts of a body that was refused wait again.

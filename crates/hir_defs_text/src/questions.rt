@@ -5,14 +5,19 @@ use crate::generics;
 use crate::signature_text::{write_function, write_plain, write_struct, write_variant};
 use crate::signatures::as_plain;
 use hir_base::{
-    CrateId, Edition, EnumVariantId, FunctionId, GenericDefId, NamedDef, StructId, VariantId,
+    CrateId, DefWithBodyId, Edition, EnumVariantId, FunctionId, GenericDefId, NamedDef, StructId,
+    VariantId,
 };
 use hir_defs::{
-    FunctionSignature, GenericParams, PlainDef, PlainSignature, StructSignature, Tables, TablesOf,
-    VariantFields,
+    Bodies, Body, BodySourceMap, FunctionSignature, GenericParams, PlainDef, PlainSignature,
+    Signatures, StructSignature, Tables, TablesOf, VariantFields,
 };
-use hir_notation::{Answer, Stop, Words, as_generic, as_named, as_variant, next_def, next_edition};
-use hir_store_text::refuse_missing;
+use hir_notation::{
+    Answer, Stop, Words, as_def_with_body, as_generic, as_named, as_variant, next_def,
+    next_edition, syntax, write_source,
+};
+use hir_store::ExpressionStore;
+use hir_store_text::{differs, refuse_missing};
 use hir_words::value_of;
 use std::alloc::{AllocError, Global};
 
@@ -28,10 +33,11 @@ enum Kind {
     Struct,
     Plain,
     Variant,
+    SelfSyntax,
     Generics(generics::Kind),
 }
 
-const KINDS: [(&str, Kind); 20] = [
+const KINDS: [(&str, Kind); 21] = [
     ("name-of", Kind::Name),
     ("crate-name-of", Kind::CrateName),
     ("parent-of", Kind::Parent),
@@ -41,6 +47,7 @@ const KINDS: [(&str, Kind); 20] = [
     ("struct-of", Kind::Struct),
     ("plain-of", Kind::Plain),
     ("variant-of", Kind::Variant),
+    ("self-syntax", Kind::SelfSyntax),
     ("generics", Kind::Generics(generics::Kind::Counts)),
     ("params", Kind::Generics(generics::Kind::TypesAndConsts)),
     ("lifetimes", Kind::Generics(generics::Kind::Lifetimes)),
@@ -78,6 +85,7 @@ enum Question {
     Struct(StructId),
     Plain(PlainDef),
     Variant(VariantId),
+    SelfSyntax(DefWithBodyId),
     Generics(generics::Question, GenericDefId),
 }
 
@@ -111,6 +119,7 @@ fn read(alloc: Global, kind: Kind, words: &mut Words<'_>) -> Result<Question, St
         Kind::Struct => Ok(Question::Struct(words.next_def()?)),
         Kind::Plain => Ok(Question::Plain(as_plain(next_def(words)?)?)),
         Kind::Variant => Ok(Question::Variant(as_variant(next_def(words)?)?)),
+        Kind::SelfSyntax => Ok(Question::SelfSyntax(as_def_with_body(next_def(words)?)?)),
         Kind::Generics(kind) => read_generics(alloc, kind, words),
     }
 }
@@ -203,6 +212,33 @@ fn variant<F: Drop, S: Drop, P: Drop, B: Drop, M: Drop, N: Drop>(
     }
 }
 
+/// Whether a source map and its part of the store equal themselves.
+fn equals_itself(map: &BodySourceMap) -> bool {
+    map.store() == map.store() && *map == *map
+}
+
+/// Writes where the `self` of a body is written, or `none`.
+fn write_self_syntax(map: &BodySourceMap, answer: &mut Answer) -> Result<(), AllocError> {
+    if !equals_itself(map) {
+        return differs(answer);
+    }
+    match map.self_param_syntax() {
+        Some(source) => write_source(syntax(source), answer),
+        None => answer.word("none"),
+    }
+}
+
+fn self_syntax<T: Bodies>(
+    tables: &T,
+    def: &DefWithBodyId,
+    answer: &mut Answer,
+) -> Result<(), AllocError> {
+    match Body::with_source_map(tables, *def) {
+        Ok((_, map)) => write_self_syntax(map, answer),
+        Err(missing) => refuse_missing(missing, answer),
+    }
+}
+
 fn generic_params(
     tables: &Tables,
     question: &generics::Question,
@@ -227,8 +263,48 @@ fn write(tables: &Tables, question: &Question, answer: &mut Answer) -> Result<()
         Question::Struct(id) => structure(tables, *id, answer),
         Question::Plain(def) => plain(tables, def, answer),
         Question::Variant(id) => variant(tables, id, answer),
+        Question::SelfSyntax(def) => self_syntax(tables, def, answer),
         Question::Generics(question, def) => generic_params(tables, question, def, answer),
     }
+}
+
+/// Whether the parameters of a definition are these by each call that looks them up, and their store is this one.
+fn are_beside<T: Signatures>(
+    tables: &T,
+    def: &GenericDefId,
+    params: &GenericParams,
+    store: &ExpressionStore,
+) -> bool {
+    let Ok(alone) = GenericParams::of(tables, *def) else {
+        return false;
+    };
+    let Ok((beside, same_store)) = GenericParams::with_store(tables, *def) else {
+        return false;
+    };
+    *alone == *params && *beside == *params && *same_store == *store
+}
+
+/// `beside DEF QUESTION`: asks the store and the source map that are looked up with the generic parameters of a definition.
+fn ask_beside<T: Signatures>(
+    alloc: Global,
+    tables: &T,
+    words: &mut Words<'_>,
+    answer: &mut Answer,
+) -> Result<bool, Stop> {
+    let def = next_generic(words)?;
+    let word = words.next_keyword()?;
+    let (params, store, sources) = match GenericParams::with_source_map(tables, def) {
+        Ok(entry) => entry,
+        Err(missing) => {
+            refuse_missing(missing, answer)?;
+            return Ok(true);
+        }
+    };
+    if !are_beside(tables, &def, params, store) {
+        differs(answer)?;
+        return Ok(true);
+    }
+    hir_store_text::ask(alloc, store, sources, word, words, answer)
 }
 
 /// Answers a question on the tables; answers whether it is such a question.
@@ -239,6 +315,9 @@ pub fn ask(
     words: &mut Words<'_>,
     answer: &mut Answer,
 ) -> Result<bool, Stop> {
+    if word == b"beside".as_slice() {
+        return ask_beside(alloc, tables, words, answer);
+    }
     let Some(question) = read_line(alloc, word, words)? else {
         return Ok(false);
     };

@@ -31,11 +31,11 @@ abbrev pub NextTakes : Option (List ℕ) → Option (List ℕ) → Option (List 
     Result Bool LineFault → Type 0
 NextTakes known known' remaining old new (Ok true) = TakesTold known known' new.line new.at_end
 NextTakes known known' remaining old new (Ok false) =
-    IsAtEnd known × IsAtEnd known' × (new.pending ≡ []) × (new.at_end ≡ true)
+    IsAtEnd known × IsAtEnd known' × (new.line ≡ []) × (new.pending ≡ []) × (new.at_end ≡ true)
 NextTakes known known' remaining old new (Err InputFailed) =
     IsBegunLine known remaining new.pending × (old.at_end ≡ false) × (new.at_end ≡ false)
 NextTakes known known' remaining old new (Err OutputFailed) = Keeps known known'
-NextTakes known known' remaining old new (Err OutOfMemory) = Keeps known known'
+NextTakes known known' remaining old new (Err OutOfMemory) = Keeps known known' × (new.line ≡ [])
 
 -- what becomes of the bytes that the sink has and of those that wait
 abbrev pub NextWrites : Option (List ℕ) → Option (List ℕ) → List ℕ → List ℕ → Result Bool LineFault → Type 0

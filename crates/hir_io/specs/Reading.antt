@@ -9,17 +9,17 @@ use Rattle.hir_io.specs.Ends.{IsKeptOrUntold}
 use Rattle.hir_io.specs.Text.{HasNoLineEnd, TakesLine}
 use Rattle.hir_io.specs.LineState.{LineState}
 
+-- without the line taken last
+abbrev pub without_line : LineState → LineState
+without_line old = record old { line = [] }
+
 -- what taking a line does, without a read
 abbrev pub Takes : LineState → LineState → Taken → Type 0
 Takes old new Line =
     TakesLine old.pending new.pending new.line old.at_end × (new.at_end ≡ old.at_end)
     × (new.count ≡ old.count + 1)
 Takes old new More = (new ≡ old) × (old.at_end ≡ false) × HasNoLineEnd old.pending
-Takes old new End = (new ≡ old) × (old.at_end ≡ true) × (old.pending ≡ [])
-
--- without the line taken last
-abbrev pub without_line : LineState → LineState
-without_line old = record old { line = [] }
+Takes old new End = (new ≡ without_line old) × (old.at_end ≡ true) × (old.pending ≡ [])
 
 -- a read gave these bytes; none of them mean the end
 abbrev pub with_bytes : LineState → List ℕ → LineState

@@ -135,7 +135,7 @@ impl LineReader {
         })
     }
 
-    /// The line taken last, without its end; empty before the first, and once more bytes were asked for.
+    /// The line taken last, without its end; empty before the first, once more bytes were asked for, and once all lines were taken.
     pub fn line(&self) -> &[u8]
         ensures { result.now ≡ self.now.line }
     {
@@ -171,6 +171,8 @@ impl LineReader {
                     return Taken::More;
                 }
                 if self.start == self.filled {
+                    self.line_start = 0;
+                    self.line_end = 0;
                     return Taken::End;
                 }
                 self.line_start = self.start;

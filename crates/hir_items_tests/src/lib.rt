@@ -1,7 +1,9 @@
-//! What rows of text can't ask of `hir_items` and `hir_generics`: parts that come back, generic parameters one by one, orders from both
-//! ends, parameters that are compared, and refusals as errors. What is accepted, and why not, is in the rows of `hir_rows`.
+//! What rows of text can't ask of `hir_items`, `hir_generics` and `hir_defs`: parts that come back, generic parameters one by one, orders
+//! from both ends, parameters that are compared, and refusals as errors. What is accepted, and why not, is in the rows of `hir_rows`.
 #![tactic(auto)]
 
+#[cfg(test)]
+mod additions;
 #[cfg(test)]
 mod bodies;
 #[cfg(test)]

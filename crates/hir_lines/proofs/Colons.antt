@@ -7,9 +7,9 @@ use Rattle.hir_node.specs.declared.expr_types.MatchArm.{MatchArm}
 use Rattle.hir_node.specs.declared.expr_types.Statement.{Statement}
 use Rattle.hir_node.specs.declared.expr_types.Statement.TheVariants.{Let, Expr, Item}
 use Rattle.hir_node.specs.declared.expr_types.Item.TheVariants.{MacroDef, Other}
-use Rattle.hir_lines.specs.Readings.{gives, whole, parts_of}
+use Rattle.hir_lines.specs.Readings.{whole, parts_of}
 use Rattle.hir_lines.specs.Words.{one_of}
-use Rattle.hir_lines.specs.ArmsAndStatements.{arm, arm_of, statement_of, statement_forms, let_statement, semi_statement, expr_statement, macro_statement}
+use Rattle.hir_lines.specs.ArmsAndStatements.{arm, arm_of, statement_of, statement_forms, let_statement, expr_statement, macro_statement, item_statement}
 use Rattle.hir_lines.specs.Tokens.{Token, Word, Number, Optional, IsWord, IsNumber, IsArm, IsStatement, colons}
 use Rattle.hir_lines.proofs.Forms.{Accepts, accept_head, whole_read, whole_found, Sound, sound_one_of, AllSound, no_form, form}
 use Rattle.hir_lines.proofs.Takes.{accepting, sounding}
@@ -32,11 +32,11 @@ accepts_arm a = search accepting
 
 accepts_statement : (s : Statement) → Accepts (statement_tokens s) (one_of statement_forms) s
 unfolding statement_tokens
-accepts_statement (Let pat type_ref initializer else_branch) = accept_head statement_forms _ let_statement refl refl (search accepting)
-accepts_statement (Expr expr true) = accept_head statement_forms _ semi_statement refl refl (search accepting)
-accepts_statement (Expr expr false) = accept_head statement_forms _ expr_statement refl refl (search accepting)
-accepts_statement (Item (MacroDef definition)) = accept_head statement_forms _ macro_statement refl refl (search accepting)
-accepts_statement (Item Other) = accept_head statement_forms _ (gives (Item Other)) refl refl (search accepting)
+accepts_statement (Let pat type_ref initializer else_branch) = accept_head statement_forms _ let_statement refl (search accepting)
+accepts_statement (Expr expr true) = accept_head statement_forms _ (expr_statement true) refl (search accepting)
+accepts_statement (Expr expr false) = accept_head statement_forms _ (expr_statement false) refl (search accepting)
+accepts_statement (Item (MacroDef definition)) = accept_head statement_forms _ macro_statement refl (search accepting)
+accepts_statement (Item Other) = accept_head statement_forms _ item_statement refl (search accepting)
 
 -- these tokens are the node's
 abbrev Has : {Y : Type 0} → (Y → List Token) → Y → List Token → Type 0

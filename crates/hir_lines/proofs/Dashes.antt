@@ -4,10 +4,9 @@ use Rattle.std.specs.Prelude.{codes, if◌then◌else◌}
 use Rattle.std.specs.Option.{option_map}
 use Rattle.std.specs.Str.{bytes_eq}
 use Rattle.hir_lines.specs.Numerals.{number_of}
-use Rattle.hir_lines.specs.Parts.{Parted, StartsOtherwise, parted}
-use Rattle.hir_lines.specs.Readings.{all_of, comma, each, is_byte, parts_of}
-use Rattle.hir_lines.specs.Words.{list, list_of, number, optional, optional_of}
-use Rattle.hir_lines.proofs.Splits.{parts_begin}
+use Rattle.hir_lines.specs.Readings.{StartsOtherwise, parts_of}
+use Rattle.hir_lines.specs.Words.{number, optional, optional_of}
+use Rattle.hir_lines.proofs.Fronts.{Begins, begins_with}
 use Rattle.hir_lines.proofs.Spellings.{same_bytes}
 
 as_number : (word : List ℕ) (words : List (List ℕ)) (dash : Bool) → bytes_eq word (codes "-") ≡ dash → (dash ≡ true → ⊥) →
@@ -32,27 +31,11 @@ pub dash_read : (words : List (List ℕ)) → optional (codes "-" ∷ words) ≡
 unfolding optional_of
 dash_read words = refl
 
--- where no dash comes first a list is the numbers that are the parts of the first word
-as_numbers : (word : List ℕ) (words : List (List ℕ)) (dash : Bool) → bytes_eq word (codes "-") ≡ dash → (dash ≡ true → ⊥) →
-    list (word ∷ words) ≡ option_map (λ (ids : List ℕ). (ids, words)) (all_of number_of (parts_of comma word))
-unfolding list_of
-as_numbers word words true e none = absurd (none refl)
-as_numbers word words false e none = ap (λ (b : Bool). option_map (λ (ids : List ℕ). (ids, words)) (if b then Some [] else all_of number_of (parts_of comma word))) e
-
-all_read : (o : Option (List ℕ)) (ids : List ℕ) (left : List (List ℕ)) → option_map {U = List ℕ × List (List ℕ)} (λ (xs : List ℕ). (xs, [])) o ≡ Some (ids, left) → o ≡ Some ids
-all_read None ids left e = cc
-all_read (Some xs) ids left e = ap (option_map (λ (f : List ℕ × List (List ℕ)). f.0)) e
-
-pub list_read : (c : ℕ) (text : List ℕ) → StartsOtherwise (codes "-") (parts_of c text) →
-    (old new : Parted) (ids : List ℕ) (words : List (List ℕ)) → old ≡ parted comma (parts_of c text) → each number_of old.0 ≡ Some (ids, new.0) → new.1 ≡ old.1 → new ≡ ([], words) →
-    list (parts_of c text) ≡ Some (ids, words)
-list_read c text plain old new ids words is read same ends =
-    let first = parts_begin (is_byte c) text in
-    let parts : parts_of c text ≡ first.0 ∷ first.1 = first.2 in
-    let seen : old ≡ (parts_of comma first.0, first.1) = is ∙ ap (parted comma) parts in
-    let behind : first.1 ≡ words = sym (ap (λ (p : Parted). p.1) seen) ∙ sym same ∙ ap (λ (p : Parted). p.1) ends in
-    let all : all_of number_of (parts_of comma first.0) ≡ Some ids = ap (λ (p : Parted). all_of number_of p.0) (sym seen) ∙ all_read _ ids new.0 read in
-    ap list parts
-    ∙ as_numbers first.0 first.1 _ refl (λ dash. plain first.1 (parts ∙ ap (λ w. w ∷ first.1) (same_bytes first.0 (codes "-") dash)))
-    ∙ ap (option_map (λ (xs : List ℕ). (xs, first.1))) all
-    ∙ ap (λ (left : List (List ℕ)). Some (ids, left)) behind
+-- no dash is a word where dashes separate
+pub no_dash : (c : ℕ) → c ≡ 45 → (text : List ℕ) → StartsOtherwise (codes "-") (parts_of c text)
+no_dash c is text = λ others e.
+    let parts : parts_of 45 text ≡ codes "-" ∷ others = ap (λ d. parts_of d text) (sym is) ∙ e in
+    let front : Begins text (codes "-") = begins_with 45 text (codes "-") others parts in
+    let empty : parts_of 45 text ≡ [] ∷ parts_of 45 front.0 = ap (parts_of 45) front.1 in
+    let wrong : codes "-" ∷ others ≡ [] ∷ parts_of 45 front.0 = sym parts ∙ empty in
+    cc

@@ -1,13 +1,11 @@
 -- What digits stand for, digit by digit.
-use Rattle.std.proofs.Common.{Option, ◌≡◌, ◌≢◌, ◌+◌, ◌-◌, ◌*◌, ◌<◌, ◌≤◌, ◌^◌, ℕ, Some, None, List, [], ◌∷◌, take, drop, length, get_or, sym, ap, ◌∙◌, arith, take-append-drop, fold, Bool, true, false, refl, inl, inr}
+use Rattle.std.proofs.Common.{Option, ◌≡◌, ◌≢◌, ◌+◌, ◌-◌, ◌*◌, ◌<◌, ◌≤◌, ◌^◌, ℕ, Some, None, List, [], ◌∷◌, take, drop, length, get_or, sym, ap, ◌∙◌, arith, take-append-drop, fold, Bool, true, false, refl, zero, suc, length-take}
 use Rattle.std.specs.Prelude.{if◌then◌else◌}
 use Rattle.std.specs.List.{list_all}
-use Rattle.std.proofs.lemmas.Grind.{common_steps, fold-append}
+use Rattle.std.proofs.lemmas.Grind.{common_steps, fold-append, pow_more}
 use Rattle.std.proofs.lemmas.Bool.Decides.{nat_tests}
-use Rattle.std.proofs.lemmas.Bool.{cases_lt, false≢true}
-use Rattle.std.proofs.lemmas.List.Sums.{prefix_len_stops}
-use Rattle.hir_lines.proofs.Prefixes.{passes_in_front, all_pass, not_all}
-use Rattle.hir_lines.specs.Numerals.{value, if_below, is_digit, digits_len, number_of, has_needless_zero, is_numeral}
+use Rattle.hir_lines.proofs.Prefixes.{not_all}
+use Rattle.hir_lines.specs.Numerals.{value, if_below, is_digit, number_of, has_needless_zero, is_numeral}
 
 grows : (bs : List ℕ) (n : ℕ) → n ≤ fold (λ n b. 10 * n + (b - 48)) n bs
 grows [] n = omega arith
@@ -33,34 +31,35 @@ chosen_none : (b : Bool) (o : Option ℕ) → o ≡ None → (if b then o else N
 chosen_none true o e = e
 chosen_none false o e = refl
 
-pub digit_of_front : (xs : List ℕ) (i k : ℕ) → i ≤ length xs → list_all is_digit (take i xs) ≡ true → k < i → is_digit (get_or xs k 0) ≡ true
-digit_of_front = passes_in_front is_digit
+-- a text of whose front the value is too large is no number
+pub too_large : (xs : List ℕ) (i : ℕ) → 2 ^ 32 ≤ value (take i xs) → if_below (2 ^ 32) (value xs) ≡ None
+too_large xs i large = if_below-large (value xs) (omega (arith, value-front xs i, large))
 
-further : (xs : List ℕ) (i : ℕ) → i < length xs → list_all is_digit (take i xs) ≡ true → is_digit (get_or xs i 0) ≡ true → i < digits_len xs
-further xs i h all digit =
-    elim (cases_lt i (digits_len xs)) [
-      | inl fine ↦ fine
-      | inr short ↦
-          let stop : is_digit (get_or xs (digits_len xs) 0) ≡ false = prefix_len_stops is_digit xs 0 (omega arith) in
-          elim (cases_lt (digits_len xs) i) [
-            | inl before ↦ absurd (false≢true (sym stop ∙ digit_of_front xs i (digits_len xs) (omega arith) all before))
-            | inr past ↦
-                let same : digits_len xs ≡ i = omega arith in
-                absurd (false≢true (sym stop ∙ rw same digit))
-          ]
-    ]
+-- digits of which the first is no zero have at least the value of a one and zeros
+pub value-long : (xs : List ℕ) (k : ℕ) → k < length xs → 48 < get_or xs 0 0 → 10 ^ k ≤ value (take (k + 1) xs)
+value-long xs zero h first = omega (arith, value-next xs 0 h, first)
+value-long xs (suc k) h first =
+    let one : suc k ≡ k + 1 = omega arith in
+    let same : value (take (suc k) xs) ≡ value (take (k + 1) xs) = ap (λ n. value (take n xs)) one in
+    let power : 10 ^ suc k ≡ 10 ^ (k + 1) = ap (λ n. 10 ^ n) one in
+    omega (arith, value-next xs (suc k) h, same, power, pow_more 10 k, value-long xs k (omega arith) first)
 
--- what is too large at some digit stays so up to the last of them
-pub too_large_front : (xs : List ℕ) (i : ℕ) → i < length xs → list_all is_digit (take i xs) ≡ true → is_digit (get_or xs i 0) ≡ true → 2 ^ 32 ≤ 10 * value (take i xs) + (get_or xs i 0 - 48) → if_below (2 ^ 32) (value (take (digits_len xs) xs)) ≡ None
-too_large_front xs i h all digit large =
-    let more = further xs i h all digit in
-    let front = value-front (take (digits_len xs) xs) (i + 1) in
-    let same : take (i + 1) (take (digits_len xs) xs) ≡ take (i + 1) xs = grind (arith, common_steps) in
-    let front' : value (take (i + 1) xs) ≤ value (take (digits_len xs) xs) = rw same at front in
-    if_below-large (value (take (digits_len xs) xs)) (omega (arith, front', value-next xs i h))
+pub no_zero : (xs : List ℕ) → 1 < length xs → list_all is_digit xs ≡ true → has_needless_zero xs ≡ false → 48 < get_or xs 0 0
+no_zero [] h all plain = absurd (omega (arith, h))
+no_zero (b ∷ bs) h all plain = grind (arith, nat_tests)
 
-pub all_digits : (xs : List ℕ) → list_all is_digit (take (digits_len xs) xs) ≡ true
-all_digits = all_pass is_digit
+needless_whole : (xs : List ℕ) (i : ℕ) → has_needless_zero (take i xs) ≡ true → has_needless_zero xs ≡ true
+needless_whole [] zero e = grind (arith, nat_tests)
+needless_whole [] (suc i) e = grind (arith, nat_tests)
+needless_whole (b ∷ bs) zero e = grind (arith, nat_tests)
+needless_whole (b ∷ bs) (suc i) e = grind (arith, nat_tests, length-take)
+
+digit_high : (b : ℕ) → is_digit b ≡ true → b ≤ 57
+digit_high b e = grind (arith, nat_tests)
+
+-- digits and one more stay below the next power of ten
+pub digit_more : (e v b : ℕ) → v < 10 ^ e → is_digit b ≡ true → 10 * v + (b - 48) < 10 ^ (e + 1)
+digit_more e v b small digit = omega (arith, small, digit_high b digit, pow_more 10 e)
 
 -- a text in which something is no digit is no number
 pub no_number : (xs : List ℕ) (i : ℕ) → i < length xs → is_digit (get_or xs i 0) ≡ false → number_of xs ≡ None
@@ -73,9 +72,12 @@ pub no_number-empty : (xs : List ℕ) → length xs ≡ 0 → number_of xs ≡ N
 unfolding number_of
 no_number-empty xs e = grind (arith, common_steps)
 
-pub no_number-needless : (xs : List ℕ) → has_needless_zero xs ≡ true → number_of xs ≡ None
+needless_alone : (xs : List ℕ) → has_needless_zero xs ≡ true → number_of xs ≡ None
 unfolding number_of
-no_number-needless xs e = grind (arith, common_steps)
+needless_alone xs e = grind (arith, common_steps)
+
+pub no_number-needless : (xs : List ℕ) (i : ℕ) → has_needless_zero (take i xs) ≡ true → number_of xs ≡ None
+no_number-needless xs i e = needless_alone xs (needless_whole xs i e)
 
 pub no_number-large : (xs : List ℕ) → if_below (2 ^ 32) (value xs) ≡ None → number_of xs ≡ None
 unfolding number_of

@@ -7,7 +7,6 @@ use Rattle.std.specs.Str.{bytes_eq}
 use Rattle.std.proofs.lemmas.Slice.Eq.{bytes_eq-Decides}
 use Rattle.hir_lines.specs.Readings.{Reading, ◌>>=◌, gives, first_word, each, all_of, look_up, whole, alone}
 use Rattle.hir_lines.specs.Words.{by, one_of}
-use Rattle.hir_lines.specs.Names.{ascii_of}
 use Rattle.hir_lines.specs.Tokens.{Token, Word, IsWord}
 
 -- words of which each is read
@@ -74,12 +73,16 @@ accept_each {X} read token xs make reads = record {
       (all_read (λ x word. IsWord (token x) word) read reads xs words (zip_from_map token xs words h));
 }
 
+head_read : {Y : Type 0} (forms : List (List ℕ × Reading Y)) (head : List ℕ) (reading : Reading Y) (y : Y) (tokens : List Token) →
+    look_up forms head ≡ Some reading → Accepts tokens reading y → (words : List (List ℕ)) → AllZip IsWord (Word head ∷ tokens) words → one_of forms words ≡ Some (y, [])
+head_read forms head reading y tokens is rest [] h = absurd h
+head_read forms head reading y tokens is rest (word ∷ words) h =
+    ap (λ first. by (look_up forms first) words) h.0 ∙ ap (λ found. by found words) is ∙ rest.reads words h.1
+
 -- words of one form are read by its head
 pub accept_head : {Y : Type 0} (forms : List (List ℕ × Reading Y)) (head : List ℕ) (reading : Reading Y) {y : Y} {tokens : List Token} →
-    ascii_of head ≡ Some head → look_up forms head ≡ Some reading → Accepts tokens reading y → Accepts (Word head ∷ tokens) (one_of forms) y
-accept_head forms head reading {y = y} {tokens = tokens} plain is rest =
-    accept_first ascii_of (Word head) head y tokens (λ word. by (look_up forms word)) (λ word is. ap ascii_of is ∙ plain)
-    (record { reads = λ words h. ap (λ found. by found words) is ∙ rest.reads words h })
+    look_up forms head ≡ Some reading → Accepts tokens reading y → Accepts (Word head ∷ tokens) (one_of forms) y
+accept_head forms head reading {y = y} {tokens = tokens} is rest = record { reads = head_read forms head reading y tokens is rest }
 
 pub accept_inner : {X Y : Type 0} (inner : Reading X) (tokens : List Token) (x : X) (make : X → Y) →
     Accepts tokens inner x → Accepts tokens (inner >>= λ v. gives (make v)) (make x)
@@ -185,10 +188,12 @@ sound_look_up Is [] no_form head = record { written = λ words y e. cc }
 sound_look_up Is ((text, reading) ∷ forms) (form sound all) head =
     sound_test Is head text reading (look_up forms head) (bytes_eq head text) refl sound (sound_look_up Is forms all head)
 
-text_found : (ascii : Bool) (text found : List ℕ) → (if ascii then Some text else None) ≡ Some found → text ≡ found
-text_found true text found e = cc
-text_found false text found e = cc
+one_written : {Y : Type 0} (Is : Y → List Token → Type 0) (forms : List (List ℕ × Reading Y)) → AllSound Is forms →
+    (words : List (List ℕ)) (y : Y) → one_of forms words ≡ Some (y, []) → (tokens : List Token) × Is y tokens × AllZip IsWord tokens words
+one_written Is forms all [] y e = cc
+one_written Is forms all (head ∷ words) y e =
+    let found = (sound_look_up Is forms all head).written words y e in
+    (Word head ∷ found.0, found.1, (refl, found.2))
 
 pub sound_one_of : {Y : Type 0} (Is : Y → List Token → Type 0) (forms : List (List ℕ × Reading Y)) → AllSound Is forms → Sound Is (one_of forms)
-sound_one_of Is forms all =
-    sound_first ascii_of Word Is (λ head. by (look_up forms head)) (λ head word is. text_found _ word head is) (sound_look_up Is forms all)
+sound_one_of Is forms all = record { written = one_written Is forms all }

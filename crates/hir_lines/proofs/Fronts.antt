@@ -1,84 +1,152 @@
--- The word in front of a separator: of bytes that pass a test, which the separator doesn't pass.
-use Rattle.std.proofs.Common.{◌≡◌, ◌+◌, ◌-◌, ◌<◌, ◌≤◌, ℕ, Bool, Option, Some, None, List, [], ◌∷◌, take, drop, length, get_or, sym, ◌∙◌, ap, arith, true, false, refl, inl, inr, length-take, get_or-take, take_all}
-use Rattle.std.specs.Prelude.{position}
-use Rattle.std.specs.List.{position_or_len, prefix_len}
-use Rattle.std.proofs.lemmas.Bool.{cases_lt, false≢true, eqb-true}
-use Rattle.std.proofs.lemmas.List.Sums.{prefix_len_stops, prefix_len_passes, position_or_len_is, passes_at_first}
-use Rattle.std.proofs.lemmas.List.{get_or_default}
-use Rattle.std.proofs.lemmas.List.Splits.{slice_split_none}
-use Rattle.hir_lines.proofs.Splits.{split_cut, split_found, split_none, found_at, first_place, below_length}
-use Rattle.hir_lines.specs.Numerals.{is_digit, number_of}
-use Rattle.hir_lines.specs.Readings.{first_word, is_byte, parts_of}
+-- The first word of a text, by a front of the text without a separator.
+use Rattle.std.proofs.Common.{◌≡◌, ◌+◌, ◌-◌, ◌<◌, ◌≤◌, ◌^◌, ℕ, Bool, true, false, List, [], ◌∷◌, ◌++◌, Some, None, length, take, drop, get_or, refl, sym, ap, ◌∙◌, arith, take-append-drop, drop-cons, add-one, length-take, length-append, take_all, append-nil, get_or-take, inl, inr}
+use Rattle.std.specs.Prelude.{eqb}
+use Rattle.std.specs.List.{list_all, onto_first, join_with_byte, starts_with}
+use Rattle.std.proofs.Math.Seq.{take-append_seam}
+use Rattle.std.proofs.lemmas.Bool.Decides.{Decides-eqb}
+use Rattle.std.proofs.lemmas.Bool.{cases_lt, cases_Bool}
+use Rattle.std.proofs.lemmas.Grind.{common_steps}
+use Rattle.std.proofs.lemmas.List.{take_more}
+use Rattle.std.proofs.lemmas.List.Elements.{All-head, All-push, All-tail}
+use Rattle.std.proofs.lemmas.List.Splits.{slice_split_at, slice_split_none, slice_split-cons_no, join_with_byte-slice_split}
+use Rattle.std.proofs.lemmas.Slice.Eq.{starts_is}
+use Rattle.hir_lines.specs.Numerals.{is_digit, number_of, value, has_needless_zero}
+use Rattle.hir_lines.specs.Readings.{HasWord, Plain, StartsOtherwise, is_byte, parts_of, words_from}
 use Rattle.hir_lines.specs.Words.{number}
+use Rattle.hir_lines.proofs.Digits.{no_number, no_number-empty, no_number-needless, no_number-large, no_zero, too_large, value-long, value-next}
+use Rattle.hir_lines.proofs.Splits.{parts_begin, words_at, words_past}
 
--- a byte that passes isn't one that doesn't
-pub apart_by : (p : ℕ → Bool) (c b : ℕ) → p c ≡ false → p b ≡ true → (same : Bool) → is_byte c b ≡ same → is_byte c b ≡ false
-apart_by p c b plain passes false e = e
-apart_by p c b plain passes true e = absurd (false≢true (sym plain ∙ ap p (sym (eqb-true b c e)) ∙ passes))
+split_behind : (c : ℕ) (xs ys part : List ℕ) (parts : List (List ℕ)) → Plain c xs → parts_of c ys ≡ part ∷ parts → parts_of c (xs ++ ys) ≡ (xs ++ part) ∷ parts
+split_behind c [] ys part parts h e = e
+split_behind c (x ∷ xs) ys part parts h e =
+    slice_split-cons_no (is_byte c) x (xs ++ ys) (All-head (λ b. is_byte c b ≡ false) x xs h)
+    ∙ ap (onto_first x) (split_behind c xs ys part parts (All-tail (λ b. is_byte c b ≡ false) x xs h) e)
 
--- a byte that a digit isn't
-pub apart : (c b : ℕ) → is_digit c ≡ false → is_digit b ≡ true → (same : Bool) → is_byte c b ≡ same → is_byte c b ≡ false
-apart = apart_by is_digit
+parted_at : (xs : List ℕ) (i : ℕ) → i < length xs → xs ≡ take i xs ++ get_or xs i 0 ∷ drop (i + 1) xs
+parted_at xs i h = sym (take-append-drop i xs) ∙ ap (λ ys. take i xs ++ ys) (rw add-one (drop-cons xs i 0 h))
 
-pub first_none : {X : Type 0} (read : List ℕ → Option X) (text : List ℕ) (texts : List (List ℕ)) → read text ≡ None → first_word read (text ∷ texts) ≡ None
-first_none read text texts e = rw e refl
+-- one byte more
+pub plain_more : (c : ℕ) (xs : List ℕ) (i : ℕ) → i < length xs → Plain c (take i xs) → is_byte c (get_or xs i 0) ≡ false → Plain c (take (i + 1) xs)
+plain_more c xs i h plain other = rw (take_more xs i 0 h) (All-push (λ b. is_byte c b ≡ false) (take i xs) (get_or xs i 0) plain other)
 
-pub number_first : (text : List ℕ) (texts : List (List ℕ)) (n : ℕ) → number_of text ≡ Some n → number (text ∷ texts) ≡ Some (n, texts)
-number_first text texts n e = rw e refl
+-- a separator behind the front ends the word
+front_cut : (c : ℕ) (xs : List ℕ) (i : ℕ) → i < length xs → Plain c (take i xs) → is_byte c (get_or xs i 0) ≡ true → parts_of c xs ≡ take i xs ∷ parts_of c (drop (i + 1) xs)
+front_cut c xs i h plain met = ap (parts_of c) (parted_at xs i h) ∙ slice_split_at (is_byte c) (take i xs) (get_or xs i 0) _ plain met
 
-module _ {X : Type 0} (p : ℕ → Bool) (read : List ℕ → Option X) (fails : (xs : List ℕ) (i : ℕ) → i < length xs → p (get_or xs i 0) ≡ false → read xs ≡ None) (c : ℕ) (plain : p c ≡ false) where
-  none_before : (xs : List ℕ) (k : ℕ) → k < prefix_len p xs → is_byte c (get_or xs k 0) ≡ false
-  none_before xs k below = apart_by p c (get_or xs k 0) plain (prefix_len_passes p xs k 0 below) _ refl
+-- a front that is all
+front_alone : (c : ℕ) (xs : List ℕ) (i : ℕ) → length xs ≤ i → Plain c (take i xs) → parts_of c xs ≡ take i xs ∷ []
+front_alone c xs i e plain =
+    let whole : take i xs ≡ xs = take_all i xs e in
+    rw whole (slice_split_none (is_byte c) xs (rw whole at plain))
 
-  place_behind : (xs : List ℕ) (q : ℕ) → is_byte c (get_or xs q 0) ≡ true → is_byte c (get_or xs (prefix_len p xs) 0) ≡ false → prefix_len p xs < q
-  place_behind xs q met other =
-      elim (cases_lt (prefix_len p xs) q) [
-        | inl behind ↦ behind
-        | inr ahead ↦ elim (cases_lt q (prefix_len p xs)) [
-          | inl before ↦ absurd (false≢true (sym (none_before xs q before) ∙ met))
-          | inr past ↦
-              let same : prefix_len p xs ≡ q = omega arith in
-              absurd (false≢true (sym other ∙ rw same met))
-        ]
-      ]
+-- a front behind which the word ends is the first word
+pub front_ends : (c : ℕ) (xs : List ℕ) (i : ℕ) → i ≤ length xs → Plain c (take i xs) → (i < length xs → is_byte c (get_or xs i 0) ≡ true) → parts_of c xs ≡ take i xs ∷ words_from c (i + 1) xs
+front_ends c xs i within plain stops = elim (cases_lt i (length xs)) [
+  | inl h ↦ front_cut c xs i h plain (stops h) ∙ ap (λ ws. take i xs ∷ ws) (sym (words_at c (i + 1) xs (omega (arith, h))))
+  | inr e ↦ front_alone c xs i (omega (arith, e)) plain ∙ ap (λ ws. take i xs ∷ ws) (sym (words_past c (i + 1) xs (omega (arith, e))))
+]
 
-  -- a text in which the bytes in front are all
-  pub front_alone : (xs : List ℕ) → length xs ≤ prefix_len p xs → parts_of c xs ≡ take (prefix_len p xs) xs ∷ []
-  front_alone xs whole =
-      rw (take_all (prefix_len p xs) xs whole)
-      (slice_split_none (is_byte c) xs (λ k d within. rw (get_or_default xs k d 0 within) (none_before xs k (omega arith))))
+-- another byte behind the front goes on with the word
+pub record GoesOn (c : ℕ) (xs : List ℕ) (i : ℕ) : Type 0 where
+  pub word : List ℕ
+  pub words : List (List ℕ)
+  pub first : parts_of c xs ≡ word ∷ words
+  pub reaches : i < length word
+  pub front : take i word ≡ take i xs
+  pub here : get_or word i 0 ≡ get_or xs i 0
 
-  -- a text in which the separator stands behind the bytes in front
-  pub front_parted : (xs : List ℕ) → prefix_len p xs < length xs → is_byte c (get_or xs (prefix_len p xs) 0) ≡ true →
-      parts_of c xs ≡ take (prefix_len p xs) xs ∷ parts_of c (take (length xs - (prefix_len p xs + 1)) (drop (prefix_len p xs + 1) xs))
-  front_parted xs within met =
-      let at : position_or_len (is_byte c) xs ≡ prefix_len p xs = position_or_len_is (is_byte c) xs (prefix_len p xs) 0 (omega arith) (none_before xs) (λ _. met) in
-      split_cut (is_byte c) xs (prefix_len p xs) (found_at (is_byte c) xs (prefix_len p xs) at within)
+seam : (ys : List ℕ) (n b : ℕ) (zs : List ℕ) → length ys ≡ n → get_or (ys ++ b ∷ zs) n 0 ≡ b
+seam ys n b zs e = grind (arith, common_steps)
 
-  -- a text in which another byte stands behind the bytes in front
-  pub front_broken : (xs : List ℕ) → prefix_len p xs < length xs → is_byte c (get_or xs (prefix_len p xs) 0) ≡ false → first_word read (parts_of c xs) ≡ None
-  front_broken xs within other = by_place (position (is_byte c) xs) refl where
-    stop : p (get_or xs (prefix_len p xs) 0) ≡ false
-    stop = prefix_len_stops p xs 0 within
+pub front_goes_on : (c : ℕ) (xs : List ℕ) (i : ℕ) → i < length xs → Plain c (take i xs) → is_byte c (get_or xs i 0) ≡ false → GoesOn c xs i
+front_goes_on c xs i h plain other =
+    let behind : List ℕ = drop (i + 1) xs in
+    let b : ℕ = get_or xs i 0 in
+    let more : HasWord (parts_of c behind) = parts_begin (is_byte c) behind in
+    let at : parts_of c (take i xs ++ b ∷ behind) ≡ (take i xs ++ b ∷ more.0) ∷ more.1 =
+    split_behind c (take i xs) (b ∷ behind) (b ∷ more.0) more.1 plain (slice_split-cons_no (is_byte c) b behind other ∙ ap (onto_first b) more.2) in
+    let size : length (take i xs) ≡ i = omega (arith, length-take i xs) in
+    record {
+      word = take i xs ++ b ∷ more.0;
+      words = more.1;
+      first = ap (parts_of c) (parted_at xs i h) ∙ at;
+      reaches = omega (arith, size, length-append (take i xs) (b ∷ more.0));
+      front = ap (λ n. take n (take i xs ++ b ∷ more.0)) (sym size) ∙ take-append_seam (take i xs) (b ∷ more.0);
+      here = seam (take i xs) i b more.0 size;
+    }
 
-    by_place : (o : Option ℕ) → position (is_byte c) xs ≡ o → first_word read (parts_of c xs) ≡ None
-    by_place None e = rw (split_none (is_byte c) xs e) (first_none read xs [] (fails xs (prefix_len p xs) within stop))
-    by_place (Some q) e =
-        let at : position_or_len (is_byte c) xs ≡ q = first_place (is_byte c) xs q e in
-        let inside : q < length xs = below_length (is_byte c) xs q e in
-        let met : is_byte c (get_or xs q 0) ≡ true = rw at at (passes_at_first (is_byte c) xs 0 (omega arith)) in
-        let behind : prefix_len p xs < q = place_behind xs q met other in
-        let early : p (get_or (take q xs) (prefix_len p xs) 0) ≡ false = rw (get_or-take {A = ℕ} q xs (prefix_len p xs) 0 behind) stop in
-        rw (split_found (is_byte c) xs q e)
-        (first_none read (take q xs) _ (fails (take q xs) (prefix_len p xs) (omega (arith, length-take q xs)) early))
+first_read : (words : List (List ℕ)) (word : List ℕ) (others : List (List ℕ)) → words ≡ word ∷ others → number_of word ≡ None → number words ≡ None
+first_read words word others e none = ap number e ∙ rw none refl
 
-  -- nothing is read of the bytes in front
-  pub front_lacks : (xs : List ℕ) → read (take (prefix_len p xs) xs) ≡ None → first_word read (parts_of c xs) ≡ None
-  front_lacks xs e =
-      elim (cases_lt (prefix_len p xs) (length xs)) [
-        | inl within ↦ by_byte within (is_byte c (get_or xs (prefix_len p xs) 0)) refl
-        | inr whole ↦ rw (front_alone xs whole) (first_none read _ [] e)
-      ] where
-        by_byte : prefix_len p xs < length xs → (b : Bool) → is_byte c (get_or xs (prefix_len p xs) 0) ≡ b → first_word read (parts_of c xs) ≡ None
-        by_byte within true met = rw (front_parted xs within met) (first_none read _ _ e)
-        by_byte within false other = front_broken xs within other
+-- where no digit stands behind the front there is no number
+pub no_digit : (c : ℕ) (xs : List ℕ) (i : ℕ) → i < length xs → Plain c (take i xs) → is_byte c (get_or xs i 0) ≡ false → is_digit (get_or xs i 0) ≡ false → number (parts_of c xs) ≡ None
+no_digit c xs i h plain other stop =
+    let on = front_goes_on c xs i h plain other in
+    first_read _ on.word on.words on.first (no_number on.word i on.reaches (ap is_digit on.here ∙ stop))
+
+-- the first word begins with the front
+abbrev FirstWord : ℕ → List ℕ → ℕ → Type 0
+FirstWord c xs i = (word : List ℕ) × (words : List (List ℕ)) × (parts_of c xs ≡ word ∷ words) × (take i word ≡ take i xs)
+
+front_of_word : (c : ℕ) (xs : List ℕ) (i : ℕ) → Plain c (take i xs) → FirstWord c xs i
+front_of_word c xs i plain = elim (cases_lt i (length xs)) [
+  | inl h ↦ elim (cases_Bool (is_byte c (get_or xs i 0))) [
+    | inl met ↦ (take i xs, _, front_cut c xs i h plain met, take_all i (take i xs) (omega (arith, length-take i xs)))
+    | inr other ↦ let on = front_goes_on c xs i h plain other in (on.word, on.words, on.first, on.front)
+  ]
+  | inr e ↦ (take i xs, [], front_alone c xs i (omega (arith, e)) plain, take_all i (take i xs) (omega (arith, length-take i xs)))
+]
+
+-- a front with a needless zero, or whose value is too large, begins no number
+pub needless_front : (c : ℕ) (xs : List ℕ) (i : ℕ) → Plain c (take i xs) → has_needless_zero (take i xs) ≡ true → number (parts_of c xs) ≡ None
+needless_front c xs i plain needless =
+    let first = front_of_word c xs i plain in
+    first_read _ first.0 first.1 first.2 (no_number-needless first.0 i (rw first.3 needless))
+
+pub large_front : (c : ℕ) (xs : List ℕ) (i : ℕ) → Plain c (take i xs) → 2 ^ 32 ≤ value (take i xs) → number (parts_of c xs) ≡ None
+large_front c xs i plain large =
+    let first = front_of_word c xs i plain in
+    first_read _ first.0 first.1 first.2 (no_number-large first.0 (too_large first.0 i (rw first.3 large)))
+
+-- a front that is the word is no number where it is empty
+pub no_front : (words : List (List ℕ)) (word : List ℕ) (others : List (List ℕ)) → words ≡ word ∷ others → length word ≡ 0 → number words ≡ None
+no_front words word others e none = first_read words word others e (no_number-empty word none)
+
+-- ten digits, of which the first is no zero, and one more are too large
+pub eleven_digits : (c : ℕ) (xs : List ℕ) → 10 < length xs → Plain c (take 10 xs) → list_all is_digit (take 10 xs) ≡ true → has_needless_zero (take 10 xs) ≡ false → is_byte c (get_or xs 10 0) ≡ false → number (parts_of c xs) ≡ None
+eleven_digits c xs h plain all needed other =
+    let size : length (take 10 xs) ≡ 10 = omega (arith, length-take 10 xs) in
+    let first : 48 < get_or (take 10 xs) 0 0 = no_zero (take 10 xs) (omega (arith, size)) all needed in
+    let same : get_or (take 10 xs) 0 0 ≡ get_or xs 0 0 = get_or-take {A = ℕ} 10 xs 0 0 (omega arith) in
+    let long : 10 ^ 9 ≤ value (take 10 xs) = value-long xs 9 (omega (arith, h)) (omega (arith, first, same)) in
+    large_front c xs 11 (plain_more c xs 10 h plain other) (omega (arith, value-next xs 10 h, long))
+
+pub front_number : (words : List (List ℕ)) (word : List ℕ) (others : List (List ℕ)) (n : ℕ) → words ≡ word ∷ others → number_of word ≡ Some n → number words ≡ Some (n, others)
+front_number words word others n e is = ap number e ∙ rw is refl
+
+-- a text that begins with a word that it is compared with
+pub compared : (text word : List ℕ) (r : Bool) → r ≡ starts_with eqb text word → r ≡ true → take (length word) text ≡ word
+compared text word r is met =
+    let whole : text ≡ word ++ drop (length word) text = (starts_is Decides-eqb text word r is).0 met in
+    ap (take (length word)) whole ∙ take-append_seam word (drop (length word) text)
+
+abbrev pub Begins : List ℕ → List ℕ → Type 0
+Begins text front = (rest : List ℕ) × (text ≡ front ++ rest)
+
+pub begins_with : (c : ℕ) (text word : List ℕ) (others : List (List ℕ)) → parts_of c text ≡ word ∷ others → Begins text word
+begins_with c text word [] e = ([], sym (join_with_byte-slice_split c text) ∙ ap (join_with_byte c) e ∙ sym (append-nil word))
+begins_with c text word (other ∷ others) e = (c ∷ join_with_byte c (other ∷ others), sym (join_with_byte-slice_split c text) ∙ ap (join_with_byte c) e)
+
+-- a text that begins otherwise has another first word
+pub otherwise : (c : ℕ) (text word : List ℕ) (r : Bool) → r ≡ starts_with eqb text word → r ≡ false → StartsOtherwise word (parts_of c text)
+otherwise c text word r is other = λ others e.
+    let front : Begins text word = begins_with c text word others e in
+    let met : r ≡ true = (starts_is Decides-eqb text word r is).1 front.0 front.1 in
+    cc
+
+-- so has one whose first word reaches further
+pub longer : (c : ℕ) (text word : List ℕ) → length word < length text → Plain c (take (length word) text) → is_byte c (get_or text (length word) 0) ≡ false → StartsOtherwise word (parts_of c text)
+longer c text word h plain other = λ others e.
+    let on = front_goes_on c text (length word) h plain other in
+    let same : on.word ≡ word = let both : on.word ∷ on.words ≡ word ∷ others = sym on.first ∙ e in cc in
+    absurd (omega (arith, on.reaches, ap (λ (w : List ℕ). length w) same))

@@ -12,16 +12,16 @@ use Rattle.hir_lines.proofs.Forms.{Accepts, accept_head, Sound, sound_one_of, Al
 use Rattle.hir_lines.proofs.Takes.{accepting, sounding}
 
 accepts_form : {p : Pat} {tokens : List Token} → IsPat p tokens → Accepts tokens (one_of pat_forms) p
-accepts_form wild = accept_head pat_forms _ (gives Wild) refl refl (search accepting)
-accepts_form missing = accept_head pat_forms _ (gives Missing) refl refl (search accepting)
-accepts_form rest = accept_head pat_forms _ (gives Rest) refl refl (search accepting)
-accepts_form bind = accept_head pat_forms _ bind_pat refl refl (search accepting)
-accepts_form tuple = accept_head pat_forms _ tuple_pat refl refl (search accepting)
-accepts_form or_pat = accept_head pat_forms _ or_reading refl refl (search accepting)
-accepts_form tuple_struct = accept_head pat_forms _ tuple_struct_pat refl refl (search accepting)
-accepts_form range = accept_head pat_forms _ range_pat refl refl (search accepting)
-accepts_form lit = accept_head pat_forms _ lit_pat refl refl (search accepting)
-accepts_form expr = accept_head pat_forms _ expr_pat refl refl (search accepting)
+accepts_form wild = accept_head pat_forms _ (gives Wild) refl (search accepting)
+accepts_form missing = accept_head pat_forms _ (gives Missing) refl (search accepting)
+accepts_form rest = accept_head pat_forms _ (gives Rest) refl (search accepting)
+accepts_form bind = accept_head pat_forms _ bind_pat refl (search accepting)
+accepts_form tuple = accept_head pat_forms _ tuple_pat refl (search accepting)
+accepts_form or_pat = accept_head pat_forms _ or_reading refl (search accepting)
+accepts_form tuple_struct = accept_head pat_forms _ tuple_struct_pat refl (search accepting)
+accepts_form range = accept_head pat_forms _ range_pat refl (search accepting)
+accepts_form lit = accept_head pat_forms _ lit_pat refl (search accepting)
+accepts_form expr = accept_head pat_forms _ expr_pat refl (search accepting)
 
 pub accepts_pat : {p : Pat} {tokens : List Token} → IsPat p tokens → Accepts tokens pat p
 unfolding pat

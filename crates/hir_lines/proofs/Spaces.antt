@@ -50,7 +50,7 @@ all_numbers_lack [] (word ∷ words) h = absurd h
 all_numbers_lack (n ∷ ns) [] h = absurd h
 all_numbers_lack (n ∷ ns) (word ∷ words) h = (number_lacks 32 refl n word h.0, all_numbers_lack ns words h.1)
 
-numbers_lack : (ns : List ℕ) (word : List ℕ) → IsNumbers ns word → lacks 32 word ≡ true
+pub numbers_lack : (ns : List ℕ) (word : List ℕ) → IsNumbers ns word → lacks 32 word ≡ true
 numbers_lack [] word h = ap (lacks 32) h
 numbers_lack (n ∷ ns) word h = ap (lacks 32) h.2 ∙ lacks-join 32 44 refl h.0 (all_numbers_lack (n ∷ ns) h.0 h.1)
 

@@ -5,6 +5,7 @@ use Rattle.std.specs.Fmt.{decimal}
 use Rattle.std.specs.Option.{option_map}
 use Rattle.std.specs.List.{list_all, AllZip, join_with_byte}
 use Rattle.std.specs.Str.{bytes_eq}
+use Rattle.std.proofs.lemmas.Bool.{false≢true, eqb-true}
 use Rattle.std.proofs.lemmas.Slice.Eq.{bytes_eq-Decides}
 use Rattle.std.proofs.lemmas.List.Splits.{join_with_byte-slice_split}
 use borrow.Author.Tests.{ltb-true}
@@ -22,7 +23,6 @@ use Rattle.hir_lines.specs.Words.{optional_of, list_of}
 use Rattle.hir_lines.specs.Tokens.{IsNumber, IsOptional, IsNumbers}
 use Rattle.hir_lines.proofs.Decimals.{decimal-value, value-decimal, numeral-decimal, digits-decimal}
 use Rattle.hir_lines.proofs.Forms.{all_read, all_found}
-use Rattle.hir_lines.proofs.Fronts.{apart}
 use Rattle.hir_lines.proofs.Separators.{lacks, AllLack, lacks-passes, parts_of-join}
 use Rattle.hir_lines.proofs.Splits.{parts_are_there}
 use Rattle.hir_lines.proofs.Ascii.{and_second}
@@ -64,6 +64,10 @@ not_dash word n e false is = is
 not_dash word n e true is = let wrong : None ≡ Some n = ap number_of (sym (same_bytes word (codes "-") is)) ∙ e in cc
 
 -- a number has digits alone
+apart : (c b : ℕ) → is_digit c ≡ false → is_digit b ≡ true → (same : Bool) → is_byte c b ≡ same → is_byte c b ≡ false
+apart c b plain digit false e = e
+apart c b plain digit true e = absurd (false≢true (sym plain ∙ ap is_digit (sym (eqb-true b c e)) ∙ digit))
+
 pub digit_is_other : (c : ℕ) → is_digit c ≡ false → (b : ℕ) → is_digit b ≡ true → not (is_byte c b) ≡ true
 digit_is_other c plain b digit = ap not (apart c b plain digit _ refl)
 

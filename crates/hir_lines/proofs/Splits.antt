@@ -1,60 +1,55 @@
--- What the first place of a separator says of the parts of a text.
-use Rattle.std.proofs.Common.{◌≡◌, ◌+◌, ◌<◌, ℕ, Bool, true, false, cond, List, [], ◌∷◌, None, Some, take, drop, length, ltb, refl, ◌-◌, take_all, arith, ap}
-use Rattle.std.specs.Prelude.{position, All}
-use Rattle.std.specs.List.{slice_split, position_or_len}
-use Rattle.std.proofs.lemmas.List.Splits.{slice_split_first, slice_split_none, length-slice_split}
-use Rattle.std.proofs.lemmas.List.Sums.{fails_before_first}
-use Rattle.std.proofs.lemmas.Bool.{ltb-false}
-use Rattle.std.proofs.lemmas.Grind.{common_steps}
-use Rattle.std.proofs.lemmas.Bool.Decides.{nat_tests}
-use Rattle.hir_lines.specs.Readings.{HasWord}
-
-some_is : (b : Bool) (n i : ℕ) → cond b (Some n) None ≡ Some i → (b ≡ true) × (n ≡ i)
-some_is true n i e = (refl, cc)
-some_is false n i e = cc
-
-none_is : (b : Bool) (n : ℕ) → cond b (Some n) None ≡ None → b ≡ false
-none_is true n e = cc
-none_is false n e = refl
-
-pub below_length : (p : ℕ → Bool) (xs : List ℕ) (i : ℕ) → position p xs ≡ Some i → i < length xs
-below_length p xs i e = let w = some_is _ _ _ e in let t : ltb (position_or_len p xs) (length xs) ≡ true = w.0 in let same : position_or_len p xs ≡ i = w.1 in grind (arith, nat_tests)
-
-pub first_place : (p : ℕ → Bool) (xs : List ℕ) (i : ℕ) → position p xs ≡ Some i → position_or_len p xs ≡ i
-first_place p xs i e = (some_is _ _ _ e).1
-
-pub found_at : (p : ℕ → Bool) (xs : List ℕ) (i : ℕ) → position_or_len p xs ≡ i → i < length xs → position p xs ≡ Some i
-found_at p xs i at within = grind (arith, nat_tests, common_steps)
-
-pub none_passes : (p : ℕ → Bool) (xs : List ℕ) → position p xs ≡ None → All (λ b. p b ≡ false) xs
-none_passes p xs e =
-    λ k d h.
-    let none : ltb (position_or_len p xs) (length xs) ≡ false = none_is _ _ e in
-    let before : k < position_or_len p xs = omega (arith, ltb-false _ _ none) in
-    fails_before_first p xs k d before
-
-pub split_found : (p : ℕ → Bool) (xs : List ℕ) (i : ℕ) → position p xs ≡ Some i → slice_split p xs ≡ take i xs ∷ slice_split p (drop (i + 1) xs)
-split_found p xs i e =
-    let w = some_is _ _ _ e in
-    let lt : i < length xs = below_length p xs i e in
-    let lt' : position_or_len p xs < length xs = rw w.1 lt in
-    rw w.1 at (slice_split_first p xs 0 lt')
-
-pub split_none : (p : ℕ → Bool) (xs : List ℕ) → position p xs ≡ None → slice_split p xs ≡ xs ∷ []
-split_none p xs e = slice_split_none p xs (none_passes p xs e)
-
--- the parts behind a separator, as a subslice gives them
-pub split_cut : (p : ℕ → Bool) (xs : List ℕ) (i : ℕ) → position p xs ≡ Some i → slice_split p xs ≡ take i xs ∷ slice_split p (take (length xs - (i + 1)) (drop (i + 1) xs))
-split_cut p xs i e =
-    let all : take (length xs - (i + 1)) (drop (i + 1) xs) ≡ drop (i + 1) xs = grind (arith, common_steps, take_all {A = ℕ}) in
-    rw all (split_found p xs i e)
+-- The words of a text, and of its rest from a place on.
+use Rattle.std.proofs.Common.{◌≡◌, ◌+◌, ◌<◌, ◌≤◌, ℕ, zero, suc, Bool, List, [], ◌∷◌, drop, length, refl, sym, ap, ◌∙◌, arith}
+use Rattle.std.specs.List.{slice_split}
+use Rattle.std.proofs.lemmas.List.Splits.{length-slice_split}
+use Rattle.hir_lines.specs.Readings.{HasWord, IsRestFrom, StartsOtherwise, is_byte, parts_of, words_from}
 
 -- a text has one part at least
 pub parts_are_there : (p : ℕ → Bool) (text : List ℕ) → slice_split p text ≡ [] → ⊥
 parts_are_there p text e = let l = ap length e in omega (arith, length-slice_split p text)
 
+pub has_word : (words : List (List ℕ)) → (words ≡ [] → ⊥) → HasWord words
+has_word [] some = absurd (some refl)
+has_word (word ∷ words) some = (word, words, refl)
+
 pub parts_begin : (p : ℕ → Bool) (text : List ℕ) → HasWord (slice_split p text)
-parts_begin p text = by_parts (slice_split p text) refl where
-  by_parts : (parts : List (List ℕ)) → slice_split p text ≡ parts → HasWord (slice_split p text)
-  by_parts [] e = absurd (parts_are_there p text e)
-  by_parts (part ∷ parts) e = (part, parts, e)
+parts_begin p text = has_word (slice_split p text) (parts_are_there p text)
+
+-- within a text they are those of its rest
+pub words_at : (c start : ℕ) (text : List ℕ) → start ≤ length text → words_from c start text ≡ parts_of c (drop start text)
+words_at c zero text h = refl
+words_at c (suc n) [] h = absurd (omega (arith, h))
+words_at c (suc n) (b ∷ bs) h = words_at c n bs (omega (arith, h))
+
+-- past its end there are none
+pub words_past : (c start : ℕ) (text : List ℕ) → length text < start → words_from c start text ≡ []
+words_past c zero text h = absurd (omega (arith, h))
+words_past c (suc n) [] h = refl
+words_past c (suc n) (b ∷ bs) h = words_past c n bs (omega (arith, h))
+
+pub empty_past : (c start : ℕ) (text : List ℕ) → words_from c start text ≡ [] → length text < start
+empty_past c zero text e = absurd (parts_are_there (is_byte c) text e)
+empty_past c (suc n) [] e = omega arith
+empty_past c (suc n) (b ∷ bs) e = omega (arith, empty_past c n bs e)
+
+further : (c start n : ℕ) (text : List ℕ) → start ≤ length text → words_from c (start + n) text ≡ words_from c n (drop start text)
+further c zero n text h = let same : 0 + n ≡ n = omega arith in ap (λ (k : ℕ). words_from c k text) same
+further c (suc m) n [] h = absurd (omega (arith, h))
+further c (suc m) n (b ∷ bs) h =
+    let same : suc m + n ≡ suc (m + n) = omega arith in
+    ap (λ (k : ℕ). words_from c k (b ∷ bs)) same ∙ further c m n bs (omega (arith, h))
+
+-- the words from a place on are those of the rest
+pub rest_words : (c : ℕ) {start : ℕ} {text rest : List ℕ} → IsRestFrom start text rest → words_from c start text ≡ parts_of c rest
+rest_words c {start} {text} {rest} is = words_at c start text (omega (arith, is.size)) ∙ ap (parts_of c) (sym is.is)
+
+-- so are those further on
+pub rest_further : (c n : ℕ) {start : ℕ} {text rest : List ℕ} → IsRestFrom start text rest → words_from c n rest ≡ words_from c (start + n) text
+rest_further c n {start} {text} {rest} is = ap (words_from c n) is.is ∙ sym (further c start n text (omega (arith, is.size)))
+
+-- what the first word isn't
+pub past_otherwise : (c start : ℕ) (text word : List ℕ) → length text < start → StartsOtherwise word (words_from c start text)
+past_otherwise c start text word h = λ others e. let none : words_from c start text ≡ [] = words_past c start text h in cc
+
+pub rest_otherwise : (c : ℕ) {start : ℕ} {text rest : List ℕ} (word : List ℕ) → IsRestFrom start text rest → StartsOtherwise word (parts_of c rest) → StartsOtherwise word (words_from c start text)
+rest_otherwise c word is other = λ others e. other others (sym (rest_words c is) ∙ e)

@@ -12,11 +12,11 @@ use Rattle.hir_lines.proofs.Forms.{Accepts, accept_head, Sound, sound_one_of, Al
 use Rattle.hir_lines.proofs.Takes.{accepting, sounding}
 
 accepts_form : {t : TypeRef} {tokens : List Token} → IsType t tokens → Accepts tokens (one_of type_forms) t
-accepts_form path = accept_head type_forms _ path_type refl refl (search accepting)
-accepts_form tuple = accept_head type_forms _ tuple_type refl refl (search accepting)
-accepts_form array = accept_head type_forms _ array_type refl refl (search accepting)
-accepts_form pattern = accept_head type_forms _ pattern_type refl refl (search accepting)
-accepts_form never = accept_head type_forms _ (gives Never) refl refl (search accepting)
+accepts_form path = accept_head type_forms _ path_type refl (search accepting)
+accepts_form tuple = accept_head type_forms _ tuple_type refl (search accepting)
+accepts_form array = accept_head type_forms _ array_type refl (search accepting)
+accepts_form pattern = accept_head type_forms _ pattern_type refl (search accepting)
+accepts_form never = accept_head type_forms _ (gives Never) refl (search accepting)
 
 pub accepts_type : {t : TypeRef} {tokens : List Token} → IsType t tokens → Accepts tokens type_ref t
 unfolding type_ref

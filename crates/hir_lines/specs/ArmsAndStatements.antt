@@ -1,5 +1,5 @@
 -- The arms of a match and the statements of a block. Each is one word, whose parts are separated by colons.
-use Rattle.std.specs.Prelude.{ℕ, true, false, List, [], ◌∷◌, Option, codes}
+use Rattle.std.specs.Prelude.{ℕ, Bool, true, false, List, [], ◌∷◌, Option, codes}
 use Rattle.hir_node.specs.declared.expr_types.MatchArm.{MatchArm}
 use Rattle.hir_node.specs.declared.expr_types.Statement.{Statement}
 use Rattle.hir_node.specs.declared.expr_types.Statement.TheVariants.{Let, Expr as ExprStatement, Item as ItemStatement}
@@ -24,28 +24,27 @@ let_statement = do
   else_branch ← optional
   gives (Let pat type_ref initializer else_branch)
 
-abbrev pub semi_statement : Reading Statement
-semi_statement = do
+-- with a semicolon or without one
+abbrev pub expr_statement : Bool → Reading Statement
+expr_statement has_semi = do
   expr ← number
-  gives (ExprStatement expr true)
-
-abbrev pub expr_statement : Reading Statement
-expr_statement = do
-  expr ← number
-  gives (ExprStatement expr false)
+  gives (ExprStatement expr has_semi)
 
 abbrev pub macro_statement : Reading Statement
 macro_statement = do
   definition ← number
   gives (ItemStatement (MacroDef definition))
 
+abbrev pub item_statement : Reading Statement
+item_statement = gives (ItemStatement Other)
+
 abbrev pub statement_forms : List (List ℕ × Reading Statement)
 statement_forms =
     (codes "let", let_statement)
-    ∷ (codes "semi", semi_statement)
-    ∷ (codes "expr", expr_statement)
+    ∷ (codes "semi", expr_statement true)
+    ∷ (codes "expr", expr_statement false)
     ∷ (codes "macro", macro_statement)
-    ∷ (codes "item", gives (ItemStatement Other))
+    ∷ (codes "item", item_statement)
     ∷ []
 
 unfoldable pub arm_of : List ℕ → Option MatchArm

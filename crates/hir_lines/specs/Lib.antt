@@ -7,7 +7,6 @@ pub mod Names
 pub mod Numerals
 pub mod Operators
 pub mod ArmsAndStatements
-pub mod Parts
 pub mod PatGrammar
 pub mod Pats
 pub mod Readings

@@ -1,5 +1,5 @@
 -- What a line may say, and what it says by its words.
-use Rattle.std.specs.Prelude.{ℕ, List, [], ◌∷◌, Option, None, Some, codes}
+use Rattle.std.specs.Prelude.{ℕ, Bool, true, false, List, [], ◌∷◌, Option, None, Some, codes}
 use Rattle.hir_base.specs.declared.hygiene.SyntaxContext.{SyntaxContext}
 use Rattle.hir_path.specs.declared.ids.ExprOrPatId.TheVariants.{ExprId, PatId}
 use Rattle.hir_node.specs.declared.binding.Binding.{Binding}
@@ -9,7 +9,6 @@ use Rattle.hir_lines.specs.Makers.{Binding as MakeBinding, Pat as MakePat, TypeR
 use Rattle.hir_lines.specs.declared.question.Question.{Question}
 use Rattle.hir_lines.specs.declared.question.Question.TheVariants.{OfStore, OfBody}
 use Rattle.hir_lines.specs.declared.question.StoreQuestion.TheVariants.{Children, RootOf}
-use Rattle.hir_lines.specs.declared.question.BodyQuestion.{BodyQuestion}
 use Rattle.hir_lines.specs.declared.question.BodyQuestion.TheVariants.{Chain, Resolve, Print, Captures}
 use Rattle.hir_lines.specs.Readings.{Reading, ◌>>=◌, gives, whole, parts_of, space}
 use Rattle.hir_lines.specs.Words.{number, name, expansion, hygiene, one_of}
@@ -36,25 +35,20 @@ bind = do
   context ← hygiene
   gives (MakeBinding (plain_binding text context))
 
-abbrev pub bind_line : Reading Line
-bind_line = do
-  made ← bind
-  gives (Make made)
-
-abbrev pub pat_line : Reading Line
-pat_line = do
+abbrev pub pat_maker : Reading Maker
+pat_maker = do
   made ← pat
-  gives (Make (MakePat made))
+  gives (MakePat made)
 
-abbrev pub type_line : Reading Line
-type_line = do
+abbrev pub type_maker : Reading Maker
+type_maker = do
   made ← type_ref
-  gives (Make (MakeType made))
+  gives (MakeType made)
 
-abbrev pub expr_line : Reading Line
-expr_line = do
+abbrev pub expr_maker : Reading Maker
+expr_maker = do
   made ← expr
-  gives (Make (MakeExpr made))
+  gives (MakeExpr made)
 
 -- the hygiene of the path that an expression is
 abbrev pub expr_hygiene : Reading Maker
@@ -63,11 +57,6 @@ expr_hygiene = do
   context ← expansion
   gives (Hygiene (ExprId id) context)
 
-abbrev pub hygiene_line : Reading Line
-hygiene_line = do
-  made ← expr_hygiene
-  gives (Make made)
-
 -- the hygiene of the path that a pattern is
 abbrev pub pat_hygiene : Reading Maker
 pat_hygiene = do
@@ -75,95 +64,121 @@ pat_hygiene = do
   context ← expansion
   gives (Hygiene (PatId id) context)
 
-abbrev pub pat_hygiene_line : Reading Line
-pat_hygiene_line = do
-  made ← pat_hygiene
-  gives (Make made)
-
-abbrev pub self_line : Reading Line
-self_line = do
+abbrev pub self_param : Reading Maker
+self_param = do
   id ← number
-  gives (Make (SelfParam id))
+  gives (SelfParam id)
 
-abbrev pub param_line : Reading Line
-param_line = do
+abbrev pub param : Reading Maker
+param = do
   id ← number
-  gives (Make (Param id))
+  gives (Param id)
 
-abbrev pub fn_line : Reading Line
-fn_line = do
+abbrev pub fn_name : Reading Maker
+fn_name = do
   text ← name
-  gives (Make (FnName text))
+  gives (FnName text)
 
-abbrev pub root_line : Reading Line
-root_line = do
+abbrev pub root : Reading Maker
+root = do
   id ← number
-  gives (Make (Root id))
+  gives (Root id)
 
-abbrev pub children_line : Reading Line
-children_line = do
-  id ← number
-  gives (Ask (OfStore (Children id)))
+abbrev pub roots : Reading Maker
+roots = gives Roots
 
-abbrev pub root_of_line : Reading Line
-root_of_line = do
-  id ← number
-  gives (Ask (OfStore (RootOf id)))
+abbrev pub maker_forms : List (List ℕ × Reading Maker)
+maker_forms =
+    (codes "bind", bind)
+    ∷ (codes "pat", pat_maker)
+    ∷ (codes "type", type_maker)
+    ∷ (codes "expr", expr_maker)
+    ∷ (codes "hygiene", expr_hygiene)
+    ∷ (codes "pat-hygiene", pat_hygiene)
+    ∷ (codes "self", self_param)
+    ∷ (codes "param", param)
+    ∷ (codes "fn", fn_name)
+    ∷ (codes "roots", roots)
+    ∷ (codes "root", root)
+    ∷ []
 
-abbrev pub chain_line : Reading Line
-chain_line = do
+abbrev pub children : Reading Question
+children = do
   id ← number
-  gives (Ask (OfBody (Chain id)))
+  gives (OfStore (Children id))
+
+abbrev pub root_of : Reading Question
+root_of = do
+  id ← number
+  gives (OfStore (RootOf id))
+
+abbrev pub chain : Reading Question
+chain = do
+  id ← number
+  gives (OfBody (Chain id))
 
 -- what a name means at an expression
-abbrev pub resolve : Reading BodyQuestion
+abbrev pub resolve : Reading Question
 resolve = do
   id ← number
   text ← name
   context ← hygiene
-  gives (Resolve id text context)
+  gives (OfBody (Resolve id text context))
 
-abbrev pub resolve_line : Reading Line
-resolve_line = do
-  question ← resolve
-  gives (Ask (OfBody question))
+abbrev pub print : Reading Question
+print = gives (OfBody Print)
 
-abbrev pub captures_line : Reading Line
-captures_line = do
+abbrev pub captures : Reading Question
+captures = do
   id ← number
-  gives (Ask (OfBody (Captures id)))
+  gives (OfBody (Captures id))
 
-abbrev pub line_forms : List (List ℕ × Reading Line)
-line_forms =
-    (codes "bind", bind_line)
-    ∷ (codes "pat", pat_line)
-    ∷ (codes "type", type_line)
-    ∷ (codes "expr", expr_line)
-    ∷ (codes "hygiene", hygiene_line)
-    ∷ (codes "pat-hygiene", pat_hygiene_line)
-    ∷ (codes "self", self_line)
-    ∷ (codes "param", param_line)
-    ∷ (codes "fn", fn_line)
-    ∷ (codes "roots", gives (Make Roots))
-    ∷ (codes "root", root_line)
-    ∷ (codes "children", children_line)
-    ∷ (codes "root-of", root_of_line)
-    ∷ (codes "chain", chain_line)
-    ∷ (codes "resolve", resolve_line)
-    ∷ (codes "print", gives (Ask (OfBody Print)))
-    ∷ (codes "captures", captures_line)
+abbrev pub question_forms : List (List ℕ × Reading Question)
+question_forms =
+    (codes "children", children)
+    ∷ (codes "root-of", root_of)
+    ∷ (codes "chain", chain)
+    ∷ (codes "resolve", resolve)
+    ∷ (codes "print", print)
+    ∷ (codes "captures", captures)
     ∷ []
 
--- the words of a line that isn't empty
-unfoldable pub command : Reading Line
-command words = one_of line_forms words
+-- the words of a line that makes something
+unfoldable pub maker : Reading Maker
+maker words = one_of maker_forms words
 
--- what was read, or a bad line
-abbrev pub or_bad : Option Line → Line
-or_bad None = Bad
-or_bad (Some line) = line
+-- the words of a question
+unfoldable pub question : Reading Question
+question words = one_of question_forms words
+
+-- a line by what its words make, or else ask
+abbrev pub by_words : Option Maker → Option Question → Line
+by_words (Some made) asked = Make made
+by_words None (Some asked) = Ask asked
+by_words None None = Bad
 
 -- what a line says; its words have one space between them
 unfoldable pub line_of : List ℕ → Line
 line_of [] = Blank
-line_of (b ∷ bs) = or_bad (whole command (parts_of space (b ∷ bs)))
+line_of (b ∷ bs) = by_words (whole maker (parts_of space (b ∷ bs))) (whole question (parts_of space (b ∷ bs)))
+
+-- whether a line may come before the first question
+abbrev pub makes : Line → Bool
+makes Blank = true
+makes (Make made) = true
+makes (Ask asked) = false
+makes Bad = false
+
+-- whether a line may come where these questions may be asked
+abbrev pub may_ask : (Question → Bool) → Line → Bool
+may_ask may Blank = true
+may_ask may (Make made) = false
+may_ask may (Ask asked) = may asked
+may_ask may Bad = false
+
+abbrev pub any_question : Question → Bool
+any_question asked = true
+
+-- whether a line may come after a question
+abbrev pub asks : Line → Bool
+asks line = may_ask any_question line

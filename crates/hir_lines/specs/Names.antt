@@ -1,6 +1,5 @@
--- Keywords and names, as they are written in a line.
+-- Names, as they are written in a line.
 use Rattle.std.specs.Prelude.{ℕ, Bool, not, ◌&&◌, ◌||◌, eqb, nat_le, if◌then◌else◌, List, Option, None, Some, length, slice_index}
-use Rattle.std.specs.Char.{is_ascii}
 use Rattle.std.specs.List.{list_all}
 use Rattle.hir_lines.specs.Numerals.{is_digit}
 
@@ -20,7 +19,3 @@ is_name text = not (eqb (length text) 0) && (starts_name (slice_index text 0) &&
 -- the text, if it is a name
 abbrev pub name_of : List ℕ → Option (List ℕ)
 name_of text = if is_name text then Some text else None
-
--- the text, if it is one in ASCII, as each keyword is
-abbrev pub ascii_of : List ℕ → Option (List ℕ)
-ascii_of text = if list_all is_ascii text then Some text else None

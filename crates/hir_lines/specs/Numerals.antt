@@ -1,21 +1,13 @@
 -- Numbers, as they are written in a line.
-use Rattle.std.specs.Prelude.{◌≡◌, ◌≤◌, ℕ, ◌+◌, ◌-◌, ◌*◌, ◌^◌, ℤ, pos, neg_ℤ, Bool, true, not, ◌&&◌, eqb, nat_lt, nat_le, if◌then◌else◌, List, Option, None, Some, fold, length, take, drop, slice_index}
-use Rattle.std.specs.List.{list_all, prefix_len}
+use Rattle.std.specs.Prelude.{ℕ, ◌+◌, ◌-◌, ◌*◌, ◌^◌, ℤ, pos, neg_ℤ, Bool, not, ◌&&◌, eqb, nat_lt, nat_le, if◌then◌else◌, List, Option, None, Some, fold, length, drop, slice_index}
+use Rattle.std.specs.List.{list_all}
 
 abbrev pub is_digit : ℕ → Bool
 is_digit b = nat_le 48 b && nat_le b 57
 
--- how many leading digits there are
-abbrev pub digits_len : List ℕ → ℕ
-digits_len text = prefix_len is_digit text
-
 -- the value of digits
 abbrev pub value : List ℕ → ℕ
 value digits = fold (λ n b. 10 * n + (b - 48)) 0 digits
-
--- the first `count` bytes are digits of this value
-abbrev pub IsFront : List ℕ → ℕ → ℕ → Type 0
-IsFront text n count = (count ≤ length text) × (list_all is_digit (take count text) ≡ true) × (n ≡ value (take count text))
 
 -- a zero before another digit
 abbrev pub has_needless_zero : List ℕ → Bool

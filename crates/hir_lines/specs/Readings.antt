@@ -1,9 +1,8 @@
 -- Reading words from the front. A reading gives what the first words say and the words behind them, or nothing where they don't fit.
-use Rattle.std.specs.Prelude.{◌≡◌, ℕ, Bool, eqb, if◌then◌else◌, List, [], ◌∷◌, Option, None, Some, Result, MatchResult}
+use Rattle.std.specs.Prelude.{◌≡◌, ◌≢◌, ◌+◌, ℕ, zero, suc, All, Bool, false, eqb, if◌then◌else◌, List, [], ◌∷◌, Option, None, Some, Result, MatchResult, length, drop, ◌↔◌}
 use Rattle.std.specs.List.{slice_split}
 use Rattle.std.specs.Option.{option_map, option_and_then}
 use Rattle.std.specs.Str.{bytes_eq}
-use Rattle.std.specs.Borrow.{Bor}
 use Rattle.hir_lines.specs.declared.stop.Stop.{Stop}
 use Rattle.hir_lines.specs.declared.stop.Stop.TheVariants.{Bad}
 
@@ -24,10 +23,16 @@ is_byte c b = eqb b c
 abbrev pub parts_of : ℕ → List ℕ → List (List ℕ)
 parts_of separator text = slice_split (is_byte separator) text
 
--- the parts of what is left behind a separator, where there is one
-abbrev pub parts_left : ℕ → Option (Bor (List ℕ)) → List (List ℕ)
-parts_left separator None = []
-parts_left separator (Some text) = parts_of separator text.now
+-- the parts of a text from a place on; none where that is past its end
+abbrev pub words_from : ℕ → ℕ → List ℕ → List (List ℕ)
+words_from separator zero text = parts_of separator text
+words_from separator (suc n) [] = []
+words_from separator (suc n) (b ∷ bs) = words_from separator n bs
+
+-- the rest of a text from a place on, which isn't past its end
+pub record IsRestFrom (start : ℕ) (text rest : List ℕ) : Type 0 where
+  pub size : start + length rest ≡ length text
+  pub is : rest ≡ drop start text
 
 abbrev pub Reading : Type 0 → Type 0
 Reading X = List (List ℕ) → Option (X × List (List ℕ))
@@ -72,7 +77,38 @@ whole reading words = option_and_then (λ found. alone found.0 found.1) (reading
 abbrev pub HasWord : List (List ℕ) → Type 0
 HasWord words = (word : List ℕ) × (others : List (List ℕ)) × (words ≡ word ∷ others)
 
+-- a text without this byte
+abbrev pub Plain : ℕ → List ℕ → Type 0
+Plain c text = All (λ b. is_byte c b ≡ false) text
+
+-- the first word is another one, or there is none
+abbrev pub StartsOtherwise : List ℕ → List (List ℕ) → Type 0
+StartsOtherwise word words = (others : List (List ℕ)) → words ≢ word ∷ others
+
+-- what a word says, or that it says nothing
+abbrev pub Says : {X E : Type 0} → (List ℕ → Option X) → List ℕ → Result X E → Type 0
+Says read word result = MatchResult result (λ x. read word ≡ Some x) (λ bad. read word ≡ None)
+
 -- what a reading of these words finds, and the words that it leaves; or that the words don't fit
-abbrev pub Reads : {X : Type 0} → Reading X → List (List ℕ) → Result X Stop → List (List ℕ) → Type 0
-Reads reading old result new =
-    MatchResult result (λ x. reading old ≡ Some (x, new)) (λ stop. stop ≡ Bad → reading old ≡ None)
+abbrev pub Reads : {X E : Type 0} → Reading X → List (List ℕ) → Result X E → List (List ℕ) → Type 0
+Reads reading old result new = MatchResult result (λ x. reading old ≡ Some (x, new)) (λ bad. reading old ≡ None)
+
+-- what a word says, where memory for it may be refused. It is bad exactly where it says nothing
+abbrev pub SaysOrStops : {X : Type 0} → (List ℕ → Option X) → List ℕ → Result X Stop → Type 0
+SaysOrStops read word result =
+    MatchResult result (λ x. read word ≡ Some x) (λ why. why ≡ Bad ↔ read word ≡ None)
+
+-- what a reading of these words finds that leaves none, where memory may be refused. They are bad exactly where there is nothing such
+abbrev pub ReadsAll : {X : Type 0} → Reading X → List (List ℕ) → Result X Stop → Type 0
+ReadsAll reading words result =
+    MatchResult result (λ x. reading words ≡ Some (x, [])) (λ why. why ≡ Bad ↔ whole reading words ≡ None)
+
+-- what the words say, if none is left behind it; or that they say nothing
+abbrev pub SaysWhole : {X E : Type 0} → Reading X → List (List ℕ) → Result X E → Type 0
+SaysWhole reading words result =
+    MatchResult result (λ x. whole reading words ≡ Some x) (λ bad. whole reading words ≡ None)
+
+-- the same, where memory may be refused. They are bad exactly where they say nothing: memory is refused where they say something
+abbrev pub SaysAll : {X : Type 0} → Reading X → List (List ℕ) → Result X Stop → Type 0
+SaysAll reading words result =
+    MatchResult result (λ x. whole reading words ≡ Some x) (λ why. why ≡ Bad ↔ whole reading words ≡ None)

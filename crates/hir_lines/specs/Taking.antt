@@ -1,53 +1,72 @@
--- What a line does to what was made before it. A builder says what is made with one thing more, or that this may not be made.
-use Rattle.std.specs.Prelude.{◌≡◌, ℕ, true, false, Bool, List, Option, None, Some, Result, Ok, Err, MatchResult, ◌↔◌}
-use Rattle.std.specs.Option.{option_map, option_and_then}
+-- What a line does to what was made before it. A builder says what is made with one thing more, and whether a self parameter and a name
+-- were given, since a second one of these is bad.
+use Rattle.std.specs.Prelude.{◌≡◌, ◌≢◌, ℕ, true, false, Bool, if◌then◌else◌, List, Option, None, Some, Result, MatchResult, ◌↔◌}
+use Rattle.std.specs.Option.{option_and_then}
 use Rattle.hir_lines.specs.declared.question.Question.{Question}
 use Rattle.hir_lines.specs.declared.stop.Stop.{Stop}
 use Rattle.hir_lines.specs.declared.stop.Stop.TheVariants as stop
-use Rattle.hir_lines.specs.Line.{Line, Blank, Make, Ask, Bad}
+use Rattle.hir_lines.specs.Line.{Line, Blank, Make, Ask, Bad, makes, asks}
 use Rattle.hir_lines.specs.Makers.{Maker}
+use Rattle.hir_lines.specs.Makers as make
 use Rattle.hir_lines.specs.Readings.{Reading, whole}
 
--- a step from what was made to what is made now; or nothing changed, and only where there is no such step are the words bad
+-- a thing is added; or memory for it was refused, and nothing is changed
+abbrev pub Adds : {B : Type 0} → B → B → B → Result (Unit {0}) Stop → Type 0
+Adds added old new result = MatchResult result (λ done. new ≡ added) (λ why. (why ≡ stop.Memory) × (new ≡ old))
+
+-- whether this gives a second self parameter or a second name, where these were given before
+abbrev pub is_second : Bool → Bool → Maker → Bool
+is_second has_self has_name (make.SelfParam id) = has_self
+is_second has_self has_name (make.FnName name) = has_name
+is_second has_self has_name (make.Binding binding) = false
+is_second has_self has_name (make.Pat pat) = false
+is_second has_self has_name (make.TypeRef type_ref) = false
+is_second has_self has_name (make.Expr expr) = false
+is_second has_self has_name (make.Hygiene id hygiene) = false
+is_second has_self has_name (make.Param id) = false
+is_second has_self has_name make.Roots = false
+is_second has_self has_name (make.Root id) = false
+
+-- from what was made to what is made now; or nothing is changed. It is bad exactly where there is no such step: memory is refused where
+-- there is one
 abbrev pub Steps : {B : Type 0} → Option B → B → B → Result (Unit {0}) Stop → Type 0
 Steps found old new result =
-    MatchResult result (λ done. found ≡ Some new) (λ why. (new ≡ old) × (why ≡ stop.Bad → found ≡ None))
-
--- a thing is added, or nothing is changed: it is refused as bad exactly where it may not be added
-abbrev pub Adds : {B : Type 0} → Option B → B → B → Result (Unit {0}) Stop → Type 0
-Adds found old new result =
     MatchResult result (λ done. found ≡ Some new) (λ why. (new ≡ old) × (why ≡ stop.Bad ↔ found ≡ None))
 
--- what was made, with what these words make, if it is one thing and may be made
-abbrev pub put : {B X : Type 0} → (B → Maker → Option B) → (X → Maker) → Reading X → List (List ℕ) → B → Option B
-put add make reading words old = option_and_then (λ x. add old (make x)) (whole reading words)
+module _ {B : Type 0} (has_self has_name : B → Bool) (add : B → Maker → B) where
+  -- what was made, with one thing more; nothing where it is a second one that is bad
+  abbrev pub with : B → Maker → Option B
+  with old maker = if is_second (has_self old) (has_name old) maker then None else Some (add old maker)
 
--- the words make one thing
-abbrev pub Puts : {B X : Type 0} → (B → Maker → Option B) → (X → Maker) → Reading X → List (List ℕ) → B → B →
-    Result (Unit {0}) Stop → Type 0
-Puts add make reading words old new result = Steps (put add make reading words old) old new result
+  -- what was made, with what a line makes
+  abbrev pub with_line : B → Line → Option B
+  with_line old Blank = Some old
+  with_line old (Make maker) = with old maker
+  with_line old (Ask question) = None
+  with_line old Bad = None
 
--- the words are those of a question
-abbrev pub Asks : Reading Line → List (List ℕ) → Result Question Stop → Type 0
-Asks reading words result =
-    MatchResult result (λ question. whole reading words ≡ Some (Ask question))
-    (λ why. why ≡ stop.Bad → whole reading words ≡ None)
+  -- the words make one thing, by what is read of them
+  abbrev pub Puts : {X : Type 0} → (X → Maker) → Reading X → List (List ℕ) → B → B → Result (Unit {0}) Stop → Type 0
+  Puts make reading words old new result =
+      Steps (option_and_then (λ x. with old (make x)) (whole reading words)) old new result
 
--- what was made, with what a line makes, and the question that it asks; nothing where it is bad or may not be made
-abbrev pub taken : {B : Type 0} → (B → Maker → Option B) → B → Line → Option (B × Option Question)
-taken add old Blank = Some (old, None)
-taken add old (Make maker) = option_map (λ new. (new, None)) (add old maker)
-taken add old (Ask question) = Some (old, Some question)
-taken add old Bad = None
+  abbrev pub PutsMaker : Reading Maker → List (List ℕ) → B → B → Result (Unit {0}) Stop → Type 0
+  PutsMaker reading words old new result = Puts (λ maker. maker) reading words old new result
 
--- a line is taken
-abbrev pub Takes : {B : Type 0} → (B → Maker → Option B) → Line → B → B → Result (Option Question) Stop → Type 0
-Takes add line old new result =
-    MatchResult result (λ question. taken add old line ≡ Some (new, question))
-    (λ why. (new ≡ old) × (why ≡ stop.Bad → taken add old line ≡ None))
+  -- a line that makes something, or is empty, is taken; another one is left, and nothing is changed
+  abbrev pub Makes : Line → B → B → Result Bool Stop → Type 0
+  Makes line old new result =
+      MatchResult result
+      (λ taken. (taken ≡ true → with_line old line ≡ Some new)
+      × (taken ≡ false → (new ≡ old) × (makes line ≡ false)))
+      (λ why. (new ≡ old) × (asks line ≡ false) × (why ≡ stop.Bad ↔ with_line old line ≡ None))
 
--- a line of the frequent kinds is taken; another one is left, and nothing is changed
-abbrev pub TakesOrLeaves : {B : Type 0} → (B → Maker → Option B) → Line → B → B → Result Bool Stop → Type 0
-TakesOrLeaves add line old new (Ok true) = Takes add line old new (Ok None)
-TakesOrLeaves add line old new (Ok false) = new ≡ old
-TakesOrLeaves add line old new (Err why) = Takes add line old new (Err why)
+abbrev pub line_asked : Option Question → Line
+line_asked None = Blank
+line_asked (Some question) = Ask question
+
+-- a line that asks something, or is empty, is taken. It is bad exactly where it is neither: memory is refused where it asks
+abbrev pub Asks : Line → Result (Option Question) Stop → Type 0
+Asks line result =
+    MatchResult result (λ asked. line ≡ line_asked asked)
+    (λ why. (line ≢ Blank) × (why ≡ stop.Bad ↔ asks line ≡ false))

@@ -10,7 +10,7 @@ use Rattle.hir_base.specs.declared.mod_path.PathKind.TheVariants.{Plain}
 use Rattle.hir_path.specs.declared.path.Path.{Path}
 use Rattle.hir_path.specs.declared.path.Path.TheVariants.{BarePath}
 use Rattle.hir_lines.specs.Numerals.{number_of, int_of}
-use Rattle.hir_lines.specs.Names.{name_of, ascii_of}
+use Rattle.hir_lines.specs.Names.{name_of}
 use Rattle.hir_lines.specs.Operators.{op_of}
 use Rattle.hir_lines.specs.Readings.{Reading, ◌>>=◌, gives, first_word, look_up, all_of, parts_of, comma}
 
@@ -69,11 +69,7 @@ abbrev pub by : {X : Type 0} → Option (Reading X) → Reading X
 by None words = None
 by (Some reading) words = reading words
 
-abbrev pub keyword : Reading (List ℕ)
-keyword = first_word ascii_of
-
 -- the first word says in a table how to read on
 abbrev pub one_of : {X : Type 0} → List (List ℕ × Reading X) → Reading X
-one_of forms = do
-  head ← keyword
-  by (look_up forms head)
+one_of forms [] = None
+one_of forms (head ∷ words) = by (look_up forms head) words

@@ -1,33 +1,41 @@
-//! The arms of a match and the statements of a block: each is one word, whose parts are separated by colons and read where they stand.
+//! The arms of a match and the statements of a block: each is one word, whose parts are separated by colons.
 
-ghost use Rattle.hir_lines.specs.ArmsAndStatements.{arm, let_statement, semi_statement, expr_statement, macro_statement, statement_forms};
-ghost use Rattle.hir_lines.specs.Parts.{ReadsParts};
-ghost use Rattle.hir_lines.specs.Words.{one_of};
+ghost use Rattle.hir_lines.specs.ArmsAndStatements.{expr_statement, let_statement, macro_statement};
+ghost use Rattle.hir_lines.specs.Readings.{SaysWhole};
 
-use crate::parts::Parts;
-use crate::stop::Stop;
+use crate::stop::Bad;
 use crate::words::{Word, Words};
 use hir_base::MacroDefId;
 use hir_node::{Item, MatchArm, Statement};
 
-#[inline(always)]
-fn arm(parts: &mut Parts<'_>) -> Result<MatchArm, Stop>
-    ensures { ReadsParts arm parts.old result parts.new }
-{
-    let pat = parts.id()?;
-    let guard = parts.optional_id()?;
-    let expr = parts.id()?;
-    Ok(MatchArm { pat, guard, expr })
+type PartsOfWord<'a> = Words<'a, b':'>;
+
+impl Word for MatchArm {
+    ghost use Rattle.hir_lines.specs.ArmsAndStatements.{arm_of};
+
+    ghost said = { arm_of };
+
+    #[tactic(auto, unfolding(crate::specs::ArmsAndStatements::arm_of))]
+    fn read(word: &[u8]) -> Result<MatchArm, Bad> {
+        let mut parts: PartsOfWord<'_> = Words::new(word);
+        let arm = MatchArm {
+            pat: parts.id()?,
+            guard: parts.optional_id()?,
+            expr: parts.id()?,
+        };
+        parts.end()?;
+        Ok(arm)
+    }
 }
 
-#[inline(always)]
-fn let_statement(parts: &mut Parts<'_>) -> Result<Statement, Stop>
-    ensures { ReadsParts let_statement parts.old result parts.new }
+fn let_statement(parts: &mut PartsOfWord<'_>) -> Result<Statement, Bad>
+    ensures { SaysWhole let_statement parts.old result }
 {
     let pat = parts.id()?;
     let type_ref = parts.optional_id()?;
     let initializer = parts.optional_id()?;
     let else_branch = parts.optional_id()?;
+    parts.end()?;
     Ok(Statement::Let {
         pat,
         type_ref,
@@ -36,67 +44,20 @@ fn let_statement(parts: &mut Parts<'_>) -> Result<Statement, Stop>
     })
 }
 
-#[inline(always)]
-fn semi_statement(parts: &mut Parts<'_>) -> Result<Statement, Stop>
-    ensures { ReadsParts semi_statement parts.old result parts.new }
+fn expr_statement(parts: &mut PartsOfWord<'_>, has_semi: bool) -> Result<Statement, Bad>
+    ensures { SaysWhole (expr_statement has_semi) parts.old result }
 {
     let expr = parts.id()?;
-    Ok(Statement::Expr {
-        expr,
-        has_semi: true,
-    })
+    parts.end()?;
+    Ok(Statement::Expr { expr, has_semi })
 }
 
-fn expr_statement(parts: &mut Parts<'_>) -> Result<Statement, Stop>
-    ensures { ReadsParts expr_statement parts.old result parts.new }
-{
-    let expr = parts.id()?;
-    Ok(Statement::Expr {
-        expr,
-        has_semi: false,
-    })
-}
-
-fn macro_statement(parts: &mut Parts<'_>) -> Result<Statement, Stop>
-    ensures { ReadsParts macro_statement parts.old result parts.new }
+fn macro_statement(parts: &mut PartsOfWord<'_>) -> Result<Statement, Bad>
+    ensures { SaysWhole macro_statement parts.old result }
 {
     let definition = MacroDefId::from_raw(parts.number()?);
+    parts.end()?;
     Ok(Statement::Item(Item::MacroDef(definition)))
-}
-
-#[inline(always)]
-fn statement(parts: &mut Parts<'_>) -> Result<Statement, Stop>
-    ensures { ReadsParts (one_of statement_forms) parts.old result parts.new }
-{
-    if parts.skip(b"let".as_slice()) {
-        return let_statement(parts);
-    }
-    if parts.skip(b"semi".as_slice()) {
-        return semi_statement(parts);
-    }
-    if parts.skip(b"expr".as_slice()) {
-        return expr_statement(parts);
-    }
-    if parts.skip(b"macro".as_slice()) {
-        return macro_statement(parts);
-    }
-    if parts.skip(b"item".as_slice()) {
-        return Ok(Statement::Item(Item::Other));
-    }
-    Err(Stop::Bad)
-}
-
-impl Word for MatchArm {
-    ghost use Rattle.hir_lines.specs.ArmsAndStatements.{arm_of};
-
-    ghost said = { arm_of };
-
-    fn take(words: &mut Words<'_>) -> Result<MatchArm, Stop> {
-        let mut parts = words.parts(b':')?;
-        let arm = arm(&mut parts)?;
-        *words = parts.end()?;
-        Ok(arm)
-    }
 }
 
 impl Word for Statement {
@@ -104,10 +65,22 @@ impl Word for Statement {
 
     ghost said = { statement_of };
 
-    fn take(words: &mut Words<'_>) -> Result<Statement, Stop> {
-        let mut parts = words.parts(b':')?;
-        let statement = statement(&mut parts)?;
-        *words = parts.end()?;
-        Ok(statement)
+    #[tactic(auto, unfolding(crate::specs::ArmsAndStatements::statement_of))]
+    fn read(word: &[u8]) -> Result<Statement, Bad> {
+        let mut parts: PartsOfWord<'_> = Words::new(word);
+        if parts.skip(b"let") {
+            let_statement(&mut parts)
+        } else if parts.skip(b"semi") {
+            expr_statement(&mut parts, true)
+        } else if parts.skip(b"expr") {
+            expr_statement(&mut parts, false)
+        } else if parts.skip(b"macro") {
+            macro_statement(&mut parts)
+        } else if parts.skip(b"item") {
+            parts.end()?;
+            Ok(Statement::Item(Item::Other))
+        } else {
+            Err(Bad)
+        }
     }
 }

@@ -6,16 +6,28 @@ use hir_node::{Binding, BindingId, Expr, ExprId, ExprOrPatId, Pat, PatId, TypeRe
 
 /// Takes what lines make.
 ///
-/// Each call adds one thing. `Bad` where that may not be added, as a second name may not; `Memory` where memory for it was refused. After
-/// either nothing is changed.
+/// Each call adds one thing. `Memory` where memory for it was refused, or an arena is full: nothing is changed then. It is never `Bad`.
 pub trait Builder {
-    ghost use Rattle.std.specs.Prelude.{Option};
+    ghost use Rattle.std.specs.Prelude.{◌≡◌, Bool};
     ghost use Rattle.hir_lines.specs.Makers.{Maker};
     ghost use Rattle.hir_lines.specs.Makers as make;
     ghost use Rattle.hir_lines.specs.Taking.{Adds};
 
-    // What is made with one thing more; nothing where it may not be made.
-    ghost add: { Self → Maker → Option Self };
+    // Whether a self parameter was given; a name.
+    ghost has_self: { Self → Bool };
+
+    ghost has_name: { Self → Bool };
+
+    // What is made with one thing more.
+    ghost add: { Self → Maker → Self };
+
+    /// Whether there is a self parameter: a second one is bad.
+    fn has_self_param(&self) -> bool
+        ensures { result ≡ has_self self.now };
+
+    /// Whether the function has a name: a second one is bad.
+    fn has_fn_name(&self) -> bool
+        ensures { result ≡ has_name self.now };
 
     /// Adds a binding.
     fn binding(&mut self, binding: Binding) -> Result<(), Stop>

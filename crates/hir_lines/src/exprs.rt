@@ -2,13 +2,14 @@
 
 ghost use Rattle.std.specs.Prelude.{IfOk, ◌≡◌};
 ghost use Rattle.hir_lines.specs.Makers as make;
-ghost use Rattle.hir_lines.specs.Readings.{gives, parts_of, space};
 ghost use Rattle.hir_lines.specs.Taking.{Puts};
-ghost use Rattle.hir_lines.specs.Exprs.{expr, path_expr, int_expr, call_expr, tuple_expr, array_expr, repeat_expr, ref_expr, bin_expr, let_expr, if_expr, loop_expr, assign_expr, const_expr, match_expr, closure_expr, block_expr, untyped};
+ghost use Rattle.hir_lines.specs.Exprs.{array_expr, assign_expr, bin_expr, block_expr, call_expr, closure_expr, expr, if_expr, int_expr, let_expr, loop_expr, match_expr, path_expr, ref_expr, repeat_expr, tuple_expr, untyped};
 
 use crate::builder::Builder;
+use crate::numerals::int as int_of;
+use crate::operators::op as op_of;
 use crate::stop::Stop;
-use crate::words::{Words, each};
+use crate::words::{Line, path_of};
 use hir_base::{BlockId, Seq};
 use hir_node::{
     Array, CaptureBy, ClosureKind, Expr, Literal, LoopSource, Mutability, PatId, Rawness,
@@ -16,244 +17,193 @@ use hir_node::{
 };
 use std::alloc::{AllocError, Global};
 
-/// Makes the expression of the text behind `expr`. The first words of most are compared with it in place, together with their spaces.
-// Each `_of` function makes its own `Words` of the text, so that they stay in registers.
-#[inline(always)]
-pub fn expr_of<B: Builder>(alloc: Global, text: &[u8], builder: &mut B) -> Result<(), Stop>
-    ensures { Puts B.add make.Expr expr (parts_of space text.now) builder.old builder.new result }
-{
-    match text {
-        [b'p', b'a', b't', b'h', b' ', name @ ..] => path_of(alloc, name, builder),
-        [b'i', b'n', b't', b' ', number @ ..] => int_of(number, builder),
-        [b'b', b'i', b'n', b' ', rest @ ..] => binary_of(rest, builder),
-        [b'b', b'l', b'o', b'c', b'k', b' ', rest @ ..] => block_of(alloc, rest, builder),
-        [b'l', b'e', b't', b' ', ids @ ..] => let_of(ids, builder),
-        [b'i', b'f', b' ', ids @ ..] => if_of(ids, builder),
-        _ => expr(alloc, &mut Words::new(text, b' '), builder),
-    }
-}
-
 /// Makes the expression of the words behind `expr`.
 #[tactic(auto, unfolding(crate::specs::Exprs::expr))]
-pub fn expr<B: Builder>(alloc: Global, words: &mut Words<'_>, builder: &mut B) -> Result<(), Stop>
-    ensures { Puts B.add make.Expr expr words.old builder.old builder.new result }
+pub fn expr<B: Builder>(alloc: Global, words: &mut Line<'_>, builder: &mut B) -> Result<(), Stop>
+    ensures { Puts B.has_self B.has_name B.add make.Expr expr words.old builder.old builder.new result }
 {
-    match words.word()? {
-        [b'm', b'i', b's', b's', b'i', b'n', b'g'] => put(words, builder, Expr::Missing),
-        [b'p', b'a', b't', b'h'] => path(alloc, words, builder),
-        [b'i', b'n', b't'] => int(words, builder),
-        [b'c', b'a', b'l', b'l'] => call(alloc, words, builder),
-        [b't', b'u', b'p', b'l', b'e'] => tuple(alloc, words, builder),
-        [b'a', b'r', b'r', b'a', b'y'] => array(alloc, words, builder),
-        [b'r', b'e', b'p', b'e', b'a', b't'] => repeat(words, builder),
-        [b'r', b'e', b'f'] => reference(words, builder),
-        [b'b', b'i', b'n'] => binary(words, builder),
-        [b'l', b'e', b't'] => let_expr(words, builder),
-        [b'i', b'f'] => if_expr(words, builder),
-        [b'l', b'o', b'o', b'p'] => loop_expr(words, builder),
-        [b'a', b's', b's', b'i', b'g', b'n'] => assignment(words, builder),
-        [b'c', b'o', b'n', b's', b't'] => constant(words, builder),
-        [b'm', b'a', b't', b'c', b'h'] => match_expr(alloc, words, builder),
-        [b'c', b'l', b'o', b's', b'u', b'r', b'e'] => closure(alloc, words, builder),
-        [b'b', b'l', b'o', b'c', b'k'] => block(alloc, words, builder),
-        _ => Err(Stop::Bad),
+    if words.skip(b"path") {
+        path(alloc, words, builder)
+    } else if words.skip(b"int") {
+        int(words, builder)
+    } else if words.skip(b"bin") {
+        binary(words, builder)
+    } else if words.skip(b"call") {
+        call(alloc, words, builder)
+    } else if words.skip(b"block") {
+        block(alloc, words, builder)
+    } else if words.skip(b"let") {
+        let_expr(words, builder)
+    } else if words.skip(b"if") {
+        if_expr(words, builder)
+    } else if words.skip(b"closure") {
+        closure(alloc, words, builder)
+    } else if words.skip(b"match") {
+        match_expr(alloc, words, builder)
+    } else if words.skip(b"ref") {
+        reference(words, builder)
+    } else if words.skip(b"tuple") {
+        tuple(alloc, words, builder)
+    } else if words.skip(b"assign") {
+        assignment(words, builder)
+    } else if words.skip(b"repeat") {
+        repeat(words, builder)
+    } else if words.skip(b"array") {
+        array(alloc, words, builder)
+    } else if words.skip(b"loop") {
+        loop_expr(words, builder)
+    } else if words.skip(b"const") {
+        let value = words.id()?;
+        words.end()?;
+        builder.expr(Expr::Const(value))
+    } else if words.skip(b"missing") {
+        words.end()?;
+        builder.expr(Expr::Missing)
+    } else {
+        Err(Stop::Bad)
     }
 }
 
-/// Adds the expression, if no word is left.
-#[inline(always)]
-fn put<B: Builder>(words: &Words<'_>, builder: &mut B, expr: Expr) -> Result<(), Stop>
-    ensures { Puts B.add make.Expr (gives expr) words.now builder.old builder.new result }
+fn path<B: Builder>(alloc: Global, words: &mut Line<'_>, builder: &mut B) -> Result<(), Stop>
+    ensures { Puts B.has_self B.has_name B.add make.Expr path_expr words.old builder.old builder.new result }
 {
+    let name = words.name()?;
     words.end()?;
-    builder.expr(expr)
+    builder.expr(Expr::Path(path_of(alloc, name)?))
 }
 
-#[inline(always)]
-fn path<B: Builder>(alloc: Global, words: &mut Words<'_>, builder: &mut B) -> Result<(), Stop>
-    ensures { Puts B.add make.Expr path_expr words.old builder.old builder.new result }
+fn int<B: Builder>(words: &mut Line<'_>, builder: &mut B) -> Result<(), Stop>
+    ensures { Puts B.has_self B.has_name B.add make.Expr int_expr words.old builder.old builder.new result }
 {
-    let path = words.path(alloc)?;
-    put(words, builder, Expr::Path(path))
-}
-
-#[inline(never)]
-fn path_of<B: Builder>(alloc: Global, text: &[u8], builder: &mut B) -> Result<(), Stop>
-    ensures { Puts B.add make.Expr path_expr (parts_of space text.now) builder.old builder.new result }
-{
-    path(alloc, &mut Words::new(text, b' '), builder)
-}
-
-#[inline(always)]
-fn int<B: Builder>(words: &mut Words<'_>, builder: &mut B) -> Result<(), Stop>
-    ensures { Puts B.add make.Expr int_expr words.old builder.old builder.new result }
-{
-    let n = words.int()?;
-    put(words, builder, Expr::Literal(Literal::Int(n, None)))
-}
-
-#[inline(never)]
-fn int_of<B: Builder>(text: &[u8], builder: &mut B) -> Result<(), Stop>
-    ensures { Puts B.add make.Expr int_expr (parts_of space text.now) builder.old builder.new result }
-{
-    int(&mut Words::new(text, b' '), builder)
-}
-
-fn call<B: Builder>(alloc: Global, words: &mut Words<'_>, builder: &mut B) -> Result<(), Stop>
-    ensures { Puts B.add make.Expr call_expr words.old builder.old builder.new result }
-{
-    let call = Expr::Call {
-        callee: words.id()?,
-        args: words.list(alloc)?,
+    let Some(n) = int_of(words.word()?) else {
+        return Err(Stop::Bad);
     };
-    put(words, builder, call)
+    words.end()?;
+    builder.expr(Expr::Literal(Literal::Int(n, None)))
 }
 
-fn tuple<B: Builder>(alloc: Global, words: &mut Words<'_>, builder: &mut B) -> Result<(), Stop>
-    ensures { Puts B.add make.Expr tuple_expr words.old builder.old builder.new result }
+fn call<B: Builder>(alloc: Global, words: &mut Line<'_>, builder: &mut B) -> Result<(), Stop>
+    ensures { Puts B.has_self B.has_name B.add make.Expr call_expr words.old builder.old builder.new result }
+{
+    let callee = words.id()?;
+    let args = words.list(alloc)?;
+    builder.expr(Expr::Call { callee, args })
+}
+
+fn tuple<B: Builder>(alloc: Global, words: &mut Line<'_>, builder: &mut B) -> Result<(), Stop>
+    ensures { Puts B.has_self B.has_name B.add make.Expr tuple_expr words.old builder.old builder.new result }
 {
     let exprs = words.list(alloc)?;
-    put(words, builder, Expr::Tuple { exprs })
+    builder.expr(Expr::Tuple { exprs })
 }
 
-fn array<B: Builder>(alloc: Global, words: &mut Words<'_>, builder: &mut B) -> Result<(), Stop>
-    ensures { Puts B.add make.Expr array_expr words.old builder.old builder.new result }
+fn array<B: Builder>(alloc: Global, words: &mut Line<'_>, builder: &mut B) -> Result<(), Stop>
+    ensures { Puts B.has_self B.has_name B.add make.Expr array_expr words.old builder.old builder.new result }
 {
     let elements = words.list(alloc)?;
-    put(words, builder, Expr::Array(Array::ElementList { elements }))
+    builder.expr(Expr::Array(Array::ElementList { elements }))
 }
 
-fn repeat<B: Builder>(words: &mut Words<'_>, builder: &mut B) -> Result<(), Stop>
-    ensures { Puts B.add make.Expr repeat_expr words.old builder.old builder.new result }
+fn repeat<B: Builder>(words: &mut Line<'_>, builder: &mut B) -> Result<(), Stop>
+    ensures { Puts B.has_self B.has_name B.add make.Expr repeat_expr words.old builder.old builder.new result }
 {
     let repeat = Array::Repeat {
         initializer: words.id()?,
         repeat: words.id()?,
     };
-    put(words, builder, Expr::Array(repeat))
+    words.end()?;
+    builder.expr(Expr::Array(repeat))
 }
 
-fn reference<B: Builder>(words: &mut Words<'_>, builder: &mut B) -> Result<(), Stop>
-    ensures { Puts B.add make.Expr ref_expr words.old builder.old builder.new result }
+fn reference<B: Builder>(words: &mut Line<'_>, builder: &mut B) -> Result<(), Stop>
+    ensures { Puts B.has_self B.has_name B.add make.Expr ref_expr words.old builder.old builder.new result }
 {
     let reference = Expr::Ref {
         expr: words.id()?,
         rawness: Rawness::Ref,
         mutability: Mutability::Shared,
     };
-    put(words, builder, reference)
+    words.end()?;
+    builder.expr(reference)
 }
 
-#[inline(always)]
-fn binary<B: Builder>(words: &mut Words<'_>, builder: &mut B) -> Result<(), Stop>
-    ensures { Puts B.add make.Expr bin_expr words.old builder.old builder.new result }
+fn binary<B: Builder>(words: &mut Line<'_>, builder: &mut B) -> Result<(), Stop>
+    ensures { Puts B.has_self B.has_name B.add make.Expr bin_expr words.old builder.old builder.new result }
 {
-    let op = words.op()?;
-    let binary = Expr::BinaryOp {
-        lhs: words.id()?,
-        rhs: words.id()?,
-        op: Some(op),
+    let Some(op) = op_of(words.word()?) else {
+        return Err(Stop::Bad);
     };
-    put(words, builder, binary)
+    let op = Some(op);
+    let lhs = words.id()?;
+    let rhs = words.id()?;
+    words.end()?;
+    builder.expr(Expr::BinaryOp { lhs, rhs, op })
 }
 
-#[inline(never)]
-fn binary_of<B: Builder>(text: &[u8], builder: &mut B) -> Result<(), Stop>
-    ensures { Puts B.add make.Expr bin_expr (parts_of space text.now) builder.old builder.new result }
+fn let_expr<B: Builder>(words: &mut Line<'_>, builder: &mut B) -> Result<(), Stop>
+    ensures { Puts B.has_self B.has_name B.add make.Expr let_expr words.old builder.old builder.new result }
 {
-    binary(&mut Words::new(text, b' '), builder)
+    let pat = words.id()?;
+    let expr = words.id()?;
+    words.end()?;
+    builder.expr(Expr::Let { pat, expr })
 }
 
-#[inline(always)]
-fn let_expr<B: Builder>(words: &mut Words<'_>, builder: &mut B) -> Result<(), Stop>
-    ensures { Puts B.add make.Expr let_expr words.old builder.old builder.new result }
-{
-    let let_expr = Expr::Let {
-        pat: words.id()?,
-        expr: words.id()?,
-    };
-    put(words, builder, let_expr)
-}
-
-#[inline(never)]
-fn let_of<B: Builder>(text: &[u8], builder: &mut B) -> Result<(), Stop>
-    ensures { Puts B.add make.Expr let_expr (parts_of space text.now) builder.old builder.new result }
-{
-    let_expr(&mut Words::new(text, b' '), builder)
-}
-
-#[inline(always)]
-fn if_expr<B: Builder>(words: &mut Words<'_>, builder: &mut B) -> Result<(), Stop>
-    ensures { Puts B.add make.Expr if_expr words.old builder.old builder.new result }
+fn if_expr<B: Builder>(words: &mut Line<'_>, builder: &mut B) -> Result<(), Stop>
+    ensures { Puts B.has_self B.has_name B.add make.Expr if_expr words.old builder.old builder.new result }
 {
     let if_expr = Expr::If {
         condition: words.id()?,
         then_branch: words.id()?,
         else_branch: words.optional_id()?,
     };
-    put(words, builder, if_expr)
+    words.end()?;
+    builder.expr(if_expr)
 }
 
-#[inline(never)]
-fn if_of<B: Builder>(text: &[u8], builder: &mut B) -> Result<(), Stop>
-    ensures { Puts B.add make.Expr if_expr (parts_of space text.now) builder.old builder.new result }
-{
-    if_expr(&mut Words::new(text, b' '), builder)
-}
-
-fn loop_expr<B: Builder>(words: &mut Words<'_>, builder: &mut B) -> Result<(), Stop>
-    ensures { Puts B.add make.Expr loop_expr words.old builder.old builder.new result }
+fn loop_expr<B: Builder>(words: &mut Line<'_>, builder: &mut B) -> Result<(), Stop>
+    ensures { Puts B.has_self B.has_name B.add make.Expr loop_expr words.old builder.old builder.new result }
 {
     let loop_expr = Expr::Loop {
         body: words.id()?,
         label: None,
         source: LoopSource::Loop,
     };
-    put(words, builder, loop_expr)
+    words.end()?;
+    builder.expr(loop_expr)
 }
 
-fn assignment<B: Builder>(words: &mut Words<'_>, builder: &mut B) -> Result<(), Stop>
-    ensures { Puts B.add make.Expr assign_expr words.old builder.old builder.new result }
+fn assignment<B: Builder>(words: &mut Line<'_>, builder: &mut B) -> Result<(), Stop>
+    ensures { Puts B.has_self B.has_name B.add make.Expr assign_expr words.old builder.old builder.new result }
 {
-    let assignment = Expr::Assignment {
-        target: words.id()?,
-        value: words.id()?,
-    };
-    put(words, builder, assignment)
-}
-
-fn constant<B: Builder>(words: &mut Words<'_>, builder: &mut B) -> Result<(), Stop>
-    ensures { Puts B.add make.Expr const_expr words.old builder.old builder.new result }
-{
+    let target = words.id()?;
     let value = words.id()?;
-    put(words, builder, Expr::Const(value))
+    words.end()?;
+    builder.expr(Expr::Assignment { target, value })
 }
 
-fn match_expr<B: Builder>(alloc: Global, words: &mut Words<'_>, builder: &mut B) -> Result<(), Stop>
-    ensures { Puts B.add make.Expr match_expr words.old builder.old builder.new result }
+fn match_expr<B: Builder>(alloc: Global, words: &mut Line<'_>, builder: &mut B) -> Result<(), Stop>
+    ensures { Puts B.has_self B.has_name B.add make.Expr match_expr words.old builder.old builder.new result }
 {
-    let match_expr = Expr::Match {
-        expr: words.id()?,
-        arms: each(alloc, words)?,
-    };
-    put(words, builder, match_expr)
+    let expr = words.id()?;
+    let arms = words.each(alloc)?;
+    builder.expr(Expr::Match { expr, arms })
 }
 
-fn closure<B: Builder>(alloc: Global, words: &mut Words<'_>, builder: &mut B) -> Result<(), Stop>
-    ensures { Puts B.add make.Expr closure_expr words.old builder.old builder.new result }
+fn closure<B: Builder>(alloc: Global, words: &mut Line<'_>, builder: &mut B) -> Result<(), Stop>
+    ensures { Puts B.has_self B.has_name B.add make.Expr closure_expr words.old builder.old builder.new result }
 {
     let body = words.id()?;
     let args = words.list(alloc)?;
-    let arg_types = untyped(alloc, args.as_slice())?;
     let closure = Expr::Closure {
+        arg_types: untyped(alloc, args.as_slice())?,
         args,
-        arg_types,
         ret_type: None,
         body,
         closure_kind: ClosureKind::Closure,
         capture_by: CaptureBy::Ref,
     };
-    put(words, builder, closure)
+    builder.expr(closure)
 }
 
 /// No type for each argument.
@@ -267,25 +217,18 @@ fn untyped(alloc: Global, args: &[PatId]) -> Result<Seq<Option<TypeRefId>>, Allo
     Ok(types)
 }
 
-#[inline(always)]
-fn block<B: Builder>(alloc: Global, words: &mut Words<'_>, builder: &mut B) -> Result<(), Stop>
-    ensures { Puts B.add make.Expr block_expr words.old builder.old builder.new result }
+fn block<B: Builder>(alloc: Global, words: &mut Line<'_>, builder: &mut B) -> Result<(), Stop>
+    ensures { Puts B.has_self B.has_name B.add make.Expr block_expr words.old builder.old builder.new result }
 {
     let id = words.optional()?.map(BlockId::from_raw);
     let tail = words.optional_id()?;
+    let statements = words.each(alloc)?;
     let block = Expr::Block {
         id,
-        statements: each(alloc, words)?,
+        statements,
         tail,
         label: None,
         unsafe_: Unsafe::No,
     };
-    put(words, builder, block)
-}
-
-#[inline(never)]
-fn block_of<B: Builder>(alloc: Global, text: &[u8], builder: &mut B) -> Result<(), Stop>
-    ensures { Puts B.add make.Expr block_expr (parts_of space text.now) builder.old builder.new result }
-{
-    block(alloc, &mut Words::new(text, b' '), builder)
+    builder.expr(block)
 }

@@ -1,24 +1,25 @@
 //! The lines that the program knows: how each is written, and what it says.
-//! A line is words separated by one space; each form of words is one short function, which takes the words one by one; the most
-//! frequent first words are compared in place.
+//! A line is words separated by one space. Its first word says in a table of forms how the others are read, and each form is one short
+//! function, which takes them one by one.
 #![tactic(auto)]
 
 mod arms_and_statements;
+mod asking;
 mod builder;
 mod exprs;
 pub mod laws;
+mod making;
 mod names;
 mod numerals;
 mod operators;
-mod parts;
 mod pats;
 mod question;
-mod reading;
 mod stop;
 mod types;
 mod words;
 
+pub use asking::ask;
 pub use builder::Builder;
+pub use making::make;
 pub use question::{BodyQuestion, Question, StoreQuestion};
-pub use reading::{take, take_frequent};
 pub use stop::Stop;

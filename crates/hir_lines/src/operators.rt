@@ -7,9 +7,8 @@ ghost use Rattle.hir_base.specs.declared.operators.BinaryOp.TheVariants.{CmpOp a
 
 use hir_base::{ArithOp, BinaryOp, CmpOp, LogicOp, Ordering};
 
-/// The operator between two expressions that the text is, if it is one.
+/// The operator between two expressions that a text is, if it is one.
 #[tactic(auto, unfolding(crate::specs::Operators::op_of))]
-#[inline(always)]
 pub fn op(text: &[u8]) -> Option<BinaryOp>
     ensures { result ≡ op_of text.now }
 {
@@ -48,14 +47,12 @@ pub fn op(text: &[u8]) -> Option<BinaryOp>
     Some(op)
 }
 
-#[inline(always)]
 fn order(ordering: Ordering, strict: bool) -> BinaryOp
     ensures { result ≡ Cmp (Ord ordering strict) }
 {
     BinaryOp::CmpOp(CmpOp::Ord { ordering, strict })
 }
 
-#[inline(always)]
 fn assign(op: ArithOp) -> BinaryOp
     ensures { result ≡ Assignment (Some op) }
 {

@@ -1,9 +1,15 @@
 //! Why a line isn't taken.
 
+ghost use Rattle.std.specs.Prelude.{◌≡◌};
+ghost use Rattle.hir_lines.specs.declared.stop.Stop.TheVariants as to;
+
 use hir_base::ExactEq;
-use std::alloc::{AllocError, AllocFailed};
-use std::mem::drop;
+use std::alloc::AllocError;
 use thiserror::Error;
+
+/// Words that aren't written so. Who answers this alone takes no memory.
+#[derive(Clone, Copy, Drop)]
+pub struct Bad;
 
 /// Why a line isn't taken.
 #[derive(Clone, Copy, Debug, Drop, PartialEq, Eq, Error)]
@@ -22,25 +28,18 @@ impl ExactEq for Stop {
     ghost eq_decides = { Prim.search exact };
 }
 
-impl From<AllocError> for Stop {
-    ghost use Rattle.std.specs.Prelude.{◌≡◌};
-    ghost use Rattle.hir_lines.specs.declared.stop.Stop.TheVariants.{Memory};
+impl From<Bad> for Stop {
+    ghost from_gives = { λ _ stop. stop ≡ to.Bad };
 
-    ghost from_gives = { λ _ stop. stop ≡ Memory };
-
-    fn from(_error: AllocError) -> Stop {
-        Stop::Memory
+    fn from(_bad: Bad) -> Stop {
+        Stop::Bad
     }
 }
 
-impl<T: Drop> From<AllocFailed<T>> for Stop {
-    ghost use Rattle.std.specs.Prelude.{◌≡◌};
-    ghost use Rattle.hir_lines.specs.declared.stop.Stop.TheVariants.{Memory};
+impl From<AllocError> for Stop {
+    ghost from_gives = { λ _ stop. stop ≡ to.Memory };
 
-    ghost from_gives = { λ _ stop. stop ≡ Memory };
-
-    fn from(failed: AllocFailed<T>) -> Stop {
-        drop(failed);
+    fn from(_error: AllocError) -> Stop {
         Stop::Memory
     }
 }

@@ -1,30 +1,62 @@
 //! The types that lines make.
 
-ghost use Rattle.hir_lines.specs.Readings.{Reads};
-ghost use Rattle.hir_lines.specs.Types.{type_ref};
+ghost use Rattle.hir_lines.specs.Readings.{SaysAll};
+ghost use Rattle.hir_lines.specs.Types.{array_type, path_type, pattern_type, tuple_type, type_ref};
 
 use crate::stop::Stop;
-use crate::words::Words;
+use crate::words::{Line, path_of};
 use hir_node::{ArrayType, ConstRef, TypeRef};
 use std::alloc::Global;
 
 /// The type that the words behind `type` make.
 #[tactic(auto, unfolding(crate::specs::Types::type_ref))]
-pub fn type_ref(alloc: Global, words: &mut Words<'_>) -> Result<TypeRef, Stop>
-    ensures { Reads type_ref words.old result words.new }
+pub fn type_ref(alloc: Global, words: &mut Line<'_>) -> Result<TypeRef, Stop>
+    ensures { SaysAll type_ref words.old result }
 {
-    match words.word()? {
-        [b'p', b'a', b't', b'h'] => Ok(TypeRef::Path(words.path(alloc)?)),
-        [b't', b'u', b'p', b'l', b'e'] => Ok(TypeRef::Tuple(words.list(alloc)?)),
-        [b'a', b'r', b'r', b'a', b'y'] => Ok(TypeRef::Array(ArrayType {
-            ty: words.id()?,
-            len: ConstRef { expr: words.id()? },
-        })),
-        [b'p', b'a', b't', b't', b'e', b'r', b'n'] => Ok(TypeRef::PatternType(
-            words.id()?,
-            words.id()?,
-        )),
-        [b'n', b'e', b'v', b'e', b'r'] => Ok(TypeRef::Never),
-        _ => Err(Stop::Bad),
+    if words.skip(b"path") {
+        path(alloc, words)
+    } else if words.skip(b"tuple") {
+        tuple(alloc, words)
+    } else if words.skip(b"array") {
+        array(words)
+    } else if words.skip(b"pattern") {
+        pattern(words)
+    } else if words.skip(b"never") {
+        words.end()?;
+        Ok(TypeRef::Never)
+    } else {
+        Err(Stop::Bad)
     }
+}
+
+fn path(alloc: Global, words: &mut Line<'_>) -> Result<TypeRef, Stop>
+    ensures { SaysAll path_type words.old result }
+{
+    let name = words.name()?;
+    words.end()?;
+    Ok(TypeRef::Path(path_of(alloc, name)?))
+}
+
+fn tuple(alloc: Global, words: &mut Line<'_>) -> Result<TypeRef, Stop>
+    ensures { SaysAll tuple_type words.old result }
+{
+    Ok(TypeRef::Tuple(words.list(alloc)?))
+}
+
+fn array(words: &mut Line<'_>) -> Result<TypeRef, Stop>
+    ensures { SaysAll array_type words.old result }
+{
+    let ty = words.id()?;
+    let len = ConstRef { expr: words.id()? };
+    words.end()?;
+    Ok(TypeRef::Array(ArrayType { ty, len }))
+}
+
+fn pattern(words: &mut Line<'_>) -> Result<TypeRef, Stop>
+    ensures { SaysAll pattern_type words.old result }
+{
+    let ty = words.id()?;
+    let pat = words.id()?;
+    words.end()?;
+    Ok(TypeRef::PatternType(ty, pat))
 }

@@ -1,123 +1,104 @@
-//! The words of a line, taken one by one.
+//! The words of a line, the parts of a word and the numbers of a list, taken one by one.
 
-ghost use Rattle.std.specs.Prelude.{◌≡◌, ◌≢◌, ◌∷◌, [], List, ℕ, codes, MatchResult, IfSome, IfNone, IsTrue, ◌↔◌, position, length, min, ◌^◌, ◌-◌, ◌≤◌, false};
+ghost use Rattle.std.specs.Prelude.{◌≡◌, ◌∷◌, ◌++◌, ◌+◌, ◌<◌, ◌≤◌, ◌↔◌, [], ℕ, List, None, Some, MatchResult, IfOk, IsTrue, codes, false, length, take, true};
 ghost use Rattle.std.specs.List.{count_by};
-ghost use Rattle.hir_lines.specs.Names.{continues_name};
-ghost use Rattle.hir_lines.specs.Numerals.{number_of};
-ghost use Rattle.hir_lines.specs.Parts.{ReadsParts, parted};
-ghost use Rattle.hir_lines.specs.Readings.{parts_of, parts_left, is_byte, HasWord, Reads, first_word, each};
-ghost use Rattle.hir_lines.specs.Words.{number, optional, list, name, path, int, op, expansion, hygiene};
+ghost use Rattle.hir_lines.specs.Names.{is_name};
+ghost use Rattle.hir_lines.specs.Readings.{HasWord, IsRestFrom, Plain, Reads, ReadsAll, Says, SaysOrStops, StartsOtherwise, each, is_byte, parts_of, words_from};
+ghost use Rattle.hir_lines.specs.Words.{expansion, hygiene, list, list_of, name, number, optional, plain};
 
-use crate::names::first_name;
-use crate::numerals::{first_number, has_minus, int as int_text};
-use crate::operators::op as op_text;
-use crate::parts::Parts;
-use crate::stop::Stop;
-use hir_base::{BinaryOp, HygieneId, Idx, Name, Seq, ShortList, SyntaxContext};
+use crate::names::is_name;
+use crate::numerals::first_number;
+use crate::stop::{Bad, Stop};
+use hir_base::{HygieneId, Idx, Name, Seq, ShortList, SyntaxContext};
 use hir_node::Path;
-use std::alloc::Global;
+use std::alloc::{AllocError, Global};
 use std::marker::Model;
 
-/// The words of a text that are left, separated by one byte.
+/// The words of a text that are left, between bytes that separate them: spaces in a line, colons in a word, commas in a list.
 #[derive(Drop)]
-pub struct Words<'a> {
-    rest: Option<&'a [u8]>,
-    separator: u8,
+pub struct Words<'a, const SEPARATOR: u8> {
+    text: &'a [u8],
+    // Where the next word begins: past the end of the text where none is left.
+    start: usize,
 }
 
-impl<'a> Model for Words<'a> {
-    ghost use Rattle.std.specs.Prelude.{List, ℕ, ◌≡◌, false};
-    ghost use Rattle.hir_lines.specs.Names.{continues_name};
-    ghost use Rattle.hir_lines.specs.Readings.{parts_left};
+/// The words of a line.
+pub type Line<'a> = Words<'a, b' '>;
+
+impl<'a, const SEPARATOR: u8> Model for Words<'a, SEPARATOR> {
+    ghost use Rattle.std.specs.Prelude.{List, ℕ};
+    ghost use Rattle.hir_lines.specs.Readings.{words_from};
 
     ghost Value = { List (List ℕ) };
 
-    ghost view = { λ w. parts_left w.separator w.rest };
-
-    ghost invariant = { λ w. continues_name w.separator ≡ false };
+    ghost view = { λ w. words_from SEPARATOR w.start w.text.now };
 }
 
-impl<'a> Words<'a> {
-    /// The words of a text, between its separators.
-    pub fn new(text: &'a [u8], separator: u8) -> Words<'a>
-        requires { continues_name separator ≡ false }
-        ensures { result ≡ parts_of separator text.now }
+impl<'a, const SEPARATOR: u8> Words<'a, SEPARATOR> {
+    /// The words of a text.
+    pub fn new(text: &'a [u8]) -> Words<'a, SEPARATOR>
+        ensures { result ≡ parts_of SEPARATOR text.now }
     {
-        Words {
-            rest: Some(text),
-            separator,
-        }
-    }
-
-    /// The words of what is left of a text.
-    #[inline(always)]
-    pub fn left(rest: Option<&'a [u8]>, separator: u8) -> Words<'a>
-        requires { continues_name separator ≡ false }
-        ensures { result ≡ parts_left separator rest.entry }
-    {
-        Words { rest, separator }
+        Words { text, start: 0 }
     }
 
     /// Takes the next word.
-    #[inline(always)]
-    pub fn word(&mut self) -> Result<&'a [u8], Stop>
-        ensures { MatchResult result (λ word. self.old ≡ word.now ∷ self.new) (λ _. self.old ≡ []) }
+    pub fn word(&mut self) -> Result<&'a [u8], Bad>
+        ensures { MatchResult result (λ word. self.old ≡ word.now ∷ self.new) (λ bad. self.old ≡ []) }
     {
-        match self.rest {
-            Some(text) => {
-                let (word, rest) = cut(text, self.separator);
-                self.rest = rest;
-                Ok(word)
-            }
-            None => Err(Stop::Bad),
+        let text = rest_from(self.text, self.start)?;
+        let end = word_len(text, SEPARATOR);
+        self.start += end + 1;
+        Ok(&text[..end])
+    }
+
+    /// Takes the next word, if it is this one, and answers whether it is.
+    pub fn skip(&mut self, word: &[u8]) -> bool
+        requires { Plain SEPARATOR word.now }
+        ensures yes { IsTrue result → self.old ≡ word.now ∷ self.new }
+        ensures no { result ≡ false → (self.new ≡ self.old) × StartsOtherwise word.now self.old }
+    {
+        let Ok(text) = rest_from(self.text, self.start) else {
+            return false;
+        };
+        if !begins_with(text, word, SEPARATOR) {
+            return false;
         }
+        self.start += word.len() + 1;
+        true
     }
 
     /// Takes the next word, if it is a number.
-    #[inline(always)]
-    pub fn number(&mut self) -> Result<u32, Stop>
+    pub fn number(&mut self) -> Result<u32, Bad>
         ensures { Reads number self.old result self.new }
     {
-        let Some(text) = self.rest else {
-            return Err(Stop::Bad);
-        };
-        match first_number(text, self.separator) {
-            Some((number, rest)) => {
-                self.rest = rest;
-                Ok(number)
-            }
-            None => Err(Stop::Bad),
-        }
+        let text = rest_from(self.text, self.start)?;
+        let (number, end) = first_number(text, SEPARATOR)?;
+        self.start += end + 1;
+        Ok(number)
     }
 
     /// Takes the next word, if it is the number of something.
-    #[inline(always)]
-    pub fn id<K>(&mut self) -> Result<Idx<K>, Stop>
+    pub fn id<K>(&mut self) -> Result<Idx<K>, Bad>
         ensures { Reads number self.old result self.new }
     {
         Ok(Idx::from_raw(self.number()?))
     }
 
-    /// Takes the next word, if it is a number or a dash. Either is read where it stands.
-    #[inline(always)]
-    pub fn optional(&mut self) -> Result<Option<u32>, Stop>
+    /// Takes the next word, if it is a number or a dash.
+    pub fn optional(&mut self) -> Result<Option<u32>, Bad>
         ensures { Reads optional self.old result self.new }
     {
-        let Some(text) = self.rest else {
-            return Err(Stop::Bad);
-        };
-        match first_dash(text, self.separator) {
-            Some(rest) => {
-                self.rest = rest;
-                Ok(None)
-            }
-            None => Ok(Some(self.number()?)),
+        let text = rest_from(self.text, self.start)?;
+        if begins_with_dash(text, SEPARATOR) {
+            self.start += 2;
+            return Ok(None);
         }
+        Ok(Some(self.number()?))
     }
 
     /// Takes the next word, if it is the number of something or a dash.
-    #[inline(always)]
-    pub fn optional_id<K>(&mut self) -> Result<Option<Idx<K>>, Stop>
+    pub fn optional_id<K>(&mut self) -> Result<Option<Idx<K>>, Bad>
         ensures { Reads optional self.old result self.new }
     {
         match self.optional()? {
@@ -126,94 +107,28 @@ impl<'a> Words<'a> {
         }
     }
 
-    /// Takes the next word, if it is a list of numbers.
-    #[tactic(auto, unfolding(crate::specs::Words::list_of))]
-    pub fn list<K>(&mut self, alloc: Global) -> Result<ShortList<Idx<K>>, Stop>
-        ensures { Reads list self.old result self.new }
-    {
-        let Some(text) = self.rest else {
-            return Err(Stop::Bad);
-        };
-        if let Some(rest) = first_dash(text, self.separator) {
-            self.rest = rest;
-            return Ok(ShortList::new());
-        }
-        let mut numbers = Parts::new(text, b',', self.separator);
-        let ids = ids(alloc, &mut numbers)?;
-        *self = numbers.end()?;
-        Ok(ids)
-    }
-
-    /// The parts of the next word, and the words behind it; `Bad` where no word is left.
-    #[inline(always)]
-    pub fn parts(&self, separator: u8) -> Result<Parts<'a>, Stop>
-        requires { continues_name separator ≡ false }
-        ensures { MatchResult result (λ parts. HasWord self.now × (parts ≡ parted separator self.now)) (λ why. self.now ≡ []) }
-    {
-        match self.rest {
-            Some(text) => Ok(Parts::new(text, separator, self.separator)),
-            None => Err(Stop::Bad),
-        }
-    }
-
     /// Takes the next word, if it is a name.
-    #[inline(always)]
-    pub fn name(&mut self, alloc: Global) -> Result<Name, Stop>
-        ensures { Reads name self.old result self.new }
-    {
-        let Some(text) = self.rest else {
-            return Err(Stop::Bad);
-        };
-        match first_name(text, self.separator) {
-            Some((name, rest)) => {
-                self.rest = rest;
-                Ok(Name::from_ascii(alloc, name)?)
-            }
-            None => Err(Stop::Bad),
-        }
-    }
-
-    /// Takes the next word, if it is a name: the plain path of that name.
-    #[inline(always)]
-    pub fn path(&mut self, alloc: Global) -> Result<Path, Stop>
-        ensures { Reads path self.old result self.new }
-    {
-        Ok(Path::from_name(alloc, self.name(alloc)?)?)
-    }
-
-    /// Takes the next word, if it is an integer.
-    pub fn int(&mut self) -> Result<i128, Stop>
-        ensures { Reads int self.old result self.new }
+    pub fn name(&mut self) -> Result<&'a [u8], Bad>
+        ensures { MatchResult result
+            (λ word. (is_name word.now ≡ true) × (name self.old ≡ Some (word.now, self.new)))
+            (λ bad. name self.old ≡ None) }
     {
         let word = self.word()?;
-        match int_text(word) {
-            Some(n) => Ok(n),
-            None => Err(Stop::Bad),
+        if !is_name(word) {
+            return Err(Bad);
         }
-    }
-
-    /// Takes the next word, if it is an operator.
-    pub fn op(&mut self) -> Result<BinaryOp, Stop>
-        ensures { Reads op self.old result self.new }
-    {
-        let word = self.word()?;
-        match op_text(word) {
-            Some(op) => Ok(op),
-            None => Err(Stop::Bad),
-        }
+        Ok(word)
     }
 
     /// Takes the next word, if it is the number of a macro expansion: the hygiene of that expansion.
-    #[inline(always)]
-    pub fn expansion(&mut self) -> Result<HygieneId, Stop>
+    pub fn expansion(&mut self) -> Result<HygieneId, Bad>
         ensures { Reads expansion self.old result self.new }
     {
         Ok(HygieneId::new(SyntaxContext::Expansion(self.number()?)))
     }
 
     /// Takes the next word, if it is the number of a macro expansion; where no word is left, the hygiene is that of source text.
-    #[inline(always)]
-    pub fn hygiene(&mut self) -> Result<HygieneId, Stop>
+    pub fn hygiene(&mut self) -> Result<HygieneId, Bad>
         ensures { Reads hygiene self.old result self.new }
     {
         if self.is_empty() {
@@ -222,36 +137,53 @@ impl<'a> Words<'a> {
         self.expansion()
     }
 
-    /// Refuses words that are left.
-    #[inline(always)]
-    pub fn end(&self) -> Result<(), Stop>
-        ensures { MatchResult result (λ done. self.now ≡ []) (λ why. HasWord self.now) }
+    /// Takes all the words that are left, if each says a value of this type. That memory was refused is said behind the last.
+    pub fn each<T: Word + Drop>(&mut self, alloc: Global) -> Result<Seq<T>, Stop>
+        ensures { ReadsAll (each T.said) self.old result }
     {
-        match self.rest {
-            Some(_) => Err(Stop::Bad),
-            None => Ok(()),
+        // Room for each and no more: a list that grows while it is read keeps room that it never uses.
+        let mut kept = Seq::with_capacity(alloc, self.len());
+        while !self.is_empty() {
+            let item = T::read(self.word()?)?;
+            kept = and_item(kept, item);
         }
+        Ok(kept?)
     }
 
-    /// How many words are left, or the largest number there is.
-    fn len(&self) -> usize
-        ensures { result ≡ min (length self.now) (2 ^ 64 - 1) }
+    /// Refuses words that are left.
+    pub fn end(&self) -> Result<(), Bad>
+        ensures { MatchResult result (λ done. self.now ≡ []) (λ bad. HasWord self.now) }
     {
-        match self.rest {
-            Some(text) => count(text, self.separator).saturating_add(1),
-            None => 0,
+        if !self.is_empty() {
+            return Err(Bad);
         }
+        Ok(())
     }
 
     /// Whether no word is left.
-    #[inline(always)]
-    pub fn is_empty(&self) -> bool
+    fn is_empty(&self) -> bool
         ensures { IsTrue result ↔ (self.now ≡ []) }
     {
-        match self.rest {
-            Some(_) => false,
-            None => true,
+        self.start > self.text.len()
+    }
+
+    /// How many words are left: a text has one more than separators.
+    fn len(&self) -> usize {
+        match rest_from(self.text, self.start) {
+            Ok(text) => count(text, SEPARATOR).saturating_add(1),
+            Err(_) => 0,
         }
+    }
+}
+
+impl<'a> Words<'a, b' '> {
+    /// The numbers of the last word, if it is a list of them. That memory was refused is said behind the last.
+    // The word isn't cut off first: where another is behind it, one of the numbers has a space, and is none.
+    pub fn list<K>(&self, alloc: Global) -> Result<ShortList<Idx<K>>, Stop>
+        ensures { ReadsAll list self.now result }
+    {
+        let text = rest_from(self.text, self.start)?;
+        list(alloc, text)
     }
 }
 
@@ -261,68 +193,73 @@ pub trait Word: Sized {
 
     ghost said: { List ℕ → Option Self };
 
-    /// Takes the next word, if it says a value of this type.
-    fn take(words: &mut Words<'_>) -> Result<Self, Stop>
-        ensures { Reads (first_word said) words.old result words.new };
+    /// The value of this type that a word says.
+    fn read(word: &[u8]) -> Result<Self, Bad>
+        ensures { Says said word.now result };
 }
 
-/// Takes all the words that are left, if each says a value of this type.
-pub fn each<T: Word + Drop>(alloc: Global, words: &mut Words<'_>) -> Result<Seq<T>, Stop>
-    ensures { Reads (each T.said) words.old result words.new }
+/// The name that a word is.
+pub fn name_of(alloc: Global, word: &[u8]) -> Result<Name, AllocError>
+    requires { is_name word.now ≡ true }
+    ensures { IfOk result (λ name. name ≡ word.now) }
 {
-    // Room for each and no more: a list that grows while it is read keeps room that it never uses.
-    let mut items = Seq::with_capacity(alloc, words.len())?;
-    while !words.is_empty() {
-        items.push(T::take(words)?)?;
+    Name::from_ascii(alloc, word)
+}
+
+/// The plain path of the name that a word is.
+pub fn path_of(alloc: Global, word: &[u8]) -> Result<Path, AllocError>
+    requires { is_name word.now ≡ true }
+    ensures { IfOk result (λ path. path ≡ plain word.now) }
+{
+    Ok(Path::from_name(alloc, name_of(alloc, word)?)?)
+}
+
+/// The numbers that a word is, or none for a dash.
+#[tactic(auto, unfolding(crate::specs::Words::list_of))]
+fn list<K>(alloc: Global, word: &[u8]) -> Result<ShortList<Idx<K>>, Stop>
+    ensures { SaysOrStops list_of word.now result }
+{
+    let mut kept = ShortList::new();
+    if word == b"-".as_slice() {
+        return Ok(kept);
     }
+    let mut room = Ok(());
+    let mut numbers: Words<'_, b','> = Words::new(word);
+    while !numbers.is_empty() {
+        let id = numbers.id()?;
+        room = and_id(alloc, &mut kept, room, id);
+    }
+    room?;
+    Ok(kept)
+}
+
+/// An id more, where there was room for the ids before it.
+fn and_id<K>(
+    alloc: Global,
+    kept: &mut ShortList<Idx<K>>,
+    room: Result<(), AllocError>,
+    id: Idx<K>,
+) -> Result<(), AllocError>
+    ensures { (ids : List ℕ) → IfOk room (λ done. kept.old ≡ ids) → IfOk result (λ done. kept.new ≡ ids ++ id ∷ []) }
+{
+    room?;
+    kept.push(alloc, id)
+}
+
+/// An item more, where the items before it were kept.
+fn and_item<T: Drop>(kept: Result<Seq<T>, AllocError>, item: T) -> Result<Seq<T>, AllocError>
+    ensures { (items : List T) → IfOk kept (λ old. old ≡ items) → IfOk result (λ new. new ≡ items ++ item ∷ []) }
+{
+    let mut items = kept?;
+    items.push(item)?;
     Ok(items)
 }
 
-/// Takes all the parts of a word that are left, if each is the number of something.
-fn ids<K>(alloc: Global, parts: &mut Parts<'_>) -> Result<ShortList<Idx<K>>, Stop>
-    ensures { ReadsParts (each number_of) parts.old result parts.new }
-{
-    let mut ids = ShortList::new();
-    while !parts.is_empty() {
-        ids.push(alloc, parts.id()?)?;
-    }
-    Ok(ids)
-}
-
-/// What is left behind the first word, if that is a dash.
-#[inline(always)]
-fn first_dash(text: &[u8], separator: u8) -> Option<Option<&[u8]>>
-    ensures some { IfSome result (λ rest. parts_of separator text.now ≡ codes "-" ∷ parts_left separator rest) }
-    ensures none { IfNone result ((words : List (List ℕ)) → parts_of separator text.now ≢ codes "-" ∷ words) }
-{
-    // A dash that separates is no word.
-    if !has_minus(text) || separator == b'-' {
-        return None;
-    }
-    if text.len() == 1 {
-        return Some(None);
-    }
-    if text[1] != separator {
-        return None;
-    }
-    Some(Some(&text[2..]))
-}
-
-/// The first place of a byte.
-#[inline(always)]
-fn find(text: &[u8], byte: u8) -> Option<usize>
-    ensures { result ≡ position (is_byte byte) text.now }
-{
-    text.iter().position(|b| *b == byte)
-}
-
-/// How often a byte comes in a text of at most 255 bytes. Such a count fits a byte, so many places are compared and counted at a time.
-#[inline(always)]
-fn count_short(text: &[u8], byte: u8) -> u8
-    requires { length text.now ≤ 255 }
+/// How often a byte comes.
+fn count(text: &[u8], byte: u8) -> usize
     ensures { result ≡ count_by (is_byte byte) text.now }
 {
-    let mut count: u8 = 0;
+    let mut count = 0;
     for b in text {
         if *b == byte {
             count += 1;
@@ -331,27 +268,55 @@ fn count_short(text: &[u8], byte: u8) -> u8
     count
 }
 
-/// How often a byte comes.
-fn count(text: &[u8], byte: u8) -> usize
-    ensures { result ≡ count_by (is_byte byte) text.now }
+/// The rest of a text from a place on, unless that is past its end.
+fn rest_from(text: &[u8], start: usize) -> Result<&[u8], Bad>
+    ensures { MatchResult result (λ rest. IsRestFrom start text.now rest.now) (λ bad. length text.now < start) }
 {
-    let mut counted = 0;
-    let mut left = text;
-    while left.len() > 255 {
-        let (short, rest) = left.split_at(255);
-        counted += count_short(short, byte) as usize;
-        left = rest;
+    if start > text.len() {
+        return Err(Bad);
     }
-    counted + count_short(left, byte) as usize
+    Ok(&text[start..])
 }
 
-/// The text before the first separator, and the text after it, where there is one.
-#[inline(always)]
-fn cut(text: &[u8], separator: u8) -> (&[u8], Option<&[u8]>)
-    ensures { parts_of separator text.now ≡ result.0.now ∷ parts_left separator result.1 }
+/// How long the first word of a text is.
+fn word_len(text: &[u8], separator: u8) -> usize
+    ensures within { result ≤ length text.now }
+    ensures first { parts_of separator text.now ≡ take result text.now ∷ words_from separator (result + 1) text.now }
 {
-    match find(text, separator) {
-        Some(i) => (&text[..i], Some(&text[i + 1..])),
-        None => (text, None),
+    let mut end = 0;
+    while end < text.len() && text[end] != separator {
+        end += 1;
     }
+    end
+}
+
+/// Whether the first word of a text is this one.
+fn begins_with(text: &[u8], word: &[u8], separator: u8) -> bool
+    requires { Plain separator word.now }
+    ensures within { IsTrue result → length word.now ≤ length text.now }
+    ensures yes { IsTrue result →
+        parts_of separator text.now ≡ word.now ∷ words_from separator (length word.now + 1) text.now }
+    ensures no { result ≡ false → StartsOtherwise word.now (parts_of separator text.now) }
+{
+    if !text.starts_with(word) {
+        return false;
+    }
+    let end = word.len();
+    if end == text.len() {
+        return true;
+    }
+    text[end] == separator
+}
+
+/// Whether the first word of a text is a dash.
+fn begins_with_dash(text: &[u8], separator: u8) -> bool
+    ensures within { IsTrue result → 1 ≤ length text.now }
+    ensures yes { IsTrue result → parts_of separator text.now ≡ codes "-" ∷ words_from separator 2 text.now }
+    ensures no { result ≡ false → StartsOtherwise (codes "-") (parts_of separator text.now) }
+{
+    // A dash that separates is no word.
+    if separator == b'-' {
+        return false;
+    }
+    begins_with(text, b"-", separator)
 }

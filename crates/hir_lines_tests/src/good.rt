@@ -1,7 +1,7 @@
 //! What each form of a line makes or asks, but for expressions.
 
 use crate::kept::{Line, Maker};
-use crate::says::{id, is_frequent, makes, path, says};
+use crate::says::{id, is_second, makes, path, says};
 use hir_base::{HygieneId, Name, RangeOp, ShortList, SyntaxContext};
 use hir_lines::{BodyQuestion, Question, StoreQuestion};
 use hir_node::{
@@ -196,27 +196,11 @@ fn types(rt: HostRuntime) -> Result<(), Fail> {
     makes(&rt, alloc, b"type pattern 0 1", Maker::Type(made))
 }
 
-const FREQUENT: [&[u8]; 6] = [
-    b"",
-    b"expr path x",
-    b"expr missing",
-    b"pat wild",
-    b"bind x",
-    b"bind 0",
-];
-
-// Of these words `take_frequent` makes nothing, nor finds them bad.
-const OTHER: [&[u8]; 5] = [b"expr", b"type never", b"root 0", b"print", b"binds x"];
-
+// A second self parameter and a second name are bad, also where a name is long.
 #[test]
-fn frequent_lines_are_taken_at_once(rt: HostRuntime) -> Result<(), Fail> {
-    for text in &FREQUENT {
-        let is_frequent = is_frequent(rt.alloc(), text);
-        assert!(rt; is_frequent?, "{text:?}");
-    }
-    for text in &OTHER {
-        let is_frequent = is_frequent(rt.alloc(), text);
-        assert!(rt; !is_frequent?, "{text:?}");
-    }
-    Ok(())
+fn second_ones_are_bad(rt: HostRuntime) -> Result<(), Fail> {
+    let alloc = rt.alloc();
+    is_second(&rt, alloc, b"self 0")?;
+    is_second(&rt, alloc, b"fn f")?;
+    is_second(&rt, alloc, b"fn longer_than_14_bytes")
 }

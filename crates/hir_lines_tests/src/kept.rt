@@ -1,7 +1,7 @@
 //! A builder that keeps what lines make, as it came.
 
 use hir_base::{HygieneId, Name, Seq};
-use hir_lines::{Builder, Question, Stop, take, take_frequent};
+use hir_lines::{Builder, Question, Stop, ask, make};
 use hir_node::{Binding, BindingId, Expr, ExprId, ExprOrPatId, Pat, PatId, TypeRef};
 use std::alloc::Global;
 
@@ -32,27 +32,35 @@ pub enum Line {
 #[derive(Drop)]
 struct Kept {
     makers: Seq<Maker>,
+    has_self: bool,
+    has_name: bool,
 }
 
 impl Kept {
-    ghost use Rattle.std.specs.Prelude.{[], ◌∷◌, ◌++◌, Some};
-    ghost use Rattle.hir_lines.specs.Taking.{Steps};
+    ghost use Rattle.std.specs.Prelude.{[], ◌∷◌, ◌++◌};
+    ghost use Rattle.hir_lines.specs.Taking.{Adds};
 
     fn keep(&mut self, maker: Maker) -> Result<(), Stop>
-        ensures { Steps (Some record { makers = self.old.makers ++ maker ∷ [] }) self.old self.new result }
+        ensures { Adds (record self.old { makers = self.old.makers ++ maker ∷ [] }) self.old self.new result }
     {
-        self.makers.push(maker)?;
-        Ok(())
+        match self.makers.push(maker) {
+            Ok(()) => Ok(()),
+            Err(_) => Err(Stop::Memory),
+        }
     }
 }
 
 impl Builder for Kept {
-    ghost use Rattle.std.specs.Prelude.{[], ◌∷◌, ◌++◌, Some};
+    ghost use Rattle.std.specs.Prelude.{[], ◌∷◌, ◌++◌};
     ghost use Rattle.hir_lines.specs.Makers as make;
     ghost use Rattle.hir_lines_tests.specs.declared.kept.Maker.TheVariants as kept;
 
+    ghost has_self = { λ before. before.has_self };
+
+    ghost has_name = { λ before. before.has_name };
+
     // What a line makes is kept as it came.
-    ghost add = { λ before maker. Some record {
+    ghost add = { λ before maker. record before {
       makers = before.makers ++ elim maker [
         | make.Binding binding ↦ kept.Binding binding
         | make.Pat pat ↦ kept.Pat pat
@@ -66,6 +74,14 @@ impl Builder for Kept {
         | make.Root id ↦ kept.Root id
       ] ∷ [];
     } };
+
+    fn has_self_param(&self) -> bool {
+        self.has_self
+    }
+
+    fn has_fn_name(&self) -> bool {
+        self.has_name
+    }
 
     fn binding(&mut self, binding: Binding) -> Result<(), Stop> {
         self.keep(Maker::Binding(binding))
@@ -108,28 +124,27 @@ impl Builder for Kept {
     }
 }
 
-/// What a text says.
-pub fn said(alloc: Global, text: &[u8]) -> Result<Line, Stop> {
+/// What a text says to a builder that has a self parameter and a name, or neither.
+pub fn said(alloc: Global, text: &[u8], has_both: bool) -> Result<Line, Stop> {
     let mut kept = Kept {
         makers: Seq::new(alloc),
+        has_self: has_both,
+        has_name: has_both,
     };
-    match take(alloc, text, &mut kept) {
-        Ok(Some(question)) => Ok(Line::Ask(question)),
-        Ok(None) => Ok(kept_line(kept)),
+    match make(alloc, text, &mut kept) {
+        Ok(true) => Ok(kept_line(kept)),
+        Ok(false) => asked(alloc, text),
         Err(Stop::Bad) => Ok(Line::Bad),
         Err(Stop::Memory) => Err(Stop::Memory),
     }
 }
 
-/// What a text says to `take_frequent`, if it isn't left.
-pub fn said_frequent(alloc: Global, text: &[u8]) -> Result<Option<Line>, Stop> {
-    let mut kept = Kept {
-        makers: Seq::new(alloc),
-    };
-    match take_frequent(alloc, text, &mut kept) {
-        Ok(true) => Ok(Some(kept_line(kept))),
-        Ok(false) => Ok(None),
-        Err(Stop::Bad) => Ok(Some(Line::Bad)),
+/// What a text says that makes nothing.
+fn asked(alloc: Global, text: &[u8]) -> Result<Line, Stop> {
+    match ask(alloc, text) {
+        Ok(Some(question)) => Ok(Line::Ask(question)),
+        Ok(None) => Ok(Line::Blank),
+        Err(Stop::Bad) => Ok(Line::Bad),
         Err(Stop::Memory) => Err(Stop::Memory),
     }
 }

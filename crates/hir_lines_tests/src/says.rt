@@ -1,7 +1,7 @@
 //! What a text says, held against a line; and the parts of lines that take memory.
 //! A line is dropped whole before its answer is weighed, since one that goes out of scope is dear to prove.
 
-use crate::kept::{Line, Maker, said, said_frequent};
+use crate::kept::{Line, Maker, said};
 use hir_base::{Idx, Name, Seq};
 use hir_lines::Stop;
 use hir_node::Path;
@@ -10,37 +10,25 @@ use std::mem::drop;
 use std::process::Abort;
 use std::test::Fail;
 
-fn is_said(alloc: Global, text: &[u8], line: &Line) -> Result<bool, Stop> {
-    let said = said(alloc, text)?;
+fn is_said(alloc: Global, text: &[u8], has_both: bool, line: &Line) -> Result<bool, Stop> {
+    let said = said(alloc, text, has_both)?;
     let is_said = said == *line;
-    drop(said);
-    Ok(is_said && is_said_at_once(alloc, text, line)?)
-}
-
-// A line that is taken at once says the same.
-fn is_said_at_once(alloc: Global, text: &[u8], line: &Line) -> Result<bool, Stop> {
-    let said = said_frequent(alloc, text)?;
-    let is_said = match &said {
-        Some(said) => *said == *line,
-        None => true,
-    };
     drop(said);
     Ok(is_said)
 }
 
-/// Whether a text is taken at once.
-pub fn is_frequent(alloc: Global, text: &[u8]) -> Result<bool, Stop> {
-    let said = said_frequent(alloc, text)?;
-    let is_frequent = said.is_some();
-    drop(said);
-    Ok(is_frequent)
-}
-
 /// Fails where a text doesn't say this line.
 pub fn says(rt: &impl Abort, alloc: Global, text: &[u8], line: Line) -> Result<(), Fail> {
-    let is_said = is_said(alloc, text, &line);
+    let is_said = is_said(alloc, text, false, &line);
     drop(line);
     assert!(rt; is_said?, "{text:?}");
+    Ok(())
+}
+
+/// Fails where a text isn't bad for a builder that has a self parameter and a name.
+pub fn is_second(rt: &impl Abort, alloc: Global, text: &[u8]) -> Result<(), Fail> {
+    let is_bad = is_said(alloc, text, true, &Line::Bad);
+    assert!(rt; is_bad?, "{text:?}");
     Ok(())
 }
 

@@ -1,5 +1,6 @@
 //! Shapes of layout, in lines and in one line.
 use hir_page::{LineFormat, PageBuffer, PieceWriter, write_number};
+use std::alloc::{AllocError, Global};
 use std::test::Fail;
 
 #[test]
@@ -135,5 +136,54 @@ fn numbers_are_written_in_place(rt: HostRuntime) -> Result<(), Fail> {
     write_number(&mut page, 3u32)?;
     page.text(")")?;
     assert_eq!(rt; page.into_text().as_str(), "x\n    ExprId(3)");
+    Ok(())
+}
+
+// Blocks in one another, so many levels deep.
+fn nest(page: &mut PageBuffer, depth: u32) -> Result<(), Fail> {
+    for _ in 0..depth {
+        page.text("{")?;
+        page.indent()?;
+    }
+    page.text("_")?;
+    for _ in 0..depth {
+        page.line_break()?;
+        page.outdent()?;
+        page.text("}")?;
+    }
+    Ok(())
+}
+
+// The spaces of so many levels.
+fn push_spaces(text: &mut String, levels: u32) -> Result<(), AllocError> {
+    for _ in 0..levels {
+        text.push_str("    ")?;
+    }
+    Ok(())
+}
+
+// The lines of such blocks, each level four spaces further in.
+fn nested_lines(alloc: Global, depth: u32) -> Result<String, AllocError> {
+    let mut text = String::new(alloc);
+    for level in 0..depth {
+        push_spaces(&mut text, level)?;
+        text.push_str("{\n")?;
+    }
+    push_spaces(&mut text, depth)?;
+    text.push_str("_")?;
+    for level in 1..=depth {
+        text.push_str("\n")?;
+        push_spaces(&mut text, depth.wrapping_sub(level))?;
+        text.push_str("}")?;
+    }
+    Ok(text)
+}
+
+#[test]
+fn a_thousand_levels_are_indented(rt: HostRuntime) -> Result<(), Fail> {
+    let mut page = PageBuffer::new(rt.alloc(), LineFormat::Newline);
+    nest(&mut page, 1000)?;
+    let wanted = nested_lines(rt.alloc(), 1000)?;
+    assert!(rt; page.into_text().as_str() == wanted.as_str());
     Ok(())
 }

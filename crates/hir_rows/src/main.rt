@@ -5,6 +5,7 @@
 mod answers;
 mod files;
 mod halt;
+mod repeats;
 mod report;
 mod rows;
 

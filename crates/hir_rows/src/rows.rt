@@ -2,6 +2,7 @@
 
 use crate::answers::compare_answers;
 use crate::halt::Halt;
+use crate::repeats::push_line;
 use crate::report::{Place, Report};
 use std::alloc::{AllocError, Global};
 
@@ -22,9 +23,9 @@ impl<'a> Row<'a> {
         }
     }
 
+    /// Adds a line, or those that it stands for.
     fn push(&mut self, line: &str) -> Result<(), AllocError> {
-        self.text.push_str(line)?;
-        self.text.push('\n')
+        push_line(&mut self.text, line)
     }
 
     /// The lines of the row.

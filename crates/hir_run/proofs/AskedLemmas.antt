@@ -8,14 +8,15 @@ use Rattle.hir_io.specs.Ends.{IsWrittenUpTo}
 use Rattle.hir_io.specs.LineState.{LineState}
 use Rattle.hir_io.specs.NextLine.{NextTakes, NextWrites}
 use Rattle.hir_io.specs.Reads.{Reads}
-use Rattle.hir_io.proofs.ReadLemmas.{Reads-none, ReadsFront-now, ReadsFront-before, ReadsUntilFailure-now}
-use Rattle.hir_lines.specs.Line.{Line, Ask, line_of}
+use Rattle.hir_io.proofs.ReadLemmas.{Reads-none, ReadsFront-now, ReadsUntilFailure-now}
+use Rattle.hir_lines.specs.Line.{Line, Ask, line_of, may_ask, asks}
 use Rattle.hir_lines.specs.declared.question.Question.{Question}
 use Rattle.hir_run.specs.declared.fault.RunFault.{RunFault}
 use Rattle.hir_run.specs.declared.fault.RunFault.TheVariants.{BadLine, Refused, BodyRefused, InputFailed, OutputFailed, OutOfMemory}
 use Rattle.hir_run.specs.Faults.{fault_of_line}
-use Rattle.hir_run.specs.Program.{may_ask, IsLineAnswer, AreAnswers}
+use Rattle.hir_run.specs.Program.{IsLineAnswer, AreAnswers}
 use Rattle.hir_run.specs.Stages.{TakesLine, AsksLine, asked, HaveAnswers, Answered, AsksUpTo, Asks}
+use Rattle.hir_run.proofs.Refusals.{behind_line, behind_none, some_text}
 use Rattle.hir_run.proofs.Scripts.{says-push}
 use Rattle.hir_run.proofs.WritingLemmas.{IsWrittenUpTo-then, GrowsByFront-then, kept}
 
@@ -63,7 +64,7 @@ module _ (may : Question → Bool) (Is : Question → List ℕ → Type 0) where
     first_fails remaining number new waiting (BadLine told) a = absurd (cc a.0)
     first_fails remaining number new waiting OutputFailed (may_be, text, is, grows, none) =
         ([], text, have_first first text may_be is, ReadsFront-now known known [] start.at_end (Reads-none known start.at_end), grows, none)
-    first_fails remaining number new waiting OutOfMemory a = inr (a.0, a.1, refl)
+    first_fails remaining number new waiting OutOfMemory (question, is, same, waits) = inr (same, waits, refl)
     first_fails remaining number new waiting InputFailed a = absurd a
     first_fails remaining number new waiting (Refused fault) a = absurd a
     first_fails remaining number new waiting (BodyRefused fault) a = absurd a
@@ -84,7 +85,7 @@ module _ (may : Question → Bool) (Is : Question → List ℕ → Type 0) where
       -- no line could be had
       pub fails_to_read : (rest remaining new : Option (List ℕ)) (waiting : List ℕ) (ls' : LineState) (fault : LineFault) → ls'.count ≡ ls.count + 0 → NextTakes mid_known rest remaining ls ls' (Err fault) → NextWrites before new was waiting (Err fault) → Asks may Is known rest remaining start ls' old waited new waiting first (Err (fault_of_line fault))
       fails_to_read rest remaining new waiting ls' line.OutOfMemory counted takes writes =
-          inl (texts, answered_kept new waiting (was, rw (writes.1) (sym (append-nil was)), writes.0), ReadsFront-now known mid_known texts ls.at_end read, inl (omega (arith, count, counted)))
+          inl (texts, answered_kept new waiting (was, rw (writes.1) (sym (append-nil was)), writes.0), behind_none (λ text. asks (line_of text) ≡ true) start.count known texts ls'.line ls'.count takes.1 (ReadsFront-now known mid_known texts ls.at_end read) (omega (arith, count, counted)))
       fails_to_read rest remaining new waiting ls' line.InputFailed counted takes writes =
           (texts, answered_kept new waiting (was, rw (writes.1) (sym (append-nil was)), writes.0), unmet_before takes.1, ReadsUntilFailure-now known mid_known remaining texts ls'.pending ls.at_end read takes.1 takes.0)
       fails_to_read rest remaining new waiting ls' line.OutputFailed counted takes writes =
@@ -106,7 +107,7 @@ module _ (may : Question → Bool) (Is : Question → List ℕ → Type 0) where
         pub line_left : (left : Option Question) → is_some left ≡ true → TakesLine may Is (line_of ls'.line) mid waits new waiting left → (start.at_end ≡ true → ls'.at_end ≡ true) → AsksUpTo may Is known rest start ls' old waited new waiting first left
         line_left None some t stays' = cc
         line_left (Some left) some (refuses, is, same, waits_on) stays' =
-            (refuses, inr (texts, ls'.line, answered_kept new waiting (rw (same, waits_on) w), is, read', stays', count'))
+            (refuses, inr (texts, ls'.line, answered_kept new waiting (rw (same, waits_on) w), refl, is, read', stays', count'))
 
         -- it wasn't answered
         pub line_fails : (remaining : Option (List ℕ)) (fault : RunFault) → AsksLine may Is (line_of ls'.line) ls'.count mid waits new waiting (Err fault) → Asks may Is known rest remaining start ls' old waited new waiting first (Err fault)
@@ -120,8 +121,13 @@ module _ (may : Question → Bool) (Is : Question → List ℕ → Type 0) where
           rw append_assoc at (GrowsByFront-then old mid new (waited ++ so_far.0) answer waits (kept old before mid (waited ++ so_far.0) was waits so_far.2 w) grows),
           none,
         )
-        line_fails remaining OutOfMemory (same, waits_on) =
-            inl (texts, answered_kept new waiting (rw (same, waits_on) w), ReadsFront-before known texts (ls'.line ∷ []) (ReadsFront-now known rest (texts ++ ls'.line ∷ []) ls'.at_end read'), inr count')
+        line_fails remaining OutOfMemory (question, says, same, waits_on) =
+            inl (
+              texts,
+              answered_kept new waiting (rw (same, waits_on) w),
+              behind_line (λ text. asks (line_of text) ≡ true) start.count known texts ls'.line ls'.count (some_text ls'.line (Ask question) says (λ e. cc))
+                  (ReadsFront-now known rest (texts ++ ls'.line ∷ []) ls'.at_end read') count' (ap asks says),
+            )
         line_fails remaining InputFailed a = absurd a
         line_fails remaining (Refused fault) a = absurd a
         line_fails remaining (BodyRefused fault) a = absurd a

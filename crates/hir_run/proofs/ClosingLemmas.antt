@@ -37,12 +37,12 @@ first_lines : (input : List ℕ) (texts : List (List ℕ)) (begun unread : List 
 first_lines input texts begun unread short =
     ap lines (short.whole ∙ append_assoc _ begun unread) ∙ lines-ended texts (begun ++ unread) short.each
 
-module _ (input : List ℕ) (remaining old mid new : Option (List ℕ)) (waiting : List ℕ) (count : ℕ) where
+module _ (input : List ℕ) (remaining old mid new : Option (List ℕ)) (waiting : List ℕ) (ls : LineState) where
   abbrev Before : Outcome → Type 0
-  Before outcome = EndsWith input (λ text. IsWrittenUpTo old mid text waiting) (λ text. GrowsByFront old mid text × (waiting ≡ [])) remaining count outcome
+  Before outcome = EndsWith input (λ text. IsWrittenUpTo old mid text waiting) (λ text. GrowsByFront old mid text × (waiting ≡ [])) remaining ls outcome
 
   abbrev After : Outcome → Type 0
-  After outcome = EndsWith input (Appends old new) (GrowsByFront old new) remaining count outcome
+  After outcome = EndsWith input (Appends old new) (GrowsByFront old new) remaining ls outcome
 
   closes_well : (outcome : Outcome) → Before outcome → Appends mid new waiting → (waiting ≡ [] → new ≡ mid) → After outcome
   closes_well (Ok done) (text, means, w) a idle = (text, means, closed old mid new text waiting w a)
@@ -70,9 +70,9 @@ module _ (input : List ℕ) (remaining old mid new : Option (List ℕ)) (waiting
   closes_told outcome result b (inl (same, a, idle)) = rw same (closes_well outcome b a idle)
   closes_told outcome result b (inr (same, g, some)) = rw same (closes_ill outcome b g some)
 
-pub closes : (known remaining old mid new : Option (List ℕ)) (waiting : List ℕ) (count : ℕ) (outcome result : Outcome) → RunsUpTo known old remaining mid waiting count outcome → Closes mid new waiting outcome result → RunsTo known old remaining new count result
-closes None remaining old mid new waiting count outcome result r c = tt
-closes (Some input) remaining old mid new waiting count outcome result r c = closes_told input remaining old mid new waiting count outcome result r c
+pub closes : (known remaining old mid new : Option (List ℕ)) (waiting : List ℕ) (ls : LineState) (outcome result : Outcome) → RunsUpTo known old remaining mid waiting ls outcome → Closes mid new waiting outcome result → RunsTo known old remaining new ls result
+closes None remaining old mid new waiting ls outcome result r c = tt
+closes (Some input) remaining old mid new waiting ls outcome result r c = closes_told input remaining old mid new waiting ls outcome result r c
 
 -- a fault is told of a run as it is of a part
 pub reads_as : (X Y : Type 0) (e : RunFault) → is_input_failed {X = X} (Err e) ≡ is_input_failed {X = Y} (Err e)

@@ -2,9 +2,9 @@
 use Rattle.std.proofs.Common.{◌≡◌, ◌+◌, ℕ, Bool, true, false, List, [], ◌∷◌, ◌++◌, length, refl, ap, ◌∙◌, append-nil}
 use Rattle.std.specs.Cmp.{first_so, second_so}
 use Rattle.std.specs.List.{list_all}
-use Rattle.hir_lines.specs.Line.{Line, Blank, Make, Ask, Bad}
+use Rattle.hir_lines.specs.Line.{Line, Blank, Make, Ask, Bad, makes, may_ask, asks}
 use Rattle.hir_lines.specs.declared.question.Question.{Question}
-use Rattle.hir_run.specs.Program.{makes, may_ask, asks, front, behind, Outcome, Course, AreAnswers, section, behind_making, accepts, making, built_by, Runs, IsMeaning}
+use Rattle.hir_run.specs.Program.{front, behind, Outcome, Course, AreAnswers, section, behind_making, accepts, making, built_by, Runs, IsMeaning}
 
 -- lines of which each passes, and others behind them
 front-all : (p : Line → Bool) (xs ys : List Line) → list_all p xs ≡ true → front p (xs ++ ys) ≡ xs ++ front p ys

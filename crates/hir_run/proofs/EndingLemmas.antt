@@ -1,13 +1,12 @@
 -- What the parts of a run come to.
-use Rattle.std.proofs.Common.{◌≡◌, ◌+◌, ℕ, true, false, List, [], ◌∷◌, ◌++◌, Option, None, Some, Result, Ok, Err, length, inl, inr, refl, sym, ap, ◌∙◌, append_assoc, append-nil, arith, subst}
+use Rattle.std.proofs.Common.{◌≡◌, ◌+◌, ℕ, true, false, List, [], ◌∷◌, ◌++◌, Option, None, Some, Result, Ok, Err, length, inr, refl, sym, ap, ◌∙◌, append_assoc, append-nil, arith, subst}
 use Rattle.std.specs.Prelude.{codes}
 use Rattle.std.specs.List.{list_all}
 use Rattle.hir_io.specs.Ends.{GrowsByFront, IsWrittenUpTo}
 use Rattle.hir_io.specs.LineState.{LineState}
 use Rattle.hir_io.specs.NextLine.{untaken}
-use Rattle.hir_io.specs.Text.{lines}
 use Rattle.hir_io.proofs.EndLemmas.{IsWrittenUpTo-start}
-use Rattle.hir_lines.specs.Line.{Line, Ask, Bad}
+use Rattle.hir_lines.specs.Line.{Line, Ask, Bad, makes, asks, any_question}
 use Rattle.hir_lines.specs.declared.question.Question.{Question}
 use Rattle.hir_store.specs.Building.{contents_of, finish_fault}
 use Rattle.hir_items.specs.Bodies.{body_fault}
@@ -15,12 +14,13 @@ use Rattle.hir_run.specs.declared.fault.RunFault.{RunFault}
 use Rattle.hir_run.specs.declared.fault.RunFault.TheVariants.{BadLine, Refused, BodyRefused, InputFailed, OutputFailed, OutOfMemory}
 use Rattle.hir_run.specs.Made.{Made, body_parts}
 use Rattle.hir_run.specs.Answer.{IsStoreAnswer, IsAnswer}
-use Rattle.hir_run.specs.Program.{makes, asks, any_question, is_of_store, Outcome, writes, section, stops, behind_store, on_body, on_store, accepts, made, built_by, IsMeaning, HasAnswers, script, script_of}
-use Rattle.hir_run.specs.Run.{EndsWith, IsNextLine}
-use Rattle.hir_run.specs.Stages.{IsBehind, Builds, Finishes, IsMadeBody, Accepts}
+use Rattle.hir_run.specs.Program.{is_of_store, Outcome, writes, section, stops, behind_store, on_body, on_store, accepts, built_by, IsMeaning, HasAnswers, script, script_of}
+use Rattle.hir_run.specs.Run.{EndsWith, IsRefusedBehind}
+use Rattle.hir_run.specs.Stages.{Builds, Finishes, IsMadeBody, Accepts}
 use Rattle.hir_run.proofs.Scripts.{script-append, script-length, behind_texts, behind-cons}
 use Rattle.hir_run.proofs.CourseLemmas.{no_line, outside, runs_behind, means_behind}
 use Rattle.hir_run.proofs.QuestionLemmas.{StandsAt, stands_on, ends_there, refused_there}
+use Rattle.hir_run.proofs.Refusals.{refused_making}
 
 -- nothing is asked, and the lines make something
 pub answers-alone : (ls : List Line) → list_all makes ls ≡ true → HasAnswers ls []
@@ -47,11 +47,6 @@ pub from_the_start : (start : LineState) (known rest remaining : Option (List �
 from_the_start start known rest remaining ls built r e b =
     subst (λ (v : Option (List ℕ)). Builds v rest remaining ls built r) (ap (λ (l : LineState). untaken l.pending l.at_end known) e ∙ untaken_all known) b
 
--- the line behind these is told by the lines from the start
-next_line : (texts : List (List ℕ)) (count : ℕ) → IsBehind 0 texts count → IsNextLine texts count
-next_line texts count (inl e) = inl (omega (arith, e))
-next_line texts count (inr e) = inr (omega (arith, e))
-
 -- nothing was written, and nothing waits
 module _ (input : List ℕ) (rest : Option (List ℕ)) (old : Option (List ℕ)) (ls : LineState) (built : Made) where
   abbrev Wrote : List ℕ → Type 0
@@ -64,7 +59,7 @@ module _ (input : List ℕ) (rest : Option (List ℕ)) (old : Option (List ℕ))
   nothing = IsWrittenUpTo-start old []
 
   -- the lines that make end early
-  pub build_ends : (remaining : Option (List ℕ)) (fault : RunFault) → Builds (Some input) rest remaining ls built (Err fault) → EndsWith input Wrote WroteFront remaining ls.count (Err fault)
+  pub build_ends : (remaining : Option (List ℕ)) (fault : RunFault) → Builds (Some input) rest remaining ls built (Err fault) → EndsWith input Wrote WroteFront remaining ls (Err fault)
   build_ends remaining (BadLine n) (texts, text, all, bad, front, number) =
       let is : script_of input ≡ script texts ++ Bad ∷ behind_texts (texts ++ text ∷ []) front.0 =
       ap script (front.1 ∙ append_assoc texts (text ∷ []) front.0) ∙ script-append texts (text ∷ front.0)
@@ -73,20 +68,22 @@ module _ (input : List ℕ) (rest : Option (List ℕ)) (old : Option (List ℕ))
       ([], rw (is, count) (meaning-bad (script texts) _ all), nothing)
   build_ends remaining InputFailed (texts, all, (unread, short, left)) =
       (texts, ls.pending, unread, short, left, [], answers-alone (script texts) all, nothing)
-  build_ends remaining OutOfMemory (texts, all, front, counted) =
-      (texts, front.0, front.1, next_line texts ls.count counted, [], answers-alone (script texts) all, nothing)
+  build_ends remaining OutOfMemory (texts, all, refuses) =
+      let refused = refused_making input texts ls.line ls.count all refuses in
+      (texts, refused.0, refused.1, refused.2, [], answers-alone (script texts) all, nothing)
   build_ends remaining OutputFailed b = absurd b
   build_ends remaining (Refused fault) b = absurd b
   build_ends remaining (BodyRefused fault) b = absurd b
 
   -- a question was met
   pub built_at : (remaining : Option (List ℕ)) (question : Question) → Builds (Some input) rest remaining ls built (Ok (Some question)) → StandsAt input rest ls question (on_store built) []
-  built_at remaining question (texts, last, makes_all, is, read, count) =
+  built_at remaining question (texts, makes_all, is, read, count) =
       let all = makes_all.0 in
       let counted : length (script texts) ≡ length texts = script-length texts in
       record {
         texts = texts;
-        last = last;
+        last = ls.line;
+        here = refl;
         read = read;
         count = count;
         is = is;
@@ -96,33 +93,33 @@ module _ (input : List ℕ) (rest : Option (List ℕ)) (old : Option (List ℕ))
       }
 
   -- what was made is no store
-  pub finish_ends : (remaining : Option (List ℕ)) (first : Option Question) (fault : RunFault) → Builds (Some input) rest remaining ls built (Ok first) → Finishes built.built (Err fault) → EndsWith input Wrote WroteFront remaining ls.count (Err fault)
-  finish_ends remaining None (Refused fault) (texts, makes_all, every, count) (first, same, verdict) =
+  pub finish_ends : (remaining : Option (List ℕ)) (first : Option Question) (fault : RunFault) → Builds (Some input) rest remaining ls built (Ok first) → Finishes built.built (Err fault) → EndsWith input Wrote WroteFront remaining ls (Err fault)
+  finish_ends remaining None (Refused fault) (texts, makes_all, every, none, count) (first, same, verdict) =
       let is : script_of input ≡ script texts = ap script every in
       ([], rw (is, same) (meaning-alone (script texts) [] _ makes_all.0 (rw (← makes_all.1) (Some first, verdict, (refl, refl)))), nothing)
   finish_ends remaining None (BodyRefused fault) b (first, same, verdict) = cc
-  finish_ends remaining None OutOfMemory (texts, makes_all, every, count) f =
-      (texts, [], every ∙ sym (append-nil texts), inl count, [], answers-alone (script texts) makes_all.0, nothing)
+  finish_ends remaining None OutOfMemory (texts, makes_all, every, none, count) f =
+      (texts, [], every ∙ sym (append-nil texts), subst (λ (l : List ℕ). IsRefusedBehind texts [] l ls.count) (sym none) count, [], answers-alone (script texts) makes_all.0, nothing)
   finish_ends remaining (Some question) (Refused fault) b (first, same, verdict) =
       rw same (ends_there input rest ls question (on_store built) [] (built_at remaining question b) Wrote _ nothing (λ good more. (Some first, verdict, (refl, refl))))
   finish_ends remaining (Some question) (BodyRefused fault) b (first, same, verdict) = cc
   finish_ends remaining (Some question) OutOfMemory b f =
-      refused_there input rest ls question (on_store built) [] (built_at remaining question b) Wrote WroteFront remaining ls.count nothing refl
+      refused_there input rest ls question (on_store built) [] (built_at remaining question b) Wrote WroteFront remaining nothing
   finish_ends remaining first (BadLine n) b f = absurd f
   finish_ends remaining first InputFailed b f = absurd f
   finish_ends remaining first OutputFailed b f = absurd f
 
 -- there is no question
 pub accept_ends : (input : List ℕ) (rest remaining old new : Option (List ℕ)) (waiting : List ℕ) (ls : LineState) (built : Made) (outcome : Outcome) → Builds (Some input) rest remaining ls built (Ok None) → finish_fault built.built None → Accepts old [] new waiting outcome
-    → EndsWith input (λ text. IsWrittenUpTo old new text waiting) (λ text. GrowsByFront old new text × (waiting ≡ [])) remaining ls.count outcome
-accept_ends input rest remaining old new waiting ls built outcome (texts, makes_all, every, count) verdict a = by outcome a
+    → EndsWith input (λ text. IsWrittenUpTo old new text waiting) (λ text. GrowsByFront old new text × (waiting ≡ [])) remaining ls outcome
+accept_ends input rest remaining old new waiting ls built outcome (texts, makes_all, every, none, count) verdict a = by outcome a
   where
     means : IsMeaning (script_of input) (codes "accepted\n") (Ok tt)
     means =
         let is : script_of input ≡ script texts = ap script every in
         rw is (meaning-alone (script texts) (codes "accepted\n") (Ok tt) makes_all.0 (rw (← makes_all.1) (None, verdict, (refl, refl))))
 
-    by : (outcome : Outcome) → Accepts old [] new waiting outcome → EndsWith input (λ text. IsWrittenUpTo old new text waiting) (λ text. GrowsByFront old new text × (waiting ≡ [])) remaining ls.count outcome
+    by : (outcome : Outcome) → Accepts old [] new waiting outcome → EndsWith input (λ text. IsWrittenUpTo old new text waiting) (λ text. GrowsByFront old new text × (waiting ≡ [])) remaining ls outcome
     by (Ok done) a = (codes "accepted\n", means, a)
     by (Err OutputFailed) a = (codes "accepted\n", inr (Ok tt, means), a)
     by (Err (BadLine n)) a = absurd a
@@ -132,12 +129,12 @@ accept_ends input rest remaining old new waiting ls built outcome (texts, makes_
     by (Err OutOfMemory) a = absurd a
 
 -- the parts of a body have a fault, or memory was refused
-pub body_ends : (input : List ℕ) (rest remaining : Option (List ℕ)) (ls : LineState) (question : Question) (built : Made) (text : List ℕ) (Wrote WroteFront : List ℕ → Type 0) (fault : RunFault) → StandsAt input rest ls question (on_body built) text → IsMadeBody (body_parts built) (Err fault) → Wrote text → EndsWith input Wrote WroteFront remaining ls.count (Err fault)
+pub body_ends : (input : List ℕ) (rest remaining : Option (List ℕ)) (ls : LineState) (question : Question) (built : Made) (text : List ℕ) (Wrote WroteFront : List ℕ → Type 0) (fault : RunFault) → StandsAt input rest ls question (on_body built) text → IsMadeBody (body_parts built) (Err fault) → Wrote text → EndsWith input Wrote WroteFront remaining ls (Err fault)
 body_ends input rest remaining ls question built text Wrote WroteFront (BodyRefused fault) at (first, same, verdict) wrote =
     rw same (ends_there input rest ls question (on_body built) text at Wrote _ wrote (λ good more. (Some first, verdict, (refl, refl))))
 body_ends input rest remaining ls question built text Wrote WroteFront (Refused fault) at (first, same, verdict) wrote = cc
 body_ends input rest remaining ls question built text Wrote WroteFront OutOfMemory at m wrote =
-    refused_there input rest ls question (on_body built) text at Wrote WroteFront remaining ls.count wrote refl
+    refused_there input rest ls question (on_body built) text at Wrote WroteFront remaining wrote
 body_ends input rest remaining ls question built text Wrote WroteFront (BadLine n) at m wrote = absurd m
 body_ends input rest remaining ls question built text Wrote WroteFront InputFailed at m wrote = absurd m
 body_ends input rest remaining ls question built text Wrote WroteFront OutputFailed at m wrote = absurd m

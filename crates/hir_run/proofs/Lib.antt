@@ -6,6 +6,7 @@ mod PrintedLemmas
 pub mod Failing
 pub mod CourseLemmas
 pub mod QuestionLemmas
+pub mod Refusals
 pub mod SectionLemmas
 pub mod AskedLemmas
 pub mod OnBodyLemmas

@@ -1,19 +1,25 @@
 -- What the lines make, line by line.
-use Rattle.std.proofs.Common.{◌≡◌, ◌+◌, true, false, List, [], ◌∷◌, ◌++◌, Option, None, Some, is_some, Ok, inl, inr, if◌then◌else◌, refl, sym, ap, ◌∙◌, ℕ, fold, length}
+use Rattle.std.proofs.Common.{◌≡◌, ◌≢◌, ◌+◌, true, false, List, [], ◌∷◌, ◌++◌, Option, None, Some, Result, Ok, Err, inl, inr, if◌then◌else◌, refl, sym, ap, ◌∙◌, ℕ, fold, length, arith}
 use Rattle.std.proofs.lemmas.Bool.{false≢true}
 use Rattle.std.specs.Prelude.{filter_map}
 use Rattle.std.proofs.lemmas.List.Folds.{list_all-append}
 use Rattle.std.proofs.lemmas.List.Elements.{filter_map-append}
 use Rattle.std.proofs.lemmas.Grind.{fold-append}
-use Rattle.hir_lines.specs.Line.{Line, Blank, Make, Ask, Bad}
+use Rattle.hir_lines.specs.Line.{Line, Blank, Make, Ask, Bad, makes, asks, line_of}
 use Rattle.hir_lines.specs.Makers.{Maker}
 use Rattle.hir_run.specs.Made.{Made, nothing_made, with_line}
 use Rattle.hir_lines.specs.declared.question.Question.{Question}
 use Rattle.hir_io.specs.LineState.{LineState}
 use Rattle.hir_io.specs.Reads.{Reads}
-use Rattle.hir_run.specs.Program.{makes, asks, maker_of, built_by, script}
-use Rattle.hir_run.specs.Stages.{AllMake, Makes, Builds, BuildsLine, line_behind}
-use Rattle.hir_run.proofs.Scripts.{Tells, script-push, behind_is, behind_make, tells_blank, tells_more}
+use Rattle.hir_run.specs.Program.{maker_of, built_by, script, line_behind}
+use Rattle.hir_run.specs.Outcomes.{is_input_failed}
+use Rattle.hir_run.specs.Stages.{AllMake, AsksFirst, Builds, Makes, MakesOrLeaves}
+use Rattle.hir_io.proofs.ReadLemmas.{ReadsFront-now}
+use Rattle.hir_lines.specs.Taking.{line_asked}
+use Rattle.hir_run.specs.declared.fault.RunFault.{RunFault}
+use Rattle.hir_run.specs.declared.fault.RunFault.TheVariants.{BadLine, Refused, BodyRefused, InputFailed, OutputFailed, OutOfMemory}
+use Rattle.hir_run.proofs.Refusals.{behind_line, some_text}
+use Rattle.hir_run.proofs.Scripts.{Tells, script-push, bad_is, behind_is, behind_make, behind_question, tells_blank, tells_more}
 
 pub Makes-none : Makes [] nothing_made
 unfolding built_by
@@ -48,17 +54,53 @@ unfolding with_option
 Makes-more texts text old new maker m e made =
     (makes-push texts text (Make maker) e m.0 refl, made ∙ ap (λ b. with_line b maker) m.1 ∙ sym (ap built_by (script-push texts text) ∙ built_by-push (script texts) (line_behind texts text) ∙ ap (λ line. with_option (built_by (script texts)) (maker_of line)) e))
 
--- the line that was taken last is no question: it makes what it says, or is empty
-pub makes_line : (lines : LineState) (old new : Made) (texts : List (List ℕ)) (question : Option Question) →
-    Makes texts old → Tells old texts → is_some question ≡ false → BuildsLine lines old new (Ok question) → Makes (texts ++ lines.line ∷ []) new × Tells new (texts ++ lines.line ∷ [])
-makes_line lines old new texts (Some question) m t h does = absurd (false≢true (sym h))
-makes_line lines old new texts None m t h (inl (blank, same)) =
+-- the line that was taken last makes what it says, or is empty
+pub makes_line : (lines : LineState) (old new : Made) (texts : List (List ℕ)) →
+    Makes texts old → Tells old texts → MakesOrLeaves (line_of lines.line) old new true → Makes (texts ++ lines.line ∷ []) new × Tells new (texts ++ lines.line ∷ [])
+makes_line lines old new texts m t (inl (blank, same)) =
     rw same (Makes-blank texts lines.line old m (behind_is texts lines.line (ap asks blank) ∙ blank), tells_blank old texts lines.line blank t)
-makes_line lines old new texts None m t h (inr (maker, says, first, made)) =
+makes_line lines old new texts m t (inr (maker, says, first, made)) =
     (Makes-more texts lines.line old new maker m (behind_make old texts lines.line maker t says ∙ ap (λ b. if b then Bad else Make maker) first) made, rw made (tells_more old maker texts lines.line says t))
 
--- it is one
-pub asks_line : (known rest remaining : Option (List ℕ)) (lines : LineState) (old new : Made) (texts : List (List ℕ)) (question : Option Question) →
-    Makes texts old → Reads known (texts ++ lines.line ∷ []) rest lines.at_end → lines.count ≡ length texts + 1 → is_some question ≡ true → BuildsLine lines old new (Ok question) → Builds known rest remaining lines new (Ok question)
-asks_line known rest remaining lines old new texts None m read count h does = absurd (false≢true h)
-asks_line known rest remaining lines old new texts (Some question) m read count h (says, same) = (texts, lines.line, rw same m, says, read, count)
+-- it is a question
+pub asks_line : (known rest remaining : Option (List ℕ)) (lines : LineState) (old : Made) (texts : List (List ℕ)) (asked : Option Question) →
+    Makes texts old → makes (line_of lines.line) ≡ false → Reads known (texts ++ lines.line ∷ []) rest lines.at_end → lines.count ≡ length texts + 1 → line_of lines.line ≡ line_asked asked → Builds known rest remaining lines old (Ok asked)
+asks_line known rest remaining lines old texts None m left read count says = absurd (false≢true (sym left ∙ ap makes says))
+asks_line known rest remaining lines old texts (Some question) m left read count says = (texts, m, says, read, count)
+
+-- or it is bad there, or memory was refused to it
+pub asks_none : (known rest remaining : Option (List ℕ)) (lines : LineState) (old : Made) (texts : List (List ℕ)) (fault : RunFault) →
+    AllMake texts → makes (line_of lines.line) ≡ false → Reads known (texts ++ lines.line ∷ []) rest lines.at_end → lines.count ≡ length texts + 1 → AsksFirst lines (Err fault) → Builds known rest remaining lines old (Err fault)
+asks_none known rest remaining lines old texts (BadLine number) all left read count (other, is) =
+    (texts, lines.line, all, bad_is texts lines.line (neither (line_of lines.line) left other), ReadsFront-now known rest (texts ++ lines.line ∷ []) lines.at_end read, is ∙ count)
+  where
+    neither : (line : Line) → makes line ≡ false → asks line ≡ false → line ≡ Bad
+    neither Blank m a = absurd (false≢true (sym m))
+    neither (Make maker) m a = absurd (false≢true (sym m))
+    neither (Ask question) m a = absurd (false≢true (sym a))
+    neither Bad m a = refl
+asks_none known rest remaining lines old texts OutOfMemory all left read count (question, says) = (
+  texts,
+  all,
+  behind_line (λ text. line_behind texts text ≢ Bad) 0 known texts lines.line lines.count (some_text lines.line (Ask question) says (λ e. cc))
+      (ReadsFront-now known rest (texts ++ lines.line ∷ []) lines.at_end read) (omega (arith, count)) (λ bad. let wrong : Ask question ≡ Bad = sym (behind_question texts lines.line question says) ∙ bad in cc),
+)
+asks_none known rest remaining lines old texts InputFailed all left read count does = absurd does
+asks_none known rest remaining lines old texts OutputFailed all left read count does = absurd does
+asks_none known rest remaining lines old texts (Refused fault) all left read count does = absurd does
+asks_none known rest remaining lines old texts (BodyRefused fault) all left read count does = absurd does
+
+pub asks_or_none : (known rest remaining : Option (List ℕ)) (lines : LineState) (old : Made) (texts : List (List ℕ)) (result : Result (Option Question) RunFault) →
+    Makes texts old → makes (line_of lines.line) ≡ false → Reads known (texts ++ lines.line ∷ []) rest lines.at_end → lines.count ≡ length texts + 1 → AsksFirst lines result → Builds known rest remaining lines old result
+asks_or_none known rest remaining lines old texts (Ok asked) m left read count says = asks_line known rest remaining lines old texts asked m left read count says
+asks_or_none known rest remaining lines old texts (Err fault) m left read count does = asks_none known rest remaining lines old texts fault m.0 left read count does
+
+-- it reads nothing
+pub asks_reads_none : (lines : LineState) (result : Result (Option Question) RunFault) → AsksFirst lines result → is_input_failed result ≡ false
+asks_reads_none lines (Ok asked) a = refl
+asks_reads_none lines (Err (BadLine number)) a = refl
+asks_reads_none lines (Err OutOfMemory) a = refl
+asks_reads_none lines (Err InputFailed) a = absurd a
+asks_reads_none lines (Err OutputFailed) a = absurd a
+asks_reads_none lines (Err (Refused fault)) a = absurd a
+asks_reads_none lines (Err (BodyRefused fault)) a = absurd a

@@ -2,7 +2,7 @@
 use Rattle.std.proofs.Common.{◌≡◌, ◌+◌, ℕ, Bool, true, false, List, [], ◌∷◌, ◌++◌, Option, None, Some, length, refl, sym, ap, ◌∙◌}
 use Rattle.std.specs.Prelude.{codes}
 use Rattle.hir_faults.specs.declared.fault.FinishFault.{FinishFault}
-use Rattle.hir_lines.specs.Line.{Line, Blank, Make, Ask, Bad}
+use Rattle.hir_lines.specs.Line.{Line, Blank, Make, Ask, Bad, may_ask, any_question, asks}
 use Rattle.hir_lines.specs.declared.question.Question.{Question}
 use Rattle.hir_lines.specs.declared.question.Question.TheVariants.{OfStore, OfBody}
 use Rattle.hir_lines.specs.declared.question.BodyQuestion.{BodyQuestion}
@@ -18,7 +18,7 @@ use Rattle.hir_scope.specs.Frames.{Chain}
 use Rattle.hir_run.specs.declared.fault.RunFault.{RunFault}
 use Rattle.hir_run.specs.Made.{Made, body_parts}
 use Rattle.hir_run.specs.Answer.{IsChainOf, AreCapturesOf, IsBodyAnswer, IsStoreAnswer, IsAnswer, answer_line, asked_text, chain_text, resolve_text, captures_text}
-use Rattle.hir_run.specs.Program.{Outcome, Course, writes, stops, unless_refused, fault_or, if_so, may_ask, any_question, is_of_store, asks, front, behind, IsLineAnswer, AreAnswers, section, on_body, behind_store, on_store, behind_making, accepts, made, making, Runs, IsMeaning}
+use Rattle.hir_run.specs.Program.{Outcome, Course, writes, stops, unless_refused, fault_or, if_so, is_of_store, front, behind, IsLineAnswer, AreAnswers, section, on_body, behind_store, on_store, behind_making, accepts, made, making, Runs, IsMeaning}
 
 -- a course writes one text and ends in one way
 abbrev pub One : Course → Type 0

@@ -77,7 +77,7 @@ module _ (said : (text : List ℕ) → IsLine (line_of text) text) where
 
   pub built_of_lines : (known rest remaining : Option (List ℕ)) (ls : LineState) (built : Made) (first : Option Question) → Builds known rest remaining ls built (Ok first) → AreOfLines built.built.nodes
   built_of_lines known rest remaining ls built None b = rw b.1.1 (made_of_lines b.0)
-  built_of_lines known rest remaining ls built (Some question) b = rw b.2.1 (made_of_lines b.0)
+  built_of_lines known rest remaining ls built (Some question) b = rw b.1.1 (made_of_lines b.0)
 
 -- so are those of the store that is made of it
 pub of_built : (given built : Building) (store : Contents) → given ≡ built → Finishes given (Ok store) → AreOfLines built.nodes → AreOfLines store.nodes

@@ -1,22 +1,23 @@
 -- What a run comes to that stands at a question: the lines before it were taken, and their answers were written.
-use Rattle.std.proofs.Common.{◌≡◌, ◌+◌, ℕ, Bool, true, List, [], ◌∷◌, ◌++◌, Option, Some, Ok, Err, length, inr, ap, ◌∙◌, append_assoc, append-nil}
+use Rattle.std.proofs.Common.{◌≡◌, ◌+◌, ℕ, Bool, true, List, [], ◌∷◌, ◌++◌, Option, Some, Ok, Err, length, sym, ap, ◌∙◌, subst, append_assoc, append-nil}
 use Rattle.std.specs.List.{list_all}
 use Rattle.hir_io.specs.LineState.{LineState}
 use Rattle.hir_io.specs.Reads.{Reads}
 use Rattle.hir_io.specs.Text.{lines}
 use Rattle.hir_io.proofs.ReadLemmas.{ReadsFront-now}
-use Rattle.hir_lines.specs.Line.{Line, Ask, line_of}
+use Rattle.hir_lines.specs.Line.{Line, Ask, line_of, asks}
 use Rattle.hir_lines.specs.declared.question.Question.{Question}
 use Rattle.hir_run.specs.declared.fault.RunFault.TheVariants.{OutOfMemory}
-use Rattle.hir_run.specs.Program.{asks, Outcome, Course, writes, Runs, IsMeaning, HasAnswers, says, script, script_of}
-use Rattle.hir_run.specs.Run.{EndsWith, IsComplete}
-use Rattle.hir_run.specs.Stages.{line_behind, asked}
+use Rattle.hir_run.specs.Program.{Outcome, Course, writes, Runs, IsMeaning, HasAnswers, says, script, script_of, line_behind}
+use Rattle.hir_run.specs.Run.{EndsWith, IsComplete, IsRefusedBehind}
+use Rattle.hir_run.proofs.Refusals.{refused_asking}
 use Rattle.hir_run.proofs.Scripts.{script-append, script-push, behind_texts, behind-asked, behind_question}
 
 -- the lines before a question, with the text of their answers; from the question on the run goes on by this course
 pub record StandsAt (input : List ℕ) (rest : Option (List ℕ)) (ls : LineState) (question : Question) (next : ℕ → List Line → Course) (text : List ℕ) : Type 0 where
   pub texts : List (List ℕ)
   pub last : List ℕ
+  pub here : ls.line ≡ last
   pub read : Reads (Some input) (texts ++ last ∷ []) rest ls.at_end
   pub count : ls.count ≡ length texts + 1
   pub is : line_of last ≡ Ask question
@@ -30,6 +31,7 @@ pub stands_on : {input : List ℕ} {rest : Option (List ℕ)} {ls : LineState} {
 stands_on next other leads at = record {
   texts = at.texts;
   last = at.last;
+  here = at.here;
   read = at.read;
   count = at.count;
   is = at.is;
@@ -70,7 +72,7 @@ module _ (input : List ℕ) (rest : Option (List ℕ)) (ls : LineState) (questio
       (text ++ [], rw whole (at.means _ [] outcome (course _ _)), rw (append-nil text) wrote)
 
   -- memory is refused there
-  pub refused_there : (Wrote WroteFront : List ℕ → Type 0) (remaining : Option (List ℕ)) (count : ℕ) → Wrote text → count ≡ ls.count → EndsWith input Wrote WroteFront remaining count (Err OutOfMemory)
-  refused_there Wrote WroteFront remaining count wrote counted =
+  pub refused_there : (Wrote WroteFront : List ℕ → Type 0) (remaining : Option (List ℕ)) → Wrote text → EndsWith input Wrote WroteFront remaining ls (Err OutOfMemory)
+  refused_there Wrote WroteFront remaining wrote =
       let behind = all_lines input rest at.texts at.last ls.at_end at.read in
-      (at.texts, at.last ∷ behind.0, behind.1 ∙ append_assoc at.texts (at.last ∷ []) behind.0, inr (counted ∙ at.count), text, at.sound, wrote)
+      (at.texts, at.last ∷ behind.0, behind.1 ∙ append_assoc at.texts (at.last ∷ []) behind.0, subst (λ (l : List ℕ). IsRefusedBehind at.texts (at.last ∷ behind.0) l ls.count) (sym at.here) (refused_asking at.texts behind.0 at.last ls.count question at.is at.count), text, at.sound, wrote)

@@ -6,12 +6,11 @@ use Rattle.hir_lines.specs.declared.question.Question.{Question}
 use Rattle.std.specs.List.{list_all, list_any}
 use Rattle.std.proofs.lemmas.List.{map-append, length-map}
 use Rattle.std.proofs.lemmas.List.Folds.{list_any-append}
-use Rattle.hir_lines.specs.Line.{Line, Blank, Make, Ask, Bad, line_of}
+use Rattle.hir_lines.specs.Line.{Line, Blank, Make, Ask, Bad, line_of, asks}
 use Rattle.hir_lines.specs.Makers.{Maker}
 use Rattle.hir_lines.specs.Makers as make
 use Rattle.hir_run.specs.Made.{Made, with_line, is_second}
-use Rattle.hir_run.specs.Program.{asks, gives_self, gives_name, maker_gives_self, maker_gives_name, unless_second, once_each, says, script}
-use Rattle.hir_run.specs.Stages.{line_behind}
+use Rattle.hir_run.specs.Program.{gives_self, gives_name, maker_gives_self, maker_gives_name, unless_second, once_each, says, script, line_behind}
 
 or_assoc : (a b c : Bool) → ((a || b) || c) ≡ (a || (b || c))
 or_assoc true b c = refl

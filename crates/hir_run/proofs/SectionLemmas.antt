@@ -6,16 +6,17 @@ use Rattle.hir_io.specs.Ends.{GrowsByFront, IsWrittenUpTo}
 use Rattle.hir_io.specs.LineState.{LineState}
 use Rattle.hir_io.specs.Text.{lines}
 use Rattle.hir_io.proofs.ReadLemmas.{Reads-joined, ReadsAll-joined, ReadsFront-joined, ReadsUntilFailure-joined}
-use Rattle.hir_lines.specs.Line.{Line, Ask, line_of}
+use Rattle.hir_lines.specs.Line.{Line, Ask, line_of, asks, may_ask}
 use Rattle.hir_lines.specs.declared.question.Question.{Question}
 use Rattle.hir_run.specs.declared.fault.RunFault.{RunFault}
 use Rattle.hir_run.specs.declared.fault.RunFault.TheVariants.{BadLine, Refused, BodyRefused, InputFailed, OutputFailed, OutOfMemory}
-use Rattle.hir_run.specs.Program.{asks, may_ask, Outcome, Course, section, HasAnswers, says, script, script_of}
-use Rattle.hir_run.specs.Run.{EndsWith}
-use Rattle.hir_run.specs.Stages.{line_behind, asked, HaveAnswers, Asks, AsksUpTo}
+use Rattle.hir_run.specs.Program.{Outcome, Course, section, HasAnswers, says, script, script_of, line_behind}
+use Rattle.hir_run.specs.Run.{EndsWith, IsRefusedBehind}
+use Rattle.hir_run.specs.Stages.{asked, HaveAnswers, Asks, AsksUpTo, RefusesAt}
 use Rattle.hir_run.proofs.Scripts.{behind_texts, behind-cons, behind-bad}
 use Rattle.hir_run.proofs.CourseLemmas.{BeginsOutside, no_line, outside, section_behind, all_asks, asks_not}
 use Rattle.hir_run.proofs.QuestionLemmas.{StandsAt, asked_script, refused_there}
+use Rattle.hir_run.proofs.Refusals.{refused_behind}
 use Rattle.hir_run.proofs.WritingLemmas.{IsWrittenUpTo-then, GrowsByFront-then}
 
 regrouped : (done texts : List (List ℕ)) (text : List ℕ) (more : List (List ℕ)) → (done ++ (texts ++ text ∷ [])) ++ more ≡ (done ++ texts) ++ (text ∷ more)
@@ -33,6 +34,16 @@ module _ (input : List ℕ) (rest : Option (List ℕ)) (ls : LineState) (questio
   -- how many lines stand before what comes behind them
   good : (texts : List (List ℕ)) → length at.texts + length (asked question texts) ≡ ls.count + length texts
   good texts = omega (arith, at.count, length-map texts line_of)
+
+  -- memory was refused at one of them, or behind them
+  refused_line : (texts : List (List ℕ)) (line : List ℕ) (count : ℕ) → RefusesAt (λ t. asks (line_of t) ≡ true) ls.count rest texts line count →
+      (more : List (List ℕ)) × (lines input ≡ taken texts ++ more) × IsRefusedBehind (taken texts) more line count
+  refused_line texts [] count (front, counted) =
+      let joined = ReadsFront-joined (Some input) rest (at.texts ++ at.last ∷ []) texts ls.at_end at.read front in
+      (joined.0, joined.1, omega (arith, counted, taken-length texts))
+  refused_line texts (b ∷ bs) count (front, counted, asked) =
+      let joined = ReadsFront-joined (Some input) rest (at.texts ++ at.last ∷ []) (texts ++ (b ∷ bs) ∷ []) ls.at_end at.read front in
+      ((b ∷ bs) ∷ joined.0, joined.1 ∙ regrouped (at.texts ++ at.last ∷ []) texts (b ∷ bs) joined.0, refused_behind (taken texts) joined.0 (b ∷ bs) count (λ e. cc) (omega (arith, counted, taken-length texts)) asked)
 
   all_ask : (texts : List (List ℕ)) (answers : List ℕ) → HaveAnswers may Is (asked question texts) answers → list_all asks (says texts) ≡ true
   all_ask texts answers have = all_asks may (asked question texts) have.0
@@ -63,7 +74,7 @@ module _ (input : List ℕ) (rest : Option (List ℕ)) (ls : LineState) (questio
       wrote answers v = IsWrittenUpTo-then old mid new text answers waiting waiting' w v
 
       -- all lines were answered
-      pub section_done : (rest' remaining : Option (List ℕ)) (ls' : LineState) → AsksUpTo may Is rest rest' ls ls' mid waiting new waiting' question None → EndsWith input Wrote WroteFront remaining ls'.count (Ok tt)
+      pub section_done : (rest' remaining : Option (List ℕ)) (ls' : LineState) → AsksUpTo may Is rest rest' ls ls' mid waiting new waiting' question None → EndsWith input Wrote WroteFront remaining ls' (Ok tt)
       section_done rest' remaining ls' (texts, (answers, have, written), all, counted) =
           let every : lines input ≡ taken texts = ReadsAll-joined (Some input) rest (at.texts ++ at.last ∷ []) texts ls.at_end at.read all in
           let is : script_of input ≡ script at.texts ++ Ask question ∷ (says texts ++ []) = ap script every ∙ alone texts answers have in
@@ -71,7 +82,7 @@ module _ (input : List ℕ) (rest : Option (List ℕ)) (ls : LineState) (questio
           (text ++ answers, rw is (rw (append-nil answers) at means), wrote answers written)
 
       -- it ends early
-      pub section_ends : (rest' remaining : Option (List ℕ)) (ls' : LineState) (fault : RunFault) → Asks may Is rest rest' remaining ls ls' mid waiting new waiting' question (Err fault) → EndsWith input Wrote WroteFront remaining ls'.count (Err fault)
+      pub section_ends : (rest' remaining : Option (List ℕ)) (ls' : LineState) (fault : RunFault) → Asks may Is rest rest' remaining ls ls' mid waiting new waiting' question (Err fault) → EndsWith input Wrote WroteFront remaining ls' (Err fault)
       section_ends rest' remaining ls' (BadLine n) (texts, line, (answers, have, written), bad, front, number) =
           let joined = ReadsFront-joined (Some input) rest (at.texts ++ at.last ∷ []) (texts ++ line ∷ []) ls.at_end at.read front in
           let tail : List Line = line_behind (taken texts) line ∷ behind_texts (taken texts ++ line ∷ []) joined.0 in
@@ -87,11 +98,11 @@ module _ (input : List ℕ) (rest : Option (List ℕ)) (ls : LineState) (questio
       section_ends rest' remaining ls' OutputFailed (texts, answers, have, front, grows, none) =
           let joined = ReadsFront-joined (Some input) rest (at.texts ++ at.last ∷ []) texts ls.at_end at.read front in
           (text ++ answers, inl (taken texts, joined.0, joined.1, sound_so_far texts answers have), (GrowsByFront-then old mid new text answers waiting w grows, none))
-      section_ends rest' remaining ls' OutOfMemory (inl (texts, (answers, have, written), front, counted)) =
-          let joined = ReadsFront-joined (Some input) rest (at.texts ++ at.last ∷ []) texts ls.at_end at.read front in
-          (taken texts, joined.0, joined.1, (rw (taken-length texts) counted), text ++ answers, sound_so_far texts answers have, wrote answers written)
-      section_ends rest' remaining ls' OutOfMemory (inr (same, waits, counted)) =
-          refused_there input rest ls question (section may Is next) text at Wrote WroteFront remaining ls'.count (rw (same, waits) w) counted
+      section_ends rest' remaining ls' OutOfMemory (inl (texts, (answers, have, written), refuses)) =
+          let refused = refused_line texts ls'.line ls'.count refuses in
+          (taken texts, refused.0, refused.1, refused.2, text ++ answers, sound_so_far texts answers have, wrote answers written)
+      section_ends rest' remaining ls' OutOfMemory (inr (same, waits, here)) =
+          rw here (refused_there input rest ls question (section may Is next) text at Wrote WroteFront remaining (rw (same, waits) w))
       section_ends rest' remaining ls' (Refused fault) a = absurd a
       section_ends rest' remaining ls' (BodyRefused fault) a = absurd a
 
@@ -106,6 +117,7 @@ module _ (input : List ℕ) (rest : Option (List ℕ)) (ls : LineState) (questio
             record {
               texts = at.texts;
               last = at.last;
+              here = at.here;
               read = at.read;
               count = at.count;
               is = at.is;
@@ -115,7 +127,7 @@ module _ (input : List ℕ) (rest : Option (List ℕ)) (ls : LineState) (questio
             },
             w,
           )
-      section_left rest' ls' left (refuses, inr (texts, line, (answers, have, written), is, read, stays, counted)) =
+      section_left rest' ls' left (refuses, inr (texts, line, (answers, have, written), here, is, read, stays, counted)) =
           let joined = Reads-joined (Some input) rest rest' (at.texts ++ at.last ∷ []) (texts ++ line ∷ []) ls.at_end ls'.at_end at.read read stays in
           let grouped : (at.texts ++ at.last ∷ []) ++ (texts ++ line ∷ []) ≡ taken texts ++ line ∷ [] = sym (append_assoc (at.texts ++ at.last ∷ []) texts (line ∷ [])) in
           let before : (more : List Line) → script at.texts ++ Ask question ∷ (says texts ++ Ask left ∷ more) ≡ script (taken texts) ++ Ask left ∷ more =
@@ -127,6 +139,7 @@ module _ (input : List ℕ) (rest : Option (List ℕ)) (ls : LineState) (questio
             record {
               texts = taken texts;
               last = line;
+              here = sym here;
               read = rw grouped at joined;
               count = omega (arith, counted, taken-length texts);
               is = is;

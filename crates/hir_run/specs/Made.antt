@@ -1,11 +1,12 @@
 -- What lines have made so far: what is built, and the other parts of its body.
-use Rattle.std.specs.Prelude.{ℕ, List, [], ◌∷◌, ◌++◌, Bool, false, if◌then◌else◌, Option, None, Some, is_some}
+use Rattle.std.specs.Prelude.{ℕ, List, [], ◌∷◌, ◌++◌, Bool, Option, None, Some, is_some}
 use Rattle.std.specs.FinMap as map
 use Rattle.hir_base.specs.declared.hygiene.SyntaxContext.{SyntaxContext}
 use Rattle.hir_path.specs.declared.ids.ExprOrPatId.{ExprOrPatId}
 use Rattle.hir_path.specs.Keys.{expr_or_pat_code}
 use Rattle.hir_lines.specs.Makers.{Maker}
 use Rattle.hir_lines.specs.Makers as make
+use Rattle.hir_lines.specs.Taking.{is_second as is_second_of}
 use Rattle.hir_faults.specs.Nodes.{Nodes}
 use Rattle.hir_store.specs.Building.{Building, building_of, contents_of, and_root, some_roots}
 use Rattle.hir_items.specs.declared.formals.Param.{Param}
@@ -69,16 +70,7 @@ with_line m (make.Root id) = record m { built = record m.built { roots = and_roo
 
 -- whether the line gives a second self parameter or a second name
 abbrev pub is_second : Made → Maker → Bool
-is_second m (make.SelfParam id) = is_some m.self_param
-is_second m (make.FnName name) = is_some m.name
-is_second m (make.Binding binding) = false
-is_second m (make.Pat pat) = false
-is_second m (make.TypeRef type_ref) = false
-is_second m (make.Expr expr) = false
-is_second m (make.Hygiene id hygiene) = false
-is_second m (make.Param id) = false
-is_second m make.Roots = false
-is_second m (make.Root id) = false
+is_second m maker = is_second_of (is_some m.self_param) (is_some m.name) maker
 
 -- what with_line says, of the fields of the code's Made
 abbrev pub with_maker : code.Made → Maker → code.Made
@@ -96,10 +88,6 @@ with_maker m (make.FnName name) = record m { name = Some name }
 with_maker m make.Roots = record m { builder = record m.builder { roots = some_roots m.builder.roots } }
 with_maker m (make.Root id) =
     record m { builder = record m.builder { roots = and_root (building_of m.builder) id } }
-
--- nothing where the line gives a second self parameter or a second name
-abbrev pub and_maker : code.Made → Maker → Option code.Made
-and_maker m maker = if is_second (made_of m) maker then None else Some (with_maker m maker)
 
 -- the parts of the body of what was made
 abbrev pub body_parts : Made → BodyContents

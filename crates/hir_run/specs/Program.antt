@@ -1,7 +1,8 @@
 -- What the program writes and how it ends, for the lines that it is given.
 use Rattle.std.specs.Prelude.{◌≡◌, ℕ, ◌+◌, Bool, true, false, ◌&&◌, ◌||◌, if◌then◌else◌, List, [], ◌∷◌, ◌++◌, length, Option, None, Some, Result, Ok, Err, filter_map, fold, map, codes}
+use Rattle.std.specs.List.{list_all, list_any}
 use Rattle.hir_io.specs.Text.{lines}
-use Rattle.hir_lines.specs.Line.{Line, Blank, Make, Ask, Bad, line_of}
+use Rattle.hir_lines.specs.Line.{Line, Blank, Make, Ask, Bad, any_question, asks, line_of, makes, may_ask}
 use Rattle.hir_lines.specs.Makers.{Maker}
 use Rattle.hir_lines.specs.Makers as make
 use Rattle.hir_lines.specs.declared.question.Question.{Question}
@@ -13,31 +14,10 @@ use Rattle.hir_run.specs.declared.fault.RunFault.TheVariants.{BadLine, Refused, 
 use Rattle.hir_run.specs.Made.{Made, nothing_made, with_line, body_parts}
 use Rattle.hir_run.specs.Answer.{IsStoreAnswer, IsAnswer}
 
--- whether a line may come before the first question
-abbrev pub makes : Line → Bool
-makes Blank = true
-makes (Make maker) = true
-makes (Ask question) = false
-makes Bad = false
-
--- whether a line may come where these questions may be asked
-abbrev pub may_ask : (Question → Bool) → Line → Bool
-may_ask may Blank = true
-may_ask may (Make maker) = false
-may_ask may (Ask question) = may question
-may_ask may Bad = false
-
-abbrev pub any_question : Question → Bool
-any_question question = true
-
 -- a question on the store alone
 abbrev pub is_of_store : Question → Bool
 is_of_store (OfStore question) = true
 is_of_store (OfBody question) = false
-
--- whether a line may come after a question
-abbrev pub asks : Line → Bool
-asks line = may_ask any_question line
 
 -- the elements before the first that fails the test, and the elements from it on
 abbrev pub front : {X : Type 0} → (X → Bool) → List X → List X
@@ -210,6 +190,15 @@ says texts = map line_of texts
 
 abbrev pub script : List (List ℕ) → List Line
 script texts = once_each false false (says texts)
+
+-- what a text says behind these
+abbrev pub line_behind : List (List ℕ) → List ℕ → Line
+line_behind texts text =
+    unless_second (list_any gives_self (says texts)) (list_any gives_name (says texts)) (line_of text)
+
+-- whether a line may come behind these: one that asks, or one that makes something where only such lines came before
+abbrev pub may_come : List Line → Line → Bool
+may_come before line = asks line || (makes line && list_all makes before)
 
 -- the lines that an input spells
 abbrev pub script_of : List ℕ → List Line

@@ -1,11 +1,12 @@
 -- How a run of the program ends, with the bytes that it leaves unread and those that it has written.
-use Rattle.std.specs.Prelude.{◌≡◌, ◌⊎◌, ℕ, ◌+◌, List, ◌++◌, length, Option, Ok, Err, IfSome}
+use Rattle.std.specs.Prelude.{◌≡◌, ◌⊎◌, ℕ, ◌+◌, true, List, [], ◌∷◌, ◌++◌, length, Option, Ok, Err, IfSome}
 use Rattle.std.specs.Io.KnownBytes.{Appends}
 use Rattle.hir_io.specs.Ends.{GrowsByFront}
+use Rattle.hir_io.specs.LineState.{LineState}
 use Rattle.hir_io.specs.Text.{lines, IsCutShort}
 use Rattle.hir_run.specs.declared.fault.RunFault.TheVariants.{BadLine}
 use Rattle.hir_run.specs.Outcomes.{Ends}
-use Rattle.hir_run.specs.Program.{Outcome, script, script_of, IsMeaning, HasAnswers}
+use Rattle.hir_run.specs.Program.{Outcome, script, script_of, line_behind, may_come, IsMeaning, HasAnswers}
 
 -- the program's own output and ending. What it means that a text was written is defined elsewhere
 abbrev pub IsComplete : List ℕ → (List ℕ → Type 0) → Outcome → Type 0
@@ -30,24 +31,28 @@ IsOutputCutShort input WroteFront =
     × (AreFirstAnswers input text ⊎ ((outcome : Outcome) × IsMeaning (script_of input) text outcome))
     × WroteFront text
 
--- this many lines were taken where memory was refused after these: one more is being read, or was taken last
-abbrev pub IsNextLine : List (List ℕ) → ℕ → Type 0
-IsNextLine texts count = (count ≡ length texts) ⊎ (count ≡ length texts + 1)
+-- These are the lines before the one at which memory was refused, by the line taken last and the number of those taken. It was refused at
+-- that line, which may come there; or, where none was taken last since the next was being read or the input had ended, behind all of them
+abbrev pub IsRefusedBehind : List (List ℕ) → List (List ℕ) → List ℕ → ℕ → Type 0
+IsRefusedBehind texts more [] count = count ≡ length texts
+IsRefusedBehind texts more (b ∷ bs) count =
+    (count ≡ length texts + 1) × (rest : List (List ℕ)) × (more ≡ (b ∷ bs) ∷ rest)
+    × (may_come (script texts) (line_behind texts (b ∷ bs)) ≡ true)
 
 -- memory was refused at some line: the answers of all lines before it are written, and no fault comes in these
-abbrev pub IsWithoutMemory : List ℕ → (List ℕ → Type 0) → ℕ → Type 0
-IsWithoutMemory input Wrote count =
-    (texts more : List (List ℕ)) × (lines input ≡ texts ++ more) × IsNextLine texts count
+abbrev pub IsWithoutMemory : List ℕ → (List ℕ → Type 0) → LineState → Type 0
+IsWithoutMemory input Wrote taken =
+    (texts more : List (List ℕ)) × (lines input ≡ texts ++ more) × IsRefusedBehind texts more taken.line taken.count
     × (text : List ℕ) × HasAnswers (script texts) text × Wrote text
 
--- how a run over this input ends, where this many lines were taken
-abbrev pub EndsWith : List ℕ → (List ℕ → Type 0) → (List ℕ → Type 0) → Option (List ℕ) → ℕ → Outcome → Type 0
-EndsWith input Wrote WroteFront remaining count outcome =
+-- how a run over this input ends, where these lines were taken
+abbrev pub EndsWith : List ℕ → (List ℕ → Type 0) → (List ℕ → Type 0) → Option (List ℕ) → LineState → Outcome → Type 0
+EndsWith input Wrote WroteFront remaining taken outcome =
     Ends (λ done. IsComplete input Wrote (Ok done)) (λ number. IsComplete input Wrote (Err (BadLine number)))
     (λ fault. IsComplete input Wrote (Err fault)) (IsInputCutShort input Wrote remaining)
-    (IsOutputCutShort input WroteFront) (IsWithoutMemory input Wrote count) outcome
+    (IsOutputCutShort input WroteFront) (IsWithoutMemory input Wrote taken) outcome
 
--- what a run does over the bytes that its source tells, where this many lines were taken, to those that its sink tells
-abbrev pub RunsTo : Option (List ℕ) → Option (List ℕ) → Option (List ℕ) → Option (List ℕ) → ℕ → Outcome → Type 0
-RunsTo known old remaining new count outcome =
-    IfSome known (λ input. EndsWith input (Appends old new) (GrowsByFront old new) remaining count outcome)
+-- what a run does over the bytes that its source tells, where these lines were taken, to those that its sink tells
+abbrev pub RunsTo : Option (List ℕ) → Option (List ℕ) → Option (List ℕ) → Option (List ℕ) → LineState → Outcome → Type 0
+RunsTo known old remaining new taken outcome =
+    IfSome known (λ input. EndsWith input (Appends old new) (GrowsByFront old new) remaining taken outcome)

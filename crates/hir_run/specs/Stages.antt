@@ -1,11 +1,11 @@
 -- What the parts of a run do, over the bytes that are told: lines that make something, then sections of questions.
-use Rattle.std.specs.Prelude.{◌≡◌, ◌⊎◌, ℕ, ◌+◌, Bool, true, false, List, [], ◌∷◌, ◌++◌, length, Option, None, Some, Result, Ok, Err, IfSome, ⊤, codes}
+use Rattle.std.specs.Prelude.{◌≡◌, ◌≢◌, ◌⊎◌, ℕ, ◌+◌, Bool, true, false, List, [], ◌∷◌, ◌++◌, length, Option, None, Some, Result, Err, IfSome, ⊤, codes}
 use Rattle.std.specs.Io.KnownBytes.{Appends}
-use Rattle.std.specs.List.{list_all, list_any}
+use Rattle.std.specs.List.{list_all}
 use Rattle.hir_io.specs.LineState.{LineState}
 use Rattle.hir_io.specs.Reads.{Reads, ReadsAll, ReadsFront, ReadsUntilFailure}
 use Rattle.hir_io.specs.Ends.{GrowsByFront, IsWrittenUpTo}
-use Rattle.hir_lines.specs.Line.{Line, Blank, Make, Ask, Bad, line_of}
+use Rattle.hir_lines.specs.Line.{Line, Blank, Make, Ask, Bad, asks, line_of, makes, may_ask}
 use Rattle.hir_lines.specs.Makers.{Maker}
 use Rattle.hir_lines.specs.declared.question.Question.{Question}
 use Rattle.hir_lines.specs.declared.question.Question.TheVariants.{OfStore, OfBody}
@@ -21,7 +21,8 @@ use Rattle.hir_run.specs.Made.{Made, is_second, with_line}
 use Rattle.hir_run.specs.Outcomes.{Ends}
 use Rattle.hir_run.specs.Puts.{Puts}
 use Rattle.hir_run.specs.Run.{EndsWith}
-use Rattle.hir_run.specs.Program.{Outcome, makes, may_ask, asks, gives_self, gives_name, unless_second, says, script, built_by, IsLineAnswer, AreAnswers}
+use Rattle.hir_lines.specs.Taking.{line_asked}
+use Rattle.hir_run.specs.Program.{Outcome, line_behind, says, script, built_by, IsLineAnswer, AreAnswers}
 
 -- each of these lines may come before the first question
 abbrev pub AllMake : List (List ℕ) → Type 0
@@ -31,21 +32,21 @@ AllMake texts = list_all makes (script texts) ≡ true
 abbrev pub Makes : List (List ℕ) → Made → Type 0
 Makes texts built = AllMake texts × (built ≡ built_by (script texts))
 
--- what a text says behind these
-abbrev pub line_behind : List (List ℕ) → List ℕ → Line
-line_behind texts text =
-    unless_second (list_any gives_self (says texts)) (list_any gives_name (says texts)) (line_of text)
-
--- memory was refused at the line behind these: it is being read, or it was the last that was taken
-abbrev pub IsBehind : ℕ → List (List ℕ) → ℕ → Type 0
-IsBehind before texts count = (count ≡ before + length texts) ⊎ (count ≡ before + length texts + 1)
+-- memory was refused at the line that was taken last, behind these and so many before: it may come there. Or where none was taken last,
+-- since the next was being read: behind these
+abbrev pub RefusesAt : (List ℕ → Type 0) → ℕ → Option (List ℕ) → List (List ℕ) → List ℕ → ℕ → Type 0
+RefusesAt MayCome before known texts [] count = ReadsFront known texts × (count ≡ before + length texts)
+RefusesAt MayCome before known texts (b ∷ bs) count =
+    ReadsFront known (texts ++ (b ∷ bs) ∷ []) × (count ≡ before + length texts + 1) × MayCome (b ∷ bs)
 
 -- nothing was asked, or a question behind these texts
 abbrev pub BuildsUpTo : Option (List ℕ) → Option (List ℕ) → LineState → Made → Option Question → Type 0
-BuildsUpTo known rest lines built None = (texts : List (List ℕ)) × Makes texts built × ReadsAll known texts × (lines.count ≡ length texts)
+BuildsUpTo known rest lines built None =
+    (texts : List (List ℕ)) × Makes texts built × ReadsAll known texts × (lines.line ≡ [])
+    × (lines.count ≡ length texts)
 BuildsUpTo known rest lines built (Some question) =
-    (texts : List (List ℕ)) × (text : List ℕ) × Makes texts built × (line_of text ≡ Ask question)
-    × Reads known (texts ++ text ∷ []) rest lines.at_end × (lines.count ≡ length texts + 1)
+    (texts : List (List ℕ)) × Makes texts built × (line_of lines.line ≡ Ask question)
+    × Reads known (texts ++ lines.line ∷ []) rest lines.at_end × (lines.count ≡ length texts + 1)
 
 -- the lines that make: from the told bytes to those still to be taken and those that the source has left, with the lines and what was built
 abbrev pub Builds : Option (List ℕ) → Option (List ℕ) → Option (List ℕ) → LineState → Made →
@@ -57,33 +58,32 @@ Builds known rest remaining lines built result =
     (λ fault. ⊥)
     ((texts : List (List ℕ)) × AllMake texts × ReadsUntilFailure known texts lines.pending remaining)
     ⊥
-    ((texts : List (List ℕ)) × AllMake texts × ReadsFront known texts × IsBehind 0 texts lines.count)
+    ((texts : List (List ℕ)) × AllMake texts
+    × RefusesAt (λ text. line_behind texts text ≢ Bad) 0 known texts lines.line lines.count)
     result
 
--- the line is empty or makes something; or it asks
-abbrev pub MakesOrAsks : Line → Made → Made → Option Question → Type 0
-MakesOrAsks line old new None =
+-- the line is empty or makes something; or it does neither, and is left
+abbrev pub MakesOrLeaves : Line → Made → Made → Bool → Type 0
+MakesOrLeaves line old new true =
     ((line ≡ Blank) × (new ≡ old))
     ⊎ ((maker : Maker) × (line ≡ Make maker) × (is_second old maker ≡ false) × (new ≡ with_line old maker))
-MakesOrAsks line old new (Some question) = (line ≡ Ask question) × (new ≡ old)
+MakesOrLeaves line old new false = (makes line ≡ false) × (new ≡ old)
 
--- what the line of this number does, to what was made before it
-abbrev pub BuildsBy : Line → ℕ → Made → Made → Result (Option Question) RunFault → Type 0
-BuildsBy line number old new result =
-    Ends (MakesOrAsks line old new)
-    (λ told. ((line ≡ Bad) ⊎ ((maker : Maker) × (line ≡ Make maker) × (is_second old maker ≡ true))) × (new ≡ old)
-    × (told ≡ number))
-    (λ fault. ⊥) ⊥ ⊥ (new ≡ old) result
+-- what the line that was taken last does, to what was made before it
+abbrev pub BuildsLine : LineState → Made → Made → Result Bool RunFault → Type 0
+BuildsLine lines old new result =
+    Ends (MakesOrLeaves (line_of lines.line) old new)
+    (λ told. ((line_of lines.line ≡ Bad)
+    ⊎ ((maker : Maker) × (line_of lines.line ≡ Make maker) × (is_second old maker ≡ true))) × (told ≡ lines.count))
+    (λ fault. ⊥) ⊥ ⊥
+    ((maker : Maker) × (line_of lines.line ≡ Make maker) × (is_second old maker ≡ false)) result
 
--- what the line that was taken last does there
-abbrev pub BuildsLine : LineState → Made → Made → Result (Option Question) RunFault → Type 0
-BuildsLine lines old new result = BuildsBy (line_of lines.line) lines.count old new result
-
--- what it does there where it is of a frequent kind; a line of another kind is left
-abbrev pub BuildsOrLeaves : LineState → Made → Made → Result Bool RunFault → Type 0
-BuildsOrLeaves lines old new (Ok true) = BuildsLine lines old new (Ok None)
-BuildsOrLeaves lines old new (Ok false) = new ≡ old
-BuildsOrLeaves lines old new (Err fault) = BuildsLine lines old new (Err fault)
+-- what it asks, where it makes nothing
+abbrev pub AsksFirst : LineState → Result (Option Question) RunFault → Type 0
+AsksFirst lines result =
+    Ends (λ asked. line_of lines.line ≡ line_asked asked)
+    (λ told. (asks (line_of lines.line) ≡ false) × (told ≡ lines.count)) (λ fault. ⊥) ⊥ ⊥
+    ((question : Question) × (line_of lines.line ≡ Ask question)) result
 
 -- what a builder gives: its store; or it has this first fault, or memory was refused
 abbrev pub Finishes : Building → Result Contents RunFault → Type 0
@@ -122,7 +122,7 @@ AsksLine may Is line number old waiting new waiting' result =
     (λ told. (asks line ≡ false) × (told ≡ number) × (new ≡ old) × (waiting' ≡ waiting)) (λ fault. ⊥) ⊥
     ((may_ask may line ≡ true) × (text : List ℕ) × IsLineAnswer Is line text
     × GrowsByFront old new (waiting ++ text) × (waiting' ≡ []))
-    ((new ≡ old) × (waiting' ≡ waiting)) result
+    ((question : Question) × (line ≡ Ask question) × (new ≡ old) × (waiting' ≡ waiting)) result
 
 -- whether a question may be answered before the body's scopes are made
 abbrev pub needs_no_scopes : Question → Bool
@@ -156,7 +156,7 @@ AsksUpTo may Is known rest lines lines' old waiting new waiting' first (Some que
     (may question ≡ false)
     × (((question ≡ first) × (new ≡ old) × (waiting' ≡ waiting) × (lines' ≡ lines) × (rest ≡ known))
     ⊎ ((texts : List (List ℕ)) × (text : List ℕ) × Answered may Is (asked first texts) old waiting new waiting'
-    × (line_of text ≡ Ask question) × Reads known (texts ++ text ∷ []) rest lines'.at_end
+    × (text ≡ lines'.line) × (line_of text ≡ Ask question) × Reads known (texts ++ text ∷ []) rest lines'.at_end
     × (lines.at_end ≡ true → lines'.at_end ≡ true) × (lines'.count ≡ lines.count + length texts + 1)))
 
 -- a section of questions: from the told bytes behind the first question to those still to be taken and those that the source has left
@@ -174,8 +174,8 @@ Asks may Is known rest remaining lines lines' old waiting new waiting' first res
     ((texts : List (List ℕ)) × (text : List ℕ) × HaveAnswers may Is (asked first texts) text
     × ReadsFront known texts × GrowsByFront old new (waiting ++ text) × (waiting' ≡ []))
     (((texts : List (List ℕ)) × Answered may Is (asked first texts) old waiting new waiting'
-    × ReadsFront known texts × IsBehind lines.count texts lines'.count)
-    ⊎ ((new ≡ old) × (waiting' ≡ waiting) × (lines'.count ≡ lines.count)))
+    × RefusesAt (λ text. asks (line_of text) ≡ true) lines.count known texts lines'.line lines'.count)
+    ⊎ ((new ≡ old) × (waiting' ≡ waiting) × (lines' ≡ lines)))
     result
 
 -- that the store is accepted was written, all but what waits, or a front of it
@@ -185,12 +185,12 @@ Accepts old waiting new waiting' result =
     (GrowsByFront old new (waiting ++ codes "accepted\n") × (waiting' ≡ [])) ⊥ result
 
 -- a run over told bytes, of whose output some may wait
-abbrev pub RunsUpTo : Option (List ℕ) → Option (List ℕ) → Option (List ℕ) → Option (List ℕ) → List ℕ → ℕ → Outcome →
-    Type 0
-RunsUpTo known old remaining new waiting count outcome =
+abbrev pub RunsUpTo : Option (List ℕ) → Option (List ℕ) → Option (List ℕ) → Option (List ℕ) → List ℕ → LineState →
+    Outcome → Type 0
+RunsUpTo known old remaining new waiting lines outcome =
     IfSome known
     (λ input. EndsWith input (λ text. IsWrittenUpTo old new text waiting)
-    (λ text. GrowsByFront old new text × (waiting ≡ [])) remaining count outcome)
+    (λ text. GrowsByFront old new text × (waiting ≡ [])) remaining lines outcome)
 
 -- what waited was written and the outcome stays, or a write of something failed
 abbrev pub Closes : Option (List ℕ) → Option (List ℕ) → List ℕ → Outcome → Outcome → Type 0

@@ -7,9 +7,8 @@ ghost use Rattle.hir_run.specs.Outcomes.{is_input_failed, is_output_failed};
 ghost use Rattle.hir_run.specs.Stages.{Asks, AsksLine, Replies};
 
 use crate::fault::RunFault;
-use crate::no_builder::NoBuilder;
 use hir_io::{LineReader, OutputBuffer, Sink, Source, next_line};
-use hir_lines::{Question, Stop, take};
+use hir_lines::{Question, Stop, ask};
 use std::alloc::Global;
 
 /// Memory was refused.
@@ -76,7 +75,7 @@ fn answer_next<A: Answers, W: Sink>(
         (W.contents writer.old) output.old (W.contents writer.new) output.new result }
     ensures failure { W.failed writer.new ≡ is_output_failed result }
 {
-    match take(alloc, lines.line(), &mut NoBuilder) {
+    match ask(alloc, lines.line()) {
         Ok(Some(question)) => answer_question(alloc, asked, question, output, writer),
         Ok(None) => Ok(None),
         Err(Stop::Bad) => Err(RunFault::BadLine(lines.count())),

@@ -4,36 +4,30 @@ ghost use Rattle.std.specs.Prelude.{◌≡◌, ◌+◌, ◌<◌, ◌^◌, ◌||�
 ghost use Rattle.hir_io.specs.NextLine.{untaken};
 ghost use Rattle.hir_run.specs.Made.{made_of, nothing_made};
 ghost use Rattle.hir_run.specs.Outcomes.{is_input_failed};
-ghost use Rattle.hir_run.specs.Stages.{Builds, BuildsLine, BuildsOrLeaves};
+ghost use Rattle.hir_run.specs.Stages.{AsksFirst, Builds, BuildsLine};
 
 use crate::fault::RunFault;
 use crate::made::Made;
 use hir_io::{LineReader, OutputBuffer, Sink, Source, next_line};
-use hir_lines::{Question, Stop, take, take_frequent};
+use hir_lines::{Question, Stop, ask, make};
 use std::alloc::Global;
 
-/// Makes what the line that was taken last makes, if it is of a frequent kind, and answers whether it is.
-#[inline(always)]
-fn build_frequent(alloc: Global, lines: &LineReader, made: &mut Made) -> Result<bool, RunFault>
-    ensures { BuildsOrLeaves lines.now (made_of made.old) (made_of made.new) result }
+/// Makes what the line that was taken last makes, and answers whether it makes something or is empty.
+fn build_line(alloc: Global, lines: &LineReader, made: &mut Made) -> Result<bool, RunFault>
+    ensures { BuildsLine lines.now (made_of made.old) (made_of made.new) result }
 {
-    match take_frequent(alloc, lines.line(), made) {
+    match make(alloc, lines.line(), made) {
         Ok(taken) => Ok(taken),
         Err(Stop::Bad) => Err(RunFault::BadLine(lines.count())),
         Err(Stop::Memory) => Err(RunFault::OutOfMemory),
     }
 }
 
-/// Makes what the line that was taken last makes, or gives its question.
-#[inline(never)]
-fn build_line(
-    alloc: Global,
-    lines: &LineReader,
-    made: &mut Made,
-) -> Result<Option<Question>, RunFault>
-    ensures { BuildsLine lines.now (made_of made.old) (made_of made.new) result }
+/// The question of the line that was taken last, which makes nothing.
+fn first_question(alloc: Global, lines: &LineReader) -> Result<Option<Question>, RunFault>
+    ensures { AsksFirst lines.now result }
 {
-    match take(alloc, lines.line(), made) {
+    match ask(alloc, lines.line()) {
         Ok(question) => Ok(question),
         Err(Stop::Bad) => Err(RunFault::BadLine(lines.count())),
         Err(Stop::Memory) => Err(RunFault::OutOfMemory),
@@ -61,12 +55,8 @@ pub(crate) fn build<R: Source, W: Sink>(
         (lines.new.count + length lines.new.pending + R.allowance reader.new < 2 ^ 64) }
 {
     while next_line(lines, reader, output, writer)? {
-        if build_frequent(alloc, lines, made)? {
-            continue;
-        }
-        let question = build_line(alloc, lines, made)?;
-        if question.is_some() {
-            return Ok(question);
+        if !build_line(alloc, lines, made)? {
+            return first_question(alloc, lines);
         }
     }
     Ok(None)

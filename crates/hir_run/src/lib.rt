@@ -11,7 +11,6 @@ mod fault;
 pub mod laws;
 mod made;
 mod named_body;
-mod no_builder;
 mod on_body;
 mod printed;
 mod program;

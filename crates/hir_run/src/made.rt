@@ -1,6 +1,6 @@
 //! What the lines have made so far: a builder, and the other parts of its body.
 
-ghost use Rattle.std.specs.Prelude.{◌≡◌, Ok, Err, OnOk, OnErr};
+ghost use Rattle.std.specs.Prelude.{◌≡◌};
 ghost use Rattle.hir_run.specs.Made.{made_of, nothing_made};
 
 use hir_base::{HygieneId, Name, Seq};
@@ -75,11 +75,23 @@ impl Made {
     }
 }
 
-/// A second self parameter and a second name are refused.
 impl Builder for Made {
-    ghost use Rattle.hir_run.specs.Made.{and_maker};
+    ghost use Rattle.std.specs.Prelude.{is_some};
+    ghost use Rattle.hir_run.specs.Made.{with_maker};
 
-    ghost add = { and_maker };
+    ghost has_self = { λ made. is_some made.self_param };
+
+    ghost has_name = { λ made. is_some made.name };
+
+    ghost add = { with_maker };
+
+    fn has_self_param(&self) -> bool {
+        self.self_param.is_some()
+    }
+
+    fn has_fn_name(&self) -> bool {
+        self.name.is_some()
+    }
 
     // Each outcome is matched here: a function that takes it has the node that a refusal hands back copied.
     fn binding(&mut self, binding: Binding) -> Result<(), Stop> {
@@ -89,6 +101,8 @@ impl Builder for Made {
         }
     }
 
+    // Always inlined, as `expr` is: the node goes into the arena without a copy on the way, which takes five hundredths of the instructions of
+    // making away.
     #[inline(always)]
     fn pat(&mut self, pat: Pat) -> Result<(), Stop> {
         match self.builder.alloc_pat(pat) {
@@ -113,25 +127,25 @@ impl Builder for Made {
     }
 
     fn hygiene(&mut self, id: ExprOrPatId, hygiene: HygieneId) -> Result<(), Stop> {
-        or_memory(self.builder.set_hygiene(id, hygiene))
+        match self.builder.set_hygiene(id, hygiene) {
+            Ok(_) => Ok(()),
+            Err(_) => Err(Stop::Memory),
+        }
     }
 
     fn self_param(&mut self, id: BindingId) -> Result<(), Stop> {
-        if self.self_param.is_some() {
-            return Err(Stop::Bad);
-        }
         self.self_param = Some(as_written(id));
         Ok(())
     }
 
     fn param(&mut self, id: PatId) -> Result<(), Stop> {
-        or_memory(self.params.push(as_written(id)))
+        match self.params.push(as_written(id)) {
+            Ok(()) => Ok(()),
+            Err(_) => Err(Stop::Memory),
+        }
     }
 
     fn fn_name(&mut self, name: Name) -> Result<(), Stop> {
-        if self.name.is_some() {
-            return Err(Stop::Bad);
-        }
         self.name = Some(name);
         Ok(())
     }
@@ -142,18 +156,9 @@ impl Builder for Made {
     }
 
     fn root(&mut self, id: ExprId) -> Result<(), Stop> {
-        or_memory(self.builder.push_root(id))
-    }
-}
-
-/// A refusal of memory, or of an item by a full arena.
-#[inline(always)]
-fn or_memory<T: Drop, E: Drop>(outcome: Result<T, E>) -> Result<(), Stop>
-    ensures ok { OnOk outcome (result ≡ Ok tt) }
-    ensures err { OnErr outcome (result ≡ Err Stop.Memory) }
-{
-    match outcome {
-        Ok(_) => Ok(()),
-        Err(_) => Err(Stop::Memory),
+        match self.builder.push_root(id) {
+            Ok(()) => Ok(()),
+            Err(_) => Err(Stop::Memory),
+        }
     }
 }

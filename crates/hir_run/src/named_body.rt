@@ -56,7 +56,7 @@ impl NamedBody {
 
 /// It answers any question.
 impl Answers for NamedBody {
-    ghost use Rattle.hir_run.specs.Program.{any_question};
+    ghost use Rattle.hir_lines.specs.Line.{any_question};
     ghost use Rattle.hir_run.specs.Answer.{IsAnswerOf};
 
     ghost may = { any_question };

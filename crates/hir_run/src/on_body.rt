@@ -4,7 +4,7 @@ ghost use Rattle.std.specs.Prelude.{◌≡◌, ◌+◌, ◌<◌, ◌^◌, ◌||�
 ghost use Rattle.hir_io.specs.NextLine.{untaken};
 ghost use Rattle.hir_run.specs.Answer.{IsAnswer};
 ghost use Rattle.hir_run.specs.Outcomes.{is_input_failed, is_output_failed};
-ghost use Rattle.hir_run.specs.Program.{any_question};
+ghost use Rattle.hir_lines.specs.Line.{any_question};
 ghost use Rattle.hir_run.specs.Stages.{Asks};
 
 use crate::answer::answer_store;

@@ -1,8 +1,9 @@
 //! The program: lines in, answers out.
 
-ghost use Rattle.std.specs.Prelude.{◌≡◌, ◌||◌, ℕ, [], true, false};
+ghost use Rattle.std.specs.Prelude.{◌≡◌, ◌||◌, [], true, false};
 ghost use Rattle.std.specs.Io.KnownBytes.{Appends};
 ghost use Rattle.hir_io.specs.Ends.{GrowsByFront};
+ghost use Rattle.hir_io.specs.LineState.{LineState};
 ghost use Rattle.hir_items.specs.Bodies.{body_of};
 ghost use Rattle.hir_store.specs.Building.{building_of};
 ghost use Rattle.hir_run.specs.Faults.{status_of};
@@ -73,7 +74,7 @@ fn answer_script<R: Source, W: Sink>(
     requires reading { R.failed reader.old ≡ false }
     requires writing { W.failed writer.old ≡ false }
     ensures runs { RunsUpTo (R.remaining reader.old) (W.contents writer.old) (R.remaining reader.new)
-        (W.contents writer.new) output.new lines.new.count result }
+        (W.contents writer.new) output.new lines.new result }
     ensures input_failed { R.failed reader.new ≡ is_input_failed result }
     ensures output_failed { W.failed writer.new ≡ is_output_failed result }
     // A read is made only where nothing waits.
@@ -147,7 +148,7 @@ fn run_lines_with<R: Source, W: Sink>(
     requires reading { R.failed reader.old ≡ false }
     requires writing { W.failed writer.old ≡ false }
     ensures runs { RunsTo (R.remaining reader.old) (W.contents writer.old) (R.remaining reader.new)
-        (W.contents writer.new) lines.new.count result }
+        (W.contents writer.new) lines.new result }
     ensures input_failed { R.failed reader.new ≡ is_input_failed result }
     ensures output_failed { W.failed writer.new ≡ is_output_failed result }
 {
@@ -158,8 +159,9 @@ fn run_lines_with<R: Source, W: Sink>(
     close(outcome, &mut output, writer)
 }
 
-/// Runs the program as `run` does, on the lines that a fresh reader takes from the source. Afterwards the reader tells how many were taken:
-/// where memory was refused, it was at the last of them, or at the one behind it.
+/// Runs the program as `run` does, on the lines that a fresh reader takes from the source. Where memory was refused, the reader tells
+/// at which: at its line, which is the last that was taken and may come there; or, where it has none, behind all that were taken, since
+/// the next was being read or the input had ended.
 pub fn run_lines<R: Source, W: Sink>(
     alloc: Global,
     lines: &mut LineReader,
@@ -170,7 +172,7 @@ pub fn run_lines<R: Source, W: Sink>(
     requires reading { R.failed reader.old ≡ false }
     requires writing { W.failed writer.old ≡ false }
     ensures runs { RunsTo (R.remaining reader.old) (W.contents writer.old) (R.remaining reader.new)
-        (W.contents writer.new) lines.new.count result }
+        (W.contents writer.new) lines.new result }
     ensures input_failed { R.failed reader.new ≡ is_input_failed result }
     ensures output_failed { W.failed writer.new ≡ is_output_failed result }
 {
@@ -183,8 +185,8 @@ pub fn run_lines<R: Source, W: Sink>(
 /// come in order up to the first fault; `accepted` where there is neither a question nor a fault. What was made is tested where the
 /// first question comes, or at the end, and its body where the first question on it comes. What waits to be written is written
 /// before each read and before the run ends, so an answer is never held back while more input is awaited. A failed read ends
-/// the run: the answers of the whole lines before are written. A failed write ends it too. Where memory is refused, the answers
-/// of the lines before are written: `run_lines` tells at which line. All memory is given back.
+/// the run: the answers of the whole lines before are written. A failed write ends it too. Where memory is refused at a line, which is
+/// never a bad one, the answers of all lines before it are written: `run_lines` tells at which line. All memory is given back.
 pub fn run<R: Source, W: Sink>(
     alloc: Global,
     reader: &mut R,
@@ -192,8 +194,9 @@ pub fn run<R: Source, W: Sink>(
 ) -> Result<(), RunFault>
     requires reading { R.failed reader.old ≡ false }
     requires writing { W.failed writer.old ≡ false }
-    ensures runs { (count : ℕ) × RunsTo (R.remaining reader.old) (W.contents writer.old) (R.remaining reader.new)
-        (W.contents writer.new) count result }
+    ensures runs { (taken : LineState)
+        × RunsTo (R.remaining reader.old) (W.contents writer.old) (R.remaining reader.new)
+        (W.contents writer.new) taken result }
     ensures input_failed { R.failed reader.new ≡ is_input_failed result }
     ensures output_failed { W.failed writer.new ≡ is_output_failed result }
 {
@@ -215,8 +218,9 @@ pub fn run_to_exit<R: Source, W: Sink>(
 ) -> Result<(), RunFault>
     requires reading { R.failed reader.old ≡ false }
     requires writing { W.failed writer.old ≡ false }
-    ensures runs { (count : ℕ) × RunsTo (R.remaining reader.old) (W.contents writer.old) (R.remaining reader.new)
-        (W.contents writer.new) count result }
+    ensures runs { (taken : LineState)
+        × RunsTo (R.remaining reader.old) (W.contents writer.old) (R.remaining reader.new)
+        (W.contents writer.new) taken result }
     ensures input_failed { R.failed reader.new ≡ is_input_failed result }
     ensures output_failed { W.failed writer.new ≡ is_output_failed result }
 {
@@ -236,9 +240,9 @@ pub fn run_and_report<R: Source, W: Sink, E: Sink>(
 ) -> u8
     requires reading { R.failed reader.old ≡ false }
     requires writing { W.failed writer.old ≡ false }
-    ensures { (count : ℕ) × (outcome : Outcome)
+    ensures { (taken : LineState) × (outcome : Outcome)
         × RunsTo (R.remaining reader.old) (W.contents writer.old) (R.remaining reader.new)
-        (W.contents writer.new) count outcome
+        (W.contents writer.new) taken outcome
         × (R.failed reader.new ≡ is_input_failed outcome)
         × (W.failed writer.new ≡ is_output_failed outcome)
         × (E.failed errors.new ≡ false →

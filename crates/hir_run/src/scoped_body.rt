@@ -63,19 +63,18 @@ fn put_name<W: Sink>(name: &Name, output: &mut OutputBuffer, writer: &mut W)
     put(name.as_str().as_bytes(), output, writer);
 }
 
-/// Puts the names of a scope's entries; a scope that isn't there has none.
+/// Puts the names of a scope's entries.
 fn put_scope<W: Sink>(
     scopes: &ExprScopes,
     scope: ScopeId,
     output: &mut OutputBuffer,
     writer: &mut W,
 )
+    requires { scope < length scopes.now.scopes }
     ensures { Puts (W.contents writer.old) (W.failed writer.old) output.old (W.contents writer.new)
         (W.failed writer.new) output.new (names_text (entries_of (frame_at scopes.now.scopes scope))) }
 {
-    if scopes.has_scope(scope) {
-        put_names(scopes.entries(scope), output, writer);
-    }
+    put_names(scopes.entries(scope), output, writer);
 }
 
 /// Puts the names of a scope's chain, innermost first.

@@ -1,11 +1,9 @@
 //! The tests of `hir_run`, of what neither a contract of it says nor a row of `hir_rows` asks: inputs by one byte a call, ends that
-//! fail at any byte, faults that no line makes, runs to an exit, a long chain, and refused growths.
+//! fail at any byte, faults that no line makes, runs to an exit, and refused growths.
 #![tactic(auto)]
 
 #[cfg(test)]
 mod again;
-#[cfg(test)]
-mod chain;
 #[cfg(test)]
 mod ends;
 #[cfg(test)]

@@ -4,16 +4,18 @@ use Rattle.std.proofs.Common.{◌≡◌, ◌⊎◌, ℕ, zero, suc, ◌+◌, ◌
 use Rattle.std.specs.Prelude.{IfSome, slice_index}
 use Rattle.std.specs.List.{flat_map, slice_get, sum_by}
 use Rattle.std.specs.Option.{option_to_list, option_map}
-use Rattle.std.proofs.lemmas.List.{length-map, length-replicate}
+use Rattle.std.proofs.lemmas.List.{append-nil, length-map, length-replicate}
 use Rattle.std.proofs.lemmas.Grind.{get_or_default_zero}
+use Rattle.std.proofs.lemmas.List.Folds.{sum_by-replicate}
 use Rattle.std.proofs.lemmas.List.Sums.{sum_by-cons}
 use Rattle.hir_forest.specs.Faults.{root_nodes}
-use Rattle.hir_node.specs.ChildCalls.{Call, OnExpr, OnAnonConst, OnPat, OnType, OnLifetime, e, p, opt}
+use Rattle.hir_node.specs.ChildCalls.{Call, e, p, opt}
 use Rattle.hir_node.specs.declared.node_id.NodeId.{NodeId}
 use Rattle.hir_node.specs.declared.node_id.NodeId.TheVariants as node
 use Rattle.hir_faults.specs.Nodes.{Nodes, Has}
+use Rattle.hir_faults.specs.Sound.{RootsStandApart}
 use Rattle.hir_faults.specs.Tested.{all_of}
-use Rattle.hir_expr_store.specs.Contents.{Contents}
+use Rattle.hir_expr_store.specs.Contents.{Contents, rooted_of}
 use Rattle.hir_expr_store.specs.Under.{reached_nodes}
 use Rattle.hir_items.specs.Bodies.{BodyContents, AreBelow, formals_of, last_root, body_nodes}
 use Rattle.hir_items.specs.Bodies as body
@@ -23,7 +25,7 @@ use Rattle.hir_scope.specs.declared.scope.ScopeEntry.{ScopeEntry}
 use Rattle.hir_scope.specs.declared.scope.ScopeKind.TheVariants as kind
 use Rattle.hir_scope.specs.declared.tasks.Task.{Task}
 use Rattle.hir_scope.specs.declared.tasks.Task.TheVariants as task
-use Rattle.hir_scope.specs.walk.Begins.{IsSound, for_none, root_entries, body_root, body_begins, signature_root, scope_in_root, scopes_in_root, root_tasks, roots_begin, signature_begins}
+use Rattle.hir_scope.specs.walk.Begins.{IsSound, IsSoundBody, IsSoundStore, for_none, root_entries, body_root, body_begins, signature_root, scope_in_root, scopes_in_root, root_tasks, roots_begin, signature_begins}
 use Rattle.hir_scope.specs.Built.{tops_of_body, tops_of_signature, limit, BodyIsTooLarge, SignatureIsTooLarge}
 use Rattle.hir_scope.specs.Chains.{Place}
 use Rattle.hir_scope.specs.Counts.{count_if_there, form_scopes, node_entries, body_scope_count, body_entry_count, signature_scope_count, signature_entry_count}
@@ -34,35 +36,33 @@ use Rattle.hir_scope.specs.Paths.{paths, frame_at}
 use Rattle.hir_scope.specs.walk.Pending.{tasks_of, task_frames, future}
 use Rattle.hir_scope.specs.walk.PlacesUnder.{exprs_under}
 use Rattle.hir_scope.specs.Scopes.{Scope, Scopes, entry_count, frame_of, IsBelow, ParentsStandEarlier}
-use Rattle.hir_scope.proofs.CountLemmas.{bound_by, calls_open, form_ones, frame_entries, sum_one}
+use Rattle.hir_scope.proofs.CountLemmas.{bound_by, calls_open, form_ones, frame_entries, reached_total}
 use Rattle.hir_scope.proofs.EntryLemmas.{entries_of_node, entries_total, no_around, one_entry}
-use Rattle.hir_scope.proofs.MemberLemmas.{In, in_contains, contains_in, in_map}
+use Rattle.hir_scope.proofs.DoneLemmas.{there_all, leaves_calls}
+use Rattle.hir_scope.proofs.MovingLemmas.{scopes_weigh, entries_weigh}
+use Rattle.hir_scope.proofs.MemberLemmas.{In, in_contains, contains_in, in_map, sum_same, sum_mapped, sum_none}
 use Rattle.hir_scope.proofs.PathLemmas.{path_step}
-use Rattle.hir_scope.proofs.SumLemmas.{reached_total, sum_same, sum_mapped}
-use Rattle.hir_scope.proofs.TaskLemmas.{about_calls}
-use Rattle.hir_scope.proofs.TopLemmas.{body_future, body_top_nodes, signature_future, signature_top_nodes, top_kids}
-
-all_there : (s : Nodes) (ns : List NodeId) → ((n : NodeId) → In n ns → Has s n) → AreThere s ns
-all_there s [] h = tt
-all_there s (n ∷ ns) h = (h n (inl refl), all_there s ns (λ m i. h m (inr i)))
+use Rattle.hir_scope.proofs.KidLemmas.{about_calls}
+use Rattle.hir_scope.proofs.FutureLemmas.{body_future, body_top_nodes, signature_future, signature_top_nodes, top_kids}
 
 contained_at : (xs : List ℕ) (x : ℕ) → Contains xs x → (i : ℕ) × (i < length xs) × (slice_index xs i ≡ x)
 contained_at xs x c = (c.0, c.1, sym (get_or_default_zero xs c.0 x c.1) ∙ c.2)
 
 -- the roots of a store are there
-pub roots_there : (s : Nodes) (roots : List ℕ) → ((i : ℕ) → i < length roots → slice_index roots i < length s.exprs) → (n : NodeId) → Contains (map node.Expr roots) n → Has s n
-roots_there s roots h n c =
-    let r = in_map node.Expr n roots (in_contains (map node.Expr roots) n c) in
+pub roots_there : (c : Contents) → RootsStandApart (rooted_of c) → (n : NodeId) → Contains (root_tops c) n → Has c.nodes n
+roots_there c stand n m =
+    let roots = root_nodes c.roots in
+    let r = in_map node.Expr n roots (in_contains (map node.Expr roots) n m) in
     let at = contained_at roots r.0 (contains_in roots r.0 r.1) in
-    subst (Has s) r.2 (subst (λ (x : ℕ). x < length s.exprs) at.2 (h at.0 at.1))
+    let long = length-map c.roots (λ r. r.node) in
+    subst (Has c.nodes) r.2 (subst (λ (x : ℕ). x < length c.nodes.exprs) at.2 (stand.there at.0 (let l = at.1 in omega (arith, l, long))))
+
+-- what formals bind, parameter by parameter
+pub of_formals : (f : ℕ → List ScopeEntry) (params : List (Param ℕ)) → flat_map (λ (q : Param ℕ). f q.formal) params ≡ flat_map f (formals_of params)
+of_formals f [] = refl
+of_formals f (q ∷ params) = ap (λ (es : List ScopeEntry). f q.formal ++ es) (of_formals f params)
 
 -- 1. What all states weigh
-
-pub scopes_weigh : (scopes : List Scope) → sum_by one (map frame_of scopes) ≡ length scopes
-scopes_weigh scopes = sum_one (map frame_of scopes) ∙ length-map scopes frame_of
-
-pub entries_weigh : (scopes : List Scope) → sum_by count_entries (map frame_of scopes) ≡ sum_by (λ (x : Scope). length x.entries) scopes
-entries_weigh scopes = sum_mapped count_entries frame_of scopes
 
 scopes_total : (s : Nodes) → IsSound s → (nodes : List NodeId) → ((n : NodeId) → In n nodes → Has s n) → sum_by (total s (λ n. sum_by one (node_frames s n))) nodes ≡ sum_by (λ n. form_scopes (form_of s n)) (reached_nodes s nodes)
 scopes_total s sound nodes there =
@@ -75,14 +75,6 @@ entries_under s sound nodes there =
     ∙ sym (reached_total s sound.fall sound.under (node_entries s) nodes there)
 
 -- 2. Bodies
-
-calls_leave_none : (n : ℕ) (cs : List Call) → LeavesWithin n (tasks_of cs)
-calls_leave_none n [] = tt
-calls_leave_none n (OnExpr x ∷ cs) = calls_leave_none n cs
-calls_leave_none n (OnAnonConst x ∷ cs) = calls_leave_none n cs
-calls_leave_none n (OnPat x ∷ cs) = calls_leave_none n cs
-calls_leave_none n (OnType x ∷ cs) = calls_leave_none n cs
-calls_leave_none n (OnLifetime x ∷ cs) = calls_leave_none n cs
 
 bound_formals : (s : Nodes) (formals : List ℕ) (last : Option ℕ) → sum_by (bound_by s) (map node.Pat formals ++ option_to_list (option_map node.Expr last)) ≡ sum_by (λ q. length (binds s q)) formals
 bound_formals s [] None = refl
@@ -122,13 +114,16 @@ module _ (b : BodyContents) where
   about_tops : about (tasks_of top_calls) ≡ body.tops b
   about_tops = about_calls top_calls ∙ top_kids (formals_of b.params) (last_root b.store)
 
-  module _ (sound : IsSound s) (there : (n : NodeId) → In n (body.tops b) → Has s n) where
+  module _ (sound : IsSoundBody b) where
+    pub tops_there : (n : NodeId) → In n (body.tops b) → Has s n
+    tops_there n i = sound.there n (contains_in (body.tops b) n i)
+
     pub body_ready : IsReady s (body_begins b)
     body_ready = record {
       here = omega arith;
       constant = omega arith;
-      leaves = calls_leave_none 1 top_calls;
-      known = subst (AreThere s) (sym about_tops) (all_there s (body.tops b) there);
+      leaves = subst (LeavesWithin 1) (append-nil (tasks_of top_calls)) (leaves_calls 1 top_calls [] tt);
+      known = subst (AreThere s) (sym about_tops) (there_all s (body.tops b) sound.there);
     }
 
     body_left : (w : Frame → ℕ) → weight_left s w (tasks_of top_calls) ≡ sum_by (total s (λ n. sum_by w (node_frames s n))) (body.tops b)
@@ -141,38 +136,37 @@ module _ (b : BodyContents) where
     body_scopes_weigh =
         let a = scopes_weigh (body_root b ∷ []) in
         let l = body_left one in
-        let t = scopes_total s sound (body.tops b) there in
+        let t = scopes_total s sound.nodes (body.tops b) tops_there in
         omega (arith, a, l, t)
 
-    module _ (self : SelfIsThere s b.self_param) where
-      root_length : length (root_entries b) ≡ count_if_there b.self_param + sum_by (bound_by s) (body.tops b)
-      root_length =
-          let a = length-append (all_of (entry_at s) (option_map (λ (q : Param ℕ). q.formal) b.self_param)) (flat_map (binds s) (formals_of b.params)) in
-          let d = self_entries s b.self_param self in
-          let f = frame_entries s (formals_of b.params) in
-          let g = bound_formals s (formals_of b.params) (last_root b.store) in
-          omega (arith, a, d, f, g)
+    root_length : length (root_entries b) ≡ count_if_there b.self_param + sum_by (bound_by s) (body.tops b)
+    root_length =
+        let a = length-append (all_of (entry_at s) (option_map (λ (q : Param ℕ). q.formal) b.self_param)) (flat_map (binds s) (formals_of b.params)) in
+        let d = self_entries s b.self_param sound.self_there in
+        let f = frame_entries s (formals_of b.params) in
+        let g = bound_formals s (formals_of b.params) (last_root b.store) in
+        omega (arith, a, d, f, g)
 
-      pub body_entries_weigh : weight s count_entries (body_begins b) ≡ body_entry_count s b.self_param (body_nodes b)
-      body_entries_weigh =
-          let a = entries_weigh (body_root b ∷ []) in
-          let l = body_left count_entries in
-          let t = entries_under s sound (body.tops b) there in
-          let r = root_length in
-          omega (arith, a, l, t, r)
+    pub body_entries_weigh : weight s count_entries (body_begins b) ≡ body_entry_count s b.self_param (body_nodes b)
+    body_entries_weigh =
+        let a = entries_weigh (body_root b ∷ []) in
+        let l = body_left count_entries in
+        let t = entries_under s sound.nodes (body.tops b) tops_there in
+        let r = root_length in
+        omega (arith, a, l, t, r)
 
-      -- what it may fail by
-      pub body_exceeds : Exceeds s (body_begins b) → BodyIsTooLarge b
-      body_exceeds h =
-          let a = body_scopes_weigh in
-          let d = body_entries_weigh in
-          ⊎_elim (λ l. inl (omega (arith, a, l))) (λ l. inr (omega (arith, d, l))) h
+    -- what it may fail by
+    pub body_exceeds : Exceeds s (body_begins b) → BodyIsTooLarge b
+    body_exceeds h =
+        let a = body_scopes_weigh in
+        let d = body_entries_weigh in
+        ⊎_elim (λ l. inl (omega (arith, a, l))) (λ l. inr (omega (arith, d, l))) h
 
-      pub root_exceeds : limit < length (root_entries b) → BodyIsTooLarge b
-      root_exceeds h =
-          let r = root_length in
-          let t = entries_under s sound (body.tops b) there in
-          inr (omega (arith, r, t, h))
+    pub root_exceeds : limit < length (root_entries b) → BodyIsTooLarge b
+    root_exceeds h =
+        let r = root_length in
+        let t = entries_under s sound.nodes (body.tops b) tops_there in
+        inr (omega (arith, r, t, h))
 
 -- 3. Signatures
 
@@ -229,11 +223,7 @@ replicate_more zero x = refl
 replicate_more (suc n) x = ap (λ xs. x ∷ xs) (replicate_more n x)
 
 pub empty_in_root : (n : ℕ) → sum_by (λ (x : Scope). length x.entries) (replicate n scope_in_root) ≡ 0
-empty_in_root zero = refl
-empty_in_root (suc n) =
-    let a = sum_by-cons (λ (x : Scope). length x.entries) scope_in_root (replicate n scope_in_root) in
-    let r = empty_in_root n in
-    omega (arith, a, r)
+empty_in_root n = let r = sum_by-replicate (λ (x : Scope). length x.entries) n scope_in_root in omega (arith, r)
 
 -- one root more is to be met, in one scope more
 pub one_root_more : (old new : Machine) (roots : List ℕ) (root id first : ℕ) (entries : List ScopeEntry) → old ≡ roots_begin roots → id ≡ length old.scopes.scopes → first ≡ 0 → entries ≡ []
@@ -266,11 +256,7 @@ roots_full most roots old met entries is none less full =
     ⊎_elim (λ l. omega (arith, long, a, l, less)) (λ l. omega (arith, b, d, e, f, l)) full
 
 bound_roots : (s : Nodes) (roots : List ℕ) → sum_by (bound_by s) (map node.Expr roots) ≡ 0
-bound_roots s [] = refl
-bound_roots s (root ∷ roots) =
-    let a = sum_by-cons (bound_by s) (node.Expr root) (map node.Expr roots) in
-    let r = bound_roots s roots in
-    omega (arith, a, r)
+bound_roots s roots = sum_mapped (bound_by s) node.Expr roots ∙ sum_none (λ root. bound_by s (node.Expr root)) roots (λ root. refl)
 
 module _ (c : Contents) where
   abbrev t : Nodes
@@ -287,7 +273,10 @@ module _ (c : Contents) where
       let scopes = scopes_in_root (length roots) in
       signature_future t (chain_of scopes) (chain_of scopes 0) (chain_of scopes 0) roots (λ k l m. chain_in_root (length roots) k l m)
 
-  module _ (sound : IsSound t) (there : (n : NodeId) → In n (root_tops c) → Has t n) where
+  module _ (sound : IsSoundStore c) where
+    pub roots_in : (n : NodeId) → In n (root_tops c) → Has t n
+    roots_in n i = sound.there n (contains_in (root_tops c) n i)
+
     pub signature_ready : IsReady t (signature_begins c)
     signature_ready =
         let long = length-replicate (length roots) scope_in_root in
@@ -295,7 +284,7 @@ module _ (c : Contents) where
           here = omega arith;
           constant = omega arith;
           leaves = roots_leave (suc (length (replicate (length roots) scope_in_root))) roots (omega (arith, long));
-          known = subst (AreThere t) (sym (about_roots roots)) (all_there t (root_tops c) there);
+          known = subst (AreThere t) (sym (about_roots roots)) (there_all t (root_tops c) sound.there);
         }
 
     roots_left : (w : Frame → ℕ) → weight_left t w (root_tasks roots) ≡ sum_by (total t (λ n. sum_by w (node_frames t n))) (root_tops c)
@@ -310,7 +299,7 @@ module _ (c : Contents) where
         let long = length-replicate (length roots) scope_in_root in
         let same = length-map c.roots (λ r. r.node) in
         let l = roots_left one in
-        let u = scopes_total t sound (root_tops c) there in
+        let u = scopes_total t sound.nodes (root_tops c) roots_in in
         omega (arith, a, long, same, l, u)
 
     pub signature_entries_weigh : weight t count_entries (signature_begins c) ≡ signature_entry_count t (signature_nodes c)
@@ -319,7 +308,7 @@ module _ (c : Contents) where
         let d = sum_by-cons (λ (x : Scope). length x.entries) signature_root (replicate (length roots) scope_in_root) in
         let f = empty_in_root (length roots) in
         let l = roots_left count_entries in
-        let u = entries_under t sound (root_tops c) there in
+        let u = entries_under t sound.nodes (root_tops c) roots_in in
         let g = bound_roots t roots in
         omega (arith, a, d, f, l, u, g)
 

@@ -1,30 +1,188 @@
 -- How each task moves a walk on.
-use Rattle.std.proofs.Common.{◌≡◌, ℕ, ◌+◌, ◌<◌, ◌≤◌, List, [], ◌∷◌, ◌++◌, length, refl, sym, ap, ◌∙◌, Option, Some, None, subst, arith}
-use Rattle.std.specs.List.{sum_by}
-use Rattle.hir_node.specs.ChildCalls.{e, opt}
-use Rattle.hir_node.specs.declared.type_ref.TypeRef.{TypeRef}
-use Rattle.hir_node.specs.declared.type_ref.TypeRef.TheVariants as type
-use Rattle.hir_node.specs.declared.pat.Pat.{Pat}
+use Rattle.std.proofs.Common.{◌≡◌, ℕ, suc, ◌<◌, List, [], ◌∷◌, ◌++◌, Option, Some, None, length, map, refl, sym, subst, arith, Contains, ap, ◌∙◌, ◌+◌, ◌≤◌}
+use Rattle.std.specs.List.{All, flat_map, sum_by, slice_get}
+use Rattle.std.proofs.lemmas.List.Elements.{All-nil, All-cons}
+use Rattle.std.proofs.lemmas.List.Concat.{flat_map-append}
+use Rattle.std.proofs.lemmas.List.Sorted.{IsPermutation-sym, Contains-permutation}
+use Rattle.hir_node.specs.ChildCalls.{Call, OnLifetime, e, p, t, opt, kid, kids}
+use Rattle.hir_node.specs.declared.expr_types.Item.TheVariants as item
+use Rattle.hir_node.specs.declared.expr_types.MatchArm.{MatchArm}
+use Rattle.hir_node.specs.declared.expr_types.Statement.{Statement}
+use Rattle.hir_node.specs.declared.expr_types.Statement.TheVariants as statement
 use Rattle.hir_node.specs.declared.node_id.NodeId.{NodeId}
 use Rattle.hir_node.specs.declared.node_id.NodeId.TheVariants as node
-use Rattle.std.specs.List.{slice_get}
-use Rattle.hir_faults.specs.Nodes.{Nodes}
+use Rattle.hir_faults.specs.Nodes.{Nodes, Has, kids_of}
 use Rattle.hir_faults.specs.Down.{KidsFall}
-use Rattle.hir_scope.specs.declared.scope.ScopeKind.TheVariants as kind
+use Rattle.hir_scope.specs.Order.{met_in_closure, met_in_form, met_in_arm}
 use Rattle.hir_scope.specs.declared.tasks.Around.{Around}
 use Rattle.hir_scope.specs.declared.tasks.Task.{Task}
 use Rattle.hir_scope.specs.declared.tasks.Task.TheVariants as task
-use Rattle.hir_scope.specs.Frames.{Frame, Chain, frame, of_kind}
-use Rattle.hir_scope.specs.Forms.{ScopingForm, form_at, form_of, pat_form, type_form}
+use Rattle.hir_scope.specs.Forms.{ScopingForm, form_of, form_at, pat_form, type_form}
 use Rattle.hir_scope.specs.Forms as form
-use Rattle.hir_scope.specs.walk.PlacesUnder.{place}
+use Rattle.hir_scope.specs.Slots.{slots, slots_of_form}
+use Rattle.hir_scope.specs.walk.Pending.{tasks_of, arm_task, one_arm, guarded_task, statement_tasks, form_tasks, task_kids, leave, opens_here, opens_constant, future, arm_with, task_frames}
+use Rattle.hir_scope.specs.walk.Machine.{about, AreThere, LeavesWithin, Machine, chain_of, IsReady, total, left, node_frames, weight_left, node_turns, task_turns, turns_left, Opened, Moves}
+use Rattle.hir_scope.proofs.KidLemmas.{kids_of_form, kids_in, slots_kids, about_form}
+use Rattle.hir_scope.specs.Frames.{Chain, frame, Frame, of_kind}
+use Rattle.hir_scope.specs.Leak.{leak, leak_of_form}
+use Rattle.hir_scope.specs.Chains.{Place, place_kid}
+use Rattle.hir_scope.specs.walk.PlacesUnder.{place, exprs_under}
+use Rattle.hir_scope.proofs.FutureLemmas.{future_form, turn_ended, future_arm_task}
+use Rattle.hir_scope.proofs.UnderLemmas.{leak_at, exprs_under_expr, exprs_under_pat, exprs_under_type}
+use Rattle.hir_node.specs.declared.type_ref.TypeRef.{TypeRef}
+use Rattle.hir_node.specs.declared.type_ref.TypeRef.TheVariants as type
+use Rattle.hir_node.specs.declared.pat.Pat.{Pat}
+use Rattle.hir_scope.specs.declared.scope.ScopeKind.TheVariants as kind
 use Rattle.hir_scope.specs.Scopes.{Scopes}
-use Rattle.hir_scope.specs.walk.Pending.{tasks_of, guarded_task, arm_with, leave, form_tasks, opens_here, opens_constant, future, task_kids, task_frames}
-use Rattle.hir_scope.specs.walk.Machine.{Machine, chain_of, about, AreThere, LeavesWithin, IsReady, total, left, node_frames, weight_left, node_turns, task_turns, turns_left, Opened, Moves}
-use Rattle.hir_scope.proofs.ReadyLemmas.{known_met, leaves_met}
 use Rattle.hir_scope.proofs.WeightLemmas.{left_cons, weight_met, turns_met}
-use Rattle.hir_scope.proofs.MetLemmas.{for_constants, future_expr, future_pat, future_type, future_arm}
 use Rattle.hir_scope.proofs.MovingLemmas.{at, opened_none, moves_opened, moves_still}
+
+-- 1. What the tasks of a node name is there: the node's kids, and the scopes that are taken back.
+
+-- Nodes
+
+module _ (s : Nodes) where
+  pub there_all : (ns : List NodeId) → ((k : NodeId) → Contains ns k → Has s k) → AreThere s ns
+  there_all [] h = tt
+  there_all (n ∷ ns) h = (h n (0, omega arith, refl), there_all ns (λ k m. h k (suc m.0, omega (arith, m.1), m.2)))
+
+  pub there_join : (ns ms : List NodeId) → AreThere s ns → AreThere s ms → AreThere s (ns ++ ms)
+  there_join [] ms h k = k
+  there_join (n ∷ ns) ms h k = (h.0, there_join ns ms h.1 k)
+
+  pub there_parts : (ns ms : List NodeId) → AreThere s (ns ++ ms) → AreThere s ns × AreThere s ms
+  there_parts [] ms h = (tt, h)
+  there_parts (n ∷ ns) ms h = let r = there_parts ns ms h.1 in ((h.0, r.0), r.1)
+
+  -- the kids of a node that is there
+  pub kids_there : KidsFall s → (n : NodeId) → Has s n → AreThere s (kids (met_in_form (form_of s n)))
+  unfolding slots
+  kids_there fall n h =
+      subst (AreThere s) (kids_of_form s (form_of s n))
+      (there_all (kids_in (slots s n)) (λ k m. fall.there n h k
+      (Contains-permutation (kids_in (slots s n)) (kids_of s n) k (IsPermutation-sym (kids_of s n) (kids_in (slots s n)) (slots_kids s n)) m)))
+
+  pats_there : (ps : List ℕ) → AreThere s (kids (flat_map p ps)) → AreThere s (map node.Pat ps)
+  pats_there [] h = tt
+  pats_there (x ∷ ps) h = (h.0, pats_there ps h.1)
+
+  pub all_there : (ps : List ℕ) → AreThere s (map node.Pat ps) → All (λ p. p < length s.pats) ps
+  all_there [] h = All-nil (λ p. p < length s.pats)
+  all_there (x ∷ ps) h = All-cons (λ p. p < length s.pats) x ps h.0 (all_there ps h.1)
+
+  -- the patterns that a closure binds
+  pub closure_pats : KidsFall s → (n : NodeId) (types : List (Option ℕ)) (ret : Option ℕ) (args : List ℕ) (body : ℕ) → Has s n → form_of s n ≡ form.Closure types ret args body → AreThere s (map node.Pat args)
+  closure_pats fall n types ret args body h q =
+      let first = flat_map (opt t) types ++ opt t ret in
+      let all : AreThere s (kids (met_in_closure types ret args body)) = subst (λ (x : ScopingForm). AreThere s (kids (met_in_form x))) q (kids_there fall n h) in
+      let last = (there_parts (kids first) (kids (flat_map p args ++ e body)) (subst (AreThere s) (flat_map-append kid first (flat_map p args ++ e body)) all)).1 in
+      pats_there args (there_parts (kids (flat_map p args)) (kids (e body)) (subst (AreThere s) (flat_map-append kid (flat_map p args) (e body)) last)).0
+
+  -- the pattern that is assigned to
+  pub target_pat : KidsFall s → (n : NodeId) (target value : ℕ) → Has s n → form_of s n ≡ form.Assignment target value → AreThere s (map node.Pat (target ∷ []))
+  target_pat fall n target value h q =
+      let all : AreThere s (kids (met_in_form (form.Assignment target value))) = subst (λ (x : ScopingForm). AreThere s (kids (met_in_form x))) q (kids_there fall n h) in
+      (all.0, tt)
+
+  -- what is inside a node, and then what was known before
+  pub known_met : KidsFall s → (a : Around) (n : NodeId) (ts : List Task) → Has s n → AreThere s (about ts) → AreThere s (about (form_tasks a (form_of s n) ++ ts))
+  known_met fall a n ts h k =
+      subst (AreThere s) (sym (flat_map-append task_kids (form_tasks a (form_of s n)) ts))
+      (there_join (about (form_tasks a (form_of s n))) (about ts) (subst (AreThere s) (sym (about_form a (form_of s n))) (kids_there fall n h)) k)
+
+-- Scopes that are taken back
+
+module _ (n : ℕ) where
+  leaves_join : (us ts : List Task) → LeavesWithin n us → LeavesWithin n ts → LeavesWithin n (us ++ ts)
+  leaves_join [] ts h l = l
+  leaves_join (task.Leave a b ∷ us) ts h l = (h.0, h.1, leaves_join us ts h.2 l)
+  leaves_join (_ ∷ us) ts h l = leaves_join us ts h l
+
+  pub leaves_calls : (cs : List Call) (ts : List Task) → LeavesWithin n ts → LeavesWithin n (tasks_of cs ++ ts)
+  leaves_calls [] ts l = l
+  leaves_calls (OnLifetime x ∷ cs) ts l = leaves_calls cs ts l
+  leaves_calls (_ ∷ cs) ts l = leaves_calls cs ts l
+
+  leaves_statement : (x : Statement) → LeavesWithin n (statement_tasks x)
+  leaves_statement (statement.Let pat ty x y) = leaves_calls (opt t ty ++ opt e x ++ opt e y) (task.Bound pat ∷ []) tt
+  leaves_statement (statement.Expr x semi) = tt
+  leaves_statement (statement.Item (item.MacroDef id)) = tt
+  leaves_statement (statement.Item item.Other) = tt
+
+  leaves_statements : (xs : List Statement) → LeavesWithin n (flat_map statement_tasks xs)
+  leaves_statements [] = tt
+  leaves_statements (x ∷ xs) = leaves_join (statement_tasks x) (flat_map statement_tasks xs) (leaves_statement x) (leaves_statements xs)
+
+  leaves_arm : (pat expr : ℕ) (guard : Option ℕ) (ts : List Task) → LeavesWithin n ts → LeavesWithin n (guarded_task pat expr guard ∷ ts)
+  leaves_arm pat expr None ts l = l
+  leaves_arm pat expr (Some guard) ts l = l
+
+  leaves_arms : (arms : List MatchArm) (ts : List Task) → LeavesWithin n ts → LeavesWithin n (flat_map one_arm arms ++ ts)
+  leaves_arms [] ts l = l
+  leaves_arms (arm ∷ arms) ts l = leaves_arm arm.pat arm.expr arm.guard (flat_map one_arm arms ++ ts) (leaves_arms arms ts l)
+
+  pub leaves_met : (a : Around) (x : ScopingForm) (ts : List Task) → a.here < n → a.constant < n → LeavesWithin n ts → LeavesWithin n (form_tasks a x ++ ts)
+  leaves_met a (form.If c y f) ts h k l = (h, k, leaves_calls (opt e f) ts l)
+  leaves_met a (form.Let pat x) ts h k l = l
+  leaves_met a (form.Block id label xs tail) ts h k l =
+      leaves_join (form_tasks a (form.Block id label xs tail)) ts
+      (leaves_join (flat_map statement_tasks xs) (tasks_of (opt e tail) ++ leave a ∷ []) (leaves_statements xs) (leaves_calls (opt e tail) (leave a ∷ []) (h, k, tt))) l
+  leaves_met a (form.Loop label body) ts h k l = (h, k, l)
+  leaves_met a (form.Closure types ret args body) ts h k l =
+      leaves_join (form_tasks a (form.Closure types ret args body)) ts (leaves_calls (met_in_closure types ret args body) (leave a ∷ []) (h, k, tt)) l
+  leaves_met a (form.Match x arms) ts h k l = leaves_arms arms ts l
+  leaves_met a (form.Assignment target value) ts h k l = (h, k, l)
+  leaves_met a (form.PatternType ty pat) ts h k l = (h, k, l)
+  leaves_met a (form.InTurn cs) ts h k l = leaves_calls cs ts l
+
+-- 2. A task that is done leaves what is still to do as it was, less the expression that is met.
+
+-- the scope of constants is around what is in it
+abbrev pub for_constants : Around → Around
+for_constants a = record { here = a.constant; constant = a.constant }
+
+module _ (s : Nodes) (fall : KidsFall s) (chain : ℕ → Chain) where
+  -- an expression is met, and then what is inside it
+  pub future_expr : (a : Around) (id : ℕ) (x : ScopingForm) (ts : List Task) → Has s (node.Expr id) → form_of s (node.Expr id) ≡ x → let h = chain a.here in let k = chain a.constant in future s chain h k (task.Expr id ∷ ts) ≡ place (node.Expr id) h k ∷ future s chain (opens_here s x ++ h) (opens_constant x ++ k) (form_tasks a x ++ ts)
+  unfolding future
+  future_expr a id x ts there is =
+      let h = chain a.here in
+      let k = chain a.constant in
+      ap (λ (ps : List Place). ps ++ future s chain (leak s (node.Expr id) ++ h) k ts) (exprs_under_expr s fall id h k there)
+      ∙ ap (λ (ps : List Place). place (node.Expr id) h k ∷ ps)
+      (ap (λ (c : Chain). exprs_under s (map (place_kid h k) (slots_of_form s (form_of s (node.Expr id)))) ++ future s chain (c ++ h) k ts) (leak_at s fall (node.Expr id) there)
+      ∙ (ap (λ (y : ScopingForm). exprs_under s (map (place_kid h k) (slots_of_form s y)) ++ future s chain (leak_of_form s (leak s) y ++ h) k ts) is
+      ∙ future_form s chain a x ts))
+
+  -- a pattern is what is inside it
+  pub future_pat : (a : Around) (id : ℕ) (x : ScopingForm) (ts : List Task) → Has s (node.Pat id) → form_of s (node.Pat id) ≡ x → let h = chain a.here in let k = chain a.constant in future s chain h k (task.Pat id ∷ ts) ≡ future s chain (opens_here s x ++ h) (opens_constant x ++ k) (form_tasks a x ++ ts)
+  unfolding future
+  future_pat a id x ts there is =
+      let h = chain a.here in
+      let k = chain a.constant in
+      ap (λ (ps : List Place). ps ++ future s chain (leak s (node.Pat id) ++ h) k ts) (exprs_under_pat s fall id h k there)
+      ∙ (ap (λ (c : Chain). exprs_under s (map (place_kid h k) (slots_of_form s (form_of s (node.Pat id)))) ++ future s chain (c ++ h) k ts) (leak_at s fall (node.Pat id) there)
+      ∙ (ap (λ (y : ScopingForm). exprs_under s (map (place_kid h k) (slots_of_form s y)) ++ future s chain (leak_of_form s (leak s) y ++ h) k ts) is
+      ∙ future_form s chain a x ts))
+
+  -- a type stands in the scope of constants
+  pub future_type : (a : Around) (id : ℕ) (x : ScopingForm) (ts : List Task) → Has s (node.TypeRef id) → form_of s (node.TypeRef id) ≡ x → let h = chain a.here in let k = chain a.constant in future s chain h k (task.TypeRef id ∷ ts) ≡ future s chain (opens_here s x ++ k) (opens_constant x ++ k) (form_tasks (for_constants a) x ++ (leave a ∷ ts))
+  unfolding future
+  future_type a id x ts there is =
+      let h = chain a.here in
+      let k = chain a.constant in
+      ap (λ (ps : List Place). ps ++ future s chain h k ts) (exprs_under_type s fall id k k there)
+      ∙ (ap (λ (y : ScopingForm). exprs_under s (map (place_kid k k) (slots_of_form s y)) ++ future s chain h k ts) is
+      ∙ future_form s chain (for_constants a) x (leave a ∷ ts))
+
+  -- an arm is met in the frame of its pattern, which ends with it
+  pub future_arm : (a : Around) (arm : MatchArm) (ts : List Task) → let h = chain a.here in let k = chain a.constant in future s chain h k (arm_task arm ∷ ts) ≡ future s chain (frame s (arm.pat ∷ []) ∷ h) k ((tasks_of (met_in_arm arm) ++ leave a ∷ []) ++ ts)
+  unfolding future
+  future_arm a arm ts =
+      future_arm_task s chain (chain a.here) (chain a.constant) arm.pat arm.expr arm.guard ts
+      ∙ turn_ended s chain (chain a.here) (chain a.constant) [] (frame s (arm.pat ∷ []) ∷ []) (met_in_arm arm) a ts refl refl
+
+-- 3. How each task moves a walk on.
 
 module _ (s : Nodes) where
   abbrev frame_weight : (Frame → ℕ) → Task → ℕ
@@ -40,7 +198,7 @@ module _ (s : Nodes) where
   turns_cons : (t : Task) (ts : List Task) → turns_left s (t ∷ ts) ≡ task_turns t + (sum_by (total s (node_turns s)) (task_kids t) + turns_left s ts)
   turns_cons t ts = left_cons s (node_turns s) task_turns t ts
 
-  -- 1. Nodes
+  -- Nodes
 
   module _ (fall : KidsFall s) where
     pub met_frames : (a : Around) (id : ℕ) (ts : List Task) → AreThere s (about (task.Expr id ∷ ts)) → (w : Frame → ℕ) →
@@ -144,7 +302,7 @@ module _ (s : Nodes) where
         let q = ap (turns_left s) e in
         omega (arith, m, c, l, q))
 
-  -- 2. Other tasks
+  -- Other tasks
 
   pub constant_moves : (S : Scopes) (a : Around) (id : ℕ) (ts us : List Task) → us ≡ task.Expr id ∷ leave a ∷ ts →
       IsReady s (at S a (task.Constant id ∷ ts)) → Moves s (at S a (task.Constant id ∷ ts)) (at S (for_constants a) us) []

@@ -1,13 +1,12 @@
 -- Each entry is in one frame: what is told of entries over all nodes under a node is what its frames hold, and, of a pattern, what it binds.
-use Rattle.std.proofs.Common.{◌≡◌, ℕ, zero, suc, ◌+◌, ◌<◌, List, [], ◌∷◌, ◌++◌, length, refl, sym, ap, ◌∙◌, arith, subst, inl, inr, ⊎_elim, Option, Some, None, true, length-append}
+use Rattle.std.proofs.Common.{◌≡◌, ℕ, zero, suc, ◌+◌, ◌<◌, List, [], ◌∷◌, ◌++◌, length, refl, sym, ap, ◌∙◌, arith, subst, ⊎_elim, Option, Some, None, true, length-append}
 use Rattle.std.specs.List.{flat_map, slice_get, sum_by, list_all}
 use Rattle.std.specs.Prelude.{nat_lt}
 use Rattle.std.specs.Cmp.{first_so, second_so}
 use Rattle.std.proofs.lemmas.Bool.{ltb-true}
-use Rattle.std.proofs.lemmas.List.Sums.{sum_by-cons}
 use Rattle.std.proofs.lemmas.List.Concat.{length-flat_map}
 use Rattle.std.proofs.lemmas.List.Sorted.{sum_by-IsPermutation}
-use Rattle.hir_node.specs.ChildCalls.{Call, OnExpr, OnAnonConst, OnPat, OnType, OnLifetime, kids, pat_of_call, pat_calls}
+use Rattle.hir_node.specs.ChildCalls.{Call, OnLifetime, kid, kids, pat_of_call, pat_calls}
 use Rattle.hir_node.specs.OtherIds.{pat_bindings}
 use Rattle.hir_node.specs.declared.binding.Binding.{Binding}
 use Rattle.hir_node.specs.declared.expr.Expr.{Expr}
@@ -22,19 +21,15 @@ use Rattle.hir_faults.specs.Tested.{all_of, tested_pat}
 use Rattle.hir_expr_store.specs.PatLists.{pats, bindings_at, bindings_in, child_pats_of}
 use Rattle.hir_scope.specs.Counts.{node_entries}
 use Rattle.hir_scope.specs.Frames.{entry_at, entry_of, binds}
-use Rattle.hir_scope.specs.Forms.{ScopingForm, form_at, form_of, expr_form, pat_form, type_form}
-use Rattle.hir_scope.specs.Forms as form
+use Rattle.hir_scope.specs.Forms.{form_at, form_of, expr_form, pat_form, type_form}
 use Rattle.hir_scope.specs.walk.Machine.{about, count_entries, total, node_frames}
 use Rattle.hir_scope.specs.walk.Pending.{form_tasks}
 use Rattle.hir_scope.specs.Slots.{slots}
 use Rattle.hir_scope.specs.declared.tasks.Around.{Around}
 use Rattle.hir_scope.proofs.CountLemmas.{MeetsNone, expr_meets, type_meets, bound_by, form_entries, turn_entries, form_frames}
-use Rattle.hir_scope.proofs.KidLemmas.{kids_of_form}
-use Rattle.hir_scope.proofs.MemberLemmas.{In, contains_in, flat_map_in}
-use Rattle.hir_scope.proofs.SlotLemmas.{kids_in, slots_kids}
-use Rattle.hir_scope.proofs.SumLemmas.{sum_same, sum_plus}
-use Rattle.hir_scope.proofs.TaskLemmas.{about_form}
-use Rattle.hir_scope.proofs.TotalLemmas.{total_at}
+use Rattle.hir_scope.proofs.KidLemmas.{kids_of_form, kids_in, slots_kids, about_form}
+use Rattle.hir_scope.proofs.MemberLemmas.{In, contains_in, flat_map_in, read, sum_flat, sum_same, sum_plus, sum_ones}
+use Rattle.hir_scope.proofs.WeightLemmas.{total_at}
 
 -- 1. Each binding of a pattern is there, and is one entry
 
@@ -52,26 +47,13 @@ binding_known s sound id b = at (slice_get s.pats id) refl where
   at None e i = absurd i
   at (Some x) e i = all_below (length s.bindings) (pat_bindings x) (second_so _ _ (first_so _ _ (sound id x e).there)) b i
 
-read : {X : Type 0} (xs : List X) (i : ℕ) → i < length xs → (x : X) × (slice_get xs i ≡ Some x)
-read [] i h = absurd (omega (arith, h))
-read (x ∷ xs) zero h = (x, refl)
-read (x ∷ xs) (suc i) h = read xs i (omega (arith, h))
-
 pub one_entry : (s : Nodes) (b : ℕ) → b < length s.bindings → length (entry_at s b) ≡ 1
 one_entry s b h = let x = read s.bindings b h in ap (λ (o : Option Binding). length (all_of (λ (y : Binding). entry_of b y ∷ []) o)) x.1
-
-each_one : {X : Type 0} (f : X → ℕ) (xs : List X) → ((x : X) → In x xs → f x ≡ 1) → sum_by f xs ≡ length xs
-each_one f [] h = refl
-each_one f (x ∷ xs) h =
-    let a = sum_by-cons f x xs in
-    let b = h x (inl refl) in
-    let r = each_one f xs (λ y i. h y (inr i)) in
-    omega (arith, a, b, r)
 
 binds_length : (s : Nodes) → PatsSound s → (id : ℕ) → length (binds s id) ≡ length (bindings_in s id)
 binds_length s sound id =
     length-flat_map (entry_at s) (bindings_in s id)
-    ∙ each_one (λ b. length (entry_at s b)) (bindings_in s id) (λ b i.
+    ∙ sum_ones (λ b. length (entry_at s b)) (bindings_in s id) (λ b i.
     let q = flat_map_in (bindings_at s) b (pats s id) i in
     one_entry s b (binding_known s sound q.0 b q.2))
 
@@ -82,9 +64,6 @@ no_around = record { here = 0; constant = 0 }
 
 abbrev pub entries_of_node : Nodes → NodeId → ℕ
 entries_of_node s n = sum_by count_entries (node_frames s n)
-
-none_meets : MeetsNone (form.InTurn [])
-none_meets = refl
 
 module _ (s : Nodes) (fall : KidsFall s) where
   -- over the kids of a node, or those that its tasks are about
@@ -97,26 +76,25 @@ module _ (s : Nodes) (fall : KidsFall s) where
   expr_meets_at : (id : ℕ) → MeetsNone (form_of s (node.Expr id))
   expr_meets_at id = at (slice_get s.exprs id) where
     at : (o : Option Expr) → MeetsNone (form_at expr_form o)
-    at None = none_meets
+    at None = refl
     at (Some x) = expr_meets x
 
   type_meets_at : (id : ℕ) → MeetsNone (form_of s (node.TypeRef id))
   type_meets_at id = at (slice_get s.types id) where
     at : (o : Option TypeRef) → MeetsNone (form_at type_form o)
-    at None = none_meets
+    at None = refl
     at (Some x) = type_meets x
 
   -- over calls, what their patterns bind
+  call_bound : (c : Call) → sum_by (bound_by s) (kid c) ≡ sum_by (λ q. length (binds s q)) (pat_of_call c)
+  call_bound (OnLifetime x) = refl
+  call_bound _ = refl
+
   calls_bound : (cs : List Call) → sum_by (bound_by s) (kids cs) ≡ sum_by (λ q. length (binds s q)) (flat_map pat_of_call cs)
-  calls_bound [] = refl
-  calls_bound (OnExpr x ∷ cs) = let r = calls_bound cs in sum_by-cons (bound_by s) (node.Expr x) (kids cs) ∙ omega (arith, r)
-  calls_bound (OnAnonConst x ∷ cs) = let r = calls_bound cs in sum_by-cons (bound_by s) (node.Expr x) (kids cs) ∙ omega (arith, r)
-  calls_bound (OnPat x ∷ cs) =
-      let r = calls_bound cs in
-      let b = sum_by-cons (λ q. length (binds s q)) x (flat_map pat_of_call cs) in
-      sum_by-cons (bound_by s) (node.Pat x) (kids cs) ∙ omega (arith, r, b)
-  calls_bound (OnType x ∷ cs) = let r = calls_bound cs in sum_by-cons (bound_by s) (node.TypeRef x) (kids cs) ∙ omega (arith, r)
-  calls_bound (OnLifetime x ∷ cs) = calls_bound cs
+  calls_bound cs =
+      sum_flat (bound_by s) kid cs
+      ∙ (sum_same (λ c. sum_by (bound_by s) (kid c)) (λ c. sum_by (λ q. length (binds s q)) (pat_of_call c)) cs (λ c i. call_bound c)
+      ∙ sym (sum_flat (λ q. length (binds s q)) pat_of_call cs))
 
   pat_empty : (id : ℕ) → entries_of_node s (node.Pat id) ≡ 0
   pat_empty id = at (slice_get s.pats id) where

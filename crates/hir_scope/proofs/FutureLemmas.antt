@@ -1,27 +1,35 @@
--- What is still to do before a task is what it does, and then what is still to do after it.
-use Rattle.std.proofs.Common.{◌≡◌, ℕ, List, [], ◌∷◌, ◌++◌, map, refl, sym, ap, ◌∙◌, append_assoc, Option, Some, None}
+-- What tasks will meet: of a form, and of the tops of a body or a signature.
+use Rattle.std.proofs.Common.{◌≡◌, ℕ, List, [], ◌∷◌, ◌++◌, map, refl, sym, ap, ◌∙◌, append_assoc, Option, Some, None, suc, ◌<◌, ◌≤◌, length, arith}
 use Rattle.std.specs.List.{flat_map}
 use Rattle.std.proofs.lemmas.List.{append-nil, map-append}
 use Rattle.std.proofs.lemmas.List.Concat.{flat_map-append}
 use Rattle.std.proofs.lemmas.List.Elements.{filter-append}
-use Rattle.hir_node.specs.ChildCalls.{Call, OnExpr, OnAnonConst, OnPat, OnType, OnLifetime, e, p, t, opt}
+use Rattle.hir_node.specs.ChildCalls.{Call, OnExpr, OnAnonConst, OnPat, OnType, OnLifetime, e, p, t, opt, kids}
 use Rattle.hir_node.specs.declared.expr_types.Item.TheVariants as item
 use Rattle.hir_node.specs.declared.expr_types.MatchArm.{MatchArm}
 use Rattle.hir_node.specs.declared.expr_types.Statement.{Statement}
 use Rattle.hir_node.specs.declared.expr_types.Statement.TheVariants as statement
 use Rattle.hir_node.specs.declared.node_id.NodeId.TheVariants as node
 use Rattle.hir_faults.specs.Nodes.{Nodes}
+use Rattle.hir_scope.specs.Order.{met_in_arm, met_in_closure}
 use Rattle.hir_scope.specs.declared.tasks.Around.{Around}
 use Rattle.hir_scope.specs.declared.tasks.Task.{Task}
 use Rattle.hir_scope.specs.declared.tasks.Task.TheVariants as task
 use Rattle.hir_scope.specs.Frames.{Frame, Chain, frame, of_kind, empty}
-use Rattle.hir_scope.specs.Forms.{ScopingForm, form_of}
+use Rattle.hir_scope.specs.Forms.{ScopingForm}
 use Rattle.hir_scope.specs.Forms as form
 use Rattle.hir_scope.specs.Leak.{leak, leaks, leak_of_form}
-use Rattle.hir_scope.specs.Slots.{Slot, call_slot, in_turn, own_frame, block_constants, made, made_for_constants, statement_slots, block_slots, arm_slots, loop_kind, slots_of_form, slots}
+use Rattle.hir_scope.specs.Slots.{Slot, call_slot, in_turn, own_frame, block_constants, frames_behind, constants_behind, statement_slots, block_slots, arm_slots, loop_kind, slots_of_form}
 use Rattle.hir_scope.specs.Chains.{Place, place_kid}
 use Rattle.hir_scope.specs.walk.PlacesUnder.{place, exprs_under}
-use Rattle.hir_scope.specs.walk.Pending.{tasks_of, arm_task, arm_with, leave, statement_tasks, closure_calls, form_tasks, opens_here, opens_constant, future, arm_calls}
+use Rattle.hir_scope.specs.walk.Pending.{tasks_of, arm_task, one_arm, arm_with, leave, statement_tasks, form_tasks, opens_here, opens_constant, future}
+use Rattle.std.specs.Option.{option_to_list, option_map}
+use Rattle.hir_node.specs.declared.node_id.NodeId.{NodeId}
+use Rattle.hir_scope.specs.Tops.{root_frame, body_tops, signature_tops}
+use Rattle.hir_scope.specs.walk.Begins.{root_tasks}
+use Rattle.hir_scope.proofs.KidLemmas.{kids_in, turn_kids}
+
+-- 1. What is still to do before a task is what it does, and then what is still to do after it.
 
 pub exprs_under-nil : (s : Nodes) → exprs_under s [] ≡ []
 unfolding exprs_under
@@ -126,14 +134,14 @@ module _ (s : Nodes) (chain : ℕ → Chain) where
   future_arm_task h k pat expr None ts = refl
   future_arm_task h k pat expr (Some guard) ts = refl
 
-  future_arms : (h k outer : Chain) (arms : List MatchArm) (ts : List Task) → exprs_under s (map (place_kid h k) (flat_map (arm_slots s outer) arms)) ++ future s chain (outer ++ h) k ts ≡ future s chain (outer ++ h) k (map arm_task arms ++ ts)
+  future_arms : (h k outer : Chain) (arms : List MatchArm) (ts : List Task) → exprs_under s (map (place_kid h k) (flat_map (arm_slots s outer) arms)) ++ future s chain (outer ++ h) k ts ≡ future s chain (outer ++ h) k (flat_map one_arm arms ++ ts)
   unfolding future
   future_arms h k outer [] ts = none _
   future_arms h k outer (arm ∷ arms) ts =
       two h k (arm_slots s outer arm) (flat_map (arm_slots s outer) arms) _
       ∙ (ap (λ (ps : List Place). exprs_under s (map (place_kid h k) (arm_slots s outer arm)) ++ ps) (future_arms h k outer arms ts)
-      ∙ (ap (λ (ps : List Place). exprs_under s ps ++ future s chain (outer ++ h) k (map arm_task arms ++ ts)) (moved h k [] outer (frame s (arm.pat ∷ []) ∷ []) (arm_calls arm))
-      ∙ sym (future_arm_task (outer ++ h) k arm.pat arm.expr arm.guard (map arm_task arms ++ ts))))
+      ∙ (ap (λ (ps : List Place). exprs_under s ps ++ future s chain (outer ++ h) k (flat_map one_arm arms ++ ts)) (moved h k [] outer (frame s (arm.pat ∷ []) ∷ []) (met_in_arm arm))
+      ∙ sym (future_arm_task (outer ++ h) k arm.pat arm.expr arm.guard (flat_map one_arm arms ++ ts))))
 
   -- a type leaks nothing
   leaks_let : (ty x y : Option ℕ) → leaks (leak s) (opt t ty ++ opt e x ++ opt e y) ≡ leaks (leak s) (opt e x ++ opt e y)
@@ -143,7 +151,7 @@ module _ (s : Nodes) (chain : ℕ → Chain) where
   let_chain : (l : Chain) (f : Frame) (c a h : Chain) → ((l ++ (f ∷ c)) ++ a) ++ h ≡ l ++ (f ∷ ((c ++ a) ++ h))
   let_chain l f c a h = ap (λ (x : Chain). x ++ h) (append_assoc l (f ∷ c) a) ∙ append_assoc l (f ∷ (c ++ a)) h
 
-  future_statement : (h k constants add : Chain) (x : Statement) (ts : List Task) → exprs_under s (map (place_kid h k) (statement_slots s constants add x)) ++ future s chain ((made s x ++ add) ++ h) ((made_for_constants x ++ constants) ++ k) ts ≡ future s chain (add ++ h) (constants ++ k) (statement_tasks x ++ ts)
+  future_statement : (h k constants add : Chain) (x : Statement) (ts : List Task) → exprs_under s (map (place_kid h k) (statement_slots s constants add x)) ++ future s chain ((frames_behind s x ++ add) ++ h) ((constants_behind x ++ constants) ++ k) ts ≡ future s chain (add ++ h) (constants ++ k) (statement_tasks x ++ ts)
   unfolding future
   future_statement h k constants add (statement.Let pat ty x y) ts =
       let cs = opt t ty ++ opt e x ++ opt e y in
@@ -164,8 +172,8 @@ module _ (s : Nodes) (chain : ℕ → Chain) where
   future_block h k constants add a [] tail ts eh ek = turn_ended h k constants add (opt e tail) a ts eh ek
   future_block h k constants add a (x ∷ xs) tail ts eh ek =
       let X = tasks_of (opt e tail) ++ leave a ∷ [] in
-      two h k (statement_slots s constants add x) (block_slots s (made_for_constants x ++ constants) (made s x ++ add) xs tail) _
-      ∙ (ap (λ (ps : List Place). exprs_under s (map (place_kid h k) (statement_slots s constants add x)) ++ ps) (future_block h k (made_for_constants x ++ constants) (made s x ++ add) a xs tail ts eh ek)
+      two h k (statement_slots s constants add x) (block_slots s (constants_behind x ++ constants) (frames_behind s x ++ add) xs tail) _
+      ∙ (ap (λ (ps : List Place). exprs_under s (map (place_kid h k) (statement_slots s constants add x)) ++ ps) (future_block h k (constants_behind x ++ constants) (frames_behind s x ++ add) a xs tail ts eh ek)
       ∙ (future_statement h k constants add x ((flat_map statement_tasks xs ++ X) ++ ts)
       ∙ ap (λ (us : List Task). future s chain (add ++ h) (constants ++ k) us) (sym (append_assoc (statement_tasks x) (flat_map statement_tasks xs ++ X) ts) ∙ ap (λ (us : List Task). us ++ ts) (sym (append_assoc (statement_tasks x) (flat_map statement_tasks xs) X)))))
 
@@ -201,7 +209,7 @@ module _ (s : Nodes) (chain : ℕ → Chain) where
       let h = chain a.here in
       let k = chain a.constant in
       ap (λ (ss : List Slot). exprs_under s (map (place_kid h k) ss) ++ future s chain h k ts) (closure_turn (frame s args ∷ []) types ret (flat_map p args ++ e body))
-      ∙ turn_ended h k [] (frame s args ∷ []) (closure_calls types ret args body) a ts refl refl
+      ∙ turn_ended h k [] (frame s args ∷ []) (met_in_closure types ret args body) a ts refl refl
   future_form a (form.Match x arms) ts =
       let h = chain a.here in
       let k = chain a.constant in
@@ -217,3 +225,51 @@ module _ (s : Nodes) (chain : ℕ → Chain) where
       let k = chain a.constant in
       head (place (node.TypeRef ty) k k) (place (node.Pat pat) (frame s (pat ∷ []) ∷ h) k ∷ []) _
   future_form a (form.InTurn cs) ts = turn_bare (chain a.here) (chain a.constant) cs ts
+
+-- 2. The tops of a body and of a signature: which nodes they are, and that the tasks of a walk over them meet what is under them.
+
+nodes_of_placed : (h k : Chain) (xs : List Slot) → map (λ (at : Place). at.node) (map (place_kid h k) xs) ≡ kids_in xs
+nodes_of_placed h k [] = refl
+nodes_of_placed h k (x ∷ xs) = ap (λ (ns : List NodeId). x.kid ∷ ns) (nodes_of_placed h k xs)
+
+pub top_kids : (formals : List ℕ) (last : Option ℕ) → kids (flat_map p formals ++ opt e last) ≡ map node.Pat formals ++ option_to_list (option_map node.Expr last)
+top_kids [] None = refl
+top_kids [] (Some root) = refl
+top_kids (x ∷ formals) last = ap (λ (ns : List NodeId). node.Pat x ∷ ns) (top_kids formals last)
+
+-- Bodies
+
+pub body_top_nodes : (s : Nodes) (self : Option ℕ) (formals : List ℕ) (last : Option ℕ) → map (λ (at : Place). at.node) (body_tops s self formals last) ≡ map node.Pat formals ++ option_to_list (option_map node.Expr last)
+unfolding body_tops
+body_top_nodes s self formals last =
+    let root = root_frame s self formals ∷ [] in
+    let cs = flat_map p formals ++ opt e last in
+    nodes_of_placed [] [] (in_turn s root root cs) ∙ (turn_kids s root root cs ∙ top_kids formals last)
+
+-- what is still to do at first is what is under the tops
+pub body_future : (s : Nodes) (chain : ℕ → Chain) (self : Option ℕ) (formals : List ℕ) (last : Option ℕ) → let root = root_frame s self formals ∷ [] in future s chain root root (tasks_of (flat_map p formals ++ opt e last)) ≡ exprs_under s (body_tops s self formals last)
+unfolding body_tops future
+body_future s chain self formals last =
+    let root = root_frame s self formals ∷ [] in
+    let cs = flat_map p formals ++ opt e last in
+    ap (λ (ts : List Task). future s chain root root ts) (sym (append-nil (tasks_of cs)))
+    ∙ (sym (future_turn s chain [] [] root root cs [])
+    ∙ append-nil (exprs_under s (map (place_kid [] []) (in_turn s root root cs))))
+
+-- Signatures
+
+pub signature_top_nodes : (roots : List ℕ) → map (λ (at : Place). at.node) (signature_tops roots) ≡ map node.Expr roots
+unfolding signature_tops
+signature_top_nodes [] = refl
+signature_top_nodes (root ∷ roots) = ap (λ (ns : List NodeId). node.Expr root ∷ ns) (signature_top_nodes roots)
+
+pub signature_future : (s : Nodes) (chain : ℕ → Chain) (here constant : Chain) (roots : List ℕ) → ((k : ℕ) → 0 < k → k ≤ length roots → chain k ≡ empty ∷ empty ∷ []) → future s chain here constant (root_tasks roots) ≡ exprs_under s (signature_tops roots)
+unfolding signature_tops future
+signature_future s chain here constant [] h = sym (exprs_under-nil s)
+signature_future s chain here constant (root ∷ roots) h =
+    let c = empty ∷ empty ∷ [] in
+    let at : chain (suc (length roots)) ≡ c = h (suc (length roots)) (omega arith) (omega arith) in
+    ap (λ (x : Chain). exprs_under s (place (node.Expr root) x x ∷ []) ++ future s chain (leak s (node.Expr root) ++ x) x (root_tasks roots)) at
+    ∙ (ap (λ (ps : List Place). exprs_under s (place (node.Expr root) c c ∷ []) ++ ps)
+    (signature_future s chain (leak s (node.Expr root) ++ c) c roots (λ k l m. h k l (omega (arith, m))))
+    ∙ sym (exprs_under-append s (place (node.Expr root) c c ∷ []) (signature_tops roots)))

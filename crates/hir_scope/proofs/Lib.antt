@@ -1,34 +1,17 @@
-pub mod BinderLemmas
-mod DoneLemmas
-mod FutureLemmas
-mod GoneLemmas
-mod GrownLemmas
-mod KidLemmas
-mod MetLemmas
-mod MovingLemmas
-pub mod PushLemmas
-mod ReadyLemmas
-mod StepLemmas
-mod TaskLemmas
-mod TotalLemmas
-mod WeightLemmas
-pub mod TurnLemmas
-mod Rows
-pub mod FlatLemmas
+pub mod DoneLemmas
+pub mod FutureLemmas
+pub mod MovingLemmas
+pub mod KidLemmas
+pub mod UnderLemmas
+pub mod WeightLemmas
+pub mod PutLemmas
+pub mod TryLemmas
+pub mod SameLemmas
 pub mod PathLemmas
 pub mod ResolveLemmas
-pub mod MacroLemmas
-pub mod SameLemmas
-pub mod SlotLemmas
-pub mod StandsLemmas
 pub mod BeginLemmas
 pub mod BuiltLemmas
 pub mod CountLemmas
 pub mod EntryLemmas
 pub mod MemberLemmas
-pub mod SumLemmas
-pub mod TopLemmas
-pub mod UnderLemmas
 pub mod UniqueLemmas
-pub mod WrittenLemmas
-pub mod WholeLemmas

@@ -1,6 +1,9 @@
--- Members of lists: what is in a list that is joined, mapped or filtered.
-use Rattle.std.proofs.Common.{◌≡◌, ℕ, suc, zero, ◌<◌, List, [], ◌∷◌, ◌++◌, map, length, refl, sym, ap, ◌∙◌, arith, Some, subst, inl, inr, ◌⊎◌, ⊎_elim, Bool, true, false, cond, Contains}
-use Rattle.std.specs.List.{All, flat_map, filter, slice_get, slice_index_or}
+-- Members of lists: what is in a list that is joined, mapped or filtered; and sums over lists.
+use Rattle.std.proofs.Common.{◌≡◌, ℕ, suc, zero, ◌<◌, List, [], ◌∷◌, ◌++◌, ◌+◌, map, length, refl, sym, ap, ◌∙◌, arith, Some, subst, inl, inr, ◌⊎◌, ⊎_elim, Bool, true, false, cond, Contains}
+use Rattle.std.specs.List.{All, flat_map, filter, slice_get, slice_index_or, sum_by}
+use Rattle.std.proofs.lemmas.List.Sums.{sum_by-append, sum_by-cons}
+use Rattle.hir_node.specs.declared.node_id.NodeId.{NodeId}
+use Rattle.hir_faults.specs.Down.{AgreeOn}
 
 abbrev pub In : {X : Type 0} → X → List X → Type 0
 In x [] = ⊥
@@ -39,6 +42,11 @@ flat_map_in f y [] h = absurd h
 flat_map_in f y (z ∷ xs) h =
     ⊎_elim (λ a. (z, inl refl, a)) (λ b. let r = flat_map_in f y xs b in (r.0, inr r.1, r.2)) (in_append y (f z) (flat_map f xs) h)
 
+pub read : {X : Type 0} (xs : List X) (i : ℕ) → i < length xs → (x : X) × (slice_get xs i ≡ Some x)
+read [] i h = absurd (omega (arith, h))
+read (x ∷ xs) zero h = (x, refl)
+read (x ∷ xs) (suc i) h = read xs i (omega (arith, h))
+
 pub get_in : {X : Type 0} (xs : List X) (x : X) → In x xs → (k : ℕ) × (slice_get xs k ≡ Some x)
 get_in [] x h = absurd h
 get_in (y ∷ xs) x h = ⊎_elim (λ e. (0, ap Some e)) (λ r. let i = get_in xs x r in (suc i.0, i.1)) h
@@ -72,3 +80,56 @@ filter_in test x (y ∷ xs) h =
 pub in_all : {X : Type 0} (P : X → Type 0) (x : X) (xs : List X) → All P xs → In x xs → P x
 in_all P x [] a h = absurd h
 in_all P x (y ∷ xs) a h = ⊎_elim (λ e. subst P e (a 0 y (omega arith))) (λ r. in_all P x xs (λ k d l. a (suc k) d (omega arith)) r) h
+
+-- what agrees on some nodes does so on each
+pub agree_in : {A : Type 0} (f g : NodeId → A) (xs : List NodeId) → AgreeOn f g xs → (x : NodeId) → In x xs → f x ≡ g x
+agree_in f g [] h x i = absurd i
+agree_in f g (y ∷ xs) h x i = ⊎_elim (λ e. subst (λ z. f z ≡ g z) e h.0) (λ r. agree_in f g xs h.1 x r) i
+
+-- Sums over lists
+
+pub sum_flat : {X Y : Type 0} (f : Y → ℕ) (g : X → List Y) (xs : List X) → sum_by f (flat_map g xs) ≡ sum_by (λ x. sum_by f (g x)) xs
+sum_flat f g [] = refl
+sum_flat f g (x ∷ xs) =
+    let a = sum_by-append f (g x) (flat_map g xs) in
+    let b = sum_flat f g xs in
+    let d = sum_by-cons (λ y. sum_by f (g y)) x xs in
+    omega (arith, a, b, d)
+
+pub sum_same : {X : Type 0} (f g : X → ℕ) (xs : List X) → ((x : X) → In x xs → f x ≡ g x) → sum_by f xs ≡ sum_by g xs
+sum_same f g [] h = refl
+sum_same f g (x ∷ xs) h =
+    let a = sum_by-cons f x xs in
+    let b = sum_by-cons g x xs in
+    let d = h x (inl refl) in
+    let r = sum_same f g xs (λ y i. h y (inr i)) in
+    omega (arith, a, b, d, r)
+
+pub sum_mapped : {X Y : Type 0} (f : Y → ℕ) (g : X → Y) (xs : List X) → sum_by f (map g xs) ≡ sum_by (λ x. f (g x)) xs
+sum_mapped f g [] = refl
+sum_mapped f g (x ∷ xs) =
+    let a = sum_by-cons f (g x) (map g xs) in
+    let b = sum_by-cons (λ y. f (g y)) x xs in
+    let r = sum_mapped f g xs in
+    omega (arith, a, b, r)
+
+pub sum_plus : {X : Type 0} (f g : X → ℕ) (xs : List X) → sum_by (λ x. f x + g x) xs ≡ sum_by f xs + sum_by g xs
+sum_plus f g [] = refl
+sum_plus f g (x ∷ xs) =
+    let a = sum_by-cons f x xs in
+    let b = sum_by-cons g x xs in
+    let d = sum_by-cons (λ y. f y + g y) x xs in
+    let r = sum_plus f g xs in
+    omega (arith, a, b, d, r)
+
+pub sum_none : {X : Type 0} (f : X → ℕ) (xs : List X) → ((x : X) → f x ≡ 0) → sum_by f xs ≡ 0
+sum_none f [] h = refl
+sum_none f (x ∷ xs) h = let a = sum_by-cons f x xs in let b = h x in let r = sum_none f xs h in omega (arith, a, b, r)
+
+pub sum_ones : {X : Type 0} (f : X → ℕ) (xs : List X) → ((x : X) → In x xs → f x ≡ 1) → sum_by f xs ≡ length xs
+sum_ones f [] h = refl
+sum_ones f (x ∷ xs) h =
+    let a = sum_by-cons f x xs in
+    let b = h x (inl refl) in
+    let r = sum_ones f xs (λ y i. h y (inr i)) in
+    omega (arith, a, b, r)

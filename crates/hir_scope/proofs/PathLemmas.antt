@@ -2,10 +2,11 @@
 use Rattle.std.proofs.Common.{◌≡◌, ℕ, zero, suc, ◌+◌, ◌-◌, ◌<◌, ◌≤◌, List, [], ◌∷◌, ◌++◌, Option, Some, None, fold, get_or, length, refl, ap, sym, ◌∙◌, subst, arith, append_assoc}
 use Rattle.std.specs.List.{slice_get, All, range_with_len}
 use Rattle.std.proofs.lemmas.List.{get_or_append_left, get_or_at, length_push}
-use Rattle.std.proofs.lemmas.List.Elements.{All-nil, All-cons}
+use Rattle.std.proofs.lemmas.List.Elements.{All-nil, All-cons, All-append, All-weaker}
 use Rattle.std.proofs.lemmas.Grind.{fold-append}
 use Rattle.hir_scope.specs.Scopes.{Scope, IsBelow, IsIn, ParentsStandEarlier}
 use Rattle.hir_scope.specs.Paths.{path_among, with_path, paths, path}
+use Rattle.hir_scope.proofs.MemberLemmas.{read}
 
 length_with : (earlier : List (List ℕ)) (more : List Scope) → length (fold with_path earlier more) ≡ length earlier + length more
 length_with earlier [] = omega arith
@@ -58,11 +59,6 @@ weaker : (m n : ℕ) (o : Option ℕ) → m ≤ n → IsBelow m o → IsBelow n 
 weaker m n None l h = tt
 weaker m n (Some s) l h = omega (arith, l, h)
 
-pub read : (scopes : List Scope) (s : ℕ) → s < length scopes → (x : Scope) × (slice_get scopes s ≡ Some x)
-read [] s h = absurd (omega (arith, h))
-read (x ∷ scopes) zero h = (x, refl)
-read (x ∷ scopes) (suc s) h = read scopes s (omega (arith, h))
-
 path_short : (scopes : List Scope) → ParentsStandEarlier scopes → (n : ℕ) (o : Option ℕ) → n ≤ length scopes → IsBelow n o → length (path scopes o) ≤ n
 path_short scopes earlier n None l h = omega arith
 path_short scopes earlier zero (Some s) l h = absurd (omega (arith, h))
@@ -76,18 +72,33 @@ path_short scopes earlier (suc n) (Some s) l h =
 pub path_fits : (scopes : List Scope) → ParentsStandEarlier scopes → (o : Option ℕ) → IsIn scopes o → length (path scopes o) ≤ length scopes
 path_fits scopes earlier o h = path_short scopes earlier (length scopes) o (omega arith) h
 
-path_there : (scopes : List Scope) → ParentsStandEarlier scopes → (n : ℕ) (o : Option ℕ) → n ≤ length scopes → IsBelow n o → All (λ x. x < length scopes) (path scopes o)
-path_there scopes earlier n None l h = All-nil (λ x. x < length scopes)
-path_there scopes earlier zero (Some s) l h = absurd (omega (arith, h))
-path_there scopes earlier (suc n) (Some s) l h =
-    let x = read scopes s (omega (arith, l, h)) in
-    let outer = path_there scopes earlier n x.0.parent (omega (arith, l)) (weaker s n x.0.parent (omega (arith, h)) (earlier s x.0 x.1)) in
-    subst (All (λ y. y < length scopes)) (sym (path_step scopes s x.0 earlier x.1))
-    (All-cons (λ y. y < length scopes) s (path scopes x.0.parent) (omega (arith, l, h)) outer)
-
 -- each member of a path is there
-pub path_members : (scopes : List Scope) → ParentsStandEarlier scopes → (o : Option ℕ) → IsIn scopes o → All (λ x. x < length scopes) (path scopes o)
-path_members scopes earlier o h = path_there scopes earlier (length scopes) o (omega arith) h
+
+abbrev Below : ℕ → List ℕ → Type 0
+Below n p = All (λ x. x < n) p
+
+among_below : (n : ℕ) (ps : List (List ℕ)) (o : Option ℕ) → All (Below n) ps → Below n (path_among ps o)
+among_below n ps None h = All-nil (λ x. x < n)
+among_below n [] (Some i) h = All-nil (λ x. x < n)
+among_below n (p ∷ ps) (Some zero) h = h 0 p (omega arith)
+among_below n (p ∷ ps) (Some (suc i)) h = among_below n ps (Some i) (λ k d l. h (suc k) d (omega (arith, l)))
+
+below_with : (earlier : List (List ℕ)) (more : List Scope) → All (Below (length earlier)) earlier → All (Below (length (fold with_path earlier more))) (fold with_path earlier more)
+below_with earlier [] h = h
+below_with earlier (s ∷ more) h =
+    let n = length earlier in
+    let outer = path_among earlier s.parent in
+    let m = length (with_path earlier s) in
+    let long : m ≡ n + 1 = omega (arith, length_push earlier (n ∷ outer)) in
+    let grown : (p : List ℕ) → Below n p → Below m p = λ p b. All-weaker (λ x. x < n) (λ x. x < m) (λ x l. omega (arith, l, long)) p b in
+    let new = All-cons (λ x. x < m) n outer (omega (arith, long)) (grown outer (among_below n earlier s.parent h)) in
+    below_with (with_path earlier s) more
+    (All-append (Below m) earlier ((n ∷ outer) ∷ []) (All-weaker (Below n) (Below m) grown earlier h) (All-cons (Below m) (n ∷ outer) [] new (All-nil (Below m))))
+
+pub path_members : (scopes : List Scope) (o : Option ℕ) → Below (length scopes) (path scopes o)
+unfolding paths
+path_members scopes o =
+    subst (λ n. Below n (path scopes o)) (length_paths scopes) (among_below (length (paths scopes)) (paths scopes) o (below_with [] scopes (All-nil (Below 0))))
 
 -- the ids of all scopes
 

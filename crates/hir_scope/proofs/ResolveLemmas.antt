@@ -1,28 +1,31 @@
--- A name is looked for scope by scope, from one scope outward: what is found is what the name means along the chain.
+-- What a name means, also through macros.
 use Rattle.std.proofs.Common.{◌≡◌, ℕ, suc, ◌<◌, Bool, true, false, cond, List, [], ◌∷◌, ◌++◌, Option, Some, None, length, refl, ap, sym, ◌∙◌, subst, arith, append_assoc}
-use Rattle.std.specs.Prelude.{option_map, nat_lt}
+use Rattle.std.specs.Prelude.{option_map, Contains, IfSome}
 use Rattle.std.specs.List.{slice_get, flat_map}
-use Rattle.std.specs.FinMap as map
 use Rattle.std.proofs.lemmas.List.{append-nil}
 use Rattle.std.proofs.lemmas.List.Concat.{flat_map-append}
-use Rattle.std.proofs.lemmas.Option.{slice_get_within}
 use Rattle.hir_base.specs.declared.hygiene.SyntaxContext.{SyntaxContext}
-use Rattle.hir_expr_store.specs.Contents.{Contents}
 use Rattle.hir_faults.specs.Tested.{all_of}
 use Rattle.hir_scope.specs.declared.scope.ScopeEntry.{ScopeEntry}
 use Rattle.hir_scope.specs.Frames.{Frame, Chain}
-use Rattle.hir_scope.specs.Meanings.{binding_of, meant}
-use Rattle.hir_scope.specs.Scopes.{Scope, Scopes, IsBelow, IsIn, ParentsStandEarlier, frame_of}
+use Rattle.hir_scope.specs.Scopes.{Scope, IsBelow, IsIn, ParentsStandEarlier, frame_of, macro_def_of}
 use Rattle.hir_scope.specs.Paths.{path, frame_at, chain}
 use Rattle.hir_scope.specs.Resolution.{is_asked, first_asked, entries_of, resolve, IsFound}
-use Rattle.hir_scope.proofs.PathLemmas.{path_step, read}
+use Rattle.hir_scope.proofs.MemberLemmas.{read}
+use Rattle.hir_scope.proofs.PathLemmas.{path_step}
+use Rattle.std.specs.Option.{option_or}
+use Rattle.std.proofs.lemmas.List.Elements.{Contains-append_left, Contains-append_right, Contains-push}
+use Rattle.hir_scope.specs.declared.macros.Expansion.{Expansion}
+use Rattle.hir_scope.specs.Macros.{outward, resolve_through}
+
+-- 1. A name is looked for scope by scope, from one scope outward: what is found is what the name means along the chain.
 
 -- what a function tells of the scope that is there
 pub told : {X : Type 0} (f : Scope → X) (o : Option Scope) (x : X) → option_map f o ≡ Some x → (s : Scope) × (o ≡ Some s) × (f s ≡ x)
 told f None x e = absurd cc
 told f (Some s) x e = (s, refl, cc)
 
--- 1. The way outward
+-- The way outward
 
 -- the path of a scope by its parent
 pub path_of_parent : (scopes : List Scope) (s : ℕ) (parent : Option ℕ) → ParentsStandEarlier scopes → option_map (λ (x : Scope). x.parent) (slice_get scopes s) ≡ Some parent → path scopes (Some s) ≡ s ∷ path scopes parent
@@ -51,7 +54,7 @@ pub fewer_ways : (s : ℕ) (o : Option ℕ) → IsBelow s o → ways o < suc s
 fewer_ways s None b = omega arith
 fewer_ways s (Some q) b = omega (arith, b)
 
--- 2. What a chain in two parts means
+-- What a chain in two parts means
 
 abbrev pub or_else : Option ScopeEntry → Option ScopeEntry → Option ScopeEntry
 or_else None later = later
@@ -75,7 +78,7 @@ module _ (n : List ℕ) (h : SyntaxContext) where
       let here : frame_at scopes s ≡ frame_of x.0 ∷ [] = ap (all_of (λ (y : Scope). frame_of y ∷ [])) x.1 in
       ap (λ (c : Chain). resolve c n h) here ∙ ap (first_asked n h) (append-nil x.0.entries ∙ x.2)
 
--- 3. The search
+-- The search
 
 -- it has come to a scope, or past the outermost: none before has such an entry
 pub record OnTheWay (scopes : List Scope) (from : ℕ) (n : List ℕ) (h : SyntaxContext) (current : Option ℕ) : Type 0 where
@@ -122,22 +125,76 @@ found_resolves scopes earlier from n h s entry f =
     ∙ (resolve_append n h (frame_at scopes s) outer
     ∙ ap (λ (o : Option ScopeEntry). or_else o (resolve outer n h)) f.is_first))))
 
--- 4. What a path means
+-- 2. A name's meaning through the definitions of macros: that among the scope's entries, and where there is none that outward of it.
 
-module _ (c : Contents) (s : Scopes) (expr : ℕ) (h : SyntaxContext) (asked : Option (List ℕ)) where
-  -- it asks for no name
-  pub means_unasked : asked ≡ None → meant c s expr h asked ≡ None
-  means_unasked e = ap (meant c s expr h) e
+-- the chain of a scope by its parent
+chain_of_parent : (scopes : List Scope) (s : ℕ) (parent : Option ℕ) (x : Scope) → ParentsStandEarlier scopes → option_map (λ (y : Scope). y.parent) (slice_get scopes s) ≡ Some parent →
+    slice_get scopes s ≡ Some x → chain scopes (Some s) ≡ frame_of x ∷ chain scopes parent
+chain_of_parent scopes s parent x earlier p e =
+    let along : chain scopes (Some s) ≡ frame_at scopes s ++ chain scopes parent = ap (λ (ids : List ℕ). flat_map (frame_at scopes) ids) (path_of_parent scopes s parent earlier p) in
+    let here : frame_at scopes s ≡ frame_of x ∷ [] = ap (all_of (λ (y : Scope). frame_of y ∷ [])) e in
+    along ∙ ap (λ (fs : List Frame). fs ++ chain scopes parent) here
 
-  module _ (n : List ℕ) (asks : asked ≡ Some n) where
-    at_name : meant c s expr h asked ≡ binding_of c (resolve (chain s.scopes (map.get s.scope_by_expr expr)) n h)
-    at_name = ap (meant c s expr h) asks
+-- a scope without such an entry is passed by
+pub through_outward : (from : SyntaxContext → Option Expansion) (scopes : List Scope) (s : ℕ) (parent : Option ℕ) (es : List ScopeEntry) (id : Option ℕ) (n : List ℕ) (h : SyntaxContext) →
+    ParentsStandEarlier scopes → option_map (λ (x : Scope). x.parent) (slice_get scopes s) ≡ Some parent → option_map (λ (x : Scope). x.entries) (slice_get scopes s) ≡ Some es →
+    option_map (λ (x : Scope). macro_def_of x.kind) (slice_get scopes s) ≡ Some id → None ≡ first_asked n h es →
+    resolve_through from (chain scopes parent) n (outward id (from h) h) ≡ resolve_through from (chain scopes (Some s)) n h
+through_outward from scopes s parent es id n h earlier p e m none =
+    let x = told (λ (x : Scope). x.entries) (slice_get scopes s) es e in
+    let kind : Some (macro_def_of x.0.kind) ≡ Some id = ap (option_map (λ (y : Scope). macro_def_of y.kind)) (sym x.1) ∙ m in
+    let same : macro_def_of x.0.kind ≡ id = cc in
+    let outer : Option ℕ → Option ScopeEntry = λ k. resolve_through from (chain scopes parent) n (outward k (from h) h) in
+    ap outer (sym same)
+    ∙ ap (λ (o : Option ScopeEntry). option_or o (outer (macro_def_of x.0.kind))) (none ∙ ap (first_asked n h) (sym x.2))
+    ∙ ap (λ (c : Chain). resolve_through from c n h) (sym (chain_of_parent scopes s parent x.0 earlier p x.1))
 
-    -- there is no scope
-    pub means_nowhere : map.get s.scope_by_expr expr ≡ None → meant c s expr h asked ≡ None
-    means_nowhere e = at_name ∙ ap (λ (o : Option ℕ). binding_of c (resolve (chain s.scopes o) n h)) e
+-- the first such entry of a scope is what is meant
+pub through_found : (from : SyntaxContext → Option Expansion) (scopes : List Scope) (s : ℕ) (parent : Option ℕ) (es : List ScopeEntry) (found : ScopeEntry) (n : List ℕ) (h : SyntaxContext) →
+    ParentsStandEarlier scopes → option_map (λ (x : Scope). x.parent) (slice_get scopes s) ≡ Some parent → option_map (λ (x : Scope). x.entries) (slice_get scopes s) ≡ Some es →
+    Some found ≡ first_asked n h es → Some found ≡ resolve_through from (chain scopes (Some s)) n h
+through_found from scopes s parent es found n h earlier p e is =
+    let x = told (λ (x : Scope). x.entries) (slice_get scopes s) es e in
+    let outer : Option ScopeEntry = resolve_through from (chain scopes parent) n (outward (macro_def_of x.0.kind) (from h) h) in
+    ap (λ (o : Option ScopeEntry). option_or o outer) (is ∙ ap (first_asked n h) (sym x.2))
+    ∙ ap (λ (c : Chain). resolve_through from c n h) (sym (chain_of_parent scopes s parent x.0 earlier p x.1))
 
-    module _ (from : ℕ) (at : map.get s.scope_by_expr expr ≡ Some from) where
-      -- what is found in that scope is meant, or nothing
-      pub means_found : (o : Option ScopeEntry) → resolve (chain s.scopes (Some from)) n h ≡ o → meant c s expr h asked ≡ binding_of c o
-      means_found o e = at_name ∙ (ap (λ (o : Option ℕ). binding_of c (resolve (chain s.scopes o) n h)) at ∙ ap (binding_of c) e)
+-- a hygiene that comes from no known expansion stays
+stays : (id : Option ℕ) (h : SyntaxContext) → outward id None h ≡ h
+stays None h = refl
+stays (Some id) h = refl
+
+first_of_both : (n : List ℕ) (h : SyntaxContext) (xs ys : List ScopeEntry) → option_or (first_asked n h xs) (first_asked n h ys) ≡ first_asked n h (xs ++ ys)
+first_of_both n h [] ys = refl
+first_of_both n h (x ∷ xs) ys = at (is_asked n h x) (first_asked n h (xs ++ ys)) (first_asked n h xs) (first_asked n h ys) (first_of_both n h xs ys) where
+  at : (b : Bool) (r s t : Option ScopeEntry) → option_or s t ≡ r → option_or (cond b (Some x) s) t ≡ cond b (Some x) r
+  at true r s t e = refl
+  at false r s t e = e
+
+-- where the hygiene comes from no known expansion, it is resolution
+pub through_nothing : (from : SyntaxContext → Option Expansion) (chain : Chain) (n : List ℕ) (h : SyntaxContext) → from h ≡ None → resolve_through from chain n h ≡ resolve chain n h
+through_nothing from [] n h e = refl
+through_nothing from (frame ∷ outer) n h e =
+    let kept : outward (macro_def_of frame.kind) (from h) h ≡ h = ap (λ (o : Option Expansion). outward (macro_def_of frame.kind) o h) e ∙ stays (macro_def_of frame.kind) h in
+    ap (λ (g : SyntaxContext). option_or (first_asked n h frame.entries) (resolve_through from outer n g)) kept
+    ∙ ap (option_or (first_asked n h frame.entries)) (through_nothing from outer n h e)
+    ∙ first_of_both n h frame.entries (entries_of outer)
+
+first_is_among : (n : List ℕ) (h : SyntaxContext) (xs : List ScopeEntry) → IfSome (first_asked n h xs) (Contains xs)
+first_is_among n h [] = tt
+first_is_among n h (x ∷ xs) = at (is_asked n h x) (first_asked n h xs) (first_is_among n h xs) where
+  at : (b : Bool) (o : Option ScopeEntry) → IfSome o (Contains xs) → IfSome (cond b (Some x) o) (Contains (x ∷ xs))
+  at true o i = Contains-append_left (x ∷ []) xs x (Contains-push [] x)
+  at false None i = tt
+  at false (Some y) i = Contains-append_right (x ∷ []) xs y i
+
+-- what is found is an entry of the chain
+pub through_is_among : (from : SyntaxContext → Option Expansion) (chain : Chain) (n : List ℕ) (h : SyntaxContext) → IfSome (resolve_through from chain n h) (Contains (entries_of chain))
+through_is_among from [] n h = tt
+through_is_among from (frame ∷ outer) n h =
+    let beyond = outward (macro_def_of frame.kind) (from h) h in
+    at (first_asked n h frame.entries) (resolve_through from outer n beyond) (first_is_among n h frame.entries) (through_is_among from outer n beyond) where
+      at : (o p : Option ScopeEntry) → IfSome o (Contains frame.entries) → IfSome p (Contains (entries_of outer)) → IfSome (option_or o p) (Contains (frame.entries ++ entries_of outer))
+      at None None i j = tt
+      at None (Some y) i j = Contains-append_right frame.entries (entries_of outer) y j
+      at (Some x) p i j = Contains-append_left frame.entries (entries_of outer) x i

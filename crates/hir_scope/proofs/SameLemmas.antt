@@ -1,10 +1,17 @@
--- Scopes are the same exactly where what keeps them is.
-use Rattle.std.proofs.Common.{◌≡◌, ℕ, zero, suc, ◌-◌, ◌≤◌, List, [], ◌∷◌, ◌++◌, Bool, true, false, length, take, drop, refl, ap, sym, ◌∙◌, subst, arith, ◌&&◌, Decides}
-use Rattle.std.proofs.lemmas.List.{take-append-drop, drop_all}
-use Rattle.std.specs.Ordering.{nat_cmp}
-use Rattle.std.specs.FinMap as finmap
-use Rattle.std.specs.Prelude.{eqb}
+-- How scopes are kept, and when they are the same.
+use Rattle.std.proofs.Common.{◌≡◌, ℕ, zero, suc, ◌+◌, ◌-◌, ◌<◌, ◌≤◌, ◌⊎◌, inl, inr, List, [], ◌∷◌, ◌++◌, Option, Some, None, length, take, drop, refl, ap, sym, ◌∙◌, subst, arith, Bool, true, false, cond, get_or, length-append, ◌&&◌, Decides}
+use Rattle.std.specs.Prelude.{option_map, eqb}
+use Rattle.std.specs.List.{slice_get}
+use Rattle.std.specs.Ordering.{nat_cmp, eq_by_cmp}
 use Rattle.std.specs.Cmp.{nat_cmp_total, unsigned_Decides}
+use Rattle.std.specs.FinMap as finmap
+use Rattle.std.proofs.lemmas.List.{take-append-le, drop-append-le, drop_at, take_all, length-drop, length-take-le, length_push, map-append, take-append-drop, drop_all}
+use Rattle.std.proofs.lemmas.List.Sums.{sum_by-append}
+use Rattle.std.proofs.lemmas.Option.{slice_get-map, slice_get_read}
+use Rattle.hir_scope.specs.declared.scope.ScopeEntry.{ScopeEntry}
+use Rattle.hir_scope.specs.declared.expr_scopes.ScopeData.{ScopeData}
+use Rattle.hir_scope.specs.Scopes.{Scope, IsBelow, ParentsStandEarlier, entry_count}
+use Rattle.hir_scope.specs.Flat.{entries_in, scope_of, scopes_of, FollowEachOther, IsFlat}
 use Rattle.std.specs.Cmp.Lexicographic.{pointwise, pointwise_decides}
 use Rattle.hir_base.specs.Maps.{same_maps, same_maps_decides}
 use Rattle.hir_path.specs.same.Fields.{both}
@@ -12,11 +19,160 @@ use Rattle.hir_scope.specs.contracts.scope.ScopeEntryPartialEq.TheImpl as entry
 use Rattle.hir_scope.specs.contracts.scope.ScopeEntryExactEq.TheImpl.Laws as entry_law
 use Rattle.hir_scope.specs.contracts.expr_scopes.ScopeDataPartialEq.TheImpl as row
 use Rattle.hir_scope.specs.contracts.expr_scopes.ScopeDataExactEq.TheImpl.Laws as row_law
-use Rattle.hir_scope.specs.declared.scope.ScopeEntry.{ScopeEntry}
-use Rattle.hir_scope.specs.declared.expr_scopes.ScopeData.{ScopeData}
-use Rattle.hir_scope.specs.Flat.{entries_in, scope_of, scopes_of, FollowEachOther, IsFlat}
 use Rattle.hir_scope.specs.same.SameScopes.{same_scopes, scopes_decide}
-use Rattle.hir_scope.proofs.FlatLemmas.{follow_rises, length_in}
+
+-- 1. Ranges that follow each other in one list: what a range holds, and what one range more changes.
+
+pub follow_rises : (from : ℕ) (rows : List ScopeData) (last : ℕ) → FollowEachOther from rows last → from ≤ last
+follow_rises from [] last h = omega (arith, h)
+follow_rises from (row ∷ rows) last h = let r = follow_rises row.end rows last h.2 in omega (arith, h.1, r)
+
+-- a range begins before it ends, and ends within the list
+pub range_at : (from : ℕ) (rows : List ScopeData) (last i : ℕ) (row : ScopeData) → FollowEachOther from rows last → slice_get rows i ≡ Some row → (row.start ≤ row.end) × (row.end ≤ last)
+range_at from [] last i row h e = absurd cc
+range_at from (first ∷ rows) last zero row h e =
+    let q : first ≡ row = cc in
+    subst (λ (x : ScopeData). (x.start ≤ x.end) × (x.end ≤ last)) q (omega (arith, h.0, h.1), follow_rises first.end rows last h.2)
+range_at from (first ∷ rows) last (suc i) row h e = range_at first.end rows last i row h.2 e
+
+pub follow_push : (from : ℕ) (rows : List ScopeData) (last : ℕ) (row : ScopeData) → FollowEachOther from rows last → row.start ≡ last → last ≤ row.end → FollowEachOther from (rows ++ row ∷ []) row.end
+follow_push from [] last row h s e = (omega (arith, h, s), omega (arith, h, e), refl)
+follow_push from (first ∷ rows) last row h s e = (h.0, h.1, follow_push first.end rows last row h.2 s e)
+
+-- the entries of a range are those between its ends
+pub range_kept : (xs ys : List ScopeEntry) (row : ScopeData) → row.start ≤ row.end → row.end ≤ length xs → entries_in (xs ++ ys) row ≡ entries_in xs row
+range_kept xs ys row b w =
+    ap (take (row.end - row.start)) (drop-append-le row.start xs ys (omega (arith, b, w)))
+    ∙ take-append-le (row.end - row.start) (drop row.start xs) ys (omega (arith, b, w, length-drop row.start xs))
+
+pub scopes_kept : (xs ys : List ScopeEntry) (from : ℕ) (rows : List ScopeData) → FollowEachOther from rows (length xs) → scopes_of (xs ++ ys) rows ≡ scopes_of xs rows
+scopes_kept xs ys from [] h = refl
+scopes_kept xs ys from (row ∷ rows) h =
+    let k = range_kept xs ys row (omega (arith, h.0, h.1)) (follow_rises row.end rows (length xs) h.2) in
+    let r = scopes_kept xs ys row.end rows h.2 in
+    rw (k, r)
+
+-- the entries of the range at the end
+pub range_new : (xs ys : List ScopeEntry) (row : ScopeData) → row.start ≡ length xs → row.end ≡ length xs + length ys → entries_in (xs ++ ys) row ≡ ys
+range_new xs ys row s e = ap (take (row.end - row.start)) (drop_at xs ys row.start (sym s)) ∙ take_all (row.end - row.start) ys (omega (arith, s, e))
+
+pub length_in : (xs : List ScopeEntry) (row : ScopeData) → row.start ≤ row.end → row.end ≤ length xs → length (entries_in xs row) ≡ row.end - row.start
+length_in xs row b w = length-take-le (row.end - row.start) (drop row.start xs) (omega (arith, b, w, length-drop row.start xs))
+
+-- all entries stand in the ranges
+pub counted : (xs : List ScopeEntry) (from : ℕ) (rows : List ScopeData) → FollowEachOther from rows (length xs) → entry_count (scopes_of xs rows) + from ≡ length xs
+counted xs from [] h = omega (arith, h)
+counted xs from (row ∷ rows) h =
+    let l = length_in xs row (omega (arith, h.0, h.1)) (follow_rises row.end rows (length xs) h.2) in
+    let r = counted xs row.end rows h.2 in
+    let sum : entry_count (scopes_of xs (row ∷ rows)) ≡ entry_count (scope_of xs row ∷ []) + entry_count (scopes_of xs rows) =
+    sum_by-append (λ (s : Scope). length s.entries) (scope_of xs row ∷ []) (scopes_of xs rows) in
+    let one : entry_count (scope_of xs row ∷ []) ≡ 0 + length (entries_in xs row) = refl in
+    omega (arith, sum, one, l, r, h.0, h.1)
+
+-- what scopes are seen as
+
+pub parents_seen : (es : List ScopeEntry) (rows : List ScopeData) → ((i : ℕ) (row : ScopeData) → slice_get rows i ≡ Some row → IsBelow i row.parent) → ParentsStandEarlier (scopes_of es rows)
+parents_seen es rows h i s e = at (slice_get rows i) refl (sym (slice_get-map (scope_of es) rows i) ∙ e) where
+  at : (o : Option ScopeData) → slice_get rows i ≡ o → option_map (scope_of es) o ≡ Some s → IsBelow i s.parent
+  at None q f = absurd cc
+  at (Some row) q f = let k : scope_of es row ≡ s = cc in subst (λ (x : Scope). IsBelow i x.parent) k (h i row q)
+
+-- a scope that is there is seen by its range
+pub scope_seen : (es : List ScopeEntry) (rows : List ScopeData) (i : ℕ) (row : ScopeData) → slice_get rows i ≡ Some row → slice_get (scopes_of es rows) i ≡ Some (scope_of es row)
+scope_seen es rows i row e = slice_get-map (scope_of es) rows i ∙ ap (option_map (scope_of es)) e
+
+pub length_seen : (es : List ScopeEntry) (rows : List ScopeData) → length (scopes_of es rows) ≡ length rows
+length_seen es [] = refl
+length_seen es (row ∷ rows) = ap suc (length_seen es rows)
+
+-- a scope that is seen has a range
+pub row_seen : (es : List ScopeEntry) (rows : List ScopeData) (i : ℕ) (row : ScopeData) → i < length (scopes_of es rows) → row ≡ get_or rows i row → slice_get rows i ≡ Some row
+row_seen es rows i row l e = slice_get_read rows (length rows) i row refl (subst (λ n. i < n) (length_seen es rows) l) e
+
+-- the scope of each expression is below n
+abbrev pub AreBelow : finmap.FinMap nat_cmp ℕ → ℕ → Type 0
+AreBelow m n = (expr scope : ℕ) → finmap.get m expr ≡ Some scope → scope < n
+
+pub there_seen : (es : List ScopeEntry) (rows : List ScopeData) (m : finmap.FinMap nat_cmp ℕ) → AreBelow m (length rows) → AreBelow m (length (scopes_of es rows))
+there_seen es rows m h expr scope e = subst (λ n. scope < n) (sym (length_seen es rows)) (h expr scope e)
+
+-- a value that was written is the one written, or that from before
+pub at_or_before : (b : Bool) (v : ℕ) (o : Option ℕ) (w : ℕ) → cond b (Some v) o ≡ Some w → ((b ≡ true) × (v ≡ w)) ⊎ (o ≡ Some w)
+at_or_before true v o w e = inl (refl, (cc))
+at_or_before false v o w e = inr e
+
+pub below_inserted : (m : finmap.FinMap nat_cmp ℕ) (n e s : ℕ) → AreBelow m n → s < n → AreBelow (finmap.insert m e s) n
+below_inserted m n e s h l expr scope q =
+    elim (at_or_before (eq_by_cmp nat_cmp expr e) s (finmap.get m expr) scope (sym (finmap.get-insert nat_cmp_total m e s expr) ∙ q)) [
+      | inl w ↦ subst (λ x. x < n) w.1 l
+      | inr w ↦ h expr scope w
+    ]
+
+pub flat_empty : IsFlat [] [] finmap.empty
+flat_empty = record {
+  fill = refl;
+  parents = λ i row e. absurd cc;
+  there = λ expr scope e. absurd (none_there expr scope (sym (finmap.get-empty nat_cmp expr) ∙ e));
+  few_scopes = omega arith;
+  few_entries = omega arith;
+} where
+  none_there : (expr scope : ℕ) → None ≡ Some scope → ⊥
+  none_there expr scope e = cc
+
+pub flat_set : (es : List ScopeEntry) (rows : List ScopeData) (m : finmap.FinMap nat_cmp ℕ) (e s : ℕ) → IsFlat es rows m → s < length rows → IsFlat es rows (finmap.insert m e s)
+flat_set es rows m e s f l =
+    record { fill = f.fill; parents = f.parents; there = below_inserted m (length rows) e s f.there l; few_scopes = f.few_scopes; few_entries = f.few_entries }
+
+pushed : (rows : List ScopeData) (row : ScopeData) (n : ℕ) → ((i : ℕ) (x : ScopeData) → slice_get rows i ≡ Some x → IsBelow (n + i) x.parent) → IsBelow (n + length rows) row.parent → (i : ℕ) (x : ScopeData) → slice_get (rows ++ row ∷ []) i ≡ Some x → IsBelow (n + i) x.parent
+pushed [] row n h b zero x q = let k : row ≡ x = cc in subst (λ (y : ScopeData). IsBelow (n + 0) y.parent) k b
+pushed [] row n h b (suc i) x q = absurd cc
+pushed (first ∷ rows) row n h b zero x q = h zero x q
+pushed (first ∷ rows) row n h b (suc i) x q =
+    let shift : (j : ℕ) → suc n + j ≡ n + suc j = λ j. omega arith in
+    subst (λ m. IsBelow m x.parent) (shift i)
+    (pushed rows row (suc n) (λ j y r. subst (λ m. IsBelow m y.parent) (sym (shift j)) (h (suc j) y r)) (subst (λ m. IsBelow m row.parent) (sym (shift (length rows))) b) i x q)
+
+-- one scope more, of entries that are put last
+pub flat_push : (es more : List ScopeEntry) (rows : List ScopeData) (m : finmap.FinMap nat_cmp ℕ) (row : ScopeData) → IsFlat es rows m →
+    row.start ≡ length es → row.end ≡ length es + length more → IsBelow (length rows) row.parent →
+    length rows < 4294967295 → length es + length more ≤ 4294967295 → IsFlat (es ++ more) (rows ++ row ∷ []) m
+flat_push es more rows m row f s e b n k = record {
+  fill = subst (FollowEachOther 0 (rows ++ row ∷ [])) (e ∙ sym (length-append es more)) (follow_push 0 rows (length es) row f.fill s (omega (arith, e)));
+  parents = λ i x q. parent_pushed i x q;
+  there = λ expr scope q. let l = f.there expr scope q in omega (arith, l, length_push rows row);
+  few_scopes = omega (arith, n, length_push rows row);
+  few_entries = omega (arith, k, length-append es more);
+} where
+  parent_pushed : (i : ℕ) (x : ScopeData) → slice_get (rows ++ row ∷ []) i ≡ Some x → IsBelow i x.parent
+  parent_pushed i x q =
+      let from_zero : (j : ℕ) → 0 + j ≡ j = λ j. omega arith in
+      subst (λ m. IsBelow m x.parent) (from_zero i)
+      (pushed rows row 0 (λ j y r. subst (λ m. IsBelow m y.parent) (sym (from_zero j)) (f.parents j y r)) (subst (λ m. IsBelow m row.parent) (sym (from_zero (length rows))) b) i x q)
+
+pub seen_pushed : (es more : List ScopeEntry) (rows : List ScopeData) (row : ScopeData) → FollowEachOther 0 rows (length es) →
+    row.start ≡ length es → row.end ≡ length es + length more →
+    scopes_of (es ++ more) (rows ++ row ∷ []) ≡ scopes_of es rows ++ record { parent = row.parent; kind = row.kind; entries = more } ∷ []
+seen_pushed es more rows row f s e =
+    map-append (scope_of (es ++ more)) rows (row ∷ [])
+    ∙ ap (λ xs. xs ++ scope_of (es ++ more) row ∷ []) (scopes_kept es more 0 rows f)
+    ∙ ap (λ new. scopes_of es rows ++ record { parent = row.parent; kind = row.kind; entries = new } ∷ []) (range_new es more row s e)
+
+-- more scopes, or more entries, than there may be, where there is one scope more with n entries
+abbrev pub TooMany : List Scope → ℕ → Type 0
+TooMany scopes n = (4294967295 < length scopes + 1) ⊎ (4294967295 < entry_count scopes + n)
+
+pub scopes_too_many : (es : List ScopeEntry) (rows : List ScopeData) (n : ℕ) → 4294967295 ≤ length rows → TooMany (scopes_of es rows) n
+scopes_too_many es rows n h = inl (omega (arith, h, length_seen es rows))
+
+pub entries_too_many : (es : List ScopeEntry) (rows : List ScopeData) (n : ℕ) → FollowEachOther 0 rows (length es) → 4294967295 < length es + n → TooMany (scopes_of es rows) n
+entries_too_many es rows n f h = inr (omega (arith, h, counted es 0 rows f))
+
+pub not_too_many : (es : List ScopeEntry) (rows : List ScopeData) (n : ℕ) → FollowEachOther 0 rows (length es) → length rows < 4294967295 → length es + n ≤ 4294967295 → TooMany (scopes_of es rows) n → ⊥
+not_too_many es rows n f h k (inl w) = absurd (omega (arith, h, w, length_seen es rows))
+not_too_many es rows n f h k (inr w) = absurd (omega (arith, k, w, counted es 0 rows f))
+
+-- 2. Scopes are the same exactly where what keeps them is.
 
 drop_nil : (n : ℕ) (xs : List ScopeEntry) → xs ≡ [] → drop n xs ≡ []
 drop_nil n xs e = drop_all n xs (omega (arith, ap (length {A = ScopeEntry}) e))

@@ -1,6 +1,8 @@
 -- Each node that stands in a place stands in one alone, where nothing lies under two tops or under two kids of a node.
 use Rattle.std.proofs.Common.{◌≡◌, ℕ, zero, suc, ◌<◌, ◌≤◌, List, [], ◌∷◌, map, refl, sym, ap, ◌∙◌, arith, subst, inl, inr, ◌⊎◌, ⊎_elim, Some, Contains, eqb}
 use Rattle.std.specs.List.{slice_get, sum_by}
+use Rattle.std.specs.Prelude.{option_map}
+use Rattle.std.proofs.lemmas.Option.{slice_get-map}
 use Rattle.std.proofs.lemmas.Bool.{cases_lt}
 use Rattle.std.proofs.lemmas.Bool.Decides.{eqb_tells}
 use Rattle.std.proofs.lemmas.List.Sums.{sum_by-cons}
@@ -14,11 +16,10 @@ use Rattle.hir_scope.specs.Forms.{form_of}
 use Rattle.hir_scope.specs.Frames.{Chain}
 use Rattle.hir_scope.specs.Slots.{Slot, slots}
 use Rattle.hir_scope.specs.Chains.{Place, place_kid, places_of_kids, Stands, top, kid, HasChain, within_own}
-use Rattle.hir_scope.proofs.MemberLemmas.{In, in_contains, contains_in, get_in}
-use Rattle.hir_scope.proofs.SlotLemmas.{kids_in, slots_kids}
-use Rattle.hir_scope.proofs.StandsLemmas.{kid_of_place, under_kid, stands_reached}
-use Rattle.hir_scope.proofs.SumLemmas.{one_if, sum_mapped}
-use Rattle.hir_scope.proofs.UnderLemmas.{stands_there}
+use Rattle.hir_scope.proofs.MemberLemmas.{In, in_contains, contains_in, get_in, sum_mapped}
+use Rattle.hir_scope.proofs.KidLemmas.{kids_in, slots_kids}
+use Rattle.hir_scope.proofs.UnderLemmas.{kid_of_place, under_kid, stands_reached, stands_there}
+use Rattle.hir_scope.proofs.CountLemmas.{one_if}
 
 -- 1. How often a node stands in a list
 
@@ -33,14 +34,9 @@ same_id f a b = ⊎_elim (λ t. inr (ap one_if t.0, ap f t.1)) (λ t. inl (ap on
 
 is_or_not : (n m : NodeId) → (is n m ≡ 0) ⊎ ((is n m ≡ 1) × (n ≡ m))
 is_or_not (node.Expr a) (node.Expr b) = same_id node.Expr a b
-is_or_not (node.Expr a) (node.Pat b) = inl refl
-is_or_not (node.Expr a) (node.TypeRef b) = inl refl
-is_or_not (node.Pat a) (node.Expr b) = inl refl
 is_or_not (node.Pat a) (node.Pat b) = same_id node.Pat a b
-is_or_not (node.Pat a) (node.TypeRef b) = inl refl
-is_or_not (node.TypeRef a) (node.Expr b) = inl refl
-is_or_not (node.TypeRef a) (node.Pat b) = inl refl
 is_or_not (node.TypeRef a) (node.TypeRef b) = same_id node.TypeRef a b
+is_or_not _ _ = inl refl
 
 itself_id : (a : ℕ) → one_if (eqb a a) ≡ 1
 itself_id a = ⊎_elim (λ t. ap one_if t.0) (λ t. absurd (t.1 refl)) (eqb_tells a a)
@@ -115,9 +111,7 @@ same_place ps one p q i j n =
     (cases_lt a.0 b.0)
 
 node_get : (ps : List Place) (k : ℕ) (p : Place) → slice_get ps k ≡ Some p → slice_get (map (λ (q : Place). q.node) ps) k ≡ Some p.node
-node_get [] k p e = absurd cc
-node_get (q ∷ ps) zero p e = let r : q ≡ p = cc in ap (λ (x : Place). Some x.node) r
-node_get (q ∷ ps) (suc k) p e = node_get ps k p e
+node_get ps k p e = slice_get-map (λ (q : Place). q.node) ps k ∙ ap (option_map (λ (q : Place). q.node)) e
 
 module _ (s : Nodes) (fall : KidsFall s)
     (parent : (n m k : NodeId) → Contains (kids_of s n) k → Contains (kids_of s m) k → n ≡ m)

@@ -19,7 +19,9 @@ use Rattle.hir_scope.specs.Tops.{body_tops, signature_tops}
 
 -- what the nodes of a body are reached from, in their places
 abbrev pub tops_of_body : BodyContents → List Place
-tops_of_body b = body_tops b.store.nodes (option_map (λ p. p.formal) b.self_param) (formals_of b.params) (last_root b.store)
+tops_of_body b =
+    let self_binding = option_map (λ p. p.formal) b.self_param in
+    body_tops b.store.nodes self_binding (formals_of b.params) (last_root b.store)
 
 -- and those of a signature
 abbrev pub tops_of_signature : Contents → List Place
@@ -28,7 +30,8 @@ tops_of_signature c = signature_tops (root_nodes c.roots)
 -- along the chain of each expression's scope are the lexical frames around the expression
 abbrev pub ChainsAreFrames : Nodes → List Place → Scopes → Type 0
 ChainsAreFrames s tops scopes =
-    (expr scope : ℕ) → map.get scopes.scope_by_expr expr ≡ Some scope → HasChain s tops expr (chain scopes.scopes (Some scope))
+    (expr scope : ℕ) → map.get scopes.scope_by_expr expr ≡ Some scope
+    → HasChain s tops expr (chain scopes.scopes (Some scope))
 
 pub record AreBodyScopes (b : BodyContents) (result : Scopes) : Type 0 where
   pub reached : (expr : ℕ) → IsSome (map.get result.scope_by_expr expr) ↔ BodyReaches b (node.Expr expr)

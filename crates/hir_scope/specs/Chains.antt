@@ -21,7 +21,8 @@ on_base Const here constant = constant
 -- a kid, by its slot, of a node with these chains
 abbrev pub place_kid : Chain → Chain → Slot → Place
 place_kid here constant slot =
-    record { node = slot.kid; here = slot.add ++ on_base slot.base here (slot.constants ++ constant); constant = slot.constants ++ constant }
+    let constants = slot.constants ++ constant in
+    record { node = slot.kid; here = slot.add ++ on_base slot.base here constants; constant = constants }
 
 -- the places of a node's kids
 abbrev pub places_of_kids : Nodes → Place → List Place
@@ -35,14 +36,7 @@ pub data Stands (s : Nodes) (tops : List Place) : Place → Type 0 where
 -- a block is seen within its own frame
 abbrev pub within_own : ScopingForm → Chain → Chain
 within_own (form.Block id label statements tail) here = own_frame id label ∷ here
-within_own (form.If condition then_branch else_branch) here = here
-within_own (form.Let pat expr) here = here
-within_own (form.Loop label body) here = here
-within_own (form.Closure arg_types ret_type args body) here = here
-within_own (form.Match scrutinee arms) here = here
-within_own (form.Assignment target value) here = here
-within_own (form.PatternType type pat) here = here
-within_own (form.InTurn calls) here = here
+within_own x here = here
 
 -- an expression has a chain: that of its place, with its own frame on it where it is a block
 pub record HasChain (s : Nodes) (tops : List Place) (expr : ℕ) (chain : Chain) : Type 0 where

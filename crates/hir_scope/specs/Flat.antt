@@ -11,7 +11,8 @@ abbrev pub entries_in : List ScopeEntry → ScopeData → List ScopeEntry
 entries_in entries range = take (range.end - range.start) (drop range.start entries)
 
 abbrev pub scope_of : List ScopeEntry → ScopeData → Scope
-scope_of entries range = record { parent = range.parent; kind = range.kind; entries = entries_in entries range }
+scope_of entries range =
+    record { parent = range.parent; kind = range.kind; entries = entries_in entries range }
 
 abbrev pub scopes_of : List ScopeEntry → List ScopeData → List Scope
 scopes_of entries all = map (scope_of entries) all
@@ -19,10 +20,12 @@ scopes_of entries all = map (scope_of entries) all
 -- each range begins where the one before it ends, the first at `from`, and the last ends at `last`
 abbrev pub FollowEachOther : ℕ → List ScopeData → ℕ → Type 0
 FollowEachOther from [] last = from ≡ last
-FollowEachOther from (range ∷ rest) last = (range.start ≡ from) × (from ≤ range.end) × FollowEachOther range.end rest last
+FollowEachOther from (range ∷ rest) last =
+    (range.start ≡ from) × (from ≤ range.end) × FollowEachOther range.end rest last
 
 -- the ranges fill the list, each scope's parent, if any, comes before it, and the scope of each expression is there
-pub record IsFlat (entries : List ScopeEntry) (scopes : List ScopeData) (scope_by_expr : finmap.FinMap nat_cmp ℕ) : Type 0 where
+pub record IsFlat (entries : List ScopeEntry) (scopes : List ScopeData)
+    (scope_by_expr : finmap.FinMap nat_cmp ℕ) : Type 0 where
   pub fill : FollowEachOther 0 scopes (length entries)
   pub parents : (i : ℕ) (range : ScopeData) → slice_get scopes i ≡ Some range → IsBelow i range.parent
   pub there : (expr scope : ℕ) → finmap.get scope_by_expr expr ≡ Some scope → scope < length scopes

@@ -37,11 +37,13 @@ expr_form (expr.If condition then_branch else_branch) = If condition then_branch
 expr_form (expr.Let pat expr) = Let pat expr
 expr_form (expr.Block id statements tail label unsafe_) = Block id label statements tail
 expr_form (expr.Loop body label source) = Loop label body
-expr_form (expr.Closure args arg_types ret_type body closure_kind capture_by) = Closure arg_types ret_type args body
+expr_form (expr.Closure args arg_types ret_type body closure_kind capture_by) =
+    Closure arg_types ret_type args body
 expr_form (expr.Match scrutinee arms) = Match scrutinee arms
 expr_form (expr.Assignment target value) = Assignment target value
 expr_form (expr.Call callee args) = InTurn (expr_calls (expr.Call callee args))
-expr_form (expr.MethodCall receiver method_name args generic_args) = InTurn (expr_calls (expr.MethodCall receiver method_name args generic_args))
+expr_form (expr.MethodCall receiver method_name args generic_args) =
+    InTurn (expr_calls (expr.MethodCall receiver method_name args generic_args))
 expr_form (expr.Break id label) = InTurn (expr_calls (expr.Break id label))
 expr_form (expr.Return id) = InTurn (expr_calls (expr.Return id))
 expr_form (expr.Yield id) = InTurn (expr_calls (expr.Yield id))

@@ -33,9 +33,12 @@ binds s p = flat_map (entry_at s) (bindings_in s p)
 abbrev pub plain : List ScopeEntry → Frame
 plain entries = record { kind = kind.None; entries = entries }
 
--- the frame of all that these patterns bind
+-- the frame of this kind of all that these patterns bind
+abbrev pub frame_with : Nodes → ScopeKind → List ℕ → Frame
+frame_with s kind ps = record { kind = kind; entries = flat_map (binds s) ps }
+
 abbrev pub frame : Nodes → List ℕ → Frame
-frame s ps = plain (flat_map (binds s) ps)
+frame s ps = frame_with s kind.None ps
 
 -- a frame that is only of a kind
 abbrev pub of_kind : ScopeKind → Frame

@@ -1,6 +1,7 @@
 pub mod Frames
 pub mod Forms
 pub mod Leak
+pub mod Order
 pub mod Slots
 pub mod Chains
 pub mod Tops

@@ -13,7 +13,8 @@ use Rattle.hir_scope.specs.Scopes.{Scopes}
 use Rattle.hir_scope.specs.Built.{AreBodyScopes, BodyIsTooLarge, AreSignatureScopes, SignatureIsTooLarge}
 
 -- what is answered for the scopes of what was looked up, of which these are scopes, and which may be too large
-abbrev pub Answers : {X : Type 0} → (X → Scopes → Type 0) → (X → Type 0) → Option X → Result Scopes ScopesFault → Type 0
+abbrev pub Answers : {X : Type 0} → (X → Scopes → Type 0) → (X → Type 0) → Option X
+    → Result Scopes ScopesFault → Type 0
 Answers are_scopes is_too_large None result = result ≡ Err fault.Missing
 Answers are_scopes is_too_large (Some x) result =
     IfOk result (are_scopes x) × (result ≡ Err fault.Full → is_too_large x) × (result ≡ Err fault.Missing → ⊥)
@@ -36,4 +37,5 @@ store_in t id = option_map (λ e. e.0) (owned t id)
 abbrev pub AnswersOwner : Tables → ExpressionStoreOwnerId → Result Scopes ScopesFault → Type 0
 AnswersOwner t (owner.Signature def) result = AnswersStore (store_in t (owner.Signature def)) result
 AnswersOwner t (owner.Body def) result = AnswersBody (body_in t def) result
-AnswersOwner t (owner.VariantFields variant) result = AnswersStore (store_in t (owner.VariantFields variant)) result
+AnswersOwner t (owner.VariantFields variant) result =
+    AnswersStore (store_in t (owner.VariantFields variant)) result

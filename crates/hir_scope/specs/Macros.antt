@@ -10,7 +10,7 @@ use Rattle.hir_base.specs.Hygiene.{is_root}
 use Rattle.hir_base.specs.contracts.hygiene.HygieneIdPartialEq.TheImpl as hygienes
 use Rattle.hir_scope.specs.declared.macros.Expansion.{Expansion}
 use Rattle.hir_scope.specs.declared.scope.ScopeEntry.{ScopeEntry}
-use Rattle.hir_scope.specs.Frames.{Frame, Chain}
+use Rattle.hir_scope.specs.Frames.{Chain}
 use Rattle.hir_scope.specs.Scopes.{macro_def_of}
 use Rattle.hir_scope.specs.Resolution.{first_asked}
 
@@ -26,10 +26,13 @@ expansion_of expansions hygiene = if is_root hygiene then None else get hygienes
 abbrev pub outward : Option ℕ → Option Expansion → SyntaxContext → SyntaxContext
 outward None expansion hygiene = hygiene
 outward (Some id) None hygiene = hygiene
-outward (Some id) (Some expansion) hygiene = if nat_eq expansion.macro_def id then expansion.parent else hygiene
+outward (Some id) (Some expansion) hygiene =
+    if nat_eq expansion.macro_def id then expansion.parent else hygiene
 
 -- frame by frame the first entry with the name and the hygiene, where the expansions of hygienes are these
-abbrev pub resolve_through : (SyntaxContext → Option Expansion) → Chain → List ℕ → SyntaxContext → Option ScopeEntry
+abbrev pub resolve_through : (SyntaxContext → Option Expansion) → Chain → List ℕ → SyntaxContext
+    → Option ScopeEntry
 resolve_through from [] name hygiene = None
 resolve_through from (frame ∷ outer) name hygiene =
-    option_or (first_asked name hygiene frame.entries) (resolve_through from outer name (outward (macro_def_of frame.kind) (from hygiene) hygiene))
+    option_or (first_asked name hygiene frame.entries)
+    (resolve_through from outer name (outward (macro_def_of frame.kind) (from hygiene) hygiene))

@@ -32,18 +32,19 @@ asked_name (path.LangItem target name) = None
 -- the binding of an entry, where it is one of the store
 abbrev pub binding_of : Contents → Option ScopeEntry → Option ℕ
 binding_of c None = None
-binding_of c (Some entry) = if nat_lt entry.binding (length c.nodes.bindings) then Some entry.binding else None
+binding_of c (Some entry) =
+    if nat_lt entry.binding (length c.nodes.bindings) then Some entry.binding else None
 
 -- the binding that a name means at an expression, where a name is asked for
-abbrev pub meant : Contents → Scopes → ℕ → SyntaxContext → Option (List ℕ) → Option ℕ
-meant c scopes expr hygiene None = None
-meant c scopes expr hygiene (Some name) =
+abbrev pub meaning : Contents → Scopes → ℕ → SyntaxContext → Option (List ℕ) → Option ℕ
+meaning c scopes expr hygiene None = None
+meaning c scopes expr hygiene (Some name) =
     binding_of c (resolve (chain scopes.scopes (map.get scopes.scope_by_expr expr)) name hygiene)
 
 -- an expression that is a path asks where it is
 abbrev pub meant_by_expr : Contents → Scopes → ℕ → Option Expr → Option ℕ
 meant_by_expr c scopes id (Some (expr.Path path)) =
-    meant c scopes id (hygiene_of c.side_tables (ExprId id)) (asked_name path)
+    meaning c scopes id (hygiene_of c.side_tables (ExprId id)) (asked_name path)
 meant_by_expr c scopes id found = None
 
 abbrev pub binding_at : Contents → Scopes → ℕ → Option ℕ
@@ -52,7 +53,7 @@ binding_at c scopes id = meant_by_expr c scopes id (slice_get c.nodes.exprs id)
 -- a pattern that is a path, in the target of an assignment, asks where the assignment is
 abbrev pub meant_by_pat : Contents → Scopes → ℕ → ℕ → Option Pat → Option ℕ
 meant_by_pat c scopes assignment id (Some (pat.Path path)) =
-    meant c scopes assignment (hygiene_of c.side_tables (PatId id)) (asked_name path)
+    meaning c scopes assignment (hygiene_of c.side_tables (PatId id)) (asked_name path)
 meant_by_pat c scopes assignment id found = None
 
 abbrev pub target_binding_at : Contents → Scopes → ℕ → ℕ → Option ℕ

@@ -15,7 +15,8 @@ is_asked name hygiene entry = hygienes.ghosts.eq entry.hygiene hygiene && names.
 
 abbrev pub first_asked : List ℕ → SyntaxContext → List ScopeEntry → Option ScopeEntry
 first_asked name hygiene [] = None
-first_asked name hygiene (entry ∷ entries) = if is_asked name hygiene entry then Some entry else first_asked name hygiene entries
+first_asked name hygiene (entry ∷ entries) =
+    if is_asked name hygiene entry then Some entry else first_asked name hygiene entries
 
 -- the entries of a chain, one after the other
 abbrev pub entries_of : Chain → List ScopeEntry
@@ -26,7 +27,8 @@ resolve chain name hygiene = first_asked name hygiene (entries_of chain)
 
 -- An entry is found in a scope on the way outward from another: it is the first of that scope with the name and the hygiene, and the
 -- scopes before that one have none.
-pub record IsFound (scopes : List Scope) (from : ℕ) (name : List ℕ) (hygiene : SyntaxContext) (scope : ℕ) (entry : ScopeEntry) : Type 0 where
+pub record IsFound (scopes : List Scope) (from : ℕ) (name : List ℕ) (hygiene : SyntaxContext)
+    (scope : ℕ) (entry : ScopeEntry) : Type 0 where
   pub there : scope < length scopes
   pub before : List ℕ
   pub on_the_way : path scopes (Some from) ≡ before ++ path scopes (Some scope)

@@ -21,4 +21,6 @@ body_tops s self_binding formals last_root =
 
 -- Each root of a signature, over an empty frame of its own on the empty root frame. Both are around constants too.
 unfoldable pub signature_tops : List ℕ → List Place
-signature_tops roots = map (λ root. record { node = node.Expr root; here = empty ∷ empty ∷ []; constant = empty ∷ empty ∷ [] }) roots
+signature_tops roots =
+    let around = empty ∷ empty ∷ [] in
+    map (λ root. record { node = node.Expr root; here = around; constant = around }) roots

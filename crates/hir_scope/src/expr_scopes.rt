@@ -76,20 +76,11 @@ impl ExprScopes {
         ensures ok { IfOk result (λ made. made ≡ record { scopes = []; scope_by_expr = map.empty }) }
         ensures err { OnErr result (result ≡ Err ScopesFault.Memory) }
     {
-        let Ok(scope_by_expr) = ArenaMap::with_capacity(alloc, exprs) else {
-            return Err(ScopesFault::Memory);
-        };
-        // Scopes aren't counted beforehand. Code has about one for each binding; where it has more, their list grows.
-        let Ok(scopes) = Vec::with_capacity(alloc, entries) else {
-            return Err(ScopesFault::Memory);
-        };
-        let Ok(entries) = Vec::with_capacity(alloc, entries) else {
-            return Err(ScopesFault::Memory);
-        };
         Ok(ExprScopes {
-            scopes,
-            entries,
-            scope_by_expr,
+            // Scopes aren't counted beforehand. Code has about one for each binding; where it has more, their list grows.
+            scopes: Vec::with_capacity(alloc, entries)?,
+            entries: Vec::with_capacity(alloc, entries)?,
+            scope_by_expr: ArenaMap::with_capacity(alloc, exprs)?,
         })
     }
 
@@ -274,7 +265,10 @@ impl ExprScopes {
         ensures all { result ≡ range_with_len 0 (length self.now.scopes) }
         ensures there { All (λ scope. scope < length self.now.scopes) result }
     {
-        ScopeIds::below(self.scope_count() as u32)
+        ScopeIds {
+            next: 0,
+            end: self.scope_count() as u32,
+        }
     }
 
     /// A scope and those around it, innermost first; no scope for `None`. The scope has to be there: `has_scope` tests it.
@@ -285,7 +279,10 @@ impl ExprScopes {
     {
         self.parents_stand_earlier();
         a_chain_goes_outward();
-        ScopeChain::new(self, scope)
+        ScopeChain {
+            scopes: self,
+            next: scope,
+        }
     }
 }
 

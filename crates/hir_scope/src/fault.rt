@@ -1,7 +1,9 @@
 //! Why scopes were not made.
+ghost use Rattle.std.specs.Prelude.{◌≡◌};
 ghost use Rattle.hir_base.specs.Exact.{exact};
 
 use hir_base::ExactEq;
+use std::alloc::AllocError;
 use thiserror::Error;
 
 /// Why the scopes of a body or a signature were not made. Its text is its name.
@@ -20,4 +22,14 @@ pub enum ScopesFault {
 
 impl ExactEq for ScopesFault {
     ghost eq_decides = { Prim.search exact };
+}
+
+impl From<AllocError> for ScopesFault {
+    ghost use Rattle.hir_scope.specs.declared.fault.ScopesFault.TheVariants as fault;
+
+    ghost from_gives = { λ _ made. made ≡ fault.Memory };
+
+    fn from(_: AllocError) -> ScopesFault {
+        ScopesFault::Memory
+    }
 }

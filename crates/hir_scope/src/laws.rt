@@ -2,13 +2,15 @@
 //! Each is a function that does nothing: its contract is the law.
 
 ghost use Rattle.std.specs.Prelude.{◌≡◌, ◌<◌, ◌≤◌, ◌∷◌, ℕ, None, Some, List, Option, IsPermutation, length, map, slice_get};
-ghost use Rattle.std.specs.List.{All};
+ghost use Rattle.std.specs.List.{All, flat_map};
 ghost use Rattle.hir_node.specs.declared.node_id.NodeId.{NodeId};
 ghost use Rattle.hir_faults.specs.Nodes.{Nodes, Has, kids_of};
 ghost use Rattle.hir_expr_store.specs.Contents.{Contents, contents_fault};
 ghost use Rattle.hir_expr_store.specs.Under.{Reached};
 ghost use Rattle.hir_scope.specs.Leak.{leak, leak_step};
-ghost use Rattle.hir_scope.specs.Slots.{slots};
+ghost use Rattle.hir_scope.specs.Forms.{form_of};
+ghost use Rattle.hir_scope.specs.Order.{met_in_form};
+ghost use Rattle.hir_scope.specs.Slots.{call_kids, slot_kid, slots};
 ghost use Rattle.hir_scope.specs.Frames.{Chain};
 ghost use Rattle.hir_scope.specs.Built.{tops_of_body, tops_of_signature};
 ghost use Rattle.hir_scope.specs.Chains.{Place, Stands, HasChain};
@@ -34,6 +36,12 @@ pub fn slots_hold_the_kids()
     ensures { (s : Nodes) (n : NodeId) → IsPermutation (kids_of s n) (map (λ slot. slot.kid) (slots s n)) }
 {}
 
+/// The slots of a node are for its child calls in the order in which scopes are made.
+pub fn slots_follow_the_order()
+    ensures { (s : Nodes) (n : NodeId)
+        → map slot_kid (slots s n) ≡ flat_map call_kids (met_in_form (form_of s n)) }
+{}
+
 /// A node stands in a place exactly where it is reached.
 pub fn what_is_reached_stands()
     ensures stands { (s : Nodes) (tops : List Place) (n : NodeId) → Reached s (map (λ at. at.node) tops) n
@@ -52,7 +60,8 @@ pub fn chains_are_short()
 pub fn a_chain_goes_outward()
     ensures step { (scopes : List Scope) → ParentsStandEarlier scopes → (scope : ℕ) (found : Scope)
         → slice_get scopes scope ≡ Some found → path scopes (Some scope) ≡ scope ∷ path scopes found.parent }
-    ensures there { (scopes : List Scope) → ParentsStandEarlier scopes → (scope : Option ℕ) → IsIn scopes scope
+    ensures there { (scopes : List Scope) → ParentsStandEarlier scopes → (scope : Option ℕ)
+        → IsIn scopes scope
         → All (λ member. member < length scopes) (path scopes scope) }
 {}
 

@@ -10,12 +10,14 @@ ghost use Rattle.hir_scope.specs.Macros.{resolve_through};
 
 /// A name whose hygiene comes from no expansion that is known, as that of source text, means the same with macros and without.
 pub fn only_expansions_go_through_macros()
-    ensures { (from : SyntaxContext → Option Expansion) (chain : Chain) (name : List ℕ) (hygiene : SyntaxContext)
+    ensures { (from : SyntaxContext → Option Expansion) (chain : Chain) (name : List ℕ)
+        (hygiene : SyntaxContext)
         → from hygiene ≡ None → resolve_through from chain name hygiene ≡ resolve chain name hygiene }
 {}
 
 /// What a name means through macros is an entry of its chain.
 pub fn what_is_meant_through_macros_is_in_the_chain()
-    ensures { (from : SyntaxContext → Option Expansion) (chain : Chain) (name : List ℕ) (hygiene : SyntaxContext)
+    ensures { (from : SyntaxContext → Option Expansion) (chain : Chain) (name : List ℕ)
+        (hygiene : SyntaxContext)
         → IfSome (resolve_through from chain name hygiene) (λ entry. Contains (entries_of chain) entry) }
 {}

@@ -74,8 +74,8 @@ impl ExprScopes {
         expansions: &HashMap<HygieneId, Expansion>,
     ) -> Option<&ScopeEntry>
         requires { scope < length self.now.scopes }
-        ensures { option_copied result
-            ≡ resolve_through (expansion_of expansions.now) (chain self.now.scopes (Some scope)) name.now hygiene }
+        ensures { option_copied result ≡ resolve_through (expansion_of expansions.now)
+            (chain self.now.scopes (Some scope)) name.now hygiene }
     {
         let mut current = Some(scope);
         let mut hygiene = hygiene;

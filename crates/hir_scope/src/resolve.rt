@@ -3,7 +3,7 @@ ghost use Rattle.std.specs.Prelude.{◌≡◌, ◌<◌, length, option_map, IfSo
 ghost use Rattle.std.specs.Option.{option_copied};
 ghost use Rattle.hir_scope.specs.Paths.{chain};
 ghost use Rattle.hir_scope.specs.Resolution.{IsFound, first_asked, resolve};
-ghost use Rattle.hir_scope.specs.Meanings.{asked_name, binding_at, meant, target_binding_at};
+ghost use Rattle.hir_scope.specs.Meanings.{asked_name, binding_at, meaning, target_binding_at};
 
 use crate::expr_scopes::ExprScopes;
 use crate::scope::{ScopeEntry, ScopeId};
@@ -55,7 +55,8 @@ impl ExprScopes {
         hygiene: HygieneId,
     ) -> Option<(ScopeId, &ScopeEntry)>
         requires { scope < length self.now.scopes }
-        ensures found { IfSome result (λ found. IsFound self.now.scopes scope name.now hygiene found.0 found.1.now) }
+        ensures found { IfSome result (λ found.
+            IsFound self.now.scopes scope name.now hygiene found.0 found.1.now) }
         ensures none { result ≡ None → resolve (chain self.now.scopes (Some scope)) name.now hygiene ≡ None }
     {
         let mut current = Some(scope);
@@ -103,7 +104,7 @@ impl ExprScopes {
         path: &Path,
         hygiene: HygieneId,
     ) -> Option<BindingId>
-        ensures is { result ≡ meant store.now self.now at hygiene (asked_name path.now) }
+        ensures is { result ≡ meaning store.now self.now at hygiene (asked_name path.now) }
         ensures there { IfSome result (λ id. id < length store.now.nodes.bindings) }
     {
         let name = asked_name(path)?;

@@ -1,5 +1,4 @@
 //! The iterator over a scope and those around it.
-ghost use Rattle.std.specs.Prelude.{◌≡◌};
 ghost use Rattle.std.specs.Iterator.{YieldsFirst, item_count};
 
 use crate::expr_scopes::ExprScopes;
@@ -10,8 +9,8 @@ use std::marker::Model;
 /// A scope and those around it, innermost first, seen as the list of those that are left.
 #[derive(Drop)]
 pub struct ScopeChain<'a> {
-    scopes: &'a ExprScopes,
-    next: Option<ScopeId>,
+    pub(crate) scopes: &'a ExprScopes,
+    pub(crate) next: Option<ScopeId>,
 }
 
 impl<'a> Model for ScopeChain<'a> {
@@ -24,21 +23,6 @@ impl<'a> Model for ScopeChain<'a> {
     ghost view = { λ it. path it.scopes.now.scopes it.next };
 
     ghost invariant = { λ it. IsIn it.scopes.now.scopes it.next };
-}
-
-impl<'a> ScopeChain<'a> {
-    ghost use Rattle.hir_scope.specs.Scopes.{IsIn};
-    ghost use Rattle.hir_scope.specs.Paths.{path};
-
-    pub(crate) fn new(scopes: &'a ExprScopes, scope: Option<ScopeId>) -> ScopeChain<'a>
-        requires { IsIn scopes.now.scopes scope }
-        ensures { result ≡ path scopes.now.scopes scope }
-    {
-        ScopeChain {
-            scopes,
-            next: scope,
-        }
-    }
 }
 
 impl<'a> Iterator for ScopeChain<'a> {

@@ -1,7 +1,5 @@
 //! The iterator over the ids of all scopes.
-ghost use Rattle.std.specs.Prelude.{◌≡◌};
 ghost use Rattle.std.specs.Iterator.{YieldsFirst, item_count};
-ghost use Rattle.std.specs.List.{range_with_len};
 
 use crate::scope::ScopeId;
 use std::iter::FusedIterator;
@@ -10,8 +8,8 @@ use std::marker::Model;
 /// The ids of scopes, in the order in which the scopes were made, seen as the list of those that are left.
 #[derive(Drop)]
 pub struct ScopeIds {
-    next: u32,
-    end: u32,
+    pub(crate) next: u32,
+    pub(crate) end: u32,
 }
 
 impl Model for ScopeIds {
@@ -21,15 +19,6 @@ impl Model for ScopeIds {
     ghost Value = { List ℕ };
 
     ghost view = { λ it. range_with_len it.next (it.end - it.next) };
-}
-
-impl ScopeIds {
-    /// The ids below this number.
-    pub(crate) fn below(end: u32) -> ScopeIds
-        ensures { result ≡ range_with_len 0 end }
-    {
-        ScopeIds { next: 0, end }
-    }
 }
 
 impl Iterator for ScopeIds {

@@ -1,9 +1,23 @@
-//! What a walk has still to do.
-ghost use Rattle.std.specs.Prelude.{◌≡◌};
+//! What a walk has still to do: tasks, and those that a node brings.
+#![tactic(auto, using(crate::proofs::PutLemmas::puts))]
 
+ghost use Rattle.std.specs.Prelude.{◌≡◌, List, [], ◌∷◌, ◌++◌, false, Err, None, OnErr, OnOk, IfSome};
+ghost use Rattle.std.specs.List.{flat_map};
+ghost use Rattle.hir_node.specs.ChildCalls.{e, opt, pat_calls};
+ghost use Rattle.hir_node.specs.Runs.{Runs};
+ghost use Rattle.hir_scope.specs.declared.tasks.Task.{Task};
+ghost use Rattle.hir_scope.specs.Forms.{expr_form, type_form};
+ghost use Rattle.hir_scope.specs.walk.Pending.{Put, task_of, tasks_of, form_tasks, leave};
+
+use crate::fault::ScopesFault;
+use crate::order::visit_in_scope_order;
 use crate::scope::ScopeId;
 use hir_base::MacroDefId;
-use hir_node::{ExprId, PatId, TypeRefId};
+use hir_node::{
+    Expr, ExprId, Item, LifetimeRefId, MatchArm, Pat, PatId, Statement, StoreVisitor,
+    StoreVisitorExt, TypeRef, TypeRefId,
+};
+use hir_stack::Stack;
 
 /// The scope around what is met next, and that around the constants in it.
 #[derive(Clone, Copy)]
@@ -34,4 +48,259 @@ pub(crate) enum Task {
     MacroDef(MacroDefId),
     /// Restores the scopes that were current before: the one around, and the one around constants.
     Leave(ScopeId, ScopeId),
+}
+
+/// The tasks that are still to be done, the next one on top.
+#[derive(Drop)]
+pub(crate) struct Tasks {
+    pub(crate) stack: Stack<Task>,
+}
+
+/// Each child of a node becomes a task.
+impl StoreVisitor for Tasks {
+    ghost step = { λ v c w. Runs Put v.stack (task_of c) w.stack };
+
+    fn on_expr(&mut self, expr: ExprId) {
+        self.stack.put(Task::Expr(expr));
+    }
+
+    fn on_anon_const_expr(&mut self, expr: ExprId) {
+        self.stack.put(Task::Constant(expr));
+    }
+
+    fn on_pat(&mut self, pat: PatId) {
+        self.stack.put(Task::Pat(pat));
+    }
+
+    fn on_type(&mut self, type_ref: TypeRefId) {
+        self.stack.put(Task::TypeRef(type_ref));
+    }
+
+    fn on_lifetime(&mut self, _lifetime: LifetimeRefId) {}
+}
+
+/// A part of a node that brings tasks.
+trait Brings {
+    // its tasks, in order
+    ghost tasks: { Self → List Task };
+
+    fn put(&self, onto: &mut Tasks)
+        ensures { Runs Put onto.old.stack (tasks self.now) onto.new.stack };
+}
+
+/// Puts the tasks of each item, in order.
+fn put_each<T: Brings>(onto: &mut Tasks, items: &[T])
+    ensures { Runs Put onto.old.stack (flat_map T.tasks items.now) onto.new.stack }
+{
+    for item in items {
+        item.put(onto);
+    }
+}
+
+// Of a `let` the type, the initializer and the else branch come before the pattern.
+impl Brings for Statement {
+    ghost use Rattle.hir_scope.specs.walk.Pending.{statement_tasks};
+
+    ghost tasks = { statement_tasks };
+
+    fn put(&self, onto: &mut Tasks) {
+        match self {
+            Statement::Let {
+                pat,
+                type_ref,
+                initializer,
+                else_branch,
+            } => {
+                onto.on_type_opt(*type_ref);
+                onto.on_expr_opt(*initializer);
+                onto.on_expr_opt(*else_branch);
+                onto.stack.put(Task::Bound(*pat));
+            }
+            Statement::Expr { expr, .. } => onto.on_expr(*expr),
+            Statement::Item(Item::MacroDef(id)) => onto.stack.put(Task::MacroDef(*id)),
+            Statement::Item(Item::Other) => {}
+        }
+    }
+}
+
+impl Brings for MatchArm {
+    ghost use Rattle.hir_scope.specs.walk.Pending.{one_arm};
+
+    ghost tasks = { one_arm };
+
+    fn put(&self, onto: &mut Tasks) {
+        match self.guard {
+            None => onto.stack.put(Task::Arm(self.pat, self.expr)),
+            Some(guard) => onto.stack.put(Task::GuardedArm(self.pat, guard, self.expr)),
+        }
+    }
+}
+
+impl Tasks {
+    /// Pushes a task.
+    pub(crate) fn push(&mut self, task: Task) -> Result<(), ScopesFault>
+        ensures ok { OnOk result (self.new.stack.items ≡ task ∷ self.old.stack.items) }
+        ensures memory { OnErr result (result ≡ Err ScopesFault.Memory) }
+    {
+        self.stack.push(task)?;
+        Ok(())
+    }
+
+    /// Pushes an expression, where there is one.
+    pub(crate) fn push_expr_opt(&mut self, expr: Option<ExprId>) -> Result<(), ScopesFault>
+        ensures ok { OnOk result (self.new.stack.items ≡ tasks_of (opt e expr) ++ self.old.stack.items) }
+        ensures memory { OnErr result (result ≡ Err ScopesFault.Memory) }
+    {
+        match expr {
+            None => Ok(()),
+            Some(expr) => self.push(Task::Expr(expr)),
+        }
+    }
+
+    /// Puts a task that restores these scopes.
+    fn put_leave(&mut self, around: Around)
+        ensures { Runs Put self.old.stack (leave around ∷ []) self.new.stack }
+    {
+        self.stack.put(Task::Leave(around.here, around.constant));
+    }
+
+    /// Puts the tasks of what is inside an expression. Leaving the expression restores `around`.
+    // One arm a form: split, the function would name variants twice.
+    fn put_in_expr(&mut self, expr: &Expr, around: Around)
+        ensures { Runs Put self.old.stack (form_tasks around (expr_form expr.now)) self.new.stack }
+    {
+        match expr {
+            Expr::If {
+                condition,
+                then_branch,
+                else_branch,
+            } => {
+                self.on_expr(*condition);
+                self.on_expr(*then_branch);
+                self.put_leave(around);
+                self.on_expr_opt(*else_branch);
+            }
+            Expr::Let { pat, expr } => {
+                self.on_expr(*expr);
+                self.stack.put(Task::Bound(*pat));
+            }
+            Expr::Block {
+                statements,
+                tail,
+                ..
+            } => {
+                put_each(self, statements.as_slice());
+                self.on_expr_opt(*tail);
+                self.put_leave(around);
+            }
+            Expr::Loop { body, .. } => {
+                self.on_expr(*body);
+                self.put_leave(around);
+            }
+            Expr::Closure { .. } => {
+                visit_in_scope_order(expr, self);
+                self.put_leave(around);
+            }
+            Expr::Match { expr, arms } => {
+                self.on_expr(*expr);
+                put_each(self, arms.as_slice());
+            }
+            Expr::Assignment { target, value } => {
+                self.on_pat(*target);
+                self.put_leave(around);
+                self.on_expr(*value);
+            }
+            Expr::Missing
+            | Expr::Underscore
+            | Expr::IncludeBytes
+            | Expr::Literal(_)
+            | Expr::Continue { .. }
+            | Expr::Path(_)
+            | Expr::Array(_)
+            | Expr::OffsetOf(_)
+            | Expr::Const(_)
+            | Expr::Call { .. }
+            | Expr::MethodCall { .. }
+            | Expr::Break { .. }
+            | Expr::Return { .. }
+            | Expr::Yield { .. }
+            | Expr::Yeet { .. }
+            | Expr::Become { .. }
+            | Expr::Await { .. }
+            | Expr::Field { .. }
+            | Expr::Ref { .. }
+            | Expr::UnaryOp { .. }
+            | Expr::RecordLit { .. }
+            | Expr::Cast { .. }
+            | Expr::BinaryOp { .. }
+            | Expr::Index { .. }
+            | Expr::Tuple { .. } => expr.visit_children(self),
+        }
+    }
+
+    /// Puts the tasks of what is inside a type. Leaving the type restores `around`.
+    fn put_in_type(&mut self, type_ref: &TypeRef, around: Around)
+        ensures { Runs Put self.old.stack (form_tasks around (type_form type_ref.now)) self.new.stack }
+    {
+        match type_ref {
+            TypeRef::PatternType(inner, pat) => {
+                self.on_type(*inner);
+                self.stack.put(Task::Bound(*pat));
+                self.put_leave(around);
+            }
+            TypeRef::Never
+            | TypeRef::Placeholder
+            | TypeRef::Error
+            | TypeRef::TypeParam(_)
+            | TypeRef::Tuple(_)
+            | TypeRef::Path(_)
+            | TypeRef::RawPtr(_, _)
+            | TypeRef::Reference(_)
+            | TypeRef::Array(_)
+            | TypeRef::Slice(_)
+            | TypeRef::Fn(_)
+            | TypeRef::ImplTrait(_)
+            | TypeRef::DynTrait(_) => type_ref.visit_children(self),
+        }
+    }
+
+    /// Pushes the tasks of what is inside an expression, the first on top.
+    pub(crate) fn push_in_expr(&mut self, expr: &Expr, around: Around) -> Result<(), ScopesFault>
+        ensures ok { OnOk result (self.new.stack.items
+            ≡ form_tasks around (expr_form expr.now) ++ self.old.stack.items) }
+        ensures memory { OnErr result (result ≡ Err ScopesFault.Memory) }
+    {
+        let below = self.stack.len();
+        self.put_in_expr(expr, around);
+        self.stack.turn_over(below)?;
+        Ok(())
+    }
+
+    /// Pushes the tasks of what is inside a pattern, the first on top.
+    pub(crate) fn push_in_pat(&mut self, pat: &Pat) -> Result<(), ScopesFault>
+        ensures ok { OnOk result (self.new.stack.items
+            ≡ tasks_of (pat_calls pat.now) ++ self.old.stack.items) }
+        ensures memory { OnErr result (result ≡ Err ScopesFault.Memory) }
+    {
+        let below = self.stack.len();
+        pat.visit_children(self);
+        self.stack.turn_over(below)?;
+        Ok(())
+    }
+
+    /// Pushes the tasks of what is inside a type, the first on top.
+    pub(crate) fn push_in_type(
+        &mut self,
+        type_ref: &TypeRef,
+        around: Around,
+    ) -> Result<(), ScopesFault>
+        ensures ok { OnOk result (self.new.stack.items
+            ≡ form_tasks around (type_form type_ref.now) ++ self.old.stack.items) }
+        ensures memory { OnErr result (result ≡ Err ScopesFault.Memory) }
+    {
+        let below = self.stack.len();
+        self.put_in_type(type_ref, around);
+        self.stack.turn_over(below)?;
+        Ok(())
+    }
 }

@@ -53,8 +53,8 @@ pub fn ask_kept(
     Ok(true)
 }
 
-/// Whether two values are equal by `==`, where `is_same` says the same.
-fn write_same(is_equal: bool, is_same: bool, answer: &mut Answer) -> Result<(), AllocError> {
+/// Writes whether two values are equal by `==`, where `is_same` says the same.
+pub fn write_same(is_equal: bool, is_same: bool, answer: &mut Answer) -> Result<(), AllocError> {
     if is_equal != is_same {
         return differs(answer);
     }

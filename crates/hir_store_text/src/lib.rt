@@ -22,7 +22,7 @@ mod try_walks;
 mod walks;
 
 pub use building::done;
-pub use equality::ask_kept;
+pub use equality::{ask_kept, write_same};
 pub use making::make;
 pub use missing::{differs, refuse, refuse_missing, unknown};
 pub use questions::ask;

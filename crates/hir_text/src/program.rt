@@ -4,7 +4,7 @@ ghost use Rattle.std.specs.Prelude.{◌≡◌, ◌++◌, IsFalse, IsTrue, false}
 
 use hir_io::{EndFailed, Sink, Source};
 use hir_notation::{Answer, Stop, Words};
-use hir_run::run_and_report;
+use hir_run::{report, run as run_program};
 use std::alloc::{AllocError, Global};
 use std::mem;
 
@@ -225,7 +225,8 @@ fn run_over(
     let mut reader = Given::new(input, good_reads);
     let mut writer = Kept::new(alloc, good_writes);
     let mut errors = Kept::new(alloc, u64::MAX);
-    let status = run_and_report(alloc, &mut reader, &mut writer, &mut errors);
+    let outcome = run_program(alloc, &mut reader, &mut writer);
+    let status = report(&outcome, &mut errors);
     if status == 4 || writer.is_out_of_memory || errors.is_out_of_memory {
         return Err(Stop::Memory);
     }

@@ -27,6 +27,14 @@ pub(crate) fn ask_tables(
     )
 }
 
+/// The store that is kept, where there is one.
+fn kept_store(kept: Option<&Kept>) -> Option<&ExpressionStore> {
+    match kept {
+        Some(kept) => Some(&kept.0),
+        None => None,
+    }
+}
+
 /// Answers a question on a store, its owner and what is kept, where the line is one.
 fn ask_store(
     alloc: Global,
@@ -42,7 +50,7 @@ fn ask_store(
     let body = asked_body(tables, owner);
     Ok(
         hir_defs_text::ask_of_body(body, word, words, answer)?
-            || scopes::ask(alloc, store, body, word, words, answer)?
+            || scopes::ask(alloc, kept_store(kept), store, body, word, words, answer)?
             || scopes::ask_of_tables(alloc, tables, store, owner, word, words, answer)?
             || texts::ask_of_store(alloc, tables, store, owner, word, words, answer)?
             || texts::ask_of_body(alloc, tables, owner, word, words, answer)?

@@ -2,15 +2,17 @@
 
 ghost use Rattle.std.specs.Prelude.{◌<◌, length};
 
-use hir_base::{ExpressionStoreOwnerId, HygieneId, MacroDefId, Name, Steps, SyntaxContext};
+use hir_base::{
+    ExactEq, ExpressionStoreOwnerId, HygieneId, MacroDefId, Name, Steps, SyntaxContext,
+};
 use hir_captures::{CapturesFault, captures};
 use hir_defs::{Body, Tables};
 use hir_defs_text::asked_body;
 use hir_node::{BindingId, ExprId};
-use hir_notation::{Answer, Stop, Words, next_hygiene, opt_hygiene};
+use hir_notation::{Answer, Stop, Words, next_hygiene, next_owner, opt_hygiene};
 use hir_scope::{Expansion, ExprScopes, ScopeEntry, ScopeId, ScopesFault};
 use hir_store::ExpressionStore;
-use hir_store_text::{differs, refuse, unknown};
+use hir_store_text::{differs, refuse, unknown, write_same};
 use hir_words::value_of;
 use std::alloc::{AllocError, Global};
 use std::collections::HashMap;
@@ -26,9 +28,10 @@ enum Kind {
     ResolveThrough,
     Captures,
     Counted,
+    Same,
 }
 
-const KINDS: [(&str, Kind); 8] = [
+const KINDS: [(&str, Kind); 9] = [
     ("chain", Kind::Chain),
     ("frames", Kind::Frames),
     ("scope-counts", Kind::Counts),
@@ -37,6 +40,7 @@ const KINDS: [(&str, Kind); 8] = [
     ("resolve-through", Kind::ResolveThrough),
     ("captures", Kind::Captures),
     ("counted-scopes", Kind::Counted),
+    ("same-scopes", Kind::Same),
 ];
 
 /// What is asked of scopes that are made once.
@@ -56,6 +60,7 @@ enum Question {
     Scopes(OfScopes),
     Captures(ExprId),
     Counted,
+    Same,
 }
 
 /// What stands behind the word `resolve`.
@@ -111,6 +116,7 @@ fn read(alloc: Global, kind: Kind, words: &mut Words<'_>) -> Result<Question, St
         Kind::ResolveThrough => Ok(Question::Scopes(read_resolve_through(alloc, words)?)),
         Kind::Captures => Ok(Question::Captures(words.next_id()?)),
         Kind::Counted => Ok(Question::Counted),
+        Kind::Same => Ok(Question::Same),
     }
 }
 
@@ -349,24 +355,33 @@ fn made_of_owner(
     ExprScopes::of(alloc, tables, Lent(owner))
 }
 
-/// Whether scopes were made that are the same as these. If not, the answer says why.
-fn are_same(
+/// Whether scopes that were made are the same as these. Where there are none, the answer says why.
+fn compared(
     alloc: Global,
     outcome: Result<ExprScopes, ScopesFault>,
     scopes: &ExprScopes,
     answer: &mut Answer,
-) -> Result<bool, Stop> {
-    let Some(others) = opened(alloc, outcome, answer)? else {
-        return Ok(false);
-    };
-    let is_same = *scopes == *others;
-    if !is_same {
-        differs(answer)?;
+) -> Result<Option<bool>, Stop> {
+    match opened(alloc, outcome, answer)? {
+        Some(others) => Ok(Some(*scopes == *others)),
+        None => Ok(None),
     }
-    Ok(is_same)
 }
 
-/// Compares scopes with those that are made by a lookup of the owner.
+/// Writes how many scopes and entries there are, where others were the same. Where there were none, the answer says why.
+fn write_compared(
+    is_same: Option<bool>,
+    scopes: &ExprScopes,
+    answer: &mut Answer,
+) -> Result<(), AllocError> {
+    match is_same {
+        Some(true) => write_counts(scopes, answer),
+        Some(false) => differs(answer),
+        None => Ok(()),
+    }
+}
+
+/// Compares scopes with those that are made by a lookup of the owner, of which both calls find some or none.
 fn ask_looked_up(
     alloc: Global,
     tables: &Tables,
@@ -374,15 +389,15 @@ fn ask_looked_up(
     scopes: &ExprScopes,
     answer: &mut Answer,
 ) -> Result<(), Stop> {
-    if are_same(alloc, made_by_kind(alloc, tables, *owner), scopes, answer)?
-        && are_same(alloc, made_of_owner(alloc, tables, owner), scopes, answer)?
-    {
-        write_counts(scopes, answer)?;
+    let by_kind = compared(alloc, made_by_kind(alloc, tables, *owner), scopes, answer)?;
+    let of_all = compared(alloc, made_of_owner(alloc, tables, owner), scopes, answer)?;
+    if by_kind != of_all {
+        return Ok(differs(answer)?);
     }
-    Ok(())
+    Ok(write_compared(by_kind, scopes, answer)?)
 }
 
-/// `scopes-by-tables`: the same for the scopes of the store that is asked, where it has an owner.
+/// `scopes-by-tables`: the same of the store that is asked, by its owner or by the one that is named.
 fn ask_by_tables(
     alloc: Global,
     tables: &Tables,
@@ -413,9 +428,40 @@ pub(crate) fn ask_of_tables(
     if word != b"scopes-by-tables".as_slice() {
         return Ok(false);
     }
+    let owner = if words.is_end() {
+        owner
+    } else {
+        Some(next_owner(words)?)
+    };
     words.end()?;
     ask_by_tables(alloc, tables, store, owner, answer)?;
     Ok(true)
+}
+
+/// Writes whether two scopes are equal.
+fn write_equal(
+    first: &ExprScopes,
+    second: &ExprScopes,
+    answer: &mut Answer,
+) -> Result<(), AllocError> {
+    write_same(*first == *second, first.is_same(second), answer)
+}
+
+/// `same-scopes`: whether the scopes of the store that is kept equal those of the one that is asked.
+fn ask_same(
+    alloc: Global,
+    kept: &ExpressionStore,
+    store: &ExpressionStore,
+    body: Option<&Body>,
+    answer: &mut Answer,
+) -> Result<(), Stop> {
+    let Some(first) = opened(alloc, ExprScopes::new_store(alloc, kept), answer)? else {
+        return Ok(());
+    };
+    match opened(alloc, made(alloc, store, body), answer)? {
+        Some(second) => Ok(write_equal(&first, &second, answer)?),
+        None => Ok(()),
+    }
 }
 
 /// `counted-scopes`: compares the scopes of a body with those that are counted.
@@ -425,10 +471,8 @@ fn ask_counted(alloc: Global, body: &Body, answer: &mut Answer) -> Result<(), St
     let Some(counted) = opened(alloc, counted, answer)? else {
         return Ok(());
     };
-    if are_same(alloc, ExprScopes::new_body(alloc, body), &counted, answer)? {
-        write_counts(&counted, answer)?;
-    }
-    Ok(())
+    let is_same = compared(alloc, ExprScopes::new_body(alloc, body), &counted, answer)?;
+    Ok(write_compared(is_same, &counted, answer)?)
 }
 
 /// Writes the bindings that were found to be captured.
@@ -481,6 +525,7 @@ fn ask_scopes(
 /// Answers what is asked of scopes or captures.
 fn write_asked(
     alloc: Global,
+    kept: Option<&ExpressionStore>,
     store: &ExpressionStore,
     body: Option<&Body>,
     question: &Question,
@@ -496,12 +541,17 @@ fn write_asked(
             Some(body) => ask_counted(alloc, body, answer),
             None => Ok(unknown(answer)?),
         },
+        Question::Same => match kept {
+            Some(kept) => ask_same(alloc, kept, store, body, answer),
+            None => Ok(unknown(answer)?),
+        },
     }
 }
 
 /// Answers a question on scopes or captures; answers whether it is such a question.
 pub(crate) fn ask(
     alloc: Global,
+    kept: Option<&ExpressionStore>,
     store: &ExpressionStore,
     body: Option<&Body>,
     word: &[u8],
@@ -511,6 +561,6 @@ pub(crate) fn ask(
     let Some(question) = read_line(alloc, word, words)? else {
         return Ok(false);
     };
-    write_asked(alloc, store, body, &question, answer)?;
+    write_asked(alloc, kept, store, body, &question, answer)?;
     Ok(true)
 }

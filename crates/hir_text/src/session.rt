@@ -41,6 +41,9 @@ trait Lines {
         answer: &mut Answer,
     ) -> Result<bool, Stop>;
 
+    /// Finishes what lines made; answers whether there is a store to ask.
+    fn ready(&mut self) -> Result<bool, Stop>;
+
     /// Answers a question, where the line is one.
     fn ask(
         &mut self,
@@ -58,6 +61,62 @@ fn is_skipped(line: &[u8]) -> bool {
     }
 }
 
+/// Answers a question, where the line is one.
+fn ask_once<L: Lines>(
+    alloc: Global,
+    lines: &mut L,
+    mut words: Words<'_>,
+) -> Result<Option<Answer>, Stop> {
+    let word = words.keyword();
+    let mut answer = Answer::new(alloc);
+    if lines.ask(word, &mut words, &mut answer)? {
+        return Ok(Some(answer));
+    }
+    Ok(None)
+}
+
+/// Answers a question to which memory was refused; where it is refused again, that is the answer.
+fn ask_once_more<L: Lines>(
+    alloc: Global,
+    lines: &mut L,
+    words: Words<'_>,
+) -> Result<Option<Answer>, Stop> {
+    match ask_once(alloc, lines, words) {
+        Err(Stop::Memory) => {
+            let mut answer = Answer::new(alloc);
+            answer.refuse();
+            answer.word("Memory")?;
+            Ok(Some(answer))
+        }
+        outcome => outcome,
+    }
+}
+
+/// `again QUESTION`: answers a question, by a second call where memory is refused to the first.
+// The nodes are finished before, and once: where memory is refused to that, they aren't there any more.
+fn ask_again<L: Lines>(
+    alloc: Global,
+    lines: &mut L,
+    words: Words<'_>,
+) -> Result<Option<Answer>, Stop> {
+    if !lines.ready()? {
+        return ask_once(alloc, lines, words);
+    }
+    match ask_once(alloc, lines, words) {
+        Err(Stop::Memory) => ask_once_more(alloc, lines, words),
+        outcome => outcome,
+    }
+}
+
+/// Puts an answer behind the others, where the line was a question.
+fn push_answer(number: usize, answer: Option<Answer>, answers: &mut Answers) -> Result<(), Stop> {
+    let Some(answer) = answer else {
+        return Err(Stop::Bad);
+    };
+    answers.push(number, answer)?;
+    Ok(())
+}
+
 /// Does what a line says, and puts its answer behind the others, where it has one.
 fn take_line<L: Lines>(
     alloc: Global,
@@ -70,6 +129,9 @@ fn take_line<L: Lines>(
         return Ok(());
     }
     let mut words = Words::new(line);
+    if words.eat(b"again ") {
+        return push_answer(number, ask_again(alloc, lines, words)?, answers);
+    }
     let word = words.keyword();
     if lines.make(word, &mut words)? {
         return Ok(());
@@ -269,6 +331,11 @@ impl Lines for Session {
             answer,
         )?;
         Ok(true)
+    }
+
+    fn ready(&mut self) -> Result<bool, Stop> {
+        let mut answer = Answer::new(self.alloc);
+        self.nodes.ready(self.alloc, &mut answer)
     }
 
     fn ask(

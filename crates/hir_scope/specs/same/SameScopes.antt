@@ -16,15 +16,19 @@ use Rattle.hir_scope.specs.contracts.scope.ScopeKindExactEq.TheImpl.Laws as kind
 use Rattle.hir_scope.specs.Scopes.{Scope, Scopes}
 
 abbrev pub same_scope : Scope → Scope → Bool
-same_scope x y = option_eq eqb x.parent y.parent && (kind.ghosts.eq x.kind y.kind && pointwise entry.ghosts.eq x.entries y.entries)
+same_scope x y =
+    option_eq eqb x.parent y.parent
+    && (kind.ghosts.eq x.kind y.kind && pointwise entry.ghosts.eq x.entries y.entries)
 
 abbrev pub same_scopes : Scopes → Scopes → Bool
-same_scopes x y = pointwise same_scope x.scopes y.scopes && same_maps nat_cmp eqb x.scope_by_expr y.scope_by_expr
+same_scopes x y =
+    pointwise same_scope x.scopes y.scopes && same_maps nat_cmp eqb x.scope_by_expr y.scope_by_expr
 
 pub scope_decides : (x y : Scope) → Decides (same_scope x y) (x ≡ y)
 scope_decides x y =
     and_decides _ _ (optional_numbers_decide x.parent y.parent)
-    (both _ _ (kind_law.lawful.eq_decides x.kind y.kind) (pointwise_decides entry_law.lawful.eq_decides x.entries y.entries))
+    (both _ _ (kind_law.lawful.eq_decides x.kind y.kind)
+    (pointwise_decides entry_law.lawful.eq_decides x.entries y.entries))
     (λ p r i. record { parent = p i; kind = r.0 i; entries = r.1 i })
     (λ e i. (e i).parent)
     (λ e. (λ i. (e i).kind, λ i. (e i).entries))
@@ -32,7 +36,8 @@ scope_decides x y =
 pub scopes_decide : (x y : Scopes) → Decides (same_scopes x y) (x ≡ y)
 scopes_decide x y =
     and_decides _ _ (pointwise_decides scope_decides x.scopes y.scopes)
-    (same_maps_decides nat_cmp_total eqb map.nat_cmp-IsAntisymmetric unsigned_Decides x.scope_by_expr y.scope_by_expr)
+    (same_maps_decides nat_cmp_total eqb map.nat_cmp-IsAntisymmetric unsigned_Decides
+    x.scope_by_expr y.scope_by_expr)
     (λ s m i. record { scopes = s i; scope_by_expr = m i })
     (λ e i. (e i).scopes)
     (λ e i. (e i).scope_by_expr)

@@ -1,5 +1,5 @@
 -- Where the walk over a body or a signature begins: its first scopes, and what it has to do. Only contracts within this crate cite it.
-use Rattle.std.specs.Prelude.{◌≡◌, ℕ, ◌<◌, suc, List, [], ◌∷◌, ◌++◌, Some, None, length, option_map, slice_get, replicate}
+use Rattle.std.specs.Prelude.{◌≡◌, ℕ, ◌<◌, suc, List, [], ◌∷◌, ◌++◌, Some, None, Contains, IfSome, length, option_map, slice_get, replicate}
 use Rattle.std.specs.List.{flat_map}
 use Rattle.std.specs.FinMap as map
 use Rattle.hir_forest.specs.Faults.{root_nodes}
@@ -7,13 +7,14 @@ use Rattle.hir_node.specs.ChildCalls.{e, p, opt}
 use Rattle.hir_node.specs.declared.pat.Pat.{Pat}
 use Rattle.hir_node.specs.declared.node_id.NodeId.{NodeId}
 use Rattle.hir_faults.specs.Down.{KidsFall}
-use Rattle.hir_faults.specs.Nodes.{Nodes, kids_of}
+use Rattle.hir_faults.specs.Nodes.{Nodes, Has, kids_of}
 use Rattle.hir_faults.specs.Sound.{IsSoundNode}
 use Rattle.hir_faults.specs.Tested.{tested_pat}
 use Rattle.hir_expr_store.specs.PatLists.{bindings_at, bindings_in, child_pats_of}
 use Rattle.hir_expr_store.specs.Under.{nodes_under}
 use Rattle.hir_expr_store.specs.Contents.{Contents}
-use Rattle.hir_items.specs.Bodies.{BodyContents, formals_of, last_root}
+use Rattle.hir_items.specs.Bodies.{BodyContents, AreBelow, formals_of, last_root, tops}
+use Rattle.hir_items.specs.Signatures.{root_tops}
 use Rattle.hir_scope.specs.declared.scope.ScopeEntry.{ScopeEntry}
 use Rattle.hir_scope.specs.declared.scope.ScopeKind.TheVariants as kind
 use Rattle.hir_scope.specs.declared.tasks.Around.{Around}
@@ -24,12 +25,25 @@ use Rattle.hir_scope.specs.Tops.{root_frame}
 use Rattle.hir_scope.specs.walk.Pending.{tasks_of}
 use Rattle.hir_scope.specs.walk.Machine.{Machine}
 
--- what the laws say of nodes without a fault, where a walk over them needs it
+-- 1. What the laws say of what has no fault, where a walk over it needs it
+
 pub record IsSound (s : Nodes) : Type 0 where
   pub fall : KidsFall s
   pub under : (n : NodeId) → nodes_under s n ≡ n ∷ flat_map (nodes_under s) (kids_of s n)
-  pub bindings : (id : ℕ) → id < length s.pats → bindings_in s id ≡ bindings_at s id ++ flat_map (bindings_in s) (child_pats_of s id)
+  pub bindings : (id : ℕ) → id < length s.pats
+      → bindings_in s id ≡ bindings_at s id ++ flat_map (bindings_in s) (child_pats_of s id)
   pub pats : (id : ℕ) (x : Pat) → slice_get s.pats id ≡ Some x → IsSoundNode s (tested_pat x)
+
+pub record IsSoundStore (c : Contents) : Type 0 where
+  pub nodes : IsSound c.nodes
+  pub there : (n : NodeId) → Contains (root_tops c) n → Has c.nodes n
+
+pub record IsSoundBody (b : BodyContents) : Type 0 where
+  pub nodes : IsSound b.store.nodes
+  pub there : (n : NodeId) → Contains (tops b) n → Has b.store.nodes n
+  pub self_there : IfSome b.self_param (AreBelow (length b.store.nodes.bindings))
+
+-- 2. The state at first
 
 -- the first scope is current, also for constants
 abbrev pub at_first : Around
@@ -41,7 +55,8 @@ for_none scopes = record { scopes = scopes; scope_by_expr = map.empty }
 
 -- what the root scope of a body brings in
 abbrev pub root_entries : BodyContents → List ScopeEntry
-root_entries b = (root_frame b.store.nodes (option_map (λ p. p.formal) b.self_param) (formals_of b.params)).entries
+root_entries b =
+    (root_frame b.store.nodes (option_map (λ p. p.formal) b.self_param) (formals_of b.params)).entries
 
 abbrev pub body_root : BodyContents → Scope
 body_root b = record { parent = None; kind = kind.None; entries = root_entries b }
@@ -71,7 +86,8 @@ scopes_in_root n = signature_root ∷ replicate n scope_in_root
 -- each root in a scope of its own: the last in the first of these
 abbrev pub root_tasks : List ℕ → List Task
 root_tasks [] = []
-root_tasks (root ∷ roots) = task.Leave (suc (length roots)) (suc (length roots)) ∷ task.Expr root ∷ root_tasks roots
+root_tasks (root ∷ roots) =
+    task.Leave (suc (length roots)) (suc (length roots)) ∷ task.Expr root ∷ root_tasks roots
 
 -- a signature's, where these of its roots are to be met
 abbrev pub roots_begin : List ℕ → Machine

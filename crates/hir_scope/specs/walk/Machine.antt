@@ -33,7 +33,11 @@ machine w tasks = record { scopes = w.scopes; around = w.around; tasks = tasks }
 
 -- with all that is still to do
 abbrev pub state : Walk → Machine
-state w = machine w w.tasks
+state w = machine w w.tasks.stack.items
+
+-- where this task is to be done first
+abbrev pub doing : Walk → Task → Machine
+doing w task = machine w (task ∷ w.tasks.stack.items)
 
 -- the chain of each scope
 abbrev pub chain_of : List Scope → ℕ → Chain
@@ -57,15 +61,9 @@ about tasks = flat_map task_kids tasks
 -- the scopes that tasks take back are there
 abbrev pub LeavesWithin : ℕ → List Task → Type 0
 LeavesWithin n [] = ⊤
-LeavesWithin n (task.Leave outer outer_constant ∷ rest) = (outer < n) × (outer_constant < n) × LeavesWithin n rest
-LeavesWithin n (task.Expr id ∷ rest) = LeavesWithin n rest
-LeavesWithin n (task.Constant id ∷ rest) = LeavesWithin n rest
-LeavesWithin n (task.Pat id ∷ rest) = LeavesWithin n rest
-LeavesWithin n (task.TypeRef id ∷ rest) = LeavesWithin n rest
-LeavesWithin n (task.Bound id ∷ rest) = LeavesWithin n rest
-LeavesWithin n (task.Arm pat expr ∷ rest) = LeavesWithin n rest
-LeavesWithin n (task.GuardedArm pat guard expr ∷ rest) = LeavesWithin n rest
-LeavesWithin n (task.MacroDef id ∷ rest) = LeavesWithin n rest
+LeavesWithin n (task.Leave outer outer_constant ∷ rest) =
+    (outer < n) × (outer_constant < n) × LeavesWithin n rest
+LeavesWithin n (t ∷ rest) = LeavesWithin n rest
 
 abbrev pub AreThere : Nodes → List NodeId → Type 0
 AreThere s [] = ⊤
@@ -97,7 +95,8 @@ node_tasks s n = form_tasks (record { here = 0; constant = 0 }) (form_of s n)
 
 -- the frames that a node opens: as it is met, and by its tasks
 abbrev pub node_frames : Nodes → NodeId → List Frame
-node_frames s n = (opens_here s (form_of s n) ++ opens_constant (form_of s n)) ++ flat_map (task_frames s) (node_tasks s n)
+node_frames s n =
+    (opens_here s (form_of s n) ++ opens_constant (form_of s n)) ++ flat_map (task_frames s) (node_tasks s n)
 
 -- what frames weigh that are still to be opened
 abbrev pub weight_left : Nodes → (Frame → ℕ) → List Task → ℕ
@@ -167,6 +166,13 @@ pub record Moves (s : Nodes) (old new : Machine) (met : List Place) : Type 0 whe
   pub weights : (w : Frame → ℕ) → weight s w old ≡ weight s w new
   pub shorter : turns_left s new.tasks < turns_left s old.tasks
 
+-- an expression was met, and its scope is this one
+pub record Meets (s : Nodes) (old : Walk) (expr : ℕ) (new : Walk) (scope : ℕ) : Type 0 where
+  pub moves : Moves s (doing old (task.Expr expr)) (state new)
+      (place (node.Expr expr) (here_of (state old)) (constant_of (state old)) ∷ [])
+  pub frames : HasFrames new.scopes.scopes scope
+      (within_own (form_of s (node.Expr expr)) (here_of (state old)))
+
 -- an expression that was given its scope, with the frames around it
 pub record Given : Type 0 where
   pub expr : ℕ
@@ -188,14 +194,7 @@ IsRight s scopes g = HasFrames scopes g.scope (within_own (form_of s (node.Expr 
 -- the scope of an expression: of a block the one inside it, of any other the one around it
 abbrev pub scope_within : ScopingForm → ℕ → ℕ → ℕ
 scope_within (form.Block id label statements tail) inside outside = inside
-scope_within (form.If condition then_branch else_branch) inside outside = outside
-scope_within (form.Let pat expr) inside outside = outside
-scope_within (form.Loop label body) inside outside = outside
-scope_within (form.Closure arg_types ret_type args body) inside outside = outside
-scope_within (form.Match scrutinee arms) inside outside = outside
-scope_within (form.Assignment target value) inside outside = outside
-scope_within (form.PatternType type pat) inside outside = outside
-scope_within (form.InTurn calls) inside outside = outside
+scope_within x inside outside = outside
 
 -- all that was done since a state
 pub record Gone (s : Nodes) (old new : Machine) (before after : ℕ) : Type 0 where

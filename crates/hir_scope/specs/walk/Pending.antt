@@ -1,7 +1,7 @@
 -- What a walk has still to do: the tasks of each scoping form, and the expressions that tasks will meet, each in its place.
 use Rattle.std.specs.Prelude.{ℕ, List, [], ◌∷◌, ◌++◌, map, Option, Some, None}
 use Rattle.std.specs.List.{flat_map}
-use Rattle.hir_node.specs.ChildCalls.{Call, OnExpr, OnAnonConst, OnPat, OnType, OnLifetime, e, p, t, opt, kids}
+use Rattle.hir_node.specs.ChildCalls.{Call, OnExpr, OnAnonConst, OnPat, OnType, OnLifetime, e, t, opt, kids}
 use Rattle.hir_node.specs.declared.expr_types.Item.{Item}
 use Rattle.hir_node.specs.declared.expr_types.Item.TheVariants as item
 use Rattle.hir_node.specs.declared.expr_types.MatchArm.{MatchArm}
@@ -10,6 +10,7 @@ use Rattle.hir_node.specs.declared.expr_types.Statement.TheVariants as statement
 use Rattle.hir_node.specs.declared.node_id.NodeId.{NodeId}
 use Rattle.hir_node.specs.declared.node_id.NodeId.TheVariants as node
 use Rattle.hir_faults.specs.Nodes.{Nodes}
+use Rattle.hir_stack.specs.Stacks.{Stacked, Puts}
 use Rattle.hir_scope.specs.declared.scope.ScopeKind.TheVariants as kind
 use Rattle.hir_scope.specs.declared.tasks.Around.{Around}
 use Rattle.hir_scope.specs.declared.tasks.Task.{Task}
@@ -18,9 +19,14 @@ use Rattle.hir_scope.specs.Frames.{Frame, Chain, frame, of_kind, empty}
 use Rattle.hir_scope.specs.Forms.{ScopingForm}
 use Rattle.hir_scope.specs.Forms as form
 use Rattle.hir_scope.specs.Leak.{leak}
+use Rattle.hir_scope.specs.Order.{met_in_arm, met_in_closure}
 use Rattle.hir_scope.specs.Slots.{own_frame, block_constants, arm_slots, loop_kind}
 use Rattle.hir_scope.specs.Chains.{Place, place_kid}
-use Rattle.hir_scope.specs.walk.PlacesUnder.{place, exprs_under}
+use Rattle.hir_scope.specs.walk.PlacesUnder.{exprs_at, exprs_under}
+
+-- a task is put onto others
+abbrev pub Put : Stacked Task → Task → Stacked Task → Type 0
+Put v task w = Puts v (task ∷ []) w
 
 -- the task of a call: a lifetime has none
 abbrev pub task_of : Call → List Task
@@ -51,25 +57,26 @@ guarded_task pat expr (Some guard) = task.GuardedArm pat guard expr
 abbrev pub arm_task : MatchArm → Task
 arm_task arm = guarded_task arm.pat arm.expr arm.guard
 
+abbrev pub one_arm : MatchArm → List Task
+one_arm arm = arm_task arm ∷ []
+
 abbrev pub arm_with : ℕ → ℕ → Option ℕ → MatchArm
 arm_with pat expr guard = record { pat = pat; guard = guard; expr = expr }
 
 abbrev pub leave : Around → Task
 leave around = task.Leave around.here around.constant
 
--- the calls of a closure in the order in which they are met: types see none of its bindings
-abbrev pub closure_calls : List (Option ℕ) → Option ℕ → List ℕ → ℕ → List Call
-closure_calls arg_types ret_type args body = (flat_map (opt t) arg_types ++ opt t ret_type) ++ (flat_map p args ++ e body)
-
 -- the tasks of what is inside a node; leaving it restores `around`
 abbrev pub form_tasks : Around → ScopingForm → List Task
 form_tasks around (form.If condition then_branch else_branch) =
     tasks_of (e condition ++ e then_branch) ++ (leave around ∷ tasks_of (opt e else_branch))
 form_tasks around (form.Let pat expr) = task.Expr expr ∷ task.Bound pat ∷ []
-form_tasks around (form.Block id label statements tail) = flat_map statement_tasks statements ++ (tasks_of (opt e tail) ++ leave around ∷ [])
+form_tasks around (form.Block id label statements tail) =
+    flat_map statement_tasks statements ++ (tasks_of (opt e tail) ++ leave around ∷ [])
 form_tasks around (form.Loop label body) = task.Expr body ∷ leave around ∷ []
-form_tasks around (form.Closure arg_types ret_type args body) = tasks_of (closure_calls arg_types ret_type args body) ++ leave around ∷ []
-form_tasks around (form.Match scrutinee arms) = task.Expr scrutinee ∷ map arm_task arms
+form_tasks around (form.Closure arg_types ret_type args body) =
+    tasks_of (met_in_closure arg_types ret_type args body) ++ leave around ∷ []
+form_tasks around (form.Match scrutinee arms) = task.Expr scrutinee ∷ flat_map one_arm arms
 form_tasks around (form.Assignment target value) = task.Pat target ∷ leave around ∷ task.Expr value ∷ []
 form_tasks around (form.PatternType type pat) = task.TypeRef type ∷ task.Bound pat ∷ leave around ∷ []
 form_tasks around (form.InTurn calls) = tasks_of calls
@@ -77,72 +84,62 @@ form_tasks around (form.InTurn calls) = tasks_of calls
 -- the frames that are opened as a node is met, around what is inside it
 abbrev pub opens_here : Nodes → ScopingForm → Chain
 opens_here s (form.If condition then_branch else_branch) = empty ∷ []
-opens_here s (form.Let pat expr) = []
 opens_here s (form.Block id label statements tail) = own_frame id label ∷ []
 opens_here s (form.Loop label body) = of_kind (loop_kind label) ∷ []
 opens_here s (form.Closure arg_types ret_type args body) = frame s args ∷ []
-opens_here s (form.Match scrutinee arms) = []
 opens_here s (form.Assignment target value) = frame s (target ∷ []) ∷ []
-opens_here s (form.PatternType type pat) = []
-opens_here s (form.InTurn calls) = []
+opens_here s x = []
 
 -- and around its constants
 abbrev pub opens_constant : ScopingForm → Chain
-opens_constant (form.If condition then_branch else_branch) = []
-opens_constant (form.Let pat expr) = []
 opens_constant (form.Block id label statements tail) = block_constants id
-opens_constant (form.Loop label body) = []
-opens_constant (form.Closure arg_types ret_type args body) = []
-opens_constant (form.Match scrutinee arms) = []
-opens_constant (form.Assignment target value) = []
-opens_constant (form.PatternType type pat) = []
-opens_constant (form.InTurn calls) = []
+opens_constant x = []
+
+-- the places of what an arm has in it
+abbrev pub places_of_arm : Nodes → Chain → Chain → MatchArm → List Place
+places_of_arm s here constant arm = map (place_kid here constant) (arm_slots s [] arm)
 
 -- the expressions that tasks will meet, each in its place: `here` and `constant` are the chains now, and `chain` that of each scope
 unfoldable pub future : Nodes → (ℕ → Chain) → Chain → Chain → List Task → List Place
 future s chain here constant [] = []
 future s chain here constant (task.Expr id ∷ rest) =
-    exprs_under s (place (node.Expr id) here constant ∷ []) ++ future s chain (leak s (node.Expr id) ++ here) constant rest
+    exprs_at s (node.Expr id) here constant ++ future s chain (leak s (node.Expr id) ++ here) constant rest
 future s chain here constant (task.Constant id ∷ rest) =
-    exprs_under s (place (node.Expr id) constant constant ∷ []) ++ future s chain here constant rest
+    exprs_at s (node.Expr id) constant constant ++ future s chain here constant rest
 future s chain here constant (task.Pat id ∷ rest) =
-    exprs_under s (place (node.Pat id) here constant ∷ []) ++ future s chain (leak s (node.Pat id) ++ here) constant rest
+    exprs_at s (node.Pat id) here constant ++ future s chain (leak s (node.Pat id) ++ here) constant rest
 future s chain here constant (task.TypeRef id ∷ rest) =
-    exprs_under s (place (node.TypeRef id) constant constant ∷ []) ++ future s chain here constant rest
+    exprs_at s (node.TypeRef id) constant constant ++ future s chain here constant rest
 future s chain here constant (task.Bound id ∷ rest) =
-    exprs_under s (place (node.Pat id) (frame s (id ∷ []) ∷ here) constant ∷ [])
+    exprs_at s (node.Pat id) (frame s (id ∷ []) ∷ here) constant
     ++ future s chain (leak s (node.Pat id) ++ (frame s (id ∷ []) ∷ here)) constant rest
 future s chain here constant (task.Arm pat expr ∷ rest) =
-    exprs_under s (map (place_kid here constant) (arm_slots s [] (arm_with pat expr None))) ++ future s chain here constant rest
+    exprs_under s (places_of_arm s here constant (arm_with pat expr None))
+    ++ future s chain here constant rest
 future s chain here constant (task.GuardedArm pat guard expr ∷ rest) =
-    exprs_under s (map (place_kid here constant) (arm_slots s [] (arm_with pat expr (Some guard)))) ++ future s chain here constant rest
+    exprs_under s (places_of_arm s here constant (arm_with pat expr (Some guard)))
+    ++ future s chain here constant rest
 future s chain here constant (task.MacroDef id ∷ rest) =
     future s chain (of_kind (kind.MacroDef id) ∷ here) (of_kind (kind.MacroDef id) ∷ constant) rest
-future s chain here constant (task.Leave outer outer_constant ∷ rest) = future s chain (chain outer) (chain outer_constant) rest
+future s chain here constant (task.Leave outer outer_constant ∷ rest) =
+    future s chain (chain outer) (chain outer_constant) rest
 
 -- the nodes that a task is about
-abbrev pub arm_calls : MatchArm → List Call
-arm_calls arm = p arm.pat ++ opt e arm.guard ++ e arm.expr
-
 abbrev pub task_kids : Task → List NodeId
 task_kids (task.Expr id) = node.Expr id ∷ []
 task_kids (task.Constant id) = node.Expr id ∷ []
 task_kids (task.Pat id) = node.Pat id ∷ []
 task_kids (task.TypeRef id) = node.TypeRef id ∷ []
 task_kids (task.Bound id) = node.Pat id ∷ []
-task_kids (task.Arm pat expr) = kids (arm_calls (arm_with pat expr None))
-task_kids (task.GuardedArm pat guard expr) = kids (arm_calls (arm_with pat expr (Some guard)))
+task_kids (task.Arm pat expr) = kids (met_in_arm (arm_with pat expr None))
+task_kids (task.GuardedArm pat guard expr) = kids (met_in_arm (arm_with pat expr (Some guard)))
 task_kids (task.MacroDef id) = []
 task_kids (task.Leave outer outer_constant) = []
 
 -- the frames that a task opens itself
 abbrev pub task_frames : Nodes → Task → List Frame
-task_frames s (task.Expr id) = []
-task_frames s (task.Constant id) = []
-task_frames s (task.Pat id) = []
-task_frames s (task.TypeRef id) = []
 task_frames s (task.Bound id) = frame s (id ∷ []) ∷ []
 task_frames s (task.Arm pat expr) = frame s (pat ∷ []) ∷ []
 task_frames s (task.GuardedArm pat guard expr) = frame s (pat ∷ []) ∷ []
 task_frames s (task.MacroDef id) = of_kind (kind.MacroDef id) ∷ of_kind (kind.MacroDef id) ∷ []
-task_frames s (task.Leave outer outer_constant) = []
+task_frames s t = []

@@ -2,18 +2,12 @@ use Rattle.std.proofs.Common.{sym, ap, ◌∙◌, List, ℕ}
 use Rattle.hir_items.specs.Bodies.{tops}
 use Rattle.hir_scope.specs.Built.{tops_of_body}
 use Rattle.hir_captures.specs.Captures.{each_once}
-use Rattle.hir_captures.proofs.CodeLemmas.{Laws}
-use Rattle.hir_captures.proofs.WithinLemmas.{one_list}
+use Rattle.hir_captures.proofs.CodeLemmas.{one_list}
 use Rattle.hir_captures.proofs.laws.captures_are_one.Goals as goal
 
 pub returns : goal.returns
 returns c = λ b sound accepted closure is xs ys p q.
     let s = b.store.nodes in
-    let laws : Laws s = record {
-      fall = c.kids_fall.ensures b.store sound;
-      parents = c.who_has_kids_is_there.ensures s;
-      kids = c.slots_hold_the_kids.ensures s;
-    } in
-    let same = one_list b.store (tops_of_body b) (tops b) laws (c.kids_of_reached_are_reached.ensures s (tops b))
+    let same = one_list b.store (tops_of_body b) (tops b) (c.kids_fall.ensures b.store sound) (c.kids_of_reached_are_reached.ensures s (tops b))
     (c.a_reached_node_has_one_chain.ensures.bodies b sound accepted) closure is.0 is.1 p.chain q.chain p.are_chains q.are_chains in
     p.are ∙ (ap (λ (found : List ℕ). each_once found) same ∙ sym q.are)

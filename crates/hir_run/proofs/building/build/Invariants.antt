@@ -6,8 +6,8 @@ use Rattle.hir_run.specs.Stages.{Makes}
 use Rattle.hir_run.proofs.Scripts.{Tells}
 use Rattle.hir_run.proofs.building.build.Given as goal
 
-abbrev pub invariant-loop-lines : goal.invariant-loop-lines
-invariant-loop-lines g l = record {
+abbrev pub invariant-loop-alloc : goal.invariant-loop-alloc
+invariant-loop-alloc g l = record {
   same_mark : g.R.Source.failed l.reader ≡ g.R.Source.failed l.fn.reader;
   quiet : l.output ≡ [];
   unwritten : l.writer ≡ l.fn.writer;
@@ -17,5 +17,5 @@ invariant-loop-lines g l = record {
       × (l.lines.count ≡ length texts);
 }
 
-abbrev pub decreases-loop-lines : goal.decreases-loop-lines
-decreases-loop-lines g l = length l.lines.pending + g.R.Source.allowance l.reader
+abbrev pub decreases-loop-alloc : goal.decreases-loop-alloc
+decreases-loop-alloc g l = length l.lines.pending + g.R.Source.allowance l.reader

@@ -1,8 +1,8 @@
 use Rattle.std.proofs.Common.{subst}
 use Rattle.std.proofs.lemmas.Result.{err_from_is_err_and}
 use Rattle.hir_io.specs.NextLine.{untaken}
+use Rattle.hir_lines.specs.Line.{any_question}
 use Rattle.hir_run.specs.Answer.{IsAnswer, IsAnswerOf}
-use Rattle.hir_run.specs.Program.{any_question}
 use Rattle.hir_run.specs.declared.named_body.NamedBody.{NamedBody}
 use Rattle.hir_run.specs.Stages.{needs_no_scopes, Asks}
 use Rattle.hir_run.proofs.OnBodyLemmas.{any_done, any_fails, scopes_refused, joined}

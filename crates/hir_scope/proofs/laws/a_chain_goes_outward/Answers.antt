@@ -5,4 +5,4 @@ pub returns-clause-step : goal.returns-clause-step
 returns-clause-step c = λ scopes earlier scope found is. path_step scopes scope found earlier is
 
 pub returns-clause-there : goal.returns-clause-there
-returns-clause-there c = path_members
+returns-clause-there c = λ scopes _ scope _. path_members scopes scope

@@ -1,6 +1,4 @@
-use Rattle.std.proofs.Common.{sym, subst, arith}
-use Rattle.std.proofs.lemmas.List.{length-map}
-use Rattle.hir_forest.specs.Faults.{root_nodes}
+use Rattle.std.proofs.Common.{sym, subst}
 use Rattle.hir_expr_store.specs.Under.{LieApart}
 use Rattle.hir_items.specs.Bodies.{tops}
 use Rattle.hir_items.specs.Signatures.{root_tops}
@@ -20,10 +18,7 @@ returns-clause-bodies c = λ b sound accepted expr x y h k.
 pub returns-clause-signatures : goal.returns-clause-signatures
 returns-clause-signatures c = λ b sound expr x y h k.
     let s = b.nodes in
-    let roots = root_nodes b.roots in
-    let stand = c.roots_stand_apart.ensures b sound in
-    let long = length-map b.roots (λ r. r.node) in
-    let all = roots_there s roots (λ i l. stand.there i (omega (arith, l, long))) in
+    let all = roots_there b (c.roots_stand_apart.ensures b sound) in
     let there = places_there s (tops_of_signature b) (root_tops b) (signature_same b) all in
     let apart = subst (LieApart s) (sym (signature_same b)) (c.roots_lie_apart.ensures b sound) in
     one_chain s (c.kids_fall.ensures b sound) (c.one_parent.ensures b sound) (c.kids_lie_apart.ensures b sound) (tops_of_signature b) there apart expr x y h k

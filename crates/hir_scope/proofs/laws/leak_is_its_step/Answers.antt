@@ -1,4 +1,4 @@
-use Rattle.hir_scope.proofs.StepLemmas.{leak_at}
+use Rattle.hir_scope.proofs.UnderLemmas.{leak_at}
 use Rattle.hir_scope.proofs.laws.leak_is_its_step.Goals as goal
 
 pub returns : goal.returns

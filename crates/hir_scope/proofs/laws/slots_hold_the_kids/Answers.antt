@@ -1,4 +1,4 @@
-use Rattle.hir_scope.proofs.SlotLemmas.{slots_kids}
+use Rattle.hir_scope.proofs.KidLemmas.{slots_kids}
 use Rattle.hir_scope.proofs.laws.slots_hold_the_kids.Goals as goal
 
 pub returns : goal.returns

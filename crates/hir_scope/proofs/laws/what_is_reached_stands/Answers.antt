@@ -1,4 +1,4 @@
-use Rattle.hir_scope.proofs.StandsLemmas.{reached_stands, stands_reached}
+use Rattle.hir_scope.proofs.UnderLemmas.{reached_stands, stands_reached}
 use Rattle.hir_scope.proofs.laws.what_is_reached_stands.Goals as goal
 
 pub returns-clause-stands : goal.returns-clause-stands

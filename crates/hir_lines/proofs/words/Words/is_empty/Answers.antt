@@ -1,10 +1,12 @@
-use Rattle.std.proofs.Common.{◌∙◌}
-use Rattle.std.proofs.lemmas.Bool.{false≢true}
-use Rattle.hir_lines.proofs.Splits.{parts_are_there}
+use Rattle.std.proofs.Common.{◌<◌, length, sym, ◌∙◌, arith}
+use Rattle.std.proofs.lemmas.Bool.Decides.{nat_tests}
+use Rattle.hir_lines.proofs.Splits.{empty_past, words_past}
 use Rattle.hir_lines.proofs.words.Words.is_empty.Goals as goal
 
-pub returns-in-Some : goal.returns-in-Some
-returns-in-Some c = (
-  λ h. absurd (false≢true h),
-  λ e. let none = c.self.view_is ∙ e in absurd (parts_are_there _ c.in-Some.field-0.now (rw c.in-Some.is at none)),
-)
+pub returns : goal.returns
+returns g c =
+    let start = c.self.inside.start in
+    let text = c.self.inside.text.now in (
+      λ past. let h : length text < start = grind (arith, nat_tests, past) in sym c.self.view_is ∙ words_past g.row.SEPARATOR start text h,
+      λ none. let h : length text < start = empty_past g.row.SEPARATOR start text (c.self.view_is ∙ none) in grind (arith, nat_tests, h),
+    )

@@ -2,7 +2,7 @@ use Rattle.std.proofs.Common.{◌<◌, ap, sym, subst, length}
 use Rattle.std.specs.Prelude.{option_map}
 use Rattle.hir_scope.specs.Scopes.{Scope, Scopes}
 use Rattle.hir_scope.specs.Flat.{scopes_of}
-use Rattle.hir_scope.proofs.FlatLemmas.{scope_seen, row_seen, range_at}
+use Rattle.hir_scope.proofs.SameLemmas.{scope_seen, row_seen, range_at}
 use Rattle.hir_scope.proofs.expr_scopes.ExprScopes.entries.Goals as goal
 
 pub slice_bounds-result-count : goal.slice_bounds-result-count

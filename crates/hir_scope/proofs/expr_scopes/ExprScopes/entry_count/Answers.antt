@@ -1,5 +1,5 @@
 use Rattle.std.proofs.Common.{arith}
-use Rattle.hir_scope.proofs.FlatLemmas.{counted}
+use Rattle.hir_scope.proofs.SameLemmas.{counted}
 use Rattle.hir_scope.proofs.expr_scopes.ExprScopes.entry_count.Goals as goal
 
 pub returns-clause-count : goal.returns-clause-count

@@ -1,6 +1,5 @@
-use Rattle.std.proofs.Common.{◌≡◌, sym, subst, Option, Some, None, ℕ}
-use Rattle.hir_scope.specs.Resolution.{first_asked}
-use Rattle.hir_scope.proofs.ResolveLemmas.{OnTheWay, set_out, go_outward, found_here, found_nowhere}
+use Rattle.std.proofs.Common.{sym, subst}
+use Rattle.hir_scope.proofs.ResolveLemmas.{OnTheWay, set_out, go_outward, found_here}
 use Rattle.hir_scope.proofs.expr_scopes.ExprScopes.find_name_in_scope.Goals as goal
 
 pub loop-current-init : goal.loop-current-init

@@ -1,4 +1,3 @@
-use Rattle.std.proofs.Common.{List, ℕ}
 use Rattle.hir_scope.proofs.ResolveLemmas.{OnTheWay, ways}
 use Rattle.hir_scope.proofs.expr_scopes.ExprScopes.find_name_in_scope.Given as goal
 

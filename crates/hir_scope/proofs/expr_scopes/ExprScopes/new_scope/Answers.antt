@@ -1,7 +1,7 @@
 use Rattle.std.proofs.Common.{◌≡◌, ◌≤◌, ◌<◌, ◌+◌, ◌∙◌, ◌++◌, ◌∷◌, [], List, cond, ap, sym, subst, length, arith, refl}
 use Rattle.hir_scope.specs.declared.expr_scopes.ScopeData.{ScopeData}
 use Rattle.hir_scope.specs.Scopes.{Scopes, Scope, IsBelow}
-use Rattle.hir_scope.proofs.FlatLemmas.{flat_push, seen_pushed, length_seen, scopes_too_many, entries_too_many, not_too_many}
+use Rattle.hir_scope.proofs.SameLemmas.{flat_push, seen_pushed, length_seen, scopes_too_many, entries_too_many, not_too_many}
 use Rattle.hir_scope.proofs.expr_scopes.ExprScopes.new_scope.Goals as goal
 use Rattle.hir_scope.proofs.expr_scopes.ExprScopes.new_scope.Goals.{then-count-ge-LIMIT-via-then-count-ge-LIMIT, then-count-ge-LIMIT-via-else-count-ge-LIMIT+then-len-start}
 

@@ -1,4 +1,4 @@
-use Rattle.hir_scope.proofs.FlatLemmas.{parents_seen}
+use Rattle.hir_scope.proofs.SameLemmas.{parents_seen}
 use Rattle.hir_scope.proofs.expr_scopes.ExprScopes.parent.Goals as goal
 
 pub returns-clause-parents : goal.returns-clause-parents

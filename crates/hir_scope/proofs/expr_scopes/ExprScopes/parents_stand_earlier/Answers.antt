@@ -1,4 +1,4 @@
-use Rattle.hir_scope.proofs.FlatLemmas.{parents_seen, there_seen}
+use Rattle.hir_scope.proofs.SameLemmas.{parents_seen, there_seen}
 use Rattle.hir_scope.proofs.expr_scopes.ExprScopes.parents_stand_earlier.Goals as goal
 
 pub returns-clause-parents : goal.returns-clause-parents

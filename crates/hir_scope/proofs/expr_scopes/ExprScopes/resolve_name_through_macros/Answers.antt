@@ -3,7 +3,7 @@ use Rattle.hir_base.specs.declared.hygiene.SyntaxContext.{SyntaxContext}
 use Rattle.hir_scope.specs.Paths.{chain}
 use Rattle.hir_scope.specs.Resolution.{first_asked}
 use Rattle.hir_scope.specs.Macros.{expansion_of, resolve_through}
-use Rattle.hir_scope.proofs.MacroLemmas.{through_found, through_outward}
+use Rattle.hir_scope.proofs.ResolveLemmas.{through_found, through_outward}
 use Rattle.hir_scope.proofs.expr_scopes.ExprScopes.resolve_name_through_macros.Goals as goal
 
 pub returns-in-Some-first_asked : goal.returns-in-Some-first_asked

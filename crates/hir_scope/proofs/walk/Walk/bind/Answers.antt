@@ -10,7 +10,7 @@ use Rattle.hir_scope.proofs.walk.Walk.bind.Goals as goal
 pub returns-clause-moves : goal.returns-clause-moves
 returns-clause-moves c =
     let w = c.args.self.now in
-    bound_moves c.args.store.now.nodes w.scopes w.around c.args.bound w.tasks c.push.new.self (state c.open.new.self) c.in_ok-push.ensures.ok c.in_ok-open.ensures.opened c.requires.ready
+    bound_moves c.args.store.now.nodes w.scopes w.around c.args.bound w.tasks.stack.items c.push.new.self.stack.items (state c.open.new.self) c.in_ok-push.ensures.ok c.in_ok-open.ensures.opened c.requires.ready
 
 pub returns-in_err-open-clause-full : goal.returns-in_err-open-clause-full
 returns-in_err-open-clause-full c =
@@ -19,4 +19,4 @@ returns-in_err-open-clause-full c =
     let fs = frame s (c.args.bound ∷ []) ∷ [] in
     λ h.
     let o : Over (map frame_of w.scopes.scopes ++ fs) = search rules in
-    over_exceeds s w.scopes w.around (task.Bound c.args.bound ∷ w.tasks) fs (bound_frames s c.args.bound w.tasks) o
+    over_exceeds s w.scopes w.around (task.Bound c.args.bound ∷ w.tasks.stack.items) fs (bound_frames s c.args.bound w.tasks.stack.items) o

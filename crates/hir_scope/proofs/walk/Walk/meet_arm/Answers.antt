@@ -20,7 +20,7 @@ returns-clause-moves c =
     ∙ ap (λ (ts : List Task). task.Pat a.pat ∷ ts) (c.in_ok-push_expr_opt.ensures.ok
     ∙ ap (λ (ts : List Task). tasks_of (opt e a.guard) ++ ts) (c.in_ok-push-2.ensures.ok
     ∙ ap (λ (ts : List Task). task.Expr a.expr ∷ ts) c.in_ok-push.ensures.ok)) in
-    arm_moves a.store.now.nodes fall w.scopes w.around a.pat a.expr a.guard w.tasks c.push-3.new.self (state c.open.new.self) pushed c.in_ok-open.ensures.opened c.requires.ready
+    arm_moves a.store.now.nodes fall w.scopes w.around a.pat a.expr a.guard w.tasks.stack.items c.push-3.new.self.stack.items (state c.open.new.self) pushed c.in_ok-open.ensures.opened c.requires.ready
 
 pub returns-in_err-open-clause-full : goal.returns-in_err-open-clause-full
 returns-in_err-open-clause-full c =
@@ -30,4 +30,4 @@ returns-in_err-open-clause-full c =
     let fs = frame s (a.pat ∷ []) ∷ [] in
     λ h.
     let o : Over (map frame_of w.scopes.scopes ++ fs) = search rules in
-    over_exceeds s w.scopes w.around (guarded_task a.pat a.expr a.guard ∷ w.tasks) fs (arm_frames s a.pat a.expr a.guard w.tasks) o
+    over_exceeds s w.scopes w.around (guarded_task a.pat a.expr a.guard ∷ w.tasks.stack.items) fs (arm_frames s a.pat a.expr a.guard w.tasks.stack.items) o

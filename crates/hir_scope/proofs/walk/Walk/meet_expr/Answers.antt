@@ -3,12 +3,11 @@ use Rattle.hir_node.specs.declared.expr.Expr.{Expr}
 use Rattle.hir_node.specs.declared.node_id.NodeId.TheVariants as node
 use Rattle.hir_scope.specs.declared.tasks.Task.TheVariants as task
 use Rattle.hir_scope.specs.Chains.{within_own}
-use Rattle.hir_scope.specs.Forms.{form_at, form_of, expr_form}
+use Rattle.hir_scope.specs.Forms.{ScopingForm, form_at, form_of, expr_form}
 use Rattle.hir_scope.specs.walk.Pending.{form_tasks, opens_here, opens_constant}
 use Rattle.hir_scope.specs.Scopes.{frame_of}
 use Rattle.hir_scope.specs.walk.Machine.{state, here_of, Over, HasFrames, scope_within}
-use Rattle.hir_scope.proofs.GrownLemmas.{frames_grown}
-use Rattle.hir_scope.proofs.MovingLemmas.{own_frames, over_exceeds}
+use Rattle.hir_scope.proofs.MovingLemmas.{frames_grown, own_frames, over_exceeds}
 use Rattle.hir_scope.proofs.DoneLemmas.{expr_moves, empty_moves, met_frames}
 use Rattle.hir_scope.proofs.walk.Walk.meet_expr.Goals as goal
 
@@ -19,34 +18,37 @@ returns-in_err-open_inside-clause-full c =
     let x = form_of s (node.Expr c.args.expr) in
     let fall = c.kids_fall.ensures c.args.store.now c.has_no_fault.ensures in
     let fs = opens_here s x ++ opens_constant x in
+    let ts = task.Expr c.args.expr ∷ w.tasks.stack.items in
     λ h.
     let o : Over (map frame_of w.scopes.scopes ++ fs) = search rules in
-    over_exceeds s w.scopes w.around (task.Expr c.args.expr ∷ w.tasks) fs (met_frames s fall w.around c.args.expr w.tasks c.requires.ready.known) o
+    over_exceeds s w.scopes w.around ts fs (met_frames s fall w.around c.args.expr w.tasks.stack.items c.requires.ready.known) o
 
-pub returns-clause-moves : goal.returns-clause-moves
-returns-clause-moves c =
-    let s = c.args.store.now.nodes in
-    let w = c.args.self.now in
-    let fall = c.kids_fall.ensures c.args.store.now c.has_no_fault.ensures in
-    let pushed = c.in_ok-push_in_expr.ensures.ok ∙ ap (λ (o : Option Expr). form_tasks w.around (form_at expr_form o) ++ w.tasks) (sym c.index-inner.ensures) in
-    expr_moves s fall w.scopes w.around c.args.expr w.tasks c.push_in_expr.new.tasks (state c.open_inside.new.self) pushed c.in_ok-open_inside.ensures.opened c.requires.ready
-
-pub returns-clause-scope : goal.returns-clause-scope
-returns-clause-scope c =
+pub returns-clause-meets : goal.returns-clause-meets
+returns-clause-meets c =
     let s = c.args.store.now.nodes in
     let w = c.args.self.now in
     let n = c.open_inside.new.self in
     let x = form_of s (node.Expr c.args.expr) in
     let h = here_of (state w) in
+    let ts = w.tasks.stack.items in
+    let fall = c.kids_fall.ensures c.args.store.now c.has_no_fault.ensures in
+    let pushed = c.in_ok-push_in_expr.ensures.ok ∙ ap (λ (o : Option Expr). form_tasks w.around (form_at expr_form o) ++ ts) (sym c.index-inner.ensures) in
     let o = c.in_ok-open_inside.ensures.opened in
     let around = frames_grown w.scopes.scopes n.scopes.scopes o.more w.around.here h o.grows (record { within = c.requires.ready.here; is = refl }) in
-    let is = c.scope_within.ensures ∙ ap (λ (o : Option Expr). scope_within (form_at expr_form o) n.around.here w.around.here) (sym c.index-inner.ensures) in
-    subst (λ (i : ℕ). HasFrames n.scopes.scopes i (within_own x h)) (sym is) (own_frames s x n.scopes.scopes n.around.here w.around.here h o.here around)
+    let scope = c.scope_within.ensures ∙ ap (λ (o : Option Expr). scope_within (form_at expr_form o) n.around.here w.around.here) (sym c.index-inner.ensures) in
+    record {
+      moves = expr_moves s fall w.scopes w.around c.args.expr ts c.push_in_expr.new.self.stack.items (state n) pushed o c.requires.ready;
+      frames = subst (λ (i : ℕ). HasFrames n.scopes.scopes i (within_own x h)) (sym scope)
+          (own_frames s x n.scopes.scopes n.around.here w.around.here h o.here around);
+    }
 
-pub returns-then-is_empty_expr-clause-moves : goal.returns-then-is_empty_expr-clause-moves
-returns-then-is_empty_expr-clause-moves c =
+pub returns-then-is_alone-clause-meets : goal.returns-then-is_alone-clause-meets
+returns-then-is_alone-clause-meets c =
     let s = c.args.store.now.nodes in
     let w = c.args.self.now in
     let fall = c.kids_fall.ensures c.args.store.now c.has_no_fault.ensures in
-    let is = ap (form_at expr_form) c.index-inner.ensures ∙ c.is_empty_expr.ensures (search rules) in
-    empty_moves s fall w.scopes w.around c.args.expr w.tasks is c.requires.ready
+    let is = ap (form_at expr_form) c.index-inner.ensures ∙ c.is_alone.ensures (search rules) in
+    record {
+      moves = empty_moves s fall w.scopes w.around c.args.expr w.tasks.stack.items is c.requires.ready;
+      frames = record { within = c.requires.ready.here; is = ap (λ (x : ScopingForm). within_own x (here_of (state w))) (sym is) };
+    }

@@ -9,5 +9,5 @@ pub returns-clause-moves : goal.returns-clause-moves
 returns-clause-moves c =
     let w = c.args.self.now in
     let fall = c.kids_fall.ensures c.args.store.now c.has_no_fault.ensures in
-    let pushed = c.in_ok-push_in_pat.ensures.ok ∙ ap (λ (o : Option Pat). form_tasks w.around (form_at pat_form o) ++ w.tasks) (sym c.index.ensures) in
-    pat_moves c.args.store.now.nodes fall w.scopes w.around c.args.pat w.tasks c.push_in_pat.new.tasks pushed c.requires.ready
+    let pushed = c.in_ok-push_in_pat.ensures.ok ∙ ap (λ (o : Option Pat). form_tasks w.around (form_at pat_form o) ++ w.tasks.stack.items) (sym c.index.ensures) in
+    pat_moves c.args.store.now.nodes fall w.scopes w.around c.args.pat w.tasks.stack.items c.push_in_pat.new.self.stack.items pushed c.requires.ready

@@ -3,8 +3,7 @@ use Rattle.hir_node.specs.declared.type_ref.TypeRef.{TypeRef}
 use Rattle.hir_scope.specs.declared.tasks.Task.{Task}
 use Rattle.hir_scope.specs.Forms.{form_at, type_form}
 use Rattle.hir_scope.specs.walk.Pending.{form_tasks, leave}
-use Rattle.hir_scope.proofs.MetLemmas.{for_constants}
-use Rattle.hir_scope.proofs.DoneLemmas.{type_moves}
+use Rattle.hir_scope.proofs.DoneLemmas.{for_constants, type_moves}
 use Rattle.hir_scope.proofs.walk.Walk.meet_type.Goals as goal
 
 pub returns-clause-moves : goal.returns-clause-moves
@@ -15,5 +14,5 @@ returns-clause-moves c =
     let pushed =
     c.in_ok-push_in_type.ensures.ok
     ∙ (ap (λ (ts : List Task). form_tasks b (type_form c.index.result.now) ++ ts) c.in_ok-push.ensures.ok
-    ∙ ap (λ (o : Option TypeRef). form_tasks b (form_at type_form o) ++ (leave w.around ∷ w.tasks)) (sym c.index.ensures)) in
-    type_moves c.args.store.now.nodes fall w.scopes w.around c.args.type_ref w.tasks c.push_in_type.new.tasks pushed c.requires.ready
+    ∙ ap (λ (o : Option TypeRef). form_tasks b (form_at type_form o) ++ (leave w.around ∷ w.tasks.stack.items)) (sym c.index.ensures)) in
+    type_moves c.args.store.now.nodes fall w.scopes w.around c.args.type_ref w.tasks.stack.items c.push_in_type.new.self.stack.items pushed c.requires.ready

@@ -2,11 +2,11 @@ use Rattle.std.proofs.Common.{ℕ, List, map, ap, sym, ◌∙◌, subst}
 use Rattle.hir_node.specs.declared.node_id.NodeId.TheVariants as node
 use Rattle.hir_scope.specs.Forms.{form_at, expr_form}
 use Rattle.hir_scope.specs.walk.Machine.{AreThere}
-use Rattle.hir_scope.proofs.ReadyLemmas.{closure_pats, target_pat}
+use Rattle.hir_scope.proofs.DoneLemmas.{closure_pats, target_pat}
 use Rattle.hir_scope.proofs.walk.Walk.open_inside.Goals as goal
 
-pub open-requires-clause-there : goal.open-requires-clause-there
-open-requires-clause-there c =
+pub open-requires-in-Closure-clause-there : goal.open-requires-in-Closure-clause-there
+open-requires-in-Closure-clause-there c =
     let x = c.in-Closure in
     let fall = c.kids_fall.ensures c.args.store.now c.has_no_fault.ensures in
     let is = ap (form_at expr_form) c.index.ensures ∙ ap expr_form x.is in

@@ -7,7 +7,7 @@ use Rattle.hir_scope.proofs.walk.Walk.over_roots.Given as goal
 abbrev pub invariant-loop-root : goal.invariant-loop-root
 invariant-loop-root l =
     (l.root_scope ≡ 0) × (l.none.items ≡ [])
-    × ((met : List ℕ) × (root_nodes l.store.roots ≡ l.roots ++ met) × (machine l.walk l.walk.tasks ≡ roots_begin met))
+    × ((met : List ℕ) × (root_nodes l.store.roots ≡ l.roots ++ met) × (machine l.walk l.walk.tasks.stack.items ≡ roots_begin met))
 
 abbrev pub decreases-loop-root : goal.decreases-loop-root
 decreases-loop-root l = length l.roots

@@ -5,4 +5,4 @@ abbrev pub invariant-loop-task : goal.invariant-loop-task
 invariant-loop-task l = Gone l.store.nodes (state l.initial.self) (state l.self) l.initial.steps l.steps
 
 abbrev pub decreases-loop-task : goal.decreases-loop-task
-decreases-loop-task l = turns_left l.store.nodes l.self.tasks
+decreases-loop-task l = turns_left l.store.nodes l.self.tasks.stack.items

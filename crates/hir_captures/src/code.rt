@@ -1,0 +1,175 @@
+//! The reading of a closure's code: one loop over what is still to be read.
+#![tactic(auto, using(crate::proofs::ReadLemmas::reads))]
+
+ghost use Rattle.std.specs.Prelude.{◌≡◌, ◌<◌, ◌∷◌, length, None, Some, Err, OnOk, OnErr};
+ghost use Rattle.hir_node.specs.declared.node_id.NodeId.TheVariants as node;
+ghost use Rattle.hir_scope.specs.Meanings.{asked_name};
+ghost use Rattle.hir_captures.specs.Uses.{if_assignment, use_of, uses_at};
+ghost use Rattle.hir_captures.specs.walk.Pending.{AreThere, pat_task};
+ghost use Rattle.hir_captures.specs.walk.Reading.{with_uses, with_code, Reads};
+
+use crate::asks::captured_binding;
+use crate::binding_list::BindingList;
+use crate::fault::CapturesFault;
+use crate::unread::{Task, Unread};
+use hir_base::HygieneId;
+use hir_expr_store::ExpressionStore;
+use hir_expr_store::laws::kids_fall;
+use hir_node::{Expr, ExprId, Pat, PatId, Path};
+use hir_scope::{ExprScopes, asked_name};
+
+/// Where a closure's code is read: in this store and these scopes, which are those of its body.
+#[derive(Drop)]
+pub(crate) struct Code<'a> {
+    pub(crate) store: &'a ExpressionStore,
+    pub(crate) scopes: &'a ExprScopes,
+    /// How many scopes there are along the closure's own chain: what they bring in comes from outside.
+    pub(crate) outermost: usize,
+}
+
+/// The assignment in whose target the patterns of an expression are: itself, where it is one.
+fn if_assignment(id: ExprId, expr: &Expr) -> Option<ExprId>
+    ensures { result ≡ if_assignment id (Some expr.now) }
+{
+    if let Expr::Assignment { .. } = expr {
+        return Some(id);
+    }
+    None
+}
+
+impl<'a> Code<'a> {
+    /// Adds what a path captures, where it may name a variable: it is resolved in the chain of this expression.
+    fn ask(
+        &self,
+        found: &mut BindingList,
+        expr: ExprId,
+        path: &Path,
+        hygiene: HygieneId,
+    ) -> Result<(), CapturesFault>
+        ensures found { OnOk result (found.new ≡ with_uses self.now found.old
+            (use_of hygiene expr (asked_name path.now))) }
+        ensures memory { OnErr result (result ≡ Err CapturesFault.Memory) }
+    {
+        let Some(name) = asked_name(path) else {
+            return Ok(());
+        };
+        let Some(scope) = self.scopes.scope_for(expr) else {
+            return Ok(());
+        };
+        match captured_binding(self.scopes, scope, name, hygiene, self.outermost) {
+            Some(binding) => found.add(binding),
+            None => Ok(()),
+        }
+    }
+
+    /// Adds what an expression itself captures: where it is a path, it asks in its own chain.
+    fn ask_expr(&self, found: &mut BindingList, id: ExprId) -> Result<(), CapturesFault>
+        requires there { id < length self.now.store.now.nodes.exprs }
+        ensures found { OnOk result (found.new ≡ with_uses self.now found.old
+            (uses_at self.now.store.now (node.Expr id) None)) }
+        ensures memory { OnErr result (result ≡ Err CapturesFault.Memory) }
+    {
+        if let Expr::Path(path) = &self.store[id] {
+            return self.ask(found, id, path, self.store.expr_path_hygiene(id));
+        }
+        Ok(())
+    }
+
+    /// Adds what a pattern captures: where it is a path in the target of an assignment, it asks in the assignment's chain.
+    fn ask_pat(
+        &self,
+        found: &mut BindingList,
+        id: PatId,
+        assignment: Option<ExprId>,
+    ) -> Result<(), CapturesFault>
+        requires there { id < length self.now.store.now.nodes.pats }
+        ensures found { OnOk result (found.new ≡ with_uses self.now found.old
+            (uses_at self.now.store.now (node.Pat id) assignment)) }
+        ensures memory { OnErr result (result ≡ Err CapturesFault.Memory) }
+    {
+        let Some(assignment) = assignment else {
+            return Ok(());
+        };
+        if let Pat::Path(path) = &self.store[id] {
+            return self.ask(found, assignment, path, self.store.pat_path_hygiene(id));
+        }
+        Ok(())
+    }
+
+    /// Reads an expression: what is in it comes next.
+    fn read_expr(
+        &self,
+        unread: &mut Unread,
+        found: &mut BindingList,
+        id: ExprId,
+    ) -> Result<(), CapturesFault>
+        requires there { AreThere self.now.store.now.nodes (Task.Expr id ∷ unread.old.stack.items) }
+        ensures reads { OnOk result (Reads self.now found.old (Task.Expr id ∷ unread.old.stack.items)
+            found.new unread.new.stack.items) }
+        ensures memory { OnErr result (result ≡ Err CapturesFault.Memory) }
+    {
+        self.store.has_no_fault();
+        kids_fall();
+        self.ask_expr(found, id)?;
+        let expr = &self.store[id];
+        unread.push_expr(expr, if_assignment(id, expr))?;
+        Ok(())
+    }
+
+    /// Reads a pattern, which is in the target of this assignment, or in none: what is in it comes next.
+    fn read_pat(
+        &self,
+        unread: &mut Unread,
+        found: &mut BindingList,
+        id: PatId,
+        assignment: Option<ExprId>,
+    ) -> Result<(), CapturesFault>
+        requires there { AreThere self.now.store.now.nodes (pat_task assignment id ∷ unread.old.stack.items) }
+        ensures reads { OnOk result (Reads self.now found.old
+            (pat_task assignment id ∷ unread.old.stack.items) found.new unread.new.stack.items) }
+        ensures memory { OnErr result (result ≡ Err CapturesFault.Memory) }
+    {
+        self.store.has_no_fault();
+        kids_fall();
+        // (a copy: the prover's borrow checker takes an option that was handed on for one without a value)
+        let target = assignment;
+        self.ask_pat(found, id, assignment)?;
+        unread.push_pat(&self.store[id], target)?;
+        Ok(())
+    }
+
+    /// Reads the node of one task.
+    fn read(
+        &self,
+        unread: &mut Unread,
+        found: &mut BindingList,
+        task: Task,
+    ) -> Result<(), CapturesFault>
+        requires there { AreThere self.now.store.now.nodes (task ∷ unread.old.stack.items) }
+        ensures reads { OnOk result (Reads self.now found.old (task ∷ unread.old.stack.items)
+            found.new unread.new.stack.items) }
+        ensures memory { OnErr result (result ≡ Err CapturesFault.Memory) }
+    {
+        match task {
+            Task::Expr(id) => self.read_expr(unread, found, id),
+            Task::Pat(id) => self.read_pat(unread, found, id, None),
+            Task::Target(id, assignment) => self.read_pat(unread, found, id, Some(assignment)),
+        }
+    }
+
+    /// Reads all that is still to be read, and adds what it captures.
+    pub(crate) fn read_all(
+        &self,
+        unread: &mut Unread,
+        found: &mut BindingList,
+    ) -> Result<(), CapturesFault>
+        requires there { AreThere self.now.store.now.nodes unread.old.stack.items }
+        ensures found { OnOk result (found.new ≡ with_code self.now found.old unread.old.stack.items) }
+        ensures memory { OnErr result (result ≡ Err CapturesFault.Memory) }
+    {
+        while let Some(task) = unread.stack.pop() {
+            self.read(unread, found, task)?;
+        }
+        Ok(())
+    }
+}

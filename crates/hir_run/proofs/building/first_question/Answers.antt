@@ -1,0 +1,17 @@
+use Rattle.std.proofs.Common.{refl}
+use Rattle.hir_lines.specs.Line.{line_of}
+use Rattle.hir_run.proofs.Taken.{question_of}
+use Rattle.hir_run.proofs.building.first_question.Goals as goal
+
+pub returns-in-Ok : goal.returns-in-Ok
+returns-in-Ok c = rw c.line.ensures at c.in-Ok.ensures.asks
+
+pub returns-in-Err-Bad : goal.returns-in-Err-Bad
+returns-in-Err-Bad c =
+    let does = rw (c.in-Err-Bad.field-0-is, c.line.ensures) at c.in-Err-Bad.ensures.asks in
+    (does.1.0 refl, c.count.ensures)
+
+pub returns-in-Err-Memory : goal.returns-in-Err-Memory
+returns-in-Err-Memory c =
+    let does = rw (c.in-Err-Memory.field-0-is, c.line.ensures) at c.in-Err-Memory.ensures.asks in
+    question_of (line_of c.args.lines.now.line) does.0 (λ other. let wrong = does.1.1 other in cc)

@@ -1,0 +1,67 @@
+//! The entries of what patterns bind, until a scope takes them.
+
+ghost use Rattle.std.specs.Prelude.{◌≡◌, ◌<◌, ◌++◌, length, Err, OnErr, OnOk};
+ghost use Rattle.std.specs.List.{All, flat_map};
+ghost use Rattle.hir_scope.specs.Frames.{entry_at, binds};
+
+use crate::fault::ScopesFault;
+use crate::scope::ScopeEntry;
+use hir_base::TryClone;
+use hir_expr_store::ExpressionStore;
+use hir_node::{BindingId, PatId};
+
+/// Appends the entry of a binding, where the store has it.
+pub(crate) fn add_entry(
+    entries: &mut Vec<ScopeEntry>,
+    store: &ExpressionStore,
+    id: BindingId,
+) -> Result<(), ScopesFault>
+    ensures ok { OnOk result (entries.new.items ≡ entries.old.items ++ entry_at store.now.nodes id) }
+    ensures memory { OnErr result (result ≡ Err ScopesFault.Memory) }
+{
+    if !store.has_binding(id) {
+        return Ok(());
+    }
+    let binding = &store[id];
+    entries.reserve(1)?;
+    let name = binding.name.try_clone()?;
+    entries.push_reserved(ScopeEntry::new(name, binding.hygiene, id));
+    Ok(())
+}
+
+/// Appends the entries of what a pattern binds.
+pub(crate) fn add_pat(
+    entries: &mut Vec<ScopeEntry>,
+    store: &ExpressionStore,
+    pat: PatId,
+) -> Result<(), ScopesFault>
+    requires { pat < length store.now.nodes.pats }
+    ensures ok { OnOk result (entries.new.items ≡ entries.old.items ++ binds store.now.nodes pat) }
+    ensures memory { OnErr result (result ≡ Err ScopesFault.Memory) }
+{
+    store.try_walk_bindings_in_pat(
+        pat,
+        &mut |id: BindingId| -> Result<(), ScopesFault>
+            ensures ok { OnOk result (entries.exit.now.items
+                ≡ entries.entry.now.items ++ entry_at store.entry.now.nodes id) }
+            ensures memory { OnErr result (result ≡ Err ScopesFault.Memory) }
+        { add_entry(entries, store, id) },
+    )
+}
+
+/// Appends the entries of what patterns bind, in the order of the patterns.
+pub(crate) fn add_pats(
+    entries: &mut Vec<ScopeEntry>,
+    store: &ExpressionStore,
+    pats: &[PatId],
+) -> Result<(), ScopesFault>
+    requires { All (λ pat. pat < length store.now.nodes.pats) pats.now }
+    ensures ok { OnOk result (entries.new.items
+        ≡ entries.old.items ++ flat_map (binds store.now.nodes) pats.now) }
+    ensures memory { OnErr result (result ≡ Err ScopesFault.Memory) }
+{
+    for pat in pats {
+        add_pat(entries, store, *pat)?;
+    }
+    Ok(())
+}
