@@ -12,7 +12,7 @@ use hir_defs::{Body, Tables};
 use hir_error::HirError;
 use hir_make::{bind, block, let_, local, params};
 use hir_node::{BindingId, Expr, ExprId, Mutability, Rawness};
-use hir_print_defs::print_body_hir;
+use hir_pretty::print_body_hir;
 use hir_scope::ExprScopes;
 use hir_store::{ExpressionStore, ExpressionStoreBuilder};
 use std::alloc::Global;

@@ -6,7 +6,6 @@ ghost use Rattle.hir_page.specs.Page.{begun, parted, indented, put, put_all, tri
 
 use crate::{LineFormat, PieceWriter};
 use std::alloc::{AllocError, Global};
-use std::fmt;
 use std::marker::Model;
 
 /// A page of text, written piece by piece. Contracts see it as its lines, its level and its format.
@@ -452,23 +451,6 @@ impl PieceWriter for PageBuffer {
         self.lower_level();
         self.cut_empty_lines();
         Ok(())
-    }
-}
-
-impl fmt::Write for PageBuffer {
-    ghost use Rattle.std.specs.Prelude.{◌≡◌, IsOk, OnErr};
-    ghost use Rattle.hir_page.specs.Page.{put_all};
-
-    ghost write_str_gives = { λ page text after. after ≡ put_all text page };
-
-    fn write_str(&mut self, text: &str) -> fmt::Result
-        ensures ok { IsOk result → self.new ≡ put_all text.now self.old }
-        ensures err { OnErr result (self.new ≡ self.old) }
-    {
-        match self.text(text) {
-            Ok(()) => Ok(()),
-            Err(_) => Err(fmt::Error),
-        }
     }
 }
 

@@ -1,7 +1,6 @@
 //! Shapes of layout, in lines and in one line.
-use hir_page::{LineFormat, PageBuffer, PieceWriter};
+use hir_page::{LineFormat, PageBuffer, PieceWriter, write_number};
 use std::alloc::{AllocError, Global};
-use std::fmt::Write;
 use std::test::Fail;
 
 #[test]
@@ -133,7 +132,9 @@ fn numbers_are_written_in_place(rt: HostRuntime) -> Result<(), Fail> {
     let mut page = PageBuffer::new(rt.alloc(), LineFormat::Newline);
     page.indent()?;
     page.text("x\n")?;
-    write!(page, "ExprId({})", 3u32)?;
+    page.text("ExprId(")?;
+    write_number(&mut page, 3u32)?;
+    page.text(")")?;
     assert_eq!(rt; page.into_text().as_str(), "x\n    ExprId(3)");
     Ok(())
 }

@@ -1,20 +1,3 @@
-pub mod WorkedRows
-pub mod StepLemmas
-pub mod ArgsItems
-pub mod ArgsCosts
-pub mod FallLemmas
-pub mod NodesFall
-pub mod ItemsFall
-pub mod OpenLemmas
-pub mod OrderLemmas
-pub mod FirstLemmas
-pub mod JoinLemmas
-pub mod FieldLemmas
-pub mod ArgsLemmas
-pub mod SignatureLemmas
-pub mod TurnLemmas
-pub mod PatternLemmas
-pub mod PageOfPieces
-pub mod AnswerLemmas
-pub mod NameLemmas
-pub mod SliceItems
+pub mod ListLemmas
+pub mod OtherLemmas
+mod WorkedRows

@@ -1,215 +1,226 @@
--- Worked shapes: trees, and the texts that their pieces give.
-use Rattle.std.proofs.Common.{◌≡◌, ℕ, Bool, true, false, List, [], ◌∷◌, Some, None, refl, codes}
-use Rattle.std.specs.Prelude.{Ok, Err}
+-- Worked bodies, fields and signatures, and the texts that their pieces give.
+use Rattle.std.proofs.Common.{◌≡◌, ℕ, Bool, true, false, List, [], ◌∷◌, Option, Some, None, refl, codes, pos}
+use Rattle.std.specs.Prelude.{Result, Ok, Err}
+use Rattle.std.specs.Fmt.{digits}
+use Rattle.hir_forest.specs.Height.{height}
+use Rattle.hir_forest.specs.declared.roots.Root.{Root}
 use Rattle.hir_base.specs.declared.hygiene.SyntaxContext.TheVariants as context
 use Rattle.hir_base.specs.declared.edition.Edition.TheVariants as edition
-use Rattle.hir_forest.specs.Height.{height}
-use Rattle.std.specs.Fmt.{digits}
-use Rattle.std.specs.Str.{chars}
-use lib.Utf8.{encode}
+use Rattle.hir_base.specs.declared.abi.ExternAbi.TheVariants as abi
+use Rattle.hir_base.specs.declared.defs.DefWithBodyId.{DefWithBodyId}
+use Rattle.hir_base.specs.declared.defs.DefWithBodyId.TheVariants as body
+use Rattle.hir_base.specs.declared.defs.NamedDef.{NamedDef}
+use Rattle.hir_base.specs.declared.defs.NamedDef.TheVariants as named
+use Rattle.hir_base.specs.declared.defs.VariantId.TheVariants as variant
+use Rattle.hir_base.specs.declared.defs.GenericDefId.TheVariants as generic
+use Rattle.hir_base.specs.declared.mod_path.PathKind.TheVariants as kind
+use Rattle.hir_path.specs.declared.path.Path.{Path}
+use Rattle.hir_path.specs.declared.path.Path.TheVariants as path
+use Rattle.hir_path.specs.declared.bound.TypeBound.TheVariants as bound
+use Rattle.hir_path.specs.declared.bound.TraitBoundModifier.TheVariants as modifier
 use Rattle.hir_node.specs.declared.binding.Binding.{Binding}
 use Rattle.hir_node.specs.declared.binding.BindingAnnotation.TheVariants as mode
 use Rattle.hir_node.specs.declared.literal.Literal.TheVariants as literal
-use Rattle.hir_node.specs.declared.expr_types.Statement.TheVariants as statement
-use Rattle.hir_node.specs.declared.expr_types.Item.TheVariants as item
-use Rattle.hir_node.specs.declared.expr_types.Unsafe.TheVariants as unsafety
-use Rattle.hir_base.specs.declared.mod_path.PathKind.TheVariants as kind
-use Rattle.hir_base.specs.declared.operators.ArithOp.TheVariants as arith
-use Rattle.hir_base.specs.declared.operators.LogicOp.TheVariants as logic
-use Rattle.hir_base.specs.declared.operators.BinaryOp.TheVariants as binary
-use Rattle.hir_base.specs.declared.abi.ExternAbi.TheVariants as abi
-use Rattle.hir_base.specs.declared.defs.LangItemTarget.TheVariants as target
-use Rattle.hir_base.specs.declared.defs.NamedDef.TheVariants as named
-use Rattle.hir_path.specs.declared.path.Path.{Path}
-use Rattle.hir_path.specs.declared.path.Path.TheVariants as path
-use Rattle.hir_node.specs.declared.node_id.NodeId.TheVariants as node
 use Rattle.hir_node.specs.declared.expr.Expr.{Expr}
 use Rattle.hir_node.specs.declared.expr.Expr.TheVariants as expr
-use Rattle.hir_node.specs.declared.expr_types.Array.TheVariants as array
-use Rattle.hir_node.specs.declared.expr_types.RecordSpread.TheVariants as spread
+use Rattle.hir_node.specs.declared.expr_types.Unsafe.TheVariants as unsafety
 use Rattle.hir_node.specs.declared.pat.Pat.{Pat}
-use Rattle.hir_node.specs.declared.pat.Pat.TheVariants as pat
 use Rattle.hir_node.specs.declared.type_ref.TypeRef.{TypeRef}
 use Rattle.hir_node.specs.declared.type_ref.TypeRef.TheVariants as type
+use Rattle.hir_generics.specs.declared.data.LifetimeBoundType.TheVariants as bound_type
+use Rattle.hir_generics.specs.declared.data.TypeParamProvenance.TheVariants as provenance
+use Rattle.hir_generics.specs.declared.param.TypeOrConstParamData.TheVariants as param
+use Rattle.hir_generics.specs.declared.predicate.WherePredicate.TheVariants as predicate
+use Rattle.hir_faults.specs.Nodes.{Nodes}
+use Rattle.hir_faults.specs.Down.{value, rank, value_within}
+use Rattle.hir_expr_store.specs.Contents.{Contents}
+use Rattle.hir_expr_store.specs.SideTables.{no_side_tables}
+use Rattle.hir_expr_store.specs.declared.missing.Missing.{Missing}
 use Rattle.hir_expr_store.specs.declared.missing.Missing.TheVariants as missing
-use Rattle.hir_faults.specs.Down.{value, rank}
-use Rattle.hir_pretty.specs.Questions.{Questions, Setting}
-use Rattle.hir_pretty.specs.Pieces.{pieces, path_pieces, first_missing, text_of}
+use Rattle.hir_items.specs.declared.signatures.FieldsShape.TheVariants as shape
+use Rattle.hir_items.specs.declared.signatures.RawVisibility.TheVariants as visibility
+use Rattle.hir_items.specs.Bodies.{BodyContents}
+use Rattle.hir_items.specs.Generics.{Generics, empty}
+use Rattle.hir_items.specs.declared.signatures.FunctionParts.{FunctionParts}
+use Rattle.hir_printer.specs.Questions.{Questions, Setting}
+use Rattle.hir_printer.specs.Items.{Item}
+use Rattle.hir_printer.specs.Pieces.{pieces, first_missing, text_of}
+use Rattle.hir_printer.specs.Pieces.{printed}
+use Rattle.hir_pretty.specs.Bodies.{Parents, body_items}
+use Rattle.hir_pretty.specs.Variants.{variant_items, without_fields}
+use Rattle.hir_pretty.specs.Signatures.{function_items, struct_items, unimplemented}
 
--- tables that hold nothing
-abbrev no_tables : Questions
-no_tables = record {
-  name = λ def. Err (missing.Name def);
+-- constants have no name, statics are `S`, functions `foo`, structs `T`, enums `E`, variants `V`
+abbrev name : NamedDef → Result (Option (List ℕ)) Missing
+name (named.EnumId id) = Ok (Some (codes "E"))
+name (named.FunctionId id) = Ok (Some (codes "foo"))
+name (named.StaticId id) = Ok (Some (codes "S"))
+name (named.StructId id) = Ok (Some (codes "S"))
+name (named.UnionId id) = Ok (Some (codes "U"))
+name (named.TypeAliasId id) = Ok None
+name (named.TraitId id) = Ok None
+name (named.EnumVariantId id) = Ok (Some (codes "V"))
+name (named.ConstId id) = Ok None
+name (named.MacroId id) = Ok None
+
+abbrev tables : Questions
+tables = record {
+  name = name;
   crate_name = λ id. Err (missing.Crate id);
-  type_param = λ id. Err (missing.TypeParam id);
+  type_param = λ id. Ok None;
   lifetime_param = λ id. Err (missing.LifetimeParam id);
 }
 
-abbrev setting : List Expr → List Pat → List TypeRef → List Binding → Bool → Setting
-setting exprs pats types bindings one_line = record {
-  nodes = record { exprs = exprs; pats = pats; types = types; bindings = bindings; labels = []; lifetimes = [] };
-  tables = no_tables;
-  words = codes "match" ∷ [];
-  one_line = one_line;
+-- what nothing is known of
+abbrev no_tables : Questions
+no_tables = record tables { name = λ def. Err (missing.Name def) }
+
+abbrev setting : Questions → Contents → Setting
+setting tables store = record { nodes = store.nodes; tables = tables; words = []; one_line = false }
+
+abbrev root : ℕ → Root
+root id = record { node = id; ends = record { exprs = id; pats = 0; bindings = 0 } }
+
+abbrev store : List Expr → List TypeRef → List Binding → List Root → Contents
+store exprs types bindings roots = record {
+  nodes = record { exprs = exprs; pats = []; types = types; bindings = bindings; labels = []; lifetimes = [] };
+  roots = roots;
+  side_tables = no_side_tables;
 }
 
-abbrev bare : List (List ℕ) → Path
-bare names = path.BarePath (record { kind = kind.Plain; segments = names })
+abbrev plain : List ℕ → Path
+plain text = path.BarePath (record { kind = kind.Plain; segments = text ∷ [] })
 
 abbrev var : List ℕ → Expr
-var name = expr.Path (bare (name ∷ []))
+var text = expr.Path (plain text)
 
-abbrev named_type : List ℕ → TypeRef
-named_type name = type.Path (bare (name ∷ []))
+abbrev type_named : List ℕ → TypeRef
+type_named text = type.Path (plain text)
 
 abbrev binding : List ℕ → Binding
-binding name = record { name = name; mode = mode.Unannotated; problems = None; hygiene = context.Root edition.Edition2015 }
+binding text = record { name = text; mode = mode.Unannotated; problems = None; hygiene = context.Root edition.Edition2015 }
 
-abbrev bind : ℕ → Pat
-bind id = pat.Bind id None
+-- a body that is one expression
+abbrev only : Expr → BodyContents
+only x = record { store = store (x ∷ []) [] [] (root 0 ∷ []); params = []; self_param = None }
 
--- the text of the last expression of a list, over these patterns, types and bindings
-abbrev expr_text : List Expr → List Pat → List TypeRef → List Binding → ℕ → List ℕ
-expr_text exprs pats types bindings id = let s = setting exprs pats types bindings false in text_of s (pieces s (node.Expr id))
+abbrev of_enum_0 : Parents
+of_enum_0 id = Ok 0
 
-abbrev exprs_text : List Expr → ℕ → List ℕ
-exprs_text exprs id = expr_text exprs [] [] [] id
+abbrev body_text : DefWithBodyId → BodyContents → List ℕ
+body_text owner b = let s = setting tables b.store in text_of s (printed s (body_items s of_enum_0 owner b))
 
--- the text of a pattern in one line, over bindings `a`, `b` and `match`
-abbrev pat_text : List Pat → ℕ → List ℕ
-pat_text pats id = let s = setting [] pats [] (binding (codes "a") ∷ binding (codes "b") ∷ binding (codes "match") ∷ []) true in text_of s (pieces s (node.Pat id))
-
-abbrev path_text : List Expr → List TypeRef → Path → List ℕ
-path_text exprs types p = let s = setting exprs [] types [] false in text_of s (path_pieces s p)
-
-words_are_raw : path_text [] [] (bare (codes "match" ∷ [])) ≡ codes "r#match"
-unfolding pieces
-words_are_raw = refl
-
-elements : exprs_text (var (codes "a") ∷ var (codes "b") ∷ expr.Array (array.ElementList (0 ∷ 1 ∷ [])) ∷ []) 2
-    ≡ codes "[\n    a, b,\n]"
-unfolding pieces value rank height
-elements = refl
-
-match_in_a_repeat : exprs_text (var (codes "x") ∷ var (codes "y") ∷ expr.Match 1 [] ∷ expr.Array (array.Repeat 0 2) ∷ []) 3
-    ≡ codes "[\n    x; match y {\n    }\n\n]"
-unfolding pieces value rank height
-match_in_a_repeat = refl
-
-arguments_in_lines : exprs_text (var (codes "f") ∷ var (codes "x") ∷ expr.Call 0 (1 ∷ []) ∷ []) 2
-    ≡ codes "f(\n    x,\n)"
-unfolding pieces value rank height
-arguments_in_lines = refl
-
-tuple : exprs_text (var (codes "a") ∷ var (codes "b") ∷ expr.Tuple (0 ∷ 1 ∷ []) ∷ []) 2
-    ≡ codes "(a, b, )"
-unfolding pieces value rank height
-tuple = refl
-
-record_literal : exprs_text (var (codes "x") ∷ expr.RecordLit (bare (codes "S" ∷ [])) (record { name = codes "a"; expr = 0 } ∷ []) spread.None ∷ []) 1
-    ≡ codes "S{\n    a: x,\n}"
-unfolding pieces value rank height
-record_literal = refl
-
-minus_to_the_left : exprs_text (var (codes "a") ∷ var (codes "b") ∷ expr.BinaryOp 0 1 (Some (binary.ArithOp arith.Sub)) ∷ var (codes "c") ∷ expr.BinaryOp 2 3 (Some (binary.ArithOp arith.Sub)) ∷ []) 4
-    ≡ codes "(a - b) - c"
-unfolding pieces value rank height
-minus_to_the_left = refl
-
-and_in_a_chain : exprs_text (var (codes "a") ∷ var (codes "b") ∷ expr.BinaryOp 0 1 (Some (binary.LogicOp logic.And)) ∷ var (codes "c") ∷ expr.BinaryOp 2 3 (Some (binary.LogicOp logic.And)) ∷ []) 4
-    ≡ codes "a && b && c"
-unfolding pieces value rank height
-and_in_a_chain = refl
-
-constant : exprs_text (expr.Const 3 ∷ []) 0
-    ≡ codes "const { /* ExprId(3) */ }"
+constant : body_text (body.ConstId 0) (only (var (codes "x"))) ≡ codes "const _ = x;"
 unfolding pieces value rank height digits
 constant = refl
 
-cast_to_a_function : expr_text (var (codes "x") ∷ expr.Cast 0 2 ∷ []) [] (named_type (codes "u32") ∷ type.Tuple [] ∷ type.Fn (record { binder = None; params = (None, 0) ∷ (None, 1) ∷ []; is_varargs = false; is_unsafe = false; abi = abi.C }) ∷ []) [] 1
-    ≡ codes "x as extern C fn(u32) -> ()"
-unfolding pieces value rank height
-cast_to_a_function = refl
+of_static : body_text (body.StaticId 0) (only (var (codes "x"))) ≡ codes "static S = x;"
+unfolding pieces value rank height digits
+of_static = refl
 
-escapes : exprs_text (expr.Literal (literal.String (codes "a\"'")) ∷ []) 0
-    ≡ codes "\"a\\\"'\""
-unfolding pieces value rank height chars encode
-escapes = refl
+of_variant : body_text (body.VariantId 0) (only (expr.Literal (literal.Int (pos 1) None))) ≡ codes "enum E::V1"
+unfolding pieces value rank height digits
+of_variant = refl
 
-c_string : exprs_text (expr.Literal (literal.CString (codes "a")) ∷ []) 0
-    ≡ codes "\"a\\0\""
-unfolding pieces value rank height
-c_string = refl
+method : body_text (body.FunctionId 0) (record {
+  store = store (var (codes "x") ∷ expr.Block None [] (Some 0) None unsafety.No ∷ []) [] (binding (codes "self") ∷ []) (root 1 ∷ []);
+  params = [];
+  self_param = Some (record { formal = 0; user_written = 0 });
+}) ≡ codes "fn foo(self) {\n    x\n}"
+unfolding pieces value rank height digits
+method = refl
 
-bytes : exprs_text (expr.Literal (literal.ByteString (0 ∷ 34 ∷ 255 ∷ [])) ∷ []) 0
-    ≡ codes "\"\\x00\\\"\\xff\""
-unfolding pieces value rank height
-bytes = refl
+-- what is missing first: the enum of the variant, and then its name
+no_variant : (let b = only (var (codes "x")) in let s = setting no_tables b.store in first_missing (printed s (body_items s (λ id. Err (missing.Variant id)) (body.VariantId 0) b)))
+    ≡ Some (missing.Variant 0)
+unfolding pieces value rank height digits
+no_variant = refl
 
-record_pattern : pat_text (bind 0 ∷ pat.Record true (bare (codes "S" ∷ [])) (record { name = codes "a"; pat = 0 } ∷ []) ∷ []) 1
-    ≡ codes "S { a, .. }"
-unfolding pieces value rank height
-record_pattern = refl
+no_enum : (let b = only (var (codes "x")) in let s = setting no_tables b.store in first_missing (printed s (body_items s of_enum_0 (body.VariantId 0) b)))
+    ≡ Some (missing.Name (named.EnumId 0))
+unfolding pieces value rank height digits
+no_enum = refl
 
--- a word of the edition never stands alone
-record_pattern_of_a_word : pat_text (bind 2 ∷ pat.Record false (bare (codes "S" ∷ [])) (record { name = codes "match"; pat = 0 } ∷ []) ∷ []) 1
-    ≡ codes "S { r#match: r#match }"
-unfolding pieces value rank height
-record_pattern_of_a_word = refl
+fields : (let c = store [] (type_named (codes "u32") ∷ []) [] [] in let s = setting tables c in text_of s (printed s (variant_items s of_enum_0 (variant.StructId 0) (record {
+  shape = shape.Record;
+  fields = record { name = codes "a"; type_ref = 0; visibility = visibility.Public; is_unsafe = false; default_value = None } ∷ [];
+  store = c;
+})))) ≡ codes "struct S {\npub a: u32,\n}\n"
+unfolding pieces value rank height digits
+fields = refl
 
-record_pattern_without_fields : pat_text (pat.Record false (bare (codes "S" ∷ [])) [] ∷ []) 0
-    ≡ codes "S { }"
-unfolding pieces value rank height
-record_pattern_without_fields = refl
+no_fields : (let s = setting tables (store [] [] [] []) in first_missing (printed s (without_fields s of_enum_0 (variant.StructId 0)))) ≡ Some (missing.Fields (variant.StructId 0))
+unfolding pieces value rank height digits
+no_fields = refl
 
-rest_between : pat_text (bind 0 ∷ bind 1 ∷ pat.TupleStruct (bare (codes "T" ∷ [])) (0 ∷ 1 ∷ []) (Some 1) ∷ []) 2
-    ≡ codes "T(a, .., b)"
-unfolding pieces value rank height
-rest_between = refl
+tuple_struct : (let c = store [] [] [] [] in let s = setting tables c in text_of s (printed s (struct_items s None (record {
+  name = codes "S";
+  generic_params = empty;
+  store = c;
+  is_fundamental = false;
+  shape = shape.Tuple;
+})))) ≡ codes "struct S(...)\n;\n"
+unfolding pieces value rank height digits
+tuple_struct = refl
 
-rest_last : pat_text (bind 0 ∷ pat.Tuple (0 ∷ []) (Some 7) ∷ []) 1
-    ≡ codes "(a, ..)"
-unfolding pieces value rank height
-rest_last = refl
+abbrev function : Contents → Generics → List ℕ → FunctionParts
+function c generics params = record {
+  name = codes "impl_trait_args";
+  generic_params = generics;
+  store = c;
+  params = params;
+  ret_type = None;
+  abi = abi.Rust;
+  is_const = false;
+  is_async = false;
+  is_unsafe = false;
+  is_explicit_safe = false;
+  legacy_const_indices = None;
+}
 
-rest_alone : pat_text (pat.Tuple [] (Some 0) ∷ []) 0
-    ≡ codes "(..)"
-unfolding pieces value rank height
-rest_alone = refl
+abbrev second_param : TypeRef
+second_param = type.TypeParam (record { parent = generic.FunctionId 0; local_id = 1 })
 
-slice_pattern : pat_text (bind 0 ∷ bind 1 ∷ pat.Slice (0 ∷ 1 ∷ []) None [] ∷ []) 2
-    ≡ codes "[a, b, ]"
-unfolding pieces value rank height
-slice_pattern = refl
+impl_trait : (let c = store [] (second_param ∷ second_param ∷ type_named (codes "Trait") ∷ []) [] [] in let s = setting tables c in
+    text_of s (printed s (function_items s (function c (record {
+      type_or_consts = param.TypeParamData (record { name = Some (codes "T"); default = None; provenance = provenance.TypeParamList })
+          ∷ param.TypeParamData (record { name = None; default = None; provenance = provenance.ArgumentImplTrait }) ∷ [];
+      lifetimes = [];
+      predicates = predicate.TypeBound None 1 (bound.Path 2 modifier.None) ∷ [];
+    }) (0 ∷ []))))) ≡ codes "fn impl_trait_args<T, Param[1]>(Param[1])\nwhere\n    Param[1]: Trait\n {...}\n"
+unfolding pieces value rank height digits
+impl_trait = refl
 
-block_in_lines : expr_text (var (codes "M") ∷ var (codes "W") ∷ expr.Assignment 0 0 ∷ expr.Block None (statement.Expr 2 true ∷ []) (Some 1) None unsafety.No ∷ []) (bind 0 ∷ []) [] (binding (codes "x") ∷ []) 3
-    ≡ codes "{\n    x = M;\n    W\n}"
-unfolding pieces value rank height
-block_in_lines = refl
+flags_and_places : (let c = store [] (type_named (codes "A") ∷ type_named (codes "B") ∷ []) [] [] in let s = setting tables c in
+    text_of s (printed s (function_items s (record (function c empty (0 ∷ 1 ∷ [])) {
+      name = codes "a";
+      abi = abi.C;
+      is_const = true;
+      is_async = true;
+      is_unsafe = true;
+      legacy_const_indices = Some (1 ∷ []);
+    }))))
+    ≡ codes "const async unsafe extern \"C\" fn a(A, const: B) {...}\n"
+unfolding pieces value rank height digits
+flags_and_places = refl
 
-block_of_items : exprs_text (expr.Block None (statement.Item item.Other ∷ []) None None unsafety.No ∷ []) 0
-    ≡ codes "{\n}"
-unfolding pieces value rank height
-block_of_items = refl
+all_of_a_struct : (let c = store (expr.Literal (literal.Int (pos 3) None) ∷ []) (type_named (codes "usize") ∷ type.Tuple [] ∷ type_named (codes "T") ∷ type_named (codes "Clone") ∷ []) [] [] in
+    let s = setting tables c in text_of s (printed s (struct_items s (Some (record { c = true; align = Some 8; pack = None })) (record {
+      name = codes "S";
+      generic_params = record {
+        type_or_consts = param.TypeParamData (record { name = Some (codes "T"); default = None; provenance = provenance.TypeParamList })
+            ∷ param.ConstParamData (record { name = codes "C"; ty = 0; default = Some (record { expr = 0 }) })
+            ∷ param.TypeParamData (record { name = Some (codes "X"); default = Some 1; provenance = provenance.TypeParamList }) ∷ [];
+        lifetimes = record { name = codes "'a"; bound_type = bound_type.EarlyBound } ∷ [];
+        predicates = predicate.TypeBound None 2 (bound.Path 3 modifier.None) ∷ [];
+      };
+      store = c;
+      is_fundamental = true;
+      shape = shape.Unit;
+    })))) ≡ codes "#[repr(C)]\n#[repr(align(8))]\n#[fundamental]\nstruct S<'a, T, const C: usize = 3, X = ()>\nwhere\n    T: Clone\n;\n"
+unfolding pieces value rank height digits
+all_of_a_struct = refl
 
-repeat_in_a_block : exprs_text (var (codes "x") ∷ var (codes "y") ∷ expr.Match 1 [] ∷ expr.Array (array.Repeat 0 2) ∷ expr.Block None [] (Some 3) None unsafety.No ∷ []) 4
-    ≡ codes "{\n    [\n        x; match y {\n        }\n    \n    ]\n}"
-unfolding pieces value rank height
-repeat_in_a_block = refl
-
--- the first definition that is missing, in printing order
-first_is_named : (let s = setting (expr.Path (path.LangItem (target.StructId 1) None) ∷ expr.Path (path.LangItem (target.FunctionId 0) None) ∷ expr.Tuple (0 ∷ 1 ∷ []) ∷ []) [] [] [] false in first_missing (pieces s (node.Expr 2)))
-    ≡ Some (missing.Name (named.StructId 1))
-unfolding pieces value rank height
-first_is_named = refl
-
-crate_is_named : (let s = setting [] [] [] [] false in first_missing (path_pieces s (path.BarePath (record { kind = kind.DollarCrate 0; segments = codes "a" ∷ [] })))) ≡ Some (missing.Crate 0)
-unfolding pieces
-crate_is_named = refl
-
--- a lang item, by the name that the tables have
-lang_item : text_of (record (setting [] [] [] [] false) { tables = record no_tables { name = λ def. Ok (Some (codes "f")) } })
-    (path_pieces (record (setting [] [] [] [] false) { tables = record no_tables { name = λ def. Ok (Some (codes "f")) } }) (path.LangItem (target.FunctionId 0) (Some (codes "new"))))
-    ≡ codes "builtin#lang(f::new)"
-unfolding pieces
-lang_item = refl
+of_an_enum : (let s = setting tables (store [] [] [] []) in text_of s (printed s (unimplemented (codes "EnumId") 5))) ≡ codes "unimplemented EnumId(5)"
+unfolding pieces digits
+of_an_enum = refl

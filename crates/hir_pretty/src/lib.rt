@@ -1,31 +1,22 @@
-//! Expressions, patterns and types as text: what each node is printed as, and the printer.
+//! Expressions, patterns, paths, bodies, fields of variants and signatures as text.
 #![tactic(auto)]
 
-mod at_once;
-mod calls;
-mod closures;
-mod definitions;
-mod expr_parts;
-mod exprs;
-mod fault;
-mod field_pats;
-mod laid;
-pub mod laws;
-mod literals;
-mod lookups;
-mod names;
-mod paths;
-mod pats;
-mod print;
-mod tables;
-mod turn;
-mod type_parts;
-mod types;
-mod work;
+mod bodies;
+mod functions;
+mod generics;
+mod heads;
+mod nodes;
+mod pretty_body;
+mod signatures;
+mod structs;
+mod variants;
 
-pub use calls::{print_expr_hir, print_pat_hir, print_path};
-pub use definitions::Definitions;
-pub use fault::PrintFault;
+pub use bodies::print_body_hir;
+pub use functions::print_function;
 pub use hir_page::LineFormat;
-pub use print::print_works;
-pub use work::{ExprPart, Look, PatPart, PathPart, TypePart, Work};
+pub use hir_printer::PrintFault;
+pub use nodes::{print_expr_hir, print_pat_hir, print_path};
+pub use pretty_body::PrettyBody;
+pub use signatures::print_signature;
+pub use structs::print_struct;
+pub use variants::print_variant_body_hir;

@@ -20,15 +20,15 @@ use Rattle.hir_lines.specs.PatGrammar.{IsPat}
 use Rattle.hir_lines.specs.TypeGrammar as line_type
 use Rattle.hir_lines.specs.TypeGrammar.{IsType}
 use Rattle.hir_faults.specs.Down.{value, value_within, rank}
-use Rattle.hir_pretty.specs.Questions.{Setting}
-use Rattle.hir_pretty.specs.Items.{Item, Put, Lacks, Whole, Under, Pattern, TypeItem, text, sp, br, out, e, under, p, t, opt, joined, comma_joined}
-use Rattle.hir_pretty.specs.Names.{name_items, name_parts, of_binding, binding_items}
-use Rattle.hir_pretty.specs.Paths.{path_items}
-use Rattle.hir_pretty.specs.Exprs.{each_line, in_lines, arm_items, semicolon, statement_items, inside_block, params, expr_items}
-use Rattle.hir_pretty.specs.Pats.{pat_items}
-use Rattle.hir_pretty.specs.Types.{type_items}
-use Rattle.hir_pretty.specs.Pieces.{NodePiece, Layout, Absent, items_of, item_pieces, parenthesized, pieces_step, pieces, first_missing}
-use Rattle.hir_pretty.specs.Works.{printed}
+use Rattle.hir_printer.specs.Questions.{Setting}
+use Rattle.hir_printer.specs.Items.{Item, Put, Lacks, Whole, Under, Pattern, TypeItem, text, sp, br, out, e, under, p, t, opt, joined, comma_joined}
+use Rattle.hir_printer.specs.Names.{name_items, name_parts, of_binding, binding_items}
+use Rattle.hir_printer.specs.Paths.{path_items}
+use Rattle.hir_printer.specs.Exprs.{each_line, in_lines, arm_items, semicolon, statement_items, inside_block, params, expr_items}
+use Rattle.hir_printer.specs.Pats.{pat_items}
+use Rattle.hir_printer.specs.Types.{type_items}
+use Rattle.hir_printer.specs.Pieces.{NodePiece, Layout, Absent, items_of, item_pieces, parenthesized, pieces_step, pieces, first_missing}
+use Rattle.hir_printer.specs.Pieces.{printed}
 use Rattle.hir_lines.specs.Words.{plain}
 use Rattle.std.specs.FinMap as map
 use Rattle.std.specs.Option.{option_to_list}
@@ -40,10 +40,10 @@ use Rattle.hir_base.specs.declared.defs.NamedDef.TheVariants as named_def
 use Rattle.hir_expr_store.specs.declared.missing.Missing.{Missing}
 use Rattle.hir_expr_store.specs.declared.missing.Missing.TheVariants as missing
 use Rattle.hir_items.specs.Bodies.{BodyContents, formals_of, last_root}
-use Rattle.hir_pretty.specs.Answers.{answers, found_or}
-use Rattle.hir_pretty.specs.Paths.{found_name}
-use Rattle.hir_print_defs.specs.Bodies.{body_items, formal_params, formal_self}
-use Rattle.hir_print_defs.specs.Found.{parents}
+use Rattle.hir_printer.specs.Answers.{answers, found_or}
+use Rattle.hir_printer.specs.Paths.{found_name}
+use Rattle.hir_pretty.specs.Bodies.{body_items, formal_params, formal_self}
+use Rattle.hir_pretty.specs.Found.{parents}
 use Rattle.hir_run.specs.OfLines.{IsExprOfLine, IsPatOfLine, IsTypeOfLine, AreOfLines}
 use Rattle.hir_run.specs.Printing.{tables_of, printed_from, body_pieces}
 

@@ -7,15 +7,15 @@ use Rattle.hir_base.specs.declared.edition.Edition.TheVariants.{Edition2021}
 use Rattle.hir_defs.specs.Lookups.{Tables}
 use Rattle.hir_expr_store.specs.declared.missing.Missing.{Missing}
 use Rattle.hir_items.specs.Bodies.{BodyContents}
-use Rattle.hir_pretty.specs.declared.fault.PrintFault.{PrintFault}
-use Rattle.hir_pretty.specs.declared.fault.PrintFault.TheVariants as fault
-use Rattle.hir_pretty.specs.Answers.{answers}
-use Rattle.hir_pretty.specs.Pieces.{first_missing, text_of}
-use Rattle.hir_pretty.specs.Printed.{PrintsPieces}
-use Rattle.hir_pretty.specs.Settings.{setting}
-use Rattle.hir_pretty.specs.Works.{printed}
-use Rattle.hir_print_defs.specs.Bodies.{body_items}
-use Rattle.hir_print_defs.specs.Found.{parents}
+use Rattle.hir_printer.specs.declared.fault.PrintFault.{PrintFault}
+use Rattle.hir_printer.specs.declared.fault.PrintFault.TheVariants as fault
+use Rattle.hir_printer.specs.Answers.{answers}
+use Rattle.hir_printer.specs.Pieces.{first_missing, text_of}
+use Rattle.hir_printer.specs.Printed.{PrintsPieces}
+use Rattle.hir_printer.specs.Settings.{setting}
+use Rattle.hir_printer.specs.Pieces.{printed}
+use Rattle.hir_pretty.specs.Bodies.{body_items}
+use Rattle.hir_pretty.specs.Found.{parents}
 use Rattle.hir_run.specs.OfLines.{AreOfLines}
 use Rattle.hir_run.specs.Printing.{tables_of, printed_from, body_pieces, body_text}
 use Rattle.hir_run.proofs.OutsideLemmas.{nothing_missing}

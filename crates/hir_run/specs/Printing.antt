@@ -7,13 +7,13 @@ use Rattle.hir_base.specs.declared.defs.NamedDef.TheVariants as named
 use Rattle.hir_defs.specs.Lookups.{Tables}
 use Rattle.hir_defs.specs.NoTables.{no_tables}
 use Rattle.hir_items.specs.Bodies.{BodyContents}
-use Rattle.hir_pretty.specs.Answers.{answers}
-use Rattle.hir_pretty.specs.Pieces.{NodePiece, text_of}
-use Rattle.hir_pretty.specs.Questions.{Setting}
-use Rattle.hir_pretty.specs.Settings.{setting}
-use Rattle.hir_pretty.specs.Works.{printed}
-use Rattle.hir_print_defs.specs.Bodies.{body_items}
-use Rattle.hir_print_defs.specs.Found.{parents}
+use Rattle.hir_printer.specs.Answers.{answers}
+use Rattle.hir_printer.specs.Pieces.{NodePiece, text_of}
+use Rattle.hir_printer.specs.Questions.{Setting}
+use Rattle.hir_printer.specs.Settings.{setting}
+use Rattle.hir_printer.specs.Pieces.{printed}
+use Rattle.hir_pretty.specs.Bodies.{body_items}
+use Rattle.hir_pretty.specs.Found.{parents}
 
 -- the tables have the name of function 0, or that it has none, and nothing else
 abbrev pub tables_of : Option (List ℕ) → Tables

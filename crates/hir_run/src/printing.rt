@@ -12,7 +12,7 @@ use hir_base::{DefWithBodyId, Edition, FunctionId, Name, NamedDef, Text};
 use hir_defs::Tables;
 use hir_io::Sink;
 use hir_items::Body;
-use hir_print_defs::{PrintFault, print_body_hir};
+use hir_pretty::{PrintFault, print_body_hir};
 use std::alloc::Global;
 
 /// A copy of a name, where there is one.

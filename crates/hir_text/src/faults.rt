@@ -10,7 +10,7 @@ use hir_error::HirError;
 use hir_expr_store::Missing;
 use hir_io::{EndFailed, FillFault, LineFault};
 use hir_notation::{Answer, Stop, Words};
-use hir_print_defs::PrintFault;
+use hir_pretty::PrintFault;
 use hir_run::RunFault;
 use hir_scope::ScopesFault;
 use hir_store::FinishFault;

@@ -11,7 +11,7 @@ use hir_notation::{
     Answer, Stop, Words, as_def_with_body, as_generic, as_variant, next_def, next_path,
     opt_edition, read_def,
 };
-use hir_print_defs::{
+use hir_pretty::{
     PrettyBody, PrintFault, print_body_hir, print_expr_hir, print_function, print_pat_hir,
     print_path, print_signature, print_struct, print_variant_body_hir,
 };

@@ -1,0 +1,10 @@
+use Rattle.std.proofs.lemmas.Result.{err_from_is_err_and}
+use Rattle.hir_printer.proofs.TurnLemmas.{prints}
+use Rattle.hir_pretty.proofs.OtherLemmas.{prints_refused}
+use Rattle.hir_pretty.proofs.bodies.print_body_hir.Goals as goal
+
+pub returns-in_err-add_body : goal.returns-in_err-add_body
+returns-in_err-add_body c = let p = err_from_is_err_and c.from_residual.result c.from_residual.ensures.1 in rw (p.1, p.2) prints_refused
+
+pub returns : goal.returns
+returns c = prints (rw c.store.ensures at c.new-printer.ensures) c.in_ok-add_body.ensures c.print.ensures

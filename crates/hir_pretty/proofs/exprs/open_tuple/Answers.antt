@@ -1,8 +1,0 @@
-use Rattle.std.proofs.Common.{refl, arith}
-use Rattle.std.proofs.lemmas.Result.{on_ok_weaker}
-use Rattle.hir_pretty.proofs.OpenLemmas.{opens_before, opens_then, opens_works}
-use Rattle.hir_pretty.proofs.exprs.open_tuple.Goals as goal
-
-pub returns : goal.returns
-returns c = on_ok_weaker c.push-2.result
-    (λ p s. opens_before (opens_then (opens_works c.in_ok-push.ensures) (c.in_ok-open_elements.ensures s)) p refl (omega arith)) c.push-2.ensures

@@ -1,0 +1,15 @@
+use Rattle.std.proofs.Common.{refl}
+use Rattle.std.specs.List.{enumerate_from}
+use Rattle.std.proofs.lemmas.Result.{on_ok_weaker}
+use Rattle.hir_generics.specs.declared.data.LifetimeParamData.{LifetimeParamData}
+use Rattle.hir_printer.specs.Names.{name_items}
+use Rattle.hir_pretty.specs.Signatures.{each_lifetime, each_type_or_const}
+use Rattle.hir_printer.proofs.AddLemmas.{adds, adds_more, adds_then, adds_as}
+use Rattle.hir_pretty.proofs.ListLemmas.{angles, is_longer}
+use Rattle.hir_pretty.proofs.generics.add_in_angles.Goals as goal
+
+pub returns : goal.returns
+returns c = on_ok_weaker c.add-2.result
+    (λ a. adds_as (adds_more (adds_then (adds_then (adds c.in_ok-add.ensures (λ s. refl)) c.in_ok-add_lifetimes.ensures) c.in_ok-add_types_and_consts.ensures) a)
+    (λ s. angles (each_lifetime s c.args.params.now.lifetimes) (each_type_or_const s (enumerate_from 0 c.args.params.now.type_or_consts)) _
+    (is_longer (λ (lifetime : LifetimeParamData). name_items s lifetime.name) c.args.params.now.lifetimes _ c.len_lifetimes.ensures.len))) c.add-2.ensures

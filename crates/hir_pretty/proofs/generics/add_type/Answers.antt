@@ -1,0 +1,14 @@
+use Rattle.std.proofs.Common.{◌++◌, ap, ◌∙◌, codes, Ok}
+use Rattle.std.proofs.lemmas.Result.{on_ok_weaker}
+use Rattle.hir_printer.specs.Items.{text, t, opt}
+use Rattle.hir_printer.specs.Types.{type_param_items}
+use Rattle.hir_printer.proofs.AddLemmas.{adds_then, adds_as}
+use Rattle.hir_pretty.proofs.ListLemmas.{type_names}
+use Rattle.hir_pretty.proofs.generics.add_type.Goals as goal
+
+pub returns : goal.returns
+returns c = on_ok_weaker c.add_after.result
+    (λ a. adds_as (adds_then c.in_ok-add_param_name.ensures a)
+    (λ s. ap (λ is. is ++ opt (λ id. text (codes " = ") ++ t id) c.args.param.now.default)
+    (ap (λ o. type_param_items s c.args.at (Ok o)) c.as_ref.ensures.value ∙ type_names s c.args.at c.args.param.now.name)))
+    c.add_after.ensures

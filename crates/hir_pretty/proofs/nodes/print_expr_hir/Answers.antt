@@ -1,0 +1,20 @@
+use Rattle.std.proofs.Common.{false, refl, subst, append-nil}
+use Rattle.std.proofs.lemmas.Result.{err_from_is_err_and}
+use Rattle.hir_base.specs.RawWords.{words_of}
+use Rattle.hir_node.specs.declared.node_id.NodeId.TheVariants as node
+use Rattle.hir_printer.specs.Settings.{setting}
+use Rattle.hir_printer.specs.Pieces.{pieces}
+use Rattle.hir_printer.specs.Printed.{PrintsPieces}
+use Rattle.hir_printer.specs.Answers.{answers}
+use Rattle.hir_printer.proofs.AddLemmas.{adds}
+use Rattle.hir_printer.proofs.TurnLemmas.{prints}
+use Rattle.hir_pretty.proofs.OtherLemmas.{prints_refused}
+use Rattle.hir_pretty.proofs.nodes.print_expr_hir.Goals as goal
+
+pub returns-in_err-add : goal.returns-in_err-add
+returns-in_err-add c = let p = err_from_is_err_and c.from_residual.result c.from_residual.ensures.1 in rw (p.1, p.2) prints_refused
+
+pub returns : goal.returns
+returns c =
+    let s = setting c.args.store.now (answers c.args.tables.now) (words_of c.args.tables.now.words c.args.edition) false in
+    subst (λ ps. PrintsPieces s ps c.print.result) (append-nil (pieces s (node.Expr c.args.expr))) (prints c.new-printer.ensures (adds c.in_ok-add.ensures (λ s. refl)) c.print.ensures)

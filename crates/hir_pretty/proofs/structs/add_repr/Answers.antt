@@ -1,0 +1,6 @@
+use Rattle.std.proofs.lemmas.Result.{on_ok_weaker}
+use Rattle.hir_printer.proofs.AddLemmas.{adds_then}
+use Rattle.hir_pretty.proofs.structs.add_repr.Goals as goal
+
+pub returns : goal.returns
+returns c = on_ok_weaker c.add_bytes-2.result (adds_then (adds_then c.in_ok-add_attribute_if.ensures c.in_ok-add_bytes.ensures)) c.add_bytes-2.ensures

@@ -1,0 +1,17 @@
+use Rattle.std.proofs.Common.{refl}
+use Rattle.std.proofs.lemmas.Result.{on_ok_weaker}
+use Rattle.hir_printer.proofs.AddLemmas.{adds_then, left_begins, left_goes_on, left_ends}
+use Rattle.hir_printer.proofs.ListLemmas.{each_step, each_ends}
+use Rattle.hir_pretty.specs.Variants.{field_line}
+use Rattle.hir_pretty.proofs.variants.add_fields.Goals as goal
+
+pub loop-field-init : goal.loop-field-init
+loop-field-init c = left_begins (λ s. refl)
+
+pub loop-field-preserved : goal.loop-field-preserved
+loop-field-preserved c = left_goes_on c.loop-field.invariant c.in_ok-add_field.ensures
+    (λ s. each_step (field_line s) c.args.fields.now c.loop-field.field-index c.field-item.result c.loop-field-test.true c.field-item.is)
+
+pub returns : goal.returns
+returns c = on_ok_weaker c.add_end.result
+    (adds_then (adds_then c.in_ok-add_begin.ensures (left_ends c.loop-field.invariant (λ s. each_ends (field_line s) c.args.fields.now c.loop-field.field-index c.loop-field-test.false)))) c.add_end.ensures

@@ -1,0 +1,62 @@
+-- What bodies are printed as.
+use Rattle.std.specs.Prelude.{ℕ, List, [], ◌∷◌, ◌++◌, map, Option, Some, None, Result, Ok, Err, codes, option_map}
+use Rattle.std.specs.Option.{option_to_list}
+use Rattle.hir_base.specs.declared.defs.DefWithBodyId.{DefWithBodyId}
+use Rattle.hir_base.specs.declared.defs.DefWithBodyId.TheVariants as body
+use Rattle.hir_base.specs.declared.defs.NamedDef.TheVariants as named
+use Rattle.hir_expr_store.specs.declared.missing.Missing.{Missing}
+use Rattle.hir_items.specs.declared.formals.Param.{Param}
+use Rattle.hir_items.specs.Bodies.{BodyContents, formals_of, last_root}
+use Rattle.hir_printer.specs.Questions.{Setting}
+use Rattle.hir_printer.specs.Items.{Item, Lacks, text, e, p, opt, comma_joined}
+use Rattle.hir_printer.specs.Names.{binding_items}
+use Rattle.hir_printer.specs.Paths.{found_name}
+
+-- which enum each variant is of, where that is known
+abbrev pub Parents : Type 0
+Parents = ℕ → Result ℕ Missing
+
+-- the name of a variant behind that of its enum, which is looked up first
+abbrev pub of_enum : Setting → ℕ → Result ℕ Missing → List Item
+of_enum s id (Err missing) = Lacks missing ∷ []
+of_enum s id (Ok parent) =
+    text (codes "enum ") ++ found_name (codes "<missing>") (s.tables.name (named.EnumId parent)) ++ text (codes "::")
+    ++ found_name (codes "<missing>") (s.tables.name (named.EnumVariantId id))
+
+abbrev pub variant_name : Setting → Parents → ℕ → List Item
+variant_name s parents id = of_enum s id (parents id)
+
+-- what a body begins with; a constant without a name is `_`
+abbrev pub body_head : Setting → Parents → DefWithBodyId → List Item
+body_head s parents (body.FunctionId id) = text (codes "fn ") ++ found_name (codes "<missing>") (s.tables.name (named.FunctionId id))
+body_head s parents (body.StaticId id) = text (codes "static ") ++ found_name (codes "<missing>") (s.tables.name (named.StaticId id)) ++ text (codes " = ")
+body_head s parents (body.ConstId id) = text (codes "const ") ++ found_name (codes "_") (s.tables.name (named.ConstId id)) ++ text (codes " = ")
+body_head s parents (body.VariantId id) = variant_name s parents id
+
+-- the binding of `self`, where there is one, and the formal patterns
+abbrev pub formal_params : Setting → Option ℕ → List ℕ → List (List Item)
+formal_params s self_binding formals = map (binding_items s) (option_to_list self_binding) ++ map p formals
+
+-- only a function has parameters
+abbrev pub body_params : Setting → Option ℕ → List ℕ → DefWithBodyId → List Item
+body_params s self_binding formals (body.FunctionId id) =
+    text (codes "(") ++ comma_joined (formal_params s self_binding formals) ++ text (codes ") ")
+body_params s self_binding formals (body.StaticId id) = []
+body_params s self_binding formals (body.ConstId id) = []
+body_params s self_binding formals (body.VariantId id) = []
+
+abbrev pub body_end : DefWithBodyId → List Item
+body_end (body.StaticId id) = text (codes ";")
+body_end (body.ConstId id) = text (codes ";")
+body_end (body.FunctionId id) = []
+body_end (body.VariantId id) = []
+
+-- the binding of `self` and the patterns that are the parameters themselves, not those that the user wrote
+abbrev pub formal_self : Option (Param ℕ) → Option ℕ
+formal_self self_param = option_map (λ param. param.formal) self_param
+
+-- a body, which evaluates to its last root
+abbrev pub body_items : Setting → Parents → DefWithBodyId → BodyContents → List Item
+body_items s parents owner b =
+    body_head s parents owner ++ body_params s (formal_self b.self_param) (formals_of b.params) owner ++ opt e (last_root b.store)
+    ++ body_end owner

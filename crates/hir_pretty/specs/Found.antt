@@ -1,0 +1,25 @@
+-- What the tables have that heads of definitions ask for: the enum of a variant, the fields of a variant, signatures.
+use Rattle.std.specs.Prelude.{ℕ, [], ◌∷◌, Option, Result}
+use Rattle.std.specs.Option.{option_map}
+use Rattle.std.specs.FinMap as map
+use Rattle.hir_base.specs.Keys.{fields_code}
+use Rattle.hir_base.specs.declared.defs.VariantId.{VariantId}
+use Rattle.hir_expr_store.specs.declared.missing.Missing.{Missing}
+use Rattle.hir_expr_store.specs.declared.missing.Missing.TheVariants as missing
+use Rattle.hir_items.specs.declared.signatures.FunctionParts.{FunctionParts}
+use Rattle.hir_items.specs.declared.signatures.StructParts.{StructParts}
+use Rattle.hir_items.specs.declared.signatures.VariantParts.{VariantParts}
+use Rattle.hir_defs.specs.Lookups.{Tables}
+use Rattle.hir_printer.specs.Answers.{found_or}
+
+abbrev pub parents : Tables → ℕ → Result ℕ Missing
+parents t id = found_or (missing.Variant id) (map.get t.variant_parents (id ∷ []))
+
+abbrev pub fields_found : Tables → VariantId → Option VariantParts
+fields_found t owner = option_map (λ entry. entry.0) (map.get t.fields (fields_code owner))
+
+abbrev pub function_found : Tables → ℕ → Option FunctionParts
+function_found t id = option_map (λ entry. entry.0) (map.get t.functions (id ∷ []))
+
+abbrev pub struct_found : Tables → ℕ → Option StructParts
+struct_found t id = option_map (λ entry. entry.0) (map.get t.structs (id ∷ []))

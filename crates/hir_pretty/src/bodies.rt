@@ -1,0 +1,128 @@
+//! Bodies as text.
+#![tactic(auto, using(hir_printer::proofs::AddLemmas::adding))]
+
+ghost use Rattle.std.specs.Prelude.{◌≡◌, OnOk, false};
+ghost use Rattle.hir_base.specs.RawWords.{words_of};
+ghost use Rattle.hir_items.specs.Bodies.{formals_of};
+ghost use Rattle.hir_printer.specs.Settings.{setting};
+ghost use Rattle.hir_printer.specs.Items.{opt, comma_joined};
+ghost use Rattle.hir_printer.specs.Names.{binding_items};
+ghost use Rattle.hir_printer.specs.Answers.{answers};
+ghost use Rattle.hir_printer.specs.Printed.{PrintsPieces};
+ghost use Rattle.hir_printer.specs.Pieces.{printed};
+ghost use Rattle.hir_printer.specs.Printers.{Adds};
+ghost use Rattle.hir_pretty.specs.Bodies.{formal_self, formal_params, body_params, body_end, body_items};
+ghost use Rattle.hir_pretty.specs.Found.{parents};
+
+use crate::heads::add_body_head;
+use hir_base::{DefWithBodyId, Edition};
+use hir_defs::{Body, Param, Tables};
+use hir_node::{BindingId, PatId};
+use hir_printer::{PrintFault, Printer, Work};
+use std::alloc::{AllocError, Global};
+
+/// Adds the binding of `self`, where there is one.
+fn add_self(printer: &mut Printer<'_>, binding: Option<BindingId>) -> Result<(), AllocError>
+    ensures { OnOk result (Adds printer.old (λ s. opt (binding_items s) binding) printer.new) }
+{
+    match binding {
+        None => Ok(()),
+        Some(binding) => printer.add_binding(binding),
+    }
+}
+
+/// Adds the binding of `self`, where there is one, and the formal patterns.
+fn add_all_formals(
+    printer: &mut Printer<'_>,
+    self_binding: Option<BindingId>,
+    params: &[Param<PatId>],
+) -> Result<(), AllocError>
+    ensures { OnOk result (Adds printer.old
+        (λ s. comma_joined (formal_params s self_binding (formals_of params.now))) printer.new) }
+{
+    add_self(printer, self_binding)?;
+    let mut after = self_binding.is_some();
+    for param in params {
+        printer.add_if(after, ", ")?;
+        printer.add(&[Work::Pattern(param.formal)])?;
+        after = true;
+    }
+    Ok(())
+}
+
+/// Adds the parameters in parentheses, which only a function has.
+fn add_params(
+    printer: &mut Printer<'_>,
+    owner: &DefWithBodyId,
+    self_binding: Option<BindingId>,
+    params: &[Param<PatId>],
+) -> Result<(), AllocError>
+    ensures { OnOk result (Adds printer.old
+        (λ s. body_params s self_binding (formals_of params.now) owner.now) printer.new) }
+{
+    match owner {
+        DefWithBodyId::FunctionId(_) => {
+            printer.add(&[Work::Text("(")])?;
+            add_all_formals(printer, self_binding, params)?;
+            printer.add(&[Work::Text(") ")])
+        }
+        DefWithBodyId::StaticId(_) | DefWithBodyId::ConstId(_) | DefWithBodyId::VariantId(_) => Ok(
+            (),
+        ),
+    }
+}
+
+/// Adds what follows the last root.
+fn add_end(printer: &mut Printer<'_>, owner: &DefWithBodyId) -> Result<(), AllocError>
+    ensures { OnOk result (Adds printer.old (λ s. body_end owner.now) printer.new) }
+{
+    match owner {
+        DefWithBodyId::FunctionId(_) | DefWithBodyId::VariantId(_) => Ok(()),
+        DefWithBodyId::StaticId(_) | DefWithBodyId::ConstId(_) => printer.add(&[Work::Text(";")]),
+    }
+}
+
+/// The binding of `self`, where there is one.
+fn formal_self(body: &Body) -> Option<BindingId>
+    ensures { result ≡ formal_self body.now.self_param }
+{
+    match body.self_param() {
+        None => None,
+        Some(param) => Some(param.formal),
+    }
+}
+
+fn add_body(
+    printer: &mut Printer<'_>,
+    tables: &Tables,
+    body: &Body,
+    owner: &DefWithBodyId,
+) -> Result<(), AllocError>
+    ensures { OnOk result (Adds printer.old
+        (λ s. body_items s (parents tables.now) owner.now body.now) printer.new) }
+{
+    add_body_head(printer, tables, owner)?;
+    add_params(printer, owner, formal_self(body), body.params())?;
+    printer.add(&[Work::Whole(body.root_expr())])?;
+    add_end(printer, owner)
+}
+
+/// The text of a body of this owner, in lines: its head with the names that the tables have, the formal parameters where it is a
+/// function's, and what it evaluates to. The enum of a variant is looked up first, then both names.
+///
+/// Answers `Missing` of the first definition that the text names and the tables don't have, and `Memory` where memory was refused. An
+/// error drops the text that was begun.
+pub fn print_body_hir(
+    alloc: Global,
+    tables: &Tables,
+    body: &Body,
+    owner: DefWithBodyId,
+    edition: Edition,
+) -> Result<String, PrintFault>
+    ensures { let s = setting body.now.store (answers tables.now) (words_of tables.now.words edition) false in
+        PrintsPieces s (printed s (body_items s (parents tables.now) owner body.now)) result }
+{
+    let mut printer = Printer::new(alloc, body.store(), tables, edition, false);
+    add_body(&mut printer, tables, body, &owner)?;
+    printer.print()
+}

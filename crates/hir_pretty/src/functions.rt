@@ -1,0 +1,172 @@
+//! Signatures of functions as text.
+#![tactic(auto, using(hir_printer::proofs::AddLemmas::adding))]
+
+ghost use Rattle.std.specs.Prelude.{◌≡◌, ◌<◌, ◌==◌, ◌++◌, OnOk, IfOk, map, ℕ, length, Some, get_or, false, codes};
+ghost use Rattle.std.specs.List.{enumerate_from, list_any};
+ghost use Rattle.std.specs.Option.{option_map};
+ghost use Rattle.hir_base.specs.RawWords.{words_of};
+ghost use Rattle.hir_printer.specs.Settings.{setting};
+ghost use Rattle.hir_printer.specs.Items.{text, comma_joined};
+ghost use Rattle.hir_printer.specs.Answers.{answers};
+ghost use Rattle.hir_printer.specs.Printed.{PrintsPieces};
+ghost use Rattle.hir_printer.specs.Pieces.{printed};
+ghost use Rattle.hir_printer.specs.Printers.{Adds};
+ghost use Rattle.hir_pretty.specs.Added.{marked_items};
+ghost use Rattle.hir_pretty.specs.Signatures.{abi_items, arguments, flags, function_front, function_types, function_items};
+
+use crate::generics::{add_generics, add_where};
+use hir_base::{Edition, ExternAbi, FunctionId};
+use hir_defs::{FunctionSignature, Tables};
+use hir_node::TypeRefId;
+use hir_printer::{PrintFault, Printer, Work};
+use std::alloc::{AllocError, Global};
+
+fn add_quoted<'a>(printer: &mut Printer<'a>, abi: &'a str) -> Result<(), AllocError>
+    ensures { OnOk result (Adds printer.old
+        (λ s. text (codes "extern \"") ++ text abi.now ++ text (codes "\" ")) printer.new) }
+{
+    printer.add(&[Work::Text("extern \""), Work::Text(abi), Work::Text("\" ")])
+}
+
+/// Adds the calling convention, unless it is that of Rust.
+fn add_abi<'a>(printer: &mut Printer<'a>, abi: &'a ExternAbi) -> Result<(), AllocError>
+    ensures { OnOk result (Adds printer.old (λ s. abi_items abi.now) printer.new) }
+{
+    match abi {
+        ExternAbi::Rust => Ok(()),
+        ExternAbi::C => add_quoted(printer, abi.as_str()),
+        ExternAbi::CUnwind => add_quoted(printer, abi.as_str()),
+        ExternAbi::System => add_quoted(printer, abi.as_str()),
+        ExternAbi::SystemUnwind => add_quoted(printer, abi.as_str()),
+        ExternAbi::Named(_) => add_quoted(printer, abi.as_str()),
+    }
+}
+
+/// Says for each of this many places whether it is listed.
+fn marks_of(alloc: Global, places: &[u32], count: usize) -> Result<Vec<bool>, AllocError>
+    ensures length { IfOk result (λ marks. length marks.items ≡ count) }
+    ensures marks { IfOk result (λ marks. (i : ℕ) → i < count → get_or marks.items i false ≡ list_any (λ place. place == i) places.now) }
+{
+    let mut marks = vec![in alloc; false; count]?;
+    for place in places {
+        let at = *place as usize;
+        if at < marks.len() {
+            marks[at] = true;
+        }
+    }
+    Ok(marks)
+}
+
+/// Adds the types of arguments, each with `const: ` before it where its place is marked.
+fn add_marked(
+    printer: &mut Printer<'_>,
+    marks: &[bool],
+    params: &[TypeRefId],
+) -> Result<(), AllocError>
+    requires { length marks.now ≡ length params.now }
+    ensures { OnOk result (Adds printer.old
+        (λ s. comma_joined (map (marked_items marks.now) (enumerate_from 0 params.now))) printer.new) }
+{
+    for (at, param) in params.iter().enumerate() {
+        printer.add_if(at > 0, ", ")?;
+        printer.add_if(marks[at], "const: ")?;
+        printer.add(&[Work::Type(*param)])?;
+    }
+    Ok(())
+}
+
+/// Adds the types of arguments, each with `const: ` before it where its place is listed.
+fn add_arguments<'a>(
+    printer: &mut Printer<'a>,
+    alloc: Global,
+    places: Option<&[u32]>,
+    params: &'a [TypeRefId],
+) -> Result<(), AllocError>
+    ensures { OnOk result (Adds printer.old
+        (λ s. arguments (option_map (λ list. list.now) places.entry) params.now) printer.new) }
+{
+    match places {
+        None => printer.add_joined(", ", params),
+        Some(places) => {
+            let marks = marks_of(alloc, places, params.len())?;
+            add_marked(printer, &marks, params)
+        }
+    }
+}
+
+fn add_flags(printer: &mut Printer<'_>, signature: &FunctionSignature) -> Result<(), AllocError>
+    ensures { OnOk result (Adds printer.old (λ s. flags signature.now) printer.new) }
+{
+    printer.add_if(signature.is_const(), "const ")?;
+    printer.add_if(signature.is_async(), "async ")?;
+    printer.add_if(signature.is_unsafe(), "unsafe ")?;
+    printer.add_if(signature.is_explicit_safe(), "safe ")
+}
+
+/// Adds all up to the list of arguments.
+fn add_front<'a>(
+    printer: &mut Printer<'a>,
+    signature: &'a FunctionSignature,
+) -> Result<(), AllocError>
+    ensures { OnOk result (Adds printer.old (λ s. function_front s signature.now) printer.new) }
+{
+    add_flags(printer, signature)?;
+    add_abi(printer, signature.abi())?;
+    printer.add(&[Work::Text("fn "), Work::Name(signature.name().as_str())])?;
+    add_generics(printer, signature.generic_params())
+}
+
+/// Adds the arguments and the return type.
+fn add_types<'a>(
+    printer: &mut Printer<'a>,
+    alloc: Global,
+    signature: &'a FunctionSignature,
+) -> Result<(), AllocError>
+    ensures { OnOk result (Adds printer.old (λ s. function_types signature.now) printer.new) }
+{
+    printer.add(&[Work::Text("(")])?;
+    add_arguments(
+        printer,
+        alloc,
+        signature.legacy_const_indices(),
+        signature.params(),
+    )?;
+    printer.add(&[Work::Text(")")])?;
+    match signature.ret_type() {
+        None => Ok(()),
+        Some(ret) => printer.add(&[Work::Text(" -> "), Work::Type(ret)]),
+    }
+}
+
+fn add_function<'a>(
+    printer: &mut Printer<'a>,
+    alloc: Global,
+    signature: &'a FunctionSignature,
+) -> Result<(), AllocError>
+    ensures { OnOk result (Adds printer.old (λ s. function_items s signature.now) printer.new) }
+{
+    add_front(printer, signature)?;
+    add_types(printer, alloc, signature)?;
+    add_where(printer, signature.generic_params().where_predicates())?;
+    printer.add(&[Work::Text(" {...}"), Work::Break])
+}
+
+/// The text of a function's signature, in lines. Which function has it makes no difference to the text. Other definitions that it names,
+/// and parameters that a type names by their id, its own ones too, are looked up in the tables.
+///
+/// Answers `Missing` of the first definition that the text names and the tables don't have, and `Memory` where memory was refused. An
+/// error drops the text that was begun.
+pub fn print_function(
+    alloc: Global,
+    tables: &Tables,
+    _id: FunctionId,
+    signature: &FunctionSignature,
+    edition: Edition,
+) -> Result<String, PrintFault>
+    ensures { let s = setting signature.now.store (answers tables.now) (words_of tables.now.words edition) false in
+        PrintsPieces s (printed s (function_items s signature.now)) result }
+{
+    let mut printer = Printer::new(alloc, signature.store(), tables, edition, false);
+    add_function(&mut printer, alloc, signature)?;
+    printer.print()
+}

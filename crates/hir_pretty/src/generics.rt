@@ -1,0 +1,171 @@
+//! Generic parameters and the predicates on them.
+#![tactic(auto, using(hir_printer::proofs::AddLemmas::adding))]
+
+ghost use Rattle.std.specs.Prelude.{◌++◌, OnOk, codes, false};
+ghost use Rattle.std.specs.List.{enumerate_from};
+ghost use Rattle.hir_printer.specs.Items.{text, e, opt, comma_joined};
+ghost use Rattle.hir_printer.specs.Printers.{Adds, following};
+ghost use Rattle.hir_pretty.specs.Signatures.{generic_param_items, each_lifetime, each_type_or_const, each_param, generics_items, predicate_items, where_items};
+
+use hir_base::Name;
+use hir_defs::{
+    ConstParamData, GenericParams, LifetimeParamData, TypeOrConstParamData, TypeParamData,
+    WherePredicate,
+};
+use hir_node::ConstRef;
+use hir_printer::{Part, Printer, Work};
+use std::alloc::AllocError;
+
+/// Adds a type: its name or its place, and its default.
+fn add_type<'a>(
+    printer: &mut Printer<'a>,
+    at: u32,
+    param: &'a TypeParamData,
+) -> Result<(), AllocError>
+    ensures { OnOk result (Adds printer.old
+        (λ s. generic_param_items s at (TypeOrConstParamData.TypeParamData param.now)) printer.new) }
+{
+    printer.add_param_name(at, param.name.as_ref())?;
+    printer.add_after(" = ", &param.default)
+}
+
+fn add_default(printer: &mut Printer<'_>, default: Option<ConstRef>) -> Result<(), AllocError>
+    ensures { OnOk result (Adds printer.old (λ s. opt (λ d. text (codes " = ") ++ e d.expr) default) printer.new) }
+{
+    match default {
+        None => Ok(()),
+        Some(default) => printer.add(&[Work::Text(" = "), Work::Whole(default.expr)]),
+    }
+}
+
+/// Adds a constant with its type and its default.
+fn add_const<'a>(
+    printer: &mut Printer<'a>,
+    at: u32,
+    param: &'a ConstParamData,
+) -> Result<(), AllocError>
+    ensures { OnOk result (Adds printer.old
+        (λ s. generic_param_items s at (TypeOrConstParamData.ConstParamData param.now)) printer.new) }
+{
+    printer.add(&[
+        Work::Text("const "),
+        Work::Name(param.name.as_str()),
+        Work::Text(": "),
+        Work::Type(param.ty),
+    ])?;
+    add_default(printer, param.default)
+}
+
+fn add_type_or_const<'a>(
+    printer: &mut Printer<'a>,
+    at: u32,
+    param: &'a TypeOrConstParamData,
+) -> Result<(), AllocError>
+    ensures { OnOk result (Adds printer.old (λ s. generic_param_items s at param.now) printer.new) }
+{
+    match param {
+        TypeOrConstParamData::TypeParamData(param) => add_type(printer, at, param),
+        TypeOrConstParamData::ConstParamData(param) => add_const(printer, at, param),
+    }
+}
+
+/// Adds the lifetimes, with `, ` between them.
+fn add_lifetimes<'a>(printer: &mut Printer<'a>, params: &'a GenericParams) -> Result<(), AllocError>
+    ensures { OnOk result (Adds printer.old
+        (λ s. following (text (codes ", ")) false (each_lifetime s params.now.lifetimes)) printer.new) }
+{
+    let mut after = false;
+    for (_, lifetime) in params.iter_lt() {
+        printer.add_if(after, ", ")?;
+        printer.add(&[Work::Name(lifetime.name.as_str())])?;
+        after = true;
+    }
+    Ok(())
+}
+
+/// Adds types and constants in their places, each after `, `; the first only where something is before it.
+fn add_types_and_consts<'a>(
+    printer: &mut Printer<'a>,
+    params: &'a GenericParams,
+    first: bool,
+) -> Result<(), AllocError>
+    ensures { OnOk result (Adds printer.old
+        (λ s. following (text (codes ", ")) first (each_type_or_const s (enumerate_from 0 params.now.type_or_consts))) printer.new) }
+{
+    let mut after = first;
+    for (at, param) in params.iter_type_or_consts() {
+        printer.add_if(after, ", ")?;
+        add_type_or_const(printer, at.into_raw(), param)?;
+        after = true;
+    }
+    Ok(())
+}
+
+/// Adds all parameters in `<` and `>`.
+fn add_in_angles<'a>(printer: &mut Printer<'a>, params: &'a GenericParams) -> Result<(), AllocError>
+    ensures { OnOk result (Adds printer.old
+        (λ s. text (codes "<") ++ comma_joined (each_param s params.now) ++ text (codes ">")) printer.new) }
+{
+    printer.add(&[Work::Text("<")])?;
+    add_lifetimes(printer, params)?;
+    add_types_and_consts(printer, params, params.len_lifetimes() > 0)?;
+    printer.add(&[Work::Text(">")])
+}
+
+/// Adds all parameters in `<` and `>`, where there are any.
+pub(crate) fn add_generics<'a>(
+    printer: &mut Printer<'a>,
+    params: &'a GenericParams,
+) -> Result<(), AllocError>
+    ensures { OnOk result (Adds printer.old (λ s. generics_items s params.now) printer.new) }
+{
+    if params.is_empty() {
+        return Ok(());
+    }
+    add_in_angles(printer, params)
+}
+
+/// Adds a predicate.
+fn add_predicate<'a>(
+    printer: &mut Printer<'a>,
+    predicate: &'a WherePredicate,
+) -> Result<(), AllocError>
+    ensures { OnOk result (Adds printer.old (λ s. predicate_items s predicate.now) printer.new) }
+{
+    match predicate {
+        WherePredicate::TypeBound {
+            lifetimes,
+            target,
+            bound,
+        } => {
+            printer.add_binder(lifetimes)?;
+            printer.add(&[Work::Type(*target), Work::Text(": ")])?;
+            bound.add_to(printer)
+        }
+        WherePredicate::Lifetime { target, bound } => {
+            target.add_to(printer)?;
+            printer.add(&[Work::Text(": ")])?;
+            bound.add_to(printer)
+        }
+    }
+}
+
+/// Adds the predicates, each on a line of its own after `where`, where there are any.
+pub(crate) fn add_where<'a>(
+    printer: &mut Printer<'a>,
+    predicates: &'a [WherePredicate],
+) -> Result<(), AllocError>
+    ensures { OnOk result (Adds printer.old (λ s. where_items s predicates.now) printer.new) }
+{
+    if predicates.is_empty() {
+        return Ok(());
+    }
+    printer.add(&[Work::Text("\nwhere\n"), Work::Indent])?;
+    let mut after = false;
+    for predicate in predicates {
+        printer.add_if(after, ",\n")?;
+        add_predicate(printer, predicate)?;
+        after = true;
+    }
+    printer.add(&[Work::Outdent, Work::Break])
+}

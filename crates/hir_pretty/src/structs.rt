@@ -1,0 +1,136 @@
+//! Signatures of structs as text.
+#![tactic(auto, using(hir_printer::proofs::AddLemmas::adding))]
+
+ghost use Rattle.std.specs.Prelude.{◌++◌, ◌∷◌, [], OnOk, codes, Some, false};
+ghost use Rattle.std.specs.Fmt.{decimal};
+ghost use Rattle.std.specs.FinMap as map;
+ghost use Rattle.hir_base.specs.RawWords.{words_of};
+ghost use Rattle.hir_printer.specs.Settings.{setting};
+ghost use Rattle.hir_printer.specs.Items.{text, br, opt, when};
+ghost use Rattle.hir_printer.specs.Answers.{answers};
+ghost use Rattle.hir_printer.specs.Printed.{PrintsPieces};
+ghost use Rattle.hir_printer.specs.Pieces.{printed};
+ghost use Rattle.hir_printer.specs.Printers.{Adds};
+ghost use Rattle.hir_pretty.specs.Signatures.{repr_items, shape_begin, shape_end, struct_front, struct_items};
+
+use crate::generics::{add_generics, add_where};
+use hir_base::{Edition, StructId};
+use hir_defs::{FieldsShape, Repr, StructSignature, Tables};
+use hir_printer::{PrintFault, Printer, Work};
+use std::alloc::{AllocError, Global};
+
+fn add_attribute_if(
+    printer: &mut Printer<'_>,
+    holds: bool,
+    attribute: &'static str,
+) -> Result<(), AllocError>
+    ensures { OnOk result (Adds printer.old (λ s. when holds (text attribute.now ++ br)) printer.new) }
+{
+    if holds {
+        return printer.add(&[Work::Text(attribute), Work::Break]);
+    }
+    Ok(())
+}
+
+/// Adds an attribute with this many bytes, where there are any.
+fn add_bytes(
+    printer: &mut Printer<'_>,
+    before: &'static str,
+    bytes: Option<u64>,
+) -> Result<(), AllocError>
+    ensures { OnOk result (Adds printer.old
+        (λ s. opt (λ n. text before.now ++ text (decimal n) ++ text (codes "))]") ++ br) bytes) printer.new) }
+{
+    match bytes {
+        None => Ok(()),
+        Some(bytes) => printer.add(&[
+            Work::Text(before),
+            Work::Number(bytes),
+            Work::Text("))]"),
+            Work::Break,
+        ]),
+    }
+}
+
+fn add_repr(printer: &mut Printer<'_>, repr: Repr) -> Result<(), AllocError>
+    ensures { OnOk result (Adds printer.old (λ s. repr_items (Some repr)) printer.new) }
+{
+    add_attribute_if(printer, repr.c, "#[repr(C)]")?;
+    add_bytes(printer, "#[repr(align(", repr.align)?;
+    add_bytes(printer, "#[repr(pack(", repr.pack)
+}
+
+fn add_repr_opt(printer: &mut Printer<'_>, repr: Option<Repr>) -> Result<(), AllocError>
+    ensures { OnOk result (Adds printer.old (λ s. repr_items repr) printer.new) }
+{
+    match repr {
+        None => Ok(()),
+        Some(repr) => add_repr(printer, repr),
+    }
+}
+
+fn add_begin(printer: &mut Printer<'_>, shape: FieldsShape) -> Result<(), AllocError>
+    ensures { OnOk result (Adds printer.old (λ s. shape_begin shape) printer.new) }
+{
+    match shape {
+        FieldsShape::Record => printer.add(&[Work::Text(" {...}"), Work::Break]),
+        FieldsShape::Tuple => printer.add(&[Work::Text("(...)"), Work::Break]),
+        FieldsShape::Unit => Ok(()),
+    }
+}
+
+fn add_end(printer: &mut Printer<'_>, shape: FieldsShape) -> Result<(), AllocError>
+    ensures { OnOk result (Adds printer.old (λ s. shape_end shape) printer.new) }
+{
+    match shape {
+        FieldsShape::Record => printer.add(&[Work::Break]),
+        FieldsShape::Tuple | FieldsShape::Unit => printer.add(&[Work::Text(";"), Work::Break]),
+    }
+}
+
+/// Adds the attributes, the name and the parameters.
+fn add_front<'a>(
+    printer: &mut Printer<'a>,
+    repr: Option<Repr>,
+    signature: &'a StructSignature,
+) -> Result<(), AllocError>
+    ensures { OnOk result (Adds printer.old (λ s. struct_front s repr signature.now) printer.new) }
+{
+    add_repr_opt(printer, repr)?;
+    add_attribute_if(printer, signature.is_fundamental(), "#[fundamental]")?;
+    printer.add(&[Work::Text("struct "), Work::Name(signature.name().as_str())])?;
+    add_generics(printer, signature.generic_params())
+}
+
+fn add_struct<'a>(
+    printer: &mut Printer<'a>,
+    repr: Option<Repr>,
+    signature: &'a StructSignature,
+) -> Result<(), AllocError>
+    ensures { OnOk result (Adds printer.old (λ s. struct_items s repr signature.now) printer.new) }
+{
+    add_front(printer, repr, signature)?;
+    add_begin(printer, signature.shape())?;
+    add_where(printer, signature.generic_params().where_predicates())?;
+    add_end(printer, signature.shape())
+}
+
+/// The text of a struct's signature, in lines, after what the tables have of its representation in memory. Other definitions that it
+/// names, and parameters that a type names by their id, its own ones too, are looked up in the tables.
+///
+/// Answers `Missing` of the first definition that the text names and the tables don't have, and `Memory` where memory was refused. An
+/// error drops the text that was begun.
+pub fn print_struct(
+    alloc: Global,
+    tables: &Tables,
+    id: StructId,
+    signature: &StructSignature,
+    edition: Edition,
+) -> Result<String, PrintFault>
+    ensures { let s = setting signature.now.store (answers tables.now) (words_of tables.now.words edition) false in
+        PrintsPieces s (printed s (struct_items s (map.get tables.now.reprs (id ∷ [])) signature.now)) result }
+{
+    let mut printer = Printer::new(alloc, signature.store(), tables, edition, false);
+    add_struct(&mut printer, tables.repr(id), signature)?;
+    printer.print()
+}

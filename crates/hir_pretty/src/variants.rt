@@ -1,0 +1,176 @@
+//! Structs, unions and variants of enums as text, with their fields.
+#![tactic(auto, using(hir_printer::proofs::AddLemmas::adding))]
+
+ghost use Rattle.std.specs.Prelude.{◌≡◌, OnOk, codes, false, IfSome, IfOk, IfErr, Some, None};
+ghost use Rattle.hir_base.specs.RawWords.{words_of};
+ghost use Rattle.hir_expr_store.specs.Contents.{Contents};
+ghost use Rattle.hir_printer.specs.Settings.{setting};
+ghost use Rattle.hir_printer.specs.Items.{text, joined};
+ghost use Rattle.hir_printer.specs.Answers.{answers};
+ghost use Rattle.hir_printer.specs.Printed.{PrintsPieces};
+ghost use Rattle.hir_printer.specs.Pieces.{printed};
+ghost use Rattle.hir_printer.specs.Printers.{Adds};
+ghost use Rattle.hir_pretty.specs.Variants.{LacksFields, kind_word, module_items, visibility_items, field_line, fields_begin, fields_end, fields_items, variant_items, without_fields};
+ghost use Rattle.hir_pretty.specs.Found.{parents, fields_found};
+
+use crate::heads::{add_variant_head, missing_in_head};
+use hir_base::{Edition, ModPath, PathKind, VariantId};
+use hir_defs::{FieldData, FieldsShape, RawVisibility, Tables, VariantFields};
+use hir_expr_store::Missing;
+use hir_printer::{PrintFault, Printer, Work, colons_first};
+use std::alloc::{AllocError, Global};
+
+/// Adds what the path of a module begins with.
+fn add_kind(printer: &mut Printer<'_>, kind: PathKind) -> Result<(), AllocError>
+    ensures { OnOk result (Adds printer.old (λ s. joined (text (codes "::")) (kind_word s kind)) printer.new) }
+{
+    match kind {
+        PathKind::Plain | PathKind::Abs => Ok(()),
+        PathKind::Super(times) => printer.add_supers(times),
+        PathKind::Crate => printer.add(&[Work::Text("crate")]),
+        PathKind::DollarCrate(_) => printer.add(&[Work::Text("$crate")]),
+    }
+}
+
+/// Adds the path of a module: where it begins, and its names.
+fn add_module<'a>(printer: &mut Printer<'a>, path: &'a ModPath) -> Result<(), AllocError>
+    ensures { OnOk result (Adds printer.old (λ s. module_items s path.now) printer.new) }
+{
+    add_kind(printer, path.kind())?;
+    printer.add_list(colons_first(path.kind()), "::", path.segments())
+}
+
+fn add_visibility<'a>(
+    printer: &mut Printer<'a>,
+    visibility: &'a RawVisibility,
+) -> Result<(), AllocError>
+    ensures { OnOk result (Adds printer.old (λ s. visibility_items s visibility.now) printer.new) }
+{
+    match visibility {
+        RawVisibility::Module(path) => {
+            printer.add(&[Work::Text("pub(in ")])?;
+            add_module(printer, path)?;
+            printer.add(&[Work::Text(") ")])
+        }
+        RawVisibility::Public => printer.add(&[Work::Text("pub ")]),
+        RawVisibility::PubCrate => printer.add(&[Work::Text("pub(crate) ")]),
+        RawVisibility::PubSelf => printer.add(&[Work::Text("pub(self) ")]),
+    }
+}
+
+/// Adds a field, on a line of its own.
+fn add_field<'a>(printer: &mut Printer<'a>, field: &'a FieldData) -> Result<(), AllocError>
+    ensures { OnOk result (Adds printer.old (λ s. field_line s field.now) printer.new) }
+{
+    add_visibility(printer, &field.visibility)?;
+    printer.add_if(field.is_unsafe, "unsafe ")?;
+    printer.add(&[
+        Work::Name(field.name.as_str()),
+        Work::Text(": "),
+        Work::Type(field.type_ref),
+        Work::Text(","),
+        Work::Break,
+    ])
+}
+
+fn add_begin(printer: &mut Printer<'_>, shape: FieldsShape) -> Result<(), AllocError>
+    ensures { OnOk result (Adds printer.old (λ s. fields_begin shape) printer.new) }
+{
+    match shape {
+        FieldsShape::Record => printer.add(&[Work::Text(" {"), Work::Break]),
+        FieldsShape::Tuple => printer.add(&[Work::Text("("), Work::Break]),
+        FieldsShape::Unit => Ok(()),
+    }
+}
+
+fn add_end(printer: &mut Printer<'_>, shape: FieldsShape) -> Result<(), AllocError>
+    ensures { OnOk result (Adds printer.old (λ s. fields_end shape) printer.new) }
+{
+    match shape {
+        FieldsShape::Record => printer.add(&[Work::Text("}"), Work::Break]),
+        FieldsShape::Tuple => printer.add(&[Work::Text(");"), Work::Break]),
+        FieldsShape::Unit => printer.add(&[Work::Text(";"), Work::Break]),
+    }
+}
+
+/// Adds fields, and what is around them.
+fn add_fields<'a>(
+    printer: &mut Printer<'a>,
+    shape: FieldsShape,
+    fields: &'a [FieldData],
+) -> Result<(), AllocError>
+    ensures { OnOk result (Adds printer.old (λ s. fields_items s shape fields.now) printer.new) }
+{
+    add_begin(printer, shape)?;
+    for field in fields {
+        add_field(printer, field)?;
+    }
+    add_end(printer, shape)
+}
+
+fn add_variant<'a>(
+    printer: &mut Printer<'a>,
+    tables: &Tables,
+    owner: &VariantId,
+    fields: &'a VariantFields,
+) -> Result<(), AllocError>
+    ensures { OnOk result (Adds printer.old
+        (λ s. variant_items s (parents tables.now) owner.now fields.now) printer.new) }
+{
+    add_variant_head(printer, tables, owner)?;
+    add_fields(printer, fields.shape(), fields.fields())
+}
+
+/// The text of a variant with these fields.
+fn print_fields(
+    alloc: Global,
+    tables: &Tables,
+    owner: &VariantId,
+    fields: &VariantFields,
+    edition: Edition,
+) -> Result<String, PrintFault>
+    ensures { let s = setting fields.now.store (answers tables.now) (words_of tables.now.words edition) false in
+        PrintsPieces s (printed s (variant_items s (parents tables.now) owner.now fields.now)) result }
+{
+    let mut printer = Printer::new(alloc, fields.store(), tables, edition, false);
+    add_variant(&mut printer, tables, owner, fields)?;
+    printer.print()
+}
+
+/// The fields that the tables have, or the first that is missing: in the head, or the fields.
+fn fields_of<'a>(tables: &'a Tables, owner: &VariantId) -> Result<&'a VariantFields, Missing>
+    ensures found { IfOk result (λ fields. fields_found tables.now owner.now ≡ Some fields.now) }
+    ensures absent { IfErr result (λ missing. (fields_found tables.now owner.now ≡ None) × LacksFields (answers tables.now) (parents tables.now) owner.now missing) }
+{
+    match tables.variant_fields(*owner) {
+        Ok(fields) => Ok(fields),
+        Err(missing) => match missing_in_head(tables, owner) {
+            Some(earlier) => Err(earlier),
+            None => Err(missing),
+        },
+    }
+}
+
+/// The text of a struct, a union or a variant of an enum with the fields that the tables have, in lines. The enum of a variant is looked
+/// up first, then the names, and then the fields.
+///
+/// Answers `Missing` of the first definition that the text names and the tables don't have, and `Memory` where memory was refused. An
+/// error drops the text that was begun.
+pub fn print_variant_body_hir(
+    alloc: Global,
+    tables: &Tables,
+    variant: VariantId,
+    edition: Edition,
+) -> Result<String, PrintFault>
+    ensures found { IfSome (fields_found tables.now variant) (λ fields.
+        let s = setting fields.store (answers tables.now) (words_of tables.now.words edition) false in
+        PrintsPieces s (printed s (variant_items s (parents tables.now) variant fields)) result) }
+    ensures absent { fields_found tables.now variant ≡ None → (store : Contents) →
+        let s = setting store (answers tables.now) (words_of tables.now.words edition) false in
+        PrintsPieces s (printed s (without_fields s (parents tables.now) variant)) result }
+{
+    match fields_of(tables, &variant) {
+        Ok(fields) => print_fields(alloc, tables, &variant, fields, edition),
+        Err(missing) => Err(PrintFault::Missing(missing)),
+    }
+}

@@ -1,4 +1,0 @@
-pub mod AddLemmas
-pub mod ListLemmas
-pub mod OtherLemmas
-mod WorkedRows

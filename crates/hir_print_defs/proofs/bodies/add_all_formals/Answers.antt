@@ -1,4 +1,0 @@
-use Rattle.hir_print_defs.proofs.bodies.add_all_formals.Goals as goal
-
-pub returns-in-None : goal.returns-in-None
-returns-in-None c = rw c.in-None.is c.add_formals.ensures

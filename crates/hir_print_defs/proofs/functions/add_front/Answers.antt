@@ -1,8 +1,0 @@
-use Rattle.std.proofs.lemmas.Result.{on_ok_weaker}
-use Rattle.std.proofs.Common.{refl}
-use Rattle.hir_print_defs.proofs.AddLemmas.{adds, adds_more, adds_then, adds_as}
-use Rattle.hir_print_defs.proofs.functions.add_front.Goals as goal
-
-pub returns : goal.returns
-returns c = on_ok_weaker c.add_generics.result (λ a s. adds_then (adds_more (adds_then (c.in_ok-add_flags.ensures s) (c.in_ok-add_abi.ensures s) refl) c.in_ok-add.ensures refl) (a s)
-    (simp (c.abi.ensures, c.as_str.ensures, c.name.ensures, c.generic_params.ensures.generic_params) refl)) c.add_generics.ensures

@@ -1,0 +1,17 @@
+pub mod WorkedRows
+pub mod StepLemmas
+pub mod ArgsItems
+pub mod FallLemmas
+pub mod NodesFall
+pub mod ItemsFall
+pub mod AddLemmas
+pub mod ListLemmas
+pub mod OrderLemmas
+pub mod SignatureLemmas
+pub mod FieldLemmas
+pub mod WorksLemmas
+pub mod PieceLemmas
+pub mod WeightLemmas
+pub mod TurnLemmas
+pub mod AnswerLemmas
+pub mod NameLemmas

@@ -1,0 +1,14 @@
+use Rattle.std.proofs.Common.{slice_get}
+use Rattle.std.proofs.lemmas.Result.{on_ok_weaker}
+use Rattle.hir_printer.proofs.AddLemmas.{adds_found, adds_absent, not_there}
+use Rattle.hir_printer.specs.Names.{lifetime_items}
+use Rattle.hir_printer.specs.Questions.{Setting}
+use Rattle.hir_printer.proofs.lookups.LifetimeRefIdPart.add_to.Goals as goal
+
+pub returns-then-has_lifetime : goal.returns-then-has_lifetime
+returns-then-has_lifetime c = on_ok_weaker c.add_lifetime.result
+    (adds_found lifetime_items (λ (s : Setting). slice_get s.nodes.lifetimes c.args.self.now) c.index.result.now c.index.ensures) c.add_lifetime.ensures
+
+pub returns : goal.returns
+returns c = adds_absent lifetime_items (λ (s : Setting). slice_get s.nodes.lifetimes c.args.self.now)
+    (not_there c.args.printer.now.store.now.nodes.lifetimes c.args.self.now c.has_lifetime.result c.has_lifetime.ensures c.if-has_lifetime.false)

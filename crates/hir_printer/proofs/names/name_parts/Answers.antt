@@ -1,0 +1,17 @@
+use Rattle.std.proofs.Common.{◌∷◌, [], codes, sym, ap, ◌∙◌}
+use Rattle.hir_printer.specs.Names.{behind, name_parts}
+use Rattle.hir_printer.proofs.NameLemmas.{unquoted, quoted_static, quoted_other}
+use Rattle.hir_printer.proofs.names.name_parts.Goals as goal
+
+pub returns-in-None : goal.returns-in-None
+returns-in-None c =
+    ap (λ b. behind b (codes "r#") (c.args.name.now ∷ [])) c.is_word.ensures ∙ sym (unquoted c.args.words.now c.args.name.now c.in-None.ensures)
+
+pub returns-in-Some : goal.returns-in-Some
+returns-in-Some c =
+    sym (ap (name_parts c.args.words.now) c.in-Some.ensures ∙ quoted_static c.args.words.now c.in-Some.rest.now (sym c.eq.ensures ∙ c.if-eq.true) ∙ ap (λ n. n ∷ []) (sym c.in-Some.ensures))
+
+pub returns-in-Some-2 : goal.returns-in-Some-2
+returns-in-Some-2 c =
+    ap (λ b. (39 ∷ []) ∷ behind b (codes "r#") (c.in-Some.rest.now ∷ [])) c.is_word-in-Some-2.ensures
+    ∙ sym (ap (name_parts c.args.words.now) c.in-Some.ensures ∙ quoted_other c.args.words.now c.in-Some.rest.now (sym c.eq.ensures ∙ c.if-eq.false))

@@ -1,0 +1,17 @@
+use Rattle.std.proofs.Common.{refl, ap, ◌∙◌}
+use Rattle.std.proofs.lemmas.List.{take_all}
+use Rattle.hir_printer.specs.Printers.{meant}
+use Rattle.hir_printer.proofs.AddLemmas.{adds_none, adds_then, adds_as, stood_is, meant_more}
+use Rattle.hir_printer.proofs.printer.Printer.add.Goals as goal
+
+pub loop-work-init : goal.loop-work-init
+loop-work-init c = adds_none (λ s. refl)
+
+pub loop-work-preserved : goal.loop-work-preserved
+loop-work-preserved c =
+    adds_as (adds_then c.loop-work.invariant c.in_ok-add_work.ensures) (λ s. meant_more s c.args.works.now c.loop-work.work-index c.work-item.result c.loop-work-test.true c.work-item.is)
+
+pub returns : goal.returns
+returns c = record {
+  adds = adds_as c.loop-work.invariant (λ s. ap (meant s) (take_all c.loop-work.work-index c.args.works.now c.loop-work-test.false) ∙ stood_is s c.args.works.now);
+}

@@ -1,0 +1,7 @@
+use Rattle.std.proofs.Common.{refl}
+use Rattle.std.proofs.lemmas.Result.{on_ok_weaker}
+use Rattle.hir_printer.proofs.AddLemmas.{adds, adds_then}
+use Rattle.hir_printer.proofs.printer.Printer.add_after.Goals as goal
+
+pub returns-in_ok-add-in-Some : goal.returns-in_ok-add-in-Some
+returns-in_ok-add-in-Some g c = rw c.in-Some.is (on_ok_weaker c.add_to.result (adds_then (adds c.in_ok-add-in-Some.ensures (λ s. refl))) c.add_to.ensures)

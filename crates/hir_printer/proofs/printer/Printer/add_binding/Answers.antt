@@ -1,0 +1,14 @@
+use Rattle.std.proofs.Common.{slice_get, refl}
+use Rattle.std.proofs.lemmas.Result.{on_ok_weaker}
+use Rattle.hir_printer.proofs.AddLemmas.{adds, adds_found, adds_absent, not_there}
+use Rattle.hir_printer.specs.Questions.{Setting}
+use Rattle.hir_printer.specs.Names.{of_binding}
+use Rattle.hir_printer.proofs.printer.Printer.add_binding.Goals as goal
+
+pub returns-then-has_binding : goal.returns-then-has_binding
+returns-then-has_binding c = on_ok_weaker c.add.result
+    (λ a. adds_found of_binding (λ (s : Setting). slice_get s.nodes.bindings c.args.id) c.index-binding.result.now c.index-binding.ensures (adds a (λ s. refl))) (rw (c.annotation_text.ensures, c.as_str.ensures) at c.add.ensures)
+
+pub returns : goal.returns
+returns c = adds_absent of_binding (λ (s : Setting). slice_get s.nodes.bindings c.args.id)
+    (not_there c.args.self.now.store.now.nodes.bindings c.args.id c.has_binding.result c.has_binding.ensures c.if-has_binding.false)

@@ -1,0 +1,20 @@
+use Rattle.std.proofs.Common.{◌++◌, refl, ap, ◌∙◌}
+use Rattle.std.proofs.lemmas.Result.{on_ok_weaker}
+use Rattle.hir_node.specs.declared.expr.Expr.TheVariants as of_expr
+use Rattle.hir_printer.specs.Questions.{Setting}
+use Rattle.hir_printer.specs.Items.{text, e}
+use Rattle.hir_printer.specs.Exprs.{closure_head, capture_keyword, header, params, printed_body, expr_items}
+use Rattle.hir_printer.proofs.AddLemmas.{adds, adds_then, adds_more, adds_here}
+use Rattle.hir_printer.proofs.FieldLemmas.{same_from}
+use Rattle.hir_printer.proofs.printer.Printer.add_closure.Goals as goal
+
+pub returns : goal.returns
+returns c =
+    let kind = c.args.kind in
+    let head = text (closure_head kind) ++ text (capture_keyword c.args.capture) in
+    let between = header kind (params c.args.args.now c.args.arg_types.now) c.args.ret_type.now in
+    let before = adds_then (adds {is = λ t. head} (rw (c.closure_head.ensures, c.capture_keyword.ensures) at c.in_ok-add.ensures) (λ t. refl)) c.in_ok-add_header.ensures in
+    on_ok_weaker c.add-2.result
+    (λ a. adds_here {g = λ t. expr_items t (of_expr.Closure c.args.args.now c.args.arg_types.now c.args.ret_type.now c.args.body kind c.args.capture)} (adds_more before a)
+    (ap (λ id. head ++ between ++ e id) (c.printed_body.ensures ∙ ap (λ (t : Setting). printed_body t.nodes kind c.args.body) (same_from before))))
+    c.add-2.ensures

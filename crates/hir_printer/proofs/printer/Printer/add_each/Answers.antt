@@ -1,0 +1,17 @@
+use Rattle.std.proofs.Common.{refl}
+use Rattle.hir_printer.specs.Printers.{stood_after}
+use Rattle.hir_printer.proofs.AddLemmas.{left_begins_at, left_goes_on, left_ends, adds_more}
+use Rattle.hir_printer.proofs.ListLemmas.{each_step, each_ends}
+use Rattle.hir_printer.proofs.printer.Printer.add_each.Goals as goal
+
+pub loop-member-init : goal.loop-member-init
+loop-member-init g c = left_begins_at c.in_ok-reserve.ensures (λ s. refl)
+
+pub loop-member-preserved : goal.loop-member-preserved
+loop-member-preserved g c =
+    left_goes_on c.loop-member.invariant (adds_more c.in_ok-add_to.ensures c.in_ok-add.ensures)
+    (λ s. each_step (λ x. stood_after s (g.T.Part.items s x) c.args.behind.now) c.args.members.now c.loop-member.member-index c.member-item.result c.loop-member-test.true c.member-item.is)
+
+pub returns : goal.returns
+returns g c = left_ends c.loop-member.invariant
+    (λ s. each_ends (λ x. stood_after s (g.T.Part.items s x) c.args.behind.now) c.args.members.now c.loop-member.member-index c.loop-member-test.false)

@@ -1,0 +1,14 @@
+use Rattle.std.proofs.Common.{slice_get}
+use Rattle.std.proofs.lemmas.Result.{on_ok_weaker}
+use Rattle.hir_printer.proofs.AddLemmas.{adds_found, adds_absent, not_there}
+use Rattle.hir_printer.specs.Questions.{Setting}
+use Rattle.hir_printer.specs.Exprs.{expr_items}
+use Rattle.hir_printer.proofs.printer.Printer.add_expr_at.Goals as goal
+
+pub returns-then-has_expr : goal.returns-then-has_expr
+returns-then-has_expr c = on_ok_weaker c.add_expr.result
+    (adds_found expr_items (λ (s : Setting). slice_get s.nodes.exprs c.args.id) c.index.result.now c.index.ensures) c.add_expr.ensures
+
+pub returns : goal.returns
+returns c = adds_absent expr_items (λ (s : Setting). slice_get s.nodes.exprs c.args.id)
+    (not_there c.args.self.now.store.now.nodes.exprs c.args.id c.has_expr.result c.has_expr.ensures c.if-has_expr.false)

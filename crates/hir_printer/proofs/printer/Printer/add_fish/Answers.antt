@@ -1,0 +1,8 @@
+use Rattle.std.proofs.Common.{refl}
+use Rattle.std.proofs.lemmas.Result.{on_ok_weaker}
+use Rattle.hir_printer.proofs.AddLemmas.{adds_more}
+use Rattle.hir_printer.proofs.TurnLemmas.{written_then}
+use Rattle.hir_printer.proofs.printer.Printer.add_fish.Goals as goal
+
+pub returns : goal.returns
+returns c = on_ok_weaker c.add.result (λ a. written_then c.requires.none c.in_ok-write_work.ensures (adds_more c.in_ok-add_args.ensures a) refl) c.add.ensures

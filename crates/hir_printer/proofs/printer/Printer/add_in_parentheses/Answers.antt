@@ -1,0 +1,7 @@
+use Rattle.std.proofs.Common.{refl}
+use Rattle.std.proofs.lemmas.Result.{on_ok_weaker}
+use Rattle.hir_printer.proofs.AddLemmas.{adds, adds_then, adds_more}
+use Rattle.hir_printer.proofs.printer.Printer.add_in_parentheses.Goals as goal
+
+pub returns : goal.returns
+returns c = on_ok_weaker c.add-2.result (adds_more (adds_then (adds c.in_ok-add.ensures (λ s. refl)) c.in_ok-add_with_rest.ensures)) c.add-2.ensures

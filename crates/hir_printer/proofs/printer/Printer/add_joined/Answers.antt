@@ -1,0 +1,10 @@
+use Rattle.std.proofs.lemmas.Result.{on_ok_weaker}
+use Rattle.hir_printer.proofs.AddLemmas.{adds_as}
+use Rattle.std.proofs.Common.{map}
+use Rattle.hir_printer.specs.Items.{text}
+use Rattle.hir_printer.proofs.ListLemmas.{following_joined}
+use Rattle.hir_printer.proofs.printer.Printer.add_joined.Goals as goal
+
+pub returns : goal.returns
+returns g c = on_ok_weaker c.add_list.result
+    (λ a. adds_as a (λ s. following_joined (text c.args.between.now) (map (g.T.Part.items s) c.args.members.now))) c.add_list.ensures

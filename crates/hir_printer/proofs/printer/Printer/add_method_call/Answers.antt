@@ -1,0 +1,8 @@
+use Rattle.std.proofs.Common.{refl}
+use Rattle.std.proofs.lemmas.Result.{on_ok_weaker}
+use Rattle.hir_printer.proofs.AddLemmas.{adds, adds_then}
+use Rattle.hir_printer.proofs.printer.Printer.add_method_call.Goals as goal
+
+pub returns : goal.returns
+returns c = on_ok_weaker c.add_arguments.result
+    (adds_then (adds_then (adds (rw c.as_str.ensures at c.in_ok-add.ensures) (λ s. refl)) c.in_ok-add_method_args.ensures)) c.add_arguments.ensures

@@ -1,0 +1,14 @@
+use Rattle.std.proofs.Common.{slice_get}
+use Rattle.std.proofs.lemmas.Result.{on_ok_weaker}
+use Rattle.hir_printer.proofs.AddLemmas.{adds_found, adds_absent, not_there}
+use Rattle.hir_printer.specs.Questions.{Setting}
+use Rattle.hir_printer.specs.Types.{type_items}
+use Rattle.hir_printer.proofs.printer.Printer.add_type_at.Goals as goal
+
+pub returns-then-has_type : goal.returns-then-has_type
+returns-then-has_type c = on_ok_weaker c.add_type.result
+    (adds_found type_items (λ (s : Setting). slice_get s.nodes.types c.args.id) c.index.result.now c.index.ensures) c.add_type.ensures
+
+pub returns : goal.returns
+returns c = adds_absent type_items (λ (s : Setting). slice_get s.nodes.types c.args.id)
+    (not_there c.args.self.now.store.now.nodes.types c.args.id c.has_type.result c.has_type.ensures c.if-has_type.false)

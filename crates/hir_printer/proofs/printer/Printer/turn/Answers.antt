@@ -1,0 +1,17 @@
+use Rattle.std.proofs.lemmas.Result.{err_from_is_err_and}
+use Rattle.hir_printer.proofs.TurnLemmas.{turned_wrote, turned_gave}
+use Rattle.hir_printer.proofs.printer.Printer.turn.Goals as goal
+
+pub returns-in_err-write_work-clause-missing : goal.returns-in_err-write_work-clause-missing
+returns-in_err-write_work-clause-missing c = λ m e.
+    let p = err_from_is_err_and c.from_residual-in_err-write_work.result c.from_residual-in_err-write_work.ensures.1 in let f = p.1 in let g = p.2 in absurd (cc)
+
+pub returns-in_err-give_way-clause-missing : goal.returns-in_err-give_way-clause-missing
+returns-in_err-give_way-clause-missing c = λ m e.
+    c.in_err-give_way.ensures.missing m (let p = err_from_is_err_and c.from_residual.result c.from_residual.ensures.1 in let f = p.1 in let g = p.2 in cc)
+
+pub returns-then-is_node-clause-ok : goal.returns-then-is_node-clause-ok
+returns-then-is_node-clause-ok c = turned_gave c.requires.none c.in_ok-give_way.ensures.ok c.end_turn.ensures
+
+pub returns-clause-ok : goal.returns-clause-ok
+returns-clause-ok c = turned_wrote c.in_ok-write_work.ensures

@@ -1,0 +1,17 @@
+pub mod Questions
+pub mod Items
+pub mod Names
+pub mod Paths
+pub mod Types
+pub mod Literals
+pub mod Exprs
+pub mod Pats
+pub mod Pieces
+pub mod Falls
+pub mod Settings
+pub mod Printed
+pub mod Kinds
+pub mod Weights
+pub mod Printing
+pub mod Printers
+pub mod Answers

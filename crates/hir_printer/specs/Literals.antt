@@ -1,0 +1,33 @@
+-- What literals are printed as.
+use Rattle.std.specs.Prelude.{ℕ, Bool, true, false, List, [], ◌∷◌, ◌++◌, map, codes}
+use Rattle.std.specs.Fmt.{decimal, signed_decimal}
+use Rattle.hir_base.specs.OpTexts.{int_text, uint_text, float_text}
+use Rattle.hir_node.specs.declared.literal.Literal.{Literal}
+use Rattle.hir_node.specs.declared.literal.Literal.TheVariants as literal
+use Rattle.hir_page.specs.Pieces.{Piece}
+use Rattle.hir_page.specs.Literals.{string_literal, char_literal, bytes_literal, c_string_literal}
+use Rattle.hir_printer.specs.Items.{Item, Put, Lacks, Whole, Under, Pattern, TypeItem, text, opt}
+
+abbrev pub bool_text : Bool → List ℕ
+bool_text true = codes "true"
+bool_text false = codes "false"
+
+abbrev pub literal_items : Literal → List Item
+literal_items (literal.String text) = map Put (string_literal text)
+literal_items (literal.ByteString bytes) = map Put (bytes_literal bytes)
+literal_items (literal.CString bytes) = map Put (c_string_literal bytes)
+literal_items (literal.Char c) = map Put (char_literal c)
+literal_items (literal.Bool b) = text (bool_text b)
+literal_items (literal.Int n suffix) = text (signed_decimal n) ++ opt (λ s. text (int_text s)) suffix
+literal_items (literal.Uint n suffix) = text (decimal n) ++ opt (λ s. text (uint_text s)) suffix
+literal_items (literal.Float number suffix) = text number ++ opt (λ s. text (float_text s)) suffix
+
+-- the pieces among items
+abbrev pub put_pieces : List Item → List Piece
+put_pieces [] = []
+put_pieces (Put piece ∷ is) = piece ∷ put_pieces is
+put_pieces (Lacks missing ∷ is) = put_pieces is
+put_pieces (Whole id ∷ is) = put_pieces is
+put_pieces (Under id parent ∷ is) = put_pieces is
+put_pieces (Pattern id ∷ is) = put_pieces is
+put_pieces (TypeItem id ∷ is) = put_pieces is

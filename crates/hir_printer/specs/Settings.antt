@@ -1,0 +1,7 @@
+-- What is printed from: the nodes of a store, the answers of the tables, an edition's words, in lines or in one line.
+use Rattle.std.specs.Prelude.{ℕ, Bool, List}
+use Rattle.hir_expr_store.specs.Contents.{Contents}
+use Rattle.hir_printer.specs.Questions.{Questions, Setting}
+
+abbrev pub setting : Contents → Questions → List (List ℕ) → Bool → Setting
+setting store tables words one_line = record { nodes = store.nodes; tables = tables; words = words; one_line = one_line }

@@ -1,0 +1,179 @@
+//! What is added to a printer: it is written at once, or kept.
+
+ghost use Rattle.std.specs.Prelude.{◌≡◌, ◌≤◌, length, ◌∷◌, [], ◌++◌, false, IfSome, None, OnOk, string_bytes};
+ghost use Rattle.hir_base.specs.RawWords.{words_of};
+ghost use Rattle.hir_page.specs.Page.{page_text};
+ghost use Rattle.hir_printer.specs.Items.{text, when};
+ghost use Rattle.hir_printer.specs.Settings.{setting};
+ghost use Rattle.hir_printer.specs.Answers.{answers};
+ghost use Rattle.hir_printer.specs.Pieces.{format_of};
+ghost use Rattle.hir_printer.specs.Printing.{on_page, seen};
+ghost use Rattle.hir_printer.specs.Kinds.{is_node};
+ghost use Rattle.hir_printer.specs.Printers.{Adds, AddsWorks, Wrote, stands_for};
+
+use crate::literals::write_literal;
+use crate::names::write_name;
+use crate::printer::Printer;
+use crate::work::Work;
+use hir_base::{Edition, Text};
+use hir_defs::Tables;
+use hir_expr_store::ExpressionStore;
+use hir_page::{LineFormat, PageBuffer, PieceWriter, write_number};
+use std::alloc::{AllocError, Global};
+
+fn line_format(one_line: bool) -> LineFormat
+    ensures { result ≡ format_of one_line }
+{
+    if one_line {
+        LineFormat::Oneline
+    } else {
+        LineFormat::Newline
+    }
+}
+
+fn push_copy<T: Copy>(onto: &mut Vec<T>, item: &T) -> Result<(), AllocError>
+    ensures added { OnOk result (onto.new.items ≡ onto.old.items ++ (item.now ∷ [])) }
+    ensures kept { length onto.old.items ≤ length onto.new.items }
+{
+    onto.push(*item)?;
+    Ok(())
+}
+
+fn copy_of<T: Copy>(item: &T) -> T
+    ensures { result ≡ item.now }
+{
+    *item
+}
+
+impl<'a> Printer<'a> {
+    /// A printer from a store and tables, with the words of an edition, to which nothing was added. It allocates from `alloc`, and nothing now.
+    pub fn new(
+        alloc: Global,
+        store: &'a ExpressionStore,
+        tables: &'a Tables,
+        edition: Edition,
+        one_line: bool,
+    ) -> Printer<'a>
+        ensures { seen result ≡ on_page
+            (setting store.now (answers tables.now) (words_of tables.now.words edition) one_line) }
+    {
+        Printer {
+            store,
+            tables,
+            words: tables.raw_words(edition),
+            one_line,
+            page: PageBuffer::new(alloc, line_format(one_line)),
+            works: Vec::new(alloc),
+            waiting: 0,
+        }
+    }
+
+    /// Writes a work that is text or layout.
+    pub(crate) fn write_work(&mut self, work: &Work<'a>) -> Result<(), AllocError>
+        requires { is_node work.now ≡ false }
+        ensures { OnOk result (Wrote work.now self.old self.new) }
+    {
+        match work {
+            Work::Text(text) => self.page.text(*text),
+            Work::Space => self.page.soft_space(),
+            Work::Break => self.page.line_break(),
+            Work::Indent => self.page.indent(),
+            Work::Outdent => self.page.outdent(),
+            Work::Number(number) => write_number(&mut self.page, *number),
+            Work::Literal(literal) => write_literal(&mut self.page, *literal),
+            Work::Name(name) => write_name(&mut self.page, self.words, *name),
+            Work::Whole(_)
+            | Work::Under(_, _)
+            | Work::Pattern(_)
+            | Work::Type(_)
+            | Work::Args(_)
+            | Work::Lacks(_) => unreachable!(),
+        }
+    }
+
+    /// Keeps a work behind those that were kept in this turn.
+    #[inline(always)]
+    fn keep(&mut self, work: &Work<'a>) -> Result<(), AllocError>
+        ensures { OnOk result (seen self.new ≡ record (seen self.old) { kept = (seen self.old).kept ++ (work.now ∷ []) }) }
+    {
+        push_copy(&mut self.works, work)
+    }
+
+    /// Adds a work.
+    #[inline(always)]
+    fn add_work(&mut self, work: &Work<'a>) -> Result<(), AllocError>
+        ensures { OnOk result (Adds self.old (λ s. stands_for s work.now) self.new) }
+    {
+        if self.works.len() > self.waiting || work.is_node() {
+            return self.keep(work);
+        }
+        // a copy is handed out, and not the work: so a list of works that is known when this is compiled needs no memory
+        let work = copy_of(work);
+        self.write_work(&work)
+    }
+
+    /// Makes room for so many works.
+    pub(crate) fn reserve(&mut self, works: usize) -> Result<(), AllocError>
+        ensures { OnOk result (seen self.new ≡ seen self.old) }
+    {
+        self.works.reserve(works)?;
+        Ok(())
+    }
+
+    /// Adds works.
+    #[inline(always)]
+    pub fn add(&mut self, works: &[Work<'a>]) -> Result<(), AllocError>
+        ensures { OnOk result (AddsWorks self.old works.now self.new) }
+    {
+        for work in works {
+            self.add_work(work)?;
+        }
+        Ok(())
+    }
+
+    /// Adds a text, where the condition holds.
+    pub fn add_if(&mut self, holds: bool, shown: &'a str) -> Result<(), AllocError>
+        ensures { OnOk result (Adds self.old (λ s. when holds (text shown.now)) self.new) }
+    {
+        if holds {
+            return self.add(&[Work::Text(shown)]);
+        }
+        Ok(())
+    }
+
+    /// Lets what was kept in this turn wait, before all that waits.
+    pub(crate) fn end_turn(&mut self)
+        ensures { let old = seen self.old in seen self.new ≡ record old { kept = []; waiting = old.kept ++ old.waiting } }
+    {
+        self.works[self.waiting..].reverse();
+        self.waiting = self.works.len();
+    }
+
+    /// Begins a turn: the next that waits, where something does.
+    pub(crate) fn begin_turn(&mut self) -> Option<Work<'a>>
+        requires { (seen self.old).kept ≡ [] }
+        ensures next { IfSome result (λ work. ((seen self.old).waiting ≡ work ∷ (seen self.new).waiting)
+            × (seen self.new ≡ record (seen self.old) { waiting = (seen self.new).waiting })) }
+        ensures over { result ≡ None → ((seen self.old).waiting ≡ []) × (self.new.page ≡ self.old.page) }
+    {
+        let work = self.works.pop();
+        self.waiting = self.works.len();
+        work
+    }
+
+    /// The text that was written.
+    pub(crate) fn into_text(self) -> String
+        ensures { string_bytes result ≡ page_text self.entry.page }
+    {
+        let Printer {
+            store: _,
+            tables: _,
+            words: _,
+            one_line: _,
+            page,
+            works: _,
+            waiting: _,
+        } = self;
+        page.into_text()
+    }
+}

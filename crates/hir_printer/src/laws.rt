@@ -1,0 +1,24 @@
+//! Laws that a reader relies on. Each is a function with no body to run: its contract is the law.
+ghost use Rattle.std.specs.Prelude.{◌≡◌, None};
+ghost use Rattle.hir_node.specs.declared.node_id.NodeId.{NodeId};
+ghost use Rattle.hir_expr_store.specs.Contents.{Contents, contents_fault};
+ghost use Rattle.hir_printer.specs.Questions.{Setting};
+ghost use Rattle.hir_printer.specs.Pieces.{pieces, pieces_step};
+ghost use Rattle.hir_printer.specs.Falls.{ItemsFall};
+
+/// The pieces of a node of an accepted store are those of its items.
+pub fn pieces_are_their_step()
+    ensures { (c : Contents) → contents_fault c None → (s : Setting) → s.nodes ≡ c.nodes → (n : NodeId)
+        → pieces s n ≡ pieces_step s (pieces s) n }
+{
+    hir_expr_store::laws::kids_fall();
+    hir_expr_store::laws::who_has_kids_is_there();
+}
+
+/// What is printed inside a node of an accepted store is lower than the node.
+pub fn items_fall()
+    ensures { (c : Contents) → contents_fault c None → (s : Setting) → s.nodes ≡ c.nodes → ItemsFall s }
+{
+    hir_expr_store::laws::kids_fall();
+    hir_expr_store::laws::who_has_kids_is_there();
+}

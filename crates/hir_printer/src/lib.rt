@@ -1,0 +1,25 @@
+//! What nodes are printed as, and the printer of them.
+#![tactic(auto)]
+
+mod adding;
+mod blocks;
+mod closures;
+mod exprs;
+mod fault;
+pub mod laws;
+mod literals;
+mod lookups;
+mod names;
+mod part;
+mod paths;
+mod pats;
+mod print;
+mod printer;
+mod types;
+mod work;
+
+pub use fault::PrintFault;
+pub use part::Part;
+pub use paths::colons_first;
+pub use printer::Printer;
+pub use work::Work;

@@ -1,0 +1,207 @@
+//! What paths and generic arguments are printed as.
+#![tactic(auto, using(crate::proofs::AddLemmas::adding))]
+
+ghost use Rattle.std.specs.Prelude.{◌≡◌, OnOk};
+ghost use Rattle.hir_path.specs.declared.path.Path.TheVariants as of_path;
+ghost use Rattle.hir_printer.specs.Items.{opt};
+ghost use Rattle.hir_printer.specs.Paths.{bounds_after, arg_items, args_items, assoc_items, turbofish, path_items, kind_items, supers, target_items, start_items, segments_from, colons_first};
+ghost use Rattle.hir_printer.specs.Printers.{Adds};
+
+use crate::part::Part;
+use crate::printer::Printer;
+use crate::work::Work;
+use hir_base::{ExprPrecedence, LangItemTarget, Name, NamedDef, PathKind};
+use hir_node::{
+    AssociatedTypeBinding, Boxed, GenericArg, GenericArgs, NormalPath, Path, TypeBound, TypeRefId,
+};
+use std::alloc::AllocError;
+
+/// Whether `::` is before the first segment of a path of this kind.
+pub fn colons_first(kind: PathKind) -> bool
+    ensures { result ≡ colons_first kind }
+{
+    match kind {
+        PathKind::Plain => false,
+        PathKind::Super(_) | PathKind::Crate | PathKind::Abs | PathKind::DollarCrate(_) => true,
+    }
+}
+
+impl Part for GenericArg {
+    ghost items = { arg_items };
+
+    fn add_to<'a>(&'a self, printer: &mut Printer<'a>) -> Result<(), AllocError> {
+        match self {
+            GenericArg::Ty(id) => printer.add(&[Work::Type(*id)]),
+            GenericArg::Lifetime(id) => id.add_to(printer),
+            GenericArg::Const(constant) => printer.add(&[Work::Under(
+                constant.expr,
+                ExprPrecedence::Unambiguous,
+            )]),
+        }
+    }
+}
+
+impl Part for AssociatedTypeBinding {
+    ghost items = { assoc_items };
+
+    fn add_to<'a>(&'a self, printer: &mut Printer<'a>) -> Result<(), AllocError> {
+        printer.add(&[Work::Name(self.name.as_str())])?;
+        printer.add_turbofish(&self.args)?;
+        printer.add_bounds_after(self.bounds.as_slice())?;
+        printer.add_after(" = ", &self.type_ref)
+    }
+}
+
+impl<'a> Printer<'a> {
+    /// Adds `super`, so many times.
+    pub fn add_supers(&mut self, times: u8) -> Result<(), AllocError>
+        ensures { OnOk result (Adds self.old (λ s. supers times) self.new) }
+    {
+        if times == 0 {
+            return self.add(&[Work::Text("self")]);
+        }
+        let mut left = times;
+        while left > 1 {
+            self.add(&[Work::Text("super::")])?;
+            left -= 1;
+        }
+        self.add(&[Work::Text("super")])
+    }
+
+    /// Adds what a path begins with.
+    fn add_kind(&mut self, kind: PathKind) -> Result<(), AllocError>
+        ensures { OnOk result (Adds self.old (λ s. kind_items s kind) self.new) }
+    {
+        match kind {
+            PathKind::Plain | PathKind::Abs => Ok(()),
+            PathKind::Super(times) => self.add_supers(times),
+            PathKind::Crate => self.add(&[Work::Text("crate")]),
+            PathKind::DollarCrate(id) => self.add_crate_name(id),
+        }
+    }
+
+    /// Adds segments with their arguments, where there are any. `::` is before the first where `after` says so.
+    fn add_segments(
+        &mut self,
+        after: bool,
+        names: &'a [Name],
+        lists: &'a [Option<GenericArgs>],
+    ) -> Result<(), AllocError>
+        ensures { OnOk result (Adds self.old (λ s. segments_from s after names.now lists.now) self.new) }
+    {
+        let mut after = after;
+        let mut lists = lists;
+        for name in names {
+            self.add_if(after, "::")?;
+            self.add(&[Work::Name(name.as_str())])?;
+            after = true;
+            let [args, others @ ..] = lists else {
+                continue;
+            };
+            self.add_turbofish(args)?;
+            lists = others;
+        }
+        Ok(())
+    }
+
+    /// Adds the type that a path begins at, or else its kind.
+    fn add_start(&mut self, anchor: Option<TypeRefId>, kind: PathKind) -> Result<(), AllocError>
+        ensures { OnOk result (Adds self.old (λ s. start_items s anchor kind) self.new) }
+    {
+        match anchor {
+            None => self.add_kind(kind),
+            Some(anchor) => self.add(&[Work::Text("<"), Work::Type(anchor), Work::Text(">::")]),
+        }
+    }
+
+    fn add_normal_path(&mut self, path: &'a NormalPath) -> Result<(), AllocError>
+        ensures { OnOk result (Adds self.old (λ s. path_items s (of_path.Normal path.now)) self.new) }
+    {
+        self.add_start(path.type_anchor, path.mod_path.kind())?;
+        self.add_segments(
+            colons_first(path.mod_path.kind()),
+            path.mod_path.segments(),
+            path.generic_args.as_slice(),
+        )
+    }
+
+    /// Adds the name of an item of the language, or the number of one that has no name.
+    fn add_target(&mut self, target: LangItemTarget) -> Result<(), AllocError>
+        ensures { OnOk result (Adds self.old (λ s. target_items s target) self.new) }
+    {
+        match target {
+            LangItemTarget::ImplId(id) => self.add_numbered("ImplId", id.into_raw()),
+            LangItemTarget::EnumId(id) => self.add_named(NamedDef::EnumId(id)),
+            LangItemTarget::FunctionId(id) => self.add_named(NamedDef::FunctionId(id)),
+            LangItemTarget::StaticId(id) => self.add_named(NamedDef::StaticId(id)),
+            LangItemTarget::StructId(id) => self.add_named(NamedDef::StructId(id)),
+            LangItemTarget::UnionId(id) => self.add_named(NamedDef::UnionId(id)),
+            LangItemTarget::TypeAliasId(id) => self.add_named(NamedDef::TypeAliasId(id)),
+            LangItemTarget::TraitId(id) => self.add_named(NamedDef::TraitId(id)),
+            LangItemTarget::EnumVariantId(id) => self.add_named(NamedDef::EnumVariantId(id)),
+            LangItemTarget::ConstId(id) => self.add_named(NamedDef::ConstId(id)),
+            LangItemTarget::MacroId(id) => self.add_named(NamedDef::MacroId(id)),
+        }
+    }
+
+    fn add_lang_item(
+        &mut self,
+        target: LangItemTarget,
+        name: &'a Option<Boxed<Name>>,
+    ) -> Result<(), AllocError>
+        ensures { OnOk result (Adds self.old (λ s. path_items s (of_path.LangItem target name.now)) self.new) }
+    {
+        self.add(&[Work::Text("builtin#lang(")])?;
+        self.add_target(target)?;
+        match name {
+            None => self.add(&[Work::Text(")")]),
+            Some(name) => self.add(&[
+                Work::Text("::"),
+                Work::Name(name.get().as_str()),
+                Work::Text(")"),
+            ]),
+        }
+    }
+
+    /// Adds what a path is printed as.
+    pub fn add_path(&mut self, path: &'a Path) -> Result<(), AllocError>
+        ensures { OnOk result (Adds self.old (λ s. path_items s path.now) self.new) }
+    {
+        match path {
+            Path::BarePath(path) => {
+                self.add_kind(path.kind())?;
+                self.add_segments(colons_first(path.kind()), path.segments(), &[])
+            }
+            Path::Normal(path) => self.add_normal_path(path.get()),
+            Path::LangItem(target, name) => self.add_lang_item(*target, name),
+        }
+    }
+
+    /// Adds arguments in `::<` and `>`, where there are any.
+    fn add_turbofish(&mut self, args: &'a Option<GenericArgs>) -> Result<(), AllocError>
+        ensures { OnOk result (Adds self.old (λ s. opt (λ a. turbofish (args_items s a)) args.now) self.new) }
+    {
+        match args {
+            None => Ok(()),
+            Some(args) => self.add(&[Work::Args(args)]),
+        }
+    }
+
+    /// Adds the arguments and the bindings of a list.
+    pub(crate) fn add_args(&mut self, args: &'a GenericArgs) -> Result<(), AllocError>
+        ensures { OnOk result (Adds self.old (λ s. args_items s args.now) self.new) }
+    {
+        let has_args = !args.args.is_empty();
+        self.add_if(has_args & args.has_self_type, "Self=")?;
+        self.add_joined(", ", args.args.as_slice())?;
+        self.add_list(has_args, ", ", args.bindings.as_slice())
+    }
+
+    /// Adds bounds behind `: `, where there are any.
+    fn add_bounds_after(&mut self, bounds: &'a [TypeBound]) -> Result<(), AllocError>
+        ensures { OnOk result (Adds self.old (λ s. bounds_after s bounds.now) self.new) }
+    {
+        self.add_if(!bounds.is_empty(), ": ")?;
+        self.add_joined(" + ", bounds)
+    }
+}

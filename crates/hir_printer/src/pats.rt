@@ -1,0 +1,247 @@
+//! What a pattern is printed as.
+#![tactic(auto, using(crate::proofs::AddLemmas::adding))]
+
+ghost use Rattle.std.specs.Prelude.{◌≡◌, OnOk, map, slice_get, Some};
+ghost use Rattle.hir_node.specs.declared.pat.Pat.TheVariants as of_pat;
+ghost use Rattle.hir_base.specs.declared.prec.ExprPrecedence.TheVariants.{Shift};
+ghost use Rattle.hir_printer.specs.Questions.{Setting};
+ghost use Rattle.hir_printer.specs.Items.{p, opt, under, comma_joined};
+ghost use Rattle.hir_printer.specs.Names.{annotation_text, binding_items};
+ghost use Rattle.hir_printer.specs.Pats.{with_rest, in_parentheses, has_printed_name, is_short, field_pattern, after_last, field_patterns, pat_items};
+ghost use Rattle.hir_printer.specs.Printing.{seen};
+ghost use Rattle.hir_printer.specs.Printers.{Adds};
+
+use crate::names::is_printed;
+use crate::printer::Printer;
+use crate::work::Work;
+use hir_base::{ExprPrecedence, Text};
+use hir_expr_store::ExpressionStore;
+use hir_node::{Binding, BindingAnnotation, BindingId, ExprId, Pat, PatId, Path, RecordFieldPat};
+use std::alloc::AllocError;
+
+fn annotation_text(mode: BindingAnnotation) -> &'static str
+    ensures { result.now ≡ annotation_text mode }
+{
+    match mode {
+        BindingAnnotation::Unannotated => "",
+        BindingAnnotation::Mutable => "mut ",
+        BindingAnnotation::Ref => "ref ",
+        BindingAnnotation::RefMut => "ref mut ",
+    }
+}
+
+/// Whether the text of a binding is this name as it is printed.
+fn has_printed_name(words: &[Text], name: &str, binding: &Binding) -> bool
+    ensures { (s : Setting) → s.words ≡ words.now → result ≡ has_printed_name s name.now (Some binding.now) }
+{
+    match binding.mode {
+        BindingAnnotation::Unannotated => is_printed(words, name, binding.name.as_str()),
+        BindingAnnotation::Mutable | BindingAnnotation::Ref | BindingAnnotation::RefMut => false,
+    }
+}
+
+impl<'a> Printer<'a> {
+    /// Adds a binding.
+    pub fn add_binding(&mut self, id: BindingId) -> Result<(), AllocError>
+        ensures { OnOk result (Adds self.old (λ s. binding_items s id) self.new) }
+    {
+        let store = self.store;
+        if store.has_binding(id) {
+            let binding = &store[id];
+            return self.add(&[
+                Work::Text(annotation_text(binding.mode)),
+                Work::Name(binding.name.as_str()),
+            ]);
+        }
+        Ok(())
+    }
+
+    fn binds_name(&self, name: &str, id: BindingId) -> bool
+        ensures { result ≡ has_printed_name (seen self.now).from name.now (slice_get (seen self.now).from.nodes.bindings id) }
+    {
+        self.store.has_binding(id) && has_printed_name(self.words, name, &self.store[id])
+    }
+
+    /// Whether a field's pattern binds its name as it is printed, so that the name alone is printed.
+    fn is_short(&self, field: &RecordFieldPat) -> bool
+        ensures { result ≡ is_short (seen self.now).from field.now.name (slice_get (seen self.now).from.nodes.pats field.now.pat) }
+    {
+        if self.store.has_pat(field.pat) {
+            if let Pat::Bind { id, subpat: None } = &self.store[field.pat] {
+                return self.binds_name(field.name.as_str(), *id);
+            }
+        }
+        false
+    }
+
+    fn add_field_pat(&mut self, field: &'a RecordFieldPat) -> Result<(), AllocError>
+        ensures { OnOk result (Adds self.old (λ s. field_pattern s field.now) self.new) }
+    {
+        self.add(&[Work::Name(field.name.as_str())])?;
+        if self.is_short(field) {
+            return Ok(());
+        }
+        self.add(&[Work::Text(": "), Work::Pattern(field.pat)])
+    }
+
+    /// Adds what stands behind a field: where nothing follows in one line, a space.
+    fn add_field_end(&mut self, has_more: bool) -> Result<(), AllocError>
+        ensures { OnOk result (Adds self.old (λ s. after_last s has_more) self.new) }
+    {
+        if !has_more && self.one_line {
+            return self.add(&[Work::Text(" ")]);
+        }
+        self.add(&[Work::Text(","), Work::Break])
+    }
+
+    /// Adds the fields of a record, which a rest may follow.
+    fn add_field_pats(&mut self, fields: &'a [RecordFieldPat], rest: bool) -> Result<(), AllocError>
+        ensures { OnOk result (Adds self.old (λ s. field_patterns s rest fields.now) self.new) }
+    {
+        let mut left = fields;
+        while let [field, others @ ..] = left {
+            self.add_field_pat(field)?;
+            self.add_field_end(rest | !others.is_empty())?;
+            left = others;
+        }
+        Ok(())
+    }
+
+    fn add_record_pat(
+        &mut self,
+        path: &'a Path,
+        fields: &'a [RecordFieldPat],
+        rest: bool,
+    ) -> Result<(), AllocError>
+        ensures { OnOk result (Adds self.old (λ s. pat_items s (of_pat.Record rest path.now fields.now)) self.new) }
+    {
+        self.add_path(path)?;
+        self.add(&[Work::Text(" {"), Work::Indent])?;
+        self.add_field_pats(fields, rest)?;
+        if rest {
+            return self.add(&[
+                Work::Text(".."),
+                Work::Break,
+                Work::Outdent,
+                Work::Text("}"),
+            ]);
+        }
+        self.add(&[Work::Outdent, Work::Text("}")])
+    }
+
+    /// Adds patterns, with `..` before the one in this place, or behind all.
+    fn add_with_rest(&mut self, pats: &'a [PatId], rest: Option<u32>) -> Result<(), AllocError>
+        ensures { OnOk result (Adds self.old (λ s. comma_joined (with_rest rest (map p pats.now))) self.new) }
+    {
+        let Some(at) = rest else {
+            return self.add_joined(", ", pats);
+        };
+        let left = pats.len().saturating_sub(at as usize);
+        let (before, behind) = pats.split_at(pats.len() - left);
+        self.add_joined(", ", before)?;
+        self.add_if(!before.is_empty(), ", ")?;
+        self.add(&[Work::Text("..")])?;
+        self.add_list(true, ", ", behind)
+    }
+
+    fn add_in_parentheses(&mut self, pats: &'a [PatId], rest: Option<u32>) -> Result<(), AllocError>
+        ensures { OnOk result (Adds self.old (λ s. in_parentheses rest pats.now) self.new) }
+    {
+        self.add(&[Work::Text("(")])?;
+        self.add_with_rest(pats, rest)?;
+        self.add(&[Work::Text(")")])
+    }
+
+    fn add_slice(
+        &mut self,
+        prefix: &'a [PatId],
+        slice: &'a Option<PatId>,
+        suffix: &'a [PatId],
+    ) -> Result<(), AllocError>
+        ensures { OnOk result (Adds self.old (λ s. pat_items s (of_pat.Slice prefix.now slice.now suffix.now)) self.new) }
+    {
+        self.add(&[Work::Text("[")])?;
+        self.add_each(prefix, &[Work::Text(", ")])?;
+        self.add_before(slice, ", ")?;
+        self.add_each(suffix, &[Work::Text(", ")])?;
+        self.add(&[Work::Text("]")])
+    }
+
+    /// Adds an end of a range, where there is one.
+    fn add_range_end(&mut self, expr: Option<ExprId>) -> Result<(), AllocError>
+        ensures { OnOk result (Adds self.old (λ s. opt (under Shift) expr) self.new) }
+    {
+        match expr {
+            None => Ok(()),
+            Some(expr) => self.add(&[Work::Under(expr, ExprPrecedence::Shift)]),
+        }
+    }
+
+    /// Adds what a pattern is printed as.
+    pub(crate) fn add_pat(&mut self, pat: &'a Pat) -> Result<(), AllocError>
+        ensures { OnOk result (Adds self.old (λ s. pat_items s pat.now) self.new) }
+    {
+        match pat {
+            Pat::Missing => self.add(&[Work::Text("\u{fffd}")]),
+            Pat::Rest => self.add(&[Work::Text("..")]),
+            Pat::Wild => self.add(&[Work::Text("_")]),
+            Pat::NotNull => self.add(&[Work::Text("!null")]),
+            Pat::Tuple { args, ellipsis } => self.add_in_parentheses(args.as_slice(), *ellipsis),
+            Pat::Or(args) => {
+                self.add(&[Work::Text("(")])?;
+                self.add_joined(" | ", args.as_slice())?;
+                self.add(&[Work::Text(")")])
+            }
+            Pat::Record {
+                path,
+                args,
+                ellipsis,
+            } => self.add_record_pat(path, args.as_slice(), *ellipsis),
+            Pat::Range {
+                start,
+                end,
+                range_type,
+            } => {
+                self.add_range_end(*start)?;
+                self.add(&[Work::Text(range_type.as_str())])?;
+                self.add_range_end(*end)
+            }
+            Pat::Slice {
+                prefix,
+                slice,
+                suffix,
+            } => self.add_slice(prefix.as_slice(), slice, suffix.as_slice()),
+            Pat::Path(path) => self.add_path(path),
+            Pat::Lit(expr) => self.add_range_end(Some(*expr)),
+            Pat::Expr(expr) => self.add_range_end(Some(*expr)),
+            Pat::Bind { id, subpat } => {
+                self.add_binding(*id)?;
+                match subpat {
+                    None => Ok(()),
+                    Some(subpat) => {
+                        self.add(&[Work::Space, Work::Text("@ "), Work::Pattern(*subpat)])
+                    }
+                }
+            }
+            Pat::TupleStruct {
+                path,
+                args,
+                ellipsis,
+            } => {
+                self.add_path(path)?;
+                self.add_in_parentheses(args.as_slice(), *ellipsis)
+            }
+            Pat::Ref { pat, mutability } => self.add(&[
+                Work::Text("&"),
+                Work::Text(mutability.as_keyword_for_ref()),
+                Work::Pattern(*pat),
+            ]),
+            Pat::Box { inner } => self.add(&[Work::Text("box "), Work::Pattern(*inner)]),
+            Pat::Deref { inner } => self.add(&[
+                Work::Text("deref!("),
+                Work::Pattern(*inner),
+                Work::Text(")"),
+            ]),
+        }
+    }
+}

@@ -1,0 +1,175 @@
+//! The printer's loop, and the text that it gives.
+#![tactic(auto, using(crate::proofs::TurnLemmas::turns))]
+
+ghost use Rattle.std.specs.Prelude.{◌≡◌, ◌++◌, [], true, List, Some, None, Err, OnOk, slice_get};
+ghost use Rattle.hir_node.specs.declared.node_id.NodeId.TheVariants as node;
+ghost use Rattle.hir_expr_store.specs.declared.missing.Missing.{Missing};
+ghost use Rattle.hir_printer.specs.declared.fault.PrintFault.TheVariants as fault;
+ghost use Rattle.hir_printer.specs.declared.work.Work.TheVariants as works;
+ghost use Rattle.hir_printer.specs.Items.{Item};
+ghost use Rattle.hir_printer.specs.Pieces.{items_of, printed, is_chain, stands_in_parentheses, precedence_found};
+ghost use Rattle.hir_printer.specs.Falls.{ItemsFall};
+ghost use Rattle.hir_printer.specs.Kinds.{is_node};
+ghost use Rattle.hir_printer.specs.Printed.{PrintsPieces};
+ghost use Rattle.hir_printer.specs.Printing.{on_page, seen};
+ghost use Rattle.hir_printer.specs.Printers.{meant, printing, Adds, AddsItems, GaveWay, Turned, enclosed};
+
+use crate::fault::PrintFault;
+use crate::laws::items_fall;
+use crate::printer::Printer;
+use crate::work::Work;
+use hir_base::ExprPrecedence;
+use hir_expr_store::ExpressionStore;
+use hir_node::{ExprId, GenericArgs, PatId, TypeRefId};
+use std::alloc::AllocError;
+
+fn precedence_at(store: &ExpressionStore, id: ExprId) -> ExprPrecedence
+    ensures { result ≡ precedence_found (slice_get store.now.nodes.exprs id) }
+{
+    if store.has_expr(id) {
+        return store[id].precedence();
+    }
+    ExprPrecedence::Unambiguous
+}
+
+/// `||` under `||` and `&&` under `&&` are without parentheses.
+fn is_chain(child: ExprPrecedence, parent: ExprPrecedence) -> bool
+    ensures { result ≡ is_chain child parent }
+{
+    matches!(
+        (child, parent),
+        (ExprPrecedence::LOr, ExprPrecedence::LOr) | (ExprPrecedence::LAnd, ExprPrecedence::LAnd)
+    )
+}
+
+/// Whether an expression of one precedence stands in parentheses under another.
+fn stands_in_parentheses(child: ExprPrecedence, parent: ExprPrecedence) -> bool
+    ensures { result ≡ stands_in_parentheses child parent }
+{
+    child.needs_parentheses_in(parent) && !is_chain(child, parent)
+}
+
+impl<'a> Printer<'a> {
+    fn add_expr_at(&mut self, id: ExprId) -> Result<(), AllocError>
+        ensures { OnOk result (Adds self.old (λ s. items_of s (node.Expr id)) self.new) }
+    {
+        let store = self.store;
+        if store.has_expr(id) {
+            return self.add_expr(&store[id]);
+        }
+        Ok(())
+    }
+
+    fn add_pat_at(&mut self, id: PatId) -> Result<(), AllocError>
+        ensures { OnOk result (Adds self.old (λ s. items_of s (node.Pat id)) self.new) }
+    {
+        let store = self.store;
+        if store.has_pat(id) {
+            return self.add_pat(&store[id]);
+        }
+        Ok(())
+    }
+
+    fn add_type_at(&mut self, id: TypeRefId) -> Result<(), AllocError>
+        ensures { OnOk result (Adds self.old (λ s. items_of s (node.TypeRef id)) self.new) }
+    {
+        let store = self.store;
+        if store.has_type(id) {
+            return self.add_type(&store[id]);
+        }
+        Ok(())
+    }
+
+    /// Adds an expression, in parentheses where its precedence asks for them under that of its parent.
+    fn add_under(&mut self, id: ExprId, parent: ExprPrecedence) -> Result<(), AllocError>
+        ensures { OnOk result (Adds self.old (λ s. enclosed
+            (stands_in_parentheses (precedence_found (slice_get s.nodes.exprs id)) parent)
+            (items_of s (node.Expr id))) self.new) }
+    {
+        let is_enclosed = stands_in_parentheses(precedence_at(self.store, id), parent);
+        self.add_if(is_enclosed, "(")?;
+        self.add_expr_at(id)?;
+        self.add_if(is_enclosed, ")")
+    }
+
+    /// Adds generic arguments in `::<` and `>`. The first text is written at once, so that less is kept than they are.
+    fn add_fish(&mut self, args: &'a GenericArgs) -> Result<(), AllocError>
+        requires none { (seen self.old).kept ≡ [] }
+        ensures { OnOk result (GaveWay (works.Args args.entry) self.old self.new) }
+    {
+        self.write_work(&Work::Text("::<"))?;
+        self.add_args(args)?;
+        self.add(&[Work::Text(">")])
+    }
+
+    /// Adds what a node gives way to, or answers that it is missing.
+    fn give_way(&mut self, work: &Work<'a>) -> Result<(), PrintFault>
+        requires node { is_node work.now ≡ true }
+        requires fall { ItemsFall (seen self.old).from }
+        requires none { (seen self.old).kept ≡ [] }
+        ensures ok { OnOk result (GaveWay work.now self.old self.new) }
+        ensures missing { (m : Missing) → result ≡ Err (fault.Missing m) → work.now ≡ works.Lacks m }
+    {
+        match work {
+            Work::Whole(id) => Ok(self.add_expr_at(*id)?),
+            Work::Under(id, parent) => Ok(self.add_under(*id, *parent)?),
+            Work::Pattern(id) => Ok(self.add_pat_at(*id)?),
+            Work::Type(id) => Ok(self.add_type_at(*id)?),
+            Work::Args(args) => Ok(self.add_fish(*args)?),
+            Work::Lacks(missing) => Err(PrintFault::Missing(*missing)),
+            Work::Text(_)
+            | Work::Space
+            | Work::Break
+            | Work::Indent
+            | Work::Outdent
+            | Work::Number(_)
+            | Work::Literal(_)
+            | Work::Name(_) => unreachable!(),
+        }
+    }
+
+    /// Writes a work, or lets what it gives way to wait before all that waits.
+    #[inline(always)]
+    fn turn(&mut self, work: &Work<'a>) -> Result<(), PrintFault>
+        requires fall { ItemsFall (seen self.old).from }
+        requires none { (seen self.old).kept ≡ [] }
+        ensures ok { OnOk result (Turned work.now self.old self.new) }
+        ensures missing { (m : Missing) → result ≡ Err (fault.Missing m) → work.now ≡ works.Lacks m }
+    {
+        if work.is_node() {
+            self.give_way(work)?;
+            self.end_turn();
+            return Ok(());
+        }
+        self.write_work(work)?;
+        Ok(())
+    }
+
+    /// Writes the pieces of what was added, up to the first fault.
+    fn write(&mut self) -> Result<(), PrintFault>
+        ensures ok { let old = seen self.old in
+            OnOk result (printing old.page (printed old.from (meant old.from (old.kept ++ old.waiting))) ≡ (self.new.page, None)) }
+        ensures missing { let old = seen self.old in
+            (m : Missing) → result ≡ Err (fault.Missing m)
+            → (printing old.page (printed old.from (meant old.from (old.kept ++ old.waiting)))).1 ≡ Some m }
+    {
+        self.store.has_no_fault();
+        items_fall();
+        self.end_turn();
+        while let Some(work) = self.begin_turn() {
+            self.turn(&work)?;
+        }
+        Ok(())
+    }
+
+    /// The text of what was added.
+    ///
+    /// Answers `Missing` of the first definition that the text names and the tables don't have, and `Memory` where memory was refused.
+    pub fn print(mut self) -> Result<String, PrintFault>
+        ensures { let s = (seen self.entry).from in
+            (items : List Item) → AddsItems (on_page s) (λ s. items) (seen self.entry) → PrintsPieces s (printed s items) result }
+    {
+        self.write()?;
+        Ok(self.into_text())
+    }
+}

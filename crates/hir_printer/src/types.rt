@@ -1,0 +1,186 @@
+//! What types and bounds are printed as.
+#![tactic(auto, using(crate::proofs::AddLemmas::adding))]
+
+ghost use Rattle.std.specs.Prelude.{◌++◌, List, ℕ, Option, OnOk, map};
+ghost use Rattle.hir_node.specs.declared.type_ref.TypeRef.TheVariants as of_type;
+ghost use Rattle.hir_printer.specs.Items.{text, t, opt};
+ghost use Rattle.hir_printer.specs.Paths.{for_names, use_items, bound_items, bounds_items};
+ghost use Rattle.hir_printer.specs.Types.{extern_items, signature_items, fn_items, type_items};
+ghost use Rattle.hir_printer.specs.Printers.{Adds};
+
+use crate::part::Part;
+use crate::printer::Printer;
+use crate::work::Work;
+use hir_base::{ExprPrecedence, ExternAbi, Name, Seq};
+use hir_node::{FnType, RefType, TraitBoundModifier, TypeBound, TypeRef, TypeRefId, UseArgRef};
+use std::alloc::AllocError;
+
+/// A parameter of a function's type, whose name isn't printed.
+impl Part for (Option<Name>, TypeRefId) {
+    ghost items = { λ s param. t param.1 };
+
+    fn add_to<'a>(&'a self, printer: &mut Printer<'a>) -> Result<(), AllocError> {
+        printer.add(&[Work::Type(self.1)])
+    }
+}
+
+impl Part for UseArgRef {
+    ghost items = { use_items };
+
+    fn add_to<'a>(&'a self, printer: &mut Printer<'a>) -> Result<(), AllocError> {
+        match self {
+            UseArgRef::Name(name) => name.add_to(printer),
+            UseArgRef::Lifetime(id) => id.add_to(printer),
+        }
+    }
+}
+
+impl Part for TypeBound {
+    ghost items = { bound_items };
+
+    fn add_to<'a>(&'a self, printer: &mut Printer<'a>) -> Result<(), AllocError> {
+        match self {
+            TypeBound::Path(id, TraitBoundModifier::None) => {
+                printer.add(&[Work::Type(id.type_ref())])
+            }
+            TypeBound::Path(id, TraitBoundModifier::Maybe) => {
+                printer.add(&[Work::Text("?"), Work::Type(id.type_ref())])
+            }
+            TypeBound::ForLifetime(names, id) => {
+                printer.add_for(names.as_slice())?;
+                printer.add(&[Work::Type(id.type_ref())])
+            }
+            TypeBound::Lifetime(id) => id.add_to(printer),
+            TypeBound::Use(args) => {
+                printer.add(&[Work::Text("use<")])?;
+                printer.add_joined(", ", args.as_slice())?;
+                printer.add(&[Work::Text(">")])
+            }
+            TypeBound::Error => printer.add(&[Work::Text("{unknown}")]),
+        }
+    }
+}
+
+impl<'a> Printer<'a> {
+    /// Adds names behind `for`.
+    fn add_for(&mut self, names: &'a [Name]) -> Result<(), AllocError>
+        ensures { OnOk result (Adds self.old (λ s. for_names s names.now) self.new) }
+    {
+        self.add(&[Work::Text("for<")])?;
+        self.add_joined(", ", names)?;
+        self.add(&[Work::Text("> ")])
+    }
+
+    /// Adds names behind `for`, where there are any.
+    pub fn add_binder(&mut self, names: &'a Option<Seq<Name>>) -> Result<(), AllocError>
+        ensures { OnOk result (Adds self.old (λ s. opt (for_names s) names.now) self.new) }
+    {
+        match names {
+            None => Ok(()),
+            Some(names) => self.add_for(names.as_slice()),
+        }
+    }
+
+    /// Adds `extern` and a calling convention, unless it is that of Rust.
+    fn add_extern(&mut self, abi: &'a ExternAbi) -> Result<(), AllocError>
+        ensures { OnOk result (Adds self.old (λ s. extern_items abi.now) self.new) }
+    {
+        match abi {
+            ExternAbi::Rust => Ok(()),
+            ExternAbi::C
+            | ExternAbi::CUnwind
+            | ExternAbi::System
+            | ExternAbi::SystemUnwind
+            | ExternAbi::Named(_) => self.add(&[
+                Work::Text("extern "),
+                Work::Text(abi.as_str()),
+                Work::Text(" "),
+            ]),
+        }
+    }
+
+    /// Adds a function's type by its parameters and, last, its result.
+    fn add_signature(
+        &mut self,
+        params: &'a [(Option<Name>, TypeRefId)],
+        is_varargs: bool,
+    ) -> Result<(), AllocError>
+        ensures { OnOk result (Adds self.old (λ s. signature_items is_varargs
+            (map (λ (entry : Option (List ℕ) × ℕ). entry.1) params.now)) self.new) }
+    {
+        let (front, ret) = params.split_at(params.len().saturating_sub(1));
+        self.add(&[Work::Text("fn(")])?;
+        self.add_joined(", ", front)?;
+        self.add_if(is_varargs & !front.is_empty(), ", ")?;
+        self.add_if(is_varargs, "...")?;
+        self.add(&[Work::Text(") -> ")])?;
+        self.add_each(ret, &[])
+    }
+
+    fn add_fn(&mut self, function: &'a FnType) -> Result<(), AllocError>
+        ensures { OnOk result (Adds self.old (λ s. fn_items s function.now) self.new) }
+    {
+        self.add_binder(&function.binder)?;
+        self.add_if(function.is_unsafe, "unsafe ")?;
+        self.add_extern(&function.abi)?;
+        self.add_signature(function.params.as_slice(), function.is_varargs)
+    }
+
+    fn add_reference(&mut self, reference: &'a RefType) -> Result<(), AllocError>
+        ensures { OnOk result (Adds self.old (λ s. type_items s (of_type.Reference reference.now)) self.new) }
+    {
+        self.add(&[Work::Text("&")])?;
+        self.add_before(&reference.lifetime, " ")?;
+        self.add(&[
+            Work::Text(reference.mutability.as_keyword_for_ref()),
+            Work::Type(reference.ty),
+        ])
+    }
+
+    fn add_bounds(&mut self, keyword: &'a str, bounds: &'a [TypeBound]) -> Result<(), AllocError>
+        ensures { OnOk result (Adds self.old (λ s. text keyword.now ++ bounds_items s bounds.now) self.new) }
+    {
+        self.add(&[Work::Text(keyword)])?;
+        self.add_joined(" + ", bounds)
+    }
+
+    /// Adds what a type is printed as.
+    pub(crate) fn add_type(&mut self, type_ref: &'a TypeRef) -> Result<(), AllocError>
+        ensures { OnOk result (Adds self.old (λ s. type_items s type_ref.now) self.new) }
+    {
+        match type_ref {
+            TypeRef::Never => self.add(&[Work::Text("!")]),
+            TypeRef::Placeholder => self.add(&[Work::Text("_")]),
+            TypeRef::Error => self.add(&[Work::Text("{error}")]),
+            TypeRef::TypeParam(id) => self.add_type_param(*id),
+            TypeRef::Tuple(types) => {
+                self.add(&[Work::Text("(")])?;
+                self.add_joined(", ", types.as_slice())?;
+                self.add(&[Work::Text(")")])
+            }
+            TypeRef::Slice(id) => { self.add(&[Work::Text("["), Work::Type(*id), Work::Text("]")]) }
+            TypeRef::RawPtr(id, mutability) => self.add(&[
+                Work::Text("*"),
+                Work::Text(mutability.as_keyword_for_ptr()),
+                Work::Type(*id),
+            ]),
+            TypeRef::Reference(reference) => self.add_reference(reference.get()),
+            TypeRef::Array(array) => self.add(&[
+                Work::Text("["),
+                Work::Type(array.ty),
+                Work::Text("; "),
+                Work::Under(array.len.expr, ExprPrecedence::Unambiguous),
+                Work::Text("]"),
+            ]),
+            TypeRef::Fn(function) => self.add_fn(function.get()),
+            TypeRef::ImplTrait(bounds) => self.add_bounds("impl ", bounds.as_slice()),
+            TypeRef::DynTrait(bounds) => self.add_bounds("dyn ", bounds.as_slice()),
+            TypeRef::PatternType(id, pat) => self.add(&[
+                Work::Type(*id),
+                Work::Text(" is "),
+                Work::Pattern(*pat),
+            ]),
+            TypeRef::Path(path) => self.add_path(path),
+        }
+    }
+}
