@@ -11,9 +11,9 @@ use Rattle.hir_printer.specs.Answers.{answers}
 use Rattle.hir_printer.specs.Pieces.{NodePiece, text_of}
 use Rattle.hir_printer.specs.Questions.{Setting}
 use Rattle.hir_printer.specs.Settings.{setting}
-use Rattle.hir_printer.specs.Pieces.{printed}
+use Rattle.hir_printer.specs.Pieces.{item_list_pieces}
 use Rattle.hir_pretty.specs.Bodies.{body_items}
-use Rattle.hir_pretty.specs.Found.{parents}
+use Rattle.hir_pretty.specs.FoundParts.{parents}
 
 -- the tables have the name of function 0, or that it has none, and nothing else
 abbrev pub tables_of : Option (List ℕ) → Tables
@@ -25,7 +25,7 @@ printed_from name b = setting b.store (answers (tables_of name)) [] false
 
 abbrev pub body_pieces : Option (List ℕ) → BodyContents → List NodePiece
 body_pieces name b =
-    printed (printed_from name b) (body_items (printed_from name b) (parents (tables_of name))
+    item_list_pieces (printed_from name b) (body_items (printed_from name b) (parents (tables_of name))
     (body.FunctionId 0) b)
 
 -- the text of the body
