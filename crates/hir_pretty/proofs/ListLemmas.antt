@@ -13,14 +13,14 @@ use Rattle.hir_items.specs.declared.formals.Param.{Param}
 use Rattle.hir_items.specs.declared.signatures.FunctionParts.{FunctionParts}
 use Rattle.hir_items.specs.Bodies.{formals_of}
 use Rattle.hir_printer.specs.Questions.{Setting}
-use Rattle.hir_printer.specs.Items.{Item, text, br, into, out, t, p, opt, when, joined, comma_joined}
+use Rattle.hir_printer.specs.Items.{Item, text, br, into, out, t, p, opt, when, join, comma_joined}
 use Rattle.hir_printer.specs.Names.{binding_items}
 use Rattle.hir_printer.specs.Paths.{colons_first}
 use Rattle.hir_printer.specs.Types.{type_param_items}
 use Rattle.hir_printer.specs.Printers.{following}
 use Rattle.hir_printer.proofs.ListLemmas.{drop_item, is_cons, following_append, following_joined}
 use Rattle.hir_printer.proofs.OrderLemmas.{cons_length}
-use Rattle.hir_pretty.specs.Added.{marked_items}
+use Rattle.hir_pretty.specs.AddedItems.{marked_items}
 use Rattle.hir_pretty.specs.Bodies.{formal_params}
 use Rattle.hir_pretty.specs.Signatures.{type_name, argument_items, arguments, function_types, each_lifetime, each_type_or_const, in_angles, each_predicate, where_items}
 use Rattle.hir_pretty.specs.Variants.{kind_word}
@@ -63,9 +63,9 @@ kinds_first s Abs = refl
 kinds_first s (DollarCrate id) = refl
 
 pub module_is : (s : Setting) (kind : PathKind) (names : List (List Item))
-    → joined (text (codes "::")) (kind_word s kind) ++ following (text (codes "::")) (colons_first kind) names ≡ joined (text (codes "::")) (kind_word s kind ++ names)
+    → join (text (codes "::")) (kind_word s kind) ++ following (text (codes "::")) (colons_first kind) names ≡ join (text (codes "::")) (kind_word s kind ++ names)
 module_is s kind names =
-    ap (λ b. joined (text (codes "::")) (kind_word s kind) ++ following (text (codes "::")) b names) (kinds_first s kind) ∙ following_append (text (codes "::")) (kind_word s kind) names
+    ap (λ b. join (text (codes "::")) (kind_word s kind) ++ following (text (codes "::")) b names) (kinds_first s kind) ∙ following_append (text (codes "::")) (kind_word s kind) names
 
 -- the binding of `self`, and the formal patterns
 pub formals_begin : (s : Setting) (self : Option ℕ) (b : Bool) (params : List (Param ℕ)) → b ≡ is_some self

@@ -45,10 +45,10 @@ use Rattle.hir_items.specs.declared.signatures.FunctionParts.{FunctionParts}
 use Rattle.hir_printer.specs.Questions.{Questions, Setting}
 use Rattle.hir_printer.specs.Items.{Item}
 use Rattle.hir_printer.specs.Pieces.{pieces, first_missing, text_of}
-use Rattle.hir_printer.specs.Pieces.{printed}
+use Rattle.hir_printer.specs.Pieces.{item_list_pieces}
 use Rattle.hir_pretty.specs.Bodies.{Parents, body_items}
 use Rattle.hir_pretty.specs.Variants.{variant_items, without_fields}
-use Rattle.hir_pretty.specs.Signatures.{function_items, struct_items, unimplemented}
+use Rattle.hir_pretty.specs.Signatures.{function_items, struct_items, unimplemented_items}
 
 -- constants have no name, statics are `S`, functions `foo`, structs `T`, enums `E`, variants `V`
 abbrev name : NamedDef → Result (Option (List ℕ)) Missing
@@ -108,7 +108,7 @@ abbrev of_enum_0 : Parents
 of_enum_0 id = Ok 0
 
 abbrev body_text : DefWithBodyId → BodyContents → List ℕ
-body_text owner b = let s = setting tables b.store in text_of s (printed s (body_items s of_enum_0 owner b))
+body_text owner b = let s = setting tables b.store in text_of s (item_list_pieces s (body_items s of_enum_0 owner b))
 
 constant : body_text (body.ConstId 0) (only (var (codes "x"))) ≡ codes "const _ = x;"
 unfolding pieces value rank height digits
@@ -131,17 +131,17 @@ unfolding pieces value rank height digits
 method = refl
 
 -- what is missing first: the enum of the variant, and then its name
-no_variant : (let b = only (var (codes "x")) in let s = setting no_tables b.store in first_missing (printed s (body_items s (λ id. Err (missing.Variant id)) (body.VariantId 0) b)))
+no_variant : (let b = only (var (codes "x")) in let s = setting no_tables b.store in first_missing (item_list_pieces s (body_items s (λ id. Err (missing.Variant id)) (body.VariantId 0) b)))
     ≡ Some (missing.Variant 0)
 unfolding pieces value rank height digits
 no_variant = refl
 
-no_enum : (let b = only (var (codes "x")) in let s = setting no_tables b.store in first_missing (printed s (body_items s of_enum_0 (body.VariantId 0) b)))
+no_enum : (let b = only (var (codes "x")) in let s = setting no_tables b.store in first_missing (item_list_pieces s (body_items s of_enum_0 (body.VariantId 0) b)))
     ≡ Some (missing.Name (named.EnumId 0))
 unfolding pieces value rank height digits
 no_enum = refl
 
-fields : (let c = store [] (type_named (codes "u32") ∷ []) [] [] in let s = setting tables c in text_of s (printed s (variant_items s of_enum_0 (variant.StructId 0) (record {
+fields : (let c = store [] (type_named (codes "u32") ∷ []) [] [] in let s = setting tables c in text_of s (item_list_pieces s (variant_items s of_enum_0 (variant.StructId 0) (record {
   shape = shape.Record;
   fields = record { name = codes "a"; type_ref = 0; visibility = visibility.Public; is_unsafe = false; default_value = None } ∷ [];
   store = c;
@@ -149,11 +149,11 @@ fields : (let c = store [] (type_named (codes "u32") ∷ []) [] [] in let s = se
 unfolding pieces value rank height digits
 fields = refl
 
-no_fields : (let s = setting tables (store [] [] [] []) in first_missing (printed s (without_fields s of_enum_0 (variant.StructId 0)))) ≡ Some (missing.Fields (variant.StructId 0))
+no_fields : (let s = setting tables (store [] [] [] []) in first_missing (item_list_pieces s (without_fields s of_enum_0 (variant.StructId 0)))) ≡ Some (missing.Fields (variant.StructId 0))
 unfolding pieces value rank height digits
 no_fields = refl
 
-tuple_struct : (let c = store [] [] [] [] in let s = setting tables c in text_of s (printed s (struct_items s None (record {
+tuple_struct : (let c = store [] [] [] [] in let s = setting tables c in text_of s (item_list_pieces s (struct_items s None (record {
   name = codes "S";
   generic_params = empty;
   store = c;
@@ -182,7 +182,7 @@ abbrev second_param : TypeRef
 second_param = type.TypeParam (record { parent = generic.FunctionId 0; local_id = 1 })
 
 impl_trait : (let c = store [] (second_param ∷ second_param ∷ type_named (codes "Trait") ∷ []) [] [] in let s = setting tables c in
-    text_of s (printed s (function_items s (function c (record {
+    text_of s (item_list_pieces s (function_items s (function c (record {
       type_or_consts = param.TypeParamData (record { name = Some (codes "T"); default = None; provenance = provenance.TypeParamList })
           ∷ param.TypeParamData (record { name = None; default = None; provenance = provenance.ArgumentImplTrait }) ∷ [];
       lifetimes = [];
@@ -192,7 +192,7 @@ unfolding pieces value rank height digits
 impl_trait = refl
 
 flags_and_places : (let c = store [] (type_named (codes "A") ∷ type_named (codes "B") ∷ []) [] [] in let s = setting tables c in
-    text_of s (printed s (function_items s (record (function c empty (0 ∷ 1 ∷ [])) {
+    text_of s (item_list_pieces s (function_items s (record (function c empty (0 ∷ 1 ∷ [])) {
       name = codes "a";
       abi = abi.C;
       is_const = true;
@@ -205,7 +205,7 @@ unfolding pieces value rank height digits
 flags_and_places = refl
 
 all_of_a_struct : (let c = store (expr.Literal (literal.Int (pos 3) None) ∷ []) (type_named (codes "usize") ∷ type.Tuple [] ∷ type_named (codes "T") ∷ type_named (codes "Clone") ∷ []) [] [] in
-    let s = setting tables c in text_of s (printed s (struct_items s (Some (record { c = true; align = Some 8; pack = None })) (record {
+    let s = setting tables c in text_of s (item_list_pieces s (struct_items s (Some (record { c = true; align = Some 8; pack = None })) (record {
       name = codes "S";
       generic_params = record {
         type_or_consts = param.TypeParamData (record { name = Some (codes "T"); default = None; provenance = provenance.TypeParamList })
@@ -221,6 +221,6 @@ all_of_a_struct : (let c = store (expr.Literal (literal.Int (pos 3) None) ∷ []
 unfolding pieces value rank height digits
 all_of_a_struct = refl
 
-of_an_enum : (let s = setting tables (store [] [] [] []) in text_of s (printed s (unimplemented (codes "EnumId") 5))) ≡ codes "unimplemented EnumId(5)"
+of_an_enum : (let s = setting tables (store [] [] [] []) in text_of s (item_list_pieces s (unimplemented_items (codes "EnumId") 5))) ≡ codes "unimplemented EnumId(5)"
 unfolding pieces digits
 of_an_enum = refl

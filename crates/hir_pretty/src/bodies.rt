@@ -8,11 +8,11 @@ ghost use Rattle.hir_printer.specs.Settings.{setting};
 ghost use Rattle.hir_printer.specs.Items.{opt, comma_joined};
 ghost use Rattle.hir_printer.specs.Names.{binding_items};
 ghost use Rattle.hir_printer.specs.Answers.{answers};
-ghost use Rattle.hir_printer.specs.Printed.{PrintsPieces};
-ghost use Rattle.hir_printer.specs.Pieces.{printed};
+ghost use Rattle.hir_printer.specs.PrintAnswers.{PrintsPieces};
+ghost use Rattle.hir_printer.specs.Pieces.{item_list_pieces};
 ghost use Rattle.hir_printer.specs.Printers.{Adds};
 ghost use Rattle.hir_pretty.specs.Bodies.{formal_self, formal_params, body_params, body_end, body_items};
-ghost use Rattle.hir_pretty.specs.Found.{parents};
+ghost use Rattle.hir_pretty.specs.FoundParts.{parents};
 
 use crate::heads::add_body_head;
 use hir_base::{DefWithBodyId, Edition};
@@ -120,7 +120,7 @@ pub fn print_body_hir(
     edition: Edition,
 ) -> Result<String, PrintFault>
     ensures { let s = setting body.now.store (answers tables.now) (words_of tables.now.words edition) false in
-        PrintsPieces s (printed s (body_items s (parents tables.now) owner body.now)) result }
+        PrintsPieces s (item_list_pieces s (body_items s (parents tables.now) owner body.now)) result }
 {
     let mut printer = Printer::new(alloc, body.store(), tables, edition, false);
     add_body(&mut printer, tables, body, &owner)?;

@@ -8,10 +8,10 @@ ghost use Rattle.hir_base.specs.RawWords.{words_of};
 ghost use Rattle.hir_printer.specs.Settings.{setting};
 ghost use Rattle.hir_printer.specs.Items.{text, comma_joined};
 ghost use Rattle.hir_printer.specs.Answers.{answers};
-ghost use Rattle.hir_printer.specs.Printed.{PrintsPieces};
-ghost use Rattle.hir_printer.specs.Pieces.{printed};
+ghost use Rattle.hir_printer.specs.PrintAnswers.{PrintsPieces};
+ghost use Rattle.hir_printer.specs.Pieces.{item_list_pieces};
 ghost use Rattle.hir_printer.specs.Printers.{Adds};
-ghost use Rattle.hir_pretty.specs.Added.{marked_items};
+ghost use Rattle.hir_pretty.specs.AddedItems.{marked_items};
 ghost use Rattle.hir_pretty.specs.Signatures.{abi_items, arguments, flags, function_front, function_types, function_items};
 
 use crate::generics::{add_generics, add_where};
@@ -45,7 +45,8 @@ fn add_abi<'a>(printer: &mut Printer<'a>, abi: &'a ExternAbi) -> Result<(), Allo
 /// Says for each of this many places whether it is listed.
 fn marks_of(alloc: Global, places: &[u32], count: usize) -> Result<Vec<bool>, AllocError>
     ensures length { IfOk result (λ marks. length marks.items ≡ count) }
-    ensures marks { IfOk result (λ marks. (i : ℕ) → i < count → get_or marks.items i false ≡ list_any (λ place. place == i) places.now) }
+    ensures marks { IfOk result (λ marks. (i : ℕ) → i < count
+        → get_or marks.items i false ≡ list_any (λ place. place == i) places.now) }
 {
     let mut marks = vec![in alloc; false; count]?;
     for place in places {
@@ -163,8 +164,9 @@ pub fn print_function(
     signature: &FunctionSignature,
     edition: Edition,
 ) -> Result<String, PrintFault>
-    ensures { let s = setting signature.now.store (answers tables.now) (words_of tables.now.words edition) false in
-        PrintsPieces s (printed s (function_items s signature.now)) result }
+    ensures { let s = setting signature.now.store (answers tables.now)
+        (words_of tables.now.words edition) false in
+        PrintsPieces s (item_list_pieces s (function_items s signature.now)) result }
 {
     let mut printer = Printer::new(alloc, signature.store(), tables, edition, false);
     add_function(&mut printer, alloc, signature)?;

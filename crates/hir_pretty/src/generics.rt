@@ -30,7 +30,8 @@ fn add_type<'a>(
 }
 
 fn add_default(printer: &mut Printer<'_>, default: Option<ConstRef>) -> Result<(), AllocError>
-    ensures { OnOk result (Adds printer.old (λ s. opt (λ d. text (codes " = ") ++ e d.expr) default) printer.new) }
+    ensures { OnOk result (Adds printer.old (λ s. opt (λ d. text (codes " = ") ++ e d.expr) default)
+        printer.new) }
 {
     match default {
         None => Ok(()),
@@ -90,7 +91,8 @@ fn add_types_and_consts<'a>(
     first: bool,
 ) -> Result<(), AllocError>
     ensures { OnOk result (Adds printer.old
-        (λ s. following (text (codes ", ")) first (each_type_or_const s (enumerate_from 0 params.now.type_or_consts))) printer.new) }
+        (λ s. following (text (codes ", ")) first
+        (each_type_or_const s (enumerate_from 0 params.now.type_or_consts))) printer.new) }
 {
     let mut after = first;
     for (at, param) in params.iter_type_or_consts() {

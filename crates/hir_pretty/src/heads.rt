@@ -7,12 +7,12 @@ ghost use Rattle.hir_printer.specs.Paths.{found_name};
 ghost use Rattle.hir_printer.specs.Answers.{answers};
 ghost use Rattle.hir_expr_store.specs.Contents.{Contents};
 ghost use Rattle.hir_printer.specs.Settings.{setting};
-ghost use Rattle.hir_printer.specs.Pieces.{printed, first_missing};
+ghost use Rattle.hir_printer.specs.Pieces.{item_list_pieces, first_missing};
 ghost use Rattle.hir_printer.specs.Printers.{Adds};
-ghost use Rattle.hir_pretty.specs.Added.{error_of};
+ghost use Rattle.hir_pretty.specs.AddedItems.{error_of};
 ghost use Rattle.hir_pretty.specs.Bodies.{variant_name, body_head, of_enum};
 ghost use Rattle.hir_pretty.specs.Variants.{variant_head};
-ghost use Rattle.hir_pretty.specs.Found.{parents};
+ghost use Rattle.hir_pretty.specs.FoundParts.{parents};
 
 use hir_base::{DefWithBodyId, EnumId, EnumVariantId, NamedDef, VariantId};
 use hir_defs::Tables;
@@ -85,7 +85,8 @@ pub(crate) fn add_variant_head(
     tables: &Tables,
     owner: &VariantId,
 ) -> Result<(), AllocError>
-    ensures { OnOk result (Adds printer.old (λ s. variant_head s (parents tables.now) owner.now) printer.new) }
+    ensures { OnOk result (Adds printer.old (λ s. variant_head s (parents tables.now) owner.now)
+        printer.new) }
 {
     match owner {
         VariantId::EnumVariantId(id) => add_variant_name(printer, tables, *id),
@@ -96,8 +97,9 @@ pub(crate) fn add_variant_head(
 
 /// The first that is missing among what a variant begins with: the enum of a variant, and then the names.
 pub(crate) fn missing_in_head(tables: &Tables, owner: &VariantId) -> Option<Missing>
-    ensures { (store : Contents) (words : List (List ℕ)) (one_line : Bool) → let s = setting store (answers tables.now) words one_line in
-        result ≡ first_missing (printed s (variant_head s (parents tables.now) owner.now)) }
+    ensures { (store : Contents) (words : List (List ℕ)) (one_line : Bool)
+        → let s = setting store (answers tables.now) words one_line in
+        result ≡ first_missing (item_list_pieces s (variant_head s (parents tables.now) owner.now)) }
 {
     match owner {
         VariantId::EnumVariantId(id) => missing_in_variant(tables, *id),
@@ -117,8 +119,9 @@ fn missing_name(tables: &Tables, def: NamedDef) -> Option<Missing>
 }
 
 fn missing_in_names(tables: &Tables, id: EnumVariantId, parent: EnumId) -> Option<Missing>
-    ensures { (store : Contents) (words : List (List ℕ)) (one_line : Bool) → let s = setting store (answers tables.now) words one_line in
-        result ≡ first_missing (printed s (of_enum s id (Ok parent))) }
+    ensures { (store : Contents) (words : List (List ℕ)) (one_line : Bool)
+        → let s = setting store (answers tables.now) words one_line in
+        result ≡ first_missing (item_list_pieces s (of_enum s id (Ok parent))) }
 {
     match missing_name(tables, NamedDef::EnumId(parent)) {
         Some(missing) => Some(missing),
@@ -127,8 +130,9 @@ fn missing_in_names(tables: &Tables, id: EnumVariantId, parent: EnumId) -> Optio
 }
 
 fn missing_in_variant(tables: &Tables, id: EnumVariantId) -> Option<Missing>
-    ensures { (store : Contents) (words : List (List ℕ)) (one_line : Bool) → let s = setting store (answers tables.now) words one_line in
-        result ≡ first_missing (printed s (variant_name s (parents tables.now) id)) }
+    ensures { (store : Contents) (words : List (List ℕ)) (one_line : Bool)
+        → let s = setting store (answers tables.now) words one_line in
+        result ≡ first_missing (item_list_pieces s (variant_name s (parents tables.now) id)) }
 {
     match tables.variant_parent(id) {
         Ok(parent) => missing_in_names(tables, id, parent),

@@ -6,7 +6,7 @@ ghost use Rattle.hir_node.specs.declared.node_id.NodeId.TheVariants as node;
 ghost use Rattle.hir_faults.specs.Fits.{path_fits};
 ghost use Rattle.hir_printer.specs.Settings.{setting};
 ghost use Rattle.hir_printer.specs.Pieces.{pieces, path_pieces};
-ghost use Rattle.hir_printer.specs.Printed.{PrintsPieces};
+ghost use Rattle.hir_printer.specs.PrintAnswers.{PrintsPieces};
 ghost use Rattle.hir_printer.specs.Answers.{answers};
 
 use hir_base::{Edition, ExpressionStoreOwnerId};

@@ -5,11 +5,11 @@ ghost use Rattle.hir_base.specs.RawWords.{words_of};
 ghost use Rattle.hir_node.specs.declared.node_id.NodeId.TheVariants as node;
 ghost use Rattle.hir_items.specs.Bodies.{BodyContents};
 ghost use Rattle.hir_printer.specs.Settings.{setting};
-ghost use Rattle.hir_printer.specs.Pieces.{pieces, printed};
+ghost use Rattle.hir_printer.specs.Pieces.{pieces, item_list_pieces};
 ghost use Rattle.hir_printer.specs.Answers.{answers};
-ghost use Rattle.hir_printer.specs.Printed.{PrintsPieces};
+ghost use Rattle.hir_printer.specs.PrintAnswers.{PrintsPieces};
 ghost use Rattle.hir_pretty.specs.Bodies.{body_items};
-ghost use Rattle.hir_pretty.specs.Found.{parents};
+ghost use Rattle.hir_pretty.specs.FoundParts.{parents};
 
 use crate::bodies::print_body_hir;
 use crate::nodes::{print_expr_hir, print_pat_hir};
@@ -34,7 +34,7 @@ pub trait PrettyBody {
     ) -> Result<String, PrintFault>
         ensures { let b = contents self.now in
             let s = setting b.store (answers tables.now) (words_of tables.now.words edition) false in
-            PrintsPieces s (printed s (body_items s (parents tables.now) owner b)) result };
+            PrintsPieces s (item_list_pieces s (body_items s (parents tables.now) owner b)) result };
 
     /// The text of an expression of the body, as `print_expr_hir` gives it. The expression has to be there: `has_expr` of the store
     /// tests it.
@@ -47,7 +47,8 @@ pub trait PrettyBody {
         edition: Edition,
     ) -> Result<String, PrintFault>
         requires { expr < length (contents self.now).store.nodes.exprs }
-        ensures { let s = setting (contents self.now).store (answers tables.now) (words_of tables.now.words edition) false in
+        ensures { let s = setting (contents self.now).store (answers tables.now)
+            (words_of tables.now.words edition) false in
             PrintsPieces s (pieces s (node.Expr expr)) result };
 
     /// The text of a pattern of the body, as `print_pat_hir` gives it. The pattern has to be there: `has_pat` of the store tests it.
@@ -61,7 +62,8 @@ pub trait PrettyBody {
         edition: Edition,
     ) -> Result<String, PrintFault>
         requires { pat < length (contents self.now).store.nodes.pats }
-        ensures { let s = setting (contents self.now).store (answers tables.now) (words_of tables.now.words edition) oneline in
+        ensures { let s = setting (contents self.now).store (answers tables.now)
+            (words_of tables.now.words edition) oneline in
             PrintsPieces s (pieces s (node.Pat pat)) result };
 }
 

@@ -8,8 +8,8 @@ ghost use Rattle.hir_base.specs.RawWords.{words_of};
 ghost use Rattle.hir_printer.specs.Settings.{setting};
 ghost use Rattle.hir_printer.specs.Items.{text, br, opt, when};
 ghost use Rattle.hir_printer.specs.Answers.{answers};
-ghost use Rattle.hir_printer.specs.Printed.{PrintsPieces};
-ghost use Rattle.hir_printer.specs.Pieces.{printed};
+ghost use Rattle.hir_printer.specs.PrintAnswers.{PrintsPieces};
+ghost use Rattle.hir_printer.specs.Pieces.{item_list_pieces};
 ghost use Rattle.hir_printer.specs.Printers.{Adds};
 ghost use Rattle.hir_pretty.specs.Signatures.{repr_items, shape_begin, shape_end, struct_front, struct_items};
 
@@ -127,8 +127,10 @@ pub fn print_struct(
     signature: &StructSignature,
     edition: Edition,
 ) -> Result<String, PrintFault>
-    ensures { let s = setting signature.now.store (answers tables.now) (words_of tables.now.words edition) false in
-        PrintsPieces s (printed s (struct_items s (map.get tables.now.reprs (id ∷ [])) signature.now)) result }
+    ensures { let s = setting signature.now.store (answers tables.now)
+        (words_of tables.now.words edition) false in
+        PrintsPieces s (item_list_pieces s (struct_items s
+        (map.get tables.now.reprs (id ∷ [])) signature.now)) result }
 {
     let mut printer = Printer::new(alloc, signature.store(), tables, edition, false);
     add_struct(&mut printer, tables.repr(id), signature)?;

@@ -5,13 +5,13 @@ ghost use Rattle.std.specs.Prelude.{◌≡◌, OnOk, codes, false, IfSome, IfOk,
 ghost use Rattle.hir_base.specs.RawWords.{words_of};
 ghost use Rattle.hir_expr_store.specs.Contents.{Contents};
 ghost use Rattle.hir_printer.specs.Settings.{setting};
-ghost use Rattle.hir_printer.specs.Items.{text, joined};
+ghost use Rattle.hir_printer.specs.Items.{text, join};
 ghost use Rattle.hir_printer.specs.Answers.{answers};
-ghost use Rattle.hir_printer.specs.Printed.{PrintsPieces};
-ghost use Rattle.hir_printer.specs.Pieces.{printed};
+ghost use Rattle.hir_printer.specs.PrintAnswers.{PrintsPieces};
+ghost use Rattle.hir_printer.specs.Pieces.{item_list_pieces};
 ghost use Rattle.hir_printer.specs.Printers.{Adds};
 ghost use Rattle.hir_pretty.specs.Variants.{LacksFields, kind_word, module_items, visibility_items, field_line, fields_begin, fields_end, fields_items, variant_items, without_fields};
-ghost use Rattle.hir_pretty.specs.Found.{parents, fields_found};
+ghost use Rattle.hir_pretty.specs.FoundParts.{parents, fields_found};
 
 use crate::heads::{add_variant_head, missing_in_head};
 use hir_base::{Edition, ModPath, PathKind, VariantId};
@@ -22,7 +22,7 @@ use std::alloc::{AllocError, Global};
 
 /// Adds what the path of a module begins with.
 fn add_kind(printer: &mut Printer<'_>, kind: PathKind) -> Result<(), AllocError>
-    ensures { OnOk result (Adds printer.old (λ s. joined (text (codes "::")) (kind_word s kind)) printer.new) }
+    ensures { OnOk result (Adds printer.old (λ s. join (text (codes "::")) (kind_word s kind)) printer.new) }
 {
     match kind {
         PathKind::Plain | PathKind::Abs => Ok(()),
@@ -129,8 +129,10 @@ fn print_fields(
     fields: &VariantFields,
     edition: Edition,
 ) -> Result<String, PrintFault>
-    ensures { let s = setting fields.now.store (answers tables.now) (words_of tables.now.words edition) false in
-        PrintsPieces s (printed s (variant_items s (parents tables.now) owner.now fields.now)) result }
+    ensures { let s = setting fields.now.store (answers tables.now)
+        (words_of tables.now.words edition) false in
+        PrintsPieces s (item_list_pieces s (variant_items s (parents tables.now) owner.now fields.now))
+        result }
 {
     let mut printer = Printer::new(alloc, fields.store(), tables, edition, false);
     add_variant(&mut printer, tables, owner, fields)?;
@@ -140,7 +142,8 @@ fn print_fields(
 /// The fields that the tables have, or the first that is missing: in the head, or the fields.
 fn fields_of<'a>(tables: &'a Tables, owner: &VariantId) -> Result<&'a VariantFields, Missing>
     ensures found { IfOk result (λ fields. fields_found tables.now owner.now ≡ Some fields.now) }
-    ensures absent { IfErr result (λ missing. (fields_found tables.now owner.now ≡ None) × LacksFields (answers tables.now) (parents tables.now) owner.now missing) }
+    ensures absent { IfErr result (λ missing. (fields_found tables.now owner.now ≡ None)
+        × LacksFields (answers tables.now) (parents tables.now) owner.now missing) }
 {
     match tables.variant_fields(*owner) {
         Ok(fields) => Ok(fields),
@@ -164,10 +167,10 @@ pub fn print_variant_body_hir(
 ) -> Result<String, PrintFault>
     ensures found { IfSome (fields_found tables.now variant) (λ fields.
         let s = setting fields.store (answers tables.now) (words_of tables.now.words edition) false in
-        PrintsPieces s (printed s (variant_items s (parents tables.now) variant fields)) result) }
+        PrintsPieces s (item_list_pieces s (variant_items s (parents tables.now) variant fields)) result) }
     ensures absent { fields_found tables.now variant ≡ None → (store : Contents) →
         let s = setting store (answers tables.now) (words_of tables.now.words edition) false in
-        PrintsPieces s (printed s (without_fields s (parents tables.now) variant)) result }
+        PrintsPieces s (item_list_pieces s (without_fields s (parents tables.now) variant)) result }
 {
     match fields_of(tables, &variant) {
         Ok(fields) => print_fields(alloc, tables, &variant, fields, edition),

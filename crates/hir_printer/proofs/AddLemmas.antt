@@ -9,10 +9,10 @@ use Rattle.hir_page.specs.Page.{Page}
 use Rattle.hir_printer.specs.declared.work.Work.{Work}
 use Rattle.hir_printer.specs.Questions.{Setting}
 use Rattle.hir_printer.specs.Items.{Item, opt}
-use Rattle.hir_printer.specs.Pieces.{printed}
+use Rattle.hir_printer.specs.Pieces.{item_list_pieces}
 use Rattle.hir_printer.specs.Weights.{total, item_weight, weight, heft}
 use Rattle.hir_printer.specs.Printing.{Printing}
-use Rattle.hir_printer.specs.Printers.{stands_for, meant, stood, stood_after, printing, Leads, AddsItems, AddsList}
+use Rattle.hir_printer.specs.Printers.{stands_for, items_of_works, items_one_by_one, stood_after, printing, Leads, AddsItems, AddsList}
 
 pub total-append : {X : Type 0} (f : X → ℕ) (xs ys : List X) → total f (xs ++ ys) ≡ total f xs + total f ys
 total-append f [] ys = omega arith
@@ -21,22 +21,22 @@ total-append f (x ∷ xs) ys = omega (arith, total-append f xs ys)
 pub heft-append : (s : Setting) (xs ys : List Item) → heft s (xs ++ ys) ≡ heft s xs + heft s ys
 heft-append s xs ys = total-append (item_weight (weight s)) xs ys
 
-stood_is-after : (s : Setting) (is : List Item) (works : List Work) → is ++ meant s works ≡ stood_after s is works
+stood_is-after : (s : Setting) (is : List Item) (works : List Work) → is ++ items_of_works s works ≡ stood_after s is works
 stood_is-after s is [] = append-nil is
-stood_is-after s is (w ∷ ws) = sym (append_assoc is (stands_for s w) (meant s ws)) ∙ stood_is-after s (is ++ stands_for s w) ws
+stood_is-after s is (w ∷ ws) = sym (append_assoc is (stands_for s w) (items_of_works s ws)) ∙ stood_is-after s (is ++ stands_for s w) ws
 
-pub stood_is : (s : Setting) (works : List Work) → meant s works ≡ stood s works
+pub stood_is : (s : Setting) (works : List Work) → items_of_works s works ≡ items_one_by_one s works
 stood_is s [] = refl
 stood_is s (w ∷ ws) = stood_is-after s (stands_for s w) ws
 
-pub meant-append : (s : Setting) (xs ys : List Work) → meant s (xs ++ ys) ≡ meant s xs ++ meant s ys
+pub meant-append : (s : Setting) (xs ys : List Work) → items_of_works s (xs ++ ys) ≡ items_of_works s xs ++ items_of_works s ys
 meant-append s xs ys = flat_map-append (stands_for s) xs ys
 
 -- one more of a list
-pub meant_more : (s : Setting) (ws : List Work) (i : ℕ) (w : Work) → i < length ws → w ≡ get_or ws i w → meant s (take i ws) ++ stands_for s w ≡ meant s (take (i + 1) ws)
+pub meant_more : (s : Setting) (ws : List Work) (i : ℕ) (w : Work) → i < length ws → w ≡ get_or ws i w → items_of_works s (take i ws) ++ stands_for s w ≡ items_of_works s (take (i + 1) ws)
 meant_more s ws i w h e =
-    ap (λ is. meant s (take i ws) ++ is) (sym (append-nil (stands_for s w))) ∙ sym (meant-append s (take i ws) (w ∷ []))
-    ∙ ap (meant s) (ap (λ x. take i ws ++ (x ∷ [])) e ∙ sym (take_more ws i w h))
+    ap (λ is. items_of_works s (take i ws) ++ is) (sym (append-nil (stands_for s w))) ∙ sym (meant-append s (take i ws) (w ∷ []))
+    ∙ ap (items_of_works s) (ap (λ x. take i ws ++ (x ∷ [])) e ∙ sym (take_more ws i w h))
 
 -- 1. What comes to the same
 
@@ -45,19 +45,19 @@ leads_then a b = record { leads = λ more. a.leads more ∙ b.leads more }
 
 pub leads_behind : {s : Setting} {u v : Page} {is js : List Item} (ks : List Item) → Leads s u is v js → Leads s u (is ++ ks) v (js ++ ks)
 leads_behind {s} {u} {v} {is} {js} ks a = record {
-  leads = λ more. ap (λ xs. printing u (printed s xs)) (append_assoc is ks more) ∙ a.leads (ks ++ more) ∙ ap (λ xs. printing v (printed s xs)) (sym (append_assoc js ks more));
+  leads = λ more. ap (λ xs. printing u (item_list_pieces s xs)) (append_assoc is ks more) ∙ a.leads (ks ++ more) ∙ ap (λ xs. printing v (item_list_pieces s xs)) (sym (append_assoc js ks more));
 }
 
 -- the same items on the same page
 pub leads_as : {s : Setting} {u : Page} {is js : List Item} → is ≡ js → Leads s u is u js
-leads_as {s} {u} e = record { leads = λ more. ap (λ xs. printing u (printed s (xs ++ more))) e }
+leads_as {s} {u} e = record { leads = λ more. ap (λ xs. printing u (item_list_pieces s (xs ++ more))) e }
 
 -- 2. Items that were added
 
 -- nothing
 pub adds_none : {old : Printing} {items : Setting → List Item} → ((s : Setting) → [] ≡ items s) → AddsItems old items old
 adds_none {old} {items} e =
-    let same : meant old.from old.kept ++ items old.from ≡ meant old.from old.kept = ap (λ is. meant old.from old.kept ++ is) (sym (e old.from)) ∙ append-nil (meant old.from old.kept) in
+    let same : items_of_works old.from old.kept ++ items old.from ≡ items_of_works old.from old.kept = ap (λ is. items_of_works old.from old.kept ++ is) (sym (e old.from)) ∙ append-nil (items_of_works old.from old.kept) in
     record {
       same = refl;
       leads = leads_as same;
@@ -68,17 +68,17 @@ adds_none {old} {items} e =
 pub adds_then : {old between new : Printing} {f g : Setting → List Item} → AddsItems old f between → AddsItems between g new → AddsItems old (λ s. f s ++ g s) new
 adds_then {old} {between} {new} {f} {g} a b =
     let s = old.from in
-    let kept = meant s old.kept in
+    let kept = items_of_works s old.kept in
     let from : between.from ≡ s = ap (λ (p : Printing). p.from) a.same in
-    let b_leads : Leads s between.page (meant s between.kept ++ g s) new.page (meant s new.kept)
-    = subst (λ t. Leads t between.page (meant t between.kept ++ g t) new.page (meant t new.kept)) from b.leads in
-    let b_less : heft s (meant s new.kept) ≤ heft s (meant s between.kept ++ g s)
-    = subst (λ t. heft t (meant t new.kept) ≤ heft t (meant t between.kept ++ g t)) from b.less in
+    let b_leads : Leads s between.page (items_of_works s between.kept ++ g s) new.page (items_of_works s new.kept)
+    = subst (λ t. Leads t between.page (items_of_works t between.kept ++ g t) new.page (items_of_works t new.kept)) from b.leads in
+    let b_less : heft s (items_of_works s new.kept) ≤ heft s (items_of_works s between.kept ++ g s)
+    = subst (λ t. heft t (items_of_works t new.kept) ≤ heft t (items_of_works t between.kept ++ g t)) from b.less in
     record {
       same = b.same ∙ ap (λ (p : Printing). record p { kept = new.kept; page = new.page }) a.same;
       leads = leads_then (leads_as (sym (append_assoc kept (f s) (g s)))) (leads_then (leads_behind (g s) a.leads) b_leads);
       less =
-          let h = a.less in let k = heft-append s (meant s between.kept) (g s) in let l = heft-append s (kept ++ f s) (g s) in
+          let h = a.less in let k = heft-append s (items_of_works s between.kept) (g s) in let l = heft-append s (kept ++ f s) (g s) in
           let m = ap (heft s) (append_assoc kept (f s) (g s)) in omega arith;
     }
 
@@ -86,15 +86,15 @@ adds_then {old} {between} {new} {f} {g} a b =
 pub adds_here : {old new : Printing} {f g : Setting → List Item} → AddsItems old f new → f old.from ≡ g old.from → AddsItems old g new
 adds_here {old} {new} {f} {g} a e = record {
   same = a.same;
-  leads = leads_then (leads_as (ap (λ is. meant old.from old.kept ++ is) (sym e))) a.leads;
-  less = let h = a.less in let k = ap (λ is. heft old.from (meant old.from old.kept ++ is)) e in omega arith;
+  leads = leads_then (leads_as (ap (λ is. items_of_works old.from old.kept ++ is) (sym e))) a.leads;
+  less = let h = a.less in let k = ap (λ is. heft old.from (items_of_works old.from old.kept ++ is)) e in omega arith;
 }
 
 pub adds_as : {old new : Printing} {f g : Setting → List Item} → AddsItems old f new → ((s : Setting) → f s ≡ g s) → AddsItems old g new
 adds_as {old} a e = adds_here a (e old.from)
 
 -- works that stand for the items, and works behind others
-pub adds : {works : List Work} {old new : Printing} {is : Setting → List Item} → AddsList old works new → ((s : Setting) → stood s works ≡ is s) → AddsItems old is new
+pub adds : {works : List Work} {old new : Printing} {is : Setting → List Item} → AddsList old works new → ((s : Setting) → items_one_by_one s works ≡ is s) → AddsItems old is new
 adds a e = adds_as a.adds e
 
 pub adds_more : {works : List Work} {old between new : Printing} {f : Setting → List Item} → AddsItems old f between → AddsList between works new
@@ -104,26 +104,26 @@ adds_more {works} {f = f} a b = adds_as (adds_then a b.adds) (λ s. ap (λ is. f
 -- 3. Loops
 
 -- Items were added, and with those of the rest they are all.
-pub record Left (old : Printing) (all : Setting → List Item) (now : Printing) (rest : Setting → List Item) : Type 0 where
+pub record AddsRest (old : Printing) (all : Setting → List Item) (now : Printing) (rest : Setting → List Item) : Type 0 where
   pub done : Setting → List Item
   pub adds : AddsItems old done now
   pub same : (s : Setting) → done s ++ rest s ≡ all s
 
-pub left_begins : {old : Printing} {all rest : Setting → List Item} → ((s : Setting) → rest s ≡ all s) → Left old all old rest
+pub left_begins : {old : Printing} {all rest : Setting → List Item} → ((s : Setting) → rest s ≡ all s) → AddsRest old all old rest
 left_begins e = record { done = λ s. []; adds = adds_none (λ s. refl); same = e }
 
-pub left_begins_at : {old now : Printing} {all rest : Setting → List Item} → now ≡ old → ((s : Setting) → rest s ≡ all s) → Left old all now rest
-left_begins_at {old} {now} {all} {rest} h e = subst (λ p. Left old all p rest) (sym h) (left_begins e)
+pub left_begins_at : {old now : Printing} {all rest : Setting → List Item} → now ≡ old → ((s : Setting) → rest s ≡ all s) → AddsRest old all now rest
+left_begins_at {old} {now} {all} {rest} h e = subst (λ p. AddsRest old all p rest) (sym h) (left_begins e)
 
-pub left_goes_on : {old between new : Printing} {all rest is more : Setting → List Item} → Left old all between rest → AddsItems between is new
-    → ((s : Setting) → is s ++ more s ≡ rest s) → Left old all new more
+pub left_goes_on : {old between new : Printing} {all rest is more : Setting → List Item} → AddsRest old all between rest → AddsItems between is new
+    → ((s : Setting) → is s ++ more s ≡ rest s) → AddsRest old all new more
 left_goes_on {is = is} {more = more} l a e = record {
   done = λ s. l.done s ++ is s;
   adds = adds_then l.adds a;
   same = λ s. append_assoc (l.done s) (is s) (more s) ∙ ap (λ xs. l.done s ++ xs) (e s) ∙ l.same s;
 }
 
-pub left_ends : {old now : Printing} {all rest : Setting → List Item} → Left old all now rest → ((s : Setting) → [] ≡ rest s) → AddsItems old all now
+pub left_ends : {old now : Printing} {all rest : Setting → List Item} → AddsRest old all now rest → ((s : Setting) → [] ≡ rest s) → AddsItems old all now
 left_ends l e = adds_as l.adds (λ s. sym (append-nil (l.done s)) ∙ ap (λ xs. l.done s ++ xs) (e s) ∙ l.same s)
 
 -- 4. What is found in a store, and what isn't
@@ -132,14 +132,14 @@ pub adds_found : {X : Type 0} {old new : Printing} (items : Setting → X → Li
     → AddsItems old (λ s. opt (items s) (found s)) new
 adds_found {X} {old} {new} items found x e a = record {
   same = a.same;
-  leads = leads_then (leads_as (ap (λ o. meant old.from old.kept ++ opt (items old.from) o) e)) a.leads;
-  less = let h = a.less in let k = ap (λ o. heft old.from (meant old.from old.kept ++ opt (items old.from) o)) e in omega arith;
+  leads = leads_then (leads_as (ap (λ o. items_of_works old.from old.kept ++ opt (items old.from) o) e)) a.leads;
+  less = let h = a.less in let k = ap (λ o. heft old.from (items_of_works old.from old.kept ++ opt (items old.from) o)) e in omega arith;
 }
 
 pub adds_absent : {X : Type 0} {old : Printing} (items : Setting → X → List Item) (found : Setting → Option X) → found old.from ≡ None → AddsItems old (λ s. opt (items s) (found s)) old
 adds_absent {X} {old} items found e =
-    let same : meant old.from old.kept ++ opt (items old.from) (found old.from) ≡ meant old.from old.kept
-    = ap (λ o. meant old.from old.kept ++ opt (items old.from) o) e ∙ append-nil (meant old.from old.kept) in
+    let same : items_of_works old.from old.kept ++ opt (items old.from) (found old.from) ≡ items_of_works old.from old.kept
+    = ap (λ o. items_of_works old.from old.kept ++ opt (items old.from) o) e ∙ append-nil (items_of_works old.from old.kept) in
     record {
       same = refl;
       leads = leads_as same;

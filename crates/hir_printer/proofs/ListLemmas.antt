@@ -2,7 +2,7 @@
 use Rattle.std.proofs.Common.{◌≡◌, ℕ, ◌+◌, ◌-◌, ◌<◌, ◌≤◌, Bool, true, false, List, [], ◌∷◌, ◌++◌, length, map, take, drop, get_or, arith, refl, sym, ap, ap₂, ◌∙◌, append_assoc, append-nil, add-one, drop-cons}
 use Rattle.std.proofs.lemmas.List.{take_all, drop_all}
 use Rattle.std.specs.List.{flat_map}
-use Rattle.hir_printer.specs.Items.{Item, when, joined}
+use Rattle.hir_printer.specs.Items.{Item, when, join}
 use Rattle.hir_printer.specs.Printers.{following}
 
 -- 1. The next member of a list
@@ -24,12 +24,12 @@ following_step sep f after xs i x h e = sym (ap (λ ys. following sep after (map
 pub following_ends : {X : Type 0} (sep : List Item) (f : X → List Item) (after : Bool) (xs : List X) (i : ℕ) → length xs ≤ i → [] ≡ following sep after (map f (drop i xs))
 following_ends sep f after xs i h = sym (ap (λ ys. following sep after (map f ys)) (drop_all i xs h))
 
-following_is : (sep x : List Item) (ys : List (List Item)) → x ++ following sep true ys ≡ joined sep (x ∷ ys)
+following_is : (sep x : List Item) (ys : List (List Item)) → x ++ following sep true ys ≡ join sep (x ∷ ys)
 following_is sep x [] = append-nil x
 following_is sep x (y ∷ ys) =
-    ap (λ zs. x ++ zs) (append_assoc sep y (following sep true ys)) ∙ ap (λ zs. x ++ (sep ++ zs)) (following_is sep y ys) ∙ sym (append_assoc x sep (joined sep (y ∷ ys)))
+    ap (λ zs. x ++ zs) (append_assoc sep y (following sep true ys)) ∙ ap (λ zs. x ++ (sep ++ zs)) (following_is sep y ys) ∙ sym (append_assoc x sep (join sep (y ∷ ys)))
 
-pub following_joined : (sep : List Item) (xs : List (List Item)) → following sep false xs ≡ joined sep xs
+pub following_joined : (sep : List Item) (xs : List (List Item)) → following sep false xs ≡ join sep xs
 following_joined sep [] = refl
 following_joined sep (x ∷ xs) = following_is sep x xs
 
@@ -42,7 +42,7 @@ true_behind : (sep : List Item) (xs ys : List (List Item)) → following sep tru
 true_behind sep [] ys = refl
 true_behind sep (x ∷ xs) ys = append_assoc (sep ++ x) (following sep true xs) (following sep true ys) ∙ ap (λ zs. (sep ++ x) ++ zs) (true_behind sep xs ys)
 
-pub following_append : (sep : List Item) (xs ys : List (List Item)) → joined sep xs ++ following sep (is_cons xs) ys ≡ joined sep (xs ++ ys)
+pub following_append : (sep : List Item) (xs ys : List (List Item)) → join sep xs ++ following sep (is_cons xs) ys ≡ join sep (xs ++ ys)
 following_append sep [] ys = following_joined sep ys
 following_append sep (x ∷ xs) ys =
     ap (λ zs. zs ++ following sep true ys) (sym (following_is sep x xs)) ∙ append_assoc x (following sep true xs) (following sep true ys)

@@ -10,9 +10,9 @@ use Rattle.hir_printer.specs.Names.{is_word, raw_parts, name_parts, behind, prin
 -- 1. Parts
 
 -- a name that doesn't begin with a quote
-pub unquoted : (words : List (List ℕ)) (name : List ℕ) → ((rest : List ℕ) → name ≢ 39 ∷ rest) → name_parts words name ≡ raw_parts words name
-unquoted words [] h = refl
-unquoted words (c ∷ cs) h = other (c == 39) (λ e. h cs (ap (λ d. d ∷ cs) ((Decides-eqb c 39).0 e))) where
+pub no_quote : (words : List (List ℕ)) (name : List ℕ) → ((rest : List ℕ) → name ≢ 39 ∷ rest) → name_parts words name ≡ raw_parts words name
+no_quote words [] h = refl
+no_quote words (c ∷ cs) h = other (c == 39) (λ e. h cs (ap (λ d. d ∷ cs) ((Decides-eqb c 39).0 e))) where
   other : (b : Bool) → (b ≡ true → ⊥) → if b then (if same_text cs (codes "static") then (c ∷ cs) ∷ [] else (c ∷ []) ∷ raw_parts words cs) else raw_parts words (c ∷ cs) ≡ raw_parts words (c ∷ cs)
   other true k = absurd (k refl)
   other false k = refl

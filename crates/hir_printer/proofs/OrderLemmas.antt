@@ -14,7 +14,7 @@ use Rattle.hir_path.specs.declared.path.GenericArg.{GenericArg}
 use Rattle.hir_path.specs.declared.path.GenericArgs.{GenericArgs, out-GenericArgs}
 use Rattle.hir_printer.specs.Questions.{Setting}
 use Rattle.hir_printer.specs.Names.{name_items}
-use Rattle.hir_printer.specs.Items.{Item, text, sp, into, out, br, e, p, opt, when, joined, comma_joined}
+use Rattle.hir_printer.specs.Items.{Item, text, sp, into, out, br, e, p, opt, when, join, comma_joined}
 use Rattle.hir_printer.specs.Exprs.{arguments, array_items, statement_items, inside_block}
 use Rattle.hir_printer.specs.Pats.{with_rest}
 use Rattle.hir_printer.specs.Paths.{arg_items, each_arg, args_items, assoc_items, turbofish, segments_from, bounds_items, bounds_after, supers}
@@ -87,7 +87,7 @@ bounds_is s [] = refl
 bounds_is s (b ∷ bs) = ap (λ c. when c (text (codes ": ")) ++ bounds_items s (b ∷ bs)) (not_empty (b ∷ bs))
 
 each_is : (s : Setting) (self : Bool) (args : List GenericArg) (bs : List (List Item))
-    → when (is_cons args && self) (text (codes "Self=")) ++ joined (text (codes ", ")) (map (arg_items s) args) ++ following (text (codes ", ")) (is_cons args) bs ≡ comma_joined (each_arg s self args ++ bs)
+    → when (is_cons args && self) (text (codes "Self=")) ++ join (text (codes ", ")) (map (arg_items s) args) ++ following (text (codes ", ")) (is_cons args) bs ≡ comma_joined (each_arg s self args ++ bs)
 each_is s true [] bs = following_joined (text (codes ", ")) bs
 each_is s false [] bs = following_joined (text (codes ", ")) bs
 each_is s false (a ∷ more) bs = following_append (text (codes ", ")) (arg_items s a ∷ map (arg_items s) more) bs
@@ -95,7 +95,7 @@ each_is s true (a ∷ []) bs = following_append (text (codes ", ")) ((text (code
 each_is s true (a ∷ b ∷ more) bs = following_append (text (codes ", ")) ((text (codes "Self=") ++ arg_items s a) ∷ arg_items s b ∷ map (arg_items s) more) bs
 
 pub args_is : (s : Setting) (x : GenericArgs)
-    → when (is_cons (out-GenericArgs x).args && (out-GenericArgs x).has_self_type) (text (codes "Self=")) ++ joined (text (codes ", ")) (map (arg_items s) (out-GenericArgs x).args)
+    → when (is_cons (out-GenericArgs x).args && (out-GenericArgs x).has_self_type) (text (codes "Self=")) ++ join (text (codes ", ")) (map (arg_items s) (out-GenericArgs x).args)
     ++ following (text (codes ", ")) (is_cons (out-GenericArgs x).args) (map (assoc_items s) (out-GenericArgs x).bindings) ≡ args_items s x
 args_is s x = each_is s (out-GenericArgs x).has_self_type (out-GenericArgs x).args (map (assoc_items s) (out-GenericArgs x).bindings) ∙ sym (args_items_is s x)
 
@@ -113,10 +113,10 @@ supers_last (suc (suc n)) h k = absurd (omega arith)
 
 -- 5. Patterns with a rest, and of a slice
 
-around : (sep x : List Item) (xs ys : List (List Item)) → joined sep xs ++ when (is_cons xs) sep ++ x ++ following sep true ys ≡ joined sep (xs ++ (x ∷ []) ++ ys)
+around : (sep x : List Item) (xs ys : List (List Item)) → join sep xs ++ when (is_cons xs) sep ++ x ++ following sep true ys ≡ join sep (xs ++ (x ∷ []) ++ ys)
 around sep x xs ys =
-    append_assoc (joined sep xs ++ when (is_cons xs) sep) x (following sep true ys) ∙ append_assoc (joined sep xs) (when (is_cons xs) sep) (x ++ following sep true ys)
-    ∙ ap (λ zs. joined sep xs ++ zs) (sym (append_assoc (when (is_cons xs) sep) x (following sep true ys))) ∙ following_append sep xs (x ∷ ys) ∙ ap (joined sep) (sym (append_assoc xs (x ∷ []) ys))
+    append_assoc (join sep xs ++ when (is_cons xs) sep) x (following sep true ys) ∙ append_assoc (join sep xs) (when (is_cons xs) sep) (x ++ following sep true ys)
+    ∙ ap (λ zs. join sep xs ++ zs) (sym (append_assoc (when (is_cons xs) sep) x (following sep true ys))) ∙ following_append sep xs (x ∷ ys) ∙ ap (join sep) (sym (append_assoc xs (x ∷ []) ys))
 
 -- a list cut where it ends, or before
 front_cut : {X Y : Type 0} (f : X → Y) (xs : List X) (n m : ℕ) → m ≡ length xs - (length xs - n) → map f (take m xs) ≡ take n (map f xs)
@@ -132,10 +132,10 @@ back_cut f xs n m h = elim (cases_lt n (length xs)) [
 ]
 
 pub rest_is : (pats front back : List ℕ) (n m : ℕ) → m ≡ length pats - (length pats - n) → front ≡ take m pats → back ≡ drop m pats
-    → joined (text (codes ", ")) (map p front) ++ when (not (length front == 0)) (text (codes ", ")) ++ text (codes "..") ++ following (text (codes ", ")) true (map p back)
+    → join (text (codes ", ")) (map p front) ++ when (not (length front == 0)) (text (codes ", ")) ++ text (codes "..") ++ following (text (codes ", ")) true (map p back)
     ≡ comma_joined (with_rest (Some n) (map p pats))
 rest_is pats front back n m h f b =
-    ap (λ c. joined (text (codes ", ")) (map p front) ++ when c (text (codes ", ")) ++ text (codes "..") ++ following (text (codes ", ")) true (map p back)) (not_empty front ∙ sym (cons_map p front))
+    ap (λ c. join (text (codes ", ")) (map p front) ++ when c (text (codes ", ")) ++ text (codes "..") ++ following (text (codes ", ")) true (map p back)) (not_empty front ∙ sym (cons_map p front))
     ∙ around (text (codes ", ")) (text (codes "..")) (map p front) (map p back)
     ∙ ap₂ (λ xs ys. comma_joined (xs ++ (text (codes "..") ∷ []) ++ ys)) (ap (map p) f ∙ front_cut p pats n m h) (ap (map p) b ∙ back_cut p pats n m h)
 

@@ -6,7 +6,7 @@ use Rattle.hir_node.specs.declared.literal.Literal.{Literal}
 use Rattle.hir_node.specs.declared.literal.Literal.TheVariants as literal
 use Rattle.hir_node.specs.declared.node_id.NodeId.TheVariants as node
 use Rattle.hir_expr_store.specs.declared.missing.Missing.{Missing}
-use Rattle.hir_page.specs.Page.{Page, rendered, all_rendered}
+use Rattle.hir_page.specs.Page.{Page, render, all_rendered}
 use Rattle.hir_page.specs.Pieces.{Piece, Text}
 use Rattle.hir_page.specs.Literals.{string_literal, char_literal, bytes_literal, c_string_literal}
 use Rattle.hir_page.specs.Writes.{Writes, all_written, written}
@@ -14,14 +14,14 @@ use Rattle.hir_printer.specs.Questions.{Setting}
 use Rattle.hir_printer.specs.Items.{Item, Put, Lacks, Whole, Under, Pattern, TypeItem, text}
 use Rattle.hir_printer.specs.Names.{name_parts, name_items}
 use Rattle.hir_printer.specs.Literals.{literal_items, put_pieces}
-use Rattle.hir_printer.specs.Pieces.{NodePiece, Layout, Absent, items_of, item_pieces, pieces, printed, parenthesized, first_missing, layout}
+use Rattle.hir_printer.specs.Pieces.{NodePiece, Layout, Absent, items_of, item_pieces, pieces, item_list_pieces, with_parentheses, first_missing, layout}
 use Rattle.hir_printer.specs.Falls.{ItemsFall}
-use Rattle.hir_printer.specs.Printers.{enclosed, printing, Leads}
+use Rattle.hir_printer.specs.Printers.{enclose, printing, Leads}
 use Rattle.hir_printer.proofs.StepLemmas.{pieces_at}
 
 -- 1. Items and pieces
 
-pub printed-append : (s : Setting) (xs ys : List Item) → printed s (xs ++ ys) ≡ printed s xs ++ printed s ys
+pub printed-append : (s : Setting) (xs ys : List Item) → item_list_pieces s (xs ++ ys) ≡ item_list_pieces s xs ++ item_list_pieces s ys
 printed-append s xs ys = flat_map-append (item_pieces s (pieces s)) xs ys
 
 -- items that are pieces
@@ -34,7 +34,7 @@ AllPut (Under id parent ∷ is) = ⊥
 AllPut (Pattern id ∷ is) = ⊥
 AllPut (TypeItem id ∷ is) = ⊥
 
-put_printed : (s : Setting) (is : List Item) → AllPut is → printed s is ≡ map Layout (put_pieces is)
+put_printed : (s : Setting) (is : List Item) → AllPut is → item_list_pieces s is ≡ map Layout (put_pieces is)
 put_printed s [] a = refl
 put_printed s (Put piece ∷ is) a = ap (λ ps. Layout piece ∷ ps) (put_printed s is a)
 put_printed s (Lacks missing ∷ is) a = absurd a
@@ -65,19 +65,19 @@ pieces_put [] = refl
 pieces_put (piece ∷ ps) = ap (λ qs. piece ∷ qs) (pieces_put ps)
 
 -- texts
-printed_texts : (s : Setting) (ts : List (List ℕ)) → printed s (flat_map text ts) ≡ map Layout (map Text ts)
+printed_texts : (s : Setting) (ts : List (List ℕ)) → item_list_pieces s (flat_map text ts) ≡ map Layout (map Text ts)
 printed_texts s [] = refl
 printed_texts s (t ∷ ts) = ap (λ ps. Layout (Text t) ∷ ps) (printed_texts s ts)
 
-pub name_printed : (s : Setting) (name : List ℕ) → printed s (name_items s name) ≡ map Layout (map Text (name_parts s.words name))
+pub name_printed : (s : Setting) (name : List ℕ) → item_list_pieces s (name_items s name) ≡ map Layout (map Text (name_parts s.words name))
 name_printed s name = printed_texts s (name_parts s.words name)
 
-pub literal_pieces : (s : Setting) (x : Literal) → printed s (literal_items x) ≡ map Layout (put_pieces (literal_items x))
+pub literal_pieces : (s : Setting) (x : Literal) → item_list_pieces s (literal_items x) ≡ map Layout (put_pieces (literal_items x))
 literal_pieces s x = put_printed s (literal_items x) (literal_put x)
 
 -- an expression in parentheses, or without
-pub enclosed_printed : (s : Setting) → ItemsFall s → (b : Bool) (id : ℕ) → printed s (enclosed b (items_of s (node.Expr id))) ≡ parenthesized b (pieces s (node.Expr id)) ++ []
-enclosed_printed s fall false id = ap (printed s) (append-nil (items_of s (node.Expr id))) ∙ sym (append-nil (pieces s (node.Expr id)) ∙ pieces_at s fall (node.Expr id))
+pub enclosed_printed : (s : Setting) → ItemsFall s → (b : Bool) (id : ℕ) → item_list_pieces s (enclose b (items_of s (node.Expr id))) ≡ with_parentheses b (pieces s (node.Expr id)) ++ []
+enclosed_printed s fall false id = ap (item_list_pieces s) (append-nil (items_of s (node.Expr id))) ∙ sym (append-nil (pieces s (node.Expr id)) ∙ pieces_at s fall (node.Expr id))
 enclosed_printed s fall true id =
     let close = Layout (Text (codes ")")) ∷ [] in
     ap (λ ps. Layout (Text (codes "(")) ∷ ps) (printed-append s (items_of s (node.Expr id)) (text (codes ")")) ∙ ap (λ ps. ps ++ close) (sym (pieces_at s fall (node.Expr id))))
@@ -86,31 +86,31 @@ enclosed_printed s fall true id =
 -- 2. A page
 
 -- a writer of a page that was led over pieces
-pub page_is : {refuses : Page → Piece → Page → Type 0} {u v : Page} {ps : List Piece} → Writes (λ page piece after. after ≡ rendered piece page) refuses u ps true v → v ≡ all_rendered ps u
+pub page_is : {refuses : Page → Piece → Page → Type 0} {u v : Page} {ps : List Piece} → Writes (λ page piece after. after ≡ render piece page) refuses u ps true v → v ≡ all_rendered ps u
 page_is all_written = refl
 page_is {ps = q ∷ ps} (written k more) = page_is more ∙ ap (all_rendered ps) k
 
 pub printing_pieces : (page : Page) (ps : List Piece) (rest : List NodePiece) → printing page (map Layout ps ++ rest) ≡ printing (all_rendered ps page) rest
 unfolding printing
 printing_pieces page [] rest = refl
-printing_pieces page (p ∷ ps) rest = printing_pieces (rendered p page) ps rest
+printing_pieces page (p ∷ ps) rest = printing_pieces (render p page) ps rest
 
-pub pieces_lead : {s : Setting} {page new : Page} {is : List Item} (ps : List Piece) → printed s is ≡ map Layout ps → new ≡ all_rendered ps page → Leads s page is new []
+pub pieces_lead : {s : Setting} {page new : Page} {is : List Item} (ps : List Piece) → item_list_pieces s is ≡ map Layout ps → new ≡ all_rendered ps page → Leads s page is new []
 pieces_lead {s} {page} {new} {is} ps e f = record {
-  leads = λ more. ap (printing page) (printed-append s is more ∙ ap (λ qs. qs ++ printed s more) e) ∙ printing_pieces page ps (printed s more) ∙ ap (λ p. printing p (printed s more)) (sym f);
+  leads = λ more. ap (printing page) (printed-append s is more ∙ ap (λ qs. qs ++ item_list_pieces s more) e) ∙ printing_pieces page ps (item_list_pieces s more) ∙ ap (λ p. printing p (item_list_pieces s more)) (sym f);
 }
 
 -- the first that is missing is told
 pub missing_is : (page : Page) (ps : List NodePiece) → (printing page ps).1 ≡ first_missing ps
 unfolding printing
 missing_is page [] = refl
-missing_is page (Layout piece ∷ ps) = missing_is (rendered piece page) ps
+missing_is page (Layout piece ∷ ps) = missing_is (render piece page) ps
 missing_is page (Absent missing ∷ ps) = refl
 
 pub page_of_pieces : (page : Page) (ps : List NodePiece) → first_missing ps ≡ None → (printing page ps).0 ≡ all_rendered (layout ps) page
 unfolding printing
 page_of_pieces page [] e = refl
-page_of_pieces page (Layout piece ∷ ps) e = page_of_pieces (rendered piece page) ps e
+page_of_pieces page (Layout piece ∷ ps) e = page_of_pieces (render piece page) ps e
 page_of_pieces page (Absent missing ∷ ps) e = absurd (cc)
 
 pub nothing_left : (page : Page) → printing page [] ≡ (page, None)

@@ -2,7 +2,7 @@
 use Rattle.std.proofs.Common.{◌≡◌, ℕ, ◌-◌, Bool, true, false, List, [], ◌∷◌, ◌++◌, codes, map, length, Option, refl, sym, ap, ap₂, ◌∙◌, arith, append_assoc, append-nil, length-append}
 use Rattle.std.specs.Prelude.{◌&&◌, ◌==◌, not}
 use Rattle.std.specs.List.{flat_map}
-use Rattle.hir_printer.specs.Items.{Item, text, t, when, joined, comma_joined}
+use Rattle.hir_printer.specs.Items.{Item, text, t, when, join, comma_joined}
 use Rattle.hir_printer.specs.Types.{front, last, varargs_items, signature_items}
 use Rattle.hir_printer.proofs.ListLemmas.{is_cons}
 use Rattle.hir_printer.proofs.OrderLemmas.{not_empty}
@@ -33,7 +33,7 @@ dots true is (b ∷ bs) = append_assoc is (text (codes ", ")) (text (codes "..."
 -- what is written of the parameters and of the result
 abbrev pub written : Bool → List (Option (List ℕ) × ℕ) → List (Option (List ℕ) × ℕ) → List Item
 written v bs ret =
-    text (codes "fn(") ++ joined (text (codes ", ")) (map (λ (entry : Option (List ℕ) × ℕ). t entry.1) bs) ++ when (v && not (length bs == 0)) (text (codes ", "))
+    text (codes "fn(") ++ join (text (codes ", ")) (map (λ (entry : Option (List ℕ) × ℕ). t entry.1) bs) ++ when (v && not (length bs == 0)) (text (codes ", "))
     ++ when v (text (codes "...")) ++ text (codes ") -> ") ++ flat_map (λ (entry : Option (List ℕ) × ℕ). t entry.1) ret
 
 parts : (v : Bool) (bs ret : List (Option (List ℕ) × ℕ))

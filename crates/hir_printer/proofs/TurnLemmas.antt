@@ -15,12 +15,12 @@ use Rattle.hir_printer.specs.Questions.{Setting}
 use Rattle.hir_printer.specs.Items.{Item, Under, text}
 use Rattle.hir_printer.specs.declared.fault.PrintFault.{PrintFault}
 use Rattle.hir_printer.specs.declared.fault.PrintFault.TheVariants as fault
-use Rattle.hir_printer.specs.Printed.{PrintsPieces}
-use Rattle.hir_printer.specs.Pieces.{Layout, first_missing, items_of, pieces, printed, stands_in_parentheses, precedence_found}
+use Rattle.hir_printer.specs.PrintAnswers.{PrintsPieces}
+use Rattle.hir_printer.specs.Pieces.{Layout, first_missing, items_of, pieces, item_list_pieces, stands_in_parentheses, precedence_found}
 use Rattle.hir_printer.specs.Falls.{ItemsFall}
 use Rattle.hir_printer.specs.Weights.{heft}
 use Rattle.hir_printer.specs.Printing.{Printing, on_page}
-use Rattle.hir_printer.specs.Printers.{stands_for, meant, printing, Leads, WroteWork, AddsItems, GaveWayTo, TurnedBy, enclosed}
+use Rattle.hir_printer.specs.Printers.{stands_for, items_of_works, printing, Leads, WroteWork, AddsItems, GaveWayTo, TurnedBy, enclose}
 use Rattle.hir_printer.proofs.StepLemmas.{pieces_at}
 use Rattle.hir_printer.proofs.AddLemmas.{heft-append, meant-append, leads_as, leads_then, adds_here}
 use Rattle.hir_printer.proofs.PieceLemmas.{printed-append, enclosed_printed, pieces_lead, missing_is, page_of_pieces, nothing_left, is_missing}
@@ -44,7 +44,7 @@ pub text_writes : {T E W : Type 0} {step refuses : W → Piece → W → Type 0}
 text_writes (Ok x) m = written m all_written
 text_writes (Err e) m = refused m
 
-pub wrote : {w : Work} {old new : Printing} (ps : List Piece) → new ≡ record old { page = new.page } → printed old.from (stands_for old.from w) ≡ map Layout ps
+pub wrote : {w : Work} {old new : Printing} (ps : List Piece) → new ≡ record old { page = new.page } → item_list_pieces old.from (stands_for old.from w) ≡ map Layout ps
     → new.page ≡ all_rendered ps old.page → 0 < heft old.from (stands_for old.from w) → WroteWork w old new
 wrote ps s e f h = record { same = s; leads = pieces_lead ps e f; some = h }
 
@@ -55,8 +55,8 @@ wrote_adds {w} {old} {new} none a =
     let still : new.kept ≡ [] = ap (λ (p : Printing). p.kept) a.same ∙ none in
     record {
       same = a.same ∙ ap (λ k. record old { kept = k; page = new.page }) (none ∙ sym still);
-      leads = leads_then (leads_as (ap (λ ks. meant s ks ++ stands_for s w) none)) (leads_then a.leads (leads_as (ap (meant s) (sym still))));
-      less = let k = ap (λ ks. heft s (meant s ks)) still in omega arith;
+      leads = leads_then (leads_as (ap (λ ks. items_of_works s ks ++ stands_for s w) none)) (leads_then a.leads (leads_as (ap (items_of_works s) (sym still))));
+      less = let k = ap (λ ks. heft s (items_of_works s ks)) still in omega arith;
     }
 
 pub kept_adds : (w : Work) {old new : Printing} → new ≡ record old { kept = old.kept ++ (w ∷ []) } → AddsItems old (λ s. stands_for s w) new
@@ -64,30 +64,30 @@ kept_adds w {old} {new} e =
     let s = old.from in
     let kept : new.kept ≡ old.kept ++ (w ∷ []) = ap (λ (p : Printing). p.kept) e in
     let page : new.page ≡ old.page = ap (λ (p : Printing). p.page) e in
-    let means : meant s old.kept ++ stands_for s w ≡ meant s new.kept
-    = ap (λ xs. meant s old.kept ++ xs) (sym (append-nil (stands_for s w))) ∙ sym (meant-append s old.kept (w ∷ [])) ∙ ap (meant s) (sym kept) in
+    let means : items_of_works s old.kept ++ stands_for s w ≡ items_of_works s new.kept
+    = ap (λ xs. items_of_works s old.kept ++ xs) (sym (append-nil (stands_for s w))) ∙ sym (meant-append s old.kept (w ∷ [])) ∙ ap (items_of_works s) (sym kept) in
     record {
       same = e ∙ ap₂ (λ k p. record old { kept = k; page = p }) (sym kept) (sym page);
-      leads = subst (λ p. Leads s old.page (meant s old.kept ++ stands_for s w) p (meant s new.kept)) (sym page) (leads_as means);
+      leads = subst (λ p. Leads s old.page (items_of_works s old.kept ++ stands_for s w) p (items_of_works s new.kept)) (sym page) (leads_as means);
       less = let k = ap (heft s) means in omega arith;
     }
 
 -- 2. What a node gives way to
 
 pub gives_way : {w : Work} {old new : Printing} {is : Setting → List Item} → old.kept ≡ [] → AddsItems old is new
-    → ((more : List Item) → printed old.from (stands_for old.from w ++ more) ≡ printed old.from (is old.from ++ more))
+    → ((more : List Item) → item_list_pieces old.from (stands_for old.from w ++ more) ≡ item_list_pieces old.from (is old.from ++ more))
     → heft old.from (is old.from) < heft old.from (stands_for old.from w) → GaveWayTo w old new
 gives_way {w} {old} {new} {is} none a e h =
     let s = old.from in
-    let begins : is s ≡ meant s old.kept ++ is s = ap (λ ks. meant s ks ++ is s) (sym none) in
+    let begins : is s ≡ items_of_works s old.kept ++ is s = ap (λ ks. items_of_works s ks ++ is s) (sym none) in
     record {
       same = a.same;
       leads = leads_then (record { leads = λ more. ap (printing old.page) (e more) }) (leads_then (leads_as begins) a.leads);
       less = let k = a.less in let m = ap (heft s) begins in omega arith;
     }
 
-node_printed : (s : Setting) → ItemsFall s → (n : NodeId) (more : List Item) → pieces s n ++ printed s more ≡ printed s (items_of s n ++ more)
-node_printed s fall n more = ap (λ ps. ps ++ printed s more) (pieces_at s fall n) ∙ sym (printed-append s (items_of s n) more)
+node_printed : (s : Setting) → ItemsFall s → (n : NodeId) (more : List Item) → pieces s n ++ item_list_pieces s more ≡ item_list_pieces s (items_of s n ++ more)
+node_printed s fall n more = ap (λ ps. ps ++ item_list_pieces s more) (pieces_at s fall n) ∙ sym (printed-append s (items_of s n) more)
 
 module _ {old new : Printing} (fall : ItemsFall old.from) (none : old.kept ≡ []) where
   pub whole_gives : (id : ℕ) → AddsItems old (λ s. items_of s (node.Expr id)) new → GaveWayTo (work.Whole id) old new
@@ -100,12 +100,12 @@ module _ {old new : Printing} (fall : ItemsFall old.from) (none : old.kept ≡ [
   type_gives id a = gives_way none a (node_printed old.from fall (node.TypeRef id)) (let k = weight_at old.from fall (node.TypeRef id) in omega arith)
 
   pub under_gives : (id : ℕ) (parent : ExprPrecedence)
-      → AddsItems old (λ s. enclosed (stands_in_parentheses (precedence_found (slice_get s.nodes.exprs id)) parent) (items_of s (node.Expr id))) new → GaveWayTo (work.Under id parent) old new
+      → AddsItems old (λ s. enclose (stands_in_parentheses (precedence_found (slice_get s.nodes.exprs id)) parent) (items_of s (node.Expr id))) new → GaveWayTo (work.Under id parent) old new
   under_gives id parent a =
       let s = old.from in
       let b = stands_in_parentheses (precedence_found (slice_get s.nodes.exprs id)) parent in
       gives_way none a
-      (λ more. printed-append s (Under id parent ∷ []) more ∙ ap (λ ps. ps ++ printed s more) (sym (enclosed_printed s fall b id)) ∙ sym (printed-append s (enclosed b (items_of s (node.Expr id))) more))
+      (λ more. printed-append s (Under id parent ∷ []) more ∙ ap (λ ps. ps ++ item_list_pieces s more) (sym (enclosed_printed s fall b id)) ∙ sym (printed-append s (enclose b (items_of s (node.Expr id))) more))
       (let k = weight_at s fall (node.Expr id) in let m = enclosed_heft s b (items_of s (node.Expr id)) in omega arith)
 
 -- generic arguments, the first text of which was written
@@ -115,15 +115,15 @@ written_then {w} {old} {between} {new} {first} {is} none a b e =
     let s = old.from in
     let still : between.kept ≡ [] = ap (λ (p : Printing). p.kept) a.same ∙ none in
     let from : between.from ≡ s = ap (λ (p : Printing). p.from) a.same in
-    let b_leads : Leads s between.page (meant s between.kept ++ is s) new.page (meant s new.kept)
-    = subst (λ t. Leads t between.page (meant t between.kept ++ is t) new.page (meant t new.kept)) from b.leads in
-    let b_less : heft s (meant s new.kept) ≤ heft s (meant s between.kept ++ is s)
-    = subst (λ t. heft t (meant t new.kept) ≤ heft t (meant t between.kept ++ is t)) from b.less in
-    let begins : is s ≡ meant s between.kept ++ is s = ap (λ ks. meant s ks ++ is s) (sym still) in
+    let b_leads : Leads s between.page (items_of_works s between.kept ++ is s) new.page (items_of_works s new.kept)
+    = subst (λ t. Leads t between.page (items_of_works t between.kept ++ is t) new.page (items_of_works t new.kept)) from b.leads in
+    let b_less : heft s (items_of_works s new.kept) ≤ heft s (items_of_works s between.kept ++ is s)
+    = subst (λ t. heft t (items_of_works t new.kept) ≤ heft t (items_of_works t between.kept ++ is t)) from b.less in
+    let begins : is s ≡ items_of_works s between.kept ++ is s = ap (λ ks. items_of_works s ks ++ is s) (sym still) in
     record {
       same = b.same ∙ ap (λ (p : Printing). record p { kept = new.kept; page = new.page }) a.same;
       leads = leads_then (leads_as (sym e)) (leads_then (record {
-        leads = λ more. ap (λ xs. printing old.page (printed s xs)) (append_assoc (stands_for s first) (is s) more) ∙ a.leads.leads (is s ++ more);
+        leads = λ more. ap (λ xs. printing old.page (item_list_pieces s xs)) (append_assoc (stands_for s first) (is s) more) ∙ a.leads.leads (is s ++ more);
       }) (leads_then (leads_as begins) b_leads));
       less = let h = a.some in let k = ap (heft s) begins in let m = ap (heft s) e in let n = heft-append s (stands_for s first) (is s) in omega arith;
     }
@@ -141,7 +141,7 @@ turned_gave {w} {old} {between} {new} none a e =
       way = between.kept;
       same = e ∙ ap (λ (p : Printing). record p { kept = []; waiting = between.kept ++ p.waiting }) a.same
           ∙ ap₂ (λ k p. record old { kept = k; waiting = between.kept ++ old.waiting; page = p }) (sym none) (sym page);
-      leads = subst (λ p. Leads old.from old.page (stands_for old.from w) p (meant old.from between.kept)) (sym page) a.leads;
+      leads = subst (λ p. Leads old.from old.page (stands_for old.from w) p (items_of_works old.from between.kept)) (sym page) a.leads;
       less = a.less;
     }
 
@@ -154,44 +154,44 @@ module _ (s : Setting) {w : Work} {old between new : Printing} (from : old.from 
   rest : new.waiting ≡ a.way ++ between.waiting
   rest = ap (λ (p : Printing). p.waiting) a.same
 
-  pub turn_leads : printing old.page (printed s (meant s old.waiting)) ≡ printing new.page (printed s (meant s new.waiting))
+  pub turn_leads : printing old.page (item_list_pieces s (items_of_works s old.waiting)) ≡ printing new.page (item_list_pieces s (items_of_works s new.waiting))
   turn_leads =
-      let leads : Leads s between.page (stands_for s w) new.page (meant s a.way) = subst (λ t. Leads t between.page (stands_for t w) new.page (meant t a.way)) on a.leads in
-      ap (λ ws. printing old.page (printed s (meant s ws))) next ∙ ap (λ p. printing p (printed s (stands_for s w ++ meant s between.waiting))) (sym (ap (λ (p : Printing). p.page) same))
-      ∙ leads.leads (meant s between.waiting)
-      ∙ ap (λ xs. printing new.page (printed s xs)) (sym (meant-append s a.way between.waiting) ∙ ap (meant s) (sym rest))
+      let leads : Leads s between.page (stands_for s w) new.page (items_of_works s a.way) = subst (λ t. Leads t between.page (stands_for t w) new.page (items_of_works t a.way)) on a.leads in
+      ap (λ ws. printing old.page (item_list_pieces s (items_of_works s ws))) next ∙ ap (λ p. printing p (item_list_pieces s (stands_for s w ++ items_of_works s between.waiting))) (sym (ap (λ (p : Printing). p.page) same))
+      ∙ leads.leads (items_of_works s between.waiting)
+      ∙ ap (λ xs. printing new.page (item_list_pieces s xs)) (sym (meant-append s a.way between.waiting) ∙ ap (items_of_works s) (sym rest))
 
-  pub turn_less : heft s (meant s new.waiting) < heft s (meant s old.waiting)
+  pub turn_less : heft s (items_of_works s new.waiting) < heft s (items_of_works s old.waiting)
   turn_less =
-      let less : heft s (meant s a.way) < heft s (stands_for s w) = subst (λ t. heft t (meant t a.way) < heft t (stands_for t w)) on a.less in
-      let k = ap (λ ws. heft s (meant s ws)) next in let l = heft-append s (stands_for s w) (meant s between.waiting) in
-      let m = ap (λ ws. heft s (meant s ws)) rest in let n = ap (heft s) (meant-append s a.way between.waiting) in
-      let o = heft-append s (meant s a.way) (meant s between.waiting) in omega arith
+      let less : heft s (items_of_works s a.way) < heft s (stands_for s w) = subst (λ t. heft t (items_of_works t a.way) < heft t (stands_for t w)) on a.less in
+      let k = ap (λ ws. heft s (items_of_works s ws)) next in let l = heft-append s (stands_for s w) (items_of_works s between.waiting) in
+      let m = ap (λ ws. heft s (items_of_works s ws)) rest in let n = ap (heft s) (meant-append s a.way between.waiting) in
+      let o = heft-append s (items_of_works s a.way) (items_of_works s between.waiting) in omega arith
 
 -- the next is missing, and nothing is left
-pub missing_next : (s : Setting) (page : Page) {before : Page × Option Missing} {waiting others : List Work} {w : Work} {m : Missing} → before ≡ printing page (printed s (meant s waiting)) → waiting ≡ w ∷ others
+pub missing_next : (s : Setting) (page : Page) {before : Page × Option Missing} {waiting others : List Work} {w : Work} {m : Missing} → before ≡ printing page (item_list_pieces s (items_of_works s waiting)) → waiting ≡ w ∷ others
     → w ≡ work.Lacks m → before.1 ≡ Some m
 missing_next s page {others = others} {m = m} same next lacks =
-    ap (λ (r : Page × Option Missing). r.1) (same ∙ ap (λ ws. printing page (printed s (meant s ws))) (next ∙ ap (λ v. v ∷ others) lacks)) ∙ is_missing page m (printed s (meant s others))
+    ap (λ (r : Page × Option Missing). r.1) (same ∙ ap (λ ws. printing page (item_list_pieces s (items_of_works s ws))) (next ∙ ap (λ v. v ∷ others) lacks)) ∙ is_missing page m (item_list_pieces s (items_of_works s others))
 
-pub all_is_written : (s : Setting) {page last : Page} {before : Page × Option Missing} {waiting : List Work} → before ≡ printing page (printed s (meant s waiting)) → waiting ≡ [] → last ≡ page
+pub all_is_written : (s : Setting) {page last : Page} {before : Page × Option Missing} {waiting : List Work} → before ≡ printing page (item_list_pieces s (items_of_works s waiting)) → waiting ≡ [] → last ≡ page
     → before ≡ (last, None)
-all_is_written s {page} same over still = same ∙ ap (λ ws. printing page (printed s (meant s ws))) over ∙ nothing_left page ∙ ap (λ (p : Page). (p, None)) (sym still)
+all_is_written s {page} same over still = same ∙ ap (λ ws. printing page (item_list_pieces s (items_of_works s ws))) over ∙ nothing_left page ∙ ap (λ (p : Page). (p, None)) (sym still)
 
 -- 4. What is printed of all that was added
 
 all_of : {s : Setting} {items : List Item} {old : Printing} → AddsItems (on_page s) (λ t. items) old
-    → printing (on_page s).page (printed s items) ≡ printing old.page (printed s (meant s (old.kept ++ old.waiting)))
+    → printing (on_page s).page (item_list_pieces s items) ≡ printing old.page (item_list_pieces s (items_of_works s (old.kept ++ old.waiting)))
 all_of {s} {items} {old} a =
     let over : old.waiting ≡ [] = ap (λ (p : Printing). p.waiting) a.same in
-    let kept : meant s old.kept ++ [] ≡ meant s (old.kept ++ old.waiting) = ap (λ ws. meant s old.kept ++ meant s ws) (sym over) ∙ sym (meant-append s old.kept old.waiting) in
-    ap (λ is. printing (on_page s).page (printed s is)) (sym (append-nil items)) ∙ a.leads.leads [] ∙ ap (λ is. printing old.page (printed s is)) kept
+    let kept : items_of_works s old.kept ++ [] ≡ items_of_works s (old.kept ++ old.waiting) = ap (λ ws. items_of_works s old.kept ++ items_of_works s ws) (sym over) ∙ sym (meant-append s old.kept old.waiting) in
+    ap (λ is. printing (on_page s).page (item_list_pieces s is)) (sym (append-nil items)) ∙ a.leads.leads [] ∙ ap (λ is. printing old.page (item_list_pieces s is)) kept
 
 pub prints_text : {A : Type 0} {s : Setting} {items : List Item} {old : Printing} {page : Page} (result : String A) → AddsItems (on_page s) (λ t. items) old
-    → printing old.page (printed s (meant s (old.kept ++ old.waiting))) ≡ (page, None) → string_bytes result ≡ page_text page → PrintsPieces s (printed s items) (Ok result)
+    → printing old.page (item_list_pieces s (items_of_works s (old.kept ++ old.waiting))) ≡ (page, None) → string_bytes result ≡ page_text page → PrintsPieces s (item_list_pieces s items) (Ok result)
 prints_text {s = s} {items = items} {page = page} result a e t =
     let whole = all_of a ∙ e in
-    let ps = printed s items in
+    let ps = item_list_pieces s items in
     let none : first_missing ps ≡ None = sym (missing_is (on_page s).page ps) ∙ ap (λ (r : Page × Option Missing). r.1) whole in
     record {
       text = (none, t ∙ ap page_text (sym (ap (λ (r : Page × Option Missing). r.0) whole) ∙ page_of_pieces (on_page s).page ps none));
@@ -199,18 +199,18 @@ prints_text {s = s} {items = items} {page = page} result a e t =
     }
 
 pub prints_fault : {A : Type 0} {s : Setting} {items : List Item} {old : Printing} (found : PrintFault) → AddsItems (on_page s) (λ t. items) old
-    → ((m : Missing) → found ≡ fault.Missing m → (printing old.page (printed s (meant s (old.kept ++ old.waiting)))).1 ≡ Some m) → PrintsPieces {A = A} s (printed s items) (Err found)
+    → ((m : Missing) → found ≡ fault.Missing m → (printing old.page (item_list_pieces s (items_of_works s (old.kept ++ old.waiting)))).1 ≡ Some m) → PrintsPieces {A = A} s (item_list_pieces s items) (Err found)
 prints_fault {s = s} {items = items} found a h = record {
   text = tt;
-  missing = λ m e. sym (missing_is (on_page s).page (printed s items)) ∙ ap (λ (r : Page × Option Missing). r.1) (all_of a) ∙ h m (cc);
+  missing = λ m e. sym (missing_is (on_page s).page (item_list_pieces s items)) ∙ ap (λ (r : Page × Option Missing). r.1) (all_of a) ∙ h m (cc);
 }
 
 -- what a call prints that begins a printer and adds to it
 pub prints : {A : Type 0} {s : Setting} {begun added : Printing} {items : Setting → List Item} {result : Result (String A) PrintFault} → begun ≡ on_page s → AddsItems begun items added
-    → ((is : List Item) → AddsItems (on_page added.from) (λ t. is) added → PrintsPieces added.from (printed added.from is) result) → PrintsPieces s (printed s (items s)) result
+    → ((is : List Item) → AddsItems (on_page added.from) (λ t. is) added → PrintsPieces added.from (item_list_pieces added.from is) result) → PrintsPieces s (item_list_pieces s (items s)) result
 prints {s = s} {added = added} {items = items} {result = result} b a h =
     let from : added.from ≡ s = ap (λ (p : Printing). p.from) a.same ∙ ap (λ (p : Printing). p.from) b in
     let here : AddsItems (on_page s) (λ t. items s) added = adds_here (subst (λ p. AddsItems p items added) b a) refl in
-    subst (λ t. PrintsPieces t (printed t (items s)) result) from (h (items s) (subst (λ t. AddsItems (on_page t) (λ u. items s) added) (sym from) here))
+    subst (λ t. PrintsPieces t (item_list_pieces t (items s)) result) from (h (items s) (subst (λ t. AddsItems (on_page t) (λ u. items s) added) (sym from) here))
 
 pub ruleset turns = (turned_wrote, turned_gave)

@@ -13,7 +13,7 @@ use Rattle.hir_printer.specs.Literals.{literal_items}
 use Rattle.hir_printer.specs.Pieces.{items_of}
 use Rattle.hir_printer.specs.Falls.{AllNodes, ItemsFall}
 use Rattle.hir_printer.specs.Weights.{total, item_weight, weight_step, weight, heft}
-use Rattle.hir_printer.specs.Printers.{enclosed}
+use Rattle.hir_printer.specs.Printers.{enclose}
 use Rattle.hir_printer.proofs.StepLemmas.{nodes_weaker}
 use Rattle.hir_printer.proofs.AddLemmas.{total-append}
 
@@ -47,7 +47,7 @@ module _ (s : Setting) (fall : ItemsFall s) where
 
 -- 2. Weights of items
 
-pub enclosed_heft : (s : Setting) (b : Bool) (is : List Item) → heft s (enclosed b is) ≤ 2 + heft s is
+pub enclosed_heft : (s : Setting) (b : Bool) (is : List Item) → heft s (enclose b is) ≤ 2 + heft s is
 enclosed_heft s false is = let k = total-append (item_weight (weight s)) is [] in omega arith
 enclosed_heft s true is = let k = total-append (item_weight (weight s)) is (text (codes ")")) in omega arith
 

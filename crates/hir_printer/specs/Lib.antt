@@ -9,7 +9,7 @@ pub mod Pats
 pub mod Pieces
 pub mod Falls
 pub mod Settings
-pub mod Printed
+pub mod PrintAnswers
 pub mod Kinds
 pub mod Weights
 pub mod Printing

@@ -29,7 +29,8 @@ raw_parts words name = if is_word words name then codes "r#" ∷ name ∷ [] els
 -- The parts of a printed name. A leading `'` comes first and isn't looked up, and `'static` is printed as it is.
 abbrev pub name_parts : List (List ℕ) → List ℕ → List (List ℕ)
 name_parts words [] = raw_parts words []
-name_parts words (c ∷ cs) = if c == 39 then (if same_text cs (codes "static") then (c ∷ cs) ∷ [] else (c ∷ []) ∷ raw_parts words cs) else raw_parts words (c ∷ cs)
+name_parts words (c ∷ cs) = if c == 39 then (if same_text cs (codes "static") then (c ∷ cs) ∷ []
+    else (c ∷ []) ∷ raw_parts words cs) else raw_parts words (c ∷ cs)
 
 -- texts, the first of which is there where the condition holds
 abbrev pub behind : Bool → List ℕ → List (List ℕ) → List (List ℕ)

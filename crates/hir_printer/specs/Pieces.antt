@@ -46,16 +46,17 @@ abbrev pub precedence_found : Option Expr → ExprPrecedence
 precedence_found None = Unambiguous
 precedence_found (Some x) = precedence x
 
-abbrev pub parenthesized : Bool → List NodePiece → List NodePiece
-parenthesized false ps = ps
-parenthesized true ps = Layout (Text (codes "(")) ∷ (ps ++ (Layout (Text (codes ")")) ∷ []))
+abbrev pub with_parentheses : Bool → List NodePiece → List NodePiece
+with_parentheses false ps = ps
+with_parentheses true ps = Layout (Text (codes "(")) ∷ (ps ++ (Layout (Text (codes ")")) ∷ []))
 
 -- the pieces of an item, where a node inside it gives what `self` says
 abbrev pub item_pieces : Setting → (NodeId → List NodePiece) → Item → List NodePiece
 item_pieces s self (Put piece) = Layout piece ∷ []
 item_pieces s self (Lacks missing) = Absent missing ∷ []
 item_pieces s self (Whole id) = self (node.Expr id)
-item_pieces s self (Under id parent) = parenthesized (stands_in_parentheses (precedence_found (slice_get s.nodes.exprs id)) parent) (self (node.Expr id))
+item_pieces s self (Under id parent) = with_parentheses
+    (stands_in_parentheses (precedence_found (slice_get s.nodes.exprs id)) parent) (self (node.Expr id))
 item_pieces s self (Pattern id) = self (node.Pat id)
 item_pieces s self (TypeItem id) = self (node.TypeRef id)
 
@@ -67,12 +68,12 @@ unfoldable pub pieces : Setting → NodeId → List NodePiece
 pieces s n = value s.nodes (pieces_step s) [] n
 
 -- the pieces of items
-abbrev pub printed : Setting → List Item → List NodePiece
-printed s is = flat_map (item_pieces s (pieces s)) is
+abbrev pub item_list_pieces : Setting → List Item → List NodePiece
+item_list_pieces s is = flat_map (item_pieces s (pieces s)) is
 
 -- the pieces of a path, which is no node
 abbrev pub path_pieces : Setting → Path → List NodePiece
-path_pieces s path = printed s (path_items s path)
+path_pieces s path = item_list_pieces s (path_items s path)
 
 -- the first definition that is missing, in printing order
 abbrev pub first_missing : List NodePiece → Option Missing

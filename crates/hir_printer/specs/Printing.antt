@@ -15,8 +15,8 @@ pub record Printing : Type 0 where
   pub waiting : List Work
   pub page : Page
 
-abbrev pub seen : Printer → Printing
-seen p = record {
+abbrev pub printing_of : Printer → Printing
+printing_of p = record {
   from = setting p.store.now (answers p.tables.now) p.words.now p.one_line;
   kept = drop p.waiting p.works.items;
   waiting = reverse (take p.waiting p.works.items);

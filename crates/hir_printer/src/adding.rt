@@ -7,7 +7,7 @@ ghost use Rattle.hir_printer.specs.Items.{text, when};
 ghost use Rattle.hir_printer.specs.Settings.{setting};
 ghost use Rattle.hir_printer.specs.Answers.{answers};
 ghost use Rattle.hir_printer.specs.Pieces.{format_of};
-ghost use Rattle.hir_printer.specs.Printing.{on_page, seen};
+ghost use Rattle.hir_printer.specs.Printing.{on_page, printing_of};
 ghost use Rattle.hir_printer.specs.Kinds.{is_node};
 ghost use Rattle.hir_printer.specs.Printers.{Adds, AddsWorks, Wrote, stands_for};
 
@@ -54,7 +54,7 @@ impl<'a> Printer<'a> {
         edition: Edition,
         one_line: bool,
     ) -> Printer<'a>
-        ensures { seen result ≡ on_page
+        ensures { printing_of result ≡ on_page
             (setting store.now (answers tables.now) (words_of tables.now.words edition) one_line) }
     {
         Printer {
@@ -94,7 +94,8 @@ impl<'a> Printer<'a> {
     /// Keeps a work behind those that were kept in this turn.
     #[inline(always)]
     fn keep(&mut self, work: &Work<'a>) -> Result<(), AllocError>
-        ensures { OnOk result (seen self.new ≡ record (seen self.old) { kept = (seen self.old).kept ++ (work.now ∷ []) }) }
+        ensures { OnOk result (printing_of self.new
+            ≡ record (printing_of self.old) { kept = (printing_of self.old).kept ++ (work.now ∷ []) }) }
     {
         push_copy(&mut self.works, work)
     }
@@ -114,7 +115,7 @@ impl<'a> Printer<'a> {
 
     /// Makes room for so many works.
     pub(crate) fn reserve(&mut self, works: usize) -> Result<(), AllocError>
-        ensures { OnOk result (seen self.new ≡ seen self.old) }
+        ensures { OnOk result (printing_of self.new ≡ printing_of self.old) }
     {
         self.works.reserve(works)?;
         Ok(())
@@ -143,7 +144,8 @@ impl<'a> Printer<'a> {
 
     /// Lets what was kept in this turn wait, before all that waits.
     pub(crate) fn end_turn(&mut self)
-        ensures { let old = seen self.old in seen self.new ≡ record old { kept = []; waiting = old.kept ++ old.waiting } }
+        ensures { let old = printing_of self.old in
+            printing_of self.new ≡ record old { kept = []; waiting = old.kept ++ old.waiting } }
     {
         self.works[self.waiting..].reverse();
         self.waiting = self.works.len();
@@ -151,10 +153,13 @@ impl<'a> Printer<'a> {
 
     /// Begins a turn: the next that waits, where something does.
     pub(crate) fn begin_turn(&mut self) -> Option<Work<'a>>
-        requires { (seen self.old).kept ≡ [] }
-        ensures next { IfSome result (λ work. ((seen self.old).waiting ≡ work ∷ (seen self.new).waiting)
-            × (seen self.new ≡ record (seen self.old) { waiting = (seen self.new).waiting })) }
-        ensures over { result ≡ None → ((seen self.old).waiting ≡ []) × (self.new.page ≡ self.old.page) }
+        requires { (printing_of self.old).kept ≡ [] }
+        ensures next { IfSome result (λ work. ((printing_of self.old).waiting
+            ≡ work ∷ (printing_of self.new).waiting)
+            × (printing_of self.new ≡ record (printing_of self.old)
+            { waiting = (printing_of self.new).waiting })) }
+        ensures over { result ≡ None → ((printing_of self.old).waiting ≡ [])
+            × (self.new.page ≡ self.old.page) }
     {
         let work = self.works.pop();
         self.waiting = self.works.len();

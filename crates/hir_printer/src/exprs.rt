@@ -3,7 +3,7 @@
 
 ghost use Rattle.std.specs.Prelude.{◌≡◌, ◌++◌, OnOk};
 ghost use Rattle.hir_node.specs.declared.expr.Expr.TheVariants as of_expr;
-ghost use Rattle.hir_printer.specs.Items.{text, opt, numbered};
+ghost use Rattle.hir_printer.specs.Items.{text, opt, with_number};
 ghost use Rattle.hir_printer.specs.Paths.{args_items, turbofish};
 ghost use Rattle.hir_printer.specs.Exprs.{operand, arguments, raw_keyword, operator_items, spread_items, array_items, unsafe_items, expr_items};
 ghost use Rattle.hir_printer.specs.Printers.{Adds};
@@ -176,7 +176,7 @@ impl<'a> Printer<'a> {
 
     /// Adds the kind of an id and its number, as `ExprId(3)`.
     pub(crate) fn add_numbered(&mut self, kind: &'a str, number: u32) -> Result<(), AllocError>
-        ensures { OnOk result (Adds self.old (λ s. numbered kind.now number) self.new) }
+        ensures { OnOk result (Adds self.old (λ s. with_number kind.now number) self.new) }
     {
         self.add(&[
             Work::Text(kind),

@@ -96,7 +96,8 @@ impl<'a> Printer<'a> {
     }
 
     pub(crate) fn add_crate_name(&mut self, id: CrateId) -> Result<(), AllocError>
-        ensures { OnOk result (Adds self.old (λ s. found_name (codes "$crate") (s.tables.crate_name id)) self.new) }
+        ensures { OnOk result (Adds self.old (λ s. found_name (codes "$crate") (s.tables.crate_name id))
+            self.new) }
     {
         match self.tables.crate_name(id) {
             Ok(found) => self.add_found(found, "$crate"),
@@ -106,7 +107,8 @@ impl<'a> Printer<'a> {
 
     /// Adds the name of a type parameter, or its number.
     pub fn add_param_name(&mut self, number: u32, name: Option<&'a Name>) -> Result<(), AllocError>
-        ensures { OnOk result (Adds self.old (λ s. type_param_items s number (Ok (option_copied name.entry))) self.new) }
+        ensures { OnOk result (Adds self.old (λ s. type_param_items s number (Ok (option_copied name.entry)))
+            self.new) }
     {
         match name {
             None => self.add(&[
@@ -119,7 +121,8 @@ impl<'a> Printer<'a> {
     }
 
     pub(crate) fn add_type_param(&mut self, id: TypeParamId) -> Result<(), AllocError>
-        ensures { OnOk result (Adds self.old (λ s. type_param_items s id.local_id (s.tables.type_param id)) self.new) }
+        ensures { OnOk result (Adds self.old (λ s. type_param_items s id.local_id (s.tables.type_param id))
+            self.new) }
     {
         match type_param(self.tables, id) {
             Ok(name) => self.add_param_name(id.local_id().into_raw(), name),

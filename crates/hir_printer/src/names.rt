@@ -63,7 +63,8 @@ fn name_parts<'n>(words: &[Text], name: &'n str) -> NameParts<'n>
 }
 
 fn write_if<W: PieceWriter>(writer: &mut W, holds: bool, shown: &str) -> Result<(), AllocError>
-    ensures { Writes W.step W.refuses writer.old (map piece.Text (behind holds shown.now [])) (is_ok result) writer.new }
+    ensures { Writes W.step W.refuses writer.old (map piece.Text (behind holds shown.now []))
+        (is_ok result) writer.new }
 {
     if holds {
         writer.text(shown)?;
@@ -77,7 +78,8 @@ pub(crate) fn write_name<W: PieceWriter>(
     words: &[Text],
     name: &str,
 ) -> Result<(), AllocError>
-    ensures { Writes W.step W.refuses writer.old (map piece.Text (name_parts words.now name.now)) (is_ok result) writer.new }
+    ensures { Writes W.step W.refuses writer.old (map piece.Text (name_parts words.now name.now))
+        (is_ok result) writer.new }
 {
     let parts = name_parts(words, name);
     write_if(writer, parts.is_quoted, "'")?;

@@ -4,7 +4,7 @@
 ghost use Rattle.std.specs.Prelude.{◌++◌, List, OnOk, map};
 ghost use Rattle.std.specs.List.{flat_map};
 ghost use Rattle.hir_printer.specs.Questions.{Setting};
-ghost use Rattle.hir_printer.specs.Items.{Item, text, opt, p, e, t, joined};
+ghost use Rattle.hir_printer.specs.Items.{Item, text, opt, p, e, t, join};
 ghost use Rattle.hir_printer.specs.Names.{name_items};
 ghost use Rattle.hir_printer.specs.Printers.{Adds, following, stood_after};
 
@@ -84,7 +84,7 @@ impl<'a> Printer<'a> {
         members: &'a [T],
     ) -> Result<(), AllocError>
         ensures { OnOk result (Adds self.old
-            (λ s. joined (text between.now) (map (T.items s) members.now)) self.new) }
+            (λ s. join (text between.now) (map (T.items s) members.now)) self.new) }
     {
         self.add_list(false, between, members)
     }

@@ -149,7 +149,8 @@ impl<'a> Printer<'a> {
         target: LangItemTarget,
         name: &'a Option<Boxed<Name>>,
     ) -> Result<(), AllocError>
-        ensures { OnOk result (Adds self.old (λ s. path_items s (of_path.LangItem target name.now)) self.new) }
+        ensures { OnOk result (Adds self.old (λ s. path_items s (of_path.LangItem target name.now))
+            self.new) }
     {
         self.add(&[Work::Text("builtin#lang(")])?;
         self.add_target(target)?;

@@ -8,7 +8,7 @@ ghost use Rattle.hir_printer.specs.Questions.{Setting};
 ghost use Rattle.hir_printer.specs.Items.{p, opt, under, comma_joined};
 ghost use Rattle.hir_printer.specs.Names.{annotation_text, binding_items};
 ghost use Rattle.hir_printer.specs.Pats.{with_rest, in_parentheses, has_printed_name, is_short, field_pattern, after_last, field_patterns, pat_items};
-ghost use Rattle.hir_printer.specs.Printing.{seen};
+ghost use Rattle.hir_printer.specs.Printing.{printing_of};
 ghost use Rattle.hir_printer.specs.Printers.{Adds};
 
 use crate::names::is_printed;
@@ -57,14 +57,16 @@ impl<'a> Printer<'a> {
     }
 
     fn binds_name(&self, name: &str, id: BindingId) -> bool
-        ensures { result ≡ has_printed_name (seen self.now).from name.now (slice_get (seen self.now).from.nodes.bindings id) }
+        ensures { result ≡ has_printed_name (printing_of self.now).from name.now
+            (slice_get (printing_of self.now).from.nodes.bindings id) }
     {
         self.store.has_binding(id) && has_printed_name(self.words, name, &self.store[id])
     }
 
     /// Whether a field's pattern binds its name as it is printed, so that the name alone is printed.
     fn is_short(&self, field: &RecordFieldPat) -> bool
-        ensures { result ≡ is_short (seen self.now).from field.now.name (slice_get (seen self.now).from.nodes.pats field.now.pat) }
+        ensures { result ≡ is_short (printing_of self.now).from field.now.name
+            (slice_get (printing_of self.now).from.nodes.pats field.now.pat) }
     {
         if self.store.has_pat(field.pat) {
             if let Pat::Bind { id, subpat: None } = &self.store[field.pat] {
@@ -113,7 +115,8 @@ impl<'a> Printer<'a> {
         fields: &'a [RecordFieldPat],
         rest: bool,
     ) -> Result<(), AllocError>
-        ensures { OnOk result (Adds self.old (λ s. pat_items s (of_pat.Record rest path.now fields.now)) self.new) }
+        ensures { OnOk result (Adds self.old (λ s. pat_items s (of_pat.Record rest path.now fields.now))
+            self.new) }
     {
         self.add_path(path)?;
         self.add(&[Work::Text(" {"), Work::Indent])?;
@@ -158,7 +161,8 @@ impl<'a> Printer<'a> {
         slice: &'a Option<PatId>,
         suffix: &'a [PatId],
     ) -> Result<(), AllocError>
-        ensures { OnOk result (Adds self.old (λ s. pat_items s (of_pat.Slice prefix.now slice.now suffix.now)) self.new) }
+        ensures { OnOk result (Adds self.old (λ s. pat_items s (of_pat.Slice prefix.now slice.now suffix.now))
+            self.new) }
     {
         self.add(&[Work::Text("[")])?;
         self.add_each(prefix, &[Work::Text(", ")])?;

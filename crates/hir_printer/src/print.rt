@@ -7,12 +7,12 @@ ghost use Rattle.hir_expr_store.specs.declared.missing.Missing.{Missing};
 ghost use Rattle.hir_printer.specs.declared.fault.PrintFault.TheVariants as fault;
 ghost use Rattle.hir_printer.specs.declared.work.Work.TheVariants as works;
 ghost use Rattle.hir_printer.specs.Items.{Item};
-ghost use Rattle.hir_printer.specs.Pieces.{items_of, printed, is_chain, stands_in_parentheses, precedence_found};
+ghost use Rattle.hir_printer.specs.Pieces.{items_of, item_list_pieces, is_chain, stands_in_parentheses, precedence_found};
 ghost use Rattle.hir_printer.specs.Falls.{ItemsFall};
 ghost use Rattle.hir_printer.specs.Kinds.{is_node};
-ghost use Rattle.hir_printer.specs.Printed.{PrintsPieces};
-ghost use Rattle.hir_printer.specs.Printing.{on_page, seen};
-ghost use Rattle.hir_printer.specs.Printers.{meant, printing, Adds, AddsItems, GaveWay, Turned, enclosed};
+ghost use Rattle.hir_printer.specs.PrintAnswers.{PrintsPieces};
+ghost use Rattle.hir_printer.specs.Printing.{on_page, printing_of};
+ghost use Rattle.hir_printer.specs.Printers.{items_of_works, printing, Adds, AddsItems, GaveWay, Turns, enclose};
 
 use crate::fault::PrintFault;
 use crate::laws::items_fall;
@@ -82,7 +82,7 @@ impl<'a> Printer<'a> {
 
     /// Adds an expression, in parentheses where its precedence asks for them under that of its parent.
     fn add_under(&mut self, id: ExprId, parent: ExprPrecedence) -> Result<(), AllocError>
-        ensures { OnOk result (Adds self.old (λ s. enclosed
+        ensures { OnOk result (Adds self.old (λ s. enclose
             (stands_in_parentheses (precedence_found (slice_get s.nodes.exprs id)) parent)
             (items_of s (node.Expr id))) self.new) }
     {
@@ -94,7 +94,7 @@ impl<'a> Printer<'a> {
 
     /// Adds generic arguments in `::<` and `>`. The first text is written at once, so that less is kept than they are.
     fn add_fish(&mut self, args: &'a GenericArgs) -> Result<(), AllocError>
-        requires none { (seen self.old).kept ≡ [] }
+        requires none { (printing_of self.old).kept ≡ [] }
         ensures { OnOk result (GaveWay (works.Args args.entry) self.old self.new) }
     {
         self.write_work(&Work::Text("::<"))?;
@@ -105,8 +105,8 @@ impl<'a> Printer<'a> {
     /// Adds what a node gives way to, or answers that it is missing.
     fn give_way(&mut self, work: &Work<'a>) -> Result<(), PrintFault>
         requires node { is_node work.now ≡ true }
-        requires fall { ItemsFall (seen self.old).from }
-        requires none { (seen self.old).kept ≡ [] }
+        requires fall { ItemsFall (printing_of self.old).from }
+        requires none { (printing_of self.old).kept ≡ [] }
         ensures ok { OnOk result (GaveWay work.now self.old self.new) }
         ensures missing { (m : Missing) → result ≡ Err (fault.Missing m) → work.now ≡ works.Lacks m }
     {
@@ -131,9 +131,9 @@ impl<'a> Printer<'a> {
     /// Writes a work, or lets what it gives way to wait before all that waits.
     #[inline(always)]
     fn turn(&mut self, work: &Work<'a>) -> Result<(), PrintFault>
-        requires fall { ItemsFall (seen self.old).from }
-        requires none { (seen self.old).kept ≡ [] }
-        ensures ok { OnOk result (Turned work.now self.old self.new) }
+        requires fall { ItemsFall (printing_of self.old).from }
+        requires none { (printing_of self.old).kept ≡ [] }
+        ensures ok { OnOk result (Turns work.now self.old self.new) }
         ensures missing { (m : Missing) → result ≡ Err (fault.Missing m) → work.now ≡ works.Lacks m }
     {
         if work.is_node() {
@@ -147,11 +147,13 @@ impl<'a> Printer<'a> {
 
     /// Writes the pieces of what was added, up to the first fault.
     fn write(&mut self) -> Result<(), PrintFault>
-        ensures ok { let old = seen self.old in
-            OnOk result (printing old.page (printed old.from (meant old.from (old.kept ++ old.waiting))) ≡ (self.new.page, None)) }
-        ensures missing { let old = seen self.old in
+        ensures ok { let old = printing_of self.old in
+            OnOk result (printing old.page (item_list_pieces old.from
+            (items_of_works old.from (old.kept ++ old.waiting))) ≡ (self.new.page, None)) }
+        ensures missing { let old = printing_of self.old in
             (m : Missing) → result ≡ Err (fault.Missing m)
-            → (printing old.page (printed old.from (meant old.from (old.kept ++ old.waiting)))).1 ≡ Some m }
+            → (printing old.page (item_list_pieces old.from
+            (items_of_works old.from (old.kept ++ old.waiting)))).1 ≡ Some m }
     {
         self.store.has_no_fault();
         items_fall();
@@ -166,8 +168,9 @@ impl<'a> Printer<'a> {
     ///
     /// Answers `Missing` of the first definition that the text names and the tables don't have, and `Memory` where memory was refused.
     pub fn print(mut self) -> Result<String, PrintFault>
-        ensures { let s = (seen self.entry).from in
-            (items : List Item) → AddsItems (on_page s) (λ s. items) (seen self.entry) → PrintsPieces s (printed s items) result }
+        ensures { let s = (printing_of self.entry).from in
+            (items : List Item) → AddsItems (on_page s) (λ s. items) (printing_of self.entry)
+            → PrintsPieces s (item_list_pieces s items) result }
     {
         self.write()?;
         Ok(self.into_text())

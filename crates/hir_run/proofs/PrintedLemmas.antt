@@ -11,20 +11,20 @@ use Rattle.hir_printer.specs.declared.fault.PrintFault.{PrintFault}
 use Rattle.hir_printer.specs.declared.fault.PrintFault.TheVariants as fault
 use Rattle.hir_printer.specs.Answers.{answers}
 use Rattle.hir_printer.specs.Pieces.{first_missing, text_of}
-use Rattle.hir_printer.specs.Printed.{PrintsPieces}
+use Rattle.hir_printer.specs.PrintAnswers.{PrintsPieces}
 use Rattle.hir_printer.specs.Settings.{setting}
-use Rattle.hir_printer.specs.Pieces.{printed}
+use Rattle.hir_printer.specs.Pieces.{item_list_pieces}
 use Rattle.hir_pretty.specs.Bodies.{body_items}
-use Rattle.hir_pretty.specs.Found.{parents}
+use Rattle.hir_pretty.specs.FoundParts.{parents}
 use Rattle.hir_run.specs.OfLines.{AreOfLines}
-use Rattle.hir_run.specs.Printed.{tables_of, printed_from, body_pieces, body_text}
+use Rattle.hir_run.specs.PrintText.{tables_of, printed_from, body_pieces, body_text}
 use Rattle.hir_run.proofs.OutsideLemmas.{nothing_missing}
 
 -- what printing the body of a function answers over some tables
 abbrev Printing : {Z : Type 0} → BodyContents → Tables → ℕ → Result (String Z) PrintFault → Type 0
 Printing b t id result =
     PrintsPieces (setting b.store (answers t) (words_of t.words Edition2021) false)
-    (printed (setting b.store (answers t) (words_of t.words Edition2021) false) (body_items (setting b.store (answers t) (words_of t.words Edition2021) false) (parents t) (body.FunctionId id) b)) result
+    (item_list_pieces (setting b.store (answers t) (words_of t.words Edition2021) false) (body_items (setting b.store (answers t) (words_of t.words Edition2021) false) (parents t) (body.FunctionId id) b)) result
 
 pub over_name : {Z : Type 0} (t : Tables) (name : Option (List ℕ)) (b : BodyContents) (id : ℕ) (result : Result (String Z) PrintFault) → t ≡ tables_of name → id ≡ 0
     → Printing b t id result → PrintsPieces (printed_from name b) (body_pieces name b) result

@@ -1,13 +1,13 @@
 use Rattle.std.proofs.Common.{map, drop, codes}
 use Rattle.hir_items.specs.Bodies.{formals_of}
 use Rattle.hir_printer.specs.Items.{p, text, comma_joined}
-use Rattle.hir_printer.specs.Printing.{seen}
+use Rattle.hir_printer.specs.Printing.{printing_of}
 use Rattle.hir_printer.specs.Printers.{following}
-use Rattle.hir_printer.proofs.AddLemmas.{Left}
+use Rattle.hir_printer.proofs.AddLemmas.{AddsRest}
 use Rattle.hir_pretty.specs.Bodies.{formal_params}
 use Rattle.hir_pretty.proofs.bodies.add_all_formals.Given as goal
 
 abbrev pub invariant-loop-param : goal.invariant-loop-param
 invariant-loop-param l =
-    Left (seen l.fn.printer) (λ s. comma_joined (formal_params s l.fn.self_binding (formals_of l.params))) (seen l.printer)
+    AddsRest (printing_of l.fn.printer) (λ s. comma_joined (formal_params s l.fn.self_binding (formals_of l.params))) (printing_of l.printer)
     (λ s. following (text (codes ", ")) l.after (map p (formals_of (drop l.param-index l.params))))

@@ -2,13 +2,13 @@ use Rattle.std.proofs.Common.{codes, false, map, ℕ}
 use Rattle.hir_generics.specs.declared.data.LifetimeParamData.{LifetimeParamData}
 use Rattle.hir_printer.specs.Items.{text}
 use Rattle.hir_printer.specs.Names.{name_items}
-use Rattle.hir_printer.specs.Printing.{seen}
+use Rattle.hir_printer.specs.Printing.{printing_of}
 use Rattle.hir_printer.specs.Printers.{following}
-use Rattle.hir_printer.proofs.AddLemmas.{Left}
+use Rattle.hir_printer.proofs.AddLemmas.{AddsRest}
 use Rattle.hir_pretty.specs.Signatures.{each_lifetime}
 use Rattle.hir_pretty.proofs.generics.add_lifetimes.Given as goal
 
 abbrev pub invariant-loop-lifetime : goal.invariant-loop-lifetime
 invariant-loop-lifetime l =
-    Left (seen l.fn.printer) (λ s. following (text (codes ", ")) false (each_lifetime s l.params.lifetimes)) (seen l.printer)
+    AddsRest (printing_of l.fn.printer) (λ s. following (text (codes ", ")) false (each_lifetime s l.params.lifetimes)) (printing_of l.printer)
     (λ s. following (text (codes ", ")) l.after (map (λ (entry : ℕ × LifetimeParamData). name_items s entry.1.name) l.lifetime-iterator))

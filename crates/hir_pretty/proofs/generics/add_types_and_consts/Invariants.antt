@@ -1,13 +1,13 @@
 use Rattle.std.proofs.Common.{codes}
 use Rattle.std.specs.List.{enumerate_from}
 use Rattle.hir_printer.specs.Items.{text}
-use Rattle.hir_printer.specs.Printing.{seen}
+use Rattle.hir_printer.specs.Printing.{printing_of}
 use Rattle.hir_printer.specs.Printers.{following}
-use Rattle.hir_printer.proofs.AddLemmas.{Left}
+use Rattle.hir_printer.proofs.AddLemmas.{AddsRest}
 use Rattle.hir_pretty.specs.Signatures.{each_type_or_const}
 use Rattle.hir_pretty.proofs.generics.add_types_and_consts.Given as goal
 
 abbrev pub invariant-loop-at : goal.invariant-loop-at
 invariant-loop-at l =
-    Left (seen l.fn.printer) (λ s. following (text (codes ", ")) l.first (each_type_or_const s (enumerate_from 0 l.params.type_or_consts))) (seen l.printer)
+    AddsRest (printing_of l.fn.printer) (λ s. following (text (codes ", ")) l.first (each_type_or_const s (enumerate_from 0 l.params.type_or_consts))) (printing_of l.printer)
     (λ s. following (text (codes ", ")) l.after (each_type_or_const s l.at-iterator))

@@ -1,12 +1,12 @@
 use Rattle.std.proofs.Common.{codes, map, drop}
 use Rattle.hir_printer.specs.Items.{text}
-use Rattle.hir_printer.specs.Printing.{seen}
+use Rattle.hir_printer.specs.Printing.{printing_of}
 use Rattle.hir_printer.specs.Printers.{following}
-use Rattle.hir_printer.proofs.AddLemmas.{Left}
+use Rattle.hir_printer.proofs.AddLemmas.{AddsRest}
 use Rattle.hir_pretty.specs.Signatures.{predicate_items, each_predicate}
 use Rattle.hir_pretty.proofs.generics.add_where.Given as goal
 
 abbrev pub invariant-loop-predicate : goal.invariant-loop-predicate
 invariant-loop-predicate l =
-    Left (seen l.initial.printer) (λ s. each_predicate s l.predicates) (seen l.printer)
+    AddsRest (printing_of l.initial.printer) (λ s. each_predicate s l.predicates) (printing_of l.printer)
     (λ s. following (text (codes ",\n")) l.after (map (predicate_items s) (drop l.predicate-index l.predicates)))

@@ -4,7 +4,7 @@ use Rattle.hir_base.specs.RawWords.{words_of}
 use Rattle.hir_node.specs.declared.node_id.NodeId.TheVariants as node
 use Rattle.hir_printer.specs.Settings.{setting}
 use Rattle.hir_printer.specs.Pieces.{pieces}
-use Rattle.hir_printer.specs.Printed.{PrintsPieces}
+use Rattle.hir_printer.specs.PrintAnswers.{PrintsPieces}
 use Rattle.hir_printer.specs.Answers.{answers}
 use Rattle.hir_printer.proofs.AddLemmas.{adds}
 use Rattle.hir_printer.proofs.TurnLemmas.{prints}

@@ -1,9 +1,9 @@
 use Rattle.std.proofs.Common.{drop}
 use Rattle.std.specs.List.{flat_map}
-use Rattle.hir_printer.specs.Printing.{seen}
-use Rattle.hir_printer.proofs.AddLemmas.{Left}
+use Rattle.hir_printer.specs.Printing.{printing_of}
+use Rattle.hir_printer.proofs.AddLemmas.{AddsRest}
 use Rattle.hir_pretty.specs.Variants.{field_line}
 use Rattle.hir_pretty.proofs.variants.add_fields.Given as goal
 
 abbrev pub invariant-loop-field : goal.invariant-loop-field
-invariant-loop-field l = Left (seen l.initial.printer) (λ s. flat_map (field_line s) l.fields) (seen l.printer) (λ s. flat_map (field_line s) (drop l.field-index l.fields))
+invariant-loop-field l = AddsRest (printing_of l.initial.printer) (λ s. flat_map (field_line s) l.fields) (printing_of l.printer) (λ s. flat_map (field_line s) (drop l.field-index l.fields))

@@ -1,11 +1,11 @@
 use Rattle.std.proofs.Common.{◌∷◌, [], codes, sym, ap, ◌∙◌}
 use Rattle.hir_printer.specs.Names.{behind, name_parts}
-use Rattle.hir_printer.proofs.NameLemmas.{unquoted, quoted_static, quoted_other}
+use Rattle.hir_printer.proofs.NameLemmas.{no_quote, quoted_static, quoted_other}
 use Rattle.hir_printer.proofs.names.name_parts.Goals as goal
 
 pub returns-in-None : goal.returns-in-None
 returns-in-None c =
-    ap (λ b. behind b (codes "r#") (c.args.name.now ∷ [])) c.is_word.ensures ∙ sym (unquoted c.args.words.now c.args.name.now c.in-None.ensures)
+    ap (λ b. behind b (codes "r#") (c.args.name.now ∷ [])) c.is_word.ensures ∙ sym (no_quote c.args.words.now c.args.name.now c.in-None.ensures)
 
 pub returns-in-Some : goal.returns-in-Some
 returns-in-Some c =

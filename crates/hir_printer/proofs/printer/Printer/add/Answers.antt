@@ -1,6 +1,6 @@
 use Rattle.std.proofs.Common.{refl, ap, ◌∙◌}
 use Rattle.std.proofs.lemmas.List.{take_all}
-use Rattle.hir_printer.specs.Printers.{meant}
+use Rattle.hir_printer.specs.Printers.{items_of_works}
 use Rattle.hir_printer.proofs.AddLemmas.{adds_none, adds_then, adds_as, stood_is, meant_more}
 use Rattle.hir_printer.proofs.printer.Printer.add.Goals as goal
 
@@ -13,5 +13,5 @@ loop-work-preserved c =
 
 pub returns : goal.returns
 returns c = record {
-  adds = adds_as c.loop-work.invariant (λ s. ap (meant s) (take_all c.loop-work.work-index c.args.works.now c.loop-work-test.false) ∙ stood_is s c.args.works.now);
+  adds = adds_as c.loop-work.invariant (λ s. ap (items_of_works s) (take_all c.loop-work.work-index c.args.works.now c.loop-work-test.false) ∙ stood_is s c.args.works.now);
 }

@@ -2,7 +2,7 @@ use Rattle.std.proofs.Common.{◌++◌, codes, map, ap, ◌∙◌}
 use Rattle.std.specs.Prelude.{◌&&◌}
 use Rattle.std.proofs.lemmas.Result.{on_ok_weaker}
 use Rattle.hir_path.specs.declared.path.GenericArgs.{out-GenericArgs}
-use Rattle.hir_printer.specs.Items.{text, when, joined}
+use Rattle.hir_printer.specs.Items.{text, when, join}
 use Rattle.hir_printer.specs.Paths.{arg_items, assoc_items}
 use Rattle.hir_printer.specs.Printers.{following}
 use Rattle.hir_printer.proofs.AddLemmas.{adds_then, adds_as}
@@ -15,6 +15,6 @@ returns c =
     let sep = text (codes ", ") in
     on_ok_weaker c.add_list.result
     (λ a. adds_as (adds_then (adds_then c.in_ok-add_if.ensures (rw c.as_slice.ensures at c.in_ok-add_joined.ensures)) a)
-    (λ s. ap (λ h. when (h && (out-GenericArgs x).has_self_type) (text (codes "Self=")) ++ joined sep (map (arg_items s) (out-GenericArgs x).args) ++ following sep h (map (assoc_items s) (out-GenericArgs x).bindings))
+    (λ s. ap (λ h. when (h && (out-GenericArgs x).has_self_type) (text (codes "Self=")) ++ join sep (map (arg_items s) (out-GenericArgs x).args) ++ following sep h (map (assoc_items s) (out-GenericArgs x).bindings))
     (filled (out-GenericArgs x).args c.is_empty-has_args.result c.is_empty-has_args.ensures) ∙ args_is s x))
     (rw c.as_slice-2.ensures at c.add_list.ensures)

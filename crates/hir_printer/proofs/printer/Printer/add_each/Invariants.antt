@@ -1,11 +1,11 @@
 use Rattle.std.proofs.Common.{drop}
 use Rattle.std.specs.List.{flat_map}
-use Rattle.hir_printer.specs.Printing.{seen}
+use Rattle.hir_printer.specs.Printing.{printing_of}
 use Rattle.hir_printer.specs.Printers.{stood_after}
-use Rattle.hir_printer.proofs.AddLemmas.{Left}
+use Rattle.hir_printer.proofs.AddLemmas.{AddsRest}
 use Rattle.hir_printer.proofs.printer.Printer.add_each.Given as goal
 
 abbrev pub invariant-loop-member : goal.invariant-loop-member
 invariant-loop-member g l =
-    Left (seen l.fn.self) (λ s. flat_map (λ x. stood_after s (g.T.Part.items s x) l.behind) l.members) (seen l.self)
+    AddsRest (printing_of l.fn.self) (λ s. flat_map (λ x. stood_after s (g.T.Part.items s x) l.behind) l.members) (printing_of l.self)
     (λ s. flat_map (λ x. stood_after s (g.T.Part.items s x) l.behind) (drop l.member-index l.members))

@@ -3,7 +3,7 @@ use Rattle.std.proofs.lemmas.Result.{on_ok_weaker}
 use Rattle.hir_printer.proofs.AddLemmas.{adds, adds_more, adds_here}
 use Rattle.hir_printer.specs.Questions.{Setting}
 use Rattle.hir_printer.specs.Pats.{is_short, field_pattern}
-use Rattle.hir_printer.specs.Printing.{seen}
+use Rattle.hir_printer.specs.Printing.{printing_of}
 use Rattle.hir_printer.proofs.FieldLemmas.{same_from, short_field, long_field}
 use Rattle.hir_printer.proofs.printer.Printer.add_field_pat.Goals as goal
 
@@ -11,12 +11,12 @@ pub returns-then-is_short : goal.returns-then-is_short
 returns-then-is_short c =
     let a = rw c.as_str.ensures at c.in_ok-add.ensures in
     let f = c.args.field.now in
-    adds_here {g = λ s. field_pattern s f} (adds a (λ s. refl)) (short_field (seen c.args.self.now).from f (ap (λ (s : Setting). is_short s f.name (slice_get s.nodes.pats f.pat)) (sym (same_from a.adds)) ∙ sym c.is_short.ensures ∙ c.if-is_short.true))
+    adds_here {g = λ s. field_pattern s f} (adds a (λ s. refl)) (short_field (printing_of c.args.self.now).from f (ap (λ (s : Setting). is_short s f.name (slice_get s.nodes.pats f.pat)) (sym (same_from a.adds)) ∙ sym c.is_short.ensures ∙ c.if-is_short.true))
 
 pub returns : goal.returns
 returns c =
     let a = rw c.as_str.ensures at c.in_ok-add.ensures in
     let f = c.args.field.now in
     on_ok_weaker c.add-2.result
-    (λ b. adds_here {g = λ s. field_pattern s f} (adds_more (adds a (λ s. refl)) b) (long_field (seen c.args.self.now).from f (ap (λ (s : Setting). is_short s f.name (slice_get s.nodes.pats f.pat)) (sym (same_from a.adds)) ∙ sym c.is_short.ensures ∙ c.if-is_short.false)))
+    (λ b. adds_here {g = λ s. field_pattern s f} (adds_more (adds a (λ s. refl)) b) (long_field (printing_of c.args.self.now).from f (ap (λ (s : Setting). is_short s f.name (slice_get s.nodes.pats f.pat)) (sym (same_from a.adds)) ∙ sym c.is_short.ensures ∙ c.if-is_short.false)))
     c.add-2.ensures

@@ -1,11 +1,11 @@
 use Rattle.std.proofs.Common.{length}
 use Rattle.hir_printer.specs.Pats.{field_patterns}
-use Rattle.hir_printer.specs.Printing.{seen}
-use Rattle.hir_printer.proofs.AddLemmas.{Left}
+use Rattle.hir_printer.specs.Printing.{printing_of}
+use Rattle.hir_printer.proofs.AddLemmas.{AddsRest}
 use Rattle.hir_printer.proofs.printer.Printer.add_field_pats.Given as goal
 
 abbrev pub invariant-loop-left : goal.invariant-loop-left
-invariant-loop-left l = Left (seen l.fn.self) (λ s. field_patterns s l.rest l.fields) (seen l.self) (λ s. field_patterns s l.rest l.left)
+invariant-loop-left l = AddsRest (printing_of l.fn.self) (λ s. field_patterns s l.rest l.fields) (printing_of l.self) (λ s. field_patterns s l.rest l.left)
 
 abbrev pub decreases-loop-left : goal.decreases-loop-left
 decreases-loop-left l = length l.left

@@ -2,19 +2,19 @@ use Rattle.std.proofs.Common.{◌∷◌, [], refl, sym, ap}
 use Rattle.std.proofs.lemmas.Result.{on_ok_weaker}
 use Rattle.hir_printer.specs.Items.{Lacks}
 use Rattle.hir_printer.specs.Names.{name_items, param_items}
-use Rattle.hir_printer.specs.Printing.{seen}
+use Rattle.hir_printer.specs.Printing.{printing_of}
 use Rattle.hir_printer.proofs.AddLemmas.{adds, adds_here}
 use Rattle.hir_printer.proofs.printer.Printer.add_lifetime.Goals as goal
 
 pub returns-in-Ok : goal.returns-in-Ok
 returns-in-Ok c =
-    let s = (seen c.args.self.now).from in
+    let s = (printing_of c.args.self.now).from in
     rw c.in-Param.is (on_ok_weaker c.add-in-Ok.result
     (λ a. adds_here (adds {is = λ t. name_items t c.in-Ok.name.now} a (λ t. refl)) (sym (ap (param_items s) c.in-Ok.ensures.found))) (rw c.as_str-in-Ok.ensures at c.add-in-Ok.ensures))
 
 pub returns-in-Err : goal.returns-in-Err
 returns-in-Err c =
-    let s = (seen c.args.self.now).from in
+    let s = (printing_of c.args.self.now).from in
     rw c.in-Param.is (on_ok_weaker c.add-in-Err.result
     (λ a. adds_here (adds {is = λ t. Lacks c.in-Err.missing ∷ []} a (λ t. refl)) (sym (ap (param_items s) c.in-Err.ensures.absent))) c.add-in-Err.ensures)
 

@@ -1,11 +1,11 @@
 use Rattle.std.proofs.Common.{map, drop}
 use Rattle.hir_printer.specs.Items.{text}
-use Rattle.hir_printer.specs.Printing.{seen}
+use Rattle.hir_printer.specs.Printing.{printing_of}
 use Rattle.hir_printer.specs.Printers.{following}
-use Rattle.hir_printer.proofs.AddLemmas.{Left}
+use Rattle.hir_printer.proofs.AddLemmas.{AddsRest}
 use Rattle.hir_printer.proofs.printer.Printer.add_list.Given as goal
 
 abbrev pub invariant-loop-member : goal.invariant-loop-member
 invariant-loop-member g l =
-    Left (seen l.fn.self) (λ s. following (text l.between) l.fn.after (map (g.T.Part.items s) l.members)) (seen l.self)
+    AddsRest (printing_of l.fn.self) (λ s. following (text l.between) l.fn.after (map (g.T.Part.items s) l.members)) (printing_of l.self)
     (λ s. following (text l.between) l.after (map (g.T.Part.items s) (drop l.member-index l.members)))

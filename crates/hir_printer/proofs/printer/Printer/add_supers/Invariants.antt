@@ -1,11 +1,11 @@
 use Rattle.std.proofs.Common.{◌<◌}
 use Rattle.hir_printer.specs.Paths.{supers}
-use Rattle.hir_printer.specs.Printing.{seen}
-use Rattle.hir_printer.proofs.AddLemmas.{Left}
+use Rattle.hir_printer.specs.Printing.{printing_of}
+use Rattle.hir_printer.proofs.AddLemmas.{AddsRest}
 use Rattle.hir_printer.proofs.printer.Printer.add_supers.Given as goal
 
 abbrev pub invariant-loop-left : goal.invariant-loop-left
-invariant-loop-left l = record { some : 0 < l.left; left : Left (seen l.fn.self) (λ s. supers l.times) (seen l.self) (λ s. supers l.left) }
+invariant-loop-left l = record { some : 0 < l.left; left : AddsRest (printing_of l.fn.self) (λ s. supers l.times) (printing_of l.self) (λ s. supers l.left) }
 
 abbrev pub decreases-loop-left : goal.decreases-loop-left
 decreases-loop-left l = l.left

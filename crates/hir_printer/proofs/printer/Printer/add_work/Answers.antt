@@ -1,7 +1,7 @@
 use Rattle.std.proofs.Common.{◌≡◌, [], sym, ◌∙◌, arith}
 use Rattle.std.proofs.lemmas.Result.{on_ok_weaker}
 use Rattle.std.proofs.lemmas.List.{drop_all}
-use Rattle.hir_printer.specs.Printing.{seen}
+use Rattle.hir_printer.specs.Printing.{printing_of}
 use Rattle.hir_printer.proofs.TurnLemmas.{wrote_adds, kept_adds}
 use Rattle.hir_printer.proofs.printer.Printer.add_work.Goals as goal
 
@@ -17,5 +17,5 @@ write_work-requires c = rw c.copy_of-work.ensures (sym c.is_node.ensures ∙ c.i
 pub returns : goal.returns
 returns c =
     let p = c.args.self.now in
-    let none : (seen p).kept ≡ [] = drop_all p.waiting p.works.items (omega arith) in
+    let none : (printing_of p).kept ≡ [] = drop_all p.waiting p.works.items (omega arith) in
     rw (← c.copy_of-work.ensures) (on_ok_weaker c.write_work.result (wrote_adds none) c.write_work.ensures)

@@ -1,7 +1,7 @@
 use Rattle.std.proofs.Common.{List, ap₂, arith}
 use Rattle.std.proofs.lemmas.Result.{on_ok_weaker}
 use Rattle.hir_printer.specs.declared.work.Work.{Work}
-use Rattle.hir_printer.specs.Printing.{seen}
+use Rattle.hir_printer.specs.Printing.{printing_of}
 use Rattle.hir_printer.proofs.WorksLemmas.{kept_more, waiting_still}
 use Rattle.hir_printer.proofs.printer.Printer.keep.Goals as goal
 
@@ -9,6 +9,6 @@ pub returns : goal.returns
 returns c =
     let p = c.args.self.now in
     on_ok_weaker c.push_copy.result
-    (λ e. ap₂ (λ (k ws : List Work). record (seen p) { kept = k; waiting = ws })
+    (λ e. ap₂ (λ (k ws : List Work). record (printing_of p) { kept = k; waiting = ws })
     (kept_more p.waiting p.works.items _ c.args.work.now (omega arith) e) (waiting_still p.waiting p.works.items _ c.args.work.now (omega arith) e))
     c.push_copy.ensures.added

@@ -3,7 +3,7 @@ use Rattle.std.specs.Fmt.{decimal}
 use Rattle.hir_page.specs.Pieces.{Text, SoftSpace, Break, Indent, Outdent}
 use Rattle.hir_printer.specs.Literals.{literal_items, put_pieces}
 use Rattle.hir_printer.specs.Names.{name_parts}
-use Rattle.hir_printer.specs.Printing.{seen}
+use Rattle.hir_printer.specs.Printing.{printing_of}
 use Rattle.hir_printer.proofs.PieceLemmas.{page_is, literal_pieces, name_printed}
 use Rattle.hir_printer.proofs.WeightLemmas.{literal_heft, name_heft}
 use Rattle.hir_printer.proofs.TurnLemmas.{on_ok_of, on_ok_writes, wrote}
@@ -30,12 +30,12 @@ returns-in-Number c =
 
 pub returns-in-Literal : goal.returns-in-Literal
 returns-in-Literal c =
-    let s = (seen c.args.self.now).from in
+    let s = (printing_of c.args.self.now).from in
     let x = c.in-Literal.literal.now in
     rw c.in-Literal.is (on_ok_writes c.write_literal.result (λ k. wrote (put_pieces (literal_items x)) refl (literal_pieces s x) (page_is k) (literal_heft s x)) c.write_literal.ensures)
 
 pub returns-in-Name : goal.returns-in-Name
 returns-in-Name c =
-    let s = (seen c.args.self.now).from in
+    let s = (printing_of c.args.self.now).from in
     let name = c.in-Name.name.now in
     rw c.in-Name.is (on_ok_writes c.write_name.result (λ k. wrote (map Text (name_parts s.words name)) refl (name_printed s name) (page_is k) (name_heft s name)) c.write_name.ensures)
