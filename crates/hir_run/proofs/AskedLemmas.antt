@@ -15,10 +15,10 @@ use Rattle.hir_run.specs.declared.fault.RunFault.{RunFault}
 use Rattle.hir_run.specs.declared.fault.RunFault.TheVariants.{BadLine, Refused, BodyRefused, InputFailed, OutputFailed, OutOfMemory}
 use Rattle.hir_run.specs.Faults.{fault_of_line}
 use Rattle.hir_run.specs.Program.{IsLineAnswer, AreAnswers}
-use Rattle.hir_run.specs.Stages.{TakesLine, AsksLine, asked, HaveAnswers, Answered, AsksUpTo, Asks}
+use Rattle.hir_run.specs.Stages.{TakesLine, AsksLine, section_from, HaveAnswers, AreAnswered, AsksUpTo, Asks}
 use Rattle.hir_run.proofs.Refusals.{behind_line, behind_none, some_text}
 use Rattle.hir_run.proofs.Scripts.{says-push}
-use Rattle.hir_run.proofs.WritingLemmas.{IsWrittenUpTo-then, GrowsByFront-then, kept}
+use Rattle.hir_run.proofs.WritingLemmas.{IsWrittenUpTo-then, GrowsByFront-then, rest_waits}
 
 -- the end isn't met now, so it wasn't before
 pub unmet_then : (was now : Bool) → (was ≡ true → now ≡ true) → now ≡ false → was ≡ false
@@ -35,22 +35,22 @@ both_so true true h k = refl
 both_so true false h k = k
 both_so false b h k = h
 
-asked_push : (first : Question) (texts : List (List ℕ)) (text : List ℕ) → asked first (texts ++ text ∷ []) ≡ asked first texts ++ line_of text ∷ []
+asked_push : (first : Question) (texts : List (List ℕ)) (text : List ℕ) → section_from first (texts ++ text ∷ []) ≡ section_from first texts ++ line_of text ∷ []
 asked_push first texts text = ap (λ v. Ask first ∷ v) (says-push texts text)
 
 module _ (may : Question → Bool) (Is : Question → List ℕ → Type 0) where
   -- one more line has an answer
-  have_more : (first : Question) (texts : List (List ℕ)) (text : List ℕ) (answers answer : List ℕ) → HaveAnswers may Is (asked first texts) answers → may_ask may (line_of text) ≡ true → IsLineAnswer Is (line_of text) answer → HaveAnswers may Is (asked first (texts ++ text ∷ [])) (answers ++ answer)
+  have_more : (first : Question) (texts : List (List ℕ)) (text : List ℕ) (answers answer : List ℕ) → HaveAnswers may Is (section_from first texts) answers → may_ask may (line_of text) ≡ true → IsLineAnswer Is (line_of text) answer → HaveAnswers may Is (section_from first (texts ++ text ∷ [])) (answers ++ answer)
   have_more first texts text answers answer have may_be is =
       subst (λ (ls : List Line). HaveAnswers may Is ls (answers ++ answer)) (sym (asked_push first texts text))
-      (list_all-append (may_ask may) (asked first texts) (line_of text ∷ []) ∙ both_so (list_all (may_ask may) (asked first texts)) (may_ask may (line_of text)) have.0 may_be, answers_push Is (asked first texts) (line_of text) answers answer have.1 is)
+      (list_all-append (may_ask may) (section_from first texts) (line_of text ∷ []) ∙ both_so (list_all (may_ask may) (section_from first texts)) (may_ask may (line_of text)) have.0 may_be, answers_push Is (section_from first texts) (line_of text) answers answer have.1 is)
 
-  have_first : (first : Question) (text : List ℕ) → may first ≡ true → IsLineAnswer Is (Ask first) text → HaveAnswers may Is (asked first []) text
+  have_first : (first : Question) (text : List ℕ) → may first ≡ true → IsLineAnswer Is (Ask first) text → HaveAnswers may Is (section_from first []) text
   have_first first text may_be is = (rw may_be refl, (text, [], is, refl, sym (append-nil text)))
 
   module _ (known : Option (List ℕ)) (first : Question) (old : Option (List ℕ)) (waited : List ℕ) (start : LineState) where
     -- the first question was answered
-    pub first_answered : (new : Option (List ℕ)) (waiting : List ℕ) (left : Option Question) → is_some left ≡ false → TakesLine may Is (Ask first) old waited new waiting left → Answered may Is (asked first []) old waited new waiting
+    pub first_answered : (new : Option (List ℕ)) (waiting : List ℕ) (left : Option Question) → is_some left ≡ false → TakesLine may Is (Ask first) old waited new waiting left → AreAnswered may Is (section_from first []) old waited new waiting
     first_answered new waiting None none (may_be, text, is, written) = (text, have_first first text may_be is, written)
     first_answered new waiting (Some left) none t = cc
 
@@ -70,13 +70,13 @@ module _ (may : Question → Bool) (Is : Question → List ℕ → Type 0) where
     first_fails remaining number new waiting (BodyRefused fault) a = absurd a
 
     -- so far the lines were answered
-    module _ (before : Option (List ℕ)) (was : List ℕ) (mid_known : Option (List ℕ)) (ls : LineState) (texts : List (List ℕ)) (so_far : Answered may Is (asked first texts) old waited before was) (read : Reads known texts mid_known ls.at_end) (count : ls.count ≡ start.count + length texts) (stays : start.at_end ≡ true → ls.at_end ≡ true) where
+    module _ (before : Option (List ℕ)) (was : List ℕ) (mid_known : Option (List ℕ)) (ls : LineState) (texts : List (List ℕ)) (so_far : AreAnswered may Is (section_from first texts) old waited before was) (read : Reads known texts mid_known ls.at_end) (count : ls.count ≡ start.count + length texts) (stays : start.at_end ≡ true → ls.at_end ≡ true) where
       -- some of what waited was written before a read
-      answered_kept : (new : Option (List ℕ)) (waiting : List ℕ) → IsWrittenUpTo before new was waiting → Answered may Is (asked first texts) old waited new waiting
-      answered_kept new waiting w = (so_far.0, so_far.1, kept old before new (waited ++ so_far.0) was waiting so_far.2 w)
+      answered_kept : (new : Option (List ℕ)) (waiting : List ℕ) → IsWrittenUpTo before new was waiting → AreAnswered may Is (section_from first texts) old waited new waiting
+      answered_kept new waiting w = (so_far.0, so_far.1, rest_waits old before new (waited ++ so_far.0) was waiting so_far.2 w)
 
       -- no line is left
-      pub none_left : (new : Option (List ℕ)) (waiting : List ℕ) → IsWrittenUpTo before new was waiting → Answered may Is (asked first texts) old waited new waiting
+      pub none_left : (new : Option (List ℕ)) (waiting : List ℕ) → IsWrittenUpTo before new was waiting → AreAnswered may Is (section_from first texts) old waited new waiting
       none_left new waiting w = answered_kept new waiting w
 
       unmet_before : ls.at_end ≡ false → start.at_end ≡ false
@@ -95,10 +95,10 @@ module _ (may : Question → Bool) (Is : Question → List ℕ → Type 0) where
       module _ (mid new rest : Option (List ℕ)) (waits waiting : List ℕ) (ls' : LineState) (w : IsWrittenUpTo before mid was waits) (read' : Reads known (texts ++ ls'.line ∷ []) rest ls'.at_end) (count' : ls'.count ≡ start.count + length texts + 1) where
         so_far_then : (answer : List ℕ) → IsWrittenUpTo mid new (waits ++ answer) waiting → IsWrittenUpTo old new (waited ++ (so_far.0 ++ answer)) waiting
         so_far_then answer v =
-            rw append_assoc at (IsWrittenUpTo-then old mid new (waited ++ so_far.0) answer waits waiting (kept old before mid (waited ++ so_far.0) was waits so_far.2 w) v)
+            rw append_assoc at (IsWrittenUpTo-then old mid new (waited ++ so_far.0) answer waits waiting (rest_waits old before mid (waited ++ so_far.0) was waits so_far.2 w) v)
 
         -- and answered
-        pub line_answered : (left : Option Question) → is_some left ≡ false → TakesLine may Is (line_of ls'.line) mid waits new waiting left → Answered may Is (asked first (texts ++ ls'.line ∷ [])) old waited new waiting
+        pub line_answered : (left : Option Question) → is_some left ≡ false → TakesLine may Is (line_of ls'.line) mid waits new waiting left → AreAnswered may Is (section_from first (texts ++ ls'.line ∷ [])) old waited new waiting
         line_answered (Some left) none t = cc
         line_answered None none (may_be, answer, is, written) =
             (so_far.0 ++ answer, have_more first texts ls'.line so_far.0 answer so_far.1 may_be is, so_far_then answer written)
@@ -118,7 +118,7 @@ module _ (may : Question → Bool) (Is : Question → List ℕ → Type 0) where
           so_far.0 ++ answer,
           have_more first texts ls'.line so_far.0 answer so_far.1 may_be is,
           ReadsFront-now known rest (texts ++ ls'.line ∷ []) ls'.at_end read',
-          rw append_assoc at (GrowsByFront-then old mid new (waited ++ so_far.0) answer waits (kept old before mid (waited ++ so_far.0) was waits so_far.2 w) grows),
+          rw append_assoc at (GrowsByFront-then old mid new (waited ++ so_far.0) answer waits (rest_waits old before mid (waited ++ so_far.0) was waits so_far.2 w) grows),
           none,
         )
         line_fails remaining OutOfMemory (question, says, same, waits_on) =

@@ -17,7 +17,7 @@ use Rattle.hir_lines.specs.declared.question.Question.{Question}
 use Rattle.hir_items.specs.Bodies.{BodyContents}
 use Rattle.hir_run.specs.declared.fault.RunFault.{RunFault}
 use Rattle.hir_run.specs.declared.fault.RunFault.TheVariants.{BadLine, Refused, BodyRefused, InputFailed, OutputFailed, OutOfMemory}
-use Rattle.hir_run.specs.Made.{Made}
+use Rattle.hir_run.specs.BodySoFar.{BodySoFar}
 use Rattle.hir_run.specs.Outcomes.{is_input_failed, is_output_failed}
 use Rattle.hir_run.specs.Program.{Outcome}
 use Rattle.hir_run.specs.Run.{EndsWith, RunsTo}
@@ -25,12 +25,12 @@ use Rattle.hir_run.specs.Stages.{Builds, IsMadeBody, Accepts, AsksLine, RunsUpTo
 use Rattle.hir_run.proofs.WritingLemmas.{GrowsByFront-then}
 
 -- what waited was written too
-closed : (old mid new : Option (List ℕ)) (text waiting : List ℕ) → IsWrittenUpTo old mid text waiting → Appends mid new waiting → Appends old new text
-closed old mid new text waiting w a = rw (← w.1) at (Appends-twice old mid new w.0 waiting w.2 a)
+then_all_waiting : (old mid new : Option (List ℕ)) (text waiting : List ℕ) → IsWrittenUpTo old mid text waiting → Appends mid new waiting → Appends old new text
+then_all_waiting old mid new text waiting w a = rw (← w.1) at (Appends-twice old mid new w.0 waiting w.2 a)
 
 -- a write of what waited failed
-cut : (old mid new : Option (List ℕ)) (text waiting : List ℕ) → IsWrittenUpTo old mid text waiting → GrowsByFront mid new waiting → GrowsByFront old new text
-cut old mid new text waiting w g = rw append-nil at (GrowsByFront-then old mid new text [] waiting w (rw (← append-nil waiting) at g))
+then_some_waiting : (old mid new : Option (List ℕ)) (text waiting : List ℕ) → IsWrittenUpTo old mid text waiting → GrowsByFront mid new waiting → GrowsByFront old new text
+then_some_waiting old mid new text waiting w g = rw append-nil at (GrowsByFront-then old mid new text [] waiting w (rw (← append-nil waiting) at g))
 
 -- all lines of an input that was cut short
 first_lines : (input : List ℕ) (texts : List (List ℕ)) (begun unread : List ℕ) → IsCutShort input texts begun unread → lines input ≡ texts ++ lines (begun ++ unread)
@@ -45,26 +45,26 @@ module _ (input : List ℕ) (remaining old mid new : Option (List ℕ)) (waiting
   After outcome = EndsWith input (Appends old new) (GrowsByFront old new) remaining ls outcome
 
   closes_well : (outcome : Outcome) → Before outcome → Appends mid new waiting → (waiting ≡ [] → new ≡ mid) → After outcome
-  closes_well (Ok done) (text, means, w) a idle = (text, means, closed old mid new text waiting w a)
-  closes_well (Err (BadLine n)) (text, means, w) a idle = (text, means, closed old mid new text waiting w a)
-  closes_well (Err (Refused fault)) (text, means, w) a idle = (text, means, closed old mid new text waiting w a)
-  closes_well (Err (BodyRefused fault)) (text, means, w) a idle = (text, means, closed old mid new text waiting w a)
+  closes_well (Ok done) (text, means, w) a idle = (text, means, then_all_waiting old mid new text waiting w a)
+  closes_well (Err (BadLine n)) (text, means, w) a idle = (text, means, then_all_waiting old mid new text waiting w a)
+  closes_well (Err (Refused fault)) (text, means, w) a idle = (text, means, then_all_waiting old mid new text waiting w a)
+  closes_well (Err (BodyRefused fault)) (text, means, w) a idle = (text, means, then_all_waiting old mid new text waiting w a)
   closes_well (Err InputFailed) (texts, begun, unread, short, left, text, has, w) a idle =
-      (texts, begun, unread, short, left, text, has, closed old mid new text waiting w a)
+      (texts, begun, unread, short, left, text, has, then_all_waiting old mid new text waiting w a)
   closes_well (Err OutputFailed) (text, of, (grows, none)) a idle = (text, of, rw (idle none) grows)
   closes_well (Err OutOfMemory) (texts, more, every, at, text, has, w) a idle =
-      (texts, more, every, at, text, has, closed old mid new text waiting w a)
+      (texts, more, every, at, text, has, then_all_waiting old mid new text waiting w a)
 
   closes_ill : (outcome : Outcome) → Before outcome → GrowsByFront mid new waiting → (waiting ≡ [] → ⊥) → After (Err OutputFailed)
-  closes_ill (Ok done) (text, means, w) g some = (text, inr (Ok done, means), cut old mid new text waiting w g)
-  closes_ill (Err (BadLine n)) (text, means, w) g some = (text, inr (_, means), cut old mid new text waiting w g)
-  closes_ill (Err (Refused fault)) (text, means, w) g some = (text, inr (_, means), cut old mid new text waiting w g)
-  closes_ill (Err (BodyRefused fault)) (text, means, w) g some = (text, inr (_, means), cut old mid new text waiting w g)
+  closes_ill (Ok done) (text, means, w) g some = (text, inr (Ok done, means), then_some_waiting old mid new text waiting w g)
+  closes_ill (Err (BadLine n)) (text, means, w) g some = (text, inr (_, means), then_some_waiting old mid new text waiting w g)
+  closes_ill (Err (Refused fault)) (text, means, w) g some = (text, inr (_, means), then_some_waiting old mid new text waiting w g)
+  closes_ill (Err (BodyRefused fault)) (text, means, w) g some = (text, inr (_, means), then_some_waiting old mid new text waiting w g)
   closes_ill (Err InputFailed) (texts, begun, unread, short, left, text, has, w) g some =
-      (text, inl (texts, lines (begun ++ unread), first_lines input texts begun unread short, has), cut old mid new text waiting w g)
+      (text, inl (texts, lines (begun ++ unread), first_lines input texts begun unread short, has), then_some_waiting old mid new text waiting w g)
   closes_ill (Err OutputFailed) (text, of, (grows, none)) g some = absurd (some none)
   closes_ill (Err OutOfMemory) (texts, more, every, at, text, has, w) g some =
-      (text, inl (texts, more, every, has), cut old mid new text waiting w g)
+      (text, inl (texts, more, every, has), then_some_waiting old mid new text waiting w g)
 
   closes_told : (outcome result : Outcome) → Before outcome → Closes mid new waiting outcome result → After result
   closes_told outcome result b (inl (same, a, idle)) = rw same (closes_well outcome b a idle)
@@ -84,7 +84,7 @@ reads_as X Y OutputFailed = refl
 reads_as X Y OutOfMemory = refl
 
 -- the lines that make are read, and nothing is written
-pub build_writes_none : (X : Type 0) (known rest remaining : Option (List ℕ)) (ls : LineState) (built : Made) (e : RunFault) → Builds known rest remaining ls built (Err e) → is_output_failed {X = X} (Err e) ≡ false
+pub build_writes_none : (X : Type 0) (known rest remaining : Option (List ℕ)) (ls : LineState) (built : BodySoFar) (e : RunFault) → Builds known rest remaining ls built (Err e) → is_output_failed {X = X} (Err e) ≡ false
 build_writes_none X known rest remaining ls built (BadLine n) b = refl
 build_writes_none X known rest remaining ls built InputFailed b = refl
 build_writes_none X known rest remaining ls built OutOfMemory b = refl

@@ -4,7 +4,7 @@ use Rattle.std.specs.Prelude.{codes}
 use Rattle.std.specs.List.{list_all}
 use Rattle.hir_io.specs.Ends.{GrowsByFront, IsWrittenUpTo}
 use Rattle.hir_io.specs.LineState.{LineState}
-use Rattle.hir_io.specs.NextLine.{untaken}
+use Rattle.hir_io.specs.NextLine.{bytes_left}
 use Rattle.hir_io.proofs.EndLemmas.{IsWrittenUpTo-start}
 use Rattle.hir_lines.specs.Line.{Line, Ask, Bad, makes, asks, any_question}
 use Rattle.hir_lines.specs.declared.question.Question.{Question}
@@ -12,7 +12,7 @@ use Rattle.hir_store.specs.Building.{contents_of, finish_fault}
 use Rattle.hir_items.specs.Bodies.{body_fault}
 use Rattle.hir_run.specs.declared.fault.RunFault.{RunFault}
 use Rattle.hir_run.specs.declared.fault.RunFault.TheVariants.{BadLine, Refused, BodyRefused, InputFailed, OutputFailed, OutOfMemory}
-use Rattle.hir_run.specs.Made.{Made, body_parts}
+use Rattle.hir_run.specs.BodySoFar.{BodySoFar, body_parts}
 use Rattle.hir_run.specs.Answer.{IsStoreAnswer, IsAnswer}
 use Rattle.hir_run.specs.Program.{is_of_store, Outcome, writes, section, stops, behind_store, on_body, on_store, accepts, built_by, IsMeaning, HasAnswers, script, script_of}
 use Rattle.hir_run.specs.Run.{EndsWith, IsRefusedBehind}
@@ -38,17 +38,17 @@ meaning-alone ls text outcome all course =
     let e : ls ++ [] ≡ ls = append-nil ls in
     rw e at (means_behind ls [] text outcome all no_line course)
 
-untaken_all : (known : Option (List ℕ)) → untaken [] false known ≡ known
+untaken_all : (known : Option (List ℕ)) → bytes_left [] false known ≡ known
 untaken_all None = refl
 untaken_all (Some rest) = refl
 
 -- a new reader of lines has taken nothing
-pub from_the_start : (start : LineState) (known rest remaining : Option (List ℕ)) (ls : LineState) (built : Made) (r : Result (Option Question) RunFault) → start ≡ record { line = []; pending = []; at_end = false; count = 0 } → Builds (untaken start.pending start.at_end known) rest remaining ls built r → Builds known rest remaining ls built r
+pub from_the_start : (start : LineState) (known rest remaining : Option (List ℕ)) (ls : LineState) (built : BodySoFar) (r : Result (Option Question) RunFault) → start ≡ record { line = []; pending = []; at_end = false; count = 0 } → Builds (bytes_left start.pending start.at_end known) rest remaining ls built r → Builds known rest remaining ls built r
 from_the_start start known rest remaining ls built r e b =
-    subst (λ (v : Option (List ℕ)). Builds v rest remaining ls built r) (ap (λ (l : LineState). untaken l.pending l.at_end known) e ∙ untaken_all known) b
+    subst (λ (v : Option (List ℕ)). Builds v rest remaining ls built r) (ap (λ (l : LineState). bytes_left l.pending l.at_end known) e ∙ untaken_all known) b
 
 -- nothing was written, and nothing waits
-module _ (input : List ℕ) (rest : Option (List ℕ)) (old : Option (List ℕ)) (ls : LineState) (built : Made) where
+module _ (input : List ℕ) (rest : Option (List ℕ)) (old : Option (List ℕ)) (ls : LineState) (built : BodySoFar) where
   abbrev Wrote : List ℕ → Type 0
   Wrote text = IsWrittenUpTo old old text []
 
@@ -110,7 +110,7 @@ module _ (input : List ℕ) (rest : Option (List ℕ)) (old : Option (List ℕ))
   finish_ends remaining first OutputFailed b f = absurd f
 
 -- there is no question
-pub accept_ends : (input : List ℕ) (rest remaining old new : Option (List ℕ)) (waiting : List ℕ) (ls : LineState) (built : Made) (outcome : Outcome) → Builds (Some input) rest remaining ls built (Ok None) → finish_fault built.built None → Accepts old [] new waiting outcome
+pub accept_ends : (input : List ℕ) (rest remaining old new : Option (List ℕ)) (waiting : List ℕ) (ls : LineState) (built : BodySoFar) (outcome : Outcome) → Builds (Some input) rest remaining ls built (Ok None) → finish_fault built.built None → Accepts old [] new waiting outcome
     → EndsWith input (λ text. IsWrittenUpTo old new text waiting) (λ text. GrowsByFront old new text × (waiting ≡ [])) remaining ls outcome
 accept_ends input rest remaining old new waiting ls built outcome (texts, makes_all, every, none, count) verdict a = by outcome a
   where
@@ -129,7 +129,7 @@ accept_ends input rest remaining old new waiting ls built outcome (texts, makes_
     by (Err OutOfMemory) a = absurd a
 
 -- the parts of a body have a fault, or memory was refused
-pub body_ends : (input : List ℕ) (rest remaining : Option (List ℕ)) (ls : LineState) (question : Question) (built : Made) (text : List ℕ) (Wrote WroteFront : List ℕ → Type 0) (fault : RunFault) → StandsAt input rest ls question (on_body built) text → IsMadeBody (body_parts built) (Err fault) → Wrote text → EndsWith input Wrote WroteFront remaining ls (Err fault)
+pub body_ends : (input : List ℕ) (rest remaining : Option (List ℕ)) (ls : LineState) (question : Question) (built : BodySoFar) (text : List ℕ) (Wrote WroteFront : List ℕ → Type 0) (fault : RunFault) → StandsAt input rest ls question (on_body built) text → IsMadeBody (body_parts built) (Err fault) → Wrote text → EndsWith input Wrote WroteFront remaining ls (Err fault)
 body_ends input rest remaining ls question built text Wrote WroteFront (BodyRefused fault) at (first, same, verdict) wrote =
     rw same (ends_there input rest ls question (on_body built) text at Wrote _ wrote (λ good more. (Some first, verdict, (refl, refl))))
 body_ends input rest remaining ls question built text Wrote WroteFront (Refused fault) at (first, same, verdict) wrote = cc
@@ -140,21 +140,21 @@ body_ends input rest remaining ls question built text Wrote WroteFront InputFail
 body_ends input rest remaining ls question built text Wrote WroteFront OutputFailed at m wrote = absurd m
 
 -- what comes behind the questions on the store: nothing, or a bad line, ends the run; a question on the body goes on
-pub store_end : (built : Made) (n : ℕ) → behind_store built n [] [] (Ok tt)
+pub store_end : (built : BodySoFar) (n : ℕ) → behind_store built n [] [] (Ok tt)
 store_end built n = (refl, refl)
 
-pub store_bad : (built : Made) (n : ℕ) (bad : Line) (more : List Line) → asks bad ≡ false → behind_store built n (bad ∷ more) [] (Err (BadLine (n + 1)))
+pub store_bad : (built : BodySoFar) (n : ℕ) (bad : Line) (more : List Line) → asks bad ≡ false → behind_store built n (bad ∷ more) [] (Err (BadLine (n + 1)))
 store_bad built n bad more e = rw e (refl, refl)
 
 -- at the first question, of what has no fault
-pub at_store : (input : List ℕ) (rest : Option (List ℕ)) (ls : LineState) (question : Question) (built : Made) → finish_fault built.built None → StandsAt input rest ls question (on_store built) [] → StandsAt input rest ls question (section is_of_store (IsStoreAnswer (contents_of built.built)) (behind_store built)) []
+pub at_store : (input : List ℕ) (rest : Option (List ℕ)) (ls : LineState) (question : Question) (built : BodySoFar) → finish_fault built.built None → StandsAt input rest ls question (on_store built) [] → StandsAt input rest ls question (section is_of_store (IsStoreAnswer (contents_of built.built)) (behind_store built)) []
 at_store input rest ls question built verdict at = stands_on (on_store built) _ (λ good more t outcome c. (None, verdict, c)) at
 
 -- at the first question on the body
-pub at_body : (input : List ℕ) (rest : Option (List ℕ)) (ls : LineState) (question : Question) (built : Made) (text : List ℕ) → StandsAt input rest ls question (behind_store built) text → StandsAt input rest ls question (on_body built) text
+pub at_body : (input : List ℕ) (rest : Option (List ℕ)) (ls : LineState) (question : Question) (built : BodySoFar) (text : List ℕ) → StandsAt input rest ls question (behind_store built) text → StandsAt input rest ls question (on_body built) text
 at_body input rest ls question built text at = stands_on (behind_store built) _ (λ good more t outcome c. c) at
 
-pub in_body : (input : List ℕ) (rest : Option (List ℕ)) (ls : LineState) (question : Question) (built : Made) (text : List ℕ) → body_fault (body_parts built) None → StandsAt input rest ls question (on_body built) text → StandsAt input rest ls question (section any_question (IsAnswer built.name (body_parts built)) stops) text
+pub in_body : (input : List ℕ) (rest : Option (List ℕ)) (ls : LineState) (question : Question) (built : BodySoFar) (text : List ℕ) → body_fault (body_parts built) None → StandsAt input rest ls question (on_body built) text → StandsAt input rest ls question (section any_question (IsAnswer built.name (body_parts built)) stops) text
 in_body input rest ls question built text verdict at = stands_on (on_body built) _ (λ good more t outcome c. (None, verdict, c)) at
 
 pub stops_end : (n : ℕ) → stops n [] [] (Ok tt)

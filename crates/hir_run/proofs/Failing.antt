@@ -10,14 +10,14 @@ use Rattle.hir_run.specs.declared.fault.RunFault.{RunFault}
 use Rattle.hir_run.specs.declared.fault.RunFault.TheVariants.{BadLine, Refused, BodyRefused, InputFailed, OutputFailed, OutOfMemory}
 use Rattle.hir_lines.specs.Line.{Make, Bad, line_of}
 use Rattle.hir_lines.specs.Makers.{Maker}
-use Rattle.hir_run.specs.Made.{Made, is_second}
+use Rattle.hir_run.specs.BodySoFar.{BodySoFar, is_second}
 use Rattle.hir_run.specs.Faults.{fault_of_line}
 use Rattle.hir_run.specs.Program.{line_behind}
 use Rattle.hir_run.specs.Stages.{AllMake, Builds, BuildsLine}
 use Rattle.hir_run.proofs.Refusals.{behind_line, behind_none, some_text}
 use Rattle.hir_run.proofs.Scripts.{Tells, bad_is, behind_make}
 
-pub build_fails : (known mid rest remaining : Option (List ℕ)) (lines lines' : LineState) (built : Made) (texts : List (List ℕ)) (fault : LineFault) →
+pub build_fails : (known mid rest remaining : Option (List ℕ)) (lines lines' : LineState) (built : BodySoFar) (texts : List (List ℕ)) (fault : LineFault) →
     AllMake texts → Reads known texts mid lines.at_end → lines.count ≡ length texts → lines'.count ≡ lines.count + 0 → NextTakes mid rest remaining lines lines' (Err fault) → is_failed_output (Err fault) ≡ false → Builds known rest remaining lines' built (Err (fault_of_line fault))
 build_fails known mid rest remaining lines lines' built texts line.OutOfMemory all read count counted takes quiet =
     (texts, all, behind_none (λ text. line_behind texts text ≢ Bad) 0 known texts lines'.line lines'.count takes.1 (ReadsFront-now known mid texts lines.at_end read) (omega arith))
@@ -26,14 +26,14 @@ build_fails known mid rest remaining lines lines' built texts line.InputFailed a
 build_fails known mid rest remaining lines lines' built texts line.OutputFailed all read count counted takes quiet = cc
 
 -- a good line isn't bad where it stands
-good_there : (old : Made) (texts : List (List ℕ)) (text : List ℕ) (maker : Maker) → Tells old texts → line_of text ≡ Make maker → is_second old maker ≡ false → line_behind texts text ≢ Bad
+good_there : (old : BodySoFar) (texts : List (List ℕ)) (text : List ℕ) (maker : Maker) → Tells old texts → line_of text ≡ Make maker → is_second old maker ≡ false → line_behind texts text ≢ Bad
 good_there old texts text maker tells says first bad =
     let is : line_behind texts text ≡ Make maker = behind_make old texts text maker tells says ∙ ap (λ b. if b then Bad else Make maker) first in
     let wrong : Make maker ≡ Bad = sym is ∙ bad in
     cc
 
 -- the line that was taken last makes nothing
-pub build_line_fails : (known mid rest rest' remaining : Option (List ℕ)) (before lines : LineState) (old new built : Made) (texts : List (List ℕ)) (fault : RunFault) →
+pub build_line_fails : (known mid rest rest' remaining : Option (List ℕ)) (before lines : LineState) (old new built : BodySoFar) (texts : List (List ℕ)) (fault : RunFault) →
     AllMake texts → Tells old texts → Reads known texts mid before.at_end → Reads known (texts ++ lines.line ∷ []) rest' lines.at_end → lines.count ≡ length texts + 1 → BuildsLine lines old new (Err fault) → Builds known rest remaining lines built (Err fault)
 build_line_fails known mid rest rest' remaining before lines old new built texts OutOfMemory all tells front read count (maker, says, first) =
     (texts, all, behind_line (λ text. line_behind texts text ≢ Bad) 0 known texts lines.line lines.count (λ none. some_text lines.line (Make maker) says (λ e. cc) none) (ReadsFront-now known rest' (texts ++ lines.line ∷ []) lines.at_end read) (omega (arith, count)) (good_there old texts lines.line maker tells says first))

@@ -15,6 +15,6 @@ pub mod ClosingLemmas
 pub mod ScriptLemmas
 pub mod MeaningLemmas
 pub mod WritingLemmas
-pub mod Taken
+pub mod TakingLemmas
 pub mod Texts
 pub mod Children

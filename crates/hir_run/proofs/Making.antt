@@ -7,7 +7,7 @@ use Rattle.std.proofs.lemmas.List.Elements.{filter_map-append}
 use Rattle.std.proofs.lemmas.Grind.{fold-append}
 use Rattle.hir_lines.specs.Line.{Line, Blank, Make, Ask, Bad, makes, asks, line_of}
 use Rattle.hir_lines.specs.Makers.{Maker}
-use Rattle.hir_run.specs.Made.{Made, nothing_made, with_line}
+use Rattle.hir_run.specs.BodySoFar.{BodySoFar, nothing_made, with_line}
 use Rattle.hir_lines.specs.declared.question.Question.{Question}
 use Rattle.hir_io.specs.LineState.{LineState}
 use Rattle.hir_io.specs.Reads.{Reads}
@@ -26,7 +26,7 @@ unfolding built_by
 Makes-none = (refl, refl)
 
 -- one line more
-with_option : Made → Option Maker → Made
+with_option : BodySoFar → Option Maker → BodySoFar
 with_option b None = b
 with_option b (Some maker) = with_line b maker
 
@@ -44,18 +44,18 @@ makes-push : (texts : List (List ℕ)) (text : List ℕ) (line : Line) → line_
 makes-push texts text line e all m =
     rw (script-push texts text, list_all-append makes (script texts) (line_behind texts text ∷ []), all, e, m) refl
 
-pub Makes-blank : (texts : List (List ℕ)) (text : List ℕ) (built : Made) → Makes texts built → line_behind texts text ≡ Blank → Makes (texts ++ text ∷ []) built
+pub Makes-blank : (texts : List (List ℕ)) (text : List ℕ) (built : BodySoFar) → Makes texts built → line_behind texts text ≡ Blank → Makes (texts ++ text ∷ []) built
 unfolding with_option
 Makes-blank texts text built m e =
     (makes-push texts text Blank e m.0 refl, m.1 ∙ sym (ap built_by (script-push texts text) ∙ built_by-push (script texts) (line_behind texts text) ∙ ap (λ line. with_option (built_by (script texts)) (maker_of line)) e))
 
-pub Makes-more : (texts : List (List ℕ)) (text : List ℕ) (old new : Made) (maker : Maker) → Makes texts old → line_behind texts text ≡ Make maker → new ≡ with_line old maker → Makes (texts ++ text ∷ []) new
+pub Makes-more : (texts : List (List ℕ)) (text : List ℕ) (old new : BodySoFar) (maker : Maker) → Makes texts old → line_behind texts text ≡ Make maker → new ≡ with_line old maker → Makes (texts ++ text ∷ []) new
 unfolding with_option
 Makes-more texts text old new maker m e made =
     (makes-push texts text (Make maker) e m.0 refl, made ∙ ap (λ b. with_line b maker) m.1 ∙ sym (ap built_by (script-push texts text) ∙ built_by-push (script texts) (line_behind texts text) ∙ ap (λ line. with_option (built_by (script texts)) (maker_of line)) e))
 
 -- the line that was taken last makes what it says, or is empty
-pub makes_line : (lines : LineState) (old new : Made) (texts : List (List ℕ)) →
+pub makes_line : (lines : LineState) (old new : BodySoFar) (texts : List (List ℕ)) →
     Makes texts old → Tells old texts → MakesOrLeaves (line_of lines.line) old new true → Makes (texts ++ lines.line ∷ []) new × Tells new (texts ++ lines.line ∷ [])
 makes_line lines old new texts m t (inl (blank, same)) =
     rw same (Makes-blank texts lines.line old m (behind_is texts lines.line (ap asks blank) ∙ blank), tells_blank old texts lines.line blank t)
@@ -63,13 +63,13 @@ makes_line lines old new texts m t (inr (maker, says, first, made)) =
     (Makes-more texts lines.line old new maker m (behind_make old texts lines.line maker t says ∙ ap (λ b. if b then Bad else Make maker) first) made, rw made (tells_more old maker texts lines.line says t))
 
 -- it is a question
-pub asks_line : (known rest remaining : Option (List ℕ)) (lines : LineState) (old : Made) (texts : List (List ℕ)) (asked : Option Question) →
+pub asks_line : (known rest remaining : Option (List ℕ)) (lines : LineState) (old : BodySoFar) (texts : List (List ℕ)) (asked : Option Question) →
     Makes texts old → makes (line_of lines.line) ≡ false → Reads known (texts ++ lines.line ∷ []) rest lines.at_end → lines.count ≡ length texts + 1 → line_of lines.line ≡ line_asked asked → Builds known rest remaining lines old (Ok asked)
 asks_line known rest remaining lines old texts None m left read count says = absurd (false≢true (sym left ∙ ap makes says))
 asks_line known rest remaining lines old texts (Some question) m left read count says = (texts, m, says, read, count)
 
 -- or it is bad there, or memory was refused to it
-pub asks_none : (known rest remaining : Option (List ℕ)) (lines : LineState) (old : Made) (texts : List (List ℕ)) (fault : RunFault) →
+pub asks_none : (known rest remaining : Option (List ℕ)) (lines : LineState) (old : BodySoFar) (texts : List (List ℕ)) (fault : RunFault) →
     AllMake texts → makes (line_of lines.line) ≡ false → Reads known (texts ++ lines.line ∷ []) rest lines.at_end → lines.count ≡ length texts + 1 → AsksFirst lines (Err fault) → Builds known rest remaining lines old (Err fault)
 asks_none known rest remaining lines old texts (BadLine number) all left read count (other, is) =
     (texts, lines.line, all, bad_is texts lines.line (neither (line_of lines.line) left other), ReadsFront-now known rest (texts ++ lines.line ∷ []) lines.at_end read, is ∙ count)
@@ -90,7 +90,7 @@ asks_none known rest remaining lines old texts OutputFailed all left read count 
 asks_none known rest remaining lines old texts (Refused fault) all left read count does = absurd does
 asks_none known rest remaining lines old texts (BodyRefused fault) all left read count does = absurd does
 
-pub asks_or_none : (known rest remaining : Option (List ℕ)) (lines : LineState) (old : Made) (texts : List (List ℕ)) (result : Result (Option Question) RunFault) →
+pub asks_or_none : (known rest remaining : Option (List ℕ)) (lines : LineState) (old : BodySoFar) (texts : List (List ℕ)) (result : Result (Option Question) RunFault) →
     Makes texts old → makes (line_of lines.line) ≡ false → Reads known (texts ++ lines.line ∷ []) rest lines.at_end → lines.count ≡ length texts + 1 → AsksFirst lines result → Builds known rest remaining lines old result
 asks_or_none known rest remaining lines old texts (Ok asked) m left read count says = asks_line known rest remaining lines old texts asked m left read count says
 asks_or_none known rest remaining lines old texts (Err fault) m left read count does = asks_none known rest remaining lines old texts fault m.0 left read count does

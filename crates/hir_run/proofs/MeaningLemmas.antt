@@ -12,13 +12,13 @@ use Rattle.hir_store.specs.Building.{Building, contents_of, finish_fault}
 use Rattle.hir_items.specs.declared.body_fault.BodyFault.{BodyFault}
 use Rattle.hir_items.specs.Bodies.{BodyContents, body_fault}
 use Rattle.hir_captures.specs.Captures.{AreCaptures, IsReachedClosure}
-use Rattle.hir_scope.specs.Built.{tops_of_body}
+use Rattle.hir_scope.specs.BodyScopes.{tops_of_body}
 use Rattle.hir_scope.specs.Chains.{HasChain}
 use Rattle.hir_scope.specs.Frames.{Chain}
 use Rattle.hir_run.specs.declared.fault.RunFault.{RunFault}
-use Rattle.hir_run.specs.Made.{Made, body_parts}
+use Rattle.hir_run.specs.BodySoFar.{BodySoFar, body_parts}
 use Rattle.hir_run.specs.Answer.{IsChainOf, AreCapturesOf, IsBodyAnswer, IsStoreAnswer, IsAnswer, answer_line, asked_text, chain_text, resolve_text, captures_text}
-use Rattle.hir_run.specs.Program.{Outcome, Course, writes, stops, unless_refused, fault_or, if_so, is_of_store, front, behind, IsLineAnswer, AreAnswers, section, on_body, behind_store, on_store, behind_making, accepts, made, making, Runs, IsMeaning}
+use Rattle.hir_run.specs.Program.{Outcome, Course, writes, stops, unless_refused, fault_or, if_so, is_of_store, front, behind, IsLineAnswer, AreAnswers, section, on_body, behind_store, on_store, behind_making, accepts, body_before, making, Runs, IsMeaning}
 
 -- a course writes one text and ends in one way
 abbrev pub One : Course → Type 0
@@ -95,12 +95,12 @@ unfolding finish_fault
 sound_contents b v = v.1
 
 module _ (finish_one : (b : Building) (f g : Option FinishFault) → finish_fault b f → finish_fault b g → f ≡ g) (body_one : (b : BodyContents) (f g : Option BodyFault) → body_fault b f → body_fault b g → f ≡ g) (one_chain : (b : BodyContents) → contents_fault b.store None → body_fault b None → HasOneChain b) (one_capture : (b : BodyContents) → contents_fault b.store None → body_fault b None → HasOneCapture b) where
-  on_body_one : (made : Made) → finish_fault made.built None → (good : ℕ) (script : List Line) → One (on_body made good script)
+  on_body_one : (made : BodySoFar) → finish_fault made.built None → (good : ℕ) (script : List Line) → One (on_body made good script)
   on_body_one made sound good script =
       unless_one (body_fault (body_parts made)) _ _ (body_one (body_parts made))
       (λ v. section_one any_question (IsAnswer made.name (body_parts made)) stops (answer_one made.name (body_parts made) (one_chain (body_parts made) (sound_contents made.built sound) v) (one_capture (body_parts made) (sound_contents made.built sound) v)) stops_one good script)
 
-  behind_store_one : (made : Made) → finish_fault made.built None → (good : ℕ) (script : List Line) → One (behind_store made good script)
+  behind_store_one : (made : BodySoFar) → finish_fault made.built None → (good : ℕ) (script : List Line) → One (behind_store made good script)
   behind_store_one made sound good [] = stops_one good []
   behind_store_one made sound good (line ∷ rest) = by (asks line)
     where
@@ -108,12 +108,12 @@ module _ (finish_one : (b : Building) (f g : Option FinishFault) → finish_faul
       by true = on_body_one made sound good (line ∷ rest)
       by false = stops_one good (line ∷ rest)
 
-  on_store_one : (made : Made) (good : ℕ) (script : List Line) → One (on_store made good script)
+  on_store_one : (made : BodySoFar) (good : ℕ) (script : List Line) → One (on_store made good script)
   on_store_one made good script =
       unless_one (finish_fault made.built) _ _ (finish_one made.built)
       (λ v. section_one is_of_store (IsStoreAnswer (contents_of made.built)) (behind_store made) (store_answer_one (contents_of made.built)) (behind_store_one made v) good script)
 
-  behind_making_one : (idle : Course) → One idle → (made : Made) (good : ℕ) (script : List Line) → One (behind_making idle made good script)
+  behind_making_one : (idle : Course) → One idle → (made : BodySoFar) (good : ℕ) (script : List Line) → One (behind_making idle made good script)
   behind_making_one idle one made good [] = one
   behind_making_one idle one made good (line ∷ rest) = by (asks line)
     where
@@ -124,4 +124,4 @@ module _ (finish_one : (b : Building) (f g : Option FinishFault) → finish_faul
   pub IsMeaning-one : (script : List Line) → One (IsMeaning script)
   unfolding Runs
   IsMeaning-one script =
-      behind_making_one (accepts (made script)) (unless_one (finish_fault (made script).built) _ _ (finish_one (made script).built) (λ v. writes_one _ _)) (made script) (length (making script)) (behind _ script)
+      behind_making_one (accepts (body_before script)) (unless_one (finish_fault (body_before script).built) _ _ (finish_one (body_before script).built) (λ v. writes_one _ _)) (body_before script) (length (making script)) (behind _ script)

@@ -9,7 +9,7 @@ use Rattle.hir_lines.specs.declared.question.Question.{Question}
 use Rattle.hir_lines.specs.Grammar.{IsLine, IsMaker}
 use Rattle.hir_lines.specs.Grammar as line
 use Rattle.hir_lines.specs.Tokens.{Token}
-use Rattle.hir_run.specs.Made.{Made, nothing_made, with_line}
+use Rattle.hir_run.specs.BodySoFar.{BodySoFar, nothing_made, with_line}
 use Rattle.hir_run.specs.OfLines.{IsExprOfLine, IsPatOfLine, IsTypeOfLine, AreOfLines}
 use Rattle.hir_run.specs.Program.{maker_of, built_by, gives_self, gives_name, unless_second, once_each, says, script}
 use Rattle.hir_expr_store.specs.Contents.{Contents}
@@ -17,19 +17,19 @@ use Rattle.hir_store.specs.Building.{Building}
 use Rattle.hir_run.specs.Stages.{Builds, Finishes}
 
 -- an item of a list with one more is one of the list, or the one more
-pushed : {X : Type 0} (xs : List X) (x : X) (i : ℕ) (y : X) → slice_get (xs ++ x ∷ []) i ≡ Some y → (slice_get xs i ≡ Some y) ⊎ (x ≡ y)
-pushed [] x zero y e = inr (cc)
-pushed [] x (suc i) y e = cc
-pushed (z ∷ xs) x zero y e = inl e
-pushed (z ∷ xs) x (suc i) y e = pushed xs x i y e
+in_one_more : {X : Type 0} (xs : List X) (x : X) (i : ℕ) (y : X) → slice_get (xs ++ x ∷ []) i ≡ Some y → (slice_get xs i ≡ Some y) ⊎ (x ≡ y)
+in_one_more [] x zero y e = inr (cc)
+in_one_more [] x (suc i) y e = cc
+in_one_more (z ∷ xs) x zero y e = inl e
+in_one_more (z ∷ xs) x (suc i) y e = in_one_more xs x i y e
 
 more : {X : Type 0} (P : X → Type 0) (xs : List X) (x : X) → ((i : ℕ) (y : X) → slice_get xs i ≡ Some y → P y) → P x → (i : ℕ) (y : X) → slice_get (xs ++ x ∷ []) i ≡ Some y → P y
-more P xs x all here i y e = by (pushed xs x i y e) where
+more P xs x all here i y e = by (in_one_more xs x i y e) where
   by : (slice_get xs i ≡ Some y) ⊎ (x ≡ y) → P y
   by (inl there) = all i y there
   by (inr same) = subst P same here
 
-with_more : (m : Made) {maker : Maker} {tokens : List Token} → AreOfLines m.built.nodes → IsMaker maker tokens → AreOfLines (with_line m maker).built.nodes
+with_more : (m : BodySoFar) {maker : Maker} {tokens : List Token} → AreOfLines m.built.nodes → IsMaker maker tokens → AreOfLines (with_line m maker).built.nodes
 with_more m h line.bind = record { exprs = h.exprs; pats = h.pats; types = h.types }
 with_more m h line.bind_expanded = record { exprs = h.exprs; pats = h.pats; types = h.types }
 with_more m h (line.pat {p = x} {tokens = tokens} is) = record { exprs = h.exprs; pats = more IsPatOfLine m.built.nodes.pats x h.pats (tokens, is); types = h.types }
@@ -44,27 +44,27 @@ with_more m h line.roots = h
 with_more m h line.root = h
 
 -- what is written in a text
-written : ((text : List ℕ) → IsLine (line_of text) text) → (text : List ℕ) (maker : Maker) → line_of text ≡ Make maker → (tokens : List Token) × IsMaker maker tokens
-written said text maker e = let is = subst (λ (l : Line). IsLine l text) e (said text) in (is.0, is.1)
+tokens_of_maker : ((text : List ℕ) → IsLine (line_of text) text) → (text : List ℕ) (maker : Maker) → line_of text ≡ Make maker → (tokens : List Token) × IsMaker maker tokens
+tokens_of_maker said text maker e = let is = subst (λ (l : Line). IsLine l text) e (said text) in (is.0, is.1)
 
 unless_make : (b : Bool) (line : Line) (maker : Maker) → (if b then Bad else line) ≡ Make maker → line ≡ Make maker
 unless_make true line maker e = cc
 unless_make false line maker e = e
 
 module _ (said : (text : List ℕ) → IsLine (line_of text) text) where
-  one_made : (text : List ℕ) (has_self has_name : Bool) (m : Made) → AreOfLines m.built.nodes → (makers : List Maker)
-      → ((n : Made) → AreOfLines n.built.nodes → AreOfLines (fold with_line n makers).built.nodes)
+  one_made : (text : List ℕ) (has_self has_name : Bool) (m : BodySoFar) → AreOfLines m.built.nodes → (makers : List Maker)
+      → ((n : BodySoFar) → AreOfLines n.built.nodes → AreOfLines (fold with_line n makers).built.nodes)
       → AreOfLines (fold with_line m (cons_option (maker_of (unless_second has_self has_name (line_of text))) makers)).built.nodes
   one_made text has_self has_name m h makers rest = by (unless_second has_self has_name (line_of text)) refl where
     by : (line : Line) → unless_second has_self has_name (line_of text) ≡ line → AreOfLines (fold with_line m (cons_option (maker_of line) makers)).built.nodes
     by Blank e = rest m h
     by (Make maker) e =
-        let is = written said text maker (unless_make _ (line_of text) maker e) in
+        let is = tokens_of_maker said text maker (unless_make _ (line_of text) maker e) in
         rest (with_line m maker) (with_more m h is.1)
     by (Ask question) e = rest m h
     by Bad e = rest m h
 
-  each_made : (texts : List (List ℕ)) (has_self has_name : Bool) (m : Made) → AreOfLines m.built.nodes → AreOfLines (fold with_line m (filter_map maker_of (once_each has_self has_name (says texts)))).built.nodes
+  each_made : (texts : List (List ℕ)) (has_self has_name : Bool) (m : BodySoFar) → AreOfLines m.built.nodes → AreOfLines (fold with_line m (filter_map maker_of (once_each has_self has_name (says texts)))).built.nodes
   each_made [] has_self has_name m h = h
   each_made (text ∷ texts) has_self has_name m h =
       let self_too = has_self || gives_self (line_of text) in
@@ -75,7 +75,7 @@ module _ (said : (text : List ℕ) → IsLine (line_of text) text) where
   unfolding built_by
   made_of_lines texts = each_made texts false false nothing_made (record { exprs = λ id x e. cc; pats = λ id x e. cc; types = λ id x e. cc })
 
-  pub built_of_lines : (known rest remaining : Option (List ℕ)) (ls : LineState) (built : Made) (first : Option Question) → Builds known rest remaining ls built (Ok first) → AreOfLines built.built.nodes
+  pub built_of_lines : (known rest remaining : Option (List ℕ)) (ls : LineState) (built : BodySoFar) (first : Option Question) → Builds known rest remaining ls built (Ok first) → AreOfLines built.built.nodes
   built_of_lines known rest remaining ls built None b = rw b.1.1 (made_of_lines b.0)
   built_of_lines known rest remaining ls built (Some question) b = rw b.1.1 (made_of_lines b.0)
 

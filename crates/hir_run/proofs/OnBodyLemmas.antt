@@ -11,7 +11,7 @@ use Rattle.hir_lines.specs.declared.question.Question.{Question}
 use Rattle.hir_run.specs.declared.fault.RunFault.{RunFault}
 use Rattle.hir_run.specs.declared.fault.RunFault.TheVariants.{BadLine, Refused, BodyRefused, InputFailed, OutputFailed, OutOfMemory}
 use Rattle.hir_run.specs.Program.{says, AreAnswers}
-use Rattle.hir_run.specs.Stages.{asked, HaveAnswers, Answered, AsksUpTo, Asks, RefusesAt}
+use Rattle.hir_run.specs.Stages.{section_from, HaveAnswers, AreAnswered, AsksUpTo, Asks, RefusesAt}
 use Rattle.hir_run.proofs.AskedLemmas.{unmet_then}
 use Rattle.hir_run.proofs.CourseLemmas.{all_asks}
 use Rattle.hir_run.proofs.Refusals.{behind_line, some_text}
@@ -42,25 +42,25 @@ module _ (may : Question → Bool) (Is : Question → List ℕ → Type 0) where
   any_have : (ls : List Line) (answers : List ℕ) → HaveAnswers may Is ls answers → HaveAnswers any_question Is ls answers
   any_have ls answers have = (all_asks may ls have.0, have.1)
 
-  any_answered : (ls : List Line) (old : Option (List ℕ)) (waited : List ℕ) (new : Option (List ℕ)) (waiting : List ℕ) → Answered may Is ls old waited new waiting → Answered any_question Is ls old waited new waiting
+  any_answered : (ls : List Line) (old : Option (List ℕ)) (waited : List ℕ) (new : Option (List ℕ)) (waiting : List ℕ) → AreAnswered may Is ls old waited new waiting → AreAnswered any_question Is ls old waited new waiting
   any_answered ls old waited new waiting (answers, have, written) = (answers, any_have ls answers have, written)
 
   module _ (known : Option (List ℕ)) (start : LineState) (old : Option (List ℕ)) (waited : List ℕ) (first : Question) where
     module _ (rest : Option (List ℕ)) (ls : LineState) (new : Option (List ℕ)) (waiting : List ℕ) where
       -- no question needed the scopes
       pub any_done : AsksUpTo may Is known rest start ls old waited new waiting first None → AsksUpTo any_question Is known rest start ls old waited new waiting first None
-      any_done (texts, answered, all, counted) = (texts, any_answered (asked first texts) old waited new waiting answered, all, counted)
+      any_done (texts, answered, all, counted) = (texts, any_answered (section_from first texts) old waited new waiting answered, all, counted)
 
       -- the section ended before one did
       pub any_fails : (remaining : Option (List ℕ)) (fault : RunFault) → Asks may Is known rest remaining start ls old waited new waiting first (Err fault) → Asks any_question Is known rest remaining start ls old waited new waiting first (Err fault)
       any_fails remaining (BadLine number) (texts, text, answered, bad, front, counted) =
-          (texts, text, any_answered (asked first texts) old waited new waiting answered, bad, front, counted)
+          (texts, text, any_answered (section_from first texts) old waited new waiting answered, bad, front, counted)
       any_fails remaining InputFailed (texts, answered, unmet, until) =
-          (texts, any_answered (asked first texts) old waited new waiting answered, unmet, until)
+          (texts, any_answered (section_from first texts) old waited new waiting answered, unmet, until)
       any_fails remaining OutputFailed (texts, answers, have, front, grows, none) =
-          (texts, answers, any_have (asked first texts) answers have, front, grows, none)
+          (texts, answers, any_have (section_from first texts) answers have, front, grows, none)
       any_fails remaining OutOfMemory (inl (texts, answered, refuses)) =
-          inl (texts, any_answered (asked first texts) old waited new waiting answered, refuses)
+          inl (texts, any_answered (section_from first texts) old waited new waiting answered, refuses)
       any_fails remaining OutOfMemory (inr same) = inr same
       any_fails remaining (Refused fault) a = absurd a
       any_fails remaining (BodyRefused fault) a = absurd a
@@ -69,26 +69,26 @@ module _ (may : Question → Bool) (Is : Question → List ℕ → Type 0) where
       pub scopes_refused : (remaining : Option (List ℕ)) (left : Question) → AsksUpTo may Is known rest start ls old waited new waiting first (Some left) → Asks any_question Is known rest remaining start ls old waited new waiting first (Err OutOfMemory)
       scopes_refused remaining left (refuses, inl (is, same, waits, here, unread)) = inr (same, waits, here)
       scopes_refused remaining left (refuses, inr (texts, text, answered, here, is, read, stays, counted)) =
-          inl (texts, any_answered (asked first texts) old waited new waiting answered, at_question known rest start.count ls texts text left here is read counted)
+          inl (texts, any_answered (section_from first texts) old waited new waiting answered, at_question known rest start.count ls texts text left here is read counted)
 
     -- one did, and with the scopes the section went on
     module _ (unread mid : Option (List ℕ)) (waits : List ℕ) (ls : LineState) (left : Question) (rest remaining new : Option (List ℕ)) (waiting : List ℕ) (ls' : LineState) where
-      module _ (texts : List (List ℕ)) (text : List ℕ) (answered : Answered may Is (asked first texts) old waited mid waits) (here : text ≡ ls.line) (is : line_of text ≡ Ask left) (read : Reads known (texts ++ text ∷ []) unread ls.at_end) (stays : start.at_end ≡ true → ls.at_end ≡ true) (counted : ls.count ≡ start.count + length texts + 1) where
+      module _ (texts : List (List ℕ)) (text : List ℕ) (answered : AreAnswered may Is (section_from first texts) old waited mid waits) (here : text ≡ ls.line) (is : line_of text ≡ Ask left) (read : Reads known (texts ++ text ∷ []) unread ls.at_end) (stays : start.at_end ≡ true → ls.at_end ≡ true) (counted : ls.count ≡ start.count + length texts + 1) where
         abbrev whole : List (List ℕ) → List (List ℕ)
         whole more = texts ++ text ∷ more
 
         grouped : (more : List (List ℕ)) → (texts ++ text ∷ []) ++ more ≡ whole more
         grouped more = append_assoc texts (text ∷ []) more
 
-        asked_whole : (more : List (List ℕ)) → asked first (whole more) ≡ asked first texts ++ asked left more
+        asked_whole : (more : List (List ℕ)) → section_from first (whole more) ≡ section_from first texts ++ section_from left more
         asked_whole more = ap (λ v. Ask first ∷ v) (map-append line_of texts (text ∷ more) ∙ ap (λ l. says texts ++ l ∷ says more) is)
 
-        have_whole : (more : List (List ℕ)) (answers : List ℕ) → HaveAnswers any_question Is (asked left more) answers → HaveAnswers any_question Is (asked first (whole more)) (answered.0 ++ answers)
+        have_whole : (more : List (List ℕ)) (answers : List ℕ) → HaveAnswers any_question Is (section_from left more) answers → HaveAnswers any_question Is (section_from first (whole more)) (answered.0 ++ answers)
         have_whole more answers have =
             subst (λ (l : List Line). HaveAnswers any_question Is l (answered.0 ++ answers)) (sym (asked_whole more))
-            (have_joined Is (asked first texts) (asked left more) answered.0 answers (any_have (asked first texts) answered.0 answered.1) have)
+            (have_joined Is (section_from first texts) (section_from left more) answered.0 answers (any_have (section_from first texts) answered.0 answered.1) have)
 
-        answered_whole : (more : List (List ℕ)) → Answered any_question Is (asked left more) mid waits new waiting → Answered any_question Is (asked first (whole more)) old waited new waiting
+        answered_whole : (more : List (List ℕ)) → AreAnswered any_question Is (section_from left more) mid waits new waiting → AreAnswered any_question Is (section_from first (whole more)) old waited new waiting
         answered_whole more (answers, have, written) =
             (answered.0 ++ answers, have_whole more answers have, rw append_assoc at (IsWrittenUpTo-then old mid new (waited ++ answered.0) answers waits waiting answered.2 written))
 
@@ -117,7 +117,7 @@ module _ (may : Question → Bool) (Is : Question → List ℕ → Type 0) where
         joined_fails OutOfMemory (inr (same, waits_on, there)) =
             inl (
               texts,
-              any_answered (asked first texts) old waited new waiting (rw (same, waits_on) answered),
+              any_answered (section_from first texts) old waited new waiting (rw (same, waits_on) answered),
               subst (λ (l : LineState). RefusesAt (λ t. asks (line_of t) ≡ true) start.count known texts l.line l.count) (sym there)
                   (at_question known unread start.count ls texts text left here is read counted),
             )

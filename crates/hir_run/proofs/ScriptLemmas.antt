@@ -13,7 +13,7 @@ use Rattle.hir_items.specs.Bodies.{BodyContents, body_of}
 use Rattle.hir_lines.specs.Line.{any_question}
 use Rattle.hir_run.specs.declared.fault.RunFault.{RunFault}
 use Rattle.hir_run.specs.declared.fault.RunFault.TheVariants.{OutOfMemory}
-use Rattle.hir_run.specs.Made.{Made, body_parts}
+use Rattle.hir_run.specs.BodySoFar.{BodySoFar, body_parts}
 use Rattle.hir_run.specs.Answer.{IsStoreAnswer, IsAnswer}
 use Rattle.hir_run.specs.Program.{Outcome, is_of_store, section, stops, behind_store, on_body}
 use Rattle.hir_run.specs.Run.{RunsTo}
@@ -36,8 +36,8 @@ runs_out_first None old remaining ls fresh = tt
 runs_out_first (Some input) old remaining ls fresh = rw fresh ([], lines input, refl, refl, [], answers-alone [] refl, nothing_appended old)
 
 -- what holds where nothing is written and nothing waits, at other names
-moved : (input : List ℕ) (old remaining new : Option (List ℕ)) (waiting : List ℕ) (ls : LineState) (outcome : Outcome) → new ≡ old → waiting ≡ [] → RunsUpTo (Some input) old remaining old [] ls outcome → RunsUpTo (Some input) old remaining new waiting ls outcome
-moved input old remaining new waiting ls outcome same none r =
+at_other_names : (input : List ℕ) (old remaining new : Option (List ℕ)) (waiting : List ℕ) (ls : LineState) (outcome : Outcome) → new ≡ old → waiting ≡ [] → RunsUpTo (Some input) old remaining old [] ls outcome → RunsUpTo (Some input) old remaining new waiting ls outcome
+at_other_names input old remaining new waiting ls outcome same none r =
     subst (λ (v : Option (List ℕ)). RunsUpTo (Some input) old remaining v waiting ls outcome) (sym same)
     (subst (λ (w : List ℕ). RunsUpTo (Some input) old remaining old w ls outcome) (sym none) r)
 
@@ -48,23 +48,23 @@ same_parts result store contents params more self_param other s p q m =
     (subst (λ (v : Contents). IsMadeBody (body_of v params self_param) result) s m))
 
 -- the lines that make end early
-pub script_build : (known rest remaining old new : Option (List ℕ)) (waiting : List ℕ) (ls : LineState) (built : Made) (fault : RunFault) → new ≡ old → waiting ≡ [] → Builds known rest remaining ls built (Err fault) → RunsUpTo known old remaining new waiting ls (Err fault)
+pub script_build : (known rest remaining old new : Option (List ℕ)) (waiting : List ℕ) (ls : LineState) (built : BodySoFar) (fault : RunFault) → new ≡ old → waiting ≡ [] → Builds known rest remaining ls built (Err fault) → RunsUpTo known old remaining new waiting ls (Err fault)
 script_build None rest remaining old new waiting ls built fault same none b = tt
-script_build (Some input) rest remaining old new waiting ls built fault same none b = moved input old remaining new waiting ls (Err fault) same none (build_ends input rest old ls built remaining fault b)
+script_build (Some input) rest remaining old new waiting ls built fault same none b = at_other_names input old remaining new waiting ls (Err fault) same none (build_ends input rest old ls built remaining fault b)
 
 -- what was made is refused
-pub script_finish : (known rest remaining old new : Option (List ℕ)) (waiting : List ℕ) (ls : LineState) (built : Made) (finished : Building) (first : Option Question) (fault : RunFault) → new ≡ old → waiting ≡ [] → finished ≡ built.built → Builds known rest remaining ls built (Ok first) → Finishes finished (Err fault) → RunsUpTo known old remaining new waiting ls (Err fault)
+pub script_finish : (known rest remaining old new : Option (List ℕ)) (waiting : List ℕ) (ls : LineState) (built : BodySoFar) (finished : Building) (first : Option Question) (fault : RunFault) → new ≡ old → waiting ≡ [] → finished ≡ built.built → Builds known rest remaining ls built (Ok first) → Finishes finished (Err fault) → RunsUpTo known old remaining new waiting ls (Err fault)
 script_finish None rest remaining old new waiting ls built finished first fault same none is b f = tt
 script_finish (Some input) rest remaining old new waiting ls built finished first fault same none is b f =
-    moved input old remaining new waiting ls (Err fault) same none (finish_ends input rest old ls built remaining first fault b (subst (λ (x : Building). Finishes x (Err fault)) is f))
+    at_other_names input old remaining new waiting ls (Err fault) same none (finish_ends input rest old ls built remaining first fault b (subst (λ (x : Building). Finishes x (Err fault)) is f))
 
 -- there is no question
-pub script_accept : (known rest remaining old mid new : Option (List ℕ)) (waited waiting : List ℕ) (ls : LineState) (built : Made) (finished : Building) (store : Contents) (outcome : Outcome) → mid ≡ old → waited ≡ [] → finished ≡ built.built → Builds known rest remaining ls built (Ok None) → Finishes finished (Ok store) → Accepts mid waited new waiting outcome → RunsUpTo known old remaining new waiting ls outcome
+pub script_accept : (known rest remaining old mid new : Option (List ℕ)) (waited waiting : List ℕ) (ls : LineState) (built : BodySoFar) (finished : Building) (store : Contents) (outcome : Outcome) → mid ≡ old → waited ≡ [] → finished ≡ built.built → Builds known rest remaining ls built (Ok None) → Finishes finished (Ok store) → Accepts mid waited new waiting outcome → RunsUpTo known old remaining new waiting ls outcome
 script_accept None rest remaining old mid new waited waiting ls built finished store outcome same none is b f a = tt
 script_accept (Some input) rest remaining old mid new waited waiting ls built finished store outcome same none is b f a =
     accept_ends input rest remaining old new waiting ls built outcome b (rw is at f.1) (rw (same, none) at a)
 
-module _ (rest remaining old mid : Option (List ℕ)) (waited : List ℕ) (ls : LineState) (built : Made) (finished : Building) (question : Question) (store : Contents) (same : mid ≡ old) (none : waited ≡ []) (is : finished ≡ built.built) (f : Finishes finished (Ok store)) where
+module _ (rest remaining old mid : Option (List ℕ)) (waited : List ℕ) (ls : LineState) (built : BodySoFar) (finished : Building) (question : Question) (store : Contents) (same : mid ≡ old) (none : waited ≡ []) (is : finished ≡ built.built) (f : Finishes finished (Ok store)) where
   finishes : Finishes built.built (Ok store)
   finishes = rw is at f
 

@@ -9,7 +9,7 @@ use Rattle.std.proofs.lemmas.List.Folds.{list_any-append}
 use Rattle.hir_lines.specs.Line.{Line, Blank, Make, Ask, Bad, line_of, asks}
 use Rattle.hir_lines.specs.Makers.{Maker}
 use Rattle.hir_lines.specs.Makers as make
-use Rattle.hir_run.specs.Made.{Made, with_line, is_second}
+use Rattle.hir_run.specs.BodySoFar.{BodySoFar, with_line, is_second}
 use Rattle.hir_run.specs.Program.{gives_self, gives_name, maker_gives_self, maker_gives_name, unless_second, once_each, says, script, line_behind}
 
 or_assoc : (a b c : Bool) → ((a || b) || c) ≡ (a || (b || c))
@@ -116,11 +116,11 @@ pub behind-bad : (texts : List (List ℕ)) (text : List ℕ) → asks (line_of t
 behind-bad texts text h = asks-second _ _ (line_of text) h
 
 -- whether a self parameter and a name were given is told by what is made
-pub record Tells (made : Made) (texts : List (List ℕ)) : Type 0 where
+pub record Tells (made : BodySoFar) (texts : List (List ℕ)) : Type 0 where
   pub self_param : is_some made.self_param ≡ list_any gives_self (says texts)
   pub name : is_some made.name ≡ list_any gives_name (says texts)
 
-second-is : (made : Made) (s n : Bool) (maker : Maker) → is_some made.self_param ≡ s → is_some made.name ≡ n → unless_second s n (Make maker) ≡ (if is_second made maker then Bad else Make maker)
+second-is : (made : BodySoFar) (s n : Bool) (maker : Maker) → is_some made.self_param ≡ s → is_some made.name ≡ n → unless_second s n (Make maker) ≡ (if is_second made maker then Bad else Make maker)
 second-is made true true (make.SelfParam id) h k = rw h refl
 second-is made true false (make.SelfParam id) h k = rw h refl
 second-is made false true (make.SelfParam id) h k = rw h refl
@@ -139,29 +139,29 @@ second-is made s n make.Roots h k = unless-neither s n (Make make.Roots) refl re
 second-is made s n (make.Root id) h k = unless-neither s n (Make (make.Root id)) refl refl
 
 -- a line that makes something, behind others
-pub behind_make : (made : Made) (texts : List (List ℕ)) (text : List ℕ) (maker : Maker) → Tells made texts → line_of text ≡ Make maker → line_behind texts text ≡ (if is_second made maker then Bad else Make maker)
+pub behind_make : (made : BodySoFar) (texts : List (List ℕ)) (text : List ℕ) (maker : Maker) → Tells made texts → line_of text ≡ Make maker → line_behind texts text ≡ (if is_second made maker then Bad else Make maker)
 behind_make made texts text maker t e =
     ap (unless_second (list_any gives_self (says texts)) (list_any gives_name (says texts))) e
     ∙ second-is made (list_any gives_self (says texts)) (list_any gives_name (says texts)) maker t.self_param t.name
 
-pub tells_nothing : (made : Made) → made.self_param ≡ None → made.name ≡ None → Tells made []
+pub tells_nothing : (made : BodySoFar) → made.self_param ≡ None → made.name ≡ None → Tells made []
 tells_nothing made h k = record { self_param = ap is_some h; name = ap is_some k }
 
-tells-by : (made made' : Made) (line : Line) → is_some made'.self_param ≡ (is_some made.self_param || gives_self line) → is_some made'.name ≡ (is_some made.name || gives_name line)
+tells-by : (made made' : BodySoFar) (line : Line) → is_some made'.self_param ≡ (is_some made.self_param || gives_self line) → is_some made'.name ≡ (is_some made.name || gives_name line)
     → (texts : List (List ℕ)) (text : List ℕ) → line_of text ≡ line → Tells made texts → Tells made' (texts ++ text ∷ [])
 tells-by made made' line h k texts text e t = record {
   self_param = h ∙ (rw (t.self_param, ← e) (sym (any-push gives_self texts text)));
   name = k ∙ (rw (t.name, ← e) (sym (any-push gives_name texts text)));
 }
 
-pub tells_blank : (made : Made) (texts : List (List ℕ)) (text : List ℕ) → line_of text ≡ Blank → Tells made texts → Tells made (texts ++ text ∷ [])
+pub tells_blank : (made : BodySoFar) (texts : List (List ℕ)) (text : List ℕ) → line_of text ≡ Blank → Tells made texts → Tells made (texts ++ text ∷ [])
 tells_blank made texts text e t = tells-by made made Blank (sym (or_false _)) (sym (or_false _)) texts text e t
 
 or_true : (a : Bool) → true ≡ (a || true)
 or_true true = refl
 or_true false = refl
 
-pub tells_more : (made : Made) (maker : Maker) (texts : List (List ℕ)) (text : List ℕ) → line_of text ≡ Make maker → Tells made texts → Tells (with_line made maker) (texts ++ text ∷ [])
+pub tells_more : (made : BodySoFar) (maker : Maker) (texts : List (List ℕ)) (text : List ℕ) → line_of text ≡ Make maker → Tells made texts → Tells (with_line made maker) (texts ++ text ∷ [])
 tells_more made maker texts text e t = tells-by made (with_line made maker) (Make maker) (self-is maker) (name-is maker) texts text e t
   where
     self-is : (maker : Maker) → is_some (with_line made maker).self_param ≡ (is_some made.self_param || maker_gives_self maker)

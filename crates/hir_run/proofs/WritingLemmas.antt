@@ -12,7 +12,7 @@ use Rattle.hir_scope.specs.Scopes.{Scope}
 use Rattle.hir_scope.specs.Frames.{Frame}
 use Rattle.hir_scope.specs.Resolution.{entries_of}
 use Rattle.std.specs.List.{flat_map}
-use Rattle.hir_run.specs.Answer.{spaced, entry_text, names_text}
+use Rattle.hir_run.specs.Answer.{after_spaces, entry_text, names_text}
 use Rattle.hir_run.specs.Puts.{Puts}
 
 -- what was written, and then more
@@ -26,8 +26,8 @@ GrowsByFront-then old mid new bytes more waiting w g =
     rw regrouped at (GrowsByFront-after old mid new w.0 (waiting ++ more) w.2 g)
 
 -- some of what waited was written
-pub kept : (old mid new : Option (List ℕ)) (bytes waiting rest : List ℕ) → IsWrittenUpTo old mid bytes waiting → IsWrittenUpTo mid new waiting rest → IsWrittenUpTo old new bytes rest
-kept old mid new bytes waiting rest w v = rw append-nil at (IsWrittenUpTo-then old mid new bytes [] waiting rest w (rw (← append-nil waiting) at v))
+pub rest_waits : (old mid new : Option (List ℕ)) (bytes waiting rest : List ℕ) → IsWrittenUpTo old mid bytes waiting → IsWrittenUpTo mid new waiting rest → IsWrittenUpTo old new bytes rest
+rest_waits old mid new bytes waiting rest w v = rw append-nil at (IsWrittenUpTo-then old mid new bytes [] waiting rest w (rw (← append-nil waiting) at v))
 
 -- two pieces, one behind the other
 pub Puts-then : (old mid new : Option (List ℕ)) (f g h : Bool) (w v u bytes more : List ℕ) → Puts old f w mid g v bytes → Puts mid g v new h u more → Puts old f w new h u (bytes ++ more)
@@ -51,17 +51,17 @@ put_then contents failed old mid new w v u bytes more p q =
     Puts-then (contents old) (contents mid) (contents new) (failed old) (failed mid) (failed new) w v u bytes more p q
 
 -- one number more
-spaced-more : (numbers : List ℕ) (n : ℕ) → spaced (numbers ++ n ∷ []) ≡ spaced numbers ++ (32 ∷ decimal n)
-spaced-more numbers n = flat_map-append (λ n. 32 ∷ decimal n) numbers (n ∷ []) ∙ ap (λ v. spaced numbers ++ v) (append-nil (32 ∷ decimal n))
+spaced-more : (numbers : List ℕ) (n : ℕ) → after_spaces (numbers ++ n ∷ []) ≡ after_spaces numbers ++ (32 ∷ decimal n)
+spaced-more numbers n = flat_map-append (λ n. 32 ∷ decimal n) numbers (n ∷ []) ∙ ap (λ v. after_spaces numbers ++ v) (append-nil (32 ∷ decimal n))
 
-pub spaced_then : {W : Type 0} (contents : W → Option (List ℕ)) (failed : W → Bool) (old mid new : W) (w v u numbers : List ℕ) (n : ℕ) → Puts (contents old) (failed old) w (contents mid) (failed mid) v (spaced numbers) → Puts (contents mid) (failed mid) v (contents new) (failed new) u (32 ∷ decimal n) → Puts (contents old) (failed old) w (contents new) (failed new) u (spaced (numbers ++ n ∷ []))
+pub spaced_then : {W : Type 0} (contents : W → Option (List ℕ)) (failed : W → Bool) (old mid new : W) (w v u numbers : List ℕ) (n : ℕ) → Puts (contents old) (failed old) w (contents mid) (failed mid) v (after_spaces numbers) → Puts (contents mid) (failed mid) v (contents new) (failed new) u (32 ∷ decimal n) → Puts (contents old) (failed old) w (contents new) (failed new) u (after_spaces (numbers ++ n ∷ []))
 spaced_then contents failed old mid new w v u numbers n p q =
-    rw (spaced-more numbers n) (put_then contents failed old mid new w v u (spaced numbers) (32 ∷ decimal n) p q)
+    rw (spaced-more numbers n) (put_then contents failed old mid new w v u (after_spaces numbers) (32 ∷ decimal n) p q)
 
 -- one number more of a list
-pub numbers_more : (xs : List ℕ) (i x : ℕ) → i < length xs → x ≡ get_or xs i x → spaced (take (i + 1) xs) ≡ spaced (take i xs) ++ (32 ∷ decimal x)
+pub numbers_more : (xs : List ℕ) (i x : ℕ) → i < length xs → x ≡ get_or xs i x → after_spaces (take (i + 1) xs) ≡ after_spaces (take i xs) ++ (32 ∷ decimal x)
 numbers_more xs i x there is =
-    ap spaced (take_more xs i x there) ∙ spaced-more (take i xs) (get_or xs i x) ∙ ap (λ n. spaced (take i xs) ++ (32 ∷ decimal n)) (sym is)
+    ap after_spaces (take_more xs i x there) ∙ spaced-more (take i xs) (get_or xs i x) ∙ ap (λ n. after_spaces (take i xs) ++ (32 ∷ decimal n)) (sym is)
 
 -- the names of one entry more
 pub names_more : (xs : List ScopeEntry) (i : ℕ) (x : ScopeEntry) → i < length xs → x ≡ get_or xs i x → names_text (take (i + 1) xs) ≡ names_text (take i xs) ++ entry_text x

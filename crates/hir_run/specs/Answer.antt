@@ -17,26 +17,26 @@ use Rattle.hir_expr_store.specs.Contents.{Contents}
 use Rattle.hir_expr_store.specs.PatLists.{children}
 use Rattle.hir_items.specs.Bodies.{BodyContents, BodyReaches}
 use Rattle.hir_scope.specs.declared.scope.ScopeEntry.{ScopeEntry}
-use Rattle.hir_scope.specs.Built.{tops_of_body}
+use Rattle.hir_scope.specs.BodyScopes.{tops_of_body}
 use Rattle.hir_scope.specs.Chains.{HasChain}
 use Rattle.hir_scope.specs.Frames.{Chain}
 use Rattle.hir_scope.specs.Resolution.{resolve, entries_of}
 use Rattle.hir_captures.specs.Captures.{AreCaptures, IsReachedClosure}
 use Rattle.hir_run.specs.declared.named_body.NamedBody.{NamedBody}
-use Rattle.hir_run.specs.Printed.{print_text}
+use Rattle.hir_run.specs.PrintText.{print_text}
 
 -- an answer: the question's word, the expression, what is known of it, and a line end
 abbrev pub answer_line : List ℕ → ℕ → List ℕ → List ℕ
 answer_line word expr known = word ++ decimal expr ++ known ++ codes "\n"
 
 -- numbers, each after a space
-abbrev pub spaced : List ℕ → List ℕ
-spaced numbers = flat_map (λ n. 32 ∷ decimal n) numbers
+abbrev pub after_spaces : List ℕ → List ℕ
+after_spaces numbers = flat_map (λ n. 32 ∷ decimal n) numbers
 
 -- what is known of an expression: its children, or that it isn't there
 abbrev pub children_text : Nodes → ℕ → List ℕ
 children_text s e =
-    if nat_lt e (length s.exprs) then codes " =" ++ spaced (children s e) else codes " unknown"
+    if nat_lt e (length s.exprs) then codes " =" ++ after_spaces (children s e) else codes " unknown"
 
 abbrev pub found_text : Option ℕ → List ℕ
 found_text None = codes " none"
@@ -94,7 +94,7 @@ AreCapturesOf b expr (Some bindings) = IsReachedClosure b expr × AreCaptures b 
 -- the bindings that a closure captures
 abbrev pub captures_text : Option (List ℕ) → List ℕ
 captures_text None = codes " no closure"
-captures_text (Some bindings) = codes " =" ++ spaced bindings
+captures_text (Some bindings) = codes " =" ++ after_spaces bindings
 
 -- the text is the answer to `chain`, to `resolve`, to `captures`
 abbrev pub IsChainAnswer : BodyContents → ℕ → List ℕ → Type 0

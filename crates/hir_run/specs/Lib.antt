@@ -1,7 +1,7 @@
-pub mod Made
+pub mod BodySoFar
 pub mod Answer
 pub mod OfLines
-pub mod Printed
+pub mod PrintText
 pub mod Puts
 pub mod Program
 pub mod Outcomes

@@ -4,7 +4,8 @@ use Rattle.hir_run.specs.declared.fault.RunFault.{RunFault}
 use Rattle.hir_run.specs.declared.fault.RunFault.TheVariants.{BadLine, Refused, BodyRefused, InputFailed, OutputFailed, OutOfMemory}
 
 -- one fact where it is done, where a line is bad, where what was made is refused, where a read or a write failed, where memory was refused
-abbrev pub Ends : {X : Type 0} → (X → Type 0) → (ℕ → Type 0) → (RunFault → Type 0) → Type 0 → Type 0 → Type 0 →
+abbrev pub Ends : {X : Type 0} → (X → Type 0) → (ℕ → Type 0) → (RunFault → Type 0) → Type 0 → Type 0
+    → Type 0 →
     Result X RunFault → Type 0
 Ends done bad refused input output memory (Ok x) = done x
 Ends done bad refused input output memory (Err (BadLine number)) = bad number

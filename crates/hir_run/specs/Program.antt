@@ -11,7 +11,7 @@ use Rattle.hir_items.specs.Bodies.{body_fault}
 use Rattle.hir_store.specs.Building.{contents_of, finish_fault}
 use Rattle.hir_run.specs.declared.fault.RunFault.{RunFault}
 use Rattle.hir_run.specs.declared.fault.RunFault.TheVariants.{BadLine, Refused, BodyRefused}
-use Rattle.hir_run.specs.Made.{Made, nothing_made, with_line, body_parts}
+use Rattle.hir_run.specs.BodySoFar.{BodySoFar, nothing_made, with_line, body_parts}
 use Rattle.hir_run.specs.Answer.{IsStoreAnswer, IsAnswer}
 
 -- a question on the store alone
@@ -72,31 +72,32 @@ AreAnswers Is (line ∷ rest) text =
     (first more : List ℕ) × IsLineAnswer Is line first × AreAnswers Is rest more × (text ≡ first ++ more)
 
 -- A section of questions, after this many good lines: those that may be asked are answered, as far as they come. Then the run goes on
-abbrev pub section : (Question → Bool) → (Question → List ℕ → Type 0) → (ℕ → List Line → Course) → ℕ → List Line → Course
+abbrev pub section : (Question → Bool) → (Question → List ℕ → Type 0) → (ℕ → List Line → Course) → ℕ
+    → List Line → Course
 section may Is next good script text outcome =
     (answers more : List ℕ) × AreAnswers Is (front (may_ask may) script) answers
     × next (good + length (front (may_ask may) script)) (behind (may_ask may) script) more outcome
     × (text ≡ answers ++ more)
 
 -- the section from the first question on the body on: the first fault of the body's parts is looked for, and any question is answered
-abbrev pub on_body : Made → ℕ → List Line → Course
+abbrev pub on_body : BodySoFar → ℕ → List Line → Course
 on_body made good script =
     unless_refused (body_fault (body_parts made)) BodyRefused
     (section any_question (IsAnswer made.name (body_parts made)) stops good script)
 
-abbrev pub behind_store : Made → ℕ → List Line → Course
+abbrev pub behind_store : BodySoFar → ℕ → List Line → Course
 behind_store made good [] = stops good []
 behind_store made good (line ∷ rest) =
     if_so (asks line) (on_body made good (line ∷ rest)) (stops good (line ∷ rest))
 
 -- the section from the first question on: the builder's first fault is looked for, and questions on the store are answered
-abbrev pub on_store : Made → ℕ → List Line → Course
+abbrev pub on_store : BodySoFar → ℕ → List Line → Course
 on_store made good script =
     unless_refused (finish_fault made.built) Refused
     (section is_of_store (IsStoreAnswer (contents_of made.built)) (behind_store made) good script)
 
 -- behind the lines that make something: this is the course where no line is left
-abbrev pub behind_making : Course → Made → ℕ → List Line → Course
+abbrev pub behind_making : Course → BodySoFar → ℕ → List Line → Course
 behind_making idle made good [] = idle
 behind_making idle made good (line ∷ rest) =
     if_so (asks line) (on_store made good (line ∷ rest)) (stops good (line ∷ rest))
@@ -112,24 +113,24 @@ maker_of (Ask question) = None
 maker_of Bad = None
 
 -- what these lines make, one after the other
-unfoldable pub built_by : List Line → Made
+unfoldable pub built_by : List Line → BodySoFar
 built_by script = fold with_line nothing_made (filter_map maker_of script)
 
 -- what the lines before the first question make
-abbrev pub made : List Line → Made
-made script = built_by (making script)
+abbrev pub body_before : List Line → BodySoFar
+body_before script = built_by (making script)
 
 -- the course of a script, where this is the course of one without a question and without a bad line
 unfoldable pub Runs : Course → List Line → Course
-Runs idle script = behind_making idle (made script) (length (making script)) (behind makes script)
+Runs idle script = behind_making idle (body_before script) (length (making script)) (behind makes script)
 
 -- without a question the builder's first fault is looked for at the end
-abbrev pub accepts : Made → Course
+abbrev pub accepts : BodySoFar → Course
 accepts made = unless_refused (finish_fault made.built) Refused (writes (codes "accepted\n") (Ok tt))
 
 -- the text that a script has written, and its outcome
 abbrev pub IsMeaning : List Line → Course
-IsMeaning script = Runs (accepts (made script)) script
+IsMeaning script = Runs (accepts (body_before script)) script
 
 -- no fault comes in these lines, and this is the text of their answers; what comes after them is not looked at
 abbrev pub HasAnswers : List Line → List ℕ → Type 0

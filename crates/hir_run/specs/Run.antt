@@ -42,17 +42,20 @@ IsRefusedBehind texts more (b ∷ bs) count =
 -- memory was refused at some line: the answers of all lines before it are written, and no fault comes in these
 abbrev pub IsWithoutMemory : List ℕ → (List ℕ → Type 0) → LineState → Type 0
 IsWithoutMemory input Wrote taken =
-    (texts more : List (List ℕ)) × (lines input ≡ texts ++ more) × IsRefusedBehind texts more taken.line taken.count
+    (texts more : List (List ℕ)) × (lines input ≡ texts ++ more)
+    × IsRefusedBehind texts more taken.line taken.count
     × (text : List ℕ) × HasAnswers (script texts) text × Wrote text
 
 -- how a run over this input ends, where these lines were taken
-abbrev pub EndsWith : List ℕ → (List ℕ → Type 0) → (List ℕ → Type 0) → Option (List ℕ) → LineState → Outcome → Type 0
+abbrev pub EndsWith : List ℕ → (List ℕ → Type 0) → (List ℕ → Type 0) → Option (List ℕ) → LineState
+    → Outcome → Type 0
 EndsWith input Wrote WroteFront remaining taken outcome =
     Ends (λ done. IsComplete input Wrote (Ok done)) (λ number. IsComplete input Wrote (Err (BadLine number)))
     (λ fault. IsComplete input Wrote (Err fault)) (IsInputCutShort input Wrote remaining)
     (IsOutputCutShort input WroteFront) (IsWithoutMemory input Wrote taken) outcome
 
 -- what a run does over the bytes that its source tells, where these lines were taken, to those that its sink tells
-abbrev pub RunsTo : Option (List ℕ) → Option (List ℕ) → Option (List ℕ) → Option (List ℕ) → LineState → Outcome → Type 0
+abbrev pub RunsTo : Option (List ℕ) → Option (List ℕ) → Option (List ℕ) → Option (List ℕ) → LineState
+    → Outcome → Type 0
 RunsTo known old remaining new taken outcome =
     IfSome known (λ input. EndsWith input (Appends old new) (GrowsByFront old new) remaining taken outcome)

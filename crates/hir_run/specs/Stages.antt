@@ -17,7 +17,7 @@ use Rattle.hir_expr_store.specs.Contents.{Contents}
 use Rattle.hir_store.specs.Building.{Building, contents_of, finish_fault}
 use Rattle.hir_run.specs.declared.fault.RunFault.{RunFault}
 use Rattle.hir_run.specs.declared.fault.RunFault.TheVariants.{Refused, BodyRefused, OutputFailed}
-use Rattle.hir_run.specs.Made.{Made, is_second, with_line}
+use Rattle.hir_run.specs.BodySoFar.{BodySoFar, is_second, with_line}
 use Rattle.hir_run.specs.Outcomes.{Ends}
 use Rattle.hir_run.specs.Puts.{Puts}
 use Rattle.hir_run.specs.Run.{EndsWith}
@@ -29,7 +29,7 @@ abbrev pub AllMake : List (List ℕ) → Type 0
 AllMake texts = list_all makes (script texts) ≡ true
 
 -- each of them may, and this is what they make
-abbrev pub Makes : List (List ℕ) → Made → Type 0
+abbrev pub Makes : List (List ℕ) → BodySoFar → Type 0
 Makes texts built = AllMake texts × (built ≡ built_by (script texts))
 
 -- memory was refused at the line that was taken last, behind these and so many before: it may come there. Or where none was taken last,
@@ -40,7 +40,7 @@ RefusesAt MayCome before known texts (b ∷ bs) count =
     ReadsFront known (texts ++ (b ∷ bs) ∷ []) × (count ≡ before + length texts + 1) × MayCome (b ∷ bs)
 
 -- nothing was asked, or a question behind these texts
-abbrev pub BuildsUpTo : Option (List ℕ) → Option (List ℕ) → LineState → Made → Option Question → Type 0
+abbrev pub BuildsUpTo : Option (List ℕ) → Option (List ℕ) → LineState → BodySoFar → Option Question → Type 0
 BuildsUpTo known rest lines built None =
     (texts : List (List ℕ)) × Makes texts built × ReadsAll known texts × (lines.line ≡ [])
     × (lines.count ≡ length texts)
@@ -49,7 +49,7 @@ BuildsUpTo known rest lines built (Some question) =
     × Reads known (texts ++ lines.line ∷ []) rest lines.at_end × (lines.count ≡ length texts + 1)
 
 -- the lines that make: from the told bytes to those still to be taken and those that the source has left, with the lines and what was built
-abbrev pub Builds : Option (List ℕ) → Option (List ℕ) → Option (List ℕ) → LineState → Made →
+abbrev pub Builds : Option (List ℕ) → Option (List ℕ) → Option (List ℕ) → LineState → BodySoFar →
     Result (Option Question) RunFault → Type 0
 Builds known rest remaining lines built result =
     Ends (BuildsUpTo known rest lines built)
@@ -63,18 +63,19 @@ Builds known rest remaining lines built result =
     result
 
 -- the line is empty or makes something; or it does neither, and is left
-abbrev pub MakesOrLeaves : Line → Made → Made → Bool → Type 0
+abbrev pub MakesOrLeaves : Line → BodySoFar → BodySoFar → Bool → Type 0
 MakesOrLeaves line old new true =
     ((line ≡ Blank) × (new ≡ old))
     ⊎ ((maker : Maker) × (line ≡ Make maker) × (is_second old maker ≡ false) × (new ≡ with_line old maker))
 MakesOrLeaves line old new false = (makes line ≡ false) × (new ≡ old)
 
 -- what the line that was taken last does, to what was made before it
-abbrev pub BuildsLine : LineState → Made → Made → Result Bool RunFault → Type 0
+abbrev pub BuildsLine : LineState → BodySoFar → BodySoFar → Result Bool RunFault → Type 0
 BuildsLine lines old new result =
     Ends (MakesOrLeaves (line_of lines.line) old new)
     (λ told. ((line_of lines.line ≡ Bad)
-    ⊎ ((maker : Maker) × (line_of lines.line ≡ Make maker) × (is_second old maker ≡ true))) × (told ≡ lines.count))
+    ⊎ ((maker : Maker) × (line_of lines.line ≡ Make maker) × (is_second old maker ≡ true)))
+    × (told ≡ lines.count))
     (λ fault. ⊥) ⊥ ⊥
     ((maker : Maker) × (line_of lines.line ≡ Make maker) × (is_second old maker ≡ false)) result
 
@@ -98,10 +99,12 @@ IsMadeBody parts result =
     (λ fault. (first : BodyFault) × (fault ≡ BodyRefused first) × body_fault parts (Some first)) ⊥ ⊥ ⊤ result
 
 -- what a question is answered with: one line, put behind what waits. Or it may not be asked here, and is handed back
-abbrev pub Replies : (Question → Bool) → (Question → List ℕ → Type 0) → Question → Option (List ℕ) → Bool → List ℕ →
+abbrev pub Replies : (Question → Bool) → (Question → List ℕ → Type 0) → Question → Option (List ℕ) → Bool
+    → List ℕ →
     Option (List ℕ) → Bool → List ℕ → Option Question → Type 0
 Replies may Is question old failed waiting new failed' waiting' None =
-    (may question ≡ true) × (text : List ℕ) × Is question text × Puts old failed waiting new failed' waiting' text
+    (may question ≡ true) × (text : List ℕ) × Is question text
+    × Puts old failed waiting new failed' waiting' text
 Replies may Is question old failed waiting new failed' waiting' (Some other) =
     (may question ≡ false) × (other ≡ question) × (new ≡ old) × (failed' ≡ failed) × (waiting' ≡ waiting)
 
@@ -133,30 +136,35 @@ needs_no_scopes (OfBody ask.Print) = true
 needs_no_scopes (OfBody (ask.Captures e)) = false
 
 -- the lines of a section that begins with a question
-abbrev pub asked : Question → List (List ℕ) → List Line
-asked first texts = Ask first ∷ says texts
+abbrev pub section_from : Question → List (List ℕ) → List Line
+section_from first texts = Ask first ∷ says texts
 
 -- these lines may be asked, and this is the text of their answers
 abbrev pub HaveAnswers : (Question → Bool) → (Question → List ℕ → Type 0) → List Line → List ℕ → Type 0
 HaveAnswers may Is script text = (list_all (may_ask may) script ≡ true) × AreAnswers Is script text
 
 -- they were answered, all but what waits then
-abbrev pub Answered : (Question → Bool) → (Question → List ℕ → Type 0) → List Line → Option (List ℕ) → List ℕ →
+abbrev pub AreAnswered : (Question → Bool) → (Question → List ℕ → Type 0) → List Line → Option (List ℕ)
+    → List ℕ →
     Option (List ℕ) → List ℕ → Type 0
-Answered may Is script old waiting new waiting' =
+AreAnswered may Is script old waiting new waiting' =
     (text : List ℕ) × HaveAnswers may Is script text × IsWrittenUpTo old new (waiting ++ text) waiting'
 
 -- all lines that are left were answered; or all before a question that may not be asked here, the first or a later one
-abbrev pub AsksUpTo : (Question → Bool) → (Question → List ℕ → Type 0) → Option (List ℕ) → Option (List ℕ) → LineState →
+abbrev pub AsksUpTo : (Question → Bool) → (Question → List ℕ → Type 0) → Option (List ℕ) → Option (List ℕ)
+    → LineState →
     LineState → Option (List ℕ) → List ℕ → Option (List ℕ) → List ℕ → Question → Option Question → Type 0
 AsksUpTo may Is known rest lines lines' old waiting new waiting' first None =
-    (texts : List (List ℕ)) × Answered may Is (asked first texts) old waiting new waiting' × ReadsAll known texts
+    (texts : List (List ℕ)) × AreAnswered may Is (asked first texts) old waiting new waiting'
+    × ReadsAll known texts
     × (lines'.count ≡ lines.count + length texts)
 AsksUpTo may Is known rest lines lines' old waiting new waiting' first (Some question) =
     (may question ≡ false)
     × (((question ≡ first) × (new ≡ old) × (waiting' ≡ waiting) × (lines' ≡ lines) × (rest ≡ known))
-    ⊎ ((texts : List (List ℕ)) × (text : List ℕ) × Answered may Is (asked first texts) old waiting new waiting'
-    × (text ≡ lines'.line) × (line_of text ≡ Ask question) × Reads known (texts ++ text ∷ []) rest lines'.at_end
+    ⊎ ((texts : List (List ℕ)) × (text : List ℕ)
+    × AreAnswered may Is (asked first texts) old waiting new waiting'
+    × (text ≡ lines'.line) × (line_of text ≡ Ask question)
+    × Reads known (texts ++ text ∷ []) rest lines'.at_end
     × (lines.at_end ≡ true → lines'.at_end ≡ true) × (lines'.count ≡ lines.count + length texts + 1)))
 
 -- a section of questions: from the told bytes behind the first question to those still to be taken and those that the source has left
@@ -166,14 +174,14 @@ abbrev pub Asks : (Question → Bool) → (Question → List ℕ → Type 0) →
 Asks may Is known rest remaining lines lines' old waiting new waiting' first result =
     Ends (AsksUpTo may Is known rest lines lines' old waiting new waiting' first)
     (λ number. (texts : List (List ℕ)) × (text : List ℕ)
-    × Answered may Is (asked first texts) old waiting new waiting' × (asks (line_of text) ≡ false)
+    × AreAnswered may Is (asked first texts) old waiting new waiting' × (asks (line_of text) ≡ false)
     × ReadsFront known (texts ++ text ∷ []) × (number ≡ lines.count + length texts + 1))
     (λ fault. ⊥)
-    ((texts : List (List ℕ)) × Answered may Is (asked first texts) old waiting new waiting'
+    ((texts : List (List ℕ)) × AreAnswered may Is (asked first texts) old waiting new waiting'
     × (lines.at_end ≡ false) × ReadsUntilFailure known texts lines'.pending remaining)
     ((texts : List (List ℕ)) × (text : List ℕ) × HaveAnswers may Is (asked first texts) text
     × ReadsFront known texts × GrowsByFront old new (waiting ++ text) × (waiting' ≡ []))
-    (((texts : List (List ℕ)) × Answered may Is (asked first texts) old waiting new waiting'
+    (((texts : List (List ℕ)) × AreAnswered may Is (asked first texts) old waiting new waiting'
     × RefusesAt (λ text. asks (line_of text) ≡ true) lines.count known texts lines'.line lines'.count)
     ⊎ ((new ≡ old) × (waiting' ≡ waiting) × (lines' ≡ lines)))
     result
@@ -185,7 +193,8 @@ Accepts old waiting new waiting' result =
     (GrowsByFront old new (waiting ++ codes "accepted\n") × (waiting' ≡ [])) ⊥ result
 
 -- a run over told bytes, of whose output some may wait
-abbrev pub RunsUpTo : Option (List ℕ) → Option (List ℕ) → Option (List ℕ) → Option (List ℕ) → List ℕ → LineState →
+abbrev pub RunsUpTo : Option (List ℕ) → Option (List ℕ) → Option (List ℕ) → Option (List ℕ) → List ℕ
+    → LineState →
     Outcome → Type 0
 RunsUpTo known old remaining new waiting lines outcome =
     IfSome known

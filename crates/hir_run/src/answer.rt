@@ -3,7 +3,7 @@
 ghost use Rattle.std.specs.Prelude.{◌∷◌, ◌++◌, ◌<◌, length, codes};
 ghost use Rattle.std.specs.Fmt.{decimal};
 ghost use Rattle.hir_expr_store.specs.PatLists.{children};
-ghost use Rattle.hir_run.specs.Answer.{store_answer, answer_line, children_text, root_text, spaced};
+ghost use Rattle.hir_run.specs.Answer.{store_answer, answer_line, children_text, root_text, after_spaces};
 ghost use Rattle.hir_run.specs.Puts.{Puts};
 
 use crate::asking::{Answers, MemoryRefused};
@@ -22,14 +22,15 @@ fn put_children<W: Sink>(
     writer: &mut W,
 )
     requires { id < length store.now.nodes.exprs }
-    ensures { Puts (W.contents writer.old) (W.failed writer.old) output.old (W.contents writer.new)
-        (W.failed writer.new) output.new (spaced (children store.now.nodes id)) }
+    ensures { Puts (W.contents writer.old) (W.is_failed writer.old) output.old (W.contents writer.new)
+        (W.is_failed writer.new) output.new (after_spaces (children store.now.nodes id)) }
 {
     store.walk_child_exprs(
         id,
         &mut |child: ExprId| -> ()
-            ensures { Puts (W.contents writer.entry.now) (W.failed writer.entry.now) output.entry.now
-                (W.contents writer.exit.now) (W.failed writer.exit.now) output.exit.now (32 ∷ decimal child) }
+            ensures { Puts (W.contents writer.entry.now) (W.is_failed writer.entry.now) output.entry.now
+                (W.contents writer.exit.now) (W.is_failed writer.exit.now) output.exit.now
+                (32 ∷ decimal child) }
         {
             put_spaced(child.into_raw(), output, writer);
         },
@@ -43,8 +44,8 @@ fn put_known<W: Sink>(
     output: &mut OutputBuffer,
     writer: &mut W,
 )
-    ensures { Puts (W.contents writer.old) (W.failed writer.old) output.old (W.contents writer.new)
-        (W.failed writer.new) output.new (children_text store.now.nodes id) }
+    ensures { Puts (W.contents writer.old) (W.is_failed writer.old) output.old (W.contents writer.new)
+        (W.is_failed writer.new) output.new (children_text store.now.nodes id) }
 {
     if !store.has_expr(id) {
         put(b" unknown", output, writer);
@@ -56,8 +57,8 @@ fn put_known<W: Sink>(
 
 /// Puts the root that an expression belongs to, or that there is none.
 fn put_root<W: Sink>(store: &ExpressionStore, id: ExprId, output: &mut OutputBuffer, writer: &mut W)
-    ensures { Puts (W.contents writer.old) (W.failed writer.old) output.old (W.contents writer.new)
-        (W.failed writer.new) output.new (root_text store.now.roots id) }
+    ensures { Puts (W.contents writer.old) (W.is_failed writer.old) output.old (W.contents writer.new)
+        (W.is_failed writer.new) output.new (root_text store.now.roots id) }
 {
     if !store.covers_expr(id) {
         put(b" none", output, writer);
@@ -70,8 +71,8 @@ fn put_root<W: Sink>(store: &ExpressionStore, id: ExprId, output: &mut OutputBuf
 
 /// Puts the first words of an answer: what was asked, and of which expression.
 pub(crate) fn put_asked<W: Sink>(word: &[u8], id: ExprId, output: &mut OutputBuffer, writer: &mut W)
-    ensures { Puts (W.contents writer.old) (W.failed writer.old) output.old (W.contents writer.new)
-        (W.failed writer.new) output.new (word.now ++ decimal id) }
+    ensures { Puts (W.contents writer.old) (W.is_failed writer.old) output.old (W.contents writer.new)
+        (W.is_failed writer.new) output.new (word.now ++ decimal id) }
 {
     put(word, output, writer);
     put_number(id.into_raw(), output, writer);
@@ -83,8 +84,8 @@ fn answer_children<W: Sink>(
     output: &mut OutputBuffer,
     writer: &mut W,
 )
-    ensures { Puts (W.contents writer.old) (W.failed writer.old) output.old (W.contents writer.new)
-        (W.failed writer.new) output.new
+    ensures { Puts (W.contents writer.old) (W.is_failed writer.old) output.old (W.contents writer.new)
+        (W.is_failed writer.new) output.new
         (answer_line (codes "children ") id (children_text store.now.nodes id)) }
 {
     put_asked(b"children ", id, output, writer);
@@ -98,8 +99,8 @@ fn answer_root<W: Sink>(
     output: &mut OutputBuffer,
     writer: &mut W,
 )
-    ensures { Puts (W.contents writer.old) (W.failed writer.old) output.old (W.contents writer.new)
-        (W.failed writer.new) output.new
+    ensures { Puts (W.contents writer.old) (W.is_failed writer.old) output.old (W.contents writer.new)
+        (W.is_failed writer.new) output.new
         (answer_line (codes "root-of ") id (root_text store.now.roots id)) }
 {
     put_asked(b"root-of ", id, output, writer);
@@ -114,8 +115,8 @@ pub(crate) fn answer_store<W: Sink>(
     output: &mut OutputBuffer,
     writer: &mut W,
 )
-    ensures { Puts (W.contents writer.old) (W.failed writer.old) output.old (W.contents writer.new)
-        (W.failed writer.new) output.new (store_answer store.now question) }
+    ensures { Puts (W.contents writer.old) (W.is_failed writer.old) output.old (W.contents writer.new)
+        (W.is_failed writer.new) output.new (store_answer store.now question) }
 {
     match question {
         StoreQuestion::Children(id) => answer_children(store, id, output, writer),

@@ -1,7 +1,7 @@
 //! A section of questions: from its first question on, each line is answered, as far as such questions come.
 
 ghost use Rattle.std.specs.Prelude.{◌≡◌, ◌+◌, ◌<◌, ◌^◌, ◌||◌, List, ℕ, Bool, [], true, false, length, OnOk, IfOk, OnErr};
-ghost use Rattle.hir_io.specs.NextLine.{untaken};
+ghost use Rattle.hir_io.specs.NextLine.{bytes_left};
 ghost use Rattle.hir_lines.specs.Line.{Ask, line_of};
 ghost use Rattle.hir_run.specs.Outcomes.{is_input_failed, is_output_failed};
 ghost use Rattle.hir_run.specs.Stages.{Asks, AsksLine, Replies};
@@ -35,8 +35,9 @@ pub(crate) trait Answers {
         output: &mut OutputBuffer,
         writer: &mut W,
     ) -> Result<Option<Question>, MemoryRefused>
-        ensures replies { IfOk result (Replies may (Is self.now) question (W.contents writer.old) (W.failed writer.old)
-            output.old (W.contents writer.new) (W.failed writer.new) output.new) }
+        ensures replies { IfOk result (Replies may (Is self.now) question (W.contents writer.old)
+            (W.is_failed writer.old)
+            output.old (W.contents writer.new) (W.is_failed writer.new) output.new) }
         ensures memory { OnErr result ((writer.new ≡ writer.old) × (output.new ≡ output.old)) };
 }
 
@@ -48,10 +49,11 @@ fn answer_question<A: Answers, W: Sink>(
     output: &mut OutputBuffer,
     writer: &mut W,
 ) -> Result<Option<Question>, RunFault>
-    requires { W.failed writer.old ≡ false }
-    ensures asks { (number : ℕ) → AsksLine A.may (A.Is asked.now) (Ask question) number (W.contents writer.old)
+    requires { W.is_failed writer.old ≡ false }
+    ensures asks { (number : ℕ) → AsksLine A.may (A.Is asked.now) (Ask question) number
+        (W.contents writer.old)
         output.old (W.contents writer.new) output.new result }
-    ensures failure { W.failed writer.new ≡ is_output_failed result }
+    ensures failure { W.is_failed writer.new ≡ is_output_failed result }
 {
     let Ok(left) = asked.answer(alloc, question, output, writer) else {
         return Err(RunFault::OutOfMemory);
@@ -70,10 +72,10 @@ fn answer_next<A: Answers, W: Sink>(
     output: &mut OutputBuffer,
     writer: &mut W,
 ) -> Result<Option<Question>, RunFault>
-    requires { W.failed writer.old ≡ false }
+    requires { W.is_failed writer.old ≡ false }
     ensures asks { AsksLine A.may (A.Is asked.now) (line_of lines.now.line) lines.now.count
         (W.contents writer.old) output.old (W.contents writer.new) output.new result }
-    ensures failure { W.failed writer.new ≡ is_output_failed result }
+    ensures failure { W.is_failed writer.new ≡ is_output_failed result }
 {
     match ask(alloc, lines.line()) {
         Ok(Some(question)) => answer_question(alloc, asked, question, output, writer),
@@ -95,14 +97,14 @@ pub(crate) fn answer_lines<A: Answers, R: Source, W: Sink>(
     writer: &mut W,
 ) -> Result<Option<Question>, RunFault>
     requires fits { lines.old.count + length lines.old.pending + R.allowance reader.old < 2 ^ 64 }
-    requires unfailed { W.failed writer.old ≡ false }
+    requires unfailed { W.is_failed writer.old ≡ false }
     ensures asks { Asks A.may (A.Is asked.now)
-        (untaken lines.old.pending lines.old.at_end (R.remaining reader.old))
-        (untaken lines.new.pending lines.new.at_end (R.remaining reader.new))
+        (bytes_left lines.old.pending lines.old.at_end (R.remaining reader.old))
+        (bytes_left lines.new.pending lines.new.at_end (R.remaining reader.new))
         (R.remaining reader.new) lines.old lines.new
         (W.contents writer.old) output.old (W.contents writer.new) output.new first result }
-    ensures read_failure { R.failed reader.new ≡ (is_input_failed result || R.failed reader.old) }
-    ensures write_failure { W.failed writer.new ≡ is_output_failed result }
+    ensures read_failure { R.is_failed reader.new ≡ (is_input_failed result || R.is_failed reader.old) }
+    ensures write_failure { W.is_failed writer.new ≡ is_output_failed result }
     // A read is made only where nothing waits.
     ensures quiet { is_input_failed result ≡ true → output.new ≡ [] }
     ensures still_fits { OnOk result

@@ -3,8 +3,8 @@
 ghost use Rattle.std.specs.Prelude.{◌≡◌, ℕ, List, Option, None};
 ghost use Rattle.hir_lines.specs.Line.{Line};
 ghost use Rattle.hir_pretty.specs.Pieces.{first_missing};
-ghost use Rattle.hir_run.specs.Made.{body_parts};
-ghost use Rattle.hir_run.specs.Printed.{body_pieces};
+ghost use Rattle.hir_run.specs.BodySoFar.{body_parts};
+ghost use Rattle.hir_run.specs.PrintText.{body_pieces};
 ghost use Rattle.hir_run.specs.Program.{Outcome, IsMeaning, built_by, script};
 
 use hir_captures::laws::captures_are_one;

@@ -4,15 +4,15 @@
 
 mod answer;
 mod asking;
+mod body_so_far;
 mod building;
-mod captured;
+mod captures_answer;
 mod disposal;
 mod fault;
 pub mod laws;
-mod made;
 mod named_body;
 mod on_body;
-mod printed;
+mod print_answer;
 mod program;
 mod put;
 mod reporting;

@@ -31,8 +31,8 @@ impl NamedBody {
         writer: &mut W,
     ) -> Result<(), MemoryRefused>
         ensures ok { OnOk result ((text : List ℕ) × IsBodyAnswer self.now.name self.now.body question text
-            × Puts (W.contents writer.old) (W.failed writer.old) output.old (W.contents writer.new)
-            (W.failed writer.new) output.new text) }
+            × Puts (W.contents writer.old) (W.is_failed writer.old) output.old (W.contents writer.new)
+            (W.is_failed writer.new) output.new text) }
         ensures memory { OnErr result ((writer.new ≡ writer.old) × (output.new ≡ output.old)) }
     {
         match question {

@@ -1,7 +1,7 @@
 //! The questions on a body. Its scopes are made where the first question comes that needs them.
 
 ghost use Rattle.std.specs.Prelude.{◌≡◌, ◌+◌, ◌<◌, ◌^◌, ◌||◌, [], true, false, length, IfOk};
-ghost use Rattle.hir_io.specs.NextLine.{untaken};
+ghost use Rattle.hir_io.specs.NextLine.{bytes_left};
 ghost use Rattle.hir_run.specs.Answer.{IsAnswer};
 ghost use Rattle.hir_run.specs.Outcomes.{is_input_failed, is_output_failed};
 ghost use Rattle.hir_lines.specs.Line.{any_question};
@@ -12,7 +12,7 @@ use crate::asking::{Answers, MemoryRefused, answer_lines};
 use crate::disposal::Disposal;
 use crate::fault::RunFault;
 use crate::named_body::NamedBody;
-use crate::printed::BodyOfLines;
+use crate::print_answer::BodyOfLines;
 use crate::scoped_body::ScopedBody;
 use hir_base::Name;
 use hir_io::{LineReader, OutputBuffer, Sink, Source};
@@ -89,14 +89,14 @@ pub(crate) fn answer_on_body<R: Source, W: Sink>(
     writer: &mut W,
 ) -> Result<Option<Question>, RunFault>
     requires fits { lines.old.count + length lines.old.pending + R.allowance reader.old < 2 ^ 64 }
-    requires unfailed { W.failed writer.old ≡ false }
+    requires unfailed { W.is_failed writer.old ≡ false }
     ensures asks { Asks any_question (IsAnswer unscoped.name unscoped.body)
-        (untaken lines.old.pending lines.old.at_end (R.remaining reader.old))
-        (untaken lines.new.pending lines.new.at_end (R.remaining reader.new))
+        (bytes_left lines.old.pending lines.old.at_end (R.remaining reader.old))
+        (bytes_left lines.new.pending lines.new.at_end (R.remaining reader.new))
         (R.remaining reader.new) lines.old lines.new
         (W.contents writer.old) output.old (W.contents writer.new) output.new first result }
-    ensures read_failure { R.failed reader.new ≡ (is_input_failed result || R.failed reader.old) }
-    ensures write_failure { W.failed writer.new ≡ is_output_failed result }
+    ensures read_failure { R.is_failed reader.new ≡ (is_input_failed result || R.is_failed reader.old) }
+    ensures write_failure { W.is_failed writer.new ≡ is_output_failed result }
     // A read is made only where nothing waits.
     ensures quiet { is_input_failed result ≡ true → output.new ≡ [] }
 {

@@ -14,12 +14,12 @@ ghost use Rattle.hir_run.specs.Stages.{Accepts, Closes, Finishes, IsMadeBody, Ru
 ghost use Rattle.hir_run.specs.Texts.{text_of};
 
 use crate::asking::answer_lines;
+use crate::body_so_far::{BodyBuilder, Parts};
 use crate::building::build;
 use crate::disposal::Disposal;
 use crate::fault::RunFault;
-use crate::made::{Made, Parts};
 use crate::on_body::{UnscopedBody, answer_on_body};
-use crate::printed::BodyOfLines;
+use crate::print_answer::BodyOfLines;
 use crate::reporting::report;
 use hir_base::Seq;
 use hir_io::{LineReader, OutputBuffer, Sink, Source};
@@ -30,7 +30,7 @@ use hir_store::{ExpressionStore, ExpressionStoreBuilder};
 use std::alloc::Global;
 
 /// The store of what was built, or why there is none.
-fn finished(builder: ExpressionStoreBuilder) -> Result<ExpressionStore, RunFault>
+fn finish_store(builder: ExpressionStoreBuilder) -> Result<ExpressionStore, RunFault>
     ensures { Finishes (building_of builder) result }
 {
     let (store, _) = builder.finish()?;
@@ -52,7 +52,7 @@ fn made_body(
 /// Writes that the store is accepted.
 fn accept<W: Sink>(output: &mut OutputBuffer, writer: &mut W) -> Result<(), RunFault>
     ensures accepts { Accepts (W.contents writer.old) output.old (W.contents writer.new) output.new result }
-    ensures failure { W.failed writer.new ≡ (is_output_failed result || W.failed writer.old) }
+    ensures failure { W.is_failed writer.new ≡ (is_output_failed result || W.is_failed writer.old) }
 {
     match output.write(b"accepted\n", writer) {
         Ok(()) => Ok(()),
@@ -71,16 +71,16 @@ fn answer_script<R: Source, W: Sink>(
 ) -> Result<(), RunFault>
     requires fresh { lines.old ≡ record { line = []; pending = []; at_end = false; count = 0 } }
     requires quiet { output.old ≡ [] }
-    requires reading { R.failed reader.old ≡ false }
-    requires writing { W.failed writer.old ≡ false }
+    requires reading { R.is_failed reader.old ≡ false }
+    requires writing { W.is_failed writer.old ≡ false }
     ensures runs { RunsUpTo (R.remaining reader.old) (W.contents writer.old) (R.remaining reader.new)
         (W.contents writer.new) output.new lines.new result }
-    ensures input_failed { R.failed reader.new ≡ is_input_failed result }
-    ensures output_failed { W.failed writer.new ≡ is_output_failed result }
+    ensures input_failed { R.is_failed reader.new ≡ is_input_failed result }
+    ensures output_failed { W.is_failed writer.new ≡ is_output_failed result }
     // A read is made only where nothing waits.
     ensures quiet { is_input_failed result ≡ true → output.new ≡ [] }
 {
-    let mut made = Made::new(alloc);
+    let mut made = BodyBuilder::new(alloc);
     let first = build(alloc, lines, reader, output, writer, &mut made)?;
     let Parts {
         builder,
@@ -88,7 +88,7 @@ fn answer_script<R: Source, W: Sink>(
         self_param,
         name,
     } = made.into_parts();
-    let store = finished(builder)?;
+    let store = finish_store(builder)?;
     let on_store = match first {
         Some(on_store) => on_store,
         None => {
@@ -126,8 +126,8 @@ fn close<W: Sink>(
     writer: &mut W,
 ) -> Result<(), RunFault>
     ensures closes { Closes (W.contents writer.old) (W.contents writer.new) output.old outcome result }
-    ensures failure { W.failed writer.old ≡ is_output_failed outcome →
-        W.failed writer.new ≡ is_output_failed result }
+    ensures failure { W.is_failed writer.old ≡ is_output_failed outcome →
+        W.is_failed writer.new ≡ is_output_failed result }
 {
     let flushed = output.flush(writer);
     match flushed {
@@ -145,12 +145,12 @@ fn run_lines_with<R: Source, W: Sink>(
     writer: &mut W,
 ) -> Result<(), RunFault>
     requires fresh { lines.old ≡ record { line = []; pending = []; at_end = false; count = 0 } }
-    requires reading { R.failed reader.old ≡ false }
-    requires writing { W.failed writer.old ≡ false }
+    requires reading { R.is_failed reader.old ≡ false }
+    requires writing { W.is_failed writer.old ≡ false }
     ensures runs { RunsTo (R.remaining reader.old) (W.contents writer.old) (R.remaining reader.new)
         (W.contents writer.new) lines.new result }
-    ensures input_failed { R.failed reader.new ≡ is_input_failed result }
-    ensures output_failed { W.failed writer.new ≡ is_output_failed result }
+    ensures input_failed { R.is_failed reader.new ≡ is_input_failed result }
+    ensures output_failed { W.is_failed writer.new ≡ is_output_failed result }
 {
     let Ok(mut output) = OutputBuffer::new(alloc) else {
         return Err(RunFault::OutOfMemory);
@@ -169,12 +169,12 @@ pub fn run_lines<R: Source, W: Sink>(
     writer: &mut W,
 ) -> Result<(), RunFault>
     requires fresh { lines.old ≡ record { line = []; pending = []; at_end = false; count = 0 } }
-    requires reading { R.failed reader.old ≡ false }
-    requires writing { W.failed writer.old ≡ false }
+    requires reading { R.is_failed reader.old ≡ false }
+    requires writing { W.is_failed writer.old ≡ false }
     ensures runs { RunsTo (R.remaining reader.old) (W.contents writer.old) (R.remaining reader.new)
         (W.contents writer.new) lines.new result }
-    ensures input_failed { R.failed reader.new ≡ is_input_failed result }
-    ensures output_failed { W.failed writer.new ≡ is_output_failed result }
+    ensures input_failed { R.is_failed reader.new ≡ is_input_failed result }
+    ensures output_failed { W.is_failed writer.new ≡ is_output_failed result }
 {
     run_lines_with(alloc, Disposal::GiveBack, lines, reader, writer)
 }
@@ -192,13 +192,13 @@ pub fn run<R: Source, W: Sink>(
     reader: &mut R,
     writer: &mut W,
 ) -> Result<(), RunFault>
-    requires reading { R.failed reader.old ≡ false }
-    requires writing { W.failed writer.old ≡ false }
+    requires reading { R.is_failed reader.old ≡ false }
+    requires writing { W.is_failed writer.old ≡ false }
     ensures runs { (taken : LineState)
         × RunsTo (R.remaining reader.old) (W.contents writer.old) (R.remaining reader.new)
         (W.contents writer.new) taken result }
-    ensures input_failed { R.failed reader.new ≡ is_input_failed result }
-    ensures output_failed { W.failed writer.new ≡ is_output_failed result }
+    ensures input_failed { R.is_failed reader.new ≡ is_input_failed result }
+    ensures output_failed { W.is_failed writer.new ≡ is_output_failed result }
 {
     let Ok(mut lines) = LineReader::new(alloc) else {
         return Err(RunFault::OutOfMemory);
@@ -216,13 +216,13 @@ pub fn run_to_exit<R: Source, W: Sink>(
     reader: &mut R,
     writer: &mut W,
 ) -> Result<(), RunFault>
-    requires reading { R.failed reader.old ≡ false }
-    requires writing { W.failed writer.old ≡ false }
+    requires reading { R.is_failed reader.old ≡ false }
+    requires writing { W.is_failed writer.old ≡ false }
     ensures runs { (taken : LineState)
         × RunsTo (R.remaining reader.old) (W.contents writer.old) (R.remaining reader.new)
         (W.contents writer.new) taken result }
-    ensures input_failed { R.failed reader.new ≡ is_input_failed result }
-    ensures output_failed { W.failed writer.new ≡ is_output_failed result }
+    ensures input_failed { R.is_failed reader.new ≡ is_input_failed result }
+    ensures output_failed { W.is_failed writer.new ≡ is_output_failed result }
 {
     let Ok(mut lines) = LineReader::new(alloc) else {
         return Err(RunFault::OutOfMemory);
@@ -238,14 +238,14 @@ pub fn run_and_report<R: Source, W: Sink, E: Sink>(
     writer: &mut W,
     errors: &mut E,
 ) -> u8
-    requires reading { R.failed reader.old ≡ false }
-    requires writing { W.failed writer.old ≡ false }
+    requires reading { R.is_failed reader.old ≡ false }
+    requires writing { W.is_failed writer.old ≡ false }
     ensures { (taken : LineState) × (outcome : Outcome)
         × RunsTo (R.remaining reader.old) (W.contents writer.old) (R.remaining reader.new)
         (W.contents writer.new) taken outcome
-        × (R.failed reader.new ≡ is_input_failed outcome)
-        × (W.failed writer.new ≡ is_output_failed outcome)
-        × (E.failed errors.new ≡ false →
+        × (R.is_failed reader.new ≡ is_input_failed outcome)
+        × (W.is_failed writer.new ≡ is_output_failed outcome)
+        × (E.is_failed errors.new ≡ false →
         Appends (E.contents errors.old) (E.contents errors.new) (text_of outcome))
         × GrowsByFront (E.contents errors.old) (E.contents errors.new) (text_of outcome)
         × (outcome ≡ Ok tt → errors.new ≡ errors.old)

@@ -9,8 +9,8 @@ ghost use Rattle.hir_run.specs.Puts.{Puts};
 
 use crate::answer::put_asked;
 use crate::asking::MemoryRefused;
-use crate::captured::{put_captures, put_no_closure};
-use crate::printed::BodyOfLines;
+use crate::captures_answer::{put_captures, put_no_closure};
+use crate::print_answer::BodyOfLines;
 use crate::put::{put, put_number, put_spaced};
 use hir_base::{HygieneId, Name, SyntaxContext};
 use hir_captures::{CapturesFault, captures};
@@ -30,7 +30,7 @@ pub(crate) struct ScopedBody {
 
 impl Model for ScopedBody {
     ghost use Rattle.hir_items.specs.Bodies.{BodyContents};
-    ghost use Rattle.hir_scope.specs.Built.{AreBodyScopes};
+    ghost use Rattle.hir_scope.specs.BodyScopes.{AreBodyScopes};
 
     ghost Value = { BodyContents };
 
@@ -46,8 +46,8 @@ impl Model for ScopedBody {
 
 /// Puts the names of entries, each after a space.
 fn put_names<W: Sink>(entries: &[ScopeEntry], output: &mut OutputBuffer, writer: &mut W)
-    ensures { Puts (W.contents writer.old) (W.failed writer.old) output.old (W.contents writer.new)
-        (W.failed writer.new) output.new (names_text entries.now) }
+    ensures { Puts (W.contents writer.old) (W.is_failed writer.old) output.old (W.contents writer.new)
+        (W.is_failed writer.new) output.new (names_text entries.now) }
 {
     for entry in entries {
         put_name(entry.name(), output, writer);
@@ -56,8 +56,8 @@ fn put_names<W: Sink>(entries: &[ScopeEntry], output: &mut OutputBuffer, writer:
 
 /// Puts a name behind a space.
 fn put_name<W: Sink>(name: &Name, output: &mut OutputBuffer, writer: &mut W)
-    ensures { Puts (W.contents writer.old) (W.failed writer.old) output.old (W.contents writer.new)
-        (W.failed writer.new) output.new (32 ∷ name.now) }
+    ensures { Puts (W.contents writer.old) (W.is_failed writer.old) output.old (W.contents writer.new)
+        (W.is_failed writer.new) output.new (32 ∷ name.now) }
 {
     put(b" ", output, writer);
     put(name.as_str().as_bytes(), output, writer);
@@ -71,8 +71,8 @@ fn put_scope<W: Sink>(
     writer: &mut W,
 )
     requires { scope < length scopes.now.scopes }
-    ensures { Puts (W.contents writer.old) (W.failed writer.old) output.old (W.contents writer.new)
-        (W.failed writer.new) output.new (names_text (entries_of (frame_at scopes.now.scopes scope))) }
+    ensures { Puts (W.contents writer.old) (W.is_failed writer.old) output.old (W.contents writer.new)
+        (W.is_failed writer.new) output.new (names_text (entries_of (frame_at scopes.now.scopes scope))) }
 {
     put_names(scopes.entries(scope), output, writer);
 }
@@ -85,8 +85,8 @@ fn put_chain<W: Sink>(
     writer: &mut W,
 )
     requires { scope < length scopes.now.scopes }
-    ensures { Puts (W.contents writer.old) (W.failed writer.old) output.old (W.contents writer.new)
-        (W.failed writer.new) output.new (names_text (entries_of (chain scopes.now.scopes (Some scope)))) }
+    ensures { Puts (W.contents writer.old) (W.is_failed writer.old) output.old (W.contents writer.new)
+        (W.is_failed writer.new) output.new (names_text (entries_of (chain scopes.now.scopes (Some scope)))) }
 {
     for around in scopes.scope_chain(Some(scope)) {
         put_scope(scopes, around, output, writer);
@@ -95,8 +95,8 @@ fn put_chain<W: Sink>(
 
 /// Puts the number of an expansion behind a space, and nothing for source text.
 fn put_expansion<W: Sink>(hygiene: HygieneId, output: &mut OutputBuffer, writer: &mut W)
-    ensures { Puts (W.contents writer.old) (W.failed writer.old) output.old (W.contents writer.new)
-        (W.failed writer.new) output.new (expansion_text hygiene) }
+    ensures { Puts (W.contents writer.old) (W.is_failed writer.old) output.old (W.contents writer.new)
+        (W.is_failed writer.new) output.new (expansion_text hygiene) }
 {
     match hygiene.syntax_context() {
         SyntaxContext::Root(_) => {}
@@ -111,8 +111,8 @@ fn put_asked_name<W: Sink>(
     output: &mut OutputBuffer,
     writer: &mut W,
 )
-    ensures { Puts (W.contents writer.old) (W.failed writer.old) output.old (W.contents writer.new)
-        (W.failed writer.new) output.new (asked_text name.now hygiene) }
+    ensures { Puts (W.contents writer.old) (W.is_failed writer.old) output.old (W.contents writer.new)
+        (W.is_failed writer.new) output.new (asked_text name.now hygiene) }
 {
     put_name(name, output, writer);
     put_expansion(hygiene, output, writer);
@@ -128,8 +128,8 @@ fn put_resolved<W: Sink>(
     writer: &mut W,
 )
     requires { scope < length scopes.now.scopes }
-    ensures { Puts (W.contents writer.old) (W.failed writer.old) output.old (W.contents writer.new)
-        (W.failed writer.new) output.new
+    ensures { Puts (W.contents writer.old) (W.is_failed writer.old) output.old (W.contents writer.new)
+        (W.is_failed writer.new) output.new
         (resolved_text (resolve (chain scopes.now.scopes (Some scope)) name.now hygiene)) }
 {
     match scopes.resolve_name_in_scope(scope, name, hygiene) {
@@ -172,8 +172,8 @@ impl ScopedBody {
     /// Puts what is known of an expression: the names of its chain, or that it isn't reached.
     fn put_known<W: Sink>(&self, id: ExprId, output: &mut OutputBuffer, writer: &mut W)
         ensures { (known : Option Chain) × IsChainOf self.now id known
-            × Puts (W.contents writer.old) (W.failed writer.old) output.old (W.contents writer.new)
-            (W.failed writer.new) output.new (chain_text known) }
+            × Puts (W.contents writer.old) (W.is_failed writer.old) output.old (W.contents writer.new)
+            (W.is_failed writer.new) output.new (chain_text known) }
     {
         let Some(scope) = self.scopes.scope_for(id) else {
             put(b" unreached", output, writer);
@@ -193,8 +193,8 @@ impl ScopedBody {
         writer: &mut W,
     )
         ensures { (known : Option Chain) × IsChainOf self.now id known
-            × Puts (W.contents writer.old) (W.failed writer.old) output.old (W.contents writer.new)
-            (W.failed writer.new) output.new (resolve_text known name.now hygiene) }
+            × Puts (W.contents writer.old) (W.is_failed writer.old) output.old (W.contents writer.new)
+            (W.is_failed writer.new) output.new (resolve_text known name.now hygiene) }
     {
         match self.scopes.scope_for(id) {
             Some(scope) => put_resolved(&self.scopes, scope, name, hygiene, output, writer),
@@ -209,8 +209,8 @@ impl ScopedBody {
         writer: &mut W,
     )
         ensures { (text : List ℕ) × IsChainAnswer self.now id text
-            × Puts (W.contents writer.old) (W.failed writer.old) output.old (W.contents writer.new)
-            (W.failed writer.new) output.new text }
+            × Puts (W.contents writer.old) (W.is_failed writer.old) output.old (W.contents writer.new)
+            (W.is_failed writer.new) output.new text }
     {
         put_asked(b"chain ", id, output, writer);
         self.put_known(id, output, writer);
@@ -226,8 +226,8 @@ impl ScopedBody {
         writer: &mut W,
     )
         ensures { (text : List ℕ) × IsResolveAnswer self.now id name.now hygiene text
-            × Puts (W.contents writer.old) (W.failed writer.old) output.old (W.contents writer.new)
-            (W.failed writer.new) output.new text }
+            × Puts (W.contents writer.old) (W.is_failed writer.old) output.old (W.contents writer.new)
+            (W.is_failed writer.new) output.new text }
     {
         put_asked(b"resolve ", id, output, writer);
         put_asked_name(name, hygiene, output, writer);
@@ -243,8 +243,8 @@ impl ScopedBody {
         writer: &mut W,
     ) -> Result<(), MemoryRefused>
         ensures ok { OnOk result ((text : List ℕ) × IsCapturesAnswer self.now id text
-            × Puts (W.contents writer.old) (W.failed writer.old) output.old (W.contents writer.new)
-            (W.failed writer.new) output.new text) }
+            × Puts (W.contents writer.old) (W.is_failed writer.old) output.old (W.contents writer.new)
+            (W.is_failed writer.new) output.new text) }
         ensures memory { OnErr result ((writer.new ≡ writer.old) × (output.new ≡ output.old)) }
     {
         match captures(alloc, self.body.body(), &self.scopes, id) {

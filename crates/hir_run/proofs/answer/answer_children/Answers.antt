@@ -8,7 +8,7 @@ use Rattle.hir_run.proofs.answer.answer_children.Goals as goal
 pub returns : goal.returns
 returns g c =
     let contents = g.W.Sink.contents in
-    let failed = g.W.Sink.failed in
+    let failed = g.W.Sink.is_failed in
     let asked = codes "children " ++ decimal c.args.id in
     let known = children_text c.args.store.now.nodes c.args.id in
     put_then contents failed c.args.writer.now c.put_known.new.writer c.put.new.writer c.args.output.now c.put_known.new.output c.put.new.output (asked ++ known) (codes "\n")

@@ -8,7 +8,7 @@ use Rattle.hir_run.proofs.answer.answer_root.Goals as goal
 pub returns : goal.returns
 returns g c =
     let contents = g.W.Sink.contents in
-    let failed = g.W.Sink.failed in
+    let failed = g.W.Sink.is_failed in
     let asked = codes "root-of " ++ decimal c.args.id in
     let known = root_text c.args.store.now.roots c.args.id in
     put_then contents failed c.args.writer.now c.put_root.new.writer c.put.new.writer c.args.output.now c.put_root.new.output c.put.new.output (asked ++ known) (codes "\n")

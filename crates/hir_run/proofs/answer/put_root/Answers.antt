@@ -16,4 +16,4 @@ pub returns : goal.returns
 returns g c =
     let root = c.find_root_for_expr-root.result in
     rw (root_found c.args.store.now.roots c.args.id root c.find_root_for_expr-root.ensures)
-    (put_then g.W.Sink.contents g.W.Sink.failed c.args.writer.now c.put-2.new.writer c.put_number.new.writer c.args.output.now c.put-2.new.output c.put_number.new.output (codes " = ") (decimal root) c.put-2.ensures (rw c.into_raw.ensures at c.put_number.ensures))
+    (put_then g.W.Sink.contents g.W.Sink.is_failed c.args.writer.now c.put-2.new.writer c.put_number.new.writer c.args.output.now c.put-2.new.output c.put_number.new.output (codes " = ") (decimal root) c.put-2.ensures (rw c.into_raw.ensures at c.put_number.ensures))

@@ -1,7 +1,7 @@
 use Rattle.std.proofs.Common.{[], refl, append-nil}
 use Rattle.hir_io.proofs.EndLemmas.{IsWrittenUpTo-start}
 use Rattle.hir_lines.specs.Line.{line_of}
-use Rattle.hir_run.proofs.Taken.{question_of}
+use Rattle.hir_run.proofs.TakingLemmas.{question_of}
 use Rattle.hir_run.proofs.asking.answer_next.Goals as goal
 
 pub returns-in-Ok-Some-clause-asks : goal.returns-in-Ok-Some-clause-asks

@@ -1,10 +1,10 @@
 use Rattle.std.proofs.Common.{Bool, Ok, ◌++◌, ◌∷◌, [], sym, ap, subst, ◌∙◌, arith, length-append, refl}
 use Rattle.std.specs.Prelude.{◌||◌}
 use Rattle.std.proofs.lemmas.Result.{err_from_is_err_and}
-use Rattle.hir_io.specs.NextLine.{untaken}
+use Rattle.hir_io.specs.NextLine.{bytes_left}
 use Rattle.hir_io.proofs.ReadLemmas.{Reads-none, Reads-more, ReadsAll-end}
 use Rattle.hir_run.proofs.Failing.{build_fails, build_line_fails}
-use Rattle.hir_run.specs.Made.{made_of, nothing_made}
+use Rattle.hir_run.specs.BodySoFar.{made_of, nothing_made}
 use Rattle.hir_run.specs.Stages.{BuildsLine}
 use Rattle.hir_run.proofs.Scripts.{tells_nothing}
 use Rattle.hir_run.proofs.Making.{Makes-none, makes_line, asks_or_none, asks_reads_none}
@@ -55,7 +55,7 @@ returns-in_err-build_line-clause-builds g c =
     let counted = rw c.if-branch.true at told.count in
     let text = c.next_line.new.lines.line in
     let read = Reads-more _ _ _ so_far.0 text _ _ so_far.3 taken told.stays_ended in
-    rw (p.1, p.2) (build_line_fails _ _ (untaken c.next_line.new.lines.pending c.next_line.new.lines.at_end (g.R.Source.remaining c.next_line.new.reader)) _ (g.R.Source.remaining c.next_line.new.reader) c.loop-alloc.lines c.next_line.new.lines (made_of c.loop-alloc.made) (made_of c.build_line.new.made) (made_of c.build_line.new.made) so_far.0 c.in_err-build_line.field-0.0 so_far.1.0 so_far.2 so_far.3 read (omega (arith, so_far.4)) (c.in_err-build_line.ensures {u = tt}))
+    rw (p.1, p.2) (build_line_fails _ _ (bytes_left c.next_line.new.lines.pending c.next_line.new.lines.at_end (g.R.Source.remaining c.next_line.new.reader)) _ (g.R.Source.remaining c.next_line.new.reader) c.loop-alloc.lines c.next_line.new.lines (made_of c.loop-alloc.made) (made_of c.build_line.new.made) (made_of c.build_line.new.made) so_far.0 c.in_err-build_line.field-0.0 so_far.1.0 so_far.2 so_far.3 read (omega (arith, so_far.4)) (c.in_err-build_line.ensures {u = tt}))
 
 pub returns-then-not-branch-clause-builds : goal.returns-then-not-branch-clause-builds
 returns-then-not-branch-clause-builds g c =
@@ -66,12 +66,12 @@ returns-then-not-branch-clause-builds g c =
     let text = c.next_line.new.lines.line in
     let read = Reads-more _ _ _ so_far.0 text _ _ so_far.3 taken told.stays_ended in
     let left = subst (λ (taken : Bool). BuildsLine c.next_line.new.lines (made_of c.loop-alloc.made) (made_of c.build_line.new.made) (Ok taken)) c.if-not-branch.true (c.in_ok-build_line.ensures {u = tt}) in
-    rw left.1 (asks_or_none _ (untaken c.next_line.new.lines.pending c.next_line.new.lines.at_end (g.R.Source.remaining c.next_line.new.reader)) (g.R.Source.remaining c.next_line.new.reader) c.next_line.new.lines (made_of c.loop-alloc.made) so_far.0 c.first_question.result so_far.1 left.0 read (omega (arith, so_far.4)) c.first_question.ensures)
+    rw left.1 (asks_or_none _ (bytes_left c.next_line.new.lines.pending c.next_line.new.lines.at_end (g.R.Source.remaining c.next_line.new.reader)) (g.R.Source.remaining c.next_line.new.reader) c.next_line.new.lines (made_of c.loop-alloc.made) so_far.0 c.first_question.result so_far.1 left.0 read (omega (arith, so_far.4)) c.first_question.ensures)
 
 pub returns-then-not-branch-clause-failure : goal.returns-then-not-branch-clause-failure
 returns-then-not-branch-clause-failure g c =
     let told = c.in_ok-next_line.ensures {u = tt} in
-    told.input_failure ∙ c.loop-alloc.invariant.same_mark ∙ sym (ap (λ b. b || g.R.Source.failed c.args.reader.now) (asks_reads_none c.next_line.new.lines c.first_question.result c.first_question.ensures))
+    told.input_failure ∙ c.loop-alloc.invariant.same_mark ∙ sym (ap (λ b. b || g.R.Source.is_failed c.args.reader.now) (asks_reads_none c.next_line.new.lines c.first_question.result c.first_question.ensures))
 
 pub returns-clause-builds : goal.returns-clause-builds
 returns-clause-builds g c =

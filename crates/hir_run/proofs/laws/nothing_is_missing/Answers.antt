@@ -1,4 +1,4 @@
-use Rattle.hir_run.specs.Made.{body_parts}
+use Rattle.hir_run.specs.BodySoFar.{body_parts}
 use Rattle.hir_run.specs.Program.{built_by, script}
 use Rattle.hir_run.proofs.OfLinesLemmas.{made_of_lines}
 use Rattle.hir_run.proofs.OutsideLemmas.{nothing_missing}

@@ -5,4 +5,4 @@ use Rattle.hir_run.proofs.put.put_spaced.Goals as goal
 
 pub returns : goal.returns
 returns g c =
-    put_then g.W.Sink.contents g.W.Sink.failed c.args.writer.now c.put.new.writer c.put_number.new.writer c.args.output.now c.put.new.output c.put_number.new.output (32 ∷ []) (decimal c.args.number) c.put.ensures c.put_number.ensures
+    put_then g.W.Sink.contents g.W.Sink.is_failed c.args.writer.now c.put.new.writer c.put_number.new.writer c.args.output.now c.put.new.output c.put_number.new.output (32 ∷ []) (decimal c.args.number) c.put.ensures c.put_number.ensures

@@ -5,4 +5,4 @@ use Rattle.hir_run.proofs.scoped_body.put_asked_name.Goals as goal
 
 pub returns : goal.returns
 returns g c =
-    put_then g.W.Sink.contents g.W.Sink.failed c.args.writer.now c.put_name.new.writer c.put_expansion.new.writer c.args.output.now c.put_name.new.output c.put_expansion.new.output (32 ∷ c.args.name.now) (expansion_text c.args.hygiene) c.put_name.ensures c.put_expansion.ensures
+    put_then g.W.Sink.contents g.W.Sink.is_failed c.args.writer.now c.put_name.new.writer c.put_expansion.new.writer c.args.output.now c.put_name.new.output c.put_expansion.new.output (32 ∷ c.args.name.now) (expansion_text c.args.hygiene) c.put_name.ensures c.put_expansion.ensures

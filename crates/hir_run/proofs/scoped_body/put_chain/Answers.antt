@@ -9,11 +9,11 @@ use Rattle.hir_run.proofs.WritingLemmas.{Puts-none, put_then, names_along, along
 use Rattle.hir_run.proofs.scoped_body.put_chain.Goals as goal
 
 pub loop-around-init : goal.loop-around-init
-loop-around-init g c = Puts-none (g.W.Sink.contents c.args.writer.now) (g.W.Sink.failed c.args.writer.now) c.args.output.now
+loop-around-init g c = Puts-none (g.W.Sink.contents c.args.writer.now) (g.W.Sink.is_failed c.args.writer.now) c.args.output.now
 
 pub loop-around-preserved : goal.loop-around-preserved
 loop-around-preserved g c =
-    rw (along_more c.args.scopes.now.scopes c.loop-around.yielded c.in-Some.around) (put_then g.W.Sink.contents g.W.Sink.failed c.args.writer.now c.loop-around.writer c.put_scope.new.writer c.args.output.now c.loop-around.output c.put_scope.new.output (names_along c.args.scopes.now.scopes c.loop-around.yielded) (names_text (entries_of (frame_at c.args.scopes.now.scopes c.in-Some.around))) c.loop-around.invariant c.put_scope.ensures)
+    rw (along_more c.args.scopes.now.scopes c.loop-around.yielded c.in-Some.around) (put_then g.W.Sink.contents g.W.Sink.is_failed c.args.writer.now c.loop-around.writer c.put_scope.new.writer c.args.output.now c.loop-around.output c.put_scope.new.output (names_along c.args.scopes.now.scopes c.loop-around.yielded) (names_text (entries_of (frame_at c.args.scopes.now.scopes c.in-Some.around))) c.loop-around.invariant c.put_scope.ensures)
 
 -- a scope that the chain gives is there
 pub put_scope-requires : goal.put_scope-requires

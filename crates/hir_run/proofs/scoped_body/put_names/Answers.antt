@@ -4,13 +4,13 @@ use Rattle.hir_run.proofs.WritingLemmas.{Puts-none, put_then, names_more}
 use Rattle.hir_run.proofs.scoped_body.put_names.Goals as goal
 
 pub loop-entry-init : goal.loop-entry-init
-loop-entry-init g c = Puts-none (g.W.Sink.contents c.args.writer.now) (g.W.Sink.failed c.args.writer.now) c.args.output.now
+loop-entry-init g c = Puts-none (g.W.Sink.contents c.args.writer.now) (g.W.Sink.is_failed c.args.writer.now) c.args.output.now
 
 pub loop-entry-preserved : goal.loop-entry-preserved
 loop-entry-preserved g c =
     let more = names_more c.args.entries.now c.loop-entry.entry-index c.entry-item.result c.loop-entry-test.true c.entry-item.is in
     let named : c.name.result.now ≡ c.entry-item.result.name = c.name.ensures in
-    rw (more, ← named) (put_then g.W.Sink.contents g.W.Sink.failed c.args.writer.now c.loop-entry.writer c.put_name.new.writer c.args.output.now c.loop-entry.output c.put_name.new.output (names_text (take c.loop-entry.entry-index c.args.entries.now)) (32 ∷ c.name.result.now) c.loop-entry.invariant c.put_name.ensures)
+    rw (more, ← named) (put_then g.W.Sink.contents g.W.Sink.is_failed c.args.writer.now c.loop-entry.writer c.put_name.new.writer c.args.output.now c.loop-entry.output c.put_name.new.output (names_text (take c.loop-entry.entry-index c.args.entries.now)) (32 ∷ c.name.result.now) c.loop-entry.invariant c.put_name.ensures)
 
 pub returns : goal.returns
 returns g c = rw (take_all c.loop-entry.entry-index c.args.entries.now c.loop-entry-test.false) at c.loop-entry.invariant

@@ -8,7 +8,7 @@ use Rattle.hir_run.proofs.scoped_body.ScopedBody.answer_chain.Goals as goal
 pub returns : goal.returns
 returns g c =
     let contents = g.W.Sink.contents in
-    let failed = g.W.Sink.failed in
+    let failed = g.W.Sink.is_failed in
     let m = c.put_known.ensures in
     let asked = codes "chain " ++ decimal c.args.id in (
       answer_line (codes "chain ") c.args.id (chain_text m.0),

@@ -8,7 +8,7 @@ use Rattle.hir_run.proofs.scoped_body.ScopedBody.answer_resolve.Goals as goal
 pub returns : goal.returns
 returns g c =
     let contents = g.W.Sink.contents in
-    let failed = g.W.Sink.failed in
+    let failed = g.W.Sink.is_failed in
     let m = c.put_meaning.ensures in
     let asked = codes "resolve " ++ decimal c.args.id in
     let name = asked_text c.args.name.now c.args.hygiene in

@@ -1,0 +1,164 @@
+//! What the lines have made so far: a builder, and the other parts of its body.
+
+ghost use Rattle.std.specs.Prelude.{◌≡◌};
+ghost use Rattle.hir_run.specs.BodySoFar.{made_of, nothing_made};
+
+use hir_base::{HygieneId, Name, Seq};
+use hir_items::Param;
+use hir_lines::{Builder, Stop};
+use hir_node::{Binding, BindingId, Expr, ExprId, ExprOrPatId, Pat, PatId, TypeRef};
+use hir_store::ExpressionStoreBuilder;
+use std::alloc::Global;
+
+/// A builder, and the parameters and the name of the function that its last root is the body of.
+#[derive(Drop)]
+pub(crate) struct BodyBuilder {
+    pub(crate) builder: ExpressionStoreBuilder,
+    self_param: Option<Param<BindingId>>,
+    params: Seq<Param<PatId>>,
+    name: Option<Name>,
+}
+
+/// The parts of a body, and the name of its function.
+#[derive(Drop)]
+pub(crate) struct Parts {
+    pub(crate) builder: ExpressionStoreBuilder,
+    pub(crate) params: Seq<Param<PatId>>,
+    pub(crate) self_param: Option<Param<BindingId>>,
+    pub(crate) name: Option<Name>,
+}
+
+/// A parameter that the body has as the user wrote it.
+fn as_written<Id: Copy>(id: Id) -> Param<Id>
+    ensures { result ≡ record { formal = id; user_written = id } }
+{
+    Param {
+        formal: id,
+        user_written: id,
+    }
+}
+
+impl BodyBuilder {
+    /// Nothing made yet.
+    pub(crate) fn new(alloc: Global) -> BodyBuilder
+        ensures { made_of result ≡ nothing_made }
+    {
+        BodyBuilder {
+            builder: ExpressionStoreBuilder::new(alloc),
+            self_param: None,
+            params: Seq::new(alloc),
+            name: None,
+        }
+    }
+
+    /// The builder, the parameters, the self parameter and the name.
+    pub(crate) fn into_parts(self) -> Parts
+        ensures { result ≡ record {
+          builder = self.builder;
+          params = self.params;
+          self_param = self.self_param;
+          name = self.name;
+        } }
+    {
+        let BodyBuilder {
+            builder,
+            self_param,
+            params,
+            name,
+        } = self;
+        Parts {
+            builder,
+            params,
+            self_param,
+            name,
+        }
+    }
+}
+
+impl Builder for BodyBuilder {
+    ghost use Rattle.std.specs.Prelude.{is_some};
+    ghost use Rattle.hir_run.specs.BodySoFar.{with_maker};
+
+    ghost has_self = { λ made. is_some made.self_param };
+
+    ghost has_name = { λ made. is_some made.name };
+
+    ghost add = { with_maker };
+
+    fn has_self_param(&self) -> bool {
+        self.self_param.is_some()
+    }
+
+    fn has_fn_name(&self) -> bool {
+        self.name.is_some()
+    }
+
+    // Each outcome is matched here: a function that takes it has the node that a refusal hands back copied.
+    fn binding(&mut self, binding: Binding) -> Result<(), Stop> {
+        match self.builder.alloc_binding(binding) {
+            Ok(_) => Ok(()),
+            Err(_) => Err(Stop::Memory),
+        }
+    }
+
+    // Always inlined, as `expr` is: the node goes into the arena without a copy on the way, which takes five hundredths of the instructions of
+    // making away.
+    #[inline(always)]
+    fn pat(&mut self, pat: Pat) -> Result<(), Stop> {
+        match self.builder.alloc_pat(pat) {
+            Ok(_) => Ok(()),
+            Err(_) => Err(Stop::Memory),
+        }
+    }
+
+    fn type_ref(&mut self, type_ref: TypeRef) -> Result<(), Stop> {
+        match self.builder.alloc_type(type_ref) {
+            Ok(_) => Ok(()),
+            Err(_) => Err(Stop::Memory),
+        }
+    }
+
+    #[inline(always)]
+    fn expr(&mut self, expr: Expr) -> Result<(), Stop> {
+        match self.builder.alloc_expr(expr) {
+            Ok(_) => Ok(()),
+            Err(_) => Err(Stop::Memory),
+        }
+    }
+
+    fn hygiene(&mut self, id: ExprOrPatId, hygiene: HygieneId) -> Result<(), Stop> {
+        match self.builder.set_hygiene(id, hygiene) {
+            Ok(_) => Ok(()),
+            Err(_) => Err(Stop::Memory),
+        }
+    }
+
+    fn self_param(&mut self, id: BindingId) -> Result<(), Stop> {
+        self.self_param = Some(as_written(id));
+        Ok(())
+    }
+
+    fn param(&mut self, id: PatId) -> Result<(), Stop> {
+        match self.params.push(as_written(id)) {
+            Ok(()) => Ok(()),
+            Err(_) => Err(Stop::Memory),
+        }
+    }
+
+    fn fn_name(&mut self, name: Name) -> Result<(), Stop> {
+        self.name = Some(name);
+        Ok(())
+    }
+
+    fn roots(&mut self) -> Result<(), Stop> {
+        self.builder.begin_roots();
+        Ok(())
+    }
+
+    fn root(&mut self, id: ExprId) -> Result<(), Stop> {
+        match self.builder.push_root(id) {
+            Ok(()) => Ok(()),
+            Err(_) => Err(Stop::Memory),
+        }
+    }
+}
