@@ -60,7 +60,6 @@ impl Name {
     /// The name with this text in ASCII, as `new` makes it. Only where there are more than 14 bytes are they tested again.
     ///
     /// Answers an error if memory was refused.
-    #[inline(always)]
     pub fn from_ascii(alloc: Global, text: &[u8]) -> Result<Name, AllocError>
         requires { IsAscii text.now }
         ensures ok { IfOk result (λ name. name ≡ text.now) }
@@ -167,8 +166,6 @@ impl Hash for Name {
 impl Clone for Name {
     ghost is_clone = { λ x y. y ≡ x };
 
-    // Inlined, since a short name is copied in a few instructions, and a scope copies one for each binding.
-    #[inline(always)]
     fn clone(&self) -> Result<Name, AllocError> {
         let place = match &self.place {
             Place::Inside(text) => Place::Inside(text.copy()),

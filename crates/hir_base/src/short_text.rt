@@ -39,7 +39,6 @@ impl ShortText {
     }
 
     /// A copy of the text, which has to be short enough, and in ASCII: then its bytes are UTF-8 as they are.
-    #[inline(always)]
     pub(crate) fn from_ascii(text: &[u8]) -> ShortText
         requires short { length text.now ≤ 14 }
         requires ascii { IsAscii text.now }
@@ -79,7 +78,6 @@ impl ShortText {
 
 /// Copies the first `N` bytes of a text and the last, which may overlap, to the front.
 // `N` is known where this is compiled, so each copy is a load and a store; a copy of any number of bytes is a call.
-#[inline(always)]
 fn copy_ends<const N: usize>(bytes: &mut [u8; MOST_BYTES], text: &[u8])
     requires fits { N ≤ length text.now }
     requires covers { length text.now ≤ N + N }
@@ -92,7 +90,6 @@ fn copy_ends<const N: usize>(bytes: &mut [u8; MOST_BYTES], text: &[u8])
 }
 
 /// The bytes of a short text, and zeros.
-#[inline(always)]
 fn with_zeros(text: &[u8]) -> [u8; MOST_BYTES]
     requires { length text.now ≤ 14 }
     ensures { take (length text.now) result ≡ text.now }

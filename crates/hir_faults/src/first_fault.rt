@@ -32,9 +32,6 @@ fn is_below<K>(id: Option<Idx<K>>, count: usize) -> bool
 }
 
 /// The first fault of one node whose ids are all there, from a look at all that it holds.
-///
-/// Few nodes come here, so it stands apart: the quick test of the others stays small.
-#[inline(never)]
 fn held_fault<N: TestedNode>(node: &N, id: NodeId, types: &[TypeRef]) -> Option<FinishFault>
     ensures { (sizes : Sizes) → names_there sizes (N.tested_parts node.now) ≡ true
         → node_fault sizes types.now id (N.tested_parts node.now) result }

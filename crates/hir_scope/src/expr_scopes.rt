@@ -199,8 +199,6 @@ impl ExprScopes {
     ///
     /// Answers `Full` exactly where there would be more than `MOST_ITEMS` scopes or entries, and `Memory` where room was refused. Either
     /// leaves the scopes and the entries as they were.
-    // Inlined: a call would cost half as much as what it does.
-    #[inline(always)]
     pub(crate) fn new_scope(
         &mut self,
         parent: Option<ScopeId>,
