@@ -76,6 +76,7 @@ pub fn next_line<R: Source, W: Sink>(
 }
 
 /// Does what `next_line` does, where no whole line is pending.
+#[inline(never)]
 fn read_line<R: Source, W: Sink>(
     lines: &mut LineReader,
     reader: &mut R,
