@@ -155,14 +155,14 @@ abbrev pub AsksUpTo : (Question → Bool) → (Question → List ℕ → Type 0)
     → LineState →
     LineState → Option (List ℕ) → List ℕ → Option (List ℕ) → List ℕ → Question → Option Question → Type 0
 AsksUpTo may Is known rest lines lines' old waiting new waiting' first None =
-    (texts : List (List ℕ)) × AreAnswered may Is (asked first texts) old waiting new waiting'
+    (texts : List (List ℕ)) × AreAnswered may Is (section_from first texts) old waiting new waiting'
     × ReadsAll known texts
     × (lines'.count ≡ lines.count + length texts)
 AsksUpTo may Is known rest lines lines' old waiting new waiting' first (Some question) =
     (may question ≡ false)
     × (((question ≡ first) × (new ≡ old) × (waiting' ≡ waiting) × (lines' ≡ lines) × (rest ≡ known))
     ⊎ ((texts : List (List ℕ)) × (text : List ℕ)
-    × AreAnswered may Is (asked first texts) old waiting new waiting'
+    × AreAnswered may Is (section_from first texts) old waiting new waiting'
     × (text ≡ lines'.line) × (line_of text ≡ Ask question)
     × Reads known (texts ++ text ∷ []) rest lines'.at_end
     × (lines.at_end ≡ true → lines'.at_end ≡ true) × (lines'.count ≡ lines.count + length texts + 1)))
@@ -174,14 +174,14 @@ abbrev pub Asks : (Question → Bool) → (Question → List ℕ → Type 0) →
 Asks may Is known rest remaining lines lines' old waiting new waiting' first result =
     Ends (AsksUpTo may Is known rest lines lines' old waiting new waiting' first)
     (λ number. (texts : List (List ℕ)) × (text : List ℕ)
-    × AreAnswered may Is (asked first texts) old waiting new waiting' × (asks (line_of text) ≡ false)
+    × AreAnswered may Is (section_from first texts) old waiting new waiting' × (asks (line_of text) ≡ false)
     × ReadsFront known (texts ++ text ∷ []) × (number ≡ lines.count + length texts + 1))
     (λ fault. ⊥)
-    ((texts : List (List ℕ)) × AreAnswered may Is (asked first texts) old waiting new waiting'
+    ((texts : List (List ℕ)) × AreAnswered may Is (section_from first texts) old waiting new waiting'
     × (lines.at_end ≡ false) × ReadsUntilFailure known texts lines'.pending remaining)
-    ((texts : List (List ℕ)) × (text : List ℕ) × HaveAnswers may Is (asked first texts) text
+    ((texts : List (List ℕ)) × (text : List ℕ) × HaveAnswers may Is (section_from first texts) text
     × ReadsFront known texts × GrowsByFront old new (waiting ++ text) × (waiting' ≡ []))
-    (((texts : List (List ℕ)) × AreAnswered may Is (asked first texts) old waiting new waiting'
+    (((texts : List (List ℕ)) × AreAnswered may Is (section_from first texts) old waiting new waiting'
     × RefusesAt (λ text. asks (line_of text) ≡ true) lines.count known texts lines'.line lines'.count)
     ⊎ ((new ≡ old) × (waiting' ≡ waiting) × (lines' ≡ lines)))
     result
