@@ -1,6 +1,5 @@
 -- Lists with separators, and places of arguments.
-use Rattle.std.proofs.Common.{◌≡◌, ℕ, ◌+◌, ◌-◌, ◌<◌, ◌≤◌, ◌==◌, Bool, true, false, List, [], ◌∷◌, ◌++◌, length, map, drop, get_or, Option, Some, None, refl, sym, ap, ap₂, subst, ◌∙◌, append_assoc, append-nil, arith, codes, is_some}
-use Rattle.std.specs.Prelude.{nat_lt, Ok}
+use Rattle.std.proofs.Common.{◌≡◌, ℕ, ◌+◌, ◌-◌, ◌<◌, ◌≤◌, ◌==◌, Bool, true, false, List, [], ◌∷◌, ◌++◌, length, map, drop, get_or, Option, Some, None, refl, sym, ap, ap₂, subst, ◌∙◌, append_assoc, append-nil, arith, codes, is_some, nat_lt, Ok}
 use Rattle.std.specs.List.{enumerate_from, list_any}
 use Rattle.std.proofs.lemmas.Bool.{lt-ltb, true≢false}
 use Rattle.std.proofs.lemmas.List.{drop_all}
@@ -12,12 +11,7 @@ use Rattle.hir_generics.specs.declared.param.TypeOrConstParamData.{TypeOrConstPa
 use Rattle.hir_items.specs.declared.formals.Param.{Param}
 use Rattle.hir_items.specs.declared.signatures.FunctionParts.{FunctionParts}
 use Rattle.hir_items.specs.Bodies.{formals_of}
-use Rattle.hir_printer.specs.Questions.{Setting}
-use Rattle.hir_printer.specs.Items.{Item, text, br, into, out, t, p, opt, when, join, comma_joined}
-use Rattle.hir_printer.specs.Names.{binding_items}
-use Rattle.hir_printer.specs.Paths.{colons_first}
-use Rattle.hir_printer.specs.Types.{type_param_items}
-use Rattle.hir_printer.specs.Printers.{following}
+use Rattle.hir_printer.specs.Prelude.{Setting, Item, text, br, into, out, t, p, opt, when, join, comma_joined, binding_items, colons_first, type_param_items, following}
 use Rattle.hir_printer.proofs.ListLemmas.{drop_item, is_cons, following_append, following_joined}
 use Rattle.hir_printer.proofs.OrderLemmas.{cons_length}
 use Rattle.hir_pretty.specs.AddedItems.{marked_items}

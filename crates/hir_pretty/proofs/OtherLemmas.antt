@@ -1,20 +1,14 @@
 -- The text of what isn't printed, and what is missing first.
-use Rattle.std.proofs.Common.{◌≡◌, ℕ, Bool, true, false, List, [], ◌∷◌, ◌++◌, Option, Some, None, Result, Ok, Err, refl, sym, ap, ◌∙◌}
-use Rattle.std.specs.Prelude.{String, string_bytes, is_ok, is_none, IsErr}
+use Rattle.std.proofs.Common.{◌≡◌, ℕ, Bool, true, false, List, [], ◌∷◌, ◌++◌, Option, Some, None, Result, Ok, Err, refl, sym, ap, ◌∙◌, String, string_bytes, is_ok, is_none, IsErr}
 use Rattle.std.proofs.lemmas.Bool.{true≢false}
 use Rattle.std.proofs.lemmas.List.Concat.{flat_map-append}
-use Rattle.hir_expr_store.specs.declared.missing.Missing.{Missing}
+use Rattle.hir_printer.specs.Prelude.{Missing, Setting, Item, Lacks, NodePiece, Layout, Absent, first_missing, item_pieces, pieces, format_of, PrintsPieces, item_list_pieces}
 use Rattle.hir_page.specs.Page.{Page, render, all_rendered, empty_page, page_text, rendering}
 use Rattle.hir_page.specs.Pieces.{Piece}
 use Rattle.hir_page.specs.Writes.{Writes, written, refused, all_written}
 use Rattle.hir_page.specs.declared.line_format.LineFormat.TheVariants.{Newline}
 use Rattle.hir_printer.specs.declared.fault.PrintFault.{PrintFault}
 use Rattle.hir_printer.specs.declared.fault.PrintFault.TheVariants as fault
-use Rattle.hir_printer.specs.Questions.{Setting}
-use Rattle.hir_printer.specs.Items.{Item, Lacks}
-use Rattle.hir_printer.specs.Pieces.{NodePiece, Layout, Absent, first_missing, item_pieces, pieces, format_of}
-use Rattle.hir_printer.specs.PrintAnswers.{PrintsPieces}
-use Rattle.hir_printer.specs.Pieces.{item_list_pieces}
 use Rattle.hir_pretty.specs.AddedItems.{unimplemented_pieces}
 use Rattle.hir_pretty.specs.Owners.{PrintsOther}
 

@@ -1,8 +1,7 @@
 -- Words of what is added beside the items of definitions.
-use Rattle.std.specs.Prelude.{ℕ, Bool, false, List, [], ◌∷◌, ◌++◌, get_or, codes, Option, Some, None, Result, Ok, Err}
-use Rattle.std.specs.Fmt.{decimal}
+use Rattle.std.specs.Prelude.{ℕ, Bool, false, List, [], ◌∷◌, ◌++◌, get_or, codes, Option, Some, None, Result, Ok, Err, decimal}
 use Rattle.hir_page.specs.Pieces.{Piece, Text}
-use Rattle.hir_printer.specs.Items.{Item, text, t, when}
+use Rattle.hir_printer.specs.Prelude.{Item, text, t, when}
 
 -- what the type of an argument is printed as where its place is marked
 abbrev pub marked_items : List Bool → ℕ × ℕ → List Item

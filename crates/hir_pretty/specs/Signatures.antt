@@ -1,7 +1,6 @@
 -- What the signatures of functions and structs are printed as.
-use Rattle.std.specs.Prelude.{ℕ, Bool, true, false, ◌||◌, ◌==◌, List, [], ◌∷◌, ◌++◌, map, Option, Some, None, codes}
+use Rattle.std.specs.Prelude.{ℕ, Bool, true, false, ◌||◌, ◌==◌, List, [], ◌∷◌, ◌++◌, map, Option, Some, None, codes, decimal}
 use Rattle.std.specs.List.{enumerate_from, list_any}
-use Rattle.std.specs.Fmt.{decimal}
 use Rattle.hir_base.specs.Abi.{abi_text}
 use Rattle.hir_base.specs.declared.abi.ExternAbi.{ExternAbi}
 use Rattle.hir_base.specs.declared.abi.ExternAbi.TheVariants as abi
@@ -20,10 +19,7 @@ use Rattle.hir_items.specs.declared.signatures.FieldsShape.TheVariants as shape
 use Rattle.hir_items.specs.declared.signatures.FunctionParts.{FunctionParts}
 use Rattle.hir_items.specs.declared.signatures.StructParts.{StructParts}
 use Rattle.hir_defs.specs.declared.plain_def.Repr.{Repr}
-use Rattle.hir_printer.specs.Questions.{Setting}
-use Rattle.hir_printer.specs.Items.{Item, text, br, into, out, e, t, opt, when, join, comma_joined, with_number}
-use Rattle.hir_printer.specs.Names.{name_items, l}
-use Rattle.hir_printer.specs.Paths.{bound_items, for_names}
+use Rattle.hir_printer.specs.Prelude.{Setting, Item, text, br, into, out, e, t, opt, when, join, comma_joined, with_number, name_items, l, bound_items, for_names}
 
 -- 1. Generic parameters
 

@@ -2,7 +2,7 @@
 #![tactic(auto, using(crate::proofs::OtherLemmas::others))]
 
 ghost use Rattle.std.specs.Prelude.{is_ok};
-ghost use Rattle.hir_base.specs.RawWords.{words_of};
+ghost use Rattle.hir_printer.specs.Prelude.{words_of};
 ghost use Rattle.hir_page.specs.Writes.{Writes};
 ghost use Rattle.hir_pretty.specs.FoundParts.{function_found, struct_found};
 ghost use Rattle.hir_pretty.specs.Owners.{PrintsFunction, PrintsStruct, PrintsOther, PrintsAdt, PrintsSignature};

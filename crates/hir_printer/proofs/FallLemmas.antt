@@ -1,7 +1,6 @@
 -- What is printed inside a node stands lower than the node.
-use Rattle.std.proofs.Common.{◌≡◌, ℕ, zero, suc, Bool, true, false, List, [], ◌∷◌, ◌++◌, map, take, drop, codes, Option, Some, None, refl, sym, ap, ◌∙◌, subst, arith, slice_get, Contains}
-use Rattle.std.specs.Prelude.{⊤, Result, Ok, Err}
-use Rattle.std.specs.List.{flat_map}
+use Rattle.std.proofs.Common.{◌≡◌, ℕ, zero, suc, Bool, true, false, List, [], ◌∷◌, ◌++◌, map, take, drop, codes, Option, Some, None, refl, sym, ap, ◌∙◌, subst, arith, slice_get, Contains, Result, Ok, Err, flat_map}
+use Rattle.std.specs.Prelude.{⊤}
 use Rattle.hir_path.specs.declared.bound.TypeBound.{TypeBound}
 use Rattle.hir_path.specs.declared.bound.TypeBound.TheVariants as bound
 use Rattle.hir_path.specs.declared.bound.TraitBoundModifier.{TraitBoundModifier}
@@ -15,17 +14,11 @@ use Rattle.hir_path.specs.declared.path.AssociatedTypeBinding.{AssociatedTypeBin
 use Rattle.hir_path.specs.declared.path.AssociatedTypeBinding.TheShapes.{former-AssociatedTypeBinding-args}
 use Rattle.hir_node.specs.ChildCalls.{Call, OnExpr, OnAnonConst, OnPat, OnType, OnLifetime, kid, kids, bound_calls, use_calls, arg_calls, args_calls, binding_calls, path_calls, normal_path_calls, spread_calls, array_calls, arm_calls, statement_calls, expr_calls, pat_calls, type_calls}
 use Rattle.hir_node.specs.ChildCalls as calls
-use Rattle.hir_node.specs.declared.node_id.NodeId.{NodeId}
+use Rattle.hir_printer.specs.Prelude.{NodeId, Missing, Setting, Item, Put, text, t, opt, join, comma_joined, name_parts, name_items, l, lifetime_items, param_items, for_names, modifier_items, use_items, bound_items, bounds_items, bounds_after, arg_items, each_arg, turbofish, args_items, assoc_items, type_after, AllNodes}
 use Rattle.hir_node.specs.declared.node_id.NodeId.TheVariants as node
 use Rattle.hir_node.specs.declared.type_ref.LifetimeRef.{LifetimeRef}
 use Rattle.hir_node.specs.declared.type_ref.LifetimeRef.TheVariants as lifetime
-use Rattle.hir_expr_store.specs.declared.missing.Missing.{Missing}
-use Rattle.hir_printer.specs.Questions.{Setting}
-use Rattle.hir_printer.specs.Items.{Item, Put, text, t, opt, join, comma_joined}
 use Rattle.hir_page.specs.Pieces.{Piece}
-use Rattle.hir_printer.specs.Names.{name_parts, name_items, l, lifetime_items, param_items}
-use Rattle.hir_printer.specs.Paths.{for_names, modifier_items, use_items, bound_items, bounds_items, bounds_after, arg_items, each_arg, turbofish, args_items, assoc_items, type_after}
-use Rattle.hir_printer.specs.Falls.{AllNodes}
 use Rattle.hir_printer.proofs.StepLemmas.{nodes_append}
 use Rattle.hir_printer.proofs.ArgsItems.{args_items_is, assoc_items_is, args_calls_is, binding_calls_is}
 

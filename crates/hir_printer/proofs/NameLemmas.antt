@@ -1,11 +1,9 @@
 -- Names by their parts.
-use Rattle.std.proofs.Common.{◌≡◌, ◌≢◌, ℕ, Bool, true, false, List, [], ◌∷◌, ◌++◌, map, codes, refl, sym, ap, ap₂, ◌∙◌, append-nil}
-use Rattle.std.specs.Prelude.{◌==◌, ◌&&◌, if◌then◌else◌, nat_eq}
+use Rattle.std.proofs.Common.{◌≡◌, ◌≢◌, ℕ, Bool, true, false, List, [], ◌∷◌, ◌++◌, map, codes, refl, sym, ap, ap₂, ◌∙◌, append-nil, ◌==◌, ◌&&◌, if◌then◌else◌, nat_eq, flat_map}
 use Rattle.hir_page.specs.Pieces.{Text}
-use Rattle.std.specs.List.{flat_map}
 use Rattle.std.specs.Cmp.Lexicographic.{bytes_decides}
 use Rattle.std.proofs.lemmas.Bool.Decides.{Decides-eqb}
-use Rattle.hir_printer.specs.Names.{is_word, raw_parts, name_parts, behind, printed_name, same_text}
+use Rattle.hir_printer.specs.Prelude.{is_word, raw_parts, name_parts, behind, printed_name, same_text}
 
 -- 1. Parts
 

@@ -1,8 +1,5 @@
 -- What is printed inside an expression, a pattern or a type is among its child calls, or stands under one of them.
-use Rattle.std.proofs.Common.{ℕ, zero, suc, Bool, true, false, List, [], ◌∷◌, ◌++◌, map, take, drop, codes, Option, Some, None, sym, ap, ◌∙◌, subst, slice_get}
-use Rattle.std.specs.Prelude.{not, Result, Ok, Err}
-use Rattle.std.specs.List.{flat_map}
-use Rattle.std.specs.Option.{option_to_list}
+use Rattle.std.proofs.Common.{ℕ, zero, suc, Bool, true, false, List, [], ◌∷◌, ◌++◌, map, take, drop, codes, Option, Some, None, sym, ap, ◌∙◌, subst, slice_get, not, Result, Ok, Err, flat_map, option_to_list}
 use Rattle.std.proofs.lemmas.List.Concat.{flat_map-append}
 use Rattle.hir_base.specs.declared.abi.ExternAbi.{ExternAbi}
 use Rattle.hir_base.specs.declared.abi.ExternAbi.TheVariants as abi
@@ -39,22 +36,12 @@ use Rattle.hir_node.specs.declared.pat.Pat.{Pat}
 use Rattle.hir_node.specs.declared.pat.Pat.TheVariants as pat
 use Rattle.hir_node.specs.declared.type_ref.TypeRef.{TypeRef}
 use Rattle.hir_node.specs.declared.type_ref.TypeRef.TheVariants as type
-use Rattle.hir_node.specs.declared.node_id.NodeId.{NodeId}
+use Rattle.hir_printer.specs.Prelude.{NodeId, Missing, Setting, Item, text, sp, br, into, out, e, under, p, t, opt, when, join, comma_joined, name_items, label_items, binding_items, of_binding, l, found_name, target_items, supers, kind_items, colons_first, segments_from, start_items, turbofish, args_items, path_items, for_names, literal_items, label_before, to_label, operand, each_line, in_lines, arguments, arm_items, field_items, spread_items, statement_items, unsafe_items, inside_block, params, header, coroutine_body, of_coroutine, printed_body, array_items, expr_items, with_rest, in_parentheses, is_short, field_pattern, after_last, field_patterns, pat_items, type_param_items, extern_items, varargs_items, front, last, signature_items, type_items, AllNodes}
 use Rattle.hir_node.specs.declared.node_id.NodeId.TheVariants as node
 use Rattle.hir_node.specs.declared.binding.Label.{Label}
 use Rattle.hir_node.specs.Keywords.{ref_keyword}
 use Rattle.hir_faults.specs.Nodes.{calls_of}
-use Rattle.hir_expr_store.specs.declared.missing.Missing.{Missing}
 use Rattle.hir_page.specs.Literals.{string_literal, char_literal, bytes_literal, c_string_literal}
-use Rattle.hir_printer.specs.Questions.{Setting}
-use Rattle.hir_printer.specs.Items.{Item, text, sp, br, into, out, e, under, p, t, opt, when, join, comma_joined}
-use Rattle.hir_printer.specs.Names.{name_items, label_items, binding_items, of_binding, l}
-use Rattle.hir_printer.specs.Paths.{found_name, target_items, supers, kind_items, colons_first, segments_from, start_items, turbofish, args_items, path_items, for_names}
-use Rattle.hir_printer.specs.Literals.{literal_items}
-use Rattle.hir_printer.specs.Exprs.{label_before, to_label, operand, each_line, in_lines, arguments, arm_items, field_items, spread_items, statement_items, unsafe_items, inside_block, params, header, coroutine_body, of_coroutine, printed_body, array_items, expr_items}
-use Rattle.hir_printer.specs.Pats.{with_rest, in_parentheses, is_short, field_pattern, after_last, field_patterns, pat_items}
-use Rattle.hir_printer.specs.Types.{type_param_items, extern_items, varargs_items, front, last, signature_items, type_items}
-use Rattle.hir_printer.specs.Falls.{AllNodes}
 use Rattle.hir_printer.proofs.StepLemmas.{nodes_append}
 use Rattle.hir_printer.proofs.FallLemmas.{AllCalls, AllLists, first_calls, last_calls, each_falls, map_falls, opt_falls, joined_falls, lists_append, lists_take, lists_drop, name_falls, names_fall, puts_fall, none_falls, lifetime_falls, for_falls, bounds_fall, fish_falls}
 

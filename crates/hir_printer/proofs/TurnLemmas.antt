@@ -1,26 +1,15 @@
 -- A turn of the loop, by what its work is.
-use Rattle.std.proofs.Common.{◌≡◌, ℕ, ◌+◌, ◌<◌, ◌≤◌, true, List, [], ◌∷◌, ◌++◌, map, Option, Some, None, refl, sym, ap, ap₂, subst, ◌∙◌, arith, append_assoc, append-nil}
-use Rattle.std.specs.Prelude.{Result, Ok, Err, OnOk, MatchResult, is_ok, String, string_bytes}
+use Rattle.std.proofs.Common.{◌≡◌, ℕ, ◌+◌, ◌<◌, ◌≤◌, true, List, [], ◌∷◌, ◌++◌, map, Option, Some, None, refl, sym, ap, ap₂, subst, ◌∙◌, arith, append_assoc, append-nil, Result, Ok, Err, OnOk, MatchResult, is_ok, String, string_bytes, slice_get}
 use Rattle.hir_page.specs.Writes.{Writes, all_written, written, refused}
 use Rattle.hir_base.specs.declared.prec.ExprPrecedence.{ExprPrecedence}
-use Rattle.hir_node.specs.declared.node_id.NodeId.{NodeId}
+use Rattle.hir_printer.specs.Prelude.{NodeId, Missing, Setting, Item, Under, text, PrintsPieces, Layout, first_missing, items_of, pieces, item_list_pieces, stands_in_parentheses, precedence_found, ItemsFall, heft, Printing, on_page, stands_for, items_of_works, printing, Leads, WroteWork, AddsItems, GaveWayTo, TurnedBy, enclose}
 use Rattle.hir_node.specs.declared.node_id.NodeId.TheVariants as node
-use Rattle.hir_expr_store.specs.declared.missing.Missing.{Missing}
-use Rattle.std.specs.List.{slice_get}
 use Rattle.hir_page.specs.Page.{Page, all_rendered, page_text}
 use Rattle.hir_page.specs.Pieces.{Piece}
 use Rattle.hir_printer.specs.declared.work.Work.{Work}
 use Rattle.hir_printer.specs.declared.work.Work.TheVariants as work
-use Rattle.hir_printer.specs.Questions.{Setting}
-use Rattle.hir_printer.specs.Items.{Item, Under, text}
 use Rattle.hir_printer.specs.declared.fault.PrintFault.{PrintFault}
 use Rattle.hir_printer.specs.declared.fault.PrintFault.TheVariants as fault
-use Rattle.hir_printer.specs.PrintAnswers.{PrintsPieces}
-use Rattle.hir_printer.specs.Pieces.{Layout, first_missing, items_of, pieces, item_list_pieces, stands_in_parentheses, precedence_found}
-use Rattle.hir_printer.specs.Falls.{ItemsFall}
-use Rattle.hir_printer.specs.Weights.{heft}
-use Rattle.hir_printer.specs.Printing.{Printing, on_page}
-use Rattle.hir_printer.specs.Printers.{stands_for, items_of_works, printing, Leads, WroteWork, AddsItems, GaveWayTo, TurnedBy, enclose}
 use Rattle.hir_printer.proofs.StepLemmas.{pieces_at}
 use Rattle.hir_printer.proofs.AddLemmas.{heft-append, meant-append, leads_as, leads_then, adds_here}
 use Rattle.hir_printer.proofs.PieceLemmas.{printed-append, enclosed_printed, pieces_lead, missing_is, page_of_pieces, nothing_left, is_missing}

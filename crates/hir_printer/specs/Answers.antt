@@ -1,6 +1,5 @@
 -- What the tables of outside definitions answer to printing.
-use Rattle.std.specs.Prelude.{ℕ, List, [], ◌∷◌, Option, Some, None, Result, Ok, Err, slice_get}
-use Rattle.std.specs.Option.{option_map}
+use Rattle.std.specs.Prelude.{ℕ, List, [], ◌∷◌, Option, Some, None, Result, Ok, Err, slice_get, option_map}
 use Rattle.std.specs.FinMap as map
 use Rattle.hir_base.specs.Keys.{named_code}
 use Rattle.hir_base.specs.declared.params.TypeOrConstParamId.{TypeOrConstParamId}

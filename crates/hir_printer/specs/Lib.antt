@@ -1,3 +1,4 @@
+pub mod Prelude
 pub mod Questions
 pub mod Items
 pub mod Names

@@ -1,7 +1,5 @@
 -- What patterns are printed as.
-use Rattle.std.specs.Prelude.{ℕ, Bool, true, false, ◌&&◌, not, List, [], ◌∷◌, ◌++◌, map, take, drop, Option, Some, None, codes, slice_get}
-use Rattle.std.specs.List.{flat_map}
-use Rattle.std.specs.Option.{option_to_list}
+use Rattle.std.specs.Prelude.{ℕ, Bool, true, false, ◌&&◌, not, List, [], ◌∷◌, ◌++◌, map, take, drop, Option, Some, None, codes, slice_get, flat_map, option_to_list}
 use Rattle.hir_base.specs.OpTexts.{range_text}
 use Rattle.hir_base.specs.declared.prec.ExprPrecedence.TheVariants.{Shift}
 use Rattle.hir_node.specs.Keywords.{ref_keyword}

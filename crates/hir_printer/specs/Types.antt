@@ -1,5 +1,5 @@
 -- What types are printed as.
-use Rattle.std.specs.Prelude.{ℕ, Bool, true, false, List, [], ◌∷◌, ◌++◌, map, Option, Some, None, Result, Ok, Err, codes}
+use Rattle.std.specs.Prelude.{ℕ, Bool, true, false, List, [], ◌∷◌, ◌++◌, map, Option, Some, None, Result, Ok, Err, codes, decimal}
 use Rattle.hir_base.specs.declared.abi.ExternAbi.{ExternAbi}
 use Rattle.hir_base.specs.declared.abi.ExternAbi.TheVariants as abi
 use Rattle.hir_base.specs.Abi.{abi_text}
@@ -13,7 +13,6 @@ use Rattle.hir_printer.specs.Questions.{Setting}
 use Rattle.hir_printer.specs.Items.{Item, Lacks, text, under, p, t, opt, when, comma_joined}
 use Rattle.hir_printer.specs.Names.{name_items, l}
 use Rattle.hir_printer.specs.Paths.{path_items, bounds_items, for_names}
-use Rattle.std.specs.Fmt.{decimal}
 
 -- a type parameter: its name, or its number
 abbrev pub type_param_items : Setting → ℕ → Result (Option (List ℕ)) Missing → List Item

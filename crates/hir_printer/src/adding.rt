@@ -1,20 +1,12 @@
 //! What is added to a printer: it is written at once, or kept.
 
 ghost use Rattle.std.specs.Prelude.{◌≡◌, ◌≤◌, length, ◌∷◌, [], ◌++◌, false, IfSome, None, OnOk, string_bytes};
-ghost use Rattle.hir_base.specs.RawWords.{words_of};
+ghost use Rattle.hir_printer.specs.Prelude.{words_of, text, when, setting, answers, format_of, on_page, printing_of, is_node, Adds, AddsWorks, Wrote, stands_for};
 ghost use Rattle.hir_page.specs.Page.{page_text};
-ghost use Rattle.hir_printer.specs.Items.{text, when};
-ghost use Rattle.hir_printer.specs.Settings.{setting};
-ghost use Rattle.hir_printer.specs.Answers.{answers};
-ghost use Rattle.hir_printer.specs.Pieces.{format_of};
-ghost use Rattle.hir_printer.specs.Printing.{on_page, printing_of};
-ghost use Rattle.hir_printer.specs.Kinds.{is_node};
-ghost use Rattle.hir_printer.specs.Printers.{Adds, AddsWorks, Wrote, stands_for};
 
 use crate::literals::write_literal;
 use crate::names::write_name;
-use crate::printer::Printer;
-use crate::work::Work;
+use crate::{Printer, Work};
 use hir_base::{Edition, Text};
 use hir_defs::Tables;
 use hir_expr_store::ExpressionStore;

@@ -1,13 +1,11 @@
 //! Literals, written at once.
 #![tactic(auto, using(hir_page::proofs::WritesLemmas::writing))]
 
-ghost use Rattle.std.specs.Prelude.{◌∷◌, [], is_ok};
-ghost use Rattle.std.specs.Fmt.{decimal, signed_decimal};
+ghost use Rattle.std.specs.Prelude.{◌∷◌, [], is_ok, decimal};
+ghost use Rattle.std.specs.Fmt.{signed_decimal};
 ghost use Rattle.hir_page.specs.Pieces as piece;
 ghost use Rattle.hir_page.specs.Writes.{Writes};
-ghost use Rattle.hir_printer.specs.Items.{text};
-ghost use Rattle.hir_printer.specs.Literals.{literal_items, bool_text};
-ghost use Rattle.hir_printer.specs.Literals.{put_pieces};
+ghost use Rattle.hir_printer.specs.Prelude.{text, literal_items, bool_text, put_pieces};
 
 use hir_node::Literal;
 use hir_page::{

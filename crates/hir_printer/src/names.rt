@@ -4,7 +4,7 @@
 ghost use Rattle.std.specs.Prelude.{◌≡◌, ◌≢◌, ◌∷◌, ◌++◌, [], if◌then◌else◌, List, ℕ, MatchOption, is_ok, map};
 ghost use Rattle.hir_page.specs.Pieces as piece;
 ghost use Rattle.hir_page.specs.Writes.{Writes};
-ghost use Rattle.hir_printer.specs.Names.{behind, is_word, name_parts, texts_of, printed_name, same_text};
+ghost use Rattle.hir_printer.specs.Prelude.{behind, is_word, name_parts, texts_of, printed_name, same_text};
 
 use hir_base::Text;
 use hir_page::PieceWriter;

@@ -1,4 +1,4 @@
-use Rattle.std.proofs.Common.{◌∷◌, []}
+use Rattle.hir_printer.proofs.Common.{◌∷◌, []}
 use Rattle.std.proofs.lemmas.Int.{to_z-of_z}
 use Rattle.hir_page.specs.Pieces.{Text}
 use Rattle.hir_page.proofs.WritesLemmas.{writes_then, writes_stopped, writes_err}

@@ -1,4 +1,4 @@
-use Rattle.std.proofs.Common.{◌∷◌, []}
+use Rattle.hir_printer.proofs.Common.{◌∷◌, []}
 use Rattle.hir_page.specs.Pieces.{Text}
 use Rattle.hir_page.proofs.WritesLemmas.{writes_stopped, writes_err}
 use Rattle.hir_printer.proofs.literals.write_suffixed_uint.Goals as goal

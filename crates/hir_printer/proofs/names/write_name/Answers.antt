@@ -1,9 +1,6 @@
-use Rattle.std.proofs.Common.{◌++◌, ◌∷◌, [], map, codes, ap, ◌∙◌}
+use Rattle.hir_printer.proofs.Common.{◌++◌, ◌∷◌, [], map, codes, ap, ◌∙◌, behind, written_parts, text_writes}
 use Rattle.hir_page.specs.Pieces.{Text}
 use Rattle.hir_page.proofs.WritesLemmas.{writes_then, writes_stopped, writes_err}
-use Rattle.hir_printer.specs.Names.{behind}
-use Rattle.hir_printer.proofs.NameLemmas.{written_parts}
-use Rattle.hir_printer.proofs.TurnLemmas.{text_writes}
 use Rattle.hir_printer.proofs.names.write_name.Goals as goal
 
 pub returns-in_err-write_if : goal.returns-in_err-write_if

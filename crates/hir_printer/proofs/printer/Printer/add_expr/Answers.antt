@@ -1,10 +1,5 @@
-use Rattle.std.proofs.Common.{◌≡◌, ◌++◌, refl, ap, ap₂, ◌∙◌}
-use Rattle.std.proofs.lemmas.Result.{on_ok_weaker}
+use Rattle.hir_printer.proofs.Common.{◌≡◌, ◌++◌, refl, ap, ap₂, ◌∙◌, on_ok_weaker, text, sp, under, label_before, unsafe_items, inside_block, adds, adds_then, adds_more, adds_as, braces_behind}
 use Rattle.hir_node.specs.Precedence.{precedence, of_operator}
-use Rattle.hir_printer.specs.Items.{text, sp, under}
-use Rattle.hir_printer.specs.Exprs.{label_before, unsafe_items, inside_block}
-use Rattle.hir_printer.proofs.AddLemmas.{adds, adds_then, adds_more, adds_as}
-use Rattle.hir_printer.proofs.OrderLemmas.{braces_behind}
 use Rattle.hir_printer.proofs.printer.Printer.add_expr.Goals as goal
 
 pub returns-in_ok-add_joined-in-OffsetOf : goal.returns-in_ok-add_joined-in-OffsetOf

@@ -1,9 +1,4 @@
-use Rattle.std.proofs.Common.{◌∷◌, [], refl, sym, ap}
-use Rattle.std.proofs.lemmas.Result.{on_ok_weaker}
-use Rattle.hir_printer.specs.Items.{Lacks}
-use Rattle.hir_printer.specs.Names.{name_items, param_items}
-use Rattle.hir_printer.specs.Printing.{printing_of}
-use Rattle.hir_printer.proofs.AddLemmas.{adds, adds_here}
+use Rattle.hir_printer.proofs.Common.{◌∷◌, [], refl, sym, ap, on_ok_weaker, Lacks, name_items, param_items, printing_of, adds, adds_here}
 use Rattle.hir_printer.proofs.printer.Printer.add_lifetime.Goals as goal
 
 pub returns-in-Ok : goal.returns-in-Ok

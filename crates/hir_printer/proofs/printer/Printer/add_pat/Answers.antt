@@ -1,8 +1,4 @@
-use Rattle.std.proofs.Common.{refl, sym, append-nil}
-use Rattle.std.proofs.lemmas.Result.{on_ok_weaker}
-use Rattle.hir_printer.proofs.AddLemmas.{adds, adds_then, adds_more, adds_as}
-use Rattle.hir_printer.specs.Names.{binding_items}
-use Rattle.hir_printer.proofs.OrderLemmas.{bound_to}
+use Rattle.hir_printer.proofs.Common.{refl, sym, append-nil, on_ok_weaker, adds, adds_then, adds_more, adds_as, binding_items, bound_to}
 use Rattle.hir_printer.proofs.printer.Printer.add_pat.Goals as goal
 
 pub returns-in_ok-add_joined-in-Or : goal.returns-in_ok-add_joined-in-Or

@@ -1,12 +1,5 @@
-use Rattle.std.proofs.Common.{[], ◌∷◌, map, refl, arith}
-use Rattle.std.specs.Fmt.{decimal}
+use Rattle.hir_printer.proofs.Common.{[], ◌∷◌, map, refl, arith, decimal, literal_items, put_pieces, name_parts, printing_of, page_is, literal_pieces, name_printed, literal_heft, name_heft, on_ok_of, on_ok_writes, wrote}
 use Rattle.hir_page.specs.Pieces.{Text, SoftSpace, Break, Indent, Outdent}
-use Rattle.hir_printer.specs.Literals.{literal_items, put_pieces}
-use Rattle.hir_printer.specs.Names.{name_parts}
-use Rattle.hir_printer.specs.Printing.{printing_of}
-use Rattle.hir_printer.proofs.PieceLemmas.{page_is, literal_pieces, name_printed}
-use Rattle.hir_printer.proofs.WeightLemmas.{literal_heft, name_heft}
-use Rattle.hir_printer.proofs.TurnLemmas.{on_ok_of, on_ok_writes, wrote}
 use Rattle.hir_printer.proofs.printer.Printer.write_work.Goals as goal
 
 pub returns-in-Text : goal.returns-in-Text
