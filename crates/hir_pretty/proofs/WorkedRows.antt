@@ -6,9 +6,8 @@ use Rattle.hir_forest.specs.declared.roots.Root.{Root}
 use Rattle.hir_base.specs.declared.hygiene.SyntaxContext.TheVariants as context
 use Rattle.hir_base.specs.declared.edition.Edition.TheVariants as edition
 use Rattle.hir_base.specs.declared.abi.ExternAbi.TheVariants as abi
-use Rattle.hir_base.specs.declared.defs.DefWithBodyId.{DefWithBodyId}
+use Rattle.hir_base.specs.declared.{defs.DefWithBodyId.DefWithBodyId, defs.NamedDef.NamedDef}
 use Rattle.hir_base.specs.declared.defs.DefWithBodyId.TheVariants as body
-use Rattle.hir_base.specs.declared.defs.NamedDef.{NamedDef}
 use Rattle.hir_base.specs.declared.defs.NamedDef.TheVariants as named
 use Rattle.hir_base.specs.declared.defs.VariantId.TheVariants as variant
 use Rattle.hir_base.specs.declared.defs.GenericDefId.TheVariants as generic
@@ -17,14 +16,11 @@ use Rattle.hir_path.specs.declared.path.Path.{Path}
 use Rattle.hir_path.specs.declared.path.Path.TheVariants as path
 use Rattle.hir_path.specs.declared.bound.TypeBound.TheVariants as bound
 use Rattle.hir_path.specs.declared.bound.TraitBoundModifier.TheVariants as modifier
-use Rattle.hir_node.specs.declared.binding.Binding.{Binding}
+use Rattle.hir_node.specs.declared.{binding.Binding.Binding, expr.Expr.Expr, pat.Pat.Pat, type_ref.TypeRef.TypeRef}
 use Rattle.hir_node.specs.declared.binding.BindingAnnotation.TheVariants as mode
 use Rattle.hir_node.specs.declared.literal.Literal.TheVariants as literal
-use Rattle.hir_node.specs.declared.expr.Expr.{Expr}
 use Rattle.hir_node.specs.declared.expr.Expr.TheVariants as expr
 use Rattle.hir_node.specs.declared.expr_types.Unsafe.TheVariants as unsafety
-use Rattle.hir_node.specs.declared.pat.Pat.{Pat}
-use Rattle.hir_node.specs.declared.type_ref.TypeRef.{TypeRef}
 use Rattle.hir_node.specs.declared.type_ref.TypeRef.TheVariants as type
 use Rattle.hir_generics.specs.declared.data.LifetimeBoundType.TheVariants as bound_type
 use Rattle.hir_generics.specs.declared.data.TypeParamProvenance.TheVariants as provenance
@@ -33,15 +29,14 @@ use Rattle.hir_generics.specs.declared.param.TypeOrConstParamData.TheVariants as
 use Rattle.hir_generics.specs.declared.predicate.WherePredicate.TheVariants as predicate
 use Rattle.hir_faults.specs.Nodes.{Nodes}
 use Rattle.hir_faults.specs.Down.{value, rank, value_within}
-use Rattle.hir_expr_store.specs.Contents.{Contents}
-use Rattle.hir_expr_store.specs.SideTables.{no_side_tables}
+use Rattle.hir_expr_store.specs.{Contents.Contents, SideTables.no_side_tables}
 use Rattle.hir_printer.specs.Prelude.{Missing, Questions, Setting, Item, pieces, first_missing, text_of, item_list_pieces}
 use Rattle.hir_expr_store.specs.declared.missing.Missing.TheVariants as missing
 use Rattle.hir_items.specs.declared.signatures.FieldsShape.TheVariants as shape
 use Rattle.hir_items.specs.declared.signatures.RawVisibility.TheVariants as visibility
 use Rattle.hir_items.specs.Bodies.{BodyContents}
-use Rattle.hir_items.specs.Generics.{Generics, empty}
 use Rattle.hir_items.specs.declared.signatures.FunctionParts.{FunctionParts}
+use Rattle.hir_items.specs.Generics.{Generics, empty}
 use Rattle.hir_pretty.specs.Bodies.{Parents, body_items}
 use Rattle.hir_pretty.specs.Variants.{variant_items, without_fields}
 use Rattle.hir_pretty.specs.Signatures.{function_items, struct_items, unimplemented_items}
@@ -143,20 +138,24 @@ fields_and_structs :
       store = c;
     }))) ≡ codes "struct S {\npub a: u32,\n}\n")
     × ((let c = store [] [] [] [] in text_from c (λ s. struct_items s None (record {
-      name = codes "S"; generic_params = empty; store = c; is_fundamental = false; shape = shape.Tuple
+      name = codes "S";
+      generic_params = empty;
+      store = c;
+      is_fundamental = false;
+      shape = shape.Tuple;
     }))) ≡ codes "struct S(...)\n;\n")
     × ((let c = store (expr.Literal (literal.Int (pos 3) None) ∷ []) (type_named (codes "usize") ∷ type.Tuple [] ∷ type_named (codes "T") ∷ type_named (codes "Clone") ∷ []) [] [] in
-      text_from c (λ s. struct_items s (Some (record { c = true; align = Some 8; pack = None })) (record {
-        name = codes "S";
-        generic_params = record {
-          type_or_consts = of_name (codes "T") None ∷ param.ConstParamData (record { name = codes "C"; ty = 0; default = Some (record { expr = 0 }) }) ∷ of_name (codes "X") (Some 1) ∷ [];
-          lifetimes = record { name = codes "'a"; bound_type = bound_type.EarlyBound } ∷ [];
-          predicates = predicate.TypeBound None 2 (bound.Path 3 modifier.None) ∷ [];
-        };
-        store = c;
-        is_fundamental = true;
-        shape = shape.Unit;
-      }))) ≡ codes "#[repr(C)]\n#[repr(align(8))]\n#[fundamental]\nstruct S<'a, T, const C: usize = 3, X = ()>\nwhere\n    T: Clone\n;\n")
+    text_from c (λ s. struct_items s (Some (record { c = true; align = Some 8; pack = None })) (record {
+      name = codes "S";
+      generic_params = record {
+        type_or_consts = of_name (codes "T") None ∷ param.ConstParamData (record { name = codes "C"; ty = 0; default = Some (record { expr = 0 }) }) ∷ of_name (codes "X") (Some 1) ∷ [];
+        lifetimes = record { name = codes "'a"; bound_type = bound_type.EarlyBound } ∷ [];
+        predicates = predicate.TypeBound None 2 (bound.Path 3 modifier.None) ∷ [];
+      };
+      store = c;
+      is_fundamental = true;
+      shape = shape.Unit;
+    }))) ≡ codes "#[repr(C)]\n#[repr(align(8))]\n#[fundamental]\nstruct S<'a, T, const C: usize = 3, X = ()>\nwhere\n    T: Clone\n;\n")
     × (text_from (store [] [] [] []) (λ s. unimplemented_items (codes "EnumId") 5) ≡ codes "unimplemented EnumId(5)")
 unfolding pieces value rank height digits
 fields_and_structs = (refl, refl, refl, refl)
@@ -186,7 +185,12 @@ functions :
       predicates = predicate.TypeBound None 1 (bound.Path 2 modifier.None) ∷ [];
     }) (0 ∷ [])))) ≡ codes "fn impl_trait_args<T, Param[1]>(Param[1])\nwhere\n    Param[1]: Trait\n {...}\n")
     × ((let c = store [] (type_named (codes "A") ∷ type_named (codes "B") ∷ []) [] [] in text_from c (λ s. function_items s (record (function c empty (0 ∷ 1 ∷ [])) {
-      name = codes "a"; abi = abi.C; is_const = true; is_async = true; is_unsafe = true; legacy_const_indices = Some (1 ∷ [])
+      name = codes "a";
+      abi = abi.C;
+      is_const = true;
+      is_async = true;
+      is_unsafe = true;
+      legacy_const_indices = Some (1 ∷ []);
     }))) ≡ codes "const async unsafe extern \"C\" fn a(A, const: B) {...}\n")
 unfolding pieces value rank height digits
 functions = (refl, refl)

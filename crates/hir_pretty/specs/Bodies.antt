@@ -40,15 +40,12 @@ formal_params s self_binding formals = map (binding_items s) (option_to_list sel
 abbrev pub body_params : Setting → Option ℕ → List ℕ → DefWithBodyId → List Item
 body_params s self_binding formals (body.FunctionId id) =
     text (codes "(") ++ comma_joined (formal_params s self_binding formals) ++ text (codes ") ")
-body_params s self_binding formals (body.StaticId id) = []
-body_params s self_binding formals (body.ConstId id) = []
-body_params s self_binding formals (body.VariantId id) = []
+body_params s self_binding formals owner = []
 
 abbrev pub body_end : DefWithBodyId → List Item
 body_end (body.StaticId id) = text (codes ";")
 body_end (body.ConstId id) = text (codes ";")
-body_end (body.FunctionId id) = []
-body_end (body.VariantId id) = []
+body_end owner = []
 
 -- the binding of `self` and the patterns that are the parameters themselves, not those that the user wrote
 abbrev pub formal_self : Option (Param ℕ) → Option ℕ

@@ -5,9 +5,7 @@ use Rattle.hir_base.specs.Keys.{fields_code}
 use Rattle.hir_base.specs.declared.defs.VariantId.{VariantId}
 use Rattle.hir_printer.specs.Prelude.{Missing, found_or}
 use Rattle.hir_expr_store.specs.declared.missing.Missing.TheVariants as missing
-use Rattle.hir_items.specs.declared.signatures.FunctionParts.{FunctionParts}
-use Rattle.hir_items.specs.declared.signatures.StructParts.{StructParts}
-use Rattle.hir_items.specs.declared.signatures.VariantParts.{VariantParts}
+use Rattle.hir_items.specs.declared.{signatures.FunctionParts.FunctionParts, signatures.StructParts.StructParts, signatures.VariantParts.VariantParts}
 use Rattle.hir_defs.specs.Lookups.{Tables}
 
 abbrev pub parents : Tables → ℕ → Result ℕ Missing

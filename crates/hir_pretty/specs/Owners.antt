@@ -1,13 +1,11 @@
 -- What printing the signature of any definition answers.
 use Rattle.std.specs.Prelude.{◌≡◌, ℕ, false, List, [], ◌∷◌, Option, Some, None, Result, Err, codes, String}
 use Rattle.std.specs.FinMap as map
-use Rattle.hir_base.specs.declared.defs.AdtId.{AdtId}
+use Rattle.hir_base.specs.declared.{defs.AdtId.AdtId, defs.GenericDefId.GenericDefId}
 use Rattle.hir_base.specs.declared.defs.AdtId.TheVariants as adt
-use Rattle.hir_base.specs.declared.defs.GenericDefId.{GenericDefId}
 use Rattle.hir_base.specs.declared.defs.GenericDefId.TheVariants as generic
 use Rattle.hir_expr_store.specs.declared.missing.Missing.TheVariants as missing
-use Rattle.hir_items.specs.declared.signatures.FunctionParts.{FunctionParts}
-use Rattle.hir_items.specs.declared.signatures.StructParts.{StructParts}
+use Rattle.hir_items.specs.declared.{signatures.FunctionParts.FunctionParts, signatures.StructParts.StructParts}
 use Rattle.hir_defs.specs.Lookups.{Tables}
 use Rattle.hir_printer.specs.declared.fault.PrintFault.{PrintFault}
 use Rattle.hir_printer.specs.declared.fault.PrintFault.TheVariants as fault

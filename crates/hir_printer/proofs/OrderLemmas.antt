@@ -4,10 +4,8 @@ use Rattle.std.proofs.lemmas.Bool.{cases_lt}
 use Rattle.std.proofs.lemmas.Bool.Decides.{nat_tests}
 use Rattle.std.proofs.lemmas.List.{take-map, drop-map, take_all, drop_all, length-map}
 use Rattle.std.proofs.lemmas.List.Concat.{flat_map-append}
-use Rattle.hir_node.specs.declared.expr_types.Array.TheVariants.{ElementList}
-use Rattle.hir_node.specs.declared.expr_types.Statement.{Statement}
-use Rattle.hir_path.specs.declared.bound.TypeBound.{TypeBound}
-use Rattle.hir_path.specs.declared.path.GenericArg.{GenericArg}
+use Rattle.hir_node.specs.declared.{expr_types.Array.TheVariants.ElementList, expr_types.Statement.Statement}
+use Rattle.hir_path.specs.declared.{bound.TypeBound.TypeBound, path.GenericArg.GenericArg}
 use Rattle.hir_path.specs.declared.path.GenericArgs.{GenericArgs, out-GenericArgs}
 use Rattle.hir_printer.specs.Prelude.{Setting, name_items, Item, text, sp, into, out, br, e, p, opt, when, join, comma_joined, arguments, array_items, statement_items, inside_block, with_rest, arg_items, each_arg, args_items, assoc_items, turbofish, segments_from, bounds_items, bounds_after, supers, following}
 use Rattle.hir_printer.proofs.ListLemmas.{drop_item, is_cons, following_joined, following_append}

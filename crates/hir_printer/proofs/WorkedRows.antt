@@ -6,7 +6,7 @@ use Rattle.hir_forest.specs.Height.{height}
 use Rattle.std.specs.Fmt.{digits}
 use Rattle.std.specs.Str.{chars}
 use lib.Utf8.{encode}
-use Rattle.hir_node.specs.declared.binding.Binding.{Binding}
+use Rattle.hir_node.specs.declared.{binding.Binding.Binding, expr.Expr.Expr, pat.Pat.Pat, type_ref.TypeRef.TypeRef}
 use Rattle.hir_node.specs.declared.binding.BindingAnnotation.TheVariants as mode
 use Rattle.hir_node.specs.declared.literal.Literal.TheVariants as literal
 use Rattle.hir_node.specs.declared.expr_types.Statement.TheVariants as statement
@@ -22,13 +22,10 @@ use Rattle.hir_base.specs.declared.defs.NamedDef.TheVariants as named
 use Rattle.hir_path.specs.declared.path.Path.{Path}
 use Rattle.hir_path.specs.declared.path.Path.TheVariants as path
 use Rattle.hir_node.specs.declared.node_id.NodeId.TheVariants as node
-use Rattle.hir_node.specs.declared.expr.Expr.{Expr}
 use Rattle.hir_node.specs.declared.expr.Expr.TheVariants as expr
 use Rattle.hir_node.specs.declared.expr_types.Array.TheVariants as array
 use Rattle.hir_node.specs.declared.expr_types.RecordSpread.TheVariants as spread
-use Rattle.hir_node.specs.declared.pat.Pat.{Pat}
 use Rattle.hir_node.specs.declared.pat.Pat.TheVariants as pat
-use Rattle.hir_node.specs.declared.type_ref.TypeRef.{TypeRef}
 use Rattle.hir_node.specs.declared.type_ref.TypeRef.TheVariants as type
 use Rattle.hir_expr_store.specs.declared.missing.Missing.TheVariants as missing
 use Rattle.hir_faults.specs.Down.{value, rank}

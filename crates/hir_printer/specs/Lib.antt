@@ -11,7 +11,6 @@ pub mod Pieces
 pub mod Falls
 pub mod Settings
 pub mod PrintAnswers
-pub mod Kinds
 pub mod Weights
 pub mod Printing
 pub mod Printers

@@ -31,6 +31,16 @@ stands_for s (work.Type id) = t id
 stands_for s (work.Args x) = turbofish (args_items s x.now)
 stands_for s (work.Lacks missing) = Lacks missing ∷ []
 
+-- a work that is neither text nor layout
+abbrev pub is_node : Work → Bool
+is_node (work.Whole id) = true
+is_node (work.Under id parent) = true
+is_node (work.Pattern id) = true
+is_node (work.Type id) = true
+is_node (work.Args x) = true
+is_node (work.Lacks missing) = true
+is_node w = false
+
 -- the items that works stand for, the first first
 abbrev pub items_of_works : Setting → List Work → List Item
 items_of_works s works = flat_map (stands_for s) works

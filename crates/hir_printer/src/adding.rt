@@ -74,12 +74,7 @@ impl<'a> Printer<'a> {
             Work::Number(number) => write_number(&mut self.page, *number),
             Work::Literal(literal) => write_literal(&mut self.page, *literal),
             Work::Name(name) => write_name(&mut self.page, self.words, *name),
-            Work::Whole(_)
-            | Work::Under(_, _)
-            | Work::Pattern(_)
-            | Work::Type(_)
-            | Work::Args(_)
-            | Work::Lacks(_) => unreachable!(),
+            _ => unreachable!(),
         }
     }
 

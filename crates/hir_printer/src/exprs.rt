@@ -170,7 +170,7 @@ impl<'a> Printer<'a> {
     }
 
     /// Adds the kind of an id and its number, as `ExprId(3)`.
-    pub(crate) fn add_numbered(&mut self, kind: &'a str, number: u32) -> Result<(), AllocError>
+    pub fn add_numbered(&mut self, kind: &'a str, number: u32) -> Result<(), AllocError>
         ensures { OnOk result (Adds self.old (λ s. with_number kind.now number) self.new) }
     {
         self.add(&[

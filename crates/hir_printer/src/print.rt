@@ -108,14 +108,7 @@ impl<'a> Printer<'a> {
             Work::Type(id) => Ok(self.add_type_at(*id)?),
             Work::Args(args) => Ok(self.add_fish(*args)?),
             Work::Lacks(missing) => Err(PrintFault::Missing(*missing)),
-            Work::Text(_)
-            | Work::Space
-            | Work::Break
-            | Work::Indent
-            | Work::Outdent
-            | Work::Number(_)
-            | Work::Literal(_)
-            | Work::Name(_) => unreachable!(),
+            _ => unreachable!(),
         }
     }
 
