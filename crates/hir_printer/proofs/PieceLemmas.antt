@@ -8,7 +8,6 @@ use Rattle.hir_printer.specs.Prelude.{Missing, Setting, Item, Put, Lacks, Whole,
 use Rattle.hir_page.specs.Page.{Page, render, all_rendered}
 use Rattle.hir_page.specs.Pieces.{Piece, Text}
 use Rattle.hir_page.specs.Literals.{string_literal, char_literal, bytes_literal, c_string_literal}
-use Rattle.hir_page.specs.Writes.{Writes, all_written, written}
 use Rattle.hir_printer.proofs.StepLemmas.{pieces_at}
 
 -- 1. Items and pieces
@@ -76,11 +75,6 @@ enclosed_printed s fall true id =
     ∙ sym (append-nil (Layout (Text (codes "(")) ∷ (pieces s (node.Expr id) ++ close)))
 
 -- 2. A page
-
--- a writer of a page that was led over pieces
-pub page_is : {refuses : Page → Piece → Page → Type 0} {u v : Page} {ps : List Piece} → Writes (λ page piece after. after ≡ render piece page) refuses u ps true v → v ≡ all_rendered ps u
-page_is all_written = refl
-page_is {ps = q ∷ ps} (written k more) = page_is more ∙ ap (all_rendered ps) k
 
 pub printing_pieces : (page : Page) (ps : List Piece) (rest : List NodePiece) → printing page (map Layout ps ++ rest) ≡ printing (all_rendered ps page) rest
 unfolding printing

@@ -10,7 +10,7 @@ use crate::{Printer, Work};
 use hir_base::{Edition, Text};
 use hir_defs::Tables;
 use hir_expr_store::ExpressionStore;
-use hir_page::{LineFormat, PageBuffer, PieceWriter, write_number};
+use hir_page::{LineFormat, PageBuffer, write_number};
 use std::alloc::{AllocError, Global};
 
 fn line_format(one_line: bool) -> LineFormat
@@ -70,7 +70,10 @@ impl<'a> Printer<'a> {
             Work::Space => self.page.soft_space(),
             Work::Break => self.page.line_break(),
             Work::Indent => self.page.indent(),
-            Work::Outdent => self.page.outdent(),
+            Work::Outdent => {
+                self.page.outdent();
+                Ok(())
+            }
             Work::Number(number) => write_number(&mut self.page, *number),
             Work::Literal(literal) => write_literal(&mut self.page, *literal),
             Work::Name(name) => write_name(&mut self.page, self.words, *name),
