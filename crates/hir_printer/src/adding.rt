@@ -82,7 +82,6 @@ impl<'a> Printer<'a> {
     }
 
     /// Keeps a work behind those that were kept in this turn.
-    #[inline(always)]
     fn keep(&mut self, work: &Work<'a>) -> Result<(), AllocError>
         ensures { OnOk result (printing_of self.new
             ≡ record (printing_of self.old) { kept = (printing_of self.old).kept ++ (work.now ∷ []) }) }
@@ -90,6 +89,7 @@ impl<'a> Printer<'a> {
         push_copy(&mut self.works, work)
     }
 
+    // Inlined: what becomes of a work whose kind is known when this is compiled is known then too.
     /// Adds a work.
     #[inline(always)]
     fn add_work(&mut self, work: &Work<'a>) -> Result<(), AllocError>
@@ -111,6 +111,7 @@ impl<'a> Printer<'a> {
         Ok(())
     }
 
+    // Inlined: a list of works that is known when this is compiled takes no loop and no memory.
     /// Adds works.
     #[inline(always)]
     pub fn add(&mut self, works: &[Work<'a>]) -> Result<(), AllocError>

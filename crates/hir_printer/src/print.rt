@@ -113,7 +113,6 @@ impl<'a> Printer<'a> {
     }
 
     /// Writes a work, or lets what it gives way to wait before all that waits.
-    #[inline(always)]
     fn turn(&mut self, work: &Work<'a>) -> Result<(), PrintFault>
         requires fall { ItemsFall (printing_of self.old).from }
         requires none { (printing_of self.old).kept ≡ [] }
