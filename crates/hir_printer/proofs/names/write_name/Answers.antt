@@ -1,4 +1,4 @@
-use Rattle.hir_printer.proofs.Common.{map, codes, ap, ◌∙◌, on_ok_weaker, behind, parts_rendered}
+use Rattle.hir_printer.proofs.Common.{[], map, codes, ap, ◌∙◌, on_ok_weaker, behind, parts_rendered}
 use Rattle.hir_page.specs.Page.{all_rendered, put_all}
 use Rattle.hir_page.specs.Pieces.{Text}
 use Rattle.hir_printer.proofs.names.write_name.Goals as goal

@@ -7,6 +7,3 @@ returns-in_ok-add_kind-in-BarePath c = rw c.in-BarePath.is (on_ok_weaker c.add_s
 
 pub returns-in-Normal : goal.returns-in-Normal
 returns-in-Normal c = rw c.in-Normal.is (rw c.get.ensures at c.add_normal_path.ensures)
-
-pub returns-in-LangItem : goal.returns-in-LangItem
-returns-in-LangItem c = rw c.in-LangItem.is c.add_lang_item.ensures
