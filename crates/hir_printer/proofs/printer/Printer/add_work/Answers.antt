@@ -8,9 +8,6 @@ returns-then-len-self c = on_ok_weaker c.keep.result (kept_adds c.args.work.now)
 pub write_work-requires : goal.write_work-requires
 write_work-requires c = rw c.copy_of-work.ensures (sym c.is_node.ensures ∙ c.if-is_node.false)
 
-pub write_work-requires : goal.write_work-requires
-write_work-requires c = rw c.copy_of-work.ensures (sym c.is_node.ensures ∙ c.if-is_node.false)
-
 pub returns : goal.returns
 returns c =
     let p = c.args.self.now in
