@@ -1,9 +1,9 @@
 //! Signatures of any definition as text.
 #![tactic(auto, using(crate::proofs::OtherLemmas::others))]
 
-ghost use Rattle.std.specs.Prelude.{is_ok};
+ghost use Rattle.std.specs.Prelude.{◌≡◌, OnOk};
 ghost use Rattle.hir_base.specs.RawWords.{words_of};
-ghost use Rattle.hir_page.specs.Writes.{Writes};
+ghost use Rattle.hir_page.specs.Page.{all_rendered};
 ghost use Rattle.hir_pretty.specs.FoundParts.{function_found, struct_found};
 ghost use Rattle.hir_pretty.specs.Owners.{PrintsFunction, PrintsStruct, PrintsOther, PrintsAdt, PrintsSignature};
 ghost use Rattle.hir_pretty.specs.AddedItems.{unimplemented_pieces};
@@ -12,24 +12,19 @@ use crate::functions::print_function;
 use crate::structs::print_struct;
 use hir_base::{AdtId, Edition, FunctionId, GenericDefId, StructId};
 use hir_defs::Tables;
-use hir_page::{LineFormat, PageBuffer, PieceWriter, write_number};
+use hir_page::{LineFormat, PageBuffer, write_number};
 use hir_printer::PrintFault;
 use std::alloc::{AllocError, Global};
 
 /// Writes that the signature of a definition of this kind isn't printed.
-fn write_unimplemented<W: PieceWriter>(
-    writer: &mut W,
-    kind: &str,
-    id: u32,
-) -> Result<(), AllocError>
-    ensures { Writes W.step W.refuses writer.old (unimplemented_pieces kind.now id)
-        (is_ok result) writer.new }
+fn write_unimplemented(page: &mut PageBuffer, kind: &str, id: u32) -> Result<(), AllocError>
+    ensures { OnOk result (page.new ≡ all_rendered (unimplemented_pieces kind.now id) page.old) }
 {
-    writer.text("unimplemented ")?;
-    writer.text(kind)?;
-    writer.text("(")?;
-    write_number(writer, id)?;
-    writer.text(")")?;
+    page.text("unimplemented ")?;
+    page.text(kind)?;
+    page.text("(")?;
+    write_number(page, id)?;
+    page.text(")")?;
     Ok(())
 }
 

@@ -18,7 +18,7 @@ use crate::work::Work;
 use hir_base::{Edition, Text};
 use hir_defs::Tables;
 use hir_expr_store::ExpressionStore;
-use hir_page::{LineFormat, PageBuffer, PieceWriter, write_number};
+use hir_page::{LineFormat, PageBuffer, write_number};
 use std::alloc::{AllocError, Global};
 
 fn line_format(one_line: bool) -> LineFormat
@@ -78,7 +78,7 @@ impl<'a> Printer<'a> {
             Work::Space => self.page.soft_space(),
             Work::Break => self.page.line_break(),
             Work::Indent => self.page.indent(),
-            Work::Outdent => self.page.outdent(),
+            Work::Outdent => Ok(self.page.outdent()),
             Work::Number(number) => write_number(&mut self.page, *number),
             Work::Literal(literal) => write_literal(&mut self.page, *literal),
             Work::Name(name) => write_name(&mut self.page, self.words, *name),
