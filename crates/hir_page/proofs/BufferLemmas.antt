@@ -1,10 +1,15 @@
 -- What a page becomes as the text grows.
-use Rattle.std.proofs.Common.{◌≡◌, ℕ, List, [], ◌∷◌, ◌++◌, get_or, take, replicate, ◌-◌, ◌==◌, ◌||◌, sym, ap, ◌∙◌}
+use Rattle.std.proofs.Common.{◌≡◌, ℕ, suc, false, List, [], ◌∷◌, ◌++◌, length, get_or, take, replicate, ◌-◌, ◌==◌, ◌||◌, nat_lt, refl, sym, ap, ◌∙◌, arith, ◌≤◌, subst, append_assoc, append-nil}
+use Rattle.std.proofs.lemmas.Bool.Decides.{nat_tests}
 use Rattle.hir_page.specs.declared.line_format.LineFormat.{LineFormat}
-use Rattle.hir_page.specs.Buffer.{lines_of, HasNoEnd, IsTrimmedLen}
-use Rattle.hir_page.specs.Page.{Lines, Page, is_blank, trim}
-use Rattle.hir_page.proofs.PageLemmas.{lines_of-plain, lines_of-end}
+use Rattle.hir_page.specs.Buffer.{lines_of, HasNoEnd, IsTrimmedLen, IsGrown}
+use Rattle.hir_page.specs.Page.{Lines, Page, is_blank, trim, ends_in_space, is_empty_line, is_empty_text, lines_text, page_text}
+use Rattle.hir_page.proofs.PageLemmas.{lines_of-plain, lines_of-end, text_of_lines}
 use Rattle.hir_page.proofs.EndLemmas.{no_end_in_spaces, ending}
+use Rattle.std.specs.Str.{IsUtf8}
+use Rattle.std.proofs.lemmas.Str.{IsCharBoundary-from_take}
+use Rattle.std.proofs.Math.Seq.{take-append_seam}
+use Rattle.std.specs.String.Boundary.{IsSplitPoint}
 
 -- the page of a text, a level and a format
 abbrev pub page : List ℕ → ℕ → LineFormat → Page
@@ -34,3 +39,58 @@ page_trimmed text len level format t =
     let make_trimmed : Lines → Page = λ l. record { above = l.0; last = trim l.1; level = level; format = format } in
     let make_last : List ℕ → Page = λ k. record { above = e.above; last = k; level = level; format = format } in
     ap make e.short ∙ sym (ap make_trimmed e.whole ∙ ap make_last e.cut)
+
+-- whether the last line ends in a space, and whether there is no text
+pub space_by_len : (text : List ℕ) (len : ℕ) → IsTrimmedLen text len → ends_in_space (lines_of text).1 ≡ nat_lt len (length text)
+space_by_len text len t =
+    let e = ending text len t in
+    let same : nat_lt 0 (length text - len) ≡ nat_lt len (length text) = grind (arith, nat_tests) in
+    ap (λ l. ends_in_space l.1) e.whole ∙ e.space ∙ same
+
+not_zero : (n : ℕ) → (suc n == 0) ≡ false
+not_zero n = grind (arith, nat_tests)
+
+empty_by_text : (above : List (List ℕ)) (last : List ℕ) → is_empty_text above last ≡ is_empty_line (lines_text above last)
+empty_by_text [] last = refl
+empty_by_text (line ∷ above) last = some (lines_text above line)
+  where
+    some : (cs : List ℕ) → false ≡ is_empty_line (cs ++ (10 ∷ last))
+    some [] = refl
+    some (c ∷ cs) = refl
+
+pub empty_by_len : (text : List ℕ) → is_empty_text (lines_of text).0 (lines_of text).1 ≡ (length text == 0)
+empty_by_len text = empty_by_text (lines_of text).0 (lines_of text).1 ∙ ap is_empty_line (text_of_lines text) ∙ empty text
+  where
+    empty : (cs : List ℕ) → is_empty_line cs ≡ (length cs == 0)
+    empty [] = refl
+    empty (c ∷ cs) = sym (not_zero (length cs))
+
+-- Pages to which text was added.
+
+pub grown_none : {p : Page} → IsGrown p p
+grown_none {p} = record { added = []; text = sym (append-nil (page_text p)); level = refl }
+
+pub grown_then : {p q r : Page} → IsGrown p q → IsGrown q r → IsGrown p r
+grown_then {p} {q} {r} g h = record {
+  added = g.added ++ h.added;
+  text = h.text ∙ ap (λ t. t ++ h.added) g.text ∙ append_assoc (page_text p) g.added h.added;
+  level = h.level ∙ g.level;
+}
+
+-- in another format
+pub grown_format : {p q : Page} (r : Page) (format : LineFormat) → IsGrown p q → r ≡ q → IsGrown p (record r { format = format })
+grown_format {p} r format g e = let h = subst (IsGrown p) (sym e) g in record { added = h.added; text = h.text; level = h.level }
+
+pub grown_by : (bs added : List ℕ) (level : ℕ) (format : LineFormat) → IsGrown (page bs level format) (page (bs ++ added) level format)
+grown_by bs added level format = record { added = added; text = text_of_lines (bs ++ added) ∙ ap (λ t. t ++ added) (sym (text_of_lines bs)); level = refl }
+
+-- the text that was there is left where what was added is cut off
+pub grown_back : (bs cs : List ℕ) {l m : ℕ} {f g : LineFormat} (n : ℕ) → n ≡ length bs → IsGrown (page bs l f) (page cs m g) → take n cs ≡ bs
+grown_back bs cs n e h =
+    let whole : cs ≡ bs ++ h.added = sym (text_of_lines cs) ∙ h.text ∙ ap (λ t. t ++ h.added) (text_of_lines bs) in
+    ap (λ k. take k cs) e ∙ ap (take (length bs)) whole ∙ take-append_seam bs h.added
+
+pub grown_cut : (bs cs : List ℕ) {l m : ℕ} {f g : LineFormat} (n : ℕ) → IsUtf8 bs → IsUtf8 cs → n ≡ length bs → n ≤ length cs → IsGrown (page bs l f) (page cs m g) → IsSplitPoint cs n
+grown_cut bs cs n u v e le h =
+    let b = IsCharBoundary-from_take cs n v le (subst IsUtf8 (sym (grown_back bs cs n e h)) u) in
+    (b.0, λ some. b.1)

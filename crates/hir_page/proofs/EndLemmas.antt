@@ -1,11 +1,12 @@
 -- The end of a text: its trailing spaces and what stands before them.
-use Rattle.std.proofs.Common.{◌≡◌, ◌≢◌, ℕ, zero, suc, ◌+◌, ◌-◌, ◌<◌, ◌≤◌, Bool, true, false, List, [], ◌∷◌, ◌++◌, length, get_or, take, drop, take-append-drop, replicate, ◌==◌, ◌||◌, cond, refl, sym, ap, ap₂, ◌∙◌, arith, le_refl}
+use Rattle.std.proofs.Common.{◌≡◌, ◌≢◌, ℕ, zero, suc, ◌+◌, ◌-◌, ◌<◌, ◌≤◌, Bool, true, false, List, [], ◌∷◌, ◌++◌, length, get_or, take, drop, take-append-drop, replicate, ◌==◌, ◌||◌, cond, refl, sym, ap, ap₂, ◌∙◌, nat_lt, append-nil, arith, le_refl, ◌*◌, length-append}
 use Rattle.std.proofs.lemmas.Bool.Decides.{nat_tests}
 use Rattle.std.proofs.lemmas.Grind.{common_steps}
-use Rattle.std.proofs.lemmas.List.{drop_more, take_more, take_all}
-use Rattle.hir_page.specs.Buffer.{lines_of, HasNoEnd, IsTrimmedLen, EndsInLineEnd}
-use Rattle.hir_page.specs.Page.{Lines, cut_lines, is_blank, trim, ends_in_space, is_empty_line, is_empty_text}
+use Rattle.std.proofs.lemmas.List.{drop_more, take_more, take_all, drop-append-le, length-replicate, get_or_append_left, get_or-append-add, replicate-append-replicate}
+use Rattle.hir_page.specs.Buffer.{lines_of, HasNoEnd, IsTrimmedLen, EndsInLineEnd, level_of}
+use Rattle.hir_page.specs.Page.{Lines, cut_lines, is_blank, trim, ends_in_space, is_empty_line}
 use Rattle.hir_page.proofs.PageLemmas.{lines_of-plain, lines_of-end}
+use Rattle.std.proofs.Math.Seq.{drop-append-add}
 
 pub spaces_more : (text : List ℕ) (n : ℕ) → 0 < n → n ≤ length text → get_or text (n - 1) 0 ≡ 32 → drop n text ≡ replicate (length text - n) 32
     → drop (n - 1) text ≡ replicate (length text - (n - 1)) 32
@@ -43,6 +44,37 @@ trimmed_kept [] c n ne =
 trimmed_kept (d ∷ x) c n ne =
     ap (λ b. cond b [] (d ∷ trim ((x ++ (c ∷ [])) ++ replicate n 32))) (blank_not (d ∷ x) c n ne) ∙ ap (λ cs. d ∷ cs) (trimmed_kept x c n ne)
 
+-- a line that ends in a space, and one that doesn't
+ends_spaces : (x : List ℕ) (n : ℕ) → ends_in_space (x ++ replicate (suc n) 32) ≡ true
+ends_spaces [] zero = refl
+ends_spaces [] (suc n) = ends_spaces [] n
+ends_spaces (d ∷ []) n = ends_spaces [] n
+ends_spaces (d ∷ e ∷ x) n = ends_spaces (e ∷ x) n
+
+space_push : (x : List ℕ) (c : ℕ) → ends_in_space (x ++ (c ∷ [])) ≡ (c == 32)
+space_push [] c = refl
+space_push (d ∷ []) c = refl
+space_push (d ∷ e ∷ x) c = space_push (e ∷ x) c
+
+none_less : nat_lt 0 zero ≡ false
+none_less = grind (arith, nat_tests)
+
+some_more : (n : ℕ) → nat_lt 0 (suc n) ≡ true
+some_more n = grind (arith, nat_tests)
+
+space_if_some : (x : List ℕ) (n : ℕ) → ends_in_space x ≡ false → ends_in_space (x ++ replicate n 32) ≡ nat_lt 0 n
+space_if_some x zero e = ap ends_in_space (append-nil x) ∙ e ∙ sym none_less
+space_if_some x (suc n) e = ends_spaces x n ∙ sym (some_more n)
+
+pub unspaced_blank : (line : List ℕ) → ends_in_space line ≡ false → is_blank line ≡ is_empty_line line
+unspaced_blank [] e = refl
+unspaced_blank (c ∷ []) e = ap (λ b. cond b true false) e
+unspaced_blank (c ∷ d ∷ cs) e = ap (λ b. cond (c == 32) b false) (unspaced_blank (d ∷ cs) e) ∙ both (c == 32)
+  where
+    both : (b : Bool) → cond b false false ≡ false
+    both true = refl
+    both false = refl
+
 -- The lines of a text, by its trimmed length: the lines above, the last line without its trailing spaces, and what is known of it.
 pub record Ending (text : List ℕ) (len : ℕ) : Type 0 where
   pub above : List (List ℕ)
@@ -51,6 +83,7 @@ pub record Ending (text : List ℕ) (len : ℕ) : Type 0 where
   pub short : lines_of (take len text) ≡ (above, kept)
   pub blank : is_blank (kept ++ replicate (length text - len) 32) ≡ is_empty_line kept
   pub cut : trim (kept ++ replicate (length text - len) 32) ≡ kept
+  pub space : ends_in_space (kept ++ replicate (length text - len) 32) ≡ nat_lt 0 (length text - len)
   pub empty : is_empty_line kept ≡ ((len == 0) || (get_or text (len - 1) 0 == 10))
 
 module _ (text : List ℕ) (len : ℕ) (t : IsTrimmedLen text len) where
@@ -81,6 +114,7 @@ ending text zero t = record {
   short = lines_of-nil;
   blank = blank_spaces (length text - 0);
   cut = trimmed_spaces (length text - 0);
+  space = space_if_some [] (length text - 0) refl;
   empty = refl;
 }
 ending text (suc n) t = by_end (get_or text n 0 == 10) refl
@@ -109,6 +143,7 @@ ending text (suc n) t = by_end (get_or text n 0 == 10) refl
           short = short;
           blank = blank_spaces (length text - suc n);
           cut = trimmed_spaces (length text - suc n);
+          space = space_if_some [] (length text - suc n) refl;
           empty = empty_is [] true e refl;
         }
     by_end false e =
@@ -125,6 +160,7 @@ ending text (suc n) t = by_end (get_or text n 0 == 10) refl
           short = short;
           blank = blank_not lines.1 c (length text - suc n) no_space ∙ sym (empty_push lines.1 c);
           cut = trimmed_kept lines.1 c (length text - suc n) no_space;
+          space = space_if_some (lines.1 ++ (c ∷ [])) (length text - suc n) (space_push lines.1 c ∙ is_space c no_space);
           empty = empty_is (lines.1 ++ (c ∷ [])) false e (empty_push lines.1 c);
         }
 
@@ -161,37 +197,51 @@ cut_done (b ∷ bs) h =
 pub cut_more : (text : List ℕ) → EndsInLineEnd text → cut_lines (lines_of text).0 (lines_of text).1 ≡ (let l = lines_of (take (length text - 1) text) in cut_lines l.0 l.1)
 cut_more text e = ap (λ l. cut_lines l.0 l.1) (lines_at_end text e.0 e.1)
 
-pub space_push : (x : List ℕ) (c : ℕ) → ends_in_space (x ++ (c ∷ [])) ≡ (c == 32)
-space_push [] c = refl
-space_push (d ∷ []) c = refl
-space_push (d ∷ e ∷ x) c = space_push (e ∷ x) c
+-- The length of a text without its trailing spaces, as the text grows.
 
-pub not_empty_text : (above : List (List ℕ)) (last : List ℕ) → is_empty_line last ≡ false → is_empty_text above last ≡ false
-not_empty_text [] last e = e
-not_empty_text (line ∷ above) last e = refl
+-- spaces more
+pub kept_spaces : (text : List ℕ) (kept n : ℕ) → IsTrimmedLen text kept → IsTrimmedLen (text ++ replicate n 32) kept
+kept_spaces text kept n t =
+    let all : length (text ++ replicate n 32) ≡ length text + n = length-append text (replicate n 32) ∙ ap (λ k. length text + k) (length-replicate n 32) in
+    let within = t.within in
+    let count : (length text - kept) + n ≡ length (text ++ replicate n 32) - kept = omega arith in
+    record {
+      within = omega arith;
+      spaces = drop-append-le kept text (replicate n 32) t.within ∙ ap (λ d. d ++ replicate n 32) t.spaces ∙ replicate-append-replicate (length text - kept) n 32
+          ∙ ap (λ k. replicate k 32) count;
+      before = λ some. rw (get_or_append_left text (replicate n 32) 0 (kept - 1) (omega arith)) (t.before some);
+    }
 
--- what the last character of a text says of the last line
-abbrev pub Ends : List ℕ → Bool → Bool → Bool → Type 0
-Ends text none line space = let l = lines_of text in (is_empty_text l.0 l.1 ≡ none) × (is_empty_line l.1 ≡ line) × (ends_in_space l.1 ≡ space)
+-- a part more that doesn't hold spaces alone
+pub kept_part : (text part : List ℕ) (of_part : ℕ) → IsTrimmedLen part of_part → 0 < of_part → IsTrimmedLen (text ++ part) (length text + of_part)
+kept_part text part of_part t some =
+    let all = length-append text part in
+    let within = t.within in
+    let count : length part - of_part ≡ length (text ++ part) - (length text + of_part) = omega arith in
+    let last : (length text + of_part) - 1 ≡ length text + (of_part - 1) = omega arith in
+    record {
+      within = omega arith;
+      spaces = drop-append-add text part of_part ∙ t.spaces ∙ ap (λ k. replicate k 32) count;
+      before = λ _. rw (last, get_or-append-add text part (of_part - 1) 0) (t.before some);
+    }
 
-nil_of : (xs : List ℕ) → length xs ≡ 0 → xs ≡ []
-nil_of [] e = refl
-nil_of (x ∷ xs) e = absurd (omega arith)
+-- a part more that holds spaces alone
+pub kept_blank : (text part : List ℕ) (kept : ℕ) → IsTrimmedLen text kept → IsTrimmedLen part 0 → IsTrimmedLen (text ++ part) kept
+kept_blank text part kept t blank =
+    let spaces : part ≡ replicate (length part) 32 = blank.spaces ∙ ap (λ k. replicate k 32) (omega arith) in
+    rw spaces (kept_spaces text kept (length part) t)
 
-pub no_text : (text : List ℕ) → length text ≡ 0 → Ends text true true false
-no_text text e =
-    let is : lines_of text ≡ ([], []) = ap lines_of (nil_of text e) ∙ lines_of-nil in
-    (ap (λ (l : Lines). is_empty_text l.0 l.1) is, ap (λ (l : Lines). is_empty_line l.1) is, ap (λ (l : Lines). ends_in_space l.1) is)
+-- an indentation of so many levels
+pub level_is : (spaces : List ℕ) (level : ℕ) → spaces ≡ replicate (4 * level) 32 → level_of spaces ≡ level
+level_is spaces level e =
+    let count : length spaces ≡ 4 * level = ap length e ∙ length-replicate (4 * level) 32 in
+    omega arith
 
-pub after_end : (text : List ℕ) → 0 < length text → get_or text (length text - 1) 0 ≡ 10 → Ends text false true false
-after_end text some e =
-    let is = lines_at_end text some e in
-    (ap (λ (l : Lines). is_empty_text l.0 l.1) is, ap (λ (l : Lines). is_empty_line l.1) is, ap (λ (l : Lines). ends_in_space l.1) is)
-
-pub in_line : (text : List ℕ) (space : Bool) → 0 < length text → get_or text (length text - 1) 0 ≢ 10 → (get_or text (length text - 1) 0 == 32) ≡ space → Ends text false false space
-in_line text space some ne e =
-    let is = lines_in_line text some ne in
-    let before = (lines_of (take (length text - 1) text)).1 in
-    let c = get_or text (length text - 1) 0 in
-    let some_line : is_empty_line (lines_of text).1 ≡ false = ap (λ (l : Lines). is_empty_line l.1) is ∙ empty_push before c in
-    (not_empty_text (lines_of text).0 (lines_of text).1 some_line, some_line, ap (λ (l : Lines). ends_in_space l.1) is ∙ space_push before c ∙ e)
+pub indentation_more : (spaces : List ℕ) → spaces ≡ replicate (4 * level_of spaces) 32
+    → (spaces ++ replicate 4 32 ≡ replicate (4 * level_of (spaces ++ replicate 4 32)) 32) × (level_of (spaces ++ replicate 4 32) ≡ level_of spaces + 1)
+indentation_more spaces e =
+    let level = level_of spaces in
+    let sum : 4 * level + 4 ≡ 4 * (level + 1) = omega arith in
+    let more : spaces ++ replicate 4 32 ≡ replicate (4 * (level + 1)) 32 = ap (λ s. s ++ replicate 4 32) e ∙ replicate-append-replicate (4 * level) 4 32 ∙ ap (λ k. replicate k 32) sum in
+    let is = level_is (spaces ++ replicate 4 32) (level + 1) more in
+    (more ∙ ap (λ l. replicate (4 * l) 32) (sym is), is)

@@ -52,15 +52,19 @@ lone_char c = escaped_by (short_escape c) (long_escape c)
 abbrev pub byte_pieces : ℕ → List Piece
 byte_pieces b = escaped_by (escape_in_bytes b) (byte_escape b)
 
+-- pieces behind a double quote, and this text behind them
+abbrev pub quoted : List Piece → List ℕ → List Piece
+quoted ps end = Text (codes "\"") ∷ (ps ++ (Text end ∷ []))
+
 -- literals: a string by its text, a character, bytes, and a C string, whose closing 0 is written
 abbrev pub string_literal : List ℕ → List Piece
-string_literal text = Text (codes "\"") ∷ (flat_map string_char (chars text) ++ (Text (codes "\"") ∷ []))
+string_literal text = quoted (flat_map string_char (chars text)) (codes "\"")
 
 abbrev pub char_literal : ℕ → List Piece
 char_literal c = Text (codes "'") ∷ (lone_char c ++ (Text (codes "'") ∷ []))
 
 abbrev pub bytes_literal : List ℕ → List Piece
-bytes_literal bytes = Text (codes "\"") ∷ (flat_map byte_pieces bytes ++ (Text (codes "\"") ∷ []))
+bytes_literal bytes = quoted (flat_map byte_pieces bytes) (codes "\"")
 
 abbrev pub c_string_literal : List ℕ → List Piece
-c_string_literal bytes = Text (codes "\"") ∷ (flat_map byte_pieces bytes ++ (Text (codes "\\0\"") ∷ []))
+c_string_literal bytes = quoted (flat_map byte_pieces bytes) (codes "\\0\"")

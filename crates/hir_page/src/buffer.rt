@@ -1,10 +1,10 @@
 //! The one buffer of a printing: a text that is written at its end alone, and looks back over its last characters.
-ghost use Rattle.std.specs.Prelude.{◌≡◌, ◌≢◌, ◌<◌, ◌∷◌, [], ◌++◌, ◌+◌, ◌-◌, ◌*◌, replicate, OnOk, OnErr, IsTrue, ◌↔◌, string_bytes};
+ghost use Rattle.std.specs.Prelude.{◌≡◌, ◌∷◌, [], ◌++◌, ◌+◌, ◌-◌, ◌*◌, replicate, OnOk, OnErr, IsTrue, ◌↔◌, string_bytes};
 ghost use Rattle.hir_page.specs.Buffer.{HasNoEnd, IsTrimmedLen, IsCutText, EndsInLineEnd, IsGrown};
-ghost use Rattle.hir_page.specs.LastByte.{IsLastByte};
-ghost use Rattle.hir_page.specs.Page.{begin, on_new_line, indent, put, put_all, trim, with_space, line_ended, with_join, without_empty_lines, is_blank, empty_page, page_text, format_in_line, format_after_end};
+ghost use Rattle.hir_page.specs.Pieces as piece;
+ghost use Rattle.hir_page.specs.Page.{begin, on_new_line, indent, put, put_all, trim, with_space, ends_in_space, is_empty_text, line_ended, with_join, without_empty_lines, is_blank, empty_page, page_text, with_break, render, format_in_line, format_after_end};
 
-use crate::{LineFormat, PieceWriter};
+use crate::LineFormat;
 use std::alloc::{AllocError, Global};
 use std::marker::Model;
 
@@ -73,7 +73,7 @@ impl PageBuffer {
           above = self.old.last ∷ self.old.above;
           last = [];
         }) }
-        ensures err { OnErr result (self.new ≡ self.old) }
+        ensures grown { IsGrown self.old self.new }
     {
         self.text.push('\n')?;
         self.kept = self.text.len();
@@ -81,10 +81,12 @@ impl PageBuffer {
     }
 
     /// Adds characters to the last line, whatever the format.
+    // inlined, so that a text within a line, as four fifths are, calls nothing but the copy
     #[inline(always)]
     fn add(&mut self, part: &str) -> Result<(), AllocError>
         requires { HasNoEnd part.now }
         ensures ok { OnOk result (self.new ≡ record self.old { last = self.old.last ++ part.now }) }
+        ensures grown { IsGrown self.old self.new }
         ensures err { OnErr result (self.new ≡ self.old) }
     {
         let before = self.text.len();
@@ -96,69 +98,43 @@ impl PageBuffer {
         Ok(())
     }
 
-    /// Adds a character to the last line, whatever the format.
-    #[inline(always)]
-    fn add_byte(&mut self, byte: u8) -> Result<(), AllocError>
-        requires { (byte < 128) × (byte ≢ 10) }
-        ensures ok { OnOk result (self.new ≡ record self.old { last = self.old.last ++ (byte ∷ []) }) }
-        ensures err { OnErr result (self.new ≡ self.old) }
-    {
-        self.text.push(char::from(byte))?;
-        if byte != b' ' {
-            self.kept = self.text.len();
-        }
-        Ok(())
-    }
-
     /// Adds four spaces for each level.
     fn indent_line(&mut self) -> Result<(), AllocError>
         ensures ok { OnOk result (self.new ≡ indent self.old) }
-        ensures err { OnErr result (self.new ≡ self.old) }
+        ensures grown { IsGrown self.old self.new }
     {
         self.text.push_str(self.indentation.as_str())?;
         Ok(())
     }
 
-    /// Begins a line, unless the last is blank.
-    fn part_line(&mut self) -> Result<(), AllocError>
-        ensures ok { OnOk result (self.new ≡ on_new_line self.old) }
-        ensures err { OnErr result (self.new ≡ self.old) }
-    {
-        if !self.ends_in_blank_line() {
-            self.end_line()?;
-        }
-        Ok(())
-    }
-
     /// Begins a line, unless the last is blank, and indents it.
-    #[inline(never)]
     fn begin_line(&mut self) -> Result<(), AllocError>
         ensures ok { OnOk result (self.new ≡ indent (on_new_line self.old)) }
-        ensures err { OnErr result (IsGrown self.old self.new) }
+        ensures grown { IsGrown self.old self.new }
     {
-        self.part_line()?;
+        if self.ends_in_blank_line() {
+            return self.indent_line();
+        }
+        self.end_line()?;
         self.indent_line()
     }
 
     /// Begins a line, and indents it, if the next text has to begin one.
-    #[inline(always)]
     fn begin(&mut self) -> Result<(), AllocError>
         ensures ok { OnOk result (self.new ≡ begin self.old) }
-        ensures err { OnErr result (IsGrown self.old self.new) }
+        ensures grown { IsGrown self.old self.new }
     {
         match self.format {
-            LineFormat::Oneline => Ok(()),
-            LineFormat::Newline => Ok(()),
+            LineFormat::Oneline | LineFormat::Newline => Ok(()),
             LineFormat::Indentation => self.begin_line(),
         }
     }
 
     /// Writes text without a line end.
-    #[inline(always)]
     fn line(&mut self, line: &str) -> Result<(), AllocError>
         requires { HasNoEnd line.now }
         ensures ok { OnOk result (self.new ≡ put_all line.now self.old) }
-        ensures err { OnErr result (IsGrown self.old self.new) }
+        ensures grown { IsGrown self.old self.new }
     {
         if !line.is_empty() {
             self.begin()?;
@@ -168,60 +144,18 @@ impl PageBuffer {
         Ok(())
     }
 
-    /// Whether so many bytes go into the line that was begun, and the text has room for them.
-    #[inline(always)]
-    fn has_room(&self, bytes: usize) -> bool
+    /// Whether the next text goes on in the last line.
+    fn is_in_line(&self) -> bool
         ensures { IsTrue result → self.now.format ≡ format_in_line self.now.format }
     {
-        let in_line = match self.format {
-            LineFormat::Oneline => true,
-            LineFormat::Newline => true,
+        match self.format {
+            LineFormat::Oneline | LineFormat::Newline => true,
             LineFormat::Indentation => false,
-        };
-        in_line && bytes <= self.text.capacity() - self.text.len()
-    }
-
-    /// Writes text of one character, as most texts are. Where there is room for it, it calls nothing.
-    #[inline(never)]
-    fn character(&mut self, text: &str, byte: u8) -> Result<(), AllocError>
-        requires { text.now ≡ byte ∷ [] }
-        ensures ok { OnOk result (self.new ≡ put_all text.now self.old) }
-        ensures err { OnErr result (self.new ≡ self.old) }
-    {
-        if self.has_room(1) && is_plain(byte) {
-            return self.add_byte(byte);
         }
-        self.all_or_none(text)
-    }
-
-    /// Writes text of several characters. Most has two, three or four bytes: in an arm of its own their number is known to the
-    /// compiler, which copies them without a call.
-    #[inline(never)]
-    fn several(&mut self, text: &str) -> Result<(), AllocError>
-        ensures ok { OnOk result (self.new ≡ put_all text.now self.old) }
-        ensures err { OnErr result (self.new ≡ self.old) }
-    {
-        match text.len() {
-            2 => self.few(text),
-            3 => self.few(text),
-            4 => self.few(text),
-            _ => self.all_or_none(text),
-        }
-    }
-
-    /// Writes text of few characters. Where there is room for it, it calls nothing.
-    #[inline(always)]
-    fn few(&mut self, text: &str) -> Result<(), AllocError>
-        ensures ok { OnOk result (self.new ≡ put_all text.now self.old) }
-        ensures err { OnErr result (self.new ≡ self.old) }
-    {
-        if self.has_room(text.len()) && has_no_end(text.as_bytes()) {
-            return self.add(text);
-        }
-        self.all_or_none(text)
     }
 
     /// Writes text: all of it, or nothing where memory is refused.
+    // cold, so that the short way in `text` saves no registers for this one
     #[cold]
     #[inline(never)]
     fn all_or_none(&mut self, text: &str) -> Result<(), AllocError>
@@ -231,7 +165,7 @@ impl PageBuffer {
         let len = self.text.len();
         let kept = self.kept;
         let format = self.format;
-        let written = self.many(text);
+        let written = self.lines(text);
         if written.is_err() {
             self.text.truncate(len);
             self.kept = kept;
@@ -240,24 +174,10 @@ impl PageBuffer {
         written
     }
 
-    /// Writes text, which seldom has a line end.
-    #[inline(always)]
-    fn many(&mut self, text: &str) -> Result<(), AllocError>
-        ensures ok { OnOk result (self.new ≡ put_all text.now self.old) }
-        ensures err { OnErr result (IsGrown self.old self.new) }
-    {
-        if text.as_bytes().contains(&b'\n') {
-            return self.lines(text);
-        }
-        self.line(text)
-    }
-
     /// Writes text line by line.
-    #[cold]
-    #[inline(never)]
     fn lines(&mut self, text: &str) -> Result<(), AllocError>
         ensures ok { OnOk result (self.new ≡ put_all text.now self.old) }
-        ensures err { OnErr result (IsGrown self.old self.new) }
+        ensures grown { IsGrown self.old self.new }
     {
         let mut rest = text;
         while let Some((line, after)) = rest.split_once('\n') {
@@ -271,7 +191,7 @@ impl PageBuffer {
     /// Writes a line end.
     fn line_end(&mut self) -> Result<(), AllocError>
         ensures ok { OnOk result (self.new ≡ put 10 self.old) }
-        ensures err { OnErr result (IsGrown self.old self.new) }
+        ensures grown { IsGrown self.old self.new }
     {
         self.begin()?;
         self.end_line()?;
@@ -329,43 +249,18 @@ impl PageBuffer {
         }
     }
 
-    /// Adds a space, whatever the format.
-    fn add_space(&mut self) -> Result<(), AllocError>
-        ensures ok { OnOk result (self.new ≡ record self.old { last = self.old.last ++ (32 ∷ []) }) }
-        ensures err { OnErr result (self.new ≡ self.old) }
+    /// Whether the text is empty.
+    fn is_empty(&self) -> bool
+        ensures { result ≡ is_empty_text self.now.above self.now.last }
     {
-        self.text.push(' ')?;
-        Ok(())
+        self.text.is_empty()
     }
 
-    /// The last character, as far as layout asks for it.
-    fn last_byte(&self) -> LastByte
-        ensures { IsLastByte self.now result }
+    /// Whether the last line ends in a space.
+    fn ends_in_space(&self) -> bool
+        ensures { result ≡ ends_in_space self.now.last }
     {
-        let text = self.text.as_bytes();
-        let len = text.len();
-        if len == 0 {
-            return LastByte::Absent;
-        }
-        let last = text[len - 1];
-        if last == b'\n' {
-            return LastByte::LineEnd;
-        }
-        if last == b' ' {
-            return LastByte::Space;
-        }
-        LastByte::Other
-    }
-
-    /// Writes a soft space.
-    fn space(&mut self) -> Result<(), AllocError>
-        ensures ok { OnOk result (self.new ≡ with_space self.old) }
-        ensures err { OnErr result (self.new ≡ self.old) }
-    {
-        match self.last_byte() {
-            LastByte::Absent | LastByte::LineEnd | LastByte::Space => Ok(()),
-            LastByte::Other => self.add_space(),
-        }
+        self.kept < self.text.len()
     }
 
     /// Writes a break in one line.
@@ -373,10 +268,10 @@ impl PageBuffer {
         ensures ok { OnOk result (self.new ≡ with_join self.old) }
         ensures err { OnErr result (self.new ≡ self.old) }
     {
-        match self.last_byte() {
-            LastByte::Absent | LastByte::Space => Ok(()),
-            LastByte::LineEnd | LastByte::Other => self.add_space(),
+        if self.is_empty() || self.ends_in_space() {
+            return Ok(());
         }
+        self.add(" ")
     }
 
     /// Raises the level by one.
@@ -407,38 +302,46 @@ impl PageBuffer {
             self.kept = trimmed_len(self.text.as_bytes());
         }
     }
-}
 
-impl PieceWriter for PageBuffer {
-    ghost use Rattle.std.specs.Prelude.{◌≡◌};
-    ghost use Rattle.hir_page.specs.Page.{render};
-
-    ghost step = { λ page piece after. after ≡ render piece page };
-
-    ghost refuses = { λ page piece after. after ≡ page };
-
-    #[inline(always)]
-    fn text(&mut self, text: &str) -> Result<(), AllocError> {
-        match text.as_bytes() {
-            [] => Ok(()),
-            [byte] => self.character(text, *byte),
-            [_, _, ..] => self.several(text),
+    /// Writes text.
+    pub fn text(&mut self, text: &str) -> Result<(), AllocError>
+        ensures ok { OnOk result (self.new ≡ put_all text.now self.old) }
+        ensures err { OnErr result (self.new ≡ self.old) }
+    {
+        if self.is_in_line() && has_no_end(text.as_bytes()) {
+            return self.add(text);
         }
+        self.all_or_none(text)
     }
 
-    fn soft_space(&mut self) -> Result<(), AllocError> {
-        self.space()
+    /// Writes a soft space: a space, unless there is one or a line begins.
+    #[tactic(auto, using(crate::proofs::EndLemmas::unspaced_blank))]
+    pub fn soft_space(&mut self) -> Result<(), AllocError>
+        ensures ok { OnOk result (self.new ≡ with_space self.old) }
+        ensures err { OnErr result (self.new ≡ self.old) }
+    {
+        if self.ends_in_space() || self.ends_in_blank_line() {
+            return Ok(());
+        }
+        self.add(" ")
     }
 
-    fn line_break(&mut self) -> Result<(), AllocError> {
+    /// Ends the line, unless it is blank. In one line it writes a space, unless there is one.
+    pub fn line_break(&mut self) -> Result<(), AllocError>
+        ensures ok { OnOk result (self.new ≡ with_break self.old) }
+        ensures err { OnErr result (self.new ≡ self.old) }
+    {
         match self.format {
             LineFormat::Oneline => self.join(),
-            LineFormat::Newline => self.break_line(),
-            LineFormat::Indentation => self.break_line(),
+            LineFormat::Newline | LineFormat::Indentation => self.break_line(),
         }
     }
 
-    fn indent(&mut self) -> Result<(), AllocError> {
+    /// Raises the level and ends the line.
+    pub fn indent(&mut self) -> Result<(), AllocError>
+        ensures ok { OnOk result (self.new ≡ render piece.Indent self.old) }
+        ensures err { OnErr result (self.new ≡ self.old) }
+    {
         self.raise_level()?;
         let broken = self.line_break();
         if broken.is_err() {
@@ -447,20 +350,13 @@ impl PieceWriter for PageBuffer {
         broken
     }
 
-    fn outdent(&mut self) -> Result<(), AllocError> {
+    /// Lowers the level and removes empty last lines. It takes no memory.
+    pub fn outdent(&mut self)
+        ensures { self.new ≡ render piece.Outdent self.old }
+    {
         self.lower_level();
         self.cut_empty_lines();
-        Ok(())
     }
-}
-
-/// The last character of a text.
-#[derive(Clone, Copy)]
-enum LastByte {
-    Absent,
-    LineEnd,
-    Space,
-    Other,
 }
 
 /// How long the text is without its trailing spaces.
@@ -483,8 +379,7 @@ fn cut_line_ends(text: &mut String)
     }
 }
 
-/// Whether a text of few bytes is without a line end.
-#[inline(always)]
+/// Whether a text is without a line end.
 fn has_no_end(text: &[u8]) -> bool
     ensures { IsTrue result ↔ HasNoEnd text.now }
 {
@@ -503,12 +398,4 @@ fn ends_in_line_end(text: &[u8]) -> bool
 {
     let len = text.len();
     len > 0 && text[len - 1] == b'\n'
-}
-
-/// Whether a byte is a character above the line end in ASCII, as nearly all are. One comparison tells it.
-#[inline(always)]
-fn is_plain(byte: u8) -> bool
-    ensures { IsTrue result → (byte < 128) × (byte ≢ 10) }
-{
-    b'\n' < byte && byte < 128
 }

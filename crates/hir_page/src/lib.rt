@@ -5,7 +5,6 @@ mod buffer;
 mod laws;
 mod line_format;
 mod literals;
-mod piece_writer;
 
 pub use buffer::PageBuffer;
 pub use laws::formats_are_compared_by_kind;
@@ -14,4 +13,3 @@ pub use literals::{
     write_bytes_literal, write_c_string_literal, write_char_literal, write_number,
     write_string_literal,
 };
-pub use piece_writer::PieceWriter;

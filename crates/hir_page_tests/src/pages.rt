@@ -1,5 +1,5 @@
 //! Shapes of layout, in lines and in one line.
-use hir_page::{LineFormat, PageBuffer, PieceWriter, write_number};
+use hir_page::{LineFormat, PageBuffer, write_number};
 use std::alloc::{AllocError, Global};
 use std::test::Fail;
 
@@ -12,7 +12,7 @@ fn arguments_stand_in_lines(rt: HostRuntime) -> Result<(), Fail> {
     page.text("x")?;
     page.text(",")?;
     page.line_break()?;
-    page.outdent()?;
+    page.outdent();
     page.text(")")?;
     assert_eq!(rt; page.into_text().as_str(), "f(\n    x,\n)");
     Ok(())
@@ -27,7 +27,7 @@ fn elements_end_in_a_break(rt: HostRuntime) -> Result<(), Fail> {
     page.text(", ")?;
     page.text("b")?;
     page.text(", ")?;
-    page.outdent()?;
+    page.outdent();
     page.line_break()?;
     page.text("]")?;
     assert_eq!(rt; page.into_text().as_str(), "[\n    a, b,\n]");
@@ -44,10 +44,10 @@ fn match_in_a_repeat(page: &mut PageBuffer) -> Result<(), Fail> {
     page.text("y")?;
     page.text(" {")?;
     page.indent()?;
-    page.outdent()?;
+    page.outdent();
     page.text("}")?;
     page.line_break()?;
-    page.outdent()?;
+    page.outdent();
     page.line_break()?;
     page.text("]")?;
     Ok(())
@@ -70,7 +70,7 @@ fn at_a_level_that_line_keeps_its_spaces(rt: HostRuntime) -> Result<(), Fail> {
     page.text("{")?;
     page.indent()?;
     match_in_a_repeat(&mut page)?;
-    page.outdent()?;
+    page.outdent();
     page.text("}")?;
     assert_eq!(rt;
         page.into_text().as_str(),
@@ -90,7 +90,7 @@ fn record_stands_in_one_line(rt: HostRuntime) -> Result<(), Fail> {
     page.line_break()?;
     page.text("..")?;
     page.line_break()?;
-    page.outdent()?;
+    page.outdent();
     page.text("}")?;
     assert_eq!(rt; page.into_text().as_str(), "S { a, .. }");
     Ok(())
@@ -119,8 +119,8 @@ fn text_of_many_lines_is_indented(rt: HostRuntime) -> Result<(), Fail> {
     page.text("b\n\nc")?;
     page.soft_space()?;
     page.soft_space()?;
-    page.outdent()?;
-    page.outdent()?;
+    page.outdent();
+    page.outdent();
     page.line_break()?;
     page.text("d")?;
     assert_eq!(rt; page.into_text().as_str(), "a\n    b\n    \n    c\nd");
@@ -148,7 +148,7 @@ fn nest(page: &mut PageBuffer, depth: u32) -> Result<(), Fail> {
     page.text("_")?;
     for _ in 0..depth {
         page.line_break()?;
-        page.outdent()?;
+        page.outdent();
         page.text("}")?;
     }
     Ok(())

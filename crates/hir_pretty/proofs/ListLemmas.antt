@@ -1,23 +1,14 @@
 -- Lists with separators, and places of arguments.
-use Rattle.std.proofs.Common.{◌≡◌, ℕ, ◌+◌, ◌-◌, ◌<◌, ◌≤◌, ◌==◌, Bool, true, false, List, [], ◌∷◌, ◌++◌, length, map, drop, get_or, Option, Some, None, refl, sym, ap, ap₂, subst, ◌∙◌, append_assoc, append-nil, arith, codes, is_some}
-use Rattle.std.specs.Prelude.{nat_lt, Ok}
+use Rattle.std.proofs.Common.{◌≡◌, ℕ, ◌+◌, ◌-◌, ◌<◌, ◌≤◌, ◌==◌, Bool, true, false, List, [], ◌∷◌, ◌++◌, length, map, drop, get_or, Option, Some, None, refl, sym, ap, ap₂, subst, ◌∙◌, append_assoc, append-nil, arith, codes, is_some, nat_lt, Ok}
 use Rattle.std.specs.List.{enumerate_from, list_any}
 use Rattle.std.proofs.lemmas.Bool.{lt-ltb, true≢false}
 use Rattle.std.proofs.lemmas.List.{drop_all}
 use Rattle.hir_base.specs.declared.mod_path.PathKind.{PathKind}
-use Rattle.hir_base.specs.declared.mod_path.PathKind.TheVariants.{Plain, Super, Crate, Abs, DollarCrate}
-use Rattle.hir_generics.specs.declared.data.LifetimeParamData.{LifetimeParamData}
-use Rattle.hir_generics.specs.declared.predicate.WherePredicate.{WherePredicate}
-use Rattle.hir_generics.specs.declared.param.TypeOrConstParamData.{TypeOrConstParamData}
-use Rattle.hir_items.specs.declared.formals.Param.{Param}
-use Rattle.hir_items.specs.declared.signatures.FunctionParts.{FunctionParts}
+use Rattle.hir_base.specs.declared.mod_path.PathKind.TheVariants.{Plain}
+use Rattle.hir_generics.specs.declared.{data.LifetimeParamData.LifetimeParamData, predicate.WherePredicate.WherePredicate, param.TypeOrConstParamData.TypeOrConstParamData}
 use Rattle.hir_items.specs.Bodies.{formals_of}
-use Rattle.hir_printer.specs.Questions.{Setting}
-use Rattle.hir_printer.specs.Items.{Item, text, br, into, out, t, p, opt, when, join, comma_joined}
-use Rattle.hir_printer.specs.Names.{binding_items}
-use Rattle.hir_printer.specs.Paths.{colons_first}
-use Rattle.hir_printer.specs.Types.{type_param_items}
-use Rattle.hir_printer.specs.Printers.{following}
+use Rattle.hir_items.specs.declared.{formals.Param.Param, signatures.FunctionParts.FunctionParts}
+use Rattle.hir_printer.specs.Prelude.{Setting, Item, text, br, into, out, t, p, opt, when, join, comma_joined, binding_items, colons_first, type_param_items, following}
 use Rattle.hir_printer.proofs.ListLemmas.{drop_item, is_cons, following_append, following_joined}
 use Rattle.hir_printer.proofs.OrderLemmas.{cons_length}
 use Rattle.hir_pretty.specs.AddedItems.{marked_items}
@@ -57,10 +48,7 @@ no_where s (x ∷ xs) b e f = absurd (true≢false (sym f ∙ e ∙ cons_length 
 -- a path's kind, and its names
 pub kinds_first : (s : Setting) (kind : PathKind) → colons_first kind ≡ is_cons (kind_word s kind)
 kinds_first s Plain = refl
-kinds_first s (Super n) = refl
-kinds_first s Crate = refl
-kinds_first s Abs = refl
-kinds_first s (DollarCrate id) = refl
+kinds_first s kind = refl
 
 pub module_is : (s : Setting) (kind : PathKind) (names : List (List Item))
     → join (text (codes "::")) (kind_word s kind) ++ following (text (codes "::")) (colons_first kind) names ≡ join (text (codes "::")) (kind_word s kind ++ names)

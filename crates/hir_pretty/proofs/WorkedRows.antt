@@ -1,15 +1,13 @@
 -- Worked bodies, fields and signatures, and the texts that their pieces give.
-use Rattle.std.proofs.Common.{◌≡◌, ℕ, Bool, true, false, List, [], ◌∷◌, Option, Some, None, refl, codes, pos}
-use Rattle.std.specs.Prelude.{Result, Ok, Err}
+use Rattle.std.proofs.Common.{◌≡◌, ℕ, Bool, true, false, List, [], ◌∷◌, Option, Some, None, refl, codes, pos, Result, Ok, Err}
 use Rattle.std.specs.Fmt.{digits}
 use Rattle.hir_forest.specs.Height.{height}
 use Rattle.hir_forest.specs.declared.roots.Root.{Root}
 use Rattle.hir_base.specs.declared.hygiene.SyntaxContext.TheVariants as context
 use Rattle.hir_base.specs.declared.edition.Edition.TheVariants as edition
 use Rattle.hir_base.specs.declared.abi.ExternAbi.TheVariants as abi
-use Rattle.hir_base.specs.declared.defs.DefWithBodyId.{DefWithBodyId}
+use Rattle.hir_base.specs.declared.{defs.DefWithBodyId.DefWithBodyId, defs.NamedDef.NamedDef}
 use Rattle.hir_base.specs.declared.defs.DefWithBodyId.TheVariants as body
-use Rattle.hir_base.specs.declared.defs.NamedDef.{NamedDef}
 use Rattle.hir_base.specs.declared.defs.NamedDef.TheVariants as named
 use Rattle.hir_base.specs.declared.defs.VariantId.TheVariants as variant
 use Rattle.hir_base.specs.declared.defs.GenericDefId.TheVariants as generic
@@ -18,34 +16,27 @@ use Rattle.hir_path.specs.declared.path.Path.{Path}
 use Rattle.hir_path.specs.declared.path.Path.TheVariants as path
 use Rattle.hir_path.specs.declared.bound.TypeBound.TheVariants as bound
 use Rattle.hir_path.specs.declared.bound.TraitBoundModifier.TheVariants as modifier
-use Rattle.hir_node.specs.declared.binding.Binding.{Binding}
+use Rattle.hir_node.specs.declared.{binding.Binding.Binding, expr.Expr.Expr, pat.Pat.Pat, type_ref.TypeRef.TypeRef}
 use Rattle.hir_node.specs.declared.binding.BindingAnnotation.TheVariants as mode
 use Rattle.hir_node.specs.declared.literal.Literal.TheVariants as literal
-use Rattle.hir_node.specs.declared.expr.Expr.{Expr}
 use Rattle.hir_node.specs.declared.expr.Expr.TheVariants as expr
 use Rattle.hir_node.specs.declared.expr_types.Unsafe.TheVariants as unsafety
-use Rattle.hir_node.specs.declared.pat.Pat.{Pat}
-use Rattle.hir_node.specs.declared.type_ref.TypeRef.{TypeRef}
 use Rattle.hir_node.specs.declared.type_ref.TypeRef.TheVariants as type
 use Rattle.hir_generics.specs.declared.data.LifetimeBoundType.TheVariants as bound_type
 use Rattle.hir_generics.specs.declared.data.TypeParamProvenance.TheVariants as provenance
+use Rattle.hir_generics.specs.declared.param.TypeOrConstParamData.{TypeOrConstParamData}
 use Rattle.hir_generics.specs.declared.param.TypeOrConstParamData.TheVariants as param
 use Rattle.hir_generics.specs.declared.predicate.WherePredicate.TheVariants as predicate
 use Rattle.hir_faults.specs.Nodes.{Nodes}
 use Rattle.hir_faults.specs.Down.{value, rank, value_within}
-use Rattle.hir_expr_store.specs.Contents.{Contents}
-use Rattle.hir_expr_store.specs.SideTables.{no_side_tables}
-use Rattle.hir_expr_store.specs.declared.missing.Missing.{Missing}
+use Rattle.hir_expr_store.specs.{Contents.Contents, SideTables.no_side_tables}
+use Rattle.hir_printer.specs.Prelude.{Missing, Questions, Setting, Item, pieces, first_missing, text_of, item_list_pieces}
 use Rattle.hir_expr_store.specs.declared.missing.Missing.TheVariants as missing
 use Rattle.hir_items.specs.declared.signatures.FieldsShape.TheVariants as shape
 use Rattle.hir_items.specs.declared.signatures.RawVisibility.TheVariants as visibility
 use Rattle.hir_items.specs.Bodies.{BodyContents}
-use Rattle.hir_items.specs.Generics.{Generics, empty}
 use Rattle.hir_items.specs.declared.signatures.FunctionParts.{FunctionParts}
-use Rattle.hir_printer.specs.Questions.{Questions, Setting}
-use Rattle.hir_printer.specs.Items.{Item}
-use Rattle.hir_printer.specs.Pieces.{pieces, first_missing, text_of}
-use Rattle.hir_printer.specs.Pieces.{item_list_pieces}
+use Rattle.hir_items.specs.Generics.{Generics, empty}
 use Rattle.hir_pretty.specs.Bodies.{Parents, body_items}
 use Rattle.hir_pretty.specs.Variants.{variant_items, without_fields}
 use Rattle.hir_pretty.specs.Signatures.{function_items, struct_items, unimplemented_items}
@@ -107,61 +98,67 @@ only x = record { store = store (x ∷ []) [] [] (root 0 ∷ []); params = []; s
 abbrev of_enum_0 : Parents
 of_enum_0 id = Ok 0
 
+-- the text of items, and the first definition that is missing among them
+abbrev text_from : Contents → (Setting → List Item) → List ℕ
+text_from c items = let s = setting tables c in text_of s (item_list_pieces s (items s))
+
+abbrev missing_from : Questions → Contents → (Setting → List Item) → Option Missing
+missing_from tables c items = let s = setting tables c in first_missing (item_list_pieces s (items s))
+
 abbrev body_text : DefWithBodyId → BodyContents → List ℕ
-body_text owner b = let s = setting tables b.store in text_of s (item_list_pieces s (body_items s of_enum_0 owner b))
+body_text owner b = text_from b.store (λ s. body_items s of_enum_0 owner b)
 
-constant : body_text (body.ConstId 0) (only (var (codes "x"))) ≡ codes "const _ = x;"
+bodies :
+    (body_text (body.ConstId 0) (only (var (codes "x"))) ≡ codes "const _ = x;")
+    × (body_text (body.StaticId 0) (only (var (codes "x"))) ≡ codes "static S = x;")
+    × (body_text (body.VariantId 0) (only (expr.Literal (literal.Int (pos 1) None))) ≡ codes "enum E::V1")
+    × (body_text (body.FunctionId 0) (record {
+      store = store (var (codes "x") ∷ expr.Block None [] (Some 0) None unsafety.No ∷ []) [] (binding (codes "self") ∷ []) (root 1 ∷ []);
+      params = [];
+      self_param = Some (record { formal = 0; user_written = 0 });
+    }) ≡ codes "fn foo(self) {\n    x\n}")
 unfolding pieces value rank height digits
-constant = refl
+bodies = (refl, refl, refl, refl)
 
-of_static : body_text (body.StaticId 0) (only (var (codes "x"))) ≡ codes "static S = x;"
+-- what is missing first: the enum of a variant, and then its name; and fields
+first_is_missing :
+    ((let b = only (var (codes "x")) in missing_from no_tables b.store (λ s. body_items s (λ id. Err (missing.Variant id)) (body.VariantId 0) b)) ≡ Some (missing.Variant 0))
+    × ((let b = only (var (codes "x")) in missing_from no_tables b.store (λ s. body_items s of_enum_0 (body.VariantId 0) b)) ≡ Some (missing.Name (named.EnumId 0)))
+    × (missing_from tables (store [] [] [] []) (λ s. without_fields s of_enum_0 (variant.StructId 0)) ≡ Some (missing.Fields (variant.StructId 0)))
 unfolding pieces value rank height digits
-of_static = refl
+first_is_missing = (refl, refl, refl)
 
-of_variant : body_text (body.VariantId 0) (only (expr.Literal (literal.Int (pos 1) None))) ≡ codes "enum E::V1"
-unfolding pieces value rank height digits
-of_variant = refl
+abbrev of_name : List ℕ → Option ℕ → TypeOrConstParamData
+of_name name default = param.TypeParamData (record { name = Some name; default = default; provenance = provenance.TypeParamList })
 
-method : body_text (body.FunctionId 0) (record {
-  store = store (var (codes "x") ∷ expr.Block None [] (Some 0) None unsafety.No ∷ []) [] (binding (codes "self") ∷ []) (root 1 ∷ []);
-  params = [];
-  self_param = Some (record { formal = 0; user_written = 0 });
-}) ≡ codes "fn foo(self) {\n    x\n}"
+fields_and_structs :
+    ((let c = store [] (type_named (codes "u32") ∷ []) [] [] in text_from c (λ s. variant_items s of_enum_0 (variant.StructId 0) (record {
+      shape = shape.Record;
+      fields = record { name = codes "a"; type_ref = 0; visibility = visibility.Public; is_unsafe = false; default_value = None } ∷ [];
+      store = c;
+    }))) ≡ codes "struct S {\npub a: u32,\n}\n")
+    × ((let c = store [] [] [] [] in text_from c (λ s. struct_items s None (record {
+      name = codes "S";
+      generic_params = empty;
+      store = c;
+      is_fundamental = false;
+      shape = shape.Tuple;
+    }))) ≡ codes "struct S(...)\n;\n")
+    × ((let c = store (expr.Literal (literal.Int (pos 3) None) ∷ []) (type_named (codes "usize") ∷ type.Tuple [] ∷ type_named (codes "T") ∷ type_named (codes "Clone") ∷ []) [] [] in
+    text_from c (λ s. struct_items s (Some (record { c = true; align = Some 8; pack = None })) (record {
+      name = codes "S";
+      generic_params = record {
+        type_or_consts = of_name (codes "T") None ∷ param.ConstParamData (record { name = codes "C"; ty = 0; default = Some (record { expr = 0 }) }) ∷ of_name (codes "X") (Some 1) ∷ [];
+        lifetimes = record { name = codes "'a"; bound_type = bound_type.EarlyBound } ∷ [];
+        predicates = predicate.TypeBound None 2 (bound.Path 3 modifier.None) ∷ [];
+      };
+      store = c;
+      is_fundamental = true;
+      shape = shape.Unit;
+    }))) ≡ codes "#[repr(C)]\n#[repr(align(8))]\n#[fundamental]\nstruct S<'a, T, const C: usize = 3, X = ()>\nwhere\n    T: Clone\n;\n")
+    × (text_from (store [] [] [] []) (λ s. unimplemented_items (codes "EnumId") 5) ≡ codes "unimplemented EnumId(5)")
 unfolding pieces value rank height digits
-method = refl
-
--- what is missing first: the enum of the variant, and then its name
-no_variant : (let b = only (var (codes "x")) in let s = setting no_tables b.store in first_missing (item_list_pieces s (body_items s (λ id. Err (missing.Variant id)) (body.VariantId 0) b)))
-    ≡ Some (missing.Variant 0)
-unfolding pieces value rank height digits
-no_variant = refl
-
-no_enum : (let b = only (var (codes "x")) in let s = setting no_tables b.store in first_missing (item_list_pieces s (body_items s of_enum_0 (body.VariantId 0) b)))
-    ≡ Some (missing.Name (named.EnumId 0))
-unfolding pieces value rank height digits
-no_enum = refl
-
-fields : (let c = store [] (type_named (codes "u32") ∷ []) [] [] in let s = setting tables c in text_of s (item_list_pieces s (variant_items s of_enum_0 (variant.StructId 0) (record {
-  shape = shape.Record;
-  fields = record { name = codes "a"; type_ref = 0; visibility = visibility.Public; is_unsafe = false; default_value = None } ∷ [];
-  store = c;
-})))) ≡ codes "struct S {\npub a: u32,\n}\n"
-unfolding pieces value rank height digits
-fields = refl
-
-no_fields : (let s = setting tables (store [] [] [] []) in first_missing (item_list_pieces s (without_fields s of_enum_0 (variant.StructId 0)))) ≡ Some (missing.Fields (variant.StructId 0))
-unfolding pieces value rank height digits
-no_fields = refl
-
-tuple_struct : (let c = store [] [] [] [] in let s = setting tables c in text_of s (item_list_pieces s (struct_items s None (record {
-  name = codes "S";
-  generic_params = empty;
-  store = c;
-  is_fundamental = false;
-  shape = shape.Tuple;
-})))) ≡ codes "struct S(...)\n;\n"
-unfolding pieces value rank height digits
-tuple_struct = refl
+fields_and_structs = (refl, refl, refl, refl)
 
 abbrev function : Contents → Generics → List ℕ → FunctionParts
 function c generics params = record {
@@ -181,46 +178,19 @@ function c generics params = record {
 abbrev second_param : TypeRef
 second_param = type.TypeParam (record { parent = generic.FunctionId 0; local_id = 1 })
 
-impl_trait : (let c = store [] (second_param ∷ second_param ∷ type_named (codes "Trait") ∷ []) [] [] in let s = setting tables c in
-    text_of s (item_list_pieces s (function_items s (function c (record {
-      type_or_consts = param.TypeParamData (record { name = Some (codes "T"); default = None; provenance = provenance.TypeParamList })
-          ∷ param.TypeParamData (record { name = None; default = None; provenance = provenance.ArgumentImplTrait }) ∷ [];
+functions :
+    ((let c = store [] (second_param ∷ second_param ∷ type_named (codes "Trait") ∷ []) [] [] in text_from c (λ s. function_items s (function c (record {
+      type_or_consts = of_name (codes "T") None ∷ param.TypeParamData (record { name = None; default = None; provenance = provenance.ArgumentImplTrait }) ∷ [];
       lifetimes = [];
       predicates = predicate.TypeBound None 1 (bound.Path 2 modifier.None) ∷ [];
-    }) (0 ∷ []))))) ≡ codes "fn impl_trait_args<T, Param[1]>(Param[1])\nwhere\n    Param[1]: Trait\n {...}\n"
-unfolding pieces value rank height digits
-impl_trait = refl
-
-flags_and_places : (let c = store [] (type_named (codes "A") ∷ type_named (codes "B") ∷ []) [] [] in let s = setting tables c in
-    text_of s (item_list_pieces s (function_items s (record (function c empty (0 ∷ 1 ∷ [])) {
+    }) (0 ∷ [])))) ≡ codes "fn impl_trait_args<T, Param[1]>(Param[1])\nwhere\n    Param[1]: Trait\n {...}\n")
+    × ((let c = store [] (type_named (codes "A") ∷ type_named (codes "B") ∷ []) [] [] in text_from c (λ s. function_items s (record (function c empty (0 ∷ 1 ∷ [])) {
       name = codes "a";
       abi = abi.C;
       is_const = true;
       is_async = true;
       is_unsafe = true;
       legacy_const_indices = Some (1 ∷ []);
-    }))))
-    ≡ codes "const async unsafe extern \"C\" fn a(A, const: B) {...}\n"
+    }))) ≡ codes "const async unsafe extern \"C\" fn a(A, const: B) {...}\n")
 unfolding pieces value rank height digits
-flags_and_places = refl
-
-all_of_a_struct : (let c = store (expr.Literal (literal.Int (pos 3) None) ∷ []) (type_named (codes "usize") ∷ type.Tuple [] ∷ type_named (codes "T") ∷ type_named (codes "Clone") ∷ []) [] [] in
-    let s = setting tables c in text_of s (item_list_pieces s (struct_items s (Some (record { c = true; align = Some 8; pack = None })) (record {
-      name = codes "S";
-      generic_params = record {
-        type_or_consts = param.TypeParamData (record { name = Some (codes "T"); default = None; provenance = provenance.TypeParamList })
-            ∷ param.ConstParamData (record { name = codes "C"; ty = 0; default = Some (record { expr = 0 }) })
-            ∷ param.TypeParamData (record { name = Some (codes "X"); default = Some 1; provenance = provenance.TypeParamList }) ∷ [];
-        lifetimes = record { name = codes "'a"; bound_type = bound_type.EarlyBound } ∷ [];
-        predicates = predicate.TypeBound None 2 (bound.Path 3 modifier.None) ∷ [];
-      };
-      store = c;
-      is_fundamental = true;
-      shape = shape.Unit;
-    })))) ≡ codes "#[repr(C)]\n#[repr(align(8))]\n#[fundamental]\nstruct S<'a, T, const C: usize = 3, X = ()>\nwhere\n    T: Clone\n;\n"
-unfolding pieces value rank height digits
-all_of_a_struct = refl
-
-of_an_enum : (let s = setting tables (store [] [] [] []) in text_of s (item_list_pieces s (unimplemented_items (codes "EnumId") 5))) ≡ codes "unimplemented EnumId(5)"
-unfolding pieces digits
-of_an_enum = refl
+functions = (refl, refl)

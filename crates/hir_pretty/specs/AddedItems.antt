@@ -1,17 +1,10 @@
 -- Words of what is added beside the items of definitions.
-use Rattle.std.specs.Prelude.{ℕ, Bool, false, List, [], ◌∷◌, ◌++◌, get_or, codes, Option, Some, None, Result, Ok, Err}
-use Rattle.std.specs.Fmt.{decimal}
-use Rattle.hir_page.specs.Pieces.{Piece, Text}
-use Rattle.hir_printer.specs.Items.{Item, text, t, when}
+use Rattle.std.specs.Prelude.{ℕ, Bool, false, List, ◌++◌, get_or, codes, Option, Some, None, Result, Ok, Err}
+use Rattle.hir_printer.specs.Prelude.{Item, text, t, when}
 
 -- what the type of an argument is printed as where its place is marked
 abbrev pub marked_items : List Bool → ℕ × ℕ → List Item
 marked_items marks entry = when (get_or marks entry.0 false) (text (codes "const: ")) ++ t entry.1
-
--- the pieces for a signature that isn't printed
-abbrev pub unimplemented_pieces : List ℕ → ℕ → List Piece
-unimplemented_pieces kind id = Text (codes "unimplemented ") ∷ Text kind ∷ Text (codes "(")
-    ∷ Text (decimal id) ∷ Text (codes ")") ∷ []
 
 -- why there is no value
 abbrev pub error_of : {X E : Type 0} → Result X E → Option E

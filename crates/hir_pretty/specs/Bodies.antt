@@ -1,16 +1,11 @@
 -- What bodies are printed as.
-use Rattle.std.specs.Prelude.{ℕ, List, [], ◌∷◌, ◌++◌, map, Option, Some, None, Result, Ok, Err, codes, option_map}
-use Rattle.std.specs.Option.{option_to_list}
+use Rattle.std.specs.Prelude.{ℕ, List, [], ◌∷◌, ◌++◌, map, Option, Some, None, Result, Ok, Err, codes, option_map, option_to_list}
 use Rattle.hir_base.specs.declared.defs.DefWithBodyId.{DefWithBodyId}
 use Rattle.hir_base.specs.declared.defs.DefWithBodyId.TheVariants as body
 use Rattle.hir_base.specs.declared.defs.NamedDef.TheVariants as named
-use Rattle.hir_expr_store.specs.declared.missing.Missing.{Missing}
+use Rattle.hir_printer.specs.Prelude.{Missing, Setting, Item, Lacks, text, e, p, opt, comma_joined, binding_items, found_name}
 use Rattle.hir_items.specs.declared.formals.Param.{Param}
 use Rattle.hir_items.specs.Bodies.{BodyContents, formals_of, last_root}
-use Rattle.hir_printer.specs.Questions.{Setting}
-use Rattle.hir_printer.specs.Items.{Item, Lacks, text, e, p, opt, comma_joined}
-use Rattle.hir_printer.specs.Names.{binding_items}
-use Rattle.hir_printer.specs.Paths.{found_name}
 
 -- which enum each variant is of, where that is known
 abbrev pub Parents : Type 0
@@ -45,15 +40,12 @@ formal_params s self_binding formals = map (binding_items s) (option_to_list sel
 abbrev pub body_params : Setting → Option ℕ → List ℕ → DefWithBodyId → List Item
 body_params s self_binding formals (body.FunctionId id) =
     text (codes "(") ++ comma_joined (formal_params s self_binding formals) ++ text (codes ") ")
-body_params s self_binding formals (body.StaticId id) = []
-body_params s self_binding formals (body.ConstId id) = []
-body_params s self_binding formals (body.VariantId id) = []
+body_params s self_binding formals owner = []
 
 abbrev pub body_end : DefWithBodyId → List Item
 body_end (body.StaticId id) = text (codes ";")
 body_end (body.ConstId id) = text (codes ";")
-body_end (body.FunctionId id) = []
-body_end (body.VariantId id) = []
+body_end owner = []
 
 -- the binding of `self` and the patterns that are the parameters themselves, not those that the user wrote
 abbrev pub formal_self : Option (Param ℕ) → Option ℕ

@@ -1,16 +1,12 @@
 -- What the tables have that heads of definitions ask for: the enum of a variant, the fields of a variant, signatures.
-use Rattle.std.specs.Prelude.{ℕ, [], ◌∷◌, Option, Result}
-use Rattle.std.specs.Option.{option_map}
+use Rattle.std.specs.Prelude.{ℕ, [], ◌∷◌, Option, Result, option_map}
 use Rattle.std.specs.FinMap as map
 use Rattle.hir_base.specs.Keys.{fields_code}
 use Rattle.hir_base.specs.declared.defs.VariantId.{VariantId}
-use Rattle.hir_expr_store.specs.declared.missing.Missing.{Missing}
+use Rattle.hir_printer.specs.Prelude.{Missing, found_or}
 use Rattle.hir_expr_store.specs.declared.missing.Missing.TheVariants as missing
-use Rattle.hir_items.specs.declared.signatures.FunctionParts.{FunctionParts}
-use Rattle.hir_items.specs.declared.signatures.StructParts.{StructParts}
-use Rattle.hir_items.specs.declared.signatures.VariantParts.{VariantParts}
+use Rattle.hir_items.specs.declared.{signatures.FunctionParts.FunctionParts, signatures.StructParts.StructParts, signatures.VariantParts.VariantParts}
 use Rattle.hir_defs.specs.Lookups.{Tables}
-use Rattle.hir_printer.specs.Answers.{found_or}
 
 abbrev pub parents : Tables → ℕ → Result ℕ Missing
 parents t id = found_or (missing.Variant id) (map.get t.variant_parents (id ∷ []))

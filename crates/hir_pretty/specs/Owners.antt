@@ -1,22 +1,15 @@
 -- What printing the signature of any definition answers.
-use Rattle.std.specs.Prelude.{◌≡◌, ℕ, false, List, [], ◌∷◌, Option, Some, None, Result, Err, codes}
-use Rattle.std.specs.Prelude.{String}
+use Rattle.std.specs.Prelude.{◌≡◌, ℕ, false, List, [], ◌∷◌, Option, Some, None, Result, Err, codes, String}
 use Rattle.std.specs.FinMap as map
-use Rattle.hir_base.specs.declared.defs.AdtId.{AdtId}
+use Rattle.hir_base.specs.declared.{defs.AdtId.AdtId, defs.GenericDefId.GenericDefId}
 use Rattle.hir_base.specs.declared.defs.AdtId.TheVariants as adt
-use Rattle.hir_base.specs.declared.defs.GenericDefId.{GenericDefId}
 use Rattle.hir_base.specs.declared.defs.GenericDefId.TheVariants as generic
 use Rattle.hir_expr_store.specs.declared.missing.Missing.TheVariants as missing
-use Rattle.hir_items.specs.declared.signatures.FunctionParts.{FunctionParts}
-use Rattle.hir_items.specs.declared.signatures.StructParts.{StructParts}
+use Rattle.hir_items.specs.declared.{signatures.FunctionParts.FunctionParts, signatures.StructParts.StructParts}
 use Rattle.hir_defs.specs.Lookups.{Tables}
 use Rattle.hir_printer.specs.declared.fault.PrintFault.{PrintFault}
 use Rattle.hir_printer.specs.declared.fault.PrintFault.TheVariants as fault
-use Rattle.hir_printer.specs.Questions.{Setting}
-use Rattle.hir_printer.specs.Settings.{setting}
-use Rattle.hir_printer.specs.Answers.{answers}
-use Rattle.hir_printer.specs.PrintAnswers.{PrintsPieces}
-use Rattle.hir_printer.specs.Pieces.{item_list_pieces}
+use Rattle.hir_printer.specs.Prelude.{Setting, setting, answers, PrintsPieces, item_list_pieces}
 use Rattle.hir_pretty.specs.FoundParts.{function_found, struct_found}
 use Rattle.hir_pretty.specs.Signatures.{function_items, struct_items, unimplemented_items}
 

@@ -1,29 +1,19 @@
 -- What the signatures of functions and structs are printed as.
-use Rattle.std.specs.Prelude.{ℕ, Bool, true, false, ◌||◌, ◌==◌, List, [], ◌∷◌, ◌++◌, map, Option, Some, None, codes}
+use Rattle.std.specs.Prelude.{ℕ, Bool, true, false, ◌||◌, ◌==◌, List, [], ◌∷◌, ◌++◌, map, Option, Some, None, codes, decimal}
 use Rattle.std.specs.List.{enumerate_from, list_any}
-use Rattle.std.specs.Fmt.{decimal}
 use Rattle.hir_base.specs.Abi.{abi_text}
-use Rattle.hir_base.specs.declared.abi.ExternAbi.{ExternAbi}
+use Rattle.hir_base.specs.declared.{abi.ExternAbi.ExternAbi, defs.AdtId.AdtId, defs.GenericDefId.GenericDefId}
 use Rattle.hir_base.specs.declared.abi.ExternAbi.TheVariants as abi
-use Rattle.hir_base.specs.declared.defs.AdtId.{AdtId}
 use Rattle.hir_base.specs.declared.defs.AdtId.TheVariants as adt
-use Rattle.hir_base.specs.declared.defs.GenericDefId.{GenericDefId}
 use Rattle.hir_base.specs.declared.defs.GenericDefId.TheVariants as generic
-use Rattle.hir_generics.specs.declared.data.LifetimeParamData.{LifetimeParamData}
-use Rattle.hir_generics.specs.declared.param.TypeOrConstParamData.{TypeOrConstParamData}
+use Rattle.hir_generics.specs.declared.{data.LifetimeParamData.LifetimeParamData, param.TypeOrConstParamData.TypeOrConstParamData, predicate.WherePredicate.WherePredicate}
 use Rattle.hir_generics.specs.declared.param.TypeOrConstParamData.TheVariants as param
-use Rattle.hir_generics.specs.declared.predicate.WherePredicate.{WherePredicate}
 use Rattle.hir_generics.specs.declared.predicate.WherePredicate.TheVariants as predicate
 use Rattle.hir_items.specs.Generics.{Generics}
-use Rattle.hir_items.specs.declared.signatures.FieldsShape.{FieldsShape}
+use Rattle.hir_items.specs.declared.{signatures.FieldsShape.FieldsShape, signatures.FunctionParts.FunctionParts, signatures.StructParts.StructParts}
 use Rattle.hir_items.specs.declared.signatures.FieldsShape.TheVariants as shape
-use Rattle.hir_items.specs.declared.signatures.FunctionParts.{FunctionParts}
-use Rattle.hir_items.specs.declared.signatures.StructParts.{StructParts}
 use Rattle.hir_defs.specs.declared.plain_def.Repr.{Repr}
-use Rattle.hir_printer.specs.Questions.{Setting}
-use Rattle.hir_printer.specs.Items.{Item, text, br, into, out, e, t, opt, when, join, comma_joined, with_number}
-use Rattle.hir_printer.specs.Names.{name_items, l}
-use Rattle.hir_printer.specs.Paths.{bound_items, for_names}
+use Rattle.hir_printer.specs.Prelude.{Setting, Item, text, br, into, out, e, t, opt, when, join, comma_joined, with_number, name_items, l, bound_items, for_names}
 
 -- 1. Generic parameters
 
@@ -78,11 +68,7 @@ quoted_abi abi = text (codes "extern \"") ++ text (abi_text abi) ++ text (codes 
 
 abbrev pub abi_items : ExternAbi → List Item
 abi_items abi.Rust = []
-abi_items abi.C = quoted_abi abi.C
-abi_items abi.CUnwind = quoted_abi abi.CUnwind
-abi_items abi.System = quoted_abi abi.System
-abi_items abi.SystemUnwind = quoted_abi abi.SystemUnwind
-abi_items (abi.Named name) = quoted_abi (abi.Named name)
+abi_items other = quoted_abi other
 
 -- whether the argument in this place is given to a constant parameter
 abbrev pub is_listed : Option (List ℕ) → ℕ → Bool
@@ -131,8 +117,7 @@ shape_begin shape.Unit = []
 
 abbrev pub shape_end : FieldsShape → List Item
 shape_end shape.Record = br
-shape_end shape.Tuple = text (codes ";") ++ br
-shape_end shape.Unit = text (codes ";") ++ br
+shape_end other = text (codes ";") ++ br
 
 abbrev pub struct_front : Setting → Option Repr → StructParts → List Item
 struct_front s repr x =

@@ -1,28 +1,16 @@
 -- What structs, unions and variants of enums are printed as, with their fields.
-use Rattle.std.specs.Prelude.{◌≡◌, ℕ, Bool, List, [], ◌∷◌, ◌++◌, map, Some, codes}
-use Rattle.std.specs.List.{flat_map}
+use Rattle.std.specs.Prelude.{◌≡◌, ℕ, Bool, List, [], ◌∷◌, ◌++◌, map, Some, codes, flat_map}
 use Rattle.hir_base.specs.ModPath.{ModPath}
+use Rattle.hir_base.specs.declared.{defs.VariantId.VariantId, mod_path.PathKind.PathKind}
 use Rattle.hir_base.specs.declared.defs.NamedDef.TheVariants as named
-use Rattle.hir_base.specs.declared.defs.VariantId.{VariantId}
 use Rattle.hir_base.specs.declared.defs.VariantId.TheVariants as variant
-use Rattle.hir_base.specs.declared.mod_path.PathKind.{PathKind}
 use Rattle.hir_base.specs.declared.mod_path.PathKind.TheVariants.{Plain, Super, Crate, Abs, DollarCrate}
 use Rattle.hir_expr_store.specs.Contents.{Contents}
-use Rattle.hir_expr_store.specs.declared.missing.Missing.{Missing}
+use Rattle.hir_printer.specs.Prelude.{Missing, Questions, Setting, setting, first_missing, item_list_pieces, Item, Lacks, text, br, t, when, join, name_items, found_name, supers}
 use Rattle.hir_expr_store.specs.declared.missing.Missing.TheVariants as missing
-use Rattle.hir_items.specs.declared.signatures.FieldData.{FieldData}
-use Rattle.hir_items.specs.declared.signatures.FieldsShape.{FieldsShape}
+use Rattle.hir_items.specs.declared.{signatures.FieldData.FieldData, signatures.FieldsShape.FieldsShape, signatures.RawVisibility.RawVisibility, signatures.VariantParts.VariantParts}
 use Rattle.hir_items.specs.declared.signatures.FieldsShape.TheVariants as shape
-use Rattle.hir_items.specs.declared.signatures.RawVisibility.{RawVisibility}
 use Rattle.hir_items.specs.declared.signatures.RawVisibility.TheVariants as visibility
-use Rattle.hir_items.specs.declared.signatures.VariantParts.{VariantParts}
-use Rattle.hir_printer.specs.Questions.{Questions, Setting}
-use Rattle.hir_printer.specs.Settings.{setting}
-use Rattle.hir_printer.specs.Pieces.{first_missing}
-use Rattle.hir_printer.specs.Pieces.{item_list_pieces}
-use Rattle.hir_printer.specs.Items.{Item, Lacks, text, br, t, when, join}
-use Rattle.hir_printer.specs.Names.{name_items}
-use Rattle.hir_printer.specs.Paths.{found_name, supers}
 use Rattle.hir_pretty.specs.Bodies.{Parents, variant_name}
 
 -- The path of a module: its kind and its names, separated by `::`

@@ -2,15 +2,8 @@
 #![tactic(auto, using(hir_printer::proofs::AddLemmas::adding))]
 
 ghost use Rattle.std.specs.Prelude.{◌≡◌, OnOk, false};
-ghost use Rattle.hir_base.specs.RawWords.{words_of};
+ghost use Rattle.hir_printer.specs.Prelude.{words_of, setting, opt, comma_joined, binding_items, answers, PrintsPieces, item_list_pieces, Adds};
 ghost use Rattle.hir_items.specs.Bodies.{formals_of};
-ghost use Rattle.hir_printer.specs.Settings.{setting};
-ghost use Rattle.hir_printer.specs.Items.{opt, comma_joined};
-ghost use Rattle.hir_printer.specs.Names.{binding_items};
-ghost use Rattle.hir_printer.specs.Answers.{answers};
-ghost use Rattle.hir_printer.specs.PrintAnswers.{PrintsPieces};
-ghost use Rattle.hir_printer.specs.Pieces.{item_list_pieces};
-ghost use Rattle.hir_printer.specs.Printers.{Adds};
 ghost use Rattle.hir_pretty.specs.Bodies.{formal_self, formal_params, body_params, body_end, body_items};
 ghost use Rattle.hir_pretty.specs.FoundParts.{parents};
 

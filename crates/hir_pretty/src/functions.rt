@@ -1,16 +1,9 @@
 //! Signatures of functions as text.
 #![tactic(auto, using(hir_printer::proofs::AddLemmas::adding))]
 
-ghost use Rattle.std.specs.Prelude.{◌≡◌, ◌<◌, ◌==◌, ◌++◌, OnOk, IfOk, map, ℕ, length, Some, get_or, false, codes};
+ghost use Rattle.std.specs.Prelude.{◌≡◌, ◌<◌, ◌==◌, ◌++◌, OnOk, IfOk, map, ℕ, length, Some, get_or, false, codes, option_map};
 ghost use Rattle.std.specs.List.{enumerate_from, list_any};
-ghost use Rattle.std.specs.Option.{option_map};
-ghost use Rattle.hir_base.specs.RawWords.{words_of};
-ghost use Rattle.hir_printer.specs.Settings.{setting};
-ghost use Rattle.hir_printer.specs.Items.{text, comma_joined};
-ghost use Rattle.hir_printer.specs.Answers.{answers};
-ghost use Rattle.hir_printer.specs.PrintAnswers.{PrintsPieces};
-ghost use Rattle.hir_printer.specs.Pieces.{item_list_pieces};
-ghost use Rattle.hir_printer.specs.Printers.{Adds};
+ghost use Rattle.hir_printer.specs.Prelude.{words_of, setting, text, comma_joined, answers, PrintsPieces, item_list_pieces, Adds};
 ghost use Rattle.hir_pretty.specs.AddedItems.{marked_items};
 ghost use Rattle.hir_pretty.specs.Signatures.{abi_items, arguments, flags, function_front, function_types, function_items};
 

@@ -3,8 +3,7 @@
 
 ghost use Rattle.std.specs.Prelude.{◌++◌, OnOk, codes, false};
 ghost use Rattle.std.specs.List.{enumerate_from};
-ghost use Rattle.hir_printer.specs.Items.{text, e, opt, comma_joined};
-ghost use Rattle.hir_printer.specs.Printers.{Adds, following};
+ghost use Rattle.hir_printer.specs.Prelude.{text, e, opt, comma_joined, Adds, following};
 ghost use Rattle.hir_pretty.specs.Signatures.{generic_param_items, each_lifetime, each_type_or_const, each_param, generics_items, predicate_items, where_items};
 
 use hir_base::Name;

@@ -2,13 +2,8 @@
 #![tactic(auto, using(hir_printer::proofs::AddLemmas::adding))]
 
 ghost use Rattle.std.specs.Prelude.{◌≡◌, ◌++◌, OnOk, Ok, codes, Bool, List, ℕ};
-ghost use Rattle.hir_printer.specs.Items.{text};
-ghost use Rattle.hir_printer.specs.Paths.{found_name};
-ghost use Rattle.hir_printer.specs.Answers.{answers};
+ghost use Rattle.hir_printer.specs.Prelude.{text, found_name, answers, setting, item_list_pieces, first_missing, Adds};
 ghost use Rattle.hir_expr_store.specs.Contents.{Contents};
-ghost use Rattle.hir_printer.specs.Settings.{setting};
-ghost use Rattle.hir_printer.specs.Pieces.{item_list_pieces, first_missing};
-ghost use Rattle.hir_printer.specs.Printers.{Adds};
 ghost use Rattle.hir_pretty.specs.AddedItems.{error_of};
 ghost use Rattle.hir_pretty.specs.Bodies.{variant_name, body_head, of_enum};
 ghost use Rattle.hir_pretty.specs.Variants.{variant_head};

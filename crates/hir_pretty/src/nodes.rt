@@ -1,13 +1,9 @@
 //! Expressions, patterns and paths of a store as text.
 
 ghost use Rattle.std.specs.Prelude.{◌<◌, false, IsTrue, length};
-ghost use Rattle.hir_base.specs.RawWords.{words_of};
+ghost use Rattle.hir_printer.specs.Prelude.{words_of, setting, pieces, path_pieces, PrintsPieces, answers};
 ghost use Rattle.hir_node.specs.declared.node_id.NodeId.TheVariants as node;
 ghost use Rattle.hir_faults.specs.Fits.{path_fits};
-ghost use Rattle.hir_printer.specs.Settings.{setting};
-ghost use Rattle.hir_printer.specs.Pieces.{pieces, path_pieces};
-ghost use Rattle.hir_printer.specs.PrintAnswers.{PrintsPieces};
-ghost use Rattle.hir_printer.specs.Answers.{answers};
 
 use hir_base::{Edition, ExpressionStoreOwnerId};
 use hir_defs::Tables;

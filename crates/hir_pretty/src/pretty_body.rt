@@ -1,13 +1,9 @@
 //! Methods of a body that print it.
 
 ghost use Rattle.std.specs.Prelude.{◌<◌, false, length};
-ghost use Rattle.hir_base.specs.RawWords.{words_of};
+ghost use Rattle.hir_printer.specs.Prelude.{words_of, setting, pieces, item_list_pieces, answers, PrintsPieces};
 ghost use Rattle.hir_node.specs.declared.node_id.NodeId.TheVariants as node;
 ghost use Rattle.hir_items.specs.Bodies.{BodyContents};
-ghost use Rattle.hir_printer.specs.Settings.{setting};
-ghost use Rattle.hir_printer.specs.Pieces.{pieces, item_list_pieces};
-ghost use Rattle.hir_printer.specs.Answers.{answers};
-ghost use Rattle.hir_printer.specs.PrintAnswers.{PrintsPieces};
 ghost use Rattle.hir_pretty.specs.Bodies.{body_items};
 ghost use Rattle.hir_pretty.specs.FoundParts.{parents};
 

@@ -1,47 +1,33 @@
 //! Signatures of any definition as text.
 #![tactic(auto, using(crate::proofs::OtherLemmas::others))]
 
-ghost use Rattle.std.specs.Prelude.{is_ok};
-ghost use Rattle.hir_base.specs.RawWords.{words_of};
-ghost use Rattle.hir_page.specs.Writes.{Writes};
+ghost use Rattle.hir_printer.specs.Prelude.{words_of};
 ghost use Rattle.hir_pretty.specs.FoundParts.{function_found, struct_found};
 ghost use Rattle.hir_pretty.specs.Owners.{PrintsFunction, PrintsStruct, PrintsOther, PrintsAdt, PrintsSignature};
-ghost use Rattle.hir_pretty.specs.AddedItems.{unimplemented_pieces};
 
 use crate::functions::print_function;
 use crate::structs::print_struct;
 use hir_base::{AdtId, Edition, FunctionId, GenericDefId, StructId};
 use hir_defs::Tables;
-use hir_page::{LineFormat, PageBuffer, PieceWriter, write_number};
-use hir_printer::PrintFault;
-use std::alloc::{AllocError, Global};
-
-/// Writes that the signature of a definition of this kind isn't printed.
-fn write_unimplemented<W: PieceWriter>(
-    writer: &mut W,
-    kind: &str,
-    id: u32,
-) -> Result<(), AllocError>
-    ensures { Writes W.step W.refuses writer.old (unimplemented_pieces kind.now id)
-        (is_ok result) writer.new }
-{
-    writer.text("unimplemented ")?;
-    writer.text(kind)?;
-    writer.text("(")?;
-    write_number(writer, id)?;
-    writer.text(")")?;
-    Ok(())
-}
+use hir_expr_store::ExpressionStore;
+use hir_printer::{PrintFault, Printer, Work};
+use std::alloc::Global;
 
 /// The text for a definition whose signature isn't printed.
-fn print_other(alloc: Global, kind: &str, id: u32) -> Result<String, PrintFault>
+fn print_other(
+    alloc: Global,
+    tables: &Tables,
+    kind: &str,
+    id: u32,
+    edition: Edition,
+) -> Result<String, PrintFault>
     ensures { PrintsOther kind.now id result }
 {
-    let mut page = PageBuffer::new(alloc, LineFormat::Newline);
-    match write_unimplemented(&mut page, kind, id) {
-        Ok(()) => Ok(page.into_text()),
-        Err(_) => Err(PrintFault::Memory),
-    }
+    let store = ExpressionStore::empty(alloc);
+    let mut printer = Printer::new(alloc, &store, tables, edition, false);
+    printer.add(&[Work::Text("unimplemented ")])?;
+    printer.add_numbered(kind, id)?;
+    printer.print()
 }
 
 fn print_function_of(
@@ -84,8 +70,8 @@ fn print_adt(
 {
     match owner {
         AdtId::StructId(id) => print_struct_of(alloc, tables, id, edition),
-        AdtId::UnionId(id) => print_other(alloc, "UnionId", id.into_raw()),
-        AdtId::EnumId(id) => print_other(alloc, "EnumId", id.into_raw()),
+        AdtId::UnionId(id) => print_other(alloc, tables, "UnionId", id.into_raw(), edition),
+        AdtId::EnumId(id) => print_other(alloc, tables, "EnumId", id.into_raw(), edition),
     }
 }
 
@@ -104,11 +90,23 @@ pub fn print_signature(
 {
     match owner {
         GenericDefId::AdtId(id) => print_adt(alloc, tables, id, edition),
-        GenericDefId::ConstId(id) => print_other(alloc, "ConstId", id.into_raw()),
+        GenericDefId::ConstId(id) => print_other(alloc, tables, "ConstId", id.into_raw(), edition),
         GenericDefId::FunctionId(id) => print_function_of(alloc, tables, id, edition),
-        GenericDefId::ImplId(id) => print_other(alloc, "ImplId", id.into_raw()),
-        GenericDefId::StaticId(id) => print_other(alloc, "StaticId", id.into_raw()),
-        GenericDefId::TraitId(id) => print_other(alloc, "TraitId", id.into_raw()),
-        GenericDefId::TypeAliasId(id) => print_other(alloc, "TypeAliasId", id.into_raw()),
+        GenericDefId::ImplId(id) => print_other(alloc, tables, "ImplId", id.into_raw(), edition),
+        GenericDefId::StaticId(id) => print_other(
+            alloc,
+            tables,
+            "StaticId",
+            id.into_raw(),
+            edition,
+        ),
+        GenericDefId::TraitId(id) => print_other(alloc, tables, "TraitId", id.into_raw(), edition),
+        GenericDefId::TypeAliasId(id) => print_other(
+            alloc,
+            tables,
+            "TypeAliasId",
+            id.into_raw(),
+            edition,
+        ),
     }
 }

@@ -1,16 +1,9 @@
 //! Signatures of structs as text.
 #![tactic(auto, using(hir_printer::proofs::AddLemmas::adding))]
 
-ghost use Rattle.std.specs.Prelude.{◌++◌, ◌∷◌, [], OnOk, codes, Some, false};
-ghost use Rattle.std.specs.Fmt.{decimal};
+ghost use Rattle.std.specs.Prelude.{◌++◌, ◌∷◌, [], OnOk, codes, Some, false, decimal};
 ghost use Rattle.std.specs.FinMap as map;
-ghost use Rattle.hir_base.specs.RawWords.{words_of};
-ghost use Rattle.hir_printer.specs.Settings.{setting};
-ghost use Rattle.hir_printer.specs.Items.{text, br, opt, when};
-ghost use Rattle.hir_printer.specs.Answers.{answers};
-ghost use Rattle.hir_printer.specs.PrintAnswers.{PrintsPieces};
-ghost use Rattle.hir_printer.specs.Pieces.{item_list_pieces};
-ghost use Rattle.hir_printer.specs.Printers.{Adds};
+ghost use Rattle.hir_printer.specs.Prelude.{words_of, setting, text, br, opt, when, answers, PrintsPieces, item_list_pieces, Adds};
 ghost use Rattle.hir_pretty.specs.Signatures.{repr_items, shape_begin, shape_end, struct_front, struct_items};
 
 use crate::generics::{add_generics, add_where};

@@ -2,14 +2,8 @@
 #![tactic(auto, using(hir_printer::proofs::AddLemmas::adding))]
 
 ghost use Rattle.std.specs.Prelude.{◌≡◌, OnOk, codes, false, IfSome, IfOk, IfErr, Some, None};
-ghost use Rattle.hir_base.specs.RawWords.{words_of};
+ghost use Rattle.hir_printer.specs.Prelude.{words_of, setting, text, join, answers, PrintsPieces, item_list_pieces, Adds};
 ghost use Rattle.hir_expr_store.specs.Contents.{Contents};
-ghost use Rattle.hir_printer.specs.Settings.{setting};
-ghost use Rattle.hir_printer.specs.Items.{text, join};
-ghost use Rattle.hir_printer.specs.Answers.{answers};
-ghost use Rattle.hir_printer.specs.PrintAnswers.{PrintsPieces};
-ghost use Rattle.hir_printer.specs.Pieces.{item_list_pieces};
-ghost use Rattle.hir_printer.specs.Printers.{Adds};
 ghost use Rattle.hir_pretty.specs.Variants.{LacksFields, kind_word, module_items, visibility_items, field_line, fields_begin, fields_end, fields_items, variant_items, without_fields};
 ghost use Rattle.hir_pretty.specs.FoundParts.{parents, fields_found};
 

@@ -1,18 +1,12 @@
 -- What a printer has to print after items were added.
-use Rattle.std.proofs.Common.{◌≡◌, ◌+◌, ◌<◌, ◌≤◌, ℕ, Bool, true, false, List, [], ◌∷◌, ◌++◌, refl, sym, ap, subst, ◌∙◌, append_assoc, append-nil, Option, Some, None, arith, length, take, get_or, slice_get, inl, inr}
-use Rattle.std.specs.Bool.{IsTrue}
+use Rattle.std.proofs.Common.{◌≡◌, ◌+◌, ◌<◌, ◌≤◌, ℕ, Bool, true, false, List, [], ◌∷◌, ◌++◌, refl, sym, ap, subst, ◌∙◌, append_assoc, append-nil, Option, Some, None, arith, length, take, get_or, slice_get, inl, inr, IsTrue}
 use Rattle.std.proofs.lemmas.Bool.{cases_lt}
 use Rattle.std.proofs.lemmas.Option.{slice_get_past}
 use Rattle.std.proofs.lemmas.List.{take_more}
 use Rattle.std.proofs.lemmas.List.Concat.{flat_map-append}
 use Rattle.hir_page.specs.Page.{Page}
 use Rattle.hir_printer.specs.declared.work.Work.{Work}
-use Rattle.hir_printer.specs.Questions.{Setting}
-use Rattle.hir_printer.specs.Items.{Item, opt}
-use Rattle.hir_printer.specs.Pieces.{item_list_pieces}
-use Rattle.hir_printer.specs.Weights.{total, item_weight, weight, heft}
-use Rattle.hir_printer.specs.Printing.{Printing}
-use Rattle.hir_printer.specs.Printers.{stands_for, items_of_works, items_one_by_one, stood_after, printing, Leads, AddsItems, AddsList}
+use Rattle.hir_printer.specs.Prelude.{Setting, Item, opt, item_list_pieces, total, item_weight, weight, heft, Printing, stands_for, items_of_works, items_one_by_one, stood_after, printing, Leads, AddsItems, AddsList}
 
 pub total-append : {X : Type 0} (f : X → ℕ) (xs ys : List X) → total f (xs ++ ys) ≡ total f xs + total f ys
 total-append f [] ys = omega arith

@@ -1,9 +1,6 @@
 -- What the tables answer of parameters that are there, and of those that aren't.
-use Rattle.std.proofs.Common.{◌≡◌, Option, Some, None, ap}
-use Rattle.std.specs.Prelude.{Ok, Err}
-use Rattle.std.specs.Option.{option_map}
-use Rattle.hir_expr_store.specs.declared.missing.Missing.{Missing}
-use Rattle.hir_printer.specs.Answers.{found_or}
+use Rattle.std.proofs.Common.{◌≡◌, Option, Some, None, ap, Ok, Err, option_map}
+use Rattle.hir_printer.specs.Prelude.{Missing, found_or}
 use Rattle.hir_printer.proofs.AddLemmas.{not_there}
 
 pub found_is : {X Y : Type 0} (absent : Missing) (f : X → Y) (found : Option X) (x : X) → found ≡ Some x → found_or absent (option_map f found) ≡ Ok (f x)

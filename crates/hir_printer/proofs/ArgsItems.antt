@@ -1,15 +1,11 @@
 -- The equations of the calls and the items of generic arguments and of associated type bindings.
-use Rattle.std.proofs.Common.{◌≡◌, List, [], ◌∷◌, ◌++◌, Option, Some, None, refl, ap, ◌∙◌, map}
+use Rattle.std.proofs.Common.{◌≡◌, List, [], ◌∷◌, ◌++◌, Option, Some, None, refl, ap, ◌∙◌, map, flat_map}
 use Rattle.hir_path.specs.declared.path.GenericArgs.{GenericArgs, out-GenericArgs, fold_out-GenericArgs}
 use Rattle.hir_path.specs.declared.path.AssociatedTypeBinding.{AssociatedTypeBinding, out-AssociatedTypeBinding, fold_out-AssociatedTypeBinding}
 use Rattle.hir_path.specs.declared.path.AssociatedTypeBinding.TheShapes.{former-AssociatedTypeBinding-args}
-use Rattle.std.specs.List.{flat_map}
 use Rattle.hir_node.specs.ChildCalls.{Call, bound_calls, arg_calls, args_calls, binding_calls}
 use Rattle.hir_node.specs.ChildCalls as calls
-use Rattle.hir_printer.specs.Questions.{Setting}
-use Rattle.hir_printer.specs.Items.{Item, opt, comma_joined}
-use Rattle.hir_printer.specs.Names.{name_items}
-use Rattle.hir_printer.specs.Paths.{binding_layer, args_layer, args_items, assoc_items, each_arg, turbofish, bounds_after, type_after}
+use Rattle.hir_printer.specs.Prelude.{Setting, Item, opt, comma_joined, name_items, binding_layer, args_layer, args_items, assoc_items, each_arg, turbofish, bounds_after, type_after}
 
 opt_of_map : (s : Setting) (o : Option GenericArgs) → opt turbofish (former-AssociatedTypeBinding-args.map GenericArgs (List Item) (args_items s) o) ≡ opt (λ a. turbofish (args_items s a)) o
 opt_of_map s None = refl

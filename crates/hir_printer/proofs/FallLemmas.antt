@@ -1,31 +1,20 @@
 -- What is printed inside a node stands lower than the node.
-use Rattle.std.proofs.Common.{◌≡◌, ℕ, zero, suc, Bool, true, false, List, [], ◌∷◌, ◌++◌, map, take, drop, codes, Option, Some, None, refl, sym, ap, ◌∙◌, subst, arith, slice_get, Contains}
-use Rattle.std.specs.Prelude.{⊤, Result, Ok, Err}
-use Rattle.std.specs.List.{flat_map}
-use Rattle.hir_path.specs.declared.bound.TypeBound.{TypeBound}
+use Rattle.std.proofs.Common.{◌≡◌, ℕ, zero, suc, Bool, true, false, List, [], ◌∷◌, ◌++◌, map, take, drop, codes, Option, Some, None, refl, sym, ap, ◌∙◌, subst, arith, slice_get, Contains, Result, Ok, Err, flat_map}
+use Rattle.std.specs.Prelude.{⊤}
+use Rattle.hir_path.specs.declared.{bound.TypeBound.TypeBound, bound.TraitBoundModifier.TraitBoundModifier, bound.UseArgRef.UseArgRef, path.GenericArg.GenericArg, path.AssociatedTypeBinding.TheShapes.former-AssociatedTypeBinding-args}
 use Rattle.hir_path.specs.declared.bound.TypeBound.TheVariants as bound
-use Rattle.hir_path.specs.declared.bound.TraitBoundModifier.{TraitBoundModifier}
 use Rattle.hir_path.specs.declared.bound.TraitBoundModifier.TheVariants as modifier
-use Rattle.hir_path.specs.declared.bound.UseArgRef.{UseArgRef}
 use Rattle.hir_path.specs.declared.bound.UseArgRef.TheVariants as use_arg
-use Rattle.hir_path.specs.declared.path.GenericArg.{GenericArg}
 use Rattle.hir_path.specs.declared.path.GenericArg.TheVariants as arg
 use Rattle.hir_path.specs.declared.path.GenericArgs.{GenericArgs, GenericArgs-F, out-GenericArgs, roll-GenericArgs, out-roll-GenericArgs, ind-GenericArgs}
 use Rattle.hir_path.specs.declared.path.AssociatedTypeBinding.{AssociatedTypeBinding, AssociatedTypeBinding-F, out-AssociatedTypeBinding, roll-AssociatedTypeBinding, out-roll-AssociatedTypeBinding}
-use Rattle.hir_path.specs.declared.path.AssociatedTypeBinding.TheShapes.{former-AssociatedTypeBinding-args}
 use Rattle.hir_node.specs.ChildCalls.{Call, OnExpr, OnAnonConst, OnPat, OnType, OnLifetime, kid, kids, bound_calls, use_calls, arg_calls, args_calls, binding_calls, path_calls, normal_path_calls, spread_calls, array_calls, arm_calls, statement_calls, expr_calls, pat_calls, type_calls}
 use Rattle.hir_node.specs.ChildCalls as calls
-use Rattle.hir_node.specs.declared.node_id.NodeId.{NodeId}
+use Rattle.hir_printer.specs.Prelude.{NodeId, Missing, Setting, Item, Put, text, t, opt, join, comma_joined, name_parts, name_items, l, lifetime_items, param_items, for_names, modifier_items, use_items, bound_items, bounds_items, bounds_after, arg_items, each_arg, turbofish, args_items, assoc_items, type_after, AllNodes}
 use Rattle.hir_node.specs.declared.node_id.NodeId.TheVariants as node
 use Rattle.hir_node.specs.declared.type_ref.LifetimeRef.{LifetimeRef}
 use Rattle.hir_node.specs.declared.type_ref.LifetimeRef.TheVariants as lifetime
-use Rattle.hir_expr_store.specs.declared.missing.Missing.{Missing}
-use Rattle.hir_printer.specs.Questions.{Setting}
-use Rattle.hir_printer.specs.Items.{Item, Put, text, t, opt, join, comma_joined}
 use Rattle.hir_page.specs.Pieces.{Piece}
-use Rattle.hir_printer.specs.Names.{name_parts, name_items, l, lifetime_items, param_items}
-use Rattle.hir_printer.specs.Paths.{for_names, modifier_items, use_items, bound_items, bounds_items, bounds_after, arg_items, each_arg, turbofish, args_items, assoc_items, type_after}
-use Rattle.hir_printer.specs.Falls.{AllNodes}
 use Rattle.hir_printer.proofs.StepLemmas.{nodes_append}
 use Rattle.hir_printer.proofs.ArgsItems.{args_items_is, assoc_items_is, args_calls_is, binding_calls_is}
 
@@ -125,10 +114,8 @@ module _ (P : NodeId → Type 0) where
 
   lifetime_item_falls : (s : Setting) (x : LifetimeRef) → AllNodes P (lifetime_items s x)
   lifetime_item_falls s (lifetime.Named name) = name_falls s name
-  lifetime_item_falls s lifetime.Static = tt
-  lifetime_item_falls s lifetime.Placeholder = tt
   lifetime_item_falls s (lifetime.Param id) = param_falls s (s.tables.lifetime_param id)
-  lifetime_item_falls s lifetime.Error = tt
+  lifetime_item_falls s x = tt
 
   pub lifetime_falls : (s : Setting) (id : ℕ) → AllNodes P (l s id)
   lifetime_falls s id = none_falls (lifetime_items s) (lifetime_item_falls s) (slice_get s.nodes.lifetimes id)

@@ -1,17 +1,9 @@
 -- Fields of patterns, and parameters of closures, one after another.
-use Rattle.std.proofs.Common.{◌≡◌, ℕ, ◌+◌, ◌<◌, ◌≤◌, Bool, true, false, List, [], ◌∷◌, ◌++◌, codes, length, drop, get_or, Option, refl, sym, ap, ap₂, ◌∙◌, arith, append_assoc, append-nil}
-use Rattle.std.specs.Prelude.{◌||◌, ◌==◌, not, slice_get}
+use Rattle.std.proofs.Common.{◌≡◌, ℕ, ◌+◌, ◌<◌, ◌≤◌, Bool, true, false, List, [], ◌∷◌, ◌++◌, codes, length, drop, get_or, Option, refl, sym, ap, ap₂, ◌∙◌, arith, append_assoc, append-nil, ◌||◌, ◌==◌, not, slice_get}
 use Rattle.hir_path.specs.declared.path.Path.{Path}
 use Rattle.hir_node.specs.declared.pat.Pat.TheVariants as pat
 use Rattle.hir_node.specs.declared.pat.RecordFieldPat.{RecordFieldPat}
-use Rattle.hir_printer.specs.Questions.{Setting}
-use Rattle.hir_printer.specs.Items.{Item, text, br, into, out, p, t, opt, when}
-use Rattle.hir_printer.specs.Names.{name_items}
-use Rattle.hir_printer.specs.Pats.{is_short, field_pattern, after_last, field_patterns, pat_items}
-use Rattle.hir_printer.specs.Paths.{path_items}
-use Rattle.hir_printer.specs.Exprs.{params}
-use Rattle.hir_printer.specs.Printing.{Printing}
-use Rattle.hir_printer.specs.Printers.{AddsItems, following}
+use Rattle.hir_printer.specs.Prelude.{Setting, Item, text, br, into, out, p, t, opt, when, name_items, is_short, field_pattern, after_last, field_patterns, pat_items, path_items, params, Printing, AddsItems, following}
 use Rattle.std.proofs.lemmas.List.{drop_all}
 use Rattle.hir_printer.proofs.ListLemmas.{drop_item, is_cons}
 use Rattle.hir_printer.proofs.OrderLemmas.{not_empty}

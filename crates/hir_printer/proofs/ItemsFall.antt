@@ -1,15 +1,10 @@
 -- What is printed inside a node of an accepted store stands lower than the node.
 use Rattle.std.proofs.Common.{◌<◌, Contains, slice_get, arith}
 use Rattle.hir_node.specs.ChildCalls.{expr_calls, pat_calls, type_calls}
-use Rattle.hir_node.specs.declared.node_id.NodeId.{NodeId}
+use Rattle.hir_printer.specs.Prelude.{NodeId, Setting, expr_items, pat_items, type_items, ItemsFall}
 use Rattle.hir_node.specs.declared.node_id.NodeId.TheVariants as node
 use Rattle.hir_faults.specs.Nodes.{calls_of, kids_of}
 use Rattle.hir_faults.specs.Down.{rank}
-use Rattle.hir_printer.specs.Questions.{Setting}
-use Rattle.hir_printer.specs.Exprs.{expr_items}
-use Rattle.hir_printer.specs.Pats.{pat_items}
-use Rattle.hir_printer.specs.Types.{type_items}
-use Rattle.hir_printer.specs.Falls.{ItemsFall}
 use Rattle.hir_printer.proofs.FallLemmas.{AllCalls, all_of_kids, opt_falls}
 use Rattle.hir_printer.proofs.NodesFall.{expr_falls, pat_falls, type_falls}
 

@@ -1,3 +1,4 @@
+pub mod Common
 pub mod WorkedRows
 pub mod StepLemmas
 pub mod ArgsItems

@@ -1,9 +1,7 @@
 -- Lists that are gone through, and separators.
-use Rattle.std.proofs.Common.{◌≡◌, ℕ, ◌+◌, ◌-◌, ◌<◌, ◌≤◌, Bool, true, false, List, [], ◌∷◌, ◌++◌, length, map, take, drop, get_or, arith, refl, sym, ap, ap₂, ◌∙◌, append_assoc, append-nil, add-one, drop-cons}
+use Rattle.std.proofs.Common.{◌≡◌, ℕ, ◌+◌, ◌-◌, ◌<◌, ◌≤◌, Bool, true, false, List, [], ◌∷◌, ◌++◌, length, map, take, drop, get_or, arith, refl, sym, ap, ap₂, ◌∙◌, append_assoc, append-nil, add-one, drop-cons, flat_map}
 use Rattle.std.proofs.lemmas.List.{take_all, drop_all}
-use Rattle.std.specs.List.{flat_map}
-use Rattle.hir_printer.specs.Items.{Item, when, join}
-use Rattle.hir_printer.specs.Printers.{following}
+use Rattle.hir_printer.specs.Prelude.{Item, when, join, following}
 
 -- 1. The next member of a list
 

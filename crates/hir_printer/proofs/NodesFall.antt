@@ -1,60 +1,32 @@
 -- What is printed inside an expression, a pattern or a type is among its child calls, or stands under one of them.
-use Rattle.std.proofs.Common.{ℕ, zero, suc, Bool, true, false, List, [], ◌∷◌, ◌++◌, map, take, drop, codes, Option, Some, None, sym, ap, ◌∙◌, subst, slice_get}
-use Rattle.std.specs.Prelude.{not, Result, Ok, Err}
-use Rattle.std.specs.List.{flat_map}
-use Rattle.std.specs.Option.{option_to_list}
+use Rattle.std.proofs.Common.{ℕ, zero, suc, Bool, true, false, List, [], ◌∷◌, ◌++◌, map, take, drop, codes, Option, Some, None, sym, ap, ◌∙◌, subst, slice_get, not, Result, Ok, Err, flat_map, option_to_list}
 use Rattle.std.proofs.lemmas.List.Concat.{flat_map-append}
-use Rattle.hir_base.specs.declared.abi.ExternAbi.{ExternAbi}
+use Rattle.hir_base.specs.OpTexts.{range_text}
+use Rattle.hir_base.specs.declared.{abi.ExternAbi.ExternAbi, mod_path.PathKind.PathKind, defs.LangItemTarget.LangItemTarget}
 use Rattle.hir_base.specs.declared.abi.ExternAbi.TheVariants as abi
-use Rattle.hir_base.specs.declared.mod_path.PathKind.{PathKind}
 use Rattle.hir_base.specs.declared.mod_path.PathKind.TheVariants as kind
-use Rattle.hir_base.specs.declared.defs.LangItemTarget.{LangItemTarget}
 use Rattle.hir_base.specs.declared.defs.LangItemTarget.TheVariants as target
 use Rattle.hir_base.specs.declared.defs.NamedDef.TheVariants as named
 use Rattle.hir_base.specs.declared.prec.ExprPrecedence.TheVariants.{Jump, Shift}
-use Rattle.hir_base.specs.OpTexts.{range_text}
-use Rattle.hir_path.specs.declared.path.GenericArgs.{GenericArgs}
-use Rattle.hir_path.specs.declared.path.Path.{Path}
+use Rattle.hir_path.specs.declared.{path.GenericArgs.GenericArgs, path.Path.Path}
 use Rattle.hir_path.specs.declared.path.Path.TheVariants as path
 use Rattle.hir_node.specs.ChildCalls.{Call, args_calls, path_calls, spread_calls, array_calls, arm_calls, statement_calls, expr_calls, pat_calls, type_calls}
 use Rattle.hir_node.specs.ChildCalls as calls
-use Rattle.hir_node.specs.declared.expr_types.RecordSpread.{RecordSpread}
-use Rattle.hir_node.specs.declared.expr_types.RecordSpread.TheVariants as spread
-use Rattle.hir_node.specs.declared.expr_types.Unsafe.{Unsafe}
-use Rattle.hir_node.specs.declared.expr_types.Unsafe.TheVariants as unsafety
-use Rattle.hir_node.specs.declared.expr_types.ClosureKind.{ClosureKind}
-use Rattle.hir_node.specs.declared.expr_types.ClosureKind.TheVariants as closure
-use Rattle.hir_node.specs.declared.expr_types.Array.{Array}
-use Rattle.hir_node.specs.declared.expr_types.Array.TheVariants as array
-use Rattle.hir_node.specs.declared.expr_types.MatchArm.{MatchArm}
-use Rattle.hir_node.specs.declared.expr_types.RecordLitField.{RecordLitField}
-use Rattle.hir_node.specs.declared.expr_types.Statement.{Statement}
-use Rattle.hir_node.specs.declared.expr_types.Statement.TheVariants as statement
-use Rattle.hir_node.specs.declared.literal.Literal.{Literal}
-use Rattle.hir_node.specs.declared.literal.Literal.TheVariants as literal
-use Rattle.hir_node.specs.declared.expr.Expr.{Expr}
-use Rattle.hir_node.specs.declared.expr.Expr.TheVariants as expr
-use Rattle.hir_node.specs.declared.pat.RecordFieldPat.{RecordFieldPat}
-use Rattle.hir_node.specs.declared.pat.Pat.{Pat}
-use Rattle.hir_node.specs.declared.pat.Pat.TheVariants as pat
-use Rattle.hir_node.specs.declared.type_ref.TypeRef.{TypeRef}
-use Rattle.hir_node.specs.declared.type_ref.TypeRef.TheVariants as type
-use Rattle.hir_node.specs.declared.node_id.NodeId.{NodeId}
-use Rattle.hir_node.specs.declared.node_id.NodeId.TheVariants as node
-use Rattle.hir_node.specs.declared.binding.Label.{Label}
 use Rattle.hir_node.specs.Keywords.{ref_keyword}
+use Rattle.hir_node.specs.declared.{expr_types.RecordSpread.RecordSpread, expr_types.Unsafe.Unsafe, expr_types.ClosureKind.ClosureKind, expr_types.Array.Array, expr_types.MatchArm.MatchArm, expr_types.RecordLitField.RecordLitField, expr_types.Statement.Statement, literal.Literal.Literal, expr.Expr.Expr, pat.RecordFieldPat.RecordFieldPat, pat.Pat.Pat, type_ref.TypeRef.TypeRef, binding.Label.Label}
+use Rattle.hir_node.specs.declared.expr_types.RecordSpread.TheVariants as spread
+use Rattle.hir_node.specs.declared.expr_types.Unsafe.TheVariants as unsafety
+use Rattle.hir_node.specs.declared.expr_types.ClosureKind.TheVariants as closure
+use Rattle.hir_node.specs.declared.expr_types.Array.TheVariants as array
+use Rattle.hir_node.specs.declared.expr_types.Statement.TheVariants as statement
+use Rattle.hir_node.specs.declared.literal.Literal.TheVariants as literal
+use Rattle.hir_node.specs.declared.expr.Expr.TheVariants as expr
+use Rattle.hir_node.specs.declared.pat.Pat.TheVariants as pat
+use Rattle.hir_node.specs.declared.type_ref.TypeRef.TheVariants as type
+use Rattle.hir_printer.specs.Prelude.{NodeId, Missing, Setting, Item, text, sp, br, into, out, e, under, p, t, opt, when, join, comma_joined, name_items, label_items, binding_items, of_binding, l, found_name, target_items, supers, kind_items, colons_first, segments_from, start_items, turbofish, args_items, path_items, for_names, literal_items, label_before, to_label, operand, each_line, in_lines, arguments, arm_items, field_items, spread_items, statement_items, unsafe_items, inside_block, params, header, coroutine_body, of_coroutine, printed_body, array_items, expr_items, with_rest, in_parentheses, is_short, field_pattern, after_last, field_patterns, pat_items, type_param_items, extern_items, varargs_items, front, last, signature_items, type_items, AllNodes}
+use Rattle.hir_node.specs.declared.node_id.NodeId.TheVariants as node
 use Rattle.hir_faults.specs.Nodes.{calls_of}
-use Rattle.hir_expr_store.specs.declared.missing.Missing.{Missing}
 use Rattle.hir_page.specs.Literals.{string_literal, char_literal, bytes_literal, c_string_literal}
-use Rattle.hir_printer.specs.Questions.{Setting}
-use Rattle.hir_printer.specs.Items.{Item, text, sp, br, into, out, e, under, p, t, opt, when, join, comma_joined}
-use Rattle.hir_printer.specs.Names.{name_items, label_items, binding_items, of_binding, l}
-use Rattle.hir_printer.specs.Paths.{found_name, target_items, supers, kind_items, colons_first, segments_from, start_items, turbofish, args_items, path_items, for_names}
-use Rattle.hir_printer.specs.Literals.{literal_items}
-use Rattle.hir_printer.specs.Exprs.{label_before, to_label, operand, each_line, in_lines, arguments, arm_items, field_items, spread_items, statement_items, unsafe_items, inside_block, params, header, coroutine_body, of_coroutine, printed_body, array_items, expr_items}
-use Rattle.hir_printer.specs.Pats.{with_rest, in_parentheses, is_short, field_pattern, after_last, field_patterns, pat_items}
-use Rattle.hir_printer.specs.Types.{type_param_items, extern_items, varargs_items, front, last, signature_items, type_items}
-use Rattle.hir_printer.specs.Falls.{AllNodes}
 use Rattle.hir_printer.proofs.StepLemmas.{nodes_append}
 use Rattle.hir_printer.proofs.FallLemmas.{AllCalls, AllLists, first_calls, last_calls, each_falls, map_falls, opt_falls, joined_falls, lists_append, lists_take, lists_drop, name_falls, names_fall, puts_fall, none_falls, lifetime_falls, for_falls, bounds_fall, fish_falls}
 
@@ -222,16 +194,12 @@ module _ (P : NodeId → Type 0) (s : Setting) where
       nodes_append P ((comma_joined xs ++ bar) ++ result) sp (nodes_append P (comma_joined xs ++ bar) result (nodes_append P (comma_joined xs) bar (joined_falls P (text (codes ", ")) tt xs a) tt) (opt_falls P calls.t (λ id. text (codes " -> ") ++ t id) (λ id h. h) ret b)) tt
 
   header_falls : (kind : ClosureKind) (xs : List (List Item)) (ret : Option ℕ) → AllLists P xs → AllCalls P (calls.opt calls.t ret) → AllNodes P (header kind xs ret)
-  header_falls closure.Closure xs ret a b = bars_fall xs ret a b
-  header_falls (closure.OldCoroutine m) xs ret a b = bars_fall xs ret a b
   header_falls (closure.Coroutine kind source) xs ret a b = tt
-  header_falls (closure.CoroutineClosure kind) xs ret a b = bars_fall xs ret a b
+  header_falls kind xs ret a b = bars_fall xs ret a b
 
   of_coroutine_falls : (kind : ClosureKind) (self body : ℕ) → P (node.Expr self) → P (node.Expr body) → P (node.Expr (of_coroutine kind self body))
-  of_coroutine_falls closure.Closure self body h k = h
-  of_coroutine_falls (closure.OldCoroutine m) self body h k = h
   of_coroutine_falls (closure.Coroutine kind source) self body h k = k
-  of_coroutine_falls (closure.CoroutineClosure kind) self body h k = h
+  of_coroutine_falls kind self body h k = h
 
   coroutine_falls : (found : Option Expr) (self : ℕ) → P (node.Expr self) → AllCalls P (calls.opt expr_calls found) → P (node.Expr (coroutine_body found self))
   coroutine_falls (Some (expr.Closure args arg_types ret_type body kind capture)) self h a = of_coroutine_falls kind self body h a.0
@@ -242,20 +210,15 @@ module _ (P : NodeId → Type 0) (s : Setting) where
   literal_falls (literal.ByteString bytes) = puts_fall P (bytes_literal bytes)
   literal_falls (literal.CString bytes) = puts_fall P (c_string_literal bytes)
   literal_falls (literal.Char c) = puts_fall P (char_literal c)
-  literal_falls (literal.Bool b) = tt
   literal_falls (literal.Int n None) = tt
-  literal_falls (literal.Int n (Some suffix)) = tt
   literal_falls (literal.Uint n None) = tt
-  literal_falls (literal.Uint n (Some suffix)) = tt
   literal_falls (literal.Float n None) = tt
-  literal_falls (literal.Float n (Some suffix)) = tt
+  literal_falls x = tt
 
   module _ (closed : (k : NodeId) → P k → AllCalls P (calls_of s.nodes k)) where
     printed_falls : (kind : ClosureKind) (body : ℕ) → P (node.Expr body) → P (node.Expr (printed_body s.nodes kind body))
-    printed_falls closure.Closure body h = h
-    printed_falls (closure.OldCoroutine m) body h = h
-    printed_falls (closure.Coroutine kind source) body h = h
     printed_falls (closure.CoroutineClosure kind) body h = coroutine_falls (slice_get s.nodes.exprs body) body h (closed (node.Expr body) h)
+    printed_falls kind body h = h
 
     pub expr_falls : (x : Expr) → AllCalls P (expr_calls x) → AllNodes P (expr_items s x)
     expr_falls expr.Missing a = tt
@@ -265,7 +228,6 @@ module _ (P : NodeId → Type 0) (s : Setting) where
         let names = join (text (codes ".")) (map (name_items s) o.fields) in
         (a.0, nodes_append P names (text (codes ")")) (joined_falls P (text (codes ".")) tt (map (name_items s) o.fields) (names_fall P s o.fields)) tt)
     expr_falls (expr.If condition then_branch else_branch) a = (a.0, (a.1.0, opt_falls P calls.e (λ id. text (codes " else ") ++ e id) (λ id h. h) else_branch a.1.1))
-    expr_falls (expr.Let pat x) a = a
     expr_falls (expr.Loop body label source) a = nodes_append P (label_before s label ++ text (codes "loop ")) (e body) (nodes_append P (label_before s label) (text (codes "loop ")) (labelled_falls label) tt) a
     expr_falls (expr.Call callee args) a = (a.0, arguments_fall args a.1)
     expr_falls (expr.MethodCall receiver name args generic_args) a =
@@ -279,7 +241,6 @@ module _ (P : NodeId → Type 0) (s : Setting) where
     expr_falls (expr.Continue label) a = to_label_falls label
     expr_falls (expr.Break x label) a = nodes_append P (to_label s label) (operand x) (to_label_falls label) (operand_falls x a)
     expr_falls (expr.Return x) a = operand_falls x a
-    expr_falls (expr.Become x) a = a
     expr_falls (expr.Yield x) a = operand_falls x a
     expr_falls (expr.Yeet x) a = operand_falls x a
     expr_falls (expr.RecordLit path fields spread) a =
@@ -296,17 +257,10 @@ module _ (P : NodeId → Type 0) (s : Setting) where
         (each_falls P (λ (field : RecordLitField). calls.e field.expr) (field_items s) field_falls fields (first_calls P of_fields of_spread rest)))
         (spread_falls spread (last_calls P of_fields of_spread rest))) tt) tt
     expr_falls (expr.Field x name) a = (a.0, name_falls P s name)
-    expr_falls (expr.Await x) a = a
-    expr_falls (expr.Cast x type_ref) a = a
-    expr_falls (expr.Ref x rawness mutability) a = a
-    expr_falls (expr.UnaryOp x op) a = a
     expr_falls (expr.BinaryOp lhs rhs None) a = a
-    expr_falls (expr.BinaryOp lhs rhs (Some op)) a = a
-    expr_falls (expr.Index base index) a = a
     expr_falls (expr.Tuple xs) a = nodes_append P (flat_map (λ id. e id ++ text (codes ", ")) xs) (text (codes ")")) (element_falls xs a) tt
     expr_falls (expr.Array x) a = array_falls x a
     expr_falls (expr.Const id) a = tt
-    expr_falls (expr.Assignment target value) a = a
     expr_falls (expr.Block id statements tail label unsafe_) a =
         let head = label_before s label ++ unsafe_items unsafe_ in
         let brace = text (codes "{") in
@@ -322,6 +276,7 @@ module _ (P : NodeId → Type 0) (s : Setting) where
         (printed_falls kind body a.0, tt)
     expr_falls (expr.Literal x) a = literal_falls x
     expr_falls (expr.Path path) a = path_falls path a
+    expr_falls x a = a
 
   -- patterns
   with_rest_falls : (rest : Option ℕ) (xs : List (List Item)) → AllLists P xs → AllLists P (with_rest rest xs)
@@ -408,12 +363,8 @@ module _ (P : NodeId → Type 0) (s : Setting) where
   pat_falls (pat.Range start end range_type) a = range_falls start end (range_text range_type) a
   pat_falls (pat.Slice prefix slice suffix) a = nodes_append P (flat_map (λ id. p id ++ text (codes ", ")) (prefix ++ option_to_list slice ++ suffix)) (text (codes "]")) (slice_falls prefix slice suffix a) tt
   pat_falls (pat.Bind id subpat) a = nodes_append P (binding_items s id) (opt (λ q. sp ++ text (codes "@ ") ++ p q) subpat) (binding_falls id) (opt_falls P calls.p (λ q. sp ++ text (codes "@ ") ++ p q) (λ q h. h) subpat a)
-  pat_falls (pat.Ref pat mutability) a = a
-  pat_falls (pat.Box inner) a = a
-  pat_falls (pat.Deref inner) a = a
   pat_falls (pat.Path path) a = path_falls path a
-  pat_falls (pat.Lit id) a = a
-  pat_falls (pat.Expr id) a = a
+  pat_falls x a = a
 
   -- types
   type_param_falls : (id : ℕ) (found : Result (Option (List ℕ)) Missing) → AllNodes P (type_param_items s id found)
@@ -423,11 +374,7 @@ module _ (P : NodeId → Type 0) (s : Setting) where
 
   extern_falls : (x : ExternAbi) → AllNodes P (extern_items x)
   extern_falls abi.Rust = tt
-  extern_falls abi.C = tt
-  extern_falls abi.CUnwind = tt
-  extern_falls abi.System = tt
-  extern_falls abi.SystemUnwind = tt
-  extern_falls (abi.Named name) = tt
+  extern_falls other = tt
 
   varargs_fall : (varargs : Bool) (types : List ℕ) → AllNodes P (varargs_items varargs types)
   varargs_fall false types = tt
@@ -462,13 +409,10 @@ module _ (P : NodeId → Type 0) (s : Setting) where
   type_falls type.Error a = tt
   type_falls (type.TypeParam id) a = type_param_falls id.local_id (s.tables.type_param id)
   type_falls (type.Tuple types) a = nodes_append P (comma_joined (map t types)) (text (codes ")")) (joined_falls P (text (codes ", ")) tt (map t types) (map_falls P calls.t t (λ id h. h) types a)) tt
-  type_falls (type.Slice id) a = a
-  type_falls (type.RawPtr id mutability) a = a
   type_falls (type.Reference r) a =
       let lifetime = opt (λ id. l s id ++ text (codes " ")) r.lifetime in
       let keyword = text (ref_keyword r.mutability) in
       nodes_append P (lifetime ++ keyword) (t r.ty) (nodes_append P lifetime keyword (none_falls P (λ id. l s id ++ text (codes " ")) (λ id. nodes_append P (l s id) (text (codes " ")) (lifetime_falls P s id) tt) r.lifetime) tt) (a.0, tt)
-  type_falls (type.Array x) a = a
   type_falls (type.Fn f) a =
       let types = map (λ (entry : Option (List ℕ) × ℕ). entry.1) f.params in
       let before = opt (for_names s) f.binder in
@@ -478,5 +422,5 @@ module _ (P : NodeId → Type 0) (s : Setting) where
       (signature_falls f.is_varargs types (types_of_params f.params a))
   type_falls (type.ImplTrait bounds) a = bounds_fall P s bounds a
   type_falls (type.DynTrait bounds) a = bounds_fall P s bounds a
-  type_falls (type.PatternType id pat) a = a
   type_falls (type.Path path) a = path_falls path a
+  type_falls x a = a

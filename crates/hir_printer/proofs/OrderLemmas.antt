@@ -1,24 +1,13 @@
 -- Items by what a list has: none, one, or more.
-use Rattle.std.proofs.Common.{◌≡◌, ℕ, zero, suc, ◌+◌, ◌-◌, ◌<◌, ◌≤◌, Bool, true, false, List, [], ◌∷◌, ◌++◌, codes, map, take, drop, length, get_or, Option, Some, None, refl, sym, ap, ap₂, ◌∙◌, arith, append_assoc, append-nil, inl, inr}
-use Rattle.std.specs.Prelude.{◌==◌, ◌&&◌, not, IsTrue, is_none, is_some}
-use Rattle.std.specs.List.{flat_map}
-use Rattle.std.specs.Option.{option_to_list}
+use Rattle.std.proofs.Common.{◌≡◌, ℕ, zero, suc, ◌+◌, ◌-◌, ◌<◌, ◌≤◌, Bool, true, false, List, [], ◌∷◌, ◌++◌, codes, map, take, drop, length, get_or, Option, Some, None, refl, sym, ap, ap₂, ◌∙◌, arith, append_assoc, append-nil, inl, inr, ◌==◌, ◌&&◌, not, IsTrue, is_none, is_some, flat_map, option_to_list}
 use Rattle.std.proofs.lemmas.Bool.{cases_lt}
 use Rattle.std.proofs.lemmas.Bool.Decides.{nat_tests}
 use Rattle.std.proofs.lemmas.List.{take-map, drop-map, take_all, drop_all, length-map}
 use Rattle.std.proofs.lemmas.List.Concat.{flat_map-append}
-use Rattle.hir_node.specs.declared.expr_types.Array.TheVariants.{ElementList}
-use Rattle.hir_node.specs.declared.expr_types.Statement.{Statement}
-use Rattle.hir_path.specs.declared.bound.TypeBound.{TypeBound}
-use Rattle.hir_path.specs.declared.path.GenericArg.{GenericArg}
+use Rattle.hir_node.specs.declared.{expr_types.Array.TheVariants.ElementList, expr_types.Statement.Statement}
+use Rattle.hir_path.specs.declared.{bound.TypeBound.TypeBound, path.GenericArg.GenericArg}
 use Rattle.hir_path.specs.declared.path.GenericArgs.{GenericArgs, out-GenericArgs}
-use Rattle.hir_printer.specs.Questions.{Setting}
-use Rattle.hir_printer.specs.Names.{name_items}
-use Rattle.hir_printer.specs.Items.{Item, text, sp, into, out, br, e, p, opt, when, join, comma_joined}
-use Rattle.hir_printer.specs.Exprs.{arguments, array_items, statement_items, inside_block}
-use Rattle.hir_printer.specs.Pats.{with_rest}
-use Rattle.hir_printer.specs.Paths.{arg_items, each_arg, args_items, assoc_items, turbofish, segments_from, bounds_items, bounds_after, supers}
-use Rattle.hir_printer.specs.Printers.{following}
+use Rattle.hir_printer.specs.Prelude.{Setting, name_items, Item, text, sp, into, out, br, e, p, opt, when, join, comma_joined, arguments, array_items, statement_items, inside_block, with_rest, arg_items, each_arg, args_items, assoc_items, turbofish, segments_from, bounds_items, bounds_after, supers, following}
 use Rattle.hir_printer.proofs.ListLemmas.{drop_item, is_cons, following_joined, following_append}
 use Rattle.hir_printer.proofs.ArgsItems.{args_items_is}
 

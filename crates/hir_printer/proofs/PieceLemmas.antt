@@ -1,22 +1,13 @@
 -- Items that are pieces, and what printing makes of a page with them.
-use Rattle.std.proofs.Common.{◌≡◌, ℕ, Bool, true, false, List, [], ◌∷◌, ◌++◌, map, codes, Some, None, refl, sym, ap, ◌∙◌, append-nil}
-use Rattle.std.specs.List.{flat_map}
+use Rattle.std.proofs.Common.{◌≡◌, ℕ, Bool, true, false, List, [], ◌∷◌, ◌++◌, map, codes, Some, None, refl, sym, ap, ◌∙◌, append-nil, flat_map}
 use Rattle.std.proofs.lemmas.List.Concat.{flat_map-append}
 use Rattle.hir_node.specs.declared.literal.Literal.{Literal}
 use Rattle.hir_node.specs.declared.literal.Literal.TheVariants as literal
 use Rattle.hir_node.specs.declared.node_id.NodeId.TheVariants as node
-use Rattle.hir_expr_store.specs.declared.missing.Missing.{Missing}
+use Rattle.hir_printer.specs.Prelude.{Missing, Setting, Item, Put, Lacks, Whole, Under, Pattern, TypeItem, text, name_parts, name_items, literal_items, put_pieces, NodePiece, Layout, Absent, items_of, item_pieces, pieces, item_list_pieces, with_parentheses, first_missing, layout, ItemsFall, enclose, printing, Leads}
 use Rattle.hir_page.specs.Page.{Page, render, all_rendered}
 use Rattle.hir_page.specs.Pieces.{Piece, Text}
 use Rattle.hir_page.specs.Literals.{string_literal, char_literal, bytes_literal, c_string_literal}
-use Rattle.hir_page.specs.Writes.{Writes, all_written, written}
-use Rattle.hir_printer.specs.Questions.{Setting}
-use Rattle.hir_printer.specs.Items.{Item, Put, Lacks, Whole, Under, Pattern, TypeItem, text}
-use Rattle.hir_printer.specs.Names.{name_parts, name_items}
-use Rattle.hir_printer.specs.Literals.{literal_items, put_pieces}
-use Rattle.hir_printer.specs.Pieces.{NodePiece, Layout, Absent, items_of, item_pieces, pieces, item_list_pieces, with_parentheses, first_missing, layout}
-use Rattle.hir_printer.specs.Falls.{ItemsFall}
-use Rattle.hir_printer.specs.Printers.{enclose, printing, Leads}
 use Rattle.hir_printer.proofs.StepLemmas.{pieces_at}
 
 -- 1. Items and pieces
@@ -84,11 +75,6 @@ enclosed_printed s fall true id =
     ∙ sym (append-nil (Layout (Text (codes "(")) ∷ (pieces s (node.Expr id) ++ close)))
 
 -- 2. A page
-
--- a writer of a page that was led over pieces
-pub page_is : {refuses : Page → Piece → Page → Type 0} {u v : Page} {ps : List Piece} → Writes (λ page piece after. after ≡ render piece page) refuses u ps true v → v ≡ all_rendered ps u
-page_is all_written = refl
-page_is {ps = q ∷ ps} (written k more) = page_is more ∙ ap (all_rendered ps) k
 
 pub printing_pieces : (page : Page) (ps : List Piece) (rest : List NodePiece) → printing page (map Layout ps ++ rest) ≡ printing (all_rendered ps page) rest
 unfolding printing

@@ -1,9 +1,6 @@
 -- The items of a function type by its parameters and its result.
-use Rattle.std.proofs.Common.{◌≡◌, ℕ, ◌-◌, Bool, true, false, List, [], ◌∷◌, ◌++◌, codes, map, length, Option, refl, sym, ap, ap₂, ◌∙◌, arith, append_assoc, append-nil, length-append}
-use Rattle.std.specs.Prelude.{◌&&◌, ◌==◌, not}
-use Rattle.std.specs.List.{flat_map}
-use Rattle.hir_printer.specs.Items.{Item, text, t, when, join, comma_joined}
-use Rattle.hir_printer.specs.Types.{front, last, varargs_items, signature_items}
+use Rattle.std.proofs.Common.{◌≡◌, ℕ, ◌-◌, Bool, true, false, List, [], ◌∷◌, ◌++◌, codes, map, length, Option, refl, sym, ap, ap₂, ◌∙◌, arith, append_assoc, append-nil, length-append, ◌&&◌, ◌==◌, not, flat_map}
+use Rattle.hir_printer.specs.Prelude.{Item, text, t, when, join, comma_joined, front, last, varargs_items, signature_items}
 use Rattle.hir_printer.proofs.ListLemmas.{is_cons}
 use Rattle.hir_printer.proofs.OrderLemmas.{not_empty}
 

@@ -1,13 +1,8 @@
 -- The pieces of a node are those of its items, in a store where what is printed inside a node stands lower.
-use Rattle.std.proofs.Common.{◌≡◌, ℕ, zero, suc, ◌<◌, List, [], ◌∷◌, ◌++◌, refl, ap, ap₂, arith}
-use Rattle.std.specs.List.{flat_map}
-use Rattle.hir_node.specs.declared.node_id.NodeId.{NodeId}
+use Rattle.std.proofs.Common.{◌≡◌, ℕ, zero, suc, ◌<◌, List, [], ◌∷◌, ◌++◌, refl, ap, ap₂, arith, flat_map}
+use Rattle.hir_printer.specs.Prelude.{NodeId, Setting, Item, Put, Lacks, Whole, Under, Pattern, TypeItem, NodePiece, items_of, item_pieces, pieces_step, pieces, AllNodes, ItemsFall}
 use Rattle.hir_node.specs.declared.node_id.NodeId.TheVariants as node
 use Rattle.hir_faults.specs.Down.{rank, value_within, value}
-use Rattle.hir_printer.specs.Questions.{Setting}
-use Rattle.hir_printer.specs.Items.{Item, Put, Lacks, Whole, Under, Pattern, TypeItem}
-use Rattle.hir_printer.specs.Pieces.{NodePiece, items_of, item_pieces, pieces_step, pieces}
-use Rattle.hir_printer.specs.Falls.{AllNodes, ItemsFall}
 
 -- nodes among lists one after another
 pub nodes_append : (P : NodeId → Type 0) (xs ys : List Item) → AllNodes P xs → AllNodes P ys → AllNodes P (xs ++ ys)

@@ -1,48 +1,20 @@
 -- A turn of the loop, by what its work is.
-use Rattle.std.proofs.Common.{◌≡◌, ℕ, ◌+◌, ◌<◌, ◌≤◌, true, List, [], ◌∷◌, ◌++◌, map, Option, Some, None, refl, sym, ap, ap₂, subst, ◌∙◌, arith, append_assoc, append-nil}
-use Rattle.std.specs.Prelude.{Result, Ok, Err, OnOk, MatchResult, is_ok, String, string_bytes}
-use Rattle.hir_page.specs.Writes.{Writes, all_written, written, refused}
+use Rattle.std.proofs.Common.{◌≡◌, ℕ, ◌+◌, ◌<◌, ◌≤◌, true, List, [], ◌∷◌, ◌++◌, map, Option, Some, None, refl, sym, ap, ap₂, subst, ◌∙◌, arith, append_assoc, append-nil, Result, Ok, Err, String, string_bytes, slice_get}
 use Rattle.hir_base.specs.declared.prec.ExprPrecedence.{ExprPrecedence}
-use Rattle.hir_node.specs.declared.node_id.NodeId.{NodeId}
+use Rattle.hir_printer.specs.Prelude.{NodeId, Missing, Setting, Item, Under, text, PrintsPieces, Layout, first_missing, items_of, pieces, item_list_pieces, stands_in_parentheses, precedence_found, ItemsFall, heft, Printing, on_page, stands_for, items_of_works, printing, Leads, WroteWork, AddsItems, GaveWayTo, TurnedBy, enclose}
 use Rattle.hir_node.specs.declared.node_id.NodeId.TheVariants as node
-use Rattle.hir_expr_store.specs.declared.missing.Missing.{Missing}
-use Rattle.std.specs.List.{slice_get}
 use Rattle.hir_page.specs.Page.{Page, all_rendered, page_text}
 use Rattle.hir_page.specs.Pieces.{Piece}
 use Rattle.hir_printer.specs.declared.work.Work.{Work}
 use Rattle.hir_printer.specs.declared.work.Work.TheVariants as work
-use Rattle.hir_printer.specs.Questions.{Setting}
-use Rattle.hir_printer.specs.Items.{Item, Under, text}
 use Rattle.hir_printer.specs.declared.fault.PrintFault.{PrintFault}
 use Rattle.hir_printer.specs.declared.fault.PrintFault.TheVariants as fault
-use Rattle.hir_printer.specs.PrintAnswers.{PrintsPieces}
-use Rattle.hir_printer.specs.Pieces.{Layout, first_missing, items_of, pieces, item_list_pieces, stands_in_parentheses, precedence_found}
-use Rattle.hir_printer.specs.Falls.{ItemsFall}
-use Rattle.hir_printer.specs.Weights.{heft}
-use Rattle.hir_printer.specs.Printing.{Printing, on_page}
-use Rattle.hir_printer.specs.Printers.{stands_for, items_of_works, printing, Leads, WroteWork, AddsItems, GaveWayTo, TurnedBy, enclose}
 use Rattle.hir_printer.proofs.StepLemmas.{pieces_at}
 use Rattle.hir_printer.proofs.AddLemmas.{heft-append, meant-append, leads_as, leads_then, adds_here}
 use Rattle.hir_printer.proofs.PieceLemmas.{printed-append, enclosed_printed, pieces_lead, missing_is, page_of_pieces, nothing_left, is_missing}
 use Rattle.hir_printer.proofs.WeightLemmas.{weight_at, enclosed_heft}
 
 -- 1. What was written
-
--- what follows from a call that wasn't refused
-pub on_ok_of : {T E P Q : Type 0} (R : Type 0) (r : Result T E) → (P → Q) → MatchResult r (λ _. P) (λ _. R) → OnOk r Q
-on_ok_of R (Ok x) f m = f m
-on_ok_of R (Err e) f m = tt
-
-pub on_ok_writes : {T E Q W : Type 0} {step refuses : W → Piece → W → Type 0} {u v : W} {ps : List Piece} (r : Result T E) → (Writes step refuses u ps true v → Q)
-    → Writes step refuses u ps (is_ok r) v → OnOk r Q
-on_ok_writes (Ok x) f m = f m
-on_ok_writes (Err e) f m = tt
-
--- a call of the writer that is the answer
-pub text_writes : {T E W : Type 0} {step refuses : W → Piece → W → Type 0} {u v : W} {p : Piece} (r : Result T E) → MatchResult r (λ _. step u p v) (λ _. refuses u p v)
-    → Writes step refuses u (p ∷ []) (is_ok r) v
-text_writes (Ok x) m = written m all_written
-text_writes (Err e) m = refused m
 
 pub wrote : {w : Work} {old new : Printing} (ps : List Piece) → new ≡ record old { page = new.page } → item_list_pieces old.from (stands_for old.from w) ≡ map Layout ps
     → new.page ≡ all_rendered ps old.page → 0 < heft old.from (stands_for old.from w) → WroteWork w old new

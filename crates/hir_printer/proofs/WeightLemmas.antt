@@ -1,19 +1,9 @@
 -- How much is to be done for what is printed.
-use Rattle.std.proofs.Common.{◌≡◌, ℕ, zero, suc, ◌+◌, ◌<◌, ◌≤◌, Bool, true, false, List, [], ◌∷◌, codes, refl, arith}
-use Rattle.std.specs.Prelude.{◌==◌, if◌then◌else◌}
-use Rattle.std.specs.List.{flat_map}
+use Rattle.std.proofs.Common.{◌≡◌, ℕ, zero, suc, ◌+◌, ◌<◌, ◌≤◌, Bool, true, false, List, [], ◌∷◌, codes, refl, arith, ◌==◌, if◌then◌else◌, flat_map}
 use Rattle.hir_node.specs.declared.literal.Literal.{Literal}
 use Rattle.hir_node.specs.declared.literal.Literal.TheVariants as literal
-use Rattle.hir_node.specs.declared.node_id.NodeId.{NodeId}
+use Rattle.hir_printer.specs.Prelude.{NodeId, Setting, Item, Put, Lacks, Whole, Under, Pattern, TypeItem, text, is_word, raw_parts, name_items, same_text, literal_items, items_of, AllNodes, ItemsFall, total, item_weight, weight_step, weight, heft, enclose}
 use Rattle.hir_faults.specs.Down.{rank, value_within, value}
-use Rattle.hir_printer.specs.Questions.{Setting}
-use Rattle.hir_printer.specs.Items.{Item, Put, Lacks, Whole, Under, Pattern, TypeItem, text}
-use Rattle.hir_printer.specs.Names.{is_word, raw_parts, name_items, same_text}
-use Rattle.hir_printer.specs.Literals.{literal_items}
-use Rattle.hir_printer.specs.Pieces.{items_of}
-use Rattle.hir_printer.specs.Falls.{AllNodes, ItemsFall}
-use Rattle.hir_printer.specs.Weights.{total, item_weight, weight_step, weight, heft}
-use Rattle.hir_printer.specs.Printers.{enclose}
 use Rattle.hir_printer.proofs.StepLemmas.{nodes_weaker}
 use Rattle.hir_printer.proofs.AddLemmas.{total-append}
 

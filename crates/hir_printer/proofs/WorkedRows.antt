@@ -1,13 +1,12 @@
 -- Worked shapes: trees, and the texts that their pieces give.
-use Rattle.std.proofs.Common.{◌≡◌, ℕ, Bool, true, false, List, [], ◌∷◌, Some, None, refl, codes}
-use Rattle.std.specs.Prelude.{Ok, Err}
+use Rattle.std.proofs.Common.{◌≡◌, ℕ, Bool, true, false, List, [], ◌∷◌, Some, None, refl, codes, Ok, Err}
 use Rattle.hir_base.specs.declared.hygiene.SyntaxContext.TheVariants as context
 use Rattle.hir_base.specs.declared.edition.Edition.TheVariants as edition
 use Rattle.hir_forest.specs.Height.{height}
 use Rattle.std.specs.Fmt.{digits}
 use Rattle.std.specs.Str.{chars}
 use lib.Utf8.{encode}
-use Rattle.hir_node.specs.declared.binding.Binding.{Binding}
+use Rattle.hir_node.specs.declared.{binding.Binding.Binding, expr.Expr.Expr, pat.Pat.Pat, type_ref.TypeRef.TypeRef}
 use Rattle.hir_node.specs.declared.binding.BindingAnnotation.TheVariants as mode
 use Rattle.hir_node.specs.declared.literal.Literal.TheVariants as literal
 use Rattle.hir_node.specs.declared.expr_types.Statement.TheVariants as statement
@@ -23,18 +22,14 @@ use Rattle.hir_base.specs.declared.defs.NamedDef.TheVariants as named
 use Rattle.hir_path.specs.declared.path.Path.{Path}
 use Rattle.hir_path.specs.declared.path.Path.TheVariants as path
 use Rattle.hir_node.specs.declared.node_id.NodeId.TheVariants as node
-use Rattle.hir_node.specs.declared.expr.Expr.{Expr}
 use Rattle.hir_node.specs.declared.expr.Expr.TheVariants as expr
 use Rattle.hir_node.specs.declared.expr_types.Array.TheVariants as array
 use Rattle.hir_node.specs.declared.expr_types.RecordSpread.TheVariants as spread
-use Rattle.hir_node.specs.declared.pat.Pat.{Pat}
 use Rattle.hir_node.specs.declared.pat.Pat.TheVariants as pat
-use Rattle.hir_node.specs.declared.type_ref.TypeRef.{TypeRef}
 use Rattle.hir_node.specs.declared.type_ref.TypeRef.TheVariants as type
 use Rattle.hir_expr_store.specs.declared.missing.Missing.TheVariants as missing
 use Rattle.hir_faults.specs.Down.{value, rank}
-use Rattle.hir_printer.specs.Questions.{Questions, Setting}
-use Rattle.hir_printer.specs.Pieces.{pieces, path_pieces, first_missing, text_of}
+use Rattle.hir_printer.specs.Prelude.{Questions, Setting, pieces, path_pieces, first_missing, text_of}
 
 -- tables that hold nothing
 abbrev no_tables : Questions
@@ -82,134 +77,53 @@ pat_text pats id = let s = setting [] pats [] (binding (codes "a") ∷ binding (
 abbrev path_text : List Expr → List TypeRef → Path → List ℕ
 path_text exprs types p = let s = setting exprs [] types [] false in text_of s (path_pieces s p)
 
-words_are_raw : path_text [] [] (bare (codes "match" ∷ [])) ≡ codes "r#match"
-unfolding pieces
-words_are_raw = refl
+-- names, literals, constants and operators
+literals_and_operators :
+    (path_text [] [] (bare (codes "match" ∷ [])) ≡ codes "r#match")
+    × (exprs_text (expr.Literal (literal.String (codes "a\"'")) ∷ []) 0 ≡ codes "\"a\\\"'\"")
+    × (exprs_text (expr.Literal (literal.CString (codes "a")) ∷ []) 0 ≡ codes "\"a\\0\"")
+    × (exprs_text (expr.Literal (literal.ByteString (0 ∷ 34 ∷ 255 ∷ [])) ∷ []) 0 ≡ codes "\"\\x00\\\"\\xff\"")
+    × (exprs_text (expr.Const 3 ∷ []) 0 ≡ codes "const { /* ExprId(3) */ }")
+    × (exprs_text (var (codes "a") ∷ var (codes "b") ∷ expr.BinaryOp 0 1 (Some (binary.ArithOp arith.Sub)) ∷ var (codes "c") ∷ expr.BinaryOp 2 3 (Some (binary.ArithOp arith.Sub)) ∷ []) 4 ≡ codes "(a - b) - c")
+    × (exprs_text (var (codes "a") ∷ var (codes "b") ∷ expr.BinaryOp 0 1 (Some (binary.LogicOp logic.And)) ∷ var (codes "c") ∷ expr.BinaryOp 2 3 (Some (binary.LogicOp logic.And)) ∷ []) 4 ≡ codes "a && b && c")
+    × (expr_text (var (codes "x") ∷ expr.Cast 0 2 ∷ []) [] (named_type (codes "u32") ∷ type.Tuple [] ∷ type.Fn (record { binder = None; params = (None, 0) ∷ (None, 1) ∷ []; is_varargs = false; is_unsafe = false; abi = abi.C }) ∷ []) [] 1 ≡ codes "x as extern C fn(u32) -> ()")
+unfolding pieces value rank height chars encode digits
+literals_and_operators = (refl, refl, refl, refl, refl, refl, refl, refl)
 
-elements : exprs_text (var (codes "a") ∷ var (codes "b") ∷ expr.Array (array.ElementList (0 ∷ 1 ∷ [])) ∷ []) 2
-    ≡ codes "[\n    a, b,\n]"
+-- arrays, tuples, arguments and fields
+lists :
+    (exprs_text (var (codes "a") ∷ var (codes "b") ∷ expr.Array (array.ElementList (0 ∷ 1 ∷ [])) ∷ []) 2 ≡ codes "[\n    a, b,\n]")
+    × (exprs_text (var (codes "x") ∷ var (codes "y") ∷ expr.Match 1 [] ∷ expr.Array (array.Repeat 0 2) ∷ []) 3 ≡ codes "[\n    x; match y {\n    }\n\n]")
+    × (exprs_text (var (codes "f") ∷ var (codes "x") ∷ expr.Call 0 (1 ∷ []) ∷ []) 2 ≡ codes "f(\n    x,\n)")
+    × (exprs_text (var (codes "a") ∷ var (codes "b") ∷ expr.Tuple (0 ∷ 1 ∷ []) ∷ []) 2 ≡ codes "(a, b, )")
+    × (exprs_text (var (codes "x") ∷ expr.RecordLit (bare (codes "S" ∷ [])) (record { name = codes "a"; expr = 0 } ∷ []) spread.None ∷ []) 1 ≡ codes "S{\n    a: x,\n}")
 unfolding pieces value rank height
-elements = refl
+lists = (refl, refl, refl, refl, refl)
 
-match_in_a_repeat : exprs_text (var (codes "x") ∷ var (codes "y") ∷ expr.Match 1 [] ∷ expr.Array (array.Repeat 0 2) ∷ []) 3
-    ≡ codes "[\n    x; match y {\n    }\n\n]"
+-- blocks
+blocks :
+    (expr_text (var (codes "M") ∷ var (codes "W") ∷ expr.Assignment 0 0 ∷ expr.Block None (statement.Expr 2 true ∷ []) (Some 1) None unsafety.No ∷ []) (bind 0 ∷ []) [] (binding (codes "x") ∷ []) 3 ≡ codes "{\n    x = M;\n    W\n}")
+    × (exprs_text (expr.Block None (statement.Item item.Other ∷ []) None None unsafety.No ∷ []) 0 ≡ codes "{\n}")
+    × (exprs_text (var (codes "x") ∷ var (codes "y") ∷ expr.Match 1 [] ∷ expr.Array (array.Repeat 0 2) ∷ expr.Block None [] (Some 3) None unsafety.No ∷ []) 4 ≡ codes "{\n    [\n        x; match y {\n        }\n    \n    ]\n}")
 unfolding pieces value rank height
-match_in_a_repeat = refl
+blocks = (refl, refl, refl)
 
-arguments_in_lines : exprs_text (var (codes "f") ∷ var (codes "x") ∷ expr.Call 0 (1 ∷ []) ∷ []) 2
-    ≡ codes "f(\n    x,\n)"
+-- patterns in one line; a word of the edition never stands alone
+patterns :
+    (pat_text (bind 0 ∷ pat.Record true (bare (codes "S" ∷ [])) (record { name = codes "a"; pat = 0 } ∷ []) ∷ []) 1 ≡ codes "S { a, .. }")
+    × (pat_text (bind 2 ∷ pat.Record false (bare (codes "S" ∷ [])) (record { name = codes "match"; pat = 0 } ∷ []) ∷ []) 1 ≡ codes "S { r#match: r#match }")
+    × (pat_text (pat.Record false (bare (codes "S" ∷ [])) [] ∷ []) 0 ≡ codes "S { }")
+    × (pat_text (bind 0 ∷ bind 1 ∷ pat.TupleStruct (bare (codes "T" ∷ [])) (0 ∷ 1 ∷ []) (Some 1) ∷ []) 2 ≡ codes "T(a, .., b)")
+    × (pat_text (bind 0 ∷ pat.Tuple (0 ∷ []) (Some 7) ∷ []) 1 ≡ codes "(a, ..)")
+    × (pat_text (pat.Tuple [] (Some 0) ∷ []) 0 ≡ codes "(..)")
+    × (pat_text (bind 0 ∷ bind 1 ∷ pat.Slice (0 ∷ 1 ∷ []) None [] ∷ []) 2 ≡ codes "[a, b, ]")
 unfolding pieces value rank height
-arguments_in_lines = refl
+patterns = (refl, refl, refl, refl, refl, refl, refl)
 
-tuple : exprs_text (var (codes "a") ∷ var (codes "b") ∷ expr.Tuple (0 ∷ 1 ∷ []) ∷ []) 2
-    ≡ codes "(a, b, )"
+-- the first definition that is missing, in printing order, and a lang item by the name that the tables have
+definitions :
+    ((let s = setting (expr.Path (path.LangItem (target.StructId 1) None) ∷ expr.Path (path.LangItem (target.FunctionId 0) None) ∷ expr.Tuple (0 ∷ 1 ∷ []) ∷ []) [] [] [] false in first_missing (pieces s (node.Expr 2))) ≡ Some (missing.Name (named.StructId 1)))
+    × ((let s = setting [] [] [] [] false in first_missing (path_pieces s (path.BarePath (record { kind = kind.DollarCrate 0; segments = codes "a" ∷ [] })))) ≡ Some (missing.Crate 0))
+    × (text_of (record (setting [] [] [] [] false) { tables = record no_tables { name = λ def. Ok (Some (codes "f")) } }) (path_pieces (record (setting [] [] [] [] false) { tables = record no_tables { name = λ def. Ok (Some (codes "f")) } }) (path.LangItem (target.FunctionId 0) (Some (codes "new")))) ≡ codes "builtin#lang(f::new)")
 unfolding pieces value rank height
-tuple = refl
-
-record_literal : exprs_text (var (codes "x") ∷ expr.RecordLit (bare (codes "S" ∷ [])) (record { name = codes "a"; expr = 0 } ∷ []) spread.None ∷ []) 1
-    ≡ codes "S{\n    a: x,\n}"
-unfolding pieces value rank height
-record_literal = refl
-
-minus_to_the_left : exprs_text (var (codes "a") ∷ var (codes "b") ∷ expr.BinaryOp 0 1 (Some (binary.ArithOp arith.Sub)) ∷ var (codes "c") ∷ expr.BinaryOp 2 3 (Some (binary.ArithOp arith.Sub)) ∷ []) 4
-    ≡ codes "(a - b) - c"
-unfolding pieces value rank height
-minus_to_the_left = refl
-
-and_in_a_chain : exprs_text (var (codes "a") ∷ var (codes "b") ∷ expr.BinaryOp 0 1 (Some (binary.LogicOp logic.And)) ∷ var (codes "c") ∷ expr.BinaryOp 2 3 (Some (binary.LogicOp logic.And)) ∷ []) 4
-    ≡ codes "a && b && c"
-unfolding pieces value rank height
-and_in_a_chain = refl
-
-constant : exprs_text (expr.Const 3 ∷ []) 0
-    ≡ codes "const { /* ExprId(3) */ }"
-unfolding pieces value rank height digits
-constant = refl
-
-cast_to_a_function : expr_text (var (codes "x") ∷ expr.Cast 0 2 ∷ []) [] (named_type (codes "u32") ∷ type.Tuple [] ∷ type.Fn (record { binder = None; params = (None, 0) ∷ (None, 1) ∷ []; is_varargs = false; is_unsafe = false; abi = abi.C }) ∷ []) [] 1
-    ≡ codes "x as extern C fn(u32) -> ()"
-unfolding pieces value rank height
-cast_to_a_function = refl
-
-escapes : exprs_text (expr.Literal (literal.String (codes "a\"'")) ∷ []) 0
-    ≡ codes "\"a\\\"'\""
-unfolding pieces value rank height chars encode
-escapes = refl
-
-c_string : exprs_text (expr.Literal (literal.CString (codes "a")) ∷ []) 0
-    ≡ codes "\"a\\0\""
-unfolding pieces value rank height
-c_string = refl
-
-bytes : exprs_text (expr.Literal (literal.ByteString (0 ∷ 34 ∷ 255 ∷ [])) ∷ []) 0
-    ≡ codes "\"\\x00\\\"\\xff\""
-unfolding pieces value rank height
-bytes = refl
-
-record_pattern : pat_text (bind 0 ∷ pat.Record true (bare (codes "S" ∷ [])) (record { name = codes "a"; pat = 0 } ∷ []) ∷ []) 1
-    ≡ codes "S { a, .. }"
-unfolding pieces value rank height
-record_pattern = refl
-
--- a word of the edition never stands alone
-record_pattern_of_a_word : pat_text (bind 2 ∷ pat.Record false (bare (codes "S" ∷ [])) (record { name = codes "match"; pat = 0 } ∷ []) ∷ []) 1
-    ≡ codes "S { r#match: r#match }"
-unfolding pieces value rank height
-record_pattern_of_a_word = refl
-
-record_pattern_without_fields : pat_text (pat.Record false (bare (codes "S" ∷ [])) [] ∷ []) 0
-    ≡ codes "S { }"
-unfolding pieces value rank height
-record_pattern_without_fields = refl
-
-rest_between : pat_text (bind 0 ∷ bind 1 ∷ pat.TupleStruct (bare (codes "T" ∷ [])) (0 ∷ 1 ∷ []) (Some 1) ∷ []) 2
-    ≡ codes "T(a, .., b)"
-unfolding pieces value rank height
-rest_between = refl
-
-rest_last : pat_text (bind 0 ∷ pat.Tuple (0 ∷ []) (Some 7) ∷ []) 1
-    ≡ codes "(a, ..)"
-unfolding pieces value rank height
-rest_last = refl
-
-rest_alone : pat_text (pat.Tuple [] (Some 0) ∷ []) 0
-    ≡ codes "(..)"
-unfolding pieces value rank height
-rest_alone = refl
-
-slice_pattern : pat_text (bind 0 ∷ bind 1 ∷ pat.Slice (0 ∷ 1 ∷ []) None [] ∷ []) 2
-    ≡ codes "[a, b, ]"
-unfolding pieces value rank height
-slice_pattern = refl
-
-block_in_lines : expr_text (var (codes "M") ∷ var (codes "W") ∷ expr.Assignment 0 0 ∷ expr.Block None (statement.Expr 2 true ∷ []) (Some 1) None unsafety.No ∷ []) (bind 0 ∷ []) [] (binding (codes "x") ∷ []) 3
-    ≡ codes "{\n    x = M;\n    W\n}"
-unfolding pieces value rank height
-block_in_lines = refl
-
-block_of_items : exprs_text (expr.Block None (statement.Item item.Other ∷ []) None None unsafety.No ∷ []) 0
-    ≡ codes "{\n}"
-unfolding pieces value rank height
-block_of_items = refl
-
-repeat_in_a_block : exprs_text (var (codes "x") ∷ var (codes "y") ∷ expr.Match 1 [] ∷ expr.Array (array.Repeat 0 2) ∷ expr.Block None [] (Some 3) None unsafety.No ∷ []) 4
-    ≡ codes "{\n    [\n        x; match y {\n        }\n    \n    ]\n}"
-unfolding pieces value rank height
-repeat_in_a_block = refl
-
--- the first definition that is missing, in printing order
-first_is_named : (let s = setting (expr.Path (path.LangItem (target.StructId 1) None) ∷ expr.Path (path.LangItem (target.FunctionId 0) None) ∷ expr.Tuple (0 ∷ 1 ∷ []) ∷ []) [] [] [] false in first_missing (pieces s (node.Expr 2)))
-    ≡ Some (missing.Name (named.StructId 1))
-unfolding pieces value rank height
-first_is_named = refl
-
-crate_is_named : (let s = setting [] [] [] [] false in first_missing (path_pieces s (path.BarePath (record { kind = kind.DollarCrate 0; segments = codes "a" ∷ [] })))) ≡ Some (missing.Crate 0)
-unfolding pieces
-crate_is_named = refl
-
--- a lang item, by the name that the tables have
-lang_item : text_of (record (setting [] [] [] [] false) { tables = record no_tables { name = λ def. Ok (Some (codes "f")) } })
-    (path_pieces (record (setting [] [] [] [] false) { tables = record no_tables { name = λ def. Ok (Some (codes "f")) } }) (path.LangItem (target.FunctionId 0) (Some (codes "new"))))
-    ≡ codes "builtin#lang(f::new)"
-unfolding pieces
-lang_item = refl
+definitions = (refl, refl, refl)

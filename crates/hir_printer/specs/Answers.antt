@@ -1,10 +1,8 @@
 -- What the tables of outside definitions answer to printing.
-use Rattle.std.specs.Prelude.{ℕ, List, [], ◌∷◌, Option, Some, None, Result, Ok, Err, slice_get}
-use Rattle.std.specs.Option.{option_map}
+use Rattle.std.specs.Prelude.{ℕ, List, [], ◌∷◌, Option, Some, None, Result, Ok, Err, slice_get, option_map}
 use Rattle.std.specs.FinMap as map
 use Rattle.hir_base.specs.Keys.{named_code}
-use Rattle.hir_base.specs.declared.params.TypeOrConstParamId.{TypeOrConstParamId}
-use Rattle.hir_base.specs.declared.params.LifetimeParamId.{LifetimeParamId}
+use Rattle.hir_base.specs.declared.{params.TypeOrConstParamId.TypeOrConstParamId, params.LifetimeParamId.LifetimeParamId}
 use Rattle.hir_generics.specs.Params.{name_of}
 use Rattle.hir_generics.specs.declared.data.LifetimeParamData.{LifetimeParamData}
 use Rattle.hir_expr_store.specs.declared.missing.Missing.{Missing}

@@ -1,32 +1,19 @@
 -- What expressions are printed as.
-use Rattle.std.specs.Prelude.{ℕ, Bool, List, [], ◌∷◌, ◌++◌, map, Option, Some, None, codes, slice_get}
-use Rattle.std.specs.List.{flat_map}
+use Rattle.std.specs.Prelude.{ℕ, Bool, List, [], ◌∷◌, ◌++◌, map, Option, Some, None, codes, slice_get, flat_map}
 use Rattle.hir_base.specs.OpTexts.{binary_text, unary_text}
 use Rattle.hir_base.specs.declared.operators.BinaryOp.{BinaryOp}
 use Rattle.hir_base.specs.declared.prec.ExprPrecedence.TheVariants.{Jump, Assign, Prefix, Postfix, Cast}
-use Rattle.hir_node.specs.Precedence.{of_operator}
-use Rattle.hir_node.specs.Keywords.{ref_keyword}
-use Rattle.hir_node.specs.declared.type_ref.Rawness.{Rawness}
+use Rattle.hir_node.specs.{Precedence.of_operator, Keywords.ref_keyword}
+use Rattle.hir_node.specs.declared.{type_ref.Rawness.Rawness, expr_types.RecordSpread.RecordSpread, expr_types.Unsafe.Unsafe, expr_types.CoroutineKind.CoroutineKind, expr_types.ClosureKind.ClosureKind, expr_types.Movability.Movability, expr_types.CaptureBy.CaptureBy, expr_types.Array.Array, expr_types.MatchArm.MatchArm, expr_types.RecordLitField.RecordLitField, expr_types.Statement.Statement, expr.Expr.Expr}
 use Rattle.hir_node.specs.declared.type_ref.Rawness.TheVariants as rawness
-use Rattle.hir_node.specs.declared.expr_types.RecordSpread.{RecordSpread}
 use Rattle.hir_node.specs.declared.expr_types.RecordSpread.TheVariants as spread
-use Rattle.hir_node.specs.declared.expr_types.Unsafe.{Unsafe}
 use Rattle.hir_node.specs.declared.expr_types.Unsafe.TheVariants as unsafety
-use Rattle.hir_node.specs.declared.expr_types.CoroutineKind.{CoroutineKind}
 use Rattle.hir_node.specs.declared.expr_types.CoroutineKind.TheVariants as coroutine
-use Rattle.hir_node.specs.declared.expr_types.ClosureKind.{ClosureKind}
 use Rattle.hir_node.specs.declared.expr_types.ClosureKind.TheVariants as closure
-use Rattle.hir_node.specs.declared.expr_types.Movability.{Movability}
 use Rattle.hir_node.specs.declared.expr_types.Movability.TheVariants as movability
-use Rattle.hir_node.specs.declared.expr_types.CaptureBy.{CaptureBy}
 use Rattle.hir_node.specs.declared.expr_types.CaptureBy.TheVariants as capture
-use Rattle.hir_node.specs.declared.expr_types.Array.{Array}
 use Rattle.hir_node.specs.declared.expr_types.Array.TheVariants as array
-use Rattle.hir_node.specs.declared.expr_types.MatchArm.{MatchArm}
-use Rattle.hir_node.specs.declared.expr_types.RecordLitField.{RecordLitField}
-use Rattle.hir_node.specs.declared.expr_types.Statement.{Statement}
 use Rattle.hir_node.specs.declared.expr_types.Statement.TheVariants as statement
-use Rattle.hir_node.specs.declared.expr.Expr.{Expr}
 use Rattle.hir_node.specs.declared.expr.Expr.TheVariants as expr
 use Rattle.hir_faults.specs.Nodes.{Nodes}
 use Rattle.hir_printer.specs.Questions.{Setting}
@@ -134,20 +121,14 @@ params (pat ∷ pats) (type ∷ types) = (p pat ++ opt (λ id. text (codes ": ")
 
 -- the parameters and the type of the result, which a coroutine doesn't have
 abbrev pub header : ClosureKind → List (List Item) → Option ℕ → List Item
-header closure.Closure params ret = text (codes "|") ++ comma_joined params ++ text (codes "|")
-    ++ opt (λ id. text (codes " -> ") ++ t id) ret ++ sp
-header (closure.OldCoroutine _) params ret = text (codes "|") ++ comma_joined params ++ text (codes "|")
-    ++ opt (λ id. text (codes " -> ") ++ t id) ret ++ sp
 header (closure.Coroutine kind source) params ret = []
-header (closure.CoroutineClosure kind) params ret = text (codes "|") ++ comma_joined params
-    ++ text (codes "|") ++ opt (λ id. text (codes " -> ") ++ t id) ret ++ sp
+header kind params ret = text (codes "|") ++ comma_joined params ++ text (codes "|")
+    ++ opt (λ id. text (codes " -> ") ++ t id) ret ++ sp
 
 -- the body of a closure that is a coroutine
 abbrev pub of_coroutine : ClosureKind → ℕ → ℕ → ℕ
-of_coroutine closure.Closure self body = self
-of_coroutine (closure.OldCoroutine _) self body = self
 of_coroutine (closure.Coroutine kind source) self body = body
-of_coroutine (closure.CoroutineClosure kind) self body = self
+of_coroutine kind self body = self
 
 -- an expression, or its body where it is a closure that is a coroutine
 abbrev pub coroutine_body : Option Expr → ℕ → ℕ
@@ -157,10 +138,8 @@ coroutine_body found self = self
 
 -- what is printed as the body of a closure: of a coroutine closure the body of its coroutine
 abbrev pub printed_body : Nodes → ClosureKind → ℕ → ℕ
-printed_body s closure.Closure body = body
-printed_body s (closure.OldCoroutine _) body = body
-printed_body s (closure.Coroutine kind source) body = body
 printed_body s (closure.CoroutineClosure kind) body = coroutine_body (slice_get s.exprs body) body
+printed_body s kind body = body
 
 abbrev pub expr_items : Setting → Expr → List Item
 expr_items s expr.Missing = replacement

@@ -1,3 +1,4 @@
+pub mod Prelude
 pub mod Questions
 pub mod Items
 pub mod Names
@@ -10,7 +11,6 @@ pub mod Pieces
 pub mod Falls
 pub mod Settings
 pub mod PrintAnswers
-pub mod Kinds
 pub mod Weights
 pub mod Printing
 pub mod Printers

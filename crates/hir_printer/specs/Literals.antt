@@ -1,12 +1,12 @@
 -- What literals are printed as.
-use Rattle.std.specs.Prelude.{ℕ, Bool, true, false, List, [], ◌∷◌, ◌++◌, map, codes}
-use Rattle.std.specs.Fmt.{decimal, signed_decimal}
+use Rattle.std.specs.Prelude.{ℕ, Bool, true, false, List, [], ◌∷◌, ◌++◌, map, codes, decimal}
+use Rattle.std.specs.Fmt.{signed_decimal}
 use Rattle.hir_base.specs.OpTexts.{int_text, uint_text, float_text}
 use Rattle.hir_node.specs.declared.literal.Literal.{Literal}
 use Rattle.hir_node.specs.declared.literal.Literal.TheVariants as literal
 use Rattle.hir_page.specs.Pieces.{Piece}
 use Rattle.hir_page.specs.Literals.{string_literal, char_literal, bytes_literal, c_string_literal}
-use Rattle.hir_printer.specs.Items.{Item, Put, Lacks, Whole, Under, Pattern, TypeItem, text, opt}
+use Rattle.hir_printer.specs.Items.{Item, Put, text, opt}
 
 abbrev pub bool_text : Bool → List ℕ
 bool_text true = codes "true"
@@ -26,8 +26,4 @@ literal_items (literal.Float number suffix) = text number ++ opt (λ s. text (fl
 abbrev pub put_pieces : List Item → List Piece
 put_pieces [] = []
 put_pieces (Put piece ∷ is) = piece ∷ put_pieces is
-put_pieces (Lacks missing ∷ is) = put_pieces is
-put_pieces (Whole id ∷ is) = put_pieces is
-put_pieces (Under id parent ∷ is) = put_pieces is
-put_pieces (Pattern id ∷ is) = put_pieces is
-put_pieces (TypeItem id ∷ is) = put_pieces is
+put_pieces (item ∷ is) = put_pieces is

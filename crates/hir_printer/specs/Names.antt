@@ -1,13 +1,8 @@
 -- How names, lifetimes, bindings and labels are printed.
-use Rattle.std.specs.Prelude.{ℕ, Bool, false, List, [], ◌∷◌, ◌++◌, ◌==◌, ◌||◌, if◌then◌else◌, Result, Ok, Err, codes, slice_get}
-use Rattle.std.specs.List.{flat_map}
+use Rattle.std.specs.Prelude.{ℕ, Bool, false, List, [], ◌∷◌, ◌++◌, ◌==◌, ◌||◌, if◌then◌else◌, Result, Ok, Err, codes, slice_get, flat_map, nat_eq}
 use Rattle.std.specs.Cmp.Lexicographic.{pointwise}
-use Rattle.std.specs.Bool.{nat_eq}
-use Rattle.hir_node.specs.declared.type_ref.LifetimeRef.{LifetimeRef}
+use Rattle.hir_node.specs.declared.{type_ref.LifetimeRef.LifetimeRef, binding.Binding.Binding, binding.Label.Label, binding.BindingAnnotation.BindingAnnotation}
 use Rattle.hir_node.specs.declared.type_ref.LifetimeRef.TheVariants as lifetime
-use Rattle.hir_node.specs.declared.binding.Binding.{Binding}
-use Rattle.hir_node.specs.declared.binding.Label.{Label}
-use Rattle.hir_node.specs.declared.binding.BindingAnnotation.{BindingAnnotation}
 use Rattle.hir_node.specs.declared.binding.BindingAnnotation.TheVariants.{Unannotated, Mutable, Ref, RefMut}
 use Rattle.hir_expr_store.specs.declared.missing.Missing.{Missing}
 use Rattle.hir_printer.specs.declared.names.NameParts.{NameParts}

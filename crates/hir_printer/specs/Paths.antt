@@ -1,23 +1,17 @@
 -- How paths, generic arguments and bounds are printed.
 use Rattle.std.specs.Prelude.{ℕ, zero, suc, Bool, true, false, List, [], ◌∷◌, ◌++◌, map, Option, Some, None, Result, Ok, Err, codes}
 use Rattle.hir_base.specs.ModPath.{ModPath}
-use Rattle.hir_base.specs.declared.mod_path.PathKind.{PathKind}
+use Rattle.hir_base.specs.declared.{mod_path.PathKind.PathKind, prec.ExprPrecedence.TheVariants.Unambiguous, defs.LangItemTarget.LangItemTarget}
 use Rattle.hir_base.specs.declared.mod_path.PathKind.TheVariants.{Plain, Super, Crate, Abs, DollarCrate}
-use Rattle.hir_base.specs.declared.prec.ExprPrecedence.TheVariants.{Unambiguous}
-use Rattle.hir_base.specs.declared.defs.LangItemTarget.{LangItemTarget}
 use Rattle.hir_base.specs.declared.defs.LangItemTarget.TheVariants as target
 use Rattle.hir_base.specs.declared.defs.NamedDef.TheVariants as named
-use Rattle.hir_path.specs.declared.bound.TypeBound.{TypeBound}
+use Rattle.hir_path.specs.declared.{bound.TypeBound.TypeBound, bound.TraitBoundModifier.TraitBoundModifier, bound.UseArgRef.UseArgRef, path.GenericArg.GenericArg, path.Path.Path}
 use Rattle.hir_path.specs.declared.bound.TypeBound.TheVariants as bound
-use Rattle.hir_path.specs.declared.bound.TraitBoundModifier.{TraitBoundModifier}
 use Rattle.hir_path.specs.declared.bound.TraitBoundModifier.TheVariants as modifier
-use Rattle.hir_path.specs.declared.bound.UseArgRef.{UseArgRef}
 use Rattle.hir_path.specs.declared.bound.UseArgRef.TheVariants as use_arg
-use Rattle.hir_path.specs.declared.path.GenericArg.{GenericArg}
 use Rattle.hir_path.specs.declared.path.GenericArg.TheVariants as arg
 use Rattle.hir_path.specs.declared.path.GenericArgs.{GenericArgs, GenericArgs-F, fold-GenericArgs}
 use Rattle.hir_path.specs.declared.path.AssociatedTypeBinding.{AssociatedTypeBinding, AssociatedTypeBinding-F, fold-AssociatedTypeBinding}
-use Rattle.hir_path.specs.declared.path.Path.{Path}
 use Rattle.hir_path.specs.declared.path.Path.TheVariants as path
 use Rattle.hir_expr_store.specs.declared.missing.Missing.{Missing}
 use Rattle.hir_printer.specs.Questions.{Setting}
@@ -124,10 +118,7 @@ kind_items s (DollarCrate id) = found_name (codes "$crate") (s.tables.crate_name
 -- whether `::` is before the first segment
 abbrev pub colons_first : PathKind → Bool
 colons_first Plain = false
-colons_first (Super n) = true
-colons_first Crate = true
-colons_first Abs = true
-colons_first (DollarCrate id) = true
+colons_first kind = true
 
 -- each segment with its arguments; `::` is before it where it is not the first, or where `after` says so
 abbrev pub segments_from : Setting → Bool → List (List ℕ) → List (Option GenericArgs) → List Item

@@ -1,15 +1,10 @@
 -- What patterns are printed as.
-use Rattle.std.specs.Prelude.{ℕ, Bool, true, false, ◌&&◌, not, List, [], ◌∷◌, ◌++◌, map, take, drop, Option, Some, None, codes, slice_get}
-use Rattle.std.specs.List.{flat_map}
-use Rattle.std.specs.Option.{option_to_list}
+use Rattle.std.specs.Prelude.{ℕ, Bool, true, false, ◌&&◌, not, List, [], ◌∷◌, ◌++◌, map, take, drop, Option, Some, None, codes, slice_get, flat_map, option_to_list}
 use Rattle.hir_base.specs.OpTexts.{range_text}
 use Rattle.hir_base.specs.declared.prec.ExprPrecedence.TheVariants.{Shift}
 use Rattle.hir_node.specs.Keywords.{ref_keyword}
-use Rattle.hir_node.specs.declared.binding.Binding.{Binding}
-use Rattle.hir_node.specs.declared.binding.BindingAnnotation.{BindingAnnotation}
-use Rattle.hir_node.specs.declared.binding.BindingAnnotation.TheVariants.{Unannotated, Mutable, Ref, RefMut}
-use Rattle.hir_node.specs.declared.pat.RecordFieldPat.{RecordFieldPat}
-use Rattle.hir_node.specs.declared.pat.Pat.{Pat}
+use Rattle.hir_node.specs.declared.{binding.Binding.Binding, binding.BindingAnnotation.BindingAnnotation, pat.RecordFieldPat.RecordFieldPat, pat.Pat.Pat}
+use Rattle.hir_node.specs.declared.binding.BindingAnnotation.TheVariants.{Unannotated}
 use Rattle.hir_node.specs.declared.pat.Pat.TheVariants as pat
 use Rattle.hir_printer.specs.Questions.{Setting}
 use Rattle.hir_printer.specs.Items.{Item, text, sp, br, into, out, under, p, opt, when, join, comma_joined, replacement}
@@ -26,9 +21,7 @@ in_parentheses rest args = text (codes "(") ++ comma_joined (with_rest rest (map
 
 abbrev pub is_unannotated : BindingAnnotation → Bool
 is_unannotated Unannotated = true
-is_unannotated Mutable = false
-is_unannotated Ref = false
-is_unannotated RefMut = false
+is_unannotated mode = false
 
 -- The binding's own text is what is printed of the field's name. A field that is a word of the edition is printed after `r#`, so a binding
 -- of that word has another text.

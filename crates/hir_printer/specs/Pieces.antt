@@ -1,12 +1,10 @@
 -- The pieces of a node, its text, and the first definition that is missing.
-use Rattle.std.specs.Prelude.{ℕ, Bool, true, false, ◌&&◌, not, List, [], ◌∷◌, ◌++◌, Option, Some, None, codes, slice_get}
-use Rattle.std.specs.List.{flat_map}
+use Rattle.std.specs.Prelude.{ℕ, Bool, true, false, ◌&&◌, not, List, [], ◌∷◌, ◌++◌, Option, Some, None, codes, slice_get, flat_map}
 use Rattle.hir_base.specs.Precedence.{needs_parentheses}
 use Rattle.hir_base.specs.declared.prec.ExprPrecedence.{ExprPrecedence}
 use Rattle.hir_base.specs.declared.prec.ExprPrecedence.TheVariants.{LOr, LAnd, Unambiguous}
 use Rattle.hir_node.specs.Precedence.{precedence}
-use Rattle.hir_node.specs.declared.expr.Expr.{Expr}
-use Rattle.hir_node.specs.declared.node_id.NodeId.{NodeId}
+use Rattle.hir_node.specs.declared.{expr.Expr.Expr, node_id.NodeId.NodeId}
 use Rattle.hir_node.specs.declared.node_id.NodeId.TheVariants as node
 use Rattle.hir_path.specs.declared.path.Path.{Path}
 use Rattle.hir_faults.specs.Down.{value}

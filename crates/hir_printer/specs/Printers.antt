@@ -1,7 +1,5 @@
 -- What works stand for, and what becomes of them.
-use Rattle.std.specs.Prelude.{◌≡◌, ◌<◌, ◌≤◌, ℕ, Bool, true, false, List, [], ◌∷◌, ◌++◌, Option, Some, None, ⊤, codes}
-use Rattle.std.specs.List.{flat_map}
-use Rattle.std.specs.Fmt.{decimal}
+use Rattle.std.specs.Prelude.{◌≡◌, ◌<◌, ◌≤◌, ℕ, Bool, true, false, List, [], ◌∷◌, ◌++◌, Option, Some, None, ⊤, codes, flat_map, decimal}
 use Rattle.hir_expr_store.specs.declared.missing.Missing.{Missing}
 use Rattle.hir_page.specs.Page.{Page, render}
 use Rattle.hir_printer.specs.declared.work.Work.{Work}
@@ -32,6 +30,16 @@ stands_for s (work.Pattern id) = p id
 stands_for s (work.Type id) = t id
 stands_for s (work.Args x) = turbofish (args_items s x.now)
 stands_for s (work.Lacks missing) = Lacks missing ∷ []
+
+-- a work that is neither text nor layout
+abbrev pub is_node : Work → Bool
+is_node (work.Whole id) = true
+is_node (work.Under id parent) = true
+is_node (work.Pattern id) = true
+is_node (work.Type id) = true
+is_node (work.Args x) = true
+is_node (work.Lacks missing) = true
+is_node w = false
 
 -- the items that works stand for, the first first
 abbrev pub items_of_works : Setting → List Work → List Item

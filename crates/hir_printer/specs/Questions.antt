@@ -1,8 +1,6 @@
 -- What printing looks up: in the store, in the tables of definitions, and among the words of an edition.
 use Rattle.std.specs.Prelude.{ℕ, Bool, List, Option, Result}
-use Rattle.hir_base.specs.declared.defs.NamedDef.{NamedDef}
-use Rattle.hir_base.specs.declared.params.TypeOrConstParamId.{TypeOrConstParamId}
-use Rattle.hir_base.specs.declared.params.LifetimeParamId.{LifetimeParamId}
+use Rattle.hir_base.specs.declared.{defs.NamedDef.NamedDef, params.TypeOrConstParamId.TypeOrConstParamId, params.LifetimeParamId.LifetimeParamId}
 use Rattle.hir_expr_store.specs.declared.missing.Missing.{Missing}
 use Rattle.hir_faults.specs.Nodes.{Nodes}
 

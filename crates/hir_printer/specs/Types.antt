@@ -1,11 +1,9 @@
 -- What types are printed as.
-use Rattle.std.specs.Prelude.{ℕ, Bool, true, false, List, [], ◌∷◌, ◌++◌, map, Option, Some, None, Result, Ok, Err, codes}
-use Rattle.hir_base.specs.declared.abi.ExternAbi.{ExternAbi}
-use Rattle.hir_base.specs.declared.abi.ExternAbi.TheVariants as abi
+use Rattle.std.specs.Prelude.{ℕ, Bool, true, false, List, [], ◌∷◌, ◌++◌, map, Option, Some, None, Result, Ok, Err, codes, decimal}
 use Rattle.hir_base.specs.Abi.{abi_text}
-use Rattle.hir_base.specs.declared.prec.ExprPrecedence.TheVariants.{Unambiguous}
-use Rattle.hir_node.specs.declared.type_ref.FnType.{FnType}
-use Rattle.hir_node.specs.declared.type_ref.TypeRef.{TypeRef}
+use Rattle.hir_base.specs.declared.{abi.ExternAbi.ExternAbi, prec.ExprPrecedence.TheVariants.Unambiguous}
+use Rattle.hir_base.specs.declared.abi.ExternAbi.TheVariants as abi
+use Rattle.hir_node.specs.declared.{type_ref.FnType.FnType, type_ref.TypeRef.TypeRef}
 use Rattle.hir_node.specs.declared.type_ref.TypeRef.TheVariants as type
 use Rattle.hir_node.specs.Keywords.{ref_keyword, ptr_keyword}
 use Rattle.hir_expr_store.specs.declared.missing.Missing.{Missing}
@@ -13,7 +11,6 @@ use Rattle.hir_printer.specs.Questions.{Setting}
 use Rattle.hir_printer.specs.Items.{Item, Lacks, text, under, p, t, opt, when, comma_joined}
 use Rattle.hir_printer.specs.Names.{name_items, l}
 use Rattle.hir_printer.specs.Paths.{path_items, bounds_items, for_names}
-use Rattle.std.specs.Fmt.{decimal}
 
 -- a type parameter: its name, or its number
 abbrev pub type_param_items : Setting → ℕ → Result (Option (List ℕ)) Missing → List Item
@@ -24,11 +21,7 @@ type_param_items s id (Err missing) = Lacks missing ∷ []
 -- `extern` and a calling convention, unless it is that of Rust
 abbrev pub extern_items : ExternAbi → List Item
 extern_items abi.Rust = []
-extern_items abi.C = text (codes "extern ") ++ text (abi_text abi.C) ++ text (codes " ")
-extern_items abi.CUnwind = text (codes "extern ") ++ text (abi_text abi.CUnwind) ++ text (codes " ")
-extern_items abi.System = text (codes "extern ") ++ text (abi_text abi.System) ++ text (codes " ")
-extern_items abi.SystemUnwind = text (codes "extern ") ++ text (abi_text abi.SystemUnwind) ++ text (codes " ")
-extern_items (abi.Named name) = text (codes "extern ") ++ text (abi_text (abi.Named name)) ++ text (codes " ")
+extern_items other = text (codes "extern ") ++ text (abi_text other) ++ text (codes " ")
 
 -- `...` after the parameters
 abbrev pub varargs_items : Bool → List ℕ → List Item

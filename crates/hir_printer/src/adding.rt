@@ -1,24 +1,16 @@
 //! What is added to a printer: it is written at once, or kept.
 
 ghost use Rattle.std.specs.Prelude.{◌≡◌, ◌≤◌, length, ◌∷◌, [], ◌++◌, false, IfSome, None, OnOk, string_bytes};
-ghost use Rattle.hir_base.specs.RawWords.{words_of};
+ghost use Rattle.hir_printer.specs.Prelude.{words_of, text, when, setting, answers, format_of, on_page, printing_of, is_node, Adds, AddsWorks, Wrote, stands_for};
 ghost use Rattle.hir_page.specs.Page.{page_text};
-ghost use Rattle.hir_printer.specs.Items.{text, when};
-ghost use Rattle.hir_printer.specs.Settings.{setting};
-ghost use Rattle.hir_printer.specs.Answers.{answers};
-ghost use Rattle.hir_printer.specs.Pieces.{format_of};
-ghost use Rattle.hir_printer.specs.Printing.{on_page, printing_of};
-ghost use Rattle.hir_printer.specs.Kinds.{is_node};
-ghost use Rattle.hir_printer.specs.Printers.{Adds, AddsWorks, Wrote, stands_for};
 
 use crate::literals::write_literal;
 use crate::names::write_name;
-use crate::printer::Printer;
-use crate::work::Work;
+use crate::{Printer, Work};
 use hir_base::{Edition, Text};
 use hir_defs::Tables;
 use hir_expr_store::ExpressionStore;
-use hir_page::{LineFormat, PageBuffer, PieceWriter, write_number};
+use hir_page::{LineFormat, PageBuffer, write_number};
 use std::alloc::{AllocError, Global};
 
 fn line_format(one_line: bool) -> LineFormat
@@ -78,21 +70,18 @@ impl<'a> Printer<'a> {
             Work::Space => self.page.soft_space(),
             Work::Break => self.page.line_break(),
             Work::Indent => self.page.indent(),
-            Work::Outdent => self.page.outdent(),
+            Work::Outdent => {
+                self.page.outdent();
+                Ok(())
+            }
             Work::Number(number) => write_number(&mut self.page, *number),
             Work::Literal(literal) => write_literal(&mut self.page, *literal),
             Work::Name(name) => write_name(&mut self.page, self.words, *name),
-            Work::Whole(_)
-            | Work::Under(_, _)
-            | Work::Pattern(_)
-            | Work::Type(_)
-            | Work::Args(_)
-            | Work::Lacks(_) => unreachable!(),
+            _ => unreachable!(),
         }
     }
 
     /// Keeps a work behind those that were kept in this turn.
-    #[inline(always)]
     fn keep(&mut self, work: &Work<'a>) -> Result<(), AllocError>
         ensures { OnOk result (printing_of self.new
             ≡ record (printing_of self.old) { kept = (printing_of self.old).kept ++ (work.now ∷ []) }) }
@@ -100,6 +89,7 @@ impl<'a> Printer<'a> {
         push_copy(&mut self.works, work)
     }
 
+    // Inlined: what becomes of a work whose kind is known when this is compiled is known then too.
     /// Adds a work.
     #[inline(always)]
     fn add_work(&mut self, work: &Work<'a>) -> Result<(), AllocError>
@@ -121,6 +111,7 @@ impl<'a> Printer<'a> {
         Ok(())
     }
 
+    // Inlined: a list of works that is known when this is compiled takes no loop and no memory.
     /// Adds works.
     #[inline(always)]
     pub fn add(&mut self, works: &[Work<'a>]) -> Result<(), AllocError>

@@ -2,13 +2,9 @@
 #![tactic(auto, using(crate::proofs::AddLemmas::adding))]
 
 ghost use Rattle.std.specs.Prelude.{◌++◌, OnOk, codes};
-ghost use Rattle.hir_printer.specs.Items.{text};
-ghost use Rattle.hir_printer.specs.Exprs.{arm_items, field_items, statement_items, inside_block};
-ghost use Rattle.hir_printer.specs.Printers.{Adds};
+ghost use Rattle.hir_printer.specs.Prelude.{text, arm_items, field_items, statement_items, inside_block, Adds};
 
-use crate::part::Part;
-use crate::printer::Printer;
-use crate::work::Work;
+use crate::{Part, Printer, Work};
 use hir_node::{ExprId, MatchArm, RecordLitField, Statement};
 use std::alloc::AllocError;
 

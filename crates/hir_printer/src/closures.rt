@@ -4,12 +4,9 @@
 ghost use Rattle.std.specs.Prelude.{◌≡◌, OnOk, Some};
 ghost use Rattle.hir_node.specs.declared.expr.Expr.TheVariants as of_expr;
 ghost use Rattle.hir_node.specs.declared.expr_types.ClosureKind.TheVariants as kinds;
-ghost use Rattle.hir_printer.specs.Items.{comma_joined};
-ghost use Rattle.hir_printer.specs.Exprs.{coroutine_keyword, movability_keyword, closure_head, capture_keyword, coroutine_body, printed_body, params, header, expr_items};
-ghost use Rattle.hir_printer.specs.Printers.{Adds};
+ghost use Rattle.hir_printer.specs.Prelude.{comma_joined, coroutine_keyword, movability_keyword, closure_head, capture_keyword, coroutine_body, printed_body, params, header, expr_items, Adds};
 
-use crate::printer::Printer;
-use crate::work::Work;
+use crate::{Printer, Work};
 use hir_expr_store::ExpressionStore;
 use hir_node::{CaptureBy, ClosureKind, CoroutineKind, Expr, ExprId, Movability, PatId, TypeRefId};
 use std::alloc::AllocError;

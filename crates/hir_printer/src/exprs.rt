@@ -3,14 +3,9 @@
 
 ghost use Rattle.std.specs.Prelude.{◌≡◌, ◌++◌, OnOk};
 ghost use Rattle.hir_node.specs.declared.expr.Expr.TheVariants as of_expr;
-ghost use Rattle.hir_printer.specs.Items.{text, opt, with_number};
-ghost use Rattle.hir_printer.specs.Paths.{args_items, turbofish};
-ghost use Rattle.hir_printer.specs.Exprs.{operand, arguments, raw_keyword, operator_items, spread_items, array_items, unsafe_items, expr_items};
-ghost use Rattle.hir_printer.specs.Printers.{Adds};
+ghost use Rattle.hir_printer.specs.Prelude.{text, opt, with_number, args_items, turbofish, operand, arguments, raw_keyword, operator_items, spread_items, array_items, unsafe_items, expr_items, Adds};
 
-use crate::part::Part;
-use crate::printer::Printer;
-use crate::work::Work;
+use crate::{Part, Printer, Work};
 use hir_base::{BinaryOp, ExprPrecedence, Name};
 use hir_node::{
     Array, Boxed, Expr, ExprId, GenericArgs, LabelId, MatchArm, Path, Rawness, RecordLitField,
@@ -175,7 +170,7 @@ impl<'a> Printer<'a> {
     }
 
     /// Adds the kind of an id and its number, as `ExprId(3)`.
-    pub(crate) fn add_numbered(&mut self, kind: &'a str, number: u32) -> Result<(), AllocError>
+    pub fn add_numbered(&mut self, kind: &'a str, number: u32) -> Result<(), AllocError>
         ensures { OnOk result (Adds self.old (λ s. with_number kind.now number) self.new) }
     {
         self.add(&[

@@ -1,10 +1,7 @@
 //! Laws that a reader relies on. Each is a function with no body to run: its contract is the law.
 ghost use Rattle.std.specs.Prelude.{◌≡◌, None};
-ghost use Rattle.hir_node.specs.declared.node_id.NodeId.{NodeId};
+ghost use Rattle.hir_printer.specs.Prelude.{NodeId, Setting, pieces, pieces_step, ItemsFall};
 ghost use Rattle.hir_expr_store.specs.Contents.{Contents, contents_fault};
-ghost use Rattle.hir_printer.specs.Questions.{Setting};
-ghost use Rattle.hir_printer.specs.Pieces.{pieces, pieces_step};
-ghost use Rattle.hir_printer.specs.Falls.{ItemsFall};
 
 /// The pieces of a node of an accepted store are those of its items.
 pub fn pieces_are_their_step()

@@ -1,17 +1,10 @@
 //! What is looked up in the tables and in the store: names of definitions and of parameters, lifetimes and labels.
 #![tactic(auto, using(crate::proofs::AddLemmas::adding))]
 
-ghost use Rattle.std.specs.Prelude.{◌≡◌, Ok, Err, IfOk, IfErr, OnOk, codes};
-ghost use Rattle.std.specs.Option.{option_copied};
-ghost use Rattle.hir_printer.specs.Names.{lifetime_items, label_items, l};
-ghost use Rattle.hir_printer.specs.Paths.{found_name};
-ghost use Rattle.hir_printer.specs.Types.{type_param_items};
-ghost use Rattle.hir_printer.specs.Answers.{answers};
-ghost use Rattle.hir_printer.specs.Printers.{Adds};
+ghost use Rattle.std.specs.Prelude.{◌≡◌, Ok, Err, IfOk, IfErr, OnOk, codes, option_copied};
+ghost use Rattle.hir_printer.specs.Prelude.{lifetime_items, label_items, l, found_name, type_param_items, answers, Adds};
 
-use crate::part::Part;
-use crate::printer::Printer;
-use crate::work::Work;
+use crate::{Part, Printer, Work};
 use hir_base::{CrateId, LifetimeParamId, Name, NamedDef, Text, TypeParamId};
 use hir_defs::{GenericParams, Tables};
 use hir_expr_store::Missing;

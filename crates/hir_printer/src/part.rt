@@ -1,15 +1,10 @@
 //! Lists, and parts that may not be there, of whatever they are.
 #![tactic(auto, using(crate::proofs::AddLemmas::adding))]
 
-ghost use Rattle.std.specs.Prelude.{◌++◌, List, OnOk, map};
-ghost use Rattle.std.specs.List.{flat_map};
-ghost use Rattle.hir_printer.specs.Questions.{Setting};
-ghost use Rattle.hir_printer.specs.Items.{Item, text, opt, p, e, t, join};
-ghost use Rattle.hir_printer.specs.Names.{name_items};
-ghost use Rattle.hir_printer.specs.Printers.{Adds, following, stood_after};
+ghost use Rattle.std.specs.Prelude.{◌++◌, List, OnOk, map, flat_map};
+ghost use Rattle.hir_printer.specs.Prelude.{Setting, Item, text, opt, p, e, t, join, name_items, Adds, following, stood_after};
 
-use crate::printer::Printer;
-use crate::work::Work;
+use crate::{Printer, Work};
 use hir_base::Name;
 use hir_node::{ExprId, PatId, TypeRefId};
 use std::alloc::AllocError;

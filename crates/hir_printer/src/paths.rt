@@ -3,13 +3,9 @@
 
 ghost use Rattle.std.specs.Prelude.{◌≡◌, OnOk};
 ghost use Rattle.hir_path.specs.declared.path.Path.TheVariants as of_path;
-ghost use Rattle.hir_printer.specs.Items.{opt};
-ghost use Rattle.hir_printer.specs.Paths.{bounds_after, arg_items, args_items, assoc_items, turbofish, path_items, kind_items, supers, target_items, start_items, segments_from, colons_first};
-ghost use Rattle.hir_printer.specs.Printers.{Adds};
+ghost use Rattle.hir_printer.specs.Prelude.{opt, bounds_after, arg_items, args_items, assoc_items, turbofish, path_items, kind_items, supers, target_items, start_items, segments_from, colons_first, Adds};
 
-use crate::part::Part;
-use crate::printer::Printer;
-use crate::work::Work;
+use crate::{Part, Printer, Work};
 use hir_base::{ExprPrecedence, LangItemTarget, Name, NamedDef, PathKind};
 use hir_node::{
     AssociatedTypeBinding, Boxed, GenericArg, GenericArgs, NormalPath, Path, TypeBound, TypeRefId,

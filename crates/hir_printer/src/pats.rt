@@ -4,16 +4,10 @@
 ghost use Rattle.std.specs.Prelude.{◌≡◌, OnOk, map, slice_get, Some};
 ghost use Rattle.hir_node.specs.declared.pat.Pat.TheVariants as of_pat;
 ghost use Rattle.hir_base.specs.declared.prec.ExprPrecedence.TheVariants.{Shift};
-ghost use Rattle.hir_printer.specs.Questions.{Setting};
-ghost use Rattle.hir_printer.specs.Items.{p, opt, under, comma_joined};
-ghost use Rattle.hir_printer.specs.Names.{annotation_text, binding_items};
-ghost use Rattle.hir_printer.specs.Pats.{with_rest, in_parentheses, has_printed_name, is_short, field_pattern, after_last, field_patterns, pat_items};
-ghost use Rattle.hir_printer.specs.Printing.{printing_of};
-ghost use Rattle.hir_printer.specs.Printers.{Adds};
+ghost use Rattle.hir_printer.specs.Prelude.{Setting, p, opt, under, comma_joined, annotation_text, binding_items, with_rest, in_parentheses, has_printed_name, is_short, field_pattern, after_last, field_patterns, pat_items, printing_of, Adds};
 
 use crate::names::is_printed;
-use crate::printer::Printer;
-use crate::work::Work;
+use crate::{Printer, Work};
 use hir_base::{ExprPrecedence, Text};
 use hir_expr_store::ExpressionStore;
 use hir_node::{Binding, BindingAnnotation, BindingId, ExprId, Pat, PatId, Path, RecordFieldPat};

@@ -3,21 +3,12 @@
 
 ghost use Rattle.std.specs.Prelude.{◌≡◌, ◌++◌, [], true, List, Some, None, Err, OnOk, slice_get};
 ghost use Rattle.hir_node.specs.declared.node_id.NodeId.TheVariants as node;
-ghost use Rattle.hir_expr_store.specs.declared.missing.Missing.{Missing};
+ghost use Rattle.hir_printer.specs.Prelude.{Missing, Item, items_of, item_list_pieces, is_chain, stands_in_parentheses, precedence_found, ItemsFall, is_node, PrintsPieces, on_page, printing_of, items_of_works, printing, Adds, AddsItems, GaveWay, Turns, enclose};
 ghost use Rattle.hir_printer.specs.declared.fault.PrintFault.TheVariants as fault;
 ghost use Rattle.hir_printer.specs.declared.work.Work.TheVariants as works;
-ghost use Rattle.hir_printer.specs.Items.{Item};
-ghost use Rattle.hir_printer.specs.Pieces.{items_of, item_list_pieces, is_chain, stands_in_parentheses, precedence_found};
-ghost use Rattle.hir_printer.specs.Falls.{ItemsFall};
-ghost use Rattle.hir_printer.specs.Kinds.{is_node};
-ghost use Rattle.hir_printer.specs.PrintAnswers.{PrintsPieces};
-ghost use Rattle.hir_printer.specs.Printing.{on_page, printing_of};
-ghost use Rattle.hir_printer.specs.Printers.{items_of_works, printing, Adds, AddsItems, GaveWay, Turns, enclose};
 
-use crate::fault::PrintFault;
 use crate::laws::items_fall;
-use crate::printer::Printer;
-use crate::work::Work;
+use crate::{PrintFault, Printer, Work};
 use hir_base::ExprPrecedence;
 use hir_expr_store::ExpressionStore;
 use hir_node::{ExprId, GenericArgs, PatId, TypeRefId};
@@ -117,19 +108,11 @@ impl<'a> Printer<'a> {
             Work::Type(id) => Ok(self.add_type_at(*id)?),
             Work::Args(args) => Ok(self.add_fish(*args)?),
             Work::Lacks(missing) => Err(PrintFault::Missing(*missing)),
-            Work::Text(_)
-            | Work::Space
-            | Work::Break
-            | Work::Indent
-            | Work::Outdent
-            | Work::Number(_)
-            | Work::Literal(_)
-            | Work::Name(_) => unreachable!(),
+            _ => unreachable!(),
         }
     }
 
     /// Writes a work, or lets what it gives way to wait before all that waits.
-    #[inline(always)]
     fn turn(&mut self, work: &Work<'a>) -> Result<(), PrintFault>
         requires fall { ItemsFall (printing_of self.old).from }
         requires none { (printing_of self.old).kept ≡ [] }

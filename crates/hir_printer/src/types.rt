@@ -3,14 +3,9 @@
 
 ghost use Rattle.std.specs.Prelude.{◌++◌, List, ℕ, Option, OnOk, map};
 ghost use Rattle.hir_node.specs.declared.type_ref.TypeRef.TheVariants as of_type;
-ghost use Rattle.hir_printer.specs.Items.{text, t, opt};
-ghost use Rattle.hir_printer.specs.Paths.{for_names, use_items, bound_items, bounds_items};
-ghost use Rattle.hir_printer.specs.Types.{extern_items, signature_items, fn_items, type_items};
-ghost use Rattle.hir_printer.specs.Printers.{Adds};
+ghost use Rattle.hir_printer.specs.Prelude.{text, t, opt, for_names, use_items, bound_items, bounds_items, extern_items, signature_items, fn_items, type_items, Adds};
 
-use crate::part::Part;
-use crate::printer::Printer;
-use crate::work::Work;
+use crate::{Part, Printer, Work};
 use hir_base::{ExprPrecedence, ExternAbi, Name, Seq};
 use hir_node::{FnType, RefType, TraitBoundModifier, TypeBound, TypeRef, TypeRefId, UseArgRef};
 use std::alloc::AllocError;

@@ -1,7 +1,7 @@
 //! What is still to be printed.
 
 ghost use Rattle.std.specs.Prelude.{◌≡◌};
-ghost use Rattle.hir_printer.specs.Kinds.{is_node};
+ghost use Rattle.hir_printer.specs.Printers.{is_node};
 
 use hir_base::ExprPrecedence;
 use hir_expr_store::Missing;
@@ -34,25 +34,17 @@ pub enum Work<'a> {
 
 impl<'a> Work<'a> {
     /// Whether it is neither text nor layout.
-    #[inline(always)]
     pub(crate) fn is_node(&self) -> bool
         ensures { result ≡ is_node self.now }
     {
-        match self {
-            Work::Text(_)
-            | Work::Space
-            | Work::Break
-            | Work::Indent
-            | Work::Outdent
-            | Work::Number(_)
-            | Work::Literal(_)
-            | Work::Name(_) => false,
+        matches!(
+            self,
             Work::Whole(_)
-            | Work::Under(_, _)
-            | Work::Pattern(_)
-            | Work::Type(_)
-            | Work::Args(_)
-            | Work::Lacks(_) => true,
-        }
+                | Work::Under(_, _)
+                | Work::Pattern(_)
+                | Work::Type(_)
+                | Work::Args(_)
+                | Work::Lacks(_)
+        )
     }
 }

@@ -1,11 +1,14 @@
-use Rattle.std.proofs.Common.{◌≡◌, ◌==◌, false, length, sym, ◌∙◌}
-use Rattle.hir_page.specs.Writes.{written, all_written}
+use Rattle.std.proofs.Common.{sym, ◌∙◌}
+use Rattle.std.proofs.lemmas.Result.{on_err_weaker}
 use Rattle.hir_page.specs.Literals.{byte_escape}
-use Rattle.hir_page.proofs.WritesLemmas.{is_escape}
+use Rattle.hir_page.proofs.PieceLemmas.{stops_here, is_escape}
 use Rattle.hir_page.proofs.literals.write_byte.Goals as goal
 
-pub returns : goal.returns
-returns g c =
-    let escape = c.escape_in_bytes-escape.result.now in
-    let some : (length escape == 0) ≡ false = sym c.is_empty.ensures ∙ c.if-is_empty.false in
-    rw (← c.escape_in_bytes-escape.ensures, is_escape escape (byte_escape c.args.byte) some) (written c.in_ok-text.ensures all_written)
+pub returns-clause-err : goal.returns-clause-err
+returns-clause-err c =
+    rw (← c.escape_in_bytes-escape.ensures, is_escape c.escape_in_bytes-escape.result.now (byte_escape c.args.byte) (sym c.is_empty.ensures ∙ c.if-is_empty.false))
+    (on_err_weaker _ stops_here c.text.ensures.err)
+
+pub returns-clause-ok : goal.returns-clause-ok
+returns-clause-ok c =
+    rw (← c.escape_in_bytes-escape.ensures, is_escape c.escape_in_bytes-escape.result.now (byte_escape c.args.byte) (sym c.is_empty.ensures ∙ c.if-is_empty.false)) c.text.ensures.ok

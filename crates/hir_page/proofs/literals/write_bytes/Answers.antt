@@ -1,16 +1,17 @@
-use Rattle.std.proofs.Common.{true, false}
-use Rattle.hir_page.specs.Literals.{byte_pieces}
-use Rattle.hir_page.proofs.WritesLemmas.{writes_err, writes_item, item_stopped, writes_over}
+use Rattle.std.proofs.lemmas.List.{drop_more}
+use Rattle.std.proofs.Math.ListN.{drop_of_length-le}
+use Rattle.hir_page.proofs.PieceLemmas.{on_err, all_left, some_written, none_left, stops_in_rest}
 use Rattle.hir_page.proofs.literals.write_bytes.Goals as goal
 
-pub returns-in_err-write_byte : goal.returns-in_err-write_byte
-returns-in_err-write_byte g c =
-    writes_err _ c.from_residual.ensures.0 (c.loop-byte.invariant.leads false _ (item_stopped byte_pieces c.args.bytes.now c.loop-byte.byte-index c.loop-byte-test.true c.in_err-write_byte.ensures))
+pub loop-byte-init : goal.loop-byte-init
+loop-byte-init c = all_left
 
 pub loop-byte-preserved : goal.loop-byte-preserved
-loop-byte-preserved g c = record {
-  leads = λ b last r. c.loop-byte.invariant.leads b last (writes_item byte_pieces c.args.bytes.now c.loop-byte.byte-index c.loop-byte-test.true c.in_ok-write_byte.ensures r);
-}
+loop-byte-preserved c = some_written _ (rw (drop_more c.args.bytes.now c.loop-byte.byte-index 0 c.loop-byte-test.true) at c.loop-byte.invariant) c.in_ok-write_byte.ensures.ok
 
-pub returns : goal.returns
-returns g c = c.loop-byte.invariant.leads true _ (writes_over byte_pieces c.args.bytes.now c.loop-byte.byte-index c.loop-byte-test.false)
+pub returns-in_err-write_byte-clause-err : goal.returns-in_err-write_byte-clause-err
+returns-in_err-write_byte-clause-err c =
+    on_err _ (stops_in_rest _ (rw (drop_more c.args.bytes.now c.loop-byte.byte-index 0 c.loop-byte-test.true) at c.loop-byte.invariant) c.in_err-write_byte.ensures.err)
+
+pub returns-clause-ok : goal.returns-clause-ok
+returns-clause-ok c = none_left (rw (drop_of_length-le c.args.bytes.now {i = c.loop-byte.byte-index} c.loop-byte-test.false) at c.loop-byte.invariant)

@@ -1,14 +1,15 @@
-use Rattle.hir_page.specs.Writes.{written, all_written, refused}
-use Rattle.hir_page.proofs.WritesLemmas.{writes_then, writes_stopped, writes_err}
+use Rattle.std.proofs.Common.{codes}
+use Rattle.hir_page.specs.Pieces.{Text}
+use Rattle.hir_page.specs.Literals.{lone_char}
+use Rattle.std.proofs.lemmas.Result.{on_ok_weaker, on_err_weaker}
+use Rattle.hir_page.proofs.PieceLemmas.{on_err, stops_inside, stops_at_last, last_written}
 use Rattle.hir_page.proofs.literals.write_char_literal.Goals as goal
 
-pub returns-in_err-write_escaped : goal.returns-in_err-write_escaped
-returns-in_err-write_escaped g c =
-    writes_err _ c.from_residual-in_err-write_escaped.ensures.0 (written c.in_ok-text.ensures (writes_stopped _ (rw c.short_escape.ensures at c.in_err-write_escaped.ensures)))
+pub returns-in_err-write_escaped-clause-err : goal.returns-in_err-write_escaped-clause-err
+returns-in_err-write_escaped-clause-err c = on_err _ (stops_inside _ c.in_ok-text.ensures.ok (rw c.short_escape.ensures at c.in_err-write_escaped.ensures.err))
 
-pub returns-in_err-text-2 : goal.returns-in_err-text-2
-returns-in_err-text-2 g c =
-    writes_err _ c.from_residual-in_err-text-2.ensures.0 (written c.in_ok-text.ensures (writes_then (rw c.short_escape.ensures at c.in_ok-write_escaped.ensures) (refused c.in_err-text-2.ensures)))
+pub returns-clause-err : goal.returns-clause-err
+returns-clause-err c = on_err_weaker _ (stops_at_last _ _ c.in_ok-text.ensures.ok (rw c.short_escape.ensures at c.in_ok-write_escaped.ensures.ok)) c.text-2.ensures.err
 
-pub returns : goal.returns
-returns g c = written c.in_ok-text.ensures (writes_then (rw c.short_escape.ensures at c.in_ok-write_escaped.ensures) (written c.in_ok-text-2.ensures all_written))
+pub returns-clause-ok : goal.returns-clause-ok
+returns-clause-ok c = on_ok_weaker _ (last_written (Text (codes "'")) (Text (codes "'")) (lone_char c.args.c) c.args.page.now c.in_ok-text.ensures.ok (rw c.short_escape.ensures at c.in_ok-write_escaped.ensures.ok)) c.text-2.ensures.ok

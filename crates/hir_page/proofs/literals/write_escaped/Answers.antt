@@ -1,11 +1,11 @@
-use Rattle.std.proofs.Common.{◌≡◌, ◌==◌, false, length, sym, ◌∙◌}
-use Rattle.hir_page.specs.Writes.{written, all_written}
+use Rattle.std.proofs.Common.{sym, ◌∙◌}
+use Rattle.std.proofs.lemmas.Result.{on_err_weaker}
 use Rattle.hir_page.specs.Literals.{long_escape}
-use Rattle.hir_page.proofs.WritesLemmas.{is_escape}
+use Rattle.hir_page.proofs.PieceLemmas.{stops_here, is_escape}
 use Rattle.hir_page.proofs.literals.write_escaped.Goals as goal
 
-pub returns : goal.returns
-returns g c =
-    let escape = c.args.escape.now in
-    let some : (length escape == 0) ≡ false = sym c.is_empty.ensures ∙ c.if-is_empty.false in
-    rw (is_escape escape (long_escape c.args.c) some) (written c.in_ok-text.ensures all_written)
+pub returns-clause-err : goal.returns-clause-err
+returns-clause-err c = rw (is_escape c.args.escape.now (long_escape c.args.c) (sym c.is_empty.ensures ∙ c.if-is_empty.false)) (on_err_weaker _ stops_here c.text.ensures.err)
+
+pub returns-clause-ok : goal.returns-clause-ok
+returns-clause-ok c = rw (is_escape c.args.escape.now (long_escape c.args.c) (sym c.is_empty.ensures ∙ c.if-is_empty.false)) c.text.ensures.ok

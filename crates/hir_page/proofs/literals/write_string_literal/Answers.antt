@@ -1,12 +1,17 @@
-use Rattle.hir_page.specs.Writes.{written, all_written, refused}
-use Rattle.hir_page.proofs.WritesLemmas.{writes_then, writes_stopped, writes_err}
+use Rattle.std.proofs.Common.{codes}
+use Rattle.std.specs.List.{flat_map}
+use Rattle.std.specs.Str.{chars}
+use Rattle.hir_page.specs.Pieces.{Text}
+use Rattle.hir_page.specs.Literals.{string_char}
+use Rattle.std.proofs.lemmas.Result.{on_ok_weaker, on_err_weaker}
+use Rattle.hir_page.proofs.PieceLemmas.{on_err, stops_inside, stops_at_last, last_written}
 use Rattle.hir_page.proofs.literals.write_string_literal.Goals as goal
 
-pub returns-in_err-write_string_chars : goal.returns-in_err-write_string_chars
-returns-in_err-write_string_chars g c = writes_err _ c.from_residual-in_err-write_string_chars.ensures.0 (written c.in_ok-text.ensures (writes_stopped _ c.in_err-write_string_chars.ensures))
+pub returns-in_err-write_string_chars-clause-err : goal.returns-in_err-write_string_chars-clause-err
+returns-in_err-write_string_chars-clause-err c = on_err _ (stops_inside _ c.in_ok-text.ensures.ok c.in_err-write_string_chars.ensures.err)
 
-pub returns-in_err-text-2 : goal.returns-in_err-text-2
-returns-in_err-text-2 g c = writes_err _ c.from_residual-in_err-text-2.ensures.0 (written c.in_ok-text.ensures (writes_then c.in_ok-write_string_chars.ensures (refused c.in_err-text-2.ensures)))
+pub returns-clause-err : goal.returns-clause-err
+returns-clause-err c = on_err_weaker _ (stops_at_last _ _ c.in_ok-text.ensures.ok c.in_ok-write_string_chars.ensures.ok) c.text-2.ensures.err
 
-pub returns : goal.returns
-returns g c = written c.in_ok-text.ensures (writes_then c.in_ok-write_string_chars.ensures (written c.in_ok-text-2.ensures all_written))
+pub returns-clause-ok : goal.returns-clause-ok
+returns-clause-ok c = on_ok_weaker _ (last_written (Text (codes "\"")) (Text (codes "\"")) (flat_map string_char (chars c.args.text.now)) c.args.page.now c.in_ok-text.ensures.ok c.in_ok-write_string_chars.ensures.ok) c.text-2.ensures.ok

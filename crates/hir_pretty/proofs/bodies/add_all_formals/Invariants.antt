@@ -1,9 +1,5 @@
-use Rattle.std.proofs.Common.{map, drop, codes}
+use Rattle.hir_printer.proofs.Common.{map, drop, codes, p, text, comma_joined, printing_of, following, AddsRest}
 use Rattle.hir_items.specs.Bodies.{formals_of}
-use Rattle.hir_printer.specs.Items.{p, text, comma_joined}
-use Rattle.hir_printer.specs.Printing.{printing_of}
-use Rattle.hir_printer.specs.Printers.{following}
-use Rattle.hir_printer.proofs.AddLemmas.{AddsRest}
 use Rattle.hir_pretty.specs.Bodies.{formal_params}
 use Rattle.hir_pretty.proofs.bodies.add_all_formals.Given as goal
 

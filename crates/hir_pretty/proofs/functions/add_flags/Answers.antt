@@ -1,5 +1,4 @@
-use Rattle.std.proofs.lemmas.Result.{on_ok_weaker}
-use Rattle.hir_printer.proofs.AddLemmas.{adds_then}
+use Rattle.hir_printer.proofs.Common.{on_ok_weaker, adds_then}
 use Rattle.hir_pretty.proofs.functions.add_flags.Goals as goal
 
 pub returns : goal.returns

@@ -1,6 +1,4 @@
-use Rattle.std.proofs.Common.{refl}
-use Rattle.std.proofs.lemmas.Result.{on_ok_weaker}
-use Rattle.hir_printer.proofs.AddLemmas.{adds_then, adds_more, adds_as}
+use Rattle.hir_printer.proofs.Common.{refl, on_ok_weaker, adds_then, adds_more, adds_as}
 use Rattle.hir_pretty.proofs.functions.add_front.Goals as goal
 
 pub returns : goal.returns

@@ -1,9 +1,4 @@
-use Rattle.std.proofs.Common.{codes, map, drop, nat_lt}
-use Rattle.std.specs.List.{enumerate_from}
-use Rattle.hir_printer.specs.Items.{text, comma_joined}
-use Rattle.hir_printer.specs.Printing.{printing_of}
-use Rattle.hir_printer.specs.Printers.{following}
-use Rattle.hir_printer.proofs.AddLemmas.{AddsRest}
+use Rattle.hir_printer.proofs.Common.{codes, map, drop, nat_lt, enumerate_from, text, comma_joined, printing_of, following, AddsRest}
 use Rattle.hir_pretty.specs.AddedItems.{marked_items}
 use Rattle.hir_pretty.proofs.functions.add_marked.Given as goal
 

@@ -1,5 +1,4 @@
-use Rattle.std.proofs.Common.{◌≡◌, ◌<◌, ◌==◌, ℕ, length, take, get_or, false}
-use Rattle.std.specs.List.{list_any}
+use Rattle.hir_printer.proofs.Common.{◌≡◌, ◌<◌, ◌==◌, ℕ, length, take, get_or, false, list_any}
 use Rattle.hir_pretty.proofs.functions.marks_of.Given as goal
 
 abbrev pub invariant-loop-place : goal.invariant-loop-place

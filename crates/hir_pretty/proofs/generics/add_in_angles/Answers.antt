@@ -1,10 +1,6 @@
-use Rattle.std.proofs.Common.{refl}
-use Rattle.std.specs.List.{enumerate_from}
-use Rattle.std.proofs.lemmas.Result.{on_ok_weaker}
+use Rattle.hir_printer.proofs.Common.{refl, enumerate_from, on_ok_weaker, name_items, adds, adds_more, adds_then, adds_as}
 use Rattle.hir_generics.specs.declared.data.LifetimeParamData.{LifetimeParamData}
-use Rattle.hir_printer.specs.Names.{name_items}
 use Rattle.hir_pretty.specs.Signatures.{each_lifetime, each_type_or_const}
-use Rattle.hir_printer.proofs.AddLemmas.{adds, adds_more, adds_then, adds_as}
 use Rattle.hir_pretty.proofs.ListLemmas.{angles, is_longer}
 use Rattle.hir_pretty.proofs.generics.add_in_angles.Goals as goal
 

@@ -1,10 +1,6 @@
-use Rattle.std.proofs.Common.{ℕ, ap, codes, false, map, sym}
+use Rattle.hir_printer.proofs.Common.{ℕ, ap, codes, false, map, sym, text, name_items, following, adds_more, left_begins, left_goes_on, left_ends}
 use Rattle.std.proofs.lemmas.Map.Iter.{rest_more, rest_all}
 use Rattle.hir_generics.specs.declared.data.LifetimeParamData.{LifetimeParamData}
-use Rattle.hir_printer.specs.Items.{text}
-use Rattle.hir_printer.specs.Names.{name_items}
-use Rattle.hir_printer.specs.Printers.{following}
-use Rattle.hir_printer.proofs.AddLemmas.{adds_more, left_begins, left_goes_on, left_ends}
 use Rattle.hir_pretty.proofs.ListLemmas.{map_second}
 use Rattle.hir_pretty.proofs.generics.add_lifetimes.Goals as goal
 

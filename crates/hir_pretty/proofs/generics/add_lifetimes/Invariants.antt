@@ -1,10 +1,5 @@
-use Rattle.std.proofs.Common.{codes, false, map, ℕ}
+use Rattle.hir_printer.proofs.Common.{codes, false, map, ℕ, text, name_items, printing_of, following, AddsRest}
 use Rattle.hir_generics.specs.declared.data.LifetimeParamData.{LifetimeParamData}
-use Rattle.hir_printer.specs.Items.{text}
-use Rattle.hir_printer.specs.Names.{name_items}
-use Rattle.hir_printer.specs.Printing.{printing_of}
-use Rattle.hir_printer.specs.Printers.{following}
-use Rattle.hir_printer.proofs.AddLemmas.{AddsRest}
 use Rattle.hir_pretty.specs.Signatures.{each_lifetime}
 use Rattle.hir_pretty.proofs.generics.add_lifetimes.Given as goal
 

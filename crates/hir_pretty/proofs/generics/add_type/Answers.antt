@@ -1,8 +1,4 @@
-use Rattle.std.proofs.Common.{◌++◌, ap, ◌∙◌, codes, Ok}
-use Rattle.std.proofs.lemmas.Result.{on_ok_weaker}
-use Rattle.hir_printer.specs.Items.{text, t, opt}
-use Rattle.hir_printer.specs.Types.{type_param_items}
-use Rattle.hir_printer.proofs.AddLemmas.{adds_then, adds_as}
+use Rattle.hir_printer.proofs.Common.{◌++◌, ap, ◌∙◌, codes, Ok, on_ok_weaker, text, t, opt, type_param_items, adds_then, adds_as}
 use Rattle.hir_pretty.proofs.ListLemmas.{type_names}
 use Rattle.hir_pretty.proofs.generics.add_type.Goals as goal
 

@@ -1,9 +1,4 @@
-use Rattle.std.proofs.Common.{codes}
-use Rattle.std.specs.List.{enumerate_from}
-use Rattle.hir_printer.specs.Items.{text}
-use Rattle.hir_printer.specs.Printing.{printing_of}
-use Rattle.hir_printer.specs.Printers.{following}
-use Rattle.hir_printer.proofs.AddLemmas.{AddsRest}
+use Rattle.hir_printer.proofs.Common.{codes, enumerate_from, text, printing_of, following, AddsRest}
 use Rattle.hir_pretty.specs.Signatures.{each_type_or_const}
 use Rattle.hir_pretty.proofs.generics.add_types_and_consts.Given as goal
 

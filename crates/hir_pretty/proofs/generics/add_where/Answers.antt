@@ -1,8 +1,4 @@
-use Rattle.std.proofs.Common.{codes, map, refl}
-use Rattle.std.proofs.lemmas.Result.{on_ok_weaker}
-use Rattle.hir_printer.specs.Items.{text}
-use Rattle.hir_printer.proofs.AddLemmas.{adds, adds_none, adds_then, adds_more, adds_as, left_begins, left_goes_on, left_ends}
-use Rattle.hir_printer.proofs.ListLemmas.{following_joined, following_step, following_ends}
+use Rattle.hir_printer.proofs.Common.{codes, map, refl, on_ok_weaker, text, adds, adds_none, adds_then, adds_more, adds_as, left_begins, left_goes_on, left_ends, following_joined, following_step, following_ends}
 use Rattle.hir_pretty.specs.Signatures.{predicate_items}
 use Rattle.hir_pretty.proofs.ListLemmas.{some_where, no_where}
 use Rattle.hir_pretty.proofs.generics.add_where.Goals as goal

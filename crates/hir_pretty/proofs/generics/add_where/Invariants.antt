@@ -1,8 +1,4 @@
-use Rattle.std.proofs.Common.{codes, map, drop}
-use Rattle.hir_printer.specs.Items.{text}
-use Rattle.hir_printer.specs.Printing.{printing_of}
-use Rattle.hir_printer.specs.Printers.{following}
-use Rattle.hir_printer.proofs.AddLemmas.{AddsRest}
+use Rattle.hir_printer.proofs.Common.{codes, map, drop, text, printing_of, following, AddsRest}
 use Rattle.hir_pretty.specs.Signatures.{predicate_items, each_predicate}
 use Rattle.hir_pretty.proofs.generics.add_where.Given as goal
 

@@ -1,6 +1,4 @@
-use Rattle.std.proofs.Common.{refl}
-use Rattle.std.proofs.lemmas.Result.{on_ok_weaker}
-use Rattle.hir_printer.proofs.AddLemmas.{adds, adds_then, adds_more}
+use Rattle.hir_printer.proofs.Common.{refl, on_ok_weaker, adds, adds_then, adds_more}
 use Rattle.hir_pretty.proofs.heads.add_body_head.Goals as goal
 
 pub returns-in_ok-add_keyword-in-StaticId : goal.returns-in_ok-add_keyword-in-StaticId

@@ -1,7 +1,4 @@
-use Rattle.std.proofs.Common.{◌∷◌, [], ap}
-use Rattle.std.proofs.lemmas.Result.{on_ok_weaker}
-use Rattle.hir_printer.specs.Items.{Lacks}
-use Rattle.hir_printer.proofs.AddLemmas.{adds}
+use Rattle.hir_printer.proofs.Common.{◌∷◌, [], ap, on_ok_weaker, Lacks, adds}
 use Rattle.hir_pretty.proofs.heads.add_variant_name.Goals as goal
 
 pub returns-in-Ok : goal.returns-in-Ok

@@ -1,13 +1,5 @@
-use Rattle.std.proofs.Common.{false, refl, subst, append-nil}
-use Rattle.std.proofs.lemmas.Result.{err_from_is_err_and}
-use Rattle.hir_base.specs.RawWords.{words_of}
+use Rattle.hir_printer.proofs.Common.{false, refl, subst, append-nil, err_from_is_err_and, words_of, setting, pieces, PrintsPieces, answers, adds, prints}
 use Rattle.hir_node.specs.declared.node_id.NodeId.TheVariants as node
-use Rattle.hir_printer.specs.Settings.{setting}
-use Rattle.hir_printer.specs.Pieces.{pieces}
-use Rattle.hir_printer.specs.PrintAnswers.{PrintsPieces}
-use Rattle.hir_printer.specs.Answers.{answers}
-use Rattle.hir_printer.proofs.AddLemmas.{adds}
-use Rattle.hir_printer.proofs.TurnLemmas.{prints}
 use Rattle.hir_pretty.proofs.OtherLemmas.{prints_refused}
 use Rattle.hir_pretty.proofs.nodes.print_expr_hir.Goals as goal
 

@@ -1,7 +1,4 @@
-use Rattle.std.proofs.Common.{refl}
-use Rattle.std.proofs.lemmas.Result.{on_ok_weaker}
-use Rattle.hir_printer.proofs.AddLemmas.{adds_then, left_begins, left_goes_on, left_ends}
-use Rattle.hir_printer.proofs.ListLemmas.{each_step, each_ends}
+use Rattle.hir_printer.proofs.Common.{refl, on_ok_weaker, adds_then, left_begins, left_goes_on, left_ends, each_step, each_ends}
 use Rattle.hir_pretty.specs.Variants.{field_line}
 use Rattle.hir_pretty.proofs.variants.add_fields.Goals as goal
 

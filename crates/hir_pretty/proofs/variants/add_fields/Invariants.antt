@@ -1,7 +1,4 @@
-use Rattle.std.proofs.Common.{drop}
-use Rattle.std.specs.List.{flat_map}
-use Rattle.hir_printer.specs.Printing.{printing_of}
-use Rattle.hir_printer.proofs.AddLemmas.{AddsRest}
+use Rattle.hir_printer.proofs.Common.{drop, flat_map, printing_of, AddsRest}
 use Rattle.hir_pretty.specs.Variants.{field_line}
 use Rattle.hir_pretty.proofs.variants.add_fields.Given as goal
 

@@ -1,7 +1,4 @@
-use Rattle.std.proofs.Common.{map}
-use Rattle.std.proofs.lemmas.Result.{on_ok_weaker}
-use Rattle.hir_printer.specs.Names.{name_items}
-use Rattle.hir_printer.proofs.AddLemmas.{adds_then, adds_as}
+use Rattle.hir_printer.proofs.Common.{map, on_ok_weaker, name_items, adds_then, adds_as}
 use Rattle.hir_pretty.proofs.ListLemmas.{module_is}
 use Rattle.hir_pretty.proofs.variants.add_module.Goals as goal
 

@@ -1,4 +1,4 @@
-use Rattle.std.proofs.Common.{sym, subst}
+use Rattle.hir_printer.proofs.Common.{sym, subst}
 use Rattle.hir_faults.specs.Down.{KidsFall}
 use Rattle.hir_printer.proofs.ItemsFall as lemma
 use Rattle.hir_printer.proofs.laws.items_fall.Goals as goal

@@ -1,7 +1,5 @@
-use Rattle.std.proofs.Common.{sym, subst}
+use Rattle.hir_printer.proofs.Common.{sym, subst, pieces_at, items_fall}
 use Rattle.hir_faults.specs.Down.{KidsFall}
-use Rattle.hir_printer.proofs.StepLemmas.{pieces_at}
-use Rattle.hir_printer.proofs.ItemsFall.{items_fall}
 use Rattle.hir_printer.proofs.laws.pieces_are_their_step.Goals as goal
 
 pub returns : goal.returns

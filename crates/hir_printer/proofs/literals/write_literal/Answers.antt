@@ -1,17 +1,13 @@
-use Rattle.std.proofs.Common.{arith}
+use Rattle.hir_printer.proofs.Common.{arith, on_ok_weaker, pieces_put}
 use Rattle.std.proofs.lemmas.Int.{ints, to_z-of_z}
 use Rattle.hir_page.specs.Literals.{string_literal, bytes_literal, c_string_literal}
-use Rattle.hir_printer.proofs.PieceLemmas.{pieces_put}
 use Rattle.hir_printer.proofs.literals.write_literal.Goals as goal
 
 pub returns-in-String : goal.returns-in-String
-returns-in-String g c = rw (c.in-String.is, pieces_put (string_literal c.in-String.text)) (rw c.as_str.ensures at c.write_string_literal.ensures)
+returns-in-String c = rw (c.in-String.is, pieces_put (string_literal c.in-String.text)) (rw c.as_str.ensures at c.write_string_literal.ensures.ok)
 
 pub returns-in-ByteString : goal.returns-in-ByteString
-returns-in-ByteString g c = rw (c.in-ByteString.is, pieces_put (bytes_literal c.in-ByteString.bytes)) (rw c.as_slice.ensures at c.write_bytes_literal.ensures)
+returns-in-ByteString c = rw (c.in-ByteString.is, pieces_put (bytes_literal c.in-ByteString.bytes)) (rw c.as_slice.ensures at c.write_bytes_literal.ensures.ok)
 
 pub returns-in-CString : goal.returns-in-CString
-returns-in-CString g c = rw (c.in-CString.is, pieces_put (c_string_literal c.in-CString.bytes)) (rw c.as_slice-in-CString.ensures at c.write_c_string_literal.ensures)
-
-pub returns-in-Int-default-Some : goal.returns-in-Int-default-Some
-returns-in-Int-default-Some g c = search (arith, ints, to_z-of_z, c.write_suffixed_int.ensures)
+returns-in-CString c = rw (c.in-CString.is, pieces_put (c_string_literal c.in-CString.bytes)) (rw c.as_slice-in-CString.ensures at c.write_c_string_literal.ensures.ok)

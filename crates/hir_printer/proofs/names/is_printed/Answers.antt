@@ -1,5 +1,4 @@
-use Rattle.std.proofs.Common.{◌∙◌}
-use Rattle.hir_printer.proofs.NameLemmas.{not_quoted, not_raw, same_printed}
+use Rattle.hir_printer.proofs.Common.{◌∙◌, not_quoted, not_raw, same_printed}
 use Rattle.hir_printer.proofs.names.is_printed.Goals as goal
 
 pub returns-in-None : goal.returns-in-None

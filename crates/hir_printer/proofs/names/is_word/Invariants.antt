@@ -1,5 +1,4 @@
-use Rattle.std.proofs.Common.{◌≡◌, length}
-use Rattle.hir_printer.specs.Names.{is_word}
+use Rattle.hir_printer.proofs.Common.{◌≡◌, length, is_word}
 use Rattle.hir_printer.proofs.names.is_word.Given as goal
 
 -- it is among the words where it is among those that are left

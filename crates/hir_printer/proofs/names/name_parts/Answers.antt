@@ -1,6 +1,4 @@
-use Rattle.std.proofs.Common.{◌∷◌, [], codes, sym, ap, ◌∙◌}
-use Rattle.hir_printer.specs.Names.{behind, name_parts}
-use Rattle.hir_printer.proofs.NameLemmas.{no_quote, quoted_static, quoted_other}
+use Rattle.hir_printer.proofs.Common.{◌∷◌, [], codes, sym, ap, ◌∙◌, behind, name_parts, no_quote, quoted_static, quoted_other}
 use Rattle.hir_printer.proofs.names.name_parts.Goals as goal
 
 pub returns-in-None : goal.returns-in-None

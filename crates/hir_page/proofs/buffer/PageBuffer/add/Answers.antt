@@ -1,8 +1,8 @@
 use Rattle.std.proofs.Common.{◌≡◌, length, arith}
 use Rattle.std.specs.String.{string_bytes}
 use Rattle.hir_page.specs.Buffer.{level_of}
-use Rattle.hir_page.proofs.BufferLemmas.{page_plain}
-use Rattle.hir_page.proofs.KeptLemmas.{kept_part, kept_blank}
+use Rattle.hir_page.proofs.BufferLemmas.{page_plain, grown_none, grown_by}
+use Rattle.hir_page.proofs.EndLemmas.{kept_part, kept_blank}
 use Rattle.hir_page.proofs.buffer.PageBuffer.add.Goals as goal
 
 pub invariant_of-self-then-of_part-gt0 : goal.invariant_of-self-then-of_part-gt0
@@ -34,3 +34,12 @@ pub returns-else-of_part-gt0-clause-ok : goal.returns-else-of_part-gt0-clause-ok
 returns-else-of_part-gt0-clause-ok c =
     let old = c.self.inside in
     rw (← c.self.view_is, c.in_ok-push_str.ensures.bytes) (page_plain (string_bytes old.text) c.args.part.now (level_of (string_bytes old.indentation)) old.format c.requires)
+
+pub returns-in_err-push_str-clause-grown : goal.returns-in_err-push_str-clause-grown
+returns-in_err-push_str-clause-grown c = rw (← c.self.view_is, c.in_err-push_str.ensures.bytes) grown_none
+
+pub returns-then-of_part-gt0-clause-grown : goal.returns-then-of_part-gt0-clause-grown
+returns-then-of_part-gt0-clause-grown c = rw (← c.self.view_is, c.in_ok-push_str.ensures.bytes) (grown_by _ _ _ _)
+
+pub returns-else-of_part-gt0-clause-grown : goal.returns-else-of_part-gt0-clause-grown
+returns-else-of_part-gt0-clause-grown c = rw (← c.self.view_is, c.in_ok-push_str.ensures.bytes) (grown_by _ _ _ _)

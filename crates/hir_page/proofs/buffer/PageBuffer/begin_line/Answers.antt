@@ -1,6 +1,5 @@
-use Rattle.std.proofs.lemmas.Result.{on_err_weaker}
-use Rattle.hir_page.proofs.GrownLemmas.{grown_parted, grown_same}
+use Rattle.hir_page.proofs.BufferLemmas.{grown_then}
 use Rattle.hir_page.proofs.buffer.PageBuffer.begin_line.Goals as goal
 
-pub returns-clause-err : goal.returns-clause-err
-returns-clause-err c = on_err_weaker _ (grown_same (grown_same (grown_parted c.args.self.now) c.in_ok-part_line.ensures.ok)) c.indent_line.ensures.err
+pub returns-clause-grown : goal.returns-clause-grown
+returns-clause-grown c = grown_then c.in_ok-end_line.ensures.grown c.indent_line-2.ensures.grown

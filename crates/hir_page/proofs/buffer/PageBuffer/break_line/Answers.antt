@@ -2,7 +2,7 @@ use Rattle.std.proofs.Common.{◌≡◌, false, sym, ap, ◌∙◌}
 use Rattle.std.proofs.lemmas.Result.{IfOk-equal}
 use Rattle.hir_page.specs.declared.line_format.LineFormat.TheVariants.{Indentation}
 use Rattle.hir_page.specs.Page.{Page, is_blank}
-use Rattle.hir_page.proofs.BreakLemmas.{two_lines_ended}
+use Rattle.hir_page.proofs.PageLemmas.{two_lines_ended}
 use Rattle.hir_page.proofs.buffer.PageBuffer.break_line.Goals as goal
 
 pub returns-in-Indentation-clause-ok : goal.returns-in-Indentation-clause-ok

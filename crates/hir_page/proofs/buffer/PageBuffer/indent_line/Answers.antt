@@ -1,8 +1,8 @@
 use Rattle.std.proofs.Common.{◌≡◌, ◌++◌, ◌*◌, replicate, ap, ◌∙◌}
 use Rattle.std.specs.String.{string_bytes}
 use Rattle.hir_page.specs.Buffer.{level_of}
-use Rattle.hir_page.proofs.BufferLemmas.{page_spaces}
-use Rattle.hir_page.proofs.KeptLemmas.{kept_spaces}
+use Rattle.hir_page.proofs.BufferLemmas.{page_spaces, grown_none, grown_by}
+use Rattle.hir_page.proofs.EndLemmas.{kept_spaces}
 use Rattle.hir_page.proofs.buffer.PageBuffer.indent_line.Goals as goal
 
 pub invariant_of-self-2 : goal.invariant_of-self-2
@@ -20,3 +20,9 @@ returns-clause-ok c =
     let bytes : string_bytes c.push_str.new.self ≡ string_bytes old.text ++ replicate (4 * level) 32 =
     c.in_ok-push_str.ensures.bytes ∙ ap (λ e. string_bytes old.text ++ e) (c.as_str.ensures.value ∙ c.self.invariant.spaces) in
     rw (← c.self.view_is, bytes) (page_spaces (string_bytes old.text) (4 * level) level old.format)
+
+pub returns-in_err-push_str-clause-grown : goal.returns-in_err-push_str-clause-grown
+returns-in_err-push_str-clause-grown c = rw (← c.self.view_is, c.in_err-push_str.ensures.bytes) grown_none
+
+pub returns-clause-grown : goal.returns-clause-grown
+returns-clause-grown c = rw (← c.self.view_is, c.in_ok-push_str.ensures.bytes) (grown_by _ _ _ _)

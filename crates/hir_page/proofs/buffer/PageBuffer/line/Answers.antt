@@ -3,7 +3,8 @@ use Rattle.std.proofs.lemmas.Bool.Decides.{nat_tests}
 use Rattle.hir_page.specs.declared.line_format.LineFormat.{LineFormat}
 use Rattle.hir_page.specs.Page.{Page, begin, format_in_line}
 use Rattle.hir_page.proofs.PageLemmas.{put_line, begun_format}
-use Rattle.hir_page.proofs.GrownLemmas.{grown_begun, grown_same, on_err}
+use Rattle.hir_page.specs.Buffer.{page_of}
+use Rattle.hir_page.proofs.BufferLemmas.{grown_then, grown_format}
 use Rattle.hir_page.proofs.buffer.PageBuffer.line.Goals as goal
 
 pub returns-in_ok-add-clause-ok : goal.returns-in_ok-add-clause-ok
@@ -17,5 +18,8 @@ returns-in_ok-add-clause-ok c =
     let format = c.in_line-self-inside.ensures ∙ ap format_in_line (ap (λ (q : Page). q.format) added ∙ begun_format p) in
     ap (set c.in_line-self-inside.result) added ∙ ap (λ f. set f (with_line (begin p))) format ∙ sym (put_line p line some c.requires)
 
-pub returns-in_err-add-clause-err : goal.returns-in_err-add-clause-err
-returns-in_err-add-clause-err c = on_err _ (grown_same (grown_same (grown_begun c.args.self.now) c.in_ok-begin.ensures.ok) c.in_err-add.ensures.err)
+pub returns-in_err-add-clause-grown : goal.returns-in_err-add-clause-grown
+returns-in_err-add-clause-grown c = grown_then c.in_ok-begin.ensures.grown c.in_err-add.ensures.grown
+
+pub returns-in_ok-add-clause-grown : goal.returns-in_ok-add-clause-grown
+returns-in_ok-add-clause-grown c = grown_format (page_of c.self.inside) _ (grown_then c.in_ok-begin.ensures.grown c.in_ok-add.ensures.grown) c.self.view_is

@@ -1,5 +1,5 @@
 use Rattle.std.specs.String.{string_bytes}
-use Rattle.hir_page.proofs.KeptLemmas.{indentation_more}
+use Rattle.hir_page.proofs.EndLemmas.{indentation_more}
 use Rattle.hir_page.proofs.buffer.PageBuffer.raise_level.Goals as goal
 
 pub invariant_of-self-2 : goal.invariant_of-self-2

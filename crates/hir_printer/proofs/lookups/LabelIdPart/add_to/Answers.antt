@@ -1,9 +1,5 @@
-use Rattle.std.proofs.Common.{slice_get}
-use Rattle.std.proofs.lemmas.Result.{on_ok_weaker}
-use Rattle.hir_printer.proofs.AddLemmas.{adds_found, adds_absent, not_there}
+use Rattle.hir_printer.proofs.Common.{slice_get, on_ok_weaker, adds_found, adds_absent, not_there, name_items, Setting}
 use Rattle.hir_node.specs.declared.binding.Label.{Label}
-use Rattle.hir_printer.specs.Names.{name_items}
-use Rattle.hir_printer.specs.Questions.{Setting}
 use Rattle.hir_printer.proofs.lookups.LabelIdPart.add_to.Goals as goal
 
 pub returns-then-has_label : goal.returns-then-has_label

@@ -1,7 +1,4 @@
-use Rattle.std.proofs.Common.{refl, sym}
-use Rattle.std.proofs.lemmas.Result.{on_ok_weaker}
-use Rattle.hir_printer.proofs.AddLemmas.{adds, adds_then, adds_as}
-use Rattle.hir_printer.proofs.ArgsItems.{assoc_items_is}
+use Rattle.hir_printer.proofs.Common.{refl, sym, on_ok_weaker, adds, adds_then, adds_as, assoc_items_is}
 use Rattle.hir_printer.proofs.paths.AssociatedTypeBindingPart.add_to.Goals as goal
 
 pub returns : goal.returns

@@ -1,7 +1,5 @@
-use Rattle.std.proofs.Common.{refl, ap, ◌∙◌}
+use Rattle.hir_printer.proofs.Common.{refl, ap, ◌∙◌, items_of_works, adds_none, adds_then, adds_as, stood_is, meant_more}
 use Rattle.std.proofs.lemmas.List.{take_all}
-use Rattle.hir_printer.specs.Printers.{items_of_works}
-use Rattle.hir_printer.proofs.AddLemmas.{adds_none, adds_then, adds_as, stood_is, meant_more}
 use Rattle.hir_printer.proofs.printer.Printer.add.Goals as goal
 
 pub loop-work-init : goal.loop-work-init

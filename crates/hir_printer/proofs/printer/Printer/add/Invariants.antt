@@ -1,6 +1,4 @@
-use Rattle.std.proofs.Common.{take}
-use Rattle.hir_printer.specs.Printing.{printing_of}
-use Rattle.hir_printer.specs.Printers.{items_of_works, AddsItems}
+use Rattle.hir_printer.proofs.Common.{take, printing_of, items_of_works, AddsItems}
 use Rattle.hir_printer.proofs.printer.Printer.add.Given as goal
 
 abbrev pub invariant-loop-work : goal.invariant-loop-work

@@ -1,12 +1,5 @@
-use Rattle.std.proofs.Common.{◌++◌, codes, map, ap, ◌∙◌}
-use Rattle.std.specs.Prelude.{◌&&◌}
-use Rattle.std.proofs.lemmas.Result.{on_ok_weaker}
+use Rattle.hir_printer.proofs.Common.{◌++◌, codes, map, ap, ◌∙◌, ◌&&◌, on_ok_weaker, text, when, join, arg_items, assoc_items, following, adds_then, adds_as, filled, args_is}
 use Rattle.hir_path.specs.declared.path.GenericArgs.{out-GenericArgs}
-use Rattle.hir_printer.specs.Items.{text, when, join}
-use Rattle.hir_printer.specs.Paths.{arg_items, assoc_items}
-use Rattle.hir_printer.specs.Printers.{following}
-use Rattle.hir_printer.proofs.AddLemmas.{adds_then, adds_as}
-use Rattle.hir_printer.proofs.OrderLemmas.{filled, args_is}
 use Rattle.hir_printer.proofs.printer.Printer.add_args.Goals as goal
 
 pub returns : goal.returns

@@ -1,7 +1,4 @@
-use Rattle.std.proofs.Common.{refl, sym, ◌∙◌}
-use Rattle.std.proofs.lemmas.Result.{on_ok_weaker}
-use Rattle.hir_printer.proofs.AddLemmas.{adds, adds_then, adds_more, adds_as}
-use Rattle.hir_printer.proofs.OrderLemmas.{no_arguments, some_arguments}
+use Rattle.hir_printer.proofs.Common.{refl, sym, ◌∙◌, on_ok_weaker, adds, adds_then, adds_more, adds_as, no_arguments, some_arguments}
 use Rattle.hir_printer.proofs.printer.Printer.add_arguments.Goals as goal
 
 pub returns-then-is_empty : goal.returns-then-is_empty

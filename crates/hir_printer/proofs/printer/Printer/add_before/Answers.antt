@@ -1,5 +1,4 @@
-use Rattle.std.proofs.lemmas.Result.{on_ok_weaker}
-use Rattle.hir_printer.proofs.AddLemmas.{adds_more}
+use Rattle.hir_printer.proofs.Common.{on_ok_weaker, adds_more}
 use Rattle.hir_printer.proofs.printer.Printer.add_before.Goals as goal
 
 pub returns-in_ok-add_to-in-Some : goal.returns-in_ok-add_to-in-Some

@@ -1,8 +1,4 @@
-use Rattle.std.proofs.Common.{slice_get, refl}
-use Rattle.std.proofs.lemmas.Result.{on_ok_weaker}
-use Rattle.hir_printer.proofs.AddLemmas.{adds, adds_found, adds_absent, not_there}
-use Rattle.hir_printer.specs.Questions.{Setting}
-use Rattle.hir_printer.specs.Names.{of_binding}
+use Rattle.hir_printer.proofs.Common.{slice_get, refl, on_ok_weaker, adds, adds_found, adds_absent, not_there, Setting, of_binding}
 use Rattle.hir_printer.proofs.printer.Printer.add_binding.Goals as goal
 
 pub returns-then-has_binding : goal.returns-then-has_binding

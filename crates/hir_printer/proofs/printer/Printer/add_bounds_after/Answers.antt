@@ -1,6 +1,4 @@
-use Rattle.std.proofs.lemmas.Result.{on_ok_weaker}
-use Rattle.hir_printer.proofs.AddLemmas.{adds_then, adds_as}
-use Rattle.hir_printer.proofs.OrderLemmas.{bounds_is}
+use Rattle.hir_printer.proofs.Common.{on_ok_weaker, adds_then, adds_as, bounds_is}
 use Rattle.hir_printer.proofs.printer.Printer.add_bounds_after.Goals as goal
 
 pub returns : goal.returns

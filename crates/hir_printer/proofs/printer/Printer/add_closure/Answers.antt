@@ -1,11 +1,5 @@
-use Rattle.std.proofs.Common.{◌++◌, refl, ap, ◌∙◌}
-use Rattle.std.proofs.lemmas.Result.{on_ok_weaker}
+use Rattle.hir_printer.proofs.Common.{◌++◌, refl, ap, ◌∙◌, on_ok_weaker, Setting, text, e, closure_head, capture_keyword, header, params, printed_body, expr_items, adds, adds_then, adds_more, adds_here, same_from}
 use Rattle.hir_node.specs.declared.expr.Expr.TheVariants as of_expr
-use Rattle.hir_printer.specs.Questions.{Setting}
-use Rattle.hir_printer.specs.Items.{text, e}
-use Rattle.hir_printer.specs.Exprs.{closure_head, capture_keyword, header, params, printed_body, expr_items}
-use Rattle.hir_printer.proofs.AddLemmas.{adds, adds_then, adds_more, adds_here}
-use Rattle.hir_printer.proofs.FieldLemmas.{same_from}
 use Rattle.hir_printer.proofs.printer.Printer.add_closure.Goals as goal
 
 pub returns : goal.returns

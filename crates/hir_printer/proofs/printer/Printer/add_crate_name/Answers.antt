@@ -1,10 +1,5 @@
-use Rattle.std.proofs.Common.{◌∷◌, [], codes, refl, sym, ap, ◌∙◌}
-use Rattle.std.proofs.lemmas.Result.{on_ok_weaker}
+use Rattle.hir_printer.proofs.Common.{◌∷◌, [], codes, refl, sym, ap, ◌∙◌, on_ok_weaker, Lacks, found_or, found_name, adds, adds_here}
 use Rattle.hir_expr_store.specs.declared.missing.Missing.TheVariants as missing
-use Rattle.hir_printer.specs.Items.{Lacks}
-use Rattle.hir_printer.specs.Answers.{found_or}
-use Rattle.hir_printer.specs.Paths.{found_name}
-use Rattle.hir_printer.proofs.AddLemmas.{adds, adds_here}
 use Rattle.hir_printer.proofs.printer.Printer.add_crate_name.Goals as goal
 
 pub returns-in-Ok : goal.returns-in-Ok

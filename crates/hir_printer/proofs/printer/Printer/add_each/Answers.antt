@@ -1,7 +1,4 @@
-use Rattle.std.proofs.Common.{refl}
-use Rattle.hir_printer.specs.Printers.{stood_after}
-use Rattle.hir_printer.proofs.AddLemmas.{left_begins_at, left_goes_on, left_ends, adds_more}
-use Rattle.hir_printer.proofs.ListLemmas.{each_step, each_ends}
+use Rattle.hir_printer.proofs.Common.{refl, stood_after, left_begins_at, left_goes_on, left_ends, adds_more, each_step, each_ends}
 use Rattle.hir_printer.proofs.printer.Printer.add_each.Goals as goal
 
 pub loop-member-init : goal.loop-member-init

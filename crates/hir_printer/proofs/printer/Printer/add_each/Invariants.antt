@@ -1,8 +1,4 @@
-use Rattle.std.proofs.Common.{drop}
-use Rattle.std.specs.List.{flat_map}
-use Rattle.hir_printer.specs.Printing.{printing_of}
-use Rattle.hir_printer.specs.Printers.{stood_after}
-use Rattle.hir_printer.proofs.AddLemmas.{AddsRest}
+use Rattle.hir_printer.proofs.Common.{drop, flat_map, printing_of, stood_after, AddsRest}
 use Rattle.hir_printer.proofs.printer.Printer.add_each.Given as goal
 
 abbrev pub invariant-loop-member : goal.invariant-loop-member

@@ -1,10 +1,5 @@
-use Rattle.std.proofs.Common.{◌≡◌, ◌++◌, refl, ap, ap₂, ◌∙◌}
-use Rattle.std.proofs.lemmas.Result.{on_ok_weaker}
+use Rattle.hir_printer.proofs.Common.{◌≡◌, ◌++◌, refl, ap, ap₂, ◌∙◌, on_ok_weaker, text, sp, under, label_before, unsafe_items, inside_block, adds, adds_then, adds_more, adds_as, braces_behind}
 use Rattle.hir_node.specs.Precedence.{precedence, of_operator}
-use Rattle.hir_printer.specs.Items.{text, sp, under}
-use Rattle.hir_printer.specs.Exprs.{label_before, unsafe_items, inside_block}
-use Rattle.hir_printer.proofs.AddLemmas.{adds, adds_then, adds_more, adds_as}
-use Rattle.hir_printer.proofs.OrderLemmas.{braces_behind}
 use Rattle.hir_printer.proofs.printer.Printer.add_expr.Goals as goal
 
 pub returns-in_ok-add_joined-in-OffsetOf : goal.returns-in_ok-add_joined-in-OffsetOf
@@ -70,42 +65,6 @@ returns-in_ok-add_unsafe-in-Block c = rw c.in-Block.is (on_ok_weaker c.add_brace
 pub returns-in-Closure : goal.returns-in-Closure
 returns-in-Closure c = rw c.in-Closure.is (rw (c.as_slice-in-Closure.ensures, c.as_slice-in-Closure-2.ensures) at c.add_closure.ensures)
 
-pub returns-in-Missing : goal.returns-in-Missing
-returns-in-Missing c = rw c.in-Missing.is (on_ok_weaker c.add.result (λ a. adds a (λ s. refl)) c.add.ensures)
-
-pub returns-in-Underscore : goal.returns-in-Underscore
-returns-in-Underscore c = rw c.in-Underscore.is (on_ok_weaker c.add-in-Underscore.result (λ a. adds a (λ s. refl)) c.add-in-Underscore.ensures)
-
-pub returns-in-IncludeBytes : goal.returns-in-IncludeBytes
-returns-in-IncludeBytes c = rw c.in-IncludeBytes.is (on_ok_weaker c.add-in-IncludeBytes.result (λ a. adds a (λ s. refl)) c.add-in-IncludeBytes.ensures)
-
-pub returns-in-Let : goal.returns-in-Let
-returns-in-Let c = rw c.in-Let.is (on_ok_weaker c.add-in-Let.result (λ a. adds a (λ s. refl)) c.add-in-Let.ensures)
-
-pub returns-in-Await : goal.returns-in-Await
-returns-in-Await c = rw c.in-Await.is (on_ok_weaker c.add-in-Await.result (λ a. adds a (λ s. refl)) c.add-in-Await.ensures)
-
-pub returns-in-Cast : goal.returns-in-Cast
-returns-in-Cast c = rw c.in-Cast.is (on_ok_weaker c.add-in-Cast.result (λ a. adds a (λ s. refl)) c.add-in-Cast.ensures)
-
-pub returns-in-Index : goal.returns-in-Index
-returns-in-Index c = rw c.in-Index.is (on_ok_weaker c.add-in-Index.result (λ a. adds a (λ s. refl)) c.add-in-Index.ensures)
-
-pub returns-in-Assignment : goal.returns-in-Assignment
-returns-in-Assignment c = rw c.in-Assignment.is (on_ok_weaker c.add-in-Assignment.result (λ a. adds a (λ s. refl)) c.add-in-Assignment.ensures)
-
-pub returns-in-Literal : goal.returns-in-Literal
-returns-in-Literal c = rw c.in-Literal.is (on_ok_weaker c.add-in-Literal.result (λ a. adds a (λ s. refl)) c.add-in-Literal.ensures)
-
-pub returns-in-Return : goal.returns-in-Return
-returns-in-Return c = rw c.in-Return.is c.add_keyword.ensures
-
-pub returns-in-Become : goal.returns-in-Become
-returns-in-Become c = rw c.in-Become.is c.add_keyword-in-Become.ensures
-
-pub returns-in-Yield : goal.returns-in-Yield
-returns-in-Yield c = rw c.in-Yield.is c.add_keyword-in-Yield.ensures
-
 pub returns-in-Field : goal.returns-in-Field
 returns-in-Field c = rw c.in-Field.is (on_ok_weaker c.add-in-Field.result (λ a. adds a (λ s. refl)) (rw c.as_str.ensures at c.add-in-Field.ensures))
 
@@ -114,12 +73,6 @@ returns-in-Ref c = rw c.in-Ref.is (on_ok_weaker c.add-in-Ref.result (λ a. adds 
 
 pub returns-in-UnaryOp : goal.returns-in-UnaryOp
 returns-in-UnaryOp c = rw c.in-UnaryOp.is (on_ok_weaker c.add-in-UnaryOp.result (λ a. adds a (λ s. refl)) (rw c.as_str-in-UnaryOp.ensures at c.add-in-UnaryOp.ensures))
-
-pub returns-in-Array : goal.returns-in-Array
-returns-in-Array c = rw c.in-Array.is c.add_array.ensures
-
-pub returns-in-Path : goal.returns-in-Path
-returns-in-Path c = rw c.in-Path.is c.add_path.ensures
 
 pub returns-in-BinaryOp : goal.returns-in-BinaryOp
 returns-in-BinaryOp c =

@@ -1,10 +1,4 @@
-use Rattle.std.proofs.Common.{refl, sym, ap, ◌∙◌, slice_get}
-use Rattle.std.proofs.lemmas.Result.{on_ok_weaker}
-use Rattle.hir_printer.proofs.AddLemmas.{adds, adds_more, adds_here}
-use Rattle.hir_printer.specs.Questions.{Setting}
-use Rattle.hir_printer.specs.Pats.{is_short, field_pattern}
-use Rattle.hir_printer.specs.Printing.{printing_of}
-use Rattle.hir_printer.proofs.FieldLemmas.{same_from, short_field, long_field}
+use Rattle.hir_printer.proofs.Common.{refl, sym, ap, ◌∙◌, slice_get, on_ok_weaker, adds, adds_more, adds_here, Setting, is_short, field_pattern, printing_of, same_from, short_field, long_field}
 use Rattle.hir_printer.proofs.printer.Printer.add_field_pat.Goals as goal
 
 pub returns-then-is_short : goal.returns-then-is_short

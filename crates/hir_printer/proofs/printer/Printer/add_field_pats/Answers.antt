@@ -1,8 +1,4 @@
-use Rattle.std.proofs.Common.{◌-◌, refl, sym, ap, ◌∙◌, length, take, drop}
-use Rattle.hir_printer.proofs.AddLemmas.{adds_then, left_begins, left_goes_on, left_ends}
-use Rattle.hir_printer.specs.Pats.{field_patterns}
-use Rattle.hir_printer.proofs.ListLemmas.{parts}
-use Rattle.hir_printer.proofs.FieldLemmas.{field_step, no_fields}
+use Rattle.hir_printer.proofs.Common.{◌-◌, refl, sym, ap, ◌∙◌, length, take, drop, adds_then, left_begins, left_goes_on, left_ends, field_patterns, parts, field_step, no_fields}
 use Rattle.hir_printer.proofs.printer.Printer.add_field_pats.Goals as goal
 
 pub loop-left-init : goal.loop-left-init

@@ -1,7 +1,4 @@
-use Rattle.std.proofs.Common.{length}
-use Rattle.hir_printer.specs.Pats.{field_patterns}
-use Rattle.hir_printer.specs.Printing.{printing_of}
-use Rattle.hir_printer.proofs.AddLemmas.{AddsRest}
+use Rattle.hir_printer.proofs.Common.{length, field_patterns, printing_of, AddsRest}
 use Rattle.hir_printer.proofs.printer.Printer.add_field_pats.Given as goal
 
 abbrev pub invariant-loop-left : goal.invariant-loop-left

@@ -1,7 +1,4 @@
-use Rattle.std.proofs.Common.{refl}
-use Rattle.std.proofs.lemmas.Result.{on_ok_weaker}
-use Rattle.hir_printer.proofs.AddLemmas.{adds_more}
-use Rattle.hir_printer.proofs.TurnLemmas.{written_then}
+use Rattle.hir_printer.proofs.Common.{refl, on_ok_weaker, adds_more, written_then}
 use Rattle.hir_printer.proofs.printer.Printer.add_fish.Goals as goal
 
 pub returns : goal.returns

@@ -1,5 +1,4 @@
-use Rattle.std.proofs.lemmas.Result.{on_ok_weaker}
-use Rattle.hir_printer.proofs.AddLemmas.{adds_then}
+use Rattle.hir_printer.proofs.Common.{on_ok_weaker, adds_then}
 use Rattle.hir_printer.proofs.printer.Printer.add_fn.Goals as goal
 
 pub returns : goal.returns

@@ -1,8 +1,4 @@
-use Rattle.std.proofs.lemmas.Result.{on_ok_weaker}
-use Rattle.hir_printer.proofs.AddLemmas.{adds_as}
-use Rattle.std.proofs.Common.{map}
-use Rattle.hir_printer.specs.Items.{text}
-use Rattle.hir_printer.proofs.ListLemmas.{following_joined}
+use Rattle.hir_printer.proofs.Common.{on_ok_weaker, adds_as, map, text, following_joined}
 use Rattle.hir_printer.proofs.printer.Printer.add_joined.Goals as goal
 
 pub returns : goal.returns

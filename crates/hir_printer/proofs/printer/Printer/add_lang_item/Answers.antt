@@ -1,9 +1,4 @@
-use Rattle.std.proofs.Common.{◌++◌, codes, refl, ap, sym, append-nil, append_assoc}
-use Rattle.std.proofs.lemmas.Result.{on_ok_weaker}
-use Rattle.hir_printer.specs.Items.{text}
-use Rattle.hir_printer.specs.Names.{name_items}
-use Rattle.hir_printer.specs.Paths.{target_items}
-use Rattle.hir_printer.proofs.AddLemmas.{adds, adds_then, adds_more, adds_as}
+use Rattle.hir_printer.proofs.Common.{◌++◌, codes, refl, ap, sym, append-nil, append_assoc, on_ok_weaker, text, name_items, target_items, adds, adds_then, adds_more, adds_as}
 use Rattle.hir_printer.proofs.printer.Printer.add_lang_item.Goals as goal
 
 pub returns-in-None : goal.returns-in-None

@@ -1,9 +1,4 @@
-use Rattle.std.proofs.Common.{◌∷◌, [], refl, sym, ap}
-use Rattle.std.proofs.lemmas.Result.{on_ok_weaker}
-use Rattle.hir_printer.specs.Items.{Lacks}
-use Rattle.hir_printer.specs.Names.{name_items, param_items}
-use Rattle.hir_printer.specs.Printing.{printing_of}
-use Rattle.hir_printer.proofs.AddLemmas.{adds, adds_here}
+use Rattle.hir_printer.proofs.Common.{◌∷◌, [], refl, sym, ap, on_ok_weaker, Lacks, name_items, param_items, printing_of, adds, adds_here}
 use Rattle.hir_printer.proofs.printer.Printer.add_lifetime.Goals as goal
 
 pub returns-in-Ok : goal.returns-in-Ok
@@ -17,6 +12,3 @@ returns-in-Err c =
     let s = (printing_of c.args.self.now).from in
     rw c.in-Param.is (on_ok_weaker c.add-in-Err.result
     (λ a. adds_here (adds {is = λ t. Lacks c.in-Err.missing ∷ []} a (λ t. refl)) (sym (ap (param_items s) c.in-Err.ensures.absent))) c.add-in-Err.ensures)
-
-pub returns-in-Error : goal.returns-in-Error
-returns-in-Error c = rw c.in-Error.is (on_ok_weaker c.add-in-Error.result (λ a. adds a (λ s. refl)) c.add-in-Error.ensures)

@@ -1,7 +1,4 @@
-use Rattle.std.proofs.Common.{refl}
-use Rattle.hir_printer.specs.Items.{text}
-use Rattle.hir_printer.proofs.AddLemmas.{left_begins_at, left_goes_on, left_ends, adds_then}
-use Rattle.hir_printer.proofs.ListLemmas.{following_step, following_ends}
+use Rattle.hir_printer.proofs.Common.{refl, text, left_begins_at, left_goes_on, left_ends, adds_then, following_step, following_ends}
 use Rattle.hir_printer.proofs.printer.Printer.add_list.Goals as goal
 
 pub loop-member-init : goal.loop-member-init

@@ -1,8 +1,4 @@
-use Rattle.std.proofs.Common.{map, drop}
-use Rattle.hir_printer.specs.Items.{text}
-use Rattle.hir_printer.specs.Printing.{printing_of}
-use Rattle.hir_printer.specs.Printers.{following}
-use Rattle.hir_printer.proofs.AddLemmas.{AddsRest}
+use Rattle.hir_printer.proofs.Common.{map, drop, text, printing_of, following, AddsRest}
 use Rattle.hir_printer.proofs.printer.Printer.add_list.Given as goal
 
 abbrev pub invariant-loop-member : goal.invariant-loop-member

@@ -1,6 +1,4 @@
-use Rattle.std.proofs.Common.{refl}
-use Rattle.std.proofs.lemmas.Result.{on_ok_weaker}
-use Rattle.hir_printer.proofs.AddLemmas.{adds, adds_then}
+use Rattle.hir_printer.proofs.Common.{refl, on_ok_weaker, adds, adds_then}
 use Rattle.hir_printer.proofs.printer.Printer.add_method_call.Goals as goal
 
 pub returns : goal.returns

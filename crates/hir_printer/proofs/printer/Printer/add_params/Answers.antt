@@ -1,9 +1,4 @@
-use Rattle.std.proofs.Common.{◌-◌, codes, drop, length, take}
-use Rattle.hir_printer.proofs.AddLemmas.{adds_then, adds_more, left_begins, left_goes_on, left_ends}
-use Rattle.hir_printer.specs.Items.{text}
-use Rattle.hir_printer.specs.Exprs.{params}
-use Rattle.hir_printer.proofs.ListLemmas.{following_joined, parts}
-use Rattle.hir_printer.proofs.FieldLemmas.{param_step, no_args, no_types}
+use Rattle.hir_printer.proofs.Common.{◌-◌, codes, drop, length, take, adds_then, adds_more, left_begins, left_goes_on, left_ends, text, params, following_joined, parts, param_step, no_args, no_types}
 use Rattle.hir_printer.proofs.printer.Printer.add_params.Goals as goal
 
 pub loop-arg-init : goal.loop-arg-init

@@ -1,9 +1,4 @@
-use Rattle.std.proofs.Common.{codes, drop}
-use Rattle.hir_printer.specs.Items.{text, comma_joined}
-use Rattle.hir_printer.specs.Exprs.{params}
-use Rattle.hir_printer.specs.Printing.{printing_of}
-use Rattle.hir_printer.specs.Printers.{following}
-use Rattle.hir_printer.proofs.AddLemmas.{AddsRest}
+use Rattle.hir_printer.proofs.Common.{codes, drop, text, comma_joined, params, printing_of, following, AddsRest}
 use Rattle.hir_printer.proofs.printer.Printer.add_params.Given as goal
 
 abbrev pub invariant-loop-arg : goal.invariant-loop-arg

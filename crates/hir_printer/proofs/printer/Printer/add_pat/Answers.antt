@@ -1,8 +1,4 @@
-use Rattle.std.proofs.Common.{refl, sym, append-nil}
-use Rattle.std.proofs.lemmas.Result.{on_ok_weaker}
-use Rattle.hir_printer.proofs.AddLemmas.{adds, adds_then, adds_more, adds_as}
-use Rattle.hir_printer.specs.Names.{binding_items}
-use Rattle.hir_printer.proofs.OrderLemmas.{bound_to}
+use Rattle.hir_printer.proofs.Common.{refl, sym, append-nil, on_ok_weaker, adds, adds_then, adds_more, adds_as, binding_items, bound_to}
 use Rattle.hir_printer.proofs.printer.Printer.add_pat.Goals as goal
 
 pub returns-in_ok-add_joined-in-Or : goal.returns-in_ok-add_joined-in-Or
@@ -27,24 +23,6 @@ returns-in_ok-add_path-in-TupleStruct c = rw c.in-TupleStruct.is (on_ok_weaker c
     (adds_then c.in_ok-add_path-in-TupleStruct.ensures)
     (rw c.as_slice-in-TupleStruct.ensures at c.add_in_parentheses-in-TupleStruct.ensures))
 
-pub returns-in-Missing : goal.returns-in-Missing
-returns-in-Missing c = rw c.in-Missing.is (on_ok_weaker c.add.result (λ a. adds a (λ s. refl)) c.add.ensures)
-
-pub returns-in-Rest : goal.returns-in-Rest
-returns-in-Rest c = rw c.in-Rest.is (on_ok_weaker c.add-in-Rest.result (λ a. adds a (λ s. refl)) c.add-in-Rest.ensures)
-
-pub returns-in-Wild : goal.returns-in-Wild
-returns-in-Wild c = rw c.in-Wild.is (on_ok_weaker c.add-in-Wild.result (λ a. adds a (λ s. refl)) c.add-in-Wild.ensures)
-
-pub returns-in-NotNull : goal.returns-in-NotNull
-returns-in-NotNull c = rw c.in-NotNull.is (on_ok_weaker c.add-in-NotNull.result (λ a. adds a (λ s. refl)) c.add-in-NotNull.ensures)
-
-pub returns-in-Box : goal.returns-in-Box
-returns-in-Box c = rw c.in-Box.is (on_ok_weaker c.add-in-Box.result (λ a. adds a (λ s. refl)) c.add-in-Box.ensures)
-
-pub returns-in-Deref : goal.returns-in-Deref
-returns-in-Deref c = rw c.in-Deref.is (on_ok_weaker c.add-in-Deref.result (λ a. adds a (λ s. refl)) c.add-in-Deref.ensures)
-
 pub returns-in-Tuple : goal.returns-in-Tuple
 returns-in-Tuple c = rw c.in-Tuple.is (rw c.as_slice.ensures at c.add_in_parentheses.ensures)
 
@@ -53,15 +31,6 @@ returns-in-Record c = rw c.in-Record.is (rw c.as_slice-in-Record.ensures at c.ad
 
 pub returns-in-Slice : goal.returns-in-Slice
 returns-in-Slice c = rw c.in-Slice.is (rw (c.as_slice-in-Slice.ensures, c.as_slice-in-Slice-2.ensures) at c.add_slice.ensures)
-
-pub returns-in-Path : goal.returns-in-Path
-returns-in-Path c = rw c.in-Path.is c.add_path.ensures
-
-pub returns-in-Lit : goal.returns-in-Lit
-returns-in-Lit c = rw c.in-Lit.is c.add_range_end-in-Lit.ensures
-
-pub returns-in-Expr : goal.returns-in-Expr
-returns-in-Expr c = rw c.in-Expr.is c.add_range_end-in-Expr.ensures
 
 pub returns-in-Ref : goal.returns-in-Ref
 returns-in-Ref c = rw c.in-Ref.is (on_ok_weaker c.add-in-Ref.result (λ a. adds a (λ s. refl)) (rw c.as_keyword_for_ref.ensures at c.add-in-Ref.ensures))

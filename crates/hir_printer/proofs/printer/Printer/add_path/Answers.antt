@@ -1,5 +1,4 @@
-use Rattle.std.proofs.lemmas.Result.{on_ok_weaker}
-use Rattle.hir_printer.proofs.AddLemmas.{adds_then}
+use Rattle.hir_printer.proofs.Common.{on_ok_weaker, adds_then}
 use Rattle.hir_printer.proofs.printer.Printer.add_path.Goals as goal
 
 pub returns-in_ok-add_kind-in-BarePath : goal.returns-in_ok-add_kind-in-BarePath
@@ -8,6 +7,3 @@ returns-in_ok-add_kind-in-BarePath c = rw c.in-BarePath.is (on_ok_weaker c.add_s
 
 pub returns-in-Normal : goal.returns-in-Normal
 returns-in-Normal c = rw c.in-Normal.is (rw c.get.ensures at c.add_normal_path.ensures)
-
-pub returns-in-LangItem : goal.returns-in-LangItem
-returns-in-LangItem c = rw c.in-LangItem.is c.add_lang_item.ensures

@@ -1,6 +1,4 @@
-use Rattle.std.proofs.lemmas.Result.{on_ok_weaker}
-use Rattle.hir_printer.proofs.AddLemmas.{adds_then, adds_more, adds_as}
-use Rattle.hir_printer.proofs.FieldLemmas.{record_rest, record_plain}
+use Rattle.hir_printer.proofs.Common.{on_ok_weaker, adds_then, adds_more, adds_as, record_rest, record_plain}
 use Rattle.hir_printer.proofs.printer.Printer.add_record_pat.Goals as goal
 
 pub returns-then-rest : goal.returns-then-rest

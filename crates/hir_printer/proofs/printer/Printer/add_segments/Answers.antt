@@ -1,7 +1,4 @@
-use Rattle.std.proofs.Common.{◌-◌, refl, length, take, drop}
-use Rattle.hir_printer.proofs.AddLemmas.{adds_then, adds_more, left_begins, left_goes_on, left_ends}
-use Rattle.hir_printer.proofs.ListLemmas.{parts}
-use Rattle.hir_printer.proofs.OrderLemmas.{segment_alone, segment_with, no_segments}
+use Rattle.hir_printer.proofs.Common.{◌-◌, refl, length, take, drop, adds_then, adds_more, left_begins, left_goes_on, left_ends, parts, segment_alone, segment_with, no_segments}
 use Rattle.hir_printer.proofs.printer.Printer.add_segments.Goals as goal
 
 pub loop-name-init : goal.loop-name-init

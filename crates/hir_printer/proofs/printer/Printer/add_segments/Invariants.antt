@@ -1,7 +1,4 @@
-use Rattle.std.proofs.Common.{drop}
-use Rattle.hir_printer.specs.Paths.{segments_from}
-use Rattle.hir_printer.specs.Printing.{printing_of}
-use Rattle.hir_printer.proofs.AddLemmas.{AddsRest}
+use Rattle.hir_printer.proofs.Common.{drop, segments_from, printing_of, AddsRest}
 use Rattle.hir_printer.proofs.printer.Printer.add_segments.Given as goal
 
 abbrev pub invariant-loop-name : goal.invariant-loop-name

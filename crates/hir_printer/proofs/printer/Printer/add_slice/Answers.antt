@@ -1,7 +1,4 @@
-use Rattle.std.proofs.Common.{refl}
-use Rattle.std.proofs.lemmas.Result.{on_ok_weaker}
-use Rattle.hir_printer.proofs.AddLemmas.{adds, adds_then, adds_more, adds_as}
-use Rattle.hir_printer.proofs.OrderLemmas.{slice_is}
+use Rattle.hir_printer.proofs.Common.{refl, on_ok_weaker, adds, adds_then, adds_more, adds_as, slice_is}
 use Rattle.hir_printer.proofs.printer.Printer.add_slice.Goals as goal
 
 pub returns : goal.returns

@@ -1,7 +1,4 @@
-use Rattle.std.proofs.Common.{refl, arith}
-use Rattle.std.proofs.lemmas.Result.{on_ok_weaker}
-use Rattle.hir_printer.proofs.AddLemmas.{adds, left_begins, left_goes_on, left_ends}
-use Rattle.hir_printer.proofs.OrderLemmas.{supers_more, supers_last}
+use Rattle.hir_printer.proofs.Common.{refl, arith, on_ok_weaker, adds, left_begins, left_goes_on, left_ends, supers_more, supers_last}
 use Rattle.hir_printer.proofs.printer.Printer.add_supers.Goals as goal
 
 pub returns-then-times-eq0 : goal.returns-then-times-eq0

@@ -1,7 +1,4 @@
-use Rattle.std.proofs.Common.{◌<◌}
-use Rattle.hir_printer.specs.Paths.{supers}
-use Rattle.hir_printer.specs.Printing.{printing_of}
-use Rattle.hir_printer.proofs.AddLemmas.{AddsRest}
+use Rattle.hir_printer.proofs.Common.{◌<◌, supers, printing_of, AddsRest}
 use Rattle.hir_printer.proofs.printer.Printer.add_supers.Given as goal
 
 abbrev pub invariant-loop-left : goal.invariant-loop-left

@@ -1,33 +1,10 @@
-use Rattle.std.proofs.Common.{refl}
-use Rattle.std.proofs.lemmas.Result.{on_ok_weaker}
-use Rattle.hir_printer.proofs.AddLemmas.{adds, adds_then, adds_more}
+use Rattle.hir_printer.proofs.Common.{refl, on_ok_weaker, adds, adds_then, adds_more}
 use Rattle.hir_printer.proofs.printer.Printer.add_type.Goals as goal
 
 pub returns-in_ok-add_joined-in-Tuple : goal.returns-in_ok-add_joined-in-Tuple
 returns-in_ok-add_joined-in-Tuple c = rw c.in-Tuple.is (on_ok_weaker c.add-in-Tuple-2.result
     (adds_more (adds_then (adds c.in_ok-add-in-Tuple.ensures (λ s. refl)) (rw c.as_slice.ensures at c.in_ok-add_joined-in-Tuple.ensures)))
     c.add-in-Tuple-2.ensures)
-
-pub returns-in-Never : goal.returns-in-Never
-returns-in-Never c = rw c.in-Never.is (on_ok_weaker c.add.result (λ a. adds a (λ s. refl)) c.add.ensures)
-
-pub returns-in-Placeholder : goal.returns-in-Placeholder
-returns-in-Placeholder c = rw c.in-Placeholder.is (on_ok_weaker c.add-in-Placeholder.result (λ a. adds a (λ s. refl)) c.add-in-Placeholder.ensures)
-
-pub returns-in-Error : goal.returns-in-Error
-returns-in-Error c = rw c.in-Error.is (on_ok_weaker c.add-in-Error.result (λ a. adds a (λ s. refl)) c.add-in-Error.ensures)
-
-pub returns-in-Slice : goal.returns-in-Slice
-returns-in-Slice c = rw c.in-Slice.is (on_ok_weaker c.add-in-Slice.result (λ a. adds a (λ s. refl)) c.add-in-Slice.ensures)
-
-pub returns-in-Array : goal.returns-in-Array
-returns-in-Array c = rw c.in-Array.is (on_ok_weaker c.add-in-Array.result (λ a. adds a (λ s. refl)) c.add-in-Array.ensures)
-
-pub returns-in-PatternType : goal.returns-in-PatternType
-returns-in-PatternType c = rw c.in-PatternType.is (on_ok_weaker c.add-in-PatternType.result (λ a. adds a (λ s. refl)) c.add-in-PatternType.ensures)
-
-pub returns-in-TypeParam : goal.returns-in-TypeParam
-returns-in-TypeParam c = rw c.in-TypeParam.is c.add_type_param.ensures
 
 pub returns-in-RawPtr : goal.returns-in-RawPtr
 returns-in-RawPtr c = rw c.in-RawPtr.is (on_ok_weaker c.add-in-RawPtr.result (λ a. adds a (λ s. refl)) (rw c.as_keyword_for_ptr.ensures at c.add-in-RawPtr.ensures))
@@ -43,6 +20,3 @@ returns-in-ImplTrait c = rw c.in-ImplTrait.is (rw c.as_slice-in-ImplTrait.ensure
 
 pub returns-in-DynTrait : goal.returns-in-DynTrait
 returns-in-DynTrait c = rw c.in-DynTrait.is (rw c.as_slice-in-DynTrait.ensures at c.add_bounds-in-DynTrait.ensures)
-
-pub returns-in-Path : goal.returns-in-Path
-returns-in-Path c = rw c.in-Path.is c.add_path.ensures

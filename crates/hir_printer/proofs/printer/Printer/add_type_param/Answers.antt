@@ -1,11 +1,4 @@
-use Rattle.std.proofs.Common.{◌∷◌, [], refl, sym, ap, ◌∙◌}
-use Rattle.std.specs.Prelude.{Ok}
-use Rattle.std.specs.Option.{option_copied}
-use Rattle.std.proofs.lemmas.Result.{on_ok_weaker}
-use Rattle.hir_printer.specs.Items.{Lacks}
-use Rattle.hir_printer.specs.Types.{type_param_items}
-use Rattle.hir_printer.specs.Printing.{printing_of}
-use Rattle.hir_printer.proofs.AddLemmas.{adds, adds_here}
+use Rattle.hir_printer.proofs.Common.{◌∷◌, [], refl, sym, ap, ◌∙◌, Ok, option_copied, on_ok_weaker, Lacks, type_param_items, printing_of, adds, adds_here}
 use Rattle.hir_printer.proofs.printer.Printer.add_type_param.Goals as goal
 
 pub returns-in-Ok : goal.returns-in-Ok

@@ -1,10 +1,5 @@
-use Rattle.std.proofs.Common.{ap, ◌∙◌}
-use Rattle.std.proofs.lemmas.Result.{on_ok_weaker}
-use Rattle.hir_printer.proofs.AddLemmas.{adds_then, adds_here}
+use Rattle.hir_printer.proofs.Common.{ap, ◌∙◌, on_ok_weaker, adds_then, adds_here, items_of, stands_in_parentheses, printing_of, enclose}
 use Rattle.hir_node.specs.declared.node_id.NodeId.TheVariants as node
-use Rattle.hir_printer.specs.Pieces.{items_of, stands_in_parentheses}
-use Rattle.hir_printer.specs.Printing.{printing_of}
-use Rattle.hir_printer.specs.Printers.{enclose}
 use Rattle.hir_printer.proofs.printer.Printer.add_under.Goals as goal
 
 pub returns : goal.returns

@@ -1,15 +1,9 @@
-use Rattle.std.proofs.Common.{◌≡◌, [], sym, ◌∙◌, arith}
-use Rattle.std.proofs.lemmas.Result.{on_ok_weaker}
+use Rattle.hir_printer.proofs.Common.{◌≡◌, [], sym, ◌∙◌, arith, on_ok_weaker, printing_of, wrote_adds, kept_adds}
 use Rattle.std.proofs.lemmas.List.{drop_all}
-use Rattle.hir_printer.specs.Printing.{printing_of}
-use Rattle.hir_printer.proofs.TurnLemmas.{wrote_adds, kept_adds}
 use Rattle.hir_printer.proofs.printer.Printer.add_work.Goals as goal
 
 pub returns-then-len-self : goal.returns-then-len-self
 returns-then-len-self c = on_ok_weaker c.keep.result (kept_adds c.args.work.now) c.keep.ensures
-
-pub write_work-requires : goal.write_work-requires
-write_work-requires c = rw c.copy_of-work.ensures (sym c.is_node.ensures ∙ c.if-is_node.false)
 
 pub write_work-requires : goal.write_work-requires
 write_work-requires c = rw c.copy_of-work.ensures (sym c.is_node.ensures ∙ c.if-is_node.false)

@@ -1,6 +1,4 @@
-use Rattle.std.proofs.Common.{refl}
-use Rattle.hir_printer.proofs.AddLemmas.{not_there}
-use Rattle.hir_printer.specs.Printing.{printing_of}
+use Rattle.hir_printer.proofs.Common.{refl, not_there, printing_of}
 use Rattle.hir_printer.proofs.printer.Printer.binds_name.Goals as goal
 
 pub returns-then-has_binding : goal.returns-then-has_binding

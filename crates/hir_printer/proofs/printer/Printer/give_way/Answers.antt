@@ -1,7 +1,5 @@
-use Rattle.std.proofs.Common.{◌≡◌, ◌∙◌, ap}
-use Rattle.std.proofs.lemmas.Result.{err_from_is_err_and}
+use Rattle.hir_printer.proofs.Common.{◌≡◌, ◌∙◌, ap, err_from_is_err_and, whole_gives, under_gives, pattern_gives, type_gives}
 use Rattle.hir_printer.specs.declared.work.Work.TheVariants as work
-use Rattle.hir_printer.proofs.TurnLemmas.{whole_gives, under_gives, pattern_gives, type_gives}
 use Rattle.hir_printer.proofs.printer.Printer.give_way.Goals as goal
 
 pub returns-in_ok-add_expr_at-in-Whole-clause-ok : goal.returns-in_ok-add_expr_at-in-Whole-clause-ok

@@ -1,8 +1,5 @@
-use Rattle.std.proofs.Common.{List, ap₂, arith}
-use Rattle.std.proofs.lemmas.Result.{on_ok_weaker}
+use Rattle.hir_printer.proofs.Common.{List, ap₂, arith, on_ok_weaker, printing_of, kept_more, waiting_still}
 use Rattle.hir_printer.specs.declared.work.Work.{Work}
-use Rattle.hir_printer.specs.Printing.{printing_of}
-use Rattle.hir_printer.proofs.WorksLemmas.{kept_more, waiting_still}
 use Rattle.hir_printer.proofs.printer.Printer.keep.Goals as goal
 
 pub returns : goal.returns

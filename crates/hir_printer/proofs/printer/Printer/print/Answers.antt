@@ -1,6 +1,4 @@
-use Rattle.std.proofs.Common.{ap, Err}
-use Rattle.std.proofs.lemmas.Result.{err_from_is_err_and}
-use Rattle.hir_printer.proofs.TurnLemmas.{prints_text, prints_fault}
+use Rattle.hir_printer.proofs.Common.{ap, Err, err_from_is_err_and, prints_text, prints_fault}
 use Rattle.hir_printer.proofs.printer.Printer.print.Goals as goal
 
 pub returns-in_err-write : goal.returns-in_err-write

@@ -1,5 +1,4 @@
-use Rattle.std.proofs.lemmas.Result.{err_from_is_err_and}
-use Rattle.hir_printer.proofs.TurnLemmas.{turned_wrote, turned_gave}
+use Rattle.hir_printer.proofs.Common.{err_from_is_err_and, turned_wrote, turned_gave}
 use Rattle.hir_printer.proofs.printer.Printer.turn.Goals as goal
 
 pub returns-in_err-write_work-clause-missing : goal.returns-in_err-write_work-clause-missing

@@ -1,10 +1,4 @@
-use Rattle.std.proofs.Common.{sym, ap, refl, subst, ◌∙◌}
-use Rattle.std.proofs.lemmas.Result.{err_from_is_err_and}
-use Rattle.hir_printer.specs.Pieces.{item_list_pieces}
-use Rattle.hir_printer.specs.Falls.{ItemsFall}
-use Rattle.hir_printer.specs.Printing.{Printing, printing_of}
-use Rattle.hir_printer.specs.Printers.{items_of_works, printing}
-use Rattle.hir_printer.proofs.TurnLemmas.{turn_leads, turn_less, missing_next, all_is_written}
+use Rattle.hir_printer.proofs.Common.{sym, ap, refl, subst, ◌∙◌, err_from_is_err_and, item_list_pieces, ItemsFall, Printing, printing_of, items_of_works, printing, turn_leads, turn_less, missing_next, all_is_written}
 use Rattle.hir_printer.proofs.printer.Printer.write.Goals as goal
 
 pub loop-work-init : goal.loop-work-init

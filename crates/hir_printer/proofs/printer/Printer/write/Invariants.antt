@@ -1,8 +1,4 @@
-use Rattle.std.proofs.Common.{◌≡◌, ◌++◌, []}
-use Rattle.hir_printer.specs.Pieces.{item_list_pieces}
-use Rattle.hir_printer.specs.Weights.{heft}
-use Rattle.hir_printer.specs.Printing.{printing_of}
-use Rattle.hir_printer.specs.Printers.{items_of_works, printing}
+use Rattle.hir_printer.proofs.Common.{◌≡◌, ◌++◌, [], item_list_pieces, heft, printing_of, items_of_works, printing}
 use Rattle.hir_printer.proofs.printer.Printer.write.Given as goal
 
 -- what is still to be printed comes to the same as what was to be

@@ -1,41 +1,33 @@
-use Rattle.std.proofs.Common.{[], ◌∷◌, map, refl, arith}
-use Rattle.std.specs.Fmt.{decimal}
+use Rattle.hir_printer.proofs.Common.{[], ◌∷◌, map, refl, arith, decimal, on_ok_weaker, literal_items, put_pieces, name_parts, printing_of, literal_pieces, name_printed, literal_heft, name_heft, wrote}
 use Rattle.hir_page.specs.Pieces.{Text, SoftSpace, Break, Indent, Outdent}
-use Rattle.hir_printer.specs.Literals.{literal_items, put_pieces}
-use Rattle.hir_printer.specs.Names.{name_parts}
-use Rattle.hir_printer.specs.Printing.{printing_of}
-use Rattle.hir_printer.proofs.PieceLemmas.{page_is, literal_pieces, name_printed}
-use Rattle.hir_printer.proofs.WeightLemmas.{literal_heft, name_heft}
-use Rattle.hir_printer.proofs.TurnLemmas.{on_ok_of, on_ok_writes, wrote}
 use Rattle.hir_printer.proofs.printer.Printer.write_work.Goals as goal
 
 pub returns-in-Text : goal.returns-in-Text
-returns-in-Text c = rw c.in-Text.is (on_ok_of _ c.text.result (λ e. wrote (Text c.in-Text.text.now ∷ []) refl refl e (omega arith)) c.text.ensures)
+returns-in-Text c = rw c.in-Text.is (on_ok_weaker c.text.result (λ e. wrote (Text c.in-Text.text.now ∷ []) refl refl e (omega arith)) c.text.ensures.ok)
 
 pub returns-in-Space : goal.returns-in-Space
-returns-in-Space c = rw c.in-Space.is (on_ok_of _ c.soft_space.result (λ e. wrote (SoftSpace ∷ []) refl refl e (omega arith)) c.soft_space.ensures)
+returns-in-Space c = rw c.in-Space.is (on_ok_weaker c.soft_space.result (λ e. wrote (SoftSpace ∷ []) refl refl e (omega arith)) c.soft_space.ensures.ok)
 
 pub returns-in-Break : goal.returns-in-Break
-returns-in-Break c = rw c.in-Break.is (on_ok_of _ c.line_break.result (λ e. wrote (Break ∷ []) refl refl e (omega arith)) c.line_break.ensures)
+returns-in-Break c = rw c.in-Break.is (on_ok_weaker c.line_break.result (λ e. wrote (Break ∷ []) refl refl e (omega arith)) c.line_break.ensures.ok)
 
 pub returns-in-Indent : goal.returns-in-Indent
-returns-in-Indent c = rw c.in-Indent.is (on_ok_of _ c.indent.result (λ e. wrote (Indent ∷ []) refl refl e (omega arith)) c.indent.ensures)
+returns-in-Indent c = rw c.in-Indent.is (on_ok_weaker c.indent.result (λ e. wrote (Indent ∷ []) refl refl e (omega arith)) c.indent.ensures.ok)
 
 pub returns-in-Outdent : goal.returns-in-Outdent
-returns-in-Outdent c = rw c.in-Outdent.is (on_ok_of _ c.outdent.result (λ e. wrote (Outdent ∷ []) refl refl e (omega arith)) c.outdent.ensures)
+returns-in-Outdent c = rw c.in-Outdent.is (wrote (Outdent ∷ []) refl refl c.outdent.ensures (omega arith))
 
 pub returns-in-Number : goal.returns-in-Number
-returns-in-Number c =
-    rw c.in-Number.is (on_ok_writes c.write_number.result (λ k. wrote (Text (decimal c.in-Number.number) ∷ []) refl refl (page_is k) (omega arith)) c.write_number.ensures)
+returns-in-Number c = rw c.in-Number.is (on_ok_weaker c.write_number.result (λ e. wrote (Text (decimal c.in-Number.number) ∷ []) refl refl e (omega arith)) c.write_number.ensures.ok)
 
 pub returns-in-Literal : goal.returns-in-Literal
 returns-in-Literal c =
     let s = (printing_of c.args.self.now).from in
     let x = c.in-Literal.literal.now in
-    rw c.in-Literal.is (on_ok_writes c.write_literal.result (λ k. wrote (put_pieces (literal_items x)) refl (literal_pieces s x) (page_is k) (literal_heft s x)) c.write_literal.ensures)
+    rw c.in-Literal.is (on_ok_weaker c.write_literal.result (λ e. wrote (put_pieces (literal_items x)) refl (literal_pieces s x) e (literal_heft s x)) c.write_literal.ensures)
 
 pub returns-in-Name : goal.returns-in-Name
 returns-in-Name c =
     let s = (printing_of c.args.self.now).from in
     let name = c.in-Name.name.now in
-    rw c.in-Name.is (on_ok_writes c.write_name.result (λ k. wrote (map Text (name_parts s.words name)) refl (name_printed s name) (page_is k) (name_heft s name)) c.write_name.ensures)
+    rw c.in-Name.is (on_ok_weaker c.write_name.result (λ e. wrote (map Text (name_parts s.words name)) refl (name_printed s name) e (name_heft s name)) c.write_name.ensures)
