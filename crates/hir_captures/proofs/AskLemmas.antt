@@ -1,19 +1,16 @@
 -- A name that is found is captured where the scope that brings it in is among the outermost.
 use Rattle.std.proofs.Common.{◌≡◌, ℕ, suc, ◌+◌, ◌<◌, ◌≤◌, ◌-◌, List, [], ◌∷◌, ◌++◌, Option, Some, None, take, drop, length, length-append, refl, ap, sym, ◌∙◌, arith}
-use Rattle.std.specs.List.{slice_get, flat_map, AllByRecursion}
 use Rattle.std.proofs.Math.Seq.{take-append-add}
-use Rattle.std.proofs.lemmas.List.{take-append-drop, take-append-le}
-use Rattle.std.proofs.lemmas.List.Concat.{flat_map-append}
+use Rattle.std.proofs.lemmas.{List.take-append-drop, List.take-append-le, List.Concat.flat_map-append}
+use Rattle.std.specs.{List.slice_get, List.flat_map, List.AllByRecursion, Option.option_or}
 use Rattle.hir_base.specs.declared.hygiene.SyntaxContext.{SyntaxContext}
 use Rattle.hir_faults.specs.TestedParts.{all_of}
-use Rattle.hir_scope.specs.declared.scope.ScopeEntry.{ScopeEntry}
-use Rattle.hir_scope.specs.Frames.{Frame, Chain}
-use Rattle.hir_scope.specs.Scopes.{Scope, ParentsStandEarlier, frame_of}
-use Rattle.hir_scope.specs.Paths.{path, frame_at, chain}
+use Rattle.hir_faults.proofs.SoundLemmas.{item_at}
+use Rattle.hir_scope.specs.{Frames.Frame, Frames.Chain, Paths.path, Paths.frame_at, Paths.chain}
 use Rattle.hir_scope.specs.Resolution.{resolve, IsFound}
-use Rattle.hir_scope.proofs.MemberLemmas.{read}
-use Rattle.hir_scope.proofs.PathLemmas.{path_step}
-use Rattle.hir_scope.proofs.ResolveLemmas.{or_else, resolve_append, found_resolves}
+use Rattle.hir_scope.specs.Scopes.{Scope, ParentsStandEarlier, frame_of}
+use Rattle.hir_scope.specs.declared.scope.ScopeEntry.{ScopeEntry}
+use Rattle.hir_scope.proofs.{PathLemmas.path_step, ResolveLemmas.resolve_append, ResolveLemmas.found_resolves}
 use Rattle.hir_captures.specs.Captures.{unless_within, meaning_behind}
 
 -- 1. Scopes of a chain
@@ -31,7 +28,7 @@ one_frame scopes s x ids e = ap (λ (o : Option Scope). all_of (λ (y : Scope). 
 pub as_many : (scopes : List Scope) (ids : List ℕ) → AllThere scopes ids → length (frames scopes ids) ≡ length ids
 as_many scopes [] h = refl
 as_many scopes (s ∷ ids) h =
-    let x = read scopes s h.0 in
+    let x = item_at scopes s h.0 in
     ap (length {A = Frame}) (one_frame scopes s x.0 ids x.1) ∙ ap suc (as_many scopes ids h.1)
 
 -- 2. What is in front of a chain
@@ -39,7 +36,7 @@ as_many scopes (s ∷ ids) h =
 module _ (n : List ℕ) (h : SyntaxContext) where
   none_in_front : (m : ℕ) (xs : Chain) → resolve xs n h ≡ None → resolve (take m xs) n h ≡ None
   none_in_front m xs e = at (resolve (take m xs) n h) (sym (resolve_append n h (take m xs) (drop m xs)) ∙ (ap (λ (c : Chain). resolve c n h) (take-append-drop m xs) ∙ e)) where
-    at : (o : Option ScopeEntry) → or_else o (resolve (drop m xs) n h) ≡ None → o ≡ None
+    at : (o : Option ScopeEntry) → option_or o (resolve (drop m xs) n h) ≡ None → o ≡ None
     at None q = refl
     at (Some x) q = absurd cc
 
@@ -49,7 +46,7 @@ module _ (n : List ℕ) (h : SyntaxContext) where
 
   -- an entry of the first frame is in front
   found_in_front : (f : Frame) (entry : ScopeEntry) → resolve (f ∷ []) n h ≡ Some entry → (k : ℕ) (fs : Chain) → resolve (take (suc k) (f ∷ fs)) n h ≡ Some entry
-  found_in_front f entry e k fs = resolve_append n h (f ∷ []) (take k fs) ∙ ap (λ (o : Option ScopeEntry). or_else o (resolve (take k fs) n h)) e
+  found_in_front f entry e k fs = resolve_append n h (f ∷ []) (take k fs) ∙ ap (λ (o : Option ScopeEntry). option_or o (resolve (take k fs) n h)) e
 
 -- 3. What is found
 
@@ -85,7 +82,7 @@ module _ (scopes : List Scope) (earlier : ParentsStandEarlier scopes) (from : �
   pub found_within : outermost < length outer → meaning_behind (length whole - outermost) whole n h ≡ None
   found_within l =
       let k = length outer - outermost - 1 in
-      let x = read scopes s f.there in
+      let x = item_at scopes s f.there in
       let fs = frames scopes (path scopes x.0.parent) in
       let first : resolve (frame_of x.0 ∷ []) n h ≡ Some entry = sym (ap (λ (c : Chain). resolve c n h) (ap (all_of (λ (y : Scope). frame_of y ∷ [])) x.1)) ∙ f.is_first in
       let out : outer ≡ frame_of x.0 ∷ fs = ap (frames scopes) (path_step scopes s x.0 earlier x.1) ∙ one_frame scopes s x.0 (path scopes x.0.parent) x.1 in
@@ -95,7 +92,7 @@ module _ (scopes : List Scope) (earlier : ParentsStandEarlier scopes) (from : �
       ∙ (ap (λ (c : Chain). resolve (take (length inner + suc k) c) n h) parts
       ∙ (ap (λ (c : Chain). resolve c n h) (take-append-add inner outer (suc k))
       ∙ (resolve_append n h inner (take (suc k) outer)
-      ∙ (ap (λ (o : Option ScopeEntry). or_else o (resolve (take (suc k) outer) n h)) f.none_before
+      ∙ (ap (λ (o : Option ScopeEntry). option_or o (resolve (take (suc k) outer) n h)) f.none_before
       ∙ (ap (λ (c : Chain). resolve (take (suc k) c) n h) out
       ∙ found_in_front n h (frame_of x.0) entry first k fs))))) in
       λ i. unless_within (front i) (means i)

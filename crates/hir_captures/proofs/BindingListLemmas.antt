@@ -1,15 +1,11 @@
 -- A mark for each number that is listed.
 use Rattle.std.proofs.Common.{◌≡◌, ℕ, ◌<◌, List, [], ◌∷◌, ◌++◌, Some, refl, sym, ap, ◌∙◌, arith, nat_eq, Bool, true, false, cond}
-use Rattle.std.specs.Prelude.{is_some, ◌||◌}
-use Rattle.std.specs.declared.cmp.Ordering.{Ordering}
-use Rattle.std.specs.declared.cmp.Ordering.TheVariants as order
-use Rattle.std.specs.Ordering.{nat_cmp, eq_by_cmp, is_eq, MatchOrdering}
-use Rattle.std.proofs.lemmas.Cmp.{ranked, nat_cmp_total}
 use Rattle.std.proofs.lemmas.Bool.{ne_eqb, eq-eqb}
+use Rattle.std.proofs.lemmas.{Cmp.ranked, Cmp.nat_cmp_total, List.Folds.list_any-append}
 use Rattle.std.specs.FinMap as map
-use Rattle.std.proofs.lemmas.List.Folds.{list_any-append}
-use Rattle.hir_captures.specs.walk.Marks.{is_listed, AreMarks}
-use Rattle.hir_captures.specs.Captures.{with_new}
+use Rattle.std.specs.Ordering.{nat_cmp, eq_by_cmp, is_eq, MatchOrdering}
+use Rattle.std.specs.{Prelude.is_some, Prelude.◌||◌, declared.cmp.Ordering.Ordering}
+use Rattle.hir_captures.specs.{Captures.with_new, walk.Marks.is_listed, walk.Marks.AreMarks}
 
 or_true : (b : Bool) → (b || (true || false)) ≡ true
 or_true true = refl
@@ -20,9 +16,9 @@ or_false true = refl
 or_false false = refl
 
 is_tie : (r : Ordering) (y x : ℕ) → MatchOrdering r (y < x) (y ≡ x) (x < y) → is_eq r ≡ nat_eq x y
-is_tie order.Less y x h = sym (ne_eqb x y (λ e. omega (arith, h, e)))
-is_tie order.Equal y x h = sym (eq-eqb x y (sym h))
-is_tie order.Greater y x h = sym (ne_eqb x y (λ e. omega (arith, h, e)))
+is_tie Ordering.Less y x h = sym (ne_eqb x y (λ e. omega (arith, h, e)))
+is_tie Ordering.Equal y x h = sym (eq-eqb x y (sym h))
+is_tie Ordering.Greater y x h = sym (ne_eqb x y (λ e. omega (arith, h, e)))
 
 tied : (y x : ℕ) → eq_by_cmp nat_cmp y x ≡ nat_eq x y
 tied y x = is_tie (nat_cmp y x) y x (ranked y x (nat_cmp y x) refl)

@@ -1,37 +1,28 @@
 -- The code of a closure, and the chains of what is in it.
 use Rattle.std.proofs.Common.{◌≡◌, ◌<◌, ℕ, List, [], ◌∷◌, ◌++◌, Option, Some, None, map, refl, sym, ap, ◌∙◌, append_assoc, Contains, arith, subst, zero, suc, length, ◌-◌}
-use Rattle.std.specs.List.{flat_map, slice_get, cons_option, AllByRecursion}
 use Rattle.std.proofs.Math.Path.{fun_ext}
 use Rattle.std.proofs.lemmas.List.Sorted.{IsPermutation-sym, Contains-permutation}
-use Rattle.hir_node.specs.ChildCalls.{Call, OnExpr, OnPat}
-use Rattle.hir_node.specs.declared.node_id.NodeId.{NodeId}
-use Rattle.hir_node.specs.declared.node_id.NodeId.TheVariants as node
-use Rattle.hir_faults.specs.Nodes.{Nodes, Has, kids_of}
-use Rattle.hir_faults.specs.Down.{rank, KidsFall, AgreeOn, AsksKids}
-use Rattle.hir_faults.proofs.DownLemmas.{value_at, parent_there}
-use Rattle.hir_scope.proofs.KidLemmas.{kids_in, slots_kids, slots_follow}
-use Rattle.hir_scope.proofs.UnderLemmas.{mapped, slots_agree}
-use Rattle.hir_scope.specs.Forms.{form_of, ScopingForm, form_at, expr_form}
-use Rattle.hir_scope.specs.Slots.{Base, Here, Const, Slot, slot_kid, call_kids, slots, own_frame}
-use Rattle.hir_captures.specs.declared.to_read.Task.{Task}
-use Rattle.hir_scope.specs.Order.{met_in_form}
-use Rattle.hir_captures.specs.walk.Pending.{tasks_of, task_node, code_of, AreThere}
-use Rattle.hir_captures.specs.Uses.{Spot, spot, in_code, of_pattern, kid_code, assignment_at, code_step, code_under, Use, if_assignment, use_of, expr_uses, pat_uses, uses_at, spot_uses, uses_in}
+use Rattle.std.specs.List.{flat_map, slice_get, cons_option, AllByRecursion}
 use Rattle.std.specs.Prelude.{filter_map}
 use Rattle.hir_base.specs.declared.hygiene.SyntaxContext.{SyntaxContext}
 use Rattle.hir_path.specs.declared.ids.ExprOrPatId.TheVariants.{ExprId, PatId}
-use Rattle.hir_node.specs.declared.expr.Expr.{Expr}
-use Rattle.hir_node.specs.declared.expr.Expr.TheVariants as expr
-use Rattle.hir_node.specs.declared.pat.Pat.{Pat}
-use Rattle.hir_node.specs.declared.pat.Pat.TheVariants as pat
-use Rattle.hir_expr_store.specs.Contents.{Contents}
-use Rattle.hir_expr_store.specs.SideTables.{hygiene_of}
-use Rattle.hir_expr_store.specs.Under.{IsReached}
-use Rattle.hir_scope.specs.Frames.{Chain}
-use Rattle.hir_scope.specs.Forms as form
+use Rattle.hir_node.specs.ChildCalls.{Call, OnExpr, OnPat}
+use Rattle.hir_node.specs.declared.{expr.Expr.Expr, node_id.NodeId.NodeId, pat.Pat.Pat}
+use Rattle.hir_faults.specs.Down.{rank, KidsFall, AgreeOn, AsksKids}
+use Rattle.hir_faults.specs.Nodes.{Nodes, Has, kids_of}
+use Rattle.hir_faults.proofs.DownLemmas.{value_at, parent_there}
+use Rattle.hir_expr_store.specs.{Contents.Contents, SideTables.hygiene_of, Under.IsReached}
 use Rattle.hir_scope.specs.Chains.{Place, place_kid, on_base, Stands, kid, HasChain, within_own}
-use Rattle.hir_scope.specs.Meanings.{asked_name}
+use Rattle.hir_scope.specs.Forms.{form_of, ScopingForm, form_at, expr_form}
+use Rattle.hir_scope.specs.Forms as form
+use Rattle.hir_scope.specs.{Frames.Chain, Meanings.asked_name, Order.met_in_form}
+use Rattle.hir_scope.specs.Slots.{Base, Here, Const, Slot, slot_kid, call_kids, slots, own_frame}
+use Rattle.hir_scope.proofs.KidLemmas.{kids_in, slots_kids, slots_follow}
+use Rattle.hir_scope.proofs.UnderLemmas.{mapped, slots_agree}
 use Rattle.hir_captures.specs.Captures.{IsClosure, IsOn, captured_binding, meaning_behind}
+use Rattle.hir_captures.specs.Uses.{Spot, spot, in_code, of_pattern, kid_code, assignment_at, code_step, code_under, Use, if_assignment, use_of, expr_uses, pat_uses, uses_at, spot_uses, uses_in}
+use Rattle.hir_captures.specs.declared.to_read.Task.{Task}
+use Rattle.hir_captures.specs.walk.Pending.{tasks_of, task_node, code_of, AreThere}
 
 -- 1. The code under a node is the node, and then the code of its kids in the order of its slots: that of the tasks that reading it puts.
 
@@ -43,10 +34,7 @@ Codes = NodeId → Option ℕ → List Spot
 module _ (f g : Codes) where
   slots_read : (a : Option ℕ) (xs : List Slot) → AgreeOn f g (kids_in xs) → flat_map (kid_code f a) xs ≡ flat_map (kid_code g a) xs
   slots_read a [] h = refl
-  slots_read a (x ∷ xs) h =
-      let first = ap (λ (w : Option ℕ → List Spot). in_code x.base (w (of_pattern x.kid a))) h.0 in
-      let rest = slots_read a xs h.1 in
-      cc
+  slots_read a (x ∷ xs) h = cc (ap (λ (w : Option ℕ → List Spot). in_code x.base (w (of_pattern x.kid a))) h.0, slots_read a xs h.1)
 
 module _ (s : Nodes) where
   pub kid_there : (n k : NodeId) → Contains (kids_in (slots s n)) k → Contains (kids_of s n) k
@@ -63,8 +51,8 @@ module _ (s : Nodes) where
 -- The code of kids, by their calls
 
 abbrev call_code : Codes → Option ℕ → Call → List Spot
-call_code f a (OnExpr id) = f (node.Expr id) None
-call_code f a (OnPat id) = f (node.Pat id) a
+call_code f a (OnExpr id) = f (NodeId.Expr id) None
+call_code f a (OnPat id) = f (NodeId.Pat id) a
 call_code f a _ = []
 
 module _ (f : Codes) (a : Option ℕ) where
@@ -77,8 +65,8 @@ module _ (f : Codes) (a : Option ℕ) where
 
   of_calls : (cs : List Call) → flat_map at_base (flat_map call_kids cs) ≡ flat_map (call_code f a) cs
   of_calls [] = refl
-  of_calls (OnExpr id ∷ cs) = ap (λ (ys : List Spot). f (node.Expr id) None ++ ys) (of_calls cs)
-  of_calls (OnPat id ∷ cs) = ap (λ (ys : List Spot). f (node.Pat id) a ++ ys) (of_calls cs)
+  of_calls (OnExpr id ∷ cs) = ap (λ (ys : List Spot). f (NodeId.Expr id) None ++ ys) (of_calls cs)
+  of_calls (OnPat id ∷ cs) = ap (λ (ys : List Spot). f (NodeId.Pat id) a ++ ys) (of_calls cs)
   of_calls (_ ∷ cs) = of_calls cs
 
   of_node : (s : Nodes) (n : NodeId) → flat_map (kid_code f a) (slots s n) ≡ flat_map (call_code f a) (met_in_form (form_of s n))
@@ -87,9 +75,9 @@ module _ (f : Codes) (a : Option ℕ) where
 -- the code of tasks is that of their calls
 task_code : (s : Nodes) (a : Option ℕ) (cs : List Call) → code_of s (tasks_of a cs) ≡ flat_map (call_code (code_under s) a) cs
 task_code s a [] = refl
-task_code s a (OnExpr id ∷ cs) = ap (λ (xs : List Spot). code_under s (node.Expr id) None ++ xs) (task_code s a cs)
-task_code s None (OnPat id ∷ cs) = ap (λ (xs : List Spot). code_under s (node.Pat id) None ++ xs) (task_code s None cs)
-task_code s (Some a) (OnPat id ∷ cs) = ap (λ (xs : List Spot). code_under s (node.Pat id) (Some a) ++ xs) (task_code s (Some a) cs)
+task_code s a (OnExpr id ∷ cs) = ap (λ (xs : List Spot). code_under s (NodeId.Expr id) None ++ xs) (task_code s a cs)
+task_code s None (OnPat id ∷ cs) = ap (λ (xs : List Spot). code_under s (NodeId.Pat id) None ++ xs) (task_code s None cs)
+task_code s (Some a) (OnPat id ∷ cs) = ap (λ (xs : List Spot). code_under s (NodeId.Pat id) (Some a) ++ xs) (task_code s (Some a) cs)
 task_code s a (_ ∷ cs) = task_code s a cs
 
 -- reading a node leaves the code of its kids
@@ -152,7 +140,7 @@ module _ (s : Nodes) (tops : List Place) (from : List NodeId) (base : Chain) whe
 
   abbrev TargetOn : Option ℕ → Type 0
   TargetOn None = Unit {0}
-  TargetOn (Some assignment) = On (node.Expr assignment)
+  TargetOn (Some assignment) = On (NodeId.Expr assignment)
 
   abbrev SpotOn : Spot → Type 0
   SpotOn x = On x.node × TargetOn x.assignment
@@ -161,17 +149,17 @@ module _ (s : Nodes) (tops : List Place) (from : List NodeId) (base : Chain) whe
   SpotsOn xs = AllByRecursion SpotOn xs
 
   target_of : (n : NodeId) (a : Option ℕ) → TargetOn a → TargetOn (of_pattern n a)
-  target_of (node.Pat id) a t = t
+  target_of (NodeId.Pat id) a t = t
   target_of _ a t = tt
 
-  if_on : (id : ℕ) (o : Option Expr) → On (node.Expr id) → TargetOn (if_assignment id o)
-  if_on id (Some (expr.Assignment target value)) on = on
+  if_on : (id : ℕ) (o : Option Expr) → On (NodeId.Expr id) → TargetOn (if_assignment id o)
+  if_on id (Some (Expr.Assignment target value)) on = on
   if_on id _ on = tt
 
   assignment_on : (n : NodeId) (a : Option ℕ) → On n → TargetOn a → TargetOn (assignment_at s n a)
-  assignment_on (node.Expr id) a on t = if_on id (slice_get s.exprs id) on
-  assignment_on (node.Pat id) a on t = t
-  assignment_on (node.TypeRef id) a on t = tt
+  assignment_on (NodeId.Expr id) a on t = if_on id (slice_get s.exprs id) on
+  assignment_on (NodeId.Pat id) a on t = t
+  assignment_on (NodeId.TypeRef id) a on t = tt
 
   kids_on : (f : Codes) (a : Option ℕ) → TargetOn a → (xs : List Slot) → ((x : Slot) → Contains xs x → x.base ≡ Here → (b : Option ℕ) → TargetOn b → SpotsOn (f x.kid b)) → SpotsOn (flat_map (kid_code f a) xs)
   kids_on f a t [] h = tt
@@ -217,21 +205,21 @@ module _ (s : Nodes) (tops : List Place) (from : List NodeId) (base : Chain) whe
   -- What its uses ask
 
   abbrev UseOn : Use → Type 0
-  UseOn u = On (node.Expr u.expr)
+  UseOn u = On (NodeId.Expr u.expr)
 
   abbrev pub UsesOn : List Use → Type 0
   UsesOn us = AllByRecursion UseOn us
 
-  one_use : (h : SyntaxContext) (id : ℕ) (o : Option (List ℕ)) → On (node.Expr id) → UsesOn (use_of h id o)
+  one_use : (h : SyntaxContext) (id : ℕ) (o : Option (List ℕ)) → On (NodeId.Expr id) → UsesOn (use_of h id o)
   one_use h id None on = tt
   one_use h id (Some name) on = (on, tt)
 
-  of_expr : (h : SyntaxContext) (id : ℕ) (o : Option Expr) → On (node.Expr id) → UsesOn (expr_uses h id o)
-  of_expr h id (Some (expr.Path path)) on = one_use h id (asked_name path) on
+  of_expr : (h : SyntaxContext) (id : ℕ) (o : Option Expr) → On (NodeId.Expr id) → UsesOn (expr_uses h id o)
+  of_expr h id (Some (Expr.Path path)) on = one_use h id (asked_name path) on
   of_expr h id _ on = tt
 
   of_pat : (h : SyntaxContext) (a : Option ℕ) (o : Option Pat) → TargetOn a → UsesOn (pat_uses h a o)
-  of_pat h (Some a) (Some (pat.Path path)) t = one_use h a (asked_name path) t
+  of_pat h (Some a) (Some (Pat.Path path)) t = one_use h a (asked_name path) t
   of_pat h _ _ t = tt
 
 pub uses_on : (c : Contents) (tops : List Place) (from : List NodeId) (base : Chain) (xs : List Spot) → SpotsOn c.nodes tops from base xs → UsesOn c.nodes tops from base (flat_map (spot_uses c) xs)
@@ -239,15 +227,15 @@ uses_on c tops from base [] h = tt
 uses_on c tops from base (x ∷ xs) h =
     all_two (UseOn c.nodes tops from base) (spot_uses c x) (flat_map (spot_uses c) xs) (one x.node x.assignment h.0.0 h.0.1) (uses_on c tops from base xs h.1) where
       one : (n : NodeId) (a : Option ℕ) → StandsOn c.nodes tops from base n → TargetOn c.nodes tops from base a → UsesOn c.nodes tops from base (uses_at c n a)
-      one (node.Expr id) a on t = of_expr c.nodes tops from base (hygiene_of c.side_tables (ExprId id)) id (slice_get c.nodes.exprs id) on
-      one (node.Pat id) a on t = of_pat c.nodes tops from base (hygiene_of c.side_tables (PatId id)) a (slice_get c.nodes.pats id) t
-      one (node.TypeRef id) a on t = tt
+      one (NodeId.Expr id) a on t = of_expr c.nodes tops from base (hygiene_of c.side_tables (ExprId id)) id (slice_get c.nodes.exprs id) on
+      one (NodeId.Pat id) a on t = of_pat c.nodes tops from base (hygiene_of c.side_tables (PatId id)) a (slice_get c.nodes.pats id) t
+      one (NodeId.TypeRef id) a on t = tt
 
 -- The chains of uses
 
 -- a closure has no frame of its own
 no_own : (o : Option Expr) → IsClosure o → (here : Chain) → within_own (form_at expr_form o) here ≡ here
-no_own (Some (expr.Closure args arg_types ret_type body kind capture)) is here = refl
+no_own (Some (Expr.Closure args arg_types ret_type body kind capture)) is here = refl
 no_own _ is here = absurd is
 
 own_on : (f : ScopingForm) (here : Chain) → IsOn here (within_own f here)
@@ -259,26 +247,26 @@ is_on_two a b c p q = (q.0 ++ p.0, q.1 ∙ (ap (λ (x : Chain). q.0 ++ x) p.1 �
 
 module _ (c : Contents) (tops : List Place) (from : List NodeId) (fall : KidsFall c.nodes) (go : (n k : NodeId) → IsReached c.nodes from n → Contains (kids_of c.nodes n) k → IsReached c.nodes from k)
     (one : (expr : ℕ) (x y : Chain) → HasChain c.nodes tops expr x → HasChain c.nodes tops expr y → x ≡ y)
-    (closure : ℕ) (is : IsClosure (slice_get c.nodes.exprs closure)) (reached : IsReached c.nodes from (node.Expr closure)) where
+    (closure : ℕ) (is : IsClosure (slice_get c.nodes.exprs closure)) (reached : IsReached c.nodes from (NodeId.Expr closure)) where
   abbrev Chains : Type 0
   Chains = ℕ → Chain
 
   abbrev AreTheirs : Chains → Type 0
-  AreTheirs chain = (expr : ℕ) → IsReached c.nodes from (node.Expr expr) → HasChain c.nodes tops expr (chain expr)
+  AreTheirs chain = (expr : ℕ) → IsReached c.nodes from (NodeId.Expr expr) → HasChain c.nodes tops expr (chain expr)
 
   all_on : (chain : Chains) → AreTheirs chain → UsesOn c.nodes tops from (chain closure) (uses_in c closure)
   unfolding uses_in
   all_on chain are =
       let has = are closure reached in
       let same : chain closure ≡ has.at.here = has.is_chain ∙ no_own (slice_get c.nodes.exprs closure) is has.at.here in
-      let on : StandsOn c.nodes tops from (chain closure) (node.Expr closure) = record { at = has.at; stands = has.stands; is_node = has.is_node; reached = reached; on = ([], sym same) } in
-      uses_on c tops from (chain closure) (code_under c.nodes (node.Expr closure) None) (all_code_on c.nodes tops from (chain closure) fall go (node.Expr closure) on)
+      let on : StandsOn c.nodes tops from (chain closure) (NodeId.Expr closure) = record { at = has.at; stands = has.stands; is_node = has.is_node; reached = reached; on = ([], sym same) } in
+      uses_on c tops from (chain closure) (code_under c.nodes (NodeId.Expr closure) None) (all_code_on c.nodes tops from (chain closure) fall go (NodeId.Expr closure) on)
 
   chains_on : (chain : Chains) → AreTheirs chain → (us : List Use) → UsesOn c.nodes tops from (chain closure) us → AllByRecursion (λ (u : Use). IsOn (chain closure) (chain u.expr)) us
   chains_on chain are [] h = tt
   chains_on chain are (u ∷ us) h =
       let x = h.0 in
-      let f = form_of c.nodes (node.Expr u.expr) in
+      let f = form_of c.nodes (NodeId.Expr u.expr) in
       let same : chain u.expr ≡ within_own f x.at.here =
       one u.expr (chain u.expr) (within_own f x.at.here) (are u.expr x.reached) (record { at = x.at; stands = x.stands; is_node = x.is_node; is_chain = refl }) in
       (subst (IsOn (chain closure)) (sym same) (is_on_two (chain closure) x.at.here (within_own f x.at.here) x.on (own_on f x.at.here)), chains_on chain are us h.1)

@@ -1,38 +1,25 @@
 -- What a run of child calls leaves to be read, and what reading a node finds.
 use Rattle.std.proofs.Common.{◌≡◌, ℕ, List, ◌∷◌, refl, ap, ◌∙◌, subst, Option, ◌<◌, [], ◌++◌, Some, None, fold, length, sym, arith}
-use Rattle.hir_node.specs.ChildCalls.{Call, pat_calls}
-use Rattle.hir_node.specs.Runs.{Runs, no_call, a_call}
+use Rattle.std.proofs.lemmas.List.{append-nil}
+use Rattle.std.proofs.lemmas.List.{Concat.flat_map-append, Elements.filter_map-append, Sums.fold-append}
+use Rattle.std.specs.FinMap as map
+use Rattle.std.specs.List.{flat_map, filter_map, slice_get}
+use Rattle.std.specs.Prelude.{IsSome, ◌↔◌, ◌-◌}
+use Rattle.hir_node.specs.{ChildCalls.Call, ChildCalls.pat_calls, Runs.Runs, Runs.no_call, Runs.a_call}
+use Rattle.hir_node.specs.declared.{expr.Expr.Expr, node_id.NodeId.NodeId, pat.Pat.Pat}
+use Rattle.hir_faults.specs.{Down.KidsFall, Nodes.Nodes}
+use Rattle.hir_expr_store.specs.Contents.{Contents}
+use Rattle.hir_items.specs.Bodies.{BodyContents, BodyReaches}
 use Rattle.hir_stack.specs.Stacks.{Puts}
 use Rattle.hir_stack.proofs.TurnLemmas.{puts_none, puts_two}
-use Rattle.hir_captures.specs.declared.to_read.Task.{Task}
-use Rattle.hir_captures.specs.declared.to_read.ToRead.{ToRead}
-use Rattle.hir_captures.specs.walk.Pending.{task_of, tasks_of, pat_task, task_node, task_target, code_of, AreThere}
-use Rattle.std.specs.Prelude.{IsSome, ◌↔◌, ◌-◌}
-use Rattle.std.specs.List.{flat_map, filter_map, slice_get}
-use Rattle.std.specs.FinMap as map
-use Rattle.std.proofs.lemmas.List.{append-nil}
-use Rattle.std.proofs.lemmas.List.Elements.{filter_map-append}
-use Rattle.std.proofs.lemmas.List.Concat.{flat_map-append}
-use Rattle.std.proofs.lemmas.List.Sums.{fold-append}
-use Rattle.hir_node.specs.declared.expr.Expr.{Expr}
-use Rattle.hir_node.specs.declared.expr.Expr.TheVariants as expr
-use Rattle.hir_node.specs.declared.pat.Pat.{Pat}
-use Rattle.hir_node.specs.declared.node_id.NodeId.TheVariants as node
-use Rattle.hir_faults.specs.Down.{KidsFall}
-use Rattle.hir_faults.specs.Nodes.{Nodes}
-use Rattle.hir_expr_store.specs.Contents.{Contents}
+use Rattle.hir_scope.specs.{BodyScopes.ChainsAreFrames, BodyScopes.tops_of_body, Chains.HasChain}
 use Rattle.hir_scope.specs.Forms.{form_of, form_at, expr_form, pat_form}
-use Rattle.hir_scope.specs.Scopes.{Scopes}
-use Rattle.hir_scope.specs.Paths.{chain}
-use Rattle.hir_scope.specs.Chains.{HasChain}
-use Rattle.hir_scope.specs.BodyScopes.{ChainsAreFrames, tops_of_body}
-use Rattle.hir_items.specs.Bodies.{BodyContents, BodyReaches}
-use Rattle.hir_captures.specs.declared.code.Code.{Code}
-use Rattle.hir_captures.specs.declared.to_read.Task.TheVariants as task
+use Rattle.hir_scope.specs.{Order.met_in_form, Paths.chain, Scopes.Scopes}
 use Rattle.hir_captures.specs.Captures.{meaning_behind, with_new, AreChains, AreCaptures}
-use Rattle.hir_scope.specs.Order.{met_in_form}
-use Rattle.hir_captures.specs.walk.Reading.{chain_in, captured_binding_in, with_uses, with_code, Reads}
 use Rattle.hir_captures.specs.Uses.{Spot, Use, uses_in, spot, if_assignment, assignment_at, uses_at, spot_uses, code_under}
+use Rattle.hir_captures.specs.declared.{code.Code.Code, to_read.Task.Task, to_read.ToRead.ToRead}
+use Rattle.hir_captures.specs.walk.Pending.{task_of, tasks_of, pat_task, task_node, task_target, code_of, AreThere}
+use Rattle.hir_captures.specs.walk.Reading.{chain_in, captured_binding_in, with_uses, with_code, Reads}
 use Rattle.hir_captures.proofs.CodeLemmas.{code_read, kids_there}
 
 -- 1. What a run of child calls leaves to be read.
@@ -52,8 +39,8 @@ puts_all {v} {w} (a_call {v = u} {c = c} {cs = cs} step rest) =
 
 -- 2. Reading a node leaves what is to be found as it was.
 
-pub no_assignment : (id : ℕ) (x : Expr) → ((target value : ℕ) → x ≡ expr.Assignment target value → ⊥) → None ≡ if_assignment id (Some x)
-no_assignment id (expr.Assignment target value) h = absurd (h target value refl)
+pub no_assignment : (id : ℕ) (x : Expr) → ((target value : ℕ) → x ≡ Expr.Assignment target value → ⊥) → None ≡ if_assignment id (Some x)
+no_assignment id (Expr.Assignment target value) h = absurd (h target value refl)
 no_assignment id _ h = refl
 
 -- the pattern of a task is there
@@ -89,41 +76,38 @@ module _ (code : Code) where
           ∙ (uses_two before (uses_at c (task_node t) (task_target t)) (flat_map (spot_uses c) (code_of c.nodes put))
           ∙ (ap (λ (xs : List ℕ). with_code code xs put) (sym found)
           ∙ ap (with_code code after) (sym is)));
-      shorter =
-          let now = ap (length {A = Spot}) code_now in
-          let left = ap (λ (ts : List Task). length (code_of c.nodes ts)) is in
-          omega (arith, now, left);
+      shorter = omega (arith, ap (length {A = Spot}) code_now, ap (λ (ts : List Task). length (code_of c.nodes ts)) is);
     }
 
-  pub read_expr : KidsFall c.nodes → (id : ℕ) (x : Expr) (rest new : List Task) (before after : List ℕ) → slice_get c.nodes.exprs id ≡ Some x → AreThere c.nodes (task.Expr id ∷ rest) →
-      after ≡ with_uses code before (uses_at c (node.Expr id) None) →
-      new ≡ tasks_of (if_assignment id (Some x)) (met_in_form (expr_form x)) ++ rest → Reads code before (task.Expr id ∷ rest) after new
+  pub read_expr : KidsFall c.nodes → (id : ℕ) (x : Expr) (rest new : List Task) (before after : List ℕ) → slice_get c.nodes.exprs id ≡ Some x → AreThere c.nodes (Task.Expr id ∷ rest) →
+      after ≡ with_uses code before (uses_at c (NodeId.Expr id) None) →
+      new ≡ tasks_of (if_assignment id (Some x)) (met_in_form (expr_form x)) ++ rest → Reads code before (Task.Expr id ∷ rest) after new
   read_expr fall id x rest new before after is there found put =
-      read_one fall (task.Expr id) rest new before after there found
+      read_one fall (Task.Expr id) rest new before after there found
       (put ∙ ap (λ (o : Option Expr). tasks_of (if_assignment id o) (met_in_form (form_at expr_form o)) ++ rest) (sym is))
 
   pub read_pat : KidsFall c.nodes → (id : ℕ) (x : Pat) (a : Option ℕ) (rest new : List Task) (before after : List ℕ) → slice_get c.nodes.pats id ≡ Some x → AreThere c.nodes (pat_task a id ∷ rest) →
-      after ≡ with_uses code before (uses_at c (node.Pat id) a) →
+      after ≡ with_uses code before (uses_at c (NodeId.Pat id) a) →
       new ≡ tasks_of a (pat_calls x) ++ rest → Reads code before (pat_task a id ∷ rest) after new
   read_pat fall id x None rest new before after is there found put =
-      read_one fall (task.Pat id) rest new before after there found
+      read_one fall (Task.Pat id) rest new before after there found
       (put ∙ ap (λ (o : Option Pat). tasks_of None (met_in_form (form_at pat_form o)) ++ rest) (sym is))
   read_pat fall id x (Some a) rest new before after is there found put =
-      read_one fall (task.Target id a) rest new before after there found
+      read_one fall (Task.Target id a) rest new before after there found
       (put ∙ ap (λ (o : Option Pat). tasks_of (Some a) (met_in_form (form_at pat_form o)) ++ rest) (sym is))
 
 -- The whole
 
 -- each reached expression has a scope, along which its frames stand
-chains_are : (b : BodyContents) (scopes : Scopes) → ((x : ℕ) → IsSome (map.get scopes.scope_by_expr x) ↔ BodyReaches b (node.Expr x)) → ChainsAreFrames b.store.nodes (tops_of_body b) scopes → AreChains b (chain_in scopes)
+chains_are : (b : BodyContents) (scopes : Scopes) → ((x : ℕ) → IsSome (map.get scopes.scope_by_expr x) ↔ BodyReaches b (NodeId.Expr x)) → ChainsAreFrames b.store.nodes (tops_of_body b) scopes → AreChains b (chain_in scopes)
 chains_are b scopes reached chains x r = at (map.get scopes.scope_by_expr x) refl ((reached x).1 r) where
   at : (o : Option ℕ) → map.get scopes.scope_by_expr x ≡ o → IsSome o → HasChain b.store.nodes (tops_of_body b) x (chain scopes.scopes (map.get scopes.scope_by_expr x))
   at None e h = absurd cc
   at (Some scope) e h = subst (λ (o : Option ℕ). HasChain b.store.nodes (tops_of_body b) x (chain scopes.scopes o)) (sym e) (chains x scope e)
 
 pub are_captures : (b : BodyContents) (code : Code) (closure scope : ℕ) (found : List ℕ) → code.store.now ≡ b.store → code.outermost ≡ length (chain code.scopes.now.scopes (Some scope)) →
-    ((x : ℕ) → IsSome (map.get code.scopes.now.scope_by_expr x) ↔ BodyReaches b (node.Expr x)) → ChainsAreFrames b.store.nodes (tops_of_body b) code.scopes.now →
-    map.get code.scopes.now.scope_by_expr closure ≡ Some scope → found ≡ with_code code [] (task.Expr closure ∷ []) → AreCaptures b closure found
+    ((x : ℕ) → IsSome (map.get code.scopes.now.scope_by_expr x) ↔ BodyReaches b (NodeId.Expr x)) → ChainsAreFrames b.store.nodes (tops_of_body b) code.scopes.now →
+    map.get code.scopes.now.scope_by_expr closure ≡ Some scope → found ≡ with_code code [] (Task.Expr closure ∷ []) → AreCaptures b closure found
 unfolding uses_in
 are_captures b code closure scope found same out reached chains is e =
     let scopes = code.scopes.now in
@@ -134,7 +118,7 @@ are_captures b code closure scope found same out reached chains is e =
       are_chains = chains_are b scopes reached chains;
       are =
           e
-          ∙ (ap (λ (spots : List Spot). with_uses code [] (flat_map (spot_uses code.store.now) spots)) (append-nil (code_under code.store.now.nodes (node.Expr closure) None))
+          ∙ (ap (λ (spots : List Spot). with_uses code [] (flat_map (spot_uses code.store.now) spots)) (append-nil (code_under code.store.now.nodes (NodeId.Expr closure) None))
           ∙ (λ i. fold with_new [] (filter_map (by (own i)) (uses_in (same i) closure))));
     }
 

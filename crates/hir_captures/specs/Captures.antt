@@ -1,17 +1,11 @@
 -- The captures of a closure: the bindings from outside that its code uses, in the order of their first use, each once.
+use Rattle.std.specs.{List.list_any, Option.option_map}
 use Rattle.std.specs.Prelude.{◌≡◌, ℕ, ◌-◌, ⊤, List, [], ◌∷◌, ◌++◌, Option, Some, None, if◌then◌else◌, fold, take, length, filter_map, slice_get, ◌==◌}
-use Rattle.std.specs.List.{list_any}
-use Rattle.std.specs.Option.{option_map}
 use Rattle.hir_base.specs.declared.hygiene.SyntaxContext.{SyntaxContext}
-use Rattle.hir_node.specs.declared.expr.Expr.{Expr}
-use Rattle.hir_node.specs.declared.expr.Expr.TheVariants as expr
-use Rattle.hir_node.specs.declared.node_id.NodeId.TheVariants as node
+use Rattle.hir_node.specs.declared.{expr.Expr.Expr, node_id.NodeId.NodeId}
 use Rattle.hir_expr_store.specs.Contents.{Contents}
 use Rattle.hir_items.specs.Bodies.{BodyContents, BodyReaches}
-use Rattle.hir_scope.specs.BodyScopes.{tops_of_body}
-use Rattle.hir_scope.specs.Chains.{HasChain}
-use Rattle.hir_scope.specs.Frames.{Chain}
-use Rattle.hir_scope.specs.Resolution.{resolve}
+use Rattle.hir_scope.specs.{BodyScopes.tops_of_body, Chains.HasChain, Frames.Chain, Resolution.resolve}
 use Rattle.hir_scope.specs.declared.scope.ScopeEntry.{ScopeEntry}
 use Rattle.hir_captures.specs.Uses.{Use, uses_in}
 
@@ -46,7 +40,7 @@ captures_by chain c closure = each_once (filter_map (captured_binding chain clos
 -- each expression that the body reaches has this chain
 abbrev pub AreChains : BodyContents → (ℕ → Chain) → Type 0
 AreChains b chain =
-    (expr : ℕ) → BodyReaches b (node.Expr expr) → HasChain b.store.nodes (tops_of_body b) expr (chain expr)
+    (expr : ℕ) → BodyReaches b (NodeId.Expr expr) → HasChain b.store.nodes (tops_of_body b) expr (chain expr)
 
 pub record AreCaptures (b : BodyContents) (closure : ℕ) (captures : List ℕ) : Type 0 where
   pub chain : ℕ → Chain
@@ -55,12 +49,12 @@ pub record AreCaptures (b : BodyContents) (closure : ℕ) (captures : List ℕ) 
 
 -- the expression is there, and is a closure
 abbrev pub IsClosure : Option Expr → Type 0
-IsClosure (Some (expr.Closure args arg_types ret_type body kind capture)) = ⊤
+IsClosure (Some (Expr.Closure args arg_types ret_type body kind capture)) = ⊤
 IsClosure found = ⊥
 
 -- the expression is a closure that the body reaches
 abbrev pub IsReachedClosure : BodyContents → ℕ → Type 0
-IsReachedClosure b id = IsClosure (slice_get b.store.nodes.exprs id) × BodyReaches b (node.Expr id)
+IsReachedClosure b id = IsClosure (slice_get b.store.nodes.exprs id) × BodyReaches b (NodeId.Expr id)
 
 -- these are some frames put on that chain
 abbrev pub IsOn : Chain → Chain → Type 0

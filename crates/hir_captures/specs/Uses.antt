@@ -1,20 +1,12 @@
 -- The uses of variables in a closure's code: the paths of one name in it and in no constant, in the order in which they are met.
-use Rattle.std.specs.Prelude.{ℕ, List, [], ◌∷◌, Option, Some, None, slice_get}
 use Rattle.std.specs.List.{flat_map}
+use Rattle.std.specs.Prelude.{ℕ, List, [], ◌∷◌, Option, Some, None, slice_get}
 use Rattle.hir_base.specs.declared.hygiene.SyntaxContext.{SyntaxContext}
 use Rattle.hir_path.specs.declared.ids.ExprOrPatId.TheVariants.{ExprId, PatId}
-use Rattle.hir_node.specs.declared.expr.Expr.{Expr}
-use Rattle.hir_node.specs.declared.expr.Expr.TheVariants as expr
-use Rattle.hir_node.specs.declared.pat.Pat.{Pat}
-use Rattle.hir_node.specs.declared.pat.Pat.TheVariants as pat
-use Rattle.hir_node.specs.declared.node_id.NodeId.{NodeId}
-use Rattle.hir_node.specs.declared.node_id.NodeId.TheVariants as node
-use Rattle.hir_faults.specs.Nodes.{Nodes}
-use Rattle.hir_faults.specs.Down.{value}
-use Rattle.hir_expr_store.specs.Contents.{Contents}
-use Rattle.hir_expr_store.specs.SideTables.{hygiene_of}
-use Rattle.hir_scope.specs.Meanings.{asked_name}
-use Rattle.hir_scope.specs.Slots.{Base, Here, Const, Slot, slots}
+use Rattle.hir_node.specs.declared.{expr.Expr.Expr, node_id.NodeId.NodeId, pat.Pat.Pat}
+use Rattle.hir_faults.specs.{Down.value, Nodes.Nodes}
+use Rattle.hir_expr_store.specs.{Contents.Contents, SideTables.hygiene_of}
+use Rattle.hir_scope.specs.{Meanings.asked_name, Slots.Base, Slots.Here, Slots.Const, Slots.Slot, Slots.slots}
 
 -- 1. The code of a closure
 
@@ -25,20 +17,20 @@ pub record Spot : Type 0 where
 
 -- an assignment's pattern is its target
 abbrev pub if_assignment : ℕ → Option Expr → Option ℕ
-if_assignment id (Some (expr.Assignment target value)) = Some id
+if_assignment id (Some (Expr.Assignment target value)) = Some id
 if_assignment id found = None
 
 -- the assignment in whose target a node's patterns are: the node itself, or that in whose target it is
 abbrev pub assignment_at : Nodes → NodeId → Option ℕ → Option ℕ
-assignment_at s (node.Expr id) assignment = if_assignment id (slice_get s.exprs id)
-assignment_at s (node.Pat id) assignment = assignment
-assignment_at s (node.TypeRef id) assignment = None
+assignment_at s (NodeId.Expr id) assignment = if_assignment id (slice_get s.exprs id)
+assignment_at s (NodeId.Pat id) assignment = assignment
+assignment_at s (NodeId.TypeRef id) assignment = None
 
 -- only patterns are in targets: an expression in one begins anew
 abbrev pub of_pattern : NodeId → Option ℕ → Option ℕ
-of_pattern (node.Pat id) assignment = assignment
-of_pattern (node.Expr id) assignment = None
-of_pattern (node.TypeRef id) assignment = None
+of_pattern (NodeId.Pat id) assignment = assignment
+of_pattern (NodeId.Expr id) assignment = None
+of_pattern (NodeId.TypeRef id) assignment = None
 
 abbrev pub spot : NodeId → Option ℕ → Spot
 spot n assignment = record { node = n; assignment = assignment }
@@ -75,24 +67,24 @@ use_of hygiene expr (Some name) = record { name = name; hygiene = hygiene; expr 
 
 -- an expression that is a path asks in its own chain
 abbrev pub expr_uses : SyntaxContext → ℕ → Option Expr → List Use
-expr_uses hygiene id (Some (expr.Path path)) = use_of hygiene id (asked_name path)
+expr_uses hygiene id (Some (Expr.Path path)) = use_of hygiene id (asked_name path)
 expr_uses hygiene id found = []
 
 -- a pattern that is a path asks where it is in the target of an assignment, in the chain of the assignment
 abbrev pub pat_uses : SyntaxContext → Option ℕ → Option Pat → List Use
-pat_uses hygiene (Some assignment) (Some (pat.Path path)) = use_of hygiene assignment (asked_name path)
+pat_uses hygiene (Some assignment) (Some (Pat.Path path)) = use_of hygiene assignment (asked_name path)
 pat_uses hygiene assignment found = []
 
 abbrev pub uses_at : Contents → NodeId → Option ℕ → List Use
-uses_at c (node.Expr id) assignment =
+uses_at c (NodeId.Expr id) assignment =
     expr_uses (hygiene_of c.side_tables (ExprId id)) id (slice_get c.nodes.exprs id)
-uses_at c (node.Pat id) assignment =
+uses_at c (NodeId.Pat id) assignment =
     pat_uses (hygiene_of c.side_tables (PatId id)) assignment (slice_get c.nodes.pats id)
-uses_at c (node.TypeRef id) assignment = []
+uses_at c (NodeId.TypeRef id) assignment = []
 
 abbrev pub spot_uses : Contents → Spot → List Use
 spot_uses c spot = uses_at c spot.node spot.assignment
 
 -- the uses in a closure
 unfoldable pub uses_in : Contents → ℕ → List Use
-uses_in c closure = flat_map (spot_uses c) (code_under c.nodes (node.Expr closure) None)
+uses_in c closure = flat_map (spot_uses c) (code_under c.nodes (NodeId.Expr closure) None)

@@ -1,66 +1,47 @@
 -- The state in which the walk over a body or a signature begins: it is ready, what it has to do is what is under the tops, and what its
 -- frames and those to come weigh are the counts of scopes and entries.
-use Rattle.std.proofs.Common.{◌≡◌, ◌⊎◌, ℕ, zero, suc, ◌+◌, ◌<◌, ◌≤◌, List, [], ◌∷◌, ◌++◌, map, length, replicate, refl, sym, ap, ◌∙◌, arith, subst, inl, inr, ⊎_elim, Option, Some, None, Contains, length-append}
-use Rattle.std.specs.Prelude.{IfSome, slice_index}
-use Rattle.std.specs.List.{flat_map, slice_get, sum_by}
-use Rattle.std.specs.Option.{option_to_list, option_map}
-use Rattle.std.proofs.lemmas.List.{append-nil, length-map, length-replicate}
+use Rattle.std.proofs.Common.{add-one, ◌≡◌, ◌⊎◌, ℕ, zero, suc, ◌+◌, ◌<◌, ◌≤◌, List, [], ◌∷◌, ◌++◌, map, length, replicate, refl, sym, ap, ◌∙◌, arith, subst, inl, inr, ⊎_elim, Option, Some, None, Contains, length-append}
 use Rattle.std.proofs.lemmas.Grind.{get_or_default_zero}
-use Rattle.std.proofs.lemmas.List.Folds.{sum_by-replicate}
-use Rattle.std.proofs.lemmas.List.Sums.{sum_by-cons}
-use Rattle.hir_forest.specs.Faults.{root_nodes}
+use Rattle.std.proofs.lemmas.List.{get_or-replicate, replicate_more, append-nil, length-map, length-replicate}
+use Rattle.std.proofs.lemmas.{List.Folds.sum_by-replicate, List.Sums.sum_by-cons, Option.slice_get-get_or}
+use Rattle.std.specs.List.{flat_map, slice_get, sum_by}
+use Rattle.std.specs.{Option.option_to_list, Option.option_map, Prelude.IfSome, Prelude.slice_index}
 use Rattle.hir_node.specs.ChildCalls.{Call, e, p, opt}
 use Rattle.hir_node.specs.declared.node_id.NodeId.{NodeId}
-use Rattle.hir_node.specs.declared.node_id.NodeId.TheVariants as node
-use Rattle.hir_faults.specs.Nodes.{Nodes, Has}
-use Rattle.hir_faults.specs.Sound.{RootsStandApart}
-use Rattle.hir_faults.specs.TestedParts.{all_of}
-use Rattle.hir_expr_store.specs.Contents.{Contents, rooted_of}
-use Rattle.hir_expr_store.specs.Under.{reached_nodes}
+use Rattle.hir_forest.specs.Faults.{root_nodes}
+use Rattle.hir_faults.specs.{Nodes.Nodes, Nodes.Has, Sound.RootsStandApart, TestedParts.all_of}
+use Rattle.hir_expr_store.specs.{Contents.Contents, Contents.rooted_of, Under.reached_nodes}
 use Rattle.hir_items.specs.Bodies.{BodyContents, AreBelow, formals_of, last_root, body_nodes}
 use Rattle.hir_items.specs.Bodies as body
-use Rattle.hir_items.specs.Signatures.{root_tops, signature_nodes}
-use Rattle.hir_items.specs.declared.formals.Param.{Param}
-use Rattle.hir_scope.specs.declared.scope.ScopeEntry.{ScopeEntry}
-use Rattle.hir_scope.specs.declared.scope.ScopeKind.TheVariants as kind
-use Rattle.hir_scope.specs.declared.tasks.Task.{Task}
-use Rattle.hir_scope.specs.declared.tasks.Task.TheVariants as task
-use Rattle.hir_scope.specs.walk.Begins.{IsSound, IsSoundBody, IsSoundStore, for_none, root_entries, body_root, body_begins, signature_root, scope_in_root, scopes_in_root, root_tasks, roots_begin, signature_begins}
+use Rattle.hir_items.specs.{Signatures.root_tops, Signatures.signature_nodes, declared.formals.Param.Param}
 use Rattle.hir_scope.specs.BodyScopes.{tops_of_body, tops_of_signature, limit, BodyIsTooLarge, SignatureIsTooLarge}
 use Rattle.hir_scope.specs.Chains.{Place}
 use Rattle.hir_scope.specs.Counts.{count_if_there, form_scopes, node_entries, body_scope_count, body_entry_count, signature_scope_count, signature_entry_count}
 use Rattle.hir_scope.specs.Forms.{form_of}
 use Rattle.hir_scope.specs.Frames.{Frame, Chain, entry_at, binds, empty}
-use Rattle.hir_scope.specs.walk.Machine.{Machine, IsReady, AreThere, LeavesWithin, Exceeds, about, chain_of, future_of, node_frames, one, count_entries, total, weight, weight_left}
 use Rattle.hir_scope.specs.Paths.{paths, frame_at}
+use Rattle.hir_scope.specs.Scopes.{Scope, Scopes, entry_count, frame_of, IsBelow, ParentsStandEarlier}
+use Rattle.hir_scope.specs.declared.{scope.ScopeEntry.ScopeEntry, scope.ScopeKind.ScopeKind, tasks.Task.Task}
+use Rattle.hir_scope.specs.walk.Begins.{IsSound, IsSoundBody, IsSoundStore, for_none, root_entries, body_root, body_begins, signature_root, scope_in_root, scopes_in_root, root_tasks, roots_begin, signature_begins}
+use Rattle.hir_scope.specs.walk.Machine.{Machine, IsReady, AreThere, LeavesWithin, Exceeds, about, chain_of, future_of, node_frames, one, count_entries, total, weight, weight_left}
 use Rattle.hir_scope.specs.walk.Pending.{tasks_of, task_frames, future}
 use Rattle.hir_scope.specs.walk.PlacesUnder.{exprs_under}
-use Rattle.hir_scope.specs.Scopes.{Scope, Scopes, entry_count, frame_of, IsBelow, ParentsStandEarlier}
 use Rattle.hir_scope.proofs.CountLemmas.{bound_by, calls_open, form_ones, frame_entries, reached_total}
-use Rattle.hir_scope.proofs.EntryLemmas.{entries_of_node, entries_total, no_around, one_entry}
 use Rattle.hir_scope.proofs.DoneLemmas.{there_all, leaves_calls}
-use Rattle.hir_scope.proofs.MovingLemmas.{scopes_weigh, entries_weigh}
-use Rattle.hir_scope.proofs.MemberLemmas.{In, in_contains, contains_in, in_map, sum_same, sum_mapped, sum_none}
-use Rattle.hir_scope.proofs.PathLemmas.{path_step}
-use Rattle.hir_scope.proofs.KidLemmas.{about_calls}
+use Rattle.hir_scope.proofs.EntryLemmas.{entries_of_node, entries_total, no_around, one_entry}
 use Rattle.hir_scope.proofs.FutureLemmas.{body_future, body_top_nodes, signature_future, signature_top_nodes, top_kids}
-
-contained_at : (xs : List ℕ) (x : ℕ) → Contains xs x → (i : ℕ) × (i < length xs) × (slice_index xs i ≡ x)
-contained_at xs x c = (c.0, c.1, sym (get_or_default_zero xs c.0 x c.1) ∙ c.2)
+use Rattle.hir_scope.proofs.KidLemmas.{about_calls}
+use Rattle.hir_scope.proofs.MemberLemmas.{In, in_contains, contains_in, in_map, sum_same, sum_mapped, sum_none}
+use Rattle.hir_scope.proofs.{MovingLemmas.scopes_weigh, MovingLemmas.entries_weigh, PathLemmas.path_step}
 
 -- the roots of a store are there
 pub roots_there : (c : Contents) → RootsStandApart (rooted_of c) → (n : NodeId) → Contains (root_tops c) n → Has c.nodes n
 roots_there c stand n m =
     let roots = root_nodes c.roots in
-    let r = in_map node.Expr n roots (in_contains (map node.Expr roots) n m) in
-    let at = contained_at roots r.0 (contains_in roots r.0 r.1) in
-    let long = length-map c.roots (λ r. r.node) in
-    subst (Has c.nodes) r.2 (subst (λ (x : ℕ). x < length c.nodes.exprs) at.2 (stand.there at.0 (let l = at.1 in omega (arith, l, long))))
-
--- what formals bind, parameter by parameter
-pub of_formals : (f : ℕ → List ScopeEntry) (params : List (Param ℕ)) → flat_map (λ (q : Param ℕ). f q.formal) params ≡ flat_map f (formals_of params)
-of_formals f [] = refl
-of_formals f (q ∷ params) = ap (λ (es : List ScopeEntry). f q.formal ++ es) (of_formals f params)
+    let r = in_map NodeId.Expr n roots (in_contains (map NodeId.Expr roots) n m) in
+    let at = contains_in roots r.0 r.1 in
+    let is : slice_index roots at.0 ≡ r.0 = sym (get_or_default_zero roots at.0 r.0 at.1) ∙ at.2 in
+    subst (Has c.nodes) r.2 (subst (λ (x : ℕ). x < length c.nodes.exprs) is (stand.there at.0 (omega (arith, at.1, length-map c.roots (λ r. r.node)))))
 
 -- 1. What all states weigh
 
@@ -76,14 +57,12 @@ entries_under s sound nodes there =
 
 -- 2. Bodies
 
-bound_formals : (s : Nodes) (formals : List ℕ) (last : Option ℕ) → sum_by (bound_by s) (map node.Pat formals ++ option_to_list (option_map node.Expr last)) ≡ sum_by (λ q. length (binds s q)) formals
+bound_formals : (s : Nodes) (formals : List ℕ) (last : Option ℕ) → sum_by (bound_by s) (map NodeId.Pat formals ++ option_to_list (option_map NodeId.Expr last)) ≡ sum_by (λ q. length (binds s q)) formals
 bound_formals s [] None = refl
 bound_formals s [] (Some root) = refl
 bound_formals s (x ∷ formals) last =
-    let a = sum_by-cons (bound_by s) (node.Pat x) (map node.Pat formals ++ option_to_list (option_map node.Expr last)) in
-    let b = sum_by-cons (λ q. length (binds s q)) x formals in
-    let r = bound_formals s formals last in
-    omega (arith, a, b, r)
+    let a = sum_by-cons (bound_by s) (NodeId.Pat x) (map NodeId.Pat formals ++ option_to_list (option_map NodeId.Expr last)) in
+    omega (arith, a, sum_by-cons (λ q. length (binds s q)) x formals, bound_formals s formals last)
 
 abbrev SelfIsThere : Nodes → Option (Param ℕ) → Type 0
 SelfIsThere s self = IfSome self (AreBelow (length s.bindings))
@@ -127,33 +106,20 @@ module _ (b : BodyContents) where
     }
 
     body_left : (w : Frame → ℕ) → weight_left s w (tasks_of top_calls) ≡ sum_by (total s (λ n. sum_by w (node_frames s n))) (body.tops b)
-    body_left w =
-        let a = calls_open s w top_calls in
-        let b' = ap (λ (ns : List NodeId). sum_by (total s (λ n. sum_by w (node_frames s n))) ns) about_tops in
-        omega (arith, a, b')
+    body_left w = omega (arith, calls_open s w top_calls, ap (λ (ns : List NodeId). sum_by (total s (λ n. sum_by w (node_frames s n))) ns) about_tops)
 
     pub body_scopes_weigh : weight s one (body_begins b) ≡ body_scope_count s (body_nodes b)
-    body_scopes_weigh =
-        let a = scopes_weigh (body_root b ∷ []) in
-        let l = body_left one in
-        let t = scopes_total s sound.nodes (body.tops b) tops_there in
-        omega (arith, a, l, t)
+    body_scopes_weigh = omega (arith, scopes_weigh (body_root b ∷ []), body_left one, scopes_total s sound.nodes (body.tops b) tops_there)
 
     root_length : length (root_entries b) ≡ count_if_there b.self_param + sum_by (bound_by s) (body.tops b)
     root_length =
         let a = length-append (all_of (entry_at s) (option_map (λ (q : Param ℕ). q.formal) b.self_param)) (flat_map (binds s) (formals_of b.params)) in
-        let d = self_entries s b.self_param sound.self_there in
-        let f = frame_entries s (formals_of b.params) in
-        let g = bound_formals s (formals_of b.params) (last_root b.store) in
-        omega (arith, a, d, f, g)
+        let d = bound_formals s (formals_of b.params) (last_root b.store) in
+        omega (arith, a, self_entries s b.self_param sound.self_there, frame_entries s (formals_of b.params), d)
 
     pub body_entries_weigh : weight s count_entries (body_begins b) ≡ body_entry_count s b.self_param (body_nodes b)
     body_entries_weigh =
-        let a = entries_weigh (body_root b ∷ []) in
-        let l = body_left count_entries in
-        let t = entries_under s sound.nodes (body.tops b) tops_there in
-        let r = root_length in
-        omega (arith, a, l, t, r)
+        omega (arith, entries_weigh (body_root b ∷ []), body_left count_entries, entries_under s sound.nodes (body.tops b) tops_there, root_length)
 
     -- what it may fail by
     pub body_exceeds : Exceeds s (body_begins b) → BodyIsTooLarge b
@@ -179,9 +145,9 @@ earlier_in_root n (suc i) x e = at n i e where
   at (suc m) (suc k) e = at m k e
 
 get_in_root : (m k : ℕ) → k < m → slice_get (replicate m scope_in_root) k ≡ Some scope_in_root
-get_in_root zero k h = absurd (omega (arith, h))
-get_in_root (suc m) zero h = refl
-get_in_root (suc m) (suc k) h = get_in_root m k (omega (arith, h))
+get_in_root m k h =
+    slice_get-get_or (replicate m scope_in_root) k scope_in_root (omega (arith, h, length-replicate m scope_in_root))
+    ∙ ap Some (get_or-replicate m k scope_in_root scope_in_root h)
 
 chain_in_root : (n k : ℕ) → 0 < k → k ≤ n → chain_of (scopes_in_root n) k ≡ empty ∷ empty ∷ []
 chain_in_root n zero h l = absurd (omega (arith, h))
@@ -194,9 +160,9 @@ chain_in_root n (suc k) h l =
     ap (flat_map (frame_at scopes)) (inner ∙ ap (λ (ks : List ℕ). suc k ∷ ks) outer)
     ∙ ap (λ (c : Chain). c ++ empty ∷ []) at
 
-about_roots : (roots : List ℕ) → about (root_tasks roots) ≡ map node.Expr roots
+about_roots : (roots : List ℕ) → about (root_tasks roots) ≡ map NodeId.Expr roots
 about_roots [] = refl
-about_roots (root ∷ roots) = ap (λ (ns : List NodeId). node.Expr root ∷ ns) (about_roots roots)
+about_roots (root ∷ roots) = ap (λ (ns : List NodeId). NodeId.Expr root ∷ ns) (about_roots roots)
 
 roots_leave : (n : ℕ) (roots : List ℕ) → length roots < n → LeavesWithin n (root_tasks roots)
 roots_leave n [] h = tt
@@ -210,37 +176,31 @@ module _ (s : Nodes) (w : Frame → ℕ) where
   roots_open [] = refl
   roots_open (root ∷ roots) =
       let k = suc (length roots) in
-      let a = sum_by-cons task_weight (task.Leave k k) (task.Expr root ∷ root_tasks roots) in
-      let b = sum_by-cons task_weight (task.Expr root) (root_tasks roots) in
-      let r = roots_open roots in
-      omega (arith, a, b, r)
+      let a = sum_by-cons task_weight (Task.Leave k k) (Task.Expr root ∷ root_tasks roots) in
+      omega (arith, a, sum_by-cons task_weight (Task.Expr root) (root_tasks roots), roots_open roots)
 
 abbrev one_more : Scopes → Scope → Scopes
 one_more xs x = record { scopes = xs.scopes ++ x ∷ []; scope_by_expr = xs.scope_by_expr }
-
-replicate_more : {X : Type 0} (n : ℕ) (x : X) → replicate n x ++ x ∷ [] ≡ replicate (suc n) x
-replicate_more zero x = refl
-replicate_more (suc n) x = ap (λ xs. x ∷ xs) (replicate_more n x)
 
 pub empty_in_root : (n : ℕ) → sum_by (λ (x : Scope). length x.entries) (replicate n scope_in_root) ≡ 0
 empty_in_root n = let r = sum_by-replicate (λ (x : Scope). length x.entries) n scope_in_root in omega (arith, r)
 
 -- one root more is to be met, in one scope more
 pub one_root_more : (old new : Machine) (roots : List ℕ) (root id first : ℕ) (entries : List ScopeEntry) → old ≡ roots_begin roots → id ≡ length old.scopes.scopes → first ≡ 0 → entries ≡ []
-    → new.scopes ≡ record { scopes = old.scopes.scopes ++ record { parent = Some first; kind = kind.None; entries = entries } ∷ []; scope_by_expr = old.scopes.scope_by_expr }
-    → new.around ≡ old.around → new.tasks ≡ task.Leave id id ∷ task.Expr root ∷ old.tasks → new ≡ roots_begin (root ∷ roots)
+    → new.scopes ≡ record { scopes = old.scopes.scopes ++ record { parent = Some first; kind = ScopeKind.None; entries = entries } ∷ []; scope_by_expr = old.scopes.scope_by_expr }
+    → new.around ≡ old.around → new.tasks ≡ Task.Leave id id ∷ Task.Expr root ∷ old.tasks → new ≡ roots_begin (root ∷ roots)
 one_root_more old new roots root id first entries is last zeroth none scopes around tasks =
     let long = length-replicate (length roots) scope_in_root in
     let number : id ≡ suc (length roots) = last ∙ (ap (λ (m : Machine). length m.scopes.scopes) is ∙ omega (arith, long)) in
-    let same : ◌≡◌ {A = Scope} (record { parent = Some first; kind = kind.None; entries = entries }) scope_in_root = λ i. record { parent = Some (zeroth i); kind = kind.None; entries = none i } in
+    let same : ◌≡◌ {A = Scope} (record { parent = Some first; kind = ScopeKind.None; entries = entries }) scope_in_root = λ i. record { parent = Some (zeroth i); kind = ScopeKind.None; entries = none i } in
     let a = scopes
     ∙ (ap (λ (x : Scope). one_more old.scopes x) same
     ∙ (ap (λ (m : Machine). one_more m.scopes scope_in_root) is
-    ∙ ap (λ (xs : List Scope). for_none (signature_root ∷ xs)) (replicate_more (length roots) scope_in_root))) in
+    ∙ ap (λ (xs : List Scope). for_none (signature_root ∷ xs)) (rw add-one at (replicate_more (length roots) scope_in_root)))) in
     let b = around ∙ ap (λ (m : Machine). m.around) is in
     let d = tasks
-    ∙ (ap (λ (m : Machine). task.Leave id id ∷ task.Expr root ∷ m.tasks) is
-    ∙ ap (λ (k : ℕ). task.Leave k k ∷ task.Expr root ∷ root_tasks roots) number) in
+    ∙ (ap (λ (m : Machine). Task.Leave id id ∷ Task.Expr root ∷ m.tasks) is
+    ∙ ap (λ (k : ℕ). Task.Leave k k ∷ Task.Expr root ∷ root_tasks roots) number) in
     λ i. record { scopes = a i; around = b i; tasks = d i }
 
 -- there is no room for one scope more only where there are many roots
@@ -255,8 +215,8 @@ roots_full most roots old met entries is none less full =
     let f = ap (λ (xs : List ScopeEntry). length xs) none in
     ⊎_elim (λ l. omega (arith, long, a, l, less)) (λ l. omega (arith, b, d, e, f, l)) full
 
-bound_roots : (s : Nodes) (roots : List ℕ) → sum_by (bound_by s) (map node.Expr roots) ≡ 0
-bound_roots s roots = sum_mapped (bound_by s) node.Expr roots ∙ sum_none (λ root. bound_by s (node.Expr root)) roots (λ root. refl)
+bound_roots : (s : Nodes) (roots : List ℕ) → sum_by (bound_by s) (map NodeId.Expr roots) ≡ 0
+bound_roots s roots = sum_mapped (bound_by s) NodeId.Expr roots ∙ sum_none (λ root. bound_by s (NodeId.Expr root)) roots (λ root. refl)
 
 module _ (c : Contents) where
   abbrev t : Nodes
@@ -288,29 +248,19 @@ module _ (c : Contents) where
         }
 
     roots_left : (w : Frame → ℕ) → weight_left t w (root_tasks roots) ≡ sum_by (total t (λ n. sum_by w (node_frames t n))) (root_tops c)
-    roots_left w =
-        let a = roots_open t w roots in
-        let b = ap (λ (ns : List NodeId). sum_by (total t (λ n. sum_by w (node_frames t n))) ns) (about_roots roots) in
-        omega (arith, a, b)
+    roots_left w = omega (arith, roots_open t w roots, ap (λ (ns : List NodeId). sum_by (total t (λ n. sum_by w (node_frames t n))) ns) (about_roots roots))
 
     pub signature_scopes_weigh : weight t one (signature_begins c) ≡ signature_scope_count t (length c.roots) (signature_nodes c)
     signature_scopes_weigh =
-        let a = scopes_weigh (scopes_in_root (length roots)) in
-        let long = length-replicate (length roots) scope_in_root in
-        let same = length-map c.roots (λ r. r.node) in
-        let l = roots_left one in
-        let u = scopes_total t sound.nodes (root_tops c) roots_in in
-        omega (arith, a, long, same, l, u)
+        let b = length-replicate (length roots) scope_in_root in
+        let a = scopes_total t sound.nodes (root_tops c) roots_in in
+        omega (arith, scopes_weigh (scopes_in_root (length roots)), b, length-map c.roots (λ r. r.node), roots_left one, a)
 
     pub signature_entries_weigh : weight t count_entries (signature_begins c) ≡ signature_entry_count t (signature_nodes c)
     signature_entries_weigh =
-        let a = entries_weigh (scopes_in_root (length roots)) in
-        let d = sum_by-cons (λ (x : Scope). length x.entries) signature_root (replicate (length roots) scope_in_root) in
-        let f = empty_in_root (length roots) in
-        let l = roots_left count_entries in
-        let u = entries_under t sound.nodes (root_tops c) roots_in in
-        let g = bound_roots t roots in
-        omega (arith, a, d, f, l, u, g)
+        let a = sum_by-cons (λ (x : Scope). length x.entries) signature_root (replicate (length roots) scope_in_root) in
+        let b = entries_under t sound.nodes (root_tops c) roots_in in
+        omega (arith, entries_weigh (scopes_in_root (length roots)), a, empty_in_root (length roots), roots_left count_entries, b, bound_roots t roots)
 
     pub signature_exceeds : Exceeds t (signature_begins c) → SignatureIsTooLarge c
     signature_exceeds h =

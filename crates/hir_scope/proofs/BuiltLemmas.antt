@@ -1,34 +1,25 @@
 -- What a whole walk made.
 use Rattle.std.proofs.Common.{◌≡◌, ℕ, List, [], ◌∷◌, refl, sym, ap, ◌∙◌, subst, Option, Some, None, inl, inr, ◌⊎◌, ⊎_elim, Bool, true, false, cond, ◌↔◌, ◌+◌, ◌++◌, map, length, arith, append-nil, ◌<◌}
-use Rattle.std.specs.Prelude.{IsSome}
-use Rattle.std.specs.declared.cmp.Ordering.{Ordering}
-use Rattle.std.specs.declared.cmp.Ordering.TheVariants as order
-use Rattle.std.specs.Ordering.{nat_cmp, is_eq, eq_by_cmp}
-use Rattle.std.specs.FinMap.{get-insert, get-empty, nat_cmp-IsAntisymmetric}
+use Rattle.std.proofs.lemmas.{List.length-map, List.Elements.All-contains}
 use Rattle.std.specs.Cmp.{nat_cmp_total, tied_itself}
-use Rattle.hir_scope.specs.walk.Machine.{ScopeGift, write_all, Machine, Progress, IsRight, place_given, future_of, chain_of, IsReady, Exceeds, one, count_entries, weight, weight_left}
-use Rattle.hir_scope.proofs.MemberLemmas.{In, in_map, map_in, in_all}
+use Rattle.std.specs.FinMap.{get-insert, get-empty, nat_cmp-IsAntisymmetric}
 use Rattle.std.specs.FinMap as finmap
-use Rattle.std.proofs.lemmas.List.{length-map}
+use Rattle.std.specs.Ordering.{nat_cmp, is_eq, eq_by_cmp}
+use Rattle.std.specs.{Prelude.IsSome, declared.cmp.Ordering.Ordering}
 use Rattle.hir_node.specs.declared.node_id.NodeId.{NodeId}
-use Rattle.hir_node.specs.declared.node_id.NodeId.TheVariants as node
 use Rattle.hir_faults.specs.Nodes.{Nodes, Has}
-use Rattle.hir_expr_store.specs.Under.{IsReached, reached_nodes}
-use Rattle.hir_scope.specs.walk.Begins.{IsSound, IsSoundBody, IsSoundStore, root_entries, body_begins, signature_begins}
+use Rattle.hir_expr_store.specs.{Contents.Contents, Under.IsReached, Under.reached_nodes}
+use Rattle.hir_items.specs.{Bodies.BodyContents, Bodies.body_nodes, Bodies.tops, Signatures.root_tops}
 use Rattle.hir_scope.specs.BodyScopes.{ChainsAreFrames, expr_count, tops_of_body, tops_of_signature, AreBodyScopes, AreSignatureScopes, BodyIsTooLarge, SignatureIsTooLarge, limit}
-use Rattle.hir_scope.specs.Chains.{Place, Stands, within_own}
-use Rattle.hir_scope.specs.Forms.{form_of}
-use Rattle.hir_scope.specs.walk.Pending.{future}
-use Rattle.hir_scope.specs.walk.PlacesUnder.{exprs_under}
-use Rattle.hir_scope.proofs.UnderLemmas.{reached_stands, stands_reached, exprs_stand, standing_exprs}
-use Rattle.hir_scope.proofs.CountLemmas.{exprs_counted}
-use Rattle.hir_scope.proofs.SameLemmas.{at_or_before}
-use Rattle.hir_expr_store.specs.Contents.{Contents}
-use Rattle.hir_items.specs.Bodies.{BodyContents, body_nodes, tops}
-use Rattle.hir_items.specs.Signatures.{root_tops}
+use Rattle.hir_scope.specs.{Chains.Place, Chains.Stands, Chains.within_own, Forms.form_of, Scopes.entry_count}
+use Rattle.hir_scope.specs.walk.Begins.{IsSound, IsSoundBody, IsSoundStore, root_entries, body_begins, signature_begins}
+use Rattle.hir_scope.specs.walk.Machine.{ScopeGift, write_all, Machine, Progress, IsRight, place_given, future_of, chain_of, IsReady, Exceeds, one, count_entries, weight, weight_left}
+use Rattle.hir_scope.specs.walk.{Pending.future, PlacesUnder.exprs_under}
 use Rattle.hir_scope.proofs.BeginLemmas.{body_ready, body_exceeds, root_exceeds, signature_ready, signature_exceeds, body_same, body_whole, body_scopes_weigh, body_entries_weigh, signature_same, signature_whole, signature_scopes_weigh, signature_entries_weigh, roots_in, tops_there}
-use Rattle.hir_scope.proofs.MovingLemmas.{scopes_weigh, entries_weigh}
-use Rattle.hir_scope.specs.Scopes.{entry_count}
+use Rattle.hir_scope.proofs.CountLemmas.{exprs_counted}
+use Rattle.hir_scope.proofs.MemberLemmas.{In, contains_in, in_map, map_in}
+use Rattle.hir_scope.proofs.{MovingLemmas.scopes_weigh, MovingLemmas.entries_weigh, SameLemmas.at_or_before}
+use Rattle.hir_scope.proofs.UnderLemmas.{reached_stands, stands_reached, exprs_stand, standing_exprs}
 
 -- 1. What a list of writes leaves in a finite map: at each id that was written one of the values written there, and nothing else.
 
@@ -37,10 +28,10 @@ ScopesById = finmap.FinMap nat_cmp ℕ
 
 tied_same : (q k : ℕ) → eq_by_cmp nat_cmp q k ≡ true → q ≡ k
 tied_same q k e = nat_cmp-IsAntisymmetric q k (is_equal (nat_cmp q k) e) where
-  is_equal : (r : Ordering) → is_eq r ≡ true → r ≡ order.Equal
-  is_equal order.Less e = absurd cc
-  is_equal order.Equal e = refl
-  is_equal order.Greater e = absurd cc
+  is_equal : (r : Ordering) → is_eq r ≡ true → r ≡ Ordering.Equal
+  is_equal Ordering.Less e = absurd cc
+  is_equal Ordering.Equal e = refl
+  is_equal Ordering.Greater e = absurd cc
 
 -- a value that is there was there before, or was written
 pub written_or : (m : ScopesById) (gs : List ScopeGift) (expr scope : ℕ) → finmap.get (write_all m gs) expr ≡ Some scope → (finmap.get m expr ≡ Some scope) ⊎ ((g : ScopeGift) × In g gs × (g.expr ≡ expr) × (g.scope ≡ scope))
@@ -110,50 +101,44 @@ module _ (s : Nodes) (sound : IsSound s) (tops : List Place) (nodes : List NodeI
     written = gone.written ∙ ap (λ m. write_all m gone.given) none
 
     given_stands : (g : ScopeGift) → In g gone.given → Stands s tops (place_given g)
-    given_stands g i =
-        exprs_stand s sound.fall tops places_there (place_given g) (subst (In (place_given g)) places (map_in place_given g gone.given i))
+    given_stands g i = exprs_stand s sound.fall tops places_there (place_given g) (subst (In (place_given g)) places (map_in place_given g gone.given i))
 
     was_given : (expr scope : ℕ) → finmap.get new.scopes.scope_by_expr expr ≡ Some scope → (g : ScopeGift) × In g gone.given × (g.expr ≡ expr) × (g.scope ≡ scope)
     was_given expr scope e = written_once gone.given expr scope (sym (ap (λ m. finmap.get m expr) written) ∙ e)
 
-    to_reached : (expr : ℕ) → IsSome (finmap.get new.scopes.scope_by_expr expr) → IsReached s nodes (node.Expr expr)
+    to_reached : (expr : ℕ) → IsSome (finmap.get new.scopes.scope_by_expr expr) → IsReached s nodes (NodeId.Expr expr)
     to_reached expr h =
         let v = some_is (finmap.get new.scopes.scope_by_expr expr) h in
         let g = was_given expr v.0 v.1 in
-        subst (λ (x : ℕ). IsReached s nodes (node.Expr x)) g.2
-        (subst (λ ns. IsReached s ns (node.Expr g.0.expr)) same (stands_reached s tops (place_given g.0) (given_stands g.0 g.1)))
+        subst (λ (x : ℕ). IsReached s nodes (NodeId.Expr x)) g.2
+        (subst (λ ns. IsReached s ns (NodeId.Expr g.0.expr)) same (stands_reached s tops (place_given g.0) (given_stands g.0 g.1)))
 
-    from_reached : (expr : ℕ) → IsReached s nodes (node.Expr expr) → IsSome (finmap.get new.scopes.scope_by_expr expr)
+    from_reached : (expr : ℕ) → IsReached s nodes (NodeId.Expr expr) → IsSome (finmap.get new.scopes.scope_by_expr expr)
     from_reached expr h =
-        let at = reached_stands s tops (node.Expr expr) (subst (λ ns. IsReached s ns (node.Expr expr)) (sym same) h) in
+        let at = reached_stands s tops (NodeId.Expr expr) (subst (λ ns. IsReached s ns (NodeId.Expr expr)) (sym same) h) in
         let i = standing_exprs s sound.fall tops places_there at.0 expr at.2 at.1 in
         let g = in_map place_given at.0 gone.given (subst (In at.0) (sym places) i) in
-        let one : node.Expr g.0.expr ≡ node.Expr expr = ap (λ (p : Place). p.node) g.2 ∙ at.2 in
+        let one : NodeId.Expr g.0.expr ≡ NodeId.Expr expr = ap (λ (p : Place). p.node) g.2 ∙ at.2 in
         let id : g.0.expr ≡ expr = cc in
         subst (λ m. IsSome (finmap.get m expr)) (sym written)
         (subst (λ (x : ℕ). IsSome (finmap.get (write_all finmap.empty gone.given) x)) id (written_there finmap.empty gone.given g.0 g.1))
 
-    pub reached : (expr : ℕ) → IsSome (finmap.get new.scopes.scope_by_expr expr) ↔ IsReached s nodes (node.Expr expr)
+    pub reached : (expr : ℕ) → IsSome (finmap.get new.scopes.scope_by_expr expr) ↔ IsReached s nodes (NodeId.Expr expr)
     reached expr = (to_reached expr, from_reached expr)
 
     pub chains : ChainsAreFrames s tops new.scopes
     chains expr scope e =
         let g = was_given expr scope e in
-        let right = in_all (IsRight s new.scopes.scopes) g.0 gone.given gone.right g.1 in
+        let right = All-contains (IsRight s new.scopes.scopes) gone.given g.0 gone.right (contains_in gone.given g.0 g.1) in
         record {
           at = place_given g.0;
           stands = given_stands g.0 g.1;
-          is_node = ap node.Expr g.2;
-          is_chain = ap (chain_of new.scopes.scopes) (sym g.3) ∙ (right.is ∙ ap (λ (x : ℕ). within_own (form_of s (node.Expr x)) g.0.here) g.2);
+          is_node = ap NodeId.Expr g.2;
+          is_chain = ap (chain_of new.scopes.scopes) (sym g.3) ∙ (right.is ∙ ap (λ (x : ℕ). within_own (form_of s (NodeId.Expr x)) g.0.here) g.2);
         }
 
     pub ticked : after ≡ before + expr_count (reached_nodes s nodes)
-    ticked =
-        let a = length-map gone.given place_given in
-        let b = ap (λ (ps : List Place). length ps) places in
-        let d = counted in
-        let t = gone.ticks in
-        omega (arith, a, b, d, t)
+    ticked = omega (arith, length-map gone.given place_given, ap (λ (ps : List Place). length ps) places, counted, gone.ticks)
 
 -- 3. What the whole walk over a body or a signature has made: its scopes, with the counts of scopes and entries, in a step for each expression.
 
@@ -162,14 +147,12 @@ module _ (s : Nodes) (old new : Machine) (done : new.tasks ≡ []) where
   all_scopes : weight s one old ≡ weight s one new → length new.scopes.scopes ≡ weight s one old
   all_scopes e =
       let l : weight_left s one new.tasks ≡ 0 = ap (weight_left s one) done in
-      let n = scopes_weigh new.scopes.scopes in
-      omega (arith, e, l, n)
+      omega (arith, e, l, scopes_weigh new.scopes.scopes)
 
   all_entries : weight s count_entries old ≡ weight s count_entries new → entry_count new.scopes.scopes ≡ weight s count_entries old
   all_entries e =
       let l : weight_left s count_entries new.tasks ≡ 0 = ap (weight_left s count_entries) done in
-      let n = entries_weigh new.scopes.scopes in
-      omega (arith, e, l, n)
+      omega (arith, e, l, entries_weigh new.scopes.scopes)
 
 module _ (b : BodyContents) (sound : IsSoundBody b) where
   abbrev nodes : Nodes

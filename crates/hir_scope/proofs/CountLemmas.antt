@@ -1,71 +1,107 @@
--- Sums over what is reached; and what the frames of a node are, counted as scopes and as entries.
-use Rattle.std.proofs.Common.{◌≡◌, ℕ, zero, suc, ◌+◌, ◌<◌, List, [], ◌∷◌, map, length, refl, sym, ap, ◌∙◌, arith, Bool, true, false, cond, ◌++◌, append-nil, Option, Some, None}
-use Rattle.std.specs.List.{flat_map, filter, sum_by}
-use Rattle.std.proofs.lemmas.List.Sums.{sum_by-append, sum_by-cons}
+-- Sums: over tasks and all nodes under those that they are about, over what is reached, and over frames, as scopes and as entries.
+use Rattle.std.proofs.Common.{◌≡◌, ℕ, zero, suc, ◌+◌, ◌<◌, List, [], ◌∷◌, map, length, refl, sym, ap, ◌∙◌, arith, Bool, cond, ◌++◌, append-nil, Option, Some, None}
+use Rattle.std.proofs.lemmas.List.Concat.{flat_map-append, length-flat_map}
 use Rattle.std.proofs.lemmas.List.Sorted.{sum_by-IsPermutation}
-use Rattle.hir_node.specs.declared.node_id.NodeId.{NodeId}
-use Rattle.hir_faults.specs.Nodes.{Nodes, Has, kids_of}
-use Rattle.hir_faults.specs.Down.{rank, KidsFall}
+use Rattle.std.proofs.lemmas.List.Sums.{length-filter, sum_by-append, sum_by-cons}
+use Rattle.std.specs.List.{flat_map, sum_by}
+use Rattle.hir_base.specs.declared.mod_path.PathKind.TheVariants.{Plain}
+use Rattle.hir_path.specs.declared.bound.{TypeBound.TypeBound, UseArgRef.UseArgRef}
+use Rattle.hir_path.specs.declared.path.{GenericArgs.GenericArgs, Path.Path}
+use Rattle.hir_node.specs.ChildCalls.{Call, OnLifetime, e, p, t, l, opt, pat_of_call, use_calls, bound_calls, args_calls, path_calls, spread_calls, array_calls, kids}
+use Rattle.hir_node.specs.declared.expr.Expr.{Expr}
+use Rattle.hir_node.specs.declared.expr_types.{Array.Array, Item.Item, MatchArm.MatchArm}
+use Rattle.hir_node.specs.declared.expr_types.{RecordSpread.RecordSpread, Statement.Statement}
+use Rattle.hir_node.specs.declared.{node_id.NodeId.NodeId, type_ref.TypeRef.TypeRef}
+use Rattle.hir_node.proofs.ChildPatLemmas.{none-path, pats-list}
+use Rattle.hir_faults.specs.{Down.rank, Down.KidsFall, Nodes.Nodes, Nodes.Has, Nodes.kids_of}
+use Rattle.hir_faults.proofs.DownLemmas.{value_at}
 use Rattle.hir_expr_store.specs.Under.{nodes_under, reached_nodes}
 use Rattle.hir_scope.specs.BodyScopes.{expr_count, is_expr}
-use Rattle.hir_scope.specs.Slots.{Slot, slots, block_constants}
 use Rattle.hir_scope.specs.Chains.{Place, place_kid, places_of_kids}
-use Rattle.hir_scope.specs.walk.PlacesUnder.{places_under, exprs_under}
-use Rattle.hir_scope.proofs.MemberLemmas.{In, contains_in, sum_flat, sum_same, sum_mapped, sum_plus, sum_none, sum_ones}
-use Rattle.hir_scope.proofs.UnderLemmas.{under_at, kid_there, kid_lower}
-use Rattle.hir_scope.proofs.KidLemmas.{kids_in, slots_kids}
-use Rattle.hir_scope.specs.walk.Machine.{total, about, one, count_entries}
-use Rattle.hir_scope.proofs.WeightLemmas.{total_at}
-use Rattle.std.proofs.lemmas.List.Concat.{flat_map-append, length-flat_map}
-use Rattle.hir_path.specs.declared.bound.TypeBound.{TypeBound}
-use Rattle.hir_path.specs.declared.bound.TypeBound.TheVariants as bound
-use Rattle.hir_path.specs.declared.bound.UseArgRef.{UseArgRef}
-use Rattle.hir_path.specs.declared.bound.UseArgRef.TheVariants as use_arg
-use Rattle.hir_path.specs.declared.path.GenericArgs.{GenericArgs}
-use Rattle.hir_path.specs.declared.path.Path.TheVariants as path
-use Rattle.hir_base.specs.declared.mod_path.PathKind.TheVariants.{Plain}
-use Rattle.hir_node.specs.ChildCalls.{Call, OnLifetime, e, p, t, l, opt, pat_of_call, use_calls, bound_calls, args_calls, path_calls, spread_calls, array_calls}
-use Rattle.hir_node.specs.declared.expr_types.Array.{Array}
-use Rattle.hir_node.specs.declared.expr_types.Array.TheVariants as array
-use Rattle.hir_node.specs.declared.expr_types.RecordSpread.{RecordSpread}
-use Rattle.hir_node.specs.declared.expr_types.RecordSpread.TheVariants as spread
-use Rattle.hir_node.specs.declared.expr_types.Item.TheVariants as item
-use Rattle.hir_node.specs.declared.expr_types.MatchArm.{MatchArm}
-use Rattle.hir_node.specs.declared.expr_types.Statement.{Statement}
-use Rattle.hir_node.specs.declared.expr_types.Statement.TheVariants as statement
-use Rattle.hir_node.specs.declared.expr.Expr.{Expr}
-use Rattle.hir_node.specs.declared.expr.Expr.TheVariants as expr
-use Rattle.hir_node.specs.declared.type_ref.TypeRef.{TypeRef}
-use Rattle.hir_node.specs.declared.type_ref.TypeRef.TheVariants as type
-use Rattle.hir_node.specs.declared.node_id.NodeId.TheVariants as node
-use Rattle.hir_node.proofs.ChildPatLemmas.{none-path, pats-list}
-use Rattle.hir_scope.specs.Order.{met_in_closure}
-use Rattle.hir_scope.specs.declared.tasks.Around.{Around}
-use Rattle.hir_scope.specs.declared.tasks.Task.{Task}
-use Rattle.hir_scope.specs.declared.tasks.Task.TheVariants as task
 use Rattle.hir_scope.specs.Counts.{count_if_there, statement_scopes, form_scopes}
-use Rattle.hir_scope.specs.Frames.{Frame, binds, frame}
-use Rattle.hir_scope.specs.Forms.{ScopingForm, expr_form, type_form}
+use Rattle.hir_scope.specs.Forms.{ScopingForm, expr_form, type_form, form_of}
 use Rattle.hir_scope.specs.Forms as form
+use Rattle.hir_scope.specs.{Frames.Frame, Frames.binds, Frames.frame, Order.met_in_closure, Order.met_in_form}
+use Rattle.hir_scope.specs.Slots.{Slot, slots, block_constants}
+use Rattle.hir_scope.specs.declared.tasks.{Around.Around, Task.Task}
+use Rattle.hir_scope.specs.walk.Machine.{total, about, one, count_entries, total_step, tasks_weight, node_tasks, node_frames, weight_left, task_turns, node_turns, turns_left}
 use Rattle.hir_scope.specs.walk.Pending.{task_of, tasks_of, one_arm, guarded_task, leave, statement_tasks, form_tasks, opens_here, opens_constant, task_kids, task_frames}
+use Rattle.hir_scope.specs.walk.PlacesUnder.{places_under, exprs_under}
+use Rattle.hir_scope.proofs.KidLemmas.{kids_in, slots_kids, kids_of_form, about_form}
+use Rattle.hir_scope.proofs.MemberLemmas.{In, contains_in, sum_flat, sum_same, sum_mapped, sum_plus, sum_none, sum_ones, agree_in}
+use Rattle.hir_scope.proofs.UnderLemmas.{under_at, kid_there, kid_lower}
 
--- 1. Sums over what is reached, however it is listed: by nodes, by places, or told from each node by its kids.
+-- 1. Sums over tasks and all nodes under those that they are about: what a node weighs is what it weighs itself, and what its tasks weigh.
+
+module _ (s : Nodes) (fall : KidsFall s) (u : NodeId → ℕ) where
+  pub total_at : (n : NodeId) → Has s n → total s u n ≡ u n + sum_by (total s u) (kids_of s n)
+  unfolding total
+  total_at n h = value_at s fall (total_step s u) 0 (λ f g m agree. ap (λ (x : ℕ). u m + x) (sum_same f g (kids_of s m) (agree_in f g (kids_of s m) agree))) n
+
+  met_total : (n : NodeId) → sum_by (total s u) (kids (met_in_form (form_of s n))) ≡ sum_by (total s u) (kids_of s n)
+  unfolding slots
+  met_total n =
+      ap (λ (ns : List NodeId). sum_by (total s u) ns) (sym (kids_of_form s (form_of s n)))
+      ∙ sum_by-IsPermutation (total s u) (kids_of s n) (kids_in (slots s n)) (slots_kids s n)
+
+  -- a node is met: its own weight goes, and what is inside it comes
+  pub left_met : (v : Task → ℕ) (a : Around) (n : NodeId) (ts : List Task) → Has s n → let inside = form_tasks a (form_of s n) in (total s u n + tasks_weight s u v ts) + sum_by v inside ≡ u n + tasks_weight s u v (inside ++ ts)
+  left_met v a n ts h =
+      let inside = form_tasks a (form_of s n) in
+      let b = ap (λ (ns : List NodeId). sum_by (total s u) ns) (flat_map-append task_kids inside ts) ∙ sum_by-append (total s u) (about inside) (about ts) in
+      omega (arith, total_at n h, met_total n, ap (λ (ns : List NodeId). sum_by (total s u) ns) (about_form a (form_of s n)), sum_by-append v inside ts, b)
+
+-- 2. What is still to come, as sums: a node that is met leaves what its tasks weigh, less what it opens itself.
+
+-- Sums over tasks
+
+module _ (s : Nodes) (u : NodeId → ℕ) (v : Task → ℕ) where
+  pub left_cons : (t : Task) (ts : List Task) → tasks_weight s u v (t ∷ ts) ≡ v t + (sum_by (total s u) (task_kids t) + tasks_weight s u v ts)
+  left_cons t ts = omega (arith, sum_by-cons v t ts, sum_by-append (total s u) (task_kids t) (about ts))
+
+-- what is left with one scope weighs as much as what is left with another
+module _ (v : Task → ℕ) (a b : Around) (same : v (leave a) ≡ v (leave b)) where
+  around_last : (us : List Task) → sum_by v (us ++ leave a ∷ []) ≡ sum_by v (us ++ leave b ∷ [])
+  around_last us = let x = sum_by-append v us (leave a ∷ []) in let y = sum_by-append v us (leave b ∷ []) in omega (arith, x, y, same)
+
+  around_same : (x : ScopingForm) → sum_by v (form_tasks a x) ≡ sum_by v (form_tasks b x)
+  around_same (form.If c y f) =
+      let us = tasks_of (e c ++ e y) in
+      let ts = tasks_of (opt e f) in
+      omega (arith, sum_by-append v us (leave a ∷ ts), sum_by-append v us (leave b ∷ ts), sum_by-cons v (leave a) ts, sum_by-cons v (leave b) ts, same)
+  around_same (form.Let pat x) = refl
+  around_same (form.Block id label xs tail) =
+      let us = flat_map statement_tasks xs in
+      let ts = tasks_of (opt e tail) in
+      omega (arith, sum_by-append v us (ts ++ leave a ∷ []), sum_by-append v us (ts ++ leave b ∷ []), around_last ts)
+  around_same (form.Loop label body) = around_last (Task.Expr body ∷ [])
+  around_same (form.Closure types ret args body) = around_last (tasks_of (met_in_closure types ret args body))
+  around_same (form.Match x arms) = refl
+  around_same (form.Assignment target value) = omega (arith, same)
+  around_same (form.PatternType ty pat) = around_last (Task.TypeRef ty ∷ Task.Bound pat ∷ [])
+  around_same (form.InTurn cs) = refl
+
+-- Frames
+
+module _ (s : Nodes) (fall : KidsFall s) where
+  -- a node is met: the frames that it opens are there, those of its tasks are still to come
+  pub weight_met : (w : Frame → ℕ) (a : Around) (n : NodeId) (ts : List Task) → Has s n → let x = form_of s n in
+      total s (λ (m : NodeId). sum_by w (node_frames s m)) n + weight_left s w ts ≡ sum_by w (opens_here s x ++ opens_constant x) + weight_left s w (form_tasks a x ++ ts)
+  weight_met w a n ts h =
+      let x = form_of s n in
+      let v : Task → ℕ = λ t. sum_by w (task_frames s t) in
+      let d = left_met s fall (λ (m : NodeId). sum_by w (node_frames s m)) v a n ts h in
+      let b = sum_by-append w (opens_here s x ++ opens_constant x) (flat_map (task_frames s) (node_tasks s n)) in
+      omega (arith, d, b, sum_flat w (task_frames s) (node_tasks s n), around_same v a (record { here = 0; constant = 0 }) refl x)
+
+  pub turns_met : (a : Around) (n : NodeId) (ts : List Task) → Has s n → total s (node_turns s) n + turns_left s ts ≡ 2 + turns_left s (form_tasks a (form_of s n) ++ ts)
+  turns_met a n ts h =
+      omega (arith, left_met s fall (node_turns s) task_turns a n ts h, around_same task_turns a (record { here = 0; constant = 0 }) refl (form_of s n))
+
+-- 3. Sums over what is reached, however it is listed: by nodes, by places, or told from each node by its kids.
 
 abbrev pub one_if : Bool → ℕ
-one_if true = 1
-one_if false = 0
-
-kept_length : {X : Type 0} (x : X) (xs : List X) (b : Bool) → length (cond b (x ∷ xs) xs) ≡ one_if b + length xs
-kept_length x xs true = omega arith
-kept_length x xs false = omega arith
-
-pub length_filter : {X : Type 0} (test : X → Bool) (xs : List X) → length (filter test xs) ≡ sum_by (λ x. one_if (test x)) xs
-length_filter test [] = refl
-length_filter test (x ∷ xs) =
-    let a = kept_length x (filter test xs) (test x) in
-    let b = sum_by-cons (λ y. one_if (test y)) x xs in
-    let r = length_filter test xs in
-    omega (arith, a, b, r)
+one_if b = cond b 1 0
 
 -- Sums over what is under nodes
 
@@ -79,8 +115,7 @@ module _ (s : Nodes) (fall : KidsFall s) (listing : (n : NodeId) → nodes_under
       let r = sum_same (λ k. sum_by f (nodes_under s k)) (total s f) (kids_of s m) (λ k i.
       let c = contains_in (kids_of s m) k i in
       nodes_total n k (let low = fall.lower m h k c in omega (arith, low, l)) (fall.there m h k c)) in
-      let t = total_at s fall f m h in
-      omega (arith, a, b, d, r, t)
+      omega (arith, a, b, d, r, total_at s fall f m h)
 
   pub reached_total : (tops : List NodeId) → ((n : NodeId) → In n tops → Has s n) → sum_by f (reached_nodes s tops) ≡ sum_by (total s f) tops
   reached_total tops there =
@@ -105,9 +140,7 @@ module _ (s : Nodes) (fall : KidsFall s) (f : NodeId → ℕ) where
       let d = sum_flat at_place (places_under s) (places_of_kids s p) in
       let r = sum_same (λ q. sum_by at_place (places_under s q)) (λ (q : Place). total s f q.node) (places_of_kids s p) (λ q i.
       places_total n q (let low = kid_lower s fall p q h i in omega (arith, low, l)) (kid_there s fall p q h i)) in
-      let k = kids_sum p in
-      let t = total_at s fall f p.node h in
-      omega (arith, a, b, d, r, k, t)
+      omega (arith, a, b, d, r, kids_sum p, total_at s fall f p.node h)
 
   pub placed_total : (tops : List Place) → ((p : Place) → In p tops → Has s p.node) → sum_by at_place (flat_map (places_under s) tops) ≡ sum_by (total s f) (map (λ (p : Place). p.node) tops)
   placed_total tops there =
@@ -123,13 +156,13 @@ expr_one n = one_if (is_expr n)
 pub exprs_counted : (s : Nodes) → KidsFall s → ((n : NodeId) → nodes_under s n ≡ n ∷ flat_map (nodes_under s) (kids_of s n)) → (tops : List Place) (nodes : List NodeId) → nodes ≡ map (λ (p : Place). p.node) tops → ((p : Place) → In p tops → Has s p.node) → ((n : NodeId) → In n nodes → Has s n) → length (exprs_under s tops) ≡ expr_count (reached_nodes s nodes)
 unfolding exprs_under
 exprs_counted s fall listing tops nodes same there there_too =
-    length_filter (λ (p : Place). is_expr p.node) (flat_map (places_under s) tops)
+    length-filter (λ (p : Place). is_expr p.node) (flat_map (places_under s) tops)
     ∙ (placed_total s fall expr_one tops there
     ∙ (ap (λ (ns : List NodeId). sum_by (total s expr_one) ns) (sym same)
     ∙ (sym (reached_total s fall listing expr_one nodes there_too)
-    ∙ sym (length_filter is_expr (reached_nodes s nodes)))))
+    ∙ sym (length-filter is_expr (reached_nodes s nodes)))))
 
--- 2. What the frames of a node are, counted: as scopes, by its form; and as entries, by the patterns among its kids.
+-- 4. What the frames of a node are, counted: as scopes, by its form; and as entries, by the patterns among its kids.
 
 -- the frames that a form opens, as it is met and by its tasks
 abbrev pub form_frames : Nodes → Around → ScopingForm → List Frame
@@ -137,10 +170,8 @@ form_frames s around x = (opens_here s x ++ opens_constant x) ++ flat_map (task_
 
 frames_split : (s : Nodes) (w : Frame → ℕ) (around : Around) (x : ScopingForm) → sum_by w (form_frames s around x) ≡ (sum_by w (opens_here s x) + sum_by w (opens_constant x)) + sum_by (λ t. sum_by w (task_frames s t)) (form_tasks around x)
 frames_split s w around x =
-    let a = sum_by-append w (opens_here s x ++ opens_constant x) (flat_map (task_frames s) (form_tasks around x)) in
-    let b = sum_by-append w (opens_here s x) (opens_constant x) in
-    let d = sum_flat w (task_frames s) (form_tasks around x) in
-    omega (arith, a, b, d)
+    let b = sum_by-append w (opens_here s x ++ opens_constant x) (flat_map (task_frames s) (form_tasks around x)) in
+    omega (arith, b, sum_by-append w (opens_here s x) (opens_constant x), sum_flat w (task_frames s) (form_tasks around x))
 
 -- As scopes
 
@@ -157,14 +188,12 @@ module _ (s : Nodes) where
   calls_open w cs = sum_flat (λ x. sum_by w (task_frames s x)) task_of cs ∙ sum_none (λ c. sum_by (λ x. sum_by w (task_frames s x)) (task_of c)) cs (call_opens w)
 
   statement_ones : (x : Statement) → sum_by (ones s) (statement_tasks x) ≡ statement_scopes x
-  statement_ones (statement.Let pat ty x y) =
+  statement_ones (Statement.Let pat ty x y) =
       let cs = opt t ty ++ opt e x ++ opt e y in
-      let r = sum_by-append (ones s) (tasks_of cs) (task.Bound pat ∷ []) in
-      let z = calls_open one cs in
-      omega (arith, r, z)
-  statement_ones (statement.Expr x semi) = refl
-  statement_ones (statement.Item (item.MacroDef id)) = refl
-  statement_ones (statement.Item item.Other) = refl
+      omega (arith, sum_by-append (ones s) (tasks_of cs) (Task.Bound pat ∷ []), calls_open one cs)
+  statement_ones (Statement.Expr x semi) = refl
+  statement_ones (Statement.Item (Item.MacroDef id)) = refl
+  statement_ones (Statement.Item Item.Other) = refl
 
   statements_ones : (xs : List Statement) → sum_by (ones s) (flat_map statement_tasks xs) ≡ sum_by statement_scopes xs
   statements_ones xs = sum_flat (ones s) statement_tasks xs ∙ sum_same (λ x. sum_by (ones s) (statement_tasks x)) statement_scopes xs (λ x i. statement_ones x)
@@ -183,26 +212,15 @@ module _ (s : Nodes) where
   -- the tasks of a form and what it opens as it is met, counted
   tasks_ones : (around : Around) (x : ScopingForm) → (sum_by one (opens_here s x) + sum_by one (opens_constant x)) + sum_by (ones s) (form_tasks around x) ≡ form_scopes x
   tasks_ones around (form.If c y f) =
-      let a = sum_by-append (ones s) (tasks_of (e c ++ e y)) (leave around ∷ tasks_of (opt e f)) in
-      let b = sum_by-cons (ones s) (leave around) (tasks_of (opt e f)) in
-      let d = calls_open one (e c ++ e y) in
-      let g = calls_open one (opt e f) in
-      omega (arith, a, b, d, g)
+      let b = sum_by-append (ones s) (tasks_of (e c ++ e y)) (leave around ∷ tasks_of (opt e f)) in
+      omega (arith, b, sum_by-cons (ones s) (leave around) (tasks_of (opt e f)), calls_open one (e c ++ e y), calls_open one (opt e f))
   tasks_ones around (form.Block id label xs tail) =
-      let a = sum_by-append (ones s) (flat_map statement_tasks xs) (tasks_of (opt e tail) ++ leave around ∷ []) in
-      let b = sum_by-append (ones s) (tasks_of (opt e tail)) (leave around ∷ []) in
-      let d = statements_ones xs in
-      let g = calls_open one (opt e tail) in
-      let h = constants_one id in
-      omega (arith, a, b, d, g, h)
+      let b = sum_by-append (ones s) (flat_map statement_tasks xs) (tasks_of (opt e tail) ++ leave around ∷ []) in
+      omega (arith, b, sum_by-append (ones s) (tasks_of (opt e tail)) (leave around ∷ []), statements_ones xs, calls_open one (opt e tail), constants_one id)
   tasks_ones around (form.Closure types ret args body) =
-      let a = sum_by-append (ones s) (tasks_of (met_in_closure types ret args body)) (leave around ∷ []) in
-      let d = calls_open one (met_in_closure types ret args body) in
-      omega (arith, a, d)
-  tasks_ones around (form.Match x arms) =
-      let a = sum_by-cons (ones s) (task.Expr x) (flat_map one_arm arms) in
-      let b = arms_ones arms in
-      omega (arith, a, b)
+      let b = sum_by-append (ones s) (tasks_of (met_in_closure types ret args body)) (leave around ∷ []) in
+      omega (arith, b, calls_open one (met_in_closure types ret args body))
+  tasks_ones around (form.Match x arms) = omega (arith, sum_by-cons (ones s) (Task.Expr x) (flat_map one_arm arms), arms_ones arms)
   tasks_ones around (form.InTurn cs) = let r = calls_open one cs in omega (arith, r)
   tasks_ones around _ = refl
 
@@ -227,30 +245,30 @@ none-opt calls h None = refl
 none-opt calls h (Some x) = h x
 
 none-use : (x : UseArgRef) → none (use_calls x)
-none-use (use_arg.Name name) = refl
-none-use (use_arg.Lifetime id) = refl
+none-use (UseArgRef.Name name) = refl
+none-use (UseArgRef.Lifetime id) = refl
 
 none-bound : (x : TypeBound) → none (bound_calls x)
-none-bound (bound.Path id modifier) = refl
-none-bound (bound.ForLifetime names id) = refl
-none-bound (bound.Lifetime id) = refl
-none-bound (bound.Use args) = none-each use_calls none-use args
-none-bound bound.Error = refl
+none-bound (TypeBound.Path id modifier) = refl
+none-bound (TypeBound.ForLifetime names id) = refl
+none-bound (TypeBound.Lifetime id) = refl
+none-bound (TypeBound.Use args) = none-each use_calls none-use args
+none-bound TypeBound.Error = refl
 
 -- generic arguments are those of some path
 none-args : (x : GenericArgs) → none (args_calls x)
 none-args x =
     ap (flat_map pat_of_call) (sym (append-nil (args_calls x ++ []) ∙ append-nil (args_calls x)))
-    ∙ none-path (path.Normal (record { generic_args = Some x ∷ []; type_anchor = None; mod_path = record { kind = Plain; segments = [] } }))
+    ∙ none-path (Path.Normal (record { generic_args = Some x ∷ []; type_anchor = None; mod_path = record { kind = Plain; segments = [] } }))
 
 none-array : (x : Array) → none (array_calls x)
-none-array (array.ElementList elements) = none-each e (λ x. refl) elements
-none-array (array.Repeat initializer repeat) = refl
+none-array (Array.ElementList elements) = none-each e (λ x. refl) elements
+none-array (Array.Repeat initializer repeat) = refl
 
 none-spread : (x : RecordSpread) → none (spread_calls x)
-none-spread spread.None = refl
-none-spread spread.FieldDefaults = refl
-none-spread (spread.Expr id) = refl
+none-spread RecordSpread.None = refl
+none-spread RecordSpread.FieldDefaults = refl
+none-spread (RecordSpread.Expr id) = refl
 
 -- no pattern is among what a form meets in turn
 abbrev pub MeetsNone : ScopingForm → Type 0
@@ -258,29 +276,29 @@ MeetsNone (form.InTurn cs) = none cs
 MeetsNone x = none []
 
 pub expr_meets : (x : Expr) → MeetsNone (expr_form x)
-expr_meets (expr.Call callee args) = none-append (e callee) (flat_map e args) refl (none-each e (λ x. refl) args)
-expr_meets (expr.MethodCall receiver name args generic_args) =
+expr_meets (Expr.Call callee args) = none-append (e callee) (flat_map e args) refl (none-each e (λ x. refl) args)
+expr_meets (Expr.MethodCall receiver name args generic_args) =
     none-append (e receiver ++ flat_map e args) (opt args_calls generic_args)
     (none-append (e receiver) (flat_map e args) refl (none-each e (λ x. refl) args)) (none-opt args_calls none-args generic_args)
-expr_meets (expr.Break x label) = none-opt e (λ y. refl) x
-expr_meets (expr.Return x) = none-opt e (λ y. refl) x
-expr_meets (expr.Yield x) = none-opt e (λ y. refl) x
-expr_meets (expr.Yeet x) = none-opt e (λ y. refl) x
-expr_meets (expr.RecordLit path fields spread) =
+expr_meets (Expr.Break x label) = none-opt e (λ y. refl) x
+expr_meets (Expr.Return x) = none-opt e (λ y. refl) x
+expr_meets (Expr.Yield x) = none-opt e (λ y. refl) x
+expr_meets (Expr.Yeet x) = none-opt e (λ y. refl) x
+expr_meets (Expr.RecordLit path fields spread) =
     none-append (flat_map (λ field. e field.expr) fields ++ spread_calls spread) (path_calls path)
     (none-append (flat_map (λ field. e field.expr) fields) (spread_calls spread) (none-each (λ field. e field.expr) (λ x. refl) fields) (none-spread spread)) (none-path path)
-expr_meets (expr.Array x) = none-array x
-expr_meets (expr.Tuple exprs) = none-each e (λ x. refl) exprs
-expr_meets (expr.Path path) = none-path path
+expr_meets (Expr.Array x) = none-array x
+expr_meets (Expr.Tuple exprs) = none-each e (λ x. refl) exprs
+expr_meets (Expr.Path path) = none-path path
 expr_meets _ = refl
 
 pub type_meets : (x : TypeRef) → MeetsNone (type_form x)
-type_meets (type.Tuple types) = none-each t (λ x. refl) types
-type_meets (type.Path path) = none-path path
-type_meets (type.Reference reference) = none-append (t reference.ty) (opt l reference.lifetime) refl (none-opt l (λ x. refl) reference.lifetime)
-type_meets (type.Fn function) = none-each (λ entry. t entry.1) (λ x. refl) function.params
-type_meets (type.ImplTrait bounds) = none-each bound_calls none-bound bounds
-type_meets (type.DynTrait bounds) = none-each bound_calls none-bound bounds
+type_meets (TypeRef.Tuple types) = none-each t (λ x. refl) types
+type_meets (TypeRef.Path path) = none-path path
+type_meets (TypeRef.Reference reference) = none-append (t reference.ty) (opt l reference.lifetime) refl (none-opt l (λ x. refl) reference.lifetime)
+type_meets (TypeRef.Fn function) = none-each (λ entry. t entry.1) (λ x. refl) function.params
+type_meets (TypeRef.ImplTrait bounds) = none-each bound_calls none-bound bounds
+type_meets (TypeRef.DynTrait bounds) = none-each bound_calls none-bound bounds
 type_meets _ = refl
 
 -- As entries
@@ -288,16 +306,16 @@ type_meets _ = refl
 module _ (s : Nodes) where
   -- what a pattern binds, of those among nodes
   abbrev pub bound_by : NodeId → ℕ
-  bound_by (node.Pat id) = length (binds s id)
-  bound_by (node.Expr id) = 0
-  bound_by (node.TypeRef id) = 0
+  bound_by (NodeId.Pat id) = length (binds s id)
+  bound_by (NodeId.Expr id) = 0
+  bound_by (NodeId.TypeRef id) = 0
 
   abbrev weights_of : Task → ℕ
   weights_of x = sum_by count_entries (task_frames s x)
 
   -- what a task's pattern binds in a frame that the task does not open
   abbrev rest_of : Task → ℕ
-  rest_of (task.Pat id) = length (binds s id)
+  rest_of (Task.Pat id) = length (binds s id)
   rest_of x = 0
 
   pub frame_entries : (ps : List ℕ) → length (frame s ps).entries ≡ sum_by (λ q. length (binds s q)) ps
@@ -307,9 +325,9 @@ module _ (s : Nodes) where
   one_frame q = let r = frame_entries (q ∷ []) in omega (arith, r)
 
   task_bound : (x : Task) → sum_by bound_by (task_kids x) ≡ weights_of x + rest_of x
-  task_bound (task.Bound id) = let r = one_frame id in omega (arith, r)
-  task_bound (task.Arm pat expr) = let r = one_frame pat in omega (arith, r)
-  task_bound (task.GuardedArm pat guard expr) = let r = one_frame pat in omega (arith, r)
+  task_bound (Task.Bound id) = let r = one_frame id in omega (arith, r)
+  task_bound (Task.Arm pat expr) = let r = one_frame pat in omega (arith, r)
+  task_bound (Task.GuardedArm pat guard expr) = let r = one_frame pat in omega (arith, r)
   task_bound _ = refl
 
   tasks_bound : (ts : List Task) → sum_by bound_by (about ts) ≡ sum_by weights_of ts + sum_by rest_of ts
@@ -336,14 +354,13 @@ module _ (s : Nodes) where
   opt_none x = calls_none (opt e x) (none-opt e (λ y. refl) x)
 
   statement_rest : (x : Statement) → sum_by rest_of (statement_tasks x) ≡ 0
-  statement_rest (statement.Let pat ty x y) =
+  statement_rest (Statement.Let pat ty x y) =
       let cs = opt t ty ++ opt e x ++ opt e y in
-      let z = calls_none cs (none-append (opt t ty ++ opt e x) (opt e y) (none-append (opt t ty) (opt e x) (none-opt t (λ i. refl) ty) (none-opt e (λ i. refl) x)) (none-opt e (λ i. refl) y)) in
-      let r = sum_by-append rest_of (tasks_of cs) (task.Bound pat ∷ []) in
-      omega (arith, r, z)
-  statement_rest (statement.Expr x semi) = refl
-  statement_rest (statement.Item (item.MacroDef id)) = refl
-  statement_rest (statement.Item item.Other) = refl
+      let a = calls_none cs (none-append (opt t ty ++ opt e x) (opt e y) (none-append (opt t ty) (opt e x) (none-opt t (λ i. refl) ty) (none-opt e (λ i. refl) x)) (none-opt e (λ i. refl) y)) in
+      omega (arith, sum_by-append rest_of (tasks_of cs) (Task.Bound pat ∷ []), a)
+  statement_rest (Statement.Expr x semi) = refl
+  statement_rest (Statement.Item (Item.MacroDef id)) = refl
+  statement_rest (Statement.Item Item.Other) = refl
 
   statements_rest : (xs : List Statement) → sum_by rest_of (flat_map statement_tasks xs) ≡ 0
   statements_rest xs = sum_flat rest_of statement_tasks xs ∙ sum_none (λ x. sum_by rest_of (statement_tasks x)) xs statement_rest
@@ -368,43 +385,24 @@ module _ (s : Nodes) where
   -- what the frames hold that are opened as a node is met is what patterns among its tasks bind that open none
   opens_rest : (around : Around) (x : ScopingForm) → MeetsNone x → sum_by count_entries (opens_here s x) + sum_by count_entries (opens_constant x) ≡ sum_by rest_of (form_tasks around x)
   opens_rest around (form.If c y f) h =
-      let a = sum_by-append rest_of (tasks_of (e c ++ e y)) (leave around ∷ tasks_of (opt e f)) in
-      let b = sum_by-cons rest_of (leave around) (tasks_of (opt e f)) in
-      let d = calls_none (e c ++ e y) refl in
-      let g = opt_none f in
-      omega (arith, a, b, d, g)
+      let b = sum_by-append rest_of (tasks_of (e c ++ e y)) (leave around ∷ tasks_of (opt e f)) in
+      omega (arith, b, sum_by-cons rest_of (leave around) (tasks_of (opt e f)), calls_none (e c ++ e y) refl, opt_none f)
   opens_rest around (form.Block id label xs tail) h =
-      let a = sum_by-append rest_of (flat_map statement_tasks xs) (tasks_of (opt e tail) ++ leave around ∷ []) in
-      let b = sum_by-append rest_of (tasks_of (opt e tail)) (leave around ∷ []) in
-      let d = statements_rest xs in
-      let g = opt_none tail in
-      let k = constants_empty id in
-      omega (arith, a, b, d, g, k)
+      let b = sum_by-append rest_of (flat_map statement_tasks xs) (tasks_of (opt e tail) ++ leave around ∷ []) in
+      omega (arith, b, sum_by-append rest_of (tasks_of (opt e tail)) (leave around ∷ []), statements_rest xs, opt_none tail, constants_empty id)
   opens_rest around (form.Closure types ret args body) h =
       let cs = met_in_closure types ret args body in
-      let a = sum_by-append rest_of (tasks_of cs) (leave around ∷ []) in
       let b = calls_rest cs ∙ ap (λ (ps : List ℕ). sum_by (λ q. length (binds s q)) ps) (closure_pats types ret args body) in
-      let d = frame_entries args in
-      omega (arith, a, b, d)
-  opens_rest around (form.Match x arms) h =
-      let a = sum_by-cons rest_of (task.Expr x) (flat_map one_arm arms) in
-      let b = arms_rest arms in
-      omega (arith, a, b)
+      omega (arith, sum_by-append rest_of (tasks_of cs) (leave around ∷ []), b, frame_entries args)
+  opens_rest around (form.Match x arms) h = omega (arith, sum_by-cons rest_of (Task.Expr x) (flat_map one_arm arms), arms_rest arms)
   opens_rest around (form.Assignment target value) h = let r = one_frame target in omega (arith, r)
   opens_rest around (form.InTurn cs) h = let r = calls_none cs h in omega (arith, r)
   opens_rest around _ h = refl
 
   -- so a node's frames hold what the patterns among its kids bind
   pub form_entries : (around : Around) (x : ScopingForm) → MeetsNone x → sum_by count_entries (form_frames s around x) ≡ sum_by bound_by (about (form_tasks around x))
-  form_entries around x h =
-      let a = frames_split s count_entries around x in
-      let b = opens_rest around x h in
-      let d = tasks_bound (form_tasks around x) in
-      omega (arith, a, b, d)
+  form_entries around x h = omega (arith, frames_split s count_entries around x, opens_rest around x h, tasks_bound (form_tasks around x))
 
   -- what is met in turn opens no frame
   pub turn_entries : (around : Around) (cs : List Call) → sum_by count_entries (form_frames s around (form.InTurn cs)) ≡ 0
-  turn_entries around cs =
-      let a = frames_split s count_entries around (form.InTurn cs) in
-      let r = calls_open s count_entries cs in
-      omega (arith, a, r)
+  turn_entries around cs = omega (arith, frames_split s count_entries around (form.InTurn cs), calls_open s count_entries cs)

@@ -1,41 +1,28 @@
 -- How each task moves a walk on.
-use Rattle.std.proofs.Common.{◌≡◌, ℕ, suc, ◌<◌, List, [], ◌∷◌, ◌++◌, Option, Some, None, length, map, refl, sym, subst, arith, Contains, ap, ◌∙◌, ◌+◌, ◌≤◌}
-use Rattle.std.specs.List.{All, flat_map, sum_by, slice_get}
-use Rattle.std.proofs.lemmas.List.Elements.{All-nil, All-cons}
-use Rattle.std.proofs.lemmas.List.Concat.{flat_map-append}
+use Rattle.std.proofs.Common.{◌≡◌, ℕ, suc, ◌<◌, List, [], ◌∷◌, ◌++◌, Option, Some, None, length, map, refl, sym, subst, arith, Contains, ap, ◌∙◌, ◌+◌}
+use Rattle.std.proofs.lemmas.List.{Concat.flat_map-append, Elements.All-nil, Elements.All-cons}
 use Rattle.std.proofs.lemmas.List.Sorted.{IsPermutation-sym, Contains-permutation}
+use Rattle.std.specs.List.{All, flat_map, sum_by, slice_get}
 use Rattle.hir_node.specs.ChildCalls.{Call, OnLifetime, e, p, t, opt, kid, kids}
-use Rattle.hir_node.specs.declared.expr_types.Item.TheVariants as item
-use Rattle.hir_node.specs.declared.expr_types.MatchArm.{MatchArm}
-use Rattle.hir_node.specs.declared.expr_types.Statement.{Statement}
-use Rattle.hir_node.specs.declared.expr_types.Statement.TheVariants as statement
-use Rattle.hir_node.specs.declared.node_id.NodeId.{NodeId}
-use Rattle.hir_node.specs.declared.node_id.NodeId.TheVariants as node
-use Rattle.hir_faults.specs.Nodes.{Nodes, Has, kids_of}
-use Rattle.hir_faults.specs.Down.{KidsFall}
-use Rattle.hir_scope.specs.Order.{met_in_closure, met_in_form, met_in_arm}
-use Rattle.hir_scope.specs.declared.tasks.Around.{Around}
-use Rattle.hir_scope.specs.declared.tasks.Task.{Task}
-use Rattle.hir_scope.specs.declared.tasks.Task.TheVariants as task
+use Rattle.hir_node.specs.declared.expr_types.{Item.Item, MatchArm.MatchArm, Statement.Statement}
+use Rattle.hir_node.specs.declared.{node_id.NodeId.NodeId, pat.Pat.Pat, type_ref.TypeRef.TypeRef}
+use Rattle.hir_faults.specs.{Down.KidsFall, Nodes.Nodes, Nodes.Has, Nodes.kids_of}
+use Rattle.hir_scope.specs.Chains.{Place, place_kid}
 use Rattle.hir_scope.specs.Forms.{ScopingForm, form_of, form_at, pat_form, type_form}
 use Rattle.hir_scope.specs.Forms as form
-use Rattle.hir_scope.specs.Slots.{slots, slots_of_form}
-use Rattle.hir_scope.specs.walk.Pending.{tasks_of, arm_task, one_arm, guarded_task, statement_tasks, form_tasks, task_kids, leave, opens_here, opens_constant, future, arm_with, task_frames}
-use Rattle.hir_scope.specs.walk.Machine.{about, AreThere, LeavesWithin, Machine, chain_of, IsReady, total, tasks_weight, node_frames, weight_left, node_turns, task_turns, turns_left, OpensScopes, Moves}
-use Rattle.hir_scope.proofs.KidLemmas.{kids_of_form, kids_in, slots_kids, about_form}
 use Rattle.hir_scope.specs.Frames.{Chain, frame, Frame, of_kind}
 use Rattle.hir_scope.specs.Leak.{leak, leak_of_form}
-use Rattle.hir_scope.specs.Chains.{Place, place_kid}
+use Rattle.hir_scope.specs.Order.{met_in_closure, met_in_form, met_in_arm}
+use Rattle.hir_scope.specs.{Scopes.frame_of, Scopes.Scopes, Slots.slots, Slots.slots_of_form}
+use Rattle.hir_scope.specs.declared.{scope.ScopeKind.ScopeKind, tasks.Around.Around, tasks.Task.Task}
+use Rattle.hir_scope.specs.walk.Machine.{Over, Exceeds, about, AreThere, LeavesWithin, Machine, chain_of, IsReady, total, tasks_weight, node_frames, weight_left, node_turns, task_turns, turns_left, OpensScopes, Moves}
+use Rattle.hir_scope.specs.walk.Pending.{tasks_of, arm_task, one_arm, guarded_task, statement_tasks, form_tasks, task_kids, leave, opens_here, opens_constant, future, arm_with, task_frames}
 use Rattle.hir_scope.specs.walk.PlacesUnder.{place, exprs_under}
+use Rattle.hir_scope.proofs.CountLemmas.{left_cons, weight_met, turns_met}
 use Rattle.hir_scope.proofs.FutureLemmas.{future_form, turn_ended, future_arm_task}
+use Rattle.hir_scope.proofs.KidLemmas.{kids_of_form, kids_in, slots_kids, about_form}
+use Rattle.hir_scope.proofs.MovingLemmas.{over_exceeds, at, opened_none, moves_opened, moves_still}
 use Rattle.hir_scope.proofs.UnderLemmas.{leak_at, exprs_under_expr, exprs_under_pat, exprs_under_type}
-use Rattle.hir_node.specs.declared.type_ref.TypeRef.{TypeRef}
-use Rattle.hir_node.specs.declared.type_ref.TypeRef.TheVariants as type
-use Rattle.hir_node.specs.declared.pat.Pat.{Pat}
-use Rattle.hir_scope.specs.declared.scope.ScopeKind.TheVariants as kind
-use Rattle.hir_scope.specs.Scopes.{Scopes}
-use Rattle.hir_scope.proofs.WeightLemmas.{left_cons, weight_met, turns_met}
-use Rattle.hir_scope.proofs.MovingLemmas.{at, opened_none, moves_opened, moves_still}
 
 -- 1. What the tasks of a node name is there: the node's kids, and the scopes that are taken back.
 
@@ -62,16 +49,16 @@ module _ (s : Nodes) where
       (there_all (kids_in (slots s n)) (λ k m. fall.there n h k
       (Contains-permutation (kids_in (slots s n)) (kids_of s n) k (IsPermutation-sym (kids_of s n) (kids_in (slots s n)) (slots_kids s n)) m)))
 
-  pats_there : (ps : List ℕ) → AreThere s (kids (flat_map p ps)) → AreThere s (map node.Pat ps)
+  pats_there : (ps : List ℕ) → AreThere s (kids (flat_map p ps)) → AreThere s (map NodeId.Pat ps)
   pats_there [] h = tt
   pats_there (x ∷ ps) h = (h.0, pats_there ps h.1)
 
-  pub all_there : (ps : List ℕ) → AreThere s (map node.Pat ps) → All (λ p. p < length s.pats) ps
+  pub all_there : (ps : List ℕ) → AreThere s (map NodeId.Pat ps) → All (λ p. p < length s.pats) ps
   all_there [] h = All-nil (λ p. p < length s.pats)
   all_there (x ∷ ps) h = All-cons (λ p. p < length s.pats) x ps h.0 (all_there ps h.1)
 
   -- the patterns that a closure binds
-  pub closure_pats : KidsFall s → (n : NodeId) (types : List (Option ℕ)) (ret : Option ℕ) (args : List ℕ) (body : ℕ) → Has s n → form_of s n ≡ form.Closure types ret args body → AreThere s (map node.Pat args)
+  pub closure_pats : KidsFall s → (n : NodeId) (types : List (Option ℕ)) (ret : Option ℕ) (args : List ℕ) (body : ℕ) → Has s n → form_of s n ≡ form.Closure types ret args body → AreThere s (map NodeId.Pat args)
   closure_pats fall n types ret args body h q =
       let first = flat_map (opt t) types ++ opt t ret in
       let all : AreThere s (kids (met_in_closure types ret args body)) = subst (λ (x : ScopingForm). AreThere s (kids (met_in_form x))) q (kids_there fall n h) in
@@ -79,7 +66,7 @@ module _ (s : Nodes) where
       pats_there args (there_parts (kids (flat_map p args)) (kids (e body)) (subst (AreThere s) (flat_map-append kid (flat_map p args) (e body)) last)).0
 
   -- the pattern that is assigned to
-  pub target_pat : KidsFall s → (n : NodeId) (target value : ℕ) → Has s n → form_of s n ≡ form.Assignment target value → AreThere s (map node.Pat (target ∷ []))
+  pub target_pat : KidsFall s → (n : NodeId) (target value : ℕ) → Has s n → form_of s n ≡ form.Assignment target value → AreThere s (map NodeId.Pat (target ∷ []))
   target_pat fall n target value h q =
       let all : AreThere s (kids (met_in_form (form.Assignment target value))) = subst (λ (x : ScopingForm). AreThere s (kids (met_in_form x))) q (kids_there fall n h) in
       (all.0, tt)
@@ -95,7 +82,7 @@ module _ (s : Nodes) where
 module _ (n : ℕ) where
   leaves_join : (us ts : List Task) → LeavesWithin n us → LeavesWithin n ts → LeavesWithin n (us ++ ts)
   leaves_join [] ts h l = l
-  leaves_join (task.Leave a b ∷ us) ts h l = (h.0, h.1, leaves_join us ts h.2 l)
+  leaves_join (Task.Leave a b ∷ us) ts h l = (h.0, h.1, leaves_join us ts h.2 l)
   leaves_join (_ ∷ us) ts h l = leaves_join us ts h l
 
   pub leaves_calls : (cs : List Call) (ts : List Task) → LeavesWithin n ts → LeavesWithin n (tasks_of cs ++ ts)
@@ -104,10 +91,10 @@ module _ (n : ℕ) where
   leaves_calls (_ ∷ cs) ts l = leaves_calls cs ts l
 
   leaves_statement : (x : Statement) → LeavesWithin n (statement_tasks x)
-  leaves_statement (statement.Let pat ty x y) = leaves_calls (opt t ty ++ opt e x ++ opt e y) (task.Bound pat ∷ []) tt
-  leaves_statement (statement.Expr x semi) = tt
-  leaves_statement (statement.Item (item.MacroDef id)) = tt
-  leaves_statement (statement.Item item.Other) = tt
+  leaves_statement (Statement.Let pat ty x y) = leaves_calls (opt t ty ++ opt e x ++ opt e y) (Task.Bound pat ∷ []) tt
+  leaves_statement (Statement.Expr x semi) = tt
+  leaves_statement (Statement.Item (Item.MacroDef id)) = tt
+  leaves_statement (Statement.Item Item.Other) = tt
 
   leaves_statements : (xs : List Statement) → LeavesWithin n (flat_map statement_tasks xs)
   leaves_statements [] = tt
@@ -143,30 +130,30 @@ for_constants a = record { here = a.constant; constant = a.constant }
 
 module _ (s : Nodes) (fall : KidsFall s) (chain : ℕ → Chain) where
   -- an expression is met, and then what is inside it
-  pub future_expr : (a : Around) (id : ℕ) (x : ScopingForm) (ts : List Task) → Has s (node.Expr id) → form_of s (node.Expr id) ≡ x → let h = chain a.here in let k = chain a.constant in future s chain h k (task.Expr id ∷ ts) ≡ place (node.Expr id) h k ∷ future s chain (opens_here s x ++ h) (opens_constant x ++ k) (form_tasks a x ++ ts)
+  pub future_expr : (a : Around) (id : ℕ) (x : ScopingForm) (ts : List Task) → Has s (NodeId.Expr id) → form_of s (NodeId.Expr id) ≡ x → let h = chain a.here in let k = chain a.constant in future s chain h k (Task.Expr id ∷ ts) ≡ place (NodeId.Expr id) h k ∷ future s chain (opens_here s x ++ h) (opens_constant x ++ k) (form_tasks a x ++ ts)
   unfolding future
   future_expr a id x ts there is =
       let h = chain a.here in
       let k = chain a.constant in
-      ap (λ (ps : List Place). ps ++ future s chain (leak s (node.Expr id) ++ h) k ts) (exprs_under_expr s fall id h k there)
-      ∙ ap (λ (ps : List Place). place (node.Expr id) h k ∷ ps)
-      (ap (λ (c : Chain). exprs_under s (map (place_kid h k) (slots_of_form s (form_of s (node.Expr id)))) ++ future s chain (c ++ h) k ts) (leak_at s fall (node.Expr id) there)
+      ap (λ (ps : List Place). ps ++ future s chain (leak s (NodeId.Expr id) ++ h) k ts) (exprs_under_expr s fall id h k there)
+      ∙ ap (λ (ps : List Place). place (NodeId.Expr id) h k ∷ ps)
+      (ap (λ (c : Chain). exprs_under s (map (place_kid h k) (slots_of_form s (form_of s (NodeId.Expr id)))) ++ future s chain (c ++ h) k ts) (leak_at s fall (NodeId.Expr id) there)
       ∙ (ap (λ (y : ScopingForm). exprs_under s (map (place_kid h k) (slots_of_form s y)) ++ future s chain (leak_of_form s (leak s) y ++ h) k ts) is
       ∙ future_form s chain a x ts))
 
   -- a pattern is what is inside it
-  pub future_pat : (a : Around) (id : ℕ) (x : ScopingForm) (ts : List Task) → Has s (node.Pat id) → form_of s (node.Pat id) ≡ x → let h = chain a.here in let k = chain a.constant in future s chain h k (task.Pat id ∷ ts) ≡ future s chain (opens_here s x ++ h) (opens_constant x ++ k) (form_tasks a x ++ ts)
+  pub future_pat : (a : Around) (id : ℕ) (x : ScopingForm) (ts : List Task) → Has s (NodeId.Pat id) → form_of s (NodeId.Pat id) ≡ x → let h = chain a.here in let k = chain a.constant in future s chain h k (Task.Pat id ∷ ts) ≡ future s chain (opens_here s x ++ h) (opens_constant x ++ k) (form_tasks a x ++ ts)
   unfolding future
   future_pat a id x ts there is =
       let h = chain a.here in
       let k = chain a.constant in
-      ap (λ (ps : List Place). ps ++ future s chain (leak s (node.Pat id) ++ h) k ts) (exprs_under_pat s fall id h k there)
-      ∙ (ap (λ (c : Chain). exprs_under s (map (place_kid h k) (slots_of_form s (form_of s (node.Pat id)))) ++ future s chain (c ++ h) k ts) (leak_at s fall (node.Pat id) there)
+      ap (λ (ps : List Place). ps ++ future s chain (leak s (NodeId.Pat id) ++ h) k ts) (exprs_under_pat s fall id h k there)
+      ∙ (ap (λ (c : Chain). exprs_under s (map (place_kid h k) (slots_of_form s (form_of s (NodeId.Pat id)))) ++ future s chain (c ++ h) k ts) (leak_at s fall (NodeId.Pat id) there)
       ∙ (ap (λ (y : ScopingForm). exprs_under s (map (place_kid h k) (slots_of_form s y)) ++ future s chain (leak_of_form s (leak s) y ++ h) k ts) is
       ∙ future_form s chain a x ts))
 
   -- a type stands in the scope of constants
-  pub future_type : (a : Around) (id : ℕ) (x : ScopingForm) (ts : List Task) → Has s (node.TypeRef id) → form_of s (node.TypeRef id) ≡ x → let h = chain a.here in let k = chain a.constant in future s chain h k (task.TypeRef id ∷ ts) ≡ future s chain (opens_here s x ++ k) (opens_constant x ++ k) (form_tasks (for_constants a) x ++ (leave a ∷ ts))
+  pub future_type : (a : Around) (id : ℕ) (x : ScopingForm) (ts : List Task) → Has s (NodeId.TypeRef id) → form_of s (NodeId.TypeRef id) ≡ x → let h = chain a.here in let k = chain a.constant in future s chain h k (Task.TypeRef id ∷ ts) ≡ future s chain (opens_here s x ++ k) (opens_constant x ++ k) (form_tasks (for_constants a) x ++ (leave a ∷ ts))
   unfolding future
   future_type a id x ts there is =
       let h = chain a.here in
@@ -201,40 +188,33 @@ module _ (s : Nodes) where
   -- Nodes
 
   module _ (fall : KidsFall s) where
-    pub met_frames : (a : Around) (id : ℕ) (ts : List Task) → AreThere s (about (task.Expr id ∷ ts)) → (w : Frame → ℕ) →
-        sum_by w (opens_here s (form_of s (node.Expr id)) ++ opens_constant (form_of s (node.Expr id))) ≤ weight_left s w (task.Expr id ∷ ts)
-    met_frames a id ts k w =
-        let m = weight_met s fall w a (node.Expr id) ts k.0 in
-        let c = weight_cons w (task.Expr id) ts in
-        omega (arith, m, c)
+    pub met_over : (S : Scopes) (a : Around) (id : ℕ) (ts : List Task) → AreThere s (about (Task.Expr id ∷ ts)) →
+        Over (map frame_of S.scopes ++ (opens_here s (form_of s (NodeId.Expr id)) ++ opens_constant (form_of s (NodeId.Expr id)))) →
+        Exceeds s (at S a (Task.Expr id ∷ ts))
+    met_over S a id ts k =
+        over_exceeds s S a (Task.Expr id ∷ ts) (opens_here s (form_of s (NodeId.Expr id)) ++ opens_constant (form_of s (NodeId.Expr id)))
+        (λ w. omega (arith, weight_met s fall w a (NodeId.Expr id) ts k.0, weight_cons w (Task.Expr id) ts))
 
-    pub expr_moves : (S : Scopes) (a : Around) (id : ℕ) (ts us : List Task) (new : Machine) → us ≡ form_tasks a (form_of s (node.Expr id)) ++ ts →
-        OpensScopes (at S a us) new (opens_here s (form_of s (node.Expr id))) (opens_constant (form_of s (node.Expr id))) →
-        IsReady s (at S a (task.Expr id ∷ ts)) →
-        Moves s (at S a (task.Expr id ∷ ts)) new (place (node.Expr id) (chain_of S.scopes a.here) (chain_of S.scopes a.constant) ∷ [])
+    pub expr_moves : (S : Scopes) (a : Around) (id : ℕ) (ts us : List Task) (new : Machine) → us ≡ form_tasks a (form_of s (NodeId.Expr id)) ++ ts →
+        OpensScopes (at S a us) new (opens_here s (form_of s (NodeId.Expr id))) (opens_constant (form_of s (NodeId.Expr id))) →
+        IsReady s (at S a (Task.Expr id ∷ ts)) →
+        Moves s (at S a (Task.Expr id ∷ ts)) new (place (NodeId.Expr id) (chain_of S.scopes a.here) (chain_of S.scopes a.constant) ∷ [])
     expr_moves S a id ts us new e o r =
-        let n = node.Expr id in
+        let n = NodeId.Expr id in
         let x = form_of s n in
         let h = chain_of S.scopes a.here in
         let k = chain_of S.scopes a.constant in
-        moves_opened s S a (task.Expr id) ts us new (opens_here s x) (opens_constant x) (place n h k ∷ []) o r
+        moves_opened s S a (Task.Expr id) ts us new (opens_here s x) (opens_constant x) (place n h k ∷ []) o r
         (subst (LeavesWithin (length S.scopes)) (sym e) (leaves_met (length S.scopes) a x ts r.here r.constant r.leaves))
         (subst (λ (vs : List Task). AreThere s (about vs)) (sym e) (known_met s fall a n ts r.known.0 r.known.1))
         (future_expr s fall (chain_of S.scopes) a id x ts r.known.0 refl
         ∙ ap (λ (vs : List Task). place n h k ∷ future s (chain_of S.scopes) (opens_here s x ++ h) (opens_constant x ++ k) vs) (sym e))
-        (λ w.
-        let m = weight_met s fall w a n ts r.known.0 in
-        let c = weight_cons w (task.Expr id) ts in
-        let q = ap (weight_left s w) e in
-        omega (arith, m, c, q))
-        (let m = turns_met s fall a n ts r.known.0 in
-        let c = turns_cons (task.Expr id) ts in
-        let q = ap (turns_left s) e in
-        omega (arith, m, c, q))
+        (λ w. omega (arith, weight_met s fall w a n ts r.known.0, weight_cons w (Task.Expr id) ts, ap (weight_left s w) e))
+        (omega (arith, turns_met s fall a n ts r.known.0, turns_cons (Task.Expr id) ts, ap (turns_left s) e))
 
     -- an expression in which nothing is
-    pub empty_moves : (S : Scopes) (a : Around) (id : ℕ) (ts : List Task) → form_of s (node.Expr id) ≡ form.InTurn [] → IsReady s (at S a (task.Expr id ∷ ts)) →
-        Moves s (at S a (task.Expr id ∷ ts)) (at S a ts) (place (node.Expr id) (chain_of S.scopes a.here) (chain_of S.scopes a.constant) ∷ [])
+    pub empty_moves : (S : Scopes) (a : Around) (id : ℕ) (ts : List Task) → form_of s (NodeId.Expr id) ≡ form.InTurn [] → IsReady s (at S a (Task.Expr id ∷ ts)) →
+        Moves s (at S a (Task.Expr id ∷ ts)) (at S a ts) (place (NodeId.Expr id) (chain_of S.scopes a.here) (chain_of S.scopes a.constant) ∷ [])
     empty_moves S a id ts e r =
         expr_moves S a id ts ts (at S a ts) (ap (λ (x : ScopingForm). form_tasks a x ++ ts) (sym e))
         (subst (λ (x : ScopingForm). OpensScopes (at S a ts) (at S a ts) (opens_here s x) (opens_constant x)) (sym e) (opened_none (at S a ts) r.here r.constant)) r
@@ -245,18 +225,18 @@ module _ (s : Nodes) where
 
     type_opens : (x : Option TypeRef) → (opens_here s (form_at type_form x) ≡ []) × (opens_constant (form_at type_form x) ≡ [])
     type_opens None = (refl, refl)
-    type_opens (Some (type.PatternType id pat)) = (refl, refl)
+    type_opens (Some (TypeRef.PatternType id pat)) = (refl, refl)
     type_opens (Some _) = (refl, refl)
 
-    pub pat_moves : (S : Scopes) (a : Around) (id : ℕ) (ts us : List Task) → us ≡ form_tasks a (form_of s (node.Pat id)) ++ ts →
-        IsReady s (at S a (task.Pat id ∷ ts)) → Moves s (at S a (task.Pat id ∷ ts)) (at S a us) []
+    pub pat_moves : (S : Scopes) (a : Around) (id : ℕ) (ts us : List Task) → us ≡ form_tasks a (form_of s (NodeId.Pat id)) ++ ts →
+        IsReady s (at S a (Task.Pat id ∷ ts)) → Moves s (at S a (Task.Pat id ∷ ts)) (at S a us) []
     pat_moves S a id ts us e r =
-        let n = node.Pat id in
+        let n = NodeId.Pat id in
         let x = form_of s n in
         let h = chain_of S.scopes a.here in
         let k = chain_of S.scopes a.constant in
         let none = pat_opens (slice_get s.pats id) in
-        moves_still s S a a (task.Pat id) ts us r r.here r.constant
+        moves_still s S a a (Task.Pat id) ts us r r.here r.constant
         (subst (LeavesWithin (length S.scopes)) (sym e) (leaves_met (length S.scopes) a x ts r.here r.constant r.leaves))
         (subst (λ (vs : List Task). AreThere s (about vs)) (sym e) (known_met s fall a n ts r.known.0 r.known.1))
         (future_pat s fall (chain_of S.scopes) a id x ts r.known.0 refl
@@ -264,25 +244,20 @@ module _ (s : Nodes) where
         ∙ (ap (λ (c : Chain). future s (chain_of S.scopes) h (c ++ k) (form_tasks a x ++ ts)) none.1
         ∙ ap (λ (vs : List Task). future s (chain_of S.scopes) h k vs) (sym e))))
         (λ w.
-        let m = weight_met s fall w a n ts r.known.0 in
-        let c = weight_cons w (task.Pat id) ts in
-        let q = ap (weight_left s w) e in
-        let z = ap (λ (c : Chain). sum_by w (c ++ opens_constant x)) none.0 ∙ ap (sum_by w) none.1 in
-        omega (arith, m, c, q, z))
-        (let m = turns_met s fall a n ts r.known.0 in
-        let c = turns_cons (task.Pat id) ts in
-        let q = ap (turns_left s) e in
-        omega (arith, m, c, q))
+        let c = weight_cons w (Task.Pat id) ts in
+        let b = ap (λ (c : Chain). sum_by w (c ++ opens_constant x)) none.0 ∙ ap (sum_by w) none.1 in
+        omega (arith, weight_met s fall w a n ts r.known.0, c, ap (weight_left s w) e, b))
+        (omega (arith, turns_met s fall a n ts r.known.0, turns_cons (Task.Pat id) ts, ap (turns_left s) e))
 
-    pub type_moves : (S : Scopes) (a : Around) (id : ℕ) (ts us : List Task) → us ≡ form_tasks (for_constants a) (form_of s (node.TypeRef id)) ++ (leave a ∷ ts) →
-        IsReady s (at S a (task.TypeRef id ∷ ts)) → Moves s (at S a (task.TypeRef id ∷ ts)) (at S (for_constants a) us) []
+    pub type_moves : (S : Scopes) (a : Around) (id : ℕ) (ts us : List Task) → us ≡ form_tasks (for_constants a) (form_of s (NodeId.TypeRef id)) ++ (leave a ∷ ts) →
+        IsReady s (at S a (Task.TypeRef id ∷ ts)) → Moves s (at S a (Task.TypeRef id ∷ ts)) (at S (for_constants a) us) []
     type_moves S a id ts us e r =
-        let n = node.TypeRef id in
+        let n = NodeId.TypeRef id in
         let x = form_of s n in
         let b : Around = for_constants a in
         let k = chain_of S.scopes a.constant in
         let none = type_opens (slice_get s.types id) in
-        moves_still s S a b (task.TypeRef id) ts us r r.constant r.constant
+        moves_still s S a b (Task.TypeRef id) ts us r r.constant r.constant
         (subst (LeavesWithin (length S.scopes)) (sym e) (leaves_met (length S.scopes) b x (leave a ∷ ts) r.constant r.constant (r.here, r.constant, r.leaves)))
         (subst (λ (vs : List Task). AreThere s (about vs)) (sym e) (known_met s fall b n (leave a ∷ ts) r.known.0 r.known.1))
         (future_type s fall (chain_of S.scopes) a id x ts r.known.0 refl
@@ -290,41 +265,25 @@ module _ (s : Nodes) where
         ∙ (ap (λ (c : Chain). future s (chain_of S.scopes) k (c ++ k) (form_tasks b x ++ (leave a ∷ ts))) none.1
         ∙ ap (λ (vs : List Task). future s (chain_of S.scopes) k k vs) (sym e))))
         (λ w.
-        let m = weight_met s fall w b n (leave a ∷ ts) r.known.0 in
-        let c = weight_cons w (task.TypeRef id) ts in
-        let l = weight_cons w (leave a) ts in
-        let q = ap (weight_left s w) e in
-        let z = ap (λ (c : Chain). sum_by w (c ++ opens_constant x)) none.0 ∙ ap (sum_by w) none.1 in
-        omega (arith, m, c, l, q, z))
-        (let m = turns_met s fall b n (leave a ∷ ts) r.known.0 in
-        let c = turns_cons (task.TypeRef id) ts in
-        let l = turns_cons (leave a) ts in
-        let q = ap (turns_left s) e in
-        omega (arith, m, c, l, q))
+        let c = weight_cons w (Task.TypeRef id) ts in
+        let d = ap (λ (c : Chain). sum_by w (c ++ opens_constant x)) none.0 ∙ ap (sum_by w) none.1 in
+        omega (arith, weight_met s fall w b n (leave a ∷ ts) r.known.0, c, weight_cons w (leave a) ts, ap (weight_left s w) e, d))
+        (omega (arith, turns_met s fall b n (leave a ∷ ts) r.known.0, turns_cons (Task.TypeRef id) ts, turns_cons (leave a) ts, ap (turns_left s) e))
 
   -- Other tasks
 
-  pub constant_moves : (S : Scopes) (a : Around) (id : ℕ) (ts us : List Task) → us ≡ task.Expr id ∷ leave a ∷ ts →
-      IsReady s (at S a (task.Constant id ∷ ts)) → Moves s (at S a (task.Constant id ∷ ts)) (at S (for_constants a) us) []
+  pub constant_moves : (S : Scopes) (a : Around) (id : ℕ) (ts us : List Task) → us ≡ Task.Expr id ∷ leave a ∷ ts →
+      IsReady s (at S a (Task.Constant id ∷ ts)) → Moves s (at S a (Task.Constant id ∷ ts)) (at S (for_constants a) us) []
   unfolding future
   constant_moves S a id ts us e r =
       let b : Around = record { here = a.constant; constant = a.constant } in
       let k = chain_of S.scopes a.constant in
-      moves_still s S a b (task.Constant id) ts us r r.constant r.constant
+      moves_still s S a b (Task.Constant id) ts us r r.constant r.constant
       (subst (LeavesWithin (length S.scopes)) (sym e) (r.here, r.constant, r.leaves))
       (subst (λ (vs : List Task). AreThere s (about vs)) (sym e) r.known)
       (ap (λ (vs : List Task). future s (chain_of S.scopes) k k vs) (sym e))
-      (λ w.
-      let c = weight_cons w (task.Constant id) ts in
-      let d = weight_cons w (task.Expr id) (leave a ∷ ts) in
-      let l = weight_cons w (leave a) ts in
-      let q = ap (weight_left s w) e in
-      omega (arith, c, d, l, q))
-      (let c = turns_cons (task.Constant id) ts in
-      let d = turns_cons (task.Expr id) (leave a ∷ ts) in
-      let l = turns_cons (leave a) ts in
-      let q = ap (turns_left s) e in
-      omega (arith, c, d, l, q))
+      (λ w. omega (arith, weight_cons w (Task.Constant id) ts, weight_cons w (Task.Expr id) (leave a ∷ ts), weight_cons w (leave a) ts, ap (weight_left s w) e))
+      (omega (arith, turns_cons (Task.Constant id) ts, turns_cons (Task.Expr id) (leave a ∷ ts), turns_cons (leave a) ts, ap (turns_left s) e))
 
   pub leave_moves : (S : Scopes) (a b : Around) (ts : List Task) → IsReady s (at S a (leave b ∷ ts)) → Moves s (at S a (leave b ∷ ts)) (at S b ts) []
   unfolding future
@@ -333,48 +292,36 @@ module _ (s : Nodes) where
       (λ w. let l = weight_cons w (leave b) ts in omega (arith, l))
       (let l = turns_cons (leave b) ts in omega (arith, l))
 
-  pub bound_frames : (id : ℕ) (ts : List Task) (w : Frame → ℕ) → sum_by w (frame s (id ∷ []) ∷ []) ≤ weight_left s w (task.Bound id ∷ ts)
-  bound_frames id ts w = let c = weight_cons w (task.Bound id) ts in omega (arith, c)
+  pub bound_over : (S : Scopes) (a : Around) (id : ℕ) (ts : List Task) → Over (map frame_of S.scopes ++ frame s (id ∷ []) ∷ []) → Exceeds s (at S a (Task.Bound id ∷ ts))
+  bound_over S a id ts = over_exceeds s S a (Task.Bound id ∷ ts) (frame s (id ∷ []) ∷ []) (λ w. omega (arith, weight_cons w (Task.Bound id) ts))
 
-  pub bound_moves : (S : Scopes) (a : Around) (id : ℕ) (ts us : List Task) (new : Machine) → us ≡ task.Pat id ∷ ts → OpensScopes (at S a us) new (frame s (id ∷ []) ∷ []) [] →
-      IsReady s (at S a (task.Bound id ∷ ts)) → Moves s (at S a (task.Bound id ∷ ts)) new []
+  pub bound_moves : (S : Scopes) (a : Around) (id : ℕ) (ts us : List Task) (new : Machine) → us ≡ Task.Pat id ∷ ts → OpensScopes (at S a us) new (frame s (id ∷ []) ∷ []) [] →
+      IsReady s (at S a (Task.Bound id ∷ ts)) → Moves s (at S a (Task.Bound id ∷ ts)) new []
   unfolding future
   bound_moves S a id ts us new e o r =
       let h = chain_of S.scopes a.here in
       let k = chain_of S.scopes a.constant in
-      moves_opened s S a (task.Bound id) ts us new (frame s (id ∷ []) ∷ []) [] [] o r
+      moves_opened s S a (Task.Bound id) ts us new (frame s (id ∷ []) ∷ []) [] [] o r
       (subst (LeavesWithin (length S.scopes)) (sym e) r.leaves)
       (subst (λ (vs : List Task). AreThere s (about vs)) (sym e) r.known)
       (ap (λ (vs : List Task). future s (chain_of S.scopes) (frame s (id ∷ []) ∷ h) k vs) (sym e))
-      (λ w.
-      let c = weight_cons w (task.Bound id) ts in
-      let d = weight_cons w (task.Pat id) ts in
-      let q = ap (weight_left s w) e in
-      omega (arith, c, d, q))
-      (let c = turns_cons (task.Bound id) ts in
-      let d = turns_cons (task.Pat id) ts in
-      let q = ap (turns_left s) e in
-      omega (arith, c, d, q))
+      (λ w. omega (arith, weight_cons w (Task.Bound id) ts, weight_cons w (Task.Pat id) ts, ap (weight_left s w) e))
+      (omega (arith, turns_cons (Task.Bound id) ts, turns_cons (Task.Pat id) ts, ap (turns_left s) e))
 
   -- the tasks of an arm
   abbrev pub in_arm : ℕ → Option ℕ → ℕ → Task → List Task → List Task
-  in_arm pat guard expr last ts = task.Pat pat ∷ (tasks_of (opt e guard) ++ (task.Expr expr ∷ last ∷ ts))
+  in_arm pat guard expr last ts = Task.Pat pat ∷ (tasks_of (opt e guard) ++ (Task.Expr expr ∷ last ∷ ts))
 
-  left_arm : (u : NodeId → ℕ) (v : Task → ℕ) (pat : ℕ) (guard : Option ℕ) (expr : ℕ) (a : Around) (ts : List Task) → v (task.Pat pat) ≡ 0 → ((x : ℕ) → v (task.Expr x) ≡ 0) →
+  left_arm : (u : NodeId → ℕ) (v : Task → ℕ) (pat : ℕ) (guard : Option ℕ) (expr : ℕ) (a : Around) (ts : List Task) → v (Task.Pat pat) ≡ 0 → ((x : ℕ) → v (Task.Expr x) ≡ 0) →
       tasks_weight s u v (guarded_task pat expr guard ∷ ts) + v (leave a) ≡ v (guarded_task pat expr guard) + tasks_weight s u v (in_arm pat guard expr (leave a) ts)
   left_arm u v pat None expr a ts z y =
-      let c = left_cons s u v (task.Arm pat expr) ts in
-      let d = left_cons s u v (task.Pat pat) (task.Expr expr ∷ leave a ∷ ts) in
-      let f = left_cons s u v (task.Expr expr) (leave a ∷ ts) in
-      let l = left_cons s u v (leave a) ts in
-      omega (arith, c, d, f, l, z, y expr)
+      let b = left_cons s u v (Task.Pat pat) (Task.Expr expr ∷ leave a ∷ ts) in
+      omega (arith, left_cons s u v (Task.Arm pat expr) ts, b, left_cons s u v (Task.Expr expr) (leave a ∷ ts), left_cons s u v (leave a) ts, z, y expr)
   left_arm u v pat (Some guard) expr a ts z y =
-      let c = left_cons s u v (task.GuardedArm pat guard expr) ts in
-      let d = left_cons s u v (task.Pat pat) (task.Expr guard ∷ task.Expr expr ∷ leave a ∷ ts) in
-      let g = left_cons s u v (task.Expr guard) (task.Expr expr ∷ leave a ∷ ts) in
-      let f = left_cons s u v (task.Expr expr) (leave a ∷ ts) in
-      let l = left_cons s u v (leave a) ts in
-      omega (arith, c, d, g, f, l, z, y expr, y guard)
+      let f = left_cons s u v (Task.GuardedArm pat guard expr) ts in
+      let b = left_cons s u v (Task.Pat pat) (Task.Expr guard ∷ Task.Expr expr ∷ leave a ∷ ts) in
+      let d = left_cons s u v (Task.Expr guard) (Task.Expr expr ∷ leave a ∷ ts) in
+      omega (arith, f, b, d, left_cons s u v (Task.Expr expr) (leave a ∷ ts), left_cons s u v (leave a) ts, z, y expr, y guard)
 
   arm_weight : (w : Frame → ℕ) (pat expr : ℕ) (guard : Option ℕ) → frame_weight w (guarded_task pat expr guard) ≡ sum_by w (frame s (pat ∷ []) ∷ [])
   arm_weight w pat expr None = refl
@@ -397,11 +344,10 @@ module _ (s : Nodes) where
   arm_future fall chain pat expr None a ts = future_arm s fall chain a (arm_with pat expr None) ts
   arm_future fall chain pat expr (Some guard) a ts = future_arm s fall chain a (arm_with pat expr (Some guard)) ts
 
-  pub arm_frames : (pat expr : ℕ) (guard : Option ℕ) (ts : List Task) (w : Frame → ℕ) → sum_by w (frame s (pat ∷ []) ∷ []) ≤ weight_left s w (guarded_task pat expr guard ∷ ts)
-  arm_frames pat expr guard ts w =
-      let c = weight_cons w (guarded_task pat expr guard) ts in
-      let q = arm_weight w pat expr guard in
-      omega (arith, c, q)
+  pub arm_over : (S : Scopes) (a : Around) (pat expr : ℕ) (guard : Option ℕ) (ts : List Task) → Over (map frame_of S.scopes ++ frame s (pat ∷ []) ∷ []) → Exceeds s (at S a (guarded_task pat expr guard ∷ ts))
+  arm_over S a pat expr guard ts =
+      over_exceeds s S a (guarded_task pat expr guard ∷ ts) (frame s (pat ∷ []) ∷ [])
+      (λ w. omega (arith, weight_cons w (guarded_task pat expr guard) ts, arm_weight w pat expr guard))
 
   pub arm_moves : KidsFall s → (S : Scopes) (a : Around) (pat expr : ℕ) (guard : Option ℕ) (ts us : List Task) (new : Machine) → us ≡ in_arm pat guard expr (leave a) ts →
       OpensScopes (at S a us) new (frame s (pat ∷ []) ∷ []) [] → IsReady s (at S a (guarded_task pat expr guard ∷ ts)) → Moves s (at S a (guarded_task pat expr guard ∷ ts)) new []
@@ -413,24 +359,19 @@ module _ (s : Nodes) where
       (subst (LeavesWithin (length S.scopes)) (sym e) (arm_leaves (length S.scopes) pat expr guard a ts r.here r.constant r.leaves))
       (subst (λ (vs : List Task). AreThere s (about vs)) (sym e) (arm_known pat expr guard a ts r.known))
       (arm_future fall (chain_of S.scopes) pat expr guard a ts ∙ ap (λ (vs : List Task). future s (chain_of S.scopes) (frame s (pat ∷ []) ∷ h) k vs) (sym e))
-      (λ w.
-      let c = left_arm (node_weight w) (frame_weight w) pat guard expr a ts refl (λ x. refl) in
-      let q = arm_weight w pat expr guard in
-      let j = ap (weight_left s w) e in
-      omega (arith, c, q, j))
-      (let c = left_arm (node_turns s) task_turns pat guard expr a ts refl (λ x. refl) in
-      let q = arm_turns pat expr guard in
-      let j = ap (turns_left s) e in
-      omega (arith, c, q, j))
+      (λ w. omega (arith, left_arm (node_weight w) (frame_weight w) pat guard expr a ts refl (λ x. refl), arm_weight w pat expr guard, ap (weight_left s w) e))
+      (omega (arith, left_arm (node_turns s) task_turns pat guard expr a ts refl (λ x. refl), arm_turns pat expr guard, ap (turns_left s) e))
 
-  pub macro_frames : (id : ℕ) (ts : List Task) (w : Frame → ℕ) → let f = of_kind (kind.MacroDef id) in sum_by w (f ∷ f ∷ []) ≤ weight_left s w (task.MacroDef id ∷ ts)
-  macro_frames id ts w = let c = weight_cons w (task.MacroDef id) ts in omega (arith, c)
+  pub macro_over : (S : Scopes) (a : Around) (id : ℕ) (ts : List Task) → let f = of_kind (ScopeKind.MacroDef id) in Over (map frame_of S.scopes ++ f ∷ f ∷ []) → Exceeds s (at S a (Task.MacroDef id ∷ ts))
+  macro_over S a id ts =
+      let f = of_kind (ScopeKind.MacroDef id) in
+      over_exceeds s S a (Task.MacroDef id ∷ ts) (f ∷ f ∷ []) (λ w. omega (arith, weight_cons w (Task.MacroDef id) ts))
 
-  pub macro_moves : (S : Scopes) (a : Around) (id : ℕ) (ts : List Task) (new : Machine) → OpensScopes (at S a ts) new (of_kind (kind.MacroDef id) ∷ []) (of_kind (kind.MacroDef id) ∷ []) →
-      IsReady s (at S a (task.MacroDef id ∷ ts)) → Moves s (at S a (task.MacroDef id ∷ ts)) new []
+  pub macro_moves : (S : Scopes) (a : Around) (id : ℕ) (ts : List Task) (new : Machine) → OpensScopes (at S a ts) new (of_kind (ScopeKind.MacroDef id) ∷ []) (of_kind (ScopeKind.MacroDef id) ∷ []) →
+      IsReady s (at S a (Task.MacroDef id ∷ ts)) → Moves s (at S a (Task.MacroDef id ∷ ts)) new []
   unfolding future
   macro_moves S a id ts new o r =
-      let f = of_kind (kind.MacroDef id) in
-      moves_opened s S a (task.MacroDef id) ts ts new (f ∷ []) (f ∷ []) [] o r r.leaves r.known refl
-      (λ w. let c = weight_cons w (task.MacroDef id) ts in omega (arith, c))
-      (let c = turns_cons (task.MacroDef id) ts in omega (arith, c))
+      let f = of_kind (ScopeKind.MacroDef id) in
+      moves_opened s S a (Task.MacroDef id) ts ts new (f ∷ []) (f ∷ []) [] o r r.leaves r.known refl
+      (λ w. let c = weight_cons w (Task.MacroDef id) ts in omega (arith, c))
+      (let c = turns_cons (Task.MacroDef id) ts in omega (arith, c))

@@ -1,32 +1,21 @@
 -- What tasks will meet: of a form, and of the tops of a body or a signature.
 use Rattle.std.proofs.Common.{◌≡◌, ℕ, List, [], ◌∷◌, ◌++◌, map, refl, sym, ap, ◌∙◌, append_assoc, Option, Some, None, suc, ◌<◌, ◌≤◌, length, arith}
-use Rattle.std.specs.List.{flat_map}
 use Rattle.std.proofs.lemmas.List.{append-nil, map-append}
-use Rattle.std.proofs.lemmas.List.Concat.{flat_map-append}
-use Rattle.std.proofs.lemmas.List.Elements.{filter-append}
+use Rattle.std.proofs.lemmas.List.{Concat.flat_map-append, Elements.filter-append}
+use Rattle.std.specs.{List.flat_map, Option.option_to_list, Option.option_map}
 use Rattle.hir_node.specs.ChildCalls.{Call, OnExpr, OnAnonConst, OnPat, OnType, OnLifetime, e, p, t, opt, kids}
-use Rattle.hir_node.specs.declared.expr_types.Item.TheVariants as item
-use Rattle.hir_node.specs.declared.expr_types.MatchArm.{MatchArm}
-use Rattle.hir_node.specs.declared.expr_types.Statement.{Statement}
-use Rattle.hir_node.specs.declared.expr_types.Statement.TheVariants as statement
-use Rattle.hir_node.specs.declared.node_id.NodeId.TheVariants as node
-use Rattle.hir_faults.specs.Nodes.{Nodes}
-use Rattle.hir_scope.specs.Order.{met_in_arm, met_in_closure}
-use Rattle.hir_scope.specs.declared.tasks.Around.{Around}
-use Rattle.hir_scope.specs.declared.tasks.Task.{Task}
-use Rattle.hir_scope.specs.declared.tasks.Task.TheVariants as task
-use Rattle.hir_scope.specs.Frames.{Frame, Chain, frame, of_kind, empty}
-use Rattle.hir_scope.specs.Forms.{ScopingForm}
-use Rattle.hir_scope.specs.Forms as form
-use Rattle.hir_scope.specs.Leak.{leak, leaks, leak_of_form}
-use Rattle.hir_scope.specs.Slots.{Slot, call_slot, in_turn, own_frame, block_constants, frames_behind, constants_behind, statement_slots, block_slots, arm_slots, loop_kind, slots_of_form}
-use Rattle.hir_scope.specs.Chains.{Place, place_kid}
-use Rattle.hir_scope.specs.walk.PlacesUnder.{place, exprs_under}
-use Rattle.hir_scope.specs.walk.Pending.{tasks_of, arm_task, one_arm, arm_with, leave, statement_tasks, form_tasks, opens_here, opens_constant, future}
-use Rattle.std.specs.Option.{option_to_list, option_map}
+use Rattle.hir_node.specs.declared.expr_types.{Item.Item, MatchArm.MatchArm, Statement.Statement}
 use Rattle.hir_node.specs.declared.node_id.NodeId.{NodeId}
+use Rattle.hir_faults.specs.Nodes.{Nodes}
+use Rattle.hir_scope.specs.{Chains.Place, Chains.place_kid, Forms.ScopingForm}
+use Rattle.hir_scope.specs.Forms as form
+use Rattle.hir_scope.specs.Frames.{Frame, Chain, frame, of_kind, empty}
+use Rattle.hir_scope.specs.{Leak.leak, Leak.leaks, Leak.leak_of_form, Order.met_in_arm, Order.met_in_closure}
+use Rattle.hir_scope.specs.Slots.{Slot, call_slot, in_turn, own_frame, block_constants, frames_behind, constants_behind, statement_slots, block_slots, arm_slots, loop_kind, slots_of_form}
 use Rattle.hir_scope.specs.Tops.{root_frame, body_tops, signature_tops}
-use Rattle.hir_scope.specs.walk.Begins.{root_tasks}
+use Rattle.hir_scope.specs.{declared.tasks.Around.Around, declared.tasks.Task.Task, walk.Begins.root_tasks}
+use Rattle.hir_scope.specs.walk.Pending.{tasks_of, arm_task, one_arm, arm_with, leave, statement_tasks, form_tasks, opens_here, opens_constant, future}
+use Rattle.hir_scope.specs.walk.PlacesUnder.{place, exprs_under}
 use Rattle.hir_scope.proofs.KidLemmas.{kids_in, turn_kids}
 
 -- 1. What is still to do before a task is what it does, and then what is still to do after it.
@@ -59,33 +48,33 @@ module _ (s : Nodes) (chain : ℕ → Chain) where
   unfolding future
   future_turn h k constants add [] ts = none _
   future_turn h k constants add (OnExpr x ∷ cs) ts =
-      let l = leak s (node.Expr x) in
+      let l = leak s (NodeId.Expr x) in
       let K = constants ++ k in
       let ps = map (place_kid h k) (in_turn s constants (l ++ add) cs) in
-      head (place (node.Expr x) (add ++ h) K) ps _
-      ∙ ap (λ (qs : List Place). exprs_under s (place (node.Expr x) (add ++ h) K ∷ []) ++ qs)
+      head (place (NodeId.Expr x) (add ++ h) K) ps _
+      ∙ ap (λ (qs : List Place). exprs_under s (place (NodeId.Expr x) (add ++ h) K ∷ []) ++ qs)
       (ap (λ (c : Chain). exprs_under s ps ++ future s chain (c ++ h) K ts) (append_assoc (leaks (leak s) cs) l add)
       ∙ (future_turn h k constants (l ++ add) cs ts ∙ ap (λ (c : Chain). future s chain c K (tasks_of cs ++ ts)) (append_assoc l add h)))
   future_turn h k constants add (OnAnonConst x ∷ cs) ts =
       let K = constants ++ k in
       let ps = map (place_kid h k) (in_turn s constants add cs) in
-      head (place (node.Expr x) K K) ps _
-      ∙ ap (λ (qs : List Place). exprs_under s (place (node.Expr x) K K ∷ []) ++ qs)
+      head (place (NodeId.Expr x) K K) ps _
+      ∙ ap (λ (qs : List Place). exprs_under s (place (NodeId.Expr x) K K ∷ []) ++ qs)
       (ap (λ (c : Chain). exprs_under s ps ++ future s chain (c ++ h) K ts) (append_assoc (leaks (leak s) cs) [] add)
       ∙ future_turn h k constants add cs ts)
   future_turn h k constants add (OnPat x ∷ cs) ts =
-      let l = leak s (node.Pat x) in
+      let l = leak s (NodeId.Pat x) in
       let K = constants ++ k in
       let ps = map (place_kid h k) (in_turn s constants (l ++ add) cs) in
-      head (place (node.Pat x) (add ++ h) K) ps _
-      ∙ ap (λ (qs : List Place). exprs_under s (place (node.Pat x) (add ++ h) K ∷ []) ++ qs)
+      head (place (NodeId.Pat x) (add ++ h) K) ps _
+      ∙ ap (λ (qs : List Place). exprs_under s (place (NodeId.Pat x) (add ++ h) K ∷ []) ++ qs)
       (ap (λ (c : Chain). exprs_under s ps ++ future s chain (c ++ h) K ts) (append_assoc (leaks (leak s) cs) l add)
       ∙ (future_turn h k constants (l ++ add) cs ts ∙ ap (λ (c : Chain). future s chain c K (tasks_of cs ++ ts)) (append_assoc l add h)))
   future_turn h k constants add (OnType x ∷ cs) ts =
       let K = constants ++ k in
       let ps = map (place_kid h k) (in_turn s constants add cs) in
-      head (place (node.TypeRef x) K K) ps _
-      ∙ ap (λ (qs : List Place). exprs_under s (place (node.TypeRef x) K K ∷ []) ++ qs)
+      head (place (NodeId.TypeRef x) K K) ps _
+      ∙ ap (λ (qs : List Place). exprs_under s (place (NodeId.TypeRef x) K K ∷ []) ++ qs)
       (ap (λ (c : Chain). exprs_under s ps ++ future s chain (c ++ h) K ts) (append_assoc (leaks (leak s) cs) [] add)
       ∙ future_turn h k constants add cs ts)
   future_turn h k constants add (OnLifetime x ∷ cs) ts =
@@ -114,19 +103,19 @@ module _ (s : Nodes) (chain : ℕ → Chain) where
   moved : (h k constants outer add : Chain) (cs : List Call) → map (place_kid h k) (in_turn s constants (add ++ outer) cs) ≡ map (place_kid (outer ++ h) k) (in_turn s constants add cs)
   moved h k constants outer add [] = refl
   moved h k constants outer add (OnExpr x ∷ cs) =
-      let l = leak s (node.Expr x) in
+      let l = leak s (NodeId.Expr x) in
       let r = ap (λ (c : Chain). map (place_kid h k) (in_turn s constants c cs)) (sym (append_assoc l add outer)) ∙ moved h k constants outer (l ++ add) cs in
-      ap (λ (c : Chain). place (node.Expr x) c (constants ++ k) ∷ map (place_kid h k) (in_turn s constants (l ++ (add ++ outer)) cs)) (append_assoc add outer h)
-      ∙ ap (λ (ps : List Place). place (node.Expr x) (add ++ (outer ++ h)) (constants ++ k) ∷ ps) r
+      ap (λ (c : Chain). place (NodeId.Expr x) c (constants ++ k) ∷ map (place_kid h k) (in_turn s constants (l ++ (add ++ outer)) cs)) (append_assoc add outer h)
+      ∙ ap (λ (ps : List Place). place (NodeId.Expr x) (add ++ (outer ++ h)) (constants ++ k) ∷ ps) r
   moved h k constants outer add (OnAnonConst x ∷ cs) =
-      ap (λ (ps : List Place). place (node.Expr x) (constants ++ k) (constants ++ k) ∷ ps) (moved h k constants outer add cs)
+      ap (λ (ps : List Place). place (NodeId.Expr x) (constants ++ k) (constants ++ k) ∷ ps) (moved h k constants outer add cs)
   moved h k constants outer add (OnPat x ∷ cs) =
-      let l = leak s (node.Pat x) in
+      let l = leak s (NodeId.Pat x) in
       let r = ap (λ (c : Chain). map (place_kid h k) (in_turn s constants c cs)) (sym (append_assoc l add outer)) ∙ moved h k constants outer (l ++ add) cs in
-      ap (λ (c : Chain). place (node.Pat x) c (constants ++ k) ∷ map (place_kid h k) (in_turn s constants (l ++ (add ++ outer)) cs)) (append_assoc add outer h)
-      ∙ ap (λ (ps : List Place). place (node.Pat x) (add ++ (outer ++ h)) (constants ++ k) ∷ ps) r
+      ap (λ (c : Chain). place (NodeId.Pat x) c (constants ++ k) ∷ map (place_kid h k) (in_turn s constants (l ++ (add ++ outer)) cs)) (append_assoc add outer h)
+      ∙ ap (λ (ps : List Place). place (NodeId.Pat x) (add ++ (outer ++ h)) (constants ++ k) ∷ ps) r
   moved h k constants outer add (OnType x ∷ cs) =
-      ap (λ (ps : List Place). place (node.TypeRef x) (constants ++ k) (constants ++ k) ∷ ps) (moved h k constants outer add cs)
+      ap (λ (ps : List Place). place (NodeId.TypeRef x) (constants ++ k) (constants ++ k) ∷ ps) (moved h k constants outer add cs)
   moved h k constants outer add (OnLifetime x ∷ cs) = moved h k constants outer add cs
 
   pub future_arm_task : (h k : Chain) (pat expr : ℕ) (guard : Option ℕ) (ts : List Task) → future s chain h k (arm_task (arm_with pat expr guard) ∷ ts) ≡ exprs_under s (map (place_kid h k) (arm_slots s [] (arm_with pat expr guard))) ++ future s chain h k ts
@@ -153,19 +142,19 @@ module _ (s : Nodes) (chain : ℕ → Chain) where
 
   future_statement : (h k constants add : Chain) (x : Statement) (ts : List Task) → exprs_under s (map (place_kid h k) (statement_slots s constants add x)) ++ future s chain ((frames_behind s x ++ add) ++ h) ((constants_behind x ++ constants) ++ k) ts ≡ future s chain (add ++ h) (constants ++ k) (statement_tasks x ++ ts)
   unfolding future
-  future_statement h k constants add (statement.Let pat ty x y) ts =
+  future_statement h k constants add (Statement.Let pat ty x y) ts =
       let cs = opt t ty ++ opt e x ++ opt e y in
       let ls = leaks (leak s) (opt e x ++ opt e y) in
       let f = frame s (pat ∷ []) in
       let K = constants ++ k in
       two h k (in_turn s constants add cs) (in_turn s constants (f ∷ (ls ++ add)) (p pat)) _
-      ∙ (ap (λ (c : Chain). exprs_under s (map (place_kid h k) (in_turn s constants add cs)) ++ (exprs_under s (place (node.Pat pat) (f ∷ ((ls ++ add) ++ h)) K ∷ []) ++ future s chain c K ts)) (let_chain (leak s (node.Pat pat)) f ls add h)
-      ∙ (ap (λ (c : Chain). exprs_under s (map (place_kid h k) (in_turn s constants add cs)) ++ future s chain ((c ++ add) ++ h) K (task.Bound pat ∷ ts)) (sym (leaks_let ty x y))
-      ∙ (future_turn h k constants add cs (task.Bound pat ∷ ts)
-      ∙ ap (λ (us : List Task). future s chain (add ++ h) K us) (sym (append_assoc (tasks_of cs) (task.Bound pat ∷ []) ts)))))
-  future_statement h k constants add (statement.Expr x semi) ts = future_turn h k constants add (e x) ts
-  future_statement h k constants add (statement.Item (item.MacroDef m)) ts = none _
-  future_statement h k constants add (statement.Item item.Other) ts = none _
+      ∙ (ap (λ (c : Chain). exprs_under s (map (place_kid h k) (in_turn s constants add cs)) ++ (exprs_under s (place (NodeId.Pat pat) (f ∷ ((ls ++ add) ++ h)) K ∷ []) ++ future s chain c K ts)) (let_chain (leak s (NodeId.Pat pat)) f ls add h)
+      ∙ (ap (λ (c : Chain). exprs_under s (map (place_kid h k) (in_turn s constants add cs)) ++ future s chain ((c ++ add) ++ h) K (Task.Bound pat ∷ ts)) (sym (leaks_let ty x y))
+      ∙ (future_turn h k constants add cs (Task.Bound pat ∷ ts)
+      ∙ ap (λ (us : List Task). future s chain (add ++ h) K us) (sym (append_assoc (tasks_of cs) (Task.Bound pat ∷ []) ts)))))
+  future_statement h k constants add (Statement.Expr x semi) ts = future_turn h k constants add (e x) ts
+  future_statement h k constants add (Statement.Item (Item.MacroDef m)) ts = none _
+  future_statement h k constants add (Statement.Item Item.Other) ts = none _
 
   future_block : (h k constants add : Chain) (a : Around) (xs : List Statement) (tail : Option ℕ) (ts : List Task) → chain a.here ≡ h → chain a.constant ≡ k → exprs_under s (map (place_kid h k) (block_slots s constants add xs tail)) ++ future s chain h k ts ≡ future s chain (add ++ h) (constants ++ k) ((flat_map statement_tasks xs ++ (tasks_of (opt e tail) ++ leave a ∷ [])) ++ ts)
   unfolding future
@@ -199,10 +188,10 @@ module _ (s : Nodes) (chain : ℕ → Chain) where
   future_form a (form.Let pat x) ts =
       let h = chain a.here in
       let k = chain a.constant in
-      let l = leak s (node.Expr x) in
+      let l = leak s (NodeId.Expr x) in
       let f = frame s (pat ∷ []) in
-      head (place (node.Expr x) h k) (place (node.Pat pat) (f ∷ (l ++ h)) k ∷ []) _
-      ∙ ap (λ (c : Chain). exprs_under s (place (node.Expr x) h k ∷ []) ++ (exprs_under s (place (node.Pat pat) (f ∷ (l ++ h)) k ∷ []) ++ future s chain c k ts)) (append_assoc (leak s (node.Pat pat)) (f ∷ l) h)
+      head (place (NodeId.Expr x) h k) (place (NodeId.Pat pat) (f ∷ (l ++ h)) k ∷ []) _
+      ∙ ap (λ (c : Chain). exprs_under s (place (NodeId.Expr x) h k ∷ []) ++ (exprs_under s (place (NodeId.Pat pat) (f ∷ (l ++ h)) k ∷ []) ++ future s chain c k ts)) (append_assoc (leak s (NodeId.Pat pat)) (f ∷ l) h)
   future_form a (form.Block id label xs tail) ts = future_block (chain a.here) (chain a.constant) (block_constants id) (own_frame id label ∷ []) a xs tail ts refl refl
   future_form a (form.Loop label body) ts = turn_ended (chain a.here) (chain a.constant) [] (of_kind (loop_kind label) ∷ []) (e body) a ts refl refl
   future_form a (form.Closure types ret args body) ts =
@@ -213,17 +202,17 @@ module _ (s : Nodes) (chain : ℕ → Chain) where
   future_form a (form.Match x arms) ts =
       let h = chain a.here in
       let k = chain a.constant in
-      let l = leak s (node.Expr x) in
+      let l = leak s (NodeId.Expr x) in
       two h k (in_turn s [] [] (e x)) (flat_map (arm_slots s l) arms) _
-      ∙ ap (λ (ps : List Place). exprs_under s (place (node.Expr x) h k ∷ []) ++ ps) (future_arms h k l arms ts)
+      ∙ ap (λ (ps : List Place). exprs_under s (place (NodeId.Expr x) h k ∷ []) ++ ps) (future_arms h k l arms ts)
   future_form a (form.Assignment target value) ts =
       let h = chain a.here in
       let k = chain a.constant in
-      head (place (node.Pat target) (frame s (target ∷ []) ∷ h) k) (place (node.Expr value) h k ∷ []) _
+      head (place (NodeId.Pat target) (frame s (target ∷ []) ∷ h) k) (place (NodeId.Expr value) h k ∷ []) _
   future_form a (form.PatternType ty pat) ts =
       let h = chain a.here in
       let k = chain a.constant in
-      head (place (node.TypeRef ty) k k) (place (node.Pat pat) (frame s (pat ∷ []) ∷ h) k ∷ []) _
+      head (place (NodeId.TypeRef ty) k k) (place (NodeId.Pat pat) (frame s (pat ∷ []) ∷ h) k ∷ []) _
   future_form a (form.InTurn cs) ts = turn_bare (chain a.here) (chain a.constant) cs ts
 
 -- 2. The tops of a body and of a signature: which nodes they are, and that the tasks of a walk over them meet what is under them.
@@ -232,14 +221,14 @@ nodes_of_placed : (h k : Chain) (xs : List Slot) → map (λ (at : Place). at.no
 nodes_of_placed h k [] = refl
 nodes_of_placed h k (x ∷ xs) = ap (λ (ns : List NodeId). x.kid ∷ ns) (nodes_of_placed h k xs)
 
-pub top_kids : (formals : List ℕ) (last : Option ℕ) → kids (flat_map p formals ++ opt e last) ≡ map node.Pat formals ++ option_to_list (option_map node.Expr last)
+pub top_kids : (formals : List ℕ) (last : Option ℕ) → kids (flat_map p formals ++ opt e last) ≡ map NodeId.Pat formals ++ option_to_list (option_map NodeId.Expr last)
 top_kids [] None = refl
 top_kids [] (Some root) = refl
-top_kids (x ∷ formals) last = ap (λ (ns : List NodeId). node.Pat x ∷ ns) (top_kids formals last)
+top_kids (x ∷ formals) last = ap (λ (ns : List NodeId). NodeId.Pat x ∷ ns) (top_kids formals last)
 
 -- Bodies
 
-pub body_top_nodes : (s : Nodes) (self : Option ℕ) (formals : List ℕ) (last : Option ℕ) → map (λ (at : Place). at.node) (body_tops s self formals last) ≡ map node.Pat formals ++ option_to_list (option_map node.Expr last)
+pub body_top_nodes : (s : Nodes) (self : Option ℕ) (formals : List ℕ) (last : Option ℕ) → map (λ (at : Place). at.node) (body_tops s self formals last) ≡ map NodeId.Pat formals ++ option_to_list (option_map NodeId.Expr last)
 unfolding body_tops
 body_top_nodes s self formals last =
     let root = root_frame s self formals ∷ [] in
@@ -258,10 +247,10 @@ body_future s chain self formals last =
 
 -- Signatures
 
-pub signature_top_nodes : (roots : List ℕ) → map (λ (at : Place). at.node) (signature_tops roots) ≡ map node.Expr roots
+pub signature_top_nodes : (roots : List ℕ) → map (λ (at : Place). at.node) (signature_tops roots) ≡ map NodeId.Expr roots
 unfolding signature_tops
 signature_top_nodes [] = refl
-signature_top_nodes (root ∷ roots) = ap (λ (ns : List NodeId). node.Expr root ∷ ns) (signature_top_nodes roots)
+signature_top_nodes (root ∷ roots) = ap (λ (ns : List NodeId). NodeId.Expr root ∷ ns) (signature_top_nodes roots)
 
 pub signature_future : (s : Nodes) (chain : ℕ → Chain) (here constant : Chain) (roots : List ℕ) → ((k : ℕ) → 0 < k → k ≤ length roots → chain k ≡ empty ∷ empty ∷ []) → future s chain here constant (root_tasks roots) ≡ exprs_under s (signature_tops roots)
 unfolding signature_tops future
@@ -269,7 +258,7 @@ signature_future s chain here constant [] h = sym (exprs_under-nil s)
 signature_future s chain here constant (root ∷ roots) h =
     let c = empty ∷ empty ∷ [] in
     let at : chain (suc (length roots)) ≡ c = h (suc (length roots)) (omega arith) (omega arith) in
-    ap (λ (x : Chain). exprs_under s (place (node.Expr root) x x ∷ []) ++ future s chain (leak s (node.Expr root) ++ x) x (root_tasks roots)) at
-    ∙ (ap (λ (ps : List Place). exprs_under s (place (node.Expr root) c c ∷ []) ++ ps)
-    (signature_future s chain (leak s (node.Expr root) ++ c) c roots (λ k l m. h k l (omega (arith, m))))
-    ∙ sym (exprs_under-append s (place (node.Expr root) c c ∷ []) (signature_tops roots)))
+    ap (λ (x : Chain). exprs_under s (place (NodeId.Expr root) x x ∷ []) ++ future s chain (leak s (NodeId.Expr root) ++ x) x (root_tasks roots)) at
+    ∙ (ap (λ (ps : List Place). exprs_under s (place (NodeId.Expr root) c c ∷ []) ++ ps)
+    (signature_future s chain (leak s (NodeId.Expr root) ++ c) c roots (λ k l m. h k l (omega (arith, m))))
+    ∙ sym (exprs_under-append s (place (NodeId.Expr root) c c ∷ []) (signature_tops roots)))

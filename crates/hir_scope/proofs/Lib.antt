@@ -3,9 +3,7 @@ pub mod FutureLemmas
 pub mod MovingLemmas
 pub mod KidLemmas
 pub mod UnderLemmas
-pub mod WeightLemmas
 pub mod PutLemmas
-pub mod TryLemmas
 pub mod SameLemmas
 pub mod PathLemmas
 pub mod ResolveLemmas

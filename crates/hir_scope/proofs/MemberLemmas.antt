@@ -1,7 +1,7 @@
 -- Members of lists: what is in a list that is joined, mapped or filtered; and sums over lists.
 use Rattle.std.proofs.Common.{◌≡◌, ℕ, suc, zero, ◌<◌, List, [], ◌∷◌, ◌++◌, ◌+◌, map, length, refl, sym, ap, ◌∙◌, arith, Some, subst, inl, inr, ◌⊎◌, ⊎_elim, Bool, true, false, cond, Contains}
-use Rattle.std.specs.List.{All, flat_map, filter, slice_get, slice_index_or, sum_by}
 use Rattle.std.proofs.lemmas.List.Sums.{sum_by-append, sum_by-cons}
+use Rattle.std.specs.List.{flat_map, filter, slice_get, slice_index_or, sum_by}
 use Rattle.hir_node.specs.declared.node_id.NodeId.{NodeId}
 use Rattle.hir_faults.specs.Down.{AgreeOn}
 
@@ -39,13 +39,7 @@ in_flat_map f x y (z ∷ xs) h i =
 
 pub flat_map_in : {X Y : Type 0} (f : X → List Y) (y : Y) (xs : List X) → In y (flat_map f xs) → (x : X) × In x xs × In y (f x)
 flat_map_in f y [] h = absurd h
-flat_map_in f y (z ∷ xs) h =
-    ⊎_elim (λ a. (z, inl refl, a)) (λ b. let r = flat_map_in f y xs b in (r.0, inr r.1, r.2)) (in_append y (f z) (flat_map f xs) h)
-
-pub read : {X : Type 0} (xs : List X) (i : ℕ) → i < length xs → (x : X) × (slice_get xs i ≡ Some x)
-read [] i h = absurd (omega (arith, h))
-read (x ∷ xs) zero h = (x, refl)
-read (x ∷ xs) (suc i) h = read xs i (omega (arith, h))
+flat_map_in f y (z ∷ xs) h = ⊎_elim (λ a. (z, inl refl, a)) (λ b. let r = flat_map_in f y xs b in (r.0, inr r.1, r.2)) (in_append y (f z) (flat_map f xs) h)
 
 pub get_in : {X : Type 0} (xs : List X) (x : X) → In x xs → (k : ℕ) × (slice_get xs k ≡ Some x)
 get_in [] x h = absurd h
@@ -65,8 +59,7 @@ in_kept test x y ys false e h t = ⊎_elim (λ q. absurd (let r : test y ≡ tru
 
 pub in_filter : {X : Type 0} (test : X → Bool) (x : X) (xs : List X) → In x xs → test x ≡ true → In x (filter test xs)
 in_filter test x [] h t = absurd h
-in_filter test x (y ∷ xs) h t =
-    in_kept test x y (filter test xs) (test y) refl (⊎_elim (λ e. inl e) (λ r. inr (in_filter test x xs r t)) h) t
+in_filter test x (y ∷ xs) h t = in_kept test x y (filter test xs) (test y) refl (⊎_elim (λ e. inl e) (λ r. inr (in_filter test x xs r t)) h) t
 
 kept_in : {X : Type 0} (test : X → Bool) (x y : X) (ys : List X) (b : Bool) → test y ≡ b → In x (cond b (y ∷ ys) ys) → ((y ≡ x) × (test x ≡ true)) ⊎ In x ys
 kept_in test x y ys true t h = ⊎_elim (λ e. inl (e, ap test (sym e) ∙ t)) (λ r. inr r) h
@@ -77,10 +70,6 @@ filter_in test x [] h = absurd h
 filter_in test x (y ∷ xs) h =
     ⊎_elim (λ e. (inl e.0, e.1)) (λ r. let i = filter_in test x xs r in (inr i.0, i.1)) (kept_in test x y (filter test xs) (test y) refl h)
 
-pub in_all : {X : Type 0} (P : X → Type 0) (x : X) (xs : List X) → All P xs → In x xs → P x
-in_all P x [] a h = absurd h
-in_all P x (y ∷ xs) a h = ⊎_elim (λ e. subst P e (a 0 y (omega arith))) (λ r. in_all P x xs (λ k d l. a (suc k) d (omega arith)) r) h
-
 -- what agrees on some nodes does so on each
 pub agree_in : {A : Type 0} (f g : NodeId → A) (xs : List NodeId) → AgreeOn f g xs → (x : NodeId) → In x xs → f x ≡ g x
 agree_in f g [] h x i = absurd i
@@ -90,37 +79,19 @@ agree_in f g (y ∷ xs) h x i = ⊎_elim (λ e. subst (λ z. f z ≡ g z) e h.0)
 
 pub sum_flat : {X Y : Type 0} (f : Y → ℕ) (g : X → List Y) (xs : List X) → sum_by f (flat_map g xs) ≡ sum_by (λ x. sum_by f (g x)) xs
 sum_flat f g [] = refl
-sum_flat f g (x ∷ xs) =
-    let a = sum_by-append f (g x) (flat_map g xs) in
-    let b = sum_flat f g xs in
-    let d = sum_by-cons (λ y. sum_by f (g y)) x xs in
-    omega (arith, a, b, d)
+sum_flat f g (x ∷ xs) = omega (arith, sum_by-append f (g x) (flat_map g xs), sum_flat f g xs, sum_by-cons (λ y. sum_by f (g y)) x xs)
 
 pub sum_same : {X : Type 0} (f g : X → ℕ) (xs : List X) → ((x : X) → In x xs → f x ≡ g x) → sum_by f xs ≡ sum_by g xs
 sum_same f g [] h = refl
-sum_same f g (x ∷ xs) h =
-    let a = sum_by-cons f x xs in
-    let b = sum_by-cons g x xs in
-    let d = h x (inl refl) in
-    let r = sum_same f g xs (λ y i. h y (inr i)) in
-    omega (arith, a, b, d, r)
+sum_same f g (x ∷ xs) h = omega (arith, sum_by-cons f x xs, sum_by-cons g x xs, h x (inl refl), sum_same f g xs (λ y i. h y (inr i)))
 
 pub sum_mapped : {X Y : Type 0} (f : Y → ℕ) (g : X → Y) (xs : List X) → sum_by f (map g xs) ≡ sum_by (λ x. f (g x)) xs
 sum_mapped f g [] = refl
-sum_mapped f g (x ∷ xs) =
-    let a = sum_by-cons f (g x) (map g xs) in
-    let b = sum_by-cons (λ y. f (g y)) x xs in
-    let r = sum_mapped f g xs in
-    omega (arith, a, b, r)
+sum_mapped f g (x ∷ xs) = omega (arith, sum_by-cons f (g x) (map g xs), sum_by-cons (λ y. f (g y)) x xs, sum_mapped f g xs)
 
 pub sum_plus : {X : Type 0} (f g : X → ℕ) (xs : List X) → sum_by (λ x. f x + g x) xs ≡ sum_by f xs + sum_by g xs
 sum_plus f g [] = refl
-sum_plus f g (x ∷ xs) =
-    let a = sum_by-cons f x xs in
-    let b = sum_by-cons g x xs in
-    let d = sum_by-cons (λ y. f y + g y) x xs in
-    let r = sum_plus f g xs in
-    omega (arith, a, b, d, r)
+sum_plus f g (x ∷ xs) = omega (arith, sum_by-cons f x xs, sum_by-cons g x xs, sum_by-cons (λ y. f y + g y) x xs, sum_plus f g xs)
 
 pub sum_none : {X : Type 0} (f : X → ℕ) (xs : List X) → ((x : X) → f x ≡ 0) → sum_by f xs ≡ 0
 sum_none f [] h = refl
@@ -128,8 +99,4 @@ sum_none f (x ∷ xs) h = let a = sum_by-cons f x xs in let b = h x in let r = s
 
 pub sum_ones : {X : Type 0} (f : X → ℕ) (xs : List X) → ((x : X) → In x xs → f x ≡ 1) → sum_by f xs ≡ length xs
 sum_ones f [] h = refl
-sum_ones f (x ∷ xs) h =
-    let a = sum_by-cons f x xs in
-    let b = h x (inl refl) in
-    let r = sum_ones f xs (λ y i. h y (inr i)) in
-    omega (arith, a, b, r)
+sum_ones f (x ∷ xs) h = omega (arith, sum_by-cons f x xs, h x (inl refl), sum_ones f xs (λ y i. h y (inr i)))

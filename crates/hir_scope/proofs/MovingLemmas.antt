@@ -1,49 +1,40 @@
 -- How a walk goes on: scopes that are added and opened, a task that is done, and what is done in all.
-use Rattle.std.proofs.Common.{◌≡◌, ℕ, zero, suc, ◌+◌, ◌<◌, ◌≤◌, List, [], ◌∷◌, ◌++◌, Option, Some, None, map, length, refl, ap, ◌∙◌, arith, sym, append_assoc, subst, length-append, inl, inr, ◌⊎◌, ⊎_elim}
-use Rattle.std.specs.Prelude.{Result, Ok, Err, IfOk}
-use Rattle.std.specs.List.{slice_get, flat_map, sum_by, All}
-use Rattle.std.proofs.lemmas.List.{length_push, append-nil, length-map, map-append}
-use Rattle.hir_node.specs.declared.node_id.NodeId.TheVariants as node
-use Rattle.hir_faults.specs.TestedParts.{all_of}
-use Rattle.hir_faults.specs.Nodes.{Nodes}
-use Rattle.hir_scope.specs.declared.scope.ScopeKind.TheVariants as kind
-use Rattle.hir_scope.specs.declared.tasks.Task.{Task}
-use Rattle.hir_scope.specs.declared.tasks.Task.TheVariants as task
-use Rattle.hir_scope.specs.Frames.{Frame, Chain, frame, of_kind}
-use Rattle.hir_scope.specs.Leak.{leak}
-use Rattle.hir_scope.specs.Slots.{arm_slots}
-use Rattle.hir_scope.specs.Chains.{Place, place_kid, within_own}
-use Rattle.hir_scope.specs.walk.PlacesUnder.{place, exprs_under}
-use Rattle.hir_scope.specs.Scopes.{Scope, frame_of, Scopes, entry_count}
-use Rattle.hir_scope.specs.Paths.{path, frame_at, chain}
-use Rattle.hir_scope.specs.walk.Pending.{future, arm_with, opens_here}
-use Rattle.hir_scope.specs.walk.Machine.{chain_of, LeavesWithin, HasFrames, Machine, here_of, constant_of, future_of, about, AreThere, IsReady, weight_left, one, count_entries, Over, Exceeds, turns_left, OpensScopes, Moves, scope_within, ScopeGift, place_given, write_all, IsRight, Progress, Goes}
-use Rattle.hir_scope.proofs.MemberLemmas.{sum_mapped, sum_ones}
-use Rattle.hir_scope.proofs.PathLemmas.{path_kept, path_new, path_members}
+use Rattle.std.proofs.Common.{◌≡◌, ℕ, suc, ◌+◌, ◌<◌, ◌≤◌, List, [], ◌∷◌, ◌++◌, Option, Some, None, map, length, refl, ap, ◌∙◌, arith, sym, append_assoc, subst, length-append, inl, inr, ◌⊎◌, ⊎_elim}
+use Rattle.std.proofs.lemmas.List.{get_or_append_left, get_or_push, length_push, append-nil, length-map, map-append}
+use Rattle.std.proofs.lemmas.List.Elements.{All-nil, All-cons, All-append, All-weaker}
 use Rattle.std.proofs.lemmas.List.Sums.{sum_by-append, sum_by-cons}
-use Rattle.hir_scope.specs.declared.scope.ScopeEntry.{ScopeEntry}
-use Rattle.hir_scope.specs.declared.scope.ScopeKind.{ScopeKind}
-use Rattle.hir_scope.specs.declared.tasks.Around.{Around}
+use Rattle.std.proofs.lemmas.{Option.slice_get-get_or, Result.on_ok_weaker}
+use Rattle.std.specs.FinMap as finmap
+use Rattle.std.specs.List.{slice_get, flat_map, sum_by, All}
+use Rattle.std.specs.{Ordering.nat_cmp, Prelude.Result, Prelude.OnOk}
+use Rattle.hir_node.specs.declared.node_id.NodeId.{NodeId}
+use Rattle.hir_faults.specs.{Nodes.Nodes, TestedParts.all_of}
+use Rattle.hir_faults.proofs.SoundLemmas.{item_at}
+use Rattle.hir_scope.specs.Chains.{Place, place_kid, within_own}
 use Rattle.hir_scope.specs.Forms.{ScopingForm, form_of}
 use Rattle.hir_scope.specs.Forms as form
-use Rattle.std.specs.Ordering.{nat_cmp}
-use Rattle.std.specs.FinMap as finmap
-use Rattle.std.proofs.lemmas.List.Elements.{All-nil, All-cons, All-append, All-weaker}
+use Rattle.hir_scope.specs.Frames.{Frame, Chain, frame, of_kind}
+use Rattle.hir_scope.specs.{Leak.leak, Paths.path, Paths.frame_at, Paths.chain}
+use Rattle.hir_scope.specs.{Scopes.Scope, Scopes.frame_of, Scopes.Scopes, Scopes.entry_count, Slots.arm_slots}
+use Rattle.hir_scope.specs.declared.scope.{ScopeEntry.ScopeEntry, ScopeKind.ScopeKind}
+use Rattle.hir_scope.specs.declared.{tasks.Around.Around, tasks.Task.Task, walk.Walk.Walk}
+use Rattle.hir_scope.specs.walk.Machine.{doing, chain_of, LeavesWithin, HasFrames, Machine, here_of, constant_of, future_of, about, AreThere, IsReady, weight_left, one, count_entries, Over, Exceeds, turns_left, OpensScopes, Moves, scope_within, ScopeGift, place_given, write_all, IsRight, Progress, Goes}
+use Rattle.hir_scope.specs.walk.Pending.{future, arm_with, opens_here}
+use Rattle.hir_scope.specs.walk.PlacesUnder.{place, exprs_under}
+use Rattle.hir_scope.proofs.MemberLemmas.{sum_mapped, sum_ones}
+use Rattle.hir_scope.proofs.PathLemmas.{path_kept, path_new, path_members}
 
 -- 1. Later scopes change nothing: no chain of an earlier scope, and nothing of what is still to do.
 
 -- Chains
 
 slice_kept : {X : Type 0} (xs ys : List X) (i : ℕ) → i < length xs → slice_get (xs ++ ys) i ≡ slice_get xs i
-slice_kept [] ys i h = absurd (omega (arith, h))
-slice_kept (x ∷ xs) ys zero h = refl
-slice_kept (x ∷ xs) ys (suc i) h = slice_kept xs ys i (omega (arith, h))
+slice_kept xs ys i h =
+    let x = (item_at xs i h).0 in
+    slice_get-get_or (xs ++ ys) i x (omega (arith, h, length-append xs ys)) ∙ (ap Some (get_or_append_left xs ys x i h) ∙ sym (slice_get-get_or xs i x h))
 
 slice_last : {X : Type 0} (xs : List X) (x : X) (i : ℕ) → i ≡ length xs → slice_get (xs ++ x ∷ []) i ≡ Some x
-slice_last [] x zero h = refl
-slice_last [] x (suc i) h = absurd (omega (arith, h))
-slice_last (y ∷ xs) x zero h = absurd (omega (arith, h))
-slice_last (y ∷ xs) x (suc i) h = slice_last xs x i (omega (arith, h))
+slice_last xs x i h = slice_get-get_or (xs ++ x ∷ []) i x (omega (arith, h, length_push xs x)) ∙ ap Some (get_or_push xs x x i (sym h))
 
 abbrev frames_of : Option Scope → List Frame
 frames_of o = all_of (λ s. frame_of s ∷ []) o
@@ -60,8 +51,7 @@ path_frames_kept scopes more o = frames_kept scopes more (path scopes o) (path_m
 
 -- later scopes change no chain
 pub chain_kept : (scopes more : List Scope) (s : ℕ) → s < length scopes → chain_of (scopes ++ more) s ≡ chain_of scopes s
-chain_kept scopes more s h =
-    ap (flat_map (frame_at (scopes ++ more))) (path_kept scopes more (Some s) h) ∙ path_frames_kept scopes more (Some s)
+chain_kept scopes more s h = ap (flat_map (frame_at (scopes ++ more))) (path_kept scopes more (Some s) h) ∙ path_frames_kept scopes more (Some s)
 
 -- the chain of one scope more
 pub chain_new : (scopes : List Scope) (x : Scope) (s : ℕ) → s ≡ length scopes → chain_of (scopes ++ x ∷ []) s ≡ frame_of x ∷ chain scopes x.parent
@@ -72,41 +62,34 @@ chain_new scopes x s e =
 
 pub frames_grown : (scopes grown more : List Scope) (s : ℕ) (frames : Chain) → grown ≡ scopes ++ more → HasFrames scopes s frames → HasFrames grown s frames
 frames_grown scopes grown more s frames e h =
-    rw e (record { within = below_joined scopes more s h.within; is = chain_kept scopes more s h.within ∙ h.is }) where
-      below_joined : (xs ys : List Scope) (i : ℕ) → i < length xs → i < length (xs ++ ys)
-      below_joined [] ys i l = absurd (omega (arith, l))
-      below_joined (x ∷ xs) ys zero l = omega arith
-      below_joined (x ∷ xs) ys (suc i) l = let r = below_joined xs ys i (omega (arith, l)) in omega (arith, r)
+    rw e (record { within = omega (arith, h.within, length-append scopes more); is = chain_kept scopes more s h.within ∙ h.is })
 
 -- What is still to do
 
 pub leaves_more : (m n : ℕ) (ts : List Task) → m ≤ n → LeavesWithin m ts → LeavesWithin n ts
 leaves_more m n [] l h = tt
-leaves_more m n (task.Leave a b ∷ ts) l h = (omega (arith, l, h.0), omega (arith, l, h.1), leaves_more m n ts l h.2)
+leaves_more m n (Task.Leave a b ∷ ts) l h = (omega (arith, l, h.0), omega (arith, l, h.1), leaves_more m n ts l h.2)
 leaves_more m n (_ ∷ ts) l h = leaves_more m n ts l h
 
 -- the chains of scopes that are taken back are all that is asked of them
 pub future_agrees : (s : Nodes) (f g : ℕ → Chain) (n : ℕ) → ((i : ℕ) → i < n → f i ≡ g i) → (h k : Chain) (ts : List Task) → LeavesWithin n ts → future s f h k ts ≡ future s g h k ts
 unfolding future
 future_agrees s f g n agree h k [] l = refl
-future_agrees s f g n agree h k (task.Expr id ∷ ts) l = ap (λ (ps : List Place). exprs_under s (place (node.Expr id) h k ∷ []) ++ ps) (future_agrees s f g n agree (leak s (node.Expr id) ++ h) k ts l)
-future_agrees s f g n agree h k (task.Constant id ∷ ts) l = ap (λ (ps : List Place). exprs_under s (place (node.Expr id) k k ∷ []) ++ ps) (future_agrees s f g n agree h k ts l)
-future_agrees s f g n agree h k (task.Pat id ∷ ts) l = ap (λ (ps : List Place). exprs_under s (place (node.Pat id) h k ∷ []) ++ ps) (future_agrees s f g n agree (leak s (node.Pat id) ++ h) k ts l)
-future_agrees s f g n agree h k (task.TypeRef id ∷ ts) l = ap (λ (ps : List Place). exprs_under s (place (node.TypeRef id) k k ∷ []) ++ ps) (future_agrees s f g n agree h k ts l)
-future_agrees s f g n agree h k (task.Bound id ∷ ts) l =
-    ap (λ (ps : List Place). exprs_under s (place (node.Pat id) (frame s (id ∷ []) ∷ h) k ∷ []) ++ ps) (future_agrees s f g n agree (leak s (node.Pat id) ++ (frame s (id ∷ []) ∷ h)) k ts l)
-future_agrees s f g n agree h k (task.Arm p x ∷ ts) l =
+future_agrees s f g n agree h k (Task.Expr id ∷ ts) l = ap (λ (ps : List Place). exprs_under s (place (NodeId.Expr id) h k ∷ []) ++ ps) (future_agrees s f g n agree (leak s (NodeId.Expr id) ++ h) k ts l)
+future_agrees s f g n agree h k (Task.Constant id ∷ ts) l = ap (λ (ps : List Place). exprs_under s (place (NodeId.Expr id) k k ∷ []) ++ ps) (future_agrees s f g n agree h k ts l)
+future_agrees s f g n agree h k (Task.Pat id ∷ ts) l = ap (λ (ps : List Place). exprs_under s (place (NodeId.Pat id) h k ∷ []) ++ ps) (future_agrees s f g n agree (leak s (NodeId.Pat id) ++ h) k ts l)
+future_agrees s f g n agree h k (Task.TypeRef id ∷ ts) l = ap (λ (ps : List Place). exprs_under s (place (NodeId.TypeRef id) k k ∷ []) ++ ps) (future_agrees s f g n agree h k ts l)
+future_agrees s f g n agree h k (Task.Bound id ∷ ts) l =
+    ap (λ (ps : List Place). exprs_under s (place (NodeId.Pat id) (frame s (id ∷ []) ∷ h) k ∷ []) ++ ps) (future_agrees s f g n agree (leak s (NodeId.Pat id) ++ (frame s (id ∷ []) ∷ h)) k ts l)
+future_agrees s f g n agree h k (Task.Arm p x ∷ ts) l =
     ap (λ (ps : List Place). exprs_under s (map (place_kid h k) (arm_slots s [] (arm_with p x None))) ++ ps) (future_agrees s f g n agree h k ts l)
-future_agrees s f g n agree h k (task.GuardedArm p y x ∷ ts) l =
+future_agrees s f g n agree h k (Task.GuardedArm p y x ∷ ts) l =
     ap (λ (ps : List Place). exprs_under s (map (place_kid h k) (arm_slots s [] (arm_with p x (Some y)))) ++ ps) (future_agrees s f g n agree h k ts l)
-future_agrees s f g n agree h k (task.MacroDef id ∷ ts) l = future_agrees s f g n agree (of_kind (kind.MacroDef id) ∷ h) (of_kind (kind.MacroDef id) ∷ k) ts l
-future_agrees s f g n agree h k (task.Leave a b ∷ ts) l =
+future_agrees s f g n agree h k (Task.MacroDef id ∷ ts) l = future_agrees s f g n agree (of_kind (ScopeKind.MacroDef id) ∷ h) (of_kind (ScopeKind.MacroDef id) ∷ k) ts l
+future_agrees s f g n agree h k (Task.Leave a b ∷ ts) l =
     ap (λ (c : Chain). future s f c (f b) ts) (agree a l.0)
     ∙ (ap (λ (c : Chain). future s f (g a) c ts) (agree b l.1)
     ∙ future_agrees s f g n agree (g a) (g b) ts l.2)
-
-pub future_grown : (s : Nodes) (scopes more : List Scope) (h k : Chain) (ts : List Task) → LeavesWithin (length scopes) ts → future s (chain_of (scopes ++ more)) h k ts ≡ future s (chain_of scopes) h k ts
-future_grown s scopes more h k ts l = future_agrees s (chain_of (scopes ++ more)) (chain_of scopes) (length scopes) (chain_kept scopes more) h k ts l
 
 -- 2. How a walk goes on: scopes that are opened, and a task that is done.
 
@@ -160,11 +143,7 @@ opened_then old mid new f gs a b =
       same = b.same ∙ a.same;
       tasks = b.tasks ∙ a.tasks;
       frames = λ w.
-          let x = a.frames w in
-          let y = b.frames w in
-          let z = frames_sum_grown w a.more (a.more ++ b.more) b.more refl in
-          let u = sum_by-append w (f ∷ []) gs in
-          omega (arith, x, y, z, u);
+          omega (arith, a.frames w, b.frames w, frames_sum_grown w a.more (a.more ++ b.more) b.more refl, sum_by-append w (f ∷ []) gs);
       here = subst (HasFrames new.scopes.scopes new.around.here) a.here.is b.here;
       constant = subst (λ (c : Chain). HasFrames new.scopes.scopes new.around.constant (gs ++ c)) a.constant.is b.constant;
     }
@@ -207,23 +186,16 @@ over_after old mid f gs a o =
     ⊎_elim (λ l. inl (let x = same one in omega (arith, l, x))) (λ l. inr (let x = same count_entries in omega (arith, l, x))) o where
       same : (w : Frame → ℕ) → sum_by w (map frame_of mid.scopes.scopes ++ gs) ≡ sum_by w (map frame_of old.scopes.scopes ++ f ∷ gs)
       same w =
-          let x = a.frames w in
-          let y = frames_sum_grown w old.scopes.scopes mid.scopes.scopes a.more a.grows in
-          let z = sum_by-append w (map frame_of mid.scopes.scopes) gs in
-          let u = sum_by-append w (map frame_of old.scopes.scopes) (f ∷ gs) in
-          let v = sum_by-cons w f gs in
-          omega (arith, x, y, z, u, v)
+          let d = frames_sum_grown w old.scopes.scopes mid.scopes.scopes a.more a.grows in
+          let g = sum_by-append w (map frame_of old.scopes.scopes) (f ∷ gs) in
+          omega (arith, a.frames w, d, sum_by-append w (map frame_of mid.scopes.scopes) gs, g, sum_by-cons w f gs)
 
 -- and with more frames after them
 pub over_more : (fs : List Frame) (f : Frame) (gs : List Frame) → Over (fs ++ f ∷ []) → Over (fs ++ f ∷ gs)
 over_more fs f gs o =
     ⊎_elim (λ l. inl (let x = rises one in omega (arith, l, x))) (λ l. inr (let x = rises count_entries in omega (arith, l, x))) o where
       rises : (w : Frame → ℕ) → sum_by w (fs ++ f ∷ []) ≤ sum_by w (fs ++ f ∷ gs)
-      rises w =
-          let x = sum_by-append w fs (f ∷ []) in
-          let y = sum_by-append w fs (f ∷ gs) in
-          let z = sum_by-cons w f gs in
-          omega (arith, x, y, z)
+      rises w = omega (arith, sum_by-append w fs (f ∷ []), sum_by-append w fs (f ∷ gs), sum_by-cons w f gs)
 
 module _ (s : Nodes) where
   pub over_exceeds : (S : Scopes) (a : Around) (ts : List Task) (fs : List Frame) → ((w : Frame → ℕ) → sum_by w fs ≤ weight_left s w ts) → Over (map frame_of S.scopes ++ fs) → Exceeds s (at S a ts)
@@ -255,17 +227,13 @@ module _ (s : Nodes) where
         grows = o.grows;
         same = o.same;
         in_order = f ∙ ap (λ (ps : List Place). met ++ ps)
-            (sym (future_grown s S.scopes o.more h c us l)
+            (sym (future_agrees s (chain_of (S.scopes ++ o.more)) (chain_of S.scopes) (length S.scopes) (chain_kept S.scopes o.more) h c us l)
             ∙ (ap (λ (xs : List Scope). future s (chain_of xs) h c us) (sym o.grows)
             ∙ (ap (λ (x : Chain). future s (chain_of N) x c us) (sym o.here.is)
             ∙ (ap (λ (x : Chain). future s (chain_of N) (here_of new) x us) (sym o.constant.is)
             ∙ ap (λ (vs : List Task). future s (chain_of N) (here_of new) (constant_of new) vs) (sym o.tasks)))));
         weights = λ v.
-            let x = w v in
-            let y = o.frames v in
-            let z = frames_sum_grown v S.scopes N o.more o.grows in
-            let e = ap (weight_left s v) o.tasks in
-            omega (arith, x, y, z, e);
+            omega (arith, w v, o.frames v, frames_sum_grown v S.scopes N o.more o.grows, ap (weight_left s v) o.tasks);
         shorter = subst (λ (vs : List Task). turns_left s vs < turns_left s (t ∷ ts)) (sym o.tasks) d;
       }
 
@@ -321,8 +289,8 @@ module _ (s : Nodes) where
       }
 
   -- an expression is met, and then given its scope
-  pub gone_given : (old new : Machine) (last : Scopes) (id scope : ℕ) (h k : Chain) (n : ℕ) → Moves s old new (place (node.Expr id) h k ∷ []) →
-      HasFrames new.scopes.scopes scope (within_own (form_of s (node.Expr id)) h) →
+  pub gone_given : (old new : Machine) (last : Scopes) (id scope : ℕ) (h k : Chain) (n : ℕ) → Moves s old new (place (NodeId.Expr id) h k ∷ []) →
+      HasFrames new.scopes.scopes scope (within_own (form_of s (NodeId.Expr id)) h) →
       last ≡ record { scopes = new.scopes.scopes; scope_by_expr = finmap.insert new.scopes.scope_by_expr id scope } →
       Progress s old (at last new.around new.tasks) n (n + 1)
   gone_given old new last id scope h k n m has e =
@@ -341,20 +309,19 @@ module _ (s : Nodes) where
         grows = m.grows;
       })
 
-  pub goes_moved : (old new : Machine) (n : ℕ) → Moves s old new [] → Goes s old new n n
-  goes_moved old new n m = record { gone = gone_moved old new n m; shorter = m.shorter }
+  -- a task that is known to be this one, where what it calls has an answer
+  pub goes_task : {E : Type 0} (w : Walk) (t u : Task) (n : ℕ) (r : Result (Unit {0}) E) (new : Machine) → t ≡ u → OnOk r (Moves s (doing w u) new []) → OnOk r (Goes s (doing w t) new n n)
+  goes_task w t u n r new e moves =
+      let P : Task → Type 0 = λ x. Goes s (doing w x) new n n in
+      on_ok_weaker r (λ (m : Moves s (doing w u) new []). subst P (sym e) (record { gone = gone_moved (doing w u) new n m; shorter = m.shorter })) moves
 
-  -- the same of a task that is known to be this one
-  pub goes_task : (S : Scopes) (a : Around) (t u : Task) (ts : List Task) (new : Machine) (n : ℕ) → t ≡ u → Moves s (at S a (u ∷ ts)) new [] → Goes s (at S a (t ∷ ts)) new n n
-  goes_task S a t u ts new n e m = subst (λ (x : Task). Goes s (at S a (x ∷ ts)) new n n) (sym e) (goes_moved (at S a (u ∷ ts)) new n m)
-
-  pub goes_given : (S : Scopes) (a : Around) (t : Task) (ts : List Task) (mid : Machine) (last : Scopes) (around : Around) (tasks : List Task) (id scope : ℕ) (n m : ℕ) → t ≡ task.Expr id →
-      Moves s (at S a (task.Expr id ∷ ts)) mid (place (node.Expr id) (chain_of S.scopes a.here) (chain_of S.scopes a.constant) ∷ []) →
-      HasFrames mid.scopes.scopes scope (within_own (form_of s (node.Expr id)) (chain_of S.scopes a.here)) →
+  pub goes_given : (S : Scopes) (a : Around) (t : Task) (ts : List Task) (mid : Machine) (last : Scopes) (around : Around) (tasks : List Task) (id scope : ℕ) (n m : ℕ) → t ≡ Task.Expr id →
+      Moves s (at S a (Task.Expr id ∷ ts)) mid (place (NodeId.Expr id) (chain_of S.scopes a.here) (chain_of S.scopes a.constant) ∷ []) →
+      HasFrames mid.scopes.scopes scope (within_own (form_of s (NodeId.Expr id)) (chain_of S.scopes a.here)) →
       last ≡ record { scopes = mid.scopes.scopes; scope_by_expr = finmap.insert mid.scopes.scope_by_expr id scope } → around ≡ mid.around → tasks ≡ mid.tasks → m ≡ n + 1 →
       Goes s (at S a (t ∷ ts)) (at last around tasks) n m
   goes_given S a t ts mid last around tasks id scope n m is moves has e ea et i =
-      let old = at S a (task.Expr id ∷ ts) in
+      let old = at S a (Task.Expr id ∷ ts) in
       let h = chain_of S.scopes a.here in
       let k = chain_of S.scopes a.constant in
       let gone : Progress s old (at last mid.around mid.tasks) n m =
@@ -366,7 +333,7 @@ module _ (s : Nodes) where
 
   right_grown : (scopes grown more : List Scope) (gs : List ScopeGift) → grown ≡ scopes ++ more → All (IsRight s scopes) gs → All (IsRight s grown) gs
   right_grown scopes grown more gs e h =
-      All-weaker (IsRight s scopes) (IsRight s grown) (λ g i. frames_grown scopes grown more g.scope (within_own (form_of s (node.Expr g.expr)) g.here) e i) gs h
+      All-weaker (IsRight s scopes) (IsRight s grown) (λ g i. frames_grown scopes grown more g.scope (within_own (form_of s (NodeId.Expr g.expr)) g.here) e i) gs h
 
   pub gone_then : (old mid new : Machine) (n0 n1 n2 : ℕ) → Progress s old mid n0 n1 → Progress s mid new n1 n2 → Progress s old new n0 n2
   gone_then old mid new n0 n1 n2 a b =
@@ -385,8 +352,3 @@ module _ (s : Nodes) where
         more = a.more ++ b.more;
         grows = b.grows ∙ (ap (λ (xs : List Scope). xs ++ b.more) a.grows ∙ append_assoc old.scopes.scopes a.more b.more);
       }
-
--- what a call that is handed on ensures
-pub ok_map : {T E : Type 0} (r : Result T E) (P Q : Type 0) → (P → Q) → IfOk r (λ (x : T). P) → IfOk r (λ (x : T). Q)
-ok_map (Ok x) P Q f h = f h
-ok_map (Err e) P Q f h = tt

@@ -1,12 +1,11 @@
 -- The paths of scopes: a scope's path is its id on its parent's path.
 use Rattle.std.proofs.Common.{◌≡◌, ℕ, zero, suc, ◌+◌, ◌-◌, ◌<◌, ◌≤◌, List, [], ◌∷◌, ◌++◌, Option, Some, None, fold, get_or, length, refl, ap, sym, ◌∙◌, subst, arith, append_assoc}
-use Rattle.std.specs.List.{slice_get, All, range_with_len}
-use Rattle.std.proofs.lemmas.List.{get_or_append_left, get_or_at, length_push}
+use Rattle.std.proofs.lemmas.{Grind.fold-append, List.get_or_append_left, List.get_or_at, List.length_push}
 use Rattle.std.proofs.lemmas.List.Elements.{All-nil, All-cons, All-append, All-weaker}
-use Rattle.std.proofs.lemmas.Grind.{fold-append}
-use Rattle.hir_scope.specs.Scopes.{Scope, IsBelow, IsIn, ParentsStandEarlier}
+use Rattle.std.specs.List.{slice_get, All, range_with_len}
+use Rattle.hir_faults.proofs.SoundLemmas.{item_at}
 use Rattle.hir_scope.specs.Paths.{path_among, with_path, paths, path}
-use Rattle.hir_scope.proofs.MemberLemmas.{read}
+use Rattle.hir_scope.specs.Scopes.{Scope, IsBelow, IsIn, ParentsStandEarlier}
 
 length_with : (earlier : List (List ℕ)) (more : List Scope) → length (fold with_path earlier more) ≡ length earlier + length more
 length_with earlier [] = omega arith
@@ -55,7 +54,7 @@ path_step scopes s x earlier e =
     ∙ path_new w.0 x s (sym w.3)
     ∙ ap (λ (p : List ℕ). s ∷ p) (sym (ap (λ (xs : List Scope). path xs x.parent) w.2 ∙ path_kept w.0 (x ∷ w.1) x.parent below))
 
-weaker : (m n : ℕ) (o : Option ℕ) → m ≤ n → IsBelow m o → IsBelow n o
+pub weaker : (m n : ℕ) (o : Option ℕ) → m ≤ n → IsBelow m o → IsBelow n o
 weaker m n None l h = tt
 weaker m n (Some s) l h = omega (arith, l, h)
 
@@ -63,7 +62,7 @@ path_short : (scopes : List Scope) → ParentsStandEarlier scopes → (n : ℕ) 
 path_short scopes earlier n None l h = omega arith
 path_short scopes earlier zero (Some s) l h = absurd (omega (arith, h))
 path_short scopes earlier (suc n) (Some s) l h =
-    let x = read scopes s (omega (arith, l, h)) in
+    let x = item_at scopes s (omega (arith, l, h)) in
     let shorter = path_short scopes earlier n x.0.parent (omega (arith, l)) (weaker s n x.0.parent (omega (arith, h)) (earlier s x.0 x.1)) in
     let long : length (path scopes (Some s)) ≡ suc (length (path scopes x.0.parent)) = ap (length {A = ℕ}) (path_step scopes s x.0 earlier x.1) in
     omega (arith, shorter, long)

@@ -1,22 +1,18 @@
 -- What a name means, also through macros.
 use Rattle.std.proofs.Common.{◌≡◌, ℕ, suc, ◌<◌, Bool, true, false, cond, List, [], ◌∷◌, ◌++◌, Option, Some, None, length, refl, ap, sym, ◌∙◌, subst, arith, append_assoc}
+use Rattle.std.proofs.lemmas.{List.append-nil, List.Concat.flat_map-append}
+use Rattle.std.proofs.lemmas.List.Elements.{Contains-append_left, Contains-append_right, Contains-push}
+use Rattle.std.specs.{List.slice_get, List.flat_map, Option.option_or}
 use Rattle.std.specs.Prelude.{option_map, Contains, IfSome}
-use Rattle.std.specs.List.{slice_get, flat_map}
-use Rattle.std.proofs.lemmas.List.{append-nil}
-use Rattle.std.proofs.lemmas.List.Concat.{flat_map-append}
 use Rattle.hir_base.specs.declared.hygiene.SyntaxContext.{SyntaxContext}
 use Rattle.hir_faults.specs.TestedParts.{all_of}
-use Rattle.hir_scope.specs.declared.scope.ScopeEntry.{ScopeEntry}
-use Rattle.hir_scope.specs.Frames.{Frame, Chain}
-use Rattle.hir_scope.specs.Scopes.{Scope, IsBelow, IsIn, ParentsStandEarlier, frame_of, macro_def_of}
+use Rattle.hir_faults.proofs.SoundLemmas.{item_at}
+use Rattle.hir_scope.specs.{Frames.Frame, Frames.Chain, Macros.outward, Macros.resolve_through}
 use Rattle.hir_scope.specs.Paths.{path, frame_at, chain}
 use Rattle.hir_scope.specs.Resolution.{is_asked, first_asked, entries_of, resolve, IsFound}
-use Rattle.hir_scope.proofs.MemberLemmas.{read}
-use Rattle.hir_scope.proofs.PathLemmas.{path_step}
-use Rattle.std.specs.Option.{option_or}
-use Rattle.std.proofs.lemmas.List.Elements.{Contains-append_left, Contains-append_right, Contains-push}
-use Rattle.hir_scope.specs.declared.macros.Expansion.{Expansion}
-use Rattle.hir_scope.specs.Macros.{outward, resolve_through}
+use Rattle.hir_scope.specs.Scopes.{Scope, IsBelow, IsIn, ParentsStandEarlier, frame_of, macro_def_of}
+use Rattle.hir_scope.specs.declared.{macros.Expansion.Expansion, scope.ScopeEntry.ScopeEntry}
+use Rattle.hir_scope.proofs.PathLemmas.{path_step, weaker}
 
 -- 1. A name is looked for scope by scope, from one scope outward: what is found is what the name means along the chain.
 
@@ -44,31 +40,17 @@ parent_earlier scopes s parent earlier p =
     let x = of_some_scope (λ (x : Scope). x.parent) (slice_get scopes s) parent p in
     subst (IsBelow s) x.2 (earlier s x.0 x.1)
 
--- it is there
-pub below_more : (n m : ℕ) (o : Option ℕ) → n < m → IsBelow n o → IsBelow m o
-below_more n m None l b = tt
-below_more n m (Some q) l b = omega (arith, b, l)
-
--- and the way from it is shorter
-pub fewer_ways : (s : ℕ) (o : Option ℕ) → IsBelow s o → ways o < suc s
-fewer_ways s None b = omega arith
-fewer_ways s (Some q) b = omega (arith, b)
-
 -- What a chain in two parts means
 
-abbrev pub or_else : Option ScopeEntry → Option ScopeEntry → Option ScopeEntry
-or_else None later = later
-or_else (Some e) later = Some e
-
 module _ (n : List ℕ) (h : SyntaxContext) where
-  first_append : (xs ys : List ScopeEntry) → first_asked n h (xs ++ ys) ≡ or_else (first_asked n h xs) (first_asked n h ys)
+  first_append : (xs ys : List ScopeEntry) → first_asked n h (xs ++ ys) ≡ option_or (first_asked n h xs) (first_asked n h ys)
   first_append [] ys = refl
   first_append (x ∷ xs) ys = at (is_asked n h x) (first_asked n h (xs ++ ys)) (first_asked n h xs) (first_asked n h ys) (first_append xs ys) where
-    at : (b : Bool) (r s t : Option ScopeEntry) → r ≡ or_else s t → cond b (Some x) r ≡ or_else (cond b (Some x) s) t
+    at : (b : Bool) (r s t : Option ScopeEntry) → r ≡ option_or s t → cond b (Some x) r ≡ option_or (cond b (Some x) s) t
     at true r s t e = refl
     at false r s t e = e
 
-  pub resolve_append : (xs ys : Chain) → resolve (xs ++ ys) n h ≡ or_else (resolve xs n h) (resolve ys n h)
+  pub resolve_append : (xs ys : Chain) → resolve (xs ++ ys) n h ≡ option_or (resolve xs n h) (resolve ys n h)
   resolve_append xs ys = ap (first_asked n h) (flat_map-append (λ (f : Frame). f.entries) xs ys) ∙ first_append (entries_of xs) (entries_of ys)
 
   -- what the entries of a scope mean
@@ -95,14 +77,14 @@ module _ (scopes : List Scope) (from : ℕ) (n : List ℕ) (h : SyntaxContext) w
     -- one that has none is left behind
     pub go_outward : (parent : Option ℕ) → ParentsStandEarlier scopes → option_map (λ (x : Scope). x.parent) (slice_get scopes s) ≡ Some parent → first_asked n h es ≡ None → OnTheWay scopes from n h parent
     go_outward parent earlier p none = record {
-      within = below_more s (length scopes) parent w.within (parent_earlier scopes s parent earlier p);
+      within = weaker s (length scopes) parent (let l : s < length scopes = w.within in omega (arith, l)) (parent_earlier scopes s parent earlier p);
       before = w.before ++ s ∷ [];
       on_the_way = w.on_the_way ∙ (ap (λ (ids : List ℕ). w.before ++ ids) (path_of_parent scopes s parent earlier p) ∙ sym (append_assoc w.before (s ∷ []) (path scopes parent)));
       none_before =
           let inner = flat_map (frame_at scopes) w.before in
           ap (λ (c : Chain). resolve c n h) (flat_map-append (frame_at scopes) w.before (s ∷ []))
           ∙ (resolve_append n h inner (frame_at scopes s ++ [])
-          ∙ (ap (λ (o : Option ScopeEntry). or_else o (resolve (frame_at scopes s ++ []) n h)) w.none_before
+          ∙ (ap (λ (o : Option ScopeEntry). option_or o (resolve (frame_at scopes s ++ []) n h)) w.none_before
           ∙ (ap (λ (c : Chain). resolve c n h) (append-nil (frame_at scopes s)) ∙ (resolve_here n h scopes s es e ∙ none))));
     }
 
@@ -110,20 +92,17 @@ module _ (scopes : List Scope) (from : ℕ) (n : List ℕ) (h : SyntaxContext) w
     found_here entry is =
         record { there = w.within; before = w.before; on_the_way = w.on_the_way; none_before = w.none_before; is_first = resolve_here n h scopes s es e ∙ is }
 
-  pub found_nowhere : OnTheWay scopes from n h None → resolve (chain scopes (Some from)) n h ≡ None
-  found_nowhere w = ap (λ (ids : List ℕ). resolve (flat_map (frame_at scopes) ids) n h) (w.on_the_way ∙ append-nil w.before) ∙ w.none_before
-
 -- what is found is what the name means
 pub found_resolves : (scopes : List Scope) → ParentsStandEarlier scopes → (from : ℕ) (n : List ℕ) (h : SyntaxContext) (s : ℕ) (entry : ScopeEntry) → IsFound scopes from n h s entry → resolve (chain scopes (Some from)) n h ≡ Some entry
 found_resolves scopes earlier from n h s entry f =
-    let x = read scopes s f.there in
+    let x = item_at scopes s f.there in
     let outer = flat_map (frame_at scopes) (path scopes x.0.parent) in
     ap (λ (ids : List ℕ). resolve (flat_map (frame_at scopes) ids) n h) (f.on_the_way ∙ ap (λ (ids : List ℕ). f.before ++ ids) (path_step scopes s x.0 earlier x.1))
     ∙ (ap (λ (c : Chain). resolve c n h) (flat_map-append (frame_at scopes) f.before (s ∷ path scopes x.0.parent))
     ∙ (resolve_append n h (flat_map (frame_at scopes) f.before) (frame_at scopes s ++ outer)
-    ∙ (ap (λ (o : Option ScopeEntry). or_else o (resolve (frame_at scopes s ++ outer) n h)) f.none_before
+    ∙ (ap (λ (o : Option ScopeEntry). option_or o (resolve (frame_at scopes s ++ outer) n h)) f.none_before
     ∙ (resolve_append n h (frame_at scopes s) outer
-    ∙ ap (λ (o : Option ScopeEntry). or_else o (resolve outer n h)) f.is_first))))
+    ∙ ap (λ (o : Option ScopeEntry). option_or o (resolve outer n h)) f.is_first))))
 
 -- 2. A name's meaning through the definitions of macros: that among the scope's entries, and where there is none that outward of it.
 
@@ -164,13 +143,6 @@ stays : (id : Option ℕ) (h : SyntaxContext) → outward id None h ≡ h
 stays None h = refl
 stays (Some id) h = refl
 
-first_of_both : (n : List ℕ) (h : SyntaxContext) (xs ys : List ScopeEntry) → option_or (first_asked n h xs) (first_asked n h ys) ≡ first_asked n h (xs ++ ys)
-first_of_both n h [] ys = refl
-first_of_both n h (x ∷ xs) ys = at (is_asked n h x) (first_asked n h (xs ++ ys)) (first_asked n h xs) (first_asked n h ys) (first_of_both n h xs ys) where
-  at : (b : Bool) (r s t : Option ScopeEntry) → option_or s t ≡ r → option_or (cond b (Some x) s) t ≡ cond b (Some x) r
-  at true r s t e = refl
-  at false r s t e = e
-
 -- where the hygiene comes from no known expansion, it is resolution
 pub through_nothing : (from : SyntaxContext → Option Expansion) (chain : Chain) (n : List ℕ) (h : SyntaxContext) → from h ≡ None → resolve_through from chain n h ≡ resolve chain n h
 through_nothing from [] n h e = refl
@@ -178,7 +150,7 @@ through_nothing from (frame ∷ outer) n h e =
     let kept : outward (macro_def_of frame.kind) (from h) h ≡ h = ap (λ (o : Option Expansion). outward (macro_def_of frame.kind) o h) e ∙ stays (macro_def_of frame.kind) h in
     ap (λ (g : SyntaxContext). option_or (first_asked n h frame.entries) (resolve_through from outer n g)) kept
     ∙ ap (option_or (first_asked n h frame.entries)) (through_nothing from outer n h e)
-    ∙ first_of_both n h frame.entries (entries_of outer)
+    ∙ sym (first_append n h frame.entries (entries_of outer))
 
 first_is_among : (n : List ℕ) (h : SyntaxContext) (xs : List ScopeEntry) → IfSome (first_asked n h xs) (Contains xs)
 first_is_among n h [] = tt

@@ -1,24 +1,21 @@
 -- How scopes are kept, and when they are the same.
 use Rattle.std.proofs.Common.{◌≡◌, ℕ, zero, suc, ◌+◌, ◌-◌, ◌<◌, ◌≤◌, ◌⊎◌, inl, inr, List, [], ◌∷◌, ◌++◌, Option, Some, None, length, take, drop, refl, ap, sym, ◌∙◌, subst, arith, Bool, true, false, cond, get_or, length-append, ◌&&◌, Decides}
-use Rattle.std.specs.Prelude.{option_map, eqb}
-use Rattle.std.specs.List.{slice_get}
-use Rattle.std.specs.Ordering.{nat_cmp, eq_by_cmp}
+use Rattle.std.proofs.lemmas.List.{take-append-le, drop-append-le, drop_at, take_all, length-drop, length-take-le, length_push, map-append, drop_all}
+use Rattle.std.proofs.lemmas.List.{Folds.drop_split, Sums.sum_by-append}
+use Rattle.std.proofs.lemmas.Option.{none-some, slice_get-map, slice_get_read}
 use Rattle.std.specs.Cmp.{nat_cmp_total, unsigned_Decides}
-use Rattle.std.specs.FinMap as finmap
-use Rattle.std.proofs.lemmas.List.{take-append-le, drop-append-le, drop_at, take_all, length-drop, length-take-le, length_push, map-append, take-append-drop, drop_all}
-use Rattle.std.proofs.lemmas.List.Sums.{sum_by-append}
-use Rattle.std.proofs.lemmas.Option.{slice_get-map, slice_get_read}
-use Rattle.hir_scope.specs.declared.scope.ScopeEntry.{ScopeEntry}
-use Rattle.hir_scope.specs.declared.expr_scopes.ScopeData.{ScopeData}
-use Rattle.hir_scope.specs.Scopes.{Scope, IsBelow, ParentsStandEarlier, entry_count}
-use Rattle.hir_scope.specs.Flat.{entries_in, scope_of, scopes_of, FollowEachOther, IsFlat}
 use Rattle.std.specs.Cmp.Lexicographic.{pointwise, pointwise_decides}
+use Rattle.std.specs.FinMap as finmap
+use Rattle.std.specs.{List.slice_get, Ordering.nat_cmp, Ordering.eq_by_cmp, Prelude.option_map, Prelude.eqb}
 use Rattle.hir_base.specs.Maps.{same_maps, same_maps_decides}
 use Rattle.hir_path.specs.same.Fields.{both}
-use Rattle.hir_scope.specs.contracts.scope.ScopeEntryPartialEq.TheImpl as entry
-use Rattle.hir_scope.specs.contracts.scope.ScopeEntryExactEq.TheImpl.Laws as entry_law
-use Rattle.hir_scope.specs.contracts.expr_scopes.ScopeDataPartialEq.TheImpl as row
+use Rattle.hir_scope.specs.Flat.{entries_in, scope_of, scopes_of, FollowEachOther, IsFlat}
+use Rattle.hir_scope.specs.Scopes.{Scopes, Scope, IsBelow, ParentsStandEarlier, entry_count}
 use Rattle.hir_scope.specs.contracts.expr_scopes.ScopeDataExactEq.TheImpl.Laws as row_law
+use Rattle.hir_scope.specs.contracts.expr_scopes.ScopeDataPartialEq.TheImpl as row
+use Rattle.hir_scope.specs.contracts.scope.ScopeEntryExactEq.TheImpl.Laws as entry_law
+use Rattle.hir_scope.specs.contracts.scope.ScopeEntryPartialEq.TheImpl as entry
+use Rattle.hir_scope.specs.declared.{expr_scopes.ScopeData.ScopeData, scope.ScopeEntry.ScopeEntry}
 use Rattle.hir_scope.specs.same.SameScopes.{same_scopes, scopes_decide}
 
 -- 1. Ranges that follow each other in one list: what a range holds, and what one range more changes.
@@ -87,8 +84,9 @@ length_seen es [] = refl
 length_seen es (row ∷ rows) = ap suc (length_seen es rows)
 
 -- a scope that is seen has a range
-pub row_seen : (es : List ScopeEntry) (rows : List ScopeData) (i : ℕ) (row : ScopeData) → i < length (scopes_of es rows) → row ≡ get_or rows i row → slice_get rows i ≡ Some row
-row_seen es rows i row l e = slice_get_read rows (length rows) i row refl (subst (λ n. i < n) (length_seen es rows) l) e
+pub row_seen : (es : List ScopeEntry) (rows : List ScopeData) (m : finmap.FinMap nat_cmp ℕ) (seen : Scopes) (scope i : ℕ) (row : ScopeData) → record { scopes = scopes_of es rows; scope_by_expr = m } ≡ seen → scope < length seen.scopes → i ≡ scope → row ≡ get_or rows i row → slice_get rows i ≡ Some row
+row_seen es rows m seen scope i row view l is e =
+    slice_get_read rows (length rows) i row refl (omega (arith, is, l, ap (λ (x : Scopes). length x.scopes) view, length_seen es rows)) e
 
 -- the scope of each expression is below n
 abbrev pub AreBelow : finmap.FinMap nat_cmp ℕ → ℕ → Type 0
@@ -113,12 +111,10 @@ pub flat_empty : IsFlat [] [] finmap.empty
 flat_empty = record {
   fill = refl;
   parents = λ i row e. absurd cc;
-  there = λ expr scope e. absurd (none_there expr scope (sym (finmap.get-empty nat_cmp expr) ∙ e));
+  there = λ expr scope e. absurd (none-some scope (sym (finmap.get-empty nat_cmp expr) ∙ e));
   few_scopes = omega arith;
   few_entries = omega arith;
-} where
-  none_there : (expr scope : ℕ) → None ≡ Some scope → ⊥
-  none_there expr scope e = cc
+}
 
 pub flat_set : (es : List ScopeEntry) (rows : List ScopeData) (m : finmap.FinMap nat_cmp ℕ) (e s : ℕ) → IsFlat es rows m → s < length rows → IsFlat es rows (finmap.insert m e s)
 flat_set es rows m e s f l =
@@ -174,33 +170,14 @@ not_too_many es rows n f h k (inr w) = absurd (omega (arith, k, w, entries_are_c
 
 -- 2. Scopes are the same exactly where what keeps them is.
 
-drop_nil : (n : ℕ) (xs : List ScopeEntry) → xs ≡ [] → drop n xs ≡ []
-drop_nil n xs e = drop_all n xs (omega (arith, ap (length {A = ScopeEntry}) e))
-
-drop_on : (a b : ℕ) (xs : List ScopeEntry) → a ≤ b → drop (b - a) (drop a xs) ≡ drop b xs
-drop_on zero b xs h = ap (λ k. drop k xs) (let z : b - 0 ≡ b = omega arith in z)
-drop_on (suc a) zero xs h = absurd (omega (arith, h))
-drop_on (suc a) (suc b) [] h = drop_nil (suc b - suc a) [] refl
-drop_on (suc a) (suc b) (x ∷ xs) h = ap (λ k. drop k (drop a xs)) (let z : suc b - suc a ≡ b - a = omega arith in z) ∙ drop_on a b xs (omega (arith, h))
-
--- the entries from a range on: its own, and those after it
-rest_of : (xs : List ScopeEntry) (a b : ℕ) → a ≤ b → drop a xs ≡ take (b - a) (drop a xs) ++ drop b xs
-rest_of xs a b h = sym (take-append-drop (b - a) (drop a xs)) ∙ ap (λ ys. take (b - a) (drop a xs) ++ ys) (drop_on a b xs h)
-
-head_is : {X : Type 0} (x y : X) (xs ys : List X) → x ∷ xs ≡ y ∷ ys → x ≡ y
-head_is x y xs ys e = cc
-
-tail_is : {X : Type 0} (x y : X) (xs ys : List X) → x ∷ xs ≡ y ∷ ys → xs ≡ ys
-tail_is x y xs ys e = cc
-
 pub kept_once : (xs ys : List ScopeEntry) (from : ℕ) (rows others : List ScopeData) → FollowEachOther from rows (length xs) → FollowEachOther from others (length ys) →
     scopes_of xs rows ≡ scopes_of ys others → (rows ≡ others) × (drop from xs ≡ drop from ys)
 kept_once xs ys from [] [] f g e = (refl, drop_all from xs (omega (arith, f)) ∙ sym (drop_all from ys (omega (arith, g))))
 kept_once xs ys from [] (other ∷ others) f g e = absurd cc
 kept_once xs ys from (row ∷ rows) [] f g e = absurd cc
 kept_once xs ys from (row ∷ rows) (other ∷ others) f g e =
-    let h : scope_of xs row ≡ scope_of ys other = head_is _ _ (scopes_of xs rows) (scopes_of ys others) e in
-    let t = tail_is (scope_of xs row) (scope_of ys other) (scopes_of xs rows) (scopes_of ys others) e in
+    let h : scope_of xs row ≡ scope_of ys other = cc in
+    let t : scopes_of xs rows ≡ scopes_of ys others = cc in
     let es : entries_in xs row ≡ entries_in ys other = λ i. (h i).entries in
     let m = length_in xs row (omega (arith, f.0, f.1)) (follow_rises row.end rows (length xs) f.2) in
     let n = length_in ys other (omega (arith, g.0, g.1)) (follow_rises other.end others (length ys) g.2) in
@@ -210,10 +187,10 @@ kept_once xs ys from (row ∷ rows) (other ∷ others) f g e =
     let r = kept_once xs ys row.end rows others f.2 (subst (λ k. FollowEachOther k others (length ys)) (sym ends) g.2) t in (
       λ i. same i ∷ r.0 i,
       subst (λ k. drop k xs ≡ drop k ys) f.0
-          (rest_of xs row.start row.end (omega (arith, f.0, f.1))
+          (drop_split xs row.start row.end (omega (arith, f.0, f.1))
           ∙ (λ i. es i ++ r.1 i)
           ∙ ap (λ k. take (other.end - other.start) (drop other.start ys) ++ drop k ys) ends
-          ∙ sym (rest_of ys other.start other.end (omega (arith, g.0, g.1)))
+          ∙ sym (drop_split ys other.start other.end (omega (arith, g.0, g.1)))
           ∙ ap (λ k. drop k ys) (sym starts)),
     )
 
@@ -224,21 +201,15 @@ one_test false false p q to from = refl
 one_test true false p q to from = let r : false ≡ true = q.1 (to (p.0 refl)) in absurd cc
 one_test false true p q to from = let r : false ≡ true = p.1 (from (q.0 refl)) in absurd cc
 
-pub rows_decide : (rows others : List ScopeData) → Decides (pointwise row.ghosts.eq rows others) (rows ≡ others)
-rows_decide = pointwise_decides row_law.lawful.eq_decides
-
-pub entries_decide : (xs ys : List ScopeEntry) → Decides (pointwise entry.ghosts.eq xs ys) (xs ≡ ys)
-entries_decide = pointwise_decides entry_law.lawful.eq_decides
-
-pub maps_decide : (m n : finmap.FinMap nat_cmp ℕ) → Decides (same_maps nat_cmp eqb m n) (m ≡ n)
-maps_decide = same_maps_decides nat_cmp_total eqb finmap.nat_cmp-IsAntisymmetric unsigned_Decides
-
 -- tests of the three parts of what keeps scopes are, one after the other, the test of the scopes
 pub all_tests : (xs ys : List ScopeEntry) (rows others : List ScopeData) (m n : finmap.FinMap nat_cmp ℕ) → IsFlat xs rows m → IsFlat ys others n →
-    (a b c : Bool) → Decides a (rows ≡ others) → Decides b (xs ≡ ys) → Decides c (m ≡ n) →
+    (a b c : Bool) → a ≡ pointwise row.ghosts.eq rows others → b ≡ pointwise entry.ghosts.eq xs ys → c ≡ same_maps nat_cmp eqb m n →
     a && (b && c) ≡ same_scopes (record { scopes = scopes_of xs rows; scope_by_expr = m }) (record { scopes = scopes_of ys others; scope_by_expr = n })
-all_tests xs ys rows others m n f g a b c da db dc =
-    one_test (a && (b && c)) _ (both a (b && c) da (both b c db dc))
+all_tests xs ys rows others m n f g a b c p q r =
+    let maps = subst (λ t. Decides t (m ≡ n)) (sym r) (same_maps_decides nat_cmp_total eqb finmap.nat_cmp-IsAntisymmetric unsigned_Decides m n) in
+    let lists = subst (λ t. Decides t (xs ≡ ys)) (sym q) (pointwise_decides entry_law.lawful.eq_decides xs ys) in
+    let ranges = subst (λ t. Decides t (rows ≡ others)) (sym p) (pointwise_decides row_law.lawful.eq_decides rows others) in
+    one_test (a && (b && c)) _ (both a (b && c) ranges (both b c lists maps))
     (scopes_decide (record { scopes = scopes_of xs rows; scope_by_expr = m }) (record { scopes = scopes_of ys others; scope_by_expr = n }))
     (λ e i. record { scopes = scopes_of (e.1.0 i) (e.0 i); scope_by_expr = e.1.1 i })
     (λ e.

@@ -1,26 +1,23 @@
 -- The leak of a node by its kids, what is under a place, and where a node stands.
 use Rattle.std.proofs.Common.{◌≡◌, ℕ, zero, suc, List, [], ◌∷◌, map, refl, sym, ap, ◌∙◌, Contains, arith, subst, ◌<◌, inl, inr, ⊎_elim}
-use Rattle.std.specs.List.{flat_map, filter}
-use Rattle.std.proofs.Math.Path.{fun_ext}
-use Rattle.std.proofs.lemmas.List.{append-nil}
+use Rattle.std.proofs.{Math.Path.fun_ext, lemmas.List.append-nil}
 use Rattle.std.proofs.lemmas.List.Sorted.{IsPermutation-sym, Contains-permutation}
+use Rattle.std.specs.List.{flat_map, filter}
 use Rattle.hir_node.specs.ChildCalls.{Call, OnExpr, OnPat, OnLifetime, opt, e, kids}
 use Rattle.hir_node.specs.declared.node_id.NodeId.{NodeId}
-use Rattle.hir_node.specs.declared.node_id.NodeId.TheVariants as node
-use Rattle.hir_faults.specs.Nodes.{Nodes, Has, kids_of}
 use Rattle.hir_faults.specs.Down.{KidsFall, value, AgreeOn, AsksKids, rank}
+use Rattle.hir_faults.specs.Nodes.{Nodes, Has, kids_of}
 use Rattle.hir_faults.proofs.DownLemmas.{agree_from_members, value_at}
-use Rattle.hir_scope.specs.Order.{met_in_form}
-use Rattle.hir_scope.specs.Frames.{Chain}
-use Rattle.hir_scope.specs.Forms.{ScopingForm, form_of}
+use Rattle.hir_expr_store.specs.Under.{Under, itself, below, IsReached}
+use Rattle.hir_expr_store.proofs.UnderLemmas.{under_more}
+use Rattle.hir_scope.specs.BodyScopes.{is_expr}
+use Rattle.hir_scope.specs.Chains.{Place, place_kid, places_of_kids, Stands, top, kid}
+use Rattle.hir_scope.specs.{Forms.ScopingForm, Forms.form_of, Frames.Chain}
 use Rattle.hir_scope.specs.Forms as form
 use Rattle.hir_scope.specs.Leak.{leak, leaks, leak_of_form, leak_step}
-use Rattle.hir_scope.specs.Slots.{Slot, slots, slots_of_form}
-use Rattle.hir_scope.specs.Chains.{Place, place_kid, places_of_kids, Stands, top, kid}
-use Rattle.hir_scope.specs.BodyScopes.{is_expr}
+use Rattle.hir_scope.specs.{Order.met_in_form, Slots.Slot, Slots.slots, Slots.slots_of_form}
 use Rattle.hir_scope.specs.walk.PlacesUnder.{place, places_under, under_step, exprs_under}
 use Rattle.hir_scope.proofs.KidLemmas.{met_kids, kids_of_form, kids_in, slots_kids}
-use Rattle.hir_expr_store.specs.Under.{Under, itself, below, IsReached}
 use Rattle.hir_scope.proofs.MemberLemmas.{In, agree_in, in_contains, contains_in, in_flat_map, flat_map_in, in_map, map_in, in_filter, filter_in}
 
 -- 1. The leak of a node is told by the leaks of its kids, and what is under a place by what is under the places of the kids.
@@ -68,13 +65,10 @@ slots_read : (f g : NodeId → Chain → Chain → List Place) (h k : Chain) (xs
 slots_read f g h k [] agree = refl
 slots_read f g h k (x ∷ xs) agree =
     let at = place_kid h k x in
-    let first = ap (λ (w : Chain → Chain → List Place). w at.here at.constant) agree.0 in
-    let rest = slots_read f g h k xs agree.1 in
-    cc
+    cc (ap (λ (w : Chain → Chain → List Place). w at.here at.constant) agree.0, slots_read f g h k xs agree.1)
 
 under_asks : (s : Nodes) → AsksKids s (under_step s)
-under_asks s f g n agree =
-    fun_ext (λ h. fun_ext (λ k. ap (λ (ps : List Place). place n h k ∷ ps) (slots_read f g h k (slots s n) (slots_agree f g s n agree))))
+under_asks s f g n agree = fun_ext (λ h. fun_ext (λ k. ap (λ (ps : List Place). place n h k ∷ ps) (slots_read f g h k (slots s n) (slots_agree f g s n agree))))
 
 -- what is under a place is the place, and what is under the places of the kids
 pub under_at : (s : Nodes) → KidsFall s → (at : Place) → Has s at.node → places_under s at ≡ at ∷ flat_map (places_under s) (places_of_kids s at)
@@ -88,17 +82,17 @@ exprs_under_at : (s : Nodes) → KidsFall s → (at : Place) → Has s at.node �
 unfolding exprs_under slots
 exprs_under_at s fall at h = ap (filter (λ (q : Place). is_expr q.node)) (append-nil (places_under s at) ∙ under_at s fall at h)
 
-pub exprs_under_expr : (s : Nodes) → KidsFall s → (id : ℕ) (here constant : Chain) → Has s (node.Expr id) → exprs_under s (place (node.Expr id) here constant ∷ []) ≡ place (node.Expr id) here constant ∷ exprs_under s (map (place_kid here constant) (slots_of_form s (form_of s (node.Expr id))))
+pub exprs_under_expr : (s : Nodes) → KidsFall s → (id : ℕ) (here constant : Chain) → Has s (NodeId.Expr id) → exprs_under s (place (NodeId.Expr id) here constant ∷ []) ≡ place (NodeId.Expr id) here constant ∷ exprs_under s (map (place_kid here constant) (slots_of_form s (form_of s (NodeId.Expr id))))
 unfolding exprs_under
-exprs_under_expr s fall id here constant h = exprs_under_at s fall (place (node.Expr id) here constant) h
+exprs_under_expr s fall id here constant h = exprs_under_at s fall (place (NodeId.Expr id) here constant) h
 
-pub exprs_under_pat : (s : Nodes) → KidsFall s → (id : ℕ) (here constant : Chain) → Has s (node.Pat id) → exprs_under s (place (node.Pat id) here constant ∷ []) ≡ exprs_under s (map (place_kid here constant) (slots_of_form s (form_of s (node.Pat id))))
+pub exprs_under_pat : (s : Nodes) → KidsFall s → (id : ℕ) (here constant : Chain) → Has s (NodeId.Pat id) → exprs_under s (place (NodeId.Pat id) here constant ∷ []) ≡ exprs_under s (map (place_kid here constant) (slots_of_form s (form_of s (NodeId.Pat id))))
 unfolding exprs_under
-exprs_under_pat s fall id here constant h = exprs_under_at s fall (place (node.Pat id) here constant) h
+exprs_under_pat s fall id here constant h = exprs_under_at s fall (place (NodeId.Pat id) here constant) h
 
-pub exprs_under_type : (s : Nodes) → KidsFall s → (id : ℕ) (here constant : Chain) → Has s (node.TypeRef id) → exprs_under s (place (node.TypeRef id) here constant ∷ []) ≡ exprs_under s (map (place_kid here constant) (slots_of_form s (form_of s (node.TypeRef id))))
+pub exprs_under_type : (s : Nodes) → KidsFall s → (id : ℕ) (here constant : Chain) → Has s (NodeId.TypeRef id) → exprs_under s (place (NodeId.TypeRef id) here constant ∷ []) ≡ exprs_under s (map (place_kid here constant) (slots_of_form s (form_of s (NodeId.TypeRef id))))
 unfolding exprs_under
-exprs_under_type s fall id here constant h = exprs_under_at s fall (place (node.TypeRef id) here constant) h
+exprs_under_type s fall id here constant h = exprs_under_at s fall (place (NodeId.TypeRef id) here constant) h
 
 -- 2. A node stands in a place exactly where it is reached.
 
@@ -125,10 +119,6 @@ module _ (s : Nodes) where
       (Contains-permutation (kids_in (slots s at.node)) (kids_of s at.node) r.0.kid
       (IsPermutation-sym (kids_of s at.node) (kids_in (slots s at.node)) (slots_kids s at.node)) there)
 
-  pub under_kid : (n k r : NodeId) → Contains (kids_of s n) k → Under s n r → Under s k r
-  under_kid n k r c itself = below c itself
-  under_kid n k r c (below d u) = below d (under_kid n k _ c u)
-
   module _ (tops : List Place) where
     -- what is under a node that stands in a place stands in one
     stands_under : (n r : NodeId) → Under s n r → (at : Place) → at.node ≡ r → Stands s tops at → (q : Place) × Stands s tops q × (q.node ≡ n)
@@ -146,14 +136,13 @@ module _ (s : Nodes) where
     stands_reached at (top c) = (at.node, mapped (λ (p : Place). p.node) tops at c, itself)
     stands_reached at (kid {parent = parent} h c) =
         let r = stands_reached parent h in
-        (r.0, r.1, under_kid parent.node at.node r.0 (kid_of_place parent at c) r.2)
+        (r.0, r.1, under_more s at.node parent.node r.2 (kid_of_place parent at c))
 
 -- 3. What is listed under some tops is what stands in a place below them.
 
 -- the nodes of tops are there
 pub places_there : (s : Nodes) (tops : List Place) (nodes : List NodeId) → map (λ (p : Place). p.node) tops ≡ nodes → ((n : NodeId) → Contains nodes n → Has s n) → (p : Place) → In p tops → Has s p.node
-places_there s tops nodes same there p i =
-    there p.node (contains_in nodes p.node (subst (In p.node) same (map_in (λ (q : Place). q.node) p tops i)))
+places_there s tops nodes same there p i = there p.node (contains_in nodes p.node (subst (In p.node) same (map_in (λ (q : Place). q.node) p tops i)))
 
 module _ (s : Nodes) (fall : KidsFall s) where
   -- a kid's place: the kid is there, and lower
@@ -214,6 +203,6 @@ module _ (s : Nodes) (fall : KidsFall s) where
     unfolding exprs_under
     exprs_stand r i = listed_stands r (filter_in (λ (x : Place). is_expr x.node) r (flat_map (places_under s) tops) i).0
 
-    pub standing_exprs : (r : Place) (id : ℕ) → r.node ≡ node.Expr id → Stands s tops r → In r (exprs_under s tops)
+    pub standing_exprs : (r : Place) (id : ℕ) → r.node ≡ NodeId.Expr id → Stands s tops r → In r (exprs_under s tops)
     unfolding exprs_under
     standing_exprs r id e h = in_filter (λ (x : Place). is_expr x.node) r (flat_map (places_under s) tops) (stands_listed r h) (ap is_expr e)

@@ -1,50 +1,42 @@
 -- Each node that stands in a place stands in one alone, where nothing lies under two tops or under two kids of a node.
 use Rattle.std.proofs.Common.{◌≡◌, ℕ, zero, suc, ◌<◌, ◌≤◌, List, [], ◌∷◌, map, refl, sym, ap, ◌∙◌, arith, subst, inl, inr, ◌⊎◌, ⊎_elim, Some, Contains, eqb}
-use Rattle.std.specs.List.{slice_get, sum_by}
-use Rattle.std.specs.Prelude.{option_map}
-use Rattle.std.proofs.lemmas.Option.{slice_get-map}
-use Rattle.std.proofs.lemmas.Bool.{cases_lt}
-use Rattle.std.proofs.lemmas.Bool.Decides.{eqb_tells}
-use Rattle.std.proofs.lemmas.List.Sums.{sum_by-cons}
-use Rattle.std.proofs.lemmas.List.Sorted.{sum_by-IsPermutation}
+use Rattle.std.proofs.lemmas.{Bool.cases_lt, Bool.Decides.eqb_tells, List.Sorted.sum_by-IsPermutation}
+use Rattle.std.proofs.lemmas.{List.Sums.sum_by-cons, Option.slice_get-map}
+use Rattle.std.specs.{List.slice_get, List.sum_by, Prelude.option_map}
 use Rattle.hir_node.specs.declared.node_id.NodeId.{NodeId}
-use Rattle.hir_node.specs.declared.node_id.NodeId.TheVariants as node
-use Rattle.hir_faults.specs.Nodes.{Nodes, Has, kids_of}
-use Rattle.hir_faults.specs.Down.{rank, KidsFall}
+use Rattle.hir_faults.specs.{Down.rank, Down.KidsFall, Nodes.Nodes, Nodes.Has, Nodes.kids_of}
 use Rattle.hir_expr_store.specs.Under.{Under, itself, below, LieApart}
-use Rattle.hir_scope.specs.Forms.{form_of}
-use Rattle.hir_scope.specs.Frames.{Chain}
-use Rattle.hir_scope.specs.Slots.{Slot, slots}
+use Rattle.hir_expr_store.proofs.UnderLemmas.{under_more}
 use Rattle.hir_scope.specs.Chains.{Place, place_kid, places_of_kids, Stands, top, kid, HasChain, within_own}
+use Rattle.hir_scope.specs.{Forms.form_of, Frames.Chain, Slots.Slot, Slots.slots}
+use Rattle.hir_scope.proofs.{CountLemmas.one_if, KidLemmas.kids_in, KidLemmas.slots_kids}
 use Rattle.hir_scope.proofs.MemberLemmas.{In, in_contains, contains_in, get_in, sum_mapped}
-use Rattle.hir_scope.proofs.KidLemmas.{kids_in, slots_kids}
-use Rattle.hir_scope.proofs.UnderLemmas.{kid_of_place, under_kid, stands_reached, stands_there}
-use Rattle.hir_scope.proofs.CountLemmas.{one_if}
+use Rattle.hir_scope.proofs.UnderLemmas.{kid_of_place, stands_reached, stands_there}
 
 -- 1. How often a node stands in a list
 
 abbrev is : NodeId → NodeId → ℕ
-is (node.Expr a) (node.Expr b) = one_if (eqb a b)
-is (node.Pat a) (node.Pat b) = one_if (eqb a b)
-is (node.TypeRef a) (node.TypeRef b) = one_if (eqb a b)
+is (NodeId.Expr a) (NodeId.Expr b) = one_if (eqb a b)
+is (NodeId.Pat a) (NodeId.Pat b) = one_if (eqb a b)
+is (NodeId.TypeRef a) (NodeId.TypeRef b) = one_if (eqb a b)
 is _ _ = 0
 
 same_id : (f : ℕ → NodeId) (a b : ℕ) → (one_if (eqb a b) ≡ 0) ⊎ ((one_if (eqb a b) ≡ 1) × (f a ≡ f b))
 same_id f a b = ⊎_elim (λ t. inr (ap one_if t.0, ap f t.1)) (λ t. inl (ap one_if t.0)) (eqb_tells a b)
 
 is_or_not : (n m : NodeId) → (is n m ≡ 0) ⊎ ((is n m ≡ 1) × (n ≡ m))
-is_or_not (node.Expr a) (node.Expr b) = same_id node.Expr a b
-is_or_not (node.Pat a) (node.Pat b) = same_id node.Pat a b
-is_or_not (node.TypeRef a) (node.TypeRef b) = same_id node.TypeRef a b
+is_or_not (NodeId.Expr a) (NodeId.Expr b) = same_id NodeId.Expr a b
+is_or_not (NodeId.Pat a) (NodeId.Pat b) = same_id NodeId.Pat a b
+is_or_not (NodeId.TypeRef a) (NodeId.TypeRef b) = same_id NodeId.TypeRef a b
 is_or_not _ _ = inl refl
 
 itself_id : (a : ℕ) → one_if (eqb a a) ≡ 1
 itself_id a = ⊎_elim (λ t. ap one_if t.0) (λ t. absurd (t.1 refl)) (eqb_tells a a)
 
 is_itself : (n : NodeId) → is n n ≡ 1
-is_itself (node.Expr a) = itself_id a
-is_itself (node.Pat a) = itself_id a
-is_itself (node.TypeRef a) = itself_id a
+is_itself (NodeId.Expr a) = itself_id a
+is_itself (NodeId.Pat a) = itself_id a
+is_itself (NodeId.TypeRef a) = itself_id a
 
 -- it does not stand there
 absent : (m : NodeId) (xs : List NodeId) → ((j : ℕ) (b : NodeId) → slice_get xs j ≡ Some b → m ≡ b → ⊥) → sum_by (is m) xs ≡ 0
@@ -71,10 +63,7 @@ present m (p ∷ ps) zero q e n =
     let same : p ≡ q = cc in
     let one : is m p.node ≡ 1 = ap (λ (x : Place). is m x.node) same ∙ (ap (is m) (sym n) ∙ is_itself m) in
     omega (arith, a, one)
-present m (p ∷ ps) (suc j) q e n =
-    let a = sum_by-cons (λ (x : Place). is m x.node) p ps in
-    let r = present m ps j q e n in
-    omega (arith, a, r)
+present m (p ∷ ps) (suc j) q e n = omega (arith, sum_by-cons (λ (x : Place). is m x.node) p ps, present m ps j q e n)
 
 -- it stands there twice
 twice : (m : NodeId) (ps : List Place) (i j : ℕ) (p q : Place) → i < j → slice_get ps i ≡ Some p → slice_get ps j ≡ Some q → m ≡ p.node → m ≡ q.node → 2 ≤ sum_by (λ (x : Place). is m x.node) ps
@@ -84,12 +73,8 @@ twice m (x ∷ ps) zero (suc j) p q l e f n o =
     let a = sum_by-cons (λ (x : Place). is m x.node) x ps in
     let same : x ≡ p = cc in
     let one : is m x.node ≡ 1 = ap (λ (y : Place). is m y.node) same ∙ (ap (is m) (sym n) ∙ is_itself m) in
-    let r = present m ps j q f o in
-    omega (arith, a, one, r)
-twice m (x ∷ ps) (suc i) (suc j) p q l e f n o =
-    let a = sum_by-cons (λ (x : Place). is m x.node) x ps in
-    let r = twice m ps i j p q (omega (arith, l)) e f n o in
-    omega (arith, a, r)
+    omega (arith, a, one, present m ps j q f o)
+twice m (x ∷ ps) (suc i) (suc j) p q l e f n o = omega (arith, sum_by-cons (λ (x : Place). is m x.node) x ps, twice m ps i j p q (omega (arith, l)) e f n o)
 
 -- 2. Places
 
@@ -97,18 +82,16 @@ twice m (x ∷ ps) (suc i) (suc j) p q l e f n o =
 abbrev OneEach : List Place → Type 0
 OneEach ps = (i j : ℕ) (p q : Place) → i < j → slice_get ps i ≡ Some p → slice_get ps j ≡ Some q → p.node ≡ q.node → ⊥
 
+level : (i j : ℕ) → (i < j → ⊥) → (j < i → ⊥) → i ≡ j
+level i j f g = ⊎_elim (λ l. absurd (f l)) (λ l. ⊎_elim (λ m. absurd (g m)) (λ m. omega (arith, l, m)) (cases_lt j i)) (cases_lt i j)
+
 same_place : (ps : List Place) → OneEach ps → (p q : Place) → In p ps → In q ps → p.node ≡ q.node → p ≡ q
 same_place ps one p q i j n =
     let a = get_in ps p i in
     let b = get_in ps q j in
-    ⊎_elim
-    (λ l. absurd (one a.0 b.0 p q l a.1 b.1 n))
-    (λ l. ⊎_elim
-    (λ m. absurd (one b.0 a.0 q p m b.1 a.1 (sym n)))
-    (λ m. let e : a.0 ≡ b.0 = omega (arith, l, m) in
-    let x : Some p ≡ Some q = sym a.1 ∙ (ap (slice_get ps) e ∙ b.1) in cc)
-    (cases_lt b.0 a.0))
-    (cases_lt a.0 b.0)
+    let e = level a.0 b.0 (λ l. one a.0 b.0 p q l a.1 b.1 n) (λ l. one b.0 a.0 q p l b.1 a.1 (sym n)) in
+    let x : Some p ≡ Some q = sym a.1 ∙ (ap (slice_get ps) e ∙ b.1) in
+    cc
 
 node_get : (ps : List Place) (k : ℕ) (p : Place) → slice_get ps k ≡ Some p → slice_get (map (λ (q : Place). q.node) ps) k ≡ Some p.node
 node_get ps k p e = slice_get-map (λ (q : Place). q.node) ps k ∙ ap (option_map (λ (q : Place). q.node)) e
@@ -122,24 +105,18 @@ module _ (s : Nodes) (fall : KidsFall s)
   kids_once : (p : Place) → Has s p.node → OneEach (places_of_kids s p)
   kids_once p has i j q r l e f n =
       let ps = places_of_kids s p in
-      let two = twice q.node ps i j q r l e f refl n in
-      let a = sum_mapped (λ (x : Place). is q.node x.node) (place_kid p.here p.constant) (slots s p.node) in
-      let b = sum_mapped (is q.node) (λ (x : Slot). x.kid) (slots s p.node) in
+      let g = sum_mapped (λ (x : Place). is q.node x.node) (place_kid p.here p.constant) (slots s p.node) in
+      let u = sum_mapped (is q.node) (λ (x : Slot). x.kid) (slots s p.node) in
       let d = sum_by-IsPermutation (is q.node) (kids_of s p.node) (kids_in (slots s p.node)) (slots_kids s p.node) in
-      let u = lie_once (kids_of s p.node) (apart p.node has) q.node in
-      omega (arith, two, a, b, d, u)
+      omega (arith, twice q.node ps i j q r l e f refl n, g, u, d, lie_once (kids_of s p.node) (apart p.node has) q.node)
 
   under_low : (n r : NodeId) → Under s n r → Has s r → rank s n ≤ rank s r
   under_low n r itself has = omega arith
-  under_low n r (below {k = k} c u) has =
-      let low = fall.lower r has k c in
-      let more = under_low n k u (fall.there r has k c) in
-      omega (arith, low, more)
+  under_low n r (below {k = k} c u) has = omega (arith, fall.lower r has k c, under_low n k u (fall.there r has k c))
 
   module _ (tops : List Place) (there : (p : Place) → In p tops → Has s p.node) (tops_apart : LieApart s (map (λ (p : Place). p.node) tops)) where
     tops_once : OneEach tops
-    tops_once i j p q l e f n =
-        tops_apart i j p.node q.node p.node l (node_get tops i p e) (node_get tops j q f) itself (subst (Under s p.node) n itself)
+    tops_once i j p q l e f n = tops_apart i j p.node q.node p.node l (node_get tops i p e) (node_get tops j q f) itself (subst (Under s p.node) n itself)
 
     -- a top is no kid of what stands in a place
     top_free : (p r q : Place) → Contains tops p → Stands s tops r → In q (places_of_kids s r) → p.node ≡ q.node → ⊥
@@ -147,25 +124,16 @@ module _ (s : Nodes) (fall : KidsFall s)
         let up = stands_reached s tops r h in
         let kid_c = kid_of_place s r q (contains_in (places_of_kids s r) q i) in
         let has = stands_there s fall tops there r h in
-        let lies = under_kid s r.node q.node up.0 kid_c up.2 in
+        let lies = under_more s q.node r.node up.2 kid_c in
         let a = get_in tops p (in_contains tops p c) in
         let b = get_in (map (λ (x : Place). x.node) tops) up.0 (in_contains (map (λ (x : Place). x.node) tops) up.0 up.1) in
         let pa = node_get tops a.0 p a.1 in
         let own = subst (λ m. Under s m p.node) n itself in
-        ⊎_elim
-        (λ l. tops_apart a.0 b.0 p.node up.0 q.node l pa b.1 own lies)
-        (λ l. ⊎_elim
-        (λ m. tops_apart b.0 a.0 up.0 p.node q.node m b.1 pa lies own)
-        (λ m.
-        let e : a.0 ≡ b.0 = omega (arith, l, m) in
+        let e = level a.0 b.0 (λ l. tops_apart a.0 b.0 p.node up.0 q.node l pa b.1 own lies) (λ l. tops_apart b.0 a.0 up.0 p.node q.node l b.1 pa lies own) in
         let x : Some p.node ≡ Some up.0 = sym pa ∙ (ap (slice_get (map (λ (y : Place). y.node) tops)) e ∙ b.1) in
         let same : p.node ≡ up.0 = cc in
-        let low = under_low r.node p.node (subst (Under s r.node) (sym same) up.2) (there p (in_contains tops p c)) in
-        let lower = fall.lower r.node has q.node kid_c in
-        let level = ap (rank s) n in
-        omega (arith, low, lower, level))
-        (cases_lt b.0 a.0))
-        (cases_lt a.0 b.0)
+        let d = under_low r.node p.node (subst (Under s r.node) (sym same) up.2) (there p (in_contains tops p c)) in
+        omega (arith, d, fall.lower r.node has q.node kid_c, ap (rank s) n)
 
     pub stands_once : (p : Place) → Stands s tops p → (q : Place) → Stands s tops q → p.node ≡ q.node → p ≡ q
     stands_once p (top c) q (top d) n = same_place tops tops_once p q (in_contains tops p c) (in_contains tops q d) n
@@ -182,4 +150,4 @@ module _ (s : Nodes) (fall : KidsFall s)
     pub one_chain : (expr : ℕ) (c d : Chain) → HasChain s tops expr c → HasChain s tops expr d → c ≡ d
     one_chain expr c d h k =
         let same = stands_once h.at h.stands k.at k.stands (h.is_node ∙ sym k.is_node) in
-        h.is_chain ∙ (ap (λ (x : Place). within_own (form_of s (node.Expr expr)) x.here) same ∙ sym k.is_chain)
+        h.is_chain ∙ (ap (λ (x : Place). within_own (form_of s (NodeId.Expr expr)) x.here) same ∙ sym k.is_chain)

@@ -1,20 +1,17 @@
 -- The scopes of a body or a signature: which expressions have one, the frames along its chain, and how many scopes and
 -- entries there are.
-use Rattle.std.specs.Prelude.{◌≡◌, ◌↔◌, ◌<◌, ◌⊎◌, ℕ, Bool, true, false, List, Some, IsSome, length}
-use Rattle.std.specs.List.{filter}
-use Rattle.std.specs.Option.{option_map}
 use Rattle.std.specs.FinMap as map
-use Rattle.hir_forest.specs.Faults.{root_nodes}
+use Rattle.std.specs.{List.filter, Option.option_map}
+use Rattle.std.specs.Prelude.{◌≡◌, ◌↔◌, ◌<◌, ◌⊎◌, ℕ, Bool, true, false, List, Some, IsSome, length}
 use Rattle.hir_node.specs.declared.node_id.NodeId.{NodeId}
-use Rattle.hir_node.specs.declared.node_id.NodeId.TheVariants as node
+use Rattle.hir_forest.specs.Faults.{root_nodes}
 use Rattle.hir_faults.specs.Nodes.{Nodes}
 use Rattle.hir_expr_store.specs.Contents.{Contents}
 use Rattle.hir_items.specs.Bodies.{BodyContents, BodyReaches, body_nodes, formals_of, last_root}
 use Rattle.hir_items.specs.Signatures.{SignatureReaches, signature_nodes}
 use Rattle.hir_scope.specs.Chains.{Place, HasChain}
 use Rattle.hir_scope.specs.Counts.{body_scope_count, body_entry_count, signature_scope_count, signature_entry_count}
-use Rattle.hir_scope.specs.Paths.{chain}
-use Rattle.hir_scope.specs.Scopes.{Scopes, entry_count}
+use Rattle.hir_scope.specs.{Paths.chain, Scopes.Scopes, Scopes.entry_count}
 use Rattle.hir_scope.specs.Tops.{body_tops, signature_tops}
 
 -- what the nodes of a body are reached from, in their places
@@ -34,21 +31,22 @@ ChainsAreFrames s tops scopes =
     → HasChain s tops expr (chain scopes.scopes (Some scope))
 
 pub record AreBodyScopes (b : BodyContents) (result : Scopes) : Type 0 where
-  pub reached : (expr : ℕ) → IsSome (map.get result.scope_by_expr expr) ↔ BodyReaches b (node.Expr expr)
+  pub reached : (expr : ℕ) → IsSome (map.get result.scope_by_expr expr) ↔ BodyReaches b (NodeId.Expr expr)
   pub chains : ChainsAreFrames b.store.nodes (tops_of_body b) result
   pub scopes : length result.scopes ≡ body_scope_count b.store.nodes (body_nodes b)
   pub entries : entry_count result.scopes ≡ body_entry_count b.store.nodes b.self_param (body_nodes b)
 
 pub record AreSignatureScopes (c : Contents) (result : Scopes) : Type 0 where
-  pub reached : (expr : ℕ) → IsSome (map.get result.scope_by_expr expr) ↔ SignatureReaches c (node.Expr expr)
+  pub reached : (expr : ℕ)
+      → IsSome (map.get result.scope_by_expr expr) ↔ SignatureReaches c (NodeId.Expr expr)
   pub chains : ChainsAreFrames c.nodes (tops_of_signature c) result
   pub scopes : length result.scopes ≡ signature_scope_count c.nodes (length c.roots) (signature_nodes c)
   pub entries : entry_count result.scopes ≡ signature_entry_count c.nodes (signature_nodes c)
 
 abbrev pub is_expr : NodeId → Bool
-is_expr (node.Expr id) = true
-is_expr (node.Pat id) = false
-is_expr (node.TypeRef id) = false
+is_expr (NodeId.Expr id) = true
+is_expr (NodeId.Pat id) = false
+is_expr (NodeId.TypeRef id) = false
 
 -- how many of these nodes are expressions
 abbrev pub expr_count : List NodeId → ℕ

@@ -1,10 +1,8 @@
 -- The chain of an expression: the lexical frames around it, innermost first, found by going down from some tops in their places.
 use Rattle.std.specs.Prelude.{◌≡◌, ℕ, List, ◌∷◌, ◌++◌, map, Contains}
 use Rattle.hir_node.specs.declared.node_id.NodeId.{NodeId}
-use Rattle.hir_node.specs.declared.node_id.NodeId.TheVariants as node
 use Rattle.hir_faults.specs.Nodes.{Nodes}
-use Rattle.hir_scope.specs.Frames.{Chain}
-use Rattle.hir_scope.specs.Forms.{ScopingForm, form_of}
+use Rattle.hir_scope.specs.{Forms.ScopingForm, Forms.form_of, Frames.Chain}
 use Rattle.hir_scope.specs.Forms as form
 use Rattle.hir_scope.specs.Slots.{Base, Here, Const, Slot, slots, own_frame}
 
@@ -42,5 +40,5 @@ within_own x here = here
 pub record HasChain (s : Nodes) (tops : List Place) (expr : ℕ) (chain : Chain) : Type 0 where
   pub at : Place
   pub stands : Stands s tops at
-  pub is_node : at.node ≡ node.Expr expr
-  pub is_chain : chain ≡ within_own (form_of s (node.Expr expr)) at.here
+  pub is_node : at.node ≡ NodeId.Expr expr
+  pub is_chain : chain ≡ within_own (form_of s (NodeId.Expr expr)) at.here

@@ -1,12 +1,8 @@
 -- The counts of scopes and entries: sums over the nodes that a body or a signature reaches.
-use Rattle.std.specs.Prelude.{ℕ, ◌+◌, List, Option, Some, None, length}
 use Rattle.std.specs.List.{sum_by}
-use Rattle.hir_node.specs.declared.expr_types.Item.{Item}
-use Rattle.hir_node.specs.declared.expr_types.Item.TheVariants as item
-use Rattle.hir_node.specs.declared.expr_types.Statement.{Statement}
-use Rattle.hir_node.specs.declared.expr_types.Statement.TheVariants as statement
+use Rattle.std.specs.Prelude.{ℕ, ◌+◌, List, Option, Some, None, length}
+use Rattle.hir_node.specs.declared.expr_types.{Item.Item, Statement.Statement}
 use Rattle.hir_node.specs.declared.node_id.NodeId.{NodeId}
-use Rattle.hir_node.specs.declared.node_id.NodeId.TheVariants as node
 use Rattle.hir_faults.specs.Nodes.{Nodes}
 use Rattle.hir_expr_store.specs.PatLists.{bindings_at}
 use Rattle.hir_scope.specs.Forms.{ScopingForm, form_of}
@@ -18,13 +14,13 @@ count_if_there (Some x) = 1
 
 -- a macro's definition opens a scope for what follows, and one for the constants in it
 abbrev pub item_scopes : Item → ℕ
-item_scopes (item.MacroDef id) = 2
-item_scopes item.Other = 0
+item_scopes (Item.MacroDef id) = 2
+item_scopes Item.Other = 0
 
 abbrev pub statement_scopes : Statement → ℕ
-statement_scopes (statement.Let pat type_ref initializer else_branch) = 1
-statement_scopes (statement.Expr expr has_semi) = 0
-statement_scopes (statement.Item item) = item_scopes item
+statement_scopes (Statement.Let pat type_ref initializer else_branch) = 1
+statement_scopes (Statement.Expr expr has_semi) = 0
+statement_scopes (Statement.Item item) = item_scopes item
 
 -- the scopes that a node opens: a block one, with an id one more, and those of its statements; a match one for each arm
 abbrev pub form_scopes : ScopingForm → ℕ
@@ -40,9 +36,9 @@ form_scopes (form.InTurn calls) = 0
 
 -- the entries that a node brings: a `Bind` pattern one
 abbrev pub node_entries : Nodes → NodeId → ℕ
-node_entries s (node.Pat id) = length (bindings_at s id)
-node_entries s (node.Expr id) = 0
-node_entries s (node.TypeRef id) = 0
+node_entries s (NodeId.Pat id) = length (bindings_at s id)
+node_entries s (NodeId.Expr id) = 0
+node_entries s (NodeId.TypeRef id) = 0
 
 -- over the nodes that a body reaches: the root scope, and those that the nodes open
 abbrev pub body_scope_count : Nodes → List NodeId → ℕ

@@ -1,13 +1,9 @@
 -- A lexical frame: what it is, and the bindings that it brings into scope, all at once.
-use Rattle.std.specs.Prelude.{ℕ, List, [], ◌∷◌, slice_get}
-use Rattle.std.specs.List.{flat_map}
+use Rattle.std.specs.{List.flat_map, Prelude.ℕ, Prelude.List, Prelude.[], Prelude.◌∷◌, Prelude.slice_get}
 use Rattle.hir_node.specs.declared.binding.Binding.{Binding}
-use Rattle.hir_faults.specs.TestedParts.{all_of}
-use Rattle.hir_faults.specs.Nodes.{Nodes}
+use Rattle.hir_faults.specs.{Nodes.Nodes, TestedParts.all_of}
 use Rattle.hir_expr_store.specs.PatLists.{bindings_in}
-use Rattle.hir_scope.specs.declared.scope.ScopeEntry.{ScopeEntry}
-use Rattle.hir_scope.specs.declared.scope.ScopeKind.{ScopeKind}
-use Rattle.hir_scope.specs.declared.scope.ScopeKind.TheVariants as kind
+use Rattle.hir_scope.specs.declared.scope.{ScopeEntry.ScopeEntry, ScopeKind.ScopeKind}
 
 pub record Frame : Type 0 where
   pub kind : ScopeKind
@@ -31,18 +27,18 @@ binds s p = flat_map (entry_at s) (bindings_in s p)
 
 -- a frame of entries alone
 abbrev pub plain : List ScopeEntry → Frame
-plain entries = record { kind = kind.None; entries = entries }
+plain entries = record { kind = ScopeKind.None; entries = entries }
 
 -- the frame of this kind of all that these patterns bind
 abbrev pub frame_with : Nodes → ScopeKind → List ℕ → Frame
 frame_with s kind ps = record { kind = kind; entries = flat_map (binds s) ps }
 
 abbrev pub frame : Nodes → List ℕ → Frame
-frame s ps = frame_with s kind.None ps
+frame s ps = frame_with s ScopeKind.None ps
 
 -- a frame that is only of a kind
 abbrev pub of_kind : ScopeKind → Frame
 of_kind kind = record { kind = kind; entries = [] }
 
 abbrev pub empty : Frame
-empty = of_kind kind.None
+empty = of_kind ScopeKind.None

@@ -2,17 +2,14 @@
 use Rattle.std.specs.Prelude.{List, [], ◌∷◌, ◌++◌}
 use Rattle.hir_node.specs.ChildCalls.{Call, OnExpr, OnAnonConst, OnPat, OnType, OnLifetime, e, opt}
 use Rattle.hir_node.specs.declared.node_id.NodeId.{NodeId}
-use Rattle.hir_node.specs.declared.node_id.NodeId.TheVariants as node
-use Rattle.hir_faults.specs.Nodes.{Nodes}
-use Rattle.hir_faults.specs.Down.{value}
-use Rattle.hir_scope.specs.Frames.{Chain, frame}
-use Rattle.hir_scope.specs.Forms.{ScopingForm, form_of}
+use Rattle.hir_faults.specs.{Down.value, Nodes.Nodes}
+use Rattle.hir_scope.specs.{Forms.ScopingForm, Forms.form_of, Frames.Chain, Frames.frame}
 use Rattle.hir_scope.specs.Forms as form
 
 -- what the kid of a call leaks: an expression or a pattern its own leak, an anonymous constant or a type nothing
 abbrev pub leak_of_call : (NodeId → Chain) → Call → Chain
-leak_of_call leak (OnExpr id) = leak (node.Expr id)
-leak_of_call leak (OnPat id) = leak (node.Pat id)
+leak_of_call leak (OnExpr id) = leak (NodeId.Expr id)
+leak_of_call leak (OnPat id) = leak (NodeId.Pat id)
 leak_of_call leak (OnAnonConst id) = []
 leak_of_call leak (OnType id) = []
 leak_of_call leak (OnLifetime id) = []
@@ -26,10 +23,11 @@ leaks leak (c ∷ cs) = leaks leak cs ++ leak_of_call leak c
 -- Of an `if` only the else branch leaks, of a match the scrutinee, of an assignment the value. A block, a loop, a closure, a type leak
 -- nothing. Any other node leaks what its kids leak.
 abbrev pub leak_of_form : Nodes → (NodeId → Chain) → ScopingForm → Chain
-leak_of_form s leak (form.Let pat expr) = leak (node.Pat pat) ++ (frame s (pat ∷ []) ∷ leak (node.Expr expr))
+leak_of_form s leak (form.Let pat expr) =
+    leak (NodeId.Pat pat) ++ (frame s (pat ∷ []) ∷ leak (NodeId.Expr expr))
 leak_of_form s leak (form.If condition then_branch else_branch) = leaks leak (opt e else_branch)
-leak_of_form s leak (form.Match scrutinee arms) = leak (node.Expr scrutinee)
-leak_of_form s leak (form.Assignment target value) = leak (node.Expr value)
+leak_of_form s leak (form.Match scrutinee arms) = leak (NodeId.Expr scrutinee)
+leak_of_form s leak (form.Assignment target value) = leak (NodeId.Expr value)
 leak_of_form s leak (form.Block id label statements tail) = []
 leak_of_form s leak (form.Loop label body) = []
 leak_of_form s leak (form.Closure arg_types ret_type args body) = []

@@ -1,23 +1,21 @@
 -- The scopes of what the tables have of a definition: they are missing only where there is no entry.
-use Rattle.std.specs.Prelude.{◌≡◌, Option, None, Some, Result, Err, IfOk}
 use Rattle.std.specs.Option.{option_map}
+use Rattle.std.specs.Prelude.{◌≡◌, Option, None, Some, Result, Err, IfOk}
 use Rattle.hir_base.specs.declared.defs.DefWithBodyId.{DefWithBodyId}
 use Rattle.hir_base.specs.declared.defs.ExpressionStoreOwnerId.{ExpressionStoreOwnerId}
-use Rattle.hir_base.specs.declared.defs.ExpressionStoreOwnerId.TheVariants as owner
 use Rattle.hir_expr_store.specs.Contents.{Contents}
 use Rattle.hir_items.specs.Bodies.{BodyContents}
 use Rattle.hir_defs.specs.Lookups.{Tables, body_entry, owner_entry}
-use Rattle.hir_scope.specs.declared.fault.ScopesFault.{ScopesFault}
-use Rattle.hir_scope.specs.declared.fault.ScopesFault.TheVariants as fault
-use Rattle.hir_scope.specs.Scopes.{Scopes}
 use Rattle.hir_scope.specs.BodyScopes.{AreBodyScopes, BodyIsTooLarge, AreSignatureScopes, SignatureIsTooLarge}
+use Rattle.hir_scope.specs.{Scopes.Scopes, declared.fault.ScopesFault.ScopesFault}
 
 -- what is answered for the scopes of what was looked up, of which these are scopes, and which may be too large
 abbrev pub Answers : {X : Type 0} → (X → Scopes → Type 0) → (X → Type 0) → Option X
     → Result Scopes ScopesFault → Type 0
-Answers are_scopes is_too_large None result = result ≡ Err fault.Missing
+Answers are_scopes is_too_large None result = result ≡ Err ScopesFault.Missing
 Answers are_scopes is_too_large (Some x) result =
-    IfOk result (are_scopes x) × (result ≡ Err fault.Full → is_too_large x) × (result ≡ Err fault.Missing → ⊥)
+    IfOk result (are_scopes x) × (result ≡ Err ScopesFault.Full → is_too_large x)
+    × (result ≡ Err ScopesFault.Missing → ⊥)
 
 -- for the scopes of a body, and of the store of a signature or of a variant's fields
 abbrev pub AnswersBody : Option BodyContents → Result Scopes ScopesFault → Type 0
@@ -35,7 +33,8 @@ store_in t id = option_map (λ e. e.0) (owner_entry t id)
 
 -- for the scopes of an owner: those of the body where it owns one
 abbrev pub AnswersOwner : Tables → ExpressionStoreOwnerId → Result Scopes ScopesFault → Type 0
-AnswersOwner t (owner.Signature def) result = AnswersStore (store_in t (owner.Signature def)) result
-AnswersOwner t (owner.Body def) result = AnswersBody (body_in t def) result
-AnswersOwner t (owner.VariantFields variant) result =
-    AnswersStore (store_in t (owner.VariantFields variant)) result
+AnswersOwner t (ExpressionStoreOwnerId.Signature def) result =
+    AnswersStore (store_in t (ExpressionStoreOwnerId.Signature def)) result
+AnswersOwner t (ExpressionStoreOwnerId.Body def) result = AnswersBody (body_in t def) result
+AnswersOwner t (ExpressionStoreOwnerId.VariantFields variant) result =
+    AnswersStore (store_in t (ExpressionStoreOwnerId.VariantFields variant)) result

@@ -1,18 +1,12 @@
 -- Resolution through the definitions of macros: where a name comes to the definition of the macro that it was written by, it goes on with
 -- the hygiene that it has there.
+use Rattle.std.specs.{HashMap.HashMap, HashMap.get, Option.option_or}
 use Rattle.std.specs.Prelude.{ℕ, List, [], ◌∷◌, Option, Some, None, nat_eq, if◌then◌else◌}
-use Rattle.std.specs.Option.{option_or}
-use Rattle.std.specs.HashMap.{HashMap, get}
-use Rattle.std.specs.declared.hash.FoldHasher.{FoldHasher}
-use Rattle.std.specs.declared.hash.BuildHasherDefault.{BuildHasherDefault}
-use Rattle.hir_base.specs.declared.hygiene.SyntaxContext.{SyntaxContext}
-use Rattle.hir_base.specs.Hygiene.{is_root}
+use Rattle.std.specs.declared.hash.{BuildHasherDefault.BuildHasherDefault, FoldHasher.FoldHasher}
+use Rattle.hir_base.specs.{Hygiene.is_root, declared.hygiene.SyntaxContext.SyntaxContext}
 use Rattle.hir_base.specs.contracts.hygiene.HygieneIdPartialEq.TheImpl as hygienes
-use Rattle.hir_scope.specs.declared.macros.Expansion.{Expansion}
-use Rattle.hir_scope.specs.declared.scope.ScopeEntry.{ScopeEntry}
-use Rattle.hir_scope.specs.Frames.{Chain}
-use Rattle.hir_scope.specs.Scopes.{macro_def_of}
-use Rattle.hir_scope.specs.Resolution.{first_asked}
+use Rattle.hir_scope.specs.{Frames.Chain, Resolution.first_asked, Scopes.macro_def_of}
+use Rattle.hir_scope.specs.declared.{macros.Expansion.Expansion, scope.ScopeEntry.ScopeEntry}
 
 -- for hygienes the expansions that they come from
 abbrev pub Expansions : Type 0

@@ -1,22 +1,14 @@
 -- What a path means: the binding of the store that the name it asks for resolves to.
-use Rattle.std.specs.Prelude.{ℕ, zero, List, [], ◌∷◌, Option, Some, None, codes, if◌then◌else◌, length, nat_lt, slice_get}
 use Rattle.std.specs.FinMap as map
-use Rattle.hir_base.specs.declared.hygiene.SyntaxContext.{SyntaxContext}
-use Rattle.hir_base.specs.declared.mod_path.PathKind.{PathKind}
+use Rattle.std.specs.Prelude.{ℕ, zero, List, [], ◌∷◌, Option, Some, None, codes, if◌then◌else◌, length, nat_lt, slice_get}
+use Rattle.hir_base.specs.declared.{hygiene.SyntaxContext.SyntaxContext, mod_path.PathKind.PathKind}
 use Rattle.hir_base.specs.declared.mod_path.PathKind.TheVariants.{Plain, Super}
 use Rattle.hir_path.specs.declared.ids.ExprOrPatId.TheVariants.{ExprId, PatId}
 use Rattle.hir_path.specs.declared.path.Path.{Path}
-use Rattle.hir_path.specs.declared.path.Path.TheVariants as path
-use Rattle.hir_node.specs.declared.expr.Expr.{Expr}
-use Rattle.hir_node.specs.declared.expr.Expr.TheVariants as expr
-use Rattle.hir_node.specs.declared.pat.Pat.{Pat}
-use Rattle.hir_node.specs.declared.pat.Pat.TheVariants as pat
-use Rattle.hir_expr_store.specs.Contents.{Contents}
-use Rattle.hir_expr_store.specs.SideTables.{hygiene_of}
+use Rattle.hir_node.specs.declared.{expr.Expr.Expr, pat.Pat.Pat}
+use Rattle.hir_expr_store.specs.{Contents.Contents, SideTables.hygiene_of}
+use Rattle.hir_scope.specs.{Paths.chain, Resolution.resolve, Scopes.Scopes}
 use Rattle.hir_scope.specs.declared.scope.ScopeEntry.{ScopeEntry}
-use Rattle.hir_scope.specs.Paths.{chain}
-use Rattle.hir_scope.specs.Resolution.{resolve}
-use Rattle.hir_scope.specs.Scopes.{Scopes}
 
 -- A path that may mean a local variable asks for a name: one segment alone for itself, and `self` for `self`.
 abbrev pub name_asked : PathKind → List (List ℕ) → Option (List ℕ)
@@ -25,9 +17,9 @@ name_asked (Super zero) [] = Some (codes "self")
 name_asked kind names = None
 
 abbrev pub asked_name : Path → Option (List ℕ)
-asked_name (path.BarePath p) = name_asked p.kind p.segments
-asked_name (path.Normal n) = None
-asked_name (path.LangItem target name) = None
+asked_name (Path.BarePath p) = name_asked p.kind p.segments
+asked_name (Path.Normal n) = None
+asked_name (Path.LangItem target name) = None
 
 -- the binding of an entry, where it is one of the store
 abbrev pub binding_of : Contents → Option ScopeEntry → Option ℕ
@@ -43,7 +35,7 @@ meaning c scopes expr hygiene (Some name) =
 
 -- an expression that is a path asks where it is
 abbrev pub meant_by_expr : Contents → Scopes → ℕ → Option Expr → Option ℕ
-meant_by_expr c scopes id (Some (expr.Path path)) =
+meant_by_expr c scopes id (Some (Expr.Path path)) =
     meaning c scopes id (hygiene_of c.side_tables (ExprId id)) (asked_name path)
 meant_by_expr c scopes id found = None
 
@@ -52,7 +44,7 @@ binding_at c scopes id = meant_by_expr c scopes id (slice_get c.nodes.exprs id)
 
 -- a pattern that is a path, in the target of an assignment, asks where the assignment is
 abbrev pub meant_by_pat : Contents → Scopes → ℕ → ℕ → Option Pat → Option ℕ
-meant_by_pat c scopes assignment id (Some (pat.Path path)) =
+meant_by_pat c scopes assignment id (Some (Pat.Path path)) =
     meaning c scopes assignment (hygiene_of c.side_tables (PatId id)) (asked_name path)
 meant_by_pat c scopes assignment id found = None
 

@@ -1,19 +1,16 @@
 -- The order in which scopes are made: a node's child calls, where a type and what is matched come before the pattern, a guard before the
 -- body of its arm, the types of a closure before its arguments and these before its body.
-use Rattle.std.specs.Prelude.{ℕ, List, [], ◌++◌, Option}
-use Rattle.std.specs.List.{flat_map}
+use Rattle.std.specs.{List.flat_map, Prelude.ℕ, Prelude.List, Prelude.[], Prelude.◌++◌, Prelude.Option}
 use Rattle.hir_node.specs.ChildCalls.{Call, e, p, t, opt}
-use Rattle.hir_node.specs.declared.expr_types.MatchArm.{MatchArm}
-use Rattle.hir_node.specs.declared.expr_types.Statement.{Statement}
-use Rattle.hir_node.specs.declared.expr_types.Statement.TheVariants as statement
+use Rattle.hir_node.specs.declared.expr_types.{MatchArm.MatchArm, Statement.Statement}
 use Rattle.hir_scope.specs.Forms.{ScopingForm}
 use Rattle.hir_scope.specs.Forms as form
 
 abbrev pub met_in_statement : Statement → List Call
-met_in_statement (statement.Let pat type_ref initializer else_branch) =
+met_in_statement (Statement.Let pat type_ref initializer else_branch) =
     (opt t type_ref ++ opt e initializer ++ opt e else_branch) ++ p pat
-met_in_statement (statement.Expr expr has_semi) = e expr
-met_in_statement (statement.Item item) = []
+met_in_statement (Statement.Expr expr has_semi) = e expr
+met_in_statement (Statement.Item item) = []
 
 abbrev pub met_in_arm : MatchArm → List Call
 met_in_arm arm = p arm.pat ++ opt e arm.guard ++ e arm.expr

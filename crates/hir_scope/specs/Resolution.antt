@@ -1,13 +1,11 @@
 -- Resolution: the first entry of a chain, frame by frame from the innermost, whose name and hygiene both are those asked.
-use Rattle.std.specs.Prelude.{◌≡◌, ℕ, ◌<◌, List, [], ◌∷◌, ◌++◌, Option, Some, None, Bool, ◌&&◌, if◌then◌else◌, length}
 use Rattle.std.specs.List.{flat_map}
-use Rattle.hir_base.specs.declared.hygiene.SyntaxContext.{SyntaxContext}
-use Rattle.hir_base.specs.contracts.name.NamePartialEq.TheImpl as names
+use Rattle.std.specs.Prelude.{◌≡◌, ℕ, ◌<◌, List, [], ◌∷◌, ◌++◌, Option, Some, None, Bool, ◌&&◌, if◌then◌else◌, length}
 use Rattle.hir_base.specs.contracts.hygiene.HygieneIdPartialEq.TheImpl as hygienes
-use Rattle.hir_scope.specs.declared.scope.ScopeEntry.{ScopeEntry}
+use Rattle.hir_base.specs.contracts.name.NamePartialEq.TheImpl as names
+use Rattle.hir_base.specs.declared.hygiene.SyntaxContext.{SyntaxContext}
 use Rattle.hir_scope.specs.Frames.{Frame, Chain}
-use Rattle.hir_scope.specs.Paths.{path, frame_at}
-use Rattle.hir_scope.specs.Scopes.{Scope}
+use Rattle.hir_scope.specs.{Paths.path, Paths.frame_at, Scopes.Scope, declared.scope.ScopeEntry.ScopeEntry}
 
 -- the entry has this name and this hygiene
 abbrev pub is_asked : List ℕ → SyntaxContext → ScopeEntry → Bool

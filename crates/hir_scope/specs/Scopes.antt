@@ -1,12 +1,9 @@
 -- Scopes as a caller sees them: a list of scopes, each with its parent, and the scope of each expression.
-use Rattle.std.specs.Prelude.{◌≡◌, ℕ, ◌<◌, List, Option, Some, None, length, slice_get, ⊤}
-use Rattle.std.specs.List.{sum_by}
-use Rattle.std.specs.Ordering.{nat_cmp}
 use Rattle.std.specs.FinMap as map
-use Rattle.hir_scope.specs.declared.scope.ScopeEntry.{ScopeEntry}
-use Rattle.hir_scope.specs.declared.scope.ScopeKind.{ScopeKind}
-use Rattle.hir_scope.specs.declared.scope.ScopeKind.TheVariants as kind
+use Rattle.std.specs.{List.sum_by, Ordering.nat_cmp}
+use Rattle.std.specs.Prelude.{◌≡◌, ℕ, ◌<◌, List, Option, Some, None, length, slice_get, ⊤}
 use Rattle.hir_scope.specs.Frames.{Frame}
+use Rattle.hir_scope.specs.declared.scope.{ScopeEntry.ScopeEntry, ScopeKind.ScopeKind}
 
 pub record Scope : Type 0 where
   pub parent : Option ℕ
@@ -38,19 +35,19 @@ abbrev pub ParentsStandEarlier : List Scope → Type 0
 ParentsStandEarlier scopes = (i : ℕ) (s : Scope) → slice_get scopes i ≡ Some s → IsBelow i s.parent
 
 abbrev pub block_of : ScopeKind → Option ℕ
-block_of (kind.Block id label) = Some id
-block_of kind.None = None
-block_of (kind.Label label) = None
-block_of (kind.MacroDef id) = None
+block_of (ScopeKind.Block id label) = Some id
+block_of ScopeKind.None = None
+block_of (ScopeKind.Label label) = None
+block_of (ScopeKind.MacroDef id) = None
 
 abbrev pub label_of : ScopeKind → Option ℕ
-label_of (kind.Block id label) = label
-label_of (kind.Label label) = Some label
-label_of kind.None = None
-label_of (kind.MacroDef id) = None
+label_of (ScopeKind.Block id label) = label
+label_of (ScopeKind.Label label) = Some label
+label_of ScopeKind.None = None
+label_of (ScopeKind.MacroDef id) = None
 
 abbrev pub macro_def_of : ScopeKind → Option ℕ
-macro_def_of (kind.MacroDef id) = Some id
-macro_def_of kind.None = None
-macro_def_of (kind.Block id label) = None
-macro_def_of (kind.Label label) = None
+macro_def_of (ScopeKind.MacroDef id) = Some id
+macro_def_of ScopeKind.None = None
+macro_def_of (ScopeKind.Block id label) = None
+macro_def_of (ScopeKind.Label label) = None

@@ -1,13 +1,11 @@
 -- The tops of a body or a signature in their places: what its nodes are reached from, with the frames around each.
-use Rattle.std.specs.Prelude.{ℕ, List, [], ◌∷◌, ◌++◌, Option, map}
 use Rattle.std.specs.List.{flat_map}
-use Rattle.hir_node.specs.ChildCalls.{e, p, opt}
-use Rattle.hir_node.specs.declared.node_id.NodeId.TheVariants as node
-use Rattle.hir_faults.specs.TestedParts.{all_of}
-use Rattle.hir_faults.specs.Nodes.{Nodes}
+use Rattle.std.specs.Prelude.{ℕ, List, [], ◌∷◌, ◌++◌, Option, map}
+use Rattle.hir_node.specs.{ChildCalls.e, ChildCalls.p, ChildCalls.opt, declared.node_id.NodeId.NodeId}
+use Rattle.hir_faults.specs.{Nodes.Nodes, TestedParts.all_of}
+use Rattle.hir_scope.specs.Chains.{Place, place_kid}
 use Rattle.hir_scope.specs.Frames.{Frame, entry_at, binds, plain, empty}
 use Rattle.hir_scope.specs.Slots.{in_turn}
-use Rattle.hir_scope.specs.Chains.{Place, place_kid}
 
 -- the root frame of a body: the binding of `self`, where there is one, and then what the formals bind
 abbrev pub root_frame : Nodes → Option ℕ → List ℕ → Frame
@@ -23,4 +21,4 @@ body_tops s self_binding formals last_root =
 unfoldable pub signature_tops : List ℕ → List Place
 signature_tops roots =
     let around = empty ∷ empty ∷ [] in
-    map (λ root. record { node = node.Expr root; here = around; constant = around }) roots
+    map (λ root. record { node = NodeId.Expr root; here = around; constant = around }) roots

@@ -37,12 +37,14 @@ pub fn slots_hold_the_kids()
 {}
 
 /// The slots of a node are for its child calls in the order in which scopes are made.
+#[tactic(auto, using(crate::proofs::KidLemmas::slots_follow))]
 pub fn slots_follow_the_order()
     ensures { (s : Nodes) (n : NodeId)
         → map slot_kid (slots s n) ≡ flat_map call_kids (met_in_form (form_of s n)) }
 {}
 
 /// A node stands in a place exactly where it is reached.
+#[tactic(auto, using(crate::proofs::UnderLemmas::reached_stands, crate::proofs::UnderLemmas::stands_reached))]
 pub fn what_is_reached_stands()
     ensures stands { (s : Nodes) (tops : List Place) (n : NodeId) → IsReached s (map (λ at. at.node) tops) n
         → (at : Place) × Stands s tops at × (at.node ≡ n) }
@@ -51,12 +53,14 @@ pub fn what_is_reached_stands()
 {}
 
 /// The path of a scope has at most as many members as there are scopes.
+#[tactic(auto, using(crate::proofs::PathLemmas::path_fits))]
 pub fn chains_are_short()
     ensures { (scopes : List Scope) → ParentsStandEarlier scopes → (scope : Option ℕ) → IsIn scopes scope
         → length (path scopes scope) ≤ length scopes }
 {}
 
 /// The path of a scope is the scope, and then the path of its parent. All scopes on it are there.
+#[tactic(auto, using(crate::proofs::PathLemmas::path_step, crate::proofs::PathLemmas::path_members))]
 pub fn a_chain_goes_outward()
     ensures step { (scopes : List Scope) → ParentsStandEarlier scopes → (scope : ℕ) (found : Scope)
         → slice_get scopes scope ≡ Some found → path scopes (Some scope) ≡ scope ∷ path scopes found.parent }

@@ -9,6 +9,7 @@ ghost use Rattle.hir_scope.specs.Resolution.{entries_of, resolve};
 ghost use Rattle.hir_scope.specs.Macros.{resolve_through};
 
 /// A name whose hygiene comes from no expansion that is known, as that of source text, means the same with macros and without.
+#[tactic(auto, using(crate::proofs::ResolveLemmas::through_nothing))]
 pub fn only_expansions_go_through_macros()
     ensures { (from : SyntaxContext → Option Expansion) (chain : Chain) (name : List ℕ)
         (hygiene : SyntaxContext)
@@ -16,6 +17,7 @@ pub fn only_expansions_go_through_macros()
 {}
 
 /// What a name means through macros is an entry of its chain.
+#[tactic(auto, using(crate::proofs::ResolveLemmas::through_is_among))]
 pub fn what_is_meant_through_macros_is_in_the_chain()
     ensures { (from : SyntaxContext → Option Expansion) (chain : Chain) (name : List ℕ)
         (hygiene : SyntaxContext)

@@ -1,8 +1,7 @@
 -- Marks of the numbers that are listed.
-use Rattle.std.specs.Prelude.{◌≡◌, ℕ, Bool, List, is_some, ◌==◌}
-use Rattle.std.specs.List.{list_any}
-use Rattle.std.specs.Ordering.{nat_cmp}
 use Rattle.std.specs.FinMap as map
+use Rattle.std.specs.{List.list_any, Ordering.nat_cmp}
+use Rattle.std.specs.Prelude.{◌≡◌, ℕ, Bool, List, is_some, ◌==◌}
 
 -- a number is listed
 abbrev pub is_listed : List ℕ → ℕ → Bool

@@ -1,15 +1,11 @@
 -- How the reading of a closure's code goes on. Only contracts within this crate cite it.
-use Rattle.std.specs.Prelude.{◌≡◌, ℕ, ◌-◌, ◌<◌, List, Option, fold, filter_map, length}
-use Rattle.std.specs.List.{flat_map}
 use Rattle.std.specs.FinMap as map
-use Rattle.hir_scope.specs.Frames.{Chain}
-use Rattle.hir_scope.specs.Paths.{chain}
-use Rattle.hir_scope.specs.Scopes.{Scopes}
-use Rattle.hir_captures.specs.declared.code.Code.{Code}
-use Rattle.hir_captures.specs.declared.to_read.Task.{Task}
-use Rattle.hir_captures.specs.Captures.{meaning_behind, with_new}
+use Rattle.std.specs.List.{flat_map}
+use Rattle.std.specs.Prelude.{◌≡◌, ℕ, ◌-◌, ◌<◌, List, Option, fold, filter_map, length}
+use Rattle.hir_scope.specs.{Frames.Chain, Paths.chain, Scopes.Scopes}
+use Rattle.hir_captures.specs.{Captures.meaning_behind, Captures.with_new, Uses.Use, Uses.spot_uses}
+use Rattle.hir_captures.specs.declared.{code.Code.Code, to_read.Task.Task}
 use Rattle.hir_captures.specs.walk.Pending.{AreThere, code_of}
-use Rattle.hir_captures.specs.Uses.{Use, spot_uses}
 
 -- the chain that the scopes have of an expression
 abbrev pub chain_in : Scopes → ℕ → Chain

@@ -1,19 +1,16 @@
 -- That `==` of scopes decides whether they are the same: their kinds, entries and parents, and the scope of each expression.
-use Rattle.std.specs.Prelude.{◌≡◌, Bool, ◌&&◌, eqb}
 use Rattle.std.specs.Bool.{Decides}
-use Rattle.std.specs.Option.{option_eq}
-use Rattle.std.specs.Ordering.{nat_cmp}
-use Rattle.std.specs.FinMap as map
 use Rattle.std.specs.Cmp.{IsEquivalence, IsPartialEquivalence, decided, partial_equiv_from_equiv, nat_cmp_total, unsigned_Decides}
-use Rattle.std.specs.Cmp.Lexicographic.{pointwise, pointwise_decides}
-use Rattle.hir_base.specs.Exact.{optional_numbers_decide}
-use Rattle.hir_base.specs.Maps.{same_maps, same_maps_decides}
+use Rattle.std.specs.{Cmp.Lexicographic.pointwise, Cmp.Lexicographic.pointwise_decides, Option.option_eq}
+use Rattle.std.specs.FinMap as map
+use Rattle.std.specs.{Ordering.nat_cmp, Prelude.◌≡◌, Prelude.Bool, Prelude.◌&&◌, Prelude.eqb}
+use Rattle.hir_base.specs.{Exact.optional_numbers_decide, Maps.same_maps, Maps.same_maps_decides}
 use Rattle.hir_path.specs.same.Fields.{and_decides, both}
-use Rattle.hir_scope.specs.contracts.scope.ScopeEntryPartialEq.TheImpl as entry
-use Rattle.hir_scope.specs.contracts.scope.ScopeEntryExactEq.TheImpl.Laws as entry_law
-use Rattle.hir_scope.specs.contracts.scope.ScopeKindPartialEq.TheImpl as kind
-use Rattle.hir_scope.specs.contracts.scope.ScopeKindExactEq.TheImpl.Laws as kind_law
 use Rattle.hir_scope.specs.Scopes.{Scope, Scopes}
+use Rattle.hir_scope.specs.contracts.scope.ScopeEntryExactEq.TheImpl.Laws as entry_law
+use Rattle.hir_scope.specs.contracts.scope.ScopeEntryPartialEq.TheImpl as entry
+use Rattle.hir_scope.specs.contracts.scope.ScopeKindExactEq.TheImpl.Laws as kind_law
+use Rattle.hir_scope.specs.contracts.scope.ScopeKindPartialEq.TheImpl as kind
 
 abbrev pub same_scope : Scope → Scope → Bool
 same_scope x y =

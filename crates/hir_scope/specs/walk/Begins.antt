@@ -1,29 +1,21 @@
 -- Where the walk over a body or a signature begins: its first scopes, and what it has to do. Only contracts within this crate cite it.
-use Rattle.std.specs.Prelude.{◌≡◌, ℕ, ◌<◌, suc, List, [], ◌∷◌, ◌++◌, Some, None, Contains, IfSome, length, option_map, slice_get, replicate}
-use Rattle.std.specs.List.{flat_map}
 use Rattle.std.specs.FinMap as map
-use Rattle.hir_forest.specs.Faults.{root_nodes}
+use Rattle.std.specs.List.{flat_map}
+use Rattle.std.specs.Prelude.{◌≡◌, ℕ, ◌<◌, suc, List, [], ◌∷◌, ◌++◌, Some, None, Contains, IfSome, length, option_map, slice_get, replicate}
 use Rattle.hir_node.specs.ChildCalls.{e, p, opt}
-use Rattle.hir_node.specs.declared.pat.Pat.{Pat}
-use Rattle.hir_node.specs.declared.node_id.NodeId.{NodeId}
-use Rattle.hir_faults.specs.Down.{KidsFall}
-use Rattle.hir_faults.specs.Nodes.{Nodes, Has, kids_of}
-use Rattle.hir_faults.specs.Sound.{IsSoundNode}
+use Rattle.hir_node.specs.declared.{node_id.NodeId.NodeId, pat.Pat.Pat}
+use Rattle.hir_forest.specs.Faults.{root_nodes}
+use Rattle.hir_faults.specs.{Down.KidsFall, Nodes.Nodes, Nodes.Has, Nodes.kids_of, Sound.IsSoundNode}
 use Rattle.hir_faults.specs.TestedParts.{tested_pat}
+use Rattle.hir_expr_store.specs.Contents.{Contents}
 use Rattle.hir_expr_store.specs.PatLists.{bindings_at, bindings_in, child_pats_of}
 use Rattle.hir_expr_store.specs.Under.{nodes_under}
-use Rattle.hir_expr_store.specs.Contents.{Contents}
 use Rattle.hir_items.specs.Bodies.{BodyContents, AreBelow, formals_of, last_root, tops}
 use Rattle.hir_items.specs.Signatures.{root_tops}
-use Rattle.hir_scope.specs.declared.scope.ScopeEntry.{ScopeEntry}
-use Rattle.hir_scope.specs.declared.scope.ScopeKind.TheVariants as kind
-use Rattle.hir_scope.specs.declared.tasks.Around.{Around}
-use Rattle.hir_scope.specs.declared.tasks.Task.{Task}
-use Rattle.hir_scope.specs.declared.tasks.Task.TheVariants as task
-use Rattle.hir_scope.specs.Scopes.{Scope, Scopes}
-use Rattle.hir_scope.specs.Tops.{root_frame}
-use Rattle.hir_scope.specs.walk.Pending.{tasks_of}
-use Rattle.hir_scope.specs.walk.Machine.{Machine}
+use Rattle.hir_scope.specs.{Scopes.Scope, Scopes.Scopes, Tops.root_frame}
+use Rattle.hir_scope.specs.declared.scope.{ScopeEntry.ScopeEntry, ScopeKind.ScopeKind}
+use Rattle.hir_scope.specs.declared.tasks.{Around.Around, Task.Task}
+use Rattle.hir_scope.specs.walk.{Machine.Machine, Pending.tasks_of}
 
 -- 1. What the laws say of what has no fault, where a walk over it needs it
 
@@ -59,7 +51,7 @@ root_entries b =
     (root_frame b.store.nodes (option_map (λ p. p.formal) b.self_param) (formals_of b.params)).entries
 
 abbrev pub body_root : BodyContents → Scope
-body_root b = record { parent = None; kind = kind.None; entries = root_entries b }
+body_root b = record { parent = None; kind = ScopeKind.None; entries = root_entries b }
 
 abbrev pub formal_tasks : List ℕ → List Task
 formal_tasks formals = tasks_of (flat_map p formals)
@@ -74,10 +66,10 @@ body_begins b = record {
 
 -- the root scope of a signature, and that of a root in it
 abbrev pub signature_root : Scope
-signature_root = record { parent = None; kind = kind.None; entries = [] }
+signature_root = record { parent = None; kind = ScopeKind.None; entries = [] }
 
 abbrev pub scope_in_root : Scope
-scope_in_root = record { parent = Some 0; kind = kind.None; entries = [] }
+scope_in_root = record { parent = Some 0; kind = ScopeKind.None; entries = [] }
 
 -- this many scopes within the root scope
 abbrev pub scopes_in_root : ℕ → List Scope
@@ -87,7 +79,7 @@ scopes_in_root n = signature_root ∷ replicate n scope_in_root
 abbrev pub root_tasks : List ℕ → List Task
 root_tasks [] = []
 root_tasks (root ∷ roots) =
-    task.Leave (suc (length roots)) (suc (length roots)) ∷ task.Expr root ∷ root_tasks roots
+    Task.Leave (suc (length roots)) (suc (length roots)) ∷ Task.Expr root ∷ root_tasks roots
 
 -- a signature's, where these of its roots are to be met
 abbrev pub roots_begin : List ℕ → Machine

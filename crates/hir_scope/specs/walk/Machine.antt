@@ -1,24 +1,16 @@
 -- The state of a walk, and how it goes on. Only contracts within this crate cite it.
-use Rattle.std.specs.Prelude.{◌≡◌, ℕ, ◌+◌, ◌<◌, List, [], ◌∷◌, ◌++◌, map, length, ◌⊎◌, Some, ⊤}
-use Rattle.std.specs.List.{All, flat_map, sum_by}
-use Rattle.std.specs.Ordering.{nat_cmp}
 use Rattle.std.specs.FinMap as finmap
+use Rattle.std.specs.{List.All, List.flat_map, List.sum_by, Ordering.nat_cmp}
+use Rattle.std.specs.Prelude.{◌≡◌, ℕ, ◌+◌, ◌<◌, List, [], ◌∷◌, ◌++◌, map, length, ◌⊎◌, Some, ⊤}
 use Rattle.hir_node.specs.declared.node_id.NodeId.{NodeId}
-use Rattle.hir_node.specs.declared.node_id.NodeId.TheVariants as node
-use Rattle.hir_faults.specs.Nodes.{Nodes, Has, kids_of}
-use Rattle.hir_faults.specs.Down.{value}
-use Rattle.hir_scope.specs.declared.tasks.Around.{Around}
-use Rattle.hir_scope.specs.declared.tasks.Task.{Task}
-use Rattle.hir_scope.specs.declared.tasks.Task.TheVariants as task
-use Rattle.hir_scope.specs.declared.walk.Walk.{Walk}
-use Rattle.hir_scope.specs.Frames.{Frame, Chain}
-use Rattle.hir_scope.specs.Forms.{ScopingForm, form_of}
-use Rattle.hir_scope.specs.Forms as form
+use Rattle.hir_faults.specs.{Down.value, Nodes.Nodes, Nodes.Has, Nodes.kids_of}
 use Rattle.hir_scope.specs.Chains.{Place, within_own}
-use Rattle.hir_scope.specs.walk.PlacesUnder.{place}
-use Rattle.hir_scope.specs.walk.Pending.{form_tasks, opens_here, opens_constant, future, task_kids, task_frames}
+use Rattle.hir_scope.specs.{Forms.ScopingForm, Forms.form_of, Frames.Frame, Frames.Chain, Paths.chain}
+use Rattle.hir_scope.specs.Forms as form
 use Rattle.hir_scope.specs.Scopes.{Scope, Scopes, frame_of}
-use Rattle.hir_scope.specs.Paths.{chain}
+use Rattle.hir_scope.specs.declared.{tasks.Around.Around, tasks.Task.Task, walk.Walk.Walk}
+use Rattle.hir_scope.specs.walk.Pending.{form_tasks, opens_here, opens_constant, future, task_kids, task_frames}
+use Rattle.hir_scope.specs.walk.PlacesUnder.{place}
 
 -- 1. The state
 
@@ -61,7 +53,7 @@ about tasks = flat_map task_kids tasks
 -- the scopes that tasks take back are there
 abbrev pub LeavesWithin : ℕ → List Task → Type 0
 LeavesWithin n [] = ⊤
-LeavesWithin n (task.Leave outer outer_constant ∷ rest) =
+LeavesWithin n (Task.Leave outer outer_constant ∷ rest) =
     (outer < n) × (outer_constant < n) × LeavesWithin n rest
 LeavesWithin n (t ∷ rest) = LeavesWithin n rest
 
@@ -124,15 +116,15 @@ Exceeds s m = (4294967295 < weight s one m) ⊎ (4294967295 < weight s count_ent
 
 -- the turns of the loop that a task takes, apart from those of its nodes
 abbrev pub task_turns : Task → ℕ
-task_turns (task.Expr id) = 0
-task_turns (task.Constant id) = 2
-task_turns (task.Pat id) = 0
-task_turns (task.TypeRef id) = 0
-task_turns (task.Bound id) = 1
-task_turns (task.Arm pat expr) = 2
-task_turns (task.GuardedArm pat guard expr) = 2
-task_turns (task.MacroDef id) = 1
-task_turns (task.Leave outer outer_constant) = 1
+task_turns (Task.Expr id) = 0
+task_turns (Task.Constant id) = 2
+task_turns (Task.Pat id) = 0
+task_turns (Task.TypeRef id) = 0
+task_turns (Task.Bound id) = 1
+task_turns (Task.Arm pat expr) = 2
+task_turns (Task.GuardedArm pat guard expr) = 2
+task_turns (Task.MacroDef id) = 1
+task_turns (Task.Leave outer outer_constant) = 1
 
 abbrev pub node_turns : Nodes → NodeId → ℕ
 node_turns s n = 2 + sum_by task_turns (node_tasks s n)
@@ -169,10 +161,10 @@ pub record Moves (s : Nodes) (old new : Machine) (met : List Place) : Type 0 whe
 
 -- an expression was met, and its scope is this one
 pub record Meets (s : Nodes) (old : Walk) (expr : ℕ) (new : Walk) (scope : ℕ) : Type 0 where
-  pub moves : Moves s (doing old (task.Expr expr)) (state new)
-      (place (node.Expr expr) (here_of (state old)) (constant_of (state old)) ∷ [])
+  pub moves : Moves s (doing old (Task.Expr expr)) (state new)
+      (place (NodeId.Expr expr) (here_of (state old)) (constant_of (state old)) ∷ [])
   pub frames : HasFrames new.scopes.scopes scope
-      (within_own (form_of s (node.Expr expr)) (here_of (state old)))
+      (within_own (form_of s (NodeId.Expr expr)) (here_of (state old)))
 
 -- an expression that was given its scope, with the frames around it
 pub record ScopeGift : Type 0 where
@@ -182,7 +174,7 @@ pub record ScopeGift : Type 0 where
   pub scope : ℕ
 
 abbrev pub place_given : ScopeGift → Place
-place_given g = place (node.Expr g.expr) g.here g.constant
+place_given g = place (NodeId.Expr g.expr) g.here g.constant
 
 abbrev pub write_all : finmap.FinMap nat_cmp ℕ → List ScopeGift → finmap.FinMap nat_cmp ℕ
 write_all by_expr [] = by_expr
@@ -190,7 +182,7 @@ write_all by_expr (g ∷ gs) = write_all (finmap.insert by_expr g.expr g.scope) 
 
 -- the scope is that of the expression's chain
 abbrev pub IsRight : Nodes → List Scope → ScopeGift → Type 0
-IsRight s scopes g = HasFrames scopes g.scope (within_own (form_of s (node.Expr g.expr)) g.here)
+IsRight s scopes g = HasFrames scopes g.scope (within_own (form_of s (NodeId.Expr g.expr)) g.here)
 
 -- the scope of an expression: of a block the one inside it, of any other the one around it
 abbrev pub scope_within : ScopingForm → ℕ → ℕ → ℕ

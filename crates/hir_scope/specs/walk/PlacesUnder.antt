@@ -1,12 +1,8 @@
 -- What is under a node in its place, as a list.
-use Rattle.std.specs.Prelude.{List, [], ◌∷◌}
-use Rattle.std.specs.List.{flat_map, filter}
+use Rattle.std.specs.{List.flat_map, List.filter, Prelude.List, Prelude.[], Prelude.◌∷◌}
 use Rattle.hir_node.specs.declared.node_id.NodeId.{NodeId}
-use Rattle.hir_faults.specs.Nodes.{Nodes}
-use Rattle.hir_faults.specs.Down.{value}
-use Rattle.hir_scope.specs.BodyScopes.{is_expr}
-use Rattle.hir_scope.specs.Frames.{Chain}
-use Rattle.hir_scope.specs.Chains.{Place, places_of_kids}
+use Rattle.hir_faults.specs.{Down.value, Nodes.Nodes}
+use Rattle.hir_scope.specs.{BodyScopes.is_expr, Chains.Place, Chains.places_of_kids, Frames.Chain}
 
 abbrev pub place : NodeId → Chain → Chain → Place
 place n here constant = record { node = n; here = here; constant = constant }

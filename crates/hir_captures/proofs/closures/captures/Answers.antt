@@ -1,8 +1,5 @@
 use Rattle.std.proofs.Common.{◌∙◌, ap, List, ℕ, ◌∷◌, []}
-use Rattle.hir_captures.specs.declared.code.Code.{Code}
-use Rattle.hir_captures.specs.declared.to_read.Task.{Task}
-use Rattle.hir_captures.specs.declared.to_read.Task.TheVariants as task
-use Rattle.hir_captures.specs.walk.Reading.{with_code}
+use Rattle.hir_captures.specs.{declared.code.Code.Code, declared.to_read.Task.Task, walk.Reading.with_code}
 use Rattle.hir_captures.proofs.ReadLemmas.{are_captures}
 use Rattle.hir_captures.proofs.closures.captures.Goals as goal
 
@@ -10,7 +7,7 @@ use Rattle.hir_captures.proofs.closures.captures.Goals as goal
 pub returns-clause-captures : goal.returns-clause-captures
 returns-clause-captures c =
     let code : Code = record { store = c.store-store.result; scopes = c.args.scopes; outermost = c.depth.result } in
-    let one = c.in_ok-push.ensures.ok ∙ ap (λ (ts : List Task). task.Expr c.args.closure ∷ ts) c.new-unread.ensures in
+    let one = c.in_ok-push.ensures.ok ∙ ap (λ (ts : List Task). Task.Expr c.args.closure ∷ ts) c.new-unread.ensures in
     are_captures c.args.body.now code c.args.closure c.in-Some.scope c.into_bindings.result.items c.store-store.ensures c.depth.ensures c.requires.reached c.requires.chains c.in-Some.ensures.some
     (c.into_bindings.ensures
     ∙ (c.in_ok-read_all.ensures.found

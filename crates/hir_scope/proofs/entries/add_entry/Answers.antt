@@ -1,10 +1,7 @@
 use Rattle.std.proofs.Common.{◌≤◌, ◌++◌, ◌∷◌, [], List, length, sym, ap, ◌∙◌, inl, inr}
-use Rattle.std.proofs.lemmas.Bool.{cases_lt, false≢true}
-use Rattle.std.proofs.lemmas.List.{append-nil}
-use Rattle.std.proofs.lemmas.Option.{slice_get_past}
+use Rattle.std.proofs.lemmas.{Bool.cases_lt, Bool.false≢true, List.append-nil, Option.slice_get_past}
 use Rattle.hir_faults.specs.TestedParts.{all_of}
-use Rattle.hir_scope.specs.declared.scope.ScopeEntry.{ScopeEntry}
-use Rattle.hir_scope.specs.Frames.{entry_of}
+use Rattle.hir_scope.specs.{Frames.entry_of, declared.scope.ScopeEntry.ScopeEntry}
 use Rattle.hir_scope.proofs.entries.add_entry.Goals as goal
 
 pub returns-then-not-has_binding-clause-ok : goal.returns-then-not-has_binding-clause-ok

@@ -1,7 +1,6 @@
 use Rattle.std.proofs.Common.{◌++◌}
 use Rattle.std.specs.List.{flat_map}
-use Rattle.hir_node.specs.ChildCalls.{e, p, t, opt}
-use Rattle.hir_node.specs.Runs.{a_call}
+use Rattle.hir_node.specs.{ChildCalls.e, ChildCalls.p, ChildCalls.t, ChildCalls.opt, Runs.a_call}
 use Rattle.hir_node.proofs.RunLemmas.{runs_one, runs_append, may_here, may_then, may_first, may_after}
 use Rattle.hir_scope.proofs.order.visit_in_scope_order.Goals as goal
 

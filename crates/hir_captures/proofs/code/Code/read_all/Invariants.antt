@@ -1,6 +1,5 @@
 use Rattle.std.proofs.Common.{◌≡◌, length}
-use Rattle.hir_captures.specs.walk.Pending.{AreThere, code_of}
-use Rattle.hir_captures.specs.walk.Reading.{with_code}
+use Rattle.hir_captures.specs.walk.{Pending.AreThere, Pending.code_of, Reading.with_code}
 use Rattle.hir_captures.proofs.code.Code.read_all.Given as goal
 
 abbrev pub invariant-loop-task : goal.invariant-loop-task

@@ -1,9 +1,9 @@
 use Rattle.std.proofs.Common.{◌≡◌, ◌≤◌, ◌<◌, ◌+◌, ◌∙◌, ◌++◌, ◌∷◌, [], List, cond, ap, sym, subst, length, arith, refl}
-use Rattle.hir_scope.specs.declared.expr_scopes.ScopeData.{ScopeData}
 use Rattle.hir_scope.specs.Scopes.{Scopes, Scope, IsBelow}
+use Rattle.hir_scope.specs.declared.expr_scopes.ScopeData.{ScopeData}
 use Rattle.hir_scope.proofs.SameLemmas.{flat_push, seen_pushed, length_seen, scopes_too_many, entries_too_many, not_too_many}
-use Rattle.hir_scope.proofs.expr_scopes.ExprScopes.new_scope.Goals as goal
 use Rattle.hir_scope.proofs.expr_scopes.ExprScopes.new_scope.Goals.{then-count-ge-LIMIT-via-then-count-ge-LIMIT, then-count-ge-LIMIT-via-else-count-ge-LIMIT+then-len-start}
+use Rattle.hir_scope.proofs.expr_scopes.ExprScopes.new_scope.Goals as goal
 
 pub returns-then-count-ge-LIMIT-clause-full : goal.returns-then-count-ge-LIMIT-clause-full
 returns-then-count-ge-LIMIT-clause-full c =
@@ -20,21 +20,19 @@ returns-then-count-ge-LIMIT-clause-full c =
 
 pub returns-then-is_err-clause-full : goal.returns-then-is_err-clause-full
 returns-then-is_err-clause-full c =
-    let es = c.self.inside.entries.items in
-    let rows = c.self.inside.scopes.items in
+    let i = c.self.inside in
     let n = length c.args.entries.now.items in
-    let few : length rows < 4294967295 = omega (arith, c.if-count-ge-LIMIT.false, c.len-count.ensures) in
-    let fit : length es + n ≤ 4294967295 = omega (arith, c.if-len-start.false, c.len.ensures, c.len-start.ensures, c.self.invariant.few_entries) in
-    rw (← c.self.view_is) (λ e. absurd cc, λ m. absurd (not_too_many es rows n c.self.invariant.fill few fit m))
+    let few : length i.scopes.items < 4294967295 = omega (arith, c.if-count-ge-LIMIT.false, c.len-count.ensures) in
+    let fit : length i.entries.items + n ≤ 4294967295 = omega (arith, c.if-len-start.false, c.len.ensures, c.len-start.ensures, c.self.invariant.few_entries) in
+    rw (← c.self.view_is) (λ e. absurd cc, λ m. absurd (not_too_many i.entries.items i.scopes.items n c.self.invariant.fill few fit m))
 
 pub returns-clause-full : goal.returns-clause-full
 returns-clause-full c =
-    let es = c.self.inside.entries.items in
-    let rows = c.self.inside.scopes.items in
+    let i = c.self.inside in
     let n = length c.args.entries.now.items in
-    let few : length rows < 4294967295 = omega (arith, c.if-count-ge-LIMIT.false, c.len-count.ensures) in
-    let fit : length es + n ≤ 4294967295 = omega (arith, c.if-len-start.false, c.len.ensures, c.len-start.ensures, c.self.invariant.few_entries) in
-    rw (← c.self.view_is) (λ e. absurd cc, λ m. absurd (not_too_many es rows n c.self.invariant.fill few fit m))
+    let few : length i.scopes.items < 4294967295 = omega (arith, c.if-count-ge-LIMIT.false, c.len-count.ensures) in
+    let fit : length i.entries.items + n ≤ 4294967295 = omega (arith, c.if-len-start.false, c.len.ensures, c.len-start.ensures, c.self.invariant.few_entries) in
+    rw (← c.self.view_is) (λ e. absurd cc, λ m. absurd (not_too_many i.entries.items i.scopes.items n c.self.invariant.fill few fit m))
 
 pub invariant_of-self-2 : goal.invariant_of-self-2
 invariant_of-self-2 c =

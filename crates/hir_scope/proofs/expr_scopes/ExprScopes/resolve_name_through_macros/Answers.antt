@@ -1,8 +1,6 @@
 use Rattle.std.proofs.Common.{◌≡◌, ◌∙◌, ap, sym, Some, None}
 use Rattle.hir_base.specs.declared.hygiene.SyntaxContext.{SyntaxContext}
-use Rattle.hir_scope.specs.Paths.{chain}
-use Rattle.hir_scope.specs.Resolution.{first_asked}
-use Rattle.hir_scope.specs.Macros.{expansion_of, resolve_through}
+use Rattle.hir_scope.specs.{Macros.expansion_of, Macros.resolve_through, Paths.chain, Resolution.first_asked}
 use Rattle.hir_scope.proofs.ResolveLemmas.{through_found, through_outward}
 use Rattle.hir_scope.proofs.expr_scopes.ExprScopes.resolve_name_through_macros.Goals as goal
 

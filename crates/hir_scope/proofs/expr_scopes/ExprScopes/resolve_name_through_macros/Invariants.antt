@@ -1,7 +1,5 @@
 use Rattle.std.proofs.Common.{◌≡◌, Some}
-use Rattle.hir_scope.specs.Scopes.{IsIn}
-use Rattle.hir_scope.specs.Paths.{chain}
-use Rattle.hir_scope.specs.Macros.{expansion_of, resolve_through}
+use Rattle.hir_scope.specs.{Macros.expansion_of, Macros.resolve_through, Paths.chain, Scopes.IsIn}
 use Rattle.hir_scope.proofs.ResolveLemmas.{ways}
 use Rattle.hir_scope.proofs.expr_scopes.ExprScopes.resolve_name_through_macros.Given as goal
 

@@ -1,8 +1,8 @@
 use Rattle.std.proofs.Common.{◌<◌, sym, subst, length}
 use Rattle.hir_scope.specs.Scopes.{Scopes}
 use Rattle.hir_scope.proofs.SameLemmas.{flat_set, length_seen}
-use Rattle.hir_scope.proofs.expr_scopes.ExprScopes.set_scope.Goals as goal
 use Rattle.hir_scope.proofs.expr_scopes.ExprScopes.set_scope.Goals.{in-Ok, in-Err}
+use Rattle.hir_scope.proofs.expr_scopes.ExprScopes.set_scope.Goals as goal
 
 pub invariant_of-self : goal.invariant_of-self
 invariant_of-self c =

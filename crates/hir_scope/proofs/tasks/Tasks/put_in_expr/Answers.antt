@@ -26,5 +26,4 @@ pub returns-in-Match : goal.returns-in-Match
 returns-in-Match c = rw c.in-Match.is (runs_append c.on_expr-in-Match.ensures (rw c.as_slice-in-Match.ensures at c.put_each-in-Match.ensures))
 
 pub returns-in-Assignment : goal.returns-in-Assignment
-returns-in-Assignment c =
-    rw c.in-Assignment.is (runs_append c.on_pat.ensures (runs_append c.put_leave-in-Assignment.ensures c.on_expr-in-Assignment.ensures))
+returns-in-Assignment c = rw c.in-Assignment.is (runs_append c.on_pat.ensures (runs_append c.put_leave-in-Assignment.ensures c.on_expr-in-Assignment.ensures))

@@ -1,13 +1,11 @@
 use Rattle.std.proofs.Common.{rules, [], ◌∷◌, ◌++◌, map, refl, sym, subst}
-use Rattle.hir_scope.specs.declared.scope.ScopeKind.TheVariants as kind
-use Rattle.hir_scope.specs.declared.tasks.Task.{Task}
-use Rattle.hir_scope.specs.declared.tasks.Task.TheVariants as task
-use Rattle.hir_scope.specs.declared.tasks.Around.{Around}
-use Rattle.hir_scope.specs.Frames.{of_kind}
-use Rattle.hir_scope.specs.Scopes.{frame_of}
-use Rattle.hir_scope.specs.walk.Machine.{machine, state, IsReady, Over, Exceeds}
-use Rattle.hir_scope.proofs.DoneLemmas.{leave_moves, macro_moves, macro_frames}
-use Rattle.hir_scope.proofs.MovingLemmas.{over_exceeds, ok_map, goes_task, goes_given}
+use Rattle.std.proofs.lemmas.Result.{on_ok_weaker}
+use Rattle.std.specs.Prelude.{Ok}
+use Rattle.hir_scope.specs.{Frames.of_kind, Scopes.frame_of}
+use Rattle.hir_scope.specs.declared.{scope.ScopeKind.ScopeKind, tasks.Around.Around, tasks.Task.Task}
+use Rattle.hir_scope.specs.walk.Machine.{doing, state, IsReady, Over, Exceeds}
+use Rattle.hir_scope.proofs.DoneLemmas.{leave_moves, macro_moves, macro_over}
+use Rattle.hir_scope.proofs.MovingLemmas.{goes_task, goes_given}
 use Rattle.hir_scope.proofs.walk.Walk.go_on.Goals as goal
 
 pub returns-in_ok-set_scope-in-Expr-clause-goes : goal.returns-in_ok-set_scope-in-Expr-clause-goes
@@ -20,58 +18,54 @@ returns-in_ok-set_scope-in-Expr-clause-goes c =
 
 pub returns-in-Pat-clause-goes : goal.returns-in-Pat-clause-goes
 returns-in-Pat-clause-goes c =
-    let w = c.args.self.now in
-    ok_map c.meet_pat.result _ _ (λ m. goes_task c.args.store.now.nodes w.scopes w.around c.args.task _ w.tasks.stack.items (state c.meet_pat.new.self) c.args.steps.now c.in-Pat.is m) c.meet_pat.ensures.moves
+    goes_task c.args.store.now.nodes c.args.self.now c.args.task _ c.args.steps.now c.meet_pat.result (state c.meet_pat.new.self) c.in-Pat.is c.meet_pat.ensures.moves
 
 pub returns-in-TypeRef-clause-goes : goal.returns-in-TypeRef-clause-goes
 returns-in-TypeRef-clause-goes c =
-    let w = c.args.self.now in
-    ok_map c.meet_type.result _ _ (λ m. goes_task c.args.store.now.nodes w.scopes w.around c.args.task _ w.tasks.stack.items (state c.meet_type.new.self) c.args.steps.now c.in-TypeRef.is m) c.meet_type.ensures.moves
+    goes_task c.args.store.now.nodes c.args.self.now c.args.task _ c.args.steps.now c.meet_type.result (state c.meet_type.new.self) c.in-TypeRef.is c.meet_type.ensures.moves
 
 pub returns-in-Bound-clause-goes : goal.returns-in-Bound-clause-goes
 returns-in-Bound-clause-goes c =
-    let w = c.args.self.now in
-    ok_map c.bind.result _ _ (λ m. goes_task c.args.store.now.nodes w.scopes w.around c.args.task _ w.tasks.stack.items (state c.bind.new.self) c.args.steps.now c.in-Bound.is m) c.bind.ensures.moves
+    goes_task c.args.store.now.nodes c.args.self.now c.args.task _ c.args.steps.now c.bind.result (state c.bind.new.self) c.in-Bound.is c.bind.ensures.moves
 
 pub returns-in-Arm-clause-goes : goal.returns-in-Arm-clause-goes
 returns-in-Arm-clause-goes c =
-    let w = c.args.self.now in
-    ok_map c.meet_arm.result _ _ (λ m. goes_task c.args.store.now.nodes w.scopes w.around c.args.task _ w.tasks.stack.items (state c.meet_arm.new.self) c.args.steps.now c.in-Arm.is m) c.meet_arm.ensures.moves
+    goes_task c.args.store.now.nodes c.args.self.now c.args.task _ c.args.steps.now c.meet_arm.result (state c.meet_arm.new.self) c.in-Arm.is c.meet_arm.ensures.moves
 
 pub returns-in-GuardedArm-clause-goes : goal.returns-in-GuardedArm-clause-goes
 returns-in-GuardedArm-clause-goes c =
-    let w = c.args.self.now in
-    ok_map c.meet_arm-in-GuardedArm.result _ _ (λ m. goes_task c.args.store.now.nodes w.scopes w.around c.args.task _ w.tasks.stack.items (state c.meet_arm-in-GuardedArm.new.self) c.args.steps.now c.in-GuardedArm.is m) c.meet_arm-in-GuardedArm.ensures.moves
+    goes_task c.args.store.now.nodes c.args.self.now c.args.task _ c.args.steps.now c.meet_arm-in-GuardedArm.result (state c.meet_arm-in-GuardedArm.new.self) c.in-GuardedArm.is c.meet_arm-in-GuardedArm.ensures.moves
 
 pub returns-in-Constant-clause-goes : goal.returns-in-Constant-clause-goes
 returns-in-Constant-clause-goes c =
     let w = c.args.self.now in
     let s = c.args.store.now.nodes in
-    let ready = subst (λ (t : Task). IsReady s (machine w (t ∷ w.tasks.stack.items))) c.in-Constant.is c.requires.ready in
-    ok_map c.meet_constant.result _ _ (λ m. goes_task s w.scopes w.around c.args.task _ w.tasks.stack.items (state c.meet_constant.new.self) c.args.steps.now c.in-Constant.is (m s ready)) c.meet_constant.ensures.moves
+    let ready = subst (λ (t : Task). IsReady s (doing w t)) c.in-Constant.is c.requires.ready in
+    goes_task s w c.args.task _ c.args.steps.now c.meet_constant.result (state c.meet_constant.new.self) c.in-Constant.is
+    (on_ok_weaker c.meet_constant.result (λ m. m s ready) c.meet_constant.ensures.moves)
 
 pub returns-in-MacroDef-clause-goes : goal.returns-in-MacroDef-clause-goes
 returns-in-MacroDef-clause-goes c =
     let w = c.args.self.now in
     let s = c.args.store.now.nodes in
-    let ready = subst (λ (t : Task). IsReady s (machine w (t ∷ w.tasks.stack.items))) c.in-MacroDef.is c.requires.ready in
+    let ready = subst (λ (t : Task). IsReady s (doing w t)) c.in-MacroDef.is c.requires.ready in
     let new = state c.open_both.new.self in
-    ok_map c.open_both.result _ _ (λ o. goes_task s w.scopes w.around c.args.task _ w.tasks.stack.items new c.args.steps.now c.in-MacroDef.is
-    (macro_moves s w.scopes w.around c.in-MacroDef.id w.tasks.stack.items new o ready)) c.open_both.ensures.opened
+    goes_task s w c.args.task _ c.args.steps.now c.open_both.result new c.in-MacroDef.is
+    (on_ok_weaker c.open_both.result (λ o. macro_moves s w.scopes w.around c.in-MacroDef.id w.tasks.stack.items new o ready) c.open_both.ensures.opened)
 
 pub returns-in-MacroDef-clause-full : goal.returns-in-MacroDef-clause-full
 returns-in-MacroDef-clause-full c = λ h.
     let w = c.args.self.now in
     let s = c.args.store.now.nodes in
-    let f = of_kind (kind.MacroDef c.in-MacroDef.id) in
+    let f = of_kind (ScopeKind.MacroDef c.in-MacroDef.id) in
     let o : Over (map frame_of w.scopes.scopes ++ f ∷ f ∷ []) = search rules in
-    let exceeds = over_exceeds s w.scopes w.around (task.MacroDef c.in-MacroDef.id ∷ w.tasks.stack.items) (f ∷ f ∷ []) (macro_frames s c.in-MacroDef.id w.tasks.stack.items) o in
-    subst (λ (t : Task). Exceeds s (machine w (t ∷ w.tasks.stack.items))) (sym c.in-MacroDef.is) exceeds
+    let exceeds = macro_over s w.scopes w.around c.in-MacroDef.id w.tasks.stack.items o in
+    subst (λ (t : Task). Exceeds s (doing w t)) (sym c.in-MacroDef.is) exceeds
 
 pub returns-in-Leave-clause-goes : goal.returns-in-Leave-clause-goes
 returns-in-Leave-clause-goes c =
     let w = c.args.self.now in
     let s = c.args.store.now.nodes in
-    let ready = subst (λ (t : Task). IsReady s (machine w (t ∷ w.tasks.stack.items))) c.in-Leave.is c.requires.ready in
+    let ready = subst (λ (t : Task). IsReady s (doing w t)) c.in-Leave.is c.requires.ready in
     let outer : Around = record { here = c.in-Leave.here; constant = c.in-Leave.constant } in
-    goes_task s w.scopes w.around c.args.task _ w.tasks.stack.items _ c.args.steps.now c.in-Leave.is (leave_moves s w.scopes w.around outer w.tasks.stack.items ready)
+    goes_task s {E = Unit {0}} w c.args.task _ c.args.steps.now (Ok tt) _ c.in-Leave.is (leave_moves s w.scopes w.around outer w.tasks.stack.items ready)

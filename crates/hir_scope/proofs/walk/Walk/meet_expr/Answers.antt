@@ -1,34 +1,28 @@
-use Rattle.std.proofs.Common.{rules, ℕ, Option, ◌∷◌, ◌++◌, map, refl, sym, ap, ◌∙◌, subst}
-use Rattle.hir_node.specs.declared.expr.Expr.{Expr}
-use Rattle.hir_node.specs.declared.node_id.NodeId.TheVariants as node
-use Rattle.hir_scope.specs.declared.tasks.Task.TheVariants as task
+use Rattle.std.proofs.Common.{rules, ℕ, Option, ◌++◌, map, refl, sym, ap, ◌∙◌, subst}
+use Rattle.hir_node.specs.declared.{expr.Expr.Expr, node_id.NodeId.NodeId}
 use Rattle.hir_scope.specs.Chains.{within_own}
-use Rattle.hir_scope.specs.Forms.{ScopingForm, form_at, form_of, expr_form}
-use Rattle.hir_scope.specs.walk.Pending.{form_tasks, opens_here, opens_constant}
-use Rattle.hir_scope.specs.Scopes.{frame_of}
+use Rattle.hir_scope.specs.{Forms.ScopingForm, Forms.form_at, Forms.form_of, Forms.expr_form, Scopes.frame_of}
 use Rattle.hir_scope.specs.walk.Machine.{state, here_of, Over, HasFrames, scope_within}
-use Rattle.hir_scope.proofs.MovingLemmas.{frames_grown, own_frames, over_exceeds}
-use Rattle.hir_scope.proofs.DoneLemmas.{expr_moves, empty_moves, met_frames}
+use Rattle.hir_scope.specs.walk.Pending.{form_tasks, opens_here, opens_constant}
+use Rattle.hir_scope.proofs.DoneLemmas.{expr_moves, empty_moves, met_over}
+use Rattle.hir_scope.proofs.MovingLemmas.{frames_grown, own_frames}
 use Rattle.hir_scope.proofs.walk.Walk.meet_expr.Goals as goal
 
 pub returns-in_err-open_inside-clause-full : goal.returns-in_err-open_inside-clause-full
-returns-in_err-open_inside-clause-full c =
+returns-in_err-open_inside-clause-full c = λ h.
     let s = c.args.store.now.nodes in
     let w = c.args.self.now in
-    let x = form_of s (node.Expr c.args.expr) in
+    let x = form_of s (NodeId.Expr c.args.expr) in
     let fall = c.kids_fall.ensures c.args.store.now c.has_no_fault.ensures in
-    let fs = opens_here s x ++ opens_constant x in
-    let ts = task.Expr c.args.expr ∷ w.tasks.stack.items in
-    λ h.
-    let o : Over (map frame_of w.scopes.scopes ++ fs) = search rules in
-    over_exceeds s w.scopes w.around ts fs (met_frames s fall w.around c.args.expr w.tasks.stack.items c.requires.ready.known) o
+    let o : Over (map frame_of w.scopes.scopes ++ (opens_here s x ++ opens_constant x)) = search rules in
+    met_over s fall w.scopes w.around c.args.expr w.tasks.stack.items c.requires.ready.known o
 
 pub returns-clause-meets : goal.returns-clause-meets
 returns-clause-meets c =
     let s = c.args.store.now.nodes in
     let w = c.args.self.now in
     let n = c.open_inside.new.self in
-    let x = form_of s (node.Expr c.args.expr) in
+    let x = form_of s (NodeId.Expr c.args.expr) in
     let h = here_of (state w) in
     let ts = w.tasks.stack.items in
     let fall = c.kids_fall.ensures c.args.store.now c.has_no_fault.ensures in

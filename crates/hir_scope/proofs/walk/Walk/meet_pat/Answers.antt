@@ -1,7 +1,6 @@
 use Rattle.std.proofs.Common.{Option, ◌++◌, sym, ap, ◌∙◌}
 use Rattle.hir_node.specs.declared.pat.Pat.{Pat}
-use Rattle.hir_scope.specs.Forms.{form_at, pat_form}
-use Rattle.hir_scope.specs.walk.Pending.{form_tasks}
+use Rattle.hir_scope.specs.{Forms.form_at, Forms.pat_form, walk.Pending.form_tasks}
 use Rattle.hir_scope.proofs.DoneLemmas.{pat_moves}
 use Rattle.hir_scope.proofs.walk.Walk.meet_pat.Goals as goal
 

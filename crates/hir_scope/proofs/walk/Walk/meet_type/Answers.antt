@@ -1,7 +1,6 @@
 use Rattle.std.proofs.Common.{Option, List, ◌∷◌, ◌++◌, sym, ap, ◌∙◌}
 use Rattle.hir_node.specs.declared.type_ref.TypeRef.{TypeRef}
-use Rattle.hir_scope.specs.declared.tasks.Task.{Task}
-use Rattle.hir_scope.specs.Forms.{form_at, type_form}
+use Rattle.hir_scope.specs.{Forms.form_at, Forms.type_form, declared.tasks.Task.Task}
 use Rattle.hir_scope.specs.walk.Pending.{form_tasks, leave}
 use Rattle.hir_scope.proofs.DoneLemmas.{for_constants, type_moves}
 use Rattle.hir_scope.proofs.walk.Walk.meet_type.Goals as goal

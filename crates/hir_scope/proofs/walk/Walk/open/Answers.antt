@@ -1,11 +1,9 @@
 use Rattle.std.proofs.Common.{rules, ◌≡◌, List, [], ◌∷◌, ◌++◌, map, ◌<◌, ◌+◌, ◌⊎◌, length, refl, ap, ◌∙◌, subst}
 use Rattle.std.specs.List.{flat_map}
-use Rattle.hir_scope.specs.declared.scope.ScopeEntry.{ScopeEntry}
-use Rattle.hir_scope.specs.Frames.{binds}
-use Rattle.hir_scope.specs.Scopes.{Scopes, entry_count, frame_of}
-use Rattle.hir_scope.specs.walk.Machine.{state, Over}
-use Rattle.hir_scope.proofs.MovingLemmas.{child, opened_here, over_new}
+use Rattle.hir_scope.specs.{Frames.binds, Scopes.Scopes, Scopes.entry_count, Scopes.frame_of}
+use Rattle.hir_scope.specs.{declared.scope.ScopeEntry.ScopeEntry, walk.Machine.state, walk.Machine.Over}
 use Rattle.hir_scope.proofs.DoneLemmas.{all_there}
+use Rattle.hir_scope.proofs.MovingLemmas.{child, opened_here, over_new}
 use Rattle.hir_scope.proofs.walk.Walk.open.Goals as goal
 
 pub add_pats-requires : goal.add_pats-requires

@@ -1,8 +1,6 @@
 use Rattle.std.proofs.Common.{rules, List, [], ◌∷◌, ◌++◌, map, ◌<◌, ◌+◌, ◌⊎◌, length, refl, ap, ◌∙◌, subst}
-use Rattle.hir_scope.specs.declared.scope.ScopeEntry.{ScopeEntry}
-use Rattle.hir_scope.specs.Frames.{of_kind}
-use Rattle.hir_scope.specs.Scopes.{Scopes, entry_count, frame_of}
-use Rattle.hir_scope.specs.walk.Machine.{state, Over}
+use Rattle.hir_scope.specs.{Frames.of_kind, Scopes.Scopes, Scopes.entry_count, Scopes.frame_of}
+use Rattle.hir_scope.specs.{declared.scope.ScopeEntry.ScopeEntry, walk.Machine.state, walk.Machine.Over}
 use Rattle.hir_scope.proofs.MovingLemmas.{child, opened_constant, opened_then, over_after, over_more, over_new}
 use Rattle.hir_scope.proofs.walk.Walk.open_both.Goals as goal
 

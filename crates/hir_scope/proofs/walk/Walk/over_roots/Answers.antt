@@ -1,10 +1,7 @@
 use Rattle.std.proofs.Common.{rules, ◌⊎◌, ◌+◌, ◌<◌, ℕ, List, [], ◌∷◌, ◌++◌, length, refl, ap, ◌∙◌, arith, append_assoc, length-append}
 use Rattle.std.proofs.lemmas.List.{length-map}
 use Rattle.hir_base.specs.declared.arena.TheConstants.{MOST_ITEMS}
-use Rattle.hir_scope.specs.declared.tasks.Task.{Task}
-use Rattle.hir_scope.specs.declared.tasks.Task.TheVariants as task
-use Rattle.hir_scope.specs.walk.Machine.{machine}
-use Rattle.hir_scope.specs.Scopes.{entry_count}
+use Rattle.hir_scope.specs.{Scopes.entry_count, declared.tasks.Task.Task, walk.Machine.machine}
 use Rattle.hir_scope.proofs.BeginLemmas.{one_root_more, roots_full}
 use Rattle.hir_scope.proofs.walk.Walk.over_roots.Goals as goal
 
@@ -30,5 +27,5 @@ loop-root-preserved c =
     let root = c.in-Some.root in
     let id = c.in_ok-scope.scope in
     let split = inv.2.1 ∙ (ap (λ (xs : List ℕ). xs ++ met) c.in-Some.ensures.steps ∙ append_assoc c.next_back.new.self (root ∷ []) met) in
-    let tasks = c.in_ok-push-2.ensures.ok ∙ ap (λ (ts : List Task). task.Leave id id ∷ ts) c.in_ok-push.ensures.ok in
+    let tasks = c.in_ok-push-2.ensures.ok ∙ ap (λ (ts : List Task). Task.Leave id id ∷ ts) c.in_ok-push.ensures.ok in
     (inv.0, c.in_ok-scope.ensures.taken, (root ∷ met, split, one_root_more (machine walk walk.tasks.stack.items) _ met root id c.in_ok-root_scope.root_scope c.loop-root.none.items inv.2.2 c.in_ok-scope.ensures.id inv.0 inv.1 c.in_ok-scope.ensures.ok refl tasks))
