@@ -1,12 +1,11 @@
 -- What digits stand for, digit by digit.
 use Rattle.std.proofs.Common.{Option, ◌≡◌, ◌≢◌, ◌+◌, ◌-◌, ◌*◌, ◌<◌, ◌≤◌, ◌^◌, ℕ, Some, None, List, [], ◌∷◌, take, drop, length, get_or, sym, ap, ◌∙◌, arith, take-append-drop, fold, Bool, true, false, refl, zero, suc, length-take}
-use Rattle.std.specs.Prelude.{if◌then◌else◌}
 use Rattle.std.specs.List.{list_all}
 use Rattle.std.proofs.lemmas.Grind.{common_steps, fold-append, pow_more}
 use Rattle.std.proofs.lemmas.Bool.Decides.{nat_tests}
 use Rattle.std.proofs.lemmas.Bool.{false≢true}
 use Rattle.std.proofs.lemmas.List.Sums.{AllPass-from_list_all}
-use Rattle.hir_lines.specs.Numerals.{value, if_below, is_digit, number_of, has_needless_zero, is_numeral}
+use Rattle.hir_lines.specs.Numerals.{value, if_below, is_digit, number_of, has_needless_zero}
 
 grows : (bs : List ℕ) (n : ℕ) → n ≤ fold (λ n b. 10 * n + (b - 48)) n bs
 grows [] n = omega arith

@@ -33,7 +33,6 @@ all_found {X} Is read spells xs (word ∷ words) e =
 
 zip_map : {X : Type 0} (token : X → Token) (xs : List X) (words : List (List ℕ)) → AllZip IsWord (map token xs) words ↔ AllZip (λ x word. IsWord (token x) word) xs words
 zip_map token (x ∷ xs) (word ∷ words) = (λ h. (h.0, (zip_map token xs words).0 h.1), λ h. (h.0, (zip_map token xs words).1 h.1))
-zip_map token [] [] = (λ h. h, λ h. h)
 zip_map token _ _ = (λ h. h, λ h. h)
 
 -- words that are written as these tokens are read as y, and none is left

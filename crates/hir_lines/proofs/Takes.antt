@@ -47,7 +47,7 @@ pub accept_path : {Y : Type 0} {text : List ℕ} {y : Y} {tokens : List Token} (
 accept_path next rest = record { reads = λ words h. made_read name plain next words ∙ (accept_name (λ text. next (plain text)) rest).reads words h }
 
 pub accept_expansion : {Y : Type 0} {n : ℕ} {y : Y} {tokens : List Token} (next : SyntaxContext → Reading Y) → Accepts tokens (next (Expansion n)) y → Accepts (Number n ∷ tokens) (expansion >>= next) y
-accept_expansion next rest = record { reads = λ words h. made_read number (λ n. Expansion n) next words ∙ (accept_number (λ n. next (Expansion n)) rest).reads words h }
+accept_expansion next rest = record { reads = λ words h. made_read number Expansion next words ∙ (accept_number (λ n. next (Expansion n)) rest).reads words h }
 
 source_read : {Y : Type 0} {y : Y} (next : SyntaxContext → Reading Y) → Accepts [] (next of_source) y → (words : List (List ℕ)) → AllZip IsWord [] words → (hygiene >>= next) words ≡ Some (y, [])
 source_read next rest [] h = rest.reads [] h
@@ -88,7 +88,7 @@ pub sound_path : {Y : Type 0} (Is : Y → List Token → Type 0) (next : Path �
 sound_path Is next rest = record { written = λ words y e. (sound_name Is (λ text. next (plain text)) rest).written words y (sym (made_read name plain next words) ∙ e) }
 
 pub sound_expansion : {Y : Type 0} (Is : Y → List Token → Type 0) (next : SyntaxContext → Reading Y) → ((n : ℕ) → Sound (λ y tokens. Is y (Number n ∷ tokens)) (next (Expansion n))) → Sound Is (expansion >>= next)
-sound_expansion Is next rest = record { written = λ words y e. (sound_number Is (λ n. next (Expansion n)) rest).written words y (sym (made_read number (λ n. Expansion n) next words) ∙ e) }
+sound_expansion Is next rest = record { written = λ words y e. (sound_number Is (λ n. next (Expansion n)) rest).written words y (sym (made_read number Expansion next words) ∙ e) }
 
 hygiene_written : {Y : Type 0} (Is : Y → List Token → Type 0) (next : SyntaxContext → Reading Y) → Sound Is (next of_source) → ((n : ℕ) → Sound (λ y tokens. Is y (Number n ∷ tokens)) (next (Expansion n))) →
     (words : List (List ℕ)) (y : Y) → (hygiene >>= next) words ≡ Some (y, []) → (tokens : List Token) × Is y tokens × AllZip IsWord tokens words
