@@ -13,7 +13,7 @@ use Rattle.hir_lines.specs.ArmsAndStatements.{arm, arm_of, statement_of, stateme
 use Rattle.hir_lines.specs.Tokens.{Token, Word, Number, Optional, IsWord, IsNumber, IsArm, IsStatement, colons}
 use Rattle.hir_lines.proofs.Forms.{Accepts, accept_head, whole_read, whole_found, Sound, sound_one_of, AllSound, no_form, form}
 use Rattle.hir_lines.proofs.Takes.{accepting, sounding}
-use Rattle.hir_lines.proofs.Separators.{AllLack, parts_of-join}
+use Rattle.hir_lines.proofs.Separators.{AllLack, lacks, lacks-join, parts_of-join}
 use Rattle.hir_lines.proofs.Spellings.{number_lacks, optional_lacks}
 
 pub arm_tokens : MatchArm → List Token
@@ -60,9 +60,8 @@ data Spelt : List Token → List (List ℕ) → Type 0 where
 
 spelt : (tokens : List Token) (words : List (List ℕ)) → AllZip IsWord tokens words → Spelt tokens words
 spelt [] [] h = none
-spelt [] (word ∷ words) h = absurd h
-spelt (token ∷ tokens) [] h = absurd h
 spelt (token ∷ tokens) (word ∷ words) h = one h.0 (spelt tokens words h.1)
+spelt _ _ h = absurd h
 
 -- the parts of a word that was joined by colons
 parts_joined : (word part : List ℕ) (parts : List (List ℕ)) → word ≡ colons (part ∷ parts) → AllLack 58 (part ∷ parts) → parts_of 58 word ≡ part ∷ parts
@@ -138,3 +137,19 @@ unfolding statement_of
 statement_spells s word e =
     let found = sound_statement.written (parts_of 58 word) s (whole_found (one_of statement_forms (parts_of 58 word)) s e) in
     statement_written s word (parts_of 58 word) (joined_again word) (subst (λ tokens. AllZip IsWord tokens (parts_of 58 word)) found.1 found.2)
+
+-- no arm and no statement has a space
+pub arm_lacks : (a : MatchArm) (word : List ℕ) → IsArm a word → lacks 32 word ≡ true
+arm_lacks a word h =
+    ap (lacks 32) h.6
+    ∙ lacks-join 32 58 refl (h.0 ∷ h.1 ∷ h.2 ∷ []) (number_lacks 32 refl a.pat h.0 h.3, (optional_lacks 32 refl refl a.guard h.1 h.4, (number_lacks 32 refl a.expr h.2 h.5, tt)))
+
+pub statement_lacks : (s : Statement) (word : List ℕ) → IsStatement s word → lacks 32 word ≡ true
+statement_lacks (Let p t i e) word h =
+    ap (lacks 32) h.8
+    ∙ lacks-join 32 58 refl (codes "let" ∷ h.0 ∷ h.1 ∷ h.2 ∷ h.3 ∷ [])
+    (refl, (number_lacks 32 refl p h.0 h.4, (optional_lacks 32 refl refl t h.1 h.5, (optional_lacks 32 refl refl i h.2 h.6, (optional_lacks 32 refl refl e h.3 h.7, tt)))))
+statement_lacks (Expr expr true) word h = ap (lacks 32) h.2 ∙ lacks-join 32 58 refl (codes "semi" ∷ h.0 ∷ []) (refl, (number_lacks 32 refl expr h.0 h.1, tt))
+statement_lacks (Expr expr false) word h = ap (lacks 32) h.2 ∙ lacks-join 32 58 refl (codes "expr" ∷ h.0 ∷ []) (refl, (number_lacks 32 refl expr h.0 h.1, tt))
+statement_lacks (Item (MacroDef definition)) word h = ap (lacks 32) h.2 ∙ lacks-join 32 58 refl (codes "macro" ∷ h.0 ∷ []) (refl, (number_lacks 32 refl definition h.0 h.1, tt))
+statement_lacks (Item Other) word h = ap (lacks 32) h

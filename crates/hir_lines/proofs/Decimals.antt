@@ -8,7 +8,7 @@ use Rattle.std.proofs.lemmas.List.{take_more, get_or_append_left}
 use Rattle.std.proofs.lemmas.List.Sums.{AllPass-from_list_all, list_all-from_AllPass}
 use Rattle.std.proofs.lemmas.Fmt.{decimal_is_IsNumeral_wide, decimal_digit, decimal_step_wide, decimal_by_steps_wide}
 use Rattle.hir_lines.specs.Numerals.{is_digit, value, is_numeral, has_needless_zero}
-use Rattle.hir_lines.proofs.Digits.{value-next, value-front}
+use Rattle.hir_lines.proofs.Digits.{digit_high, value-next, value-front}
 use Rattle.hir_lines.proofs.Integers.{own, digits_behind, some_digit}
 
 -- no needless zero, as a number that stands alone has none
@@ -20,9 +20,6 @@ digit_at digits all k within = AllPass-from_list_all is_digit digits all k 0 wit
 
 digit_low : (b : ℕ) → is_digit b ≡ true → 48 ≤ b
 digit_low b e = grind (arith, nat_tests)
-
-digit_high : (b : ℕ) → is_digit b ≡ true → b ≤ 57
-digit_high b e = grind (arith, nat_tests)
 
 take_digits : (digits : List ℕ) (i : ℕ) → i ≤ length digits → list_all is_digit digits ≡ true → list_all is_digit (take i digits) ≡ true
 take_digits digits i h all = list_all-from_AllPass is_digit (take i digits) (λ k d within.

@@ -1,11 +1,11 @@
 -- What digits stand for, digit by digit.
 use Rattle.std.proofs.Common.{Option, ◌≡◌, ◌≢◌, ◌+◌, ◌-◌, ◌*◌, ◌<◌, ◌≤◌, ◌^◌, ℕ, Some, None, List, [], ◌∷◌, take, drop, length, get_or, sym, ap, ◌∙◌, arith, take-append-drop, fold, Bool, true, false, refl, zero, suc, length-take}
-use Rattle.std.specs.Prelude.{if◌then◌else◌}
 use Rattle.std.specs.List.{list_all}
 use Rattle.std.proofs.lemmas.Grind.{common_steps, fold-append, pow_more}
 use Rattle.std.proofs.lemmas.Bool.Decides.{nat_tests}
-use Rattle.hir_lines.proofs.Prefixes.{not_all}
-use Rattle.hir_lines.specs.Numerals.{value, if_below, is_digit, number_of, has_needless_zero, is_numeral}
+use Rattle.std.proofs.lemmas.Bool.{false≢true}
+use Rattle.std.proofs.lemmas.List.Sums.{AllPass-from_list_all}
+use Rattle.hir_lines.specs.Numerals.{value, if_below, is_digit, number_of, has_needless_zero}
 
 grows : (bs : List ℕ) (n : ℕ) → n ≤ fold (λ n b. 10 * n + (b - 48)) n bs
 grows [] n = omega arith
@@ -26,10 +26,6 @@ if_below-large n h = grind (arith, nat_tests)
 
 pub if_below-below : (n : ℕ) → n < 2 ^ 32 → if_below (2 ^ 32) n ≡ Some n
 if_below-below n h = grind (arith, nat_tests)
-
-chosen_none : (b : Bool) (o : Option ℕ) → o ≡ None → (if b then o else None) ≡ None
-chosen_none true o e = e
-chosen_none false o e = refl
 
 -- a text of whose front the value is too large is no number
 pub too_large : (xs : List ℕ) (i : ℕ) → 2 ^ 32 ≤ value (take i xs) → if_below (2 ^ 32) (value xs) ≡ None
@@ -54,34 +50,35 @@ needless_whole [] (suc i) e = grind (arith, nat_tests)
 needless_whole (b ∷ bs) zero e = grind (arith, nat_tests)
 needless_whole (b ∷ bs) (suc i) e = grind (arith, nat_tests, length-take)
 
-digit_high : (b : ℕ) → is_digit b ≡ true → b ≤ 57
+pub digit_high : (b : ℕ) → is_digit b ≡ true → b ≤ 57
 digit_high b e = grind (arith, nat_tests)
 
 -- digits and one more stay below the next power of ten
 pub digit_more : (e v b : ℕ) → v < 10 ^ e → is_digit b ≡ true → 10 * v + (b - 48) < 10 ^ (e + 1)
 digit_more e v b small digit = omega (arith, small, digit_high b digit, pow_more 10 e)
 
+false_unless : (b : Bool) → (b ≡ true → ⊥) → b ≡ false
+false_unless true h = absurd (h refl)
+false_unless false h = refl
+
 -- a text in which something is no digit is no number
 pub no_number : (xs : List ℕ) (i : ℕ) → i < length xs → is_digit (get_or xs i 0) ≡ false → number_of xs ≡ None
 unfolding number_of
 no_number xs i h other =
-    let none : list_all is_digit xs ≡ false = not_all is_digit xs i h other in
+    let none : list_all is_digit xs ≡ false = false_unless _ (λ all. false≢true (sym other ∙ AllPass-from_list_all is_digit xs all i 0 h)) in
     grind (arith, common_steps)
 
 pub no_number-empty : (xs : List ℕ) → length xs ≡ 0 → number_of xs ≡ None
 unfolding number_of
 no_number-empty xs e = grind (arith, common_steps)
 
-needless_alone : (xs : List ℕ) → has_needless_zero xs ≡ true → number_of xs ≡ None
-unfolding number_of
-needless_alone xs e = grind (arith, common_steps)
-
 pub no_number-needless : (xs : List ℕ) (i : ℕ) → has_needless_zero (take i xs) ≡ true → number_of xs ≡ None
-no_number-needless xs i e = needless_alone xs (needless_whole xs i e)
+unfolding number_of
+no_number-needless xs i e = let needless : has_needless_zero xs ≡ true = needless_whole xs i e in grind (arith, common_steps)
 
 pub no_number-large : (xs : List ℕ) → if_below (2 ^ 32) (value xs) ≡ None → number_of xs ≡ None
 unfolding number_of
-no_number-large xs e = chosen_none (is_numeral xs) (if_below (2 ^ 32) (value xs)) e
+no_number-large xs e = grind (arith, common_steps)
 
 pub number_is : (xs : List ℕ) → length xs ≢ 0 → has_needless_zero xs ≡ false → list_all is_digit xs ≡ true → number_of xs ≡ if_below (2 ^ 32) (value xs)
 unfolding number_of

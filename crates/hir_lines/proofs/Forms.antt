@@ -1,6 +1,6 @@
 -- What readings accept, and that what they read is written so: both go form by form.
 use Rattle.std.proofs.Common.{◌≡◌, ℕ, Bool, true, false, List, [], ◌∷◌, Option, None, Some, refl, sym, ap, ◌∙◌, subst}
-use Rattle.std.specs.Prelude.{if◌then◌else◌, map}
+use Rattle.std.specs.Prelude.{◌↔◌, if◌then◌else◌, map}
 use Rattle.std.specs.List.{AllZip}
 use Rattle.std.specs.Option.{option_map, option_and_then}
 use Rattle.std.specs.Str.{bytes_eq}
@@ -13,11 +13,10 @@ use Rattle.hir_lines.specs.Tokens.{Token, Word, IsWord}
 pub all_read : {X : Type 0} (Is : X → List ℕ → Type 0) (read : List ℕ → Option X) → ((x : X) (word : List ℕ) → Is x word → read word ≡ Some x) →
     (xs : List X) (words : List (List ℕ)) → AllZip Is xs words → all_of read words ≡ Some xs
 all_read Is read reads [] [] h = refl
-all_read Is read reads [] (word ∷ words) h = absurd h
-all_read Is read reads (x ∷ xs) [] h = absurd h
 all_read Is read reads (x ∷ xs) (word ∷ words) h =
     ap (λ found. option_and_then (λ v. option_map (λ vs. v ∷ vs) (all_of read words)) found) (reads x word h.0)
     ∙ ap (λ all. option_map (λ vs. x ∷ vs) all) (all_read Is read reads xs words h.1)
+all_read Is read reads _ _ h = absurd h
 
 more_found : {X : Type 0} (found : Option X) (all : Option (List X)) (xs : List X) →
     option_and_then (λ (x : X). option_map (λ (vs : List X). x ∷ vs) all) found ≡ Some xs → (x : X) × (vs : List X) × (found ≡ Some x) × (all ≡ Some vs) × (x ∷ vs ≡ xs)
@@ -32,17 +31,9 @@ all_found {X} Is read spells xs (word ∷ words) e =
     let found = more_found (read word) (all_of read words) xs e in
     subst (λ (vs : List X). AllZip Is vs (word ∷ words)) found.4 (spells found.0 word found.2, all_found Is read spells found.1 words found.3)
 
-zip_from_map : {X : Type 0} (token : X → Token) (xs : List X) (words : List (List ℕ)) → AllZip IsWord (map token xs) words → AllZip (λ x word. IsWord (token x) word) xs words
-zip_from_map token [] [] h = tt
-zip_from_map token [] (word ∷ words) h = absurd h
-zip_from_map token (x ∷ xs) [] h = absurd h
-zip_from_map token (x ∷ xs) (word ∷ words) h = (h.0, zip_from_map token xs words h.1)
-
-zip_to_map : {X : Type 0} (token : X → Token) (xs : List X) (words : List (List ℕ)) → AllZip (λ x word. IsWord (token x) word) xs words → AllZip IsWord (map token xs) words
-zip_to_map token [] [] h = tt
-zip_to_map token [] (word ∷ words) h = absurd h
-zip_to_map token (x ∷ xs) [] h = absurd h
-zip_to_map token (x ∷ xs) (word ∷ words) h = (h.0, zip_to_map token xs words h.1)
+zip_map : {X : Type 0} (token : X → Token) (xs : List X) (words : List (List ℕ)) → AllZip IsWord (map token xs) words ↔ AllZip (λ x word. IsWord (token x) word) xs words
+zip_map token (x ∷ xs) (word ∷ words) = (λ h. (h.0, (zip_map token xs words).0 h.1), λ h. (h.0, (zip_map token xs words).1 h.1))
+zip_map token _ _ = (λ h. h, λ h. h)
 
 -- words that are written as these tokens are read as y, and none is left
 pub record Accepts {Y : Type 0} (tokens : List Token) (reading : Reading Y) (y : Y) : Type 0 where
@@ -70,7 +61,7 @@ pub accept_each : {X Y : Type 0} (read : List ℕ → Option X) (token : X → T
 accept_each {X} read token xs make reads = record {
   reads = λ words h.
       ap (λ all. option_and_then (λ (f : List X × List (List ℕ)). gives (make f.0) f.1) (option_map (λ v. (v, [])) all))
-      (all_read (λ x word. IsWord (token x) word) read reads xs words (zip_from_map token xs words h));
+      (all_read (λ x word. IsWord (token x) word) read reads xs words ((zip_map token xs words).0 h));
 }
 
 head_read : {Y : Type 0} (forms : List (List ℕ × Reading Y)) (head : List ℕ) (reading : Reading Y) (y : Y) (tokens : List Token) →
@@ -107,7 +98,7 @@ whole_found (Some f) y e = alone_found f.0 y f.1 e
 pub record Sound {Y : Type 0} (Is : Y → List Token → Type 0) (reading : Reading Y) : Type 0 where
   pub written : (words : List (List ℕ)) (y : Y) → reading words ≡ Some (y, []) → (tokens : List Token) × Is y tokens × AllZip IsWord tokens words
 
-same_pair : {Y : Type 0} (p q : Y × List (List ℕ)) → Some p ≡ Some q → (p.0 ≡ q.0) × (p.1 ≡ q.1)
+pub same_pair : {Y : Type 0} (p q : Y × List (List ℕ)) → Some p ≡ Some q → (p.0 ≡ q.0) × (p.1 ≡ q.1)
 same_pair {Y} p q e = let same : p ≡ q = cc in (ap (λ (r : Y × List (List ℕ)). r.0) same, ap (λ (r : Y × List (List ℕ)). r.1) same)
 
 pub sound_end : {Y : Type 0} (Is : Y → List Token → Type 0) (y : Y) → Is y [] → Sound Is (gives y)
@@ -146,7 +137,7 @@ pub sound_each : {X Y : Type 0} (read : List ℕ → Option X) (token : X → To
 sound_each read token Is make spells is = record {
   written = λ words y e.
       let found = each_found make (all_of read words) y e in
-      (map token found.0, subst (λ v. Is v (map token found.0)) found.2 (is found.0), zip_to_map token found.0 words (all_found (λ x word. IsWord (token x) word) read spells found.0 words found.1));
+      (map token found.0, subst (λ v. Is v (map token found.0)) found.2 (is found.0), (zip_map token found.0 words).1 (all_found (λ x word. IsWord (token x) word) read spells found.0 words found.1));
 }
 
 inner_found : {X Y : Type 0} (make : X → Y) (found : Option (X × List (List ℕ))) (y : Y) →
@@ -171,7 +162,7 @@ pub data AllSound {Y : Type 0} (Is : Y → List Token → Type 0) : List (List �
   form : {head : List ℕ} {reading : Reading Y} {forms : List (List ℕ × Reading Y)} →
       Sound (λ (y : Y) tokens. Is y (Word head ∷ tokens)) reading → AllSound Is forms → AllSound Is ((head, reading) ∷ forms)
 
-same_bytes : (xs ys : List ℕ) → bytes_eq xs ys ≡ true → xs ≡ ys
+pub same_bytes : (xs ys : List ℕ) → bytes_eq xs ys ≡ true → xs ≡ ys
 same_bytes xs ys e = (bytes_eq-Decides xs ys).0 e
 
 sound_test : {Y : Type 0} (Is : Y → List Token → Type 0) (head text : List ℕ) (reading : Reading Y) (others : Option (Reading Y)) (same : Bool) → bytes_eq head text ≡ same →

@@ -1,5 +1,5 @@
 -- Texts that are integers: they are ASCII, and std's `parse` reads them so.
-use Rattle.std.proofs.Common.{◌≡◌, ◌<◌, ◌≤◌, ◌^◌, ◌+◌, ◌-◌, ◌*◌, ℕ, Bool, true, false, List, Option, Some, None, drop, length, get_or, get_or-drop, arith, rules, refl, sym, ap, ◌∙◌, inl, inr}
+use Rattle.std.proofs.Common.{◌≡◌, ◌<◌, ◌≤◌, ◌^◌, ◌+◌, ◌-◌, ◌*◌, ℕ, Bool, true, false, ◌&&◌, List, Option, Some, None, drop, length, get_or, get_or-drop, arith, rules, refl, sym, ap, ◌∙◌, inl, inr}
 use Rattle.std.specs.Prelude.{ℤ, pos, neg_ℤ, Result, Ok, Err, nat_le, nat_lt, if◌then◌else◌, fold}
 use Rattle.std.specs.List.{list_all}
 use Rattle.std.specs.Result.{OkIff, result_ok}
@@ -8,10 +8,23 @@ use Rattle.std.specs.Str.{IsAscii}
 use Rattle.std.specs.Str.Parse.{ParsesSigned}
 use Rattle.std.proofs.lemmas.Bool.{cases_lt, false≢true, eqb-true}
 use Rattle.std.proofs.lemmas.Bool.Decides.{nat_tests}
+use Rattle.std.proofs.lemmas.List.{get_or_past}
+use Rattle.std.proofs.lemmas.List.Sums.{AllPass-from_list_all}
 use borrow.Author.Tests.{ltb-true, leb-true}
 use Rattle.std.proofs.lemmas.Str.Parse.{IsNumeralModel, numerals_by_fold, parse_signed_minus, parse_signed_digits}
 use Rattle.hir_lines.specs.Numerals.{is_digit, value, is_numeral, has_minus, without_minus, with_sign, int_of}
-use Rattle.hir_lines.proofs.Ascii.{and_second, IsAscii-passes}
+
+pub and_first : (a b : Bool) → (a && b) ≡ true → a ≡ true
+and_first true b e = refl
+and_first false b e = cc
+
+pub and_second : (a b : Bool) → (a && b) ≡ true → b ≡ true
+and_second true b e = e
+and_second false b e = cc
+
+pub if_is_some : {X : Type 0} (b : Bool) (o : Option X) (x : X) → (if b then o else None) ≡ Some x → (b ≡ true) × (o ≡ Some x)
+if_is_some true o x e = (refl, e)
+if_is_some false o x e = cc
 
 pub digits_behind : (text : List ℕ) → is_numeral text ≡ true → list_all is_digit text ≡ true
 digits_behind text e = and_second _ _ (and_second _ _ e)
@@ -20,7 +33,11 @@ digit_is_ascii : (b : ℕ) → is_digit b ≡ true → b < 128
 digit_is_ascii b e = grind (arith, nat_tests)
 
 digits_are_ascii : (digits : List ℕ) → list_all is_digit digits ≡ true → IsAscii digits
-digits_are_ascii digits e = IsAscii-passes is_digit digit_is_ascii digits e
+digits_are_ascii digits e i =
+    elim (cases_lt i (length digits)) [
+      | inl within ↦ digit_is_ascii _ (AllPass-from_list_all is_digit digits e i 0 within)
+      | inr past ↦ rw (get_or_past digits i 0 past) (omega arith)
+    ]
 
 behind_minus : (text : List ℕ) (i : ℕ) → get_or text 0 0 ≡ 45 → get_or (drop 1 text) (i - 1) 0 < 128 → get_or text i 0 < 128
 behind_minus text i sign behind =
@@ -34,14 +51,14 @@ behind_minus text i sign behind =
           rw start (omega arith)
     ]
 
+numeral : (text : List ℕ) → is_numeral (without_minus text) ≡ true → (minus : Bool) → has_minus text ≡ minus → is_numeral (if minus then drop 1 text else text) ≡ true
+numeral text e minus is = ap (λ b. is_numeral (if b then drop 1 text else text)) (sym is) ∙ e
+
 pub IsAscii-int : (text : List ℕ) → is_numeral (without_minus text) ≡ true → IsAscii text
 IsAscii-int text e = by_minus (has_minus text) refl where
-  numeral : (minus : Bool) → has_minus text ≡ minus → is_numeral (if minus then drop 1 text else text) ≡ true
-  numeral minus is = ap (λ b. is_numeral (if b then drop 1 text else text)) (sym is) ∙ e
-
   by_minus : (minus : Bool) → has_minus text ≡ minus → IsAscii text
-  by_minus false is = digits_are_ascii text (digits_behind text (numeral false is))
-  by_minus true is = λ i. behind_minus text i (eqb-true _ _ is) (digits_are_ascii (drop 1 text) (digits_behind (drop 1 text) (numeral true is)) (i - 1))
+  by_minus false is = digits_are_ascii text (digits_behind text (numeral text e false is))
+  by_minus true is = λ i. behind_minus text i (eqb-true _ _ is) (digits_are_ascii (drop 1 text) (digits_behind (drop 1 text) (numeral text e true is)) (i - 1))
 
 pub own : IsNumeralModel (λ ds. list_all is_digit ds ≡ true) value
 own = numerals_by_fold _ (search rules) (λ n ds. fold (λ n b. 10 * n + (b - 48)) n ds) (search rules)
@@ -65,10 +82,7 @@ read_numeral minus digits e = ap (λ b. if b then with_sign minus (value digits)
 
 pub numeral_read : (minus : Bool) (digits : List ℕ) (z : ℤ) → value_of_digits minus digits ≡ Some z → (is_numeral digits ≡ true) × (with_sign minus (value digits) ≡ Some z)
 unfolding value_of_digits
-numeral_read minus digits z e = by_test (is_numeral digits) refl e where
-  by_test : (numeral : Bool) → is_numeral digits ≡ numeral → (if numeral then with_sign minus (value digits) else None) ≡ Some z → (is_numeral digits ≡ true) × (with_sign minus (value digits) ≡ Some z)
-  by_test true is e = (is, e)
-  by_test false is e = cc
+numeral_read minus digits z e = if_is_some (is_numeral digits) (with_sign minus (value digits)) z e
 
 pub int_is : (text : List ℕ) (minus : Bool) → has_minus text ≡ minus → int_of text ≡ value_of_digits minus (if minus then drop 1 text else text)
 unfolding int_of value_of_digits
@@ -91,9 +105,6 @@ parses_minus text r h sign e =
 
 pub int_parses : {E : Type 0} (text : List ℕ) (r : Result ℤ E) → ParsesSigned w128 10 text r → is_numeral (without_minus text) ≡ true → result_ok r ≡ int_of text
 int_parses text r h e = by_minus (has_minus text) refl where
-  numeral : (minus : Bool) → has_minus text ≡ minus → is_numeral (if minus then drop 1 text else text) ≡ true
-  numeral minus is = ap (λ b. is_numeral (if b then drop 1 text else text)) (sym is) ∙ e
-
   by_minus : (minus : Bool) → has_minus text ≡ minus → result_ok r ≡ int_of text
-  by_minus false is = parses_plain text r h (numeral false is) ∙ sym (int_is text false is ∙ read_numeral false text (numeral false is))
-  by_minus true is = parses_minus text r h (eqb-true _ _ is) (numeral true is) ∙ sym (int_is text true is ∙ read_numeral true (drop 1 text) (numeral true is))
+  by_minus false is = parses_plain text r h (numeral text e false is) ∙ sym (int_is text false is ∙ read_numeral false text (numeral text e false is))
+  by_minus true is = parses_minus text r h (eqb-true _ _ is) (numeral text e true is) ∙ sym (int_is text true is ∙ read_numeral true (drop 1 text) (numeral text e true is))

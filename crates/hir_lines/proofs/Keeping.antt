@@ -7,6 +7,7 @@ use Rattle.std.proofs.lemmas.Bool.{false≢true}
 use Rattle.hir_lines.specs.Numerals.{number_of}
 use Rattle.hir_lines.specs.Readings.{all_of, alone, comma, each, first_word, parts_of, whole}
 use Rattle.hir_lines.specs.Words.{list_of}
+use Rattle.hir_lines.proofs.Forms.{same_pair}
 
 -- these were read of all words, and those are left
 abbrev pub IsReadOf : {X : Type 0} → (List ℕ → Option X) → List (List ℕ) → List X → List (List ℕ) → Type 0
@@ -18,17 +19,9 @@ all_of_itself {X} read all = same (all_of read all) where
   same None = refl
   same (Some xs) = refl
 
-abbrev first_or : {X : Type 0} → X → Option (X × List (List ℕ)) → X
-first_or y None = y
-first_or y (Some found) = found.0
-
-abbrev rest_or : {X : Type 0} → List (List ℕ) → Option (X × List (List ℕ)) → List (List ℕ)
-rest_or words None = words
-rest_or words (Some found) = found.1
-
 first_found : {X : Type 0} (read : List ℕ → Option X) (word : List ℕ) (words new : List (List ℕ)) (x : X) (found : Option X) → read word ≡ found → option_map {U = X × List (List ℕ)} (λ y. (y, words)) found ≡ Some (x, new) → (read word ≡ Some x) × (words ≡ new)
 first_found read word words new x None is e = cc
-first_found read word words new x (Some y) is e = (is ∙ ap Some (ap (first_or y) e), ap (rest_or words) e)
+first_found read word words new x (Some y) is e = let same = same_pair (y, words) (x, new) e in (is ∙ ap Some same.0, same.1)
 
 item_joins : {X : Type 0} (items : List X) (x : X) (found : Option (List X)) → option_map (λ xs. (items ++ x ∷ []) ++ xs) found ≡ option_map (λ xs. items ++ xs) (option_map (λ xs. x ∷ xs) found)
 item_joins items x None = refl

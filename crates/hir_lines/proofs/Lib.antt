@@ -1,16 +1,10 @@
-pub mod Ascii
 pub mod Colons
-pub mod Dashes
 pub mod Decimals
 pub mod Digits
-pub mod Expressions
 pub mod Forms
 pub mod Fronts
 pub mod Integers
 pub mod Keeping
-pub mod LastLists
-pub mod Patterns
-pub mod Prefixes
 pub mod Separators
 pub mod Signs
 pub mod Spaces
@@ -18,5 +12,5 @@ pub mod Spellings
 pub mod Splits
 pub mod Tables
 pub mod Takes
-pub mod TypeRefs
 pub mod WrittenLines
+pub mod WrittenNodes

@@ -1,5 +1,5 @@
 -- How integers are written is how they are read.
-use Rattle.std.proofs.Common.{◌≡◌, ◌<◌, ◌≤◌, ◌^◌, ℕ, suc, zero, Bool, true, false, List, [], ◌∷◌, Some, None, drop, get_or, arith, refl, sym, ap, ◌∙◌, subst, inl, inr, ◌⊎◌}
+use Rattle.std.proofs.Common.{◌≡◌, ◌<◌, ◌≤◌, ◌^◌, ℕ, suc, zero, Bool, true, false, List, [], ◌∷◌, Some, drop, get_or, arith, refl, sym, ap, ◌∙◌, subst, inl, inr, ◌⊎◌}
 use Rattle.std.specs.Prelude.{ℤ, pos, negsuc, neg_ℤ, if◌then◌else◌, codes, nat_lt, nat_le, eqb, FitsSigned}
 use Rattle.std.specs.Fmt.{decimal, signed_decimal}
 use Rattle.std.specs.Int.{w128}
@@ -11,7 +11,7 @@ use borrow.Author.Tests.{ltb-true, leb-true}
 use Rattle.hir_lines.specs.Numerals.{int_of, is_numeral, is_digit, has_minus, with_sign, value}
 use Rattle.hir_lines.specs.Tokens.{IsInteger}
 use Rattle.hir_lines.proofs.Decimals.{decimal-value, value-decimal, numeral-decimal, digits-decimal}
-use Rattle.hir_lines.proofs.Integers.{some_digit, value_of_digits, read_numeral, numeral_read, int_is}
+use Rattle.hir_lines.proofs.Integers.{if_is_some, some_digit, value_of_digits, read_numeral, numeral_read, int_is}
 
 digit_no_minus : (b : ℕ) → is_digit b ≡ true → eqb b 45 ≡ false
 digit_no_minus b e = grind (arith, nat_tests)
@@ -50,20 +50,13 @@ int_reads z word h = by_case h.1 where
   by_case (inl written) = ap int_of written ∙ decimal_reads z h.0
   by_case (inr zero_so) = ap int_of zero_so.1 ∙ minus_zero ∙ ap Some (sym zero_so.0)
 
-found_plain : (b : Bool) (v : ℕ) (z : ℤ) → (if b then Some (pos v) else None) ≡ Some z → (b ≡ true) × (pos v ≡ z)
-found_plain true v z e = (refl, cc)
-found_plain false v z e = cc
-
-found_minus : (b : Bool) (v : ℕ) (z : ℤ) → (if b then Some (neg_ℤ (pos v)) else None) ≡ Some z → (b ≡ true) × (neg_ℤ (pos v) ≡ z)
-found_minus true v z e = (refl, cc)
-found_minus false v z e = cc
-
 plain_spells : (z : ℤ) (word : List ℕ) → is_numeral word ≡ true → with_sign false (value word) ≡ Some z → IsInteger z word
 plain_spells z word numeral e =
-    let found = found_plain (nat_lt (value word) (2 ^ 127)) (value word) z e in
+    let found = if_is_some (nat_lt (value word) (2 ^ 127)) (Some (pos (value word))) z e in
+    let same : pos (value word) ≡ z = let some = found.1 in cc in
     let below : value word < 2 ^ 127 = ltb-true _ _ found.0 in
     let spelt : IsInteger (pos (value word)) word = (record { sfits = below }, inl (sym (decimal-value word numeral (omega arith)))) in
-    subst (λ y. IsInteger y word) found.1 spelt
+    subst (λ y. IsInteger y word) same spelt
 
 behind_minus : (word : List ℕ) → get_or word 0 0 ≡ 45 → word ≡ 45 ∷ drop 1 word
 behind_minus [] e = absurd (omega (arith, e))
@@ -76,10 +69,11 @@ minus_number (suc m) word h written = (record { sfits = omega arith }, inl writt
 minus_spells : (z : ℤ) (word : List ℕ) → get_or word 0 0 ≡ 45 → is_numeral (drop 1 word) ≡ true → with_sign true (value (drop 1 word)) ≡ Some z → IsInteger z word
 minus_spells z word sign numeral e =
     let v : ℕ = value (drop 1 word) in
-    let found = found_minus (nat_le v (2 ^ 127)) v z e in
+    let found = if_is_some (nat_le v (2 ^ 127)) (Some (neg_ℤ (pos v))) z e in
+    let same : neg_ℤ (pos v) ≡ z = let some = found.1 in cc in
     let below : v ≤ 2 ^ 127 = leb-true _ _ found.0 in
     let digits : decimal v ≡ drop 1 word = decimal-value (drop 1 word) numeral (omega arith) in
-    subst (λ y. IsInteger y word) found.1 (minus_number v word below (behind_minus word sign ∙ ap (λ ds. 45 ∷ ds) (sym digits)))
+    subst (λ y. IsInteger y word) same (minus_number v word below (behind_minus word sign ∙ ap (λ ds. 45 ∷ ds) (sym digits)))
 
 pub int_spells : (z : ℤ) (word : List ℕ) → int_of word ≡ Some z → IsInteger z word
 int_spells z word e = by_minus (has_minus word) refl where

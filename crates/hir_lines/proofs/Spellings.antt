@@ -1,12 +1,11 @@
 -- How single words are written is how they are read.
-use Rattle.std.proofs.Common.{◌≡◌, ◌<◌, ◌^◌, ℕ, Bool, true, false, not, ◌&&◌, List, [], ◌∷◌, Option, Some, None, arith, refl, sym, ap, ◌∙◌}
+use Rattle.std.proofs.Common.{◌≡◌, ◌<◌, ◌^◌, ℕ, Bool, true, false, not, List, [], ◌∷◌, Option, Some, None, arith, refl, sym, ap, ◌∙◌}
 use Rattle.std.specs.Prelude.{if◌then◌else◌, codes, nat_lt}
 use Rattle.std.specs.Fmt.{decimal}
 use Rattle.std.specs.Option.{option_map}
 use Rattle.std.specs.List.{list_all, AllZip, join_with_byte}
 use Rattle.std.specs.Str.{bytes_eq}
 use Rattle.std.proofs.lemmas.Bool.{false≢true, eqb-true}
-use Rattle.std.proofs.lemmas.Slice.Eq.{bytes_eq-Decides}
 use Rattle.std.proofs.lemmas.List.Splits.{join_with_byte-slice_split}
 use borrow.Author.Tests.{ltb-true}
 use Rattle.hir_base.specs.declared.operators.ArithOp.TheVariants.{Add}
@@ -22,10 +21,10 @@ use Rattle.hir_lines.specs.Names.{name_of, is_name}
 use Rattle.hir_lines.specs.Words.{optional_of, list_of}
 use Rattle.hir_lines.specs.Tokens.{IsNumber, IsOptional, IsNumbers}
 use Rattle.hir_lines.proofs.Decimals.{decimal-value, value-decimal, numeral-decimal, digits-decimal}
-use Rattle.hir_lines.proofs.Forms.{all_read, all_found}
+use Rattle.hir_lines.proofs.Forms.{all_read, all_found, same_bytes}
 use Rattle.hir_lines.proofs.Separators.{lacks, AllLack, lacks-passes, parts_of-join}
 use Rattle.hir_lines.proofs.Splits.{parts_are_there}
-use Rattle.hir_lines.proofs.Ascii.{and_second}
+use Rattle.hir_lines.proofs.Integers.{and_first, and_second, if_is_some}
 use Rattle.hir_lines.proofs.Digits.{if_below-below}
 
 -- a number
@@ -38,24 +37,14 @@ number_reads n word h =
     ∙ ap (if_below (2 ^ 32)) (value-decimal n small)
     ∙ if_below-below n h.0
 
-if_is_some : {X : Type 0} (b : Bool) (o : Option X) (x : X) → (if b then o else None) ≡ Some x → (b ≡ true) × (o ≡ Some x)
-if_is_some true o x e = (refl, e)
-if_is_some false o x e = cc
-
-below_found : (b : Bool) (v n : ℕ) → (if b then Some v else None) ≡ Some n → (b ≡ true) × (v ≡ n)
-below_found true v n e = (refl, cc)
-below_found false v n e = cc
-
 pub number_spells : (n : ℕ) (word : List ℕ) → number_of word ≡ Some n → IsNumber n word
 unfolding number_of
 number_spells n word e =
     let numeral = if_is_some (is_numeral word) (if_below (2 ^ 32) (value word)) n e in
-    let found = below_found (nat_lt (value word) (2 ^ 32)) (value word) n numeral.1 in
+    let found = if_is_some (nat_lt (value word) (2 ^ 32)) (Some (value word)) n numeral.1 in
+    let same : value word ≡ n = let some = found.1 in cc in
     let small : value word < 2 ^ 32 = ltb-true _ _ found.0 in
-    (omega (arith, found.1), sym (decimal-value word numeral.0 (omega arith)) ∙ ap decimal found.1)
-
-pub same_bytes : (xs ys : List ℕ) → bytes_eq xs ys ≡ true → xs ≡ ys
-same_bytes xs ys e = (bytes_eq-Decides xs ys).0 e
+    (omega arith, sym (decimal-value word numeral.0 (omega arith)) ∙ ap decimal same)
 
 -- a dash is no number
 not_dash : (word : List ℕ) (n : ℕ) → number_of word ≡ Some n → (dash : Bool) → bytes_eq word (codes "-") ≡ dash → bytes_eq word (codes "-") ≡ false
@@ -113,10 +102,6 @@ name_spells name word e =
     let same : word ≡ name = let again = found.1 in cc in
     (ap is_name (sym same) ∙ found.0, same)
 
-and_first : (a b : Bool) → (a && b) ≡ true → a ≡ true
-and_first true b e = refl
-and_first false b e = cc
-
 -- the operator
 pub op_spells : (op : BinaryOp) (word : List ℕ) → op_of word ≡ Some op → word ≡ op_text op
 unfolding op_of
@@ -131,39 +116,33 @@ op_spells op word e = looked_up operators refl e where
   looked_up (first ∷ table) all e =
       entry first.0 first.1 (look_up table word) (bytes_eq word first.0) refl (and_first _ _ all) e (looked_up table (and_second _ _ all))
 
-op_is : (op : BinaryOp) → op_of (op_text op) ≡ Some op
+-- each operator's text is read as it, and has no space
+pub op_is : (op : BinaryOp) → (op_of (op_text op) ≡ Some op) × (lacks 32 (op_text op) ≡ true)
 unfolding op_of
-op_is (Logic And) = refl
-op_is (Logic Or) = refl
-op_is (Cmp (Eq true)) = refl
-op_is (Cmp (Eq false)) = refl
-op_is (Cmp (Ord Less true)) = refl
-op_is (Cmp (Ord Less false)) = refl
-op_is (Cmp (Ord Greater true)) = refl
-op_is (Cmp (Ord Greater false)) = refl
-op_is (Arith Add) = refl
-op_is (Arith _) = refl
-op_is (Assignment None) = refl
-op_is (Assignment (Some Add)) = refl
-op_is (Assignment (Some _)) = refl
+op_is (Logic And) = (refl, refl)
+op_is (Cmp (Eq true)) = (refl, refl)
+op_is (Cmp (Ord Less true)) = (refl, refl)
+op_is (Cmp (Ord Greater true)) = (refl, refl)
+op_is (Arith Add) = (refl, refl)
+op_is (Assignment (Some Add)) = (refl, refl)
+op_is _ = (refl, refl)
 
 pub op_reads : (op : BinaryOp) (word : List ℕ) → word ≡ op_text op → op_of word ≡ Some op
-op_reads op word h = ap op_of h ∙ op_is op
+op_reads op word h = ap op_of h ∙ (op_is op).0
 
 some_part : (parts : List (List ℕ)) → (parts ≡ [] → ⊥) → AllZip IsNumber [] parts → ⊥
 some_part [] there h = there refl
 some_part (part ∷ parts) there h = h
 
 -- the numbers of a list
-numbers_there : (ns : List ℕ) (words : List (List ℕ)) → AllZip IsNumber ns words → AllLack 44 words
-numbers_there [] [] h = tt
-numbers_there [] (word ∷ words) h = absurd h
-numbers_there (n ∷ ns) [] h = absurd h
-numbers_there (n ∷ ns) (word ∷ words) h = (number_lacks 44 refl n word h.0, numbers_there ns words h.1)
+pub numbers_there : (c : ℕ) → is_digit c ≡ false → (ns : List ℕ) (words : List (List ℕ)) → AllZip IsNumber ns words → AllLack c words
+numbers_there c plain [] [] h = tt
+numbers_there c plain (n ∷ ns) (word ∷ words) h = (number_lacks c plain n word h.0, numbers_there c plain ns words h.1)
+numbers_there c plain _ _ h = absurd h
 
 parts_are_numbers : (n : ℕ) (ns : List ℕ) (words : List (List ℕ)) → AllZip IsNumber (n ∷ ns) words → parts_of 44 (join_with_byte 44 words) ≡ words
 parts_are_numbers n ns [] h = absurd h
-parts_are_numbers n ns (word ∷ words) h = parts_of-join 44 word words (numbers_there (n ∷ ns) (word ∷ words) h)
+parts_are_numbers n ns (word ∷ words) h = parts_of-join 44 word words (numbers_there 44 refl (n ∷ ns) (word ∷ words) h)
 
 dash_is_no_list : (word : List ℕ) (n : ℕ) (ns : List ℕ) → all_of number_of (parts_of 44 word) ≡ Some (n ∷ ns) → (dash : Bool) → bytes_eq word (codes "-") ≡ dash → bytes_eq word (codes "-") ≡ false
 unfolding number_of

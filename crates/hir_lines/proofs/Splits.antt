@@ -2,7 +2,7 @@
 use Rattle.std.proofs.Common.{◌≡◌, ◌+◌, ◌<◌, ◌≤◌, ℕ, zero, suc, Bool, List, [], ◌∷◌, drop, length, refl, sym, ap, ◌∙◌, arith}
 use Rattle.std.specs.List.{slice_split}
 use Rattle.std.proofs.lemmas.List.Splits.{length-slice_split}
-use Rattle.hir_lines.specs.Readings.{HasWord, IsRestFrom, StartsOtherwise, is_byte, parts_of, words_from}
+use Rattle.hir_lines.specs.Readings.{HasWord, IsRestFrom, is_byte, parts_of, words_from}
 
 -- a text has one part at least
 pub parts_are_there : (p : ℕ → Bool) (text : List ℕ) → slice_split p text ≡ [] → ⊥
@@ -46,10 +46,3 @@ rest_words c {start} {text} {rest} is = words_at c start text (omega (arith, is.
 -- so are those further on
 pub rest_further : (c n : ℕ) {start : ℕ} {text rest : List ℕ} → IsRestFrom start text rest → words_from c n rest ≡ words_from c (start + n) text
 rest_further c n {start} {text} {rest} is = ap (words_from c n) is.is ∙ sym (further c start n text (omega (arith, is.size)))
-
--- what the first word isn't
-pub past_otherwise : (c start : ℕ) (text word : List ℕ) → length text < start → StartsOtherwise word (words_from c start text)
-past_otherwise c start text word h = λ others e. let none : words_from c start text ≡ [] = words_past c start text h in cc
-
-pub rest_otherwise : (c : ℕ) {start : ℕ} {text rest : List ℕ} (word : List ℕ) → IsRestFrom start text rest → StartsOtherwise word (parts_of c rest) → StartsOtherwise word (words_from c start text)
-rest_otherwise c word is other = λ others e. other others (sym (rest_words c is) ∙ e)

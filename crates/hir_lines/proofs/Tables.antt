@@ -1,6 +1,6 @@
 -- What stands behind a first word is read by its form in a table.
 use Rattle.std.proofs.Common.{◌≡◌, ◌≢◌, ℕ, Bool, true, false, List, [], ◌∷◌, Option, None, Some, Result, Ok, Err, refl, sym, ap, ◌∙◌, subst, length, arith}
-use Rattle.std.specs.Prelude.{MatchResult, if◌then◌else◌, ⊤}
+use Rattle.std.specs.Prelude.{◌↔◌, MatchResult, if◌then◌else◌, ⊤}
 use Rattle.std.specs.Option.{option_map, option_and_then}
 use Rattle.std.specs.Str.{bytes_eq}
 use Rattle.std.proofs.lemmas.Bool.{false≢true}
@@ -11,7 +11,7 @@ use Rattle.hir_lines.specs.Makers.{Maker}
 use Rattle.hir_lines.specs.Readings.{Reading, ◌>>=◌, StartsOtherwise, alone, gives, look_up, parts_of, whole}
 use Rattle.hir_lines.specs.Taking.{Makes, Puts, Steps, with, with_line}
 use Rattle.hir_lines.specs.Words.{by, one_of}
-use Rattle.hir_lines.proofs.Spellings.{same_bytes}
+use Rattle.hir_lines.proofs.Forms.{same_bytes}
 use Rattle.hir_lines.proofs.WrittenLines.{asks_it}
 
 -- no word of the table stands first
@@ -26,10 +26,6 @@ none_found {Y} (form ∷ forms) word words h = by_test (none_found forms word wo
   by_test others true is = absurd (h.0 words (ap (λ w. w ∷ words) (same_bytes word form.0 is)))
   by_test others false is = others
 
-pub none_of : {Y : Type 0} (forms : List (List ℕ × Reading Y)) (words : List (List ℕ)) → NoneFirst forms words → one_of forms words ≡ None
-none_of forms [] h = refl
-none_of forms (word ∷ words) h = ap (λ found. by found words) (none_found forms word words h)
-
 pub form_of : {Y : Type 0} (forms : List (List ℕ × Reading Y)) (head : List ℕ) {found : Option (Reading Y)} → look_up forms head ≡ found → (words mid : List (List ℕ)) → words ≡ head ∷ mid → one_of forms words ≡ by found mid
 form_of forms head is words mid e = ap (one_of forms) e ∙ ap (λ found. by found mid) is
 
@@ -40,7 +36,8 @@ pub whole_by : {Y : Type 0} (forms : List (List ℕ × Reading Y)) (head : List 
 whole_by forms head form is words mid e = ap all (form_of forms head is words mid e)
 
 pub whole_none : {Y : Type 0} (forms : List (List ℕ × Reading Y)) (words : List (List ℕ)) → NoneFirst forms words → whole (one_of forms) words ≡ None
-whole_none forms words h = ap all (none_of forms words h)
+whole_none forms [] h = refl
+whole_none forms (word ∷ words) h = ap (λ found. all (by found words)) (none_found forms word words h)
 
 -- a form that makes something of what another one says
 pub whole_then : {X Y : Type 0} (make : X → Y) (inner : Reading X) (words : List (List ℕ)) → whole (inner >>= λ x. gives (make x)) words ≡ option_map make (whole inner words)
@@ -56,14 +53,8 @@ module _ {B : Type 0} (has_self has_name : B → Bool) (add : B → Maker → B)
   abbrev then_with : {X : Type 0} → (X → Maker) → Option X → Option B
   then_with make found = option_and_then (λ x. with has_self has_name add old (make x)) found
 
-  -- what is put by a form of a table
-  pub put_by : {X : Type 0} (make : X → Maker) (forms : List (List ℕ × Reading X)) (head : List ℕ) (form : Reading X) → look_up forms head ≡ Some form → (words mid : List (List ℕ)) → words ≡ head ∷ mid → (result : Result (Unit {0}) Stop) →
-      Puts has_self has_name add make form mid old new result → Puts has_self has_name add make (one_of forms) words old new result
-  put_by {X} make forms head form is words mid e result puts =
-      subst (λ (found : Option X). Steps (then_with make found) old new result) (sym (whole_by forms head form is words mid e)) puts
-
   -- a line by the word that it begins with
-  made_line : (text head : List ℕ) (form : Reading Maker) (mid : List (List ℕ)) → (text ≡ [] → ⊥) → look_up maker_forms head ≡ Some form → look_up question_forms head ≡ None → parts_of 32 text ≡ head ∷ mid → line_of text ≡ by_words (whole form mid) None
+  made_line : (text head : List ℕ) (form : Reading Maker) (mid : List (List ℕ)) → (length text ≡ 0 → ⊥) → look_up maker_forms head ≡ Some form → look_up question_forms head ≡ None → parts_of 32 text ≡ head ∷ mid → line_of text ≡ by_words (whole form mid) None
   unfolding line_of maker question
   made_line [] head form mid some is none e = absurd (some refl)
   made_line (b ∷ bs) head form mid some is none e =
@@ -86,7 +77,7 @@ module _ {B : Type 0} (has_self has_name : B → Bool) (add : B → Maker → B)
       subst (λ r. Makes has_self has_name add line old new r) (sym is) (steps.0, asked, (λ bad. e ∙ steps.1.0 bad, λ none. steps.1.1 (sym e ∙ none)))
 
   -- a line is taken by the form of its first word
-  pub takes_by : (text head : List ℕ) (form : Reading Maker) (mid : List (List ℕ)) → (text ≡ [] → ⊥) → look_up maker_forms head ≡ Some form → look_up question_forms head ≡ None → parts_of 32 text ≡ head ∷ mid →
+  pub takes_by : (text head : List ℕ) (form : Reading Maker) (mid : List (List ℕ)) → (length text ≡ 0 → ⊥) → look_up maker_forms head ≡ Some form → look_up question_forms head ≡ None → parts_of 32 text ≡ head ∷ mid →
       (outcome : Result (Unit {0}) Stop) (result : Result Bool Stop) → Puts has_self has_name add (λ maker. maker) form mid old new outcome → MatchResult outcome (λ done. result ≡ Ok true) (λ why. result ≡ Err why) →
       Makes has_self has_name add (line_of text) old new result
   takes_by text head form mid some is none e outcome result puts taken =
@@ -108,11 +99,12 @@ unfolding line_of
 empty_line [] none = refl
 empty_line (b ∷ bs) none = absurd (omega (arith, none))
 
-pub not_empty : (text : List ℕ) → (length text ≡ 0 → ⊥) → text ≡ [] → ⊥
-not_empty text some e = some (ap (λ (bs : List ℕ). length bs) e)
+-- another first word was tried than stands there
+pub tried : (head : List ℕ) {words old new : List (List ℕ)} → words ≡ old → (new ≡ old) × StartsOtherwise head old → (words ≡ new) × StartsOtherwise head words
+tried head is other = (is ∙ sym other.0, λ others e. other.1 others (sym is ∙ e))
 
 -- a line whose first word makes nothing is left
-pub left_line : (text : List ℕ) → (text ≡ [] → ⊥) → NoneFirst maker_forms (parts_of 32 text) → makes (line_of text) ≡ false
+pub left_line : (text : List ℕ) → (length text ≡ 0 → ⊥) → NoneFirst maker_forms (parts_of 32 text) → makes (line_of text) ≡ false
 unfolding line_of maker
 left_line [] some none = absurd (some refl)
 left_line (b ∷ bs) some none =
@@ -123,19 +115,14 @@ left_line (b ∷ bs) some none =
     by_asked (Some asked) = refl
 
 -- a line that isn't empty asks what its words ask, or nothing
-pub record AsksBy (text : List ℕ) : Type 0 where
-  pub some : line_of text ≢ Blank
-  pub none : whole question (parts_of 32 text) ≡ None → asks (line_of text) ≡ false
-  pub back : asks (line_of text) ≡ false → whole question (parts_of 32 text) ≡ None
-
-pub asks_by : (text : List ℕ) → (text ≡ [] → ⊥) → AsksBy text
+pub asks_by : (text : List ℕ) → (length text ≡ 0 → ⊥) → (line_of text ≢ Blank) × (asks (line_of text) ≡ false ↔ whole question (parts_of 32 text) ≡ None)
 unfolding line_of
 asks_by [] some = absurd (some refl)
-asks_by (b ∷ bs) some = record {
-  some = by_any (whole maker (parts_of 32 (b ∷ bs))) (whole question (parts_of 32 (b ∷ bs)));
-  none = λ e. ap (λ q. asks (by_words (whole maker (parts_of 32 (b ∷ bs))) q)) e ∙ no_question (whole maker (parts_of 32 (b ∷ bs)));
-  back = λ e. by_question (whole question (parts_of 32 (b ∷ bs))) refl e;
-} where
+asks_by (b ∷ bs) some = (
+  by_any (whole maker (parts_of 32 (b ∷ bs))) (whole question (parts_of 32 (b ∷ bs))),
+  λ e. by_question (whole question (parts_of 32 (b ∷ bs))) refl e,
+  λ e. ap (λ q. asks (by_words (whole maker (parts_of 32 (b ∷ bs))) q)) e ∙ no_question (whole maker (parts_of 32 (b ∷ bs))),
+) where
   by_any : (made : Option Maker) (asked : Option Question) → by_words made asked ≡ Blank → ⊥
   by_any (Some made) asked e = cc
   by_any None (Some asked) e = cc

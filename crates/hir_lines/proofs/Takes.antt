@@ -2,7 +2,7 @@
 use Rattle.std.proofs.Common.{◌≡◌, ℕ, List, [], ◌∷◌, Option, None, Some, refl, sym, ◌∙◌}
 use Rattle.std.specs.List.{AllZip}
 use Rattle.std.specs.Prelude.{ℤ}
-use Rattle.std.specs.Option.{option_map, option_and_then}
+use Rattle.std.specs.Option.{option_and_then}
 use Rattle.hir_base.specs.declared.hygiene.SyntaxContext.{SyntaxContext}
 use Rattle.hir_base.specs.declared.hygiene.SyntaxContext.TheVariants.{Expansion}
 use Rattle.hir_base.specs.declared.operators.BinaryOp.{BinaryOp}
@@ -35,31 +35,19 @@ accept_int {z = z} {y = y} {tokens = tokens} next = accept_first int_of (Integer
 pub accept_op : {Y : Type 0} {o : BinaryOp} {y : Y} {tokens : List Token} (next : BinaryOp → Reading Y) → Accepts tokens (next o) y → Accepts (Operator o ∷ tokens) (op >>= next) y
 accept_op {o = o} {y = y} {tokens = tokens} next = accept_first op_of (Operator o) o y tokens next (op_reads o)
 
--- a path is read as its name
-path_is_name : {Y : Type 0} (next : Path → Reading Y) (words : List (List ℕ)) → (path >>= next) words ≡ (name >>= λ text. next (plain text)) words
-path_is_name next [] = refl
-path_is_name {Y} next (word ∷ words) = by_word (name_of word) where
-  by_word : (found : Option (List ℕ)) →
-      option_and_then (λ (f : Path × List (List ℕ)). next f.0 f.1) (option_and_then (λ (f : List ℕ × List (List ℕ)). gives (plain f.0) f.1) (option_map (λ x. (x, words)) found))
-      ≡ option_and_then (λ (f : List ℕ × List (List ℕ)). next (plain f.0) f.1) (option_map (λ x. (x, words)) found)
-  by_word None = refl
-  by_word (Some text) = refl
+-- reading on with what is made of what was read
+made_read : {X Y Z : Type 0} (inner : Reading X) (make : X → Y) (next : Y → Reading Z) (words : List (List ℕ)) → ((inner >>= λ x. gives (make x)) >>= next) words ≡ (inner >>= λ x. next (make x)) words
+made_read {X} {Y} inner make next words = by_found (inner words) where
+  by_found : (found : Option (X × List (List ℕ))) →
+      option_and_then (λ (f : Y × List (List ℕ)). next f.0 f.1) (option_and_then (λ (f : X × List (List ℕ)). gives (make f.0) f.1) found) ≡ option_and_then (λ (f : X × List (List ℕ)). next (make f.0) f.1) found
+  by_found None = refl
+  by_found (Some f) = refl
 
 pub accept_path : {Y : Type 0} {text : List ℕ} {y : Y} {tokens : List Token} (next : Path → Reading Y) → Accepts tokens (next (plain text)) y → Accepts (Name text ∷ tokens) (path >>= next) y
-accept_path next rest = record { reads = λ words h. path_is_name next words ∙ (accept_name (λ text. next (plain text)) rest).reads words h }
-
--- a macro expansion is read as its number
-expansion_is_number : {Y : Type 0} (next : SyntaxContext → Reading Y) (words : List (List ℕ)) → (expansion >>= next) words ≡ (number >>= λ n. next (Expansion n)) words
-expansion_is_number next [] = refl
-expansion_is_number {Y} next (word ∷ words) = by_word (number_of word) where
-  by_word : (found : Option ℕ) →
-      option_and_then (λ (f : SyntaxContext × List (List ℕ)). next f.0 f.1) (option_and_then (λ (f : ℕ × List (List ℕ)). gives (Expansion f.0) f.1) (option_map (λ x. (x, words)) found))
-      ≡ option_and_then (λ (f : ℕ × List (List ℕ)). next (Expansion f.0) f.1) (option_map (λ x. (x, words)) found)
-  by_word None = refl
-  by_word (Some n) = refl
+accept_path next rest = record { reads = λ words h. made_read name plain next words ∙ (accept_name (λ text. next (plain text)) rest).reads words h }
 
 pub accept_expansion : {Y : Type 0} {n : ℕ} {y : Y} {tokens : List Token} (next : SyntaxContext → Reading Y) → Accepts tokens (next (Expansion n)) y → Accepts (Number n ∷ tokens) (expansion >>= next) y
-accept_expansion next rest = record { reads = λ words h. expansion_is_number next words ∙ (accept_number (λ n. next (Expansion n)) rest).reads words h }
+accept_expansion next rest = record { reads = λ words h. made_read number Expansion next words ∙ (accept_number (λ n. next (Expansion n)) rest).reads words h }
 
 source_read : {Y : Type 0} {y : Y} (next : SyntaxContext → Reading Y) → Accepts [] (next of_source) y → (words : List (List ℕ)) → AllZip IsWord [] words → (hygiene >>= next) words ≡ Some (y, [])
 source_read next rest [] h = rest.reads [] h
@@ -97,10 +85,10 @@ pub sound_op : {Y : Type 0} (Is : Y → List Token → Type 0) (next : BinaryOp 
 sound_op Is next = sound_first op_of Operator Is next op_spells
 
 pub sound_path : {Y : Type 0} (Is : Y → List Token → Type 0) (next : Path → Reading Y) → ((text : List ℕ) → Sound (λ y tokens. Is y (Name text ∷ tokens)) (next (plain text))) → Sound Is (path >>= next)
-sound_path Is next rest = record { written = λ words y e. (sound_name Is (λ text. next (plain text)) rest).written words y (sym (path_is_name next words) ∙ e) }
+sound_path Is next rest = record { written = λ words y e. (sound_name Is (λ text. next (plain text)) rest).written words y (sym (made_read name plain next words) ∙ e) }
 
 pub sound_expansion : {Y : Type 0} (Is : Y → List Token → Type 0) (next : SyntaxContext → Reading Y) → ((n : ℕ) → Sound (λ y tokens. Is y (Number n ∷ tokens)) (next (Expansion n))) → Sound Is (expansion >>= next)
-sound_expansion Is next rest = record { written = λ words y e. (sound_number Is (λ n. next (Expansion n)) rest).written words y (sym (expansion_is_number next words) ∙ e) }
+sound_expansion Is next rest = record { written = λ words y e. (sound_number Is (λ n. next (Expansion n)) rest).written words y (sym (made_read number Expansion next words) ∙ e) }
 
 hygiene_written : {Y : Type 0} (Is : Y → List Token → Type 0) (next : SyntaxContext → Reading Y) → Sound Is (next of_source) → ((n : ℕ) → Sound (λ y tokens. Is y (Number n ∷ tokens)) (next (Expansion n))) →
     (words : List (List ℕ)) (y : Y) → (hygiene >>= next) words ≡ Some (y, []) → (tokens : List Token) × Is y tokens × AllZip IsWord tokens words

@@ -1,16 +1,13 @@
 -- Lines are read as they are written, and written as they are read.
-use Rattle.std.proofs.Common.{◌≡◌, ◌≢◌, ℕ, List, [], ◌∷◌, Option, None, Some, refl, sym, ap, ◌∙◌, subst}
+use Rattle.std.proofs.Common.{◌≡◌, ◌≢◌, ℕ, true, ◌&&◌, List, [], ◌∷◌, Option, None, Some, refl, sym, ap, ◌∙◌, subst}
 use Rattle.std.specs.Prelude.{map, codes}
-use Rattle.std.specs.List.{AllZip, join_with_byte}
+use Rattle.std.specs.List.{AllZip, join_with_byte, list_all}
 use Rattle.std.proofs.lemmas.List.Splits.{join_with_byte-slice_split}
 use Rattle.hir_node.specs.declared.expr.Expr.{Expr}
 use Rattle.hir_node.specs.declared.pat.Pat.{Pat}
 use Rattle.hir_node.specs.declared.type_ref.TypeRef.{TypeRef}
-use Rattle.hir_node.specs.declared.expr_types.MatchArm.{MatchArm}
-use Rattle.hir_node.specs.declared.expr_types.Statement.{Statement}
 use Rattle.hir_lines.specs.Line.{Line, Blank, Make, Ask, Bad, line_of, by_words, maker, maker_forms, bind, pat_maker, type_maker, expr_maker, expr_hygiene, pat_hygiene, self_param, param, fn_name, roots, root, question, question_forms, children, root_of, chain, resolve, print, captures}
-use Rattle.hir_lines.specs.Makers.{Maker}
-use Rattle.hir_lines.specs.Makers.{Pat as MakePat, TypeRef as MakeType, Expr as MakeExpr}
+use Rattle.hir_lines.specs.Makers.{Maker, Pat as MakePat, TypeRef as MakeType, Expr as MakeExpr}
 use Rattle.hir_lines.specs.declared.question.Question.{Question}
 use Rattle.hir_lines.specs.Readings.{Reading, look_up, whole, parts_of}
 use Rattle.hir_lines.specs.Words.{by, one_of}
@@ -22,13 +19,11 @@ use Rattle.hir_lines.specs.PatGrammar.{IsPat, wild}
 use Rattle.hir_lines.specs.TypeGrammar.{IsType, never}
 use Rattle.hir_lines.specs.ExprGrammar.{IsExpr, match_expr, block}
 use Rattle.hir_lines.specs.Grammar.{IsMaker, bind as by_bind, bind_expanded, pat as by_pat, type_ref as by_type, expr as by_expr, expr_hygiene as by_expr_hygiene, pat_hygiene as by_pat_hygiene, self_param as by_self, param as by_param, fn_name as by_name, roots as by_roots, root as by_root, IsQuestion, children as by_children, root_of as by_root_of, chain as by_chain, resolve as by_resolve, resolve_expanded, print as by_print, captures as by_captures, IsLine}
-use Rattle.hir_lines.proofs.Expressions.{accepts_expr, sound_expr}
 use Rattle.hir_lines.proofs.Forms.{Accepts, accept_head, accept_inner, whole_read, whole_found, Sound, sound_one_of, sound_inner, AllSound, no_form, form}
-use Rattle.hir_lines.proofs.Patterns.{accepts_pat, sound_pat}
 use Rattle.hir_lines.proofs.Separators.{parts_of-join}
-use Rattle.hir_lines.proofs.Spaces.{AllPlain, words_lack}
+use Rattle.hir_lines.proofs.Spaces.{AllPlain, is_plain, words_lack}
 use Rattle.hir_lines.proofs.Takes.{accepting, sounding}
-use Rattle.hir_lines.proofs.TypeRefs.{accepts_type, sound_type}
+use Rattle.hir_lines.proofs.WrittenNodes.{accepts_expr, accepts_pat, accepts_type, sound_expr, sound_pat, sound_type}
 
 accepts_maker : {m : Maker} {tokens : List Token} → IsMaker m tokens → Accepts tokens (one_of maker_forms) m
 accepts_maker by_bind = accept_head maker_forms _ bind refl (search accepting)
@@ -80,17 +75,13 @@ plain_type : {t : TypeRef} {tokens : List Token} → IsType t tokens → AllPlai
 plain_type never = refl
 plain_type _ = refl
 
-plain_arms : (arms : List MatchArm) → AllPlain (map Arm arms)
-plain_arms [] = refl
-plain_arms (arm ∷ arms) = plain_arms arms
-
-plain_statements : (statements : List Statement) → AllPlain (map Stmt statements)
-plain_statements [] = refl
-plain_statements (statement ∷ statements) = plain_statements statements
+plain_map : {X : Type 0} (token : X → Token) → ((x : X) → is_plain (token x) ≡ true) → (xs : List X) → AllPlain (map token xs)
+plain_map token plain [] = refl
+plain_map token plain (x ∷ xs) = ap (λ b. b && list_all is_plain (map token xs)) (plain x) ∙ plain_map token plain xs
 
 plain_expr : {e : Expr} {tokens : List Token} → IsExpr e tokens → AllPlain tokens
-plain_expr (match_expr {arms = arms}) = plain_arms arms
-plain_expr (block {statements = statements}) = plain_statements statements
+plain_expr (match_expr {arms = arms}) = plain_map Arm (λ arm. refl) arms
+plain_expr (block {statements = statements}) = plain_map Stmt (λ statement. refl) statements
 plain_expr _ = refl
 
 plain_maker : {m : Maker} {tokens : List Token} → IsMaker m tokens → AllPlain tokens
@@ -123,10 +114,7 @@ no_maker head tokens (word ∷ words) none zip =
     ap (λ (first : List ℕ). whole (by (look_up maker_forms first)) words) zip.0 ∙ ap (λ found. whole (by found) words) none
 
 -- a question begins with a word with which nothing that makes begins
-abbrev BeginsQuestion : List Token → Type 0
-BeginsQuestion tokens = (head : List ℕ) × (others : List Token) × (look_up maker_forms head ≡ None) × (tokens ≡ Word head ∷ others)
-
-question_begins : {q : Question} {tokens : List Token} → IsQuestion q tokens → BeginsQuestion tokens
+question_begins : {q : Question} {tokens : List Token} → IsQuestion q tokens → (head : List ℕ) × (others : List Token) × (look_up maker_forms head ≡ None) × (tokens ≡ Word head ∷ others)
 question_begins by_children = (codes "children", _, refl, refl)
 question_begins by_root_of = (codes "root-of", _, refl, refl)
 question_begins by_chain = (codes "chain", _, refl, refl)
@@ -148,15 +136,12 @@ question_tokens words q e = (sound_one_of IsQuestion question_forms questions_so
 pub asks_it : (text : List ℕ) (q : Question) → whole question (parts_of 32 text) ≡ Some q → line_of text ≡ Ask q
 asks_it text q e = let found = question_tokens (parts_of 32 text) q e in asks_so q text (asks_alone found.1 (parts_of 32 text) found.2) e
 
-no_words : {Y : Type 0} (forms : List (List ℕ × Reading Y)) (y : Y) → one_of forms [] ≡ Some (y, []) → ⊥
-no_words forms y e = cc
-
 -- the words of a text that is written so
 parts_are_tokens : {Y : Type 0} (forms : List (List ℕ × Reading Y)) (y : Y) (tokens : List Token) (text : List ℕ) → Accepts tokens (one_of forms) y → AllPlain tokens → (h : IsText tokens text) →
     parts_of 32 text ≡ h.0
 parts_are_tokens forms y tokens text accepts plain h = by_text h.0 h.1 h.2 where
   by_text : (words : List (List ℕ)) → AllZip IsWord tokens words → text ≡ join_with_byte 32 words → parts_of 32 text ≡ words
-  by_text [] zip joined = absurd (no_words forms y (accepts.reads [] zip))
+  by_text [] zip joined = let none : one_of forms [] ≡ Some (y, []) = accepts.reads [] zip in cc
   by_text (word ∷ words) zip joined = ap (parts_of 32) joined ∙ parts_of-join 32 word words (words_lack tokens (word ∷ words) zip plain)
 
 maker_reads : (m : Maker) (tokens : List Token) (text : List ℕ) → IsMaker m tokens → IsText tokens text → line_of text ≡ Make m

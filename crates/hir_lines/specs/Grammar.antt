@@ -6,8 +6,7 @@ use Rattle.hir_node.specs.declared.expr.Expr.{Expr}
 use Rattle.hir_node.specs.declared.pat.Pat.{Pat}
 use Rattle.hir_node.specs.declared.type_ref.TypeRef.{TypeRef}
 use Rattle.hir_lines.specs.Line.{Line, Blank, Make, Ask, Bad, plain_binding}
-use Rattle.hir_lines.specs.Makers.{Maker}
-use Rattle.hir_lines.specs.Makers.{Binding, Pat as MakePat, TypeRef as MakeType, Expr as MakeExpr, Hygiene, SelfParam, Param, FnName, Roots, Root}
+use Rattle.hir_lines.specs.Makers.{Maker, Binding, Pat as MakePat, TypeRef as MakeType, Expr as MakeExpr, Hygiene, SelfParam, Param, FnName, Roots, Root}
 use Rattle.hir_lines.specs.declared.question.Question.{Question}
 use Rattle.hir_lines.specs.declared.question.Question.TheVariants.{OfStore, OfBody}
 use Rattle.hir_lines.specs.declared.question.StoreQuestion.TheVariants.{Children, RootOf}

@@ -4,8 +4,7 @@ use Rattle.hir_base.specs.declared.hygiene.SyntaxContext.{SyntaxContext}
 use Rattle.hir_path.specs.declared.ids.ExprOrPatId.TheVariants.{ExprId, PatId}
 use Rattle.hir_node.specs.declared.binding.Binding.{Binding}
 use Rattle.hir_node.specs.declared.binding.BindingAnnotation.TheVariants.{Unannotated}
-use Rattle.hir_lines.specs.Makers.{Maker}
-use Rattle.hir_lines.specs.Makers.{Binding as MakeBinding, Pat as MakePat, TypeRef as MakeType, Expr as MakeExpr, Hygiene, SelfParam, Param, FnName, Roots, Root}
+use Rattle.hir_lines.specs.Makers.{Maker, Binding as MakeBinding, Pat as MakePat, TypeRef as MakeType, Expr as MakeExpr, Hygiene, SelfParam, Param, FnName, Roots, Root}
 use Rattle.hir_lines.specs.declared.question.Question.{Question}
 use Rattle.hir_lines.specs.declared.question.Question.TheVariants.{OfStore, OfBody}
 use Rattle.hir_lines.specs.declared.question.StoreQuestion.TheVariants.{Children, RootOf}

@@ -87,11 +87,10 @@ impl<'a, const SEPARATOR: u8> Words<'a, SEPARATOR> {
 
     /// Takes the next word, if it is a number or a dash.
     pub fn optional(&mut self) -> Result<Option<u32>, Bad>
+        requires { Plain SEPARATOR (codes "-") }
         ensures { Reads optional self.old result self.new }
     {
-        let text = rest_from(self.text, self.start)?;
-        if begins_with_dash(text, SEPARATOR) {
-            self.start += 2;
+        if self.skip(b"-") {
             return Ok(None);
         }
         Ok(Some(self.number()?))
@@ -99,6 +98,7 @@ impl<'a, const SEPARATOR: u8> Words<'a, SEPARATOR> {
 
     /// Takes the next word, if it is the number of something or a dash.
     pub fn optional_id<K>(&mut self) -> Result<Option<Idx<K>>, Bad>
+        requires { Plain SEPARATOR (codes "-") }
         ensures { Reads optional self.old result self.new }
     {
         match self.optional()? {
@@ -310,17 +310,4 @@ fn begins_with(text: &[u8], word: &[u8], separator: u8) -> bool
         return true;
     }
     text[end] == separator
-}
-
-/// Whether the first word of a text is a dash.
-fn begins_with_dash(text: &[u8], separator: u8) -> bool
-    ensures within { IsTrue result → 1 ≤ length text.now }
-    ensures yes { IsTrue result → parts_of separator text.now ≡ codes "-" ∷ words_from separator 2 text.now }
-    ensures no { result ≡ false → StartsOtherwise (codes "-") (parts_of separator text.now) }
-{
-    // A dash that separates is no word.
-    if separator == b'-' {
-        return false;
-    }
-    begins_with(text, b"-", separator)
 }

@@ -3,7 +3,7 @@ use Rattle.std.proofs.lemmas.Bool.Decides.{nat_tests}
 use Rattle.std.proofs.lemmas.Result.{err_from_is_err_and}
 use Rattle.hir_lines.specs.Line.{question}
 use Rattle.hir_lines.specs.Readings.{parts_of, whole}
-use Rattle.hir_lines.proofs.Tables.{asks_by, empty_line, not_empty}
+use Rattle.hir_lines.proofs.Tables.{asks_by, empty_line}
 use Rattle.hir_lines.proofs.WrittenLines.{asks_it}
 use Rattle.hir_lines.proofs.asking.ask.Goals as goal
 
@@ -17,15 +17,13 @@ returns-in_err-question c =
     let p = err_from_is_err_and c.from_residual.result c.from_residual.ensures.1 in
     let words : parts_of 32 c.args.text.now ≡ c.new-words.result = sym c.new-words.ensures in
     let some : length c.args.text.now ≡ 0 → ⊥ = λ none. grind (arith, nat_tests) in
-    let by = asks_by c.args.text.now (not_empty c.args.text.now some) in
+    let by = asks_by c.args.text.now some in
     let asked = c.in_err-question.ensures {u = tt} in
     record {
       asks = rw (p.1, p.2) (
-        by.some,
-        (
-          λ bad. by.none (ap (λ (ws : List (List ℕ)). whole question ws) words ∙ asked.0 bad),
-          λ no. asked.1 (ap (λ (ws : List (List ℕ)). whole question ws) (sym words) ∙ by.back no),
-        ),
+        by.0,
+        λ bad. by.1.1 (ap (λ (ws : List (List ℕ)). whole question ws) words ∙ asked.0 bad),
+        λ no. asked.1 (ap (λ (ws : List (List ℕ)). whole question ws) (sym words) ∙ by.1.0 no),
       );
     }
 
