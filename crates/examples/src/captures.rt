@@ -6,12 +6,13 @@ ghost use Rattle.hir_node.specs.declared.node_id.NodeId.TheVariants as node;
 ghost use Rattle.hir_items.specs.Bodies.{BodyReaches};
 ghost use Rattle.hir_scope.specs.BodyScopes.{ChainsAreFrames, tops_of_body};
 
-use example_bodies::closures;
+use crate::bodies::closures;
 use hir_captures::{CapturesFault, captures};
 use hir_error::HirError;
 use hir_items::Body;
 use hir_node::{BindingId, ExprId};
 use hir_scope::ExprScopes;
+use hir_store::ExpressionStore;
 use std::alloc::Global;
 
 /// A closure, and the bindings from outside that its code uses, in the order of their first use.
@@ -42,17 +43,27 @@ fn captures_by_closure(
     Ok(found)
 }
 
+/// Prints a closure, and the names of what it captures.
+fn print_one(
+    rt: &impl Print,
+    store: &ExpressionStore,
+    found: &ClosureCaptures,
+) -> anyhow::Result<()> {
+    println!(rt; "closure {} captures", found.closure.into_raw())?;
+    for &binding in &found.bindings {
+        if store.has_binding(binding) {
+            println!(rt; "    {}", store[binding].name.as_str())?;
+        }
+    }
+    Ok(())
+}
+
 /// Prints those of the body `closures`.
 pub fn print(rt: &impl Print, alloc: Global) -> anyhow::Result<()> {
     let body = closures(alloc)?;
     let scopes = ExprScopes::new_body(alloc, &body)?;
     for found in &captures_by_closure(alloc, &body, &scopes)? {
-        println!(rt; "closure {} captures", found.closure.into_raw())?;
-        for &binding in &found.bindings {
-            if body.store().has_binding(binding) {
-                println!(rt; "    {}", body.store()[binding].name.as_str())?;
-            }
-        }
+        print_one(rt, body.store(), found)?;
     }
     Ok(())
 }

@@ -1,6 +1,4 @@
 //! A tour: a body is built by calls, finished, printed, walked and searched, and the name `x` is resolved at each expression.
-#![tactic(auto)]
-
 ghost use Rattle.std.specs.Prelude.{◌≡◌, ◌<◌, length, option_map};
 ghost use Rattle.std.specs.FinMap as map;
 ghost use Rattle.hir_expr_store.specs.RootSearch.{root_for_expr};
@@ -80,15 +78,18 @@ fn meaning_at(
     Some(entry.binding())
 }
 
-fn main(rt: HostRuntime) -> anyhow::Result<()> {
-    let alloc = rt.alloc();
-    let body = build(alloc)?;
-    println!(rt; "{}", text(alloc, "f", &body)?)?;
-    let store = body.store();
-    for child in &children(alloc, store, body.root_expr())? {
+/// Prints the children of the root.
+fn print_children(rt: &impl Print, alloc: Global, body: &Body) -> anyhow::Result<()> {
+    for child in &children(alloc, body.store(), body.root_expr())? {
         println!(rt; "expression {} is a child of the root", child.into_raw())?;
     }
-    let scopes = ExprScopes::new_body(alloc, &body)?;
+    Ok(())
+}
+
+/// Prints the root that each expression is under, and the binding that `x` means there.
+fn print_meanings(rt: &impl Print, alloc: Global, body: &Body) -> anyhow::Result<()> {
+    let store = body.store();
+    let scopes = ExprScopes::new_body(alloc, body)?;
     let x = Name::new(alloc, "x")?;
     for (id, _) in store.exprs() {
         if let (Some(root), Some(binding)) = (
@@ -104,4 +105,12 @@ fn main(rt: HostRuntime) -> anyhow::Result<()> {
         }
     }
     Ok(())
+}
+
+/// Prints the body as text, what is under its root, and what `x` means in it.
+pub fn print(rt: &impl Print, alloc: Global) -> anyhow::Result<()> {
+    let body = build(alloc)?;
+    println!(rt; "{}", text(alloc, "f", &body)?)?;
+    print_children(rt, alloc, &body)?;
+    print_meanings(rt, alloc, &body)
 }

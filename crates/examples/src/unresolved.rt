@@ -1,7 +1,7 @@
 //! Finds the paths of a body that are one name and resolve to nothing.
 
 use crate::assigned::targets;
-use example_bodies::names;
+use crate::bodies::names;
 use hir_error::HirError;
 use hir_items::Body;
 use hir_node::{Expr, ExprOrPatId, Pat};
@@ -40,11 +40,9 @@ fn unresolved(
     Ok(found)
 }
 
-/// Prints those of the body `names`.
-pub fn print(rt: &impl Print, alloc: Global) -> anyhow::Result<()> {
-    let body = names(alloc)?;
-    let scopes = ExprScopes::new_body(alloc, &body)?;
-    for id in &unresolved(alloc, &body, &scopes)? {
+/// Prints that each resolves to nothing.
+fn print_all(rt: &impl Print, found: &[ExprOrPatId]) -> anyhow::Result<()> {
+    for id in found {
         match id {
             ExprOrPatId::ExprId(id) => println!(rt;
                 "expression {} resolves to nothing",
@@ -57,4 +55,12 @@ pub fn print(rt: &impl Print, alloc: Global) -> anyhow::Result<()> {
         }
     }
     Ok(())
+}
+
+/// Prints those of the body `names`.
+pub fn print(rt: &impl Print, alloc: Global) -> anyhow::Result<()> {
+    let body = names(alloc)?;
+    let scopes = ExprScopes::new_body(alloc, &body)?;
+    let found = unresolved(alloc, &body, &scopes)?;
+    print_all(rt, &found)
 }

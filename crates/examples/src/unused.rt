@@ -1,7 +1,7 @@
 //! Finds the bindings of a body that no path resolves to: a check for unused variables.
 
 use crate::assigned::targets;
-use example_bodies::names;
+use crate::bodies::names;
 use hir_base::ArenaMap;
 use hir_error::HirError;
 use hir_items::Body;
@@ -41,14 +41,20 @@ fn unused(alloc: Global, body: &Body, scopes: &ExprScopes) -> Result<Vec<Binding
     Ok(unused)
 }
 
+/// Prints the name of each of these bindings.
+fn print_all(rt: &impl Print, store: &ExpressionStore, found: &[BindingId]) -> anyhow::Result<()> {
+    for &id in found {
+        if store.has_binding(id) {
+            println!(rt; "`{}` isn't used", store[id].name.as_str())?;
+        }
+    }
+    Ok(())
+}
+
 /// Prints those of the body `names`.
 pub fn print(rt: &impl Print, alloc: Global) -> anyhow::Result<()> {
     let body = names(alloc)?;
     let scopes = ExprScopes::new_body(alloc, &body)?;
-    for &id in &unused(alloc, &body, &scopes)? {
-        if body.store().has_binding(id) {
-            println!(rt; "`{}` isn't used", body.store()[id].name.as_str())?;
-        }
-    }
-    Ok(())
+    let found = unused(alloc, &body, &scopes)?;
+    print_all(rt, body.store(), &found)
 }
