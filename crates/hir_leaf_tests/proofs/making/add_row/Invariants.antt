@@ -1,5 +1,5 @@
 use Rattle.std.proofs.Common.{◌≡◌, ◌+◌, length}
-use Rattle.hir_forest_tests.proofs.making.add_row.Given as goal
+use Rattle.hir_leaf_tests.proofs.making.add_row.Given as goal
 
 abbrev pub invariant-loop-edge : goal.invariant-loop-edge
 invariant-loop-edge l = record {

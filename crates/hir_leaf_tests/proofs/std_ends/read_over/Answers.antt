@@ -1,7 +1,7 @@
 use Rattle.std.proofs.Common.{◌≡◌, ◌≤◌, ℕ, Bool, true, false, List, length, Some, Result, Ok, Err, arith}
 use Rattle.std.specs.Prelude.{OnErr}
 use Rattle.hir_io.specs.StdEnd.{IsKeptWithin, unless_overrun}
-use Rattle.hir_io_tests.proofs.std_ends.read_over.Goals as goal
+use Rattle.hir_leaf_tests.proofs.std_ends.read_over.Goals as goal
 
 kept : {E : Type 0} (was now : Bool) (allowance : ℕ) (old new : List ℕ) (result : Result ℕ E) → OnErr result (IsKeptWithin allowance (unless_overrun was (Some old)) (unless_overrun now (Some new))) → was ≡ false → length old ≤ allowance → OnErr result (new ≡ old)
 kept was now allowance old new (Ok n) k w fits = tt

@@ -1,5 +1,5 @@
 use Rattle.std.proofs.Common.{◌+◌, ◌<◌, ◌^◌, length}
-use Rattle.hir_io_tests.proofs.reading.echo.Given as goal
+use Rattle.hir_leaf_tests.proofs.reading.echo.Given as goal
 
 abbrev pub invariant-loop-output : goal.invariant-loop-output
 invariant-loop-output g l = l.lines.count + length l.lines.pending + g.R.Source.allowance l.reader < 2 ^ 64
