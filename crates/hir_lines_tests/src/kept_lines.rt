@@ -1,4 +1,5 @@
-//! A builder that keeps what lines make, as it came.
+//! A builder that keeps what lines make, as it came. Lines are compared by functions: a derived comparison is dear to prove, since it proves
+//! its laws.
 
 use hir_base::{HygieneId, Name, Seq};
 use hir_lines::{Builder, Question, Stop, ask, make};
@@ -6,7 +7,7 @@ use hir_node::{Binding, BindingId, Expr, ExprId, ExprOrPatId, Pat, PatId, TypeRe
 use std::alloc::Global;
 
 /// A line that makes something.
-#[derive(Drop, PartialEq, Eq)]
+#[derive(Drop)]
 pub enum Maker {
     Binding(Binding),
     Pat(Pat),
@@ -21,12 +22,88 @@ pub enum Maker {
 }
 
 /// What a line says.
-#[derive(Drop, PartialEq, Eq)]
+#[derive(Drop)]
 pub enum Line {
     Blank,
     Make(Maker),
     Ask(Question),
     Bad,
+}
+
+/// What a line makes, beside what it should make.
+fn are_nodes(made: &Maker, wanted: &Maker) -> bool {
+    match made {
+        Maker::Binding(made) => match wanted {
+            Maker::Binding(wanted) => *made == *wanted,
+            _ => false,
+        },
+        Maker::Pat(made) => match wanted {
+            Maker::Pat(wanted) => *made == *wanted,
+            _ => false,
+        },
+        Maker::Type(made) => match wanted {
+            Maker::Type(wanted) => *made == *wanted,
+            _ => false,
+        },
+        Maker::Expr(made) => match wanted {
+            Maker::Expr(wanted) => *made == *wanted,
+            _ => false,
+        },
+        _ => false,
+    }
+}
+
+/// The same of what is no node.
+fn are_facts(made: &Maker, wanted: &Maker) -> bool {
+    match made {
+        Maker::Hygiene(id, hygiene) => match wanted {
+            Maker::Hygiene(wanted, of_wanted) => (*id == *wanted) & (*hygiene == *of_wanted),
+            _ => false,
+        },
+        Maker::SelfParam(made) => match wanted {
+            Maker::SelfParam(wanted) => *made == *wanted,
+            _ => false,
+        },
+        Maker::Param(made) => match wanted {
+            Maker::Param(wanted) => *made == *wanted,
+            _ => false,
+        },
+        Maker::FnName(made) => match wanted {
+            Maker::FnName(wanted) => *made == *wanted,
+            _ => false,
+        },
+        Maker::Roots => match wanted {
+            Maker::Roots => true,
+            _ => false,
+        },
+        Maker::Root(made) => match wanted {
+            Maker::Root(wanted) => *made == *wanted,
+            _ => false,
+        },
+        _ => false,
+    }
+}
+
+/// Whether the lines say the same.
+pub fn are_same(said: &Line, wanted: &Line) -> bool {
+    match said {
+        Line::Blank => match wanted {
+            Line::Blank => true,
+            _ => false,
+        },
+        Line::Make(made) => match wanted {
+            Line::Make(wanted) => are_nodes(made, wanted) | are_facts(made, wanted),
+            _ => false,
+        },
+        Line::Ask(asked) => match wanted {
+            Line::Ask(wanted) => *asked == *wanted,
+            _ => false,
+        },
+        Line::Bad => match wanted {
+            Line::Bad => true,
+            _ => false,
+        },
+    }
 }
 
 #[derive(Drop)]
