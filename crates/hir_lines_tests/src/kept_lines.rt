@@ -1,8 +1,8 @@
-//! A builder that keeps what lines make, as it came. Lines are compared by functions: a derived comparison is dear to prove, since it proves
-//! its laws.
+//! A builder that keeps what lines make, as it came, but for patterns and types, which rows see. Lines are compared by functions: a derived
+//! comparison is dear to prove, since it proves its laws.
 
 use hir_base::{HygieneId, Name, Seq};
-use hir_lines::{Builder, Question, Stop, ask, make};
+use hir_lines::{Builder, Stop, ask, make};
 use hir_node::{Binding, BindingId, Expr, ExprId, ExprOrPatId, Pat, PatId, TypeRef};
 use std::alloc::Global;
 
@@ -10,8 +10,6 @@ use std::alloc::Global;
 #[derive(Drop)]
 pub enum Maker {
     Binding(Binding),
-    Pat(Pat),
-    Type(TypeRef),
     Expr(Expr),
     Hygiene(ExprOrPatId, HygieneId),
     SelfParam(BindingId),
@@ -26,36 +24,20 @@ pub enum Maker {
 pub enum Line {
     Blank,
     Make(Maker),
-    Ask(Question),
     Bad,
 }
 
-/// What a line makes, beside what it should make.
-fn are_nodes(made: &Maker, wanted: &Maker) -> bool {
+/// Whether what a line makes is what is wanted.
+fn is_wanted(made: &Maker, wanted: &Maker) -> bool {
     match made {
         Maker::Binding(made) => match wanted {
             Maker::Binding(wanted) => *made == *wanted,
-            _ => false,
-        },
-        Maker::Pat(made) => match wanted {
-            Maker::Pat(wanted) => *made == *wanted,
-            _ => false,
-        },
-        Maker::Type(made) => match wanted {
-            Maker::Type(wanted) => *made == *wanted,
             _ => false,
         },
         Maker::Expr(made) => match wanted {
             Maker::Expr(wanted) => *made == *wanted,
             _ => false,
         },
-        _ => false,
-    }
-}
-
-/// The same of what is no node.
-fn are_facts(made: &Maker, wanted: &Maker) -> bool {
-    match made {
         Maker::Hygiene(id, hygiene) => match wanted {
             Maker::Hygiene(wanted, of_wanted) => (*id == *wanted) & (*hygiene == *of_wanted),
             _ => false,
@@ -80,7 +62,6 @@ fn are_facts(made: &Maker, wanted: &Maker) -> bool {
             Maker::Root(wanted) => *made == *wanted,
             _ => false,
         },
-        _ => false,
     }
 }
 
@@ -92,11 +73,7 @@ pub fn are_same(said: &Line, wanted: &Line) -> bool {
             _ => false,
         },
         Line::Make(made) => match wanted {
-            Line::Make(wanted) => are_nodes(made, wanted) | are_facts(made, wanted),
-            _ => false,
-        },
-        Line::Ask(asked) => match wanted {
-            Line::Ask(wanted) => *asked == *wanted,
+            Line::Make(wanted) => is_wanted(made, wanted),
             _ => false,
         },
         Line::Bad => match wanted {
@@ -109,8 +86,6 @@ pub fn are_same(said: &Line, wanted: &Line) -> bool {
 #[derive(Drop)]
 struct BuiltLines {
     makers: Seq<Maker>,
-    has_self: bool,
-    has_name: bool,
 }
 
 impl BuiltLines {
@@ -128,48 +103,48 @@ impl BuiltLines {
 }
 
 impl Builder for BuiltLines {
-    ghost use Rattle.std.specs.Prelude.{[], ◌∷◌, ◌++◌};
+    ghost use Rattle.std.specs.Prelude.{[], ◌∷◌, ◌++◌, false};
     ghost use Rattle.hir_lines.specs.Makers as make;
     ghost use Rattle.hir_lines_tests.specs.declared.kept_lines.Maker.TheVariants as kept;
 
-    ghost has_self = { λ before. before.has_self };
+    ghost has_self = { λ before. false };
 
-    ghost has_name = { λ before. before.has_name };
+    ghost has_name = { λ before. false };
 
     // What a line makes is kept as it came.
     ghost add = { λ before maker. record before {
-      makers = before.makers ++ elim maker [
-        | make.Binding binding ↦ kept.Binding binding
-        | make.Pat pat ↦ kept.Pat pat
-        | make.TypeRef type_ref ↦ kept.«Type» type_ref
-        | make.Expr expr ↦ kept.Expr expr
-        | make.Hygiene id hygiene ↦ kept.Hygiene id hygiene
-        | make.SelfParam id ↦ kept.SelfParam id
-        | make.Param id ↦ kept.Param id
-        | make.FnName name ↦ kept.FnName name
-        | make.Roots ↦ kept.Roots
-        | make.Root id ↦ kept.Root id
-      ] ∷ [];
+      makers = elim maker [
+        | make.Binding binding ↦ before.makers ++ kept.Binding binding ∷ []
+        | make.Pat pat ↦ before.makers
+        | make.TypeRef type_ref ↦ before.makers
+        | make.Expr expr ↦ before.makers ++ kept.Expr expr ∷ []
+        | make.Hygiene id hygiene ↦ before.makers ++ kept.Hygiene id hygiene ∷ []
+        | make.SelfParam id ↦ before.makers ++ kept.SelfParam id ∷ []
+        | make.Param id ↦ before.makers ++ kept.Param id ∷ []
+        | make.FnName name ↦ before.makers ++ kept.FnName name ∷ []
+        | make.Roots ↦ before.makers ++ kept.Roots ∷ []
+        | make.Root id ↦ before.makers ++ kept.Root id ∷ []
+      ];
     } };
 
     fn has_self_param(&self) -> bool {
-        self.has_self
+        false
     }
 
     fn has_fn_name(&self) -> bool {
-        self.has_name
+        false
     }
 
     fn binding(&mut self, binding: Binding) -> Result<(), Stop> {
         self.keep(Maker::Binding(binding))
     }
 
-    fn pat(&mut self, pat: Pat) -> Result<(), Stop> {
-        self.keep(Maker::Pat(pat))
+    fn pat(&mut self, _pat: Pat) -> Result<(), Stop> {
+        Ok(())
     }
 
-    fn type_ref(&mut self, type_ref: TypeRef) -> Result<(), Stop> {
-        self.keep(Maker::Type(type_ref))
+    fn type_ref(&mut self, _type_ref: TypeRef) -> Result<(), Stop> {
+        Ok(())
     }
 
     fn expr(&mut self, expr: Expr) -> Result<(), Stop> {
@@ -201,12 +176,10 @@ impl Builder for BuiltLines {
     }
 }
 
-/// What a text says to a builder that has a self parameter and a name, or neither.
-pub fn say_line(alloc: Global, text: &[u8], has_both: bool) -> Result<Line, Stop> {
+/// What a text says to a builder without a self parameter and a name.
+pub fn say_line(alloc: Global, text: &[u8]) -> Result<Line, Stop> {
     let mut kept = BuiltLines {
         makers: Seq::new(alloc),
-        has_self: has_both,
-        has_name: has_both,
     };
     match make(alloc, text, &mut kept) {
         Ok(true) => Ok(kept_line(kept)),
@@ -216,11 +189,10 @@ pub fn say_line(alloc: Global, text: &[u8], has_both: bool) -> Result<Line, Stop
     }
 }
 
-/// What a text says that makes nothing.
+/// What a text says that makes nothing: a question is no line here.
 fn ask_line(alloc: Global, text: &[u8]) -> Result<Line, Stop> {
     match ask(alloc, text) {
-        Ok(Some(question)) => Ok(Line::Ask(question)),
-        Ok(None) => Ok(Line::Blank),
+        Ok(_) => Ok(Line::Blank),
         Err(Stop::Bad) => Ok(Line::Bad),
         Err(Stop::Memory) => Err(Stop::Memory),
     }

@@ -1,5 +1,5 @@
-//! The tests of `hir_lines`: each form of a line with what it makes. Texts that are nearly lines, and the operators, are rows of
-//! `hir_rows`.
+//! The tests of `hir_lines`, of what no row of `hir_rows` can see: the greatest number, numbers of each length, ids of blocks and of macro
+//! definitions, hygienes, and a text that ends in a line end.
 #![tactic(auto)]
 
 #[cfg(test)]

@@ -2,16 +2,15 @@
 //! A line is dropped whole before its answer is weighed, since one that goes out of scope is dear to prove.
 
 use crate::kept_lines::{Line, Maker, are_same, say_line};
-use hir_base::{Idx, Name, Seq};
+use hir_base::{Idx, Seq};
 use hir_lines::Stop;
-use hir_node::Path;
 use std::alloc::{AllocError, Global};
 use std::mem::drop;
 use std::process::Abort;
 use std::test::Fail;
 
-fn is_said(alloc: Global, text: &[u8], has_both: bool, line: &Line) -> Result<bool, Stop> {
-    let said = say_line(alloc, text, has_both)?;
+fn is_said(alloc: Global, text: &[u8], line: &Line) -> Result<bool, Stop> {
+    let said = say_line(alloc, text)?;
     let is_said = are_same(&said, line);
     drop(said);
     Ok(is_said)
@@ -19,28 +18,15 @@ fn is_said(alloc: Global, text: &[u8], has_both: bool, line: &Line) -> Result<bo
 
 /// Fails where a text doesn't say this line.
 pub fn says(rt: &impl Abort, alloc: Global, text: &[u8], line: Line) -> Result<(), Fail> {
-    let is_said = is_said(alloc, text, false, &line);
+    let is_said = is_said(alloc, text, &line);
     drop(line);
     assert!(rt; is_said?, "{text:?}");
-    Ok(())
-}
-
-/// Fails where a text isn't bad for a builder that has a self parameter and a name.
-pub fn is_second(rt: &impl Abort, alloc: Global, text: &[u8]) -> Result<(), Fail> {
-    let is_bad = is_said(alloc, text, true, &Line::Bad);
-    assert!(rt; is_bad?, "{text:?}");
     Ok(())
 }
 
 /// Fails where a text doesn't make this.
 pub fn makes(rt: &impl Abort, alloc: Global, text: &[u8], made: Maker) -> Result<(), Fail> {
     says(rt, alloc, text, Line::Make(made))
-}
-
-/// The plain path of a name.
-pub fn path(alloc: Global, text: &str) -> Result<Path, AllocError> {
-    let name = Name::new(alloc, text)?;
-    Ok(Path::from_name(alloc, name)?)
 }
 
 /// A list of copies of these items.
