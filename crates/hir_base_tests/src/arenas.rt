@@ -1,5 +1,5 @@
 //! Ids, arenas and their iterators, once each on the happy path, and the laws of ids.
-use crate::{same, showing};
+use crate::same;
 use hir_base::{Arena, ArenaFault, ArenaIter, ExactEq, Idx, MOST_ITEMS, TryClone, laws};
 use std::alloc::{AllocError, Global};
 use std::cmp::Ordering;
@@ -125,18 +125,5 @@ fn ids_are_ordered_as_their_numbers(rt: HostRuntime) -> Result<(), Fail> {
     assert!(rt; large.partial_cmp(&small) == Some(Ordering::Greater));
     assert!(rt; large.into_raw() == 4294967295 && first.into_raw() == 0);
     assert!(rt; same::copies(&small)?);
-    Ok(())
-}
-
-const FAULTS: [(ArenaFault, &str); 2] = [
-    (ArenaFault::Memory, "Memory"),
-    (ArenaFault::Full, "Full"),
-];
-
-#[test]
-fn faults_are_named(rt: HostRuntime) -> Result<(), Fail> {
-    for (fault, text) in &FAULTS {
-        assert!(rt; showing::is_displayed(rt.alloc(), fault, text)?);
-    }
     Ok(())
 }

@@ -12,8 +12,8 @@ use std::fmt::{Debug, Display};
 use std::mem::drop;
 use std::test::Fail;
 
-/// Whether the value has this text by `Display`.
-pub fn is_displayed<T: Display>(alloc: Global, value: &T, text: &str) -> Result<bool, AllocError> {
+// Whether the value has this text by `Display`.
+fn is_displayed<T: Display>(alloc: Global, value: &T, text: &str) -> Result<bool, AllocError> {
     let displayed = format!(in alloc; "{value}")?;
     Ok(displayed.as_str() == text)
 }

@@ -1,43 +1,17 @@
-//! Paths, hygiene, ids, pointers, precedence and calling conventions, once each on the happy path.
-//! The tables of `needs_parentheses_in` and of `HygieneId` stand here row by row.
+//! Paths, hygiene, ids, pointers and calling conventions, once each on the happy path.
+//! The table of `HygieneId` stands here row by row.
 use crate::same;
 use either::Either;
 use hir_base::{
     AdtId, AstPtr, BlockId, ConstParamId, CrateId, DefWithBodyId, Edition, EnumVariantId, ExactEq,
-    ExprPrecedence, ExpressionStoreOwnerId, ExternAbi, FunctionId, GenericDefId, HygieneId, Idx,
-    LabelPtr, ModPath, Name, PathKind, RawWords, Seq, StructId, SyntaxContext, SyntaxNodePtr,
-    SyntheticSyntax, Text, TextRange, TypeOrConstParamId, TypeParamId, VariantId, ast, laws,
+    ExpressionStoreOwnerId, ExternAbi, FunctionId, GenericDefId, HygieneId, Idx, LabelPtr, ModPath,
+    Name, PathKind, RawWords, Seq, StructId, SyntaxContext, SyntaxNodePtr, SyntheticSyntax, Text,
+    TextRange, TypeOrConstParamId, TypeParamId, VariantId, ast, laws,
 };
 use std::alloc::{AllocError, Global};
 use std::cmp::Ordering;
 use std::mem::{drop, size_of};
 use std::test::Fail;
-
-// An expression, the one that it stands in, and whether it needs parentheses there.
-const PARENTHESES: [(ExprPrecedence, ExprPrecedence, bool); 9] = [
-    (ExprPrecedence::Sum, ExprPrecedence::Product, true),
-    (ExprPrecedence::Sum, ExprPrecedence::Sum, true),
-    (ExprPrecedence::Product, ExprPrecedence::Sum, false),
-    (ExprPrecedence::Assign, ExprPrecedence::Prefix, true),
-    (ExprPrecedence::Jump, ExprPrecedence::Prefix, false),
-    (ExprPrecedence::Prefix, ExprPrecedence::Postfix, true),
-    (ExprPrecedence::Postfix, ExprPrecedence::Unambiguous, false),
-    (ExprPrecedence::Jump, ExprPrecedence::Jump, true),
-    (
-        ExprPrecedence::Unambiguous,
-        ExprPrecedence::Unambiguous,
-        false,
-    ),
-];
-
-#[test]
-fn parentheses_go_by_precedence(rt: HostRuntime) {
-    let mut row = 0u32;
-    for (child, parent, answer) in &PARENTHESES {
-        assert!(rt; child.needs_parentheses_in(*parent) == *answer, "row {row}");
-        row = row.wrapping_add(1);
-    }
-}
 
 // All source text has one hygiene, of whatever edition, and an expansion its own.
 #[test]

@@ -105,7 +105,7 @@ impl BuiltLines {
 impl Builder for BuiltLines {
     ghost use Rattle.std.specs.Prelude.{[], ◌∷◌, ◌++◌, false};
     ghost use Rattle.hir_lines.specs.Makers as make;
-    ghost use Rattle.hir_lines_tests.specs.declared.kept_lines.Maker.TheVariants as kept;
+    ghost use Rattle.hir_node_tests.specs.declared.kept_lines.Maker.TheVariants as kept;
 
     ghost has_self = { λ before. false };
 
