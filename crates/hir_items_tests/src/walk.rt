@@ -1,9 +1,31 @@
-//! Walks over the body: the children of each expression, and what is visited below the root.
-use crate::body::build_body;
+//! A body as a new user builds it, by calls, and walks over it: the children of each expression, and what is visited below the root. What the
+//! body and its store give is handed back to them with nothing asked in between.
+#![tactic(auto, using(hir_expr_store::proofs::GivenLemmas::id_is_there, hir_node::proofs::RunLemmas::freely))]
+
+use hir_error::HirError;
 use hir_items::Body;
-use hir_node::{ExprId, LifetimeRefId, PatId, TypeRefId};
-use hir_store::{ExpressionStore, StoreVisitor};
+use hir_make::{bind, block, body, let_, local};
+use hir_node::{Expr, ExprId, LifetimeRefId, Mutability, PatId, Rawness, TypeRefId};
+use hir_store::{ExpressionStore, ExpressionStoreBuilder, StoreVisitor};
+use std::alloc::Global;
 use std::test::Fail;
+
+/// `{ let x = &x; x }`, the body of a function with the parameter `x`.
+fn build_body(alloc: Global) -> Result<Body, HirError> {
+    let mut builder = ExpressionStoreBuilder::new(alloc);
+    let param = bind(alloc, &mut builder, "x")?;
+    let local_x = bind(alloc, &mut builder, "x")?;
+    let read = local(alloc, &mut builder, "x")?;
+    let by_ref = builder.alloc_expr(Expr::Ref {
+        expr: read,
+        rawness: Rawness::Ref,
+        mutability: Mutability::Shared,
+    })?;
+    let tail = local(alloc, &mut builder, "x")?;
+    let statements = vec![in alloc; let_(local_x, by_ref)]?;
+    let value = block(&mut builder, statements, tail)?;
+    body(alloc, builder, &[param], value)
+}
 
 /// How many expressions and patterns were visited.
 #[derive(Drop)]
@@ -73,6 +95,7 @@ fn walks(rt: HostRuntime) -> Result<(), Fail> {
     let bindings = count_bindings(body.store());
     let counts = below_the_root(&body);
     let root = body.root_expr().into_raw();
+    std::mem::drop(body);
     // The block has the initializer and its tail as children, the reference what is referred to.
     assert!(&rt; children == 3 && bindings == 2);
     assert!(&rt; counts.exprs == 2 && counts.pats == 1 && root == 3);

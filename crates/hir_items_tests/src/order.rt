@@ -7,7 +7,7 @@ use hir_scope::visit_in_scope_order;
 use std::test::Fail;
 
 /// A visitor that keeps the places at which it was called with the pattern and with the expression, from 1 on.
-#[derive(Clone, Copy, PartialEq)]
+#[derive(Drop)]
 struct Places {
     calls: u32,
     pat: u32,
