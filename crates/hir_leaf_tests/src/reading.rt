@@ -6,6 +6,7 @@ ghost use Rattle.std.specs.Prelude.{◌+◌, ◌<◌, ◌^◌, length};
 use crate::fakes::{FailingReader, FailingWriter};
 use hir_io::{LineFault, LineReader, OutputBuffer, Sink, Source, next_line};
 use std::alloc::{AllocError, Global};
+use std::mem::drop;
 use std::test::Fail;
 
 /// Writes each line with a `$`, and says how many there were.
@@ -139,22 +140,28 @@ fn stops_where_a_write_fails(rt: HostRuntime) -> Result<(), Fail> {
     Ok(())
 }
 
-static LONG: [u8; 400_000] = [b'x'; 400_000];
-
-/// Whether the long line is taken whole, where the source gives so many bytes at a time.
-fn takes_the_long_line(alloc: Global, step: usize) -> Result<bool, AllocError> {
+/// Whether the line is taken whole, where the source gives so many bytes at a time.
+fn takes_line(alloc: Global, line: &[u8], step: usize) -> Result<bool, AllocError> {
     let mut lines = LineReader::new(alloc)?;
     let mut output = OutputBuffer::new(alloc)?;
-    let mut reader = FailingReader::new(&LONG, step, u64::MAX);
+    let mut reader = FailingReader::new(line, step, u64::MAX);
     let mut writer = FailingWriter::new(1, 0);
     let taken = next_line(&mut lines, &mut reader, &mut output, &mut writer);
-    Ok(taken == Ok(true) && lines.count() == 1 && lines.line() == LONG.as_slice())
+    Ok((taken == Ok(true)) & (lines.count() == 1) & (lines.line() == line))
+}
+
+/// The same of a long line. It is made here: a static of its length is dear to prove.
+fn takes_long_line(alloc: Global, step: usize) -> Result<bool, AllocError> {
+    let line = vec![in alloc; b'x'; 400_000]?;
+    let takes = takes_line(alloc, &line, step);
+    drop(line);
+    takes
 }
 
 #[test]
 fn takes_a_line_of_many_blocks(rt: HostRuntime) -> Result<(), Fail> {
     for step in &[1000, 65_536, 1_000_000] {
-        assert!(rt; takes_the_long_line(rt.alloc(), *step)?, "by {step}");
+        assert!(rt; takes_long_line(rt.alloc(), *step)?, "by {step}");
     }
     Ok(())
 }

@@ -111,21 +111,19 @@ impl Builder for BuiltLines {
 
     ghost has_name = { λ before. false };
 
-    // What a line makes is kept as it came.
-    ghost add = { λ before maker. record before {
-      makers = elim maker [
-        | make.Binding binding ↦ before.makers ++ kept.Binding binding ∷ []
-        | make.Pat pat ↦ before.makers
-        | make.TypeRef type_ref ↦ before.makers
-        | make.Expr expr ↦ before.makers ++ kept.Expr expr ∷ []
-        | make.Hygiene id hygiene ↦ before.makers ++ kept.Hygiene id hygiene ∷ []
-        | make.SelfParam id ↦ before.makers ++ kept.SelfParam id ∷ []
-        | make.Param id ↦ before.makers ++ kept.Param id ∷ []
-        | make.FnName name ↦ before.makers ++ kept.FnName name ∷ []
-        | make.Roots ↦ before.makers ++ kept.Roots ∷ []
-        | make.Root id ↦ before.makers ++ kept.Root id ∷ []
-      ];
-    } };
+    // What a line makes is kept as it came, but for a pattern and a type.
+    ghost add = { λ before maker. elim maker [
+      | make.Binding binding ↦ record before { makers = before.makers ++ kept.Binding binding ∷ [] }
+      | make.Pat pat ↦ before
+      | make.TypeRef type_ref ↦ before
+      | make.Expr expr ↦ record before { makers = before.makers ++ kept.Expr expr ∷ [] }
+      | make.Hygiene id hygiene ↦ record before { makers = before.makers ++ kept.Hygiene id hygiene ∷ [] }
+      | make.SelfParam id ↦ record before { makers = before.makers ++ kept.SelfParam id ∷ [] }
+      | make.Param id ↦ record before { makers = before.makers ++ kept.Param id ∷ [] }
+      | make.FnName name ↦ record before { makers = before.makers ++ kept.FnName name ∷ [] }
+      | make.Roots ↦ record before { makers = before.makers ++ kept.Roots ∷ [] }
+      | make.Root id ↦ record before { makers = before.makers ++ kept.Root id ∷ [] }
+    ] };
 
     fn has_self_param(&self) -> bool {
         false
