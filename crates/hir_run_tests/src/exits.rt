@@ -91,11 +91,12 @@ fn run_both<'a>(
 /// Fails where a case of `RUNS` has written something else, or ended with another status, or where its fault isn't said.
 fn answers(
     rt: &impl Abort,
-    (input, output, status): &(&[u8], &[u8], u8),
+    case: &(&[u8], &[u8], u8),
     answered: u8,
     writer: &FailingWriter,
     errors: &FailingWriter,
 ) {
+    let (input, output, status) = case;
     assert_eq!(rt; answered, *status, "{input:?}");
     assert_eq!(rt; writer.bytes.as_slice(), *output, "{input:?}");
     assert_eq!(rt; errors.bytes.is_empty(), *status == 0, "{input:?}");
