@@ -6,13 +6,19 @@ use std::mem::{drop, size_of};
 use std::process::Abort;
 use std::test::Fail;
 
-// The list 7, 8, 9, which was empty first.
-fn three(rt: &impl Abort, alloc: Global) -> Result<Seq<u32>, AllocError> {
-    let mut seq = Seq::with_capacity(alloc, 2)?;
-    assert!(rt; seq.is_empty() && Seq::<Name>::new(alloc).is_empty());
+// Adds 7, 8 and 9 to the list, which is empty.
+fn add_three(rt: &impl Abort, seq: &mut Seq<u32>) -> Result<(), AllocError> {
+    assert!(rt; seq.is_empty());
     for item in 7..10 {
         seq.push(item)?;
     }
+    Ok(())
+}
+
+// The list 7, 8, 9.
+fn three(rt: &impl Abort, alloc: Global) -> Result<Seq<u32>, AllocError> {
+    let mut seq = Seq::with_capacity(alloc, 2)?;
+    add_three(rt, &mut seq)?;
     Ok(seq)
 }
 
@@ -24,18 +30,26 @@ fn has_three(seq: &Seq<u32>) -> bool {
         && seq.iter().rev().next().copied() == Some(9)
 }
 
-// Whether a copy is the same, until the second of three items becomes 80.
-fn leaves_its_copy(seq: &mut Seq<u32>) -> Result<bool, AllocError> {
-    let copy = seq.try_clone()?;
-    let was_same = copy.is_same(seq);
+// Makes the second of three items 80, and answers whether it is, and what it is between where the others are swapped.
+fn change(seq: &mut Seq<u32>) -> bool {
     if seq.len() != 3 {
-        return Ok(false);
+        return false;
     }
     seq[1] = 80;
     seq.as_mut_slice().swap(0, 2);
     let is_changed = seq.as_slice() == [9, 80, 7].as_slice();
     seq.as_mut_slice().swap(0, 2);
-    Ok(was_same && is_changed && seq[1] == 80 && !copy.is_same(seq))
+    is_changed & (seq[1] == 80)
+}
+
+// Whether a copy is the same, until the list is changed.
+fn leaves_its_copy(seq: &mut Seq<u32>) -> Result<bool, AllocError> {
+    let copy = seq.try_clone()?;
+    let was_same = copy.is_same(seq);
+    let is_changed = change(seq);
+    let differs = !copy.is_same(seq);
+    drop(copy);
+    Ok(was_same & is_changed & differs)
 }
 
 // Whether the list's vector has the items 7, 80 and 9, and a list of that vector is as long.
@@ -47,10 +61,14 @@ fn comes_back(seq: Seq<u32>) -> bool {
 
 #[test]
 fn a_list_keeps_its_items(rt: HostRuntime) -> Result<(), Fail> {
+    let none: Seq<Name> = Seq::new(rt.alloc());
+    let is_new = none.is_empty();
+    drop(none);
     let mut seq = three(&rt, rt.alloc())?;
     let has_three = has_three(&seq);
-    let leaves_its_copy = leaves_its_copy(&mut seq)?;
-    assert!(rt; has_three && leaves_its_copy && comes_back(seq));
+    let leaves_its_copy = leaves_its_copy(&mut seq);
+    let comes_back = comes_back(seq);
+    assert!(rt; is_new & has_three & leaves_its_copy? & comes_back);
     Ok(())
 }
 
@@ -98,14 +116,22 @@ fn fill_list(
     Ok(list)
 }
 
+// Whether the item stands at this place.
+fn has_at(list: &ShortList<u32>, at: usize, item: u32) -> bool {
+    match list.get(at) {
+        Some(found) => *found == item && at < list.len() && list[at] == item,
+        None => false,
+    }
+}
+
 // Whether each of these items stands at its place, and none behind them.
 fn has_each(list: &ShortList<u32>, items: &[u32]) -> bool {
     for (at, item) in items.iter().enumerate() {
-        if at >= list.len() || list[at] != *item || list.get(at).copied() != Some(*item) {
+        if !has_at(list, at, *item) {
             return false;
         }
     }
-    list.len() == items.len() && list.get(items.len()).copied() == None
+    (list.len() == items.len()) & list.get(items.len()).is_none()
 }
 
 // Whether these items come one by one from the front.
@@ -133,11 +159,11 @@ fn from_the_back(list: &ShortList<u32>, items: &[u32]) -> bool {
 }
 
 fn has(list: &ShortList<u32>, items: &[u32]) -> bool {
-    list.as_slice() == items
-        && list.is_empty() == items.is_empty()
-        && has_each(list, items)
-        && from_the_front(list, items)
-        && from_the_back(list, items)
+    (list.as_slice() == items)
+        & (list.is_empty() == items.is_empty())
+        & has_each(list, items)
+        & from_the_front(list, items)
+        & from_the_back(list, items)
 }
 
 // Whether what was made has these items, and a copy of it has them still when one more was pushed.
@@ -207,15 +233,25 @@ fn a_path_takes_24_bytes(rt: HostRuntime) {
     assert!(rt; size_of::<ModPath>() == 24);
 }
 
-// Whether the item at each place was written to, and no other.
-fn is_written(mut list: ShortList<u32>, items: &[u32]) -> bool {
+// How many items are 80.
+fn count_80(list: &ShortList<u32>) -> usize {
+    let mut count = 0usize;
+    for item in list {
+        if *item == 80 {
+            count = count.wrapping_add(1);
+        }
+    }
+    count
+}
+
+// Whether the item at each place is written to, and no other.
+fn is_written(list: &mut ShortList<u32>, items: &[u32]) -> bool {
     for at in 0..items.len() {
         if at >= list.len() {
             return false;
         }
         list[at] = 80;
-        let written = list.iter().filter(|item| **item == 80).count();
-        if list.get(at).copied() != Some(80) || written != at + 1 {
+        if !has_at(list, at, 80) || count_80(list) != at + 1 {
             return false;
         }
     }
@@ -225,8 +261,10 @@ fn is_written(mut list: ShortList<u32>, items: &[u32]) -> bool {
 #[test]
 fn each_item_of_a_short_list_is_written_to(rt: HostRuntime) -> Result<(), Fail> {
     for items in &LISTS {
-        let list = ShortList::from_slice(rt.alloc(), items)?;
-        assert!(rt; is_written(list, items));
+        let mut list = ShortList::from_slice(rt.alloc(), items)?;
+        let is_written = is_written(&mut list, items);
+        drop(list);
+        assert!(rt; is_written);
     }
     Ok(())
 }
@@ -238,16 +276,25 @@ fn three_ids_lie_in_16_bytes(rt: HostRuntime) -> Result<(), Fail> {
     let alloc = rt.alloc();
     let room = ShortList::with_capacity(alloc, 3);
     let grown = keeps(alloc, fill_list(alloc, room, &[7, 8]), &[7, 8]);
-    let whole = same::copies(&ShortList::from_slice(alloc, &[7u32, 8, 9])?);
+    let list = ShortList::from_slice(alloc, &[7u32, 8, 9])?;
+    let whole = same::copies(&list);
+    drop(list);
     assert!(rt; grown? && whole?);
     Ok(())
 }
 
+// Whether the name of what is missing has its text, and is another than this one.
+fn is_missing(missing: Name, name: &Name) -> bool {
+    let is_missing = (missing.as_str() == "[missing name]") & !missing.is_same(name);
+    drop(missing);
+    is_missing
+}
+
 // Whether the name has this text and is copied, and is not that of what is missing.
 fn is_named(alloc: Global, name: &Name, text: &str) -> Result<bool, AllocError> {
-    let missing = Name::missing(alloc)?;
-    let is_missing = missing.as_str() == "[missing name]" && !missing.is_same(name);
-    Ok(is_missing && name.as_str() == text && same::copies(name)?)
+    let is_missing = is_missing(Name::missing(alloc)?, name);
+    let copies = same::copies(name)?;
+    Ok(is_missing & (name.as_str() == text) & copies)
 }
 
 // Whether the text is that of the name, also where it is made again of its string, and makes the name.

@@ -15,13 +15,19 @@ const GIVEN: [(u32, u32, Option<u32>); 4] = [
     (0, 4, None),
 ];
 
-// A map that was given values at 7, 2, 7 again and 0.
-fn some_map(rt: &impl Abort, alloc: Global) -> Result<ArenaMap<Kind, u32>, AllocError> {
-    let mut map = ArenaMap::new(alloc);
+// Gives the map values at 7, 2, 7 again and 0.
+fn give(rt: &impl Abort, map: &mut ArenaMap<Kind, u32>) -> Result<(), AllocError> {
     for (id, value, wanted) in &GIVEN {
         let old = map.insert(Idx::from_raw(*id), *value)?;
         assert!(rt; old == *wanted, "at {id}");
     }
+    Ok(())
+}
+
+// The map of these values.
+fn some_map(rt: &impl Abort, alloc: Global) -> Result<ArenaMap<Kind, u32>, AllocError> {
+    let mut map = ArenaMap::new(alloc);
+    give(rt, &mut map)?;
     Ok(map)
 }
 
@@ -36,7 +42,7 @@ const KEPT: [(u32, Option<u32>); 5] = [
 fn are_kept(map: &ArenaMap<Kind, u32>) -> bool {
     let mut holds = true;
     for (id, value) in &KEPT {
-        holds = holds && map.get(Idx::from_raw(*id)).copied() == *value;
+        holds = holds & (map.get(Idx::from_raw(*id)).copied() == *value);
     }
     holds
 }
@@ -46,10 +52,10 @@ fn are_entries(entries: ArenaMapIter<'_, Kind, u32>, wanted: &[(u32, u32)]) -> b
     let mut holds = true;
     let mut count = 0usize;
     for (id, value) in entries {
-        holds = holds && wanted.get(count).copied() == Some((id.into_raw(), *value));
+        holds = holds & (wanted.get(count).copied() == Some((id.into_raw(), *value)));
         count = count.wrapping_add(1);
     }
-    holds && count == wanted.len()
+    holds & (count == wanted.len())
 }
 
 // Whether behind the first entry the iterator and a copy of it have these entries left.
@@ -75,25 +81,38 @@ fn a_map_keeps_the_last_values_and_its_entries_rise(rt: HostRuntime) -> Result<(
     Ok(())
 }
 
-// Whether an empty map that is given 5 and then 1 becomes this one, the map of 1 and 5 to themselves: it was another before each, and is
-// another with a value of its own.
-fn another_becomes(alloc: Global, made: &ArenaMap<Kind, u32>) -> Result<bool, AllocError> {
-    let mut other = ArenaMap::new(alloc);
-    let mut was_same = other.is_same(made);
+type Map = ArenaMap<Kind, u32>;
+
+// Whether a map that is given 5 and then 1 becomes this one, the map of 1 and 5 to themselves: it was another before each, and is another
+// with a value of its own.
+fn becomes(other: &mut Map, made: &Map) -> Result<bool, AllocError> {
+    let was_same = other.is_same(made);
     other.insert(Idx::from_raw(5), 5)?;
-    was_same = was_same || other.is_same(made);
+    let was_same_again = other.is_same(made);
     other.insert(Idx::from_raw(1), 1)?;
     let became = other.is_same(made);
     other.insert(Idx::from_raw(5), 6)?;
-    Ok(!was_same && became && other != *made)
+    Ok(!was_same & !was_same_again & became & (*other != *made))
+}
+
+fn another_becomes(alloc: Global, made: &Map) -> Result<bool, AllocError> {
+    let mut other = ArenaMap::new(alloc);
+    let becomes = becomes(&mut other, made);
+    drop(other);
+    becomes
+}
+
+// The map of 1 and 5 to themselves.
+fn add_both(map: &mut Map) -> Result<(), AllocError> {
+    map.insert(Idx::from_raw(1), 1)?;
+    map.insert(Idx::from_raw(5), 5)?;
+    Ok(())
 }
 
 #[test]
 fn maps_are_equal_as_maps(rt: HostRuntime) -> Result<(), Fail> {
     let mut made = ArenaMap::with_capacity(rt.alloc(), 8)?;
-    for id in [1, 5] {
-        made.insert(Idx::from_raw(id), id)?;
-    }
+    add_both(&mut made)?;
     let answer = another_becomes(rt.alloc(), &made);
     drop(made);
     assert!(rt; answer?);

@@ -13,7 +13,15 @@ pub fn copies<T: TryClone + ExactEq + Drop>(value: &T) -> Result<bool, AllocErro
 // Whether the value is copied, and is another than this one.
 fn is_apart<T: TryClone + ExactEq + Drop>(value: T, other: T) -> Result<bool, AllocError> {
     let copies = copies(&value)?;
-    Ok(copies && !value.is_same(&other))
+    Ok(copies & !value.is_same(&other))
+}
+
+// The same of values that memory was asked for.
+fn both_are_apart<T: TryClone + ExactEq + Drop>(
+    value: Result<T, AllocError>,
+    other: Result<T, AllocError>,
+) -> Result<bool, AllocError> {
+    is_apart(value?, other?)
 }
 
 fn numbers_are_apart() -> Result<bool, AllocError> {
@@ -32,8 +40,8 @@ fn others_are_apart() -> Result<bool, AllocError> {
 fn plain_values_are_compared_and_copied(rt: HostRuntime) -> Result<(), Fail> {
     assert!(rt; numbers_are_apart()?);
     assert!(rt; others_are_apart()?);
-    let text = Text::from_str(rt.alloc(), "größe")?;
-    assert!(rt; is_apart(text, Text::from_str(rt.alloc(), "große")?)?);
+    let text = Text::from_str(rt.alloc(), "größe");
+    assert!(rt; both_are_apart(text, Text::from_str(rt.alloc(), "große"))?);
     Ok(())
 }
 
@@ -50,11 +58,23 @@ pub fn alike<T: Hash + Drop, E: Drop>(one: Result<T, E>, second: Result<T, E>) -
     Ok(one == second && hash_of(&one) == hash_of(&second))
 }
 
-// `größe` behind this kind
-fn path(alloc: Global, kind: PathKind) -> Result<ModPath, AllocError> {
-    let mut names = Seq::new(alloc);
-    names.push(Name::new(alloc, "größe")?)?;
-    Ok(ModPath::from_segments(alloc, kind, names)?)
+// The list with the item behind it, if both could be made. It is said of any type: each `?` beside which something is owned is dear to prove.
+fn with<T: Drop>(
+    list: Result<Seq<T>, AllocError>,
+    item: Result<T, AllocError>,
+) -> Result<Seq<T>, AllocError> {
+    let mut list = list?;
+    list.push(item?)?;
+    Ok(list)
+}
+
+/// The path of these names behind this kind.
+pub fn path(alloc: Global, kind: PathKind, texts: &[&str]) -> Result<ModPath, AllocError> {
+    let mut names = Ok(Seq::new(alloc));
+    for text in texts {
+        names = with(names, Name::new(alloc, text));
+    }
+    Ok(ModPath::from_segments(alloc, kind, names?)?)
 }
 
 // `größe`, of the name alone
@@ -71,8 +91,9 @@ fn named_abi(alloc: Global) -> Result<ExternAbi, AllocError> {
 fn same_values_hash_alike(rt: HostRuntime) -> Result<(), Fail> {
     let alloc = rt.alloc();
     let kind = PathKind::Super(2);
-    assert!(rt; alike(path(alloc, kind), path(alloc, kind))?);
-    assert!(rt; alike(ident(alloc), path(alloc, PathKind::Plain))?);
+    let texts = ["größe"];
+    assert!(rt; alike(path(alloc, kind, &texts), path(alloc, kind, &texts))?);
+    assert!(rt; alike(ident(alloc), path(alloc, PathKind::Plain, &texts))?);
     assert!(rt; alike(named_abi(alloc), named_abi(alloc))?);
     Ok(())
 }

@@ -1,7 +1,7 @@
 //! The texts of ids and of names, the same by `Display` and by `Debug`.
 use hir_base::{
     AdtId, BlockId, ConstId, ConstParamId, CrateId, DefWithBodyId, Edition, EnumId, EnumVariantId,
-    ExpressionStoreOwnerId, FunctionId, GenericDefId, HirFileId, HygieneId, Idx, ImplId,
+    ExpressionStoreOwnerId, FunctionId, GenericDefId, HirFileId, HygieneId, Id, Idx, ImplId, Kind,
     LangItemTarget, LifetimeParamId, LocalLifetimeParamId, LocalTypeOrConstParamId, Macro2Id,
     MacroCallId, MacroDefId, MacroId, MacroRulesId, Name, NamedDef, ProcMacroId, StaticId,
     StructId, SyntaxContext, SyntheticSyntax, TraitId, TypeAliasId, TypeOrConstParamId,
@@ -12,47 +12,64 @@ use std::fmt::{Debug, Display};
 use std::mem::drop;
 use std::test::Fail;
 
+// Whether the value has this text by `Display`.
+fn is_displayed<T: Display>(alloc: Global, value: &T, text: &str) -> Result<bool, AllocError> {
+    let displayed = format!(in alloc; "{value}")?;
+    Ok(displayed.as_str() == text)
+}
+
+// Whether the value has this text by `Debug`.
+fn is_debugged<T: Debug>(alloc: Global, value: &T, text: &str) -> Result<bool, AllocError> {
+    let debugged = format!(in alloc; "{value:?}")?;
+    Ok(debugged.as_str() == text)
+}
+
 // Whether the value has this text by `Display` and by `Debug`.
 fn shows<T: Display + Debug + Drop>(
     alloc: Global,
     value: T,
     text: &str,
 ) -> Result<bool, AllocError> {
-    let displayed = format!(in alloc; "{value}")?;
-    let debugged = format!(in alloc; "{value:?}")?;
-    Ok(displayed.as_str() == text && debugged.as_str() == text)
+    let is_displayed = is_displayed(alloc, &value, text)?;
+    let is_debugged = is_debugged(alloc, &value, text)?;
+    Ok(is_displayed & is_debugged)
+}
+
+// The same of an id. It is said of any kind, so that a test names the kind alone.
+fn id_shows<K: Kind>(alloc: Global, id: Id<K>, text: &str) -> Result<bool, AllocError> {
+    shows(alloc, id, text)
 }
 
 fn definitions_show(alloc: Global) -> Result<bool, AllocError> {
     Ok(
-        shows(alloc, FunctionId::from_raw(7), "FunctionId(7)")?
-            && shows(alloc, StructId::from_raw(0), "StructId(0)")?
-            && shows(alloc, UnionId::from_raw(1), "UnionId(1)")?
-            && shows(alloc, EnumId::from_raw(2), "EnumId(2)")?
-            && shows(alloc, EnumVariantId::from_raw(3), "EnumVariantId(3)")?
-            && shows(alloc, ConstId::from_raw(4), "ConstId(4)")?,
+        id_shows(alloc, FunctionId::from_raw(7), "FunctionId(7)")?
+            && id_shows(alloc, StructId::from_raw(0), "StructId(0)")?
+            && id_shows(alloc, UnionId::from_raw(1), "UnionId(1)")?
+            && id_shows(alloc, EnumId::from_raw(2), "EnumId(2)")?
+            && id_shows(alloc, EnumVariantId::from_raw(3), "EnumVariantId(3)")?
+            && id_shows(alloc, ConstId::from_raw(4), "ConstId(4)")?,
     )
 }
 
 fn other_definitions_show(alloc: Global) -> Result<bool, AllocError> {
     Ok(
-        shows(alloc, StaticId::from_raw(5), "StaticId(5)")?
-            && shows(alloc, TraitId::from_raw(6), "TraitId(6)")?
-            && shows(alloc, ImplId::from_raw(10), "ImplId(10)")?
-            && shows(alloc, TypeAliasId::from_raw(255), "TypeAliasId(255)")?
-            && shows(alloc, CrateId::from_raw(4294967295), "CrateId(4294967295)")?
-            && shows(alloc, HirFileId::from_raw(8), "HirFileId(8)")?,
+        id_shows(alloc, StaticId::from_raw(5), "StaticId(5)")?
+            && id_shows(alloc, TraitId::from_raw(6), "TraitId(6)")?
+            && id_shows(alloc, ImplId::from_raw(10), "ImplId(10)")?
+            && id_shows(alloc, TypeAliasId::from_raw(255), "TypeAliasId(255)")?
+            && id_shows(alloc, CrateId::from_raw(4294967295), "CrateId(4294967295)")?
+            && id_shows(alloc, HirFileId::from_raw(8), "HirFileId(8)")?,
     )
 }
 
 fn macros_and_blocks_show(alloc: Global) -> Result<bool, AllocError> {
     Ok(
-        shows(alloc, BlockId::from_raw(9), "BlockId(9)")?
-            && shows(alloc, MacroDefId::from_raw(1), "MacroDefId(1)")?
-            && shows(alloc, MacroCallId::from_raw(2), "MacroCallId(2)")?
-            && shows(alloc, Macro2Id::from_raw(3), "Macro2Id(3)")?
-            && shows(alloc, MacroRulesId::from_raw(4), "MacroRulesId(4)")?
-            && shows(alloc, ProcMacroId::from_raw(5), "ProcMacroId(5)")?,
+        id_shows(alloc, BlockId::from_raw(9), "BlockId(9)")?
+            && id_shows(alloc, MacroDefId::from_raw(1), "MacroDefId(1)")?
+            && id_shows(alloc, MacroCallId::from_raw(2), "MacroCallId(2)")?
+            && id_shows(alloc, Macro2Id::from_raw(3), "Macro2Id(3)")?
+            && id_shows(alloc, MacroRulesId::from_raw(4), "MacroRulesId(4)")?
+            && id_shows(alloc, ProcMacroId::from_raw(5), "ProcMacroId(5)")?,
     )
 }
 
@@ -178,20 +195,23 @@ fn hygiene_shows_its_context(rt: HostRuntime) -> Result<(), Fail> {
     assert!(rt; shows(alloc, source, "Root(Edition2021)")?);
     assert!(rt; shows(alloc, HygieneId::new(source), "Root(Edition2015)")?);
     assert!(rt; shows(alloc, HygieneId::new(expansion), "Expansion(7)")?);
-    let shown = format!(in alloc; "{SyntheticSyntax:?}")?;
-    assert!(rt; shown.as_str() == "SyntheticSyntax");
+    assert!(rt; is_debugged(alloc, &SyntheticSyntax, "SyntheticSyntax")?);
     Ok(())
+}
+
+// Whether a name of this text is shown as it, and has it and no other.
+fn name_shows(alloc: Global, text: &str) -> Result<bool, AllocError> {
+    let name = Name::new(alloc, text)?;
+    let is_displayed = is_displayed(alloc, &name, text);
+    let has_text = name.has_text(text) & !name.has_text("other");
+    drop(name);
+    Ok(is_displayed? & has_text)
 }
 
 #[test]
 fn a_name_shows_its_text(rt: HostRuntime) -> Result<(), Fail> {
     for text in &["größe", "fifteen_bytes_x", ""] {
-        let name = Name::new(rt.alloc(), text)?;
-        let shown = format!(in rt.alloc(); "{name}");
-        let has_text = name.has_text(text) && !name.has_text("other");
-        drop(name);
-        let shown = shown?;
-        assert!(rt; shown.as_str() == *text && has_text);
+        assert!(rt; name_shows(rt.alloc(), text)?);
     }
     Ok(())
 }

@@ -20,17 +20,19 @@ fn structure() -> NamedDef {
     NamedDef::StructId(StructId::from_raw(4000000000))
 }
 
+// Inserts the two, the function with 1 and then with 3.
+fn insert_both(rt: &impl Abort, table: &mut Table<NamedDef, u32>) -> Result<(), AllocError> {
+    let first = table.insert(function(), 1)?;
+    let second = table.insert(structure(), 2)?;
+    let third = table.insert(function(), 3)?;
+    assert!(rt; first.is_none() & second.is_none() & (third == Some(1)));
+    Ok(())
+}
+
 // A table of the two, in which the function's value was 1 before.
 fn both(rt: &impl Abort, alloc: Global) -> Result<Table<NamedDef, u32>, AllocError> {
     let mut table = Table::new(alloc);
-    for (key, value, wanted) in [
-        (function(), 1, None),
-        (structure(), 2, None),
-        (function(), 3, Some(1)),
-    ] {
-        let old = table.insert(key, value)?;
-        assert!(rt; old == wanted);
-    }
+    insert_both(rt, &mut table)?;
     Ok(table)
 }
 
@@ -49,25 +51,32 @@ fn lists_both(table: &Table<NamedDef, u32>) -> bool {
     let mut holds = !table.is_empty();
     let mut sum = 0u32;
     for (key, value) in table.iter() {
-        holds = holds && (*key == function() || *key == structure());
+        holds = holds & ((*key == function()) | (*key == structure()));
         sum = sum.wrapping_add(*value);
     }
     holds && sum == 5
 }
 
-// Whether an empty table, given 2 at one key and 3 at the other, becomes the same as this one, and was not before.
-fn another_becomes<K: HasCode + Copy + Drop>(
-    alloc: Global,
+// Whether a table that is given 2 at one key and 3 at the other becomes the same as this one, and was not before.
+fn becomes<K: HasCode + Copy + Drop>(
+    table: &mut Table<K, u32>,
     made: &Table<K, u32>,
     of_2: &K,
     of_3: &K,
 ) -> Result<bool, AllocError> {
-    let mut table = Table::new(alloc);
     let was_empty = table.is_same(made);
     table.insert(*of_2, 2)?;
     let was_half = table.is_same(made);
     table.insert(*of_3, 3)?;
-    Ok(!was_empty && !was_half && table == *made)
+    Ok(!was_empty & !was_half & (*table == *made))
+}
+
+// Whether an empty table becomes so.
+fn another_becomes(alloc: Global, made: &Table<NamedDef, u32>) -> Result<bool, AllocError> {
+    let mut table = Table::new(alloc);
+    let becomes = becomes(&mut table, made, &structure(), &function());
+    drop(table);
+    becomes
 }
 
 #[test]
@@ -77,7 +86,7 @@ fn a_table_tells_its_keys_apart(rt: HostRuntime) -> Result<(), Fail> {
     drop(none);
     let table = both(&rt, rt.alloc())?;
     let has_both = has(&table, Some(3), Some(2)) && lists_both(&table);
-    let is_equal = another_becomes(rt.alloc(), &table, &structure(), &function());
+    let is_equal = another_becomes(rt.alloc(), &table);
     let copies = same::copies(&table);
     drop(table);
     assert!(rt; is_new && has_both);
@@ -85,13 +94,19 @@ fn a_table_tells_its_keys_apart(rt: HostRuntime) -> Result<(), Fail> {
     Ok(())
 }
 
+// Puts the two into the table, the function with 1 and then with 3.
+fn put_both(table: &mut Table<NamedDef, u32>) -> Result<(), AllocError> {
+    table.put(function(), 1)?;
+    table.put(structure(), 2)?;
+    table.put(function(), 3)?;
+    Ok(())
+}
+
 // A value that is put under a key takes the place of the one before, and no other changes.
 #[test]
 fn a_value_is_put_in_place_of_the_one_before(rt: HostRuntime) -> Result<(), Fail> {
     let mut table = Table::new(rt.alloc());
-    for (key, value) in [(function(), 1), (structure(), 2), (function(), 3)] {
-        table.put(key, value)?;
-    }
+    put_both(&mut table)?;
     let holds = has(&table, Some(3), Some(2)) && lists_both(&table);
     drop(table);
     assert!(rt; holds);
@@ -123,6 +138,13 @@ fn a_value_of_a_table_is_written_in_its_place(rt: HostRuntime) -> Result<(), Fai
     Ok(())
 }
 
+fn is_true(value: Option<&bool>) -> bool {
+    match value {
+        Some(value) => *value,
+        None => false,
+    }
+}
+
 // Whether a table that is given this key, with the value true, has it and not the other key.
 fn has_only<K: HasCode + Drop>(
     alloc: Global,
@@ -132,7 +154,7 @@ fn has_only<K: HasCode + Drop>(
 ) -> Result<bool, AllocError> {
     let mut table = Table::new(alloc);
     table.insert(key, true)?;
-    Ok(table.get(same).copied() == Some(true) && table.get(other).copied() == None)
+    Ok(is_true(table.get(same)) & table.get(other).is_none())
 }
 
 fn source(file: u32) -> ExprSource {

@@ -1,43 +1,17 @@
-//! Paths, hygiene, ids, pointers, precedence and calling conventions, once each on the happy path.
-//! The tables of `needs_parentheses_in` and of `HygieneId` stand here row by row.
+//! Paths, hygiene, ids, pointers and calling conventions, once each on the happy path.
+//! The table of `HygieneId` stands here row by row.
 use crate::same;
 use either::Either;
 use hir_base::{
     AdtId, AstPtr, BlockId, ConstParamId, CrateId, DefWithBodyId, Edition, EnumVariantId, ExactEq,
-    ExprPrecedence, ExpressionStoreOwnerId, ExternAbi, FunctionId, GenericDefId, HygieneId, Idx,
-    LabelPtr, ModPath, Name, PathKind, RawWords, Seq, StructId, SyntaxContext, SyntaxNodePtr,
-    SyntheticSyntax, Text, TextRange, TypeOrConstParamId, TypeParamId, VariantId, ast, laws,
+    ExpressionStoreOwnerId, ExternAbi, FunctionId, GenericDefId, HygieneId, Idx, LabelPtr, ModPath,
+    Name, PathKind, RawWords, Seq, StructId, SyntaxContext, SyntaxNodePtr, SyntheticSyntax, Text,
+    TextRange, TypeOrConstParamId, TypeParamId, VariantId, ast, laws,
 };
 use std::alloc::{AllocError, Global};
 use std::cmp::Ordering;
 use std::mem::{drop, size_of};
 use std::test::Fail;
-
-// An expression, the one that it stands in, and whether it needs parentheses there.
-const PARENTHESES: [(ExprPrecedence, ExprPrecedence, bool); 9] = [
-    (ExprPrecedence::Sum, ExprPrecedence::Product, true),
-    (ExprPrecedence::Sum, ExprPrecedence::Sum, true),
-    (ExprPrecedence::Product, ExprPrecedence::Sum, false),
-    (ExprPrecedence::Assign, ExprPrecedence::Prefix, true),
-    (ExprPrecedence::Jump, ExprPrecedence::Prefix, false),
-    (ExprPrecedence::Prefix, ExprPrecedence::Postfix, true),
-    (ExprPrecedence::Postfix, ExprPrecedence::Unambiguous, false),
-    (ExprPrecedence::Jump, ExprPrecedence::Jump, true),
-    (
-        ExprPrecedence::Unambiguous,
-        ExprPrecedence::Unambiguous,
-        false,
-    ),
-];
-
-#[test]
-fn parentheses_go_by_precedence(rt: HostRuntime) {
-    let mut row = 0u32;
-    for (child, parent, answer) in &PARENTHESES {
-        assert!(rt; child.needs_parentheses_in(*parent) == *answer, "row {row}");
-        row = row.wrapping_add(1);
-    }
-}
 
 // All source text has one hygiene, of whatever edition, and an expansion its own.
 #[test]
@@ -53,9 +27,9 @@ fn hygiene_is_that_of_source_or_of_an_expansion(rt: HostRuntime) {
 // No byte of an expansion's number is lost, and none changes its place. A hygiene takes five bytes.
 #[test]
 fn hygiene_keeps_the_number_of_its_expansion(rt: HostRuntime) {
-    for number in [0, 255, 256, 0x0102_0304, u32::MAX] {
-        let hygiene = HygieneId::new(SyntaxContext::Expansion(number));
-        assert!(rt; hygiene.syntax_context() == SyntaxContext::Expansion(number));
+    for number in &[0, 255, 256, 0x0102_0304, u32::MAX] {
+        let hygiene = HygieneId::new(SyntaxContext::Expansion(*number));
+        assert!(rt; hygiene.syntax_context() == SyntaxContext::Expansion(*number));
         assert!(rt; hygiene != HygieneId::ROOT);
     }
     let backwards = HygieneId::new(SyntaxContext::Expansion(0x0403_0201));
@@ -66,13 +40,13 @@ fn hygiene_keeps_the_number_of_its_expansion(rt: HostRuntime) {
 // The hygiene of every context is source text's, where the context is a root, and never a root of a later edition.
 #[test]
 fn no_hygiene_is_a_root_of_a_later_edition(rt: HostRuntime) {
-    for edition in [
+    for edition in &[
         Edition::Edition2015,
         Edition::Edition2018,
         Edition::Edition2021,
         Edition::Edition2024,
     ] {
-        let hygiene = HygieneId::new(SyntaxContext::Root(edition));
+        let hygiene = HygieneId::new(SyntaxContext::Root(*edition));
         assert!(rt; hygiene.is_root() && hygiene == HygieneId::ROOT);
         assert!(rt; HygieneId::new(hygiene.syntax_context()) == hygiene);
     }
@@ -104,14 +78,6 @@ fn calling_conventions_have_texts_or_their_names(rt: HostRuntime) -> Result<(), 
     Ok(())
 }
 
-fn path(alloc: Global, kind: PathKind, names: &[&str]) -> Result<ModPath, AllocError> {
-    let mut segments = Seq::new(alloc);
-    for name in names {
-        segments.push(Name::new(alloc, name)?)?;
-    }
-    Ok(ModPath::from_segments(alloc, kind, segments)?)
-}
-
 // Whether the names have these texts.
 fn have_texts(names: &[Name], texts: &[&str]) -> bool {
     let mut left = names;
@@ -126,11 +92,11 @@ fn have_texts(names: &[Name], texts: &[&str]) -> bool {
 
 // Whether the path is of this kind and has these names, and is an ident or not, and `Self` or not. The path is taken.
 fn is_known(made: ModPath, kind: PathKind, names: &[&str], ident: bool, is_self: bool) -> bool {
-    let known = made.kind() == kind
-        && have_texts(made.segments(), names)
-        && made.is_ident() == ident
-        && made.as_ident().is_some() == ident
-        && made.is_Self() == is_self;
+    let known = (made.kind() == kind)
+        & have_texts(made.segments(), names)
+        & (made.is_ident() == ident)
+        & (made.as_ident().is_some() == ident)
+        & (made.is_Self() == is_self);
     drop(made);
     known
 }
@@ -143,7 +109,7 @@ fn is_kept(
     ident: bool,
     is_self: bool,
 ) -> Result<bool, AllocError> {
-    let made = path(alloc, kind, names)?;
+    let made = same::path(alloc, kind, names)?;
     let copies = same::copies(&made);
     let known = is_known(made, kind, names, ident, is_self);
     Ok(copies? && known)

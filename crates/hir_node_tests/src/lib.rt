@@ -1,5 +1,5 @@
-//! The tests of `hir_node` and `hir_path` through their public surface, of what no row of `hir_rows` asks: visitors that compare
-//! their calls, the copy of an iterator, cuts of cuts, laws, hashes, sizes and small calls.
+//! The tests of `hir_node`, `hir_path` and `hir_lines` through their public surface, of what no row of `hir_rows` asks: visitors that
+//! compare their calls, the copy of an iterator, cuts of cuts, laws, hashes, sizes, small calls, and what lines make that no row can see.
 #![tactic(auto)]
 
 #[cfg(test)]
@@ -12,6 +12,12 @@ mod child_pats;
 mod cuts;
 #[cfg(test)]
 mod hashes;
+#[cfg(test)]
+mod kept_lines;
+#[cfg(test)]
+mod lines;
+#[cfg(test)]
+mod says;
 #[cfg(test)]
 mod small;
 #[cfg(test)]

@@ -5,6 +5,8 @@ use hir_node::{
     BindingAnnotation, Boxed, Expr, ExprId, ExprOrPatId, FloatTypeWrapper, FnType, Mutability,
     NodeId, PatId, PathId, Rawness,
 };
+use std::alloc::{AllocError, Global};
+use std::fmt::{Debug, Display};
 use std::mem::drop;
 use std::test::Fail;
 
@@ -105,32 +107,39 @@ fn a_node_is_edited_in_place(rt: HostRuntime) -> Result<(), Fail> {
     Ok(())
 }
 
+// Whether the value has this text by `Display`.
+fn is_displayed<T: Display>(alloc: Global, value: &T, text: &str) -> Result<bool, AllocError> {
+    let displayed = format!(in alloc; "{value}")?;
+    Ok(displayed.as_str() == text)
+}
+
+// Whether the value has this text by `Debug`.
+fn is_debugged<T: Debug>(alloc: Global, value: &T, text: &str) -> Result<bool, AllocError> {
+    let debugged = format!(in alloc; "{value:?}")?;
+    Ok(debugged.as_str() == text)
+}
+
 #[test]
 fn a_float_shows_its_text(rt: HostRuntime) -> Result<(), Fail> {
     let number = FloatTypeWrapper::new(Text::from_str(rt.alloc(), "1.50")?);
-    let shown = format!(in rt.alloc(); "{number}");
+    let is_displayed = is_displayed(rt.alloc(), &number, "1.50");
     drop(number);
-    let shown = shown?;
-    assert!(rt; shown.as_str() == "1.50");
+    assert!(rt; is_displayed?);
     Ok(())
 }
 
-// The text of a node is that of its `Debug` as well.
+// Whether the node has this text by `Display` and by `Debug`.
+fn shows(alloc: Global, node: NodeId, text: &str) -> Result<bool, AllocError> {
+    Ok(is_displayed(alloc, &node, text)? & is_debugged(alloc, &node, text)?)
+}
+
 #[test]
 fn a_node_shows_its_kind_and_its_number(rt: HostRuntime) -> Result<(), Fail> {
-    for (node, text) in [
-        (NodeId::Expr(Idx::from_raw(3)), "ExprId(3)"),
-        (NodeId::Pat(Idx::from_raw(0)), "PatId(0)"),
-        (
-            NodeId::TypeRef(Idx::from_raw(4294967295)),
-            "TypeRefId(4294967295)",
-        ),
-    ] {
-        let shown = format!(in rt.alloc(); "{node}")?;
-        assert!(rt; shown.as_str() == text);
-        let debugged = format!(in rt.alloc(); "{node:?}")?;
-        assert!(rt; debugged.as_str() == text);
-    }
+    let alloc = rt.alloc();
+    let type_ref = NodeId::TypeRef(Idx::from_raw(4294967295));
+    assert!(rt; shows(alloc, NodeId::Expr(Idx::from_raw(3)), "ExprId(3)")?);
+    assert!(rt; shows(alloc, NodeId::Pat(Idx::from_raw(0)), "PatId(0)")?);
+    assert!(rt; shows(alloc, type_ref, "TypeRefId(4294967295)")?);
     Ok(())
 }
 

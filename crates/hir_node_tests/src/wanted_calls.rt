@@ -1,8 +1,8 @@
-//! A visitor that compares each call with the next one that is wanted. It takes no memory.
+//! A visitor that compares each call with the next one that is wanted. It takes no memory, and no call is compared as a whole: a derived
+//! comparison is dear to prove.
 use hir_node::{ExprId, LifetimeRefId, PatId, StoreVisitor, TypeRefId};
 
 /// A call of a visitor.
-#[derive(Drop, PartialEq)]
 pub enum Call {
     Expr(u32),
     AnonConst(u32),
@@ -25,16 +25,20 @@ impl<'a> CallList<'a> {
         }
     }
 
-    fn met(&mut self, call: Call) {
+    /// The next call that is wanted.
+    fn next(&mut self) -> Option<&'a Call> {
         match self.left.split_first() {
-            None => self.differs = true,
+            None => None,
             Some((first, rest)) => {
                 self.left = rest;
-                if *first != call {
-                    self.differs = true;
-                }
+                Some(first)
             }
         }
+    }
+
+    /// Notes whether the call was the one that was wanted.
+    fn note(&mut self, is_wanted: bool) {
+        self.differs = self.differs | !is_wanted;
     }
 
     /// Whether the calls were those that were wanted.
@@ -47,22 +51,42 @@ impl StoreVisitor for CallList<'_> {
     ghost step = { λ _ _ _. Unit {0} };
 
     fn on_expr(&mut self, expr: ExprId) {
-        self.met(Call::Expr(expr.into_raw()));
+        let is_wanted = match self.next() {
+            Some(Call::Expr(number)) => *number == expr.into_raw(),
+            _ => false,
+        };
+        self.note(is_wanted);
     }
 
     fn on_anon_const_expr(&mut self, expr: ExprId) {
-        self.met(Call::AnonConst(expr.into_raw()));
+        let is_wanted = match self.next() {
+            Some(Call::AnonConst(number)) => *number == expr.into_raw(),
+            _ => false,
+        };
+        self.note(is_wanted);
     }
 
     fn on_pat(&mut self, pat: PatId) {
-        self.met(Call::Pat(pat.into_raw()));
+        let is_wanted = match self.next() {
+            Some(Call::Pat(number)) => *number == pat.into_raw(),
+            _ => false,
+        };
+        self.note(is_wanted);
     }
 
     fn on_type(&mut self, type_ref: TypeRefId) {
-        self.met(Call::Type(type_ref.into_raw()));
+        let is_wanted = match self.next() {
+            Some(Call::Type(number)) => *number == type_ref.into_raw(),
+            _ => false,
+        };
+        self.note(is_wanted);
     }
 
     fn on_lifetime(&mut self, lifetime: LifetimeRefId) {
-        self.met(Call::Lifetime(lifetime.into_raw()));
+        let is_wanted = match self.next() {
+            Some(Call::Lifetime(number)) => *number == lifetime.into_raw(),
+            _ => false,
+        };
+        self.note(is_wanted);
     }
 }

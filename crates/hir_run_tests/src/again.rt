@@ -4,6 +4,7 @@
 use crate::fakes::{FailingReader, FailingWriter};
 use hir_run::{RunFault, run, run_to_exit};
 use std::alloc::Global;
+use std::process::Abort;
 
 /// How many bytes a call moves at most, and the number of the call, from 0, from which on all fail.
 #[derive(Clone, Copy, Drop)]
@@ -34,6 +35,19 @@ pub struct Seen<'a> {
     pub ended: Result<(), RunFault>,
     pub reader: FailingReader<'a>,
     pub writer: FailingWriter,
+}
+
+/// Fails where the run of this case ended in another way, or wrote something else. What was seen is lent: an assert beside which something
+/// owned is alive is dear to prove.
+pub fn ends(
+    rt: &impl Abort,
+    seen: &Seen<'_>,
+    ended: Result<(), RunFault>,
+    written: &[u8],
+    case: usize,
+) {
+    assert_eq!(rt; seen.ended, ended, "case {case}");
+    assert_eq!(rt; seen.writer.bytes.as_slice(), written, "case {case}");
 }
 
 /// Runs the program once.

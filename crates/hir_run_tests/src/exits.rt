@@ -62,6 +62,18 @@ const ALL: &[u8] =
 
 const ANSWERS: &[u8] = b"children 0 =\nfn f(x) x\nchain 0 = x\n";
 
+/// Fails where a run to an exit isn't seen as one that gives its memory back.
+fn are_alike(rt: &impl Abort, left: &Seen<'_>, given_back: &Seen<'_>, input: &[u8]) {
+    assert_eq!(rt; left.ended, given_back.ended, "{input:?}");
+    assert_eq!(rt;
+        left.writer.bytes.as_slice(),
+        given_back.writer.bytes.as_slice(),
+        "{input:?}"
+    );
+    assert_eq!(rt; left.reader.calls, given_back.reader.calls, "{input:?}");
+    assert_eq!(rt; left.writer.calls, given_back.writer.calls, "{input:?}");
+}
+
 /// What is seen of a run to an exit. Fails where it isn't seen of a run that gives its memory back, too.
 fn run_both<'a>(
     rt: &impl Abort,
@@ -72,43 +84,59 @@ fn run_both<'a>(
 ) -> Seen<'a> {
     let given_back = run_again(alloc, input, reads, writes);
     let left = run_to_exit_again(alloc, input, reads, writes);
-    assert_eq!(rt; left.ended, given_back.ended, "{input:?}");
-    assert_eq!(rt;
-        left.writer.bytes.as_slice(),
-        given_back.writer.bytes.as_slice(),
-        "{input:?}"
-    );
-    assert_eq!(rt; left.reader.calls, given_back.reader.calls, "{input:?}");
-    assert_eq!(rt; left.writer.calls, given_back.writer.calls, "{input:?}");
+    are_alike(rt, &left, &given_back, input);
     left
+}
+
+/// Fails where a case of `RUNS` has written something else, or ended with another status, or where its fault isn't said.
+fn answers(
+    rt: &impl Abort,
+    case: &(&[u8], &[u8], u8),
+    answered: u8,
+    writer: &FailingWriter,
+    errors: &FailingWriter,
+) {
+    let (input, output, status) = case;
+    assert_eq!(rt; answered, *status, "{input:?}");
+    assert_eq!(rt; writer.bytes.as_slice(), *output, "{input:?}");
+    assert_eq!(rt; errors.bytes.is_empty(), *status == 0, "{input:?}");
 }
 
 /// What the `main` of a process does: the same is written and reported, and the same status answered. Inputs and outputs are of `RUNS`.
 #[test]
 fn runs_and_reports_in_one_call(rt: HostRuntime) {
     let alloc = rt.alloc();
-    for (input, output, status) in RUNS {
-        let mut reader = FailingReader::new(input, 7, u64::MAX);
+    for case in &RUNS {
+        let mut reader = FailingReader::new(case.0, 7, u64::MAX);
         let mut writer = FailingWriter::new(alloc, 7, u64::MAX);
         let mut errors = FailingWriter::new(alloc, 7, u64::MAX);
         let answered = run_and_report(alloc, &mut reader, &mut writer, &mut errors);
-        assert_eq!(&rt; answered, status, "{input:?}");
-        assert_eq!(&rt; writer.bytes.as_slice(), output, "{input:?}");
-        assert_eq!(&rt; errors.bytes.is_empty(), status == 0, "{input:?}");
+        answers(&rt, case, answered, &writer, &errors);
     }
 }
 
 #[test]
 fn answers_as_a_run_that_gives_back(rt: HostRuntime) {
     let alloc = rt.alloc();
-    for (input, output, status) in RUNS {
-        for step in [1, 3, 1_000_000] {
-            let seen = run_both(&rt, alloc, input, by(step), by(step));
-            assert_eq!(&rt; seen.writer.bytes.as_slice(), output, "{input:?}");
-            let mut errors = FailingWriter::new(alloc, step, u64::MAX);
-            assert_eq!(&rt; report(&seen.ended, &mut errors), status, "{input:?}");
+    for case in &RUNS {
+        for step in &[1, 3, 1_000_000] {
+            let seen = run_both(&rt, alloc, case.0, by(*step), by(*step));
+            let mut errors = FailingWriter::new(alloc, *step, u64::MAX);
+            let answered = report(&seen.ended, &mut errors);
+            answers(&rt, case, answered, &seen.writer, &errors);
         }
     }
+}
+
+/// Fails where the reader, or else the writer, has failed or not as it is said.
+fn have_failed(rt: &impl Abort, seen: &Seen<'_>, reader: bool, writer: bool, call: usize) {
+    assert_eq!(rt; seen.reader.has_failed(), reader, "at {call}");
+    assert_eq!(rt; seen.writer.has_failed(), writer, "at {call}");
+}
+
+/// Fails where something else was written.
+fn has_written(rt: &impl Abort, seen: &Seen<'_>, written: &[u8]) {
+    assert_eq!(rt; seen.writer.bytes.as_slice(), written);
 }
 
 #[test]
@@ -116,11 +144,11 @@ fn stops_where_an_end_fails(rt: HostRuntime) {
     let alloc = rt.alloc();
     for call in 0..ALL.len() {
         let seen = run_both(&rt, alloc, ALL, until(1, call), by(1000));
-        assert!(&rt; seen.reader.has_failed(), "at {call}");
+        have_failed(&rt, &seen, true, false, call);
     }
     for call in 0..ANSWERS.len() {
         let seen = run_both(&rt, alloc, ALL, by(1000), until(1, call));
-        assert!(&rt; seen.writer.has_failed(), "at {call}");
-        assert_eq!(&rt; seen.writer.bytes.as_slice(), &ANSWERS[..call]);
+        have_failed(&rt, &seen, false, true, call);
+        has_written(&rt, &seen, &ANSWERS[..call]);
     }
 }

@@ -5,22 +5,41 @@ use hir_node::{ExprId, PatId, TypeRefId};
 use hir_run::{RunFault, report};
 use hir_store::{FinishFault, NodeId};
 use std::alloc::Global;
+use std::mem::drop;
 use std::process::Abort;
 use std::test::Fail;
+
+/// Fails where a line is another.
+fn has_text(rt: &impl Abort, line: &str, text: &str) {
+    assert_eq!(rt; line, text);
+}
+
+/// Fails where an outcome isn't reported by this text and this status.
+fn reports_to(
+    rt: &impl Abort,
+    outcome: &Result<(), RunFault>,
+    errors: &mut FailingWriter,
+    text: &[u8],
+    status: u8,
+) {
+    assert_eq!(rt; report(outcome, errors), status, "{text:?}");
+    assert_eq!(rt; errors.bytes.as_slice(), text);
+}
 
 /// Fails where an outcome is reported in other words or by another status. A sink that fails takes a front of the text, is
 /// called no more, and changes no status.
 fn reports(rt: &impl Abort, alloc: Global, outcome: Result<(), RunFault>, text: &str, status: u8) {
-    for step in [1, 1000] {
-        let mut errors = FailingWriter::new(alloc, step, u64::MAX);
-        assert_eq!(rt; report(&outcome, &mut errors), status, "{text}");
-        assert_eq!(rt; errors.bytes.as_slice(), text.as_bytes());
+    for step in &[1, 1000] {
+        let mut errors = FailingWriter::new(alloc, *step, u64::MAX);
+        reports_to(rt, &outcome, &mut errors, text.as_bytes(), status);
     }
     for call in 0..text.len() {
         let mut errors = FailingWriter::new(alloc, 1, call as u64);
-        assert_eq!(rt; report(&outcome, &mut errors), status, "{text}");
-        assert_eq!(rt; errors.bytes.as_slice(), &text.as_bytes()[..call]);
-        assert_eq!(rt; errors.calls, call as u64 + 1);
+        let front = &text.as_bytes()[..call];
+        reports_to(rt, &outcome, &mut errors, front, status);
+        let calls = errors.calls;
+        drop(errors);
+        assert_eq!(rt; calls, call as u64 + 1);
     }
 }
 
@@ -32,8 +51,7 @@ fn reports_fault(
     text: &str,
     status: u8,
 ) -> Result<(), Fail> {
-    let line = format!(in alloc; "{fault}\n")?;
-    assert_eq!(rt; line.as_str(), text);
+    has_text(rt, format!(in alloc; "{fault}\n")?.as_str(), text);
     reports(rt, alloc, Err(fault), text, status);
     Ok(())
 }
@@ -53,8 +71,8 @@ fn reports_each_outcome(rt: HostRuntime) -> Result<(), Fail> {
         (RunFault::OutputFailed, "output failed\n", 3),
         (RunFault::OutOfMemory, "out of memory\n", 4),
     ];
-    for (fault, text, status) in cases {
-        reports_fault(&rt, alloc, fault, text, status)?;
+    for (fault, text, status) in &cases {
+        reports_fault(&rt, alloc, *fault, text, *status)?;
     }
     Ok(())
 }
@@ -99,8 +117,8 @@ fn reports_each_fault_that_no_line_makes(rt: HostRuntime) -> Result<(), Fail> {
             "refused Cycle ExprId(4294967295)\n",
         ),
     ];
-    for (fault, text) in cases {
-        reports_fault(&rt, rt.alloc(), RunFault::Refused(fault), text, 2)?;
+    for (fault, text) in &cases {
+        reports_fault(&rt, rt.alloc(), RunFault::Refused(*fault), text, 2)?;
     }
     Ok(())
 }

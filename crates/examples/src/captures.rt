@@ -1,0 +1,69 @@
+//! Finds what each closure of a body captures.
+
+ghost use Rattle.std.specs.Prelude.{◌↔◌, ℕ, IsSome};
+ghost use Rattle.std.specs.FinMap as map;
+ghost use Rattle.hir_node.specs.declared.node_id.NodeId.TheVariants as node;
+ghost use Rattle.hir_items.specs.Bodies.{BodyReaches};
+ghost use Rattle.hir_scope.specs.BodyScopes.{ChainsAreFrames, tops_of_body};
+
+use crate::bodies::closures;
+use hir_captures::{CapturesFault, captures};
+use hir_error::HirError;
+use hir_items::Body;
+use hir_node::{BindingId, ExprId};
+use hir_scope::ExprScopes;
+use hir_store::ExpressionStore;
+use std::alloc::Global;
+
+/// A closure, and the bindings from outside that its code uses, in the order of their first use.
+#[derive(Drop)]
+struct ClosureCaptures {
+    closure: ExprId,
+    bindings: Vec<BindingId>,
+}
+
+/// What each closure of the body captures, in the order of their ids. An expression that the body doesn't reach isn't among them.
+fn captures_by_closure(
+    alloc: Global,
+    body: &Body,
+    scopes: &ExprScopes,
+) -> Result<Vec<ClosureCaptures>, HirError>
+    requires reached { (expr : ℕ) → IsSome (map.get scopes.now.scope_by_expr expr)
+        ↔ BodyReaches body.now (node.Expr expr) }
+    requires chains { ChainsAreFrames body.now.store.nodes (tops_of_body body.now) scopes.now }
+{
+    let mut found = Vec::new(alloc);
+    for (closure, _) in body.store().exprs() {
+        match captures(alloc, body, scopes, closure) {
+            Ok(bindings) => found.push(ClosureCaptures { closure, bindings })?,
+            Err(CapturesFault::NotAClosure) => {}
+            Err(fault) => return Err(fault.into()),
+        }
+    }
+    Ok(found)
+}
+
+/// Prints a closure, and the names of what it captures.
+fn print_one(
+    rt: &impl Print,
+    store: &ExpressionStore,
+    found: &ClosureCaptures,
+) -> anyhow::Result<()> {
+    println!(rt; "closure {} captures", found.closure.into_raw())?;
+    for &binding in &found.bindings {
+        if store.has_binding(binding) {
+            println!(rt; "    {}", store[binding].name.as_str())?;
+        }
+    }
+    Ok(())
+}
+
+/// Prints those of the body `closures`.
+pub fn print(rt: &impl Print, alloc: Global) -> anyhow::Result<()> {
+    let body = closures(alloc)?;
+    let scopes = ExprScopes::new_body(alloc, &body)?;
+    for found in &captures_by_closure(alloc, &body, &scopes)? {
+        print_one(rt, body.store(), found)?;
+    }
+    Ok(())
+}

@@ -1,0 +1,66 @@
+//! Finds the paths of a body that are one name and resolve to nothing.
+
+use crate::assigned::targets;
+use crate::bodies::names;
+use hir_error::HirError;
+use hir_items::Body;
+use hir_node::{Expr, ExprOrPatId, Pat};
+use hir_scope::{ExprScopes, asked_name};
+use std::alloc::Global;
+
+/// The paths that may mean a local variable and mean none: expressions, and variables that are assigned to. What is defined outside the
+/// body, as a function, is among them. An expression that the body doesn't reach has no scope, and nothing is asked there.
+fn unresolved(
+    alloc: Global,
+    body: &Body,
+    scopes: &ExprScopes,
+) -> Result<Vec<ExprOrPatId>, HirError> {
+    let store = body.store();
+    let mut found = Vec::new(alloc);
+    for (id, expr) in store.exprs() {
+        if scopes.scope_for(id).is_none() {
+            continue;
+        }
+        if let Expr::Path(path) = expr
+            && asked_name(path).is_some()
+            && scopes.binding_at(store, id).is_none()
+        {
+            found.push(ExprOrPatId::ExprId(id))?;
+        }
+        for &pat in &targets(alloc, store, expr)? {
+            if store.has_pat(pat)
+                && let Pat::Path(path) = &store[pat]
+                && asked_name(path).is_some()
+                && scopes.target_binding_at(store, id, pat).is_none()
+            {
+                found.push(ExprOrPatId::PatId(pat))?;
+            }
+        }
+    }
+    Ok(found)
+}
+
+/// Prints that each resolves to nothing.
+fn print_all(rt: &impl Print, found: &[ExprOrPatId]) -> anyhow::Result<()> {
+    for id in found {
+        match id {
+            ExprOrPatId::ExprId(id) => println!(rt;
+                "expression {} resolves to nothing",
+                id.into_raw()
+            )?,
+            ExprOrPatId::PatId(id) => println!(rt;
+                "pattern {} resolves to nothing",
+                id.into_raw()
+            )?,
+        }
+    }
+    Ok(())
+}
+
+/// Prints those of the body `names`.
+pub fn print(rt: &impl Print, alloc: Global) -> anyhow::Result<()> {
+    let body = names(alloc)?;
+    let scopes = ExprScopes::new_body(alloc, &body)?;
+    let found = unresolved(alloc, &body, &scopes)?;
+    print_all(rt, &found)
+}

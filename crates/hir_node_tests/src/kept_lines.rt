@@ -1,0 +1,205 @@
+//! A builder that keeps what lines make, as it came, but for patterns and types, which rows see. Lines are compared by functions: a derived
+//! comparison is dear to prove, since it proves its laws.
+
+use hir_base::{HygieneId, Name, Seq};
+use hir_lines::{Builder, Stop, ask, make};
+use hir_node::{Binding, BindingId, Expr, ExprId, ExprOrPatId, Pat, PatId, TypeRef};
+use std::alloc::Global;
+
+/// A line that makes something.
+#[derive(Drop)]
+pub enum Maker {
+    Binding(Binding),
+    Expr(Expr),
+    Hygiene(ExprOrPatId, HygieneId),
+    SelfParam(BindingId),
+    Param(PatId),
+    FnName(Name),
+    Roots,
+    Root(ExprId),
+}
+
+/// What a line says.
+#[derive(Drop)]
+pub enum Line {
+    Blank,
+    Make(Maker),
+    Bad,
+}
+
+/// Whether what a line makes is what is wanted.
+fn is_wanted(made: &Maker, wanted: &Maker) -> bool {
+    match made {
+        Maker::Binding(made) => match wanted {
+            Maker::Binding(wanted) => *made == *wanted,
+            _ => false,
+        },
+        Maker::Expr(made) => match wanted {
+            Maker::Expr(wanted) => *made == *wanted,
+            _ => false,
+        },
+        Maker::Hygiene(id, hygiene) => match wanted {
+            Maker::Hygiene(wanted, of_wanted) => (*id == *wanted) & (*hygiene == *of_wanted),
+            _ => false,
+        },
+        Maker::SelfParam(made) => match wanted {
+            Maker::SelfParam(wanted) => *made == *wanted,
+            _ => false,
+        },
+        Maker::Param(made) => match wanted {
+            Maker::Param(wanted) => *made == *wanted,
+            _ => false,
+        },
+        Maker::FnName(made) => match wanted {
+            Maker::FnName(wanted) => *made == *wanted,
+            _ => false,
+        },
+        Maker::Roots => match wanted {
+            Maker::Roots => true,
+            _ => false,
+        },
+        Maker::Root(made) => match wanted {
+            Maker::Root(wanted) => *made == *wanted,
+            _ => false,
+        },
+    }
+}
+
+/// Whether the lines say the same.
+pub fn are_same(said: &Line, wanted: &Line) -> bool {
+    match said {
+        Line::Blank => match wanted {
+            Line::Blank => true,
+            _ => false,
+        },
+        Line::Make(made) => match wanted {
+            Line::Make(wanted) => is_wanted(made, wanted),
+            _ => false,
+        },
+        Line::Bad => match wanted {
+            Line::Bad => true,
+            _ => false,
+        },
+    }
+}
+
+#[derive(Drop)]
+struct BuiltLines {
+    makers: Seq<Maker>,
+}
+
+impl BuiltLines {
+    ghost use Rattle.std.specs.Prelude.{[], ◌∷◌, ◌++◌};
+    ghost use Rattle.hir_lines.specs.Taking.{Adds};
+
+    fn keep(&mut self, maker: Maker) -> Result<(), Stop>
+        ensures { Adds (record self.old { makers = self.old.makers ++ maker ∷ [] }) self.old self.new result }
+    {
+        match self.makers.push(maker) {
+            Ok(()) => Ok(()),
+            Err(_) => Err(Stop::Memory),
+        }
+    }
+}
+
+impl Builder for BuiltLines {
+    ghost use Rattle.std.specs.Prelude.{[], ◌∷◌, ◌++◌, false};
+    ghost use Rattle.hir_lines.specs.Makers as make;
+    ghost use Rattle.hir_node_tests.specs.declared.kept_lines.Maker.TheVariants as kept;
+
+    ghost has_self = { λ before. false };
+
+    ghost has_name = { λ before. false };
+
+    // What a line makes is kept as it came, but for a pattern and a type.
+    ghost add = { λ before maker. elim maker [
+      | make.Binding binding ↦ record before { makers = before.makers ++ kept.Binding binding ∷ [] }
+      | make.Pat pat ↦ before
+      | make.TypeRef type_ref ↦ before
+      | make.Expr expr ↦ record before { makers = before.makers ++ kept.Expr expr ∷ [] }
+      | make.Hygiene id hygiene ↦ record before { makers = before.makers ++ kept.Hygiene id hygiene ∷ [] }
+      | make.SelfParam id ↦ record before { makers = before.makers ++ kept.SelfParam id ∷ [] }
+      | make.Param id ↦ record before { makers = before.makers ++ kept.Param id ∷ [] }
+      | make.FnName name ↦ record before { makers = before.makers ++ kept.FnName name ∷ [] }
+      | make.Roots ↦ record before { makers = before.makers ++ kept.Roots ∷ [] }
+      | make.Root id ↦ record before { makers = before.makers ++ kept.Root id ∷ [] }
+    ] };
+
+    fn has_self_param(&self) -> bool {
+        false
+    }
+
+    fn has_fn_name(&self) -> bool {
+        false
+    }
+
+    fn binding(&mut self, binding: Binding) -> Result<(), Stop> {
+        self.keep(Maker::Binding(binding))
+    }
+
+    fn pat(&mut self, _pat: Pat) -> Result<(), Stop> {
+        Ok(())
+    }
+
+    fn type_ref(&mut self, _type_ref: TypeRef) -> Result<(), Stop> {
+        Ok(())
+    }
+
+    fn expr(&mut self, expr: Expr) -> Result<(), Stop> {
+        self.keep(Maker::Expr(expr))
+    }
+
+    fn hygiene(&mut self, id: ExprOrPatId, hygiene: HygieneId) -> Result<(), Stop> {
+        self.keep(Maker::Hygiene(id, hygiene))
+    }
+
+    fn self_param(&mut self, id: BindingId) -> Result<(), Stop> {
+        self.keep(Maker::SelfParam(id))
+    }
+
+    fn param(&mut self, id: PatId) -> Result<(), Stop> {
+        self.keep(Maker::Param(id))
+    }
+
+    fn fn_name(&mut self, name: Name) -> Result<(), Stop> {
+        self.keep(Maker::FnName(name))
+    }
+
+    fn roots(&mut self) -> Result<(), Stop> {
+        self.keep(Maker::Roots)
+    }
+
+    fn root(&mut self, id: ExprId) -> Result<(), Stop> {
+        self.keep(Maker::Root(id))
+    }
+}
+
+/// What a text says to a builder without a self parameter and a name.
+pub fn say_line(alloc: Global, text: &[u8]) -> Result<Line, Stop> {
+    let mut kept = BuiltLines {
+        makers: Seq::new(alloc),
+    };
+    match make(alloc, text, &mut kept) {
+        Ok(true) => Ok(kept_line(kept)),
+        Ok(false) => ask_line(alloc, text),
+        Err(Stop::Bad) => Ok(Line::Bad),
+        Err(Stop::Memory) => Err(Stop::Memory),
+    }
+}
+
+/// What a text says that makes nothing: a question is no line here.
+fn ask_line(alloc: Global, text: &[u8]) -> Result<Line, Stop> {
+    match ask(alloc, text) {
+        Ok(_) => Ok(Line::Blank),
+        Err(Stop::Bad) => Ok(Line::Bad),
+        Err(Stop::Memory) => Err(Stop::Memory),
+    }
+}
+
+/// The line that made what was kept.
+fn kept_line(kept: BuiltLines) -> Line {
+    match kept.makers.into_vec().pop() {
+        Some(maker) => Line::Make(maker),
+        None => Line::Blank,
+    }
+}
