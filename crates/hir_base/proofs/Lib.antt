@@ -1,5 +1,5 @@
 pub mod ArrayMemory
-pub mod Numbered
+pub mod NumberedItems
 pub mod PlacesLemmas
 pub mod ShortListLemmas
 pub mod TableLemmas

@@ -13,7 +13,7 @@ use Rattle.std.proofs.lemmas.List.Sorted.{IsPermutation-refl, IsPermutation-cons
 use Rattle.std.specs.Map.{lookup, keys_of}
 use Rattle.std.specs.FinMap as map
 use Rattle.std.specs.FinMap.Entries.{find, put, by_order}
-use Rattle.hir_base.specs.Table.{by_code, by_code-IsAntisymmetric, by_code_decides, coded, table_of}
+use Rattle.hir_base.specs.Table.{by_code, by_code-IsAntisymmetric, by_code_decides, by_codes, table_of}
 
 nothing : {A : Type 0} (es : List A) → length es ≡ 0 → es ≡ []
 nothing [] e = refl
@@ -59,33 +59,33 @@ empty_by_len {V = V} m = (
 
 module _ {K V : Type 0} (code : K → List ℕ) where
   -- a key with the code c, or none of the entries has it
-  key_at : (c : List ℕ) (es : List (K × V)) → ((q : K) × (code q ≡ c)) ⊎ (find by_code c (coded code es) ≡ None)
+  key_at : (c : List ℕ) (es : List (K × V)) → ((q : K) × (code q ≡ c)) ⊎ (find by_code c (by_codes code es) ≡ None)
   key_at c [] = inr refl
   key_at c (e ∷ es) =
-      elim (eq_by_cmp by_code c (code e.0)) as (λ b. eq_by_cmp by_code c (code e.0) ≡ b → ((q : K) × (code q ≡ c)) ⊎ (cond b (Some e.1) (find by_code c (coded code es)) ≡ None)) [
+      elim (eq_by_cmp by_code c (code e.0)) as (λ b. eq_by_cmp by_code c (code e.0) ≡ b → ((q : K) × (code q ≡ c)) ⊎ (cond b (Some e.1) (find by_code c (by_codes code es)) ≡ None)) [
         | true ↦ λ h. inl (e.0, sym ((by_code_decides c (code e.0)).0 h))
         | false ↦ λ h. key_at c es
       ] refl
 
   module _ (E : K → K → Bool) (tells : (x y : K) → Decides (E x y) (code x ≡ code y)) where
-    found : (k : K) (es : List (K × V)) → lookup (E k) es ≡ find by_code (code k) (coded code es)
+    found : (k : K) (es : List (K × V)) → lookup (E k) es ≡ find by_code (code k) (by_codes code es)
     found k [] = refl
     found k (e ∷ es) = ap (λ b. cond b (Some e.1) (lookup (E k) es)) (same_test code E tells k e.0) ∙ ap (cond (eq_by_cmp by_code (code k) (code e.0)) (Some e.1)) (found k es)
 
     -- a look-up
     pub get-table_of : (k : K) (es : List (K × V)) → map.get (table_of code es) (code k) ≡ lookup (E k) es
-    get-table_of k es = map.get-from_entries nat_list_cmp_total (coded code es) (code k) ∙ sym (found k es)
+    get-table_of k es = map.get-from_entries nat_list_cmp_total (by_codes code es) (code k) ∙ sym (found k es)
 
     -- tables that answer alike at each key are one map
     pub alike : (es fs : List (K × V)) → ((q : K) → lookup (E q) es ≡ lookup (E q) fs) → table_of code es ≡ table_of code fs
     alike es fs same =
-        let of_key : (c : List ℕ) → (q : K) × (code q ≡ c) → find by_code c (coded code es) ≡ find by_code c (coded code fs) =
-        λ c q. subst (λ d. find by_code d (coded code es) ≡ find by_code d (coded code fs)) q.1 (sym (found q.0 es) ∙ same q.0 ∙ found q.0 fs)
+        let of_key : (c : List ℕ) → (q : K) × (code q ≡ c) → find by_code c (by_codes code es) ≡ find by_code c (by_codes code fs) =
+        λ c q. subst (λ d. find by_code d (by_codes code es) ≡ find by_code d (by_codes code fs)) q.1 (sym (found q.0 es) ∙ same q.0 ∙ found q.0 fs)
         in
         map.same_map nat_list_cmp_total by_code-IsAntisymmetric _ _ (λ c.
-        map.get-from_entries nat_list_cmp_total (coded code es) c
+        map.get-from_entries nat_list_cmp_total (by_codes code es) c
         ∙ ⊎_elim (of_key c) (λ none. ⊎_elim (of_key c) (λ none'. none ∙ sym none') (key_at c fs)) (key_at c es)
-        ∙ sym (map.get-from_entries nat_list_cmp_total (coded code fs) c))
+        ∙ sym (map.get-from_entries nat_list_cmp_total (by_codes code fs) c))
 
     -- a comparison
     pub same_tables : (es fs : List (K × V)) (r : Bool) → Decides r ((q : K) → lookup (E q) es ≡ lookup (E q) fs) → Decides r (table_of code es ≡ table_of code fs)
@@ -113,7 +113,7 @@ module _ {K V : Type 0} (code : K → List ℕ) where
     absent k (e ∷ es) h = ap (λ b. cond b (Some e.1) (lookup (E k) es)) h.0 ∙ absent k es h.1
 
     -- an iteration: the entries of the map, in some order
-    pub entries-table_of : (es : List (K × V)) → IsDistinct E (keys_of es) → IsPermutation (coded code es) (map.entries (table_of code es))
+    pub entries-table_of : (es : List (K × V)) → IsDistinct E (keys_of es) → IsPermutation (by_codes code es) (map.entries (table_of code es))
     unfolding IsDistinct
     entries-table_of [] h =
         let none : map.entries (table_of code []) ≡ [] = nothing _ (sym (map.len-entries (table_of code [])) ∙ map.len-empty by_code V) in
@@ -121,35 +121,35 @@ module _ {K V : Type 0} (code : K → List ℕ) where
     entries-table_of (e ∷ es) h =
         let m = table_of code es in
         let new : find by_code (code e.0) (map.entries m) ≡ None = sym (map.get-entries m (code e.0)) ∙ get-table_of e.0 es ∙ absent e.0 es h.0 in
-        subst (IsPermutation (coded code (e ∷ es))) (sym (map.entries-insert nat_list_cmp_total m (code e.0) e.1))
+        subst (IsPermutation (by_codes code (e ∷ es))) (sym (map.entries-insert nat_list_cmp_total m (code e.0) e.1))
         (IsPermutation-trans _ _ _ (IsPermutation-cons (code e.0, e.1) _ _ (entries-table_of es h.1)) (put_new (code e.0) e.1 (map.entries m) new))
 
     module _ (k : K) (v : V) (es fs : List (K × V)) (updates : (q : K) → lookup (E q) fs ≡ cond (E k q) (Some v) (lookup (E q) es)) where
       abbrev wanted : List ℕ → Option V
-      wanted c = cond (eq_by_cmp by_code c (code k)) (Some v) (find by_code c (coded code es))
+      wanted c = cond (eq_by_cmp by_code c (code k)) (Some v) (find by_code c (by_codes code es))
 
-      at_key : (q : K) → find by_code (code q) (coded code fs) ≡ wanted (code q)
+      at_key : (q : K) → find by_code (code q) (by_codes code fs) ≡ wanted (code q)
       at_key q =
           let here : E k q ≡ eq_by_cmp by_code (code q) (code k) =
           one_answer (E k q) _ (tells k q) (λ h. sym ((by_code_decides (code q) (code k)).0 h), λ e. (by_code_decides (code q) (code k)).1 (sym e))
           in
           sym (found q fs) ∙ updates q ∙ ap (λ b. cond b (Some v) (lookup (E q) es)) here ∙ ap (cond (eq_by_cmp by_code (code q) (code k)) (Some v)) (found q es)
 
-      at_code : (c : List ℕ) → find by_code c (coded code fs) ≡ wanted c
+      at_code : (c : List ℕ) → find by_code c (by_codes code fs) ≡ wanted c
       at_code c =
-          let of_key : (q : K) × (code q ≡ c) → find by_code c (coded code fs) ≡ wanted c =
-          λ q. subst (λ d. find by_code d (coded code fs) ≡ wanted d) q.1 (at_key q.0)
+          let of_key : (q : K) × (code q ≡ c) → find by_code c (by_codes code fs) ≡ wanted c =
+          λ q. subst (λ d. find by_code d (by_codes code fs) ≡ wanted d) q.1 (at_key q.0)
           in
           ⊎_elim of_key (λ none_after. ⊎_elim of_key (λ none_before.
-          elim (eq_by_cmp by_code c (code k)) as (λ b. eq_by_cmp by_code c (code k) ≡ b → find by_code c (coded code fs) ≡ wanted c) [
+          elim (eq_by_cmp by_code c (code k)) as (λ b. eq_by_cmp by_code c (code k) ≡ b → find by_code c (by_codes code fs) ≡ wanted c) [
             | true ↦ λ h. of_key (k, sym ((by_code_decides c (code k)).0 h))
-            | false ↦ λ h. none_after ∙ sym none_before ∙ sym (ap (λ b. cond b (Some v) (find by_code c (coded code es))) h)
+            | false ↦ λ h. none_after ∙ sym none_before ∙ sym (ap (λ b. cond b (Some v) (find by_code c (by_codes code es))) h)
           ] refl) (key_at c es)) (key_at c fs)
 
       -- an insertion
       pub table_of_insert : table_of code fs ≡ map.insert (table_of code es) (code k) v
       table_of_insert =
           map.same_map nat_list_cmp_total by_code-IsAntisymmetric _ _ (λ c.
-          map.get-from_entries nat_list_cmp_total (coded code fs) c
+          map.get-from_entries nat_list_cmp_total (by_codes code fs) c
           ∙ at_code c
-          ∙ sym (map.get-insert nat_list_cmp_total (table_of code es) (code k) v c ∙ ap (cond (eq_by_cmp by_code c (code k)) (Some v)) (map.get-from_entries nat_list_cmp_total (coded code es) c)))
+          ∙ sym (map.get-insert nat_list_cmp_total (table_of code es) (code k) v c ∙ ap (cond (eq_by_cmp by_code c (code k)) (Some v)) (map.get-from_entries nat_list_cmp_total (by_codes code es) c)))

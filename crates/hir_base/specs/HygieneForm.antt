@@ -12,6 +12,6 @@ context form.Root = Root Edition2015
 context (form.Expansion bytes) = Expansion (from_le_bytes w32 bytes)
 
 -- how a context is stored
-abbrev pub stored : SyntaxContext → Context
-stored (Root edition) = form.Root
-stored (Expansion number) = form.Expansion (to_le_bytes w32 number)
+abbrev pub context_of : SyntaxContext → Context
+context_of (Root edition) = form.Root
+context_of (Expansion number) = form.Expansion (to_le_bytes w32 number)

@@ -19,9 +19,9 @@ pub by_code_decides : (c d : List ℕ) → Decides (eq_by_cmp by_code c d) (c �
 by_code_decides = same_key nat_list_cmp_total by_code-IsAntisymmetric
 
 -- entries by the codes of their keys
-abbrev pub coded : {K V : Type 0} → (K → List ℕ) → List (K × V) → List (List ℕ × V)
-coded code es = each (λ e. (code e.0, e.1)) es
+abbrev pub by_codes : {K V : Type 0} → (K → List ℕ) → List (K × V) → List (List ℕ × V)
+by_codes code es = each (λ e. (code e.0, e.1)) es
 
 -- the map of these entries
 abbrev pub table_of : {K V : Type 0} → (K → List ℕ) → List (K × V) → map.FinMap by_code V
-table_of code es = map.from_entries (coded code es)
+table_of code es = map.from_entries (by_codes code es)

@@ -5,7 +5,7 @@ use Rattle.std.specs.FinMap as map
 use Rattle.hir_base.specs.Table.{by_code}
 use Rattle.hir_base.specs.contracts.table.Table.{the_row}
 
--- what a clause has as K.Keyed
+-- what a clause has as K.HasCode
 abbrev pub KeyMembers : Type 0 → Type 0
 KeyMembers K = record { hash_input : K → List (List ℕ); eq : K → K → Bool; code : K → List ℕ }
 

@@ -119,7 +119,7 @@ impl<K, T> Arena<K, T> {
     }
 
     /// The ids and the items in order, from either end.
-    #[tactic(auto, using(crate::proofs::Numbered::numbered))]
+    #[tactic(auto, using(crate::proofs::NumberedItems::numbered))]
     pub fn iter(&self) -> ArenaIter<'_, K, T>
         ensures items { result ≡ enumerate_from 0 self.now }
         ensures most { length result ≤ MOST_ITEMS }

@@ -73,7 +73,7 @@ impl<'a, K, T> Iterator for ArenaIter<'a, K, T> {
         Some((id, item))
     }
 
-    #[tactic(auto, using(crate::proofs::Numbered::numbered))]
+    #[tactic(auto, using(crate::proofs::NumberedItems::numbered))]
     fn size_hint(&self) -> (usize, Option<usize>)
         ensures lower { IsWithinCount result.0 (at_most (length self.now)) }
         ensures upper { IfSome result.1 (UpTo (at_most (length self.now))) }
@@ -87,7 +87,7 @@ impl<'a, K, T> Iterator for ArenaIter<'a, K, T> {
 impl<'a, K, T> DoubleEndedIterator for ArenaIter<'a, K, T> {
     ghost next_back_gives = { YieldsLastBy (λ item. (item.0, item.1.now)) (λ rest. rest) };
 
-    #[tactic(auto, using(crate::proofs::Numbered::numbered))]
+    #[tactic(auto, using(crate::proofs::NumberedItems::numbered))]
     fn next_back(&mut self) -> Option<(Idx<K>, &'a T)> {
         let (item, rest) = self.items.split_last()?;
         let id = Idx::from_raw(self.first + rest.len() as u32);
@@ -97,7 +97,7 @@ impl<'a, K, T> DoubleEndedIterator for ArenaIter<'a, K, T> {
 }
 
 impl<'a, K, T> ExactSizeIterator for ArenaIter<'a, K, T> {
-    #[tactic(auto, using(crate::proofs::Numbered::numbered))]
+    #[tactic(auto, using(crate::proofs::NumberedItems::numbered))]
     fn len(&self) -> usize {
         self.items.len()
     }

@@ -41,15 +41,15 @@ pub struct HygieneId {
 impl Model for HygieneId {
     ghost use Rattle.hir_base.specs.declared.hygiene.SyntaxContext.{SyntaxContext};
     ghost use Rattle.std.specs.Prelude.{◌≡◌};
-    ghost use Rattle.hir_base.specs.HygieneForm.{context, stored};
+    ghost use Rattle.hir_base.specs.HygieneForm.{context, context_of};
 
     ghost Value = { SyntaxContext };
 
     ghost view = { λ id. context id.ctx };
 
-    ghost invariant = { λ id. stored (context id.ctx) ≡ id.ctx };
+    ghost invariant = { λ id. context_of (context id.ctx) ≡ id.ctx };
 
-    ghost inverse = { λ ctx. record { ctx = stored ctx } };
+    ghost inverse = { λ ctx. record { ctx = context_of ctx } };
 
     ghost inverse_ok = { λ _ is_stored i. record { ctx = is_stored i } };
 }

@@ -8,46 +8,46 @@ use crate::Idx;
 use crate::defs::{DefWithBodyId, NamedDef, VariantId};
 use crate::ids::Id;
 use crate::ptr::{AstPtr, InFile};
-use crate::table::Keyed;
+use crate::table::HasCode;
 
-impl<K> Keyed for Idx<K> {
+impl<K> HasCode for Idx<K> {
     ghost code = { λ id. id ∷ [] };
 
     ghost code_tells = { number_tells };
 }
 
-impl<K> Keyed for Id<K> {
+impl<K> HasCode for Id<K> {
     ghost code = { λ id. id ∷ [] };
 
     ghost code_tells = { number_tells };
 }
 
-impl<K> Keyed for AstPtr<K> {
+impl<K> HasCode for AstPtr<K> {
     ghost code = { node_code };
 
     ghost code_tells = { λ x y. node_tells _ x y (Prim.search exact) };
 }
 
-impl<T: Keyed> Keyed for InFile<T> {
+impl<T: HasCode> HasCode for InFile<T> {
     ghost code = { λ source. source.file_id ∷ T.code source.value };
 
     ghost code_tells = { λ x y.
         cons_tells _ _ _ _ _ _ (unsigned_Decides x.file_id y.file_id) (T.code_tells x.value y.value) };
 }
 
-impl Keyed for DefWithBodyId {
+impl HasCode for DefWithBodyId {
     ghost code = { body_code };
 
     ghost code_tells = { λ x y. body_tells _ x y (Prim.search exact) };
 }
 
-impl Keyed for VariantId {
+impl HasCode for VariantId {
     ghost code = { fields_code };
 
     ghost code_tells = { λ x y. fields_tells _ x y (Prim.search exact) };
 }
 
-impl Keyed for NamedDef {
+impl HasCode for NamedDef {
     ghost code = { named_code };
 
     ghost code_tells = { λ x y. named_tells _ x y (Prim.search exact) };

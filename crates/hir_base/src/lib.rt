@@ -72,6 +72,6 @@ pub use ptr::{
 pub use seq::Seq;
 pub use short_list::ShortList;
 pub use steps::Steps;
-pub use table::{Keyed, Table};
+pub use table::{HasCode, Table};
 pub use table_iter::TableIter;
 pub use text::Text;

@@ -34,7 +34,7 @@ impl ShortText {
     {
         ShortText {
             len: text.len() as u8,
-            bytes: padded(text.as_bytes()),
+            bytes: with_zeros(text.as_bytes()),
         }
     }
 
@@ -47,7 +47,7 @@ impl ShortText {
     {
         ShortText {
             len: text.len() as u8,
-            bytes: padded(text),
+            bytes: with_zeros(text),
         }
     }
 
@@ -93,7 +93,7 @@ fn copy_ends<const N: usize>(bytes: &mut [u8; MOST_BYTES], text: &[u8])
 
 /// The bytes of a short text, and zeros.
 #[inline(always)]
-fn padded(text: &[u8]) -> [u8; MOST_BYTES]
+fn with_zeros(text: &[u8]) -> [u8; MOST_BYTES]
     requires { length text.now ≤ 14 }
     ensures { take (length text.now) result ≡ text.now }
 {

@@ -8,7 +8,7 @@ ghost use Rattle.std.specs.List.Sorted.{IsPermutation};
 ghost use Rattle.std.specs.Cmp.Lexicographic.{nat_list_cmp_total};
 ghost use Rattle.std.specs.FinMap as map;
 ghost use Rattle.hir_base.specs.Maps.{same_maps, same_maps_per, same_maps_equiv, same_maps_decides};
-ghost use Rattle.hir_base.specs.Table.{by_code, by_code-IsAntisymmetric, coded};
+ghost use Rattle.hir_base.specs.Table.{by_code, by_code-IsAntisymmetric, by_codes};
 
 use crate::table_iter::TableIter;
 use crate::{ExactEq, TryClone};
@@ -18,7 +18,7 @@ use std::hash::Hash;
 use std::marker::Model;
 
 /// Keys with a code, a list of numbers: two keys have the same code exactly if they are equal.
-pub trait Keyed: Eq + Hash {
+pub trait HasCode: Eq + Hash {
     ghost code: { Self → List ℕ };
 
     ghost code_tells: { (x y : Self) → Decides (Self.eq x y) (code x ≡ code y) };
@@ -26,11 +26,11 @@ pub trait Keyed: Eq + Hash {
 
 /// A hash table with a fixed seed, seen as the finite map from the codes of its keys to their values.
 #[derive(Drop)]
-pub struct Table<K: Keyed, V> {
+pub struct Table<K: HasCode, V> {
     entries: HashMap<K, V>,
 }
 
-impl<K: Keyed, V> Model for Table<K, V> {
+impl<K: HasCode, V> Model for Table<K, V> {
     ghost use Rattle.std.specs.Coded.{coded_ℕ, coded_list};
     ghost use Rattle.std.specs.FinMap as map;
     ghost use Rattle.hir_base.specs.Table.{by_code, table_of};
@@ -42,7 +42,7 @@ impl<K: Keyed, V> Model for Table<K, V> {
     ghost view = { λ t. table_of K.code t.entries.entries };
 }
 
-impl<K: Keyed, V> Table<K, V> {
+impl<K: HasCode, V> Table<K, V> {
     /// A table with no entries. It takes its memory from `alloc`, and none yet.
     pub fn new(alloc: Global) -> Table<K, V>
         ensures { result ≡ map.empty }
@@ -69,26 +69,26 @@ impl<K: Keyed, V> Table<K, V> {
 
     /// The entries, each once, in no promised order.
     pub fn iter(&self) -> TableIter<'_, K, V>
-        ensures { IsPermutation (coded K.code result) (map.entries self.now) }
+        ensures { IsPermutation (by_codes K.code result) (map.entries self.now) }
     {
         let entries = self.entries.iter();
         TableIter::new(entries)
     }
 }
 
-impl<K: Keyed, V> Table<K, V> {
+impl<K: HasCode, V> Table<K, V> {
     ghost use Rattle.hir_base.specs.TableLends.{lends_value};
 
     /// The value of this key, to write to, if it has one: no other entry changes.
     pub fn get_mut(&mut self, key: &K) -> Option<&mut V>
-        ensures* writes_back { sem 𝓛 (lends_value K.row V.row K.Keyed self.entry (K.code key.now) result) }
+        ensures* writes_back { sem 𝓛 (lends_value K.row V.row K.HasCode self.entry (K.code key.now) result) }
         ensures value { option_copied_mut result ≡ map.get self.old (K.code key.now) }
     {
         self.entries.get_mut(key)
     }
 }
 
-impl<K: Keyed + Drop, V: Drop> Table<K, V> {
+impl<K: HasCode + Drop, V: Drop> Table<K, V> {
     /// Gives the key this value, and answers the previous one.
     ///
     /// Answers an error if room for one more entry was refused: key and value are handed back and the table is unchanged.
@@ -114,7 +114,7 @@ impl<K: Keyed + Drop, V: Drop> Table<K, V> {
     }
 }
 
-impl<K: Keyed, V: ExactEq> PartialEq for Table<K, V> {
+impl<K: HasCode, V: ExactEq> PartialEq for Table<K, V> {
     ghost eq = { same_maps by_code V.eq };
 
     ghost laws = { same_maps_per nat_list_cmp_total V.eq V.PartialEq.laws };
@@ -124,15 +124,15 @@ impl<K: Keyed, V: ExactEq> PartialEq for Table<K, V> {
     }
 }
 
-impl<K: Keyed, V: ExactEq> Eq for Table<K, V> {
+impl<K: HasCode, V: ExactEq> Eq for Table<K, V> {
     ghost laws = { same_maps_equiv nat_list_cmp_total V.eq V.Eq.laws };
 }
 
-impl<K: Keyed, V: ExactEq> ExactEq for Table<K, V> {
+impl<K: HasCode, V: ExactEq> ExactEq for Table<K, V> {
     ghost eq_decides = { same_maps_decides nat_list_cmp_total V.eq by_code-IsAntisymmetric V.eq_decides };
 }
 
-impl<K: Keyed + TryClone, V: TryClone> Clone for Table<K, V> {
+impl<K: HasCode + TryClone, V: TryClone> Clone for Table<K, V> {
     ghost is_clone = { λ table copy. copy ≡ table };
 
     fn clone(&self) -> Result<Table<K, V>, AllocError> {
@@ -142,6 +142,6 @@ impl<K: Keyed + TryClone, V: TryClone> Clone for Table<K, V> {
     }
 }
 
-impl<K: Keyed + TryClone, V: TryClone> TryClone for Table<K, V> {
+impl<K: HasCode + TryClone, V: TryClone> TryClone for Table<K, V> {
     ghost clone_is_same = { λ table copy same. same };
 }

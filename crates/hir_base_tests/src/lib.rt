@@ -10,7 +10,7 @@ mod maps;
 #[cfg(test)]
 mod same;
 #[cfg(test)]
-mod shown;
+mod showing;
 #[cfg(test)]
 mod steps;
 #[cfg(test)]

@@ -86,7 +86,7 @@ const LISTS: [&[u32]; 6] = [
 ];
 
 // The list with these items pushed, if it could be made.
-fn filled(
+fn fill_list(
     alloc: Global,
     list: Result<ShortList<u32>, AllocError>,
     items: &[u32],
@@ -159,9 +159,9 @@ fn a_short_list_keeps_its_items(rt: HostRuntime) -> Result<(), Fail> {
     let alloc = rt.alloc();
     for items in &LISTS {
         let whole = keeps(alloc, ShortList::from_slice(alloc, items), items);
-        let grown = keeps(alloc, filled(alloc, Ok(ShortList::new()), items), items);
+        let grown = keeps(alloc, fill_list(alloc, Ok(ShortList::new()), items), items);
         let room = ShortList::with_capacity(alloc, items.len());
-        let into_room = keeps(alloc, filled(alloc, room, items), items);
+        let into_room = keeps(alloc, fill_list(alloc, room, items), items);
         assert!(rt; whole? && grown? && into_room?, "{items:?}");
     }
     Ok(())
@@ -173,7 +173,7 @@ fn short_lists_of_the_same_items_are_alike(rt: HostRuntime) -> Result<(), Fail> 
     let alloc = rt.alloc();
     for items in &LISTS {
         let whole = ShortList::from_slice(alloc, items);
-        let outside = filled(alloc, ShortList::with_capacity(alloc, 4), items);
+        let outside = fill_list(alloc, ShortList::with_capacity(alloc, 4), items);
         assert!(rt; same::alike(whole, outside)?, "{items:?}");
     }
     Ok(())
@@ -237,7 +237,7 @@ fn three_ids_lie_in_16_bytes(rt: HostRuntime) -> Result<(), Fail> {
     assert!(rt; size_of::<ShortList<Idx<Name>>>() == 16);
     let alloc = rt.alloc();
     let room = ShortList::with_capacity(alloc, 3);
-    let grown = keeps(alloc, filled(alloc, room, &[7, 8]), &[7, 8]);
+    let grown = keeps(alloc, fill_list(alloc, room, &[7, 8]), &[7, 8]);
     let whole = same::copies(&ShortList::from_slice(alloc, &[7u32, 8, 9])?);
     assert!(rt; grown? && whole?);
     Ok(())

@@ -16,7 +16,7 @@ const GIVEN: [(u32, u32, Option<u32>); 4] = [
 ];
 
 // A map that was given values at 7, 2, 7 again and 0.
-fn given(rt: &impl Abort, alloc: Global) -> Result<ArenaMap<Kind, u32>, AllocError> {
+fn some_map(rt: &impl Abort, alloc: Global) -> Result<ArenaMap<Kind, u32>, AllocError> {
     let mut map = ArenaMap::new(alloc);
     for (id, value, wanted) in &GIVEN {
         let old = map.insert(Idx::from_raw(*id), *value)?;
@@ -64,7 +64,7 @@ fn copy_goes_on(
 
 #[test]
 fn a_map_keeps_the_last_values_and_its_entries_rise(rt: HostRuntime) -> Result<(), Fail> {
-    let map = given(&rt, rt.alloc())?;
+    let map = some_map(&rt, rt.alloc())?;
     let kept = are_kept(&map);
     let rise = are_entries(map.iter(), &[(0, 4), (2, 2), (7, 3)]);
     let goes_on = copy_goes_on(map.iter(), &[(2, 2), (7, 3)]);

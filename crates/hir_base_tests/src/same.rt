@@ -62,7 +62,7 @@ fn ident(alloc: Global) -> Result<ModPath, AllocError> {
     Ok(ModPath::from_name(Name::new(alloc, "größe")?))
 }
 
-fn named(alloc: Global) -> Result<ExternAbi, AllocError> {
+fn named_abi(alloc: Global) -> Result<ExternAbi, AllocError> {
     Ok(ExternAbi::Named(Text::from_str(alloc, "efiapi")?))
 }
 
@@ -73,6 +73,6 @@ fn same_values_hash_alike(rt: HostRuntime) -> Result<(), Fail> {
     let kind = PathKind::Super(2);
     assert!(rt; alike(path(alloc, kind), path(alloc, kind))?);
     assert!(rt; alike(ident(alloc), path(alloc, PathKind::Plain))?);
-    assert!(rt; alike(named(alloc), named(alloc))?);
+    assert!(rt; alike(named_abi(alloc), named_abi(alloc))?);
     Ok(())
 }

@@ -1,7 +1,7 @@
 //! Hash tables and their keys, once each on the happy path.
 use crate::same;
 use hir_base::{
-    AstPtr, DefWithBodyId, ExactEq, ExprSource, FunctionId, HirFileId, Idx, InFile, Keyed,
+    AstPtr, DefWithBodyId, ExactEq, ExprSource, FunctionId, HasCode, HirFileId, Idx, InFile,
     NamedDef, StaticId, StructId, SyntaxNodePtr, Table, TextRange, UnionId, VariantId,
 };
 use std::alloc::{AllocError, Global};
@@ -56,7 +56,7 @@ fn lists_both(table: &Table<NamedDef, u32>) -> bool {
 }
 
 // Whether an empty table, given 2 at one key and 3 at the other, becomes the same as this one, and was not before.
-fn another_becomes<K: Keyed + Copy + Drop>(
+fn another_becomes<K: HasCode + Copy + Drop>(
     alloc: Global,
     made: &Table<K, u32>,
     of_2: &K,
@@ -124,7 +124,7 @@ fn a_value_of_a_table_is_written_in_its_place(rt: HostRuntime) -> Result<(), Fai
 }
 
 // Whether a table that is given this key, with the value true, has it and not the other key.
-fn has_only<K: Keyed + Drop>(
+fn has_only<K: HasCode + Drop>(
     alloc: Global,
     key: K,
     same: &K,

@@ -13,7 +13,7 @@ use Rattle.hir_scope.proofs.KidLemmas.{kids_in, slots_kids, slots_follow}
 use Rattle.hir_scope.proofs.UnderLemmas.{mapped, slots_agree}
 use Rattle.hir_scope.specs.Forms.{form_of, ScopingForm, form_at, expr_form}
 use Rattle.hir_scope.specs.Slots.{Base, Here, Const, Slot, slot_kid, call_kids, slots, own_frame}
-use Rattle.hir_captures.specs.declared.unread.Task.{Task}
+use Rattle.hir_captures.specs.declared.to_read.Task.{Task}
 use Rattle.hir_scope.specs.Order.{met_in_form}
 use Rattle.hir_captures.specs.walk.Pending.{tasks_of, task_node, code_of, AreThere}
 use Rattle.hir_captures.specs.Uses.{Spot, spot, in_code, of_pattern, kid_code, assignment_at, code_step, code_under, Use, if_assignment, use_of, expr_uses, pat_uses, uses_at, spot_uses, uses_in}
@@ -26,7 +26,7 @@ use Rattle.hir_node.specs.declared.pat.Pat.{Pat}
 use Rattle.hir_node.specs.declared.pat.Pat.TheVariants as pat
 use Rattle.hir_expr_store.specs.Contents.{Contents}
 use Rattle.hir_expr_store.specs.SideTables.{hygiene_of}
-use Rattle.hir_expr_store.specs.Under.{Reached}
+use Rattle.hir_expr_store.specs.Under.{IsReached}
 use Rattle.hir_scope.specs.Frames.{Chain}
 use Rattle.hir_scope.specs.Forms as form
 use Rattle.hir_scope.specs.Chains.{Place, place_kid, on_base, Stands, kid, HasChain, within_own}
@@ -143,7 +143,7 @@ pub record StandsOn (s : Nodes) (tops : List Place) (reached_from : List NodeId)
   pub at : Place
   pub stands : Stands s tops at
   pub is_node : at.node ≡ n
-  pub reached : Reached s reached_from n
+  pub reached : IsReached s reached_from n
   pub on : IsOn base at.here
 
 module _ (s : Nodes) (tops : List Place) (from : List NodeId) (base : Chain) where
@@ -182,7 +182,7 @@ module _ (s : Nodes) (tops : List Place) (from : List NodeId) (base : Chain) whe
         one Here e = h x (0, omega arith, refl) e (of_pattern x.kid a) (target_of x.kid a t)
         one Const e = tt
 
-  module _ (fall : KidsFall s) (go : (n k : NodeId) → Reached s from n → Contains (kids_of s n) k → Reached s from k) where
+  module _ (fall : KidsFall s) (go : (n k : NodeId) → IsReached s from n → Contains (kids_of s n) k → IsReached s from k) where
     -- a kid in the code stands there too
     kid_on : (n : NodeId) → On n → (x : Slot) → Contains (slots s n) x → x.base ≡ Here → On x.kid
     kid_on n on x m here =
@@ -257,14 +257,14 @@ own_on _ here = ([], refl)
 is_on_two : (a b c : Chain) → IsOn a b → IsOn b c → IsOn a c
 is_on_two a b c p q = (q.0 ++ p.0, q.1 ∙ (ap (λ (x : Chain). q.0 ++ x) p.1 ∙ sym (append_assoc q.0 p.0 a)))
 
-module _ (c : Contents) (tops : List Place) (from : List NodeId) (fall : KidsFall c.nodes) (go : (n k : NodeId) → Reached c.nodes from n → Contains (kids_of c.nodes n) k → Reached c.nodes from k)
+module _ (c : Contents) (tops : List Place) (from : List NodeId) (fall : KidsFall c.nodes) (go : (n k : NodeId) → IsReached c.nodes from n → Contains (kids_of c.nodes n) k → IsReached c.nodes from k)
     (one : (expr : ℕ) (x y : Chain) → HasChain c.nodes tops expr x → HasChain c.nodes tops expr y → x ≡ y)
-    (closure : ℕ) (is : IsClosure (slice_get c.nodes.exprs closure)) (reached : Reached c.nodes from (node.Expr closure)) where
+    (closure : ℕ) (is : IsClosure (slice_get c.nodes.exprs closure)) (reached : IsReached c.nodes from (node.Expr closure)) where
   abbrev Chains : Type 0
   Chains = ℕ → Chain
 
   abbrev AreTheirs : Chains → Type 0
-  AreTheirs chain = (expr : ℕ) → Reached c.nodes from (node.Expr expr) → HasChain c.nodes tops expr (chain expr)
+  AreTheirs chain = (expr : ℕ) → IsReached c.nodes from (node.Expr expr) → HasChain c.nodes tops expr (chain expr)
 
   all_on : (chain : Chains) → AreTheirs chain → UsesOn c.nodes tops from (chain closure) (uses_in c closure)
   unfolding uses_in

@@ -4,8 +4,8 @@ use Rattle.hir_node.specs.ChildCalls.{Call, pat_calls}
 use Rattle.hir_node.specs.Runs.{Runs, no_call, a_call}
 use Rattle.hir_stack.specs.Stacks.{Puts}
 use Rattle.hir_stack.proofs.TurnLemmas.{puts_none, puts_two}
-use Rattle.hir_captures.specs.declared.unread.Task.{Task}
-use Rattle.hir_captures.specs.declared.unread.Unread.{Unread}
+use Rattle.hir_captures.specs.declared.to_read.Task.{Task}
+use Rattle.hir_captures.specs.declared.to_read.ToRead.{ToRead}
 use Rattle.hir_captures.specs.walk.Pending.{task_of, tasks_of, pat_task, task_node, task_target, code_of, AreThere}
 use Rattle.std.specs.Prelude.{IsSome, ◌↔◌, ◌-◌}
 use Rattle.std.specs.List.{flat_map, filter_map, slice_get}
@@ -25,10 +25,10 @@ use Rattle.hir_scope.specs.Forms.{form_of, form_at, expr_form, pat_form}
 use Rattle.hir_scope.specs.Scopes.{Scopes}
 use Rattle.hir_scope.specs.Paths.{chain}
 use Rattle.hir_scope.specs.Chains.{HasChain}
-use Rattle.hir_scope.specs.Built.{ChainsAreFrames, tops_of_body}
+use Rattle.hir_scope.specs.BodyScopes.{ChainsAreFrames, tops_of_body}
 use Rattle.hir_items.specs.Bodies.{BodyContents, BodyReaches}
 use Rattle.hir_captures.specs.declared.code.Code.{Code}
-use Rattle.hir_captures.specs.declared.unread.Task.TheVariants as task
+use Rattle.hir_captures.specs.declared.to_read.Task.TheVariants as task
 use Rattle.hir_captures.specs.Captures.{meaning_behind, with_new, AreChains, AreCaptures}
 use Rattle.hir_scope.specs.Order.{met_in_form}
 use Rattle.hir_captures.specs.walk.Reading.{chain_in, captured_binding_in, with_uses, with_code, Reads}
@@ -37,13 +37,13 @@ use Rattle.hir_captures.proofs.CodeLemmas.{code_read, kids_there}
 
 -- 1. What a run of child calls leaves to be read.
 
-abbrev pub PutsCalls : Unread → List Call → Unread → Type 0
+abbrev pub PutsCalls : ToRead → List Call → ToRead → Type 0
 PutsCalls v cs w = (w.assignment ≡ v.assignment) × Puts v.stack (tasks_of v.assignment cs) w.stack
 
-abbrev pub PutsCall : Unread → Call → Unread → Type 0
+abbrev pub PutsCall : ToRead → Call → ToRead → Type 0
 PutsCall v c w = (w.assignment ≡ v.assignment) × Puts v.stack (task_of v.assignment c) w.stack
 
-pub puts_all : {v w : Unread} {cs : List Call} → Runs PutsCall v cs w → PutsCalls v cs w
+pub puts_all : {v w : ToRead} {cs : List Call} → Runs PutsCall v cs w → PutsCalls v cs w
 puts_all {v} no_call = (refl, puts_none v.stack)
 puts_all {v} {w} (a_call {v = u} {c = c} {cs = cs} step rest) =
     let later = puts_all rest in

@@ -8,7 +8,7 @@ use Rattle.hir_node.specs.declared.expr.Expr.TheVariants as expr
 use Rattle.hir_node.specs.declared.node_id.NodeId.TheVariants as node
 use Rattle.hir_expr_store.specs.Contents.{Contents}
 use Rattle.hir_items.specs.Bodies.{BodyContents, BodyReaches}
-use Rattle.hir_scope.specs.Built.{tops_of_body}
+use Rattle.hir_scope.specs.BodyScopes.{tops_of_body}
 use Rattle.hir_scope.specs.Chains.{HasChain}
 use Rattle.hir_scope.specs.Frames.{Chain}
 use Rattle.hir_scope.specs.Resolution.{resolve}

@@ -3,14 +3,14 @@ ghost use Rattle.std.specs.Prelude.{◌≡◌, ◌↔◌, ◌<◌, ℕ, length, 
 ghost use Rattle.std.specs.FinMap as map;
 ghost use Rattle.hir_node.specs.declared.node_id.NodeId.TheVariants as node;
 ghost use Rattle.hir_items.specs.Bodies.{BodyReaches};
-ghost use Rattle.hir_scope.specs.Built.{ChainsAreFrames, tops_of_body};
+ghost use Rattle.hir_scope.specs.BodyScopes.{ChainsAreFrames, tops_of_body};
 ghost use Rattle.hir_captures.specs.Captures.{AreCaptures, IsClosure, IsReachedClosure};
 
 use crate::asks::depth;
 use crate::binding_list::BindingList;
 use crate::code::Code;
 use crate::fault::CapturesFault;
-use crate::unread::{Task, Unread};
+use crate::to_read::{Task, ToRead};
 use hir_expr_store::ExpressionStore;
 use hir_items::Body;
 use hir_node::{BindingId, Expr, ExprId};
@@ -69,7 +69,7 @@ pub fn captures(
         outermost: depth(scopes, scope),
     };
     let mut found = BindingList::new(alloc, store.bindings().len())?;
-    let mut unread = Unread::new(alloc);
+    let mut unread = ToRead::new(alloc);
     unread.stack.push(Task::Expr(closure))?;
     code.read_all(&mut unread, &mut found)?;
     Ok(found.into_bindings())

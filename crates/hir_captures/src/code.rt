@@ -11,7 +11,7 @@ ghost use Rattle.hir_captures.specs.walk.Reading.{with_uses, with_code, Reads};
 use crate::asks::captured_binding;
 use crate::binding_list::BindingList;
 use crate::fault::CapturesFault;
-use crate::unread::{Task, Unread};
+use crate::to_read::{Task, ToRead};
 use hir_base::HygieneId;
 use hir_expr_store::ExpressionStore;
 use hir_expr_store::laws::kids_fall;
@@ -99,7 +99,7 @@ impl<'a> Code<'a> {
     /// Reads an expression: what is in it comes next.
     fn read_expr(
         &self,
-        unread: &mut Unread,
+        unread: &mut ToRead,
         found: &mut BindingList,
         id: ExprId,
     ) -> Result<(), CapturesFault>
@@ -119,7 +119,7 @@ impl<'a> Code<'a> {
     /// Reads a pattern, which is in the target of this assignment, or in none: what is in it comes next.
     fn read_pat(
         &self,
-        unread: &mut Unread,
+        unread: &mut ToRead,
         found: &mut BindingList,
         id: PatId,
         assignment: Option<ExprId>,
@@ -141,7 +141,7 @@ impl<'a> Code<'a> {
     /// Reads the node of one task.
     fn read(
         &self,
-        unread: &mut Unread,
+        unread: &mut ToRead,
         found: &mut BindingList,
         task: Task,
     ) -> Result<(), CapturesFault>
@@ -160,7 +160,7 @@ impl<'a> Code<'a> {
     /// Reads all that is still to be read, and adds what it captures.
     pub(crate) fn read_all(
         &self,
-        unread: &mut Unread,
+        unread: &mut ToRead,
         found: &mut BindingList,
     ) -> Result<(), CapturesFault>
         requires there { AreThere self.now.store.now.nodes unread.old.stack.items }

@@ -7,7 +7,7 @@ mod closures;
 mod code;
 mod fault;
 pub mod laws;
-mod unread;
+mod to_read;
 
 pub use closures::captures;
 pub use fault::CapturesFault;

@@ -18,7 +18,7 @@ use Rattle.hir_expr_store.specs.declared.missing.Missing.{Missing}
 use Rattle.hir_expr_store.specs.declared.missing.Missing.TheVariants as missing
 use Rattle.hir_items.specs.Bodies.{BodyContents}
 use Rattle.hir_items.specs.Generics.{empty}
-use Rattle.hir_items.specs.Lookups.{Signed, Embodied}
+use Rattle.hir_items.specs.Lookups.{SignatureAndSources, BodyAndSources}
 use Rattle.hir_items.specs.declared.body_source_map.BodySourceMap.{BodySourceMap}
 use Rattle.hir_items.specs.declared.signatures.FunctionParts.{FunctionParts}
 use Rattle.hir_items.specs.declared.signatures.StructParts.{StructParts}
@@ -35,48 +35,51 @@ Tables =
     FunctionParts StructParts PlainParts VariantParts BodyContents ExpressionStoreSourceMap BodySourceMap
 
 -- what a lookup answers from the signature of a function, of a struct and of another definition
-abbrev pub function_entry : FunctionParts × ExpressionStoreSourceMap → Signed
+abbrev pub function_entry : FunctionParts × ExpressionStoreSourceMap → SignatureAndSources
 function_entry e = (e.0.generic_params, e.0.store, e.1)
 
-abbrev pub struct_entry : StructParts × ExpressionStoreSourceMap → Signed
+abbrev pub struct_entry : StructParts × ExpressionStoreSourceMap → SignatureAndSources
 struct_entry e = (e.0.generic_params, e.0.store, e.1)
 
-abbrev pub plain_entry : PlainParts × ExpressionStoreSourceMap → Signed
+abbrev pub plain_entry : PlainParts × ExpressionStoreSourceMap → SignatureAndSources
 plain_entry e = (e.0.generic_params, e.0.store, e.1)
 
 -- a constant or a static has no parameters
-abbrev pub value_entry : PlainParts × ExpressionStoreSourceMap → Signed
+abbrev pub value_entry : PlainParts × ExpressionStoreSourceMap → SignatureAndSources
 value_entry e = (empty, e.0.store, e.1)
 
 abbrev pub of_adt : map.FinMap by_code (StructParts × ExpressionStoreSourceMap)
-    → map.FinMap by_code (PlainParts × ExpressionStoreSourceMap) → AdtId → Option Signed
+    → map.FinMap by_code (PlainParts × ExpressionStoreSourceMap) → AdtId → Option SignatureAndSources
 of_adt structs plains (adt.EnumId id) = option_map plain_entry (map.get plains (plain_code (plain.Enum id)))
 of_adt structs plains (adt.StructId id) = option_map struct_entry (map.get structs (id ∷ []))
 of_adt structs plains (adt.UnionId id) = option_map plain_entry (map.get plains (plain_code (plain.Union id)))
 
 -- what a lookup answers of a definition
-abbrev pub signed : Tables → GenericDefId → Option Signed
-signed t (generic.AdtId id) = of_adt t.structs t.plains id
-signed t (generic.ConstId id) = option_map value_entry (map.get t.plains (plain_code (plain.Const id)))
-signed t (generic.FunctionId id) = option_map function_entry (map.get t.functions (id ∷ []))
-signed t (generic.ImplId id) = option_map plain_entry (map.get t.plains (plain_code (plain.Impl id)))
-signed t (generic.StaticId id) = option_map value_entry (map.get t.plains (plain_code (plain.Static id)))
-signed t (generic.TraitId id) = option_map plain_entry (map.get t.plains (plain_code (plain.Trait id)))
-signed t (generic.TypeAliasId id) =
+abbrev pub signature_entry : Tables → GenericDefId → Option SignatureAndSources
+signature_entry t (generic.AdtId id) = of_adt t.structs t.plains id
+signature_entry t (generic.ConstId id) = option_map value_entry
+    (map.get t.plains (plain_code (plain.Const id)))
+signature_entry t (generic.FunctionId id) = option_map function_entry (map.get t.functions (id ∷ []))
+signature_entry t (generic.ImplId id) = option_map plain_entry (map.get t.plains (plain_code (plain.Impl id)))
+signature_entry t (generic.StaticId id) = option_map value_entry
+    (map.get t.plains (plain_code (plain.Static id)))
+signature_entry t (generic.TraitId id) = option_map plain_entry
+    (map.get t.plains (plain_code (plain.Trait id)))
+signature_entry t (generic.TypeAliasId id) =
     option_map plain_entry (map.get t.plains (plain_code (plain.TypeAlias id)))
 
 -- the body of a definition, and where it comes from
-abbrev pub embodied : Tables → DefWithBodyId → Option Embodied
-embodied t def = map.get t.bodies (body_code def)
+abbrev pub body_entry : Tables → DefWithBodyId → Option BodyAndSources
+body_entry t def = map.get t.bodies (body_code def)
 
-abbrev pub without_params : Signed → Contents × ExpressionStoreSourceMap
+abbrev pub without_params : SignatureAndSources → Contents × ExpressionStoreSourceMap
 without_params s = (s.1, s.2)
 
 -- the store of an owner, and where it comes from
-abbrev pub owned : Tables → ExpressionStoreOwnerId → Option (Contents × ExpressionStoreSourceMap)
-owned t (owner.Signature def) = option_map without_params (signed t def)
-owned t (owner.Body def) = option_map (λ e. (e.0.store, e.1.store)) (embodied t def)
-owned t (owner.VariantFields variant) =
+abbrev pub owner_entry : Tables → ExpressionStoreOwnerId → Option (Contents × ExpressionStoreSourceMap)
+owner_entry t (owner.Signature def) = option_map without_params (signature_entry t def)
+owner_entry t (owner.Body def) = option_map (λ e. (e.0.store, e.1.store)) (body_entry t def)
+owner_entry t (owner.VariantFields variant) =
     option_map (λ e. (e.0.store, e.1)) (map.get t.fields (fields_code variant))
 
 -- what is missing where an owner has no entry

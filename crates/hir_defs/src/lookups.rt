@@ -11,7 +11,7 @@ ghost use Rattle.hir_base.specs.declared.defs.ExpressionStoreOwnerId.{Expression
 ghost use Rattle.hir_expr_store.specs.declared.missing.Missing.TheVariants as missing;
 ghost use Rattle.hir_source.specs.declared.source_map.ExpressionStoreSourceMap.{ExpressionStoreSourceMap};
 ghost use Rattle.hir_defs.specs.Tables.{plain_code, generic_def};
-ghost use Rattle.hir_defs.specs.Lookups.{Tables, function_entry, struct_entry, plain_entry, value_entry, of_adt, owned, missing_owner};
+ghost use Rattle.hir_defs.specs.Lookups.{Tables, function_entry, struct_entry, plain_entry, value_entry, of_adt, owner_entry, missing_owner};
 
 use crate::no_generics::NoGenerics;
 use crate::plain_def::PlainDef;
@@ -107,9 +107,9 @@ fn of_adt<'a>(
 }
 
 impl Signatures for Tables {
-    ghost use Rattle.hir_defs.specs.Lookups.{signed};
+    ghost use Rattle.hir_defs.specs.Lookups.{signature_entry};
 
-    ghost signed = { signed };
+    ghost signature_entry = { signature_entry };
 
     fn signature_of(&self, def: GenericDefId) -> Result<SignatureEntry<'_>, Missing> {
         let plains = &self.plains;
@@ -126,9 +126,9 @@ impl Signatures for Tables {
 }
 
 impl Bodies for Tables {
-    ghost use Rattle.hir_defs.specs.Lookups.{embodied};
+    ghost use Rattle.hir_defs.specs.Lookups.{body_entry};
 
-    ghost embodied = { embodied };
+    ghost body_entry = { body_entry };
 
     fn body_of(&self, def: DefWithBodyId) -> Result<BodyEntry<'_>, Missing> {
         let wanted = Missing::Body(def);
@@ -166,7 +166,7 @@ pub trait StoreOf {
 }
 
 impl StoreOf for ExpressionStore {
-    ghost entry = { owned };
+    ghost entry = { owner_entry };
 
     fn of(tables: &Tables, owner: ExpressionStoreOwnerId) -> Result<&ExpressionStore, Missing> {
         let (store, _) = ExpressionStore::with_source_map(tables, owner)?;

@@ -5,7 +5,7 @@ ghost use Rattle.hir_base.specs.Exact.{exact};
 ghost use Rattle.hir_defs.specs.Tables.{plain_code, plain_tells, generic_def};
 
 use hir_base::{
-    AdtId, ConstId, EnumId, ExactEq, GenericDefId, ImplId, Keyed, StaticId, TraitId, TryClone,
+    AdtId, ConstId, EnumId, ExactEq, GenericDefId, HasCode, ImplId, StaticId, TraitId, TryClone,
     TypeAliasId, UnionId,
 };
 
@@ -46,7 +46,7 @@ impl TryClone for PlainDef {
     ghost clone_is_same = { Prim.search exact };
 }
 
-impl Keyed for PlainDef {
+impl HasCode for PlainDef {
     ghost code = { plain_code };
 
     ghost code_tells = { λ x y. plain_tells _ x y (Prim.search exact) };

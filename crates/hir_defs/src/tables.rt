@@ -14,8 +14,8 @@ ghost use Rattle.hir_defs.specs.NoTables.{no_tables};
 use crate::no_generics::NoGenerics;
 use crate::plain_def::{PlainDef, Repr};
 use hir_base::{
-    AdtId, CrateId, DefWithBodyId, Edition, EnumId, EnumVariantId, FunctionId, GenericDefId, Keyed,
-    NamedDef, RawWords, Seq, StructId, Table, Text, VariantId,
+    AdtId, CrateId, DefWithBodyId, Edition, EnumId, EnumVariantId, FunctionId, GenericDefId,
+    HasCode, NamedDef, RawWords, Seq, StructId, Table, Text, VariantId,
 };
 use hir_expr_store::Missing;
 use hir_items::{
@@ -74,7 +74,7 @@ impl<F: Drop, S: Drop, P: Drop, V: Drop, B: Drop, M: Drop, N: Drop> Drop
 /// The value of this key. Answers `wanted`, as what is missing, where it has none.
 ///
 /// It borrows one table, since a function that borrows all of them is costly to prove.
-pub(crate) fn entry<'a, K: Keyed, V>(
+pub(crate) fn entry<'a, K: HasCode, V>(
     table: &'a Table<K, V>,
     key: &K,
     wanted: Missing,

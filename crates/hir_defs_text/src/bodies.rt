@@ -1,13 +1,13 @@
 //! The line `body`, and the questions on a body's parameters.
 
 use crate::pending::Pending;
-use crate::subject::{Finished, Subject, accepted, kept};
+use crate::subject::{Finished, Subject, ask_accepted, ask_again};
 use hir_base::{DefWithBodyId, ExpressionStoreOwnerId, Idx};
 use hir_defs::{Body, BodyFault, BodySourceMap, Param, RefusedBody, Tables, TablesOf};
 use hir_node::BindingId;
 use hir_notation::{Answer, Stop, Words};
 use hir_store::ExpressionStore;
-use hir_store_text::{done, refuse, unknown};
+use hir_store_text::{answer_unknown, done_or_stop, refuse};
 use hir_words::value_of;
 use std::alloc::{AllocError, Global};
 
@@ -46,12 +46,12 @@ pub(crate) fn make<F: Drop, S: Drop, P: Drop, V: Drop, M: Drop>(
     match Body::new(alloc, store, params, pending.take_self()) {
         Ok(body) => {
             let sources = BodySourceMap::new(sources, pending.take_self_source());
-            done(tables.add_body(*def, body, sources))?;
-            accepted(ExpressionStoreOwnerId::Body(*def), answer)
+            done_or_stop(tables.add_body(*def, body, sources))?;
+            ask_accepted(ExpressionStoreOwnerId::Body(*def), answer)
         }
         Err(refused) => {
             let store = take_back(alloc, refused, pending, answer)?;
-            kept(alloc, store, sources)
+            ask_again(alloc, store, sources)
         }
     }
 }
@@ -128,7 +128,7 @@ fn read(word: &[u8], words: &mut Words<'_>) -> Result<Option<Question>, Stop> {
 /// Writes what is asked of a body, where there is one.
 fn write(body: Option<&Body>, question: Question, answer: &mut Answer) -> Result<(), AllocError> {
     let Some(body) = body else {
-        return unknown(answer);
+        return answer_unknown(answer);
     };
     match question {
         Question::Parts => write_parts(body, answer),

@@ -4,7 +4,7 @@ use crate::bodies;
 use crate::fields::next_shape;
 use crate::pending::Pending;
 use crate::signatures::{FunctionLine, StructLine, as_plain, read_function, read_struct};
-use crate::subject::{Finished, Subject, accepted, kept};
+use crate::subject::{Finished, Subject, ask_accepted, ask_again};
 use hir_base::{
     AdtId, DefWithBodyId, ExpressionStoreOwnerId, FunctionId, GenericDefId, StructId, VariantId,
 };
@@ -15,7 +15,7 @@ use hir_defs::{
 };
 use hir_notation::{Answer, Stop, Words, as_def_with_body, as_variant, next_def};
 use hir_store::{ExpressionStore, ExpressionStoreSourceMap};
-use hir_store_text::{done, refuse};
+use hir_store_text::{done_or_stop, refuse};
 use hir_words::value_of;
 use std::alloc::Global;
 
@@ -120,7 +120,7 @@ fn take_back<P: Parts>(
     refuse_signature(alloc, refused.fault, answer)?;
     let (generic_params, store) = refused.parts.take_apart();
     pending.put_back_generics(&generic_params)?;
-    kept(alloc, store, sources)
+    ask_again(alloc, store, sources)
 }
 
 fn make_function<S: Drop, P: Drop, V: Drop, B: Drop, N: Drop>(
@@ -135,9 +135,9 @@ fn make_function<S: Drop, P: Drop, V: Drop, B: Drop, N: Drop>(
     let (store, sources) = Box::into_inner(finished);
     match FunctionSignature::new(line.parts(pending.take_generics(alloc), store)) {
         Ok(signature) => {
-            done(tables.add_function(id, signature, sources))?;
+            done_or_stop(tables.add_function(id, signature, sources))?;
             let def = GenericDefId::FunctionId(id);
-            accepted(ExpressionStoreOwnerId::Signature(def), answer)
+            ask_accepted(ExpressionStoreOwnerId::Signature(def), answer)
         }
         Err(refused) => take_back(alloc, refused, sources, pending, answer),
     }
@@ -155,9 +155,9 @@ fn make_struct<F: Drop, P: Drop, V: Drop, B: Drop, N: Drop>(
     let (store, sources) = Box::into_inner(finished);
     match StructSignature::new(line.parts(pending.take_generics(alloc), store)) {
         Ok(signature) => {
-            done(tables.add_struct(id, signature, sources))?;
+            done_or_stop(tables.add_struct(id, signature, sources))?;
             let def = GenericDefId::AdtId(AdtId::StructId(id));
-            accepted(ExpressionStoreOwnerId::Signature(def), answer)
+            ask_accepted(ExpressionStoreOwnerId::Signature(def), answer)
         }
         Err(refused) => take_back(alloc, refused, sources, pending, answer),
     }
@@ -178,8 +178,8 @@ fn make_plain<F: Drop, S: Drop, V: Drop, B: Drop, N: Drop>(
         store,
     }) {
         Ok(signature) => {
-            done(tables.add_plain(*def, signature, sources))?;
-            accepted(ExpressionStoreOwnerId::Signature(def.generic_def()), answer)
+            done_or_stop(tables.add_plain(*def, signature, sources))?;
+            ask_accepted(ExpressionStoreOwnerId::Signature(def.generic_def()), answer)
         }
         Err(refused) => take_back(alloc, refused, sources, pending, answer),
     }
@@ -196,7 +196,7 @@ fn take_fields_back(
     refuse_signature(alloc, refused.fault, answer)?;
     let VariantParts { fields, store, .. } = refused.parts;
     pending.put_back_fields(fields);
-    kept(alloc, store, sources)
+    ask_again(alloc, store, sources)
 }
 
 fn make_variant<F: Drop, S: Drop, P: Drop, B: Drop, N: Drop>(
@@ -216,8 +216,8 @@ fn make_variant<F: Drop, S: Drop, P: Drop, B: Drop, N: Drop>(
         store,
     }) {
         Ok(variant) => {
-            done(tables.add_fields(*id, variant, sources))?;
-            accepted(ExpressionStoreOwnerId::VariantFields(*id), answer)
+            done_or_stop(tables.add_fields(*id, variant, sources))?;
+            ask_accepted(ExpressionStoreOwnerId::VariantFields(*id), answer)
         }
         Err(refused) => take_fields_back(alloc, refused, sources, pending, answer),
     }

@@ -20,7 +20,7 @@ pub enum Subject {
 }
 
 /// What was accepted is the store that questions ask from then on.
-pub(crate) fn accepted(
+pub(crate) fn ask_accepted(
     owner: ExpressionStoreOwnerId,
     answer: &mut Answer,
 ) -> Result<Subject, Stop> {
@@ -29,7 +29,7 @@ pub(crate) fn accepted(
 }
 
 /// What was refused is the store that questions ask again.
-pub(crate) fn kept(
+pub(crate) fn ask_again(
     alloc: Global,
     store: ExpressionStore,
     sources: ExpressionStoreSourceMap,

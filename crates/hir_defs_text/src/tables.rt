@@ -3,7 +3,7 @@
 use hir_base::{CrateId, Edition, EnumId, EnumVariantId, NamedDef, Seq, StructId, Text};
 use hir_defs::{Repr, Tables};
 use hir_notation::{Stop, Words, as_named, next_def, next_edition};
-use hir_store_text::done;
+use hir_store_text::done_or_stop;
 use hir_words::value_of;
 use std::alloc::Global;
 
@@ -105,10 +105,10 @@ fn read(alloc: Global, kind: Kind, words: &mut Words<'_>) -> Result<Entry, Stop>
 /// Adds an entry.
 fn add(tables: &mut Tables, entry: Entry) -> Result<(), Stop> {
     match entry {
-        Entry::Name(def, name) => done(tables.add_name(def, name)),
-        Entry::CrateName(id, name) => done(tables.add_crate_name(id, name)),
-        Entry::Parent(variant, parent) => done(tables.add_variant_parent(variant, parent)),
-        Entry::Repr(id, repr) => done(tables.add_repr(id, repr)),
+        Entry::Name(def, name) => done_or_stop(tables.add_name(def, name)),
+        Entry::CrateName(id, name) => done_or_stop(tables.add_crate_name(id, name)),
+        Entry::Parent(variant, parent) => done_or_stop(tables.add_variant_parent(variant, parent)),
+        Entry::Repr(id, repr) => done_or_stop(tables.add_repr(id, repr)),
         Entry::RawWords(edition, texts) => {
             tables.set_raw_words(edition, texts);
             Ok(())

@@ -13,7 +13,7 @@ use Rattle.hir_node.specs.declared.node_id.NodeId.TheVariants as node
 use Rattle.hir_faults.specs.declared.sizes.Sizes.{Sizes}
 use Rattle.hir_faults.specs.Sizes.{place}
 use Rattle.hir_faults.specs.Nodes.{Nodes, sizes_of, Has, kids_of, graph}
-use Rattle.hir_faults.specs.Faults.{Rooted, rooted_fault}
+use Rattle.hir_faults.specs.Faults.{RootedNodes, rooted_fault}
 use Rattle.hir_faults.specs.Sound.{RootsStandApart}
 use Rattle.hir_faults.specs.Down.{KidsFall}
 use Rattle.hir_faults.proofs.FaultLemmas.{accepted_forest}
@@ -34,7 +34,7 @@ once_in_row (row ∷ g) zero r i j h l e =
 once_in_row (row ∷ g) (suc p) r i j h l e = once_in_row g p (λ a b m n f.
     r (length row + a) (length row + b) (omega arith) (omega (arith, length-append row (concat g))) (get_or-append-add row (concat g) a 0 ∙ f ∙ sym (get_or-append-add row (concat g) b 0))) i j h l e
 
-module _ (c : Rooted) (sound : rooted_fault c None) where
+module _ (c : RootedNodes) (sound : rooted_fault c None) where
   abbrev s : Nodes
   s = c.nodes
 

@@ -9,13 +9,13 @@ use Rattle.hir_node.specs.declared.pat.Pat.{Pat}
 use Rattle.hir_node.specs.declared.node_id.NodeId.TheVariants as node
 use Rattle.hir_node.specs.ChildCalls.{Call, OnExpr, OnAnonConst, OnPat, OnType, OnLifetime, kids, pat_of_call, pat_calls, child_pats, opt}
 use Rattle.hir_faults.specs.Nodes.{calls_of, kids_of}
-use Rattle.hir_faults.specs.Faults.{Rooted, rooted_fault}
+use Rattle.hir_faults.specs.Faults.{RootedNodes, rooted_fault}
 use Rattle.hir_faults.specs.Down.{KidsFall}
 use Rattle.hir_faults.proofs.SoundLemmas.{sound_falls}
 use Rattle.hir_faults.proofs.DownLemmas.{parent_there}
 use Rattle.hir_expr_store.specs.declared.pat_links.PatLink.{PatLink}
 use Rattle.hir_expr_store.specs.declared.pat_links.PatLink.TheVariants.{Next, Last, Alone}
-use Rattle.hir_expr_store.specs.PatLinks.{kids_at, IsOnce, EachHasOnePlace, link_at, linked, AreLinked}
+use Rattle.hir_expr_store.specs.PatLinks.{kids_at, IsOnce, EachHasOnePlace, link_at, link_children, AreLinked}
 use Rattle.hir_expr_store.specs.Under.{itself}
 use Rattle.hir_expr_store.proofs.ApartLemmas.{one_parent, kids_apart, contains_read}
 
@@ -26,14 +26,14 @@ contains_behind : {X : Type 0} (x : X) (xs : List X) (y : X) → Contains xs y �
 contains_behind x xs y c = (suc c.0, omega (arith, c.1), c.2)
 
 -- the link of another pattern stays
-linked-other : (m : ℕ) (ks : List ℕ) (links : List PatLink) (x : ℕ) → (Contains ks x → ⊥) → link_at (linked m ks links) x ≡ link_at links x
+linked-other : (m : ℕ) (ks : List ℕ) (links : List PatLink) (x : ℕ) → (Contains ks x → ⊥) → link_at (link_children m ks links) x ≡ link_at links x
 linked-other m [] links x out = refl
 linked-other m (k ∷ []) links x out = get_or-set_other links k x (Last m) Alone (λ e. out (0, omega arith, sym e))
 linked-other m (k ∷ q ∷ more) links x out =
     linked-other m (q ∷ more) (set links k (Next q)) x (λ c. out (contains_behind k (q ∷ more) x c))
     ∙ get_or-set_other links k x (Next q) Alone (λ e. out (0, omega arith, sym e))
 
-pub length-linked : (m : ℕ) (ks : List ℕ) (links : List PatLink) → length (linked m ks links) ≡ length links
+pub length-linked : (m : ℕ) (ks : List ℕ) (links : List PatLink) → length (link_children m ks links) ≡ length links
 length-linked m [] links = refl
 length-linked m (k ∷ []) links = length-set links k (Last m)
 length-linked m (k ∷ q ∷ more) links = length-linked m (q ∷ more) (set links k (Next q)) ∙ length-set links k (Next q)
@@ -43,7 +43,7 @@ low_after links k link [] h = tt
 low_after links k link (x ∷ ks) h = (omega (arith, h.0, length-set links k link), low_after links k link ks h.1)
 
 -- the children that were linked are
-linked-here : (m : ℕ) (ks : List ℕ) (links : List PatLink) → IsOnce ks → AllByRecursion (λ x. x < length links) ks → AreLinked (linked m ks links) m ks
+linked-here : (m : ℕ) (ks : List ℕ) (links : List PatLink) → IsOnce ks → AllByRecursion (λ x. x < length links) ks → AreLinked (link_children m ks links) m ks
 linked-here m [] links once low = tt
 linked-here m (k ∷ []) links once low = get_or-set_same links k (Last m) Alone low.0
 linked-here m (k ∷ q ∷ more) links once low = (
@@ -66,15 +66,15 @@ pub all_from_contains : {X : Type 0} (P : X → Type 0) (xs : List X) → ((x : 
 all_from_contains P [] f = tt
 all_from_contains P (x ∷ xs) f = (f x (contains_first x xs), all_from_contains P xs (λ y c. f y (contains_behind x xs y c)))
 
-pub linked-next : (pats : List Pat) → EachHasOnePlace pats → (links : List PatLink) (i : ℕ) → length links ≡ length pats → LinkedBefore pats links i → LinkedBefore pats (linked i (kids_at pats i) links) (suc i)
+pub linked-next : (pats : List Pat) → EachHasOnePlace pats → (links : List PatLink) (i : ℕ) → length links ≡ length pats → LinkedBefore pats links i → LinkedBefore pats (link_children i (kids_at pats i) links) (suc i)
 linked-next pats place links i len before m lt =
     elim (cases_lt m i) [
       | inl h ↦
-          linked-kept links (linked i (kids_at pats i) links) m (kids_at pats m)
+          linked-kept links (link_children i (kids_at pats i) links) m (kids_at pats m)
           (λ k c. linked-other i (kids_at pats i) links k (λ d. let same = place.one_parent m i k c d in omega arith)) (before m h)
       | inr h ↦
           let e : i ≡ m = omega arith in
-          subst (λ (n : ℕ). AreLinked (linked i (kids_at pats i) links) n (kids_at pats n)) e
+          subst (λ (n : ℕ). AreLinked (link_children i (kids_at pats i) links) n (kids_at pats n)) e
           (linked-here i (kids_at pats i) links (place.once i) (all_from_contains (λ x. x < length links) (kids_at pats i) (λ x c. let t = place.there i x c in omega arith)))
     ]
 
@@ -116,7 +116,7 @@ once_from (x ∷ xs) f = (
 )
 
 -- each pattern of a store is a child of one pattern at most, once
-pub patterns_have_one_place : (c : Rooted) → rooted_fault c None → EachHasOnePlace c.nodes.pats
+pub patterns_have_one_place : (c : RootedNodes) → rooted_fault c None → EachHasOnePlace c.nodes.pats
 patterns_have_one_place c sound = record {
   there = λ m k d. let n = kid m k d in fall.there (node.Pat m) (parent_there c.nodes (node.Pat m) (node.Pat k) n) (node.Pat k) n;
   one_parent = λ m n k a b. same m n (one_parent c sound (node.Pat m) (node.Pat n) (node.Pat k) (kid m k a) (kid n k b));

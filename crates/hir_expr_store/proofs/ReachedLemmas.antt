@@ -9,7 +9,7 @@ use Rattle.hir_node.specs.declared.node_id.NodeId.{NodeId}
 use Rattle.hir_node.specs.declared.node_id.NodeId.TheVariants as node
 use Rattle.hir_faults.specs.Nodes.{Nodes, Has, kids_of}
 use Rattle.hir_faults.specs.Down.{rank, KidsFall, AgreeOn, AsksKids}
-use Rattle.hir_expr_store.specs.Under.{Under, itself, below, LieApart, Reached, nodes_step, nodes_under, reached_nodes}
+use Rattle.hir_expr_store.specs.Under.{Under, itself, below, LieApart, IsReached, nodes_step, nodes_under, reached_nodes}
 use Rattle.hir_faults.proofs.DownLemmas.{parent_there, value_at}
 use Rattle.hir_expr_store.proofs.ApartLemmas.{contains_read}
 use Rattle.hir_expr_store.proofs.UnderLemmas.{under_more}
@@ -63,11 +63,11 @@ same_node (node.TypeRef a) (node.Expr b) = inr (λ e. absurd (cc))
 same_node (node.TypeRef a) (node.Pat b) = inr (λ e. absurd (cc))
 same_node (node.TypeRef a) (node.TypeRef b) = ⊎_elim (λ e. inl (ap node.TypeRef e)) (λ ne. inr (λ e. ne (cc))) (cases_eq a b)
 
-listed : (xs : List NodeId) (n : NodeId) → Contains xs n ⊎ (Contains xs n → ⊥)
-listed [] n = inr (λ h. omega (arith, h.1))
-listed (x ∷ xs) n =
+is_listed_or_not : (xs : List NodeId) (n : NodeId) → Contains xs n ⊎ (Contains xs n → ⊥)
+is_listed_or_not [] n = inr (λ h. omega (arith, h.1))
+is_listed_or_not (x ∷ xs) n =
     ⊎_elim (λ e. inl (0, omega arith, e))
-    (λ ne. ⊎_elim (λ c. inl (contains_behind x xs n c)) (λ no. inr (λ h. ⊎_elim ne no (contains_cons x xs n h))) (listed xs n))
+    (λ ne. ⊎_elim (λ c. inl (contains_behind x xs n c)) (λ no. inr (λ h. ⊎_elim ne no (contains_cons x xs n h))) (is_listed_or_not xs n))
     (same_node x n)
 
 kids_agree : (f g : NodeId → List NodeId) (ks : List NodeId) → AgreeOn f g ks → flat_map f ks ≡ flat_map g ks
@@ -78,7 +78,7 @@ asks : (s : Nodes) → AsksKids s (nodes_step s)
 asks s f g n h = ap (λ rest. n ∷ rest) (kids_agree f g (kids_of s n) h)
 
 -- a kid of what is reached is reached
-pub kid_reached : (s : Nodes) (tops : List NodeId) (n k : NodeId) → Reached s tops n → Contains (kids_of s n) k → Reached s tops k
+pub kid_reached : (s : Nodes) (tops : List NodeId) (n k : NodeId) → IsReached s tops n → Contains (kids_of s n) k → IsReached s tops k
 kid_reached s tops n k r c = (r.0, r.1, under_more s k n r.2 c)
 
 module _ (s : Nodes) (fall : KidsFall s) where
@@ -105,14 +105,14 @@ module _ (s : Nodes) (fall : KidsFall s) where
       (contains_behind r (kids_nodes r) n (flat_map_has (nodes_under s) (kids_of s r) k n d (listed_from_under n u)))
 
   -- exactly the reached nodes are listed
-  pub reached_is : (tops : List NodeId) (n : NodeId) → Contains (reached_nodes s tops) n ↔ Reached s tops n
+  pub reached_is : (tops : List NodeId) (n : NodeId) → Contains (reached_nodes s tops) n ↔ IsReached s tops n
   reached_is tops n = (
     λ h. let t = flat_map_from (nodes_under s) tops n h in (t.0, t.1, under_from_listed (suc (rank s t.0)) t.0 n (omega arith) t.2),
     λ r. flat_map_has (nodes_under s) tops r.0 n r.1 (listed_from_under n r.2),
   )
 
-  pub reached_decided : (tops : List NodeId) (n : NodeId) → Reached s tops n ⊎ (Reached s tops n → ⊥)
-  reached_decided tops n = let same = reached_is tops n in ⊎_elim (λ c. inl (same.0 c)) (λ no. inr (λ r. no (same.1 r))) (listed (reached_nodes s tops) n)
+  pub reached_decided : (tops : List NodeId) (n : NodeId) → IsReached s tops n ⊎ (IsReached s tops n → ⊥)
+  reached_decided tops n = let same = reached_is tops n in ⊎_elim (λ c. inl (same.0 c)) (λ no. inr (λ r. no (same.1 r))) (is_listed_or_not (reached_nodes s tops) n)
 
   under_low : (n : NodeId) {r : NodeId} → Under s n r → rank s n ≤ rank s r
   under_low n itself = omega arith

@@ -7,16 +7,16 @@ use Rattle.std.proofs.lemmas.Option.{slice_get_past}
 use Rattle.hir_forest.specs.declared.roots.Ends.{Ends}
 use Rattle.hir_forest.specs.declared.roots.Root.{Root}
 use Rattle.hir_forest.specs.Faults.{EndsFit, no_ends, ends_before}
-use Rattle.hir_faults.specs.Faults.{Rooted, ends_of}
+use Rattle.hir_faults.specs.Faults.{RootedNodes, ends_of}
 use Rattle.hir_faults.specs.Sound.{RootsStandApart}
 use Rattle.hir_expr_store.specs.declared.root_search.EndOf.{EndOf}
 use Rattle.hir_expr_store.specs.declared.root_search.EndOf.TheVariants as ends
 use Rattle.hir_expr_store.specs.RootSearch.{end_of, exceeds, end_at, EndsRise}
 
 -- half of fewer than 2 ^ m is fewer than 2 ^ (m - 1)
-pub halved : (w v m : ℕ) → 0 < w → v + v ≤ w → w < 2 ^ m → (n : ℕ) × (suc n ≡ m) × (v < 2 ^ n)
-halved w v zero pos half lt = absurd (omega arith)
-halved w v (suc n) pos half lt = (n, refl, (let twice : w < 2 ^ n * 2 = rw pow-suc at lt in omega arith))
+pub half_is_fewer : (w v m : ℕ) → 0 < w → v + v ≤ w → w < 2 ^ m → (n : ℕ) × (suc n ≡ m) × (v < 2 ^ n)
+half_is_fewer w v zero pos half lt = absurd (omega arith)
+half_is_fewer w v (suc n) pos half lt = (n, refl, (let twice : w < 2 ^ n * 2 = rw pow-suc at lt in omega arith))
 
 -- the first that passes is the one with none before it that passes
 pub find_here : {X : Type 0} (test : X → Bool) (xs : List X) (i : ℕ) (d : X) → ((j : ℕ) → j < i → test (get_or xs j d) ≡ false) → i < length xs → test (get_or xs i d) ≡ true → find test xs ≡ slice_get xs i
@@ -42,7 +42,7 @@ fits_kind ends.Exprs lengths earlier later h = h.0
 fits_kind ends.Pats lengths earlier later h = h.2
 fits_kind ends.Bindings lengths earlier later h = h.4
 
-pub ends_rise : (kind : EndOf) (c : Rooted) → RootsStandApart c → EndsRise kind c.roots
+pub ends_rise : (kind : EndOf) (c : RootedNodes) → RootsStandApart c → EndsRise kind c.roots
 ends_rise kind c stand i j le lt = let steps = up (j - i) in subst (λ (k : ℕ). end_at kind c.roots i ≤ end_at kind c.roots k) (let e : i + (j - i) ≡ j = omega arith in e) (steps (omega arith))
   where
     next : (k : ℕ) → suc k < length c.roots → end_at kind c.roots k ≤ end_at kind c.roots (suc k)
@@ -63,7 +63,7 @@ pub digits_left : (n w v old now next : ℕ) → 0 < w → v + v ≤ w → next 
     → (k : ℕ) → n < 2 ^ k → (m : ℕ) × (v < 2 ^ m) × (next + m ≤ old + k)
 digits_left n w v old now next pos half is left k h =
     let x = left k h in
-    let y = halved w v x.0 pos half x.1 in
+    let y = half_is_fewer w v x.0 pos half x.1 in
     (y.0, y.2, omega (arith, x.2, y.1, is))
 
 -- halving ends where the first is whose end exceeds the id

@@ -12,7 +12,7 @@ use Rattle.hir_expr_store.specs.declared.turns.Turn.{Turn}
 use Rattle.hir_expr_store.specs.declared.turns.Turn.TheVariants.{Enter, Leave}
 use Rattle.hir_expr_store.specs.PatLists.{child_pats_of, pats, bindings_at, bindings_in, exprs_in}
 use Rattle.hir_expr_store.specs.PatLinks.{link_at, AreLinked, HasPatLinks}
-use Rattle.hir_expr_store.specs.Turns.{pat_of, turns_step, turns, entered, exprs_left, turn_within, turn_by, turn_after}
+use Rattle.hir_expr_store.specs.Turns.{pat_of, turns_step, turns, entered_pat, exprs_left, turn_within, turn_by, turn_after}
 use Rattle.hir_expr_store.proofs.PatLemmas.{pats_agree, flat_map-twice, pats_is, exprs_in_parted}
 use Rattle.hir_expr_store.proofs.WalkLemmas.{IsBelow, pats_below}
 
@@ -91,17 +91,17 @@ module _ (s : Nodes) (fall : KidsFall s) where
       let own = ap (λ (t : List A). flat_map (λ q. flat_map g (turns s q)) (child_pats_of s p) ++ t) (append-nil (g (Leave p))) in
       ap (flat_map g) (turns_is p) ∙ ap (λ (t : List A). g (Enter p) ++ t) (inner ∙ kids ∙ own)
 
-  pats_given : (d p : ℕ) → p < length s.pats → rank s (node.Pat p) < d → flat_map entered (turns s p) ≡ pats s p
+  pats_given : (d p : ℕ) → p < length s.pats → rank s (node.Pat p) < d → flat_map entered_pat (turns s p) ≡ pats s p
   pats_given zero p h lt = absurd (omega arith)
   pats_given (suc d) p h lt =
-      let kids = same_each (IsBelow s p) (λ q. flat_map entered (turns s q)) (pats s) (child_pats_of s p) (pats_below s fall p h) (λ q b. let low = b.lower in pats_given d q b.there (omega arith)) in
-      gives entered p ∙ ap (λ t. p ∷ t ++ []) kids ∙ ap (λ t. p ∷ t) (append-nil (flat_map (pats s) (child_pats_of s p))) ∙ sym (pats_is s fall p h)
+      let kids = same_each (IsBelow s p) (λ q. flat_map entered_pat (turns s q)) (pats s) (child_pats_of s p) (pats_below s fall p h) (λ q b. let low = b.lower in pats_given d q b.there (omega arith)) in
+      gives entered_pat p ∙ ap (λ t. p ∷ t ++ []) kids ∙ ap (λ t. p ∷ t) (append-nil (flat_map (pats s) (child_pats_of s p))) ∙ sym (pats_is s fall p h)
 
-  pub pats_of_turns : (p : ℕ) → p < length s.pats → flat_map entered (turns s p) ≡ pats s p
+  pub pats_of_turns : (p : ℕ) → p < length s.pats → flat_map entered_pat (turns s p) ≡ pats s p
   pats_of_turns p h = pats_given (suc (rank s (node.Pat p))) p h (omega arith)
 
-  pub bindings_of_turns : (p : ℕ) → p < length s.pats → flat_map (λ t. flat_map (bindings_at s) (entered t)) (turns s p) ≡ bindings_in s p
-  bindings_of_turns p h = sym (flat_map-twice (bindings_at s) entered (turns s p)) ∙ ap (flat_map (bindings_at s)) (pats_of_turns p h)
+  pub bindings_of_turns : (p : ℕ) → p < length s.pats → flat_map (λ t. flat_map (bindings_at s) (entered_pat t)) (turns s p) ≡ bindings_in s p
+  bindings_of_turns p h = sym (flat_map-twice (bindings_at s) entered_pat (turns s p)) ∙ ap (flat_map (bindings_at s)) (pats_of_turns p h)
 
   exprs_given : (d p : ℕ) → p < length s.pats → rank s (node.Pat p) < d → flat_map (exprs_left s) (turns s p) ≡ exprs_in s p
   exprs_given zero p h lt = absurd (omega arith)

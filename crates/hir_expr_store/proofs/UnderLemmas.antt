@@ -15,10 +15,10 @@ use Rattle.hir_faults.specs.declared.sizes.Sizes.{Sizes}
 use Rattle.hir_faults.specs.Sizes.{HasNode, place}
 use Rattle.hir_forest.specs.Parents.{HasParent, HasParents}
 use Rattle.hir_faults.specs.Nodes.{Nodes, sizes_of, Has, kids_of, graph}
-use Rattle.hir_faults.specs.Faults.{Rooted, rooted_fault}
+use Rattle.hir_faults.specs.Faults.{RootedNodes, rooted_fault}
 use Rattle.hir_faults.specs.Down.{KidsFall}
 use Rattle.hir_expr_store.specs.Under.{Under, itself, below, LiesUnderOther}
-use Rattle.hir_expr_store.specs.NodeSets.{Marked, Gains, NoKidIn}
+use Rattle.hir_expr_store.specs.NodeSets.{MarkedNodes, Gains, NoKidIn}
 use Rattle.hir_faults.proofs.FaultLemmas.{accepted_forest, graph-length}
 use Rattle.hir_faults.proofs.SoundLemmas.{place_within, row_at_place, kid_in_graph, sound_falls}
 
@@ -46,7 +46,7 @@ node_here z q h =
     ]
 
 -- one node more
-pub gains : (old : Marked) (n : NodeId) (at : ℕ) → at ≡ place old.sizes n → HasNode old.sizes n → length old.marks ≡ old.sizes.exprs + old.sizes.pats + old.sizes.types
+pub gains : (old : MarkedNodes) (n : NodeId) (at : ℕ) → at ≡ place old.sizes n → HasNode old.sizes n → length old.marks ≡ old.sizes.exprs + old.sizes.pats + old.sizes.types
     → Gains old n record old { marks = set old.marks at true }
 gains old n at is h len = record {
   sizes = refl;
@@ -105,13 +105,13 @@ no_kid_right s marks parents known = (
 )
 
 -- the answer of the test
-pub no_kid_told : (s : Nodes) (set : Marked) (marks : List Bool) (parents : List (Option ℕ)) (none : Bool) → marks ≡ set.marks → set.sizes ≡ sizes_of s → HasParents (graph s) parents
+pub no_kid_told : (s : Nodes) (set : MarkedNodes) (marks : List Bool) (parents : List (Option ℕ)) (none : Bool) → marks ≡ set.marks → set.sizes ≡ sizes_of s → HasParents (graph s) parents
     → IsTrue none ↔ ((c p : ℕ) → Marks marks c → HasParent parents c p → ⊥) → IsTrue none ↔ NoKidIn s set
 no_kid_told s set marks parents none same sizes known is =
     let right : ((c p : ℕ) → Marks marks c → HasParent parents c p → ⊥) ↔ NoKidIn s set = rw (same, sizes) (no_kid_right s set.marks parents known) in
     (λ t. right.0 (is.0 t), λ no. is.1 (right.1 no))
 
-module _ (c : Rooted) (sound : rooted_fault c None) where
+module _ (c : RootedNodes) (sound : rooted_fault c None) where
   abbrev s : Nodes
   s = c.nodes
 

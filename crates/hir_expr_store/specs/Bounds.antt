@@ -6,7 +6,7 @@ use Rattle.hir_path.specs.declared.bound.TypeBound.{TypeBound}
 use Rattle.hir_path.specs.declared.bound.TypeBound.TheVariants as bound
 use Rattle.hir_path.specs.declared.bound.TraitBoundModifier.{TraitBoundModifier}
 use Rattle.hir_path.specs.declared.bound.TraitBoundModifier.TheVariants as modifier
-use Rattle.hir_faults.specs.Tested.{path_at, is_path_at, bound_paths}
+use Rattle.hir_faults.specs.TestedParts.{path_at, is_path_at, bound_paths}
 use Rattle.hir_faults.specs.Nodes.{Nodes}
 
 -- the path that a bound names, with its modifier; after `for<..>` it has none

@@ -4,9 +4,9 @@ use Rattle.hir_forest.specs.declared.roots.Root.{Root}
 use Rattle.hir_faults.specs.declared.fault.FinishFault.{FinishFault}
 use Rattle.hir_forest.specs.Parents.{HasParents}
 use Rattle.hir_faults.specs.Nodes.{Nodes, graph}
-use Rattle.hir_faults.specs.Faults.{Rooted, rooted_fault}
+use Rattle.hir_faults.specs.Faults.{RootedNodes, rooted_fault}
 use Rattle.hir_expr_store.specs.declared.side_tables.SideTables.{SideTables}
-use Rattle.hir_expr_store.specs.declared.kept.Kept.{Kept}
+use Rattle.hir_expr_store.specs.declared.kept_parts.KeptParts.{KeptParts}
 use Rattle.hir_expr_store.specs.SideTables.{no_side_tables}
 use Rattle.hir_expr_store.specs.PatLinks.{HasPatLinks}
 
@@ -24,7 +24,7 @@ abbrev pub no_contents : Contents
 no_contents = record { nodes = no_nodes; roots = []; side_tables = no_side_tables }
 
 -- without the side tables
-abbrev pub rooted_of : Contents → Rooted
+abbrev pub rooted_of : Contents → RootedNodes
 rooted_of c = record { nodes = c.nodes; roots = c.roots }
 
 -- the first fault: the side tables have none
@@ -32,7 +32,7 @@ abbrev pub contents_fault : Contents → Option FinishFault → Type 0
 contents_fault c = rooted_fault (rooted_of c)
 
 -- the contents have no fault, and what is kept are the parents of the nodes, by their places in the row, and the links of the patterns
-pub record IsStore (c : Contents) (kept : Kept) : Type 0 where
+pub record IsStore (c : Contents) (kept : KeptParts) : Type 0 where
   pub sound : contents_fault c None
   pub parents : HasParents (graph c.nodes) kept.parents.parents
   pub links : HasPatLinks c.nodes.pats kept.links

@@ -1,6 +1,6 @@
 pub mod SideTables
 pub mod Blocks
-pub mod Kept
+pub mod KeptParts
 pub mod Contents
 pub mod MissingTexts
 pub mod StoreParts

@@ -7,19 +7,19 @@ use Rattle.hir_faults.specs.Sizes.{HasNode, place}
 use Rattle.hir_faults.specs.Nodes.{Nodes, Has, kids_of}
 
 -- how many nodes there are, and a mark for each, in the order of the row
-pub record Marked : Type 0 where
+pub record MarkedNodes : Type 0 where
   pub sizes : Sizes
   pub marks : List Bool
 
 -- the node is in the set
-abbrev pub IsIn : Marked → NodeId → Type 0
+abbrev pub IsIn : MarkedNodes → NodeId → Type 0
 IsIn set n = Marks set.marks (place set.sizes n)
 
 -- this node is added to the set, and no other
-pub record Gains (old : Marked) (added : NodeId) (new : Marked) : Type 0 where
+pub record Gains (old : MarkedNodes) (added : NodeId) (new : MarkedNodes) : Type 0 where
   pub sizes : new.sizes ≡ old.sizes
   pub members : (n : NodeId) → HasNode old.sizes n → IsIn new n ↔ (IsIn old n ⊎ (n ≡ added))
 
 -- no kid of a node is in the set
-abbrev pub NoKidIn : Nodes → Marked → Type 0
+abbrev pub NoKidIn : Nodes → MarkedNodes → Type 0
 NoKidIn s set = (m n : NodeId) → Has s m → Contains (kids_of s m) n → IsIn set n → ⊥

@@ -27,10 +27,10 @@ abbrev pub link_at : List PatLink → ℕ → PatLink
 link_at links p = slice_index_or links p Alone
 
 -- the links with those of the children of a pattern
-abbrev pub linked : ℕ → List ℕ → List PatLink → List PatLink
-linked m [] links = links
-linked m (k ∷ []) links = set links k (Last m)
-linked m (k ∷ q ∷ more) links = linked m (q ∷ more) (set links k (Next q))
+abbrev pub link_children : ℕ → List ℕ → List PatLink → List PatLink
+link_children m [] links = links
+link_children m (k ∷ []) links = set links k (Last m)
+link_children m (k ∷ q ∷ more) links = link_children m (q ∷ more) (set links k (Next q))
 
 -- each of these children of a pattern is linked to the next one, and the last one to the pattern
 abbrev pub AreLinked : List PatLink → ℕ → List ℕ → Type 0

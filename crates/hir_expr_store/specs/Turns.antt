@@ -29,9 +29,9 @@ unfoldable pub turns : Nodes → ℕ → List Turn
 turns s p = value s (turns_step s) [] (node.Pat p)
 
 -- the pattern, where it is entered
-abbrev pub entered : Turn → List ℕ
-entered (Enter p) = p ∷ []
-entered (Leave p) = []
+abbrev pub entered_pat : Turn → List ℕ
+entered_pat (Enter p) = p ∷ []
+entered_pat (Leave p) = []
 
 -- the expressions that a pattern itself has, where it is left
 abbrev pub exprs_left : Nodes → Turn → List ℕ

@@ -20,8 +20,8 @@ LieApart s tops = (i j : ℕ) (a b n : NodeId) → i < j → slice_get tops i �
     → Under s n a → Under s n b → ⊥
 
 -- the node is *reached* from these: it is under one of them
-abbrev pub Reached : Nodes → List NodeId → NodeId → Type 0
-Reached s tops n = (t : NodeId) × Contains tops t × Under s n t
+abbrev pub IsReached : Nodes → List NodeId → NodeId → Type 0
+IsReached s tops n = (t : NodeId) × Contains tops t × Under s n t
 
 -- a node, and then what lies under each of its kids
 abbrev pub nodes_step : Nodes → (NodeId → List NodeId) → NodeId → List NodeId

@@ -26,14 +26,14 @@ ghost use Rattle.hir_node.specs.declared.pat.RecordFieldPat.{RecordFieldPat};
 ghost use Rattle.hir_node.specs.declared.type_ref.TypeRef.{TypeRef};
 ghost use Rattle.hir_node.specs.declared.type_ref.TypeRef.TheVariants as type;
 ghost use Rattle.hir_node.specs.ChildCalls.{arg_calls};
-ghost use Rattle.hir_faults.specs.Tested.{tested_expr, tested_pat, tested_type, is_path_at};
+ghost use Rattle.hir_faults.specs.TestedParts.{tested_expr, tested_pat, tested_type, is_path_at};
 ghost use Rattle.hir_faults.specs.Sizes.{is_there};
 ghost use Rattle.hir_faults.specs.Nodes.{Nodes, Has, sizes_of, calls_of, kids_of, graph};
 ghost use Rattle.hir_expr_store.specs.Contents.{Contents, rooted_of, contents_fault};
 ghost use Rattle.hir_faults.specs.Fits.{path_fits, args_fit, bound_fits};
 ghost use Rattle.hir_faults.specs.Sound.{IsSoundNode, RootsStandApart};
 ghost use Rattle.hir_faults.specs.Down.{rank, KidsFall, value, AsksKids};
-ghost use Rattle.hir_expr_store.specs.Under.{Under, LieApart, Reached, nodes_under, reached_nodes};
+ghost use Rattle.hir_expr_store.specs.Under.{Under, LieApart, IsReached, nodes_under, reached_nodes};
 ghost use Rattle.hir_expr_store.specs.Bounds.{BoundFits};
 ghost use Rattle.hir_expr_store.specs.PatLists.{child_pats_of, pats, bindings_at, bindings_in, exprs_from, exprs_in};
 
@@ -147,7 +147,7 @@ pub fn nodes_under_is()
 /// The reached nodes are listed, and no others. Sums and counts over what is reached are stated by this list.
 pub fn reached_is_listed()
     ensures { (c : Contents) → contents_fault c None → (tops : List NodeId) (n : NodeId)
-        → Contains (reached_nodes c.nodes tops) n ↔ Reached c.nodes tops n }
+        → Contains (reached_nodes c.nodes tops) n ↔ IsReached c.nodes tops n }
 {}
 
 /// No reached node is listed twice, where nothing lies under two of the tops.
@@ -159,20 +159,20 @@ pub fn reached_is_listed_once()
 /// Each node is reached or it isn't.
 pub fn reached_is_decided()
     ensures { (c : Contents) → contents_fault c None → (tops : List NodeId) (n : NodeId)
-        → Reached c.nodes tops n ⊎ (Reached c.nodes tops n → ⊥) }
+        → IsReached c.nodes tops n ⊎ (IsReached c.nodes tops n → ⊥) }
 {}
 
 /// What is reached from nodes that are there is there.
 pub fn what_is_reached_is_there()
     ensures { (c : Contents) → contents_fault c None → (tops : List NodeId)
-        → ((t : NodeId) → Contains tops t → Has c.nodes t) → (n : NodeId) → Reached c.nodes tops n
+        → ((t : NodeId) → Contains tops t → Has c.nodes t) → (n : NodeId) → IsReached c.nodes tops n
         → Has c.nodes n }
 {}
 
 /// A kid of what is reached is reached. This holds of any nodes.
 pub fn kids_of_reached_are_reached()
-    ensures { (s : Nodes) (tops : List NodeId) (n k : NodeId) → Reached s tops n → Contains (kids_of s n) k
-        → Reached s tops k }
+    ensures { (s : Nodes) (tops : List NodeId) (n k : NodeId) → IsReached s tops n → Contains (kids_of s n) k
+        → IsReached s tops k }
 {}
 
 /// Only a node that is there has kids. This holds of any nodes.

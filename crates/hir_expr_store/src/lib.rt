@@ -6,7 +6,7 @@ mod blocks;
 mod both;
 mod bounds;
 mod coroutines;
-mod kept;
+mod kept_parts;
 pub mod laws;
 mod lookups;
 mod missing;
@@ -27,7 +27,7 @@ mod walks;
 
 pub use blocks::Blocks;
 pub use bounds::TypeBoundExt;
-pub use kept::Kept;
+pub use kept_parts::KeptParts;
 pub use missing::Missing;
 pub use pat_links::PatLinks;
 pub use root_list::RootList;

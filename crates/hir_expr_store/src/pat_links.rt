@@ -2,7 +2,7 @@
 
 ghost use Rattle.std.specs.Prelude.{◌≡◌, ◌<◌, ◌≤◌, [], All, length, IfOk};
 ghost use Rattle.hir_node.specs.ChildCalls.{child_pats};
-ghost use Rattle.hir_expr_store.specs.PatLinks.{link_at, linked, HasPatLinks, EachHasOnePlace};
+ghost use Rattle.hir_expr_store.specs.PatLinks.{link_at, link_children, HasPatLinks, EachHasOnePlace};
 
 use hir_node::{Pat, PatId};
 use std::alloc::{AllocError, Global};
@@ -81,7 +81,7 @@ fn link_all(links: &mut [PatLink], pats: &[Pat])
 /// Links the children of a pattern: each to the next one, and the last one to the pattern.
 fn link_children(links: &mut [PatLink], parent: PatId, pat: &Pat)
     requires { All (λ c. c < length links.old) (child_pats pat.now) }
-    ensures { links.new ≡ linked parent (child_pats pat.now) links.old }
+    ensures { links.new ≡ link_children parent (child_pats pat.now) links.old }
 {
     let mut children = pat.child_pats();
     let Some(first) = children.next() else {

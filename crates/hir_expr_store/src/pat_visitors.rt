@@ -8,7 +8,7 @@ ghost use Rattle.hir_node.specs.declared.node_id.NodeId.TheVariants as node;
 ghost use Rattle.hir_faults.specs.Nodes.{calls_of};
 ghost use Rattle.hir_expr_store.specs.PatLists.{bindings_at, own_exprs};
 ghost use Rattle.hir_expr_store.specs.Tries.{Tries};
-ghost use Rattle.hir_expr_store.specs.Turns.{pat_of, entered, exprs_left};
+ghost use Rattle.hir_expr_store.specs.Turns.{pat_of, entered_pat, exprs_left};
 
 use crate::own_exprs::OwnExprs;
 use crate::store::ExpressionStore;
@@ -17,14 +17,14 @@ use hir_node::{BindingId, ExprId, Pat, PatId};
 
 /// Runs a closure on each pattern that is entered.
 #[derive(Drop)]
-pub(crate) struct Entered<'f, F> {
+pub(crate) struct PatVisitor<'f, F> {
     pub(crate) f: &'f mut F,
 }
 
-impl<E, F: FnMut(PatId) -> Result<(), E>> TurnVisitor<E> for Entered<'_, F> {
+impl<E, F: FnMut(PatId) -> Result<(), E>> TurnVisitor<E> for PatVisitor<'_, F> {
     ghost may = { λ v t. F.IsAlwaysCallable v.f.now };
 
-    ghost step = { λ v t r w. Tries F.step v.f.now (entered t) r w.f.now
+    ghost step = { λ v t r w. Tries F.step v.f.now (entered_pat t) r w.f.now
         × F.IsAlwaysCallable w.f.now
         × (w.f.ghost_name ≡ v.f.ghost_name) };
 
@@ -39,16 +39,16 @@ impl<E, F: FnMut(PatId) -> Result<(), E>> TurnVisitor<E> for Entered<'_, F> {
 
 /// Runs a closure on the binding of each pattern that is entered.
 #[derive(Drop)]
-pub(crate) struct BindingsEntered<'s, 'f, F> {
+pub(crate) struct BindingVisitor<'s, 'f, F> {
     pub(crate) store: &'s ExpressionStore,
     pub(crate) f: &'f mut F,
 }
 
-impl<E, F: FnMut(BindingId) -> Result<(), E>> TurnVisitor<E> for BindingsEntered<'_, '_, F> {
+impl<E, F: FnMut(BindingId) -> Result<(), E>> TurnVisitor<E> for BindingVisitor<'_, '_, F> {
     ghost may = { λ v t. F.IsAlwaysCallable v.f.now × (pat_of t < length v.store.now.nodes.pats) };
 
     ghost step = { λ v t r w. Tries F.step v.f.now
-        (flat_map (bindings_at v.store.now.nodes) (entered t)) r w.f.now
+        (flat_map (bindings_at v.store.now.nodes) (entered_pat t)) r w.f.now
         × F.IsAlwaysCallable w.f.now
         × (w.store ≡ v.store)
         × (w.f.ghost_name ≡ v.f.ghost_name) };

@@ -3,13 +3,13 @@
 ghost use Rattle.std.specs.Prelude.{◌≡◌, ◌<◌, ◌↔◌, None, Some, IfSome, length, slice_get, IsTrue};
 ghost use Rattle.std.specs.List.{enumerate_from, list_all};
 ghost use Rattle.hir_forest.specs.Faults.{root_nodes};
-ghost use Rattle.hir_faults.specs.Tested.{bound_paths, is_path_at, path_at};
+ghost use Rattle.hir_faults.specs.TestedParts.{bound_paths, is_path_at, path_at};
 ghost use Rattle.hir_faults.specs.Sizes.{is_there};
 ghost use Rattle.hir_node.specs.ChildCalls.{bound_calls};
 ghost use Rattle.hir_faults.specs.Fits.{path_fits};
 
 use crate::both::both;
-use crate::kept::Kept;
+use crate::kept_parts::KeptParts;
 use crate::root_list::RootList;
 use crate::side_tables::SideTables;
 use crate::store_iter::ExprRoots;
@@ -38,7 +38,7 @@ pub struct ExpressionStore {
     lifetimes: Arena<LifetimeRefKind, LifetimeRef>,
     roots: RootList,
     side_tables: SideTables,
-    kept: Rare<Kept>,
+    kept: Rare<KeptParts>,
 }
 
 /// Drops its parts one after the other. It is here so that it is proved once, and is a call wherever a value is dropped.
@@ -107,7 +107,7 @@ pub struct StoreParts {
     pub lifetimes: Arena<LifetimeRefKind, LifetimeRef>,
     pub roots: RootList,
     pub side_tables: SideTables,
-    pub kept: Rare<Kept>,
+    pub kept: Rare<KeptParts>,
 }
 
 impl ExpressionStore {
@@ -211,7 +211,7 @@ impl ExpressionStore {
     }
 
     /// What is kept, where there is a node.
-    pub(crate) fn kept(&self) -> Option<&Kept>
+    pub(crate) fn kept_parts(&self) -> Option<&KeptParts>
         ensures parents { IfSome result (λ kept. HasParents (graph self.now.nodes) kept.now.parents.parents) }
         ensures links { IfSome result (λ kept. HasPatLinks self.now.nodes.pats kept.now.links) }
         ensures none { result ≡ None → length (graph self.now.nodes) ≡ 0 }

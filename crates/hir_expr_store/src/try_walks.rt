@@ -9,7 +9,7 @@ ghost use Rattle.hir_expr_store.specs.PatLists.{pats, bindings_in, exprs_from, e
 ghost use Rattle.hir_expr_store.specs.Tries.{Tries, TriesAfter};
 
 use crate::own_exprs::OwnExprs;
-use crate::pat_visitors::{BindingsEntered, Entered, ExprsLeft};
+use crate::pat_visitors::{BindingVisitor, ExprsLeft, PatVisitor};
 use crate::store::ExpressionStore;
 use hir_node::{BindingId, ExprId, LifetimeRefId, PatId, StoreVisitor, TypeRefId};
 
@@ -26,7 +26,7 @@ impl ExpressionStore {
         ensures callable { F.IsAlwaysCallable f.new }
     {
         self.has_no_fault();
-        let mut entered = Entered { f: &mut *f };
+        let mut entered = PatVisitor { f: &mut *f };
         self.walk_turns(id, &mut entered)
     }
 
@@ -42,7 +42,7 @@ impl ExpressionStore {
         ensures callable { F.IsAlwaysCallable f.new }
     {
         self.has_no_fault();
-        let mut entered = BindingsEntered {
+        let mut entered = BindingVisitor {
             store: self,
             f: &mut *f,
         };

@@ -95,7 +95,7 @@ impl ExpressionStore {
         requires may { MayRun V.may (λ v t w. V.step v t (Ok tt) w) visitor.old (turns self.now.nodes top) }
         ensures { Tries V.step visitor.old (turns self.now.nodes top) result visitor.new }
     {
-        match self.kept() {
+        match self.kept_parts() {
             Some(kept) => self.walk_by(&kept.links, top, visitor),
             None => Ok(()),
         }

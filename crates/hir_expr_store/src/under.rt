@@ -22,9 +22,9 @@ pub struct NodeSet {
 
 impl Model for NodeSet {
     ghost use Rattle.std.specs.Prelude.{◌≡◌, ◌+◌, length};
-    ghost use Rattle.hir_expr_store.specs.NodeSets.{Marked};
+    ghost use Rattle.hir_expr_store.specs.NodeSets.{MarkedNodes};
 
-    ghost Value = { Marked };
+    ghost Value = { MarkedNodes };
 
     ghost view = { λ s. record { sizes = s.sizes; marks = s.marks.items } };
 
@@ -90,7 +90,7 @@ impl ExpressionStore {
         ensures { IsTrue result ↔ NoKidIn self.now.nodes set.now }
     {
         self.has_no_fault();
-        match self.kept() {
+        match self.kept_parts() {
             Some(kept) => kept.parents.marked_have_none(set.marks.as_slice()),
             None => true,
         }
@@ -107,7 +107,7 @@ impl ExpressionStore {
             → IsIn found n ↔ LiesUnderOther self.now.nodes (IsIn tops.now) n) }
     {
         self.has_no_fault();
-        let Some(kept) = self.kept() else {
+        let Some(kept) = self.kept_parts() else {
             return self.no_nodes(alloc);
         };
         let marks = kept.parents.under_marked(alloc, tops.marks.as_slice())?;

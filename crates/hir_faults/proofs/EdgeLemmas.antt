@@ -14,9 +14,9 @@ use Rattle.hir_node.specs.Runs.{Runs, no_call, a_call, MayRun, at_end, at_call}
 use Rattle.hir_faults.specs.declared.edges.EdgeVisitor.{EdgeVisitor}
 use Rattle.hir_faults.specs.declared.sizes.Sizes.{Sizes}
 use Rattle.hir_faults.specs.Sizes.{Few, is_there, place, places}
-use Rattle.hir_faults.specs.Tested.{Tested, tested_expr, tested_pat, tested_type}
+use Rattle.hir_faults.specs.TestedParts.{TestedParts, tested_expr, tested_pat, tested_type}
 use Rattle.hir_faults.specs.Nodes.{Nodes, sizes_of, graph}
-use Rattle.hir_faults.specs.Edges.{HasRoom, CanNote, Noted, Notes, CanVisit, Visited, all_tested}
+use Rattle.hir_faults.specs.Edges.{HasRoom, CanNote, NotesIds, Notes, CanVisit, VisitsNodes, all_tested}
 use Rattle.hir_faults.proofs.RangeLemmas.{and_true, and_assoc}
 use Rattle.hir_faults.proofs.FaultLemmas.{map-map, graph-is}
 
@@ -25,7 +25,7 @@ and_false true = refl
 and_false false = refl
 
 -- nothing more
-pub noted_none : (v : EdgeVisitor) → Noted v true [] v
+pub noted_none : (v : EdgeVisitor) → NotesIds v true [] v
 noted_none v = record {
   sizes = refl;
   room = refl;
@@ -35,7 +35,7 @@ noted_none v = record {
 }
 
 -- in two parts
-pub noted_both : (u v w : EdgeVisitor) (a b : Bool) (xs ys : List ℕ) → Noted u a xs v → Noted v b ys w → Noted u (a && b) (xs ++ ys) w
+pub noted_both : (u v w : EdgeVisitor) (a b : Bool) (xs ys : List ℕ) → NotesIds u a xs v → NotesIds v b ys w → NotesIds u (a && b) (xs ++ ys) w
 noted_both u v w a b xs ys p q = record {
   sizes = q.sizes ∙ p.sizes;
   room = q.room ∙ p.room;
@@ -52,11 +52,11 @@ places_more sizes c calls =
     ∙ sym (map-append (place sizes) (kid c) (kids calls))
 
 -- each call is noted
-pub noted_all : {v w : EdgeVisitor} {calls : List Call} → Runs Notes v calls w → Noted v (list_all (is_there v.sizes) calls) (places v.sizes calls) w
+pub noted_all : {v w : EdgeVisitor} {calls : List Call} → Runs Notes v calls w → NotesIds v (list_all (is_there v.sizes) calls) (places v.sizes calls) w
 noted_all {v} no_call = noted_none v
 noted_all {v} {w} (a_call {v = x} {c} {cs} s rest) =
-    let more : Noted x (list_all (is_there v.sizes) cs) (places v.sizes cs) w = subst (λ (z : Sizes). Noted x (list_all (is_there z) cs) (places z cs) w) s.sizes (noted_all rest) in
-    subst (λ (ps : List ℕ). Noted v (list_all (is_there v.sizes) (c ∷ cs)) ps w) (places_more v.sizes c cs)
+    let more : NotesIds x (list_all (is_there v.sizes) cs) (places v.sizes cs) w = subst (λ (z : Sizes). NotesIds x (list_all (is_there z) cs) (places z cs) w) s.sizes (noted_all rest) in
+    subst (λ (ps : List ℕ). NotesIds v (list_all (is_there v.sizes) (c ∷ cs)) ps w) (places_more v.sizes c cs)
     (noted_both v x w (is_there v.sizes c) (list_all (is_there v.sizes) cs) (places v.sizes (c ∷ [])) (places v.sizes cs) s more)
 
 -- there stays room and a row
@@ -66,7 +66,7 @@ room_still v w sizes room has = record {
   nodes = room ∙ has.nodes ∙ ap (λ (z : Sizes). z.exprs + z.pats + z.types) (sym sizes);
 }
 
-can_still : (v w : EdgeVisitor) (there : Bool) (kids : List ℕ) → CanNote v → Noted v there kids w → CanNote w
+can_still : (v w : EdgeVisitor) (there : Bool) (kids : List ℕ) → CanNote v → NotesIds v there kids w → CanNote w
 can_still v w there kids can p = (room_still v w p.sizes p.room can.0, let some = can.1 in let rows = p.rows in omega arith)
 
 pub may_note : (may : EdgeVisitor → Call → Type 0) → ((v : EdgeVisitor) (c : Call) → CanNote v → may v c) → (calls : List Call) (v : EdgeVisitor) → CanNote v → MayRun may Notes v calls
@@ -74,10 +74,10 @@ may_note may can [] v h = at_end
 may_note may can (c ∷ calls) v h = at_call (can v c h) (λ w s. may_note may can calls w (can_still v w (is_there v.sizes c) (places v.sizes (c ∷ [])) h s))
 
 -- a row is begun for a node, and its calls are noted
-pub visited_one : (v b w : EdgeVisitor) (x : Tested) → IsTrue v.all_there
+pub visited_one : (v b w : EdgeVisitor) (x : TestedParts) → IsTrue v.all_there
     → b.sizes ≡ v.sizes → b.all_there ≡ v.all_there → b.parents.rows ≡ v.parents.rows + 1 → length b.parents.parents ≡ length v.parents.parents
     → ((g : List (List ℕ)) → IsParentageOf g v.parents → IsParentageOf (g ++ [] ∷ []) b.parents)
-    → Noted b (list_all (is_there v.sizes) x.calls) (places v.sizes x.calls) w → IsTrue w.all_there → Visited v (x ∷ []) w
+    → NotesIds b (list_all (is_there v.sizes) x.calls) (places v.sizes x.calls) w → IsTrue w.all_there → VisitsNodes v (x ∷ []) w
 visited_one v b w x good sizes same rows room begun p t = record {
   sizes = p.sizes ∙ sizes;
   room = p.room ∙ room;
@@ -87,7 +87,7 @@ visited_one v b w x good sizes same rows room begun p t = record {
 }
 
 -- visits in two parts
-pub visited_none : (v : EdgeVisitor) → IsTrue v.all_there → Visited v [] v
+pub visited_none : (v : EdgeVisitor) → IsTrue v.all_there → VisitsNodes v [] v
 visited_none v t = record {
   sizes = refl;
   room = refl;
@@ -96,14 +96,14 @@ visited_none v t = record {
   kids = λ g h. subst (λ (more : List (List ℕ)). IsParentageOf more v.parents) (sym (append-nil g)) h;
 }
 
-pub visited_both : (u v w : EdgeVisitor) (xs ys : List Tested) → Visited u xs v → Visited v ys w → Visited u (xs ++ ys) w
+pub visited_both : (u v w : EdgeVisitor) (xs ys : List TestedParts) → VisitsNodes u xs v → VisitsNodes v ys w → VisitsNodes u (xs ++ ys) w
 visited_both u v w xs ys p q = record {
   sizes = q.sizes ∙ p.sizes;
   room = q.room ∙ p.room;
   rows = omega (arith, p.rows, q.rows, length-append xs ys);
   there = q.there;
   kids = λ g h.
-      let row : Sizes → Tested → List ℕ = λ z x. places z x.calls in
+      let row : Sizes → TestedParts → List ℕ = λ z x. places z x.calls in
       let first = p.kids g h in
       let second : IsParentageOf ((g ++ map (row u.sizes) xs) ++ map (row u.sizes) ys) w.parents =
       subst (λ (z : Sizes). IsParentageOf ((g ++ map (row u.sizes) xs) ++ map (row z) ys) w.parents) p.sizes (q.kids (g ++ map (row u.sizes) xs) first) in
@@ -111,7 +111,7 @@ visited_both u v w xs ys p q = record {
 }
 
 -- there is room for those that are left
-pub can_visit_on : (v w : EdgeVisitor) (xs : List Tested) (n m : ℕ) → CanVisit v n → Visited v xs w → length xs + m ≤ n → CanVisit w m
+pub can_visit_on : (v w : EdgeVisitor) (xs : List TestedParts) (n m : ℕ) → CanVisit v n → VisitsNodes v xs w → length xs + m ≤ n → CanVisit w m
 can_visit_on v w xs n m can p le = record {
   room = room_still v w p.sizes p.room can.room;
   there = p.there;
@@ -136,7 +136,7 @@ pub type_within : (v : EdgeVisitor) → CanNote v → (n : ℕ) → IsTrue (nat_
 type_within v can n t = let lt = ltb-true n v.sizes.types t in omega (arith, can.0.nodes)
 
 -- nothing but a test
-pub noted_test : (v w : EdgeVisitor) (b : Bool) → w.sizes ≡ v.sizes → w.parents ≡ v.parents → w.all_there ≡ (v.all_there && b) → Noted v b [] w
+pub noted_test : (v w : EdgeVisitor) (b : Bool) → w.sizes ≡ v.sizes → w.parents ≡ v.parents → w.all_there ≡ (v.all_there && b) → NotesIds v b [] w
 noted_test v w b sizes parents there = record {
   sizes = sizes;
   room = ap (λ (t : Parentage). length t.parents) parents;
@@ -148,7 +148,7 @@ noted_test v w b sizes parents there = record {
 -- the rows of all nodes are the graph
 pub all_rows : (s : Nodes) → map (λ x. places (sizes_of s) x.calls) (all_tested s) ≡ graph s
 all_rows s =
-    let row : Tested → List ℕ = λ x. places (sizes_of s) x.calls in
+    let row : TestedParts → List ℕ = λ x. places (sizes_of s) x.calls in
     map-append row (map tested_expr s.exprs ++ map tested_pat s.pats) (map tested_type s.types)
     ∙ (rw (
       map-append row (map tested_expr s.exprs) (map tested_pat s.pats),
@@ -161,8 +161,8 @@ pub all_count : (s : Nodes) → length (all_tested s) ≡ length s.exprs + lengt
 all_count s = rw (length-append, length-append, length-map, length-map, length-map) refl
 
 -- one node more
-pub tested_more : {X : Type 0} (parts : X → Tested) (xs : List X) (i : ℕ) (x : X) → i < length xs → x ≡ get_or xs i x → map parts (take i xs) ++ parts x ∷ [] ≡ map parts (take (i + 1) xs)
-tested_more parts xs i x lt is = ap (λ (y : Tested). map parts (take i xs) ++ y ∷ []) (ap parts is) ∙ sym (map_more parts xs i x lt)
+pub tested_more : {X : Type 0} (parts : X → TestedParts) (xs : List X) (i : ℕ) (x : X) → i < length xs → x ≡ get_or xs i x → map parts (take i xs) ++ parts x ∷ [] ≡ map parts (take (i + 1) xs)
+tested_more parts xs i x lt is = ap (λ (y : TestedParts). map parts (take i xs) ++ y ∷ []) (ap parts is) ∙ sym (map_more parts xs i x lt)
 
 pub if_none_so : {X : Type 0} (o : Option X) (P Q : Type 0) → (P → Q) → IfNone o P → IfNone o Q
 if_none_so None P Q f p = f p

@@ -15,12 +15,12 @@ use Rattle.hir_faults.specs.declared.sizes.Sizes.{Sizes}
 use Rattle.hir_node.specs.declared.node_id.NodeId.{NodeId}
 use Rattle.hir_node.specs.declared.node_id.NodeId.TheVariants as node
 use Rattle.hir_faults.specs.Sizes.{is_there, place, places}
-use Rattle.hir_faults.specs.Tested.{Tested, tested_expr, tested_pat, tested_type, names_there}
+use Rattle.hir_faults.specs.TestedParts.{TestedParts, tested_expr, tested_pat, tested_type, names_there}
 use Rattle.hir_faults.specs.Nodes.{Nodes, sizes_of, graph}
-use Rattle.hir_faults.specs.Faults.{Rooted, node_fault, nothing_tested, first_of, first_bad_node, graph_fault, rooted_fault, ends_of}
+use Rattle.hir_faults.specs.Faults.{RootedNodes, node_fault, nothing_tested, first_of, first_bad_node, graph_fault, rooted_fault, ends_of}
 
 -- a node without a fault names what is there
-ids_are_there : (sizes : Sizes) (types : List TypeRef) (id : NodeId) (x : Tested) → node_fault sizes types id x None → names_there sizes x ≡ true
+ids_are_there : (sizes : Sizes) (types : List TypeRef) (id : NodeId) (x : TestedParts) → node_fault sizes types id x None → names_there sizes x ≡ true
 unfolding node_fault
 ids_are_there sizes types id x h = h.0
 
@@ -51,13 +51,13 @@ module _ (sizes : Sizes) where
       rw (map-append (place sizes) (kid c) (kids calls))
       (All-append In (map (place sizes) (kid c)) (places sizes calls) (call_below c (first_so _ _ h)) (calls_below calls (second_so _ _ h)))
 
-  parts_below : (parts : List Tested) → ((i : ℕ) → i < length parts → names_there sizes (get_or parts i nothing_tested) ≡ true)
+  parts_below : (parts : List TestedParts) → ((i : ℕ) → i < length parts → names_there sizes (get_or parts i nothing_tested) ≡ true)
       → All In (concat (map (λ x. places sizes x.calls) parts))
   parts_below [] h = All-nil In
   parts_below (x ∷ parts) h =
       All-append In (places sizes x.calls) (concat (map (λ x. places sizes x.calls) parts)) (calls_below x.calls (first_so _ _ (first_so _ _ (h 0 (omega arith))))) (parts_below parts (λ i lt. h (suc i) (omega arith)))
 
-of_sort : (sizes : Sizes) (types : List TypeRef) (name : ℕ → NodeId) (parts : List Tested) → first_of sizes types name parts None
+of_sort : (sizes : Sizes) (types : List TypeRef) (name : ℕ → NodeId) (parts : List TestedParts) → first_of sizes types name parts None
     → All (λ n. n < sizes.exprs + sizes.pats + sizes.types) (concat (map (λ x. places sizes x.calls) parts))
 of_sort sizes types name parts h = parts_below sizes parts (λ i lt. ids_are_there sizes types (name i) (get_or parts i nothing_tested) (h i lt))
 
@@ -96,6 +96,6 @@ kids_there s h =
     rw (graph-length s, graph-is s, concat-append, concat-append) (All-append below _ _ (All-append below _ _ exprs pats) types)
 
 -- nodes without a fault are a forest
-pub accepted_forest : (c : Rooted) → rooted_fault c None → IsForest (graph c.nodes)
+pub accepted_forest : (c : RootedNodes) → rooted_fault c None → IsForest (graph c.nodes)
 unfolding rooted_fault graph_fault
 accepted_forest c h = forest_from_none (graph c.nodes) (ends_of c.nodes) c.roots (kids_there c.nodes h.0) h.1

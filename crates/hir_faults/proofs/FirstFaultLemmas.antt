@@ -12,15 +12,15 @@ use Rattle.hir_node.specs.declared.node_id.NodeId.{NodeId}
 use Rattle.hir_node.specs.declared.node_id.NodeId.TheVariants as node
 use Rattle.hir_faults.specs.declared.fault.FinishFault.{FinishFault}
 use Rattle.hir_faults.specs.declared.fault.FinishFault.TheVariants.{IdOutOfRange, NotAPath, NoReturnType, NoSelfArgument, ArgumentLists}
-use Rattle.hir_faults.specs.Tested.{Tested, tested_expr, tested_pat, tested_type, names_there, names_paths, gives_self, lists_fit}
+use Rattle.hir_faults.specs.TestedParts.{TestedParts, tested_expr, tested_pat, tested_type, names_there, names_paths, gives_self, lists_fit}
 use Rattle.hir_faults.specs.Nodes.{Nodes, sizes_of, graph}
-use Rattle.hir_faults.specs.Faults.{Rooted, node_fault, first_of, first_bad_node, told, graph_fault, rooted_fault, ends_of}
+use Rattle.hir_faults.specs.Faults.{RootedNodes, node_fault, first_of, first_bad_node, fault_of_graph, graph_fault, rooted_fault, ends_of}
 
 fails : (b : Bool) → b ≡ false → IsTrue b → ⊥
 fails b f t = false≢true (sym f ∙ t)
 
 -- the fault of one node, where the tests before hold and one fails, and none where all hold
-module _ (sizes : Sizes) (types : List TypeRef) (id : NodeId) (x : Tested) where
+module _ (sizes : Sizes) (types : List TypeRef) (id : NodeId) (x : TestedParts) where
   pub fault-ids : names_there sizes x ≡ false → node_fault sizes types id x (Some (IdOutOfRange id))
   unfolding node_fault
   fault-ids h = inl (refl, fails (names_there sizes x) h)
@@ -50,19 +50,19 @@ module _ (sizes : Sizes) (types : List TypeRef) (id : NodeId) (x : Tested) where
   node_fault-one =
       before-one _ _ (unless-one _ _) (before-one _ _ (unless-one _ _) (before-one _ _ (unless-one _ _) (before-one _ _ (unless-one _ _) (unless-one _ _))))
 
-pub told_some : (c : Rooted) (f : ForestFault) → forest_fault (graph c.nodes) (ends_of c.nodes) c.roots (Some f) → graph_fault c (Some (told (sizes_of c.nodes) f))
+pub told_some : (c : RootedNodes) (f : ForestFault) → forest_fault (graph c.nodes) (ends_of c.nodes) c.roots (Some f) → graph_fault c (Some (fault_of_graph (sizes_of c.nodes) f))
 unfolding graph_fault
 told_some c f h = (f, refl, h)
 
-pub told_none : (c : Rooted) → forest_fault (graph c.nodes) (ends_of c.nodes) c.roots None → graph_fault c None
+pub told_none : (c : RootedNodes) → forest_fault (graph c.nodes) (ends_of c.nodes) c.roots None → graph_fault c None
 unfolding graph_fault
 told_none c h = h
 
-pub bad_node : (c : Rooted) (f : FinishFault) → first_bad_node c.nodes (Some f) → rooted_fault c (Some f)
+pub bad_node : (c : RootedNodes) (f : FinishFault) → first_bad_node c.nodes (Some f) → rooted_fault c (Some f)
 unfolding rooted_fault
 bad_node c f h = inl h
 
-pub graph_last : (c : Rooted) (o : Option FinishFault) → first_bad_node c.nodes None → graph_fault c o → rooted_fault c o
+pub graph_last : (c : RootedNodes) (o : Option FinishFault) → first_bad_node c.nodes None → graph_fault c o → rooted_fault c o
 unfolding rooted_fault
 graph_last c None n h = (n, h)
 graph_last c (Some f) n h = inr (n, h)
@@ -82,13 +82,13 @@ bad_type s None n m h = (n, (m, h))
 bad_type s (Some f) n m h = inr (n, inr (m, h))
 
 -- nodes with their roots have one first fault at most
-pub rooted_fault-one : (c : Rooted) → IsOne (rooted_fault c)
+pub rooted_fault-one : (c : RootedNodes) → IsOne (rooted_fault c)
 unfolding rooted_fault first_bad_node graph_fault
 rooted_fault-one c =
     let s = c.nodes in
     before-one _ _
     (before-one _ _ (first_below-one _ _ (λ n. node_fault-one _ _ _ _)) (before-one _ _ (first_below-one _ _ (λ n. node_fault-one _ _ _ _)) (first_below-one _ _ (λ n. node_fault-one _ _ _ _))))
-    (in_words-one (told (sizes_of s)) _ (forest_fault-one (graph s) (ends_of s) c.roots))
+    (in_words-one (fault_of_graph (sizes_of s)) _ (forest_fault-one (graph s) (ends_of s) c.roots))
 
 -- a row of a list's items
 pub row_of : {X Y : Type 0} (f : X → Y) (d : Y) (xs : List X) (i : ℕ) (x : X) → i < length xs → x ≡ get_or xs i x → get_or (map f xs) i d ≡ f x

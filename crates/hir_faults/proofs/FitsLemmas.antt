@@ -18,9 +18,9 @@ use Rattle.hir_node.specs.declared.type_ref.TypeRef.TheVariants as type
 use Rattle.hir_node.specs.ChildCalls.{Call, e, t, opt, arg_calls, args_calls, binding_calls, bound_calls}
 use Rattle.hir_node.proofs.ArgsCalls.{args_calls_is, binding_calls_is}
 use Rattle.hir_faults.specs.Sizes.{is_there}
-use Rattle.hir_faults.specs.Tested.{is_path_at, all_of, option_all, bound_paths, args_paths, binding_paths, args_give_self, binding_gives_self}
+use Rattle.hir_faults.specs.TestedParts.{is_path_at, all_of, option_all, bound_paths, args_paths, binding_paths, args_give_self, binding_gives_self}
 use Rattle.hir_faults.specs.Nodes.{Nodes, sizes_of}
-use Rattle.hir_faults.specs.Faults.{Rooted, rooted_fault}
+use Rattle.hir_faults.specs.Faults.{RootedNodes, rooted_fault}
 use Rattle.hir_faults.proofs.HeldLemmas.{args_paths_is, binding_paths_is, args_give_self_is, binding_gives_self_is}
 use Rattle.hir_faults.proofs.SoundLemmas.{exprs_sound, types_sound}
 use Rattle.hir_faults.specs.Fits.{path_fits, args_fit, bound_fits}
@@ -122,7 +122,7 @@ module _ (s : Nodes) where
   pub for_bound_path_there : (names : List (List ℕ)) (id : ℕ) → IsTrue (bound_fits s (bound.ForLifetime names id)) → IsTrue (is_path_at s.types id)
   for_bound_path_there names id h = first_so _ _ (second_so _ _ h)
 
-module _ (c : Rooted) (sound : rooted_fault c None) (id : ℕ) where
+module _ (c : RootedNodes) (sound : rooted_fault c None) (id : ℕ) where
   bounds_fit : (bounds : List TypeBound) (x : TypeBound) → list_all (is_there (sizes_of c.nodes)) (flat_map bound_calls bounds) ≡ true → list_all (is_path_at c.nodes.types) (flat_map bound_paths bounds) ≡ true → Contains bounds x → IsTrue (bound_fits c.nodes x)
   bounds_fit bounds x calls paths at =
       both c.nodes _ _ (all_piece (is_there (sizes_of c.nodes)) bound_calls bounds x calls at) (all_piece (is_path_at c.nodes.types) bound_paths bounds x paths at)

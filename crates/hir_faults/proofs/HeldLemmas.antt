@@ -11,7 +11,7 @@ use Rattle.hir_path.specs.declared.path.Path.{Path}
 use Rattle.hir_path.specs.declared.path.Path.TheVariants as path
 use Rattle.hir_path.specs.declared.bound.TypeBound.{TypeBound}
 use Rattle.hir_faults.specs.Holds.{may_have_args, IsFine}
-use Rattle.hir_faults.specs.Tested.{Held, bound_paths, args_paths, binding_paths, all_of, option_all, args_give_self, binding_gives_self, self_given, binding_paths_layer, args_paths_layer, binding_self_layer, args_self_layer}
+use Rattle.hir_faults.specs.TestedParts.{HeldParts, bound_paths, args_paths, binding_paths, all_of, option_all, args_give_self, binding_gives_self, self_given, binding_paths_layer, args_paths_layer, binding_self_layer, args_self_layer}
 
 flat_map_of_map : {X A : Type 0} (f : X → List A) (xs : List X) → flat_map (λ piece. piece) (map f xs) ≡ flat_map f xs
 flat_map_of_map f [] = refl
@@ -78,7 +78,7 @@ path_is_fine (Some (path.BarePath mod_path)) h = record { paths = λ types. refl
 path_is_fine (Some (path.Normal normal)) h = absurd (false≢true (sym h))
 path_is_fine (Some (path.LangItem target name)) h = record { paths = λ types. refl; gives_self = refl; lists_fit = refl }
 
-pub plain_is_fine : (h : Held) → may_have_args h.path ≡ false → h.args ≡ None → h.bounds ≡ [] → IsFine h
+pub plain_is_fine : (h : HeldParts) → may_have_args h.path ≡ false → h.args ≡ None → h.bounds ≡ [] → IsFine h
 plain_is_fine h p a b =
     subst (λ (args : Option GenericArgs). IsFine record { path = h.path; args = args; bounds = h.bounds }) (sym a)
     (subst (λ (bounds : List TypeBound). IsFine record { path = h.path; args = None; bounds = bounds }) (sym b) (path_is_fine h.path p))

@@ -13,9 +13,9 @@ use Rattle.hir_node.specs.declared.expr_types.RecordSpread.{RecordSpread}
 use Rattle.hir_node.specs.declared.type_ref.TypeRef.TheVariants as type
 use Rattle.hir_node.specs.ChildCalls.{Call, e, p, path_calls, spread_calls}
 use Rattle.hir_faults.specs.Sizes.{is_there}
-use Rattle.hir_faults.specs.Tested.{is_path_at, path_paths, path_gives_self, one_list_each, a_path}
+use Rattle.hir_faults.specs.TestedParts.{is_path_at, path_paths, path_gives_self, one_list_each, a_path}
 use Rattle.hir_faults.specs.Nodes.{Nodes, sizes_of}
-use Rattle.hir_faults.specs.Faults.{Rooted, rooted_fault}
+use Rattle.hir_faults.specs.Faults.{RootedNodes, rooted_fault}
 use Rattle.hir_faults.specs.Fits.{path_fits}
 use Rattle.hir_faults.specs.Sound.{IsSoundNode}
 use Rattle.hir_faults.proofs.SoundLemmas.{exprs_sound, pats_sound, types_sound}
@@ -31,7 +31,7 @@ held_fits s path before bindings labels h =
     let fit : one_list_each path ≡ true = h.lists_fit in
     rw (calls, paths, selfs, fit) refl
 
-module _ (c : Rooted) (sound : rooted_fault c None) (id : ℕ) (path : Path) where
+module _ (c : RootedNodes) (sound : rooted_fault c None) (id : ℕ) (path : Path) where
   pub expr_path_fits : slice_get c.nodes.exprs id ≡ Some (expr.Path path) → IsTrue (path_fits c.nodes path)
   expr_path_fits is = held_fits c.nodes path [] [] [] (exprs_sound c sound id (expr.Path path) is)
 

@@ -16,10 +16,10 @@ pub and_assoc : (a b c : Bool) → ((a && b) && c) ≡ (a && (b && c))
 and_assoc true b c = refl
 and_assoc false b c = refl
 
-pub tested : {v w : InRange} {calls : List Call} → Runs Tests v calls w → (w.sizes ≡ v.sizes) × (w.holds ≡ (v.holds && list_all (is_there v.sizes) calls))
-tested {v} no_call = (refl, and_true v.holds)
-tested {v} {w} (a_call {v = x} {c} {cs} s rest) =
-    let more = tested rest in (
+pub calls_are_tested : {v w : InRange} {calls : List Call} → Runs Tests v calls w → (w.sizes ≡ v.sizes) × (w.holds ≡ (v.holds && list_all (is_there v.sizes) calls))
+calls_are_tested {v} no_call = (refl, and_true v.holds)
+calls_are_tested {v} {w} (a_call {v = x} {c} {cs} s rest) =
+    let more = calls_are_tested rest in (
       more.0 ∙ s.0,
       more.1 ∙ (rw (s.0, s.1) (and_assoc v.holds (is_there v.sizes c) (list_all (is_there v.sizes) cs))),
     )

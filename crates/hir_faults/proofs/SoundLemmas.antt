@@ -17,9 +17,9 @@ use Rattle.hir_faults.specs.declared.sizes.Sizes.{Sizes}
 use Rattle.hir_node.specs.declared.node_id.NodeId.{NodeId}
 use Rattle.hir_node.specs.declared.node_id.NodeId.TheVariants as node
 use Rattle.hir_faults.specs.Sizes.{is_there, HasNode, place, places}
-use Rattle.hir_faults.specs.Tested.{Tested, tested_expr, tested_pat, tested_type}
+use Rattle.hir_faults.specs.TestedParts.{TestedParts, tested_expr, tested_pat, tested_type}
 use Rattle.hir_faults.specs.Nodes.{Nodes, sizes_of, Has, calls_of, kids_of, all_calls, graph}
-use Rattle.hir_faults.specs.Faults.{Rooted, rooted_fault, first_bad_node, first_of, node_fault, nothing_tested, graph_fault, ends_of}
+use Rattle.hir_faults.specs.Faults.{RootedNodes, rooted_fault, first_bad_node, first_of, node_fault, nothing_tested, graph_fault, ends_of}
 use Rattle.hir_faults.specs.Sound.{IsSoundNode, RootsStandApart}
 use Rattle.hir_faults.specs.Down.{rank, KidsFall}
 use Rattle.hir_faults.proofs.FaultLemmas.{accepted_forest, graph-length}
@@ -39,17 +39,17 @@ item_within [] i x e = absurd (cc)
 item_within (y ∷ ys) zero x e = omega arith
 item_within (y ∷ ys) (suc i) x e = let h = item_within ys i x e in omega arith
 
-sound_node : (s : Nodes) (id : NodeId) (x : Tested) → node_fault (sizes_of s) s.types id x None → IsSoundNode s x
+sound_node : (s : Nodes) (id : NodeId) (x : TestedParts) → node_fault (sizes_of s) s.types id x None → IsSoundNode s x
 unfolding node_fault
 sound_node s id x h = record { there = h.0; paths = h.1.0; returns = h.1.1.0; gives_self = h.1.1.1.0; lists_fit = h.1.1.1.1 }
 
-sound_at : {X : Type 0} (parts : X → Tested) (s : Nodes) (name : ℕ → NodeId) (xs : List X) → first_of (sizes_of s) s.types name (map parts xs) None → (i : ℕ) (x : X) → slice_get xs i ≡ Some x → IsSoundNode s (parts x)
+sound_at : {X : Type 0} (parts : X → TestedParts) (s : Nodes) (name : ℕ → NodeId) (xs : List X) → first_of (sizes_of s) s.types name (map parts xs) None → (i : ℕ) (x : X) → slice_get xs i ≡ Some x → IsSoundNode s (parts x)
 sound_at parts s name xs h i x e =
     let within = item_within xs i x e in
     let read : get_or (map parts xs) i nothing_tested ≡ parts x = get_or-map parts xs i x nothing_tested within ∙ ap parts (get_or_from_slice_get xs i x x e) in
-    sound_node s (name i) (parts x) (subst (λ (y : Tested). node_fault (sizes_of s) s.types (name i) y None) read (h i (omega (arith, length-map xs parts))))
+    sound_node s (name i) (parts x) (subst (λ (y : TestedParts). node_fault (sizes_of s) s.types (name i) y None) read (h i (omega (arith, length-map xs parts))))
 
-module _ (c : Rooted) (sound : rooted_fault c None) where
+module _ (c : RootedNodes) (sound : rooted_fault c None) where
   pub exprs_sound : (i : ℕ) (x : Expr) → slice_get c.nodes.exprs i ≡ Some x → IsSoundNode c.nodes (tested_expr x)
   unfolding rooted_fault first_bad_node
   exprs_sound = sound_at tested_expr c.nodes node.Expr c.nodes.exprs sound.0.0
@@ -129,7 +129,7 @@ module _ (s : Nodes) where
   pub kid_in_graph : (n k : NodeId) → Has s n → Contains (kids_of s n) k → IsKid (graph s) (place (sizes_of s) n) (place (sizes_of s) k)
   kid_in_graph n k h c = rw (row_at_place n h) (mapped_member (place (sizes_of s)) (kids_of s n) k c)
 
-module _ (c : Rooted) (sound : rooted_fault c None) where
+module _ (c : RootedNodes) (sound : rooted_fault c None) where
   abbrev sizes : Sizes
   sizes = sizes_of c.nodes
 
@@ -152,7 +152,7 @@ unfolding rank
 rank_bounded s n = let h = height_bounded (graph s) (place (sizes_of s) n) in omega (arith, graph-length s)
 
 -- the roots of a store without a fault
-module _ (c : Rooted) (sound : rooted_fault c None) where
+module _ (c : RootedNodes) (sound : rooted_fault c None) where
   abbrev nodes : List ℕ
   nodes = root_nodes c.roots
 

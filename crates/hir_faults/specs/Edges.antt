@@ -5,7 +5,7 @@ use Rattle.hir_forest.specs.Parents.{IsParentageOf}
 use Rattle.hir_node.specs.ChildCalls.{Call}
 use Rattle.hir_faults.specs.declared.edges.EdgeVisitor.{EdgeVisitor}
 use Rattle.hir_faults.specs.Sizes.{Few, is_there, places}
-use Rattle.hir_faults.specs.Tested.{Tested, tested_expr, tested_pat, tested_type}
+use Rattle.hir_faults.specs.TestedParts.{TestedParts, tested_expr, tested_pat, tested_type}
 use Rattle.hir_faults.specs.Nodes.{Nodes}
 
 -- there is room for the nodes of the three sorts
@@ -18,7 +18,7 @@ abbrev pub CanNote : EdgeVisitor → Type 0
 CanNote v = HasRoom v × (0 < v.parents.rows)
 
 -- it knows whether these ids are there too, and where all are, the last row has these kids more
-pub record Noted (v : EdgeVisitor) (are_there : Bool) (new_kids : List ℕ) (w : EdgeVisitor) : Type 0 where
+pub record NotesIds (v : EdgeVisitor) (are_there : Bool) (new_kids : List ℕ) (w : EdgeVisitor) : Type 0 where
   pub sizes : w.sizes ≡ v.sizes
   pub room : length w.parents.parents ≡ length v.parents.parents
   pub rows : w.parents.rows ≡ v.parents.rows
@@ -27,7 +27,7 @@ pub record Noted (v : EdgeVisitor) (are_there : Bool) (new_kids : List ℕ) (w :
       → IsParentageOf (with_kids g new_kids) w.parents
 
 abbrev pub Notes : EdgeVisitor → Call → EdgeVisitor → Type 0
-Notes v c w = Noted v (is_there v.sizes c) (places v.sizes (c ∷ [])) w
+Notes v c w = NotesIds v (is_there v.sizes c) (places v.sizes (c ∷ [])) w
 
 -- each id so far is there, and there is room for so many rows more
 pub record CanVisit (v : EdgeVisitor) (count : ℕ) : Type 0 where
@@ -36,7 +36,7 @@ pub record CanVisit (v : EdgeVisitor) (count : ℕ) : Type 0 where
   pub rows : v.parents.rows + count ≤ length v.parents.parents
 
 -- these nodes were visited too, and each id that they name is there: each has its row
-pub record Visited (v : EdgeVisitor) (nodes : List Tested) (w : EdgeVisitor) : Type 0 where
+pub record VisitsNodes (v : EdgeVisitor) (nodes : List TestedParts) (w : EdgeVisitor) : Type 0 where
   pub sizes : w.sizes ≡ v.sizes
   pub room : length w.parents.parents ≡ length v.parents.parents
   pub rows : w.parents.rows ≡ v.parents.rows + length nodes
@@ -45,5 +45,5 @@ pub record Visited (v : EdgeVisitor) (nodes : List Tested) (w : EdgeVisitor) : T
       → IsParentageOf (g ++ map (λ x. places v.sizes x.calls) nodes) w.parents
 
 -- all nodes: the expressions, then the patterns, then the types
-abbrev pub all_tested : Nodes → List Tested
+abbrev pub all_tested : Nodes → List TestedParts
 all_tested s = map tested_expr s.exprs ++ map tested_pat s.pats ++ map tested_type s.types

@@ -14,7 +14,7 @@ use Rattle.hir_node.specs.declared.node_id.NodeId.TheVariants as node
 use Rattle.hir_faults.specs.declared.fault.FinishFault.{FinishFault}
 use Rattle.hir_faults.specs.declared.fault.FinishFault.TheVariants.{IdOutOfRange, NotAPath, NoReturnType, NoSelfArgument, ArgumentLists, SharedChild, Cycle, RootOutOfRange, RootRepeated, RootUnderRoot, RootEnds}
 use Rattle.hir_faults.specs.Sizes.{node_at}
-use Rattle.hir_faults.specs.Tested.{Tested, tested_expr, tested_pat, tested_type, names_there, names_paths, gives_self, lists_fit}
+use Rattle.hir_faults.specs.TestedParts.{TestedParts, tested_expr, tested_pat, tested_type, names_there, names_paths, gives_self, lists_fit}
 use Rattle.hir_faults.specs.Nodes.{Nodes, sizes_of, graph}
 
 -- the nodes that are borrowed
@@ -29,7 +29,7 @@ nodes_in n = record {
 }
 
 -- nodes with their roots
-pub record Rooted : Type 0 where
+pub record RootedNodes : Type 0 where
   pub nodes : Nodes
   pub roots : List Root
 
@@ -38,7 +38,7 @@ abbrev pub ends_of : Nodes → Ends
 ends_of s = record { exprs = length s.exprs; pats = length s.pats; bindings = length s.bindings }
 
 -- a fault of one node: ids out of range, then what isn't a path, then a missing return type, then a missing self argument, then lists that don't fit
-unfoldable pub node_fault : Sizes → List TypeRef → NodeId → Tested → Option FinishFault → Type 0
+unfoldable pub node_fault : Sizes → List TypeRef → NodeId → TestedParts → Option FinishFault → Type 0
 node_fault sizes types id x =
     (IdOutOfRange id unless IsTrue (names_there sizes x))
     before (NotAPath id unless IsTrue (names_paths types x.held))
@@ -46,7 +46,7 @@ node_fault sizes types id x =
     before (NoSelfArgument id unless IsTrue (gives_self x.held))
     before (ArgumentLists id unless IsTrue (lists_fit x.held))
 
-abbrev pub nothing_tested : Tested
+abbrev pub nothing_tested : TestedParts
 nothing_tested = record {
   calls = [];
   bindings = [];
@@ -56,7 +56,7 @@ nothing_tested = record {
 }
 
 -- the first fault of one node, of nodes of one sort
-abbrev pub first_of : Sizes → List TypeRef → (ℕ → NodeId) → List Tested → Option FinishFault → Type 0
+abbrev pub first_of : Sizes → List TypeRef → (ℕ → NodeId) → List TestedParts → Option FinishFault → Type 0
 first_of sizes types name parts = first_below (length parts)
     (λ n. node_fault sizes types (name n) (slice_index_or parts n nothing_tested))
 
@@ -68,18 +68,19 @@ first_bad_node s =
     before first_of (sizes_of s) s.types node.TypeRef (map tested_type s.types)
 
 -- a fault of the graph, with the node in place of its row number
-abbrev pub told : Sizes → ForestFault → FinishFault
-told sizes (forest.SharedChild n) = SharedChild (node_at sizes n)
-told sizes (forest.Cycle n) = Cycle (node_at sizes n)
-told sizes (forest.RootOutOfRange i) = RootOutOfRange i
-told sizes (forest.RootRepeated i) = RootRepeated i
-told sizes (forest.RootUnderRoot i) = RootUnderRoot i
-told sizes (forest.RootEnds i) = RootEnds i
+abbrev pub fault_of_graph : Sizes → ForestFault → FinishFault
+fault_of_graph sizes (forest.SharedChild n) = SharedChild (node_at sizes n)
+fault_of_graph sizes (forest.Cycle n) = Cycle (node_at sizes n)
+fault_of_graph sizes (forest.RootOutOfRange i) = RootOutOfRange i
+fault_of_graph sizes (forest.RootRepeated i) = RootRepeated i
+fault_of_graph sizes (forest.RootUnderRoot i) = RootUnderRoot i
+fault_of_graph sizes (forest.RootEnds i) = RootEnds i
 
 -- the first fault of the graph and the roots
-unfoldable pub graph_fault : Rooted → Option FinishFault → Type 0
-graph_fault c = in_words (told (sizes_of c.nodes)) (forest_fault (graph c.nodes) (ends_of c.nodes) c.roots)
+unfoldable pub graph_fault : RootedNodes → Option FinishFault → Type 0
+graph_fault c = in_words (fault_of_graph (sizes_of c.nodes))
+    (forest_fault (graph c.nodes) (ends_of c.nodes) c.roots)
 
 -- the first fault of nodes with their roots
-unfoldable pub rooted_fault : Rooted → Option FinishFault → Type 0
+unfoldable pub rooted_fault : RootedNodes → Option FinishFault → Type 0
 rooted_fault c = first_bad_node c.nodes before graph_fault c

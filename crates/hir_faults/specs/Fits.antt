@@ -6,7 +6,7 @@ use Rattle.hir_path.specs.declared.path.GenericArgs.{GenericArgs}
 use Rattle.hir_path.specs.declared.bound.TypeBound.{TypeBound}
 use Rattle.hir_node.specs.ChildCalls.{path_calls, args_calls, bound_calls}
 use Rattle.hir_faults.specs.Sizes.{is_there}
-use Rattle.hir_faults.specs.Tested.{is_path_at, path_paths, args_paths, bound_paths, path_gives_self, args_give_self, one_list_each}
+use Rattle.hir_faults.specs.TestedParts.{is_path_at, path_paths, args_paths, bound_paths, path_gives_self, args_give_self, one_list_each}
 use Rattle.hir_faults.specs.Nodes.{Nodes, sizes_of}
 
 -- of a path each id that it names is there, each type that it names as a path is one, each list that begins with a self type isn't empty,

@@ -3,11 +3,11 @@ use Rattle.std.specs.Prelude.{◌≡◌, Bool, true, false, List, Option, Some, 
 use Rattle.std.specs.Option.{option_copied}
 use Rattle.hir_path.specs.declared.path.Path.{Path}
 use Rattle.hir_path.specs.declared.path.Path.TheVariants as path
-use Rattle.hir_faults.specs.declared.held.Holds.{Holds}
+use Rattle.hir_faults.specs.declared.holds.Holds.{Holds}
 use Rattle.hir_node.specs.declared.type_ref.TypeRef.{TypeRef}
-use Rattle.hir_faults.specs.Tested.{Held, names_paths, gives_self, lists_fit}
+use Rattle.hir_faults.specs.TestedParts.{HeldParts, names_paths, gives_self, lists_fit}
 
-abbrev pub held_of : Holds → Held
+abbrev pub held_of : Holds → HeldParts
 held_of h = record { path = option_copied h.path; args = option_copied h.args; bounds = h.bounds.now }
 
 -- the path, if there is one, may have generic arguments
@@ -18,7 +18,7 @@ may_have_args (Some (path.Normal normal)) = true
 may_have_args (Some (path.LangItem target name)) = false
 
 -- nothing that is held is at fault
-pub record IsFine (h : Held) : Type 0 where
+pub record IsFine (h : HeldParts) : Type 0 where
   pub paths : (types : List TypeRef) → names_paths types h ≡ true
   pub gives_self : gives_self h ≡ true
   pub lists_fit : lists_fit h ≡ true

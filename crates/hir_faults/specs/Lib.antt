@@ -1,5 +1,5 @@
 pub mod Sizes
-pub mod Tested
+pub mod TestedParts
 pub mod Holds
 pub mod Nodes
 pub mod Faults

@@ -1,7 +1,7 @@
 //! The one visit of a node: each id that the node passes to a visitor is tested, and the node is noted as the parent of its kids.
 
 ghost use Rattle.std.specs.Prelude.{◌<◌, [], ◌∷◌, IsTrue, length};
-ghost use Rattle.hir_faults.specs.Edges.{CanNote, Noted, Notes};
+ghost use Rattle.hir_faults.specs.Edges.{CanNote, NotesIds, Notes};
 
 use crate::sizes::Sizes;
 use hir_forest::Parents;
@@ -54,7 +54,7 @@ impl EdgeVisitor {
     fn note(&mut self, is_there: bool, place: usize)
         requires can { CanNote self.old }
         requires within { IsTrue is_there → place < length self.old.parents.parents }
-        ensures { Noted self.old is_there (place ∷ []) self.new }
+        ensures { NotesIds self.old is_there (place ∷ []) self.new }
     {
         if !is_there {
             self.all_there = false;

@@ -5,17 +5,17 @@ ghost use Rattle.std.specs.Option.{option_to_list};
 ghost use Rattle.std.specs.List.{list_all};
 ghost use Rattle.hir_forest.specs.Faults.{IsWithin};
 ghost use Rattle.hir_forest.specs.Parents.{HasParents, IsParentageOf};
-ghost use Rattle.hir_faults.specs.Faults.{nodes_in, node_fault, first_of, first_bad_node, told, graph_fault, rooted_fault};
+ghost use Rattle.hir_faults.specs.Faults.{nodes_in, node_fault, first_of, first_bad_node, fault_of_graph, graph_fault, rooted_fault};
 ghost use Rattle.hir_faults.specs.Nodes.{sizes_of, graph};
-ghost use Rattle.hir_faults.specs.Edges.{CanVisit, Visited, all_tested};
-ghost use Rattle.hir_faults.specs.Tested.{names_there};
+ghost use Rattle.hir_faults.specs.Edges.{CanVisit, VisitsNodes, all_tested};
+ghost use Rattle.hir_faults.specs.TestedParts.{names_there};
 ghost use Rattle.hir_faults.specs.Sizes.{Few, is_there, node_at};
 
 use crate::edges::EdgeVisitor;
 use crate::fault::FinishFault;
 use crate::nodes::NodeSlices;
 use crate::sizes::Sizes;
-use crate::tested::TestedNode;
+use crate::tested_node::TestedNode;
 use hir_base::{Idx, MOST_ITEMS};
 use hir_forest::{ForestFault, Parents, Root};
 use hir_node::{ExprId, NodeId, PatId, TypeRef, TypeRefId};
@@ -36,10 +36,10 @@ fn is_below<K>(id: Option<Idx<K>>, count: usize) -> bool
 /// Few nodes come here, so it stands apart: the quick test of the others stays small.
 #[inline(never)]
 fn held_fault<N: TestedNode>(node: &N, id: NodeId, types: &[TypeRef]) -> Option<FinishFault>
-    ensures { (sizes : Sizes) → names_there sizes (N.tested node.now) ≡ true
-        → node_fault sizes types.now id (N.tested node.now) result }
+    ensures { (sizes : Sizes) → names_there sizes (N.tested_parts node.now) ≡ true
+        → node_fault sizes types.now id (N.tested_parts node.now) result }
 {
-    let held = node.held();
+    let held = node.holds();
     if !held.names_paths(types) {
         return Some(FinishFault::NotAPath(id));
     }
@@ -57,10 +57,10 @@ fn held_fault<N: TestedNode>(node: &N, id: NodeId, types: &[TypeRef]) -> Option<
 
 /// The first fault of one node whose ids are all there.
 fn other_fault<N: TestedNode>(node: &N, id: NodeId, types: &[TypeRef]) -> Option<FinishFault>
-    ensures { (sizes : Sizes) → names_there sizes (N.tested node.now) ≡ true
-        → node_fault sizes types.now id (N.tested node.now) result }
+    ensures { (sizes : Sizes) → names_there sizes (N.tested_parts node.now) ≡ true
+        → node_fault sizes types.now id (N.tested_parts node.now) result }
 {
-    if node.held().is_plain() && node.returns() {
+    if node.holds().is_plain() && node.returns() {
         return None;
     }
     held_fault(node, id, types)
@@ -69,9 +69,9 @@ fn other_fault<N: TestedNode>(node: &N, id: NodeId, types: &[TypeRef]) -> Option
 /// Visits one node: whether each id that it passes to a visitor is there.
 fn calls_there<N: TestedNode>(node: &N, visitor: &mut EdgeVisitor) -> bool
     requires { CanVisit visitor.old 1 }
-    ensures there { result ≡ list_all (is_there visitor.old.sizes) (N.tested node.now).calls }
+    ensures there { result ≡ list_all (is_there visitor.old.sizes) (N.tested_parts node.now).calls }
     ensures sizes { visitor.new.sizes ≡ visitor.old.sizes }
-    ensures visited { IsTrue result → Visited visitor.old (N.tested node.now ∷ []) visitor.new }
+    ensures visited { IsTrue result → VisitsNodes visitor.old (N.tested_parts node.now ∷ []) visitor.new }
 {
     visitor.parents.begin_row();
     node.visit(visitor);
@@ -81,8 +81,8 @@ fn calls_there<N: TestedNode>(node: &N, visitor: &mut EdgeVisitor) -> bool
 /// Visits one node: whether each id that it names is there.
 fn names_there<N: TestedNode>(node: &N, visitor: &mut EdgeVisitor) -> bool
     requires { CanVisit visitor.old 1 }
-    ensures there { result ≡ names_there visitor.old.sizes (N.tested node.now) }
-    ensures visited { IsTrue result → Visited visitor.old (N.tested node.now ∷ []) visitor.new }
+    ensures there { result ≡ names_there visitor.old.sizes (N.tested_parts node.now) }
+    ensures visited { IsTrue result → VisitsNodes visitor.old (N.tested_parts node.now ∷ []) visitor.new }
 {
     calls_there(node, visitor)
         && is_below(node.binding(), visitor.sizes.bindings)
@@ -97,8 +97,8 @@ fn fault_of<N: TestedNode>(
     visitor: &mut EdgeVisitor,
 ) -> Option<FinishFault>
     requires { CanVisit visitor.old 1 }
-    ensures fault { node_fault visitor.old.sizes types.now id (N.tested node.now) result }
-    ensures visited { IfNone result (Visited visitor.old (N.tested node.now ∷ []) visitor.new) }
+    ensures fault { node_fault visitor.old.sizes types.now id (N.tested_parts node.now) result }
+    ensures visited { IfNone result (VisitsNodes visitor.old (N.tested_parts node.now ∷ []) visitor.new) }
 {
     if !names_there(node, visitor) {
         return Some(FinishFault::IdOutOfRange(id));
@@ -114,8 +114,8 @@ fn first_of<N: TestedNode>(
 ) -> Option<FinishFault>
     requires few { length nodes.now ≤ MOST_ITEMS }
     requires room { CanVisit visitor.old (length nodes.now) }
-    ensures fault { first_of visitor.old.sizes types.now N.name (map N.tested nodes.now) result }
-    ensures visited { IfNone result (Visited visitor.old (map N.tested nodes.now) visitor.new) }
+    ensures fault { first_of visitor.old.sizes types.now N.name (map N.tested_parts nodes.now) result }
+    ensures visited { IfNone result (VisitsNodes visitor.old (map N.tested_parts nodes.now) visitor.new) }
 {
     for (i, node) in nodes.iter().enumerate() {
         if let Some(fault) = fault_of(node, N::name(i as u32), types, visitor) {
@@ -144,7 +144,7 @@ fn node_at(sizes: Sizes, n: usize) -> NodeId
 fn tell(sizes: Sizes, roots: usize, fault: ForestFault) -> FinishFault
     requires few { Few sizes }
     requires within { IsWithin (sizes.exprs + sizes.pats + sizes.types) roots fault }
-    ensures { result ≡ told sizes fault }
+    ensures { result ≡ fault_of_graph sizes fault }
 {
     match fault {
         ForestFault::SharedChild(n) => FinishFault::SharedChild(node_at(sizes, n)),
@@ -161,7 +161,7 @@ fn first_bad_node(nodes: &NodeSlices<'_>, visitor: &mut EdgeVisitor) -> Option<F
     requires sizes { visitor.old.sizes ≡ sizes_of (nodes_in nodes.now) }
     requires room { CanVisit visitor.old (length (all_tested (nodes_in nodes.now))) }
     ensures fault { first_bad_node (nodes_in nodes.now) result }
-    ensures visited { IfNone result (Visited visitor.old (all_tested (nodes_in nodes.now)) visitor.new) }
+    ensures visited { IfNone result (VisitsNodes visitor.old (all_tested (nodes_in nodes.now)) visitor.new) }
 {
     if let Some(fault) = first_of(nodes.exprs, nodes.types, visitor) {
         return Some(fault);

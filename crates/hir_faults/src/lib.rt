@@ -6,14 +6,14 @@
 mod edges;
 mod fault;
 mod first_fault;
-mod held;
+mod holds;
 mod nodes;
 mod range;
 mod sizes;
-mod tested;
+mod tested_node;
 
 pub use fault::FinishFault;
 pub use first_fault::tested_parents;
-pub use held::as_path;
+pub use holds::as_path;
 pub use nodes::NodeSlices;
 pub use sizes::Sizes;

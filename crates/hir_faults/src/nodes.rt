@@ -5,11 +5,11 @@ ghost use Rattle.std.specs.List.{list_all};
 ghost use Rattle.hir_node.specs.ChildCalls.{bound_calls};
 ghost use Rattle.hir_faults.specs.Faults.{nodes_in, ends_of};
 ghost use Rattle.hir_faults.specs.Nodes.{sizes_of};
-ghost use Rattle.hir_faults.specs.Tested.{bound_paths, is_path_at};
+ghost use Rattle.hir_faults.specs.TestedParts.{bound_paths, is_path_at};
 ghost use Rattle.hir_faults.specs.Fits.{path_fits};
 ghost use Rattle.hir_faults.specs.Sizes.{Few, is_there};
 
-use crate::held::{bound_names_path, is_path, one_list_each, path_gives_self, path_names_paths};
+use crate::holds::{bound_names_path, is_path, one_list_each, path_gives_self, path_names_paths};
 use crate::range::{bound_there, path_there};
 use crate::sizes::Sizes;
 use hir_forest::Ends;

@@ -112,8 +112,8 @@ edges_kept : (es : List ℕ) (kid : ℕ) (f : ForestFault) → edges es (Some f)
 edges_kept es kid f v =
     (v.0, omega (arith, length_push es kid, v.1), edge_same es kid v.0 v.1 (Some f) v.2, λ j low. edge_same es kid j (omega (arith, v.1)) None (v.3 j low))
 
-pub begun : (g : List (List ℕ)) (t : Parentage) → IsParentageOf g t → IsParentageOf (g ++ [] ∷ []) record t { rows = t.rows + 1 }
-begun g t h = record {
+pub with_empty_row : (g : List (List ℕ)) (t : Parentage) → IsParentageOf g t → IsParentageOf (g ++ [] ∷ []) record t { rows = t.rows + 1 }
+with_empty_row g t h = record {
   rows = omega (arith, length_push g [], h.rows);
   shared = subst (λ (es : List ℕ). edges es (shared_fault t.shared)) (sym (concat-begun g)) h.shared;
   parents = λ none c p. subst (λ (row : List ℕ). HasParent t.parents c p ↔ Contains row c) (sym (row_begun g p)) (h.parents none c p);

@@ -4,7 +4,7 @@
 #[cfg(test)]
 mod graphs;
 #[cfg(test)]
-mod made;
+mod making;
 #[cfg(test)]
 mod parents;
 #[cfg(test)]

@@ -1,6 +1,6 @@
 //! What lies under marked nodes.
 
-use crate::made::{Edge, chain, parents_of};
+use crate::making::{Edge, chain, parents_of};
 use std::alloc::{AllocError, Global};
 use std::test::Fail;
 

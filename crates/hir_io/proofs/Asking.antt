@@ -7,7 +7,7 @@ use Rattle.hir_io.proofs.EndLemmas.{Appends-twice, GrowsByFront-after}
 use Rattle.hir_io.specs.Text.{HasNoLineEnd, TakesLine}
 use Rattle.hir_io.specs.LineState.{LineState}
 use Rattle.hir_io.specs.Reading.{Fills}
-use Rattle.hir_io.specs.NextLine.{untaken, TakesTold, IsBegunLine}
+use Rattle.hir_io.specs.NextLine.{bytes_left, TakesTold, IsBegunLine}
 
 pub Keeps-same : (known : Option (List ℕ)) → Keeps known known
 Keeps-same None = tt
@@ -20,7 +20,7 @@ Keeps-twice (Some xs) (Some ys) None p q = absurd q
 Keeps-twice (Some xs) (Some ys) (Some zs) p q = q ∙ p
 
 -- a read takes nothing from what is still to be taken
-pub filled_keeps : (pending bytes : List ℕ) (rem rem' : Option (List ℕ)) → Consumes rem rem' bytes → (bytes ≡ [] → IsAtEnd rem) → Keeps (untaken pending false rem) (untaken (pending ++ bytes) (eqb (length bytes) 0) rem')
+pub filled_keeps : (pending bytes : List ℕ) (rem rem' : Option (List ℕ)) → Consumes rem rem' bytes → (bytes ≡ [] → IsAtEnd rem) → Keeps (bytes_left pending false rem) (bytes_left (pending ++ bytes) (eqb (length bytes) 0) rem')
 filled_keeps pending bytes None rem' c e = tt
 filled_keeps pending bytes (Some xs) None c e = absurd c
 filled_keeps pending [] (Some xs) (Some ys) c e = ap (λ v. pending ++ v) (sym (e refl))
@@ -28,7 +28,7 @@ filled_keeps pending (b ∷ bs) (Some xs) (Some ys) c e =
     let some : eqb (length (b ∷ bs)) 0 ≡ false = grind (arith, nat_tests) in
     rw some (append_assoc pending (b ∷ bs) ys ∙ ap (λ v. pending ++ v) (sym c))
 
-pub kept_filled : (old rem rem' : Option (List ℕ)) (before after : LineState) → Keeps old (untaken before.pending before.at_end rem) → before.at_end ≡ false → Fills before after rem rem' (Ok tt) → Keeps old (untaken after.pending after.at_end rem')
+pub kept_filled : (old rem rem' : Option (List ℕ)) (before after : LineState) → Keeps old (bytes_left before.pending before.at_end rem) → before.at_end ≡ false → Fills before after rem rem' (Ok tt) → Keeps old (bytes_left after.pending after.at_end rem')
 kept_filled old rem rem' before after k more fills =
     let pending : after.pending ≡ before.pending ++ fills.0 = ap (λ v. v.pending) fills.2 in
     let at_end : after.at_end ≡ eqb (length fills.0) 0 = ap (λ v. v.at_end) fills.2 in
@@ -39,7 +39,7 @@ line_of_more : (pending rest more line : List ℕ) → TakesLine pending rest li
 line_of_more pending rest more line (free, inl e) = (free, inl (ap (λ v. v ++ more) e ∙ append_assoc line (10 ∷ rest) more))
 line_of_more pending rest more line (free, inr e) = absurd (cc e.0)
 
-pub taken_told : (pending rest line : List ℕ) (at_end : Bool) (rem : Option (List ℕ)) → TakesLine pending rest line at_end → TakesTold (untaken pending at_end rem) (untaken rest at_end rem) line at_end
+pub taken_told : (pending rest line : List ℕ) (at_end : Bool) (rem : Option (List ℕ)) → TakesLine pending rest line at_end → TakesTold (bytes_left pending at_end rem) (bytes_left rest at_end rem) line at_end
 taken_told pending rest line at_end None t = tt
 taken_told pending rest line true (Some more) t = t
 taken_told pending rest line false (Some more) t = line_of_more pending rest more line t
@@ -51,18 +51,18 @@ taken_after (Some xs) (Some ys) None line at_end k t = absurd t
 taken_after (Some xs) (Some ys) (Some zs) line at_end k t = let P : List ℕ → Type 0 = λ v. TakesLine v zs line at_end in subst P k t
 
 -- nothing is left where the end was met and nothing is pending
-pub none_left : (old rem : Option (List ℕ)) → Keeps old (untaken [] true rem) → IsAtEnd old × IsAtEnd (untaken [] true rem)
+pub none_left : (old rem : Option (List ℕ)) → Keeps old (bytes_left [] true rem) → IsAtEnd old × IsAtEnd (bytes_left [] true rem)
 none_left None None k = (tt, tt)
 none_left None (Some rest) k = (tt, refl)
 none_left (Some xs) None k = absurd k
 none_left (Some xs) (Some rest) k = (sym k, refl)
 
 -- a read that failed leaves the beginning of a line
-pub begun : (old rem rem' : Option (List ℕ)) (pending : List ℕ) → Keeps old (untaken pending false rem) → IsKeptOrUntold rem rem' → HasNoLineEnd pending → IsBegunLine old rem' pending
-begun None rem rem' pending k u free = tt
-begun (Some xs) None rem' pending k u free = absurd k
-begun (Some xs) (Some rest) None pending k u free = (rest, sym k, free, tt)
-begun (Some xs) (Some rest) (Some rest') pending k u free = (rest, sym k, free, cc)
+pub begins_line : (old rem rem' : Option (List ℕ)) (pending : List ℕ) → Keeps old (bytes_left pending false rem) → IsKeptOrUntold rem rem' → HasNoLineEnd pending → IsBegunLine old rem' pending
+begins_line None rem rem' pending k u free = tt
+begins_line (Some xs) None rem' pending k u free = absurd k
+begins_line (Some xs) (Some rest) None pending k u free = (rest, sym k, free, tt)
+begins_line (Some xs) (Some rest) (Some rest') pending k u free = (rest, sym k, free, cc)
 
 -- what waited was written before the read
 pub written_all : (old mid new : Option (List ℕ)) (waiting rest : List ℕ) → IsWrittenUpTo old mid waiting rest → Appends mid new rest → IsWrittenUpTo old new waiting []

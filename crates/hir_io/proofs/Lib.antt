@@ -1,6 +1,6 @@
-pub mod Told
+pub mod StdEndLemmas
 pub mod Ranges
-pub mod Held
+pub mod HeldBytes
 pub mod Asking
 pub mod EndLemmas
 pub mod Places

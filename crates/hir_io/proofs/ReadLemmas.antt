@@ -1,7 +1,7 @@
 -- Reading on: what one more line, the end, a failed read or a second stage make of the lines that were read.
 use Rattle.std.proofs.Common.{◌≡◌, ℕ, Bool, true, false, List, [], ◌∷◌, ◌++◌, Option, None, Some, refl, sym, ap, ◌∙◌, inl, inr, append_assoc, append-nil, flat_map}
 use Rattle.std.specs.Io.KnownBytes.{IsAtEnd}
-use Rattle.hir_io.specs.Text.{lines, ended, TakesLine, IsRead}
+use Rattle.hir_io.specs.Text.{lines, with_line_end, TakesLine, IsRead}
 use Rattle.hir_io.proofs.TextLemmas.{lines-ended, lines-taken, ended-append, all-append}
 use Rattle.hir_io.specs.NextLine.{TakesTold, IsBegunLine}
 use Rattle.hir_io.specs.Reads.{Reads, ReadsAll, ReadsFront, ReadsUntilFailure}
@@ -16,13 +16,13 @@ pub is_read_joined : (input : List ℕ) (texts more : List (List ℕ)) (mid rest
 is_read_joined input texts more mid rest was true r s stays =
     is_read_lines input texts mid was r ∙ ap (λ v. texts ++ v) s ∙ sym (append_assoc texts more (lines rest))
 is_read_joined input texts more mid rest false false r s stays =
-    (r.0 ∙ ap (λ v. flat_map ended texts ++ v) s.0 ∙ sym (append_assoc (flat_map ended texts) (flat_map ended more) rest) ∙ ap (λ v. v ++ rest) (sym (ended-append texts more)), all-append texts more r.1 s.1)
+    (r.0 ∙ ap (λ v. flat_map with_line_end texts ++ v) s.0 ∙ sym (append_assoc (flat_map with_line_end texts) (flat_map with_line_end more) rest) ∙ ap (λ v. v ++ rest) (sym (ended-append texts more)), all-append texts more r.1 s.1)
 is_read_joined input texts more mid rest true false r s stays = absurd (cc (stays refl))
 
 -- one line was taken
 pub is_read_line : (text rest line : List ℕ) (at_end : Bool) → TakesLine text rest line at_end → IsRead text (line ∷ []) rest at_end
 is_read_line text rest line true t = lines-taken text rest line true t
-is_read_line text rest line false (free, inl e) = (e ∙ sym (append_assoc line (10 ∷ []) rest) ∙ ap (λ v. v ++ rest) (sym (append-nil (ended line))), (free, tt))
+is_read_line text rest line false (free, inl e) = (e ∙ sym (append_assoc line (10 ∷ []) rest) ∙ ap (λ v. v ++ rest) (sym (append-nil (with_line_end line))), (free, tt))
 is_read_line text rest line false (free, inr e) = absurd (cc e.0)
 
 -- before the first line
@@ -78,14 +78,14 @@ ReadsUntilFailure-now None old remaining texts begun at_end r w b = tt
 ReadsUntilFailure-now (Some input) None remaining texts begun at_end r w b = absurd r
 ReadsUntilFailure-now (Some input) (Some rest) remaining texts begun at_end r w b =
     let read = rw w at r in
-    (b.0, record { whole = read.0 ∙ ap (λ v. flat_map ended texts ++ v) b.1 ∙ sym (append_assoc (flat_map ended texts) begun b.0); each = read.1; no_end = b.2 }, b.3)
+    (b.0, record { whole = read.0 ∙ ap (λ v. flat_map with_line_end texts ++ v) b.1 ∙ sym (append_assoc (flat_map with_line_end texts) begun b.0); each = read.1; no_end = b.2 }, b.3)
 
 pub ReadsUntilFailure-joined : (known mid remaining : Option (List ℕ)) (texts more : List (List ℕ)) (begun : List ℕ) (was : Bool) → Reads known texts mid was → was ≡ false → ReadsUntilFailure mid more begun remaining → ReadsUntilFailure known (texts ++ more) begun remaining
 ReadsUntilFailure-joined None mid remaining texts more begun was r w s = tt
 ReadsUntilFailure-joined (Some input) None remaining texts more begun was r w s = absurd r
 ReadsUntilFailure-joined (Some input) (Some text) remaining texts more begun was r w s =
     let read = rw w at r in
-    let regrouped : (flat_map ended more ++ begun) ++ s.0 ≡ flat_map ended more ++ (begun ++ s.0) = append_assoc (flat_map ended more) begun s.0 in
-    let joined : flat_map ended (texts ++ more) ++ begun ++ s.0 ≡ flat_map ended texts ++ (flat_map ended more ++ begun ++ s.0) =
+    let regrouped : (flat_map with_line_end more ++ begun) ++ s.0 ≡ flat_map with_line_end more ++ (begun ++ s.0) = append_assoc (flat_map with_line_end more) begun s.0 in
+    let joined : flat_map with_line_end (texts ++ more) ++ begun ++ s.0 ≡ flat_map with_line_end texts ++ (flat_map with_line_end more ++ begun ++ s.0) =
     rw (ended-append texts more) (simp append_assoc) in
-    (s.0, record { whole = read.0 ∙ ap (λ v. flat_map ended texts ++ v) s.1.whole ∙ sym joined; each = all-append texts more read.1 s.1.each; no_end = s.1.no_end }, s.2)
+    (s.0, record { whole = read.0 ∙ ap (λ v. flat_map with_line_end texts ++ v) s.1.whole ∙ sym joined; each = all-append texts more read.1 s.1.each; no_end = s.1.no_end }, s.2)

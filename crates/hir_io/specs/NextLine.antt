@@ -8,10 +8,10 @@ use Rattle.hir_io.specs.Text.{HasNoLineEnd, TakesLine}
 use Rattle.hir_io.specs.LineState.{LineState}
 
 -- the bytes that are still to be taken, if shown: those pending, and after them what the source has left, unless its end was met
-abbrev pub untaken : List ℕ → Bool → Option (List ℕ) → Option (List ℕ)
-untaken pending at_end None = None
-untaken pending true (Some rest) = Some pending
-untaken pending false (Some rest) = Some (pending ++ rest)
+abbrev pub bytes_left : List ℕ → Bool → Option (List ℕ) → Option (List ℕ)
+bytes_left pending at_end None = None
+bytes_left pending true (Some rest) = Some pending
+bytes_left pending false (Some rest) = Some (pending ++ rest)
 
 -- the first line was taken from the shown bytes
 abbrev pub TakesTold : Option (List ℕ) → Option (List ℕ) → List ℕ → Bool → Type 0

@@ -1,8 +1,8 @@
 -- What the calls of a line reader do.
 use Rattle.std.specs.Prelude.{◌≡◌, ℕ, ◌+◌, Bool, true, false, eqb, List, [], ◌++◌, length, Option, Result, Ok, Err}
 use Rattle.std.specs.Io.KnownBytes.{Consumes, IsAtEnd}
-use Rattle.hir_io.specs.declared.lines.Taken.{Taken}
-use Rattle.hir_io.specs.declared.lines.Taken.TheVariants.{Line, More, End}
+use Rattle.hir_io.specs.declared.lines.LineTaken.{LineTaken}
+use Rattle.hir_io.specs.declared.lines.LineTaken.TheVariants.{Line, More, End}
 use Rattle.hir_io.specs.declared.lines.FillFault.{FillFault}
 use Rattle.hir_io.specs.declared.lines.FillFault.TheVariants.{OutOfMemory, InputFailed}
 use Rattle.hir_io.specs.Ends.{IsKeptOrUntold}
@@ -14,7 +14,7 @@ abbrev pub without_line : LineState → LineState
 without_line old = record old { line = [] }
 
 -- what taking a line does, without a read
-abbrev pub Takes : LineState → LineState → Taken → Type 0
+abbrev pub Takes : LineState → LineState → LineTaken → Type 0
 Takes old new Line =
     TakesLine old.pending new.pending new.line old.at_end × (new.at_end ≡ old.at_end)
     × (new.count ≡ old.count + 1)

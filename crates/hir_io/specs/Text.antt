@@ -16,8 +16,8 @@ without_empty_last (part ∷ other ∷ parts) = part ∷ without_empty_last (oth
 abbrev pub lines : List ℕ → List (List ℕ)
 lines text = without_empty_last (slice_split is_line_end text)
 
-abbrev pub ended : List ℕ → List ℕ
-ended line = line ++ 10 ∷ []
+abbrev pub with_line_end : List ℕ → List ℕ
+with_line_end line = line ++ 10 ∷ []
 
 abbrev pub HasNoLineEnd : List ℕ → Type 0
 HasNoLineEnd bytes = All (λ b. is_line_end b ≡ false) bytes
@@ -36,11 +36,12 @@ TakesLine text rest line at_end =
 
 -- these are the first lines of the input, and this is what follows them; before its end is met, each of them has its own line end
 abbrev pub IsRead : List ℕ → List (List ℕ) → List ℕ → Bool → Type 0
-IsRead input texts rest false = (input ≡ flat_map ended texts ++ rest) × AllByRecursion HasNoLineEnd texts
+IsRead input texts rest false = (input ≡ flat_map with_line_end texts ++ rest)
+    × AllByRecursion HasNoLineEnd texts
 IsRead input texts rest true = lines input ≡ texts ++ lines rest
 
 -- these are the first lines of the input, then a line was begun, and the rest wasn't read
 pub record IsCutShort (input : List ℕ) (texts : List (List ℕ)) (begun unread : List ℕ) : Type 0 where
-  pub whole : input ≡ flat_map ended texts ++ begun ++ unread
+  pub whole : input ≡ flat_map with_line_end texts ++ begun ++ unread
   pub each : AllByRecursion HasNoLineEnd texts
   pub no_end : HasNoLineEnd begun

@@ -34,7 +34,7 @@ pub trait Source {
     ghost remaining: { Self → Option (List ℕ) };
 
     // Whether a call has failed.
-    ghost failed: { Self → Bool };
+    ghost is_failed: { Self → Bool };
 
     // A number that falls by each byte that is read.
     ghost allowance: { Self → ℕ };
@@ -47,15 +47,15 @@ pub trait Source {
             (λ n. Consumes (remaining self.old) (remaining self.new) (take n buffer.new)) }
         ensures end { result ≡ Ok 0 → 0 < length buffer.new → IsAtEnd (remaining self.old) }
         ensures err { OnErr result (IsKeptOrUntold (remaining self.old) (remaining self.new)) }
-        ensures failure { failed self.new ≡ (is_err result || failed self.old) }
+        ensures failure { is_failed self.new ≡ (is_err result || is_failed self.old) }
         ensures falls { IfOk result (λ n. allowance self.new + n ≤ allowance self.old) };
 
     /// Whether a call has failed.
     fn has_failed(&self) -> bool
-        ensures { result ≡ failed self.now };
+        ensures { result ≡ is_failed self.now };
 
     // The number fits 64 bits.
-    ghost bounded: { (source : Self) → allowance source < 2 ^ 64 };
+    ghost allowance_fits: { (source : Self) → allowance source < 2 ^ 64 };
 }
 
 /// Where bytes are written to.
@@ -66,7 +66,7 @@ pub trait Sink {
     ghost contents: { Self → Option (List ℕ) };
 
     // Whether a call has failed.
-    ghost failed: { Self → Bool };
+    ghost is_failed: { Self → Bool };
 
     /// Writes some bytes from the front of the buffer, at least one if there are any, and answers how many. After an
     /// `Err` what was written is as before or no longer shown, and `has_failed` is true from then on.
@@ -76,18 +76,18 @@ pub trait Sink {
         ensures bytes { IfOk result
             (λ n. Appends (contents self.old) (contents self.new) (take n buffer.now)) }
         ensures err { OnErr result (IsKeptOrUntold (contents self.old) (contents self.new)) }
-        ensures failure { failed self.new ≡ (is_err result || failed self.old) };
+        ensures failure { is_failed self.new ≡ (is_err result || is_failed self.old) };
 
     /// Whether a call has failed.
     fn has_failed(&self) -> bool
-        ensures { result ≡ failed self.now };
+        ensures { result ≡ is_failed self.now };
 }
 
 /// Writes all the bytes. After an `Err` a prefix of them was written. If there are none, the writer isn't called.
 pub fn write_all<W: Sink>(writer: &mut W, bytes: &[u8]) -> Result<(), EndFailed>
     ensures bytes { OnOk result (Appends (W.contents writer.old) (W.contents writer.new) bytes.now) }
     ensures err { OnErr result (GrowsByFront (W.contents writer.old) (W.contents writer.new) bytes.now) }
-    ensures failure { W.failed writer.new ≡ (is_err result || W.failed writer.old) }
+    ensures failure { W.is_failed writer.new ≡ (is_err result || W.is_failed writer.old) }
     ensures idle { bytes.now ≡ [] → IsOk result × (writer.new ≡ writer.old) }
 {
     let mut rest = bytes;
@@ -103,7 +103,7 @@ pub fn write_decimal<W: Sink>(writer: &mut W, number: u64) -> Result<(), EndFail
     ensures bytes { OnOk result (Appends (W.contents writer.old) (W.contents writer.new) (decimal number)) }
     ensures err { OnErr result
         (GrowsByFront (W.contents writer.old) (W.contents writer.new) (decimal number)) }
-    ensures failure { W.failed writer.new ≡ (is_err result || W.failed writer.old) }
+    ensures failure { W.is_failed writer.new ≡ (is_err result || W.is_failed writer.old) }
 {
     let mut digits = Buffer::new();
     write_all(writer, digits.format(number).as_bytes())

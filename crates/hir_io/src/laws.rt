@@ -4,7 +4,7 @@ ghost use Rattle.std.specs.Prelude.{◌≡◌};
 ghost use Rattle.std.specs.Bool.{Decides};
 
 use crate::ends::EndFailed;
-use crate::lines::{FillFault, Taken};
+use crate::lines::{FillFault, LineTaken};
 use crate::next::LineFault;
 use crate::std_end::Attempt;
 
@@ -13,6 +13,6 @@ pub fn answers_are_compared_by_all_fields()
     ensures failures { (x y : EndFailed) → Decides (⟦<EndFailed as PartialEq>⟧.eq x y) (x ≡ y) }
     ensures fills { (x y : FillFault) → Decides (⟦<FillFault as PartialEq>⟧.eq x y) (x ≡ y) }
     ensures lines { (x y : LineFault) → Decides (⟦<LineFault as PartialEq>⟧.eq x y) (x ≡ y) }
-    ensures taken { (x y : Taken) → Decides (⟦<Taken as PartialEq>⟧.eq x y) (x ≡ y) }
+    ensures taken { (x y : LineTaken) → Decides (⟦<LineTaken as PartialEq>⟧.eq x y) (x ≡ y) }
     ensures attempts { (x y : Attempt) → Decides (⟦<Attempt as PartialEq>⟧.eq x y) (x ≡ y) }
 {}

@@ -15,7 +15,7 @@ const BLOCK: usize = 65536;
 
 /// What `take_line` found.
 #[derive(Clone, Copy, PartialEq, Eq)]
-pub enum Taken {
+pub enum LineTaken {
     /// A line was taken.
     Line,
     /// The pending bytes have no line end, and more may come.
@@ -151,7 +151,7 @@ impl LineReader {
 
     /// Takes a line from the pending bytes, without a read. The last line may lack its end once the end of the input was met.
     #[inline(always)]
-    pub fn take_line(&mut self) -> Taken
+    pub fn take_line(&mut self) -> LineTaken
         requires { self.old.count + length self.old.pending < 2 ^ 64 }
         ensures { Takes self.old self.new result }
     {
@@ -163,23 +163,23 @@ impl LineReader {
                 self.start = end + 1;
                 self.scanned = end + 1;
                 self.count += 1;
-                Taken::Line
+                LineTaken::Line
             }
             None => {
                 self.scanned = self.filled;
                 if !self.at_end {
-                    return Taken::More;
+                    return LineTaken::More;
                 }
                 if self.start == self.filled {
                     self.line_start = 0;
                     self.line_end = 0;
-                    return Taken::End;
+                    return LineTaken::End;
                 }
                 self.line_start = self.start;
                 self.line_end = self.filled;
                 self.start = self.filled;
                 self.count += 1;
-                Taken::Line
+                LineTaken::Line
             }
         }
     }
@@ -191,7 +191,7 @@ impl LineReader {
     pub fn fill<R: Source>(&mut self, reader: &mut R) -> Result<(), FillFault>
         ensures fills { Fills self.old self.new (R.remaining reader.old) (R.remaining reader.new) result }
         ensures unread { result ≡ Err FillFault.OutOfMemory → reader.new ≡ reader.old }
-        ensures failure { R.failed reader.new ≡ (is_failed_read result || R.failed reader.old) }
+        ensures failure { R.is_failed reader.new ≡ (is_failed_read result || R.is_failed reader.old) }
         ensures falls { OnOk result
             (length self.new.pending + R.allowance reader.new
             ≤ length self.old.pending + R.allowance reader.old) }

@@ -2,10 +2,10 @@
 
 ghost use Rattle.std.specs.Prelude.{◌≡◌, ◌+◌, ◌≤◌, ◌<◌, ◌^◌, ◌||◌, ◌⊎◌, [], true, false, length, cond};
 ghost use Rattle.hir_io.specs.Text.{HasNoLineEnd};
-ghost use Rattle.hir_io.specs.NextLine.{NextTakes, NextWrites, untaken, is_found, is_failed_input, is_failed_output};
+ghost use Rattle.hir_io.specs.NextLine.{NextTakes, NextWrites, bytes_left, is_found, is_failed_input, is_failed_output};
 
 use crate::ends::{Sink, Source};
-use crate::lines::{FillFault, LineReader, Taken};
+use crate::lines::{FillFault, LineReader, LineTaken};
 use crate::output::OutputBuffer;
 use std::fmt;
 use thiserror::Error;
@@ -51,16 +51,16 @@ pub fn next_line<R: Source, W: Sink>(
     writer: &mut W,
 ) -> Result<bool, LineFault>
     requires fits { lines.old.count + length lines.old.pending + R.allowance reader.old < 2 ^ 64 }
-    ensures takes { NextTakes (untaken lines.old.pending lines.old.at_end (R.remaining reader.old))
-        (untaken lines.new.pending lines.new.at_end (R.remaining reader.new))
+    ensures takes { NextTakes (bytes_left lines.old.pending lines.old.at_end (R.remaining reader.old))
+        (bytes_left lines.new.pending lines.new.at_end (R.remaining reader.new))
         (R.remaining reader.new) lines.old lines.new result }
     ensures writes { NextWrites (W.contents writer.old) (W.contents writer.new) output.old output.new result }
     ensures count { lines.new.count ≡ lines.old.count + cond (is_found result) 1 0 }
     ensures falls { is_failed_input result ≡ false →
         length lines.new.pending + R.allowance reader.new + cond (is_found result) 1 0
         ≤ length lines.old.pending + R.allowance reader.old }
-    ensures input_failure { R.failed reader.new ≡ (is_failed_input result || R.failed reader.old) }
-    ensures output_failure { W.failed writer.new ≡ (is_failed_output result || W.failed writer.old) }
+    ensures input_failure { R.is_failed reader.new ≡ (is_failed_input result || R.is_failed reader.old) }
+    ensures output_failure { W.is_failed writer.new ≡ (is_failed_output result || W.is_failed writer.old) }
     // If nothing waits, the writer isn't called.
     ensures idle { output.old ≡ [] →
         (is_failed_output result ≡ false) × (writer.new ≡ writer.old) × (output.new ≡ []) }
@@ -69,9 +69,9 @@ pub fn next_line<R: Source, W: Sink>(
     ensures stays_ended { lines.old.at_end ≡ true → lines.new.at_end ≡ true }
 {
     match lines.take_line() {
-        Taken::Line => Ok(true),
-        Taken::End => Ok(false),
-        Taken::More => read_line(lines, reader, output, writer),
+        LineTaken::Line => Ok(true),
+        LineTaken::End => Ok(false),
+        LineTaken::More => read_line(lines, reader, output, writer),
     }
 }
 
@@ -84,16 +84,16 @@ fn read_line<R: Source, W: Sink>(
     writer: &mut W,
 ) -> Result<bool, LineFault>
     requires fits { lines.old.count + length lines.old.pending + R.allowance reader.old < 2 ^ 64 }
-    ensures takes { NextTakes (untaken lines.old.pending lines.old.at_end (R.remaining reader.old))
-        (untaken lines.new.pending lines.new.at_end (R.remaining reader.new))
+    ensures takes { NextTakes (bytes_left lines.old.pending lines.old.at_end (R.remaining reader.old))
+        (bytes_left lines.new.pending lines.new.at_end (R.remaining reader.new))
         (R.remaining reader.new) lines.old lines.new result }
     ensures writes { NextWrites (W.contents writer.old) (W.contents writer.new) output.old output.new result }
     ensures count { lines.new.count ≡ lines.old.count + cond (is_found result) 1 0 }
     ensures falls { is_failed_input result ≡ false →
         length lines.new.pending + R.allowance reader.new + cond (is_found result) 1 0
         ≤ length lines.old.pending + R.allowance reader.old }
-    ensures input_failure { R.failed reader.new ≡ (is_failed_input result || R.failed reader.old) }
-    ensures output_failure { W.failed writer.new ≡ (is_failed_output result || W.failed writer.old) }
+    ensures input_failure { R.is_failed reader.new ≡ (is_failed_input result || R.is_failed reader.old) }
+    ensures output_failure { W.is_failed writer.new ≡ (is_failed_output result || W.is_failed writer.old) }
     // If nothing waits, the writer isn't called.
     ensures idle { output.old ≡ [] →
         (is_failed_output result ≡ false) × (writer.new ≡ writer.old) × (output.new ≡ []) }
@@ -103,9 +103,9 @@ fn read_line<R: Source, W: Sink>(
 {
     loop {
         match lines.take_line() {
-            Taken::Line => return Ok(true),
-            Taken::End => return Ok(false),
-            Taken::More => {}
+            LineTaken::Line => return Ok(true),
+            LineTaken::End => return Ok(false),
+            LineTaken::More => {}
         }
         if output.flush(writer).is_err() {
             return Err(LineFault::OutputFailed);

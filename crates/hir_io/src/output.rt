@@ -60,7 +60,7 @@ impl OutputBuffer {
         ensures err { OnErr result
             (GrowsByFront (W.contents writer.old) (W.contents writer.new) (self.old ++ bytes.now)
             × (self.new ≡ [])) }
-        ensures failure { W.failed writer.new ≡ (is_err result || W.failed writer.old) }
+        ensures failure { W.is_failed writer.new ≡ (is_err result || W.is_failed writer.old) }
         ensures waits { length self.old + length bytes.now ≤ CAPACITY →
             IsOk result × (writer.new ≡ writer.old) }
     {
@@ -82,7 +82,7 @@ impl OutputBuffer {
         ensures err { OnErr result
             (GrowsByFront (W.contents writer.old) (W.contents writer.new) (self.old ++ decimal number)
             × (self.new ≡ [])) }
-        ensures failure { W.failed writer.new ≡ (is_err result || W.failed writer.old) }
+        ensures failure { W.is_failed writer.new ≡ (is_err result || W.is_failed writer.old) }
         ensures waits { length self.old + length (decimal number) ≤ CAPACITY →
             IsOk result × (writer.new ≡ writer.old) }
     {
@@ -97,7 +97,7 @@ impl OutputBuffer {
         ensures empty { self.new ≡ [] }
         ensures bytes { OnOk result (Appends (W.contents writer.old) (W.contents writer.new) self.old) }
         ensures err { OnErr result (GrowsByFront (W.contents writer.old) (W.contents writer.new) self.old) }
-        ensures failure { W.failed writer.new ≡ (is_err result || W.failed writer.old) }
+        ensures failure { W.is_failed writer.new ≡ (is_err result || W.is_failed writer.old) }
         ensures idle { self.old ≡ [] → IsOk result × (writer.new ≡ writer.old) }
     {
         let result = write_all(writer, &self.bytes);

@@ -108,11 +108,11 @@ impl<T: Read> Source for StdEnd<T> {
 
     ghost remaining = { λ s. unless_overrun s.has_overrun (T.remaining s.inner) };
 
-    ghost failed = { λ s. s.has_failed };
+    ghost is_failed = { λ s. s.has_failed };
 
     ghost allowance = { λ s. min s.allowance (2 ^ 64 - 1) };
 
-    ghost bounded = { λ s. omega arith };
+    ghost allowance_fits = { λ s. omega arith };
 
     fn read(&mut self, buffer: &mut [u8]) -> Result<usize, EndFailed>
         ensures count { IfOk result (λ n. n ≤ length buffer.new) }
@@ -122,7 +122,8 @@ impl<T: Read> Source for StdEnd<T> {
         ensures end { result ≡ Ok 0 → 0 < length buffer.new →
             IsAtEnd (unless_overrun self.old.has_overrun (T.remaining self.old.inner)) }
         ensures err { OnErr result
-            (IsKeptWithin self.old.allowance (unless_overrun self.old.has_overrun (T.remaining self.old.inner))
+            (IsKeptWithin self.old.allowance (unless_overrun self.old.has_overrun
+            (T.remaining self.old.inner))
             (unless_overrun self.new.has_overrun (T.remaining self.new.inner))) }
         ensures failure { self.new.has_failed ≡ (is_err result || self.old.has_failed) }
         ensures falls { IfOk result
@@ -154,7 +155,7 @@ impl<T: Read> Source for StdEnd<T> {
 impl<T: Write> Sink for StdEnd<T> {
     ghost contents = { λ s. T.contents s.inner };
 
-    ghost failed = { λ s. s.has_failed };
+    ghost is_failed = { λ s. s.has_failed };
 
     fn write(&mut self, buffer: &[u8]) -> Result<usize, EndFailed>
         ensures count { IfOk result (λ n. n ≤ length buffer.now) }

@@ -9,7 +9,7 @@ use std::io::{Error, ErrorKind, Read, Result as IoResult, Write};
 
 /// Bytes that are read some at a time, but for one call that fails.
 #[derive(Drop)]
-pub struct Given<'a> {
+pub struct FailingReader<'a> {
     bytes: &'a [u8],
     at: usize,
     step: usize,
@@ -18,9 +18,9 @@ pub struct Given<'a> {
     has_failed: bool,
 }
 
-impl<'a> Given<'a> {
-    pub fn new(bytes: &'a [u8], step: usize, fails_at: u64) -> Given<'a> {
-        Given {
+impl<'a> FailingReader<'a> {
+    pub fn new(bytes: &'a [u8], step: usize, fails_at: u64) -> FailingReader<'a> {
+        FailingReader {
             bytes,
             at: 0,
             step,
@@ -31,17 +31,17 @@ impl<'a> Given<'a> {
     }
 }
 
-impl Source for Given<'_> {
+impl Source for FailingReader<'_> {
     ghost use Rattle.std.specs.Prelude.{None, min, length, ◌-◌, ◌^◌};
     ghost use Rattle.std.proofs.Common.{arith};
 
     ghost remaining = { λ _. None };
 
-    ghost failed = { λ s. s.has_failed };
+    ghost is_failed = { λ s. s.has_failed };
 
     ghost allowance = { λ s. min (length s.bytes.now - s.at) (2 ^ 64 - 1) };
 
-    ghost bounded = { λ s. omega arith };
+    ghost allowance_fits = { λ s. omega arith };
 
     fn read(&mut self, buffer: &mut [u8]) -> Result<usize, EndFailed> {
         let call = self.calls;
@@ -62,12 +62,12 @@ impl Source for Given<'_> {
     }
 }
 
-/// How many bytes a `Kept` keeps.
+/// How many bytes a `FailingWriter` keeps.
 const ROOM: usize = 128;
 
 /// The first bytes are kept and all are counted, but for the calls from one on, which fail.
 #[derive(Drop)]
-pub struct Kept {
+pub struct FailingWriter {
     bytes: [u8; ROOM],
     pub len: usize,
     step: usize,
@@ -76,9 +76,9 @@ pub struct Kept {
     has_failed: bool,
 }
 
-impl Kept {
-    pub fn new(step: usize, fails_from: u64) -> Kept {
-        Kept {
+impl FailingWriter {
+    pub fn new(step: usize, fails_from: u64) -> FailingWriter {
+        FailingWriter {
             bytes: [0; ROOM],
             len: 0,
             step,
@@ -93,12 +93,12 @@ impl Kept {
     }
 }
 
-impl Sink for Kept {
+impl Sink for FailingWriter {
     ghost use Rattle.std.specs.Prelude.{None};
 
     ghost contents = { λ _. None };
 
-    ghost failed = { λ s. s.has_failed };
+    ghost is_failed = { λ s. s.has_failed };
 
     fn write(&mut self, buffer: &[u8]) -> Result<usize, EndFailed> {
         let call = self.calls;

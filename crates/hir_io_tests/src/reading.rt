@@ -3,7 +3,7 @@
 
 ghost use Rattle.std.specs.Prelude.{◌+◌, ◌<◌, ◌^◌, length};
 
-use crate::fakes::{Given, Kept};
+use crate::fakes::{FailingReader, FailingWriter};
 use hir_io::{LineFault, LineReader, OutputBuffer, Sink, Source, next_line};
 use std::alloc::{AllocError, Global};
 use std::test::Fail;
@@ -33,7 +33,12 @@ fn echo<R: Source, W: Sink>(
 type Ran = (Result<u64, LineFault>, bool, (u64, bool), (u64, bool));
 
 /// Echoes all lines of a source, and says how that ran where the sink should have this echo.
-fn run(alloc: Global, mut reader: Given, mut writer: Kept, echoed: &[u8]) -> Result<Ran, Fail> {
+fn run(
+    alloc: Global,
+    mut reader: FailingReader,
+    mut writer: FailingWriter,
+    echoed: &[u8],
+) -> Result<Ran, Fail> {
     let mut lines = LineReader::new(alloc)?;
     let mut output = OutputBuffer::new(alloc)?;
     let ended = echo(&mut lines, &mut reader, &mut output, &mut writer);
@@ -61,8 +66,8 @@ fn takes_lines_across_reads(rt: HostRuntime) -> Result<(), Fail> {
     let alloc = rt.alloc();
     for (text, echoed, count) in &TEXTS {
         for step in &[1, 2, 3, 5, 100] {
-            let reader = Given::new(text, *step, u64::MAX);
-            let ran = run(alloc, reader, Kept::new(7, u64::MAX), echoed)?;
+            let reader = FailingReader::new(text, *step, u64::MAX);
+            let ran = run(alloc, reader, FailingWriter::new(7, u64::MAX), echoed)?;
             assert!(rt; ran.0 == Ok(*count) && ran.1, "{count} lines by {step}");
         }
     }
@@ -81,12 +86,12 @@ fn stops_where_a_read_fails(rt: HostRuntime) -> Result<(), Fail> {
     let alloc = rt.alloc();
     // Each read gives one byte, and one more meets the end: what was read before the failed one is answered.
     for (call, whole) in WHOLE.iter().enumerate() {
-        let reader = Given::new(TEXT, 1, call as u64);
+        let reader = FailingReader::new(TEXT, 1, call as u64);
         let answered = ECHO.get(..*whole).unwrap_or(b"");
         let (ended, is_echoed, reads, writes) = run(
             alloc,
             reader,
-            Kept::new(1000, u64::MAX),
+            FailingWriter::new(1000, u64::MAX),
             answered,
         )?;
         assert!(rt;
@@ -96,15 +101,15 @@ fn stops_where_a_read_fails(rt: HostRuntime) -> Result<(), Fail> {
         assert!(rt; reads == (call as u64 + 1, true) && !writes.1, "at {call}");
     }
     // The end is asked for once.
-    let reader = Given::new(TEXT, 1, TEXT.len() as u64 + 1);
-    let ran = run(alloc, reader, Kept::new(1000, u64::MAX), ECHO)?;
+    let reader = FailingReader::new(TEXT, 1, TEXT.len() as u64 + 1);
+    let ran = run(alloc, reader, FailingWriter::new(1000, u64::MAX), ECHO)?;
     assert!(rt; ran.0 == Ok(4) && ran.1);
     // All answers of a block are written by one call, before the read that meets the end.
-    let reader = Given::new(TEXT, 100, 1);
+    let reader = FailingReader::new(TEXT, 100, 1);
     let (ended, is_echoed, _, writes) = run(
         alloc,
         reader,
-        Kept::new(1000, u64::MAX),
+        FailingWriter::new(1000, u64::MAX),
         b"one$$three$",
     )?;
     assert!(rt; ended == Err(LineFault::InputFailed) && is_echoed && writes.0 == 1);
@@ -116,12 +121,12 @@ fn stops_where_a_write_fails(rt: HostRuntime) -> Result<(), Fail> {
     let alloc = rt.alloc();
     for step in &[1, 4, 100] {
         for call in 0..ECHO.len() as u64 {
-            let reader = Given::new(TEXT, *step, u64::MAX);
+            let reader = FailingReader::new(TEXT, *step, u64::MAX);
             let written = &ECHO[..call as usize];
             let (ended, is_echoed, reads, writes) = run(
                 alloc,
                 reader,
-                Kept::new(1, call),
+                FailingWriter::new(1, call),
                 written,
             )?;
             assert!(rt;
@@ -140,8 +145,8 @@ static LONG: [u8; 400_000] = [b'x'; 400_000];
 fn takes_the_long_line(alloc: Global, step: usize) -> Result<bool, AllocError> {
     let mut lines = LineReader::new(alloc)?;
     let mut output = OutputBuffer::new(alloc)?;
-    let mut reader = Given::new(&LONG, step, u64::MAX);
-    let mut writer = Kept::new(1, 0);
+    let mut reader = FailingReader::new(&LONG, step, u64::MAX);
+    let mut writer = FailingWriter::new(1, 0);
     let taken = next_line(&mut lines, &mut reader, &mut output, &mut writer);
     Ok(taken == Ok(true) && lines.count() == 1 && lines.line() == LONG.as_slice())
 }

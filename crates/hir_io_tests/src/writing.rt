@@ -1,6 +1,6 @@
 //! Output that waits: when it is written, and what a failed write leaves of it.
 
-use crate::fakes::Kept;
+use crate::fakes::FailingWriter;
 use hir_io::{EndFailed, OutputBuffer, write_all, write_decimal};
 use std::alloc::{AllocError, Global};
 use std::test::Fail;
@@ -22,7 +22,7 @@ const FILLS: [(usize, u64, usize); 6] = [
 /// what waits is written, where it is. To write it again is no call.
 fn fill(alloc: Global) -> Result<Option<(usize, u64, usize)>, AllocError> {
     let mut output = OutputBuffer::new(alloc)?;
-    let mut writer = Kept::new(1_000_000, u64::MAX);
+    let mut writer = FailingWriter::new(1_000_000, u64::MAX);
     let mut right = 0;
     for (at, (count, calls, len)) in FILLS.iter().enumerate() {
         let bytes = TEXT.get(..*count).unwrap_or(b"");
@@ -40,7 +40,7 @@ fn fill(alloc: Global) -> Result<Option<(usize, u64, usize)>, AllocError> {
 /// Whether four numbers are written in digits, each with a comma behind it.
 fn are_digits(alloc: Global) -> Result<bool, AllocError> {
     let mut output = OutputBuffer::new(alloc)?;
-    let mut writer = Kept::new(1_000_000, u64::MAX);
+    let mut writer = FailingWriter::new(1_000_000, u64::MAX);
     let mut is_written = true;
     for number in &[0, 9, 10, 4_294_967_295] {
         is_written &= output.write_number(*number, &mut writer) == Ok(())
@@ -59,7 +59,7 @@ fn what_waits_is_written_in_time(rt: HostRuntime) -> Result<(), Fail> {
 
 /// Whether a text that is written byte by byte is a front of it where the call of this number fails, and one failure is told.
 fn writes_a_front(call: u64) -> bool {
-    let mut writer = Kept::new(1, call);
+    let mut writer = FailingWriter::new(1, call);
     let ended = write_all(&mut writer, b"abcdef");
     ended == Err(EndFailed) && writer.bytes() == &b"abcdef"[..(call as usize).min(6)]
 }
@@ -67,7 +67,7 @@ fn writes_a_front(call: u64) -> bool {
 /// The same of what waits in a buffer. Nothing waits after a failed write, so the next has nothing to write.
 fn flushes_a_front(alloc: Global, call: u64) -> Result<bool, AllocError> {
     let mut output = OutputBuffer::new(alloc)?;
-    let mut sink = Kept::new(1, call);
+    let mut sink = FailingWriter::new(1, call);
     let waits = output.write(b"abc", &mut sink) == Ok(())
         && output.write_number(123, &mut sink) == Ok(())
         && sink.calls == 0;
@@ -93,7 +93,7 @@ fn writes_a_front_before_it_fails(rt: HostRuntime) -> Result<(), Fail> {
 /// Whether the greatest number that is written digit by digit is a front of its digits where the call of this number fails.
 fn digits_are_a_front(call: u64) -> bool {
     let digits = b"18446744073709551615".as_slice();
-    let mut writer = Kept::new(1, call);
+    let mut writer = FailingWriter::new(1, call);
     let ended = write_decimal(&mut writer, u64::MAX);
     let done = (call as usize).min(20);
     ended == (if call < 20 { Err(EndFailed) } else { Ok(()) }) && writer.bytes() == &digits[..done]
@@ -104,7 +104,7 @@ fn writes_digits(rt: HostRuntime) {
     for call in 0..22 {
         assert!(rt; digits_are_a_front(call), "at {call}");
     }
-    let mut writer = Kept::new(1000, u64::MAX);
+    let mut writer = FailingWriter::new(1000, u64::MAX);
     let ended = write_decimal(&mut writer, 0);
     assert!(rt; ended == Ok(()) && writer.calls == 1 && writer.bytes() == b"0".as_slice());
 }

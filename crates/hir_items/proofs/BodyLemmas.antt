@@ -8,7 +8,7 @@ use Rattle.hir_node.specs.declared.node_id.NodeId.{NodeId}
 use Rattle.hir_node.specs.declared.node_id.NodeId.TheVariants as node
 use Rattle.hir_path.specs.Lists.{last_of}
 use Rattle.hir_faults.specs.Sizes.{HasNode}
-use Rattle.hir_expr_store.specs.NodeSets.{Marked, IsIn, Gains}
+use Rattle.hir_expr_store.specs.NodeSets.{MarkedNodes, IsIn, Gains}
 use Rattle.hir_items.specs.declared.formals.Param.{Param}
 use Rattle.hir_items.specs.declared.body_fault.BodyFault.{BodyFault}
 use Rattle.hir_items.specs.declared.body_fault.BodyFault.TheVariants.{NoRoot, SelfOutOfRange, ParamOutOfRange, ParamRepeated, ParamUnder, RootInParam}
@@ -28,7 +28,7 @@ pat_of_node xs x m =
     (m.0, h, cc)
 
 -- one formal more is in the set
-pub gains_more : (old now new : Marked) (xs : List ℕ) (i x : ℕ) → i < length xs → get_or xs i 0 ≡ x
+pub gains_more : (old now new : MarkedNodes) (xs : List ℕ) (i x : ℕ) → i < length xs → get_or xs i 0 ≡ x
     → GainsAll old (map node.Pat (take i xs)) now → Gains now (node.Pat x) new → GainsAll old (map node.Pat (take (i + 1) xs)) new
 gains_more old now new xs i x h e all one = (
   one.sizes ∙ all.0,

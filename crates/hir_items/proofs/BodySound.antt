@@ -14,7 +14,7 @@ use Rattle.hir_faults.specs.Nodes.{Nodes, Has, sizes_of, kids_of}
 use Rattle.hir_faults.specs.Down.{KidsFall}
 use Rattle.hir_expr_store.specs.Contents.{Contents, rooted_of, contents_fault}
 use Rattle.hir_expr_store.specs.Under.{Under, itself, below, LiesUnderOther, LieApart}
-use Rattle.hir_expr_store.specs.NodeSets.{Marked, IsIn, Gains, NoKidIn}
+use Rattle.hir_expr_store.specs.NodeSets.{MarkedNodes, IsIn, Gains, NoKidIn}
 use Rattle.hir_faults.specs.Sound.{RootsStandApart}
 use Rattle.hir_items.specs.declared.formals.Param.{Param}
 use Rattle.hir_items.specs.declared.body_fault.BodyFault.{BodyFault}
@@ -63,10 +63,10 @@ is_kid : (s : Nodes) → KidsFall s → (n : NodeId) {r : NodeId} → Has s r �
 is_kid s falls n h itself = inl refl
 is_kid s falls n h (below {k} {r} d u) = inr (⊎_elim (λ e. (r, h, subst (Contains (kids_of s r)) (sym e) d)) (λ x. x) (is_kid s falls n (falls.there r h k d) u))
 
-no_other : (s : Nodes) (set : Marked) → KidsFall s → NoKidIn s set → (n : NodeId) → IsIn set n → (Among : NodeId → Type 0) → LiesUnderOther s Among n → ⊥
+no_other : (s : Nodes) (set : MarkedNodes) → KidsFall s → NoKidIn s set → (n : NodeId) → IsIn set n → (Among : NodeId → Type 0) → LiesUnderOther s Among n → ⊥
 no_other s set falls apart n i Among x = ⊎_elim x.3 (λ k. apart k.0 n k.1 k.2 i) (is_kid s falls n x.1 x.4)
 
-module _ (s : Nodes) (params : List (Param ℕ)) (root : ℕ) (old mid new : Marked) (size : old.sizes ≡ sizes_of s) (none : (n : NodeId) → IsIn old n → ⊥)
+module _ (s : Nodes) (params : List (Param ℕ)) (root : ℕ) (old mid new : MarkedNodes) (size : old.sizes ≡ sizes_of s) (none : (n : NodeId) → IsIn old n → ⊥)
     (all : GainsAll old (map node.Pat (formals_of params)) mid) (one : Gains mid (node.Expr root) new) where
   -- the set has the formals and the last root
   tops_in : (n : NodeId) → Has s n → IsIn new n ↔ Contains (tops_of params root) n
@@ -93,7 +93,7 @@ module _ (s : Nodes) (params : List (Param ℕ)) (root : ℕ) (old mid new : Mar
     pub root_not_under : root < length s.exprs → LiesUnderOther s (Contains (map node.Pat (formals_of params))) (node.Expr root) → ⊥
     root_not_under h = no_other s new falls apart (node.Expr root) ((tops_in (node.Expr root) h).1 (Contains-push (map node.Pat (formals_of params)) (node.Expr root))) (Contains (map node.Pat (formals_of params)))
 
-module _ (s : Nodes) (params : List (Param ℕ)) (root : ℕ) (old mid new found : Marked) (size : old.sizes ≡ sizes_of s) (none : (n : NodeId) → IsIn old n → ⊥)
+module _ (s : Nodes) (params : List (Param ℕ)) (root : ℕ) (old mid new found : MarkedNodes) (size : old.sizes ≡ sizes_of s) (none : (n : NodeId) → IsIn old n → ⊥)
     (all : GainsAll old (map node.Pat (formals_of params)) mid) (one : Gains mid (node.Expr root) new) (right : (n : NodeId) → Has s n → IsIn found n ↔ LiesUnderOther s (IsIn new) n) where
   found_is : (n : NodeId) → Has s n → IsIn found n ↔ LiesUnderOther s (Contains (tops_of params root)) n
   found_is n h =

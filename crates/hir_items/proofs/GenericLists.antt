@@ -37,13 +37,13 @@ position_is p n [] = refl
 position_is p n (x ∷ xs) = first_entry (p x) n x _ _ (position_is p (n + 1) xs)
 
 -- where the first entry left is one that passes, its number is the place of the first member that does
-pub found : {X : Type 0} (p : X → Bool) (xs : List X) (left : List (ℕ × X)) (at : ℕ) (x : X) (rest : List (ℕ × X)) → find (λ e. p e.1) left ≡ find (λ e. p e.1) (enumerate_from 0 xs) → left ≡ (at, x) ∷ rest → p x ≡ true → position p xs ≡ Some at
-found p xs left at x rest same first passes =
+pub position_of_first : {X : Type 0} (p : X → Bool) (xs : List X) (left : List (ℕ × X)) (at : ℕ) (x : X) (rest : List (ℕ × X)) → find (λ e. p e.1) left ≡ find (λ e. p e.1) (enumerate_from 0 xs) → left ≡ (at, x) ∷ rest → p x ≡ true → position p xs ≡ Some at
+position_of_first p xs left at x rest same first passes =
     let here : find (λ e. p e.1) left ≡ Some (at, x) = rw first (rw passes refl) in
     (position_from-zero p xs) ∙ position_is p 0 xs ∙ ap (option_map (λ e. e.0)) (sym same ∙ here)
 
 -- where no entry is left, no member passes
-pub missed : {X : Type 0} (p : X → Bool) (xs : List X) (left : List (ℕ × X)) → find (λ e. p e.1) left ≡ find (λ e. p e.1) (enumerate_from 0 xs) → left ≡ [] → position p xs ≡ None
-missed p xs left same none =
+pub no_position : {X : Type 0} (p : X → Bool) (xs : List X) (left : List (ℕ × X)) → find (λ e. p e.1) left ≡ find (λ e. p e.1) (enumerate_from 0 xs) → left ≡ [] → position p xs ≡ None
+no_position p xs left same none =
     let here : find (λ e. p e.1) left ≡ None = rw none refl in
     (position_from-zero p xs) ∙ position_is p 0 xs ∙ ap (option_map (λ e. e.0)) (sym same ∙ here)

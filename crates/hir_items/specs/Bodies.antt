@@ -9,8 +9,8 @@ use Rattle.hir_node.specs.declared.node_id.NodeId.TheVariants as node
 use Rattle.hir_faults.specs.Sizes.{HasNode}
 use Rattle.hir_faults.specs.Nodes.{Nodes}
 use Rattle.hir_expr_store.specs.Contents.{Contents}
-use Rattle.hir_expr_store.specs.Under.{LiesUnderOther, Reached, reached_nodes}
-use Rattle.hir_expr_store.specs.NodeSets.{Marked, IsIn}
+use Rattle.hir_expr_store.specs.Under.{LiesUnderOther, IsReached, reached_nodes}
+use Rattle.hir_expr_store.specs.NodeSets.{MarkedNodes, IsIn}
 use Rattle.hir_items.specs.declared.formals.Param.{Param}
 use Rattle.hir_items.specs.declared.body_fault.BodyFault.{BodyFault}
 use Rattle.hir_items.specs.declared.body_fault.BodyFault.TheVariants.{NoRoot, SelfOutOfRange, ParamOutOfRange, ParamRepeated, ParamUnder, RootInParam}
@@ -45,7 +45,7 @@ tops b = map node.Pat (formals_of b.params) ++ option_to_list (option_map node.E
 
 -- the body reaches the node: it is under a formal or under the last root
 abbrev pub BodyReaches : BodyContents → NodeId → Type 0
-BodyReaches b n = Reached b.store.nodes (tops b) n
+BodyReaches b n = IsReached b.store.nodes (tops b) n
 
 -- these nodes, listed: under the first formal, under the second and so on, and under the last root
 abbrev pub body_nodes : BodyContents → List NodeId
@@ -96,7 +96,7 @@ abbrev pub IsAnySelf : BodyContents → ℕ → Type 0
 IsAnySelf b id = (p : Param ℕ) × (b.self_param ≡ Some p) × ((p.formal ≡ id) ⊎ (p.user_written ≡ id))
 
 -- the set gains these nodes, and no other
-abbrev pub GainsAll : Marked → List NodeId → Marked → Type 0
+abbrev pub GainsAll : MarkedNodes → List NodeId → MarkedNodes → Type 0
 GainsAll old added new =
     (new.sizes ≡ old.sizes)
     × ((n : NodeId) → HasNode old.sizes n → IsIn new n ↔ (IsIn old n ⊎ Contains added n))

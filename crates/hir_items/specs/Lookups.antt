@@ -7,12 +7,12 @@ use Rattle.hir_items.specs.Generics.{Generics}
 use Rattle.hir_items.specs.declared.body_source_map.BodySourceMap.{BodySourceMap}
 
 -- generic parameters, the store that they name, and where that comes from
-abbrev pub Signed : Type 0
-Signed = Generics × Contents × ExpressionStoreSourceMap
+abbrev pub SignatureAndSources : Type 0
+SignatureAndSources = Generics × Contents × ExpressionStoreSourceMap
 
-abbrev pub without_source_map : Signed → Generics × Contents
+abbrev pub without_source_map : SignatureAndSources → Generics × Contents
 without_source_map s = (s.0, s.1)
 
 -- a body, and where it comes from
-abbrev pub Embodied : Type 0
-Embodied = BodyContents × BodySourceMap
+abbrev pub BodyAndSources : Type 0
+BodyAndSources = BodyContents × BodySourceMap

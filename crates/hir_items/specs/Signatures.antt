@@ -11,11 +11,11 @@ use Rattle.hir_generics.specs.declared.param.TypeOrConstParamData.TheVariants as
 use Rattle.hir_generics.specs.declared.predicate.WherePredicate.{WherePredicate}
 use Rattle.hir_generics.specs.declared.predicate.WherePredicate.TheVariants as predicate
 use Rattle.hir_faults.specs.Sizes.{is_there}
-use Rattle.hir_faults.specs.Tested.{is_path_at, bound_paths}
+use Rattle.hir_faults.specs.TestedParts.{is_path_at, bound_paths}
 use Rattle.hir_faults.specs.Fits.{bound_fits}
 use Rattle.hir_faults.specs.Nodes.{Nodes, sizes_of}
 use Rattle.hir_expr_store.specs.Contents.{Contents}
-use Rattle.hir_expr_store.specs.Under.{Reached, reached_nodes}
+use Rattle.hir_expr_store.specs.Under.{IsReached, reached_nodes}
 use Rattle.hir_items.specs.Generics.{Generics}
 use Rattle.hir_items.specs.declared.signature_fault.SignatureFault.{SignatureFault}
 use Rattle.hir_items.specs.declared.signature_fault.SignatureFault.TheVariants.{IdOutOfRange, NotAPath}
@@ -31,7 +31,7 @@ root_tops c = map node.Expr (root_nodes c.roots)
 
 -- the signature reaches the node: it is under a root
 abbrev pub SignatureReaches : Contents → NodeId → Type 0
-SignatureReaches c n = Reached c.nodes (root_tops c) n
+SignatureReaches c n = IsReached c.nodes (root_tops c) n
 
 -- these nodes, listed: under the first root, under the second and so on
 abbrev pub signature_nodes : Contents → List NodeId

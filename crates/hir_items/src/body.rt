@@ -101,7 +101,7 @@ impl UntestedBody {
     }
 
     /// The body, which has no fault.
-    fn accepted(self) -> Body
+    fn into_body(self) -> Body
         requires { body_fault (body_of self.store self.params self.self_param) None }
         ensures { result ≡ body_of self.store self.params self.self_param }
     {
@@ -118,7 +118,7 @@ impl UntestedBody {
     }
 
     /// Hands the parts back with this fault.
-    fn refused(self, fault: BodyFault) -> RefusedBody
+    fn into_refusal(self, fault: BodyFault) -> RefusedBody
         ensures { result ≡ refused_body fault self.store self.params self.self_param }
     {
         let UntestedBody {
@@ -159,11 +159,11 @@ impl Body {
             self_param,
         };
         let fault = match untested.first_fault(alloc) {
-            Ok(None) => return Ok(untested.accepted()),
+            Ok(None) => return Ok(untested.into_body()),
             Ok(Some(fault)) => fault,
             Err(_) => BodyFault::Memory,
         };
-        Err(untested.refused(fault))
+        Err(untested.into_refusal(fault))
     }
 
     /// Tells a proof that the body has no fault, and does nothing.

@@ -5,7 +5,7 @@
 ghost use Rattle.std.specs.Prelude.{◌≡◌, ◌≢◌, ◌⊎◌, ◌↔◌, Option, None, Contains};
 ghost use Rattle.std.specs.Bool.{Decides};
 ghost use Rattle.std.specs.List.{AllPairs};
-ghost use Rattle.hir_source.specs.Compared.{compared};
+ghost use Rattle.hir_source.specs.ComparedPart.{compared_part};
 ghost use Rattle.hir_expr_store.specs.Contents.{contents_fault};
 ghost use Rattle.hir_faults.specs.Nodes.{Has};
 ghost use Rattle.hir_node.specs.declared.node_id.NodeId.{NodeId};
@@ -71,5 +71,5 @@ pub fn what_a_body_reaches_is_listed()
 /// `self` are the same.
 pub fn source_maps_are_compared_by_their_parts()
     ensures { (x y : BodySourceMap) → Decides (⟦<BodySourceMap as PartialEq>⟧.eq x y)
-        ((compared x.store ≡ compared y.store) × (x.self_param_syntax ≡ y.self_param_syntax)) }
+        ((compared_part x.store ≡ compared_part y.store) × (x.self_param_syntax ≡ y.self_param_syntax)) }
 {}

@@ -5,7 +5,7 @@ ghost use Rattle.std.specs.Option.{option_map};
 ghost use Rattle.hir_base.specs.declared.defs.GenericDefId.{GenericDefId};
 ghost use Rattle.hir_base.specs.declared.defs.DefWithBodyId.{DefWithBodyId};
 ghost use Rattle.hir_expr_store.specs.declared.missing.Missing.TheVariants as missing;
-ghost use Rattle.hir_items.specs.Lookups.{Signed, Embodied, without_source_map};
+ghost use Rattle.hir_items.specs.Lookups.{SignatureAndSources, BodyAndSources, without_source_map};
 
 use crate::body::Body;
 use crate::body_source_map::BodySourceMap;
@@ -27,30 +27,30 @@ pub type BodyEntry<'a> = (&'a Body, &'a BodySourceMap);
 /// Holds the signatures of definitions.
 pub trait Signatures {
     // what is held for a definition
-    ghost signed: { Self → GenericDefId → Option Signed };
+    ghost signature_entry: { Self → GenericDefId → Option SignatureAndSources };
 
     /// The generic parameters of the definition, the store that they name, and where that comes from.
     ///
     /// Answers `Missing::Signature` of the definition where it has no signature.
     fn signature_of(&self, def: GenericDefId) -> Result<SignatureEntry<'_>, Missing>
         ensures found { IfOk result (λ found.
-            signed self.now def ≡ Some (found.0.now, found.1.now, found.2.now)) }
+            signature_entry self.now def ≡ Some (found.0.now, found.1.now, found.2.now)) }
         ensures absent { IfErr result (λ absent.
-            (absent ≡ missing.Signature def) × (signed self.now def ≡ None)) };
+            (absent ≡ missing.Signature def) × (signature_entry self.now def ≡ None)) };
 }
 
 /// Holds the bodies of definitions.
 pub trait Bodies {
     // what is held for a definition
-    ghost embodied: { Self → DefWithBodyId → Option Embodied };
+    ghost body_entry: { Self → DefWithBodyId → Option BodyAndSources };
 
     /// The body of the definition, and where it comes from.
     ///
     /// Answers `Missing::Body` of the definition where it has no body.
     fn body_of(&self, def: DefWithBodyId) -> Result<BodyEntry<'_>, Missing>
-        ensures found { IfOk result (λ found. embodied self.now def ≡ Some (found.0.now, found.1.now)) }
+        ensures found { IfOk result (λ found. body_entry self.now def ≡ Some (found.0.now, found.1.now)) }
         ensures absent { IfErr result (λ absent.
-            (absent ≡ missing.Body def) × (embodied self.now def ≡ None)) };
+            (absent ≡ missing.Body def) × (body_entry self.now def ≡ None)) };
 }
 
 /// Looking up the generic parameters of a definition.
@@ -60,9 +60,9 @@ impl GenericParams {
     /// Answers `Missing::Signature` of the definition where it has no signature.
     pub fn of<T: Signatures>(tables: &T, def: GenericDefId) -> Result<&GenericParams, Missing>
         ensures found { IfOk result (λ found.
-            option_map (λ entry. entry.0) (T.signed tables.now def) ≡ Some found.now) }
+            option_map (λ entry. entry.0) (T.signature_entry tables.now def) ≡ Some found.now) }
         ensures absent { IfErr result (λ absent.
-            (absent ≡ missing.Signature def) × (T.signed tables.now def ≡ None)) }
+            (absent ≡ missing.Signature def) × (T.signature_entry tables.now def ≡ None)) }
     {
         let (params, _, _) = tables.signature_of(def)?;
         Ok(params)
@@ -76,9 +76,10 @@ impl GenericParams {
         def: GenericDefId,
     ) -> Result<(&GenericParams, &ExpressionStore), Missing>
         ensures found { IfOk result (λ found.
-            option_map without_source_map (T.signed tables.now def) ≡ Some (found.0.now, found.1.now)) }
+            option_map without_source_map (T.signature_entry tables.now def)
+            ≡ Some (found.0.now, found.1.now)) }
         ensures absent { IfErr result (λ absent.
-            (absent ≡ missing.Signature def) × (T.signed tables.now def ≡ None)) }
+            (absent ≡ missing.Signature def) × (T.signature_entry tables.now def ≡ None)) }
     {
         let (params, store, _) = tables.signature_of(def)?;
         Ok((params, store))
@@ -92,9 +93,9 @@ impl GenericParams {
         def: GenericDefId,
     ) -> Result<SignatureEntry<'_>, Missing>
         ensures found { IfOk result (λ found.
-            T.signed tables.now def ≡ Some (found.0.now, found.1.now, found.2.now)) }
+            T.signature_entry tables.now def ≡ Some (found.0.now, found.1.now, found.2.now)) }
         ensures absent { IfErr result (λ absent.
-            (absent ≡ missing.Signature def) × (T.signed tables.now def ≡ None)) }
+            (absent ≡ missing.Signature def) × (T.signature_entry tables.now def ≡ None)) }
     {
         tables.signature_of(def)
     }
@@ -107,9 +108,9 @@ impl Body {
     /// Answers `Missing::Body` of the definition where it has no body.
     pub fn of<T: Bodies>(tables: &T, def: DefWithBodyId) -> Result<&Body, Missing>
         ensures found { IfOk result (λ found.
-            option_map (λ entry. entry.0) (T.embodied tables.now def) ≡ Some found.now) }
+            option_map (λ entry. entry.0) (T.body_entry tables.now def) ≡ Some found.now) }
         ensures absent { IfErr result (λ absent.
-            (absent ≡ missing.Body def) × (T.embodied tables.now def ≡ None)) }
+            (absent ≡ missing.Body def) × (T.body_entry tables.now def ≡ None)) }
     {
         let (body, _) = tables.body_of(def)?;
         Ok(body)
@@ -122,9 +123,9 @@ impl Body {
         tables: &T,
         def: DefWithBodyId,
     ) -> Result<BodyEntry<'_>, Missing>
-        ensures found { IfOk result (λ found. T.embodied tables.now def ≡ Some (found.0.now, found.1.now)) }
+        ensures found { IfOk result (λ found. T.body_entry tables.now def ≡ Some (found.0.now, found.1.now)) }
         ensures absent { IfErr result (λ absent.
-            (absent ≡ missing.Body def) × (T.embodied tables.now def ≡ None)) }
+            (absent ≡ missing.Body def) × (T.body_entry tables.now def ≡ None)) }
     {
         tables.body_of(def)
     }

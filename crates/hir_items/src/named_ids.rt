@@ -3,7 +3,7 @@
 ghost use Rattle.std.specs.Prelude.{◌≡◌, nat_lt, length};
 ghost use Rattle.std.specs.List.{list_all};
 ghost use Rattle.hir_node.specs.ChildCalls.{a, l, t, opt};
-ghost use Rattle.hir_faults.specs.Tested.{is_path_at};
+ghost use Rattle.hir_faults.specs.TestedParts.{is_path_at};
 ghost use Rattle.hir_items.specs.Signatures.{param_calls, predicate_calls, predicate_paths, field_calls, all_there, generics_there, generics_name_paths, types_there};
 
 use crate::generic_params::GenericParams;

@@ -94,7 +94,7 @@ fn param<K>(numbers: Numbers) -> Param<Idx<K>> {
 }
 
 /// The list of the parameters of these numbers.
-fn listed(alloc: Global, numbers: &[Numbers]) -> Result<Seq<Param<PatId>>, AllocError> {
+fn list_of(alloc: Global, numbers: &[Numbers]) -> Result<Seq<Param<PatId>>, AllocError> {
     let mut list = Seq::new(alloc);
     for numbers in numbers {
         push(&mut list, param(*numbers))?;
@@ -203,7 +203,7 @@ fn made_again(alloc: Global, refused: RefusedBody) -> Result<Body, RefusedBody> 
 fn is_answered(alloc: Global, case: &Case) -> Result<bool, Fail> {
     let (tree, params, self_param, _) = case;
     let store = trees::store(alloc, &[], tree)?;
-    let params = listed(alloc, params)?;
+    let params = list_of(alloc, params)?;
     let self_param = self_param.map(param);
     let outcome = match Body::new(alloc, Box::into_inner(store), params, self_param) {
         Ok(body) => Ok(body),

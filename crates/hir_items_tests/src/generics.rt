@@ -1,6 +1,6 @@
 //! Lists of generic parameters: iterators from both ends, and lists that are compared.
 use crate::memory::{copies, in_a_box};
-use crate::params::{Entry, LifetimeOf, Listed, Predicate, made, meets_for_a};
+use crate::params::{Entry, LifetimeOf, ParamLists, Predicate, make_params, meets_for_a};
 use hir_base::{ArenaIter, ExactEq, FunctionId, GenericDefId, Idx, Name};
 use hir_items::{BoundLifetimes, GenericParams, LifetimeParamData, generic_laws};
 use std::alloc::{AllocError, Global};
@@ -8,14 +8,14 @@ use std::test::Fail;
 
 /// The type `Self` of a trait, the type `T`, the constant `N`, five lifetimes, and two predicates. Three of the lifetimes are bound
 /// early and two late, so that no count of the ones is right for the others.
-const ALL: Listed = Listed {
+const ALL: ParamLists = ParamLists {
     types: TYPES,
     lifetimes: LIFETIMES,
     predicates: &[Predicate::MeetsForA, Predicate::Outlives],
 };
 
 /// The same without the last predicate.
-const ONE_PREDICATE: Listed = Listed {
+const ONE_PREDICATE: ParamLists = ParamLists {
     types: TYPES,
     lifetimes: LIFETIMES,
     predicates: &[Predicate::MeetsForA],
@@ -32,14 +32,14 @@ const LIFETIMES: &[LifetimeOf] = &[
 ];
 
 /// A constant, and after it types of its name.
-const CONSTANT_AND_TYPES: Listed = Listed {
+const CONSTANT_AND_TYPES: ParamLists = ParamLists {
     types: &[Entry::Constant("N"), Entry::Type("N"), Entry::Type("N")],
     lifetimes: &[],
     predicates: &[],
 };
 
 /// Nothing.
-const EMPTY: Listed = Listed {
+const EMPTY: ParamLists = ParamLists {
     types: &[],
     lifetimes: &[],
     predicates: &[],
@@ -79,7 +79,7 @@ fn names(alloc: Global) -> Result<Box<[Name; 3]>, AllocError> {
 #[test]
 fn what_is_found_is_of_its_parent(rt: HostRuntime) -> Result<(), Fail> {
     generic_laws::finds_answer_the_first();
-    let params = made(rt.alloc(), &ALL)?;
+    let params = make_params(rt.alloc(), &ALL)?;
     let names = names(rt.alloc())?;
     let are_of_parent = are_of_parent(&params, &names);
     std::mem::drop(params);
@@ -168,7 +168,7 @@ fn are_all(alloc: Global, params: &GenericParams) -> Result<bool, AllocError> {
 #[test]
 fn ends_and_orders(rt: HostRuntime) -> Result<(), Fail> {
     generic_laws::lifetimes_are_early_or_late();
-    let params = made(rt.alloc(), &ALL)?;
+    let params = make_params(rt.alloc(), &ALL)?;
     let are_all = are_all(rt.alloc(), &params);
     std::mem::drop(params);
     assert!(&rt; are_all?);
@@ -181,14 +181,14 @@ fn are_none(params: GenericParams) -> bool {
 }
 
 /// Whether the parameters of these two are equal, by `==` and by `is_same`.
-fn are_equal(alloc: Global, left: &Listed, right: &Listed) -> Result<(bool, bool), Fail> {
-    let left = made(alloc, left)?;
-    let right = made(alloc, right)?;
+fn are_equal(alloc: Global, left: &ParamLists, right: &ParamLists) -> Result<(bool, bool), Fail> {
+    let left = make_params(alloc, left)?;
+    let right = make_params(alloc, right)?;
     Ok((*left == *right, left.is_same(&right)))
 }
 
 /// Parameters, and whether they equal those of `ALL`.
-const COMPARED: &[(Listed, bool)] = &[
+const COMPARED: &[(ParamLists, bool)] = &[
     (ALL, true),
     (ONE_PREDICATE, false),
     (CONSTANT_AND_TYPES, false),

@@ -6,9 +6,9 @@ use std::fmt::Debug;
 use std::test::Fail;
 
 /// What is written in a test for a `T`.
-pub trait Written<T> {
+pub trait NodeForm<T> {
     /// What is written.
-    fn made(&self, alloc: Global) -> Result<T, AllocError>;
+    fn make(&self, alloc: Global) -> Result<T, AllocError>;
 }
 
 pub fn in_a_box<T: Drop>(alloc: Global, value: T) -> Result<Box<T>, AllocError> {
@@ -28,19 +28,19 @@ fn add<K, T: Drop>(arena: &mut Arena<K, T>, item: T) -> Result<(), Fail> {
 }
 
 /// Adds what is written.
-pub fn add_all<K, T: Drop, W: Written<T>>(
+pub fn add_all<K, T: Drop, W: NodeForm<T>>(
     arena: &mut Arena<K, T>,
     alloc: Global,
     written: &[W],
 ) -> Result<(), Fail> {
     for written in written {
-        add(arena, written.made(alloc)?)?;
+        add(arena, written.make(alloc)?)?;
     }
     Ok(())
 }
 
 /// The arena of what is written. In a box, so that what is dropped is a pointer.
-pub fn arena<K, T: Drop, W: Written<T>>(
+pub fn arena<K, T: Drop, W: NodeForm<T>>(
     alloc: Global,
     written: &[W],
 ) -> Result<Box<Arena<K, T>>, Fail> {
@@ -50,16 +50,16 @@ pub fn arena<K, T: Drop, W: Written<T>>(
 }
 
 /// The list of what is written.
-pub fn list<T: Drop, W: Written<T>>(alloc: Global, written: &[W]) -> Result<Box<Seq<T>>, Fail> {
+pub fn list<T: Drop, W: NodeForm<T>>(alloc: Global, written: &[W]) -> Result<Box<Seq<T>>, Fail> {
     let mut list = in_a_box(alloc, Seq::new(alloc))?;
     for written in written {
-        push(&mut list, written.made(alloc)?)?;
+        push(&mut list, written.make(alloc)?)?;
     }
     Ok(list)
 }
 
 /// Whether the value was taken: without it, where it is handed back.
-pub fn taken<T: Drop>(outcome: Result<(), AllocFailed<T>>) -> Result<(), Fail> {
+pub fn was_taken<T: Drop>(outcome: Result<(), AllocFailed<T>>) -> Result<(), Fail> {
     match outcome {
         Ok(()) => Ok(()),
         Err(failed) => Err(Fail::from(AllocError::from(failed))),

@@ -1,5 +1,5 @@
 //! Generic parameters for the tests, written as what each of their three lists has.
-use crate::memory::{Written, arena, in_a_box, list, push};
+use crate::memory::{NodeForm, arena, in_a_box, list, push};
 use hir_base::{Idx, Name, Seq};
 use hir_items::{
     ConstParamData, GenericParams, LifetimeBoundType, LifetimeParamData, TypeOrConstParamData,
@@ -36,7 +36,7 @@ pub enum Predicate {
 }
 
 /// What parameters and predicates there are.
-pub struct Listed {
+pub struct ParamLists {
     pub types: &'static [Entry],
     pub lifetimes: &'static [LifetimeOf],
     pub predicates: &'static [Predicate],
@@ -111,8 +111,8 @@ fn outlives() -> WherePredicate {
     }
 }
 
-impl Written<TypeOrConstParamData> for Entry {
-    fn made(&self, alloc: Global) -> Result<TypeOrConstParamData, AllocError> {
+impl NodeForm<TypeOrConstParamData> for Entry {
+    fn make(&self, alloc: Global) -> Result<TypeOrConstParamData, AllocError> {
         let (text, provenance) = match self {
             Entry::Type(text) => (*text, TypeParamProvenance::TypeParamList),
             Entry::TraitSelf => ("Self", TypeParamProvenance::TraitSelf),
@@ -126,8 +126,8 @@ impl Written<TypeOrConstParamData> for Entry {
     }
 }
 
-impl Written<LifetimeParamData> for LifetimeOf {
-    fn made(&self, alloc: Global) -> Result<LifetimeParamData, AllocError> {
+impl NodeForm<LifetimeParamData> for LifetimeOf {
+    fn make(&self, alloc: Global) -> Result<LifetimeParamData, AllocError> {
         match self {
             LifetimeOf::Early(text) => lifetime(alloc, text, LifetimeBoundType::EarlyBound),
             LifetimeOf::Late(text) => lifetime(alloc, text, LifetimeBoundType::LateBound),
@@ -135,8 +135,8 @@ impl Written<LifetimeParamData> for LifetimeOf {
     }
 }
 
-impl Written<WherePredicate> for Predicate {
-    fn made(&self, alloc: Global) -> Result<WherePredicate, AllocError> {
+impl NodeForm<WherePredicate> for Predicate {
+    fn make(&self, alloc: Global) -> Result<WherePredicate, AllocError> {
         match self {
             Predicate::Meets => Ok(meets()),
             Predicate::MeetsForA => meets_for_a(alloc),
@@ -146,7 +146,7 @@ impl Written<WherePredicate> for Predicate {
 }
 
 /// The parameters and predicates of these lists. In a box, so that what a test drops is a pointer; so are the lists.
-pub fn made(alloc: Global, listed: &Listed) -> Result<Box<GenericParams>, Fail> {
+pub fn make_params(alloc: Global, listed: &ParamLists) -> Result<Box<GenericParams>, Fail> {
     let types = arena(alloc, listed.types)?;
     let lifetimes = arena(alloc, listed.lifetimes)?;
     let predicates = list(alloc, listed.predicates)?;

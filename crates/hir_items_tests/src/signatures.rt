@@ -1,7 +1,7 @@
 //! Signatures: parts that are refused come back as they were given, and what an accepted signature names is in its store. They are asked
 //! as soon as they are made, so that a test has small values alone and its proof is short.
 use crate::memory::push;
-use crate::params::{self, Entry, Listed, Predicate};
+use crate::params::{self, Entry, ParamLists, Predicate};
 use crate::trees::{self, BARE, Never};
 use hir_base::{ExternAbi, Idx, Name, Seq};
 use hir_items::{
@@ -102,34 +102,34 @@ impl Named for VariantFields {
 
 /// Whether the types that are named are `!`, where the parts are accepted. Else why they are refused, and whether what comes back has
 /// what it was given.
-type Asked = Result<bool, (SignatureFault, bool)>;
+type Outcome = Result<bool, (SignatureFault, bool)>;
 
 /// The answer where the parts are refused so: where memory was refused, that is the error.
-fn refused(fault: SignatureFault, is_known: bool) -> Result<Asked, Fail> {
+fn refusal(fault: SignatureFault, is_known: bool) -> Result<Outcome, Fail> {
     if fault == SignatureFault::Memory {
         return Err(Fail::from(fault));
     }
     Ok(Err((fault, is_known)))
 }
 
-fn asked<S: Named + Drop, P: Known + Drop>(
+fn ask<S: Named + Drop, P: Known + Drop>(
     outcome: Result<S, RefusedSignature<P>>,
-) -> Result<Asked, Fail> {
+) -> Result<Outcome, Fail> {
     match outcome {
         Ok(signature) => Ok(Ok(signature.names_never())),
-        Err(failed) => refused(failed.fault, failed.parts.is_known()),
+        Err(failed) => refusal(failed.fault, failed.parts.is_known()),
     }
 }
 
 /// The type parameter `T`.
-const T: Listed = Listed {
+const T: ParamLists = ParamLists {
     types: &[Entry::Type("T")],
     lifetimes: &[],
     predicates: &[],
 };
 
 /// The type parameter `T`, and that type 0 meets the bound of the path that it is.
-const BOUNDED: Listed = Listed {
+const BOUNDED: ParamLists = ParamLists {
     types: &[Entry::Type("T")],
     lifetimes: &[],
     predicates: &[Predicate::Meets],
@@ -158,12 +158,12 @@ fn field_x(alloc: Global) -> Result<Seq<FieldData>, AllocError> {
 }
 
 /// `const unsafe extern "C" fn f<T>(..) -> ..`, with one parameter of type 0, which it returns, over these types.
-fn function(alloc: Global, types: &[Never]) -> Result<Asked, Fail> {
-    let generic_params = params::made(alloc, &T)?;
+fn function(alloc: Global, types: &[Never]) -> Result<Outcome, Fail> {
+    let generic_params = params::make_params(alloc, &T)?;
     let store = trees::store(alloc, types, &BARE)?;
     let name = Name::new(alloc, "f")?;
     let params = type_0(alloc)?;
-    asked(FunctionSignature::new(FunctionParts {
+    ask(FunctionSignature::new(FunctionParts {
         name,
         generic_params: Box::into_inner(generic_params),
         store: Box::into_inner(store),
@@ -179,20 +179,20 @@ fn function(alloc: Global, types: &[Never]) -> Result<Asked, Fail> {
 }
 
 /// A definition with the type parameter `T`, which is bounded, over these types.
-fn plain(alloc: Global, types: &[Never]) -> Result<Asked, Fail> {
-    let generic_params = params::made(alloc, &BOUNDED)?;
+fn plain(alloc: Global, types: &[Never]) -> Result<Outcome, Fail> {
+    let generic_params = params::make_params(alloc, &BOUNDED)?;
     let store = trees::store(alloc, types, &BARE)?;
-    asked(PlainSignature::new(PlainParts {
+    ask(PlainSignature::new(PlainParts {
         generic_params: Box::into_inner(generic_params),
         store: Box::into_inner(store),
     }))
 }
 
 /// The fields `{ x }`, over these types.
-fn fields(alloc: Global, types: &[Never]) -> Result<Asked, Fail> {
+fn fields(alloc: Global, types: &[Never]) -> Result<Outcome, Fail> {
     let store = trees::store(alloc, types, &BARE)?;
     let fields = field_x(alloc)?;
-    asked(VariantFields::new(VariantParts {
+    ask(VariantFields::new(VariantParts {
         shape: FieldsShape::Record,
         fields,
         store: Box::into_inner(store),

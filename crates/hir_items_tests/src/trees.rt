@@ -1,6 +1,6 @@
 //! Stores for the tests. A tree is written as its nodes of each kind, so that each arena is lent to one small function, and few are
 //! lent the builder.
-use crate::memory::{Written, add_all, first, in_a_box, taken};
+use crate::memory::{NodeForm, add_all, first, in_a_box, was_taken};
 use hir_base::{HygieneId, Idx, Name, RangeOp};
 use hir_node::{Binding, BindingAnnotation, Expr, Literal, Pat, TypeRef};
 use hir_store::{ExpressionStore, ExpressionStoreBuilder};
@@ -43,8 +43,8 @@ pub const BARE: Tree = Tree {
     roots: None,
 };
 
-impl Written<Binding> for BindingOf {
-    fn made(&self, alloc: Global) -> Result<Binding, AllocError> {
+impl NodeForm<Binding> for BindingOf {
+    fn make(&self, alloc: Global) -> Result<Binding, AllocError> {
         let name = Name::new(alloc, self.0)?;
         Ok(Binding {
             name,
@@ -55,8 +55,8 @@ impl Written<Binding> for BindingOf {
     }
 }
 
-impl Written<Pat> for PatOf {
-    fn made(&self, _: Global) -> Result<Pat, AllocError> {
+impl NodeForm<Pat> for PatOf {
+    fn make(&self, _: Global) -> Result<Pat, AllocError> {
         Ok(match self {
             PatOf::Wild => Pat::Wild,
             PatOf::Bind(id, inner) => Pat::Bind {
@@ -72,14 +72,14 @@ impl Written<Pat> for PatOf {
     }
 }
 
-impl Written<Expr> for One {
-    fn made(&self, _: Global) -> Result<Expr, AllocError> {
+impl NodeForm<Expr> for One {
+    fn make(&self, _: Global) -> Result<Expr, AllocError> {
         Ok(Expr::Literal(Literal::Int(1, None)))
     }
 }
 
-impl Written<TypeRef> for Never {
-    fn made(&self, _: Global) -> Result<TypeRef, AllocError> {
+impl NodeForm<TypeRef> for Never {
+    fn make(&self, _: Global) -> Result<TypeRef, AllocError> {
         Ok(TypeRef::Never)
     }
 }
@@ -92,7 +92,7 @@ fn add_roots(
     if let Some(roots) = roots {
         builder.begin_roots();
         for root in roots {
-            taken(builder.push_root(Idx::from_raw(*root)))?;
+            was_taken(builder.push_root(Idx::from_raw(*root)))?;
         }
     }
     Ok(())

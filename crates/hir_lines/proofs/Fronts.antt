@@ -125,8 +125,8 @@ pub front_number : (words : List (List ℕ)) (word : List ℕ) (others : List (L
 front_number words word others n e is = ap number e ∙ rw is refl
 
 -- a text that begins with a word that it is compared with
-pub compared : (text word : List ℕ) (r : Bool) → r ≡ starts_with eqb text word → r ≡ true → take (length word) text ≡ word
-compared text word r is met =
+pub front_is_word : (text word : List ℕ) (r : Bool) → r ≡ starts_with eqb text word → r ≡ true → take (length word) text ≡ word
+front_is_word text word r is met =
     let whole : text ≡ word ++ drop (length word) text = (starts_is Decides-eqb text word r is).0 met in
     ap (take (length word)) whole ∙ take-append_seam word (drop (length word) text)
 

@@ -10,7 +10,7 @@ use Rattle.std.proofs.lemmas.Bool.{cases_lt, false≢true, eqb-true}
 use Rattle.std.proofs.lemmas.Bool.Decides.{nat_tests}
 use borrow.Author.Tests.{ltb-true, leb-true}
 use Rattle.std.proofs.lemmas.Str.Parse.{IsNumeralModel, numerals_by_fold, parse_signed_minus, parse_signed_digits}
-use Rattle.hir_lines.specs.Numerals.{is_digit, value, is_numeral, has_minus, without_minus, signed, int_of}
+use Rattle.hir_lines.specs.Numerals.{is_digit, value, is_numeral, has_minus, without_minus, with_sign, int_of}
 use Rattle.hir_lines.proofs.Ascii.{and_second, IsAscii-passes}
 
 pub digits_behind : (text : List ℕ) → is_numeral text ≡ true → list_all is_digit text ≡ true
@@ -47,44 +47,44 @@ pub own : IsNumeralModel (λ ds. list_all is_digit ds ≡ true) value
 own = numerals_by_fold _ (search rules) (λ n ds. fold (λ n b. 10 * n + (b - 48)) n ds) (search rules)
 
 -- what is tested is what there is a result for
-decided : {E : Type 0} (r : Result ℤ E) (Q : Type 0) (x : ℤ) (b : Bool) → OkIff r Q x → (Q → b ≡ true) → (b ≡ true → Q) → result_ok r ≡ (if b then Some x else None)
-decided (Ok y) Q x true h to from = ap Some h.1
-decided (Ok y) Q x false h to from = absurd (false≢true (to h.0))
-decided (Err e) Q x true h to from = absurd (h (from refl))
-decided (Err e) Q x false h to from = refl
+test_decides : {E : Type 0} (r : Result ℤ E) (Q : Type 0) (x : ℤ) (b : Bool) → OkIff r Q x → (Q → b ≡ true) → (b ≡ true → Q) → result_ok r ≡ (if b then Some x else None)
+test_decides (Ok y) Q x true h to from = ap Some h.1
+test_decides (Ok y) Q x false h to from = absurd (false≢true (to h.0))
+test_decides (Err e) Q x true h to from = absurd (h (from refl))
+test_decides (Err e) Q x false h to from = refl
 
 pub some_digit : (digits : List ℕ) → is_numeral digits ≡ true → 0 < length digits
 some_digit digits e = grind (arith, nat_tests)
 
-pub read : Bool → List ℕ → Option ℤ
-read minus digits = if is_numeral digits then signed minus (value digits) else None
+pub value_of_digits : Bool → List ℕ → Option ℤ
+value_of_digits minus digits = if is_numeral digits then with_sign minus (value digits) else None
 
-pub read_numeral : (minus : Bool) (digits : List ℕ) → is_numeral digits ≡ true → read minus digits ≡ signed minus (value digits)
-unfolding read
-read_numeral minus digits e = ap (λ b. if b then signed minus (value digits) else None) e
+pub read_numeral : (minus : Bool) (digits : List ℕ) → is_numeral digits ≡ true → value_of_digits minus digits ≡ with_sign minus (value digits)
+unfolding value_of_digits
+read_numeral minus digits e = ap (λ b. if b then with_sign minus (value digits) else None) e
 
-pub numeral_read : (minus : Bool) (digits : List ℕ) (z : ℤ) → read minus digits ≡ Some z → (is_numeral digits ≡ true) × (signed minus (value digits) ≡ Some z)
-unfolding read
+pub numeral_read : (minus : Bool) (digits : List ℕ) (z : ℤ) → value_of_digits minus digits ≡ Some z → (is_numeral digits ≡ true) × (with_sign minus (value digits) ≡ Some z)
+unfolding value_of_digits
 numeral_read minus digits z e = by_test (is_numeral digits) refl e where
-  by_test : (numeral : Bool) → is_numeral digits ≡ numeral → (if numeral then signed minus (value digits) else None) ≡ Some z → (is_numeral digits ≡ true) × (signed minus (value digits) ≡ Some z)
+  by_test : (numeral : Bool) → is_numeral digits ≡ numeral → (if numeral then with_sign minus (value digits) else None) ≡ Some z → (is_numeral digits ≡ true) × (with_sign minus (value digits) ≡ Some z)
   by_test true is e = (is, e)
   by_test false is e = cc
 
-pub int_is : (text : List ℕ) (minus : Bool) → has_minus text ≡ minus → int_of text ≡ read minus (if minus then drop 1 text else text)
-unfolding int_of read
-int_is text minus is = ap (λ b. read b (if b then drop 1 text else text)) is
+pub int_is : (text : List ℕ) (minus : Bool) → has_minus text ≡ minus → int_of text ≡ value_of_digits minus (if minus then drop 1 text else text)
+unfolding int_of value_of_digits
+int_is text minus is = ap (λ b. value_of_digits b (if b then drop 1 text else text)) is
 
-parses_plain : {E : Type 0} (text : List ℕ) (r : Result ℤ E) → ParsesSigned w128 10 text r → is_numeral text ≡ true → result_ok r ≡ signed false (value text)
+parses_plain : {E : Type 0} (text : List ℕ) (r : Result ℤ E) → ParsesSigned w128 10 text r → is_numeral text ≡ true → result_ok r ≡ with_sign false (value text)
 parses_plain text r h e =
-    decided r ((0 < length text) × (value text < 2 ^ 127)) (pos (value text)) (nat_lt (value text) (2 ^ 127))
+    test_decides r ((0 < length text) × (value text < 2 ^ 127)) (pos (value text)) (nat_lt (value text) (2 ^ 127))
     (parse_signed_digits own w128 text r h (digits_behind text e))
     (λ q. let below : value text < 2 ^ 127 = q.1 in grind (arith, nat_tests))
     (λ t. (some_digit text e, ltb-true _ _ t))
 
-parses_minus : {E : Type 0} (text : List ℕ) (r : Result ℤ E) → ParsesSigned w128 10 text r → get_or text 0 0 ≡ 45 → is_numeral (drop 1 text) ≡ true → result_ok r ≡ signed true (value (drop 1 text))
+parses_minus : {E : Type 0} (text : List ℕ) (r : Result ℤ E) → ParsesSigned w128 10 text r → get_or text 0 0 ≡ 45 → is_numeral (drop 1 text) ≡ true → result_ok r ≡ with_sign true (value (drop 1 text))
 parses_minus text r h sign e =
     let digits = drop 1 text in
-    decided r ((list_all is_digit digits ≡ true) × (0 < length digits) × (value digits ≤ 2 ^ 127)) (neg_ℤ (pos (value digits))) (nat_le (value digits) (2 ^ 127))
+    test_decides r ((list_all is_digit digits ≡ true) × (0 < length digits) × (value digits ≤ 2 ^ 127)) (neg_ℤ (pos (value digits))) (nat_le (value digits) (2 ^ 127))
     (parse_signed_minus own w128 text r h sign)
     (λ q. let below : value digits ≤ 2 ^ 127 = q.2 in grind (arith, nat_tests))
     (λ t. (digits_behind digits e, some_digit digits e, leb-true _ _ t))

@@ -12,8 +12,8 @@ use Rattle.hir_lines.specs.Words.{list_of}
 abbrev pub IsReadOf : {X : Type 0} → (List ℕ → Option X) → List (List ℕ) → List X → List (List ℕ) → Type 0
 IsReadOf read all items words = option_map (λ xs. items ++ xs) (all_of read words) ≡ all_of read all
 
-pub begun : {X : Type 0} (read : List ℕ → Option X) (all : List (List ℕ)) → IsReadOf read all [] all
-begun {X} read all = same (all_of read all) where
+pub all_of_itself : {X : Type 0} (read : List ℕ → Option X) (all : List (List ℕ)) → IsReadOf read all [] all
+all_of_itself {X} read all = same (all_of read all) where
   same : (found : Option (List X)) → option_map (λ xs. [] ++ xs) found ≡ found
   same None = refl
   same (Some xs) = refl
@@ -30,15 +30,15 @@ first_found : {X : Type 0} (read : List ℕ → Option X) (word : List ℕ) (wor
 first_found read word words new x None is e = cc
 first_found read word words new x (Some y) is e = (is ∙ ap Some (ap (first_or y) e), ap (rest_or words) e)
 
-joined : {X : Type 0} (items : List X) (x : X) (found : Option (List X)) → option_map (λ xs. (items ++ x ∷ []) ++ xs) found ≡ option_map (λ xs. items ++ xs) (option_map (λ xs. x ∷ xs) found)
-joined items x None = refl
-joined items x (Some xs) = ap Some (append_assoc items (x ∷ []) xs)
+item_joins : {X : Type 0} (items : List X) (x : X) (found : Option (List X)) → option_map (λ xs. (items ++ x ∷ []) ++ xs) found ≡ option_map (λ xs. items ++ xs) (option_map (λ xs. x ∷ xs) found)
+item_joins items x None = refl
+item_joins items x (Some xs) = ap Some (append_assoc items (x ∷ []) xs)
 
 pub read_more : {X : Type 0} (read : List ℕ → Option X) (all : List (List ℕ)) (items : List X) (old new : List (List ℕ)) (x : X) → IsReadOf read all items old → first_word read old ≡ Some (x, new) → IsReadOf read all (items ++ x ∷ []) new
 read_more read all items [] new x is e = cc
 read_more {X} read all items (word ∷ words) new x is e =
     let found = first_found read word words new x (read word) refl e in
-    joined items x (all_of read new)
+    item_joins items x (all_of read new)
     ∙ ap (λ (ws : List (List ℕ)). option_map (λ xs. items ++ xs) (option_map (λ xs. x ∷ xs) (all_of read ws))) (sym found.1)
     ∙ ap (λ (o : Option X). option_map (λ xs. items ++ xs) (option_and_then (λ y. option_map (λ xs. y ∷ xs) (all_of read words)) o)) (sym found.0)
     ∙ is
@@ -46,15 +46,15 @@ read_more {X} read all items (word ∷ words) new x is e =
 pub all_read : {X : Type 0} (read : List ℕ → Option X) (all : List (List ℕ)) (items : List X) (words : List (List ℕ)) → IsReadOf read all items words → words ≡ [] → all_of read all ≡ Some items
 all_read read all items words is none = sym is ∙ ap (λ ws. option_map (λ xs. items ++ xs) (all_of read ws)) none ∙ ap Some (append-nil items)
 
-lost : {X : Type 0} (read : List ℕ → Option X) (word : List ℕ) (words : List (List ℕ)) (found : Option X) → read word ≡ found → option_map {U = X × List (List ℕ)} (λ y. (y, words)) found ≡ None → read word ≡ None
-lost read word words None is e = is
-lost read word words (Some y) is e = cc
+none_of_none : {X : Type 0} (read : List ℕ → Option X) (word : List ℕ) (words : List (List ℕ)) (found : Option X) → read word ≡ found → option_map {U = X × List (List ℕ)} (λ y. (y, words)) found ≡ None → read word ≡ None
+none_of_none read word words None is e = is
+none_of_none read word words (Some y) is e = cc
 
 pub none_read : {X : Type 0} (read : List ℕ → Option X) (all : List (List ℕ)) (items : List X) (words : List (List ℕ)) → IsReadOf read all items words → (words ≡ [] → ⊥) → first_word read words ≡ None → all_of read all ≡ None
 none_read read all items [] is some e = absurd (some refl)
 none_read {X} read all items (word ∷ words) is some e =
     sym is
-    ∙ ap (λ (o : Option X). option_map (λ xs. items ++ xs) (option_and_then (λ y. option_map (λ xs. y ∷ xs) (all_of read words)) o)) (lost read word words (read word) refl e)
+    ∙ ap (λ (o : Option X). option_map (λ xs. items ++ xs) (option_and_then (λ y. option_map (λ xs. y ∷ xs) (all_of read words)) o)) (none_of_none read word words (read word) refl e)
 
 -- all words are read to the last
 pub all_alone : {X : Type 0} (read : List ℕ → Option X) (words : List (List ℕ)) → whole (each read) words ≡ all_of read words

@@ -19,4 +19,4 @@ pub mod Splits
 pub mod Tables
 pub mod Takes
 pub mod TypeRefs
-pub mod Written
+pub mod WrittenLines

@@ -8,10 +8,10 @@ use Rattle.std.proofs.lemmas.Bool.Decides.{nat_tests}
 use Rattle.std.proofs.lemmas.Fmt.{decimal_digit}
 use Rattle.std.proofs.lemmas.List.Sums.{AllPass-from_list_all}
 use borrow.Author.Tests.{ltb-true, leb-true}
-use Rattle.hir_lines.specs.Numerals.{int_of, is_numeral, is_digit, has_minus, signed, value}
+use Rattle.hir_lines.specs.Numerals.{int_of, is_numeral, is_digit, has_minus, with_sign, value}
 use Rattle.hir_lines.specs.Tokens.{IsInteger}
 use Rattle.hir_lines.proofs.Decimals.{decimal-value, value-decimal, numeral-decimal, digits-decimal}
-use Rattle.hir_lines.proofs.Integers.{some_digit, read, read_numeral, numeral_read, int_is}
+use Rattle.hir_lines.proofs.Integers.{some_digit, value_of_digits, read_numeral, numeral_read, int_is}
 
 digit_no_minus : (b : ℕ) → is_digit b ≡ true → eqb b 45 ≡ false
 digit_no_minus b e = grind (arith, nat_tests)
@@ -21,13 +21,13 @@ no_minus n small =
     let some = some_digit (decimal n) (numeral-decimal n small) in
     digit_no_minus _ (AllPass-from_list_all is_digit (decimal n) (digits-decimal n small) 0 0 some)
 
-read_decimal : (minus : Bool) (n : ℕ) → n < 10 ^ 64 → read minus (decimal n) ≡ signed minus n
-read_decimal minus n small = read_numeral minus (decimal n) (numeral-decimal n small) ∙ ap (signed minus) (value-decimal n small)
+read_decimal : (minus : Bool) (n : ℕ) → n < 10 ^ 64 → value_of_digits minus (decimal n) ≡ with_sign minus n
+read_decimal minus n small = read_numeral minus (decimal n) (numeral-decimal n small) ∙ ap (with_sign minus) (value-decimal n small)
 
-signed_plain : (n : ℕ) → n < 2 ^ 127 → signed false n ≡ Some (pos n)
+signed_plain : (n : ℕ) → n < 2 ^ 127 → with_sign false n ≡ Some (pos n)
 signed_plain n h = grind (arith, nat_tests)
 
-signed_minus : (n : ℕ) → n ≤ 2 ^ 127 → signed true n ≡ Some (neg_ℤ (pos n))
+signed_minus : (n : ℕ) → n ≤ 2 ^ 127 → with_sign true n ≡ Some (neg_ℤ (pos n))
 signed_minus n h = grind (arith, nat_tests)
 
 decimal_reads : (z : ℤ) → FitsSigned w128 z → int_of (signed_decimal z) ≡ Some z
@@ -58,7 +58,7 @@ found_minus : (b : Bool) (v : ℕ) (z : ℤ) → (if b then Some (neg_ℤ (pos v
 found_minus true v z e = (refl, cc)
 found_minus false v z e = cc
 
-plain_spells : (z : ℤ) (word : List ℕ) → is_numeral word ≡ true → signed false (value word) ≡ Some z → IsInteger z word
+plain_spells : (z : ℤ) (word : List ℕ) → is_numeral word ≡ true → with_sign false (value word) ≡ Some z → IsInteger z word
 plain_spells z word numeral e =
     let found = found_plain (nat_lt (value word) (2 ^ 127)) (value word) z e in
     let below : value word < 2 ^ 127 = ltb-true _ _ found.0 in
@@ -73,7 +73,7 @@ minus_number : (n : ℕ) (word : List ℕ) → n ≤ 2 ^ 127 → word ≡ 45 ∷
 minus_number zero word h written = (record { sfits = omega arith }, inr (refl, written ∙ ap (λ ds. 45 ∷ ds) (decimal_digit 0 (omega arith))))
 minus_number (suc m) word h written = (record { sfits = omega arith }, inl written)
 
-minus_spells : (z : ℤ) (word : List ℕ) → get_or word 0 0 ≡ 45 → is_numeral (drop 1 word) ≡ true → signed true (value (drop 1 word)) ≡ Some z → IsInteger z word
+minus_spells : (z : ℤ) (word : List ℕ) → get_or word 0 0 ≡ 45 → is_numeral (drop 1 word) ≡ true → with_sign true (value (drop 1 word)) ≡ Some z → IsInteger z word
 minus_spells z word sign numeral e =
     let v : ℕ = value (drop 1 word) in
     let found = found_minus (nat_le v (2 ^ 127)) v z e in

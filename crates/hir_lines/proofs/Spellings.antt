@@ -38,9 +38,9 @@ number_reads n word h =
     ∙ ap (if_below (2 ^ 32)) (value-decimal n small)
     ∙ if_below-below n h.0
 
-chosen : {X : Type 0} (b : Bool) (o : Option X) (x : X) → (if b then o else None) ≡ Some x → (b ≡ true) × (o ≡ Some x)
-chosen true o x e = (refl, e)
-chosen false o x e = cc
+if_is_some : {X : Type 0} (b : Bool) (o : Option X) (x : X) → (if b then o else None) ≡ Some x → (b ≡ true) × (o ≡ Some x)
+if_is_some true o x e = (refl, e)
+if_is_some false o x e = cc
 
 below_found : (b : Bool) (v n : ℕ) → (if b then Some v else None) ≡ Some n → (b ≡ true) × (v ≡ n)
 below_found true v n e = (refl, cc)
@@ -49,7 +49,7 @@ below_found false v n e = cc
 pub number_spells : (n : ℕ) (word : List ℕ) → number_of word ≡ Some n → IsNumber n word
 unfolding number_of
 number_spells n word e =
-    let numeral = chosen (is_numeral word) (if_below (2 ^ 32) (value word)) n e in
+    let numeral = if_is_some (is_numeral word) (if_below (2 ^ 32) (value word)) n e in
     let found = below_found (nat_lt (value word) (2 ^ 32)) (value word) n numeral.1 in
     let small : value word < 2 ^ 32 = ltb-true _ _ found.0 in
     (omega (arith, found.1), sym (decimal-value word numeral.0 (omega arith)) ∙ ap decimal found.1)
@@ -109,7 +109,7 @@ name_reads name word h = ap name_of h.1 ∙ ap (λ b. if b then Some name else N
 
 pub name_spells : (name word : List ℕ) → name_of word ≡ Some name → (is_name name ≡ true) × (word ≡ name)
 name_spells name word e =
-    let found = chosen (is_name word) (Some word) name e in
+    let found = if_is_some (is_name word) (Some word) name e in
     let same : word ≡ name = let again = found.1 in cc in
     (ap is_name (sym same) ∙ found.0, same)
 
@@ -161,9 +161,9 @@ numbers_there [] (word ∷ words) h = absurd h
 numbers_there (n ∷ ns) [] h = absurd h
 numbers_there (n ∷ ns) (word ∷ words) h = (number_lacks 44 refl n word h.0, numbers_there ns words h.1)
 
-parted : (n : ℕ) (ns : List ℕ) (words : List (List ℕ)) → AllZip IsNumber (n ∷ ns) words → parts_of 44 (join_with_byte 44 words) ≡ words
-parted n ns [] h = absurd h
-parted n ns (word ∷ words) h = parts_of-join 44 word words (numbers_there (n ∷ ns) (word ∷ words) h)
+parts_are_numbers : (n : ℕ) (ns : List ℕ) (words : List (List ℕ)) → AllZip IsNumber (n ∷ ns) words → parts_of 44 (join_with_byte 44 words) ≡ words
+parts_are_numbers n ns [] h = absurd h
+parts_are_numbers n ns (word ∷ words) h = parts_of-join 44 word words (numbers_there (n ∷ ns) (word ∷ words) h)
 
 dash_is_no_list : (word : List ℕ) (n : ℕ) (ns : List ℕ) → all_of number_of (parts_of 44 word) ≡ Some (n ∷ ns) → (dash : Bool) → bytes_eq word (codes "-") ≡ dash → bytes_eq word (codes "-") ≡ false
 unfolding number_of
@@ -177,7 +177,7 @@ unfolding list_of
 list_reads [] word h = ap list_of h
 list_reads (n ∷ ns) word h =
     let all : all_of number_of (parts_of 44 word) ≡ Some (n ∷ ns) =
-    ap (λ text. all_of number_of (parts_of 44 text)) h.2 ∙ ap (all_of number_of) (parted n ns h.0 h.1) ∙ all_read IsNumber number_of number_reads (n ∷ ns) h.0 h.1 in
+    ap (λ text. all_of number_of (parts_of 44 text)) h.2 ∙ ap (all_of number_of) (parts_are_numbers n ns h.0 h.1) ∙ all_read IsNumber number_of number_reads (n ∷ ns) h.0 h.1 in
     ap (λ b. if b then Some [] else all_of number_of (parts_of 44 word)) (dash_is_no_list word n ns all _ refl) ∙ all
 
 pub list_spells : (ns : List ℕ) (word : List ℕ) → list_of word ≡ Some ns → IsNumbers ns word

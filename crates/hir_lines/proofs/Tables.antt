@@ -12,7 +12,7 @@ use Rattle.hir_lines.specs.Readings.{Reading, ◌>>=◌, StartsOtherwise, alone,
 use Rattle.hir_lines.specs.Taking.{Makes, Puts, Steps, with, with_line}
 use Rattle.hir_lines.specs.Words.{by, one_of}
 use Rattle.hir_lines.proofs.Spellings.{same_bytes}
-use Rattle.hir_lines.proofs.Written.{asks_it}
+use Rattle.hir_lines.proofs.WrittenLines.{asks_it}
 
 -- no word of the table stands first
 abbrev pub NoneFirst : {Y : Type 0} → List (List ℕ × Reading Y) → List (List ℕ) → Type 0

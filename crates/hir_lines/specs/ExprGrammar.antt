@@ -14,7 +14,7 @@ use Rattle.hir_node.specs.declared.expr_types.Unsafe.TheVariants.{No as Safe}
 use Rattle.hir_node.specs.declared.type_ref.Mutability.TheVariants.{Shared}
 use Rattle.hir_node.specs.declared.type_ref.Rawness.TheVariants.{Ref as Reference}
 use Rattle.hir_lines.specs.Words.{plain}
-use Rattle.hir_lines.specs.Exprs.{untyped}
+use Rattle.hir_lines.specs.Exprs.{no_types}
 use Rattle.hir_lines.specs.Tokens.{Token, Word, Name, Number, Optional, Numbers, Integer, Operator, Arm, Stmt}
 
 pub data IsExpr : Expr → List Token → Type 0 where
@@ -43,7 +43,7 @@ pub data IsExpr : Expr → List Token → Type 0 where
   match_expr : {expr : ℕ} {arms : List MatchArm} →
       IsExpr (Match expr arms) (Word (codes "match") ∷ Number expr ∷ map Arm arms)
   closure : {body : ℕ} {args : List ℕ} →
-      IsExpr (ClosureExpr args (untyped args) None body Closure ByRef)
+      IsExpr (ClosureExpr args (no_types args) None body Closure ByRef)
       (Word (codes "closure") ∷ Number body ∷ Numbers args ∷ [])
   block : {id tail : Option ℕ} {statements : List Statement} →
       IsExpr (Block id statements tail None Safe)

@@ -94,14 +94,14 @@ match_expr = do
   gives (Match expr arms)
 
 -- no type for each argument
-abbrev pub untyped : List ℕ → List (Option ℕ)
-untyped args = map (λ _. None) args
+abbrev pub no_types : List ℕ → List (Option ℕ)
+no_types args = map (λ _. None) args
 
 abbrev pub closure_expr : Reading Expr
 closure_expr = do
   body ← number
   args ← list
-  gives (ClosureExpr args (untyped args) None body Closure ByRef)
+  gives (ClosureExpr args (no_types args) None body Closure ByRef)
 
 abbrev pub block_expr : Reading Expr
 block_expr = do

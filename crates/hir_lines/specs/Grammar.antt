@@ -48,7 +48,8 @@ pub data IsQuestion : Question → List Token → Type 0 where
   root_of : {expr : ℕ} → IsQuestion (OfStore (RootOf expr)) (Word (codes "root-of") ∷ Number expr ∷ [])
   chain : {expr : ℕ} → IsQuestion (OfBody (Chain expr)) (Word (codes "chain") ∷ Number expr ∷ [])
   resolve : {expr : ℕ} {name : List ℕ} →
-      IsQuestion (OfBody (Resolve expr name of_source)) (Word (codes "resolve") ∷ Number expr ∷ Name name ∷ [])
+      IsQuestion (OfBody (Resolve expr name of_source))
+      (Word (codes "resolve") ∷ Number expr ∷ Name name ∷ [])
   resolve_expanded : {expr : ℕ} {name : List ℕ} {expansion : ℕ} →
       IsQuestion (OfBody (Resolve expr name (Expansion expansion)))
       (Word (codes "resolve") ∷ Number expr ∷ Name name ∷ Number expansion ∷ [])

@@ -31,12 +31,12 @@ abbrev pub without_minus : List ℕ → List ℕ
 without_minus text = if has_minus text then drop 1 text else text
 
 -- the number with or without a minus, if it is at least -2 ^ 127 and below 2 ^ 127
-abbrev pub signed : Bool → ℕ → Option ℤ
-signed minus n =
+abbrev pub with_sign : Bool → ℕ → Option ℤ
+with_sign minus n =
     if minus then (if nat_le n (2 ^ 127) then Some (neg_ℤ (pos n)) else None)
     else (if nat_lt n (2 ^ 127) then Some (pos n) else None)
 
 -- an integer: a numeral, perhaps behind a minus
 unfoldable pub int_of : List ℕ → Option ℤ
 int_of text =
-    if is_numeral (without_minus text) then signed (has_minus text) (value (without_minus text)) else None
+    if is_numeral (without_minus text) then with_sign (has_minus text) (value (without_minus text)) else None

@@ -91,7 +91,8 @@ Says read word result = MatchResult result (λ x. read word ≡ Some x) (λ bad.
 
 -- what a reading of these words finds, and the words that it leaves; or that the words don't fit
 abbrev pub Reads : {X E : Type 0} → Reading X → List (List ℕ) → Result X E → List (List ℕ) → Type 0
-Reads reading old result new = MatchResult result (λ x. reading old ≡ Some (x, new)) (λ bad. reading old ≡ None)
+Reads reading old result new = MatchResult result (λ x. reading old ≡ Some (x, new))
+    (λ bad. reading old ≡ None)
 
 -- what a word says, where memory for it may be refused. It is bad exactly where it says nothing
 abbrev pub SaysOrStops : {X : Type 0} → (List ℕ → Option X) → List ℕ → Result X Stop → Type 0

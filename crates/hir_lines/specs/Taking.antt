@@ -12,7 +12,8 @@ use Rattle.hir_lines.specs.Readings.{Reading, whole}
 
 -- a thing is added; or memory for it was refused, and nothing is changed
 abbrev pub Adds : {B : Type 0} → B → B → B → Result (Unit {0}) Stop → Type 0
-Adds added old new result = MatchResult result (λ done. new ≡ added) (λ why. (why ≡ stop.Memory) × (new ≡ old))
+Adds added old new result = MatchResult result (λ done. new ≡ added) (λ why. (why ≡ stop.Memory)
+    × (new ≡ old))
 
 -- whether this gives a second self parameter or a second name, where these were given before
 abbrev pub is_second : Bool → Bool → Maker → Bool
@@ -46,7 +47,8 @@ module _ {B : Type 0} (has_self has_name : B → Bool) (add : B → Maker → B)
   with_line old Bad = None
 
   -- the words make one thing, by what is read of them
-  abbrev pub Puts : {X : Type 0} → (X → Maker) → Reading X → List (List ℕ) → B → B → Result (Unit {0}) Stop → Type 0
+  abbrev pub Puts : {X : Type 0} → (X → Maker) → Reading X → List (List ℕ) → B → B
+      → Result (Unit {0}) Stop → Type 0
   Puts make reading words old new result =
       Steps (option_and_then (λ x. with old (make x)) (whole reading words)) old new result
 

@@ -13,7 +13,7 @@ type PartsOfWord<'a> = Words<'a, b':'>;
 impl Word for MatchArm {
     ghost use Rattle.hir_lines.specs.ArmsAndStatements.{arm_of};
 
-    ghost said = { arm_of };
+    ghost meaning = { arm_of };
 
     #[tactic(auto, unfolding(crate::specs::ArmsAndStatements::arm_of))]
     fn read(word: &[u8]) -> Result<MatchArm, Bad> {
@@ -63,7 +63,7 @@ fn macro_statement(parts: &mut PartsOfWord<'_>) -> Result<Statement, Bad>
 impl Word for Statement {
     ghost use Rattle.hir_lines.specs.ArmsAndStatements.{statement_of};
 
-    ghost said = { statement_of };
+    ghost meaning = { statement_of };
 
     #[tactic(auto, unfolding(crate::specs::ArmsAndStatements::statement_of))]
     fn read(word: &[u8]) -> Result<Statement, Bad> {

@@ -3,7 +3,7 @@
 ghost use Rattle.std.specs.Prelude.{IfOk, ◌≡◌};
 ghost use Rattle.hir_lines.specs.Makers as make;
 ghost use Rattle.hir_lines.specs.Taking.{Puts};
-ghost use Rattle.hir_lines.specs.Exprs.{array_expr, assign_expr, bin_expr, block_expr, call_expr, closure_expr, expr, if_expr, int_expr, let_expr, loop_expr, match_expr, path_expr, ref_expr, repeat_expr, tuple_expr, untyped};
+ghost use Rattle.hir_lines.specs.Exprs.{array_expr, assign_expr, bin_expr, block_expr, call_expr, closure_expr, expr, if_expr, int_expr, let_expr, loop_expr, match_expr, path_expr, ref_expr, repeat_expr, tuple_expr, no_types};
 
 use crate::builder::Builder;
 use crate::numerals::int as int_of;
@@ -105,7 +105,8 @@ fn array<B: Builder>(alloc: Global, words: &mut Line<'_>, builder: &mut B) -> Re
 }
 
 fn repeat<B: Builder>(words: &mut Line<'_>, builder: &mut B) -> Result<(), Stop>
-    ensures { Puts B.has_self B.has_name B.add make.Expr repeat_expr words.old builder.old builder.new result }
+    ensures { Puts B.has_self B.has_name B.add make.Expr repeat_expr words.old builder.old
+        builder.new result }
 {
     let repeat = Array::Repeat {
         initializer: words.id()?,
@@ -174,7 +175,8 @@ fn loop_expr<B: Builder>(words: &mut Line<'_>, builder: &mut B) -> Result<(), St
 }
 
 fn assignment<B: Builder>(words: &mut Line<'_>, builder: &mut B) -> Result<(), Stop>
-    ensures { Puts B.has_self B.has_name B.add make.Expr assign_expr words.old builder.old builder.new result }
+    ensures { Puts B.has_self B.has_name B.add make.Expr assign_expr words.old builder.old
+        builder.new result }
 {
     let target = words.id()?;
     let value = words.id()?;
@@ -191,12 +193,13 @@ fn match_expr<B: Builder>(alloc: Global, words: &mut Line<'_>, builder: &mut B) 
 }
 
 fn closure<B: Builder>(alloc: Global, words: &mut Line<'_>, builder: &mut B) -> Result<(), Stop>
-    ensures { Puts B.has_self B.has_name B.add make.Expr closure_expr words.old builder.old builder.new result }
+    ensures { Puts B.has_self B.has_name B.add make.Expr closure_expr words.old builder.old
+        builder.new result }
 {
     let body = words.id()?;
     let args = words.list(alloc)?;
     let closure = Expr::Closure {
-        arg_types: untyped(alloc, args.as_slice())?,
+        arg_types: no_types(alloc, args.as_slice())?,
         args,
         ret_type: None,
         body,
@@ -207,8 +210,8 @@ fn closure<B: Builder>(alloc: Global, words: &mut Line<'_>, builder: &mut B) -> 
 }
 
 /// No type for each argument.
-fn untyped(alloc: Global, args: &[PatId]) -> Result<Seq<Option<TypeRefId>>, AllocError>
-    ensures { IfOk result (λ types. types ≡ untyped args.now) }
+fn no_types(alloc: Global, args: &[PatId]) -> Result<Seq<Option<TypeRefId>>, AllocError>
+    ensures { IfOk result (λ types. types ≡ no_types args.now) }
 {
     let mut types = Seq::with_capacity(alloc, args.len())?;
     for _arg in args {

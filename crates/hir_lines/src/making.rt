@@ -27,34 +27,34 @@ pub fn make<B: Builder>(alloc: Global, text: &[u8], builder: &mut B) -> Result<b
     }
     let mut words: Line<'_> = Words::new(text);
     if words.skip(b"expr") {
-        taken(expr(alloc, &mut words, builder))
+        unless_refused(expr(alloc, &mut words, builder))
     } else if words.skip(b"pat") {
-        taken(pat(alloc, &mut words, builder))
+        unless_refused(pat(alloc, &mut words, builder))
     } else if words.skip(b"bind") {
-        taken(bind(alloc, &mut words, builder))
+        unless_refused(bind(alloc, &mut words, builder))
     } else if words.skip(b"type") {
-        taken(make_type(alloc, &mut words, builder))
+        unless_refused(make_type(alloc, &mut words, builder))
     } else if words.skip(b"hygiene") {
-        taken(expr_hygiene(&mut words, builder))
+        unless_refused(expr_hygiene(&mut words, builder))
     } else if words.skip(b"pat-hygiene") {
-        taken(pat_hygiene(&mut words, builder))
+        unless_refused(pat_hygiene(&mut words, builder))
     } else if words.skip(b"self") {
-        taken(self_param(&mut words, builder))
+        unless_refused(self_param(&mut words, builder))
     } else if words.skip(b"param") {
-        taken(param(&mut words, builder))
+        unless_refused(param(&mut words, builder))
     } else if words.skip(b"fn") {
-        taken(fn_name(alloc, &mut words, builder))
+        unless_refused(fn_name(alloc, &mut words, builder))
     } else if words.skip(b"roots") {
-        taken(roots(&words, builder))
+        unless_refused(roots(&words, builder))
     } else if words.skip(b"root") {
-        taken(root(&mut words, builder))
+        unless_refused(root(&mut words, builder))
     } else {
         Ok(false)
     }
 }
 
 /// The line was taken, unless it was refused.
-fn taken(outcome: Result<(), Stop>) -> Result<bool, Stop>
+fn unless_refused(outcome: Result<(), Stop>) -> Result<bool, Stop>
     ensures { MatchResult outcome (λ done. result ≡ Ok true) (λ why. result ≡ Err why) }
 {
     outcome?;
@@ -76,7 +76,8 @@ fn bind<B: Builder>(alloc: Global, words: &mut Line<'_>, builder: &mut B) -> Res
 }
 
 fn make_type<B: Builder>(alloc: Global, words: &mut Line<'_>, builder: &mut B) -> Result<(), Stop>
-    ensures { Puts B.has_self B.has_name B.add make.TypeRef type_ref words.old builder.old builder.new result }
+    ensures { Puts B.has_self B.has_name B.add make.TypeRef type_ref words.old builder.old
+        builder.new result }
 {
     builder.type_ref(type_ref(alloc, words)?)
 }

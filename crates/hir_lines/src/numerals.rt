@@ -32,7 +32,8 @@ fn is_numeral(text: &[u8]) -> bool
 pub fn first_number(text: &[u8], separator: u8) -> Result<(u32, usize), Bad>
     ensures within { IfOk result (λ found. found.1 ≤ length text.now) }
     ensures number { MatchResult result
-        (λ found. number (parts_of separator text.now) ≡ Some (found.0, words_from separator (found.1 + 1) text.now))
+        (λ found. number (parts_of separator text.now)
+        ≡ Some (found.0, words_from separator (found.1 + 1) text.now))
         (λ bad. number (parts_of separator text.now) ≡ None) }
 {
     // A number has at most ten digits. So its value is tested once, behind them.

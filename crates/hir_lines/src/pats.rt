@@ -78,7 +78,8 @@ fn tuple_struct<B: Builder>(
     words: &mut Line<'_>,
     builder: &mut B,
 ) -> Result<(), Stop>
-    ensures { Puts B.has_self B.has_name B.add make.Pat tuple_struct_pat words.old builder.old builder.new result }
+    ensures { Puts B.has_self B.has_name B.add make.Pat tuple_struct_pat words.old builder.old
+        builder.new result }
 {
     let name = words.name()?;
     let args = words.list(alloc)?;

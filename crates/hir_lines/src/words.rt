@@ -139,7 +139,7 @@ impl<'a, const SEPARATOR: u8> Words<'a, SEPARATOR> {
 
     /// Takes all the words that are left, if each says a value of this type. That memory was refused is said behind the last.
     pub fn each<T: Word + Drop>(&mut self, alloc: Global) -> Result<Seq<T>, Stop>
-        ensures { ReadsAll (each T.said) self.old result }
+        ensures { ReadsAll (each T.meaning) self.old result }
     {
         // Room for each and no more: a list that grows while it is read keeps room that it never uses.
         let mut kept = Seq::with_capacity(alloc, self.len());
@@ -191,11 +191,11 @@ impl<'a> Words<'a, b' '> {
 pub trait Word: Sized {
     ghost use Rattle.std.specs.Prelude.{List, ℕ, Option};
 
-    ghost said: { List ℕ → Option Self };
+    ghost meaning: { List ℕ → Option Self };
 
     /// The value of this type that a word says.
     fn read(word: &[u8]) -> Result<Self, Bad>
-        ensures { Says said word.now result };
+        ensures { Says meaning word.now result };
 }
 
 /// The name that a word is.
@@ -240,7 +240,8 @@ fn and_id<K>(
     room: Result<(), AllocError>,
     id: Idx<K>,
 ) -> Result<(), AllocError>
-    ensures { (ids : List ℕ) → IfOk room (λ done. kept.old ≡ ids) → IfOk result (λ done. kept.new ≡ ids ++ id ∷ []) }
+    ensures { (ids : List ℕ) → IfOk room (λ done. kept.old ≡ ids)
+        → IfOk result (λ done. kept.new ≡ ids ++ id ∷ []) }
 {
     room?;
     kept.push(alloc, id)
@@ -248,7 +249,8 @@ fn and_id<K>(
 
 /// An item more, where the items before it were kept.
 fn and_item<T: Drop>(kept: Result<Seq<T>, AllocError>, item: T) -> Result<Seq<T>, AllocError>
-    ensures { (items : List T) → IfOk kept (λ old. old ≡ items) → IfOk result (λ new. new ≡ items ++ item ∷ []) }
+    ensures { (items : List T) → IfOk kept (λ old. old ≡ items)
+        → IfOk result (λ new. new ≡ items ++ item ∷ []) }
 {
     let mut items = kept?;
     items.push(item)?;
@@ -270,7 +272,8 @@ fn count(text: &[u8], byte: u8) -> usize
 
 /// The rest of a text from a place on, unless that is past its end.
 fn rest_from(text: &[u8], start: usize) -> Result<&[u8], Bad>
-    ensures { MatchResult result (λ rest. IsRestFrom start text.now rest.now) (λ bad. length text.now < start) }
+    ensures { MatchResult result (λ rest. IsRestFrom start text.now rest.now)
+        (λ bad. length text.now < start) }
 {
     if start > text.len() {
         return Err(Bad);
@@ -281,7 +284,8 @@ fn rest_from(text: &[u8], start: usize) -> Result<&[u8], Bad>
 /// How long the first word of a text is.
 fn word_len(text: &[u8], separator: u8) -> usize
     ensures within { result ≤ length text.now }
-    ensures first { parts_of separator text.now ≡ take result text.now ∷ words_from separator (result + 1) text.now }
+    ensures first { parts_of separator text.now
+        ≡ take result text.now ∷ words_from separator (result + 1) text.now }
 {
     let mut end = 0;
     while end < text.len() && text[end] != separator {

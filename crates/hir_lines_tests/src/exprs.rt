@@ -1,7 +1,7 @@
 //! What each line of an expression makes, but for operators.
 //! The texts stand in tables, and an expression is made by its place there: each function that holds expressions is dear to prove.
 
-use crate::kept::{Line, Maker};
+use crate::kept_lines::{Line, Maker};
 use crate::says::{id, list, path, says};
 use hir_base::{BlockId, MacroDefId, Seq, ShortList};
 use hir_node::{

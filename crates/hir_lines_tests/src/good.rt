@@ -1,6 +1,6 @@
 //! What each form of a line makes or asks, but for expressions.
 
-use crate::kept::{Line, Maker};
+use crate::kept_lines::{Line, Maker};
 use crate::says::{id, is_second, makes, path, says};
 use hir_base::{HygieneId, Name, RangeOp, ShortList, SyntaxContext};
 use hir_lines::{BodyQuestion, Question, StoreQuestion};
@@ -63,7 +63,7 @@ fn questions(rt: HostRuntime) -> Result<(), Fail> {
     says(&rt, alloc, b"captures 4", Line::Ask(captures))
 }
 
-fn expanded(number: u32) -> HygieneId {
+fn in_expansion(number: u32) -> HygieneId {
     HygieneId::new(SyntaxContext::Expansion(number))
 }
 
@@ -74,7 +74,7 @@ fn names_are_asked_for_by_their_hygiene(rt: HostRuntime) -> Result<(), Fail> {
     let resolve = Question::OfBody(BodyQuestion::Resolve(id(4294967295), name, HygieneId::ROOT));
     says(&rt, alloc, b"resolve 4294967295 x_1", Line::Ask(resolve))?;
     let name = Name::new(alloc, "x")?;
-    let resolve = Question::OfBody(BodyQuestion::Resolve(id(0), name, expanded(0)));
+    let resolve = Question::OfBody(BodyQuestion::Resolve(id(0), name, in_expansion(0)));
     says(&rt, alloc, b"resolve 0 x 0", Line::Ask(resolve))
 }
 
@@ -102,7 +102,7 @@ fn bindings_and_the_function(rt: HostRuntime) -> Result<(), Fail> {
         &rt,
         alloc,
         b"bind longer_than_14_bytes 4294967295",
-        plain_binding(name, expanded(4294967295)),
+        plain_binding(name, in_expansion(4294967295)),
     )?;
     let made = Name::new(alloc, "_")?;
     makes(&rt, alloc, b"fn _", Maker::FnName(made))
@@ -111,9 +111,9 @@ fn bindings_and_the_function(rt: HostRuntime) -> Result<(), Fail> {
 #[test]
 fn hygienes_of_paths(rt: HostRuntime) -> Result<(), Fail> {
     let alloc = rt.alloc();
-    let of_expr = Maker::Hygiene(ExprOrPatId::ExprId(id(7)), expanded(2));
+    let of_expr = Maker::Hygiene(ExprOrPatId::ExprId(id(7)), in_expansion(2));
     makes(&rt, alloc, b"hygiene 7 2", of_expr)?;
-    let of_pat = Maker::Hygiene(ExprOrPatId::PatId(id(7)), expanded(0));
+    let of_pat = Maker::Hygiene(ExprOrPatId::PatId(id(7)), in_expansion(0));
     makes(&rt, alloc, b"pat-hygiene 7 0", of_pat)
 }
 

@@ -7,6 +7,6 @@ mod exprs;
 #[cfg(test)]
 mod good;
 #[cfg(test)]
-mod kept;
+mod kept_lines;
 #[cfg(test)]
 mod says;

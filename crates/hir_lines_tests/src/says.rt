@@ -1,7 +1,7 @@
 //! What a text says, held against a line; and the parts of lines that take memory.
 //! A line is dropped whole before its answer is weighed, since one that goes out of scope is dear to prove.
 
-use crate::kept::{Line, Maker, said};
+use crate::kept_lines::{Line, Maker, say_line};
 use hir_base::{Idx, Name, Seq};
 use hir_lines::Stop;
 use hir_node::Path;
@@ -11,7 +11,7 @@ use std::process::Abort;
 use std::test::Fail;
 
 fn is_said(alloc: Global, text: &[u8], has_both: bool, line: &Line) -> Result<bool, Stop> {
-    let said = said(alloc, text, has_both)?;
+    let said = say_line(alloc, text, has_both)?;
     let is_said = said == *line;
     drop(said);
     Ok(is_said)

@@ -25,12 +25,12 @@ plain_binding name = record {
 }
 
 -- no type for each argument
-abbrev pub untyped : List ℕ → List (Option ℕ)
-untyped args = replicate (length args) None
+abbrev pub no_types : List ℕ → List (Option ℕ)
+no_types args = replicate (length args) None
 
 -- `|args| body`
 abbrev pub closure_of : List ℕ → ℕ → Expr
-closure_of args body = expr.Closure args (untyped args) None body kind.Closure capture.Ref
+closure_of args body = expr.Closure args (no_types args) None body kind.Closure capture.Ref
 
 -- `{ statements tail }`
 abbrev pub block_of : List Statement → ℕ → Expr

@@ -6,7 +6,7 @@ ghost use Rattle.hir_path.specs.Paths.{one_name};
 ghost use Rattle.hir_node.specs.declared.type_ref.Rawness.TheVariants as rawness;
 ghost use Rattle.hir_node.specs.declared.literal.Literal.TheVariants as literal;
 ghost use Rattle.hir_make.specs.Adding.{AddsExpr, RefusesExpr, with_pat, RefusesAssign};
-ghost use Rattle.hir_make.specs.Parts.{closure_of, block_of, untyped};
+ghost use Rattle.hir_make.specs.Parts.{closure_of, block_of, no_types};
 
 use crate::adding::{add_expr, add_pat, path};
 use hir_base::{Name, Seq, ShortList};
@@ -195,7 +195,7 @@ pub fn closure(
     ensures ok { IfOk result (λ id. AddsExpr builder.old (closure_of args.now body) id builder.new) }
     ensures err { IfErr result (λ fault. RefusesExpr builder.old fault builder.new) }
 {
-    let arg_types = untyped(alloc, args)?;
+    let arg_types = no_types(alloc, args)?;
     let args = ShortList::from_slice(alloc, args)?;
     add_expr(
         builder,
@@ -211,8 +211,8 @@ pub fn closure(
 }
 
 /// No type for each argument.
-fn untyped(alloc: Global, args: &[PatId]) -> Result<Seq<Option<TypeRefId>>, AllocError>
-    ensures { IfOk result (λ types. types ≡ untyped args.now) }
+fn no_types(alloc: Global, args: &[PatId]) -> Result<Seq<Option<TypeRefId>>, AllocError>
+    ensures { IfOk result (λ types. types ≡ no_types args.now) }
 {
     Ok(Seq::from_vec(vec![in alloc; None; args.len()]?))
 }

@@ -69,11 +69,11 @@ pub enum Literal {
 }
 
 impl Literal {
-    ghost use Rattle.hir_node.specs.Literals.{negated};
+    ghost use Rattle.hir_node.specs.Literals.{negate};
 
     /// Negates an `Int`; the least number stays as it is. `None` for every other literal.
     pub fn negate(self) -> Option<Literal>
-        ensures { result ≡ negated self }
+        ensures { result ≡ negate self }
     {
         match self {
             Literal::Int(value, suffix) => Some(Literal::Int(value.wrapping_neg(), suffix)),

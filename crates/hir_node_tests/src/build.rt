@@ -45,7 +45,10 @@ pub fn both<T: Drop, U: Drop>(
 }
 
 /// The value in a box, if it could be made.
-pub fn boxed<T: Drop>(alloc: Global, value: Result<T, AllocError>) -> Result<Boxed<T>, AllocError> {
+pub fn in_box<T: Drop>(
+    alloc: Global,
+    value: Result<T, AllocError>,
+) -> Result<Boxed<T>, AllocError> {
     Ok(Boxed::new(alloc, value?)?)
 }
 
@@ -151,7 +154,7 @@ pub fn with_lists(
         }),
         Err(error) => Err(error),
     };
-    boxed(alloc, path).map(Path::Normal)
+    in_box(alloc, path).map(Path::Normal)
 }
 
 /// The plain path of these names, the first with type 3 as its argument.
@@ -161,12 +164,12 @@ pub fn with_args_first(alloc: Global, texts: &[&str]) -> Result<Path, AllocError
 
 /// The path `a::b` behind the anchor, whose second name has the nested arguments.
 pub fn nested_path(alloc: Global) -> Result<Path, AllocError> {
-    let lists = with(only(alloc, Ok(None)), nested(alloc).map(Some));
+    let lists = with(only(alloc, Ok(None)), nested_args(alloc).map(Some));
     with_lists(alloc, lists, Some(anchor()), &["a", "b"])
 }
 
 /// `<1, B<2, C = 3>: '5 = 4>`: the binding `B` has arguments of its own, a type and a bound.
-pub fn nested(alloc: Global) -> Result<GenericArgs, AllocError> {
+pub fn nested_args(alloc: Global) -> Result<GenericArgs, AllocError> {
     let inner = binding(alloc, "C", Ok(None), 3, Ok(Seq::new(alloc)));
     let args = type_args(alloc, 2, only(alloc, inner)).map(Some);
     let bounds = one(alloc, TypeBound::Lifetime(Idx::from_raw(5)));

@@ -6,7 +6,7 @@ ghost use Rattle.hir_node.specs.ChildCalls.{Call as NodeCall};
 ghost use Rattle.hir_node.specs.Runs.{MayRun};
 
 use crate::build;
-use crate::wanted::{Call, Wanted};
+use crate::wanted_calls::{Call, CallList};
 use hir_base::{Idx, Seq};
 use hir_node::{
     ConstRef, Expr, GenericArg, GenericArgs, GenericArgsParentheses, Path, StoreVisitor,
@@ -18,7 +18,7 @@ use std::test::Fail;
 
 // Whether one part of each kind, that is there, makes these calls.
 fn parts_give(calls: &[Call]) -> bool {
-    let mut wanted = Wanted::new(calls);
+    let mut wanted = CallList::new(calls);
     wanted.on_expr_opt(Some(Idx::from_raw(1)));
     wanted.on_pat_opt(Some(Idx::from_raw(2)));
     wanted.on_type_opt(Some(Idx::from_raw(3)));
@@ -28,7 +28,7 @@ fn parts_give(calls: &[Call]) -> bool {
 
 // Whether absent parts make no call.
 fn absent_parts_give_none() -> bool {
-    let mut wanted = Wanted::new(&[]);
+    let mut wanted = CallList::new(&[]);
     wanted.on_expr_opt(None);
     wanted.on_pat_opt(None);
     wanted.on_type_opt(None);
@@ -39,7 +39,7 @@ fn absent_parts_give_none() -> bool {
 
 // Whether the lists of the expressions 1 and 2, of the pattern 3 and of the type 4 make these calls.
 fn lists_give(calls: &[Call]) -> bool {
-    let mut wanted = Wanted::new(calls);
+    let mut wanted = CallList::new(calls);
     wanted.on_exprs(&[Idx::from_raw(1), Idx::from_raw(2)]);
     wanted.on_pats(&[Idx::from_raw(3)]);
     wanted.on_types(&[Idx::from_raw(4)]);
@@ -76,18 +76,18 @@ fn give_nested(args: &GenericArgs) -> bool {
     for binding in args.bindings.as_slice() {
         laws::calls_of_binding(binding);
     }
-    let mut wanted = Wanted::new(&NESTED);
+    let mut wanted = CallList::new(&NESTED);
     visit_generic_args(&mut wanted, args);
-    let mut wanted_on = Wanted::new(&NESTED);
+    let mut wanted_on = CallList::new(&NESTED);
     wanted_on.on_generic_args(args);
-    let mut wanted_opt = Wanted::new(&NESTED);
+    let mut wanted_opt = CallList::new(&NESTED);
     wanted_opt.on_generic_args_opt(Some(args));
     wanted.all_met() && wanted_on.all_met() && wanted_opt.all_met()
 }
 
 #[test]
 fn bindings_give_their_own_arguments_first(rt: HostRuntime) -> Result<(), Fail> {
-    let args = build::nested(rt.alloc())?;
+    let args = build::nested_args(rt.alloc())?;
     let holds = give_nested(&args);
     drop(args);
     assert!(rt; holds);
@@ -96,7 +96,7 @@ fn bindings_give_their_own_arguments_first(rt: HostRuntime) -> Result<(), Fail> 
 
 // Whether a lent visitor is called with the path, and then with the expression 1, by these calls.
 fn lent_gives(path: &Path, calls: &[Call]) -> bool {
-    let mut wanted = Wanted::new(calls);
+    let mut wanted = CallList::new(calls);
     let mut lent = &mut wanted;
     lent.on_path(path);
     lent.on_expr(Idx::from_raw(1));
@@ -135,7 +135,7 @@ fn lent_alone_gives(args: &GenericArgs, calls: &[Call]) -> bool {
         pat: Idx::from_raw(4),
         expr: Idx::from_raw(5),
     };
-    let mut wanted = Wanted::new(calls);
+    let mut wanted = CallList::new(calls);
     visit_both(&mut wanted, args, &expr);
     drop(expr);
     wanted.all_met()

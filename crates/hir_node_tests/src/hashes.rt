@@ -48,13 +48,13 @@ fn for_lifetime(alloc: Global) -> Result<TypeBound, AllocError> {
 }
 
 // `use<'1, T>`
-fn used(alloc: Global) -> Result<TypeBound, AllocError> {
+fn use_bound(alloc: Global) -> Result<TypeBound, AllocError> {
     let args = build::one(alloc, UseArgRef::Lifetime(Idx::from_raw(1)));
     build::with(args, Name::new(alloc, "T").map(UseArgRef::Name)).map(TypeBound::Use)
 }
 
 fn bounds(alloc: Global) -> Result<Seq<TypeBound>, AllocError> {
-    build::with(build::only(alloc, for_lifetime(alloc)), used(alloc))
+    build::with(build::only(alloc, for_lifetime(alloc)), use_bound(alloc))
 }
 
 // A parameter of type 1, named `x`.
@@ -88,7 +88,7 @@ fn function(alloc: Global) -> Result<FnType, AllocError> {
 // Function 4, as the item `new` of the language.
 fn item(alloc: Global) -> Result<Path, AllocError> {
     let item = LangItemTarget::FunctionId(FunctionId::from_raw(4));
-    match build::boxed(alloc, Name::new(alloc, "new")) {
+    match build::in_box(alloc, Name::new(alloc, "new")) {
         Ok(name) => Ok(Path::LangItem(item, Some(name))),
         Err(error) => Err(error),
     }
@@ -101,14 +101,14 @@ fn reference(alloc: Global) -> Result<TypeRef, AllocError> {
         lifetime: Some(Idx::from_raw(2)),
         mutability: Mutability::Shared,
     };
-    build::boxed(alloc, Ok(reference)).map(TypeRef::Reference)
+    build::in_box(alloc, Ok(reference)).map(TypeRef::Reference)
 }
 
 fn types(alloc: Global) -> Result<Seq<TypeRef>, AllocError> {
     let parts = ShortList::from_slice(alloc, &four());
     let list = build::only(alloc, parts.map(TypeRef::Tuple));
     let list = build::with(list, bounds(alloc).map(TypeRef::DynTrait));
-    let list = build::with(list, build::boxed(alloc, function(alloc)).map(TypeRef::Fn));
+    let list = build::with(list, build::in_box(alloc, function(alloc)).map(TypeRef::Fn));
     let list = build::with(list, reference(alloc));
     let list = build::with(list, item(alloc).map(TypeRef::Path));
     build::with(list, build::nested_path(alloc).map(TypeRef::Path))

@@ -15,4 +15,4 @@ mod hashes;
 #[cfg(test)]
 mod small;
 #[cfg(test)]
-mod wanted;
+mod wanted_calls;

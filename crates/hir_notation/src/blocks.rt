@@ -1,6 +1,6 @@
 //! Blocks with their statements, matches with their arms, and loops.
 
-use crate::reading::{Read, both, spaced, three};
+use crate::reading::{Read, behind_spaces, both, three};
 use hir_base::{BlockId, MacroDefId};
 use hir_node::{Expr, Item, LabelId, LoopSource, MatchArm, Statement, Unsafe};
 use hir_words::{Stop, Words};
@@ -36,7 +36,7 @@ pub(crate) fn block_expr(words: &mut Words<'_>, alloc: Global) -> Result<Expr, S
     let id = opt_block(words)?;
     let (tail, label) = both(words.next_opt_id(), opt_label(words))?;
     let unsafe_ = opt_unsafe(words);
-    let statements = spaced(words, alloc)?;
+    let statements = behind_spaces(words, alloc)?;
     Ok(Expr::Block {
         id,
         statements,
@@ -112,6 +112,6 @@ impl Read for MatchArm {
 }
 
 pub(crate) fn match_expr(words: &mut Words<'_>, alloc: Global) -> Result<Expr, Stop> {
-    let (expr, arms) = both(words.next_id(), spaced(words, alloc))?;
+    let (expr, arms) = both(words.next_id(), behind_spaces(words, alloc))?;
     Ok(Expr::Match { expr, arms })
 }

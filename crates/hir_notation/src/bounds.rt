@@ -1,7 +1,7 @@
 //! Bounds, as `T3`, `?T3`, `for<NAMES>T3`, `L0`, `use<T,L0>` and `error`, and lists of them that are joined by `+`.
 
 use crate::args::{lettered_id, next_letter};
-use crate::reading::{Read, both, joined, joined_or_none};
+use crate::reading::{Read, both, joined_or_none, one_or_more};
 use hir_base::{Name, Seq};
 use hir_path::{PathId, TraitBoundModifier, TypeBound, UseArgRef};
 use hir_words::{Stop, Words};
@@ -53,7 +53,7 @@ fn read_uses(words: &mut Words<'_>, alloc: Global) -> Result<Seq<UseArgRef>, Sto
     if words.eat(b">") {
         return Ok(Seq::new(alloc));
     }
-    let uses = joined(words, alloc, b",")?;
+    let uses = one_or_more(words, alloc, b",")?;
     words.expect(b">")?;
     Ok(uses)
 }

@@ -1,6 +1,6 @@
 //! Closures and coroutines.
 
-use crate::reading::{Read, joined, three};
+use crate::reading::{Read, one_or_more, three};
 use hir_base::{Seq, ShortList};
 use hir_node::{
     CaptureBy, ClosureKind, CoroutineKind, CoroutineSource, Expr, Movability, PatId, TypeRefId,
@@ -67,12 +67,12 @@ fn arg_types(
     arg_count: usize,
 ) -> Result<Seq<Option<TypeRefId>>, Stop> {
     if !words.prefix(b"types:") {
-        return Ok(untyped(alloc, arg_count)?);
+        return Ok(no_types(alloc, arg_count)?);
     }
     if words.is_word_end() {
         return Ok(Seq::new(alloc));
     }
-    joined(words, alloc, b",")
+    one_or_more(words, alloc, b",")
 }
 
 impl Read for Option<TypeRefId> {
@@ -82,7 +82,7 @@ impl Read for Option<TypeRefId> {
 }
 
 /// An absent type for each argument.
-fn untyped(alloc: Global, arg_count: usize) -> Result<Seq<Option<TypeRefId>>, AllocError> {
+fn no_types(alloc: Global, arg_count: usize) -> Result<Seq<Option<TypeRefId>>, AllocError> {
     let mut types = Seq::with_capacity(alloc, arg_count)?;
     for _ in 0..arg_count {
         types.push(None)?;

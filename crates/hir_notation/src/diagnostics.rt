@@ -125,8 +125,8 @@ pub fn write_diagnostic(
     match diagnostic {
         ExpressionStoreDiagnostics::InactiveCode { node, cfg, opts } => {
             write_front("InactiveCode", *node, answer)?;
-            answer.quoted(cfg.as_str())?;
-            answer.quoted(opts.as_str())
+            answer.quote(cfg.as_str())?;
+            answer.quote(opts.as_str())
         }
         ExpressionStoreDiagnostics::UnresolvedMacroCall { node, path } => {
             write_front("UnresolvedMacroCall", syntax(*node), answer)?;
@@ -138,7 +138,7 @@ pub fn write_diagnostic(
         }
         ExpressionStoreDiagnostics::AwaitOutsideOfAsync { node, location } => {
             write_front("AwaitOutsideOfAsync", syntax(*node), answer)?;
-            answer.quoted(location.as_str())
+            answer.quote(location.as_str())
         }
         ExpressionStoreDiagnostics::UndeclaredLabel { node, name } => {
             write_front("UndeclaredLabel", syntax(*node), answer)?;

@@ -6,7 +6,7 @@ use crate::closures::closure_expr;
 use crate::literals::{LiteralForm, read_literal};
 use crate::operators::{next_binary, next_unary};
 use crate::paths::next_path;
-use crate::reading::{Read, both, boxed, joined_or_none, spaced, three};
+use crate::reading::{Read, behind_spaces, both, in_box, joined_or_none, three};
 use hir_base::{Name, Seq};
 use hir_node::{
     Array, Boxed, Expr, GenericArgs, Mutability, OffsetOf, Rawness, RecordLitField, RecordSpread,
@@ -248,7 +248,7 @@ fn opt_args(words: &mut Words<'_>, alloc: Global) -> Result<Option<Boxed<Generic
     if words.is_end() {
         return Ok(None);
     }
-    Ok(Some(boxed(alloc, next_args(words, alloc))?))
+    Ok(Some(in_box(alloc, next_args(words, alloc))?))
 }
 
 fn method_expr(words: &mut Words<'_>, alloc: Global) -> Result<Expr, Stop> {
@@ -272,7 +272,7 @@ impl Read for RecordLitField {
 
 fn record_expr(words: &mut Words<'_>, alloc: Global) -> Result<Expr, Stop> {
     let path = next_path(words, alloc);
-    let fields = boxed(alloc, spaced(words, alloc));
+    let fields = in_box(alloc, behind_spaces(words, alloc));
     let (path, fields, spread) = three(path, fields, spread(words))?;
     Ok(Expr::RecordLit {
         path,

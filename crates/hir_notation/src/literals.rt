@@ -128,7 +128,7 @@ pub fn write_literal(literal: &Literal, answer: &mut Answer) -> Result<(), Alloc
 
 fn write_text(word: &str, text: &str, answer: &mut Answer) -> Result<(), AllocError> {
     answer.word(word)?;
-    answer.quoted(text)
+    answer.quote(text)
 }
 
 fn write_bytes(word: &str, bytes: &[u8], answer: &mut Answer) -> Result<(), AllocError> {
@@ -171,7 +171,7 @@ fn write_float(
     if is_decimal(text.as_bytes()) {
         answer.word(text)?;
     } else {
-        answer.quoted(text)?;
+        answer.quote(text)?;
     }
     write_suffix(suffix, answer)
 }

@@ -2,7 +2,7 @@
 
 use crate::args::read_args;
 use crate::definitions::{as_lang, read_def};
-use crate::reading::{both, boxed, push};
+use crate::reading::{both, in_box, push};
 use hir_base::{Id, ModPath, Name, PathKind, Seq};
 use hir_path::{Boxed, GenericArgs, NormalPath, Path, TypeRefId};
 use hir_words::{Stop, Words, value_of};
@@ -191,11 +191,11 @@ fn read_places(
     if count < places.len() && has_args(&places.as_slice()[count..]) {
         return Err(Stop::Bad);
     }
-    resized(places, count)
+    resize(places, count)
 }
 
 /// These places, cut to this number, or filled up to it.
-fn resized(
+fn resize(
     places: Seq<Option<GenericArgs>>,
     count: usize,
 ) -> Result<Seq<Option<GenericArgs>>, Stop> {
@@ -210,7 +210,7 @@ fn resized(
 /// The name behind a lang item, where there is one.
 fn opt_lang_name(words: &mut Words<'_>, alloc: Global) -> Result<Option<Boxed<Name>>, Stop> {
     if words.eat(b"::") {
-        return Ok(Some(boxed(alloc, read_segment(words, alloc))?));
+        return Ok(Some(in_box(alloc, read_segment(words, alloc))?));
     }
     Ok(None)
 }
@@ -246,7 +246,7 @@ fn normal_path(
     let Segments { names, places } = segments;
     let places = read_places(words, places);
     let parts = both(mod_path(alloc, kind, names), places);
-    Ok(Path::Normal(boxed(alloc, normal_of(type_anchor, parts))?))
+    Ok(Path::Normal(in_box(alloc, normal_of(type_anchor, parts))?))
 }
 
 /// A path without arguments, of this kind and with these names.

@@ -1,7 +1,7 @@
 //! Patterns: each form is read by its keyword and its parts.
 
 use crate::paths::next_path;
-use crate::reading::{Read, both, spaced, three};
+use crate::reading::{Read, behind_spaces, both, three};
 use hir_base::RangeOp;
 use hir_node::{Mutability, Pat, RecordFieldPat};
 use hir_words::{Stop, Words};
@@ -140,7 +140,7 @@ impl Read for RecordFieldPat {
 }
 
 fn record_pat(words: &mut Words<'_>, alloc: Global) -> Result<Pat, Stop> {
-    let (path, args) = both(next_path(words, alloc), spaced(words, alloc))?;
+    let (path, args) = both(next_path(words, alloc), behind_spaces(words, alloc))?;
     Ok(Pat::Record {
         path,
         args,

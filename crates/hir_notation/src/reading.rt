@@ -23,12 +23,12 @@ pub(crate) fn push<T: Drop>(items: &mut Seq<T>, item: Result<T, Stop>) -> Result
 }
 
 /// A value in a box, where it could be read.
-pub(crate) fn boxed<T: Drop>(alloc: Global, value: Result<T, Stop>) -> Result<Boxed<T>, Stop> {
+pub(crate) fn in_box<T: Drop>(alloc: Global, value: Result<T, Stop>) -> Result<Boxed<T>, Stop> {
     Ok(Boxed::new(alloc, value?)?)
 }
 
 /// One or more, joined by this.
-pub(crate) fn joined<T: Read>(
+pub(crate) fn one_or_more<T: Read>(
     words: &mut Words<'_>,
     alloc: Global,
     between: &[u8],
@@ -52,11 +52,11 @@ pub(crate) fn joined_or_none<T: Read>(
     if words.eat(b"-") {
         return Ok(Seq::new(alloc));
     }
-    joined(words, alloc, between)
+    one_or_more(words, alloc, between)
 }
 
 /// Each that stands behind a space, to the line's end or to a word that begins with `..`.
-pub(crate) fn spaced<T: Read>(words: &mut Words<'_>, alloc: Global) -> Result<Seq<T>, Stop> {
+pub(crate) fn behind_spaces<T: Read>(words: &mut Words<'_>, alloc: Global) -> Result<Seq<T>, Stop> {
     let mut items = Seq::new(alloc);
     for _ in 0..words.rest().len() {
         if words.is_end() || words.is_at(b" ..") {

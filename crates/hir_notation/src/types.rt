@@ -3,7 +3,7 @@
 use crate::bounds::{next_bounds, opt_binder};
 use crate::definitions::next_type_param;
 use crate::paths::next_path;
-use crate::reading::{Read, both, boxed, spaced, three};
+use crate::reading::{Read, behind_spaces, both, in_box, three};
 use hir_base::{ExternAbi, Name, Text};
 use hir_node::{ArrayType, Boxed, ConstRef, FnType, Mutability, RefType, TypeRef, TypeRefId};
 use hir_words::{Answer, Stop, Words};
@@ -97,7 +97,7 @@ fn read_fn(words: &mut Words<'_>, alloc: Global) -> Result<FnType, Stop> {
     let is_unsafe = words.flag(b"unsafe");
     let abi = opt_abi(words, alloc);
     let is_varargs = words.flag(b"varargs");
-    let (binder, abi, params) = three(binder, abi, spaced(words, alloc))?;
+    let (binder, abi, params) = three(binder, abi, behind_spaces(words, alloc))?;
     Ok(FnType {
         binder,
         params,
@@ -124,7 +124,7 @@ fn boxed_ref(words: &mut Words<'_>, alloc: Global) -> Result<Boxed<RefType>, Sto
 
 /// A function pointer in a box.
 fn boxed_fn(words: &mut Words<'_>, alloc: Global) -> Result<Boxed<FnType>, Stop> {
-    boxed(alloc, read_fn(words, alloc))
+    in_box(alloc, read_fn(words, alloc))
 }
 
 /// The form of a type.

@@ -2,7 +2,7 @@
 use Rattle.std.proofs.Common.{◌≡◌, ℕ, List, [], ◌∷◌, ◌++◌, get_or, take, replicate, ◌-◌, ◌==◌, ◌||◌, sym, ap, ◌∙◌}
 use Rattle.hir_page.specs.declared.line_format.LineFormat.{LineFormat}
 use Rattle.hir_page.specs.Buffer.{lines_of, HasNoEnd, IsTrimmedLen}
-use Rattle.hir_page.specs.Page.{Lines, Page, is_blank, trimmed}
+use Rattle.hir_page.specs.Page.{Lines, Page, is_blank, trim}
 use Rattle.hir_page.proofs.PageLemmas.{lines_of-plain, lines_of-end}
 use Rattle.hir_page.proofs.EndLemmas.{no_end_in_spaces, ending}
 
@@ -27,10 +27,10 @@ blank_by_len text len t =
 
 -- the text up to its trimmed length is that without its trailing spaces
 pub page_trimmed : (text : List ℕ) (len level : ℕ) (format : LineFormat) → IsTrimmedLen text len
-    → page (take len text) level format ≡ record (page text level format) { last = trimmed (lines_of text).1 }
+    → page (take len text) level format ≡ record (page text level format) { last = trim (lines_of text).1 }
 page_trimmed text len level format t =
     let e = ending text len t in
     let make : Lines → Page = λ l. record { above = l.0; last = l.1; level = level; format = format } in
-    let make_trimmed : Lines → Page = λ l. record { above = l.0; last = trimmed l.1; level = level; format = format } in
+    let make_trimmed : Lines → Page = λ l. record { above = l.0; last = trim l.1; level = level; format = format } in
     let make_last : List ℕ → Page = λ k. record { above = e.above; last = k; level = level; format = format } in
     ap make e.short ∙ sym (ap make_trimmed e.whole ∙ ap make_last e.cut)

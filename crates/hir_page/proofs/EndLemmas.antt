@@ -4,7 +4,7 @@ use Rattle.std.proofs.lemmas.Bool.Decides.{nat_tests}
 use Rattle.std.proofs.lemmas.Grind.{common_steps}
 use Rattle.std.proofs.lemmas.List.{drop_more, take_more, take_all}
 use Rattle.hir_page.specs.Buffer.{lines_of, HasNoEnd, IsTrimmedLen, EndsInLineEnd}
-use Rattle.hir_page.specs.Page.{Lines, cut_lines, is_blank, trimmed, ends_in_space, is_empty_line, is_empty_text}
+use Rattle.hir_page.specs.Page.{Lines, cut_lines, is_blank, trim, ends_in_space, is_empty_line, is_empty_text}
 use Rattle.hir_page.proofs.PageLemmas.{lines_of-plain, lines_of-end}
 
 pub spaces_more : (text : List ℕ) (n : ℕ) → 0 < n → n ≤ length text → get_or text (n - 1) 0 ≡ 32 → drop n text ≡ replicate (length text - n) 32
@@ -33,15 +33,15 @@ blank_not (d ∷ x) c n ne = rw (blank_not x c n ne) (both (d == 32))
     both true = refl
     both false = refl
 
-trimmed_spaces : (n : ℕ) → trimmed (replicate n 32) ≡ []
+trimmed_spaces : (n : ℕ) → trim (replicate n 32) ≡ []
 trimmed_spaces zero = refl
-trimmed_spaces (suc n) = ap (λ b. cond b [] (32 ∷ trimmed (replicate n 32))) (blank_spaces n)
+trimmed_spaces (suc n) = ap (λ b. cond b [] (32 ∷ trim (replicate n 32))) (blank_spaces n)
 
-trimmed_kept : (x : List ℕ) (c n : ℕ) → c ≢ 32 → trimmed ((x ++ (c ∷ [])) ++ replicate n 32) ≡ x ++ (c ∷ [])
+trimmed_kept : (x : List ℕ) (c n : ℕ) → c ≢ 32 → trim ((x ++ (c ∷ [])) ++ replicate n 32) ≡ x ++ (c ∷ [])
 trimmed_kept [] c n ne =
-    ap (λ b. cond b [] (c ∷ trimmed (replicate n 32))) (blank_not [] c n ne) ∙ ap (λ cs. c ∷ cs) (trimmed_spaces n)
+    ap (λ b. cond b [] (c ∷ trim (replicate n 32))) (blank_not [] c n ne) ∙ ap (λ cs. c ∷ cs) (trimmed_spaces n)
 trimmed_kept (d ∷ x) c n ne =
-    ap (λ b. cond b [] (d ∷ trimmed ((x ++ (c ∷ [])) ++ replicate n 32))) (blank_not (d ∷ x) c n ne) ∙ ap (λ cs. d ∷ cs) (trimmed_kept x c n ne)
+    ap (λ b. cond b [] (d ∷ trim ((x ++ (c ∷ [])) ++ replicate n 32))) (blank_not (d ∷ x) c n ne) ∙ ap (λ cs. d ∷ cs) (trimmed_kept x c n ne)
 
 -- The lines of a text, by its trimmed length: the lines above, the last line without its trailing spaces, and what is known of it.
 pub record Ending (text : List ℕ) (len : ℕ) : Type 0 where
@@ -50,7 +50,7 @@ pub record Ending (text : List ℕ) (len : ℕ) : Type 0 where
   pub whole : lines_of text ≡ (above, kept ++ replicate (length text - len) 32)
   pub short : lines_of (take len text) ≡ (above, kept)
   pub blank : is_blank (kept ++ replicate (length text - len) 32) ≡ is_empty_line kept
-  pub cut : trimmed (kept ++ replicate (length text - len) 32) ≡ kept
+  pub cut : trim (kept ++ replicate (length text - len) 32) ≡ kept
   pub empty : is_empty_line kept ≡ ((len == 0) || (get_or text (len - 1) 0 == 10))
 
 module _ (text : List ℕ) (len : ℕ) (t : IsTrimmedLen text len) where

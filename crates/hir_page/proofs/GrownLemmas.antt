@@ -10,7 +10,7 @@ use Rattle.hir_page.specs.declared.line_format.LineFormat.TheVariants.{Oneline, 
 use Rattle.hir_page.specs.Buffer.{IsGrown}
 use Rattle.hir_page.proofs.PageLemmas.{text_of_lines}
 use Rattle.hir_page.proofs.BufferLemmas.{page}
-use Rattle.hir_page.specs.Page.{Page, page_text, lines_text, is_blank, parted, indented, begun, begun_in, put, put_all, format_in_line, format_after_end}
+use Rattle.hir_page.specs.Page.{Page, page_text, lines_text, is_blank, on_new_line, indent, begin, begin_in, put, put_all, format_in_line, format_after_end}
 
 pub grown_none : (p : Page) → IsGrown p p
 grown_none p = record { added = []; text = sym (append-nil (page_text p)); level = refl }
@@ -35,29 +35,29 @@ grown_last p cs format = record { added = cs; text = in_last p.above p.last cs; 
 pub grown_end : (p : Page) (format : LineFormat) → IsGrown p (record p { above = p.last ∷ p.above; last = []; format = format })
 grown_end p format = record { added = 10 ∷ []; text = refl; level = refl }
 
-pub grown_indented : (p : Page) → IsGrown p (indented p)
+pub grown_indented : (p : Page) → IsGrown p (indent p)
 grown_indented p = grown_last p (replicate (4 * p.level) 32) p.format
 
-pub grown_parted : (p : Page) → IsGrown p (parted p)
+pub grown_parted : (p : Page) → IsGrown p (on_new_line p)
 grown_parted p = either (is_blank p.last)
   where
     either : (b : Bool) → IsGrown p (cond b p (record p { above = p.last ∷ p.above; last = [] }))
     either true = grown_none p
     either false = grown_end p p.format
 
-pub grown_begun : (p : Page) → IsGrown p (begun p)
+pub grown_begun : (p : Page) → IsGrown p (begin p)
 grown_begun p = by_format p.format
   where
-    by_format : (f : LineFormat) → IsGrown p (begun_in f p)
+    by_format : (f : LineFormat) → IsGrown p (begin_in f p)
     by_format Oneline = grown_none p
     by_format Newline = grown_none p
-    by_format Indentation = grown_then (grown_parted p) (grown_indented (parted p))
+    by_format Indentation = grown_then (grown_parted p) (grown_indented (on_new_line p))
 
 pub grown_put : (c : ℕ) (p : Page) → IsGrown p (put c p)
 grown_put c p = grown_then (grown_begun p) (either (c == 10))
   where
     q : Page
-    q = begun p
+    q = begin p
 
     either : (b : Bool) → IsGrown q (cond b (record q { above = q.last ∷ q.above; last = []; format = format_after_end p.format }) (record q { last = q.last ++ (c ∷ []); format = format_in_line p.format }))
     either true = grown_end q (format_after_end p.format)

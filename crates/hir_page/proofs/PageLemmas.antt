@@ -3,14 +3,14 @@ use Rattle.std.proofs.Common.{◌≡◌, ◌≢◌, ℕ, suc, ◌<◌, Bool, tru
 use Rattle.std.proofs.lemmas.Bool.Decides.{nat_tests}
 use Rattle.hir_page.specs.declared.line_format.LineFormat.{LineFormat}
 use Rattle.hir_page.specs.declared.line_format.LineFormat.TheVariants.{Oneline, Newline, Indentation}
-use Rattle.hir_page.specs.Buffer.{one_more, continued, lines_of, HasNoEnd}
-use Rattle.hir_page.specs.Page.{Lines, Page, begun, begun_in, indented, is_blank, put, put_all, lines_text, format_in_line, format_after_end}
+use Rattle.hir_page.specs.Buffer.{one_more, continue_lines, lines_of, HasNoEnd}
+use Rattle.hir_page.specs.Page.{Lines, Page, begin, begin_in, indent, is_blank, put, put_all, lines_text, format_in_line, format_after_end}
 
-pub continued-append : (l : Lines) (xs ys : List ℕ) → continued l (xs ++ ys) ≡ continued (continued l xs) ys
+pub continued-append : (l : Lines) (xs ys : List ℕ) → continue_lines l (xs ++ ys) ≡ continue_lines (continue_lines l xs) ys
 continued-append l [] ys = refl
 continued-append l (x ∷ xs) ys = continued-append (one_more x l) xs ys
 
-pub lines_of-append : (xs ys : List ℕ) → lines_of (xs ++ ys) ≡ continued (lines_of xs) ys
+pub lines_of-append : (xs ys : List ℕ) → lines_of (xs ++ ys) ≡ continue_lines (lines_of xs) ys
 unfolding lines_of
 lines_of-append xs ys = continued-append ([], []) xs ys
 
@@ -18,11 +18,11 @@ not_end : (c : ℕ) → c ≢ 10 → (c == 10) ≡ false
 not_end c ne = grind (arith, nat_tests)
 
 -- characters that are no line end stand in the last line
-pub continued-plain : (l : Lines) (cs : List ℕ) → HasNoEnd cs → continued l cs ≡ (l.0, l.1 ++ cs)
+pub continued-plain : (l : Lines) (cs : List ℕ) → HasNoEnd cs → continue_lines l cs ≡ (l.0, l.1 ++ cs)
 continued-plain l [] h = ap (λ x. (l.0, x)) (sym (append-nil l.1))
 continued-plain l (c ∷ cs) h =
     let here : one_more c l ≡ (l.0, l.1 ++ (c ∷ [])) = ap (λ b. cond b (l.1 ∷ l.0, []) (l.0, l.1 ++ (c ∷ []))) (not_end c (h 0 (omega arith))) in
-    ap (λ m. continued m cs) here ∙ continued-plain (l.0, l.1 ++ (c ∷ [])) cs (λ i lt. h (suc i) (omega arith)) ∙ ap (λ x. (l.0, x)) (append_assoc l.1 (c ∷ []) cs)
+    ap (λ m. continue_lines m cs) here ∙ continued-plain (l.0, l.1 ++ (c ∷ [])) cs (λ i lt. h (suc i) (omega arith)) ∙ ap (λ x. (l.0, x)) (append_assoc l.1 (c ∷ []) cs)
 
 pub lines_of-plain : (xs cs : List ℕ) → HasNoEnd cs → lines_of (xs ++ cs) ≡ ((lines_of xs).0, (lines_of xs).1 ++ cs)
 lines_of-plain xs cs h = lines_of-append xs cs ∙ continued-plain (lines_of xs) cs h
@@ -31,9 +31,9 @@ pub lines_of-end : (xs : List ℕ) → lines_of (xs ++ (10 ∷ [])) ≡ ((lines_
 lines_of-end xs = lines_of-append xs (10 ∷ [])
 
 -- a character that is no line end
-pub put_plain : (c : ℕ) (p : Page) → c ≢ 10 → put c p ≡ (let q = begun p in record q { last = q.last ++ (c ∷ []); format = format_in_line p.format })
+pub put_plain : (c : ℕ) (p : Page) → c ≢ 10 → put c p ≡ (let q = begin p in record q { last = q.last ++ (c ∷ []); format = format_in_line p.format })
 put_plain c p ne =
-    let q = begun p in
+    let q = begin p in
     let both : Bool → Page = λ b. cond b (record q { above = q.last ∷ q.above; last = []; format = format_after_end p.format }) (record q { last = q.last ++ (c ∷ []); format = format_in_line p.format }) in
     ap both (not_end c ne)
 
@@ -62,10 +62,10 @@ put_all_in_line p cs e h =
     ap (λ f. put_all cs (before f)) e ∙ put_all-plain p.above p.last p.level p.format cs h ∙ ap after (sym e)
 
 -- a text that is not empty and has no line end
-pub put_line : (p : Page) (cs : List ℕ) → 0 < length cs → HasNoEnd cs → put_all cs p ≡ (let q = begun p in record q { last = q.last ++ cs; format = format_in_line p.format })
+pub put_line : (p : Page) (cs : List ℕ) → 0 < length cs → HasNoEnd cs → put_all cs p ≡ (let q = begin p in record q { last = q.last ++ cs; format = format_in_line p.format })
 put_line p [] lt h = absurd (omega arith)
 put_line p (c ∷ cs) lt h =
-    let q = begun p in
+    let q = begin p in
     let page : List ℕ → Page = λ l. record { above = q.above; last = l; level = q.level; format = format_in_line p.format } in
     ap (put_all cs) (put_plain c p (h 0 (omega arith))) ∙ put_all-plain q.above (q.last ++ (c ∷ [])) q.level p.format cs (λ i lt. h (suc i) (omega arith))
     ∙ ap page (append_assoc q.last (c ∷ []) cs)
@@ -74,7 +74,7 @@ pub put_all-append : (xs ys : List ℕ) (p : Page) → put_all (xs ++ ys) p ≡ 
 put_all-append [] ys p = refl
 put_all-append (x ∷ xs) ys p = put_all-append xs ys (put x p)
 
-text_continued : (l : Lines) (cs : List ℕ) → lines_text (continued l cs).0 (continued l cs).1 ≡ lines_text l.0 l.1 ++ cs
+text_continued : (l : Lines) (cs : List ℕ) → lines_text (continue_lines l cs).0 (continue_lines l cs).1 ≡ lines_text l.0 l.1 ++ cs
 text_continued l [] = sym (append-nil (lines_text l.0 l.1))
 text_continued l (c ∷ cs) = text_continued (one_more c l) cs ∙ ap (λ t. t ++ cs) (text_one_more (c == 10) refl) ∙ append_assoc (lines_text l.0 l.1) (c ∷ []) cs
   where
@@ -95,14 +95,14 @@ unfolding lines_of
 text_of_lines bs = text_continued ([], []) bs
 
 -- a begun line keeps the format
-pub begun_format : (p : Page) → (begun p).format ≡ p.format
+pub begun_format : (p : Page) → (begin p).format ≡ p.format
 begun_format p = by_format p.format refl
   where
-    either : (b : Bool) → (indented (cond b p (record p { above = p.last ∷ p.above; last = [] }))).format ≡ p.format
+    either : (b : Bool) → (indent (cond b p (record p { above = p.last ∷ p.above; last = [] }))).format ≡ p.format
     either true = refl
     either false = refl
 
-    by_format : (f : LineFormat) → p.format ≡ f → (begun_in f p).format ≡ p.format
+    by_format : (f : LineFormat) → p.format ≡ f → (begin_in f p).format ≡ p.format
     by_format Oneline e = refl
     by_format Newline e = refl
     by_format Indentation e = either (is_blank p.last)

@@ -82,9 +82,9 @@ byte_plain b low high =
     ap (λ x. cond (x || nat_lt 126 b) (Text (codes "\\x") ∷ two_digits b) (Text (b ∷ []) ∷ [])) e ∙ ap (λ x. cond x (Text (codes "\\x") ∷ two_digits b) (Text (b ∷ []) ∷ [])) f
 
 -- the piece of a text that is the escape, where there is one
-pub escaped : (escape : List ℕ) (long : List Piece) → (length escape == 0) ≡ false → escaped_by escape long ≡ Text escape ∷ []
-escaped [] long e = absurd (cc)
-escaped (c ∷ cs) long e = refl
+pub is_escape : (escape : List ℕ) (long : List Piece) → (length escape == 0) ≡ false → escaped_by escape long ≡ Text escape ∷ []
+is_escape [] long e = absurd (cc)
+is_escape (c ∷ cs) long e = refl
 
 pub not_escaped : (escape : List ℕ) (long : List Piece) → (length escape == 0) ≡ true → escaped_by escape long ≡ long
 not_escaped [] long e = refl

@@ -7,13 +7,13 @@ use Rattle.hir_page.specs.Page.{Page, Lines, cut_lines, page_text}
 abbrev pub one_more : ℕ → Lines → Lines
 one_more c l = if c == 10 then (l.1 ∷ l.0, []) else (l.0, l.1 ++ (c ∷ []))
 
-abbrev pub continued : Lines → List ℕ → Lines
-continued l [] = l
-continued l (c ∷ cs) = continued (one_more c l) cs
+abbrev pub continue_lines : Lines → List ℕ → Lines
+continue_lines l [] = l
+continue_lines l (c ∷ cs) = continue_lines (one_more c l) cs
 
 -- the lines of a text
 unfoldable pub lines_of : List ℕ → Lines
-lines_of = continued ([], [])
+lines_of = continue_lines ([], [])
 
 -- a text without a line end
 abbrev pub HasNoEnd : List ℕ → Type 0

@@ -7,8 +7,10 @@ use Rattle.hir_page.specs.Pieces.{Piece, Text}
 
 -- the escapes of two characters, or nothing: \0 \t \r \n \\ \" \'
 abbrev pub short_escape : ℕ → List ℕ
-short_escape c = if c == 0 then codes "\\0" else if c == 9 then codes "\\t" else if c == 13 then codes "\\r" else if c == 10 then codes "\\n"
-    else if c == 92 then codes "\\\\" else if c == 34 then codes "\\\"" else if c == 39 then codes "\\'" else []
+short_escape c = if c == 0 then codes "\\0" else if c == 9 then codes "\\t" else if c == 13 then codes "\\r"
+    else if c == 10 then codes "\\n"
+    else if c == 92 then codes "\\\\" else if c == 34
+    then codes "\\\"" else if c == 39 then codes "\\'" else []
 
 -- the digits of a number below 256 in hexadecimal: each, and without a leading 0
 abbrev pub two_digits : ℕ → List Piece

@@ -42,9 +42,9 @@ ends_in_space (c ∷ []) = c == 32
 ends_in_space (c ∷ d ∷ cs) = ends_in_space (d ∷ cs)
 
 -- a line without its trailing spaces
-abbrev pub trimmed : List ℕ → List ℕ
-trimmed [] = []
-trimmed (c ∷ cs) = if is_blank (c ∷ cs) then [] else c ∷ trimmed cs
+abbrev pub trim : List ℕ → List ℕ
+trim [] = []
+trim (c ∷ cs) = if is_blank (c ∷ cs) then [] else c ∷ trim cs
 
 -- the format after text that ends within a line, and after a line end; what is printed in one line stays so
 abbrev pub format_in_line : LineFormat → LineFormat
@@ -58,25 +58,25 @@ format_after_end Newline = Indentation
 format_after_end Indentation = Indentation
 
 -- four spaces for each level
-abbrev pub indented : Page → Page
-indented p = record p { last = p.last ++ replicate (4 * p.level) 32 }
+abbrev pub indent : Page → Page
+indent p = record p { last = p.last ++ replicate (4 * p.level) 32 }
 
 -- a new line, unless the last is blank
-abbrev pub parted : Page → Page
-parted p = if is_blank p.last then p else record p { above = p.last ∷ p.above; last = [] }
+abbrev pub on_new_line : Page → Page
+on_new_line p = if is_blank p.last then p else record p { above = p.last ∷ p.above; last = [] }
 
 -- where the next text begins a line, that line is begun and indented
-abbrev pub begun_in : LineFormat → Page → Page
-begun_in Oneline p = p
-begun_in Newline p = p
-begun_in Indentation p = indented (parted p)
+abbrev pub begin_in : LineFormat → Page → Page
+begin_in Oneline p = p
+begin_in Newline p = p
+begin_in Indentation p = indent (on_new_line p)
 
-abbrev pub begun : Page → Page
-begun p = begun_in p.format p
+abbrev pub begin : Page → Page
+begin p = begin_in p.format p
 
 -- a character of text: a line end begins an empty line, and any other goes into the last line
 abbrev pub put : ℕ → Page → Page
-put c p = let q = begun p in
+put c p = let q = begin p in
     if c == 10 then record q { above = q.last ∷ q.above; last = []; format = format_after_end p.format }
     else record q { last = q.last ++ (c ∷ []); format = format_in_line p.format }
 
@@ -85,28 +85,30 @@ put_all [] p = p
 put_all (c ∷ cs) p = put_all cs (put c p)
 
 -- a space, unless the last line is empty or ends in one
-abbrev pub spaced : Page → Page
-spaced p = if is_empty_line p.last then p else (if ends_in_space p.last then p else record p { last = p.last ++ (32 ∷ []) })
+abbrev pub with_space : Page → Page
+with_space p = if is_empty_line p.last then p else (if ends_in_space p.last then p
+    else record p { last = p.last ++ (32 ∷ []) })
 
 -- a break in lines: nothing after a blank line; else the line's trailing spaces are removed, and a line end is added
 abbrev pub line_ended : Page → Page
-line_ended p = if is_blank p.last then p else put 10 (record p { last = trimmed p.last })
+line_ended p = if is_blank p.last then p else put 10 (record p { last = trim p.last })
 
 abbrev pub is_empty_text : List (List ℕ) → List ℕ → Bool
 is_empty_text [] last = is_empty_line last
 is_empty_text (line ∷ above) last = false
 
 -- a break in one line: a space, unless the text is empty or ends in one
-abbrev pub joined : Page → Page
-joined p = if is_empty_text p.above p.last then p else (if ends_in_space p.last then p else record p { last = p.last ++ (32 ∷ []) })
+abbrev pub with_join : Page → Page
+with_join p = if is_empty_text p.above p.last then p
+    else (if ends_in_space p.last then p else record p { last = p.last ++ (32 ∷ []) })
 
-abbrev pub broken_in : LineFormat → Page → Page
-broken_in Oneline p = joined p
-broken_in Newline p = line_ended p
-broken_in Indentation p = line_ended p
+abbrev pub break_in : LineFormat → Page → Page
+break_in Oneline p = with_join p
+break_in Newline p = line_ended p
+break_in Indentation p = line_ended p
 
-abbrev pub broken : Page → Page
-broken p = broken_in p.format p
+abbrev pub with_break : Page → Page
+with_break p = break_in p.format p
 
 -- the lines without empty last ones, while more than one is there
 abbrev pub cut_lines : List (List ℕ) → List ℕ → Lines
@@ -118,16 +120,16 @@ abbrev pub without_empty_lines : Page → Page
 without_empty_lines p = let l = cut_lines p.above p.last in record p { above = l.0; last = l.1 }
 
 -- what a piece makes of a page
-abbrev pub rendered : Piece → Page → Page
-rendered (Text bytes) p = put_all bytes p
-rendered SoftSpace p = spaced p
-rendered Break p = broken p
-rendered Indent p = broken (record p { level = p.level + 1 })
-rendered Outdent p = without_empty_lines (record p { level = p.level - 1 })
+abbrev pub render : Piece → Page → Page
+render (Text bytes) p = put_all bytes p
+render SoftSpace p = with_space p
+render Break p = with_break p
+render Indent p = with_break (record p { level = p.level + 1 })
+render Outdent p = without_empty_lines (record p { level = p.level - 1 })
 
 abbrev pub all_rendered : List Piece → Page → Page
 all_rendered [] page = page
-all_rendered (p ∷ ps) page = all_rendered ps (rendered p page)
+all_rendered (p ∷ ps) page = all_rendered ps (render p page)
 
 -- the text of pieces, in one line or in lines
 abbrev pub rendering : LineFormat → List Piece → List ℕ

@@ -2,7 +2,7 @@
 ghost use Rattle.std.specs.Prelude.{◌≡◌, ◌≢◌, ◌<◌, ◌∷◌, [], ◌++◌, ◌+◌, ◌-◌, ◌*◌, replicate, OnOk, OnErr, IsTrue, ◌↔◌, string_bytes};
 ghost use Rattle.hir_page.specs.Buffer.{HasNoEnd, IsTrimmedLen, IsCutText, EndsInLineEnd, IsGrown};
 ghost use Rattle.hir_page.specs.LastByte.{IsLastByte};
-ghost use Rattle.hir_page.specs.Page.{begun, parted, indented, put, put_all, trimmed, spaced, line_ended, joined, without_empty_lines, is_blank, empty_page, page_text, format_in_line, format_after_end};
+ghost use Rattle.hir_page.specs.Page.{begin, on_new_line, indent, put, put_all, trim, with_space, line_ended, with_join, without_empty_lines, is_blank, empty_page, page_text, format_in_line, format_after_end};
 
 use crate::{LineFormat, PieceWriter};
 use std::alloc::{AllocError, Global};
@@ -113,7 +113,7 @@ impl PageBuffer {
 
     /// Adds four spaces for each level.
     fn indent_line(&mut self) -> Result<(), AllocError>
-        ensures ok { OnOk result (self.new ≡ indented self.old) }
+        ensures ok { OnOk result (self.new ≡ indent self.old) }
         ensures err { OnErr result (self.new ≡ self.old) }
     {
         self.text.push_str(self.indentation.as_str())?;
@@ -122,7 +122,7 @@ impl PageBuffer {
 
     /// Begins a line, unless the last is blank.
     fn part_line(&mut self) -> Result<(), AllocError>
-        ensures ok { OnOk result (self.new ≡ parted self.old) }
+        ensures ok { OnOk result (self.new ≡ on_new_line self.old) }
         ensures err { OnErr result (self.new ≡ self.old) }
     {
         if !self.ends_in_blank_line() {
@@ -134,7 +134,7 @@ impl PageBuffer {
     /// Begins a line, unless the last is blank, and indents it.
     #[inline(never)]
     fn begin_line(&mut self) -> Result<(), AllocError>
-        ensures ok { OnOk result (self.new ≡ indented (parted self.old)) }
+        ensures ok { OnOk result (self.new ≡ indent (on_new_line self.old)) }
         ensures err { OnErr result (IsGrown self.old self.new) }
     {
         self.part_line()?;
@@ -144,7 +144,7 @@ impl PageBuffer {
     /// Begins a line, and indents it, if the next text has to begin one.
     #[inline(always)]
     fn begin(&mut self) -> Result<(), AllocError>
-        ensures ok { OnOk result (self.new ≡ begun self.old) }
+        ensures ok { OnOk result (self.new ≡ begin self.old) }
         ensures err { OnErr result (IsGrown self.old self.new) }
     {
         match self.format {
@@ -283,7 +283,7 @@ impl PageBuffer {
     /// Ends the last line without its trailing spaces. It is refused only where there were none: their room is enough for a line end.
     fn end_trimmed(&mut self) -> Result<(), AllocError>
         ensures ok { OnOk result (self.new ≡ record self.old {
-          above = trimmed self.old.last ∷ self.old.above;
+          above = trim self.old.last ∷ self.old.above;
           last = [];
           format = format_after_end self.old.format;
         }) }
@@ -301,7 +301,7 @@ impl PageBuffer {
     /// that were removed could not be written again.
     fn end_two_lines(&mut self) -> Result<(), AllocError>
         ensures ok { OnOk result (self.new ≡ record self.old {
-          above = replicate (4 * self.old.level) 32 ∷ trimmed self.old.last ∷ self.old.above;
+          above = replicate (4 * self.old.level) 32 ∷ trim self.old.last ∷ self.old.above;
           last = [];
         }) }
         ensures err { OnErr result (self.new ≡ self.old) }
@@ -360,7 +360,7 @@ impl PageBuffer {
 
     /// Writes a soft space.
     fn space(&mut self) -> Result<(), AllocError>
-        ensures ok { OnOk result (self.new ≡ spaced self.old) }
+        ensures ok { OnOk result (self.new ≡ with_space self.old) }
         ensures err { OnErr result (self.new ≡ self.old) }
     {
         match self.last_byte() {
@@ -371,7 +371,7 @@ impl PageBuffer {
 
     /// Writes a break in one line.
     fn join(&mut self) -> Result<(), AllocError>
-        ensures ok { OnOk result (self.new ≡ joined self.old) }
+        ensures ok { OnOk result (self.new ≡ with_join self.old) }
         ensures err { OnErr result (self.new ≡ self.old) }
     {
         match self.last_byte() {
@@ -412,9 +412,9 @@ impl PageBuffer {
 
 impl PieceWriter for PageBuffer {
     ghost use Rattle.std.specs.Prelude.{◌≡◌};
-    ghost use Rattle.hir_page.specs.Page.{rendered};
+    ghost use Rattle.hir_page.specs.Page.{render};
 
-    ghost step = { λ page piece after. after ≡ rendered piece page };
+    ghost step = { λ page piece after. after ≡ render piece page };
 
     ghost refuses = { λ page piece after. after ≡ page };
 

@@ -72,17 +72,17 @@ abbrev pub shorter : Option ℕ → ModPath → List (Option GenericArgs) → Pa
 shorter anchor path lists = path_with anchor (but_last path) (all_but 1 lists)
 
 -- nothing for an ident and if there are no segments, else the shorter path
-abbrev pub qualified : Option (List ℕ) → List (List ℕ) → Path → Option Path
-qualified (Some name) names path = None
-qualified None [] path = None
-qualified None (name ∷ names) path = Some path
+abbrev pub qualifier_of : Option (List ℕ) → List (List ℕ) → Path → Option Path
+qualifier_of (Some name) names path = None
+qualifier_of None [] path = None
+qualifier_of None (name ∷ names) path = Some path
 
 -- the path before the last segment
 abbrev pub qualifier : Path → Option Path
-qualifier (BarePath path) = qualified (ident_of path) path.segments (shorter None path [])
+qualifier (BarePath path) = qualifier_of (ident_of path) path.segments (shorter None path [])
 qualifier (Normal normal) =
     let path = normal.mod_path in
-    qualified (ident_of path) path.segments (shorter normal.type_anchor path normal.generic_args)
+    qualifier_of (ident_of path) path.segments (shorter normal.type_anchor path normal.generic_args)
 qualifier (LangItem target name) = None
 
 -- the identifier `Self`, with no anchor and no arguments

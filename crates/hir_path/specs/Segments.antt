@@ -22,18 +22,18 @@ abbrev pub segment_of : PathSegment → Segment
 segment_of s = record { name = s.name.now; args = option_copied s.args_and_bindings }
 
 -- a view of the code, as a contract sees it
-abbrev pub seen : PathSegments → Segments
-seen s = record { names = s.segments.now; lists = option_copied s.generic_args }
+abbrev pub segments_in : PathSegments → Segments
+segments_in s = record { names = s.segments.now; lists = option_copied s.generic_args }
 
 -- no names and no lists
 abbrev pub empty : Segments
 empty = record { names = []; lists = None }
 
 -- each name with the arguments in its place, and with none if there is no such place
-abbrev pub zipped : List (List ℕ) → List (Option GenericArgs) → List Segment
-zipped [] lists = []
-zipped (name ∷ names) [] = record { name = name; args = None } ∷ zipped names []
-zipped (name ∷ names) (args ∷ lists) = record { name = name; args = args } ∷ zipped names lists
+abbrev pub with_args : List (List ℕ) → List (Option GenericArgs) → List Segment
+with_args [] lists = []
+with_args (name ∷ names) [] = record { name = name; args = None } ∷ with_args names []
+with_args (name ∷ names) (args ∷ lists) = record { name = name; args = args } ∷ with_args names lists
 
 -- missing lists read as no lists
 abbrev pub or_none : Option (List (Option GenericArgs)) → List (Option GenericArgs)
@@ -41,7 +41,7 @@ or_none None = []
 or_none (Some lists) = lists
 
 abbrev pub items : Segments → List Segment
-items s = zipped s.names (or_none s.lists)
+items s = with_args s.names (or_none s.lists)
 
 -- the members from the n-th on, if the list has so many
 abbrev pub past : {X : Type 0} → ℕ → Option (List X) → Option (List X)
@@ -49,8 +49,8 @@ past n None = None
 past n (Some xs) = cond (nat_le n (length xs)) (Some (drop n xs)) None
 
 -- what an iterator over segments has left
-abbrev pub left : PathSegmentsIter → List Segment
-left it = zipped it.names.now it.lists.now
+abbrev pub segments_left : PathSegmentsIter → List Segment
+segments_left it = with_args it.names.now it.lists.now
 
 -- without the first n: past the end there are no names and no lists
 abbrev pub skip : ℕ → Segments → Segments

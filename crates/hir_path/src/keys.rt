@@ -3,9 +3,9 @@ ghost use Rattle.hir_base.specs.Exact.{exact};
 ghost use Rattle.hir_path.specs.Keys.{expr_or_pat_code, expr_or_pat_tells};
 
 use crate::ids::ExprOrPatId;
-use hir_base::Keyed;
+use hir_base::HasCode;
 
-impl Keyed for ExprOrPatId {
+impl HasCode for ExprOrPatId {
     ghost code = { expr_or_pat_code };
 
     ghost code_tells = { λ x y. expr_or_pat_tells _ x y (Prim.search exact) };

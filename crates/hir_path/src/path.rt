@@ -38,7 +38,7 @@ impl TryClone for Path {
 impl Path {
     ghost use Rattle.hir_base.specs.ModPath.{ModPath};
     ghost use Rattle.hir_path.specs.Paths.{kind_of, anchor_of, lists_of, mod_path_of, segments_of, without_anchor, one_name, path_with, qualifier, IsSelfType};
-    ghost use Rattle.hir_path.specs.Segments.{OneListEach, seen};
+    ghost use Rattle.hir_path.specs.Segments.{OneListEach, segments_in};
 
     /// The path with these arguments, which must be one list for each segment: a `BarePath` if no segment has arguments.
     ///
@@ -111,7 +111,7 @@ impl Path {
 
     /// The segments. That of a lang item is its name, if it has one.
     pub fn segments(&self) -> PathSegments<'_>
-        ensures { seen result ≡ segments_of self.now }
+        ensures { segments_in result ≡ segments_of self.now }
     {
         match self {
             Path::BarePath(path) => PathSegments::new(path.segments(), None),

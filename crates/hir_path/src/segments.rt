@@ -2,7 +2,7 @@
 //! A view is seen as its names and perhaps a list of their arguments; a cut acts on each of the two lists by its own length.
 ghost use Rattle.std.specs.Prelude.{◌≡◌, IsTrue, ◌↔◌, [], length, slice_get, get_or, None};
 ghost use Rattle.std.specs.Option.{option_map, option_copied};
-ghost use Rattle.hir_path.specs.Segments.{segment_of, seen, left, empty, items, or_none, skip, first, strip};
+ghost use Rattle.hir_path.specs.Segments.{segment_of, segments_in, segments_left, empty, items, or_none, skip, first, strip};
 ghost use Rattle.hir_path.specs.Lists.{last_of, all_but};
 
 use crate::path::GenericArgs;
@@ -41,7 +41,10 @@ impl<'a> PathSegments<'a> {
         segments: &'a [Name],
         generic_args: Option<&'a [Option<GenericArgs>]>,
     ) -> PathSegments<'a>
-        ensures { seen result ≡ record { names = segments.now; lists = option_copied generic_args.entry } }
+        ensures { segments_in result ≡ record {
+          names = segments.now;
+          lists = option_copied generic_args.entry;
+        } }
     {
         PathSegments {
             segments,
@@ -51,7 +54,7 @@ impl<'a> PathSegments<'a> {
 
     /// No segments.
     pub fn empty() -> PathSegments<'a>
-        ensures { seen result ≡ empty }
+        ensures { segments_in result ≡ empty }
     {
         PathSegments {
             segments: &[],
@@ -62,7 +65,7 @@ impl<'a> PathSegments<'a> {
     /// Whether there are no segments.
     #[tactic(auto, using(crate::proofs::SegmentLemmas::segments))]
     pub fn is_empty(&self) -> bool
-        ensures { IsTrue result ↔ (items (seen self.now) ≡ []) }
+        ensures { IsTrue result ↔ (items (segments_in self.now) ≡ []) }
     {
         self.segments.is_empty()
     }
@@ -70,21 +73,21 @@ impl<'a> PathSegments<'a> {
     /// The number of segments.
     #[tactic(auto, using(crate::proofs::SegmentLemmas::segments))]
     pub fn len(&self) -> usize
-        ensures { result ≡ length (items (seen self.now)) }
+        ensures { result ≡ length (items (segments_in self.now)) }
     {
         self.segments.len()
     }
 
     /// The first segment, if there is one.
     pub fn first(&self) -> Option<PathSegment<'a>>
-        ensures { option_map segment_of result ≡ slice_get (items (seen self.now)) 0 }
+        ensures { option_map segment_of result ≡ slice_get (items (segments_in self.now)) 0 }
     {
         self.get(0)
     }
 
     /// The last segment, if there is one.
     pub fn last(&self) -> Option<PathSegment<'a>>
-        ensures { option_map segment_of result ≡ last_of (items (seen self.now)) }
+        ensures { option_map segment_of result ≡ last_of (items (segments_in self.now)) }
     {
         let count = self.segments.len();
         if count == 0 {
@@ -95,7 +98,7 @@ impl<'a> PathSegments<'a> {
 
     /// The segment at this index, if there is one.
     pub fn get(&self, idx: usize) -> Option<PathSegment<'a>>
-        ensures { option_map segment_of result ≡ slice_get (items (seen self.now)) idx }
+        ensures { option_map segment_of result ≡ slice_get (items (segments_in self.now)) idx }
     {
         match self.segments.get(idx) {
             None => None,
@@ -108,7 +111,7 @@ impl<'a> PathSegments<'a> {
 
     /// The segments in order.
     pub fn iter(&self) -> PathSegmentsIter<'a>
-        ensures { left result ≡ items (seen self.now) }
+        ensures { segments_left result ≡ items (segments_in self.now) }
     {
         PathSegmentsIter::new(self.segments, self.generic_args.unwrap_or(&[]))
     }
@@ -116,7 +119,7 @@ impl<'a> PathSegments<'a> {
     /// The segments without the first `len`. If there are fewer names, no names are left; if there are fewer lists of
     /// arguments, or none, no lists are left, not even an empty list of them.
     pub fn skip(&self, len: usize) -> PathSegments<'a>
-        ensures { seen result ≡ skip len (seen self.now) }
+        ensures { segments_in result ≡ skip len (segments_in self.now) }
     {
         PathSegments {
             segments: self.segments.get(len..).unwrap_or(&[]),
@@ -126,7 +129,7 @@ impl<'a> PathSegments<'a> {
 
     /// The first `len` segments, or all if there are fewer.
     pub fn take(&self, len: usize) -> PathSegments<'a>
-        ensures { seen result ≡ first len (seen self.now) }
+        ensures { segments_in result ≡ first len (segments_in self.now) }
     {
         PathSegments {
             segments: self.segments.get(..len).unwrap_or(self.segments),
@@ -138,21 +141,21 @@ impl<'a> PathSegments<'a> {
 
     /// The segments without the last name and the last list of arguments.
     pub fn strip_last(&self) -> PathSegments<'a>
-        ensures { seen result ≡ strip 1 (seen self.now) }
+        ensures { segments_in result ≡ strip 1 (segments_in self.now) }
     {
         self.strip(1)
     }
 
     /// The segments without the last two names and the last two lists of arguments.
     pub fn strip_last_two(&self) -> PathSegments<'a>
-        ensures { seen result ≡ strip 2 (seen self.now) }
+        ensures { segments_in result ≡ strip 2 (segments_in self.now) }
     {
         self.strip(2)
     }
 
     /// The segments without the last `count` names and the last `count` lists of arguments.
     fn strip(&self, count: usize) -> PathSegments<'a>
-        ensures { seen result ≡ strip count (seen self.now) }
+        ensures { segments_in result ≡ strip count (segments_in self.now) }
     {
         PathSegments {
             segments: all_but(self.segments, count),

@@ -1,7 +1,7 @@
 //! The iterator over the segments of a path.
 ghost use Rattle.std.specs.Prelude.{◌≡◌};
 ghost use Rattle.std.specs.Iterator.{YieldsFirstBy, item_count};
-ghost use Rattle.hir_path.specs.Segments.{left, segment_of, zipped};
+ghost use Rattle.hir_path.specs.Segments.{segments_left, segment_of, with_args};
 
 use crate::path::GenericArgs;
 use crate::segments::PathSegment;
@@ -17,7 +17,7 @@ pub struct PathSegmentsIter<'a> {
 
 impl<'a> PathSegmentsIter<'a> {
     pub(crate) fn new(names: &'a [Name], lists: &'a [Option<GenericArgs>]) -> PathSegmentsIter<'a>
-        ensures { left result ≡ zipped names.now lists.now }
+        ensures { segments_left result ≡ with_args names.now lists.now }
     {
         PathSegmentsIter { names, lists }
     }
@@ -26,9 +26,9 @@ impl<'a> PathSegmentsIter<'a> {
 impl<'a> Iterator for PathSegmentsIter<'a> {
     type Item = PathSegment<'a>;
 
-    ghost next_gives = { YieldsFirstBy segment_of left };
+    ghost next_gives = { YieldsFirstBy segment_of segments_left };
 
-    ghost remaining = { item_count left };
+    ghost remaining = { item_count segments_left };
 
     fn next(&mut self) -> Option<PathSegment<'a>> {
         let (name, names) = self.names.split_first()?;

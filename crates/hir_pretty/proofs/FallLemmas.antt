@@ -21,7 +21,7 @@ use Rattle.hir_node.specs.declared.type_ref.LifetimeRef.{LifetimeRef}
 use Rattle.hir_node.specs.declared.type_ref.LifetimeRef.TheVariants as lifetime
 use Rattle.hir_expr_store.specs.declared.missing.Missing.{Missing}
 use Rattle.hir_pretty.specs.Questions.{Setting}
-use Rattle.hir_pretty.specs.Items.{Item, Put, text, t, opt, joined, comma_joined}
+use Rattle.hir_pretty.specs.Items.{Item, Put, text, t, opt, join, comma_joined}
 use Rattle.hir_page.specs.Pieces.{Piece}
 use Rattle.hir_pretty.specs.Names.{name_parts, name_items, l, lifetime_items, param_items}
 use Rattle.hir_pretty.specs.Paths.{for_names, modifier_items, use_items, bound_items, bounds_items, bounds_after, arg_items, each_arg, turbofish, args_items, assoc_items, type_after}
@@ -80,10 +80,10 @@ module _ (P : NodeId → Type 0) where
   opt_falls cs is h None a = tt
   opt_falls cs is h (Some x) a = h x a
 
-  pub joined_falls : (between : List Item) → AllNodes P between → (xs : List (List Item)) → AllLists P xs → AllNodes P (joined between xs)
+  pub joined_falls : (between : List Item) → AllNodes P between → (xs : List (List Item)) → AllLists P xs → AllNodes P (join between xs)
   joined_falls between b [] a = tt
   joined_falls between b (x ∷ []) a = a.0
-  joined_falls between b (x ∷ y ∷ xs) a = nodes_append P (x ++ between) (joined between (y ∷ xs)) (nodes_append P x between a.0 b) (joined_falls between b (y ∷ xs) a.1)
+  joined_falls between b (x ∷ y ∷ xs) a = nodes_append P (x ++ between) (join between (y ∷ xs)) (nodes_append P x between a.0 b) (joined_falls between b (y ∷ xs) a.1)
 
   pub lists_append : (xs ys : List (List Item)) → AllLists P xs → AllLists P ys → AllLists P (xs ++ ys)
   lists_append [] ys a b = b

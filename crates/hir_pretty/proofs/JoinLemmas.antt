@@ -1,20 +1,20 @@
 -- Joined items by those of the first member and of the rest.
 use Rattle.std.proofs.Common.{◌≡◌, ℕ, zero, suc, Some, ◌-◌, ◌<◌, List, [], ◌∷◌, ◌++◌, codes, refl, ap, ◌∙◌, arith, length, get_or, map}
-use Rattle.hir_pretty.specs.Items.{Item, text, p, joined, comma_joined}
+use Rattle.hir_pretty.specs.Items.{Item, text, p, join, comma_joined}
 use Rattle.hir_pretty.specs.Pats.{with_rest}
 use Rattle.hir_pretty.specs.Paths.{supers}
 use Rattle.hir_pretty.proofs.FirstLemmas.{rest, rest_is}
 
-pub joined_one : {X : Type 0} (between : List Item) (f : X → List Item) (xs : List X) (x : X) → x ≡ get_or xs 0 x → 0 < length xs → length xs < 2 → f x ≡ joined between (map f xs)
+pub joined_one : {X : Type 0} (between : List Item) (f : X → List Item) (xs : List X) (x : X) → x ≡ get_or xs 0 x → 0 < length xs → length xs < 2 → f x ≡ join between (map f xs)
 joined_one between f [] x e l m = absurd (omega arith)
 joined_one between f (y ∷ []) x e l m = ap f e
 joined_one between f (y ∷ z ∷ xs) x e l m = absurd (omega arith)
 
 pub joined_more : {X : Type 0} (between : List Item) (f : X → List Item) (xs : List X) (x : X) → x ≡ get_or xs 0 x → 1 < length xs
-    → f x ++ between ++ joined between (map f (rest xs)) ≡ joined between (map f xs)
+    → f x ++ between ++ join between (map f (rest xs)) ≡ join between (map f xs)
 joined_more between f [] x e l = absurd (omega arith)
 joined_more between f (y ∷ []) x e l = absurd (omega arith)
-joined_more between f (y ∷ z ∷ xs) x e l = ap (λ r. f x ++ between ++ joined between (map f r)) (rest_is y (z ∷ xs)) ∙ ap (λ i. f i ++ between ++ joined between (map f (z ∷ xs))) e
+joined_more between f (y ∷ z ∷ xs) x e l = ap (λ r. f x ++ between ++ join between (map f r)) (rest_is y (z ∷ xs)) ∙ ap (λ i. f i ++ between ++ join between (map f (z ∷ xs))) e
 
 rest_after : (i : List Item) (n : ℕ) (is : List (List Item)) → i ++ text (codes ", ") ++ comma_joined (with_rest (Some n) is) ≡ comma_joined (with_rest (Some (suc n)) (i ∷ is))
 rest_after i zero [] = refl

@@ -47,11 +47,11 @@ use Rattle.hir_faults.specs.Nodes.{calls_of}
 use Rattle.hir_expr_store.specs.declared.missing.Missing.{Missing}
 use Rattle.hir_page.specs.Literals.{string_literal, char_literal, bytes_literal, c_string_literal}
 use Rattle.hir_pretty.specs.Questions.{Setting}
-use Rattle.hir_pretty.specs.Items.{Item, text, sp, br, into, out, e, under, p, t, opt, when, joined, comma_joined}
+use Rattle.hir_pretty.specs.Items.{Item, text, sp, br, into, out, e, under, p, t, opt, when, join, comma_joined}
 use Rattle.hir_pretty.specs.Names.{name_items, label_items, binding_items, of_binding, l}
 use Rattle.hir_pretty.specs.Paths.{found_name, target_items, supers, kind_items, colons_first, segments_from, start_items, turbofish, args_items, path_items, for_names}
 use Rattle.hir_pretty.specs.Literals.{literal_items}
-use Rattle.hir_pretty.specs.Exprs.{labelled, to_label, operand, each_line, in_lines, arguments, arm_items, field_items, spread_items, statement_items, unsafe_items, inside_block, params, header, coroutine_body, of_coroutine, printed_body, array_items, expr_items}
+use Rattle.hir_pretty.specs.Exprs.{label_before, to_label, operand, each_line, in_lines, arguments, arm_items, field_items, spread_items, statement_items, unsafe_items, inside_block, params, header, coroutine_body, of_coroutine, printed_body, array_items, expr_items}
 use Rattle.hir_pretty.specs.Pats.{with_rest, in_parentheses, is_short, field_pattern, after_last, field_patterns, pat_items}
 use Rattle.hir_pretty.specs.Types.{type_param_items, extern_items, varargs_items, front, last, signature_items, type_items}
 use Rattle.hir_pretty.specs.Falls.{AllNodes}
@@ -130,7 +130,7 @@ module _ (P : NodeId → Type 0) (s : Setting) where
   label_falls : (id : ℕ) → AllNodes P (label_items s id)
   label_falls id = none_falls P (λ (label : Label). name_items s label.name) (λ label. name_falls P s label.name) (slice_get s.nodes.labels id)
 
-  labelled_falls : (label : Option ℕ) → AllNodes P (labelled s label)
+  labelled_falls : (label : Option ℕ) → AllNodes P (label_before s label)
   labelled_falls label = none_falls P (λ id. label_items s id ++ text (codes ": ")) (λ id. nodes_append P (label_items s id) (text (codes ": ")) (label_falls id) tt) label
 
   to_label_falls : (label : Option ℕ) → AllNodes P (to_label s label)
@@ -262,11 +262,11 @@ module _ (P : NodeId → Type 0) (s : Setting) where
     expr_falls expr.Underscore a = tt
     expr_falls expr.IncludeBytes a = tt
     expr_falls (expr.OffsetOf o) a =
-        let names = joined (text (codes ".")) (map (name_items s) o.fields) in
+        let names = join (text (codes ".")) (map (name_items s) o.fields) in
         (a.0, nodes_append P names (text (codes ")")) (joined_falls P (text (codes ".")) tt (map (name_items s) o.fields) (names_fall P s o.fields)) tt)
     expr_falls (expr.If condition then_branch else_branch) a = (a.0, (a.1.0, opt_falls P calls.e (λ id. text (codes " else ") ++ e id) (λ id h. h) else_branch a.1.1))
     expr_falls (expr.Let pat x) a = a
-    expr_falls (expr.Loop body label source) a = nodes_append P (labelled s label ++ text (codes "loop ")) (e body) (nodes_append P (labelled s label) (text (codes "loop ")) (labelled_falls label) tt) a
+    expr_falls (expr.Loop body label source) a = nodes_append P (label_before s label ++ text (codes "loop ")) (e body) (nodes_append P (label_before s label) (text (codes "loop ")) (labelled_falls label) tt) a
     expr_falls (expr.Call callee args) a = (a.0, arguments_fall args a.1)
     expr_falls (expr.MethodCall receiver name args generic_args) a =
         let of_args = flat_map calls.e args in
@@ -308,10 +308,10 @@ module _ (P : NodeId → Type 0) (s : Setting) where
     expr_falls (expr.Const id) a = tt
     expr_falls (expr.Assignment target value) a = a
     expr_falls (expr.Block id statements tail label unsafe_) a =
-        let head = labelled s label ++ unsafe_items unsafe_ in
+        let head = label_before s label ++ unsafe_items unsafe_ in
         let brace = text (codes "{") in
         nodes_append P ((head ++ brace) ++ inside_block statements tail) (text (codes "}"))
-        (nodes_append P (head ++ brace) (inside_block statements tail) (nodes_append P head brace (nodes_append P (labelled s label) (unsafe_items unsafe_) (labelled_falls label) (unsafe_falls unsafe_)) tt) (inside_falls statements tail a)) tt
+        (nodes_append P (head ++ brace) (inside_block statements tail) (nodes_append P head brace (nodes_append P (label_before s label) (unsafe_items unsafe_) (labelled_falls label) (unsafe_falls unsafe_)) tt) (inside_falls statements tail a)) tt
     expr_falls (expr.Closure args arg_types ret_type body kind capture) a =
         let of_args = flat_map calls.p args in
         let of_types = flat_map (calls.opt calls.t) arg_types in
@@ -392,7 +392,7 @@ module _ (P : NodeId → Type 0) (s : Setting) where
   pat_falls (pat.Tuple args ellipsis) a = in_parentheses_fall ellipsis args a
   pat_falls (pat.TupleStruct path args ellipsis) a =
       nodes_append P (path_items s path) (in_parentheses ellipsis args) (path_falls path (last_calls P (flat_map calls.p args) (path_calls path) a)) (in_parentheses_fall ellipsis args (first_calls P (flat_map calls.p args) (path_calls path) a))
-  pat_falls (pat.Or args) a = nodes_append P (joined (text (codes " | ")) (map p args)) (text (codes ")")) (joined_falls P (text (codes " | ")) tt (map p args) (pats_fall args a)) tt
+  pat_falls (pat.Or args) a = nodes_append P (join (text (codes " | ")) (map p args)) (text (codes ")")) (joined_falls P (text (codes " | ")) tt (map p args) (pats_fall args a)) tt
   pat_falls (pat.Record ellipsis path args) a =
       let of_args = flat_map (λ (field : RecordFieldPat). calls.p field.pat) args in
       let head = (path_items s path ++ text (codes " {")) ++ into in

@@ -1,14 +1,14 @@
 -- What a page holds after pieces were printed on it.
 use Rattle.std.proofs.Common.{◌≡◌, List, ◌∷◌, Some, None, refl, ap, ◌∙◌}
 use Rattle.hir_page.specs.Pieces.{Piece}
-use Rattle.hir_page.specs.Page.{Page, rendered, all_rendered}
+use Rattle.hir_page.specs.Page.{Page, render, all_rendered}
 use Rattle.hir_expr_store.specs.declared.missing.Missing.{Missing}
 use Rattle.hir_pretty.specs.declared.fault.PrintFault.TheVariants as fault
 use Rattle.hir_pretty.specs.Pieces.{NodePiece, Layout, first_missing, layout}
 use Rattle.hir_pretty.specs.Works.{Prints, ended, written, absent}
 
 abbrev Step : Page → Piece → Page → Type 0
-Step page piece after = after ≡ rendered piece page
+Step page piece after = after ≡ render piece page
 
 module _ {refuses : Page → Piece → Page → Type 0} where
   pub all_there : {u v : Page} {ps : List NodePiece} → Prints Step refuses u ps None v → first_missing ps ≡ None

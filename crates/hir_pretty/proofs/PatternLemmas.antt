@@ -13,7 +13,7 @@ use Rattle.hir_pretty.specs.declared.fault.PrintFault.TheVariants as fault
 use Rattle.hir_pretty.specs.declared.work.Work.{Work}
 use Rattle.hir_pretty.specs.Questions.{Questions, Setting}
 use Rattle.hir_pretty.specs.Settings.{setting}
-use Rattle.hir_pretty.specs.Items.{Item, Put, Pattern, text, p, joined}
+use Rattle.hir_pretty.specs.Items.{Item, Put, Pattern, text, p, join}
 use Rattle.hir_pretty.specs.Pieces.{NodePiece, Layout}
 use Rattle.hir_pretty.specs.Falls.{ItemsFall}
 use Rattle.hir_pretty.specs.Costs.{total}
@@ -24,7 +24,7 @@ use Rattle.hir_pretty.proofs.JoinLemmas.{joined_one, joined_more}
 use Rattle.hir_pretty.proofs.TurnLemmas.{printed-append, pattern_printed, refused_before, stopped_behind}
 
 abbrev pub in_list : List ℕ → List ℕ → List Item
-in_list between xs = joined (text between) (map p xs)
+in_list between xs = join (text between) (map p xs)
 
 -- the pieces of a pattern that is written at once
 abbrev pub bound_pieces : Contents → List (List ℕ) → ℕ → List Piece

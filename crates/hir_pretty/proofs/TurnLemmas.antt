@@ -28,11 +28,11 @@ use Rattle.hir_node.specs.declared.expr.Expr.{Expr}
 use Rattle.hir_node.specs.declared.pat.Pat.TheVariants as pat
 use Rattle.hir_pretty.specs.Items.{Item, Put, Lacks, Whole, Under, Pattern, TypeItem, text, opt}
 use Rattle.hir_pretty.specs.Names.{name_parts, name_items, annotation_text, of_binding, binding_items}
-use Rattle.hir_pretty.specs.Paths.{anchored, kind_items}
+use Rattle.hir_pretty.specs.Paths.{from_start, kind_items}
 use Rattle.hir_pretty.specs.Exprs.{expr_items}
 use Rattle.hir_pretty.specs.Pats.{pat_items}
 use Rattle.hir_pretty.specs.Literals.{literal_items}
-use Rattle.hir_pretty.specs.Pieces.{NodePiece, Layout, items_of, item_pieces, pieces, parenthesized, stands_in_parentheses, precedence_found}
+use Rattle.hir_pretty.specs.Pieces.{NodePiece, Layout, items_of, item_pieces, pieces, with_parentheses, stands_in_parentheses, precedence_found}
 use Rattle.hir_pretty.specs.Falls.{AllNodes, ItemsFall}
 use Rattle.hir_pretty.specs.Costs.{total, node_cost}
 use Rattle.hir_pretty.specs.Works.{stands_for, pending, work_cost, Opens, item_weight, weight_step, weight, stack_cost, printed, Prints, ended, written, absent, refused, no_room, Turned, enclosed, IsOnlyName, binding_texts, opt_texts, put_pieces, separator}
@@ -132,7 +132,7 @@ literal_pieces s x = put_printed s (literal_items x) (literal_put x)
 
 -- a path of one name
 one_segment : (s : Setting) (kind : PathKind) (names : List (List ℕ)) (name : List ℕ) → ident_of (record { kind = kind; segments = names }) ≡ Some name
-    → anchored s (record { kind = kind; segments = names }) (kind_items s kind) [] ≡ name_items s name
+    → from_start s (record { kind = kind; segments = names }) (kind_items s kind) [] ≡ name_items s name
 one_segment s Plain (x ∷ []) name e = let same : x ≡ name = cc in append-nil (name_items s x) ∙ ap (name_items s) same
 one_segment s Plain [] name e = absurd (cc)
 one_segment s Plain (x ∷ y ∷ xs) name e = absurd (cc)
@@ -173,7 +173,7 @@ module _ (s : Setting) (fall : ItemsFall s) where
   pub under_printed : (id : ℕ) (parent : ExprPrecedence) (name : List ℕ) → IsOnlyName (slice_get s.nodes.exprs id) name
       → printed s (Under id parent ∷ []) ≡ map Layout (map Text (name_parts s.words name))
   under_printed id parent name n =
-      ap (λ b. parenthesized b (pieces s (node.Expr id)) ++ []) (ap (λ child. stands_in_parentheses child parent) (only_name_precedence n) ∙ never_enclosed parent)
+      ap (λ b. with_parentheses b (pieces s (node.Expr id)) ++ []) (ap (λ child. stands_in_parentheses child parent) (only_name_precedence n) ∙ never_enclosed parent)
       ∙ whole_printed id name n
 
   pub pattern_printed : (id binding : ℕ) → slice_get s.nodes.pats id ≡ Some (pat.Bind binding None)
@@ -183,7 +183,7 @@ module _ (s : Setting) (fall : ItemsFall s) where
       ∙ ap (printed s) (ap (opt (pat_items s)) e ∙ append-nil (binding_items s binding)) ∙ binding_printed s binding
 
 -- an expression in parentheses, or without
-enclosed_printed : (s : Setting) → ItemsFall s → (b : Bool) (id : ℕ) → printed s (enclosed b (items_of s (node.Expr id))) ≡ parenthesized b (pieces s (node.Expr id)) ++ []
+enclosed_printed : (s : Setting) → ItemsFall s → (b : Bool) (id : ℕ) → printed s (enclosed b (items_of s (node.Expr id))) ≡ with_parentheses b (pieces s (node.Expr id)) ++ []
 enclosed_printed s fall false id = sym (append-nil (pieces s (node.Expr id)) ∙ pieces_at s fall (node.Expr id))
 enclosed_printed s fall true id =
     let close = Layout (Text (codes ")")) ∷ [] in

@@ -10,7 +10,7 @@ use Rattle.hir_generics.specs.declared.data.LifetimeParamData.{LifetimeParamData
 use Rattle.hir_expr_store.specs.declared.missing.Missing.{Missing}
 use Rattle.hir_expr_store.specs.declared.missing.Missing.TheVariants as missing
 use Rattle.hir_items.specs.Generics.{Generics}
-use Rattle.hir_defs.specs.Lookups.{Tables, signed}
+use Rattle.hir_defs.specs.Lookups.{Tables, signature_entry}
 use Rattle.hir_pretty.specs.Questions.{Questions}
 
 -- what is there, or that it is missing
@@ -21,16 +21,18 @@ found_or absent (Some x) = Ok x
 -- of the parameters of a parent, where the parent has a signature
 abbrev pub param_answer : TypeOrConstParamId → Option Generics → Result (Option (List ℕ)) Missing
 param_answer id None = Err (missing.Signature id.parent)
-param_answer id (Some params) = found_or (missing.TypeParam id) (option_map name_of (slice_get params.type_or_consts id.local_id))
+param_answer id (Some params) = found_or (missing.TypeParam id)
+    (option_map name_of (slice_get params.type_or_consts id.local_id))
 
 abbrev pub lifetime_answer : LifetimeParamId → Option Generics → Result (List ℕ) Missing
 lifetime_answer id None = Err (missing.Signature id.parent)
-lifetime_answer id (Some params) = found_or (missing.LifetimeParam id) (option_map (λ (lifetime : LifetimeParamData). lifetime.name) (slice_get params.lifetimes id.local_id))
+lifetime_answer id (Some params) = found_or (missing.LifetimeParam id)
+    (option_map (λ (lifetime : LifetimeParamData). lifetime.name) (slice_get params.lifetimes id.local_id))
 
 abbrev pub answers : Tables → Questions
 answers t = record {
   name = λ def. found_or (missing.Name def) (map.get t.names (named_code def));
   crate_name = λ id. found_or (missing.Crate id) (map.get t.crate_names (id ∷ []));
-  type_param = λ id. param_answer id (option_map (λ entry. entry.0) (signed t id.parent));
-  lifetime_param = λ id. lifetime_answer id (option_map (λ entry. entry.0) (signed t id.parent));
+  type_param = λ id. param_answer id (option_map (λ entry. entry.0) (signature_entry t id.parent));
+  lifetime_param = λ id. lifetime_answer id (option_map (λ entry. entry.0) (signature_entry t id.parent));
 }

@@ -82,7 +82,8 @@ opt_cost cost (Some x) = cost x
 abbrev pub expr_cost : Expr → ℕ
 expr_cost (expr.OffsetOf o) = 20 + 6 * length o.fields
 expr_cost (expr.Call callee args) = 20 + 4 * length args
-expr_cost (expr.MethodCall receiver name args generic_args) = 20 + 4 * length args + opt_cost args_cost generic_args
+expr_cost (expr.MethodCall receiver name args generic_args) =
+    20 + 4 * length args + opt_cost args_cost generic_args
 expr_cost (expr.Match x arms) = 20 + 9 * length arms
 expr_cost (expr.RecordLit path fields spread) = 20 + 9 * length fields + path_cost path
 expr_cost (expr.Tuple exprs) = 20 + 3 * length exprs
@@ -103,7 +104,8 @@ pat_cost x = 20
 
 abbrev pub type_cost : TypeRef → ℕ
 type_cost (type.Tuple types) = 20 + 3 * length types
-type_cost (type.Fn f) = 30 + 3 * length f.params + opt_cost (λ (names : List (List ℕ)). 6 * length names) f.binder
+type_cost (type.Fn f) = 30 + 3 * length f.params
+    + opt_cost (λ (names : List (List ℕ)). 6 * length names) f.binder
 type_cost (type.ImplTrait bounds) = 20 + bounds_cost bounds
 type_cost (type.DynTrait bounds) = 20 + bounds_cost bounds
 type_cost (type.Path path) = 20 + path_cost path

@@ -30,14 +30,14 @@ use Rattle.hir_node.specs.declared.expr.Expr.{Expr}
 use Rattle.hir_node.specs.declared.expr.Expr.TheVariants as expr
 use Rattle.hir_faults.specs.Nodes.{Nodes}
 use Rattle.hir_pretty.specs.Questions.{Setting}
-use Rattle.hir_pretty.specs.Items.{Item, text, sp, br, into, out, e, under, p, t, opt, when, joined, comma_joined, replacement, numbered}
+use Rattle.hir_pretty.specs.Items.{Item, text, sp, br, into, out, e, under, p, t, opt, when, join, comma_joined, replacement, with_number}
 use Rattle.hir_pretty.specs.Names.{name_items, label_items}
 use Rattle.hir_pretty.specs.Paths.{path_items, args_items, turbofish}
 use Rattle.hir_pretty.specs.Literals.{literal_items}
 
 -- a label before a loop or a block
-abbrev pub labelled : Setting → Option ℕ → List Item
-labelled s label = opt (λ id. label_items s id ++ text (codes ": ")) label
+abbrev pub label_before : Setting → Option ℕ → List Item
+label_before s label = opt (λ id. label_items s id ++ text (codes ": ")) label
 
 -- a label after `continue` or `break`
 abbrev pub to_label : Setting → Option ℕ → List Item
@@ -59,7 +59,8 @@ abbrev pub arguments : List ℕ → List Item
 arguments args = text (codes "(") ++ in_lines args ++ text (codes ")")
 
 abbrev pub arm_items : MatchArm → List Item
-arm_items arm = p arm.pat ++ opt (λ id. text (codes " if ") ++ e id) arm.guard ++ text (codes " => ") ++ e arm.expr ++ text (codes ",") ++ br
+arm_items arm = p arm.pat ++ opt (λ id. text (codes " if ") ++ e id) arm.guard ++ text (codes " => ")
+    ++ e arm.expr ++ text (codes ",") ++ br
 
 abbrev pub field_items : Setting → RecordLitField → List Item
 field_items s field = name_items s field.name ++ text (codes ": ") ++ e field.expr ++ text (codes ",") ++ br
@@ -80,15 +81,18 @@ operator_items (Some op) = text (binary_text op)
 
 abbrev pub array_items : Array → List Item
 array_items (array.ElementList []) = text (codes "[]")
-array_items (array.ElementList (x ∷ xs)) = text (codes "[") ++ into ++ flat_map (λ id. e id ++ text (codes ", ")) (x ∷ xs) ++ out ++ br ++ text (codes "]")
-array_items (array.Repeat initializer repeat) = text (codes "[") ++ into ++ e initializer ++ text (codes "; ") ++ e repeat ++ out ++ br ++ text (codes "]")
+array_items (array.ElementList (x ∷ xs)) = text (codes "[") ++ into
+    ++ flat_map (λ id. e id ++ text (codes ", ")) (x ∷ xs) ++ out ++ br ++ text (codes "]")
+array_items (array.Repeat initializer repeat) = text (codes "[") ++ into ++ e initializer ++ text (codes "; ")
+    ++ e repeat ++ out ++ br ++ text (codes "]")
 
 abbrev pub semicolon : Bool → List Item
 semicolon has_semi = when has_semi (text (codes ";"))
 
 abbrev pub statement_items : Statement → List Item
 statement_items (statement.Let pat type_ref initializer else_branch) =
-    text (codes "let ") ++ p pat ++ opt (λ id. text (codes ": ") ++ t id) type_ref ++ opt (λ id. text (codes " = ") ++ e id) initializer
+    text (codes "let ") ++ p pat ++ opt (λ id. text (codes ": ") ++ t id) type_ref
+    ++ opt (λ id. text (codes " = ") ++ e id) initializer
     ++ opt (λ id. text (codes " else ") ++ e id) else_branch ++ text (codes ";") ++ br
 statement_items (statement.Expr expr has_semi) = e expr ++ semicolon has_semi ++ br
 statement_items (statement.Item item) = []
@@ -130,10 +134,13 @@ params (pat ∷ pats) (type ∷ types) = (p pat ++ opt (λ id. text (codes ": ")
 
 -- the parameters and the type of the result, which a coroutine doesn't have
 abbrev pub header : ClosureKind → List (List Item) → Option ℕ → List Item
-header closure.Closure params ret = text (codes "|") ++ comma_joined params ++ text (codes "|") ++ opt (λ id. text (codes " -> ") ++ t id) ret ++ sp
-header (closure.OldCoroutine _) params ret = text (codes "|") ++ comma_joined params ++ text (codes "|") ++ opt (λ id. text (codes " -> ") ++ t id) ret ++ sp
+header closure.Closure params ret = text (codes "|") ++ comma_joined params ++ text (codes "|")
+    ++ opt (λ id. text (codes " -> ") ++ t id) ret ++ sp
+header (closure.OldCoroutine _) params ret = text (codes "|") ++ comma_joined params ++ text (codes "|")
+    ++ opt (λ id. text (codes " -> ") ++ t id) ret ++ sp
 header (closure.Coroutine kind source) params ret = []
-header (closure.CoroutineClosure kind) params ret = text (codes "|") ++ comma_joined params ++ text (codes "|") ++ opt (λ id. text (codes " -> ") ++ t id) ret ++ sp
+header (closure.CoroutineClosure kind) params ret = text (codes "|") ++ comma_joined params
+    ++ text (codes "|") ++ opt (λ id. text (codes " -> ") ++ t id) ret ++ sp
 
 -- the body of a closure that is a coroutine
 abbrev pub of_coroutine : ClosureKind → ℕ → ℕ → ℕ
@@ -144,7 +151,8 @@ of_coroutine (closure.CoroutineClosure kind) self body = self
 
 -- an expression, or its body where it is a closure that is a coroutine
 abbrev pub coroutine_body : Option Expr → ℕ → ℕ
-coroutine_body (Some (expr.Closure args arg_types ret_type body kind capture)) self = of_coroutine kind self body
+coroutine_body (Some (expr.Closure args arg_types ret_type body kind capture)) self =
+    of_coroutine kind self body
 coroutine_body found self = self
 
 -- what is printed as the body of a closure: of a coroutine closure the body of its coroutine
@@ -159,15 +167,19 @@ expr_items s expr.Missing = replacement
 expr_items s expr.Underscore = text (codes "_")
 expr_items s expr.IncludeBytes = text (codes "include_bytes!(_)")
 expr_items s (expr.OffsetOf o) =
-    text (codes "builtin#offset_of(") ++ t o.container ++ text (codes ", ") ++ joined (text (codes ".")) (map (name_items s) o.fields) ++ text (codes ")")
+    text (codes "builtin#offset_of(") ++ t o.container ++ text (codes ", ")
+    ++ join (text (codes ".")) (map (name_items s) o.fields) ++ text (codes ")")
 expr_items s (expr.If condition then_branch else_branch) =
-    text (codes "if ") ++ e condition ++ text (codes " ") ++ e then_branch ++ opt (λ id. text (codes " else ") ++ e id) else_branch
+    text (codes "if ") ++ e condition ++ text (codes " ") ++ e then_branch
+    ++ opt (λ id. text (codes " else ") ++ e id) else_branch
 expr_items s (expr.Let pat expr) = text (codes "let ") ++ p pat ++ text (codes " = ") ++ under Prefix expr
-expr_items s (expr.Loop body label source) = labelled s label ++ text (codes "loop ") ++ e body
+expr_items s (expr.Loop body label source) = label_before s label ++ text (codes "loop ") ++ e body
 expr_items s (expr.Call callee args) = under Postfix callee ++ arguments args
 expr_items s (expr.MethodCall receiver method_name args generic_args) =
-    under Postfix receiver ++ text (codes ".") ++ name_items s method_name ++ opt (λ a. turbofish (args_items s a)) generic_args ++ arguments args
-expr_items s (expr.Match expr arms) = text (codes "match ") ++ e expr ++ text (codes " {") ++ into ++ flat_map arm_items arms ++ out ++ text (codes "}") ++ br
+    under Postfix receiver ++ text (codes ".") ++ name_items s method_name
+    ++ opt (λ a. turbofish (args_items s a)) generic_args ++ arguments args
+expr_items s (expr.Match expr arms) = text (codes "match ") ++ e expr ++ text (codes " {") ++ into
+    ++ flat_map arm_items arms ++ out ++ text (codes "}") ++ br
 expr_items s (expr.Continue label) = text (codes "continue") ++ to_label s label
 expr_items s (expr.Break expr label) = text (codes "break") ++ to_label s label ++ operand expr
 expr_items s (expr.Return expr) = text (codes "return") ++ operand expr
@@ -175,21 +187,28 @@ expr_items s (expr.Become expr) = text (codes "become") ++ operand (Some expr)
 expr_items s (expr.Yield expr) = text (codes "yield") ++ operand expr
 expr_items s (expr.Yeet expr) = text (codes "do") ++ sp ++ text (codes "yeet") ++ operand expr
 expr_items s (expr.RecordLit path fields spread) =
-    path_items s path ++ text (codes "{") ++ into ++ flat_map (field_items s) fields ++ spread_items spread ++ out ++ text (codes "}")
+    path_items s path ++ text (codes "{") ++ into ++ flat_map (field_items s) fields ++ spread_items spread
+    ++ out ++ text (codes "}")
 expr_items s (expr.Field expr name) = under Postfix expr ++ text (codes ".") ++ name_items s name
 expr_items s (expr.Await expr) = under Postfix expr ++ text (codes ".await")
 expr_items s (expr.Cast expr type_ref) = under Cast expr ++ text (codes " as ") ++ t type_ref
-expr_items s (expr.Ref expr rawness mutability) = text (codes "&") ++ text (raw_keyword rawness) ++ text (ref_keyword mutability) ++ under Prefix expr
+expr_items s (expr.Ref expr rawness mutability) =
+    text (codes "&") ++ text (raw_keyword rawness) ++ text (ref_keyword mutability) ++ under Prefix expr
 expr_items s (expr.UnaryOp expr op) = text (unary_text op) ++ under Prefix expr
-expr_items s (expr.BinaryOp lhs rhs op) = under (of_operator op) lhs ++ sp ++ operator_items op ++ sp ++ under (of_operator op) rhs
+expr_items s (expr.BinaryOp lhs rhs op) = under (of_operator op) lhs ++ sp ++ operator_items op ++ sp
+    ++ under (of_operator op) rhs
 expr_items s (expr.Index base index) = under Postfix base ++ text (codes "[") ++ e index ++ text (codes "]")
-expr_items s (expr.Tuple exprs) = text (codes "(") ++ flat_map (λ id. e id ++ text (codes ", ")) exprs ++ text (codes ")")
+expr_items s (expr.Tuple exprs) = text (codes "(") ++ flat_map (λ id. e id ++ text (codes ", ")) exprs
+    ++ text (codes ")")
 expr_items s (expr.Array array) = array_items array
-expr_items s (expr.Const id) = text (codes "const { /* ") ++ numbered (codes "ExprId") id ++ text (codes " */ }")
+expr_items s (expr.Const id) = text (codes "const { /* ") ++ with_number (codes "ExprId") id
+    ++ text (codes " */ }")
 expr_items s (expr.Assignment target value) = p target ++ text (codes " = ") ++ under Assign value
 expr_items s (expr.Block id statements tail label unsafe_) =
-    sp ++ labelled s label ++ unsafe_items unsafe_ ++ text (codes "{") ++ inside_block statements tail ++ text (codes "}")
+    sp ++ label_before s label ++ unsafe_items unsafe_ ++ text (codes "{") ++ inside_block statements tail
+    ++ text (codes "}")
 expr_items s (expr.Closure args arg_types ret_type body kind capture) =
-    text (closure_head kind) ++ text (capture_keyword capture) ++ header kind (params args arg_types) ret_type ++ e (printed_body s.nodes kind body)
+    text (closure_head kind) ++ text (capture_keyword capture) ++ header kind (params args arg_types) ret_type
+    ++ e (printed_body s.nodes kind body)
 expr_items s (expr.Literal literal) = literal_items literal
 expr_items s (expr.Path path) = path_items s path

@@ -53,19 +53,19 @@ when true items = items
 when false items = []
 
 -- lists of items with a separator between them
-abbrev pub joined : List Item → List (List Item) → List Item
-joined between [] = []
-joined between (x ∷ []) = x
-joined between (x ∷ y ∷ xs) = x ++ between ++ joined between (y ∷ xs)
+abbrev pub join : List Item → List (List Item) → List Item
+join between [] = []
+join between (x ∷ []) = x
+join between (x ∷ y ∷ xs) = x ++ between ++ join between (y ∷ xs)
 
 -- separated by `, `
 abbrev pub comma_joined : List (List Item) → List Item
-comma_joined = joined (text (codes ", "))
+comma_joined = join (text (codes ", "))
 
 -- U+FFFD, for what isn't there
 abbrev pub replacement : List Item
 replacement = text (239 ∷ 191 ∷ 189 ∷ [])
 
 -- a kind of id with its number, as `ExprId(3)`
-abbrev pub numbered : List ℕ → ℕ → List Item
-numbered kind id = text kind ++ text (codes "(") ++ text (decimal id) ++ text (codes ")")
+abbrev pub with_number : List ℕ → ℕ → List Item
+with_number kind id = text kind ++ text (codes "(") ++ text (decimal id) ++ text (codes ")")

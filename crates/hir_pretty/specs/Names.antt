@@ -32,7 +32,8 @@ raw_text words name = flat_map (λ part. part) (raw_parts words name)
 -- The parts of a printed name. A leading `'` comes first and isn't looked up, and `'static` is printed as it is.
 abbrev pub name_parts : List (List ℕ) → List ℕ → List (List ℕ)
 name_parts words [] = raw_parts words []
-name_parts words (c ∷ cs) = if c == 39 then (if same_text cs (codes "static") then (c ∷ cs) ∷ [] else (c ∷ []) ∷ raw_parts words cs) else raw_parts words (c ∷ cs)
+name_parts words (c ∷ cs) = if c == 39 then (if same_text cs (codes "static") then (c ∷ cs) ∷ []
+    else (c ∷ []) ∷ raw_parts words cs) else raw_parts words (c ∷ cs)
 
 -- the text of a printed name
 abbrev pub printed_name : List (List ℕ) → List ℕ → List ℕ

@@ -21,7 +21,7 @@ use Rattle.hir_path.specs.declared.path.Path.{Path}
 use Rattle.hir_path.specs.declared.path.Path.TheVariants as path
 use Rattle.hir_expr_store.specs.declared.missing.Missing.{Missing}
 use Rattle.hir_pretty.specs.Questions.{Setting}
-use Rattle.hir_pretty.specs.Items.{Item, Lacks, text, under, t, opt, when, joined, comma_joined, numbered}
+use Rattle.hir_pretty.specs.Items.{Item, Lacks, text, under, t, opt, when, join, comma_joined, with_number}
 use Rattle.hir_pretty.specs.Names.{name_items, l}
 
 -- names after `for`
@@ -40,11 +40,12 @@ abbrev pub bound_items : Setting → TypeBound → List Item
 bound_items s (bound.Path id modifier) = modifier_items modifier ++ t id
 bound_items s (bound.ForLifetime names id) = for_names s names ++ t id
 bound_items s (bound.Lifetime id) = l s id
-bound_items s (bound.Use args) = text (codes "use<") ++ comma_joined (map (use_items s) args) ++ text (codes ">")
+bound_items s (bound.Use args) = text (codes "use<") ++ comma_joined (map (use_items s) args)
+    ++ text (codes ">")
 bound_items s bound.Error = text (codes "{unknown}")
 
 abbrev pub bounds_items : Setting → List TypeBound → List Item
-bounds_items s bounds = joined (text (codes " + ")) (map (bound_items s) bounds)
+bounds_items s bounds = join (text (codes " + ")) (map (bound_items s) bounds)
 
 -- bounds after `: `, where there are any
 abbrev pub bounds_after : Setting → List TypeBound → List Item
@@ -72,7 +73,8 @@ type_after type_ref = opt (λ id. text (codes " = ") ++ t id) type_ref
 
 -- an associated type binding, where the items of its own arguments are in their place
 abbrev pub binding_layer : Setting → AssociatedTypeBinding-F (List Item) (List Item) → List Item
-binding_layer s b = name_items s b.name ++ opt turbofish b.args ++ bounds_after s b.bounds ++ type_after b.type_ref
+binding_layer s b = name_items s b.name ++ opt turbofish b.args ++ bounds_after s b.bounds
+    ++ type_after b.type_ref
 
 -- generic arguments, where the items of each binding are in its place
 abbrev pub args_layer : Setting → GenericArgs-F (List Item) (List Item) → List Item
@@ -92,7 +94,7 @@ found_name default (Ok None) = text default
 found_name default (Err missing) = Lacks missing ∷ []
 
 abbrev pub target_items : Setting → LangItemTarget → List Item
-target_items s (target.ImplId id) = numbered (codes "ImplId") id
+target_items s (target.ImplId id) = with_number (codes "ImplId") id
 target_items s (target.EnumId id) = found_name (codes "<missing>") (s.tables.name (named.EnumId id))
 target_items s (target.FunctionId id) = found_name (codes "<missing>") (s.tables.name (named.FunctionId id))
 target_items s (target.StaticId id) = found_name (codes "<missing>") (s.tables.name (named.StaticId id))
@@ -100,7 +102,8 @@ target_items s (target.StructId id) = found_name (codes "<missing>") (s.tables.n
 target_items s (target.UnionId id) = found_name (codes "<missing>") (s.tables.name (named.UnionId id))
 target_items s (target.TypeAliasId id) = found_name (codes "<missing>") (s.tables.name (named.TypeAliasId id))
 target_items s (target.TraitId id) = found_name (codes "<missing>") (s.tables.name (named.TraitId id))
-target_items s (target.EnumVariantId id) = found_name (codes "<missing>") (s.tables.name (named.EnumVariantId id))
+target_items s (target.EnumVariantId id) = found_name (codes "<missing>")
+    (s.tables.name (named.EnumVariantId id))
 target_items s (target.ConstId id) = found_name (codes "<missing>") (s.tables.name (named.ConstId id))
 target_items s (target.MacroId id) = found_name (codes "<missing>") (s.tables.name (named.MacroId id))
 
@@ -129,13 +132,15 @@ colons_first (DollarCrate id) = true
 -- each segment with its arguments; `::` is before it where it is not the first, or where `after` says so
 abbrev pub segments_from : Setting → Bool → List (List ℕ) → List (Option GenericArgs) → List Item
 segments_from s after [] lists = []
-segments_from s after (name ∷ names) [] = when after (text (codes "::")) ++ name_items s name ++ segments_from s true names []
+segments_from s after (name ∷ names) [] = when after (text (codes "::")) ++ name_items s name
+    ++ segments_from s true names []
 segments_from s after (name ∷ names) (args ∷ lists) =
-    when after (text (codes "::")) ++ name_items s name ++ opt (λ a. turbofish (args_items s a)) args ++ segments_from s true names lists
+    when after (text (codes "::")) ++ name_items s name ++ opt (λ a. turbofish (args_items s a)) args
+    ++ segments_from s true names lists
 
 -- what a path begins with, and its segments
-abbrev pub anchored : Setting → ModPath → List Item → List (Option GenericArgs) → List Item
-anchored s path start lists = start ++ segments_from s (colons_first path.kind) path.segments lists
+abbrev pub from_start : Setting → ModPath → List Item → List (Option GenericArgs) → List Item
+from_start s path start lists = start ++ segments_from s (colons_first path.kind) path.segments lists
 
 -- the type that a path begins at, or else its kind
 abbrev pub start_items : Setting → Option ℕ → PathKind → List Item
@@ -143,7 +148,9 @@ start_items s None kind = kind_items s kind
 start_items s (Some anchor) kind = text (codes "<") ++ t anchor ++ text (codes ">::")
 
 abbrev pub path_items : Setting → Path → List Item
-path_items s (path.BarePath p) = anchored s p (kind_items s p.kind) []
-path_items s (path.Normal n) = anchored s n.mod_path (start_items s n.type_anchor n.mod_path.kind) n.generic_args
+path_items s (path.BarePath p) = from_start s p (kind_items s p.kind) []
+path_items s (path.Normal n) = from_start s n.mod_path
+    (start_items s n.type_anchor n.mod_path.kind) n.generic_args
 path_items s (path.LangItem target name) =
-    text (codes "builtin#lang(") ++ target_items s target ++ opt (λ n. text (codes "::") ++ name_items s n) name ++ text (codes ")")
+    text (codes "builtin#lang(") ++ target_items s target
+    ++ opt (λ n. text (codes "::") ++ name_items s n) name ++ text (codes ")")

@@ -12,7 +12,7 @@ use Rattle.hir_node.specs.declared.pat.RecordFieldPat.{RecordFieldPat}
 use Rattle.hir_node.specs.declared.pat.Pat.{Pat}
 use Rattle.hir_node.specs.declared.pat.Pat.TheVariants as pat
 use Rattle.hir_pretty.specs.Questions.{Setting}
-use Rattle.hir_pretty.specs.Items.{Item, text, sp, br, into, out, under, p, opt, when, joined, comma_joined, replacement}
+use Rattle.hir_pretty.specs.Items.{Item, text, sp, br, into, out, under, p, opt, when, join, comma_joined, replacement}
 use Rattle.hir_pretty.specs.Names.{name_items, printed_name, same_text, binding_items}
 use Rattle.hir_pretty.specs.Paths.{path_items}
 
@@ -42,7 +42,8 @@ is_short s name (Some (pat.Bind id None)) = has_printed_name s name (slice_get s
 is_short s name found = false
 
 abbrev pub field_pattern : Setting → RecordFieldPat → List Item
-field_pattern s field = name_items s field.name ++ when (not (is_short s field.name (slice_get s.nodes.pats field.pat))) (text (codes ": ") ++ p field.pat)
+field_pattern s field = name_items s field.name ++ when
+    (not (is_short s field.name (slice_get s.nodes.pats field.pat))) (text (codes ": ") ++ p field.pat)
 
 -- what is after the last field: in one line, with no rest after it, a space in place of a comma
 abbrev pub after_last : Setting → Bool → List Item
@@ -52,7 +53,8 @@ after_last s false = elim s.one_line [ true ↦ text (codes " ") | false ↦ tex
 abbrev pub field_patterns : Setting → Bool → List RecordFieldPat → List Item
 field_patterns s rest [] = []
 field_patterns s rest (f ∷ []) = field_pattern s f ++ after_last s rest
-field_patterns s rest (f ∷ g ∷ fs) = field_pattern s f ++ text (codes ",") ++ br ++ field_patterns s rest (g ∷ fs)
+field_patterns s rest (f ∷ g ∷ fs) = field_pattern s f ++ text (codes ",") ++ br
+    ++ field_patterns s rest (g ∷ fs)
 
 abbrev pub pat_items : Setting → Pat → List Item
 pat_items s pat.Missing = replacement
@@ -61,12 +63,15 @@ pat_items s pat.Wild = text (codes "_")
 pat_items s pat.NotNull = text (codes "!null")
 pat_items s (pat.Tuple args ellipsis) = in_parentheses ellipsis args
 pat_items s (pat.TupleStruct path args ellipsis) = path_items s path ++ in_parentheses ellipsis args
-pat_items s (pat.Or args) = text (codes "(") ++ joined (text (codes " | ")) (map p args) ++ text (codes ")")
+pat_items s (pat.Or args) = text (codes "(") ++ join (text (codes " | ")) (map p args) ++ text (codes ")")
 pat_items s (pat.Record ellipsis path args) =
-    path_items s path ++ text (codes " {") ++ into ++ field_patterns s ellipsis args ++ when ellipsis (text (codes "..") ++ br) ++ out ++ text (codes "}")
-pat_items s (pat.Range start end range_type) = opt (under Shift) start ++ text (range_text range_type) ++ opt (under Shift) end
+    path_items s path ++ text (codes " {") ++ into ++ field_patterns s ellipsis args
+    ++ when ellipsis (text (codes "..") ++ br) ++ out ++ text (codes "}")
+pat_items s (pat.Range start end range_type) =
+    opt (under Shift) start ++ text (range_text range_type) ++ opt (under Shift) end
 pat_items s (pat.Slice prefix slice suffix) =
-    text (codes "[") ++ flat_map (λ id. p id ++ text (codes ", ")) (prefix ++ option_to_list slice ++ suffix) ++ text (codes "]")
+    text (codes "[") ++ flat_map (λ id. p id ++ text (codes ", ")) (prefix ++ option_to_list slice ++ suffix)
+    ++ text (codes "]")
 pat_items s (pat.Bind id subpat) = binding_items s id ++ opt (λ q. sp ++ text (codes "@ ") ++ p q) subpat
 pat_items s (pat.Ref pat mutability) = text (codes "&") ++ text (ref_keyword mutability) ++ p pat
 pat_items s (pat.Box inner) = text (codes "box ") ++ p inner

@@ -46,16 +46,17 @@ abbrev pub precedence_found : Option Expr → ExprPrecedence
 precedence_found None = Unambiguous
 precedence_found (Some x) = precedence x
 
-abbrev pub parenthesized : Bool → List NodePiece → List NodePiece
-parenthesized false ps = ps
-parenthesized true ps = Layout (Text (codes "(")) ∷ (ps ++ (Layout (Text (codes ")")) ∷ []))
+abbrev pub with_parentheses : Bool → List NodePiece → List NodePiece
+with_parentheses false ps = ps
+with_parentheses true ps = Layout (Text (codes "(")) ∷ (ps ++ (Layout (Text (codes ")")) ∷ []))
 
 -- the pieces of an item, where a node inside it gives what `self` says
 abbrev pub item_pieces : Setting → (NodeId → List NodePiece) → Item → List NodePiece
 item_pieces s self (Put piece) = Layout piece ∷ []
 item_pieces s self (Lacks missing) = Absent missing ∷ []
 item_pieces s self (Whole id) = self (node.Expr id)
-item_pieces s self (Under id parent) = parenthesized (stands_in_parentheses (precedence_found (slice_get s.nodes.exprs id)) parent) (self (node.Expr id))
+item_pieces s self (Under id parent) = with_parentheses
+    (stands_in_parentheses (precedence_found (slice_get s.nodes.exprs id)) parent) (self (node.Expr id))
 item_pieces s self (Pattern id) = self (node.Pat id)
 item_pieces s self (TypeItem id) = self (node.TypeRef id)
 

@@ -7,6 +7,7 @@ use Rattle.hir_pretty.specs.Questions.{Setting}
 use Rattle.hir_pretty.specs.Pieces.{NodePiece, first_missing, text_of}
 
 -- The text of pieces of which no definition is missing; the first definition that is missing; or that memory was refused.
-pub record PrintsPieces {A : Type 0} (s : Setting) (ps : List NodePiece) (result : Result (String A) PrintFault) : Type 0 where
+pub record PrintsPieces {A : Type 0} (s : Setting) (ps : List NodePiece)
+    (result : Result (String A) PrintFault) : Type 0 where
   pub text : IfOk result (λ text. (first_missing ps ≡ None) × (string_bytes text ≡ text_of s ps))
   pub missing : (m : Missing) → result ≡ Err (fault.Missing m) → first_missing ps ≡ Some m

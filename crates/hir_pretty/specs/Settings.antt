@@ -4,4 +4,9 @@ use Rattle.hir_expr_store.specs.Contents.{Contents}
 use Rattle.hir_pretty.specs.Questions.{Questions, Setting}
 
 abbrev pub setting : Contents → Questions → List (List ℕ) → Bool → Setting
-setting store tables words one_line = record { nodes = store.nodes; tables = tables; words = words; one_line = one_line }
+setting store tables words one_line = record {
+  nodes = store.nodes;
+  tables = tables;
+  words = words;
+  one_line = one_line;
+}

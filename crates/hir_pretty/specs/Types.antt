@@ -50,11 +50,13 @@ last (x ∷ y ∷ xs) = last (y ∷ xs)
 -- a function type by the types of its parameters and, last, of its result
 abbrev pub signature_items : Bool → List ℕ → List Item
 signature_items varargs types =
-    text (codes "fn(") ++ comma_joined (map t (front types)) ++ varargs_items varargs (front types) ++ text (codes ") -> ") ++ last types
+    text (codes "fn(") ++ comma_joined (map t (front types)) ++ varargs_items varargs (front types)
+    ++ text (codes ") -> ") ++ last types
 
 abbrev pub fn_items : Setting → FnType → List Item
 fn_items s f =
-    opt (for_names s) f.binder ++ when f.is_unsafe (text (codes "unsafe ")) ++ extern_items f.abi ++ signature_items f.is_varargs (map (λ (entry : Option (List ℕ) × ℕ). entry.1) f.params)
+    opt (for_names s) f.binder ++ when f.is_unsafe (text (codes "unsafe ")) ++ extern_items f.abi
+    ++ signature_items f.is_varargs (map (λ (entry : Option (List ℕ) × ℕ). entry.1) f.params)
 
 abbrev pub type_items : Setting → TypeRef → List Item
 type_items s type.Never = text (codes "!")
@@ -64,8 +66,10 @@ type_items s (type.TypeParam id) = type_param_items s id.local_id (s.tables.type
 type_items s (type.Tuple types) = text (codes "(") ++ comma_joined (map t types) ++ text (codes ")")
 type_items s (type.Slice id) = text (codes "[") ++ t id ++ text (codes "]")
 type_items s (type.RawPtr id mutability) = text (codes "*") ++ text (ptr_keyword mutability) ++ t id
-type_items s (type.Reference r) = text (codes "&") ++ opt (λ id. l s id ++ text (codes " ")) r.lifetime ++ text (ref_keyword r.mutability) ++ t r.ty
-type_items s (type.Array a) = text (codes "[") ++ t a.ty ++ text (codes "; ") ++ under Unambiguous a.len.expr ++ text (codes "]")
+type_items s (type.Reference r) = text (codes "&") ++ opt (λ id. l s id ++ text (codes " ")) r.lifetime
+    ++ text (ref_keyword r.mutability) ++ t r.ty
+type_items s (type.Array a) = text (codes "[") ++ t a.ty ++ text (codes "; ") ++ under Unambiguous a.len.expr
+    ++ text (codes "]")
 type_items s (type.Fn f) = fn_items s f
 type_items s (type.ImplTrait bounds) = text (codes "impl ") ++ bounds_items s bounds
 type_items s (type.DynTrait bounds) = text (codes "dyn ") ++ bounds_items s bounds

@@ -30,7 +30,7 @@ use Rattle.hir_pretty.specs.declared.fault.PrintFault.TheVariants as fault
 use Rattle.hir_expr_store.specs.Contents.{Contents}
 use Rattle.hir_pretty.specs.Questions.{Questions, Setting}
 use Rattle.hir_pretty.specs.Settings.{setting}
-use Rattle.hir_pretty.specs.Items.{Item, Put, Lacks, Whole, Under, Pattern, TypeItem, text, sp, br, into, out, e, under, p, t, opt, when, joined, comma_joined}
+use Rattle.hir_pretty.specs.Items.{Item, Put, Lacks, Whole, Under, Pattern, TypeItem, text, sp, br, into, out, e, under, p, t, opt, when, join, comma_joined}
 use Rattle.hir_pretty.specs.Names.{name_parts, name_items, param_items, l, label_items, annotation_text, binding_items}
 use Rattle.hir_pretty.specs.Literals.{literal_items}
 use Rattle.hir_pretty.specs.Paths.{found_name, for_names, bound_items, bounds_items, bounds_after, use_items, arg_items, args_items, assoc_items, turbofish, path_items, kind_items, supers, target_items, segments_from}
@@ -85,11 +85,12 @@ path_part_items s (in_path.Kind kind) = kind_items s kind
 path_part_items s (in_path.Supers n) = supers n
 path_part_items s (in_path.Target x) = target_items s x
 path_part_items s (in_path.Segments after names lists) = segments_from s after names.now lists.now
-path_part_items s (in_path.Names between names) = joined (text between.now) (map (name_items s) names.now)
+path_part_items s (in_path.Names between names) = join (text between.now) (map (name_items s) names.now)
 path_part_items s (in_path.Turbofish args) = opt (λ a. turbofish (args_items s a)) args.now
 path_part_items s (in_path.Fish args) = turbofish (args_items s args.now)
 path_part_items s (in_path.Args args) = args_items s args.now
-path_part_items s (in_path.ArgsRest args bindings) = comma_joined (map (arg_items s) args.now ++ map (assoc_items s) bindings.now)
+path_part_items s (in_path.ArgsRest args bindings) =
+    comma_joined (map (arg_items s) args.now ++ map (assoc_items s) bindings.now)
 path_part_items s (in_path.Arg x) = arg_items s x
 path_part_items s (in_path.Assoc x) = assoc_items s x.now
 path_part_items s (in_path.BoundsAfter bounds) = bounds_after s bounds.now
@@ -124,7 +125,7 @@ stands_for s (work.Spaced x) = sp ++ text x.now ++ sp
 stands_for s work.BlockEnd = br ++ out ++ text (codes "}")
 stands_for s (work.TextWhole x id) = text x.now ++ e id
 stands_for s (work.TextPattern x id) = text x.now ++ p id
-stands_for s (work.Patterns between xs) = joined (text between.now) (map p xs.now)
+stands_for s (work.Patterns between xs) = join (text between.now) (map p xs.now)
 stands_for s (work.TextIf holds x) = when holds (text x.now)
 stands_for s (work.Look x) = look_items s x
 stands_for s (work.Expr x) = expr_part_items s x
@@ -263,40 +264,55 @@ printed s is = flat_map (item_pieces s (pieces s)) is
 
 -- A writer is led over the pieces to their end, or to the first definition that is missing, or to a refusal: that of a piece, or of room for
 -- what is still to be printed. Then nothing more is written.
-pub data Prints {W : Type 0} (step refuses : W → Piece → W → Type 0) : W → List NodePiece → Option PrintFault → W → Type 0 where
+pub data Prints {W : Type 0} (step refuses : W → Piece → W → Type 0) : W → List NodePiece → Option PrintFault
+    → W → Type 0 where
   ended : {v : W} → Prints step refuses v [] None v
-  written : {u v w : W} {q : Piece} {ps : List NodePiece} {f : Option PrintFault} → step u q v → Prints step refuses v ps f w → Prints step refuses u (Layout q ∷ ps) f w
-  absent : {v : W} {m : _} {ps : List NodePiece} → Prints step refuses v (Absent m ∷ ps) (Some (fault.Missing m)) v
-  refused : {v w : W} {q : Piece} {ps : List NodePiece} → refuses v q w → Prints step refuses v (Layout q ∷ ps) (Some fault.Memory) w
+  written : {u v w : W} {q : Piece} {ps : List NodePiece} {f : Option PrintFault} → step u q v
+      → Prints step refuses v ps f w → Prints step refuses u (Layout q ∷ ps) f w
+  absent : {v : W} {m : _} {ps : List NodePiece}
+      → Prints step refuses v (Absent m ∷ ps) (Some (fault.Missing m)) v
+  refused : {v w : W} {q : Piece} {ps : List NodePiece} → refuses v q w
+      → Prints step refuses v (Layout q ∷ ps) (Some fault.Memory) w
   no_room : {v : W} {ps : List NodePiece} → Prints step refuses v ps (Some fault.Memory) v
 
 -- A turn of the loop: what follows from its end follows from its start, and less is to be done.
-pub record Turned {W : Type 0} (step refuses : W → Piece → W → Type 0) (s : Setting) (is : List Item) (cost : ℕ) (old : List Work) (u : W) (new : List Work) (v : W) : Type 0 where
-  pub leads : (f : Option PrintFault) (last : W) → Prints step refuses v (printed s (pending s new)) f last → Prints step refuses u (printed s (is ++ pending s old)) f last
-  pub less : stack_cost s new < (cost + total work_cost old) + total (item_weight (weight s)) (is ++ pending s old)
+pub record Turned {W : Type 0} (step refuses : W → Piece → W → Type 0) (s : Setting) (is : List Item)
+    (cost : ℕ) (old : List Work) (u : W) (new : List Work) (v : W) : Type 0 where
+  pub leads : (f : Option PrintFault) (last : W) → Prints step refuses v (printed s (pending s new)) f last
+      → Prints step refuses u (printed s (is ++ pending s old)) f last
+  pub less : stack_cost s new < (cost + total work_cost old)
+      + total (item_weight (weight s)) (is ++ pending s old)
 
 -- the same of each setting over a store; with these answers; with these words; over a store with these answers
 abbrev pub OpensInStore : Contents → List Work → (Setting → List Item) → ℕ → List Work → Type 0
-OpensInStore store old is cost new = (tables : Questions) (words : List (List ℕ)) (one_line : Bool) → Opens (setting store tables words one_line) old (is (setting store tables words one_line)) cost new
+OpensInStore store old is cost new = (tables : Questions) (words : List (List ℕ)) (one_line : Bool)
+    → Opens (setting store tables words one_line) old (is (setting store tables words one_line)) cost new
 
 abbrev pub OpensAsked : Questions → List Work → (Setting → List Item) → ℕ → List Work → Type 0
-OpensAsked tables old is cost new = (store : Contents) (words : List (List ℕ)) (one_line : Bool) → Opens (setting store tables words one_line) old (is (setting store tables words one_line)) cost new
+OpensAsked tables old is cost new = (store : Contents) (words : List (List ℕ)) (one_line : Bool)
+    → Opens (setting store tables words one_line) old (is (setting store tables words one_line)) cost new
 
 abbrev pub OpensNamed : List (List ℕ) → List Work → (Setting → List Item) → ℕ → List Work → Type 0
-OpensNamed words old is cost new = (store : Contents) (tables : Questions) (one_line : Bool) → Opens (setting store tables words one_line) old (is (setting store tables words one_line)) cost new
+OpensNamed words old is cost new = (store : Contents) (tables : Questions) (one_line : Bool)
+    → Opens (setting store tables words one_line) old (is (setting store tables words one_line)) cost new
 
 abbrev pub OpensWith : Contents → Questions → List Work → (Setting → List Item) → ℕ → List Work → Type 0
-OpensWith store tables old is cost new = (words : List (List ℕ)) (one_line : Bool) → Opens (setting store tables words one_line) old (is (setting store tables words one_line)) cost new
+OpensWith store tables old is cost new = (words : List (List ℕ)) (one_line : Bool)
+    → Opens (setting store tables words one_line) old (is (setting store tables words one_line)) cost new
 
 -- A turn over a store with these words, whatever the tables answer. And that it stopped for want of memory.
-abbrev pub TurnedInStore : {W : Type 0} → (step refuses : W → Piece → W → Type 0) → Contents → List (List ℕ) → List Item → ℕ → List Work → W → List Work → W → Type 0
+abbrev pub TurnedInStore : {W : Type 0} → (step refuses : W → Piece → W → Type 0) → Contents → List (List ℕ)
+    → List Item → ℕ → List Work → W → List Work → W → Type 0
 TurnedInStore step refuses store words is cost old u new v =
-    (tables : Questions) (one_line : Bool) → ItemsFall (setting store tables words one_line) → Turned step refuses (setting store tables words one_line) is cost old u new v
+    (tables : Questions) (one_line : Bool) → ItemsFall (setting store tables words one_line)
+    → Turned step refuses (setting store tables words one_line) is cost old u new v
 
-abbrev pub StoppedInStore : {W : Type 0} → (step refuses : W → Piece → W → Type 0) → Contents → List (List ℕ) → List Item → List Work → W → W → Type 0
+abbrev pub StoppedInStore : {W : Type 0} → (step refuses : W → Piece → W → Type 0) → Contents → List (List ℕ)
+    → List Item → List Work → W → W → Type 0
 StoppedInStore step refuses store words is old u v =
     (tables : Questions) (one_line : Bool) → ItemsFall (setting store tables words one_line)
-    → Prints step refuses u (printed (setting store tables words one_line) (is ++ pending (setting store tables words one_line) old)) (Some fault.Memory) v
+    → Prints step refuses u (printed (setting store tables words one_line)
+    (is ++ pending (setting store tables words one_line) old)) (Some fault.Memory) v
 
 -- items, in parentheses where they need them
 abbrev pub enclosed : Bool → List Item → List Item

@@ -3,7 +3,7 @@
 
 ghost use Rattle.std.specs.Prelude.{◌≡◌, ◌+◌, Some, None, OnOk, OnErr, IfSome, slice_get, map, length, ◌*◌};
 ghost use Rattle.hir_node.specs.declared.node_id.NodeId.TheVariants as node;
-ghost use Rattle.hir_pretty.specs.Items.{e, p, text, joined};
+ghost use Rattle.hir_pretty.specs.Items.{e, p, text, join};
 ghost use Rattle.hir_pretty.specs.Pieces.{items_of};
 ghost use Rattle.hir_pretty.specs.Costs.{node_cost};
 ghost use Rattle.hir_pretty.specs.Works.{IsOnlyName, listed, OpensInStore, TurnedInStore, StoppedInStore};
@@ -102,8 +102,10 @@ pub(crate) fn show_whole<'a, W: PieceWriter>(
     words: &[Text],
     id: ExprId,
 ) -> Result<(), AllocError>
-    ensures ok { OnOk result (TurnedInStore W.step W.refuses store.now words.now (e id) 1 (listed stack.old) writer.old (listed stack.new) writer.new) }
-    ensures err { OnErr result (StoppedInStore W.step W.refuses store.now words.now (e id) (listed stack.old) writer.old writer.new) }
+    ensures ok { OnOk result (TurnedInStore W.step W.refuses store.now words.now (e id) 1
+        (listed stack.old) writer.old (listed stack.new) writer.new) }
+    ensures err { OnErr result (StoppedInStore W.step W.refuses store.now words.now (e id)
+        (listed stack.old) writer.old writer.new) }
 {
     match name_at(store, id) {
         Some(name) => write_name(writer, words, name),
@@ -120,8 +122,10 @@ pub(crate) fn show_pattern<'a, W: PieceWriter>(
     words: &[Text],
     id: PatId,
 ) -> Result<(), AllocError>
-    ensures ok { OnOk result (TurnedInStore W.step W.refuses store.now words.now (p id) 1 (listed stack.old) writer.old (listed stack.new) writer.new) }
-    ensures err { OnErr result (StoppedInStore W.step W.refuses store.now words.now (p id) (listed stack.old) writer.old writer.new) }
+    ensures ok { OnOk result (TurnedInStore W.step W.refuses store.now words.now (p id) 1
+        (listed stack.old) writer.old (listed stack.new) writer.new) }
+    ensures err { OnErr result (StoppedInStore W.step W.refuses store.now words.now (p id)
+        (listed stack.old) writer.old writer.new) }
 {
     match binding_at(store, id) {
         Some(binding) => write_binding(writer, store, words, binding),
@@ -139,8 +143,11 @@ pub(crate) fn show_patterns<'a, W: PieceWriter>(
     between: &'a str,
     pats: &'a [PatId],
 ) -> Result<(), AllocError>
-    ensures ok { OnOk result (TurnedInStore W.step W.refuses store.now words.now (joined (text between.now) (map p pats.now)) (1 + 3 * length pats.now) (listed stack.old) writer.old (listed stack.new) writer.new) }
-    ensures err { OnErr result (StoppedInStore W.step W.refuses store.now words.now (joined (text between.now) (map p pats.now)) (listed stack.old) writer.old writer.new) }
+    ensures ok { OnOk result (TurnedInStore W.step W.refuses store.now words.now
+        (join (text between.now) (map p pats.now)) (1 + 3 * length pats.now) (listed stack.old) writer.old
+        (listed stack.new) writer.new) }
+    ensures err { OnErr result (StoppedInStore W.step W.refuses store.now words.now
+        (join (text between.now) (map p pats.now)) (listed stack.old) writer.old writer.new) }
 {
     let mut rest = pats;
     while let [first, others @ ..] = rest {

@@ -54,7 +54,8 @@ fn capture_keyword(capture: CaptureBy) -> &'static str
 
 /// What is printed as the body: of a coroutine closure the store is asked.
 fn open_body(stack: &mut Stack<'_>, kind: ClosureKind, body: ExprId) -> Result<(), AllocError>
-    ensures { OnOk result ((s : Setting) → Opens s (listed stack.old) (e (printed_body s.nodes kind body)) 3 (listed stack.new)) }
+    ensures { OnOk result ((s : Setting) → Opens s (listed stack.old) (e (printed_body s.nodes kind body)) 3
+        (listed stack.new)) }
 {
     match kind {
         ClosureKind::Closure => stack.push(&[Work::Whole(body)]),
@@ -77,7 +78,9 @@ pub(crate) fn open_closure<'a>(
     kind: ClosureKind,
     capture: CaptureBy,
 ) -> Result<(), AllocError>
-    ensures { OnOk result ((s : Setting) → Opens s (listed stack.old) (expr_items s (expr.Closure args.now arg_types.now ret_type body kind capture)) (21 + 6 * length args.now) (listed stack.new)) }
+    ensures { OnOk result ((s : Setting) → Opens s (listed stack.old)
+        (expr_items s (expr.Closure args.now arg_types.now ret_type body kind capture))
+        (21 + 6 * length args.now) (listed stack.new)) }
 {
     open_body(stack, kind, body)?;
     open_header(stack, kind, args, arg_types, ret_type)?;

@@ -5,7 +5,7 @@ ghost use Rattle.std.specs.Prelude.{◌≡◌, ◌+◌, ◌*◌, ◌++◌, [], O
 ghost use Rattle.std.specs.List.{flat_map};
 ghost use Rattle.hir_pretty.specs.Questions.{Setting};
 ghost use Rattle.hir_pretty.specs.Items.{e, p, t, text, opt, comma_joined};
-ghost use Rattle.hir_pretty.specs.Exprs.{labelled, to_label, operand, arguments, each_line, arm_items, field_items, spread_items, statement_items, header, params};
+ghost use Rattle.hir_pretty.specs.Exprs.{label_before, to_label, operand, arguments, each_line, arm_items, field_items, spread_items, statement_items, header, params};
 ghost use Rattle.hir_pretty.specs.Works.{listed, Opens, expr_part_items, expr_part_cost};
 
 use crate::type_parts::open_after as open_type_after;
@@ -22,7 +22,8 @@ pub(crate) fn open_after<'a>(
     before: &'a str,
     expr: Option<ExprId>,
 ) -> Result<(), AllocError>
-    ensures { OnOk result ((s : Setting) → Opens s (listed stack.old) (opt (λ id. text before.now ++ e id) expr) (3) (listed stack.new)) }
+    ensures { OnOk result ((s : Setting) → Opens s (listed stack.old)
+        (opt (λ id. text before.now ++ e id) expr) (3) (listed stack.new)) }
 {
     match expr {
         None => Ok(()),
@@ -40,7 +41,8 @@ pub(crate) fn open_tail(stack: &mut Stack<'_>, expr: Option<ExprId>) -> Result<(
 }
 
 pub(crate) fn open_labelled(stack: &mut Stack<'_>, label: Option<LabelId>) -> Result<(), AllocError>
-    ensures { OnOk result ((s : Setting) → Opens s (listed stack.old) (labelled s label) (7) (listed stack.new)) }
+    ensures { OnOk result ((s : Setting) → Opens s (listed stack.old) (label_before s label) (7)
+        (listed stack.new)) }
 {
     match label {
         None => Ok(()),
@@ -49,7 +51,8 @@ pub(crate) fn open_labelled(stack: &mut Stack<'_>, label: Option<LabelId>) -> Re
 }
 
 pub(crate) fn open_to_label(stack: &mut Stack<'_>, label: Option<LabelId>) -> Result<(), AllocError>
-    ensures { OnOk result ((s : Setting) → Opens s (listed stack.old) (to_label s label) (7) (listed stack.new)) }
+    ensures { OnOk result ((s : Setting) → Opens s (listed stack.old) (to_label s label) (7)
+        (listed stack.new)) }
 {
     match label {
         None => Ok(()),
@@ -70,7 +73,8 @@ pub(crate) fn open_arguments<'a>(
     stack: &mut Stack<'a>,
     args: &'a [ExprId],
 ) -> Result<(), AllocError>
-    ensures { OnOk result ((s : Setting) → Opens s (listed stack.old) (arguments args.now) (6 + 4 * length args.now) (listed stack.new)) }
+    ensures { OnOk result ((s : Setting) → Opens s (listed stack.old) (arguments args.now)
+        (6 + 4 * length args.now) (listed stack.new)) }
 {
     match args {
         [] => stack.push(&[Work::Text("("), Work::Text(")")]),
@@ -83,7 +87,8 @@ pub(crate) fn open_arguments<'a>(
 }
 
 fn open_arg_lines<'a>(stack: &mut Stack<'a>, args: &'a [ExprId]) -> Result<(), AllocError>
-    ensures { OnOk result ((s : Setting) → Opens s (listed stack.old) (each_line args.now) (1 + 4 * length args.now) (listed stack.new)) }
+    ensures { OnOk result ((s : Setting) → Opens s (listed stack.old) (each_line args.now)
+        (1 + 4 * length args.now) (listed stack.new)) }
 {
     match args {
         [] => Ok(()),
@@ -98,7 +103,9 @@ pub(crate) fn open_elements<'a>(
     stack: &mut Stack<'a>,
     exprs: &'a [ExprId],
 ) -> Result<(), AllocError>
-    ensures { OnOk result ((s : Setting) → Opens s (listed stack.old) (flat_map (λ id. e id ++ text (codes ", ")) exprs.now) (1 + 3 * length exprs.now) (listed stack.new)) }
+    ensures { OnOk result ((s : Setting) → Opens s (listed stack.old)
+        (flat_map (λ id. e id ++ text (codes ", ")) exprs.now) (1 + 3 * length exprs.now)
+        (listed stack.new)) }
 {
     match exprs {
         [] => Ok(()),
@@ -110,7 +117,8 @@ pub(crate) fn open_elements<'a>(
 }
 
 pub(crate) fn open_arms<'a>(stack: &mut Stack<'a>, arms: &'a [MatchArm]) -> Result<(), AllocError>
-    ensures { OnOk result ((s : Setting) → Opens s (listed stack.old) (flat_map arm_items arms.now) (1 + 9 * length arms.now) (listed stack.new)) }
+    ensures { OnOk result ((s : Setting) → Opens s (listed stack.old) (flat_map arm_items arms.now)
+        (1 + 9 * length arms.now) (listed stack.new)) }
 {
     match arms {
         [] => Ok(()),
@@ -129,7 +137,8 @@ pub(crate) fn open_fields<'a>(
     stack: &mut Stack<'a>,
     fields: &'a [RecordLitField],
 ) -> Result<(), AllocError>
-    ensures { OnOk result ((s : Setting) → Opens s (listed stack.old) (flat_map (field_items s) fields.now) (1 + 9 * length fields.now) (listed stack.new)) }
+    ensures { OnOk result ((s : Setting) → Opens s (listed stack.old) (flat_map (field_items s) fields.now)
+        (1 + 9 * length fields.now) (listed stack.new)) }
 {
     match fields {
         [] => Ok(()),
@@ -142,7 +151,8 @@ pub(crate) fn open_fields<'a>(
 }
 
 pub(crate) fn open_spread(stack: &mut Stack<'_>, spread: RecordSpread) -> Result<(), AllocError>
-    ensures { OnOk result ((s : Setting) → Opens s (listed stack.old) (spread_items spread) (4) (listed stack.new)) }
+    ensures { OnOk result ((s : Setting) → Opens s (listed stack.old) (spread_items spread) (4)
+        (listed stack.new)) }
 {
     match spread {
         RecordSpread::None => Ok(()),
@@ -155,7 +165,8 @@ pub(crate) fn open_statements<'a>(
     stack: &mut Stack<'a>,
     statements: &'a [Statement],
 ) -> Result<(), AllocError>
-    ensures { OnOk result ((s : Setting) → Opens s (listed stack.old) (flat_map statement_items statements.now) (1 + 14 * length statements.now) (listed stack.new)) }
+    ensures { OnOk result ((s : Setting) → Opens s (listed stack.old)
+        (flat_map statement_items statements.now) (1 + 14 * length statements.now) (listed stack.new)) }
 {
     match statements {
         [] => Ok(()),
@@ -168,7 +179,8 @@ fn open_statement<'a>(
     first: &'a Statement,
     rest: &'a [Statement],
 ) -> Result<(), AllocError>
-    ensures { OnOk result ((s : Setting) → Opens s (listed stack.old) (statement_items first.now ++ flat_map statement_items rest.now) (15 + 14 * length rest.now) (listed stack.new)) }
+    ensures { OnOk result ((s : Setting) → Opens s (listed stack.old) (statement_items first.now
+        ++ flat_map statement_items rest.now) (15 + 14 * length rest.now) (listed stack.new)) }
 {
     match first {
         Statement::Let {
@@ -205,7 +217,9 @@ fn open_bars<'a>(
     types: &'a [Option<TypeRefId>],
     ret: Option<TypeRefId>,
 ) -> Result<(), AllocError>
-    ensures { OnOk result ((s : Setting) → Opens s (listed stack.old) (header ClosureKind.Closure (params args.now types.now) ret) (8 + 6 * length args.now) (listed stack.new)) }
+    ensures { OnOk result ((s : Setting) → Opens s (listed stack.old)
+        (header ClosureKind.Closure (params args.now types.now) ret) (8 + 6 * length args.now)
+        (listed stack.new)) }
 {
     stack.push(&[Work::Space])?;
     open_type_after(stack, " -> ", ret)?;
@@ -221,7 +235,8 @@ pub(crate) fn open_header<'a>(
     types: &'a [Option<TypeRefId>],
     ret: Option<TypeRefId>,
 ) -> Result<(), AllocError>
-    ensures { OnOk result ((s : Setting) → Opens s (listed stack.old) (header kind (params args.now types.now) ret) (8 + 6 * length args.now) (listed stack.new)) }
+    ensures { OnOk result ((s : Setting) → Opens s (listed stack.old)
+        (header kind (params args.now types.now) ret) (8 + 6 * length args.now) (listed stack.new)) }
 {
     match kind {
         ClosureKind::Closure => open_bars(stack, args, types, ret),
@@ -237,7 +252,8 @@ fn open_param(
     arg: PatId,
     type_ref: Option<TypeRefId>,
 ) -> Result<(), AllocError>
-    ensures { OnOk result ((s : Setting) → Opens s (listed stack.old) (p arg ++ opt (λ id. text (codes ": ") ++ t id) type_ref) (4) (listed stack.new)) }
+    ensures { OnOk result ((s : Setting) → Opens s (listed stack.old)
+        (p arg ++ opt (λ id. text (codes ": ") ++ t id) type_ref) (4) (listed stack.new)) }
 {
     open_type_after(stack, ": ", type_ref)?;
     stack.push(&[Work::Pattern(arg)])
@@ -248,7 +264,8 @@ fn open_params<'a>(
     args: &'a [PatId],
     types: &'a [Option<TypeRefId>],
 ) -> Result<(), AllocError>
-    ensures { OnOk result ((s : Setting) → Opens s (listed stack.old) (comma_joined (params args.now types.now)) (1 + 6 * length args.now) (listed stack.new)) }
+    ensures { OnOk result ((s : Setting) → Opens s (listed stack.old)
+        (comma_joined (params args.now types.now)) (1 + 6 * length args.now) (listed stack.new)) }
 {
     match (args, types) {
         ([], _) => Ok(()),
@@ -269,7 +286,8 @@ pub(crate) fn open_expr_part<'a>(
     stack: &mut Stack<'a>,
     part: &ExprPart<'a>,
 ) -> Result<(), AllocError>
-    ensures { OnOk result ((s : Setting) → Opens s (listed stack.old) (expr_part_items s part.now) (expr_part_cost part.now) (listed stack.new)) }
+    ensures { OnOk result ((s : Setting) → Opens s (listed stack.old) (expr_part_items s part.now)
+        (expr_part_cost part.now) (listed stack.new)) }
 {
     match part {
         ExprPart::ArgLines(args) => open_arg_lines(stack, *args),

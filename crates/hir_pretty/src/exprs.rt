@@ -6,7 +6,7 @@ ghost use Rattle.hir_pretty.specs.Questions.{Setting};
 ghost use Rattle.hir_pretty.specs.Items.{e, sp, text, opt, under};
 ghost use Rattle.hir_pretty.specs.Literals.{literal_items};
 ghost use Rattle.hir_pretty.specs.Paths.{args_items, turbofish};
-ghost use Rattle.hir_pretty.specs.Exprs.{labelled, operand, raw_keyword, operator_items, array_items, unsafe_items, inside_block, expr_items};
+ghost use Rattle.hir_pretty.specs.Exprs.{label_before, operand, raw_keyword, operator_items, array_items, unsafe_items, inside_block, expr_items};
 ghost use Rattle.hir_pretty.specs.Costs.{args_cost, path_cost, opt_cost, expr_cost};
 ghost use Rattle.hir_pretty.specs.Works.{listed, Opens};
 
@@ -30,7 +30,9 @@ fn open_offset_of<'a>(
     container: TypeRefId,
     fields: &'a [Name],
 ) -> Result<(), AllocError>
-    ensures { OnOk result ((s : Setting) → Opens s (listed stack.old) (expr_items s (Expr.OffsetOf record { container = container; fields = fields.now })) (21 + 6 * length fields.now) (listed stack.new)) }
+    ensures { OnOk result ((s : Setting) → Opens s (listed stack.old)
+        (expr_items s (Expr.OffsetOf record { container = container; fields = fields.now }))
+        (21 + 6 * length fields.now) (listed stack.new)) }
 {
     stack.push(&[
         Work::Text("builtin#offset_of("),
@@ -48,7 +50,8 @@ fn open_if(
     then_branch: ExprId,
     else_branch: Option<ExprId>,
 ) -> Result<(), AllocError>
-    ensures { OnOk result ((s : Setting) → Opens s (listed stack.old) (expr_items s (Expr.If condition then_branch else_branch)) (21) (listed stack.new)) }
+    ensures { OnOk result ((s : Setting) → Opens s (listed stack.old)
+        (expr_items s (Expr.If condition then_branch else_branch)) (21) (listed stack.new)) }
 {
     open_after(stack, " else ", else_branch)?;
     stack.push(&[
@@ -59,7 +62,8 @@ fn open_if(
 
 #[inline(never)]
 fn open_let(stack: &mut Stack<'_>, pat: PatId, expr: ExprId) -> Result<(), AllocError>
-    ensures { OnOk result ((s : Setting) → Opens s (listed stack.old) (expr_items s (Expr.Let pat expr)) (21) (listed stack.new)) }
+    ensures { OnOk result ((s : Setting) → Opens s (listed stack.old) (expr_items s (Expr.Let pat expr)) (21)
+        (listed stack.new)) }
 {
     stack.push(&[
         Work::TextPattern("let ", pat),
@@ -70,7 +74,8 @@ fn open_let(stack: &mut Stack<'_>, pat: PatId, expr: ExprId) -> Result<(), Alloc
 
 #[inline(never)]
 fn open_loop(stack: &mut Stack<'_>, body: ExprId, label: Option<LabelId>) -> Result<(), AllocError>
-    ensures { OnOk result ((s : Setting) → Opens s (listed stack.old) (labelled s label ++ text (codes "loop ") ++ e body) (21) (listed stack.new)) }
+    ensures { OnOk result ((s : Setting) → Opens s (listed stack.old)
+        (label_before s label ++ text (codes "loop ") ++ e body) (21) (listed stack.new)) }
 {
     stack.push(&[Work::TextWhole("loop ", body)])?;
     open_labelled(stack, label)
@@ -82,7 +87,8 @@ fn open_call<'a>(
     callee: ExprId,
     args: &'a [ExprId],
 ) -> Result<(), AllocError>
-    ensures { OnOk result ((s : Setting) → Opens s (listed stack.old) (expr_items s (Expr.Call callee args.now)) (21 + 4 * length args.now) (listed stack.new)) }
+    ensures { OnOk result ((s : Setting) → Opens s (listed stack.old)
+        (expr_items s (Expr.Call callee args.now)) (21 + 4 * length args.now) (listed stack.new)) }
 {
     open_arguments(stack, args)?;
     stack.push(&[Work::Under(callee, ExprPrecedence::Postfix)])
@@ -92,7 +98,9 @@ fn open_method_args<'a>(
     stack: &mut Stack<'a>,
     generic_args: &'a Option<Boxed<GenericArgs>>,
 ) -> Result<(), AllocError>
-    ensures { OnOk result ((s : Setting) → Opens s (listed stack.old) (opt (λ a. turbofish (args_items s a)) generic_args.now) (4 + opt_cost args_cost generic_args.now) (listed stack.new)) }
+    ensures { OnOk result ((s : Setting) → Opens s (listed stack.old)
+        (opt (λ a. turbofish (args_items s a)) generic_args.now) (4 + opt_cost args_cost generic_args.now)
+        (listed stack.new)) }
 {
     match generic_args {
         None => Ok(()),
@@ -108,7 +116,9 @@ fn open_method_call<'a>(
     args: &'a [ExprId],
     generic_args: &'a Option<Boxed<GenericArgs>>,
 ) -> Result<(), AllocError>
-    ensures { OnOk result ((s : Setting) → Opens s (listed stack.old) (expr_items s (Expr.MethodCall receiver name.now args.now generic_args.now)) (21 + 4 * length args.now + opt_cost args_cost generic_args.now) (listed stack.new)) }
+    ensures { OnOk result ((s : Setting) → Opens s (listed stack.old)
+        (expr_items s (Expr.MethodCall receiver name.now args.now generic_args.now))
+        (21 + 4 * length args.now + opt_cost args_cost generic_args.now) (listed stack.new)) }
 {
     open_arguments(stack, args)?;
     open_method_args(stack, generic_args)?;
@@ -125,7 +135,8 @@ fn open_match<'a>(
     expr: ExprId,
     arms: &'a [MatchArm],
 ) -> Result<(), AllocError>
-    ensures { OnOk result ((s : Setting) → Opens s (listed stack.old) (expr_items s (Expr.Match expr arms.now)) (21 + 9 * length arms.now) (listed stack.new)) }
+    ensures { OnOk result ((s : Setting) → Opens s (listed stack.old)
+        (expr_items s (Expr.Match expr arms.now)) (21 + 9 * length arms.now) (listed stack.new)) }
 {
     stack.push(&[Work::Outdent, Work::Text("}"), Work::Break])?;
     open_arms(stack, arms)?;
@@ -134,7 +145,8 @@ fn open_match<'a>(
 
 #[inline(never)]
 fn open_continue(stack: &mut Stack<'_>, label: Option<LabelId>) -> Result<(), AllocError>
-    ensures { OnOk result ((s : Setting) → Opens s (listed stack.old) (expr_items s (Expr.Continue label)) (21) (listed stack.new)) }
+    ensures { OnOk result ((s : Setting) → Opens s (listed stack.old) (expr_items s (Expr.Continue label))
+        (21) (listed stack.new)) }
 {
     open_to_label(stack, label)?;
     stack.push(&[Work::Text("continue")])
@@ -146,7 +158,8 @@ fn open_break(
     expr: Option<ExprId>,
     label: Option<LabelId>,
 ) -> Result<(), AllocError>
-    ensures { OnOk result ((s : Setting) → Opens s (listed stack.old) (expr_items s (Expr.Break expr label)) (21) (listed stack.new)) }
+    ensures { OnOk result ((s : Setting) → Opens s (listed stack.old) (expr_items s (Expr.Break expr label))
+        (21) (listed stack.new)) }
 {
     open_operand(stack, expr)?;
     open_to_label(stack, label)?;
@@ -159,7 +172,8 @@ fn open_keyword<'a>(
     keyword: &'a str,
     expr: Option<ExprId>,
 ) -> Result<(), AllocError>
-    ensures { OnOk result ((s : Setting) → Opens s (listed stack.old) (text keyword.now ++ operand expr) (21) (listed stack.new)) }
+    ensures { OnOk result ((s : Setting) → Opens s (listed stack.old) (text keyword.now ++ operand expr) (21)
+        (listed stack.new)) }
 {
     open_operand(stack, expr)?;
     stack.push(&[Work::Text(keyword)])
@@ -167,7 +181,8 @@ fn open_keyword<'a>(
 
 #[inline(never)]
 fn open_yeet(stack: &mut Stack<'_>, expr: Option<ExprId>) -> Result<(), AllocError>
-    ensures { OnOk result ((s : Setting) → Opens s (listed stack.old) (expr_items s (Expr.Yeet expr)) (21) (listed stack.new)) }
+    ensures { OnOk result ((s : Setting) → Opens s (listed stack.old) (expr_items s (Expr.Yeet expr)) (21)
+        (listed stack.new)) }
 {
     open_operand(stack, expr)?;
     stack.push(&[Work::Text("do"), Work::Space, Work::Text("yeet")])
@@ -180,7 +195,9 @@ fn open_record_lit<'a>(
     fields: &'a [RecordLitField],
     spread: RecordSpread,
 ) -> Result<(), AllocError>
-    ensures { OnOk result ((s : Setting) → Opens s (listed stack.old) (expr_items s (Expr.RecordLit path.now fields.now spread)) (21 + 9 * length fields.now + path_cost path.now) (listed stack.new)) }
+    ensures { OnOk result ((s : Setting) → Opens s (listed stack.old)
+        (expr_items s (Expr.RecordLit path.now fields.now spread))
+        (21 + 9 * length fields.now + path_cost path.now) (listed stack.new)) }
 {
     stack.push(&[Work::Outdent, Work::Text("}")])?;
     open_spread(stack, spread)?;
@@ -191,7 +208,8 @@ fn open_record_lit<'a>(
 
 #[inline(never)]
 fn open_field<'a>(stack: &mut Stack<'a>, expr: ExprId, name: &'a Name) -> Result<(), AllocError>
-    ensures { OnOk result ((s : Setting) → Opens s (listed stack.old) (expr_items s (Expr.Field expr name.now)) (21) (listed stack.new)) }
+    ensures { OnOk result ((s : Setting) → Opens s (listed stack.old)
+        (expr_items s (Expr.Field expr name.now)) (21) (listed stack.new)) }
 {
     stack.push(&[
         Work::Under(expr, ExprPrecedence::Postfix),
@@ -202,7 +220,8 @@ fn open_field<'a>(stack: &mut Stack<'a>, expr: ExprId, name: &'a Name) -> Result
 
 #[inline(never)]
 fn open_await(stack: &mut Stack<'_>, expr: ExprId) -> Result<(), AllocError>
-    ensures { OnOk result ((s : Setting) → Opens s (listed stack.old) (expr_items s (Expr.Await expr)) (21) (listed stack.new)) }
+    ensures { OnOk result ((s : Setting) → Opens s (listed stack.old) (expr_items s (Expr.Await expr)) (21)
+        (listed stack.new)) }
 {
     stack.push(&[
         Work::Under(expr, ExprPrecedence::Postfix),
@@ -212,7 +231,8 @@ fn open_await(stack: &mut Stack<'_>, expr: ExprId) -> Result<(), AllocError>
 
 #[inline(never)]
 fn open_cast(stack: &mut Stack<'_>, expr: ExprId, type_ref: TypeRefId) -> Result<(), AllocError>
-    ensures { OnOk result ((s : Setting) → Opens s (listed stack.old) (expr_items s (Expr.Cast expr type_ref)) (21) (listed stack.new)) }
+    ensures { OnOk result ((s : Setting) → Opens s (listed stack.old) (expr_items s (Expr.Cast expr type_ref))
+        (21) (listed stack.new)) }
 {
     stack.push(&[
         Work::Under(expr, ExprPrecedence::Cast),
@@ -237,7 +257,8 @@ fn open_ref(
     rawness: Rawness,
     mutability: Mutability,
 ) -> Result<(), AllocError>
-    ensures { OnOk result ((s : Setting) → Opens s (listed stack.old) (expr_items s (Expr.Ref expr rawness mutability)) (21) (listed stack.new)) }
+    ensures { OnOk result ((s : Setting) → Opens s (listed stack.old)
+        (expr_items s (Expr.Ref expr rawness mutability)) (21) (listed stack.new)) }
 {
     stack.push(&[
         Work::Text("&"),
@@ -249,7 +270,8 @@ fn open_ref(
 
 #[inline(never)]
 fn open_unary(stack: &mut Stack<'_>, expr: ExprId, op: UnaryOp) -> Result<(), AllocError>
-    ensures { OnOk result ((s : Setting) → Opens s (listed stack.old) (expr_items s (Expr.UnaryOp expr op)) (21) (listed stack.new)) }
+    ensures { OnOk result ((s : Setting) → Opens s (listed stack.old) (expr_items s (Expr.UnaryOp expr op))
+        (21) (listed stack.new)) }
 {
     stack.push(&[
         Work::Text(op.as_str()),
@@ -275,7 +297,8 @@ fn open_binary(
     op: Option<BinaryOp>,
     own: ExprPrecedence,
 ) -> Result<(), AllocError>
-    ensures { OnOk result ((s : Setting) → Opens s (listed stack.old) (under own lhs ++ sp ++ operator_items op ++ sp ++ under own rhs) (21) (listed stack.new)) }
+    ensures { OnOk result ((s : Setting) → Opens s (listed stack.old)
+        (under own lhs ++ sp ++ operator_items op ++ sp ++ under own rhs) (21) (listed stack.new)) }
 {
     stack.push(&[
         Work::Under(lhs, own),
@@ -286,7 +309,8 @@ fn open_binary(
 
 #[inline(never)]
 fn open_index(stack: &mut Stack<'_>, base: ExprId, index: ExprId) -> Result<(), AllocError>
-    ensures { OnOk result ((s : Setting) → Opens s (listed stack.old) (expr_items s (Expr.Index base index)) (21) (listed stack.new)) }
+    ensures { OnOk result ((s : Setting) → Opens s (listed stack.old) (expr_items s (Expr.Index base index))
+        (21) (listed stack.new)) }
 {
     stack.push(&[
         Work::Under(base, ExprPrecedence::Postfix),
@@ -297,7 +321,8 @@ fn open_index(stack: &mut Stack<'_>, base: ExprId, index: ExprId) -> Result<(), 
 
 #[inline(never)]
 fn open_tuple<'a>(stack: &mut Stack<'a>, exprs: &'a [ExprId]) -> Result<(), AllocError>
-    ensures { OnOk result ((s : Setting) → Opens s (listed stack.old) (expr_items s (Expr.Tuple exprs.now)) (21 + 3 * length exprs.now) (listed stack.new)) }
+    ensures { OnOk result ((s : Setting) → Opens s (listed stack.old) (expr_items s (Expr.Tuple exprs.now))
+        (21 + 3 * length exprs.now) (listed stack.new)) }
 {
     stack.push(&[Work::Text(")")])?;
     open_elements(stack, exprs)?;
@@ -306,7 +331,8 @@ fn open_tuple<'a>(stack: &mut Stack<'a>, exprs: &'a [ExprId]) -> Result<(), Allo
 
 #[inline(never)]
 fn open_list<'a>(stack: &mut Stack<'a>, elements: &'a [ExprId]) -> Result<(), AllocError>
-    ensures { OnOk result ((s : Setting) → Opens s (listed stack.old) (array_items (Array.ElementList elements.now)) (21 + 3 * length elements.now) (listed stack.new)) }
+    ensures { OnOk result ((s : Setting) → Opens s (listed stack.old)
+        (array_items (Array.ElementList elements.now)) (21 + 3 * length elements.now) (listed stack.new)) }
 {
     match elements {
         [] => stack.push(&[Work::Text("[]")]),
@@ -320,7 +346,8 @@ fn open_list<'a>(stack: &mut Stack<'a>, elements: &'a [ExprId]) -> Result<(), Al
 
 #[inline(never)]
 fn open_repeat(stack: &mut Stack<'_>, initializer: ExprId, repeat: ExprId) -> Result<(), AllocError>
-    ensures { OnOk result ((s : Setting) → Opens s (listed stack.old) (array_items (Array.Repeat initializer repeat)) (21) (listed stack.new)) }
+    ensures { OnOk result ((s : Setting) → Opens s (listed stack.old)
+        (array_items (Array.Repeat initializer repeat)) (21) (listed stack.new)) }
 {
     stack.push(&[
         Work::Level("["),
@@ -334,7 +361,8 @@ fn open_repeat(stack: &mut Stack<'_>, initializer: ExprId, repeat: ExprId) -> Re
 
 #[inline(never)]
 fn open_array<'a>(stack: &mut Stack<'a>, array: &'a Array) -> Result<(), AllocError>
-    ensures { OnOk result ((s : Setting) → Opens s (listed stack.old) (expr_items s (Expr.Array array.now)) (1 + expr_cost (Expr.Array array.now)) (listed stack.new)) }
+    ensures { OnOk result ((s : Setting) → Opens s (listed stack.old) (expr_items s (Expr.Array array.now))
+        (1 + expr_cost (Expr.Array array.now)) (listed stack.new)) }
 {
     match array {
         Array::ElementList { elements } => open_list(stack, elements.as_slice()),
@@ -347,7 +375,8 @@ fn open_array<'a>(stack: &mut Stack<'a>, array: &'a Array) -> Result<(), AllocEr
 
 #[inline(never)]
 fn open_const(stack: &mut Stack<'_>, id: ExprId) -> Result<(), AllocError>
-    ensures { OnOk result ((s : Setting) → Opens s (listed stack.old) (expr_items s (Expr.Const id)) (21) (listed stack.new)) }
+    ensures { OnOk result ((s : Setting) → Opens s (listed stack.old) (expr_items s (Expr.Const id)) (21)
+        (listed stack.new)) }
 {
     stack.push(&[
         Work::Text("const { /* "),
@@ -361,7 +390,8 @@ fn open_const(stack: &mut Stack<'_>, id: ExprId) -> Result<(), AllocError>
 
 #[inline(never)]
 fn open_assignment(stack: &mut Stack<'_>, target: PatId, value: ExprId) -> Result<(), AllocError>
-    ensures { OnOk result ((s : Setting) → Opens s (listed stack.old) (expr_items s (Expr.Assignment target value)) (21) (listed stack.new)) }
+    ensures { OnOk result ((s : Setting) → Opens s (listed stack.old)
+        (expr_items s (Expr.Assignment target value)) (21) (listed stack.new)) }
 {
     stack.push(&[
         Work::Pattern(target),
@@ -372,7 +402,8 @@ fn open_assignment(stack: &mut Stack<'_>, target: PatId, value: ExprId) -> Resul
 
 #[inline(never)]
 fn open_unsafe(stack: &mut Stack<'_>, unsafe_: Unsafe) -> Result<(), AllocError>
-    ensures { OnOk result ((s : Setting) → Opens s (listed stack.old) (unsafe_items unsafe_) (2) (listed stack.new)) }
+    ensures { OnOk result ((s : Setting) → Opens s (listed stack.old) (unsafe_items unsafe_) (2)
+        (listed stack.new)) }
 {
     match unsafe_ {
         Unsafe::Yes => stack.push(&[Work::Text("unsafe ")]),
@@ -387,7 +418,9 @@ fn open_braces<'a>(
     statements: &'a [Statement],
     tail: Option<ExprId>,
 ) -> Result<(), AllocError>
-    ensures { OnOk result ((s : Setting) → Opens s (listed stack.old) (text (codes "{") ++ inside_block statements.now tail ++ text (codes "}")) (9 + 14 * length statements.now) (listed stack.new)) }
+    ensures { OnOk result ((s : Setting) → Opens s (listed stack.old)
+        (text (codes "{") ++ inside_block statements.now tail ++ text (codes "}"))
+        (9 + 14 * length statements.now) (listed stack.new)) }
 {
     match (statements, tail) {
         ([], None) => stack.push(&[Work::Text("{"), Work::Text("}")]),
@@ -409,7 +442,10 @@ fn open_block<'a>(
     label: Option<LabelId>,
     unsafe_: Unsafe,
 ) -> Result<(), AllocError>
-    ensures { OnOk result ((s : Setting) → Opens s (listed stack.old) (sp ++ labelled s label ++ unsafe_items unsafe_ ++ text (codes "{") ++ inside_block statements.now tail ++ text (codes "}")) (21 + 14 * length statements.now) (listed stack.new)) }
+    ensures { OnOk result ((s : Setting) → Opens s (listed stack.old)
+        (sp ++ label_before s label ++ unsafe_items unsafe_ ++ text (codes "{")
+        ++ inside_block statements.now tail ++ text (codes "}")) (21 + 14 * length statements.now)
+        (listed stack.new)) }
 {
     open_braces(stack, statements, tail)?;
     open_unsafe(stack, unsafe_)?;
@@ -419,14 +455,16 @@ fn open_block<'a>(
 
 #[inline(never)]
 fn open_text<'a>(stack: &mut Stack<'a>, shown: &'a str) -> Result<(), AllocError>
-    ensures { OnOk result ((s : Setting) → Opens s (listed stack.old) (text shown.now) (21) (listed stack.new)) }
+    ensures { OnOk result ((s : Setting) → Opens s (listed stack.old) (text shown.now) (21)
+        (listed stack.new)) }
 {
     stack.push(&[Work::Text(shown)])
 }
 
 #[inline(never)]
 fn open_literal<'a>(stack: &mut Stack<'a>, literal: &'a Literal) -> Result<(), AllocError>
-    ensures { OnOk result ((s : Setting) → Opens s (listed stack.old) (literal_items literal.now) (21) (listed stack.new)) }
+    ensures { OnOk result ((s : Setting) → Opens s (listed stack.old) (literal_items literal.now) (21)
+        (listed stack.new)) }
 {
     stack.push(&[Work::Literal(literal)])
 }
@@ -434,7 +472,8 @@ fn open_literal<'a>(stack: &mut Stack<'a>, literal: &'a Literal) -> Result<(), A
 /// Puts the items of an expression on the stack.
 #[inline(never)]
 pub(crate) fn open_expr<'a>(stack: &mut Stack<'a>, expr: &'a Expr) -> Result<(), AllocError>
-    ensures { OnOk result ((s : Setting) → Opens s (listed stack.old) (expr_items s expr.now) (1 + expr_cost expr.now) (listed stack.new)) }
+    ensures { OnOk result ((s : Setting) → Opens s (listed stack.old) (expr_items s expr.now)
+        (1 + expr_cost expr.now) (listed stack.new)) }
 {
     match expr {
         Expr::Missing => open_text(stack, "\u{fffd}"),

@@ -29,7 +29,8 @@ fn has_printed_name(words: &[Text], name: &str, binding: &Binding) -> bool
 
 fn binds_name(store: &ExpressionStore, words: &[Text], name: &str, id: BindingId) -> bool
     ensures { (tables : Questions) (one_line : Bool) → result
-        ≡ has_printed_name (setting store.now tables words.now one_line) name.now (slice_get store.now.nodes.bindings id) }
+        ≡ has_printed_name (setting store.now tables words.now one_line) name.now
+        (slice_get store.now.nodes.bindings id) }
 {
     if store.has_binding(id) {
         return has_printed_name(words, name, &store[id]);
@@ -50,7 +51,8 @@ fn is_short_pat(store: &ExpressionStore, words: &[Text], name: &str, pat: &Pat) 
 /// Whether a field's pattern binds its name as it is printed, so that the name alone is printed.
 fn is_short(store: &ExpressionStore, words: &[Text], field: &RecordFieldPat) -> bool
     ensures { (tables : Questions) (one_line : Bool) → result
-        ≡ is_short (setting store.now tables words.now one_line) field.now.name (slice_get store.now.nodes.pats field.now.pat) }
+        ≡ is_short (setting store.now tables words.now one_line) field.now.name
+        (slice_get store.now.nodes.pats field.now.pat) }
 {
     if store.has_pat(field.pat) {
         return is_short_pat(store, words, field.name.as_str(), &store[field.pat]);
@@ -64,7 +66,8 @@ fn open_field<'a>(
     words: &[Text],
     field: &'a RecordFieldPat,
 ) -> Result<(), AllocError>
-    ensures { OnOk result ((tables : Questions) (one_line : Bool) → let s = setting store.now tables words.now one_line in
+    ensures { OnOk result ((tables : Questions) (one_line : Bool)
+        → let s = setting store.now tables words.now one_line in
         Opens s (listed stack.old) (field_pattern s field.now) 7 (listed stack.new)) }
 {
     if is_short(store, words, field) {
@@ -84,7 +87,8 @@ fn open_last_field<'a>(
     field: &'a RecordFieldPat,
     rest: bool,
 ) -> Result<(), AllocError>
-    ensures { OnOk result ((store : Contents) (tables : Questions) (words : List (List ℕ)) → let s = setting store tables words one_line in
+    ensures { OnOk result ((store : Contents) (tables : Questions) (words : List (List ℕ))
+        → let s = setting store tables words one_line in
         Opens s (listed stack.old) (field_patterns s rest (field.now ∷ [])) 11 (listed stack.new)) }
 {
     if rest {
@@ -110,8 +114,10 @@ fn open_fields<'a>(
     fields: &'a [RecordFieldPat],
     rest: bool,
 ) -> Result<(), AllocError>
-    ensures { OnOk result ((store : Contents) (tables : Questions) (words : List (List ℕ)) → let s = setting store tables words one_line in
-        Opens s (listed stack.old) (field_patterns s rest fields.now) (1 + 10 * length fields.now) (listed stack.new)) }
+    ensures { OnOk result ((store : Contents) (tables : Questions) (words : List (List ℕ))
+        → let s = setting store tables words one_line in
+        Opens s (listed stack.old) (field_patterns s rest fields.now) (1 + 10 * length fields.now)
+        (listed stack.new)) }
 {
     match fields {
         [] => Ok(()),

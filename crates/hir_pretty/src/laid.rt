@@ -13,7 +13,8 @@ use std::alloc::AllocError;
 /// Writes a text, and the next level.
 #[inline(always)]
 pub(crate) fn write_level<W: PieceWriter>(writer: &mut W, text: &str) -> Result<(), AllocError>
-    ensures { Writes W.step W.refuses writer.old (piece.Text text.now ∷ piece.Indent ∷ []) (is_ok result) writer.new }
+    ensures { Writes W.step W.refuses writer.old (piece.Text text.now ∷ piece.Indent ∷ [])
+        (is_ok result) writer.new }
 {
     writer.text(text)?;
     writer.indent()?;
@@ -23,7 +24,8 @@ pub(crate) fn write_level<W: PieceWriter>(writer: &mut W, text: &str) -> Result<
 /// Writes an operator with a soft space before it and behind it.
 #[inline(always)]
 pub(crate) fn write_spaced<W: PieceWriter>(writer: &mut W, operator: &str) -> Result<(), AllocError>
-    ensures { Writes W.step W.refuses writer.old (piece.SoftSpace ∷ piece.Text operator.now ∷ piece.SoftSpace ∷ []) (is_ok result) writer.new }
+    ensures { Writes W.step W.refuses writer.old
+        (piece.SoftSpace ∷ piece.Text operator.now ∷ piece.SoftSpace ∷ []) (is_ok result) writer.new }
 {
     writer.soft_space()?;
     writer.text(operator)?;
@@ -34,7 +36,8 @@ pub(crate) fn write_spaced<W: PieceWriter>(writer: &mut W, operator: &str) -> Re
 /// Writes the end of a block that has something in it.
 #[inline(always)]
 pub(crate) fn write_block_end<W: PieceWriter>(writer: &mut W) -> Result<(), AllocError>
-    ensures { Writes W.step W.refuses writer.old (piece.Break ∷ piece.Outdent ∷ piece.Text (codes "}") ∷ []) (is_ok result) writer.new }
+    ensures { Writes W.step W.refuses writer.old (piece.Break ∷ piece.Outdent ∷ piece.Text (codes "}") ∷ [])
+        (is_ok result) writer.new }
 {
     writer.line_break()?;
     writer.outdent()?;
@@ -45,7 +48,8 @@ pub(crate) fn write_block_end<W: PieceWriter>(writer: &mut W) -> Result<(), Allo
 /// Writes a text, and the end of the line.
 #[inline(always)]
 fn write_line<W: PieceWriter>(writer: &mut W, end: &str) -> Result<(), AllocError>
-    ensures { Writes W.step W.refuses writer.old (piece.Text end.now ∷ piece.Break ∷ []) (is_ok result) writer.new }
+    ensures { Writes W.step W.refuses writer.old (piece.Text end.now ∷ piece.Break ∷ [])
+        (is_ok result) writer.new }
 {
     writer.text(end)?;
     writer.line_break()?;

@@ -22,7 +22,8 @@ pub(crate) fn write_literal<W: PieceWriter>(
     writer: &mut W,
     literal: &Literal,
 ) -> Result<(), AllocError>
-    ensures { Writes W.step W.refuses writer.old (put_pieces (literal_items literal.now)) (is_ok result) writer.new }
+    ensures { Writes W.step W.refuses writer.old (put_pieces (literal_items literal.now))
+        (is_ok result) writer.new }
 {
     match literal {
         Literal::String(text) => write_string_literal(writer, text.as_str()),
@@ -48,7 +49,8 @@ pub(crate) fn write_literal<W: PieceWriter>(
 }
 
 fn write_int<W: PieceWriter>(writer: &mut W, number: i128) -> Result<(), AllocError>
-    ensures { Writes W.step W.refuses writer.old (piece.Text (signed_decimal number) ∷ []) (is_ok result) writer.new }
+    ensures { Writes W.step W.refuses writer.old (piece.Text (signed_decimal number) ∷ [])
+        (is_ok result) writer.new }
 {
     write_number(writer, number)
 }
@@ -58,7 +60,8 @@ fn write_suffixed_int<W: PieceWriter>(
     number: i128,
     suffix: &str,
 ) -> Result<(), AllocError>
-    ensures { Writes W.step W.refuses writer.old (piece.Text (signed_decimal number) ∷ piece.Text suffix.now ∷ [])
+    ensures { Writes W.step W.refuses writer.old
+        (piece.Text (signed_decimal number) ∷ piece.Text suffix.now ∷ [])
         (is_ok result) writer.new }
 {
     write_int(writer, number)?;

@@ -30,7 +30,8 @@ fn open_found<'a>(
     default: &'a str,
     found: Option<&'a Text>,
 ) -> Result<(), AllocError>
-    ensures { OnOk result ((s : Setting) → Opens s (listed stack.old) (found_name default.now (Ok (option_copied found.entry))) 2 (listed stack.new)) }
+    ensures { OnOk result ((s : Setting) → Opens s (listed stack.old)
+        (found_name default.now (Ok (option_copied found.entry))) 2 (listed stack.new)) }
 {
     match found {
         None => stack.push(&[Work::Text(default)]),
@@ -43,7 +44,8 @@ fn open_def_name<'a, D: Definitions>(
     tables: &'a D,
     def: NamedDef,
 ) -> Result<(), AllocError>
-    ensures { OnOk result (OpensAsked (D.answers tables.now) (listed stack.old) (λ s. look_items s (Look.NameOf def)) 2 (listed stack.new)) }
+    ensures { OnOk result (OpensAsked (D.answers tables.now) (listed stack.old)
+        (λ s. look_items s (Look.NameOf def)) 2 (listed stack.new)) }
 {
     match tables.def_name(def) {
         Ok(found) => open_found(stack, "<missing>", found),
@@ -56,7 +58,8 @@ fn open_crate_name<'a, D: Definitions>(
     tables: &'a D,
     id: CrateId,
 ) -> Result<(), AllocError>
-    ensures { OnOk result (OpensAsked (D.answers tables.now) (listed stack.old) (λ s. look_items s (Look.CrateName id)) 2 (listed stack.new)) }
+    ensures { OnOk result (OpensAsked (D.answers tables.now) (listed stack.old)
+        (λ s. look_items s (Look.CrateName id)) 2 (listed stack.new)) }
 {
     match tables.name_of_crate(id) {
         Ok(found) => open_found(stack, "$crate", found),
@@ -70,7 +73,8 @@ fn open_param_name<'a>(
     number: u32,
     found: Option<&'a Name>,
 ) -> Result<(), AllocError>
-    ensures { OnOk result ((s : Setting) → Opens s (listed stack.old) (type_param_items s number (Ok (option_copied found.entry))) 5 (listed stack.new)) }
+    ensures { OnOk result ((s : Setting) → Opens s (listed stack.old)
+        (type_param_items s number (Ok (option_copied found.entry))) 5 (listed stack.new)) }
 {
     match found {
         None => stack.push(&[
@@ -87,7 +91,8 @@ fn open_type_param<'a, D: Definitions>(
     tables: &'a D,
     id: TypeParamId,
 ) -> Result<(), AllocError>
-    ensures { OnOk result (OpensAsked (D.answers tables.now) (listed stack.old) (λ s. look_items s (Look.TypeParam id)) 5 (listed stack.new)) }
+    ensures { OnOk result (OpensAsked (D.answers tables.now) (listed stack.old)
+        (λ s. look_items s (Look.TypeParam id)) 5 (listed stack.new)) }
 {
     match tables.type_param(id) {
         Ok(found) => open_param_name(stack, id.local_id().into_raw(), found),
@@ -100,7 +105,8 @@ fn open_lifetime_param<'a, D: Definitions>(
     tables: &'a D,
     id: LifetimeParamId,
 ) -> Result<(), AllocError>
-    ensures { OnOk result (OpensAsked (D.answers tables.now) (listed stack.old) (λ s. look_items s (Look.LifetimeParam id)) 5 (listed stack.new)) }
+    ensures { OnOk result (OpensAsked (D.answers tables.now) (listed stack.old)
+        (λ s. look_items s (Look.LifetimeParam id)) 5 (listed stack.new)) }
 {
     match tables.lifetime_param(id) {
         Ok(name) => stack.push(&[Work::Name(name.as_str())]),
@@ -109,7 +115,8 @@ fn open_lifetime_param<'a, D: Definitions>(
 }
 
 fn open_lifetime_ref<'a>(stack: &mut Stack<'a>, lifetime: &'a LifetimeRef) -> Result<(), AllocError>
-    ensures { OnOk result ((s : Setting) → Opens s (listed stack.old) (lifetime_items s lifetime.now) 7 (listed stack.new)) }
+    ensures { OnOk result ((s : Setting) → Opens s (listed stack.old) (lifetime_items s lifetime.now) 7
+        (listed stack.new)) }
 {
     match lifetime {
         LifetimeRef::Named(name) => stack.push(&[Work::Name(name.as_str())]),
@@ -135,7 +142,8 @@ fn open_lifetime<'a>(
 }
 
 fn open_of_label<'a>(stack: &mut Stack<'a>, label: &'a Label) -> Result<(), AllocError>
-    ensures { OnOk result ((s : Setting) → Opens s (listed stack.old) (name_items s label.now.name) 5 (listed stack.new)) }
+    ensures { OnOk result ((s : Setting) → Opens s (listed stack.old) (name_items s label.now.name) 5
+        (listed stack.new)) }
 {
     stack.push(&[Work::Name(label.name.as_str())])
 }
@@ -145,7 +153,8 @@ fn open_label<'a>(
     store: &'a ExpressionStore,
     id: LabelId,
 ) -> Result<(), AllocError>
-    ensures { OnOk result (OpensInStore store.now (listed stack.old) (λ s. label_items s id) 5 (listed stack.new)) }
+    ensures { OnOk result (OpensInStore store.now (listed stack.old) (λ s. label_items s id) 5
+        (listed stack.new)) }
 {
     if store.has_label(id) {
         open_of_label(stack, &store[id])?;
@@ -170,7 +179,8 @@ fn write_of_binding<W: PieceWriter>(
     words: &[Text],
     binding: &Binding,
 ) -> Result<(), AllocError>
-    ensures { Writes W.step W.refuses writer.old (map piece.Text (binding_texts words.now binding.now)) (is_ok result) writer.new }
+    ensures { Writes W.step W.refuses writer.old (map piece.Text (binding_texts words.now binding.now))
+        (is_ok result) writer.new }
 {
     writer.text(annotation_text(binding.mode))?;
     write_name(writer, words, binding.name.as_str())
@@ -184,7 +194,8 @@ pub(crate) fn write_binding<W: PieceWriter>(
     words: &[Text],
     id: BindingId,
 ) -> Result<(), AllocError>
-    ensures { Writes W.step W.refuses writer.old (map piece.Text (opt_texts (binding_texts words.now) (slice_get store.now.nodes.bindings id)))
+    ensures { Writes W.step W.refuses writer.old
+        (map piece.Text (opt_texts (binding_texts words.now) (slice_get store.now.nodes.bindings id)))
         (is_ok result) writer.new }
 {
     if store.has_binding(id) {
@@ -236,7 +247,8 @@ pub(crate) fn open_look<'a, D: Definitions>(
     tables: &'a D,
     look: &Look,
 ) -> Result<(), AllocError>
-    ensures { OnOk result (OpensWith store.now (D.answers tables.now) (listed stack.old) (λ s. look_items s look.now) (look_cost look.now) (listed stack.new)) }
+    ensures { OnOk result (OpensWith store.now (D.answers tables.now) (listed stack.old)
+        (λ s. look_items s look.now) (look_cost look.now) (listed stack.new)) }
 {
     match look {
         Look::NameOf(def) => open_def_name(stack, tables, *def),

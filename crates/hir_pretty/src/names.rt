@@ -35,7 +35,8 @@ fn without_quote(name: &str) -> Option<&str>
 /// Writes a name with `r#` before it.
 #[inline(never)]
 fn write_marked<W: PieceWriter>(writer: &mut W, name: &str) -> Result<(), AllocError>
-    ensures { Writes W.step W.refuses writer.old (piece.Text (codes "r#") ∷ piece.Text name.now ∷ []) (is_ok result) writer.new }
+    ensures { Writes W.step W.refuses writer.old (piece.Text (codes "r#") ∷ piece.Text name.now ∷ [])
+        (is_ok result) writer.new }
 {
     writer.text("r#")?;
     writer.text(name)?;
@@ -45,7 +46,8 @@ fn write_marked<W: PieceWriter>(writer: &mut W, name: &str) -> Result<(), AllocE
 /// Writes a name, with `r#` before it where the words list it.
 #[inline(always)]
 fn write_raw<W: PieceWriter>(writer: &mut W, words: &[Text], name: &str) -> Result<(), AllocError>
-    ensures { Writes W.step W.refuses writer.old (map piece.Text (raw_parts words.now name.now)) (is_ok result) writer.new }
+    ensures { Writes W.step W.refuses writer.old (map piece.Text (raw_parts words.now name.now))
+        (is_ok result) writer.new }
 {
     if is_word(words, name) {
         return write_marked(writer, name);
@@ -63,7 +65,8 @@ fn write_quoted<W: PieceWriter>(
     rest: &str,
 ) -> Result<(), AllocError>
     requires { name.now ≡ 39 ∷ rest.now }
-    ensures { Writes W.step W.refuses writer.old (map piece.Text (name_parts words.now name.now)) (is_ok result) writer.new }
+    ensures { Writes W.step W.refuses writer.old (map piece.Text (name_parts words.now name.now))
+        (is_ok result) writer.new }
 {
     if rest == "static" {
         writer.text(name)?;
@@ -80,7 +83,8 @@ pub(crate) fn write_name<W: PieceWriter>(
     words: &[Text],
     name: &str,
 ) -> Result<(), AllocError>
-    ensures { Writes W.step W.refuses writer.old (map piece.Text (name_parts words.now name.now)) (is_ok result) writer.new }
+    ensures { Writes W.step W.refuses writer.old (map piece.Text (name_parts words.now name.now))
+        (is_ok result) writer.new }
 {
     match without_quote(name) {
         None => write_raw(writer, words, name),

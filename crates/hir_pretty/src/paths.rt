@@ -3,9 +3,9 @@
 
 ghost use Rattle.std.specs.Prelude.{◌≡◌, ◌+◌, ◌*◌, ◌++◌, [], OnOk, length, map, codes};
 ghost use Rattle.hir_pretty.specs.Questions.{Setting};
-ghost use Rattle.hir_pretty.specs.Items.{text, opt, joined, comma_joined};
+ghost use Rattle.hir_pretty.specs.Items.{text, opt, join, comma_joined};
 ghost use Rattle.hir_pretty.specs.Names.{name_items};
-ghost use Rattle.hir_pretty.specs.Paths.{bounds_after, arg_items, args_items, assoc_items, each_arg, turbofish, path_items, kind_items, supers, target_items, segments_from, anchored, start_items, colons_first};
+ghost use Rattle.hir_pretty.specs.Paths.{bounds_after, arg_items, args_items, assoc_items, each_arg, turbofish, path_items, kind_items, supers, target_items, segments_from, from_start, start_items, colons_first};
 ghost use Rattle.hir_pretty.specs.Costs.{bounds_cost, args_cost, assoc_cost, rest_cost, turbofish_cost, segments_cost, kind_cost, path_cost};
 ghost use Rattle.hir_pretty.specs.Works.{listed, Opens, path_part_items, path_part_cost};
 
@@ -18,7 +18,8 @@ use std::alloc::AllocError;
 
 /// Puts the items of a path on the stack.
 pub(crate) fn open_path<'a>(stack: &mut Stack<'a>, path: &'a Path) -> Result<(), AllocError>
-    ensures { OnOk result ((s : Setting) → Opens s (listed stack.old) (path_items s path.now) (path_cost path.now) (listed stack.new)) }
+    ensures { OnOk result ((s : Setting) → Opens s (listed stack.old) (path_items s path.now)
+        (path_cost path.now) (listed stack.new)) }
 {
     match path {
         Path::BarePath(path) => stack.push(&[
@@ -41,7 +42,10 @@ fn colons_first(kind: PathKind) -> bool
 }
 
 fn open_normal<'a>(stack: &mut Stack<'a>, path: &'a NormalPath) -> Result<(), AllocError>
-    ensures { OnOk result ((s : Setting) → Opens s (listed stack.old) (anchored s path.now.mod_path (start_items s path.now.type_anchor path.now.mod_path.kind) path.now.generic_args) (5 + kind_cost path.now.mod_path.kind + segments_cost path.now.mod_path.segments path.now.generic_args) (listed stack.new)) }
+    ensures { OnOk result ((s : Setting) → Opens s (listed stack.old)
+        (from_start s path.now.mod_path (start_items s path.now.type_anchor path.now.mod_path.kind)
+        path.now.generic_args) (5 + kind_cost path.now.mod_path.kind
+        + segments_cost path.now.mod_path.segments path.now.generic_args) (listed stack.new)) }
 {
     let after = colons_first(path.mod_path.kind());
     let lists = path.generic_args.as_slice();
@@ -64,7 +68,8 @@ fn open_lang_item<'a>(
     target: LangItemTarget,
     name: &'a Option<Boxed<Name>>,
 ) -> Result<(), AllocError>
-    ensures { OnOk result ((s : Setting) → Opens s (listed stack.old) (path_items s (Path.LangItem target name.now)) (20) (listed stack.new)) }
+    ensures { OnOk result ((s : Setting) → Opens s (listed stack.old)
+        (path_items s (Path.LangItem target name.now)) (20) (listed stack.new)) }
 {
     match name {
         None => stack.push(&[
@@ -83,7 +88,8 @@ fn open_lang_item<'a>(
 }
 
 fn open_kind(stack: &mut Stack<'_>, kind: PathKind) -> Result<(), AllocError>
-    ensures { OnOk result ((s : Setting) → Opens s (listed stack.old) (kind_items s kind) (kind_cost kind) (listed stack.new)) }
+    ensures { OnOk result ((s : Setting) → Opens s (listed stack.old) (kind_items s kind) (kind_cost kind)
+        (listed stack.new)) }
 {
     match kind {
         PathKind::Plain => Ok(()),
@@ -95,7 +101,8 @@ fn open_kind(stack: &mut Stack<'_>, kind: PathKind) -> Result<(), AllocError>
 }
 
 fn open_supers(stack: &mut Stack<'_>, n: u8) -> Result<(), AllocError>
-    ensures { OnOk result ((s : Setting) → Opens s (listed stack.old) (supers n) (2 + 2 * n) (listed stack.new)) }
+    ensures { OnOk result ((s : Setting) → Opens s (listed stack.old) (supers n) (2 + 2 * n)
+        (listed stack.new)) }
 {
     if n == 0 {
         return stack.push(&[Work::Text("self")]);
@@ -107,7 +114,8 @@ fn open_supers(stack: &mut Stack<'_>, n: u8) -> Result<(), AllocError>
 }
 
 fn open_target(stack: &mut Stack<'_>, target: LangItemTarget) -> Result<(), AllocError>
-    ensures { OnOk result ((s : Setting) → Opens s (listed stack.old) (target_items s target) (5) (listed stack.new)) }
+    ensures { OnOk result ((s : Setting) → Opens s (listed stack.old) (target_items s target) (5)
+        (listed stack.new)) }
 {
     match target {
         LangItemTarget::ImplId(id) => stack.push(&[
@@ -153,7 +161,8 @@ fn open_segments<'a>(
     names: &'a [Name],
     lists: &'a [Option<GenericArgs>],
 ) -> Result<(), AllocError>
-    ensures { OnOk result ((s : Setting) → Opens s (listed stack.old) (segments_from s after names.now lists.now) (segments_cost names.now lists.now) (listed stack.new)) }
+    ensures { OnOk result ((s : Setting) → Opens s (listed stack.old)
+        (segments_from s after names.now lists.now) (segments_cost names.now lists.now) (listed stack.new)) }
 {
     match (names, lists) {
         ([], _) => Ok(()),
@@ -176,7 +185,9 @@ fn open_names<'a>(
     between: &'a str,
     names: &'a [Name],
 ) -> Result<(), AllocError>
-    ensures { OnOk result ((s : Setting) → Opens s (listed stack.old) (joined (text between.now) (map (name_items s) names.now)) (1 + 6 * length names.now) (listed stack.new)) }
+    ensures { OnOk result ((s : Setting) → Opens s (listed stack.old)
+        (join (text between.now) (map (name_items s) names.now)) (1 + 6 * length names.now)
+        (listed stack.new)) }
 {
     match names {
         [] => Ok(()),
@@ -193,7 +204,8 @@ fn open_turbofish<'a>(
     stack: &mut Stack<'a>,
     args: &'a Option<GenericArgs>,
 ) -> Result<(), AllocError>
-    ensures { OnOk result ((s : Setting) → Opens s (listed stack.old) (opt (λ a. turbofish (args_items s a)) args.now) (turbofish_cost args.now) (listed stack.new)) }
+    ensures { OnOk result ((s : Setting) → Opens s (listed stack.old)
+        (opt (λ a. turbofish (args_items s a)) args.now) (turbofish_cost args.now) (listed stack.new)) }
 {
     match args {
         None => Ok(()),
@@ -202,7 +214,8 @@ fn open_turbofish<'a>(
 }
 
 fn open_fish<'a>(stack: &mut Stack<'a>, args: &'a GenericArgs) -> Result<(), AllocError>
-    ensures { OnOk result ((s : Setting) → Opens s (listed stack.old) (turbofish (args_items s args.now)) (3 + args_cost args.now) (listed stack.new)) }
+    ensures { OnOk result ((s : Setting) → Opens s (listed stack.old) (turbofish (args_items s args.now))
+        (3 + args_cost args.now) (listed stack.new)) }
 {
     stack.push(&[
         Work::Text("::<"),
@@ -212,7 +225,8 @@ fn open_fish<'a>(stack: &mut Stack<'a>, args: &'a GenericArgs) -> Result<(), All
 }
 
 fn open_args<'a>(stack: &mut Stack<'a>, args: &'a GenericArgs) -> Result<(), AllocError>
-    ensures { OnOk result ((s : Setting) → Opens s (listed stack.old) (args_items s args.now) (args_cost args.now) (listed stack.new)) }
+    ensures { OnOk result ((s : Setting) → Opens s (listed stack.old) (args_items s args.now)
+        (args_cost args.now) (listed stack.new)) }
 {
     open_each(
         stack,
@@ -228,7 +242,9 @@ fn open_each<'a>(
     args: &'a [GenericArg],
     bindings: &'a [AssociatedTypeBinding],
 ) -> Result<(), AllocError>
-    ensures { OnOk result ((s : Setting) → Opens s (listed stack.old) (comma_joined (each_arg s has_self_type args.now ++ map (assoc_items s) bindings.now)) (2 + rest_cost args.now (map assoc_cost bindings.now)) (listed stack.new)) }
+    ensures { OnOk result ((s : Setting) → Opens s (listed stack.old)
+        (comma_joined (each_arg s has_self_type args.now ++ map (assoc_items s) bindings.now))
+        (2 + rest_cost args.now (map assoc_cost bindings.now)) (listed stack.new)) }
 {
     match args {
         [] => stack.push(&[Work::Path(PathPart::ArgsRest(args, bindings))]),
@@ -249,7 +265,9 @@ fn open_args_rest<'a>(
     args: &'a [GenericArg],
     bindings: &'a [AssociatedTypeBinding],
 ) -> Result<(), AllocError>
-    ensures { OnOk result ((s : Setting) → Opens s (listed stack.old) (comma_joined (map (arg_items s) args.now ++ map (assoc_items s) bindings.now)) (rest_cost args.now (map assoc_cost bindings.now)) (listed stack.new)) }
+    ensures { OnOk result ((s : Setting) → Opens s (listed stack.old)
+        (comma_joined (map (arg_items s) args.now ++ map (assoc_items s) bindings.now))
+        (rest_cost args.now (map assoc_cost bindings.now)) (listed stack.new)) }
 {
     match args {
         [] => open_assocs(stack, bindings),
@@ -270,7 +288,9 @@ fn open_assocs<'a>(
     stack: &mut Stack<'a>,
     bindings: &'a [AssociatedTypeBinding],
 ) -> Result<(), AllocError>
-    ensures { OnOk result ((s : Setting) → Opens s (listed stack.old) (comma_joined (map (assoc_items s) bindings.now)) (rest_cost [] (map assoc_cost bindings.now)) (listed stack.new)) }
+    ensures { OnOk result ((s : Setting) → Opens s (listed stack.old)
+        (comma_joined (map (assoc_items s) bindings.now)) (rest_cost [] (map assoc_cost bindings.now))
+        (listed stack.new)) }
 {
     match bindings {
         [] => Ok(()),
@@ -284,7 +304,8 @@ fn open_assocs<'a>(
 }
 
 fn open_arg(stack: &mut Stack<'_>, arg: GenericArg) -> Result<(), AllocError>
-    ensures { OnOk result ((s : Setting) → Opens s (listed stack.old) (arg_items s arg) (8) (listed stack.new)) }
+    ensures { OnOk result ((s : Setting) → Opens s (listed stack.old) (arg_items s arg) (8)
+        (listed stack.new)) }
 {
     match arg {
         GenericArg::Ty(id) => stack.push(&[Work::Type(id)]),
@@ -300,7 +321,8 @@ fn open_assoc<'a>(
     stack: &mut Stack<'a>,
     binding: &'a AssociatedTypeBinding,
 ) -> Result<(), AllocError>
-    ensures { OnOk result ((s : Setting) → Opens s (listed stack.old) (assoc_items s binding.now) (assoc_cost binding.now) (listed stack.new)) }
+    ensures { OnOk result ((s : Setting) → Opens s (listed stack.old) (assoc_items s binding.now)
+        (assoc_cost binding.now) (listed stack.new)) }
 {
     stack.push(&[
         Work::Name(binding.name.as_str()),
@@ -311,7 +333,8 @@ fn open_assoc<'a>(
 }
 
 fn open_bounds_after<'a>(stack: &mut Stack<'a>, bounds: &'a [TypeBound]) -> Result<(), AllocError>
-    ensures { OnOk result ((s : Setting) → Opens s (listed stack.old) (bounds_after s bounds.now) (2 + bounds_cost bounds.now) (listed stack.new)) }
+    ensures { OnOk result ((s : Setting) → Opens s (listed stack.old) (bounds_after s bounds.now)
+        (2 + bounds_cost bounds.now) (listed stack.new)) }
 {
     match bounds {
         [] => Ok(()),
@@ -324,7 +347,8 @@ pub(crate) fn open_path_part<'a>(
     stack: &mut Stack<'a>,
     part: &PathPart<'a>,
 ) -> Result<(), AllocError>
-    ensures { OnOk result ((s : Setting) → Opens s (listed stack.old) (path_part_items s part.now) (path_part_cost part.now) (listed stack.new)) }
+    ensures { OnOk result ((s : Setting) → Opens s (listed stack.old) (path_part_items s part.now)
+        (path_part_cost part.now) (listed stack.new)) }
 {
     match part {
         PathPart::Whole(path) => open_path(stack, *path),

@@ -4,7 +4,7 @@
 ghost use Rattle.std.specs.Prelude.{◌+◌, ◌*◌, ◌++◌, Some, OnOk, length, map, codes};
 ghost use Rattle.std.specs.List.{flat_map};
 ghost use Rattle.hir_pretty.specs.Questions.{Setting};
-ghost use Rattle.hir_pretty.specs.Items.{p, text, under, opt, joined, comma_joined};
+ghost use Rattle.hir_pretty.specs.Items.{p, text, under, opt, join, comma_joined};
 ghost use Rattle.hir_pretty.specs.Paths.{path_items};
 ghost use Rattle.hir_pretty.specs.Pats.{with_rest, in_parentheses, pat_items};
 ghost use Rattle.hir_pretty.specs.Costs.{path_cost, pat_cost};
@@ -17,7 +17,8 @@ use hir_node::{BindingId, ExprId, Pat, PatId, Path, RecordFieldPat};
 use std::alloc::AllocError;
 
 pub(crate) fn open_range_end(stack: &mut Stack<'_>, expr: Option<ExprId>) -> Result<(), AllocError>
-    ensures { OnOk result ((s : Setting) → Opens s (listed stack.old) (opt (under ExprPrecedence.Shift) expr) (6) (listed stack.new)) }
+    ensures { OnOk result ((s : Setting) → Opens s (listed stack.old) (opt (under ExprPrecedence.Shift) expr)
+        (6) (listed stack.new)) }
 {
     match expr {
         None => Ok(()),
@@ -26,7 +27,8 @@ pub(crate) fn open_range_end(stack: &mut Stack<'_>, expr: Option<ExprId>) -> Res
 }
 
 pub(crate) fn open_elements<'a>(stack: &mut Stack<'a>, pats: &'a [PatId]) -> Result<(), AllocError>
-    ensures { OnOk result ((s : Setting) → Opens s (listed stack.old) (flat_map (λ id. p id ++ text (codes ", ")) pats.now) (1 + 3 * length pats.now) (listed stack.new)) }
+    ensures { OnOk result ((s : Setting) → Opens s (listed stack.old)
+        (flat_map (λ id. p id ++ text (codes ", ")) pats.now) (1 + 3 * length pats.now) (listed stack.new)) }
 {
     match pats {
         [] => Ok(()),
@@ -44,7 +46,8 @@ pub(crate) fn open_joined<'a>(
     between: &'a str,
     pats: &'a [PatId],
 ) -> Result<(), AllocError>
-    ensures { OnOk result ((s : Setting) → Opens s (listed stack.old) (joined (text between.now) (map p pats.now)) (1 + 3 * length pats.now) (listed stack.new)) }
+    ensures { OnOk result ((s : Setting) → Opens s (listed stack.old)
+        (join (text between.now) (map p pats.now)) (1 + 3 * length pats.now) (listed stack.new)) }
 {
     match pats {
         [] => Ok(()),
@@ -62,7 +65,8 @@ pub(crate) fn open_with_rest<'a>(
     pats: &'a [PatId],
     at: u32,
 ) -> Result<(), AllocError>
-    ensures { OnOk result ((s : Setting) → Opens s (listed stack.old) (comma_joined (with_rest (Some at) (map p pats.now))) (4 + 3 * length pats.now) (listed stack.new)) }
+    ensures { OnOk result ((s : Setting) → Opens s (listed stack.old)
+        (comma_joined (with_rest (Some at) (map p pats.now))) (4 + 3 * length pats.now) (listed stack.new)) }
 {
     match pats {
         [] => stack.push(&[Work::Text("..")]),
@@ -88,7 +92,8 @@ fn open_parentheses<'a>(
     pats: &'a [PatId],
     rest: Option<u32>,
 ) -> Result<(), AllocError>
-    ensures { OnOk result ((s : Setting) → Opens s (listed stack.old) (in_parentheses rest pats.now) (7 + 3 * length pats.now) (listed stack.new)) }
+    ensures { OnOk result ((s : Setting) → Opens s (listed stack.old) (in_parentheses rest pats.now)
+        (7 + 3 * length pats.now) (listed stack.new)) }
 {
     match rest {
         None => stack.push(&[Work::Text("("), Work::Patterns(", ", pats), Work::Text(")")]),
@@ -106,7 +111,8 @@ fn open_tuple_struct<'a>(
     pats: &'a [PatId],
     rest: Option<u32>,
 ) -> Result<(), AllocError>
-    ensures { OnOk result ((s : Setting) → Opens s (listed stack.old) (path_items s path.now ++ in_parentheses rest pats.now) (8 + 3 * length pats.now + path_cost path.now) (listed stack.new)) }
+    ensures { OnOk result ((s : Setting) → Opens s (listed stack.old) (path_items s path.now
+        ++ in_parentheses rest pats.now) (8 + 3 * length pats.now + path_cost path.now) (listed stack.new)) }
 {
     open_parentheses(stack, pats, rest)?;
     stack.push(&[Work::Path(PathPart::Whole(path))])
@@ -118,7 +124,9 @@ fn open_record<'a>(
     fields: &'a [RecordFieldPat],
     rest: bool,
 ) -> Result<(), AllocError>
-    ensures { OnOk result ((s : Setting) → Opens s (listed stack.old) (pat_items s (Pat.Record rest path.now fields.now)) (21 + 10 * length fields.now + path_cost path.now) (listed stack.new)) }
+    ensures { OnOk result ((s : Setting) → Opens s (listed stack.old)
+        (pat_items s (Pat.Record rest path.now fields.now)) (21 + 10 * length fields.now + path_cost path.now)
+        (listed stack.new)) }
 {
     if rest {
         return stack.push(&[
@@ -146,7 +154,8 @@ fn open_range(
     end: Option<ExprId>,
     range_type: RangeOp,
 ) -> Result<(), AllocError>
-    ensures { OnOk result ((s : Setting) → Opens s (listed stack.old) (pat_items s (Pat.Range start end range_type)) (21) (listed stack.new)) }
+    ensures { OnOk result ((s : Setting) → Opens s (listed stack.old)
+        (pat_items s (Pat.Range start end range_type)) (21) (listed stack.new)) }
 {
     stack.push(&[
         Work::Pat(PatPart::RangeEnd(start)),
@@ -161,7 +170,9 @@ fn open_slice<'a>(
     slice: Option<PatId>,
     suffix: &'a [PatId],
 ) -> Result<(), AllocError>
-    ensures { OnOk result ((s : Setting) → Opens s (listed stack.old) (pat_items s (Pat.Slice prefix.now slice suffix.now)) (21 + 3 * length prefix.now + 3 * length suffix.now) (listed stack.new)) }
+    ensures { OnOk result ((s : Setting) → Opens s (listed stack.old)
+        (pat_items s (Pat.Slice prefix.now slice suffix.now))
+        (21 + 3 * length prefix.now + 3 * length suffix.now) (listed stack.new)) }
 {
     match slice {
         None => stack.push(&[
@@ -182,7 +193,8 @@ fn open_slice<'a>(
 }
 
 fn open_bind(stack: &mut Stack<'_>, id: BindingId, subpat: Option<PatId>) -> Result<(), AllocError>
-    ensures { OnOk result ((s : Setting) → Opens s (listed stack.old) (pat_items s (Pat.Bind id subpat)) (21) (listed stack.new)) }
+    ensures { OnOk result ((s : Setting) → Opens s (listed stack.old) (pat_items s (Pat.Bind id subpat)) (21)
+        (listed stack.new)) }
 {
     match subpat {
         None => stack.push(&[Work::Binding(id)]),
@@ -198,7 +210,8 @@ fn open_bind(stack: &mut Stack<'_>, id: BindingId, subpat: Option<PatId>) -> Res
 /// Puts the items of a pattern on the stack.
 #[inline(never)]
 pub(crate) fn open_pat<'a>(stack: &mut Stack<'a>, pat: &'a Pat) -> Result<(), AllocError>
-    ensures { OnOk result ((s : Setting) → Opens s (listed stack.old) (pat_items s pat.now) (1 + pat_cost pat.now) (listed stack.new)) }
+    ensures { OnOk result ((s : Setting) → Opens s (listed stack.old) (pat_items s pat.now)
+        (1 + pat_cost pat.now) (listed stack.new)) }
 {
     match pat {
         Pat::Missing => stack.push(&[Work::Text("\u{fffd}")]),

@@ -76,7 +76,8 @@ fn open_enclosed<'a>(
     store: &'a ExpressionStore,
     id: ExprId,
 ) -> Result<(), AllocError>
-    ensures { OnOk result (OpensInStore store.now (listed stack.old) (λ s. enclosed true (items_of s (node.Expr id)))
+    ensures { OnOk result (OpensInStore store.now (listed stack.old)
+        (λ s. enclosed true (items_of s (node.Expr id)))
         (5 + node_cost store.now.nodes (node.Expr id)) (listed stack.new)) }
 {
     stack.push(&[Work::Text(")")])?;
@@ -91,7 +92,8 @@ fn open_under<'a>(
     parent: ExprPrecedence,
 ) -> Result<(), AllocError>
     ensures { OnOk result (OpensInStore store.now (listed stack.old)
-        (λ s. enclosed (stands_in_parentheses (precedence_found (slice_get store.now.nodes.exprs id)) parent) (items_of s (node.Expr id)))
+        (λ s. enclosed (stands_in_parentheses (precedence_found (slice_get store.now.nodes.exprs id)) parent)
+        (items_of s (node.Expr id)))
         (5 + node_cost store.now.nodes (node.Expr id)) (listed stack.new)) }
 {
     if stands_in_parentheses(precedence_at(store, id), parent) {
@@ -101,7 +103,8 @@ fn open_under<'a>(
 }
 
 fn open_text_if<'a>(stack: &mut Stack<'a>, holds: bool, shown: &'a str) -> Result<(), AllocError>
-    ensures { OnOk result ((s : Setting) → Opens s (listed stack.old) (when holds (text shown.now)) 2 (listed stack.new)) }
+    ensures { OnOk result ((s : Setting) → Opens s (listed stack.old) (when holds (text shown.now)) 2
+        (listed stack.new)) }
 {
     if holds {
         return stack.push(&[Work::Text(shown)]);
@@ -122,7 +125,8 @@ pub(crate) fn turn<'a, D: Definitions, W: PieceWriter>(
 ) -> Result<(), PrintFault>
     requires { ItemsFall (setting store.now (D.answers tables.now) words.now one_line) }
     ensures ok { let s = setting store.now (D.answers tables.now) words.now one_line in
-        OnOk result (Turned W.step W.refuses s (stands_for s work.now) (work_cost work.now) (listed stack.old) writer.old (listed stack.new) writer.new) }
+        OnOk result (Turned W.step W.refuses s (stands_for s work.now) (work_cost work.now)
+        (listed stack.old) writer.old (listed stack.new) writer.new) }
     ensures err { let s = setting store.now (D.answers tables.now) words.now one_line in
         IfErr result (λ f. Prints W.step W.refuses writer.old
         (printed s (stands_for s work.now ++ pending s (listed stack.old))) (Some f) writer.new) }

@@ -19,7 +19,8 @@ pub(crate) fn open_after<'a>(
     before: &'a str,
     type_ref: Option<TypeRefId>,
 ) -> Result<(), AllocError>
-    ensures { OnOk result ((s : Setting) → Opens s (listed stack.old) (opt (λ id. text before.now ++ t id) type_ref) (3) (listed stack.new)) }
+    ensures { OnOk result ((s : Setting) → Opens s (listed stack.old)
+        (opt (λ id. text before.now ++ t id) type_ref) (3) (listed stack.new)) }
 {
     match type_ref {
         None => Ok(()),
@@ -28,7 +29,8 @@ pub(crate) fn open_after<'a>(
 }
 
 fn open_joined<'a>(stack: &mut Stack<'a>, types: &'a [TypeRefId]) -> Result<(), AllocError>
-    ensures { OnOk result ((s : Setting) → Opens s (listed stack.old) (comma_joined (map t types.now)) (1 + 3 * length types.now) (listed stack.new)) }
+    ensures { OnOk result ((s : Setting) → Opens s (listed stack.old) (comma_joined (map t types.now))
+        (1 + 3 * length types.now) (listed stack.new)) }
 {
     match types {
         [] => Ok(()),
@@ -45,7 +47,8 @@ fn open_params<'a>(
     stack: &mut Stack<'a>,
     params: &'a [(Option<Name>, TypeRefId)],
 ) -> Result<(), AllocError>
-    ensures { OnOk result ((s : Setting) → Opens s (listed stack.old) (front_items params.now) (1 + 3 * length params.now) (listed stack.new)) }
+    ensures { OnOk result ((s : Setting) → Opens s (listed stack.old) (front_items params.now)
+        (1 + 3 * length params.now) (listed stack.new)) }
 {
     match params {
         [] => Ok(()),
@@ -60,7 +63,8 @@ fn open_params<'a>(
 }
 
 fn open_for<'a>(stack: &mut Stack<'a>, names: &'a [Name]) -> Result<(), AllocError>
-    ensures { OnOk result ((s : Setting) → Opens s (listed stack.old) (for_names s names.now) (4 + 6 * length names.now) (listed stack.new)) }
+    ensures { OnOk result ((s : Setting) → Opens s (listed stack.old) (for_names s names.now)
+        (4 + 6 * length names.now) (listed stack.new)) }
 {
     stack.push(&[
         Work::Text("for<"),
@@ -70,7 +74,8 @@ fn open_for<'a>(stack: &mut Stack<'a>, names: &'a [Name]) -> Result<(), AllocErr
 }
 
 fn open_binder<'a>(stack: &mut Stack<'a>, names: &'a Option<Seq<Name>>) -> Result<(), AllocError>
-    ensures { OnOk result ((s : Setting) → Opens s (listed stack.old) (opt (for_names s) names.now) (4 + opt_cost (λ (ns : List (List ℕ)). 6 * length ns) names.now) (listed stack.new)) }
+    ensures { OnOk result ((s : Setting) → Opens s (listed stack.old) (opt (for_names s) names.now)
+        (4 + opt_cost (λ (ns : List (List ℕ)). 6 * length ns) names.now) (listed stack.new)) }
 {
     match names {
         None => Ok(()),
@@ -79,7 +84,8 @@ fn open_binder<'a>(stack: &mut Stack<'a>, names: &'a Option<Seq<Name>>) -> Resul
 }
 
 fn open_extern<'a>(stack: &mut Stack<'a>, abi: &'a ExternAbi) -> Result<(), AllocError>
-    ensures { OnOk result ((s : Setting) → Opens s (listed stack.old) (extern_items abi.now) (4) (listed stack.new)) }
+    ensures { OnOk result ((s : Setting) → Opens s (listed stack.old) (extern_items abi.now) (4)
+        (listed stack.new)) }
 {
     match abi {
         ExternAbi::Rust => Ok(()),
@@ -92,13 +98,15 @@ fn open_extern<'a>(stack: &mut Stack<'a>, abi: &'a ExternAbi) -> Result<(), Allo
 }
 
 fn open_abi<'a>(stack: &mut Stack<'a>, abi: &'a str) -> Result<(), AllocError>
-    ensures { OnOk result ((s : Setting) → Opens s (listed stack.old) (text (codes "extern ") ++ text abi.now ++ text (codes " ")) (4) (listed stack.new)) }
+    ensures { OnOk result ((s : Setting) → Opens s (listed stack.old)
+        (text (codes "extern ") ++ text abi.now ++ text (codes " ")) (4) (listed stack.new)) }
 {
     stack.push(&[Work::Text("extern "), Work::Text(abi), Work::Text(" ")])
 }
 
 fn open_bounds<'a>(stack: &mut Stack<'a>, bounds: &'a [TypeBound]) -> Result<(), AllocError>
-    ensures { OnOk result ((s : Setting) → Opens s (listed stack.old) (bounds_items s bounds.now) (bounds_cost bounds.now) (listed stack.new)) }
+    ensures { OnOk result ((s : Setting) → Opens s (listed stack.old) (bounds_items s bounds.now)
+        (bounds_cost bounds.now) (listed stack.new)) }
 {
     match bounds {
         [] => Ok(()),
@@ -116,7 +124,8 @@ fn open_path_bound(
     id: PathId,
     modifier: TraitBoundModifier,
 ) -> Result<(), AllocError>
-    ensures { OnOk result ((s : Setting) → Opens s (listed stack.old) (bound_items s (TypeBound.Path id modifier)) (8) (listed stack.new)) }
+    ensures { OnOk result ((s : Setting) → Opens s (listed stack.old)
+        (bound_items s (TypeBound.Path id modifier)) (8) (listed stack.new)) }
 {
     match modifier {
         TraitBoundModifier::None => stack.push(&[Work::Type(id.type_ref())]),
@@ -129,7 +138,8 @@ fn open_for_bound<'a>(
     names: &'a [Name],
     id: PathId,
 ) -> Result<(), AllocError>
-    ensures { OnOk result ((s : Setting) → Opens s (listed stack.old) (bound_items s (TypeBound.ForLifetime names.now id)) (8 + 6 * length names.now) (listed stack.new)) }
+    ensures { OnOk result ((s : Setting) → Opens s (listed stack.old)
+        (bound_items s (TypeBound.ForLifetime names.now id)) (8 + 6 * length names.now) (listed stack.new)) }
 {
     stack.push(&[
         Work::Text("for<"),
@@ -140,7 +150,8 @@ fn open_for_bound<'a>(
 }
 
 fn open_bound<'a>(stack: &mut Stack<'a>, bound: &'a TypeBound) -> Result<(), AllocError>
-    ensures { OnOk result ((s : Setting) → Opens s (listed stack.old) (bound_items s bound.now) (bound_cost bound.now) (listed stack.new)) }
+    ensures { OnOk result ((s : Setting) → Opens s (listed stack.old) (bound_items s bound.now)
+        (bound_cost bound.now) (listed stack.new)) }
 {
     match bound {
         TypeBound::Path(id, modifier) => open_path_bound(stack, *id, *modifier),
@@ -156,7 +167,8 @@ fn open_bound<'a>(stack: &mut Stack<'a>, bound: &'a TypeBound) -> Result<(), All
 }
 
 fn open_use_args<'a>(stack: &mut Stack<'a>, args: &'a [UseArgRef]) -> Result<(), AllocError>
-    ensures { OnOk result ((s : Setting) → Opens s (listed stack.old) (comma_joined (map (use_items s) args.now)) (1 + 9 * length args.now) (listed stack.new)) }
+    ensures { OnOk result ((s : Setting) → Opens s (listed stack.old)
+        (comma_joined (map (use_items s) args.now)) (1 + 9 * length args.now) (listed stack.new)) }
 {
     match args {
         [] => Ok(()),
@@ -166,7 +178,8 @@ fn open_use_args<'a>(stack: &mut Stack<'a>, args: &'a [UseArgRef]) -> Result<(),
 }
 
 fn open_last_use<'a>(stack: &mut Stack<'a>, arg: &'a UseArgRef) -> Result<(), AllocError>
-    ensures { OnOk result ((s : Setting) → Opens s (listed stack.old) (use_items s arg.now) (9) (listed stack.new)) }
+    ensures { OnOk result ((s : Setting) → Opens s (listed stack.old) (use_items s arg.now) (9)
+        (listed stack.new)) }
 {
     match arg {
         UseArgRef::Name(name) => stack.push(&[Work::Name(name.as_str())]),
@@ -179,7 +192,9 @@ fn open_use<'a>(
     first: &'a UseArgRef,
     rest: &'a [UseArgRef],
 ) -> Result<(), AllocError>
-    ensures { OnOk result ((s : Setting) → Opens s (listed stack.old) (use_items s first.now ++ text (codes ", ") ++ comma_joined (map (use_items s) rest.now)) (10 + 9 * length rest.now) (listed stack.new)) }
+    ensures { OnOk result ((s : Setting) → Opens s (listed stack.old)
+        (use_items s first.now ++ text (codes ", ") ++ comma_joined (map (use_items s) rest.now))
+        (10 + 9 * length rest.now) (listed stack.new)) }
 {
     match first {
         UseArgRef::Name(name) => stack.push(&[
@@ -201,7 +216,8 @@ pub(crate) fn open_type_part<'a>(
     stack: &mut Stack<'a>,
     part: &TypePart<'a>,
 ) -> Result<(), AllocError>
-    ensures { OnOk result ((s : Setting) → Opens s (listed stack.old) (type_part_items s part.now) (type_part_cost part.now) (listed stack.new)) }
+    ensures { OnOk result ((s : Setting) → Opens s (listed stack.old) (type_part_items s part.now)
+        (type_part_cost part.now) (listed stack.new)) }
 {
     match part {
         TypePart::After(before, type_ref) => open_after(stack, *before, *type_ref),

@@ -15,7 +15,8 @@ use hir_node::{FnType, RefType, TypeRef, TypeRefId};
 use std::alloc::AllocError;
 
 fn open_fn<'a>(stack: &mut Stack<'a>, function: &'a FnType) -> Result<(), AllocError>
-    ensures { OnOk result ((s : Setting) → Opens s (listed stack.old) (fn_items s function.now) (1 + type_cost (TypeRef.Fn function.now)) (listed stack.new)) }
+    ensures { OnOk result ((s : Setting) → Opens s (listed stack.old) (fn_items s function.now)
+        (1 + type_cost (TypeRef.Fn function.now)) (listed stack.new)) }
 {
     open_signature(stack, function.params.as_slice(), function.is_varargs)?;
     stack.push(&[
@@ -30,7 +31,9 @@ fn open_signature<'a>(
     params: &'a [(Option<Name>, TypeRefId)],
     is_varargs: bool,
 ) -> Result<(), AllocError>
-    ensures { OnOk result ((s : Setting) → Opens s (listed stack.old) (signature_items is_varargs (map (λ (entry : Option (List ℕ) × ℕ). entry.1) params.now)) (9 + 3 * length params.now) (listed stack.new)) }
+    ensures { OnOk result ((s : Setting) → Opens s (listed stack.old)
+        (signature_items is_varargs (map (λ (entry : Option (List ℕ) × ℕ). entry.1) params.now))
+        (9 + 3 * length params.now) (listed stack.new)) }
 {
     match params {
         [] => open_ends(stack, params, is_varargs, false, None),
@@ -46,7 +49,10 @@ fn open_ends<'a>(
     has_params: bool,
     ret: Option<TypeRefId>,
 ) -> Result<(), AllocError>
-    ensures { OnOk result ((s : Setting) → Opens s (listed stack.old) (text (codes "fn(") ++ front_items params.now ++ when (is_varargs && has_params) (text (codes ", ")) ++ when is_varargs (text (codes "...")) ++ text (codes ") -> ") ++ opt t ret) (9 + 3 * length params.now) (listed stack.new)) }
+    ensures { OnOk result ((s : Setting) → Opens s (listed stack.old)
+        (text (codes "fn(") ++ front_items params.now ++ when (is_varargs && has_params) (text (codes ", "))
+        ++ when is_varargs (text (codes "...")) ++ text (codes ") -> ") ++ opt t ret)
+        (9 + 3 * length params.now) (listed stack.new)) }
 {
     match ret {
         None => stack.push(&[
@@ -68,7 +74,8 @@ fn open_ends<'a>(
 }
 
 fn open_reference<'a>(stack: &mut Stack<'a>, reference: &'a RefType) -> Result<(), AllocError>
-    ensures { OnOk result ((s : Setting) → Opens s (listed stack.old) (type_items s (TypeRef.Reference reference.now)) (21) (listed stack.new)) }
+    ensures { OnOk result ((s : Setting) → Opens s (listed stack.old)
+        (type_items s (TypeRef.Reference reference.now)) (21) (listed stack.new)) }
 {
     match reference.lifetime {
         None => stack.push(&[
@@ -89,7 +96,8 @@ fn open_reference<'a>(stack: &mut Stack<'a>, reference: &'a RefType) -> Result<(
 /// Puts the items of a type on the stack.
 #[inline(never)]
 pub(crate) fn open_type<'a>(stack: &mut Stack<'a>, type_ref: &'a TypeRef) -> Result<(), AllocError>
-    ensures { OnOk result ((s : Setting) → Opens s (listed stack.old) (type_items s type_ref.now) (1 + type_cost type_ref.now) (listed stack.new)) }
+    ensures { OnOk result ((s : Setting) → Opens s (listed stack.old) (type_items s type_ref.now)
+        (1 + type_cost type_ref.now) (listed stack.new)) }
 {
     match type_ref {
         TypeRef::Never => stack.push(&[Work::Text("!")]),

@@ -4,9 +4,9 @@ use Rattle.std.specs.List.{flat_map}
 use Rattle.std.proofs.lemmas.List.Concat.{flat_map-append}
 use Rattle.hir_pretty.specs.declared.work.Work.{Work}
 use Rattle.hir_pretty.specs.Questions.{Setting}
-use Rattle.hir_pretty.specs.Items.{Item, when, joined}
+use Rattle.hir_pretty.specs.Items.{Item, when, join}
 use Rattle.hir_pretty.specs.Works.{stands_for, stood, stood_after}
-use Rattle.hir_print_defs.specs.Added.{meant, Follows, Adds, Left, before, following}
+use Rattle.hir_print_defs.specs.AddedItems.{meant, Follows, Adds, Left, before, following}
 
 stood_is-after : (s : Setting) (is : List Item) (works : List Work) → is ++ flat_map (stands_for s) works ≡ stood_after s is works
 stood_is-after s is [] = append-nil is

@@ -10,8 +10,8 @@ use Rattle.hir_items.specs.declared.formals.Param.{Param}
 use Rattle.hir_items.specs.Bodies.{formals_of}
 use Rattle.hir_pretty.specs.declared.work.Work.{Work}
 use Rattle.hir_pretty.specs.Questions.{Setting}
-use Rattle.hir_pretty.specs.Items.{Item, text, br, into, out, t, p, when, joined, comma_joined}
-use Rattle.hir_print_defs.specs.Added.{meant, Left, before, following, marked_items}
+use Rattle.hir_pretty.specs.Items.{Item, text, br, into, out, t, p, when, join, comma_joined}
+use Rattle.hir_print_defs.specs.AddedItems.{meant, Left, before, following, marked_items}
 use Rattle.hir_print_defs.specs.Signatures.{argument_items, is_listed, each_lifetime, each_type_or_const, in_angles, each_predicate, where_items}
 
 pub left_begins_as : {s : Setting} {old : List Work} {all rest : List Item} → rest ≡ all → Left s old all old rest
@@ -19,7 +19,7 @@ left_begins_as {s} {old} e = record { same = ap (λ xs. meant s old ++ xs) e }
 
 -- 1. Separators
 
-joined_first : (sep x : List Item) (ys : List (List Item)) → joined sep (x ∷ ys) ≡ (x ++ before sep ys) ++ joined sep ys
+joined_first : (sep x : List Item) (ys : List (List Item)) → join sep (x ∷ ys) ≡ (x ++ before sep ys) ++ join sep ys
 joined_first sep x [] = sym (append-nil (x ++ []) ∙ append-nil x)
 joined_first sep x (y ∷ ys) = refl
 
@@ -28,8 +28,8 @@ before_map sep f [] = refl
 before_map sep f (x ∷ xs) = refl
 
 -- what stands behind a separator that comes where something follows
-pub joined_behind : {X : Type 0} (sep x w : List Item) (f : X → List Item) (xs : List X) → w ≡ before sep xs → (x ++ w) ++ joined sep (map f xs) ≡ joined sep (x ∷ map f xs)
-joined_behind sep x w f xs e = ap (λ b. (x ++ b) ++ joined sep (map f xs)) (e ∙ sym (before_map sep f xs)) ∙ sym (joined_first sep x (map f xs))
+pub joined_behind : {X : Type 0} (sep x w : List Item) (f : X → List Item) (xs : List X) → w ≡ before sep xs → (x ++ w) ++ join sep (map f xs) ≡ join sep (x ∷ map f xs)
+joined_behind sep x w f xs e = ap (λ b. (x ++ b) ++ join sep (map f xs)) (e ∙ sym (before_map sep f xs)) ∙ sym (joined_first sep x (map f xs))
 
 pub formals_behind : (x w : List Item) (params : List (Param ℕ)) → w ≡ before (text (codes ", ")) params
     → (x ++ w) ++ comma_joined (map p (formals_of params)) ≡ comma_joined (x ∷ map p (formals_of params))
@@ -45,21 +45,21 @@ short [] h = refl
 short (x ∷ xs) h = absurd (omega (arith, h))
 
 pub joined_step : {X : Type 0} (sep : List Item) (f : X → List Item) (l : List X) (x : X) (n : ℕ) (w : List Item) → 1 ≤ length l → x ≡ get_or l 0 x → n ≡ length l - 1
-    → w ≡ before sep (take n (drop 1 l)) → joined sep (map f l) ≡ (f x ++ w) ++ joined sep (map f (take n (drop 1 l)))
+    → w ≡ before sep (take n (drop 1 l)) → join sep (map f l) ≡ (f x ++ w) ++ join sep (map f (take n (drop 1 l)))
 joined_step sep f l x n w h e k b =
-    ap (λ ys. joined sep (map f ys)) (parts l x h e ∙ ap (λ m. x ∷ take m (drop 1 l)) (sym k)) ∙ sym (joined_behind sep (f x) w f (take n (drop 1 l)) b)
+    ap (λ ys. join sep (map f ys)) (parts l x h e ∙ ap (λ m. x ∷ take m (drop 1 l)) (sym k)) ∙ sym (joined_behind sep (f x) w f (take n (drop 1 l)) b)
 
 pub formals_step : (l : List (Param ℕ)) (x : Param ℕ) (n : ℕ) (w : List Item) → 1 ≤ length l → x ≡ get_or l 0 x → n ≡ length l - 1
     → w ≡ before (text (codes ", ")) (take n (drop 1 l)) → comma_joined (map p (formals_of l)) ≡ (p x.formal ++ w) ++ comma_joined (map p (formals_of (take n (drop 1 l))))
 formals_step l x n w h e k b =
     ap (λ ys. comma_joined (map p (formals_of ys))) (parts l x h e ∙ ap (λ m. x ∷ take m (drop 1 l)) (sym k)) ∙ sym (formals_behind (p x.formal) w (take n (drop 1 l)) b)
 
-following_is : (sep x : List Item) (ys : List (List Item)) → x ++ following sep true ys ≡ joined sep (x ∷ ys)
+following_is : (sep x : List Item) (ys : List (List Item)) → x ++ following sep true ys ≡ join sep (x ∷ ys)
 following_is sep x [] = append-nil x
 following_is sep x (y ∷ ys) =
-    ap (λ zs. x ++ zs) (append_assoc sep y (following sep true ys)) ∙ ap (λ zs. x ++ (sep ++ zs)) (following_is sep y ys) ∙ sym (append_assoc x sep (joined sep (y ∷ ys)))
+    ap (λ zs. x ++ zs) (append_assoc sep y (following sep true ys)) ∙ ap (λ zs. x ++ (sep ++ zs)) (following_is sep y ys) ∙ sym (append_assoc x sep (join sep (y ∷ ys)))
 
-pub following_joined : (sep : List Item) (xs : List (List Item)) → following sep false xs ≡ joined sep xs
+pub following_joined : (sep : List Item) (xs : List (List Item)) → following sep false xs ≡ join sep xs
 following_joined sep [] = refl
 following_joined sep (x ∷ xs) = following_is sep x xs
 
@@ -71,7 +71,7 @@ true_behind : (sep : List Item) (xs ys : List (List Item)) → following sep tru
 true_behind sep [] ys = refl
 true_behind sep (x ∷ xs) ys = append_assoc (sep ++ x) (following sep true xs) (following sep true ys) ∙ ap (λ zs. (sep ++ x) ++ zs) (true_behind sep xs ys)
 
-following_append : (sep : List Item) (xs ys : List (List Item)) → following sep false xs ++ following sep (is_cons xs) ys ≡ joined sep (xs ++ ys)
+following_append : (sep : List Item) (xs ys : List (List Item)) → following sep false xs ++ following sep (is_cons xs) ys ≡ join sep (xs ++ ys)
 following_append sep [] ys = following_joined sep ys
 following_append sep (x ∷ xs) ys = append_assoc x (following sep true xs) (following sep true ys) ∙ ap (λ zs. x ++ zs) (true_behind sep xs ys) ∙ following_is sep x (xs ++ ys)
 
@@ -81,7 +81,7 @@ is_longer f (x ∷ xs) n e = lt-ltb 0 n (omega (arith, e))
 
 -- two lists one after the other, in `<` and `>`
 pub angles : (sep front back : List Item) (b : Bool) (xs ys : List (List Item)) → b ≡ is_cons xs
-    → ((front ++ following sep false xs) ++ following sep b ys) ++ back ≡ (front ++ joined sep (xs ++ ys)) ++ back
+    → ((front ++ following sep false xs) ++ following sep b ys) ++ back ≡ (front ++ join sep (xs ++ ys)) ++ back
 angles sep front back b xs ys e =
     ap (λ zs. zs ++ back) (append_assoc front (following sep false xs) (following sep b ys) ∙ ap (λ zs. front ++ zs) (ap (λ c. following sep false xs ++ following sep c ys) e ∙ following_append sep xs ys))
 

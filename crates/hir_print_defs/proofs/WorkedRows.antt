@@ -48,7 +48,7 @@ use Rattle.hir_pretty.specs.Pieces.{pieces, first_missing, text_of}
 use Rattle.hir_pretty.specs.Works.{printed}
 use Rattle.hir_print_defs.specs.Bodies.{Parents, body_items}
 use Rattle.hir_print_defs.specs.Variants.{variant_items, without_fields}
-use Rattle.hir_print_defs.specs.Signatures.{function_items, struct_items, unimplemented}
+use Rattle.hir_print_defs.specs.Signatures.{function_items, struct_items, unimplemented_items}
 
 -- constants have no name, statics are `S`, functions `foo`, structs `T`, enums `E`, variants `V`
 abbrev name : NamedDef → Result (Option (List ℕ)) Missing
@@ -221,6 +221,6 @@ all_of_a_struct : (let c = store (expr.Literal (literal.Int (pos 3) None) ∷ []
 unfolding pieces value rank height digits
 all_of_a_struct = refl
 
-of_an_enum : (let s = setting tables (store [] [] [] []) in text_of s (printed s (unimplemented (codes "EnumId") 5))) ≡ codes "unimplemented EnumId(5)"
+of_an_enum : (let s = setting tables (store [] [] [] []) in text_of s (printed s (unimplemented_items (codes "EnumId") 5))) ≡ codes "unimplemented EnumId(5)"
 unfolding pieces digits
 of_an_enum = refl

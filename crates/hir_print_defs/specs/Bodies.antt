@@ -20,7 +20,8 @@ Parents = ℕ → Result ℕ Missing
 abbrev pub of_enum : Setting → ℕ → Result ℕ Missing → List Item
 of_enum s id (Err missing) = Lacks missing ∷ []
 of_enum s id (Ok parent) =
-    text (codes "enum ") ++ found_name (codes "<missing>") (s.tables.name (named.EnumId parent)) ++ text (codes "::")
+    text (codes "enum ") ++ found_name (codes "<missing>") (s.tables.name (named.EnumId parent))
+    ++ text (codes "::")
     ++ found_name (codes "<missing>") (s.tables.name (named.EnumVariantId id))
 
 abbrev pub variant_name : Setting → Parents → ℕ → List Item
@@ -28,9 +29,12 @@ variant_name s parents id = of_enum s id (parents id)
 
 -- what a body begins with; a constant without a name is `_`
 abbrev pub body_head : Setting → Parents → DefWithBodyId → List Item
-body_head s parents (body.FunctionId id) = text (codes "fn ") ++ found_name (codes "<missing>") (s.tables.name (named.FunctionId id))
-body_head s parents (body.StaticId id) = text (codes "static ") ++ found_name (codes "<missing>") (s.tables.name (named.StaticId id)) ++ text (codes " = ")
-body_head s parents (body.ConstId id) = text (codes "const ") ++ found_name (codes "_") (s.tables.name (named.ConstId id)) ++ text (codes " = ")
+body_head s parents (body.FunctionId id) = text (codes "fn ")
+    ++ found_name (codes "<missing>") (s.tables.name (named.FunctionId id))
+body_head s parents (body.StaticId id) = text (codes "static ")
+    ++ found_name (codes "<missing>") (s.tables.name (named.StaticId id)) ++ text (codes " = ")
+body_head s parents (body.ConstId id) = text (codes "const ")
+    ++ found_name (codes "_") (s.tables.name (named.ConstId id)) ++ text (codes " = ")
 body_head s parents (body.VariantId id) = variant_name s parents id
 
 -- the binding of `self`, where there is one, and the formal patterns
@@ -58,5 +62,6 @@ formal_self self_param = option_map (λ param. param.formal) self_param
 -- a body, which evaluates to its last root
 abbrev pub body_items : Setting → Parents → DefWithBodyId → BodyContents → List Item
 body_items s parents owner b =
-    body_head s parents owner ++ body_params s (formal_self b.self_param) (formals_of b.params) owner ++ opt e (last_root b.store)
+    body_head s parents owner ++ body_params s (formal_self b.self_param) (formals_of b.params) owner
+    ++ opt e (last_root b.store)
     ++ body_end owner

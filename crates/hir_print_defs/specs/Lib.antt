@@ -1,6 +1,6 @@
-pub mod Found
+pub mod FoundParts
 pub mod Bodies
 pub mod Variants
 pub mod Signatures
 pub mod Owners
-pub mod Added
+pub mod AddedItems

@@ -17,33 +17,42 @@ use Rattle.hir_pretty.specs.Settings.{setting}
 use Rattle.hir_pretty.specs.Answers.{answers}
 use Rattle.hir_pretty.specs.Printed.{PrintsPieces}
 use Rattle.hir_pretty.specs.Works.{printed}
-use Rattle.hir_print_defs.specs.Found.{function_found, struct_found}
-use Rattle.hir_print_defs.specs.Signatures.{function_items, struct_items, unimplemented}
+use Rattle.hir_print_defs.specs.FoundParts.{function_found, struct_found}
+use Rattle.hir_print_defs.specs.Signatures.{function_items, struct_items, unimplemented_items}
 
 -- Of a function: its signature is missing, or its pieces, with the signature's own store.
-abbrev pub PrintsFunction : {Z : Type 0} → Tables → List (List ℕ) → ℕ → Option FunctionParts → Result (String Z) PrintFault → Type 0
-PrintsFunction t words id None result = result ≡ Err (fault.Missing (missing.Signature (generic.FunctionId id)))
-PrintsFunction t words id (Some f) result = let s = setting f.store (answers t) words false in PrintsPieces s (printed s (function_items s f)) result
+abbrev pub PrintsFunction : {Z : Type 0} → Tables → List (List ℕ) → ℕ → Option FunctionParts
+    → Result (String Z) PrintFault → Type 0
+PrintsFunction t words id None result = result
+    ≡ Err (fault.Missing (missing.Signature (generic.FunctionId id)))
+PrintsFunction t words id (Some f) result = let s = setting f.store (answers t) words false in
+    PrintsPieces s (printed s (function_items s f)) result
 
 -- The same of a struct.
-abbrev pub PrintsStruct : {Z : Type 0} → Tables → List (List ℕ) → ℕ → Option StructParts → Result (String Z) PrintFault → Type 0
-PrintsStruct t words id None result = result ≡ Err (fault.Missing (missing.Signature (generic.AdtId (adt.StructId id))))
+abbrev pub PrintsStruct : {Z : Type 0} → Tables → List (List ℕ) → ℕ → Option StructParts
+    → Result (String Z) PrintFault → Type 0
+PrintsStruct t words id None result = result ≡ Err
+    (fault.Missing (missing.Signature (generic.AdtId (adt.StructId id))))
 PrintsStruct t words id (Some x) result =
-    let s = setting x.store (answers t) words false in PrintsPieces s (printed s (struct_items s (map.get t.reprs (id ∷ [])) x)) result
+    let s = setting x.store (answers t) words false in
+    PrintsPieces s (printed s (struct_items s (map.get t.reprs (id ∷ [])) x)) result
 
 -- Of any other, of which nothing is looked up: in lines, whatever else is set.
 abbrev pub PrintsOther : {Z : Type 0} → List ℕ → ℕ → Result (String Z) PrintFault → Type 0
-PrintsOther kind id result = (s : Setting) → s.one_line ≡ false → PrintsPieces s (printed s (unimplemented kind id)) result
+PrintsOther kind id result = (s : Setting) → s.one_line ≡ false
+    → PrintsPieces s (printed s (unimplemented_items kind id)) result
 
 abbrev pub PrintsAdt : {Z : Type 0} → Tables → List (List ℕ) → AdtId → Result (String Z) PrintFault → Type 0
 PrintsAdt t words (adt.StructId id) result = PrintsStruct t words id (struct_found t id) result
 PrintsAdt t words (adt.UnionId id) result = PrintsOther (codes "UnionId") id result
 PrintsAdt t words (adt.EnumId id) result = PrintsOther (codes "EnumId") id result
 
-abbrev pub PrintsSignature : {Z : Type 0} → Tables → List (List ℕ) → GenericDefId → Result (String Z) PrintFault → Type 0
+abbrev pub PrintsSignature : {Z : Type 0} → Tables → List (List ℕ) → GenericDefId
+    → Result (String Z) PrintFault → Type 0
 PrintsSignature t words (generic.AdtId id) result = PrintsAdt t words id result
 PrintsSignature t words (generic.ConstId id) result = PrintsOther (codes "ConstId") id result
-PrintsSignature t words (generic.FunctionId id) result = PrintsFunction t words id (function_found t id) result
+PrintsSignature t words (generic.FunctionId id) result =
+    PrintsFunction t words id (function_found t id) result
 PrintsSignature t words (generic.ImplId id) result = PrintsOther (codes "ImplId") id result
 PrintsSignature t words (generic.StaticId id) result = PrintsOther (codes "StaticId") id result
 PrintsSignature t words (generic.TraitId id) result = PrintsOther (codes "TraitId") id result

@@ -21,7 +21,7 @@ use Rattle.hir_items.specs.declared.signatures.FunctionParts.{FunctionParts}
 use Rattle.hir_items.specs.declared.signatures.StructParts.{StructParts}
 use Rattle.hir_defs.specs.declared.plain_def.Repr.{Repr}
 use Rattle.hir_pretty.specs.Questions.{Setting}
-use Rattle.hir_pretty.specs.Items.{Item, text, br, into, out, e, t, opt, when, joined, comma_joined, numbered}
+use Rattle.hir_pretty.specs.Items.{Item, text, br, into, out, e, t, opt, when, join, comma_joined, with_number}
 use Rattle.hir_pretty.specs.Names.{name_items, l}
 use Rattle.hir_pretty.specs.Paths.{bound_items, for_names}
 
@@ -34,8 +34,10 @@ type_name s at (Some name) = name_items s name
 -- a type or a constant in its place, with its default
 abbrev pub generic_param_items : Setting → ℕ → TypeOrConstParamData → List Item
 generic_param_items s at (param.ConstParamData c) =
-    text (codes "const ") ++ name_items s c.name ++ text (codes ": ") ++ t c.ty ++ opt (λ d. text (codes " = ") ++ e d.expr) c.default
-generic_param_items s at (param.TypeParamData p) = type_name s at p.name ++ opt (λ d. text (codes " = ") ++ t d) p.default
+    text (codes "const ") ++ name_items s c.name ++ text (codes ": ") ++ t c.ty
+    ++ opt (λ d. text (codes " = ") ++ e d.expr) c.default
+generic_param_items s at (param.TypeParamData p) =
+    type_name s at p.name ++ opt (λ d. text (codes " = ") ++ t d) p.default
 
 abbrev pub each_lifetime : Setting → List LifetimeParamData → List (List Item)
 each_lifetime s lifetimes = map (λ lifetime. name_items s lifetime.name) lifetimes
@@ -57,12 +59,13 @@ generics_items s g = in_angles (each_param s g)
 -- 2. Predicates
 
 abbrev pub predicate_items : Setting → WherePredicate → List Item
-predicate_items s (predicate.TypeBound lifetimes target bound) = opt (for_names s) lifetimes ++ t target ++ text (codes ": ") ++ bound_items s bound
+predicate_items s (predicate.TypeBound lifetimes target bound) =
+    opt (for_names s) lifetimes ++ t target ++ text (codes ": ") ++ bound_items s bound
 predicate_items s (predicate.Lifetime target bound) = l s target ++ text (codes ": ") ++ l s bound
 
 -- predicates are on lines of their own
 abbrev pub each_predicate : Setting → List WherePredicate → List Item
-each_predicate s predicates = joined (text (codes ",\n")) (map (predicate_items s) predicates)
+each_predicate s predicates = join (text (codes ",\n")) (map (predicate_items s) predicates)
 
 abbrev pub where_items : Setting → List WherePredicate → List Item
 where_items s [] = []
@@ -94,19 +97,23 @@ arguments places types = comma_joined (map (argument_items places) (enumerate_fr
 
 abbrev pub flags : FunctionParts → List Item
 flags f =
-    when f.is_const (text (codes "const ")) ++ when f.is_async (text (codes "async ")) ++ when f.is_unsafe (text (codes "unsafe "))
+    when f.is_const (text (codes "const ")) ++ when f.is_async (text (codes "async "))
+    ++ when f.is_unsafe (text (codes "unsafe "))
     ++ when f.is_explicit_safe (text (codes "safe "))
 
 -- all up to the generic parameters; the types of the arguments and of the result
 abbrev pub function_front : Setting → FunctionParts → List Item
-function_front s f = flags f ++ abi_items f.abi ++ text (codes "fn ") ++ name_items s f.name ++ generics_items s f.generic_params
+function_front s f = flags f ++ abi_items f.abi ++ text (codes "fn ") ++ name_items s f.name
+    ++ generics_items s f.generic_params
 
 abbrev pub function_types : FunctionParts → List Item
 function_types f =
-    text (codes "(") ++ arguments f.legacy_const_indices f.params ++ text (codes ")") ++ opt (λ ret. text (codes " -> ") ++ t ret) f.ret_type
+    text (codes "(") ++ arguments f.legacy_const_indices f.params ++ text (codes ")")
+    ++ opt (λ ret. text (codes " -> ") ++ t ret) f.ret_type
 
 abbrev pub function_items : Setting → FunctionParts → List Item
-function_items s f = function_front s f ++ function_types f ++ where_items s f.generic_params.predicates ++ text (codes " {...}") ++ br
+function_items s f = function_front s f ++ function_types f ++ where_items s f.generic_params.predicates
+    ++ text (codes " {...}") ++ br
 
 -- 4. Structs
 
@@ -129,13 +136,15 @@ shape_end shape.Unit = text (codes ";") ++ br
 
 abbrev pub struct_front : Setting → Option Repr → StructParts → List Item
 struct_front s repr x =
-    repr_items repr ++ when x.is_fundamental (text (codes "#[fundamental]") ++ br) ++ text (codes "struct ") ++ name_items s x.name
+    repr_items repr ++ when x.is_fundamental (text (codes "#[fundamental]") ++ br) ++ text (codes "struct ")
+    ++ name_items s x.name
     ++ generics_items s x.generic_params
 
 abbrev pub struct_items : Setting → Option Repr → StructParts → List Item
-struct_items s repr x = struct_front s repr x ++ shape_begin x.shape ++ where_items s x.generic_params.predicates ++ shape_end x.shape
+struct_items s repr x = struct_front s repr x ++ shape_begin x.shape
+    ++ where_items s x.generic_params.predicates ++ shape_end x.shape
 
 -- 5. Any other definition
 
-abbrev pub unimplemented : List ℕ → ℕ → List Item
-unimplemented kind id = text (codes "unimplemented ") ++ numbered kind id
+abbrev pub unimplemented_items : List ℕ → ℕ → List Item
+unimplemented_items kind id = text (codes "unimplemented ") ++ with_number kind id

@@ -20,7 +20,7 @@ use Rattle.hir_pretty.specs.Questions.{Questions, Setting}
 use Rattle.hir_pretty.specs.Settings.{setting}
 use Rattle.hir_pretty.specs.Pieces.{first_missing}
 use Rattle.hir_pretty.specs.Works.{printed}
-use Rattle.hir_pretty.specs.Items.{Item, Lacks, text, br, t, when, joined}
+use Rattle.hir_pretty.specs.Items.{Item, Lacks, text, br, t, when, join}
 use Rattle.hir_pretty.specs.Names.{name_items}
 use Rattle.hir_pretty.specs.Paths.{found_name, supers}
 use Rattle.hir_print_defs.specs.Bodies.{Parents, variant_name}
@@ -34,10 +34,11 @@ kind_word s Abs = [] ∷ []
 kind_word s (DollarCrate id) = text (codes "$crate") ∷ []
 
 abbrev pub module_items : Setting → ModPath → List Item
-module_items s path = joined (text (codes "::")) (kind_word s path.kind ++ map (name_items s) path.segments)
+module_items s path = join (text (codes "::")) (kind_word s path.kind ++ map (name_items s) path.segments)
 
 abbrev pub visibility_items : Setting → RawVisibility → List Item
-visibility_items s (visibility.Module path) = text (codes "pub(in ") ++ module_items s path ++ text (codes ") ")
+visibility_items s (visibility.Module path) = text (codes "pub(in ") ++ module_items s path
+    ++ text (codes ") ")
 visibility_items s visibility.Public = text (codes "pub ")
 visibility_items s visibility.PubCrate = text (codes "pub(crate) ")
 visibility_items s visibility.PubSelf = text (codes "pub(self) ")
@@ -45,13 +46,16 @@ visibility_items s visibility.PubSelf = text (codes "pub(self) ")
 -- a field, on a line of its own
 abbrev pub field_line : Setting → FieldData → List Item
 field_line s field =
-    visibility_items s field.visibility ++ when field.is_unsafe (text (codes "unsafe ")) ++ name_items s field.name ++ text (codes ": ")
+    visibility_items s field.visibility ++ when field.is_unsafe (text (codes "unsafe "))
+    ++ name_items s field.name ++ text (codes ": ")
     ++ t field.type_ref ++ text (codes ",") ++ br
 
 abbrev pub variant_head : Setting → Parents → VariantId → List Item
-variant_head s parents (variant.StructId id) = text (codes "struct ") ++ found_name (codes "<missing>") (s.tables.name (named.StructId id))
+variant_head s parents (variant.StructId id) =
+    text (codes "struct ") ++ found_name (codes "<missing>") (s.tables.name (named.StructId id))
 variant_head s parents (variant.EnumVariantId id) = variant_name s parents id
-variant_head s parents (variant.UnionId id) = text (codes "union ") ++ found_name (codes "<missing>") (s.tables.name (named.UnionId id))
+variant_head s parents (variant.UnionId id) = text (codes "union ")
+    ++ found_name (codes "<missing>") (s.tables.name (named.UnionId id))
 
 -- what is before the fields, and after them
 abbrev pub fields_begin : FieldsShape → List Item
@@ -79,5 +83,6 @@ without_fields s parents owner = variant_head s parents owner ++ (Lacks (missing
 -- this is missing first, where the fields are missing
 abbrev pub LacksFields : Questions → Parents → VariantId → Missing → Type 0
 LacksFields tables parents owner m =
-    (store : Contents) (words : List (List ℕ)) (one_line : Bool) → let s = setting store tables words one_line in
+    (store : Contents) (words : List (List ℕ)) (one_line : Bool) → let s =
+    setting store tables words one_line in
     first_missing (printed s (without_fields s parents owner)) ≡ Some m

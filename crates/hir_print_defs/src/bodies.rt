@@ -10,9 +10,9 @@ ghost use Rattle.hir_pretty.specs.Names.{binding_items};
 ghost use Rattle.hir_pretty.specs.Answers.{answers};
 ghost use Rattle.hir_pretty.specs.Printed.{PrintsPieces};
 ghost use Rattle.hir_pretty.specs.Works.{printed};
-ghost use Rattle.hir_print_defs.specs.Added.{listed, AddsAsked, AddsAll};
+ghost use Rattle.hir_print_defs.specs.AddedItems.{listed, AddsAsked, AddsAll};
 ghost use Rattle.hir_print_defs.specs.Bodies.{formal_self, formal_params, body_params, body_end, body_items};
-ghost use Rattle.hir_print_defs.specs.Found.{parents};
+ghost use Rattle.hir_print_defs.specs.FoundParts.{parents};
 
 use crate::heads::add_body_head;
 use crate::works::{Works, before_more};
@@ -23,7 +23,8 @@ use hir_pretty::{PrintFault, Work};
 use std::alloc::{AllocError, Global};
 
 fn add_formals(works: &mut Works<'_>, params: &[Param<PatId>]) -> Result<(), AllocError>
-    ensures { OnOk result (AddsAll (listed works.old) (λ s. comma_joined (map p (formals_of params.now))) (listed works.new)) }
+    ensures { OnOk result (AddsAll (listed works.old) (λ s. comma_joined (map p (formals_of params.now)))
+        (listed works.new)) }
 {
     let mut left = params;
     while let [param, rest @ ..] = left {
@@ -68,7 +69,8 @@ fn add_in_parentheses(
     params: &[Param<PatId>],
 ) -> Result<(), AllocError>
     ensures { OnOk result (AddsAll (listed works.old)
-        (λ s. text (codes "(") ++ comma_joined (formal_params s self_binding (formals_of params.now)) ++ text (codes ") "))
+        (λ s. text (codes "(") ++ comma_joined (formal_params s self_binding (formals_of params.now))
+        ++ text (codes ") "))
         (listed works.new)) }
 {
     works.add(&[Work::Text("(")])?;

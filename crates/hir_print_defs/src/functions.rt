@@ -10,7 +10,7 @@ ghost use Rattle.hir_pretty.specs.Items.{text, comma_joined};
 ghost use Rattle.hir_pretty.specs.Answers.{answers};
 ghost use Rattle.hir_pretty.specs.Printed.{PrintsPieces};
 ghost use Rattle.hir_pretty.specs.Works.{printed};
-ghost use Rattle.hir_print_defs.specs.Added.{listed, AddsAll, marked_items};
+ghost use Rattle.hir_print_defs.specs.AddedItems.{listed, AddsAll, marked_items};
 ghost use Rattle.hir_print_defs.specs.Signatures.{abi_items, arguments, flags, function_front, function_types, function_items};
 
 use crate::generics::{add_generics, add_where};
@@ -45,7 +45,8 @@ fn add_abi<'a>(works: &mut Works<'a>, abi: &'a ExternAbi) -> Result<(), AllocErr
 /// Says for each of this many places whether it is listed.
 fn marks_of(alloc: Global, places: &[u32], count: usize) -> Result<Vec<bool>, AllocError>
     ensures length { IfOk result (λ marks. length marks.items ≡ count) }
-    ensures marks { IfOk result (λ marks. (i : ℕ) → i < count → get_or marks.items i false ≡ list_any (λ place. place == i) places.now) }
+    ensures marks { IfOk result (λ marks. (i : ℕ) → i < count
+        → get_or marks.items i false ≡ list_any (λ place. place == i) places.now) }
 {
     let mut marks = vec![in alloc; false; count]?;
     for place in places {
@@ -79,7 +80,8 @@ fn add_listed(
     places: &[u32],
     params: &[TypeRefId],
 ) -> Result<(), AllocError>
-    ensures { OnOk result (AddsAll (listed works.old) (λ s. arguments (Some places.now) params.now) (listed works.new)) }
+    ensures { OnOk result (AddsAll (listed works.old) (λ s. arguments (Some places.now) params.now)
+        (listed works.new)) }
 {
     let marks = marks_of(alloc, places, params.len())?;
     add_marked(works, &marks, params)
@@ -114,7 +116,8 @@ fn add_flags(works: &mut Works<'_>, signature: &FunctionSignature) -> Result<(),
 
 /// Adds all up to the list of arguments.
 fn add_front<'a>(works: &mut Works<'a>, signature: &'a FunctionSignature) -> Result<(), AllocError>
-    ensures { OnOk result (AddsAll (listed works.old) (λ s. function_front s signature.now) (listed works.new)) }
+    ensures { OnOk result (AddsAll (listed works.old) (λ s. function_front s signature.now)
+        (listed works.new)) }
 {
     add_flags(works, signature)?;
     add_abi(works, signature.abi())?;
@@ -128,7 +131,8 @@ fn add_types<'a>(
     alloc: Global,
     signature: &'a FunctionSignature,
 ) -> Result<(), AllocError>
-    ensures { OnOk result (AddsAll (listed works.old) (λ s. function_types signature.now) (listed works.new)) }
+    ensures { OnOk result (AddsAll (listed works.old) (λ s. function_types signature.now)
+        (listed works.new)) }
 {
     works.add(&[Work::Text("(")])?;
     add_arguments(
@@ -148,7 +152,8 @@ fn add_function<'a>(
     alloc: Global,
     signature: &'a FunctionSignature,
 ) -> Result<(), AllocError>
-    ensures { OnOk result (AddsAll (listed works.old) (λ s. function_items s signature.now) (listed works.new)) }
+    ensures { OnOk result (AddsAll (listed works.old) (λ s. function_items s signature.now)
+        (listed works.new)) }
 {
     add_front(works, signature)?;
     add_types(works, alloc, signature)?;
@@ -168,7 +173,8 @@ pub fn print_function(
     signature: &FunctionSignature,
     edition: Edition,
 ) -> Result<String, PrintFault>
-    ensures { let s = setting signature.now.store (answers tables.now) (words_of tables.now.words edition) false in
+    ensures { let s = setting signature.now.store (answers tables.now)
+        (words_of tables.now.words edition) false in
         PrintsPieces s (printed s (function_items s signature.now)) result }
 {
     let mut works = Works::new(alloc);

@@ -5,7 +5,7 @@ ghost use Rattle.std.specs.Prelude.{◌++◌, OnOk, codes, false};
 ghost use Rattle.std.specs.List.{enumerate_from};
 ghost use Rattle.std.specs.Option.{option_copied};
 ghost use Rattle.hir_pretty.specs.Items.{text, e, opt, comma_joined};
-ghost use Rattle.hir_print_defs.specs.Added.{listed, AddsAll, following};
+ghost use Rattle.hir_print_defs.specs.AddedItems.{listed, AddsAll, following};
 ghost use Rattle.hir_print_defs.specs.Signatures.{type_name, generic_param_items, each_lifetime, each_type_or_const, each_param, generics_items, predicate_items, each_predicate, where_items};
 
 use crate::works::{Works, before_more};
@@ -23,7 +23,8 @@ fn add_type_name<'a>(
     at: u32,
     name: Option<&'a Name>,
 ) -> Result<(), AllocError>
-    ensures { OnOk result (AddsAll (listed works.old) (λ s. type_name s at (option_copied name.entry)) (listed works.new)) }
+    ensures { OnOk result (AddsAll (listed works.old) (λ s. type_name s at (option_copied name.entry))
+        (listed works.new)) }
 {
     match name {
         None => works.add(&[
@@ -45,7 +46,8 @@ fn add_type<'a>(works: &mut Works<'a>, at: u32, param: &'a TypeParamData) -> Res
 }
 
 fn add_default(works: &mut Works<'_>, default: Option<ConstRef>) -> Result<(), AllocError>
-    ensures { OnOk result (AddsAll (listed works.old) (λ s. opt (λ d. text (codes " = ") ++ e d.expr) default) (listed works.new)) }
+    ensures { OnOk result (AddsAll (listed works.old) (λ s. opt (λ d. text (codes " = ") ++ e d.expr) default)
+        (listed works.new)) }
 {
     match default {
         None => Ok(()),
@@ -76,7 +78,8 @@ fn add_type_or_const<'a>(
     at: u32,
     param: &'a TypeOrConstParamData,
 ) -> Result<(), AllocError>
-    ensures { OnOk result (AddsAll (listed works.old) (λ s. generic_param_items s at param.now) (listed works.new)) }
+    ensures { OnOk result (AddsAll (listed works.old) (λ s. generic_param_items s at param.now)
+        (listed works.new)) }
 {
     match param {
         TypeOrConstParamData::TypeParamData(param) => add_type(works, at, param),
@@ -87,7 +90,8 @@ fn add_type_or_const<'a>(
 /// Adds the lifetimes, with `, ` between them.
 fn add_lifetimes<'a>(works: &mut Works<'a>, params: &'a GenericParams) -> Result<(), AllocError>
     ensures { OnOk result (AddsAll (listed works.old)
-        (λ s. following (text (codes ", ")) false (each_lifetime s params.now.lifetimes)) (listed works.new)) }
+        (λ s. following (text (codes ", ")) false (each_lifetime s params.now.lifetimes))
+        (listed works.new)) }
 {
     let mut after = false;
     for (_, lifetime) in params.iter_lt() {
@@ -107,7 +111,8 @@ fn add_types_and_consts<'a>(
     first: bool,
 ) -> Result<(), AllocError>
     ensures { OnOk result (AddsAll (listed works.old)
-        (λ s. following (text (codes ", ")) first (each_type_or_const s (enumerate_from 0 params.now.type_or_consts))) (listed works.new)) }
+        (λ s. following (text (codes ", ")) first
+        (each_type_or_const s (enumerate_from 0 params.now.type_or_consts))) (listed works.new)) }
 {
     let mut after = first;
     for (at, param) in params.iter_type_or_consts() {
@@ -121,7 +126,8 @@ fn add_types_and_consts<'a>(
 /// Adds all parameters in `<` and `>`.
 fn add_in_angles<'a>(works: &mut Works<'a>, params: &'a GenericParams) -> Result<(), AllocError>
     ensures { OnOk result (AddsAll (listed works.old)
-        (λ s. text (codes "<") ++ comma_joined (each_param s params.now) ++ text (codes ">")) (listed works.new)) }
+        (λ s. text (codes "<") ++ comma_joined (each_param s params.now) ++ text (codes ">"))
+        (listed works.new)) }
 {
     works.add(&[Work::Text("<")])?;
     add_lifetimes(works, params)?;
@@ -144,7 +150,8 @@ pub(crate) fn add_generics<'a>(
 
 /// Adds a predicate.
 fn add_predicate<'a>(works: &mut Works<'a>, predicate: &'a WherePredicate) -> Result<(), AllocError>
-    ensures { OnOk result (AddsAll (listed works.old) (λ s. predicate_items s predicate.now) (listed works.new)) }
+    ensures { OnOk result (AddsAll (listed works.old) (λ s. predicate_items s predicate.now)
+        (listed works.new)) }
 {
     match predicate {
         WherePredicate::TypeBound {
@@ -169,7 +176,8 @@ fn add_each_predicate<'a>(
     works: &mut Works<'a>,
     predicates: &'a [WherePredicate],
 ) -> Result<(), AllocError>
-    ensures { OnOk result (AddsAll (listed works.old) (λ s. each_predicate s predicates.now) (listed works.new)) }
+    ensures { OnOk result (AddsAll (listed works.old) (λ s. each_predicate s predicates.now)
+        (listed works.new)) }
 {
     let mut left = predicates;
     while let [predicate, rest @ ..] = left {
@@ -185,7 +193,8 @@ pub(crate) fn add_where<'a>(
     works: &mut Works<'a>,
     predicates: &'a [WherePredicate],
 ) -> Result<(), AllocError>
-    ensures { OnOk result (AddsAll (listed works.old) (λ s. where_items s predicates.now) (listed works.new)) }
+    ensures { OnOk result (AddsAll (listed works.old) (λ s. where_items s predicates.now)
+        (listed works.new)) }
 {
     if predicates.is_empty() {
         return Ok(());

@@ -10,10 +10,10 @@ ghost use Rattle.hir_expr_store.specs.Contents.{Contents};
 ghost use Rattle.hir_pretty.specs.Settings.{setting};
 ghost use Rattle.hir_pretty.specs.Pieces.{first_missing};
 ghost use Rattle.hir_pretty.specs.Works.{stands_for, printed};
-ghost use Rattle.hir_print_defs.specs.Added.{listed, AddsAsked, error_of};
+ghost use Rattle.hir_print_defs.specs.AddedItems.{listed, AddsAsked, error_of};
 ghost use Rattle.hir_print_defs.specs.Bodies.{variant_name, body_head, of_enum};
 ghost use Rattle.hir_print_defs.specs.Variants.{variant_head};
-ghost use Rattle.hir_print_defs.specs.Found.{parents};
+ghost use Rattle.hir_print_defs.specs.FoundParts.{parents};
 
 use crate::works::Works;
 use hir_base::{DefWithBodyId, EnumId, EnumVariantId, NamedDef, Text, VariantId};
@@ -44,7 +44,8 @@ fn name_or<'a>(tables: &'a Tables, def: NamedDef, default: &'a str) -> Work<'a>
 
 /// The name of a definition that has one, or `<missing>`.
 fn name_of<'a>(tables: &'a Tables, def: NamedDef) -> Work<'a>
-    ensures { (s : Setting) → stands_for s result ≡ found_name (codes "<missing>") ((answers tables.now).name def) }
+    ensures { (s : Setting) → stands_for s result
+        ≡ found_name (codes "<missing>") ((answers tables.now).name def) }
 {
     name_or(tables, def, "<missing>")
 }
@@ -55,7 +56,8 @@ fn add_enum<'a>(
     id: EnumVariantId,
     parent: EnumId,
 ) -> Result<(), AllocError>
-    ensures { OnOk result (AddsAsked (answers tables.now) (listed works.old) (λ s. of_enum s id (Ok parent)) (listed works.new)) }
+    ensures { OnOk result (AddsAsked (answers tables.now) (listed works.old) (λ s. of_enum s id (Ok parent))
+        (listed works.new)) }
 {
     works.add(&[
         Work::Text("enum "),
@@ -71,7 +73,8 @@ fn add_variant_name<'a>(
     tables: &'a Tables,
     id: EnumVariantId,
 ) -> Result<(), AllocError>
-    ensures { OnOk result (AddsAsked (answers tables.now) (listed works.old) (λ s. variant_name s (parents tables.now) id) (listed works.new)) }
+    ensures { OnOk result (AddsAsked (answers tables.now) (listed works.old)
+        (λ s. variant_name s (parents tables.now) id) (listed works.new)) }
 {
     match tables.variant_parent(id) {
         Ok(parent) => add_enum(works, tables, id, parent),
@@ -85,7 +88,8 @@ pub(crate) fn add_body_head<'a>(
     tables: &'a Tables,
     owner: &DefWithBodyId,
 ) -> Result<(), AllocError>
-    ensures { OnOk result (AddsAsked (answers tables.now) (listed works.old) (λ s. body_head s (parents tables.now) owner.now) (listed works.new)) }
+    ensures { OnOk result (AddsAsked (answers tables.now) (listed works.old)
+        (λ s. body_head s (parents tables.now) owner.now) (listed works.new)) }
 {
     match owner {
         DefWithBodyId::FunctionId(id) => works.add(&[
@@ -112,7 +116,8 @@ pub(crate) fn add_variant_head<'a>(
     tables: &'a Tables,
     owner: &VariantId,
 ) -> Result<(), AllocError>
-    ensures { OnOk result (AddsAsked (answers tables.now) (listed works.old) (λ s. variant_head s (parents tables.now) owner.now) (listed works.new)) }
+    ensures { OnOk result (AddsAsked (answers tables.now) (listed works.old)
+        (λ s. variant_head s (parents tables.now) owner.now) (listed works.new)) }
 {
     match owner {
         VariantId::EnumVariantId(id) => add_variant_name(works, tables, *id),
@@ -129,7 +134,8 @@ pub(crate) fn add_variant_head<'a>(
 
 /// The first that is missing among what a variant begins with: the enum of a variant, and then the names.
 pub(crate) fn missing_in_head(tables: &Tables, owner: &VariantId) -> Option<Missing>
-    ensures { (store : Contents) (words : List (List ℕ)) (one_line : Bool) → let s = setting store (answers tables.now) words one_line in
+    ensures { (store : Contents) (words : List (List ℕ)) (one_line : Bool)
+        → let s = setting store (answers tables.now) words one_line in
         result ≡ first_missing (printed s (variant_head s (parents tables.now) owner.now)) }
 {
     match owner {
@@ -150,7 +156,8 @@ fn missing_name(tables: &Tables, def: NamedDef) -> Option<Missing>
 }
 
 fn missing_in_names(tables: &Tables, id: EnumVariantId, parent: EnumId) -> Option<Missing>
-    ensures { (store : Contents) (words : List (List ℕ)) (one_line : Bool) → let s = setting store (answers tables.now) words one_line in
+    ensures { (store : Contents) (words : List (List ℕ)) (one_line : Bool)
+        → let s = setting store (answers tables.now) words one_line in
         result ≡ first_missing (printed s (of_enum s id (Ok parent))) }
 {
     match missing_name(tables, NamedDef::EnumId(parent)) {
@@ -160,7 +167,8 @@ fn missing_in_names(tables: &Tables, id: EnumVariantId, parent: EnumId) -> Optio
 }
 
 fn missing_in_variant(tables: &Tables, id: EnumVariantId) -> Option<Missing>
-    ensures { (store : Contents) (words : List (List ℕ)) (one_line : Bool) → let s = setting store (answers tables.now) words one_line in
+    ensures { (store : Contents) (words : List (List ℕ)) (one_line : Bool)
+        → let s = setting store (answers tables.now) words one_line in
         result ≡ first_missing (printed s (variant_name s (parents tables.now) id)) }
 {
     match tables.variant_parent(id) {

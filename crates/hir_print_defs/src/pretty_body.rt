@@ -10,7 +10,7 @@ ghost use Rattle.hir_pretty.specs.Answers.{answers};
 ghost use Rattle.hir_pretty.specs.Printed.{PrintsPieces};
 ghost use Rattle.hir_pretty.specs.Works.{printed};
 ghost use Rattle.hir_print_defs.specs.Bodies.{body_items};
-ghost use Rattle.hir_print_defs.specs.Found.{parents};
+ghost use Rattle.hir_print_defs.specs.FoundParts.{parents};
 
 use crate::bodies::print_body_hir;
 use hir_base::{DefWithBodyId, Edition, ExpressionStoreOwnerId};
@@ -47,7 +47,8 @@ pub trait PrettyBody {
         edition: Edition,
     ) -> Result<String, PrintFault>
         requires { expr < length (contents self.now).store.nodes.exprs }
-        ensures { let s = setting (contents self.now).store (answers tables.now) (words_of tables.now.words edition) false in
+        ensures { let s = setting (contents self.now).store (answers tables.now)
+            (words_of tables.now.words edition) false in
             PrintsPieces s (pieces s (node.Expr expr)) result };
 
     /// The text of a pattern of the body, as `print_pat_hir` gives it. The pattern has to be there: `has_pat` of the store tests it.
@@ -61,7 +62,8 @@ pub trait PrettyBody {
         edition: Edition,
     ) -> Result<String, PrintFault>
         requires { pat < length (contents self.now).store.nodes.pats }
-        ensures { let s = setting (contents self.now).store (answers tables.now) (words_of tables.now.words edition) oneline in
+        ensures { let s = setting (contents self.now).store (answers tables.now)
+            (words_of tables.now.words edition) oneline in
             PrintsPieces s (pieces s (node.Pat pat)) result };
 }
 

@@ -4,9 +4,9 @@
 ghost use Rattle.std.specs.Prelude.{is_ok};
 ghost use Rattle.hir_base.specs.RawWords.{words_of};
 ghost use Rattle.hir_page.specs.Writes.{Writes};
-ghost use Rattle.hir_print_defs.specs.Found.{function_found, struct_found};
+ghost use Rattle.hir_print_defs.specs.FoundParts.{function_found, struct_found};
 ghost use Rattle.hir_print_defs.specs.Owners.{PrintsFunction, PrintsStruct, PrintsOther, PrintsAdt, PrintsSignature};
-ghost use Rattle.hir_print_defs.specs.Added.{unimplemented_pieces};
+ghost use Rattle.hir_print_defs.specs.AddedItems.{unimplemented_pieces};
 
 use crate::functions::print_function;
 use crate::structs::print_struct;
@@ -22,7 +22,8 @@ fn write_unimplemented<W: PieceWriter>(
     kind: &str,
     id: u32,
 ) -> Result<(), AllocError>
-    ensures { Writes W.step W.refuses writer.old (unimplemented_pieces kind.now id) (is_ok result) writer.new }
+    ensures { Writes W.step W.refuses writer.old (unimplemented_pieces kind.now id)
+        (is_ok result) writer.new }
 {
     writer.text("unimplemented ")?;
     writer.text(kind)?;
@@ -49,7 +50,8 @@ fn print_function_of(
     id: FunctionId,
     edition: Edition,
 ) -> Result<String, PrintFault>
-    ensures { PrintsFunction tables.now (words_of tables.now.words edition) id (function_found tables.now id) result }
+    ensures { PrintsFunction tables.now (words_of tables.now.words edition) id
+        (function_found tables.now id) result }
 {
     match tables.function_signature(id) {
         Ok(signature) => print_function(alloc, tables, id, signature, edition),
@@ -63,7 +65,8 @@ fn print_struct_of(
     id: StructId,
     edition: Edition,
 ) -> Result<String, PrintFault>
-    ensures { PrintsStruct tables.now (words_of tables.now.words edition) id (struct_found tables.now id) result }
+    ensures { PrintsStruct tables.now (words_of tables.now.words edition) id
+        (struct_found tables.now id) result }
 {
     match tables.struct_signature(id) {
         Ok(signature) => print_struct(alloc, tables, id, signature, edition),

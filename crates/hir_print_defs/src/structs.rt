@@ -10,7 +10,7 @@ ghost use Rattle.hir_pretty.specs.Items.{text, br, opt, when};
 ghost use Rattle.hir_pretty.specs.Answers.{answers};
 ghost use Rattle.hir_pretty.specs.Printed.{PrintsPieces};
 ghost use Rattle.hir_pretty.specs.Works.{printed};
-ghost use Rattle.hir_print_defs.specs.Added.{listed, AddsAll};
+ghost use Rattle.hir_print_defs.specs.AddedItems.{listed, AddsAll};
 ghost use Rattle.hir_print_defs.specs.Signatures.{repr_items, shape_begin, shape_end, struct_front, struct_items};
 
 use crate::generics::{add_generics, add_where};
@@ -25,7 +25,8 @@ fn add_attribute_if(
     holds: bool,
     attribute: &'static str,
 ) -> Result<(), AllocError>
-    ensures { OnOk result (AddsAll (listed works.old) (λ s. when holds (text attribute.now ++ br)) (listed works.new)) }
+    ensures { OnOk result (AddsAll (listed works.old) (λ s. when holds (text attribute.now ++ br))
+        (listed works.new)) }
 {
     if holds {
         return works.add(&[Work::Text(attribute), Work::Break]);
@@ -40,7 +41,8 @@ fn add_bytes(
     bytes: Option<u64>,
 ) -> Result<(), AllocError>
     ensures { OnOk result (AddsAll (listed works.old)
-        (λ s. opt (λ n. text before.now ++ text (decimal n) ++ text (codes "))]") ++ br) bytes) (listed works.new)) }
+        (λ s. opt (λ n. text before.now ++ text (decimal n) ++ text (codes "))]") ++ br) bytes)
+        (listed works.new)) }
 {
     match bytes {
         None => Ok(()),
@@ -95,7 +97,8 @@ fn add_front<'a>(
     repr: Option<Repr>,
     signature: &'a StructSignature,
 ) -> Result<(), AllocError>
-    ensures { OnOk result (AddsAll (listed works.old) (λ s. struct_front s repr signature.now) (listed works.new)) }
+    ensures { OnOk result (AddsAll (listed works.old) (λ s. struct_front s repr signature.now)
+        (listed works.new)) }
 {
     add_repr_opt(works, repr)?;
     add_attribute_if(works, signature.is_fundamental(), "#[fundamental]")?;
@@ -108,7 +111,8 @@ fn add_struct<'a>(
     repr: Option<Repr>,
     signature: &'a StructSignature,
 ) -> Result<(), AllocError>
-    ensures { OnOk result (AddsAll (listed works.old) (λ s. struct_items s repr signature.now) (listed works.new)) }
+    ensures { OnOk result (AddsAll (listed works.old) (λ s. struct_items s repr signature.now)
+        (listed works.new)) }
 {
     add_front(works, repr, signature)?;
     add_begin(works, signature.shape())?;
@@ -128,8 +132,10 @@ pub fn print_struct(
     signature: &StructSignature,
     edition: Edition,
 ) -> Result<String, PrintFault>
-    ensures { let s = setting signature.now.store (answers tables.now) (words_of tables.now.words edition) false in
-        PrintsPieces s (printed s (struct_items s (map.get tables.now.reprs (id ∷ [])) signature.now)) result }
+    ensures { let s = setting signature.now.store (answers tables.now)
+        (words_of tables.now.words edition) false in
+        PrintsPieces s (printed s (struct_items s (map.get tables.now.reprs (id ∷ [])) signature.now))
+        result }
 {
     let mut works = Works::new(alloc);
     match add_struct(&mut works, tables.repr(id), signature) {

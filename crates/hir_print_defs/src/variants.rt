@@ -6,15 +6,15 @@ ghost use Rattle.std.specs.List.{flat_map};
 ghost use Rattle.hir_base.specs.RawWords.{words_of};
 ghost use Rattle.hir_expr_store.specs.Contents.{Contents};
 ghost use Rattle.hir_pretty.specs.Settings.{setting};
-ghost use Rattle.hir_pretty.specs.Items.{text, joined};
+ghost use Rattle.hir_pretty.specs.Items.{text, join};
 ghost use Rattle.hir_pretty.specs.Names.{name_items};
 ghost use Rattle.hir_pretty.specs.Paths.{supers};
 ghost use Rattle.hir_pretty.specs.Answers.{answers};
 ghost use Rattle.hir_pretty.specs.Printed.{PrintsPieces};
 ghost use Rattle.hir_pretty.specs.Works.{printed};
-ghost use Rattle.hir_print_defs.specs.Added.{listed, AddsAsked, AddsAll};
+ghost use Rattle.hir_print_defs.specs.AddedItems.{listed, AddsAsked, AddsAll};
 ghost use Rattle.hir_print_defs.specs.Variants.{LacksFields, module_items, visibility_items, field_line, fields_begin, fields_end, fields_items, variant_items, without_fields};
-ghost use Rattle.hir_print_defs.specs.Found.{parents, fields_found};
+ghost use Rattle.hir_print_defs.specs.FoundParts.{parents, fields_found};
 
 use crate::heads::{add_variant_head, missing_in_head};
 use crate::works::{Works, before_more};
@@ -27,7 +27,7 @@ use std::alloc::{AllocError, Global};
 /// Adds names, with `::` between them, after a word for where a path begins.
 fn add_behind<'a>(works: &mut Works<'a>, word: &'a str, names: &'a [Name]) -> Result<(), AllocError>
     ensures { OnOk result (AddsAll (listed works.old)
-        (λ s. joined (text (codes "::")) (text word.now ∷ map (name_items s) names.now)) (listed works.new)) }
+        (λ s. join (text (codes "::")) (text word.now ∷ map (name_items s) names.now)) (listed works.new)) }
 {
     works.add(&[
         Work::Text(word),
@@ -42,7 +42,7 @@ fn add_behind_supers<'a>(
     names: &'a [Name],
 ) -> Result<(), AllocError>
     ensures { OnOk result (AddsAll (listed works.old)
-        (λ s. joined (text (codes "::")) (supers times ∷ map (name_items s) names.now)) (listed works.new)) }
+        (λ s. join (text (codes "::")) (supers times ∷ map (name_items s) names.now)) (listed works.new)) }
 {
     works.add(&[
         Work::Path(PathPart::Supers(times)),
@@ -53,7 +53,7 @@ fn add_behind_supers<'a>(
 
 fn add_absolute<'a>(works: &mut Works<'a>, names: &'a [Name]) -> Result<(), AllocError>
     ensures { OnOk result (AddsAll (listed works.old)
-        (λ s. joined (text (codes "::")) ([] ∷ map (name_items s) names.now)) (listed works.new)) }
+        (λ s. join (text (codes "::")) ([] ∷ map (name_items s) names.now)) (listed works.new)) }
 {
     works.add(&[
         before_more("::", names),
@@ -88,7 +88,8 @@ fn add_visibility<'a>(
     works: &mut Works<'a>,
     visibility: &'a RawVisibility,
 ) -> Result<(), AllocError>
-    ensures { OnOk result (AddsAll (listed works.old) (λ s. visibility_items s visibility.now) (listed works.new)) }
+    ensures { OnOk result (AddsAll (listed works.old) (λ s. visibility_items s visibility.now)
+        (listed works.new)) }
 {
     match visibility {
         RawVisibility::Module(path) => add_in_module(works, path),
@@ -114,7 +115,8 @@ fn add_field<'a>(works: &mut Works<'a>, field: &'a FieldData) -> Result<(), Allo
 }
 
 fn add_each_field<'a>(works: &mut Works<'a>, fields: &'a [FieldData]) -> Result<(), AllocError>
-    ensures { OnOk result (AddsAll (listed works.old) (λ s. flat_map (field_line s) fields.now) (listed works.new)) }
+    ensures { OnOk result (AddsAll (listed works.old) (λ s. flat_map (field_line s) fields.now)
+        (listed works.new)) }
 {
     let mut left = fields;
     while let [field, rest @ ..] = left {
@@ -150,7 +152,8 @@ fn add_fields<'a>(
     shape: FieldsShape,
     fields: &'a [FieldData],
 ) -> Result<(), AllocError>
-    ensures { OnOk result (AddsAll (listed works.old) (λ s. fields_items s shape fields.now) (listed works.new)) }
+    ensures { OnOk result (AddsAll (listed works.old) (λ s. fields_items s shape fields.now)
+        (listed works.new)) }
 {
     add_begin(works, shape)?;
     add_each_field(works, fields)?;
@@ -178,7 +181,8 @@ fn print_fields(
     fields: &VariantFields,
     edition: Edition,
 ) -> Result<String, PrintFault>
-    ensures { let s = setting fields.now.store (answers tables.now) (words_of tables.now.words edition) false in
+    ensures { let s = setting fields.now.store (answers tables.now)
+        (words_of tables.now.words edition) false in
         PrintsPieces s (printed s (variant_items s (parents tables.now) owner.now fields.now)) result }
 {
     let mut works = Works::new(alloc);
@@ -192,7 +196,8 @@ fn print_fields(
 /// The fields that the tables have, or the first that is missing: in the head, or the fields.
 fn fields_of<'a>(tables: &'a Tables, owner: &VariantId) -> Result<&'a VariantFields, Missing>
     ensures found { IfOk result (λ fields. fields_found tables.now owner.now ≡ Some fields.now) }
-    ensures absent { IfErr result (λ missing. (fields_found tables.now owner.now ≡ None) × LacksFields (answers tables.now) (parents tables.now) owner.now missing) }
+    ensures absent { IfErr result (λ missing. (fields_found tables.now owner.now ≡ None)
+        × LacksFields (answers tables.now) (parents tables.now) owner.now missing) }
 {
     match tables.variant_fields(*owner) {
         Ok(fields) => Ok(fields),

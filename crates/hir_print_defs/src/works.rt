@@ -8,7 +8,7 @@ ghost use Rattle.hir_pretty.specs.Items.{text};
 ghost use Rattle.hir_pretty.specs.Answers.{answers};
 ghost use Rattle.hir_pretty.specs.Printed.{PrintsPieces};
 ghost use Rattle.hir_pretty.specs.Works.{stands_for, printed};
-ghost use Rattle.hir_print_defs.specs.Added.{before};
+ghost use Rattle.hir_print_defs.specs.AddedItems.{before};
 
 use hir_base::Edition;
 use hir_defs::Tables;
@@ -23,7 +23,7 @@ pub(crate) struct Works<'a> {
 }
 
 impl<'a> Works<'a> {
-    ghost use Rattle.hir_print_defs.specs.Added.{listed, meant, Follows};
+    ghost use Rattle.hir_print_defs.specs.AddedItems.{listed, meant, Follows};
 
     /// An empty list, which allocates from `alloc`, and nothing now.
     pub(crate) fn new(alloc: Global) -> Works<'a>

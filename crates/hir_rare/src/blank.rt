@@ -2,7 +2,7 @@
 ghost use Rattle.std.specs.Prelude.{◌≡◌, []};
 ghost use Rattle.std.specs.FinMap as map;
 
-use hir_base::{Keyed, Seq, Table};
+use hir_base::{HasCode, Seq, Table};
 use std::alloc::Global;
 
 /// Types with a blank value.
@@ -15,7 +15,7 @@ pub trait Blank: Sized {
         ensures { result ≡ blank };
 }
 
-impl<K: Keyed, V> Blank for Table<K, V> {
+impl<K: HasCode, V> Blank for Table<K, V> {
     ghost blank = { map.empty };
 
     fn blank(alloc: Global) -> Table<K, V> {

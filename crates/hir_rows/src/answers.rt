@@ -8,7 +8,7 @@ use std::alloc::{AllocError, Global};
 
 /// A line that makes or asks something, and the answer lines that stand behind it. The title is asked nothing.
 #[derive(Drop)]
-struct Asked<'a> {
+struct Question<'a> {
     index: usize,
     line: &'a str,
     wanted: String,
@@ -25,7 +25,7 @@ fn is_read(line: &str) -> bool {
 }
 
 /// How many lines of a row are compared: those before a bad line, and where memory ran out, those that were answered.
-fn compared(outcome: Result<(), TextFault>, entries: &[Entry]) -> usize {
+fn compared_lines(outcome: Result<(), TextFault>, entries: &[Entry]) -> usize {
     match outcome {
         Ok(()) => usize::MAX,
         Err(TextFault::BadLine(number)) => number.saturating_sub(1),
@@ -37,7 +37,7 @@ fn compared(outcome: Result<(), TextFault>, entries: &[Entry]) -> usize {
 fn compare<'a>(
     alloc: Global,
     row: &Row<'_>,
-    asked: &Asked<'_>,
+    asked: &Question<'_>,
     left: &'a [Entry],
     report: &mut Report,
 ) -> Result<&'a [Entry], AllocError> {
@@ -65,7 +65,7 @@ fn compare_lines(
     report: &mut Report,
 ) -> Result<(), AllocError> {
     let mut left = entries;
-    let mut asked = Asked {
+    let mut asked = Question {
         index: 0,
         line: row.title(),
         wanted: String::new(alloc),
@@ -80,7 +80,7 @@ fn compare_lines(
                 return Ok(());
             }
             let wanted = String::new(alloc);
-            asked = Asked {
+            asked = Question {
                 index,
                 line,
                 wanted,
@@ -100,7 +100,13 @@ pub(crate) fn compare_answers(
     let mut answers = Answers::new(alloc);
     let outcome = answer(alloc, row.text(), &mut answers);
     let entries = answers.as_slice();
-    compare_lines(alloc, row, compared(outcome, entries), entries, report)?;
+    compare_lines(
+        alloc,
+        row,
+        compared_lines(outcome, entries),
+        entries,
+        report,
+    )?;
     match outcome {
         Ok(()) if entries.is_empty() => Ok(report.asks_nothing(row.place(0, row.title()))?),
         Ok(()) => Ok(()),

@@ -17,10 +17,10 @@ use Rattle.hir_run.specs.Output.{Output, Wrote}
 use Rattle.hir_run.specs.Outcomes.{is_input_failed, is_output_failed}
 use Rattle.hir_run.specs.Places.{Place, TakesNext, unread}
 use Rattle.hir_run.specs.Program.{IsLineAnswer, AreAnswers}
-use Rattle.hir_run.specs.Stages.{IsAsked, TakesLine, AsksLine, asked, HaveAnswers, Answered, AsksUpTo, Asks}
+use Rattle.hir_run.specs.Stages.{IsAsked, TakesLine, AsksLine, section_from, HaveAnswers, Answered, AsksUpTo, Asks}
 use Rattle.hir_run.proofs.Refusals.{behind_line, behind_none, some_text}
 use Rattle.hir_run.proofs.Scripts.{says-push}
-use Rattle.hir_run.proofs.WritingLemmas.{Wrote-then, WroteFront-then, all_written, cut, kept}
+use Rattle.hir_run.proofs.WritingLemmas.{Wrote-then, WroteFront-then, all_written, cut, rest_waits}
 
 -- a line that isn't read as a question ends no end of the run
 pub asked_marks_none : (X : Type 0) (lines : LineState) (fault : RunFault) → IsAsked lines (Err fault) → (is_input_failed {X = X} (Err fault) ≡ false) × (is_output_failed {X = X} (Err fault) ≡ false)
@@ -34,7 +34,7 @@ asked_marks_none X lines (BodyRefused fault) a = absurd a
 -- so far these lines were read, and the section that begins with the first question was answered
 abbrev pub SoFar : (Question → Bool) → (Question → List ℕ → Type 0) → Question → Place → Place → Type 0
 SoFar may Is first start now =
-    (texts : List (List ℕ)) × Answered may Is (asked first texts) start.output now.output
+    (texts : List (List ℕ)) × Answered may Is (section_from first texts) start.output now.output
     × Reads (unread start) texts (unread now) now.lines.at_end × (now.lines.count ≡ start.lines.count + length texts)
 
 -- the end isn't met now, so it wasn't before
@@ -52,17 +52,17 @@ both_so true true h k = refl
 both_so true false h k = k
 both_so false b h k = h
 
-asked_push : (first : Question) (texts : List (List ℕ)) (text : List ℕ) → asked first (texts ++ text ∷ []) ≡ asked first texts ++ line_of text ∷ []
+asked_push : (first : Question) (texts : List (List ℕ)) (text : List ℕ) → section_from first (texts ++ text ∷ []) ≡ section_from first texts ++ line_of text ∷ []
 asked_push first texts text = ap (λ v. Ask first ∷ v) (says-push texts text)
 
 module _ (may : Question → Bool) (Is : Question → List ℕ → Type 0) where
   -- one more line has an answer
-  have_more : (first : Question) (texts : List (List ℕ)) (text : List ℕ) (answers answer : List ℕ) → HaveAnswers may Is (asked first texts) answers → may_ask may (line_of text) ≡ true → IsLineAnswer Is (line_of text) answer → HaveAnswers may Is (asked first (texts ++ text ∷ [])) (answers ++ answer)
+  have_more : (first : Question) (texts : List (List ℕ)) (text : List ℕ) (answers answer : List ℕ) → HaveAnswers may Is (section_from first texts) answers → may_ask may (line_of text) ≡ true → IsLineAnswer Is (line_of text) answer → HaveAnswers may Is (section_from first (texts ++ text ∷ [])) (answers ++ answer)
   have_more first texts text answers answer have may_be is =
       subst (λ (ls : List Line). HaveAnswers may Is ls (answers ++ answer)) (sym (asked_push first texts text))
-      (list_all-append (may_ask may) (asked first texts) (line_of text ∷ []) ∙ both_so (list_all (may_ask may) (asked first texts)) (may_ask may (line_of text)) have.0 may_be, answers_push Is (asked first texts) (line_of text) answers answer have.1 is)
+      (list_all-append (may_ask may) (section_from first texts) (line_of text ∷ []) ∙ both_so (list_all (may_ask may) (section_from first texts)) (may_ask may (line_of text)) have.0 may_be, answers_push Is (section_from first texts) (line_of text) answers answer have.1 is)
 
-  have_first : (first : Question) (text : List ℕ) → may first ≡ true → IsLineAnswer Is (Ask first) text → HaveAnswers may Is (asked first []) text
+  have_first : (first : Question) (text : List ℕ) → may first ≡ true → IsLineAnswer Is (Ask first) text → HaveAnswers may Is (section_from first []) text
   have_first first text may_be is = (rw may_be refl, (text, [], is, refl, sym (append-nil text)))
 
   -- a line that isn't read as a question
@@ -76,7 +76,7 @@ module _ (may : Question → Bool) (Is : Question → List ℕ → Type 0) where
 
   module _ (first : Question) (start : Place) where
     -- the first question was answered
-    pub first_answered : (new : Output) (left : Option Question) → is_some left ≡ false → TakesLine may Is (Ask first) start.output new left → Answered may Is (asked first []) start.output new
+    pub first_answered : (new : Output) (left : Option Question) → is_some left ≡ false → TakesLine may Is (Ask first) start.output new left → Answered may Is (section_from first []) start.output new
     first_answered new None none (may_be, text, is, written) = (text, have_first first text may_be is, written)
     first_answered new (Some left) none t = cc
 
@@ -100,7 +100,7 @@ module _ (may : Question → Bool) (Is : Question → List ℕ → Type 0) where
       abbrev texts : List (List ℕ)
       texts = all.0
 
-      abbrev so_far : Answered may Is (asked first texts) start.output p.output
+      abbrev so_far : Answered may Is (section_from first texts) start.output p.output
       so_far = all.1
 
       read : Reads (unread start) texts (unread p) p.lines.at_end
@@ -110,8 +110,8 @@ module _ (may : Question → Bool) (Is : Question → List ℕ → Type 0) where
       count = all.3
 
       -- some of what waited was written before a read
-      pub answered_kept : (q : Place) → IsWrittenUpTo p.output.contents q.output.contents p.output.waiting q.output.waiting → Answered may Is (asked first texts) start.output q.output
-      answered_kept q w = (so_far.0, so_far.1, kept start.output p.output q.output so_far.0 so_far.2 w)
+      pub answered_kept : (q : Place) → IsWrittenUpTo p.output.contents q.output.contents p.output.waiting q.output.waiting → Answered may Is (section_from first texts) start.output q.output
+      answered_kept q w = (so_far.0, so_far.1, rest_waits start.output p.output q.output so_far.0 so_far.2 w)
 
       -- no line could be had
       pub fails_to_read : (q : Place) (fault : LineFault) → TakesNext p q (Err fault) → Asks may Is start q first (Err (fault_of_line fault))
@@ -137,13 +137,13 @@ module _ (may : Question → Bool) (Is : Question → List ℕ → Type 0) where
         front_on = ReadsFront-now (unread start) (unread q) (texts ++ q.lines.line ∷ []) q.lines.at_end read_on
 
         before : Wrote start.output q.output so_far.0
-        before = kept start.output p.output q.output so_far.0 so_far.2 t.writes
+        before = rest_waits start.output p.output q.output so_far.0 so_far.2 t.writes
 
-        untouched : (new : Output) → new ≡ q.output → Answered may Is (asked first texts) start.output new
-        untouched new same = subst (λ (o : Output). Answered may Is (asked first texts) start.output o) (sym same) (answered_kept q t.writes)
+        untouched : (new : Output) → new ≡ q.output → Answered may Is (section_from first texts) start.output new
+        untouched new same = subst (λ (o : Output). Answered may Is (section_from first texts) start.output o) (sym same) (answered_kept q t.writes)
 
         -- and answered
-        pub line_answered : (new : Output) (left : Option Question) → is_some left ≡ false → TakesLine may Is (line_of q.lines.line) q.output new left → Answered may Is (asked first (texts ++ q.lines.line ∷ [])) start.output new
+        pub line_answered : (new : Output) (left : Option Question) → is_some left ≡ false → TakesLine may Is (line_of q.lines.line) q.output new left → Answered may Is (section_from first (texts ++ q.lines.line ∷ [])) start.output new
         line_answered new (Some left) none a = cc
         line_answered new None none (may_be, answer, is, written) =
             (so_far.0 ++ answer, have_more first texts q.lines.line so_far.0 answer so_far.1 may_be is, Wrote-then start.output q.output new so_far.0 answer before written)

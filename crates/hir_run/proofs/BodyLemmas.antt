@@ -4,7 +4,7 @@ use Rattle.std.specs.FinMap as map
 use Rattle.std.specs.Option.{option_map}
 use Rattle.std.proofs.lemmas.Bool.{false≢true}
 use Rattle.hir_items.specs.Bodies.{BodyContents}
-use Rattle.hir_scope.specs.Built.{AreBodyScopes}
+use Rattle.hir_scope.specs.BodyScopes.{AreBodyScopes}
 use Rattle.hir_scope.specs.Paths.{chain}
 use Rattle.hir_scope.specs.Scopes.{Scopes}
 use Rattle.hir_run.specs.Answer.{IsChainOf, chain_by}

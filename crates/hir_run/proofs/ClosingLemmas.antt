@@ -25,13 +25,13 @@ use Rattle.hir_run.specs.Run.{EndsWith, RunsTo}
 use Rattle.hir_run.specs.Stages.{Builds, IsBodyOf, Accepts, AsksLine, RunsUpTo, Closes}
 
 -- what waited was written too, of a run that began where nothing waited
-closed : (start p : Output) (new : Option (List ℕ)) (text : List ℕ) → start.waiting ≡ [] → Wrote start p text → Appends p.contents new p.waiting → Appends start.contents new text
-closed start p new text none w a =
+then_all_waiting : (start p : Output) (new : Option (List ℕ)) (text : List ℕ) → start.waiting ≡ [] → Wrote start p text → Appends p.contents new p.waiting → Appends start.contents new text
+then_all_waiting start p new text none w a =
     subst (λ (x : List ℕ). Appends start.contents new (x ++ text)) none (subst (λ (x : List ℕ). Appends start.contents new x) (sym w.1) (Appends-twice start.contents p.contents new w.0 p.waiting w.2 a))
 
 -- a write of what waited failed
-cut : (start p : Output) (new : Option (List ℕ)) (text : List ℕ) → start.waiting ≡ [] → Wrote start p text → GrowsByFront p.contents new p.waiting → GrowsByFront start.contents new text
-cut start p new text none w g =
+then_some_waiting : (start p : Output) (new : Option (List ℕ)) (text : List ℕ) → start.waiting ≡ [] → Wrote start p text → GrowsByFront p.contents new p.waiting → GrowsByFront start.contents new text
+then_some_waiting start p new text none w g =
     subst (λ (x : List ℕ). GrowsByFront start.contents new (x ++ text)) none (subst (λ (x : List ℕ). GrowsByFront start.contents new x) (sym w.1) (GrowsByFront-after start.contents p.contents new w.0 p.waiting w.2 g))
 
 -- a front of the text, where nothing waited
@@ -51,27 +51,27 @@ module _ (input : List ℕ) (start : Output) (p : Place) (new : Option (List ℕ
   After outcome = EndsWith input (Appends start.contents new) (GrowsByFront start.contents new) p.remaining p.lines outcome
 
   closes_well : (outcome : Outcome) → Before outcome → Appends p.output.contents new p.output.waiting → (p.output.waiting ≡ [] → new ≡ p.output.contents) → After outcome
-  closes_well (Ok done) (text, means, w) a idle = (text, means, closed start p.output new text fresh w a)
-  closes_well (Err (BadLine n)) (text, means, w) a idle = (text, means, closed start p.output new text fresh w a)
-  closes_well (Err (Refused fault)) (text, means, w) a idle = (text, means, closed start p.output new text fresh w a)
-  closes_well (Err (BodyRefused fault)) (text, means, w) a idle = (text, means, closed start p.output new text fresh w a)
+  closes_well (Ok done) (text, means, w) a idle = (text, means, then_all_waiting start p.output new text fresh w a)
+  closes_well (Err (BadLine n)) (text, means, w) a idle = (text, means, then_all_waiting start p.output new text fresh w a)
+  closes_well (Err (Refused fault)) (text, means, w) a idle = (text, means, then_all_waiting start p.output new text fresh w a)
+  closes_well (Err (BodyRefused fault)) (text, means, w) a idle = (text, means, then_all_waiting start p.output new text fresh w a)
   closes_well (Err InputFailed) (texts, begun, unread, short, left, text, has, w) a idle =
-      (texts, begun, unread, short, left, text, has, closed start p.output new text fresh w a)
+      (texts, begun, unread, short, left, text, has, then_all_waiting start p.output new text fresh w a)
   closes_well (Err OutputFailed) (text, of, (grows, none)) a idle =
       (text, of, subst (λ (v : Option (List ℕ)). GrowsByFront start.contents v text) (sym (idle none)) (front start p.output text fresh (grows, none)))
   closes_well (Err OutOfMemory) (texts, more, every, at, text, has, w) a idle =
-      (texts, more, every, at, text, has, closed start p.output new text fresh w a)
+      (texts, more, every, at, text, has, then_all_waiting start p.output new text fresh w a)
 
   closes_ill : (outcome : Outcome) → Before outcome → GrowsByFront p.output.contents new p.output.waiting → (p.output.waiting ≡ [] → ⊥) → After (Err OutputFailed)
-  closes_ill (Ok done) (text, means, w) g some = (text, inr (Ok done, means), cut start p.output new text fresh w g)
-  closes_ill (Err (BadLine n)) (text, means, w) g some = (text, inr (_, means), cut start p.output new text fresh w g)
-  closes_ill (Err (Refused fault)) (text, means, w) g some = (text, inr (_, means), cut start p.output new text fresh w g)
-  closes_ill (Err (BodyRefused fault)) (text, means, w) g some = (text, inr (_, means), cut start p.output new text fresh w g)
+  closes_ill (Ok done) (text, means, w) g some = (text, inr (Ok done, means), then_some_waiting start p.output new text fresh w g)
+  closes_ill (Err (BadLine n)) (text, means, w) g some = (text, inr (_, means), then_some_waiting start p.output new text fresh w g)
+  closes_ill (Err (Refused fault)) (text, means, w) g some = (text, inr (_, means), then_some_waiting start p.output new text fresh w g)
+  closes_ill (Err (BodyRefused fault)) (text, means, w) g some = (text, inr (_, means), then_some_waiting start p.output new text fresh w g)
   closes_ill (Err InputFailed) (texts, begun, unread, short, left, text, has, w) g some =
-      (text, inl (texts, lines (begun ++ unread), first_lines input texts begun unread short, has), cut start p.output new text fresh w g)
+      (text, inl (texts, lines (begun ++ unread), first_lines input texts begun unread short, has), then_some_waiting start p.output new text fresh w g)
   closes_ill (Err OutputFailed) (text, of, (grows, none)) g some = absurd (some none)
   closes_ill (Err OutOfMemory) (texts, more, every, at, text, has, w) g some =
-      (text, inl (texts, more, every, has), cut start p.output new text fresh w g)
+      (text, inl (texts, more, every, has), then_some_waiting start p.output new text fresh w g)
 
 pub closes : (known : Option (List ℕ)) (start : Output) (p : Place) (new : Output) (outcome result : Outcome) → start.waiting ≡ [] → RunsUpTo known start p outcome → Closes p.output new outcome result → RunsTo known start.contents p.remaining new.contents p.lines result
 closes None start p new outcome result fresh r c = tt

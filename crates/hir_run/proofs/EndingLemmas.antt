@@ -2,7 +2,7 @@
 use Rattle.std.proofs.Common.{◌≡◌, ◌+◌, ℕ, true, false, List, [], ◌∷◌, ◌++◌, Option, None, Some, Result, Ok, Err, length, inr, refl, sym, ap, ◌∙◌, append_assoc, append-nil, arith, subst}
 use Rattle.std.specs.Prelude.{codes}
 use Rattle.std.specs.List.{list_all}
-use Rattle.hir_io.specs.NextLine.{untaken}
+use Rattle.hir_io.specs.NextLine.{bytes_left}
 use Rattle.hir_io.specs.LineState.{LineState}
 use Rattle.hir_lines.specs.Line.{Line, Ask, Bad, makes, asks, any_question}
 use Rattle.hir_lines.specs.declared.question.Question.{Question}
@@ -39,14 +39,14 @@ meaning-alone ls text outcome all course =
     let e : ls ++ [] ≡ ls = append-nil ls in
     rw e at (means_behind ls [] text outcome all no_line course)
 
-untaken_all : (known : Option (List ℕ)) → untaken [] false known ≡ known
+untaken_all : (known : Option (List ℕ)) → bytes_left [] false known ≡ known
 untaken_all None = refl
 untaken_all (Some rest) = refl
 
 -- a new reader of lines has taken nothing
 pub from_the_start : (start now : Place) (parts : Parts) (r : Result (Option Question) RunFault) → start.lines ≡ no_lines → Builds (unread start) now parts r → Builds start.remaining now parts r
 from_the_start start now parts r e b =
-    subst (λ (v : Option (List ℕ)). Builds v now parts r) (ap (λ (l : LineState). untaken l.pending l.at_end start.remaining) e ∙ untaken_all start.remaining) b
+    subst (λ (v : Option (List ℕ)). Builds v now parts r) (ap (λ (l : LineState). bytes_left l.pending l.at_end start.remaining) e ∙ untaken_all start.remaining) b
 
 -- nothing was written so far
 module _ (input : List ℕ) (start : Output) (p : Place) (built : Parts) (nothing : Wrote start p.output []) where

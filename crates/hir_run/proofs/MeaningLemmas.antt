@@ -12,7 +12,7 @@ use Rattle.hir_store.specs.Building.{Building, contents_of, finish_fault}
 use Rattle.hir_items.specs.declared.body_fault.BodyFault.{BodyFault}
 use Rattle.hir_items.specs.Bodies.{BodyContents, body_fault}
 use Rattle.hir_captures.specs.Captures.{AreCaptures, IsReachedClosure}
-use Rattle.hir_scope.specs.Built.{tops_of_body}
+use Rattle.hir_scope.specs.BodyScopes.{tops_of_body}
 use Rattle.hir_scope.specs.Chains.{HasChain}
 use Rattle.hir_scope.specs.Frames.{Chain}
 use Rattle.hir_run.specs.declared.fault.RunFault.{RunFault}

@@ -18,14 +18,14 @@ use Rattle.hir_store.specs.Building.{Building}
 use Rattle.hir_run.specs.Stages.{Builds, Finishes}
 
 -- an item of a list with one more is one of the list, or the one more
-pushed : {X : Type 0} (xs : List X) (x : X) (i : ℕ) (y : X) → slice_get (xs ++ x ∷ []) i ≡ Some y → (slice_get xs i ≡ Some y) ⊎ (x ≡ y)
-pushed [] x zero y e = inr (cc)
-pushed [] x (suc i) y e = cc
-pushed (z ∷ xs) x zero y e = inl e
-pushed (z ∷ xs) x (suc i) y e = pushed xs x i y e
+in_one_more : {X : Type 0} (xs : List X) (x : X) (i : ℕ) (y : X) → slice_get (xs ++ x ∷ []) i ≡ Some y → (slice_get xs i ≡ Some y) ⊎ (x ≡ y)
+in_one_more [] x zero y e = inr (cc)
+in_one_more [] x (suc i) y e = cc
+in_one_more (z ∷ xs) x zero y e = inl e
+in_one_more (z ∷ xs) x (suc i) y e = in_one_more xs x i y e
 
 more : {X : Type 0} (P : X → Type 0) (xs : List X) (x : X) → ((i : ℕ) (y : X) → slice_get xs i ≡ Some y → P y) → P x → (i : ℕ) (y : X) → slice_get (xs ++ x ∷ []) i ≡ Some y → P y
-more P xs x all here i y e = by (pushed xs x i y e) where
+more P xs x all here i y e = by (in_one_more xs x i y e) where
   by : (slice_get xs i ≡ Some y) ⊎ (x ≡ y) → P y
   by (inl there) = all i y there
   by (inr same) = subst P same here
@@ -45,8 +45,8 @@ with_more m h line.roots = h
 with_more m h line.root = h
 
 -- what is written in a text
-written : ((text : List ℕ) → IsLine (line_of text) text) → (text : List ℕ) (maker : Maker) → line_of text ≡ Make maker → (tokens : List Token) × IsMaker maker tokens
-written said text maker e = let is = subst (λ (l : Line). IsLine l text) e (said text) in (is.0, is.1)
+tokens_of_maker : ((text : List ℕ) → IsLine (line_of text) text) → (text : List ℕ) (maker : Maker) → line_of text ≡ Make maker → (tokens : List Token) × IsMaker maker tokens
+tokens_of_maker said text maker e = let is = subst (λ (l : Line). IsLine l text) e (said text) in (is.0, is.1)
 
 unless_make : (has_self has_name : Bool) (line : Line) (maker : Maker) → unless_second has_self has_name line ≡ Make maker → line ≡ Make maker
 unless_make has_self has_name Blank maker e = cc
@@ -66,7 +66,7 @@ module _ (said : (text : List ℕ) → IsLine (line_of text) text) where
     by : (line : Line) → unless_second has_self has_name (line_of text) ≡ line → AreOfLines (fold with_line m (cons_option (maker_of line) makers)).built.nodes
     by Blank e = rest m h
     by (Make maker) e =
-        let is = written said text maker (unless_make has_self has_name (line_of text) maker e) in
+        let is = tokens_of_maker said text maker (unless_make has_self has_name (line_of text) maker e) in
         rest (with_line m maker) (with_more m h is.1)
     by (Ask question) e = rest m h
     by Bad e = rest m h

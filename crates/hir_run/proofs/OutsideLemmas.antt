@@ -21,13 +21,13 @@ use Rattle.hir_lines.specs.TypeGrammar as line_type
 use Rattle.hir_lines.specs.TypeGrammar.{IsType}
 use Rattle.hir_faults.specs.Down.{value, value_within, rank}
 use Rattle.hir_pretty.specs.Questions.{Setting}
-use Rattle.hir_pretty.specs.Items.{Item, Put, Lacks, Whole, Under, Pattern, TypeItem, text, sp, br, out, e, under, p, t, opt, joined, comma_joined}
+use Rattle.hir_pretty.specs.Items.{Item, Put, Lacks, Whole, Under, Pattern, TypeItem, text, sp, br, out, e, under, p, t, opt, join, comma_joined}
 use Rattle.hir_pretty.specs.Names.{name_items, name_parts, of_binding, binding_items}
 use Rattle.hir_pretty.specs.Paths.{path_items}
 use Rattle.hir_pretty.specs.Exprs.{each_line, in_lines, arm_items, semicolon, statement_items, inside_block, params, expr_items}
 use Rattle.hir_pretty.specs.Pats.{pat_items}
 use Rattle.hir_pretty.specs.Types.{type_items}
-use Rattle.hir_pretty.specs.Pieces.{NodePiece, Layout, Absent, items_of, item_pieces, parenthesized, pieces_step, pieces, first_missing}
+use Rattle.hir_pretty.specs.Pieces.{NodePiece, Layout, Absent, items_of, item_pieces, with_parentheses, pieces_step, pieces, first_missing}
 use Rattle.hir_pretty.specs.Works.{printed}
 use Rattle.hir_lines.specs.Words.{plain}
 use Rattle.std.specs.FinMap as map
@@ -43,7 +43,7 @@ use Rattle.hir_items.specs.Bodies.{BodyContents, formals_of, last_root}
 use Rattle.hir_pretty.specs.Answers.{answers, found_or}
 use Rattle.hir_pretty.specs.Paths.{found_name}
 use Rattle.hir_print_defs.specs.Bodies.{body_items, formal_params, formal_self}
-use Rattle.hir_print_defs.specs.Found.{parents}
+use Rattle.hir_print_defs.specs.FoundParts.{parents}
 use Rattle.hir_run.specs.OfLines.{IsExprOfLine, IsPatOfLine, IsTypeOfLine, AreOfLines}
 use Rattle.hir_run.specs.Printing.{tables_of, printed_from, body_pieces}
 
@@ -86,10 +86,10 @@ abbrev pub EachLacksNone : List (List Item) → Type 0
 EachLacksNone [] = Unit {0}
 EachLacksNone (x ∷ xs) = NoneLacks x × EachLacksNone xs
 
-pub of_joined : (between : List Item) → NoneLacks between → (xs : List (List Item)) → EachLacksNone xs → NoneLacks (joined between xs)
+pub of_joined : (between : List Item) → NoneLacks between → (xs : List (List Item)) → EachLacksNone xs → NoneLacks (join between xs)
 of_joined between none [] h = tt
 of_joined between none (x ∷ []) h = h.0
-of_joined between none (x ∷ y ∷ xs) h = two (x ++ between) (joined between (y ∷ xs)) (two x between h.0 none) (of_joined between none (y ∷ xs) h.1)
+of_joined between none (x ∷ y ∷ xs) h = two (x ++ between) (join between (y ∷ xs)) (two x between h.0 none) (of_joined between none (y ∷ xs) h.1)
 
 pub of_each : {X : Type 0} (items : X → List Item) → ((x : X) → NoneLacks (items x)) → (xs : List X) → EachLacksNone (map items xs)
 of_each items each [] = tt
@@ -167,8 +167,8 @@ expr_none s (line.closure {body = body} {args = args}) =
     five (comma_joined shown) (text (codes "|")) [] sp (e body) list tt tt tt tt
 expr_none s (line.block {tail = tail} {statements = statements}) = two (inside_block statements tail) (text (codes "}")) (inside_none statements tail) tt
 
-pats_none : (between : List ℕ) (args : List ℕ) → NoneLacks (joined (text between) (map p args) ++ text (codes ")"))
-pats_none between args = two (joined (text between) (map p args)) (text (codes ")")) (of_joined (text between) tt (map p args) (of_each p (λ id. tt) args)) tt
+pats_none : (between : List ℕ) (args : List ℕ) → NoneLacks (join (text between) (map p args) ++ text (codes ")"))
+pats_none between args = two (join (text between) (map p args)) (text (codes ")")) (of_joined (text between) tt (map p args) (of_each p (λ id. tt) args)) tt
 
 pub pat_none : (s : Setting) {x : Pat} {tokens : List Token} → IsPat x tokens → NoneLacks (pat_items s x)
 pat_none s line_pat.wild = tt
@@ -200,7 +200,7 @@ missing_two [] qs h k = k
 missing_two (Layout piece ∷ ps) qs h k = missing_two ps qs h k
 missing_two (Absent missing ∷ ps) qs h k = cc
 
-missing_parenthesized : (b : Bool) (ps : List NodePiece) → first_missing ps ≡ None → first_missing (parenthesized b ps) ≡ None
+missing_parenthesized : (b : Bool) (ps : List NodePiece) → first_missing ps ≡ None → first_missing (with_parentheses b ps) ≡ None
 missing_parenthesized true ps h = missing_two ps (Layout _ ∷ []) h refl
 missing_parenthesized false ps h = h
 
@@ -247,8 +247,8 @@ nodes_none s h (node.Pat id) = pat_at s (slice_get s.nodes.pats id) (h.pats id)
 nodes_none s h (node.TypeRef id) = type_at s (slice_get s.nodes.types id) (h.types id)
 
 -- the tables have the name of function 0
-named : (name : Option (List ℕ)) → (answers (tables_of name)).name (named_def.FunctionId 0) ≡ Ok name
-named name =
+name_of_function : (name : Option (List ℕ)) → (answers (tables_of name)).name (named_def.FunctionId 0) ≡ Ok name
+name_of_function name =
     ap (found_or (missing.Name (named_def.FunctionId 0)))
     (map.get-insert nat_list_cmp_total map.empty (named_code (named_def.FunctionId 0)) name (named_code (named_def.FunctionId 0)))
 
@@ -265,7 +265,7 @@ body_none name b =
     let shown = found_name (codes "<missing>") (s.tables.name (named_def.FunctionId 0)) in
     let params = two (comma_joined formals) (text (codes ") ")) (of_joined (text (codes ", ")) tt formals each) tt in
     four shown (text (codes "(") ++ comma_joined formals ++ text (codes ") ")) (opt e (last_root b.store)) []
-    (subst (λ (found : Result (Option (List ℕ)) Missing). NoneLacks (found_name (codes "<missing>") found)) (sym (named name)) (name_found (codes "<missing>") name))
+    (subst (λ (found : Result (Option (List ℕ)) Missing). NoneLacks (found_name (codes "<missing>") found)) (sym (name_of_function name)) (name_found (codes "<missing>") name))
     params (of_option e (λ id. tt) (last_root b.store)) tt
 
 pub nothing_missing : (name : Option (List ℕ)) (b : BodyContents) → AreOfLines b.store.nodes → first_missing (body_pieces name b) ≡ None

@@ -15,7 +15,7 @@ use Rattle.hir_pretty.specs.Printed.{PrintsPieces}
 use Rattle.hir_pretty.specs.Settings.{setting}
 use Rattle.hir_pretty.specs.Works.{printed}
 use Rattle.hir_print_defs.specs.Bodies.{body_items}
-use Rattle.hir_print_defs.specs.Found.{parents}
+use Rattle.hir_print_defs.specs.FoundParts.{parents}
 use Rattle.hir_run.specs.OfLines.{AreOfLines}
 use Rattle.hir_run.specs.Printing.{tables_of, printed_from, body_pieces, body_text}
 use Rattle.hir_run.proofs.OutsideLemmas.{nothing_missing}

@@ -12,15 +12,15 @@ use Rattle.hir_run.specs.Output.{Output, Wrote, WroteFront}
 use Rattle.hir_run.specs.Places.{Place, unread}
 use Rattle.hir_run.specs.Program.{Outcome, Course, section, HasAnswers, says, script, script_of, line_behind}
 use Rattle.hir_run.specs.Run.{EndsWith, IsRefusedBehind}
-use Rattle.hir_run.specs.Stages.{asked, HaveAnswers, Asks, AsksUpTo, RefusesAt}
+use Rattle.hir_run.specs.Stages.{section_from, HaveAnswers, Asks, AsksUpTo, RefusesAt}
 use Rattle.hir_run.proofs.Scripts.{behind_texts, behind-cons, behind-bad}
 use Rattle.hir_run.proofs.CourseLemmas.{BeginsOutside, no_line, outside, section_behind, all_asks, asks_not}
 use Rattle.hir_run.proofs.QuestionLemmas.{StandsAt, asked_script, refused_there}
 use Rattle.hir_run.proofs.Refusals.{refused_behind}
 use Rattle.hir_run.proofs.WritingLemmas.{Wrote-then, WroteFront-then}
 
-regrouped : (done texts : List (List ℕ)) (text : List ℕ) (more : List (List ℕ)) → (done ++ (texts ++ text ∷ [])) ++ more ≡ (done ++ texts) ++ (text ∷ more)
-regrouped done texts text more = simp append_assoc
+group_again : (done texts : List (List ℕ)) (text : List ℕ) (more : List (List ℕ)) → (done ++ (texts ++ text ∷ [])) ++ more ≡ (done ++ texts) ++ (text ∷ more)
+group_again done texts text more = simp append_assoc
 
 module _ (input : List ℕ) (p : Place) (question : Question) (may : Question → Bool) (Is : Question → List ℕ → Type 0) (next : ℕ → List Line → Course) (text : List ℕ) (at : StandsAt input p question (section may Is next) text) where
   -- the lines that were taken, up to these of the section
@@ -32,7 +32,7 @@ module _ (input : List ℕ) (p : Place) (question : Question) (may : Question �
   taken-length texts = omega (arith, length-append (at.texts ++ at.last ∷ []) texts, length-append at.texts (at.last ∷ []), at.count)
 
   -- how many lines stand before what comes behind them
-  good : (texts : List (List ℕ)) → length at.texts + length (asked question texts) ≡ p.lines.count + length texts
+  good : (texts : List (List ℕ)) → length at.texts + length (section_from question texts) ≡ p.lines.count + length texts
   good texts = omega (arith, at.count, length-map texts line_of)
 
   -- memory was refused at one of them, or behind them
@@ -43,23 +43,23 @@ module _ (input : List ℕ) (p : Place) (question : Question) (may : Question �
       (joined.0, joined.1, omega (arith, counted, taken-length texts))
   refused_line texts (b ∷ bs) count (front, counted, asked) =
       let joined = ReadsFront-joined (Some input) (unread p) (at.texts ++ at.last ∷ []) (texts ++ (b ∷ bs) ∷ []) p.lines.at_end at.read front in
-      ((b ∷ bs) ∷ joined.0, joined.1 ∙ regrouped (at.texts ++ at.last ∷ []) texts (b ∷ bs) joined.0, refused_behind (taken texts) joined.0 (b ∷ bs) count (λ e. cc) (omega (arith, counted, taken-length texts)) asked)
+      ((b ∷ bs) ∷ joined.0, joined.1 ∙ group_again (at.texts ++ at.last ∷ []) texts (b ∷ bs) joined.0, refused_behind (taken texts) joined.0 (b ∷ bs) count (λ e. cc) (omega (arith, counted, taken-length texts)) asked)
 
-  all_ask : (texts : List (List ℕ)) (answers : List ℕ) → HaveAnswers may Is (asked question texts) answers → list_all asks (says texts) ≡ true
-  all_ask texts answers have = all_asks may (asked question texts) have.0
+  all_ask : (texts : List (List ℕ)) (answers : List ℕ) → HaveAnswers may Is (section_from question texts) answers → list_all asks (says texts) ≡ true
+  all_ask texts answers have = all_asks may (section_from question texts) have.0
 
-  whole : (texts more : List (List ℕ)) (answers : List ℕ) → HaveAnswers may Is (asked question texts) answers → script (taken texts ++ more) ≡ script at.texts ++ Ask question ∷ (says texts ++ behind_texts (taken texts) more)
+  whole : (texts more : List (List ℕ)) (answers : List ℕ) → HaveAnswers may Is (section_from question texts) answers → script (taken texts ++ more) ≡ script at.texts ++ Ask question ∷ (says texts ++ behind_texts (taken texts) more)
   whole texts more answers have = asked_script at.texts texts more at.last question at.is (all_ask texts answers have)
 
-  alone : (texts : List (List ℕ)) (answers : List ℕ) → HaveAnswers may Is (asked question texts) answers → script (taken texts) ≡ script at.texts ++ Ask question ∷ (says texts ++ [])
+  alone : (texts : List (List ℕ)) (answers : List ℕ) → HaveAnswers may Is (section_from question texts) answers → script (taken texts) ≡ script at.texts ++ Ask question ∷ (says texts ++ [])
   alone texts answers have = ap script (sym (append-nil (taken texts))) ∙ whole texts [] answers have
 
-  course : (texts : List (List ℕ)) (answers : List ℕ) → HaveAnswers may Is (asked question texts) answers → (tail : List Line) (t : List ℕ) (outcome : Outcome) → BeginsOutside (may_ask may) tail → next (p.lines.count + length texts) tail t outcome → section may Is next (length at.texts) (Ask question ∷ (says texts ++ tail)) (answers ++ t) outcome
+  course : (texts : List (List ℕ)) (answers : List ℕ) → HaveAnswers may Is (section_from question texts) answers → (tail : List Line) (t : List ℕ) (outcome : Outcome) → BeginsOutside (may_ask may) tail → next (p.lines.count + length texts) tail t outcome → section may Is next (length at.texts) (Ask question ∷ (says texts ++ tail)) (answers ++ t) outcome
   course texts answers have tail t outcome out c =
-      section_behind may Is next (length at.texts) (asked question texts) tail answers t outcome have.0 have.1 out (rw (good texts) c)
+      section_behind may Is next (length at.texts) (section_from question texts) tail answers t outcome have.0 have.1 out (rw (good texts) c)
 
   module _ (next_end : (n : ℕ) → next n [] [] (Ok tt)) (next_bad : (n : ℕ) (bad : Line) (more : List Line) → asks bad ≡ false → next n (bad ∷ more) [] (Err (BadLine (n + 1)))) where
-    sound_so_far : (texts : List (List ℕ)) (answers : List ℕ) → HaveAnswers may Is (asked question texts) answers → HasAnswers (script (taken texts)) (text ++ answers)
+    sound_so_far : (texts : List (List ℕ)) (answers : List ℕ) → HaveAnswers may Is (section_from question texts) answers → HasAnswers (script (taken texts)) (text ++ answers)
     sound_so_far texts answers have =
         rw (alone texts answers have) (rw (append-nil answers) at (at.answers (says texts ++ []) (answers ++ []) (Ok tt) (course texts answers have [] [] (Ok tt) no_line (next_end _))))
 
@@ -82,7 +82,7 @@ module _ (input : List ℕ) (p : Place) (question : Question) (may : Question �
           let tail : List Line = line_behind (taken texts) line ∷ behind_texts (taken texts ++ line ∷ []) joined.0 in
           let not_asked : asks (line_behind (taken texts) line) ≡ false = behind-bad (taken texts) line bad in
           let is : script_of input ≡ script at.texts ++ Ask question ∷ (says texts ++ tail) =
-          ap script (joined.1 ∙ regrouped (at.texts ++ at.last ∷ []) texts line joined.0) ∙ whole texts (line ∷ joined.0) answers have
+          ap script (joined.1 ∙ group_again (at.texts ++ at.last ∷ []) texts line joined.0) ∙ whole texts (line ∷ joined.0) answers have
           ∙ ap (λ v. script at.texts ++ Ask question ∷ (says texts ++ v)) (behind-cons (taken texts) joined.0 line) in
           let means = at.means (says texts ++ tail) (answers ++ []) (Err (BadLine (p.lines.count + length texts + 1))) (course texts answers have tail [] _ (outside (asks_not may _ not_asked)) (next_bad _ _ _ not_asked)) in
           (text ++ answers, rw (is, number) (rw (append-nil answers) at means), wrote answers written)

@@ -13,7 +13,7 @@ use Rattle.hir_scope.specs.Paths.{frame_at}
 use Rattle.hir_scope.specs.Scopes.{Scope}
 use Rattle.hir_scope.specs.Frames.{Frame}
 use Rattle.hir_scope.specs.Resolution.{entries_of}
-use Rattle.hir_run.specs.Answer.{spaced, entry_text, names_text}
+use Rattle.hir_run.specs.Answer.{after_spaces, entry_text, names_text}
 use Rattle.hir_run.specs.declared.output.Output as code
 use Rattle.hir_run.specs.Output.{Output, Wrote, WroteFront, PutsBy, PutsText, Puts, output_of}
 
@@ -35,8 +35,8 @@ WroteFront-more a b text more g =
     (subst (λ (x : List ℕ). GrowsByFront a.contents b.contents x) (append_assoc a.waiting text more) (GrowsByFront-more a.contents b.contents (a.waiting ++ text) more g.0), g.1)
 
 -- some of what waited was written
-pub kept : (a b c : Output) (text : List ℕ) → Wrote a b text → IsWrittenUpTo b.contents c.contents b.waiting c.waiting → Wrote a c text
-kept a b c text w v =
+pub rest_waits : (a b c : Output) (text : List ℕ) → Wrote a b text → IsWrittenUpTo b.contents c.contents b.waiting c.waiting → Wrote a c text
+rest_waits a b c text w v =
     subst (λ (x : List ℕ). Wrote a c x) (append-nil text)
     (Wrote-then a b c text [] w (subst (λ (x : List ℕ). IsWrittenUpTo b.contents c.contents x c.waiting) (sym (append-nil b.waiting)) v))
 
@@ -74,16 +74,16 @@ put_none w old = (refl, by (output_of w old).failed)
     by false = Wrote-none (output_of w old)
 
 -- one number more
-spaced-more : (numbers : List ℕ) (n : ℕ) → spaced (numbers ++ n ∷ []) ≡ spaced numbers ++ (32 ∷ decimal n)
-spaced-more numbers n = flat_map-append (λ n. 32 ∷ decimal n) numbers (n ∷ []) ∙ ap (λ v. spaced numbers ++ v) (append-nil (32 ∷ decimal n))
+spaced-more : (numbers : List ℕ) (n : ℕ) → after_spaces (numbers ++ n ∷ []) ≡ after_spaces numbers ++ (32 ∷ decimal n)
+spaced-more numbers n = flat_map-append (λ n. 32 ∷ decimal n) numbers (n ∷ []) ∙ ap (λ v. after_spaces numbers ++ v) (append-nil (32 ∷ decimal n))
 
-pub spaced_then : {W : Type 0} (w : Ghosts W) (old mid new : code.Output W) (numbers : List ℕ) (n : ℕ) → Puts w old mid (spaced numbers) → Puts w mid new (32 ∷ decimal n) → Puts w old new (spaced (numbers ++ n ∷ []))
-spaced_then w old mid new numbers n p q = rw (spaced-more numbers n) (put_then w old mid new (spaced numbers) (32 ∷ decimal n) p q)
+pub spaced_then : {W : Type 0} (w : Ghosts W) (old mid new : code.Output W) (numbers : List ℕ) (n : ℕ) → Puts w old mid (after_spaces numbers) → Puts w mid new (32 ∷ decimal n) → Puts w old new (after_spaces (numbers ++ n ∷ []))
+spaced_then w old mid new numbers n p q = rw (spaced-more numbers n) (put_then w old mid new (after_spaces numbers) (32 ∷ decimal n) p q)
 
 -- one number more of a list
-pub numbers_more : (xs : List ℕ) (i x : ℕ) → i < length xs → x ≡ get_or xs i x → spaced (take (i + 1) xs) ≡ spaced (take i xs) ++ (32 ∷ decimal x)
+pub numbers_more : (xs : List ℕ) (i x : ℕ) → i < length xs → x ≡ get_or xs i x → after_spaces (take (i + 1) xs) ≡ after_spaces (take i xs) ++ (32 ∷ decimal x)
 numbers_more xs i x there is =
-    ap spaced (take_more xs i x there) ∙ spaced-more (take i xs) (get_or xs i x) ∙ ap (λ n. spaced (take i xs) ++ (32 ∷ decimal n)) (sym is)
+    ap after_spaces (take_more xs i x there) ∙ spaced-more (take i xs) (get_or xs i x) ∙ ap (λ n. after_spaces (take i xs) ++ (32 ∷ decimal n)) (sym is)
 
 -- the names of one entry more
 pub names_more : (xs : List ScopeEntry) (i : ℕ) (x : ScopeEntry) → i < length xs → x ≡ get_or xs i x → names_text (take (i + 1) xs) ≡ names_text (take i xs) ++ entry_text x

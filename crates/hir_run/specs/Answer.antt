@@ -19,7 +19,7 @@ use Rattle.hir_expr_store.specs.Contents.{Contents}
 use Rattle.hir_expr_store.specs.PatLists.{children}
 use Rattle.hir_items.specs.Bodies.{BodyContents, BodyReaches}
 use Rattle.hir_scope.specs.declared.scope.ScopeEntry.{ScopeEntry}
-use Rattle.hir_scope.specs.Built.{tops_of_body}
+use Rattle.hir_scope.specs.BodyScopes.{tops_of_body}
 use Rattle.hir_scope.specs.Chains.{HasChain}
 use Rattle.hir_scope.specs.Frames.{Chain}
 use Rattle.hir_scope.specs.Paths as path
@@ -33,13 +33,13 @@ abbrev pub answer_line : List ℕ → ℕ → List ℕ → List ℕ
 answer_line word expr known = word ++ decimal expr ++ known ++ codes "\n"
 
 -- numbers, each after a space
-abbrev pub spaced : List ℕ → List ℕ
-spaced numbers = flat_map (λ n. 32 ∷ decimal n) numbers
+abbrev pub after_spaces : List ℕ → List ℕ
+after_spaces numbers = flat_map (λ n. 32 ∷ decimal n) numbers
 
 -- what is known of an expression: its children, or that it isn't there
 abbrev pub children_text : Nodes → ℕ → List ℕ
 children_text s e =
-    if nat_lt e (length s.exprs) then codes " =" ++ spaced (children s e) else codes " unknown"
+    if nat_lt e (length s.exprs) then codes " =" ++ after_spaces (children s e) else codes " unknown"
 
 abbrev pub found_text : Option ℕ → List ℕ
 found_text None = codes " none"
@@ -101,7 +101,7 @@ AreCapturesOf b expr (Some bindings) = IsReachedClosure b expr × AreCaptures b 
 -- the bindings that a closure captures
 abbrev pub captures_text : Option (List ℕ) → List ℕ
 captures_text None = codes " no closure"
-captures_text (Some bindings) = codes " =" ++ spaced bindings
+captures_text (Some bindings) = codes " =" ++ after_spaces bindings
 
 -- the answers to `chain`, `resolve` and `captures`, by what is known
 abbrev pub chain_answer : ℕ → Option Chain → List ℕ

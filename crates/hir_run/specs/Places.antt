@@ -4,7 +4,7 @@ use Rattle.hir_io.specs.declared.ends.Source as source
 use Rattle.hir_io.specs.declared.ends.Sink as sink
 use Rattle.hir_io.specs.LineState.{LineState}
 use Rattle.hir_io.specs.declared.next.LineFault.{LineFault}
-use Rattle.hir_io.specs.NextLine.{NextTakes, NextWrites, is_found, untaken}
+use Rattle.hir_io.specs.NextLine.{NextTakes, NextWrites, is_found, bytes_left}
 use Rattle.hir_run.specs.declared.output.Output as code
 use Rattle.hir_run.specs.Output.{Output, output_of}
 
@@ -28,7 +28,7 @@ place_of r w lines reader output = record {
 
 -- the bytes that are still to be taken
 abbrev pub unread : Place → Option (List ℕ)
-unread p = untaken p.lines.pending p.lines.at_end p.remaining
+unread p = bytes_left p.lines.pending p.lines.at_end p.remaining
 
 -- the lines that may still come can be counted
 abbrev pub HasRoom : Place → Type 0

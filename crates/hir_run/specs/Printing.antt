@@ -13,7 +13,7 @@ use Rattle.hir_pretty.specs.Questions.{Setting}
 use Rattle.hir_pretty.specs.Settings.{setting}
 use Rattle.hir_pretty.specs.Works.{printed}
 use Rattle.hir_print_defs.specs.Bodies.{body_items}
-use Rattle.hir_print_defs.specs.Found.{parents}
+use Rattle.hir_print_defs.specs.FoundParts.{parents}
 
 -- the tables have the name of function 0, or that it has none, and nothing else
 abbrev pub tables_of : Option (List ℕ) → Tables

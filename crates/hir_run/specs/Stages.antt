@@ -102,8 +102,8 @@ abbrev pub HaveAnswers : (Question → Bool) → (Question → List ℕ → Type
 HaveAnswers may Is script text = (list_all (may_ask may) script ≡ true) × AreAnswers Is script text
 
 -- the lines of a section that begins with a question
-abbrev pub asked : Question → List (List ℕ) → List Line
-asked first texts = Ask first ∷ says texts
+abbrev pub section_from : Question → List (List ℕ) → List Line
+section_from first texts = Ask first ∷ says texts
 
 -- of a section of questions: which may be asked in it, and what their answers are
 module _ (may : Question → Bool) (Is : Question → List ℕ → Type 0) where

@@ -43,13 +43,13 @@ fault_text OutputFailed = codes "output failed"
 fault_text OutOfMemory = codes "out of memory"
 
 -- the text that `{}` writes: that of a refusal is stated as far as the text of its fault is
-abbrev pub displayed : RunFault → Option (List ℕ)
-displayed (BadLine number) = Some (fault_text (BadLine number))
-displayed (Refused fault) = option_append (Some (codes "refused ")) (finish_fault.ghosts.output fault)
-displayed (BodyRefused fault) = Some (fault_text (BodyRefused fault))
-displayed InputFailed = Some (fault_text InputFailed)
-displayed OutputFailed = Some (fault_text OutputFailed)
-displayed OutOfMemory = Some (fault_text OutOfMemory)
+abbrev pub display_text : RunFault → Option (List ℕ)
+display_text (BadLine number) = Some (fault_text (BadLine number))
+display_text (Refused fault) = option_append (Some (codes "refused ")) (finish_fault.ghosts.output fault)
+display_text (BodyRefused fault) = Some (fault_text (BodyRefused fault))
+display_text InputFailed = Some (fault_text InputFailed)
+display_text OutputFailed = Some (fault_text OutputFailed)
+display_text OutOfMemory = Some (fault_text OutOfMemory)
 
 -- what is written of an outcome: nothing of a good one, and of a fault its text and a line end
 abbrev pub text_of : Result (Unit {0}) RunFault → List ℕ

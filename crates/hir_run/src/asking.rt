@@ -60,10 +60,10 @@ fn answer_question<A: Answers, W: Sink>(
     question: Question,
     output: &mut Output<'_, W>,
 ) -> Result<Option<Question>, RunFault>
-    requires { W.failed output.old.writer.now ≡ false }
+    requires { W.is_failed output.old.writer.now ≡ false }
     ensures asks { (number : ℕ) → AsksLine A.may (A.Is asked.old) (Ask question) number
         (output_of W.Sink output.old) (output_of W.Sink output.new) result }
-    ensures failure { W.failed output.new.writer.now ≡ is_output_failed result }
+    ensures failure { W.is_failed output.new.writer.now ≡ is_output_failed result }
     ensures same { (asked.new ≡ asked.old) × (output.new.writer.ghost_name ≡ output.old.writer.ghost_name) }
 {
     let left = asked.answer(alloc, question, output)?;
@@ -80,10 +80,10 @@ fn answer_next<A: Answers, W: Sink>(
     lines: &LineReader,
     output: &mut Output<'_, W>,
 ) -> Result<Option<Question>, RunFault>
-    requires { W.failed output.old.writer.now ≡ false }
+    requires { W.is_failed output.old.writer.now ≡ false }
     ensures asks { AsksLine A.may (A.Is asked.old) (line_of lines.now.line) lines.now.count
         (output_of W.Sink output.old) (output_of W.Sink output.new) result }
-    ensures failure { W.failed output.new.writer.now ≡ is_output_failed result }
+    ensures failure { W.is_failed output.new.writer.now ≡ is_output_failed result }
     ensures same { (asked.new ≡ asked.old) × (output.new.writer.ghost_name ≡ output.old.writer.ghost_name) }
 {
     match asked_by(alloc, lines)? {
@@ -103,11 +103,11 @@ pub(crate) fn answer_lines<A: Answers, R: Source, W: Sink>(
     output: &mut Output<'_, W>,
 ) -> Result<Option<Question>, RunFault>
     requires fits { HasRoom (place_of R.Source W.Sink lines.old reader.old output.old) }
-    requires unfailed { W.failed output.old.writer.now ≡ false }
+    requires unfailed { W.is_failed output.old.writer.now ≡ false }
     ensures asks { Asks A.may (A.Is asked.old) (place_of R.Source W.Sink lines.old reader.old output.old)
         (place_of R.Source W.Sink lines.new reader.new output.new) first result }
-    ensures read_failure { R.failed reader.new ≡ (is_input_failed result || R.failed reader.old) }
-    ensures write_failure { W.failed output.new.writer.now ≡ is_output_failed result }
+    ensures read_failure { R.is_failed reader.new ≡ (is_input_failed result || R.is_failed reader.old) }
+    ensures write_failure { W.is_failed output.new.writer.now ≡ is_output_failed result }
     // A read is made only where nothing waits.
     ensures quiet { is_input_failed result ≡ true → output.new.waiting ≡ [] }
     ensures still_fits { OnOk result (HasRoom (place_of R.Source W.Sink lines.new reader.new output.new)) }

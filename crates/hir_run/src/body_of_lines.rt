@@ -1,7 +1,7 @@
 //! A body that lines made, and the answers to questions on it. Its scopes are made where the first question comes that needs them.
 
 ghost use Rattle.std.specs.Prelude.{◌≡◌, List, ℕ, IfOk, OnOk, OnErr};
-ghost use Rattle.hir_scope.specs.Built.{AreBodyScopes};
+ghost use Rattle.hir_scope.specs.BodyScopes.{AreBodyScopes};
 ghost use Rattle.hir_run.specs.Answer.{IsBodyAnswer};
 ghost use Rattle.hir_run.specs.Printing.{print_text};
 ghost use Rattle.hir_run.specs.OfLines.{AreOfLines};
@@ -31,7 +31,7 @@ pub(crate) struct BodyOfLines {
 
 impl Model for BodyOfLines {
     ghost use Rattle.std.specs.Prelude.{IfSome};
-    ghost use Rattle.hir_scope.specs.Built.{AreBodyScopes};
+    ghost use Rattle.hir_scope.specs.BodyScopes.{AreBodyScopes};
     ghost use Rattle.hir_run.specs.Answer.{NamedBody};
     ghost use Rattle.hir_run.specs.OfLines.{AreOfLines};
 

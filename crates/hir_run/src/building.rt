@@ -45,7 +45,7 @@ pub(crate) fn build<R: Source, W: Sink>(
     ensures builds { Builds (unread (place_of R.Source W.Sink lines.old reader.old output.old))
         (place_of R.Source W.Sink lines.new reader.new output.new) (parts_of builder.new) result }
     ensures still_quiet { Untouched W.Sink output.old output.new }
-    ensures failure { R.failed reader.new ≡ (is_input_failed result || R.failed reader.old) }
+    ensures failure { R.is_failed reader.new ≡ (is_input_failed result || R.is_failed reader.old) }
     ensures still_fits { OnOk result (HasRoom (place_of R.Source W.Sink lines.new reader.new output.new)) }
     ensures same { output.new.writer.ghost_name ≡ output.old.writer.ghost_name }
 {

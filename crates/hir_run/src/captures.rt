@@ -1,8 +1,8 @@
 //! The answers that say what closures capture.
 
 ghost use Rattle.std.specs.Prelude.{Some, None, List, Option, ℕ, OnOk, OnErr};
-ghost use Rattle.hir_scope.specs.Built.{AreBodyScopes};
-ghost use Rattle.hir_run.specs.Answer.{AreCapturesOf, captures_answer, spaced};
+ghost use Rattle.hir_scope.specs.BodyScopes.{AreBodyScopes};
+ghost use Rattle.hir_run.specs.Answer.{AreCapturesOf, captures_answer, after_spaces};
 ghost use Rattle.hir_run.specs.Output.{Puts, Untouched};
 
 use crate::asking::MemoryRefused;
@@ -16,7 +16,7 @@ use std::alloc::Global;
 
 /// Puts the numbers of bindings, each after a space.
 fn put_bindings<W: Sink>(bindings: &[BindingId], output: &mut Output<'_, W>)
-    ensures { Puts W.Sink output.old output.new (spaced bindings.now) }
+    ensures { Puts W.Sink output.old output.new (after_spaces bindings.now) }
 {
     for binding in bindings {
         output.put_spaced(binding.into_raw());

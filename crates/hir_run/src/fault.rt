@@ -30,9 +30,9 @@ pub enum RunFault {
 
 /// The text that `report` writes of it, without the line end.
 impl fmt::Display for RunFault {
-    ghost use Rattle.hir_run.specs.Texts.{displayed};
+    ghost use Rattle.hir_run.specs.Texts.{display_text};
 
-    ghost output = { displayed };
+    ghost output = { display_text };
 
     fn fmt<W: fmt::Write>(&self, f: &mut fmt::Formatter<W>) -> fmt::Result {
         match self {

@@ -67,9 +67,9 @@ impl<W: Sink> Output<'_, W> {
         ensures falls { is_failed_input result ≡ false →
             length lines.new.pending + R.allowance reader.new + cond (is_found result) 1 0
             ≤ length lines.old.pending + R.allowance reader.old }
-        ensures input_failure { R.failed reader.new ≡ (is_failed_input result || R.failed reader.old) }
-        ensures output_failure { W.failed self.new.writer.now ≡
-            (is_failed_output result || W.failed self.old.writer.now) }
+        ensures input_failure { R.is_failed reader.new ≡ (is_failed_input result || R.is_failed reader.old) }
+        ensures output_failure { W.is_failed self.new.writer.now ≡
+            (is_failed_output result || W.is_failed self.old.writer.now) }
         ensures idle { self.old.waiting ≡ [] →
             (is_failed_output result ≡ false) × Untouched W.Sink self.old self.new }
         ensures same { self.new.writer.ghost_name ≡ self.old.writer.ghost_name }
@@ -80,8 +80,8 @@ impl<W: Sink> Output<'_, W> {
     /// Writes that the store is accepted.
     pub(crate) fn accept(&mut self) -> Result<(), RunFault>
         ensures accepts { Accepts (output_of W.Sink self.old) (output_of W.Sink self.new) result }
-        ensures failure { W.failed self.new.writer.now ≡
-            (is_output_failed result || W.failed self.old.writer.now) }
+        ensures failure { W.is_failed self.new.writer.now ≡
+            (is_output_failed result || W.is_failed self.old.writer.now) }
         ensures same { self.new.writer.ghost_name ≡ self.old.writer.ghost_name }
     {
         match self.waiting.write(b"accepted\n", self.writer) {
@@ -93,8 +93,8 @@ impl<W: Sink> Output<'_, W> {
     /// Writes what waits, before the outcome is answered.
     pub(crate) fn close(&mut self, outcome: Result<(), RunFault>) -> Result<(), RunFault>
         ensures closes { Closes (output_of W.Sink self.old) (output_of W.Sink self.new) outcome result }
-        ensures failure { W.failed self.old.writer.now ≡ is_output_failed outcome →
-            W.failed self.new.writer.now ≡ is_output_failed result }
+        ensures failure { W.is_failed self.old.writer.now ≡ is_output_failed outcome →
+            W.is_failed self.new.writer.now ≡ is_output_failed result }
         ensures same { self.new.writer.ghost_name ≡ self.old.writer.ghost_name }
     {
         let flushed = self.waiting.flush(self.writer);

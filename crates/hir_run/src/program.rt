@@ -64,8 +64,8 @@ fn answer_script<R: Source, W: Sink>(
     requires unfailed { Unfailed R.Source W.Sink reader.old output.old.writer.now }
     ensures runs { RunsUpTo (R.remaining reader.old) (output_of W.Sink output.old)
         (place_of R.Source W.Sink lines.new reader.new output.new) result }
-    ensures input_failed { R.failed reader.new ≡ is_input_failed result }
-    ensures output_failed { W.failed output.new.writer.now ≡ is_output_failed result }
+    ensures input_failed { R.is_failed reader.new ≡ is_input_failed result }
+    ensures output_failed { W.is_failed output.new.writer.now ≡ is_output_failed result }
     // A read is made only where nothing waits.
     ensures quiet { is_input_failed result ≡ true → output.new.waiting ≡ [] }
     ensures same { output.new.writer.ghost_name ≡ output.old.writer.ghost_name }
@@ -206,7 +206,7 @@ pub fn run_and_report<R: Source, W: Sink, E: Sink>(
     requires unfailed { Unfailed R.Source W.Sink reader.old writer.old }
     ensures { (taken : LineState) × (outcome : Outcome)
         × IsRun R.Source W.Sink reader.old reader.new writer.old writer.new taken outcome
-        × (E.failed errors.new ≡ false →
+        × (E.is_failed errors.new ≡ false →
         Appends (E.contents errors.old) (E.contents errors.new) (text_of outcome))
         × GrowsByFront (E.contents errors.old) (E.contents errors.new) (text_of outcome)
         × (outcome ≡ Ok tt → errors.new ≡ errors.old)

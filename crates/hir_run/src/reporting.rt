@@ -18,7 +18,7 @@ use hir_store::{FinishFault, NodeId};
 fn write_numbered<W: Sink>(words: &[u8], number: u64, errors: &mut W) -> Result<(), EndFailed>
     ensures text { WritesText (W.contents errors.old) (W.contents errors.new)
         (words.now ++ decimal number) result }
-    ensures failure { W.failed errors.new ≡ (is_err result || W.failed errors.old) }
+    ensures failure { W.is_failed errors.new ≡ (is_err result || W.is_failed errors.old) }
 {
     write_all(errors, words)?;
     write_decimal(errors, number)
@@ -28,7 +28,7 @@ fn write_numbered<W: Sink>(words: &[u8], number: u64, errors: &mut W) -> Result<
 fn write_id<W: Sink>(kind: &[u8], number: u32, errors: &mut W) -> Result<(), EndFailed>
     ensures text { WritesText (W.contents errors.old) (W.contents errors.new)
         (kind.now ++ decimal number ++ codes ")") result }
-    ensures failure { W.failed errors.new ≡ (is_err result || W.failed errors.old) }
+    ensures failure { W.is_failed errors.new ≡ (is_err result || W.is_failed errors.old) }
 {
     write_numbered(kind, u64::from(number), errors)?;
     write_all(errors, b")")
@@ -36,7 +36,7 @@ fn write_id<W: Sink>(kind: &[u8], number: u32, errors: &mut W) -> Result<(), End
 
 fn write_node<W: Sink>(node: NodeId, errors: &mut W) -> Result<(), EndFailed>
     ensures text { WritesText (W.contents errors.old) (W.contents errors.new) (node_text node) result }
-    ensures failure { W.failed errors.new ≡ (is_err result || W.failed errors.old) }
+    ensures failure { W.is_failed errors.new ≡ (is_err result || W.is_failed errors.old) }
 {
     match node {
         NodeId::Expr(id) => write_id(b"ExprId(", id.into_raw(), errors),
@@ -49,7 +49,7 @@ fn write_node<W: Sink>(node: NodeId, errors: &mut W) -> Result<(), EndFailed>
 fn write_at<W: Sink>(name: &[u8], node: NodeId, errors: &mut W) -> Result<(), EndFailed>
     ensures text { WritesText (W.contents errors.old) (W.contents errors.new)
         (name.now ++ node_text node) result }
-    ensures failure { W.failed errors.new ≡ (is_err result || W.failed errors.old) }
+    ensures failure { W.is_failed errors.new ≡ (is_err result || W.is_failed errors.old) }
 {
     write_all(errors, name)?;
     write_node(node, errors)
@@ -58,7 +58,7 @@ fn write_at<W: Sink>(name: &[u8], node: NodeId, errors: &mut W) -> Result<(), En
 fn write_finish_fault<W: Sink>(fault: FinishFault, errors: &mut W) -> Result<(), EndFailed>
     ensures text { WritesText (W.contents errors.old) (W.contents errors.new) (finish_fault_text fault)
         result }
-    ensures failure { W.failed errors.new ≡ (is_err result || W.failed errors.old) }
+    ensures failure { W.is_failed errors.new ≡ (is_err result || W.is_failed errors.old) }
 {
     match fault {
         FinishFault::NoRoots => write_all(errors, b"NoRoots"),
@@ -83,7 +83,7 @@ fn write_finish_fault<W: Sink>(fault: FinishFault, errors: &mut W) -> Result<(),
 
 fn write_body_fault<W: Sink>(fault: BodyFault, errors: &mut W) -> Result<(), EndFailed>
     ensures text { WritesText (W.contents errors.old) (W.contents errors.new) (body_fault_text fault) result }
-    ensures failure { W.failed errors.new ≡ (is_err result || W.failed errors.old) }
+    ensures failure { W.is_failed errors.new ≡ (is_err result || W.is_failed errors.old) }
 {
     match fault {
         BodyFault::NoRoot => write_all(errors, b"NoRoot"),
@@ -101,7 +101,7 @@ fn write_body_fault<W: Sink>(fault: BodyFault, errors: &mut W) -> Result<(), End
 fn write_body_refusal<W: Sink>(fault: BodyFault, errors: &mut W) -> Result<(), EndFailed>
     ensures text { WritesText (W.contents errors.old) (W.contents errors.new)
         (codes "refused " ++ body_fault_text fault) result }
-    ensures failure { W.failed errors.new ≡ (is_err result || W.failed errors.old) }
+    ensures failure { W.is_failed errors.new ≡ (is_err result || W.is_failed errors.old) }
 {
     write_all(errors, b"refused ")?;
     write_body_fault(fault, errors)
@@ -110,7 +110,7 @@ fn write_body_refusal<W: Sink>(fault: BodyFault, errors: &mut W) -> Result<(), E
 fn write_refusal<W: Sink>(fault: FinishFault, errors: &mut W) -> Result<(), EndFailed>
     ensures text { WritesText (W.contents errors.old) (W.contents errors.new)
         (codes "refused " ++ finish_fault_text fault) result }
-    ensures failure { W.failed errors.new ≡ (is_err result || W.failed errors.old) }
+    ensures failure { W.is_failed errors.new ≡ (is_err result || W.is_failed errors.old) }
 {
     write_all(errors, b"refused ")?;
     write_finish_fault(fault, errors)
@@ -118,7 +118,7 @@ fn write_refusal<W: Sink>(fault: FinishFault, errors: &mut W) -> Result<(), EndF
 
 fn write_fault<W: Sink>(fault: RunFault, errors: &mut W) -> Result<(), EndFailed>
     ensures text { WritesText (W.contents errors.old) (W.contents errors.new) (fault_text fault) result }
-    ensures failure { W.failed errors.new ≡ (is_err result || W.failed errors.old) }
+    ensures failure { W.is_failed errors.new ≡ (is_err result || W.is_failed errors.old) }
 {
     match fault {
         RunFault::BadLine(number) => write_numbered(b"bad line ", number, errors),
@@ -133,7 +133,7 @@ fn write_fault<W: Sink>(fault: RunFault, errors: &mut W) -> Result<(), EndFailed
 /// Writes the text of a fault and a line end.
 fn write_line<W: Sink>(fault: RunFault, errors: &mut W) -> Result<(), EndFailed>
     ensures text { WritesText (W.contents errors.old) (W.contents errors.new) (text_of (Err fault)) result }
-    ensures failure { W.failed errors.new ≡ (is_err result || W.failed errors.old) }
+    ensures failure { W.is_failed errors.new ≡ (is_err result || W.is_failed errors.old) }
 {
     write_fault(fault, errors)?;
     write_all(errors, b"\n")
@@ -160,7 +160,7 @@ fn status(outcome: &Result<(), RunFault>) -> u8
 /// line was written and the status is the same: the sink says whether one has failed.
 pub fn report<W: Sink>(outcome: &Result<(), RunFault>, errors: &mut W) -> u8
     ensures status { result ≡ status_of outcome.now }
-    ensures whole { W.failed errors.new ≡ false →
+    ensures whole { W.is_failed errors.new ≡ false →
         Appends (W.contents errors.old) (W.contents errors.new) (text_of outcome.now) }
     ensures front { GrowsByFront (W.contents errors.old) (W.contents errors.new) (text_of outcome.now) }
     ensures quiet { outcome.now ≡ Ok tt → errors.new ≡ errors.old }

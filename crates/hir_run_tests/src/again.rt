@@ -1,7 +1,7 @@
 //! Whole runs in memory: how they end, and what is read and written. A run that was refused memory is made again, so that each
 //! test passes with any one allocation refused too.
 
-use crate::fakes::{Given, Kept};
+use crate::fakes::{FailingReader, FailingWriter};
 use hir_run::{RunFault, run, run_to_exit};
 use std::alloc::Global;
 
@@ -32,14 +32,14 @@ pub fn until(step: usize, fail_from: usize) -> Calls {
 #[derive(Drop)]
 pub struct Seen<'a> {
     pub ended: Result<(), RunFault>,
-    pub reader: Given<'a>,
-    pub writer: Kept,
+    pub reader: FailingReader<'a>,
+    pub writer: FailingWriter,
 }
 
 /// Runs the program once.
 pub fn run_once<'a>(alloc: Global, input: &'a [u8], reads: Calls, writes: Calls) -> Seen<'a> {
-    let mut reader = Given::new(input, reads.step, reads.fail_from);
-    let mut writer = Kept::new(alloc, writes.step, writes.fail_from);
+    let mut reader = FailingReader::new(input, reads.step, reads.fail_from);
+    let mut writer = FailingWriter::new(alloc, writes.step, writes.fail_from);
     let ended = run(alloc, &mut reader, &mut writer);
     Seen {
         ended,
@@ -59,8 +59,8 @@ pub fn run_again<'a>(alloc: Global, input: &'a [u8], reads: Calls, writes: Calls
 
 /// Runs the program once, as for a process that ends behind it.
 fn run_to_exit_once<'a>(alloc: Global, input: &'a [u8], reads: Calls, writes: Calls) -> Seen<'a> {
-    let mut reader = Given::new(input, reads.step, reads.fail_from);
-    let mut writer = Kept::new(alloc, writes.step, writes.fail_from);
+    let mut reader = FailingReader::new(input, reads.step, reads.fail_from);
+    let mut writer = FailingWriter::new(alloc, writes.step, writes.fail_from);
     let ended = run_to_exit(alloc, &mut reader, &mut writer);
     Seen {
         ended,

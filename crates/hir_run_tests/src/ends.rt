@@ -15,7 +15,7 @@ const OUTPUT: &[u8] = b"children 1 = 0\nchildren 0 =\nchildren 7 unknown\n";
 const READ: usize = 73;
 
 /// What the whole lines at the front of the input are answered.
-fn answered(front: &[u8]) -> &'static [u8] {
+fn answers_to(front: &[u8]) -> &'static [u8] {
     match front.iter().filter(|b| **b == b'\n').count() {
         0..=3 => b"",
         4..=5 => b"children 1 = 0\n",
@@ -32,7 +32,7 @@ fn stops_where_a_read_fails(rt: HostRuntime) {
         assert_eq!(rt; seen.ended, Err(RunFault::InputFailed), "at {call}");
         assert!(rt; seen.reader.has_failed() && !seen.writer.has_failed());
         assert_eq!(rt; seen.reader.calls, call as u64 + 1);
-        let wanted = answered(&INPUT[..call]);
+        let wanted = answers_to(&INPUT[..call]);
         assert_eq!(rt; seen.writer.bytes.as_slice(), wanted, "at {call}");
     }
     // The read that would fail isn't made: the bad line is known by then.

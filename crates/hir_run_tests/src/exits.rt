@@ -1,7 +1,7 @@
 //! Runs for a process that ends behind them: they answer and end as runs that give their memory back, wherever they end.
 
 use crate::again::{Calls, Seen, by, run_again, run_to_exit_again, until};
-use crate::fakes::{Given, Kept};
+use crate::fakes::{FailingReader, FailingWriter};
 use hir_io::{Sink, Source};
 use hir_run::{report, run_and_report};
 use std::alloc::Global;
@@ -88,9 +88,9 @@ fn run_both<'a>(
 fn runs_and_reports_in_one_call(rt: HostRuntime) {
     let alloc = rt.alloc();
     for (input, output, status) in RUNS {
-        let mut reader = Given::new(input, 7, u64::MAX);
-        let mut writer = Kept::new(alloc, 7, u64::MAX);
-        let mut errors = Kept::new(alloc, 7, u64::MAX);
+        let mut reader = FailingReader::new(input, 7, u64::MAX);
+        let mut writer = FailingWriter::new(alloc, 7, u64::MAX);
+        let mut errors = FailingWriter::new(alloc, 7, u64::MAX);
         let answered = run_and_report(alloc, &mut reader, &mut writer, &mut errors);
         assert_eq!(&rt; answered, status, "{input:?}");
         assert_eq!(&rt; writer.bytes.as_slice(), output, "{input:?}");
@@ -105,7 +105,7 @@ fn answers_as_a_run_that_gives_back(rt: HostRuntime) {
         for step in [1, 3, 1_000_000] {
             let seen = run_both(&rt, alloc, input, by(step), by(step));
             assert_eq!(&rt; seen.writer.bytes.as_slice(), output, "{input:?}");
-            let mut errors = Kept::new(alloc, step, u64::MAX);
+            let mut errors = FailingWriter::new(alloc, step, u64::MAX);
             assert_eq!(&rt; report(&seen.ended, &mut errors), status, "{input:?}");
         }
     }

@@ -7,7 +7,7 @@ use std::alloc::Global;
 
 /// Bytes that are read some at a time, until the call that fails.
 #[derive(Drop)]
-pub struct Given<'a> {
+pub struct FailingReader<'a> {
     left: &'a [u8],
     step: usize,
     pub calls: u64,
@@ -15,11 +15,11 @@ pub struct Given<'a> {
     has_failed: bool,
 }
 
-impl<'a> Given<'a> {
-    pub fn new(bytes: &'a [u8], step: usize, fails_from: u64) -> Given<'a>
+impl<'a> FailingReader<'a> {
+    pub fn new(bytes: &'a [u8], step: usize, fails_from: u64) -> FailingReader<'a>
         ensures { result.has_failed ≡ false }
     {
-        Given {
+        FailingReader {
             left: bytes,
             step,
             calls: 0,
@@ -29,17 +29,17 @@ impl<'a> Given<'a> {
     }
 }
 
-impl Source for Given<'_> {
+impl Source for FailingReader<'_> {
     ghost use Rattle.std.specs.Prelude.{Some, length, min, ◌-◌, ◌^◌};
     ghost use Rattle.std.proofs.Common.{arith};
 
     ghost remaining = { λ s. Some s.left.now };
 
-    ghost failed = { λ s. s.has_failed };
+    ghost is_failed = { λ s. s.has_failed };
 
     ghost allowance = { λ s. min (length s.left.now) (2 ^ 64 - 1) };
 
-    ghost bounded = { λ s. omega arith };
+    ghost allowance_fits = { λ s. omega arith };
 
     fn read(&mut self, buffer: &mut [u8]) -> Result<usize, EndFailed> {
         let call = self.calls;
@@ -61,7 +61,7 @@ impl Source for Given<'_> {
 
 /// Bytes that are kept, until the call that fails.
 #[derive(Drop)]
-pub struct Kept {
+pub struct FailingWriter {
     pub bytes: Vec<u8>,
     step: usize,
     pub calls: u64,
@@ -71,11 +71,11 @@ pub struct Kept {
     pub was_refused: bool,
 }
 
-impl Kept {
-    pub fn new(alloc: Global, step: usize, fails_from: u64) -> Kept
+impl FailingWriter {
+    pub fn new(alloc: Global, step: usize, fails_from: u64) -> FailingWriter
         ensures { result.has_failed ≡ false }
     {
-        Kept {
+        FailingWriter {
             bytes: Vec::new(alloc),
             step,
             calls: 0,
@@ -99,12 +99,12 @@ impl Kept {
     }
 }
 
-impl Sink for Kept {
+impl Sink for FailingWriter {
     ghost use Rattle.std.specs.Prelude.{Some};
 
     ghost contents = { λ s. Some s.bytes.items };
 
-    ghost failed = { λ s. s.has_failed };
+    ghost is_failed = { λ s. s.has_failed };
 
     fn write(&mut self, buffer: &[u8]) -> Result<usize, EndFailed> {
         let call = self.calls;

@@ -1,6 +1,6 @@
 //! What the program says of its end, and its exit status, for each outcome; also where nothing can be said.
 
-use crate::fakes::Kept;
+use crate::fakes::FailingWriter;
 use hir_node::{ExprId, PatId, TypeRefId};
 use hir_run::{RunFault, report};
 use hir_store::{FinishFault, NodeId};
@@ -12,12 +12,12 @@ use std::test::Fail;
 /// called no more, and changes no status.
 fn reports(rt: &impl Abort, alloc: Global, outcome: Result<(), RunFault>, text: &str, status: u8) {
     for step in [1, 1000] {
-        let mut errors = Kept::new(alloc, step, u64::MAX);
+        let mut errors = FailingWriter::new(alloc, step, u64::MAX);
         assert_eq!(rt; report(&outcome, &mut errors), status, "{text}");
         assert_eq!(rt; errors.bytes.as_slice(), text.as_bytes());
     }
     for call in 0..text.len() {
-        let mut errors = Kept::new(alloc, 1, call as u64);
+        let mut errors = FailingWriter::new(alloc, 1, call as u64);
         assert_eq!(rt; report(&outcome, &mut errors), status, "{text}");
         assert_eq!(rt; errors.bytes.as_slice(), &text.as_bytes()[..call]);
         assert_eq!(rt; errors.calls, call as u64 + 1);

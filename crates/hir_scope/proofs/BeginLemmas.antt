@@ -14,7 +14,7 @@ use Rattle.hir_node.specs.declared.node_id.NodeId.{NodeId}
 use Rattle.hir_node.specs.declared.node_id.NodeId.TheVariants as node
 use Rattle.hir_faults.specs.Nodes.{Nodes, Has}
 use Rattle.hir_faults.specs.Sound.{RootsStandApart}
-use Rattle.hir_faults.specs.Tested.{all_of}
+use Rattle.hir_faults.specs.TestedParts.{all_of}
 use Rattle.hir_expr_store.specs.Contents.{Contents, rooted_of}
 use Rattle.hir_expr_store.specs.Under.{reached_nodes}
 use Rattle.hir_items.specs.Bodies.{BodyContents, AreBelow, formals_of, last_root, body_nodes}
@@ -26,7 +26,7 @@ use Rattle.hir_scope.specs.declared.scope.ScopeKind.TheVariants as kind
 use Rattle.hir_scope.specs.declared.tasks.Task.{Task}
 use Rattle.hir_scope.specs.declared.tasks.Task.TheVariants as task
 use Rattle.hir_scope.specs.walk.Begins.{IsSound, IsSoundBody, IsSoundStore, for_none, root_entries, body_root, body_begins, signature_root, scope_in_root, scopes_in_root, root_tasks, roots_begin, signature_begins}
-use Rattle.hir_scope.specs.Built.{tops_of_body, tops_of_signature, limit, BodyIsTooLarge, SignatureIsTooLarge}
+use Rattle.hir_scope.specs.BodyScopes.{tops_of_body, tops_of_signature, limit, BodyIsTooLarge, SignatureIsTooLarge}
 use Rattle.hir_scope.specs.Chains.{Place}
 use Rattle.hir_scope.specs.Counts.{count_if_there, form_scopes, node_entries, body_scope_count, body_entry_count, signature_scope_count, signature_entry_count}
 use Rattle.hir_scope.specs.Forms.{form_of}

@@ -6,16 +6,16 @@ use Rattle.std.specs.declared.cmp.Ordering.TheVariants as order
 use Rattle.std.specs.Ordering.{nat_cmp, is_eq, eq_by_cmp}
 use Rattle.std.specs.FinMap.{get-insert, get-empty, nat_cmp-IsAntisymmetric}
 use Rattle.std.specs.Cmp.{nat_cmp_total, tied_itself}
-use Rattle.hir_scope.specs.walk.Machine.{Given, write_all, Machine, Gone, IsRight, place_given, future_of, chain_of, IsReady, Exceeds, one, count_entries, weight, weight_left}
+use Rattle.hir_scope.specs.walk.Machine.{ScopeGift, write_all, Machine, Progress, IsRight, place_given, future_of, chain_of, IsReady, Exceeds, one, count_entries, weight, weight_left}
 use Rattle.hir_scope.proofs.MemberLemmas.{In, in_map, map_in, in_all}
 use Rattle.std.specs.FinMap as finmap
 use Rattle.std.proofs.lemmas.List.{length-map}
 use Rattle.hir_node.specs.declared.node_id.NodeId.{NodeId}
 use Rattle.hir_node.specs.declared.node_id.NodeId.TheVariants as node
 use Rattle.hir_faults.specs.Nodes.{Nodes, Has}
-use Rattle.hir_expr_store.specs.Under.{Reached, reached_nodes}
+use Rattle.hir_expr_store.specs.Under.{IsReached, reached_nodes}
 use Rattle.hir_scope.specs.walk.Begins.{IsSound, IsSoundBody, IsSoundStore, root_entries, body_begins, signature_begins}
-use Rattle.hir_scope.specs.Built.{ChainsAreFrames, expr_count, tops_of_body, tops_of_signature, AreBodyScopes, AreSignatureScopes, BodyIsTooLarge, SignatureIsTooLarge, limit}
+use Rattle.hir_scope.specs.BodyScopes.{ChainsAreFrames, expr_count, tops_of_body, tops_of_signature, AreBodyScopes, AreSignatureScopes, BodyIsTooLarge, SignatureIsTooLarge, limit}
 use Rattle.hir_scope.specs.Chains.{Place, Stands, within_own}
 use Rattle.hir_scope.specs.Forms.{form_of}
 use Rattle.hir_scope.specs.walk.Pending.{future}
@@ -32,8 +32,8 @@ use Rattle.hir_scope.specs.Scopes.{entry_count}
 
 -- 1. What a list of writes leaves in a finite map: at each id that was written one of the values written there, and nothing else.
 
-abbrev Written : Type 0
-Written = finmap.FinMap nat_cmp ℕ
+abbrev ScopesById : Type 0
+ScopesById = finmap.FinMap nat_cmp ℕ
 
 tied_same : (q k : ℕ) → eq_by_cmp nat_cmp q k ≡ true → q ≡ k
 tied_same q k e = nat_cmp-IsAntisymmetric q k (is_equal (nat_cmp q k) e) where
@@ -43,7 +43,7 @@ tied_same q k e = nat_cmp-IsAntisymmetric q k (is_equal (nat_cmp q k) e) where
   is_equal order.Greater e = absurd cc
 
 -- a value that is there was there before, or was written
-pub written_or : (m : Written) (gs : List Given) (expr scope : ℕ) → finmap.get (write_all m gs) expr ≡ Some scope → (finmap.get m expr ≡ Some scope) ⊎ ((g : Given) × In g gs × (g.expr ≡ expr) × (g.scope ≡ scope))
+pub written_or : (m : ScopesById) (gs : List ScopeGift) (expr scope : ℕ) → finmap.get (write_all m gs) expr ≡ Some scope → (finmap.get m expr ≡ Some scope) ⊎ ((g : ScopeGift) × In g gs × (g.expr ≡ expr) × (g.scope ≡ scope))
 written_or m [] expr scope e = inl e
 written_or m (g ∷ gs) expr scope e =
     ⊎_elim
@@ -55,7 +55,7 @@ written_or m (g ∷ gs) expr scope e =
     (written_or (finmap.insert m g.expr g.scope) gs expr scope e)
 
 -- into nothing, it was written
-pub written_once : (gs : List Given) (expr scope : ℕ) → finmap.get (write_all finmap.empty gs) expr ≡ Some scope → (g : Given) × In g gs × (g.expr ≡ expr) × (g.scope ≡ scope)
+pub written_once : (gs : List ScopeGift) (expr scope : ℕ) → finmap.get (write_all finmap.empty gs) expr ≡ Some scope → (g : ScopeGift) × In g gs × (g.expr ≡ expr) × (g.scope ≡ scope)
 written_once gs expr scope e =
     ⊎_elim (λ q. absurd (let none : finmap.get {K = ℕ} {X = ℕ} {R = nat_cmp} finmap.empty expr ≡ None = get-empty nat_cmp expr in cc)) (λ r. r)
     (written_or finmap.empty gs expr scope e)
@@ -66,20 +66,20 @@ some_if false v o (inl e) = absurd cc
 some_if false v o (inr h) = h
 
 -- what is there stays
-stays : (m : Written) (gs : List Given) (expr : ℕ) → IsSome (finmap.get m expr) → IsSome (finmap.get (write_all m gs) expr)
+stays : (m : ScopesById) (gs : List ScopeGift) (expr : ℕ) → IsSome (finmap.get m expr) → IsSome (finmap.get (write_all m gs) expr)
 stays m [] expr h = h
 stays m (g ∷ gs) expr h =
     stays (finmap.insert m g.expr g.scope) gs expr
     (subst IsSome (sym (get-insert nat_cmp_total m g.expr g.scope expr)) (some_if (eq_by_cmp nat_cmp expr g.expr) g.scope (finmap.get m expr) (inr h)))
 
 -- what was written is there
-pub written_there : (m : Written) (gs : List Given) (g : Given) → In g gs → IsSome (finmap.get (write_all m gs) g.expr)
+pub written_there : (m : ScopesById) (gs : List ScopeGift) (g : ScopeGift) → In g gs → IsSome (finmap.get (write_all m gs) g.expr)
 written_there m [] g h = absurd h
 written_there m (f ∷ gs) g h =
     ⊎_elim
     (λ e. stays (finmap.insert m f.expr f.scope) gs g.expr
     (subst IsSome (sym (get-insert nat_cmp_total m f.expr f.scope g.expr))
-    (some_if (eq_by_cmp nat_cmp g.expr f.expr) f.scope (finmap.get m g.expr) (inl (ap (λ (x : Given). eq_by_cmp nat_cmp g.expr x.expr) e ∙ ap is_eq (tied_itself nat_cmp_total g.expr))))))
+    (some_if (eq_by_cmp nat_cmp g.expr f.expr) f.scope (finmap.get m g.expr) (inl (ap (λ (x : ScopeGift). eq_by_cmp nat_cmp g.expr x.expr) e ∙ ap is_eq (tied_itself nat_cmp_total g.expr))))))
     (λ i. written_there (finmap.insert m f.expr f.scope) gs g i)
     h
 
@@ -96,7 +96,7 @@ module _ (s : Nodes) (sound : IsSound s) (tops : List Place) (nodes : List NodeI
   pub counted : length (exprs_under s tops) ≡ expr_count (reached_nodes s nodes)
   counted = exprs_counted s sound.fall sound.under tops nodes (sym same) places_there there
 
-  module _ (old new : Machine) (before after : ℕ) (gone : Gone s old new before after) (whole : future_of s old ≡ exprs_under s tops) (none : old.scopes.scope_by_expr ≡ finmap.empty) (done : new.tasks ≡ []) where
+  module _ (old new : Machine) (before after : ℕ) (gone : Progress s old new before after) (whole : future_of s old ≡ exprs_under s tops) (none : old.scopes.scope_by_expr ≡ finmap.empty) (done : new.tasks ≡ []) where
     places : map place_given gone.given ≡ exprs_under s tops
     unfolding future
     places =
@@ -109,23 +109,23 @@ module _ (s : Nodes) (sound : IsSound s) (tops : List Place) (nodes : List NodeI
     written : new.scopes.scope_by_expr ≡ write_all finmap.empty gone.given
     written = gone.written ∙ ap (λ m. write_all m gone.given) none
 
-    given_stands : (g : Given) → In g gone.given → Stands s tops (place_given g)
+    given_stands : (g : ScopeGift) → In g gone.given → Stands s tops (place_given g)
     given_stands g i =
         exprs_stand s sound.fall tops places_there (place_given g) (subst (In (place_given g)) places (map_in place_given g gone.given i))
 
-    was_given : (expr scope : ℕ) → finmap.get new.scopes.scope_by_expr expr ≡ Some scope → (g : Given) × In g gone.given × (g.expr ≡ expr) × (g.scope ≡ scope)
+    was_given : (expr scope : ℕ) → finmap.get new.scopes.scope_by_expr expr ≡ Some scope → (g : ScopeGift) × In g gone.given × (g.expr ≡ expr) × (g.scope ≡ scope)
     was_given expr scope e = written_once gone.given expr scope (sym (ap (λ m. finmap.get m expr) written) ∙ e)
 
-    to_reached : (expr : ℕ) → IsSome (finmap.get new.scopes.scope_by_expr expr) → Reached s nodes (node.Expr expr)
+    to_reached : (expr : ℕ) → IsSome (finmap.get new.scopes.scope_by_expr expr) → IsReached s nodes (node.Expr expr)
     to_reached expr h =
         let v = some_is (finmap.get new.scopes.scope_by_expr expr) h in
         let g = was_given expr v.0 v.1 in
-        subst (λ (x : ℕ). Reached s nodes (node.Expr x)) g.2
-        (subst (λ ns. Reached s ns (node.Expr g.0.expr)) same (stands_reached s tops (place_given g.0) (given_stands g.0 g.1)))
+        subst (λ (x : ℕ). IsReached s nodes (node.Expr x)) g.2
+        (subst (λ ns. IsReached s ns (node.Expr g.0.expr)) same (stands_reached s tops (place_given g.0) (given_stands g.0 g.1)))
 
-    from_reached : (expr : ℕ) → Reached s nodes (node.Expr expr) → IsSome (finmap.get new.scopes.scope_by_expr expr)
+    from_reached : (expr : ℕ) → IsReached s nodes (node.Expr expr) → IsSome (finmap.get new.scopes.scope_by_expr expr)
     from_reached expr h =
-        let at = reached_stands s tops (node.Expr expr) (subst (λ ns. Reached s ns (node.Expr expr)) (sym same) h) in
+        let at = reached_stands s tops (node.Expr expr) (subst (λ ns. IsReached s ns (node.Expr expr)) (sym same) h) in
         let i = standing_exprs s sound.fall tops places_there at.0 expr at.2 at.1 in
         let g = in_map place_given at.0 gone.given (subst (In at.0) (sym places) i) in
         let one : node.Expr g.0.expr ≡ node.Expr expr = ap (λ (p : Place). p.node) g.2 ∙ at.2 in
@@ -133,7 +133,7 @@ module _ (s : Nodes) (sound : IsSound s) (tops : List Place) (nodes : List NodeI
         subst (λ m. IsSome (finmap.get m expr)) (sym written)
         (subst (λ (x : ℕ). IsSome (finmap.get (write_all finmap.empty gone.given) x)) id (written_there finmap.empty gone.given g.0 g.1))
 
-    pub reached : (expr : ℕ) → IsSome (finmap.get new.scopes.scope_by_expr expr) ↔ Reached s nodes (node.Expr expr)
+    pub reached : (expr : ℕ) → IsSome (finmap.get new.scopes.scope_by_expr expr) ↔ IsReached s nodes (node.Expr expr)
     reached expr = (to_reached expr, from_reached expr)
 
     pub chains : ChainsAreFrames s tops new.scopes
@@ -194,9 +194,9 @@ module _ (b : BodyContents) (sound : IsSoundBody b) where
     pub body_fails : Exceeds c.nodes start → BodyIsTooLarge b
     body_fails h = body_exceeds b sound (subst (Exceeds nodes) is (subst (λ (x : Contents). Exceeds x.nodes start) same h))
 
-    module _ (new : Machine) (before after : ℕ) (went : Gone c.nodes start new before after) (done : new.tasks ≡ []) where
-      gone : Gone nodes start new before after
-      gone = subst (λ (x : Contents). Gone x.nodes start new before after) same went
+    module _ (new : Machine) (before after : ℕ) (went : Progress c.nodes start new before after) (done : new.tasks ≡ []) where
+      gone : Progress nodes start new before after
+      gone = subst (λ (x : Contents). Progress x.nodes start new before after) same went
 
       none : start.scopes.scope_by_expr ≡ finmap.empty
       none = ap (λ m. m.scopes.scope_by_expr) is
@@ -219,7 +219,7 @@ module _ (c : Contents) (sound : IsSoundStore c) (start : Machine) (is : start �
   pub signature_fails : Exceeds c.nodes start → SignatureIsTooLarge c
   signature_fails h = signature_exceeds c sound (subst (Exceeds c.nodes) is h)
 
-  module _ (new : Machine) (before after : ℕ) (gone : Gone c.nodes start new before after) (done : new.tasks ≡ []) where
+  module _ (new : Machine) (before after : ℕ) (gone : Progress c.nodes start new before after) (done : new.tasks ≡ []) where
     met_all : future_of c.nodes start ≡ exprs_under c.nodes (tops_of_signature c)
     met_all = ap (future_of c.nodes) is ∙ signature_whole c
 

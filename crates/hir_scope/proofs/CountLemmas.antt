@@ -7,7 +7,7 @@ use Rattle.hir_node.specs.declared.node_id.NodeId.{NodeId}
 use Rattle.hir_faults.specs.Nodes.{Nodes, Has, kids_of}
 use Rattle.hir_faults.specs.Down.{rank, KidsFall}
 use Rattle.hir_expr_store.specs.Under.{nodes_under, reached_nodes}
-use Rattle.hir_scope.specs.Built.{expr_count, is_expr}
+use Rattle.hir_scope.specs.BodyScopes.{expr_count, is_expr}
 use Rattle.hir_scope.specs.Slots.{Slot, slots, block_constants}
 use Rattle.hir_scope.specs.Chains.{Place, place_kid, places_of_kids}
 use Rattle.hir_scope.specs.walk.PlacesUnder.{places_under, exprs_under}

@@ -21,7 +21,7 @@ use Rattle.hir_scope.specs.Forms.{ScopingForm, form_of, form_at, pat_form, type_
 use Rattle.hir_scope.specs.Forms as form
 use Rattle.hir_scope.specs.Slots.{slots, slots_of_form}
 use Rattle.hir_scope.specs.walk.Pending.{tasks_of, arm_task, one_arm, guarded_task, statement_tasks, form_tasks, task_kids, leave, opens_here, opens_constant, future, arm_with, task_frames}
-use Rattle.hir_scope.specs.walk.Machine.{about, AreThere, LeavesWithin, Machine, chain_of, IsReady, total, left, node_frames, weight_left, node_turns, task_turns, turns_left, Opened, Moves}
+use Rattle.hir_scope.specs.walk.Machine.{about, AreThere, LeavesWithin, Machine, chain_of, IsReady, total, tasks_weight, node_frames, weight_left, node_turns, task_turns, turns_left, OpensScopes, Moves}
 use Rattle.hir_scope.proofs.KidLemmas.{kids_of_form, kids_in, slots_kids, about_form}
 use Rattle.hir_scope.specs.Frames.{Chain, frame, Frame, of_kind}
 use Rattle.hir_scope.specs.Leak.{leak, leak_of_form}
@@ -209,7 +209,7 @@ module _ (s : Nodes) where
         omega (arith, m, c)
 
     pub expr_moves : (S : Scopes) (a : Around) (id : ℕ) (ts us : List Task) (new : Machine) → us ≡ form_tasks a (form_of s (node.Expr id)) ++ ts →
-        Opened (at S a us) new (opens_here s (form_of s (node.Expr id))) (opens_constant (form_of s (node.Expr id))) →
+        OpensScopes (at S a us) new (opens_here s (form_of s (node.Expr id))) (opens_constant (form_of s (node.Expr id))) →
         IsReady s (at S a (task.Expr id ∷ ts)) →
         Moves s (at S a (task.Expr id ∷ ts)) new (place (node.Expr id) (chain_of S.scopes a.here) (chain_of S.scopes a.constant) ∷ [])
     expr_moves S a id ts us new e o r =
@@ -237,7 +237,7 @@ module _ (s : Nodes) where
         Moves s (at S a (task.Expr id ∷ ts)) (at S a ts) (place (node.Expr id) (chain_of S.scopes a.here) (chain_of S.scopes a.constant) ∷ [])
     empty_moves S a id ts e r =
         expr_moves S a id ts ts (at S a ts) (ap (λ (x : ScopingForm). form_tasks a x ++ ts) (sym e))
-        (subst (λ (x : ScopingForm). Opened (at S a ts) (at S a ts) (opens_here s x) (opens_constant x)) (sym e) (opened_none (at S a ts) r.here r.constant)) r
+        (subst (λ (x : ScopingForm). OpensScopes (at S a ts) (at S a ts) (opens_here s x) (opens_constant x)) (sym e) (opened_none (at S a ts) r.here r.constant)) r
 
     pat_opens : (x : Option Pat) → (opens_here s (form_at pat_form x) ≡ []) × (opens_constant (form_at pat_form x) ≡ [])
     pat_opens None = (refl, refl)
@@ -336,7 +336,7 @@ module _ (s : Nodes) where
   pub bound_frames : (id : ℕ) (ts : List Task) (w : Frame → ℕ) → sum_by w (frame s (id ∷ []) ∷ []) ≤ weight_left s w (task.Bound id ∷ ts)
   bound_frames id ts w = let c = weight_cons w (task.Bound id) ts in omega (arith, c)
 
-  pub bound_moves : (S : Scopes) (a : Around) (id : ℕ) (ts us : List Task) (new : Machine) → us ≡ task.Pat id ∷ ts → Opened (at S a us) new (frame s (id ∷ []) ∷ []) [] →
+  pub bound_moves : (S : Scopes) (a : Around) (id : ℕ) (ts us : List Task) (new : Machine) → us ≡ task.Pat id ∷ ts → OpensScopes (at S a us) new (frame s (id ∷ []) ∷ []) [] →
       IsReady s (at S a (task.Bound id ∷ ts)) → Moves s (at S a (task.Bound id ∷ ts)) new []
   unfolding future
   bound_moves S a id ts us new e o r =
@@ -361,7 +361,7 @@ module _ (s : Nodes) where
   in_arm pat guard expr last ts = task.Pat pat ∷ (tasks_of (opt e guard) ++ (task.Expr expr ∷ last ∷ ts))
 
   left_arm : (u : NodeId → ℕ) (v : Task → ℕ) (pat : ℕ) (guard : Option ℕ) (expr : ℕ) (a : Around) (ts : List Task) → v (task.Pat pat) ≡ 0 → ((x : ℕ) → v (task.Expr x) ≡ 0) →
-      left s u v (guarded_task pat expr guard ∷ ts) + v (leave a) ≡ v (guarded_task pat expr guard) + left s u v (in_arm pat guard expr (leave a) ts)
+      tasks_weight s u v (guarded_task pat expr guard ∷ ts) + v (leave a) ≡ v (guarded_task pat expr guard) + tasks_weight s u v (in_arm pat guard expr (leave a) ts)
   left_arm u v pat None expr a ts z y =
       let c = left_cons s u v (task.Arm pat expr) ts in
       let d = left_cons s u v (task.Pat pat) (task.Expr expr ∷ leave a ∷ ts) in
@@ -404,7 +404,7 @@ module _ (s : Nodes) where
       omega (arith, c, q)
 
   pub arm_moves : KidsFall s → (S : Scopes) (a : Around) (pat expr : ℕ) (guard : Option ℕ) (ts us : List Task) (new : Machine) → us ≡ in_arm pat guard expr (leave a) ts →
-      Opened (at S a us) new (frame s (pat ∷ []) ∷ []) [] → IsReady s (at S a (guarded_task pat expr guard ∷ ts)) → Moves s (at S a (guarded_task pat expr guard ∷ ts)) new []
+      OpensScopes (at S a us) new (frame s (pat ∷ []) ∷ []) [] → IsReady s (at S a (guarded_task pat expr guard ∷ ts)) → Moves s (at S a (guarded_task pat expr guard ∷ ts)) new []
   arm_moves fall S a pat expr guard ts us new e o r =
       let h = chain_of S.scopes a.here in
       let k = chain_of S.scopes a.constant in
@@ -426,7 +426,7 @@ module _ (s : Nodes) where
   pub macro_frames : (id : ℕ) (ts : List Task) (w : Frame → ℕ) → let f = of_kind (kind.MacroDef id) in sum_by w (f ∷ f ∷ []) ≤ weight_left s w (task.MacroDef id ∷ ts)
   macro_frames id ts w = let c = weight_cons w (task.MacroDef id) ts in omega (arith, c)
 
-  pub macro_moves : (S : Scopes) (a : Around) (id : ℕ) (ts : List Task) (new : Machine) → Opened (at S a ts) new (of_kind (kind.MacroDef id) ∷ []) (of_kind (kind.MacroDef id) ∷ []) →
+  pub macro_moves : (S : Scopes) (a : Around) (id : ℕ) (ts : List Task) (new : Machine) → OpensScopes (at S a ts) new (of_kind (kind.MacroDef id) ∷ []) (of_kind (kind.MacroDef id) ∷ []) →
       IsReady s (at S a (task.MacroDef id ∷ ts)) → Moves s (at S a (task.MacroDef id ∷ ts)) new []
   unfolding future
   macro_moves S a id ts new o r =

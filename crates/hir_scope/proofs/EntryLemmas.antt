@@ -17,7 +17,7 @@ use Rattle.hir_node.specs.declared.node_id.NodeId.TheVariants as node
 use Rattle.hir_faults.specs.Down.{rank, KidsFall}
 use Rattle.hir_faults.specs.Nodes.{Nodes, Has, kids_of, calls_of}
 use Rattle.hir_faults.specs.Sound.{IsSoundNode}
-use Rattle.hir_faults.specs.Tested.{all_of, tested_pat}
+use Rattle.hir_faults.specs.TestedParts.{all_of, tested_pat}
 use Rattle.hir_expr_store.specs.PatLists.{pats, bindings_at, bindings_in, child_pats_of}
 use Rattle.hir_scope.specs.Counts.{node_entries}
 use Rattle.hir_scope.specs.Frames.{entry_at, entry_of, binds}

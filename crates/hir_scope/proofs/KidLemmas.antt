@@ -33,17 +33,17 @@ use Rattle.hir_scope.specs.walk.Pending.{tasks_of, one_arm, guarded_task, leave,
 
 -- The calls in another order
 
-data Shuffled : List Call → List Call → Type 0 where
-  same : {xs : List Call} → Shuffled xs xs
-  swapped : (xs ys : List Call) → Shuffled (xs ++ ys) (ys ++ xs)
-  both : {xs us ys vs : List Call} → Shuffled xs us → Shuffled ys vs → Shuffled (xs ++ ys) (us ++ vs)
-  again : {xs ys zs : List Call} → Shuffled xs ys → Shuffled ys zs → Shuffled xs zs
+data IsShuffle : List Call → List Call → Type 0 where
+  same : {xs : List Call} → IsShuffle xs xs
+  swapped : (xs ys : List Call) → IsShuffle (xs ++ ys) (ys ++ xs)
+  both : {xs us ys vs : List Call} → IsShuffle xs us → IsShuffle ys vs → IsShuffle (xs ++ ys) (us ++ vs)
+  again : {xs ys zs : List Call} → IsShuffle xs ys → IsShuffle ys zs → IsShuffle xs zs
 
-all_shuffled : {X : Type 0} (f g : X → List Call) → ((x : X) → Shuffled (f x) (g x)) → (xs : List X) → Shuffled (flat_map f xs) (flat_map g xs)
+all_shuffled : {X : Type 0} (f g : X → List Call) → ((x : X) → IsShuffle (f x) (g x)) → (xs : List X) → IsShuffle (flat_map f xs) (flat_map g xs)
 all_shuffled f g h [] = same
 all_shuffled f g h (x ∷ xs) = both (h x) (all_shuffled f g h xs)
 
-statement_shuffled : (x : Statement) → Shuffled (statement_calls x) (met_in_statement x)
+statement_shuffled : (x : Statement) → IsShuffle (statement_calls x) (met_in_statement x)
 statement_shuffled (statement.Let pat None None None) = same
 statement_shuffled (statement.Let pat None None (Some y)) = same
 statement_shuffled (statement.Let pat None (Some x) None) = same
@@ -55,16 +55,16 @@ statement_shuffled (statement.Let pat (Some ty) (Some x) (Some y)) = swapped (e 
 statement_shuffled (statement.Expr x semi) = same
 statement_shuffled (statement.Item x) = same
 
-arm_shuffled : (pat : ℕ) (guard : Option ℕ) (x : ℕ) → Shuffled (e x ++ opt e guard ++ p pat) (p pat ++ opt e guard ++ e x)
+arm_shuffled : (pat : ℕ) (guard : Option ℕ) (x : ℕ) → IsShuffle (e x ++ opt e guard ++ p pat) (p pat ++ opt e guard ++ e x)
 arm_shuffled pat None x = swapped (e x) (p pat)
 arm_shuffled pat (Some g) x = again (swapped (e x) (e g ++ p pat)) (both (swapped (e g) (p pat)) (same {xs = e x}))
 
-closure_shuffled : (b a types ret : List Call) → Shuffled (((b ++ a) ++ types) ++ ret) ((types ++ ret) ++ (a ++ b))
+closure_shuffled : (b a types ret : List Call) → IsShuffle (((b ++ a) ++ types) ++ ret) ((types ++ ret) ++ (a ++ b))
 closure_shuffled b a types ret =
-    let P : List Call → Type 0 = λ cs. Shuffled cs ((types ++ ret) ++ (a ++ b)) in
+    let P : List Call → Type 0 = λ cs. IsShuffle cs ((types ++ ret) ++ (a ++ b)) in
     subst P (sym (append_assoc (b ++ a) types ret)) (again (swapped (b ++ a) (types ++ ret)) (both (same {xs = types ++ ret}) (swapped b a)))
 
-expr_shuffled : (x : Expr) → Shuffled (expr_calls x) (met_in_form (expr_form x))
+expr_shuffled : (x : Expr) → IsShuffle (expr_calls x) (met_in_form (expr_form x))
 expr_shuffled (expr.If c y None) = same
 expr_shuffled (expr.If c y (Some f)) = same
 expr_shuffled (expr.Let pat x) = swapped (p pat) (e x)
@@ -73,15 +73,15 @@ expr_shuffled (expr.Closure args arg_types ret_type body kind by) = closure_shuf
 expr_shuffled (expr.Match x arms) = both (same {xs = e x}) (all_shuffled arm_calls met_in_arm (λ arm. arm_shuffled arm.pat arm.guard arm.expr) arms)
 expr_shuffled _ = same
 
-type_shuffled : (x : TypeRef) → Shuffled (type_calls x) (met_in_form (type_form x))
+type_shuffled : (x : TypeRef) → IsShuffle (type_calls x) (met_in_form (type_form x))
 type_shuffled (type.PatternType ty pat) = same
 type_shuffled _ = same
 
-at_shuffled : {X : Type 0} (calls : X → List Call) (forms : X → ScopingForm) → ((x : X) → Shuffled (calls x) (met_in_form (forms x))) → (found : Option X) → Shuffled (opt calls found) (met_in_form (form_at forms found))
+at_shuffled : {X : Type 0} (calls : X → List Call) (forms : X → ScopingForm) → ((x : X) → IsShuffle (calls x) (met_in_form (forms x))) → (found : Option X) → IsShuffle (opt calls found) (met_in_form (form_at forms found))
 at_shuffled calls forms h None = same
 at_shuffled calls forms h (Some x) = h x
 
-calls_shuffled : (s : Nodes) (n : NodeId) → Shuffled (calls_of s n) (met_in_form (form_of s n))
+calls_shuffled : (s : Nodes) (n : NodeId) → IsShuffle (calls_of s n) (met_in_form (form_of s n))
 calls_shuffled s (node.Expr id) = at_shuffled expr_calls expr_form expr_shuffled (slice_get s.exprs id)
 calls_shuffled s (node.Pat id) = at_shuffled pat_calls pat_form (λ x. same) (slice_get s.pats id)
 calls_shuffled s (node.TypeRef id) = at_shuffled type_calls type_form type_shuffled (slice_get s.types id)
@@ -93,7 +93,7 @@ kids_append cs ds = flat_map-append kid cs ds
 in_parts : {xs ys us vs : List NodeId} → xs ≡ us → ys ≡ vs → IsPermutation us vs → IsPermutation xs ys
 in_parts {ys = ys} {us = us} a b h = subst (λ ns. IsPermutation ns ys) (sym a) (subst (IsPermutation us) (sym b) h)
 
-kids_shuffled : {xs ys : List Call} → Shuffled xs ys → IsPermutation (kids xs) (kids ys)
+kids_shuffled : {xs ys : List Call} → IsShuffle xs ys → IsPermutation (kids xs) (kids ys)
 kids_shuffled (same {xs}) = IsPermutation-refl (kids xs)
 kids_shuffled (swapped xs ys) = in_parts (kids_append xs ys) (kids_append ys xs) (IsPermutation-append_comm (kids xs) (kids ys))
 kids_shuffled (both {xs} {us} {ys} {vs} f g) =

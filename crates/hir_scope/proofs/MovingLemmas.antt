@@ -4,7 +4,7 @@ use Rattle.std.specs.Prelude.{Result, Ok, Err, IfOk}
 use Rattle.std.specs.List.{slice_get, flat_map, sum_by, All}
 use Rattle.std.proofs.lemmas.List.{length_push, append-nil, length-map, map-append}
 use Rattle.hir_node.specs.declared.node_id.NodeId.TheVariants as node
-use Rattle.hir_faults.specs.Tested.{all_of}
+use Rattle.hir_faults.specs.TestedParts.{all_of}
 use Rattle.hir_faults.specs.Nodes.{Nodes}
 use Rattle.hir_scope.specs.declared.scope.ScopeKind.TheVariants as kind
 use Rattle.hir_scope.specs.declared.tasks.Task.{Task}
@@ -17,7 +17,7 @@ use Rattle.hir_scope.specs.walk.PlacesUnder.{place, exprs_under}
 use Rattle.hir_scope.specs.Scopes.{Scope, frame_of, Scopes, entry_count}
 use Rattle.hir_scope.specs.Paths.{path, frame_at, chain}
 use Rattle.hir_scope.specs.walk.Pending.{future, arm_with, opens_here}
-use Rattle.hir_scope.specs.walk.Machine.{chain_of, LeavesWithin, HasFrames, Machine, here_of, constant_of, future_of, about, AreThere, IsReady, weight_left, one, count_entries, Over, Exceeds, turns_left, Opened, Moves, scope_within, Given, place_given, write_all, IsRight, Gone, Goes}
+use Rattle.hir_scope.specs.walk.Machine.{chain_of, LeavesWithin, HasFrames, Machine, here_of, constant_of, future_of, about, AreThere, IsReady, weight_left, one, count_entries, Over, Exceeds, turns_left, OpensScopes, Moves, scope_within, ScopeGift, place_given, write_all, IsRight, Progress, Goes}
 use Rattle.hir_scope.proofs.MemberLemmas.{sum_mapped, sum_ones}
 use Rattle.hir_scope.proofs.PathLemmas.{path_kept, path_new, path_members}
 use Rattle.std.proofs.lemmas.List.Sums.{sum_by-append, sum_by-cons}
@@ -122,7 +122,7 @@ child_frames : (scopes grown : List Scope) (p s : ℕ) (k : ScopeKind) (es : Lis
 child_frames scopes grown p s k es g i =
     rw g (record { within = omega (arith, i, length_push scopes (child p k es)); is = chain_new scopes (child p k es) s i })
 
-pub opened_here : (old new : Machine) (k : ScopeKind) (es : List ScopeEntry) → new.scopes.scopes ≡ old.scopes.scopes ++ child old.around.here k es ∷ [] → new.scopes.scope_by_expr ≡ old.scopes.scope_by_expr → new.around.here ≡ length old.scopes.scopes → new.around.constant ≡ old.around.constant → new.tasks ≡ old.tasks → old.around.constant < length old.scopes.scopes → Opened old new (record { kind = k; entries = es } ∷ []) []
+pub opened_here : (old new : Machine) (k : ScopeKind) (es : List ScopeEntry) → new.scopes.scopes ≡ old.scopes.scopes ++ child old.around.here k es ∷ [] → new.scopes.scope_by_expr ≡ old.scopes.scope_by_expr → new.around.here ≡ length old.scopes.scopes → new.around.constant ≡ old.around.constant → new.tasks ≡ old.tasks → old.around.constant < length old.scopes.scopes → OpensScopes old new (record { kind = k; entries = es } ∷ []) []
 opened_here old new k es g same i c ts l =
     record {
       more = child old.around.here k es ∷ [];
@@ -135,7 +135,7 @@ opened_here old new k es g same i c ts l =
           (subst (λ (s : ℕ). HasFrames old.scopes.scopes s (constant_of old)) (sym c) (record { within = l; is = refl }));
     }
 
-pub opened_constant : (old new : Machine) (k : ScopeKind) (es : List ScopeEntry) → new.scopes.scopes ≡ old.scopes.scopes ++ child old.around.constant k es ∷ [] → new.scopes.scope_by_expr ≡ old.scopes.scope_by_expr → new.around.constant ≡ length old.scopes.scopes → new.around.here ≡ old.around.here → new.tasks ≡ old.tasks → old.around.here < length old.scopes.scopes → Opened old new [] (record { kind = k; entries = es } ∷ [])
+pub opened_constant : (old new : Machine) (k : ScopeKind) (es : List ScopeEntry) → new.scopes.scopes ≡ old.scopes.scopes ++ child old.around.constant k es ∷ [] → new.scopes.scope_by_expr ≡ old.scopes.scope_by_expr → new.around.constant ≡ length old.scopes.scopes → new.around.here ≡ old.around.here → new.tasks ≡ old.tasks → old.around.here < length old.scopes.scopes → OpensScopes old new [] (record { kind = k; entries = es } ∷ [])
 opened_constant old new k es g same i h ts l =
     record {
       more = child old.around.constant k es ∷ [];
@@ -152,7 +152,7 @@ frames_sum_grown : (w : Frame → ℕ) (scopes grown more : List Scope) → grow
 frames_sum_grown w scopes grown more g =
     ap (λ (xs : List Scope). sum_by w (map frame_of xs)) g ∙ (ap (sum_by w) (map-append frame_of scopes more) ∙ sum_by-append w (map frame_of scopes) (map frame_of more))
 
-pub opened_then : (old mid new : Machine) (f : Frame) (gs : Chain) → Opened old mid (f ∷ []) [] → Opened mid new [] gs → Opened old new (f ∷ []) gs
+pub opened_then : (old mid new : Machine) (f : Frame) (gs : Chain) → OpensScopes old mid (f ∷ []) [] → OpensScopes mid new [] gs → OpensScopes old new (f ∷ []) gs
 opened_then old mid new f gs a b =
     record {
       more = a.more ++ b.more;
@@ -170,7 +170,7 @@ opened_then old mid new f gs a b =
     }
 
 -- the same machine, where none is opened
-pub opened_none : (m : Machine) → m.around.here < length m.scopes.scopes → m.around.constant < length m.scopes.scopes → Opened m m [] []
+pub opened_none : (m : Machine) → m.around.here < length m.scopes.scopes → m.around.constant < length m.scopes.scopes → OpensScopes m m [] []
 opened_none m h c =
     record {
       more = [];
@@ -202,7 +202,7 @@ over_new scopes f o =
     (λ l. inr (let a = sum_by-append count_entries (map frame_of scopes) (f ∷ []) in let b = entries_weigh scopes in omega (arith, l, a, b))) o
 
 -- what is over with the frames so far is over with those from before
-pub over_after : (old mid : Machine) (f : Frame) (gs : List Frame) → Opened old mid (f ∷ []) [] → Over (map frame_of mid.scopes.scopes ++ gs) → Over (map frame_of old.scopes.scopes ++ f ∷ gs)
+pub over_after : (old mid : Machine) (f : Frame) (gs : List Frame) → OpensScopes old mid (f ∷ []) [] → Over (map frame_of mid.scopes.scopes ++ gs) → Over (map frame_of old.scopes.scopes ++ f ∷ gs)
 over_after old mid f gs a o =
     ⊎_elim (λ l. inl (let x = same one in omega (arith, l, x))) (λ l. inr (let x = same count_entries in omega (arith, l, x))) o where
       same : (w : Frame → ℕ) → sum_by w (map frame_of mid.scopes.scopes ++ gs) ≡ sum_by w (map frame_of old.scopes.scopes ++ f ∷ gs)
@@ -235,7 +235,7 @@ module _ (s : Nodes) where
 
   -- one that opens scopes
   pub moves_opened : (S : Scopes) (a : Around) (t : Task) (ts us : List Task) (new : Machine) (fs gs : Chain) (met : List Place) →
-      Opened (at S a us) new fs gs → IsReady s (at S a (t ∷ ts)) → LeavesWithin (length S.scopes) us → AreThere s (about us) →
+      OpensScopes (at S a us) new fs gs → IsReady s (at S a (t ∷ ts)) → LeavesWithin (length S.scopes) us → AreThere s (about us) →
       future_of s (at S a (t ∷ ts)) ≡ met ++ future s (chain_of S.scopes) (fs ++ chain_of S.scopes a.here) (gs ++ chain_of S.scopes a.constant) us →
       ((w : Frame → ℕ) → weight_left s w (t ∷ ts) ≡ sum_by w (fs ++ gs) + weight_left s w us) →
       turns_left s us < turns_left s (t ∷ ts) → Moves s (at S a (t ∷ ts)) new met
@@ -287,12 +287,12 @@ module _ (s : Nodes) where
 
 -- 3. What a walk has done, from its start on.
 
-write_all-append : (m : finmap.FinMap nat_cmp ℕ) (xs ys : List Given) → write_all m (xs ++ ys) ≡ write_all (write_all m xs) ys
+write_all-append : (m : finmap.FinMap nat_cmp ℕ) (xs ys : List ScopeGift) → write_all m (xs ++ ys) ≡ write_all (write_all m xs) ys
 write_all-append m [] ys = refl
 write_all-append m (x ∷ xs) ys = write_all-append (finmap.insert m x.expr x.scope) xs ys
 
 module _ (s : Nodes) where
-  pub gone_start : (m : Machine) (n : ℕ) → IsReady s m → Gone s m m n n
+  pub gone_start : (m : Machine) (n : ℕ) → IsReady s m → Progress s m m n n
   gone_start m n r =
       record {
         ready = r;
@@ -306,7 +306,7 @@ module _ (s : Nodes) where
         grows = sym (append-nil m.scopes.scopes);
       }
 
-  pub gone_moved : (old new : Machine) (n : ℕ) → Moves s old new [] → Gone s old new n n
+  pub gone_moved : (old new : Machine) (n : ℕ) → Moves s old new [] → Progress s old new n n
   gone_moved old new n m =
       record {
         ready = m.ready;
@@ -324,10 +324,10 @@ module _ (s : Nodes) where
   pub gone_given : (old new : Machine) (last : Scopes) (id scope : ℕ) (h k : Chain) (n : ℕ) → Moves s old new (place (node.Expr id) h k ∷ []) →
       HasFrames new.scopes.scopes scope (within_own (form_of s (node.Expr id)) h) →
       last ≡ record { scopes = new.scopes.scopes; scope_by_expr = finmap.insert new.scopes.scope_by_expr id scope } →
-      Gone s old (at last new.around new.tasks) n (n + 1)
+      Progress s old (at last new.around new.tasks) n (n + 1)
   gone_given old new last id scope h k n m has e =
-      let x : Given = record { expr = id; here = h; constant = k; scope = scope } in
-      let P : Scopes → Type 0 = λ (S : Scopes). Gone s old (at S new.around new.tasks) n (n + 1) in
+      let x : ScopeGift = record { expr = id; here = h; constant = k; scope = scope } in
+      let P : Scopes → Type 0 = λ (S : Scopes). Progress s old (at S new.around new.tasks) n (n + 1) in
       subst P (sym e)
       (record {
         ready = record { here = m.ready.here; constant = m.ready.constant; leaves = m.ready.leaves; known = m.ready.known };
@@ -357,18 +357,18 @@ module _ (s : Nodes) where
       let old = at S a (task.Expr id ∷ ts) in
       let h = chain_of S.scopes a.here in
       let k = chain_of S.scopes a.constant in
-      let gone : Gone s old (at last mid.around mid.tasks) n m =
-      subst (λ (x : ℕ). Gone s old (at last mid.around mid.tasks) n x) (sym i) (gone_given old mid last id scope h k n moves has e) in
+      let gone : Progress s old (at last mid.around mid.tasks) n m =
+      subst (λ (x : ℕ). Progress s old (at last mid.around mid.tasks) n x) (sym i) (gone_given old mid last id scope h k n moves has e) in
       let goes : Goes s old (at last mid.around mid.tasks) n m = record { gone = gone; shorter = moves.shorter } in
       subst (λ (x : Task). Goes s (at S a (x ∷ ts)) (at last around tasks) n m) (sym is)
       (subst (λ (x : Around). Goes s old (at last x tasks) n m) (sym ea)
       (subst (λ (x : List Task). Goes s old (at last mid.around x) n m) (sym et) goes))
 
-  right_grown : (scopes grown more : List Scope) (gs : List Given) → grown ≡ scopes ++ more → All (IsRight s scopes) gs → All (IsRight s grown) gs
+  right_grown : (scopes grown more : List Scope) (gs : List ScopeGift) → grown ≡ scopes ++ more → All (IsRight s scopes) gs → All (IsRight s grown) gs
   right_grown scopes grown more gs e h =
       All-weaker (IsRight s scopes) (IsRight s grown) (λ g i. frames_grown scopes grown more g.scope (within_own (form_of s (node.Expr g.expr)) g.here) e i) gs h
 
-  pub gone_then : (old mid new : Machine) (n0 n1 n2 : ℕ) → Gone s old mid n0 n1 → Gone s mid new n1 n2 → Gone s old new n0 n2
+  pub gone_then : (old mid new : Machine) (n0 n1 n2 : ℕ) → Progress s old mid n0 n1 → Progress s mid new n1 n2 → Progress s old new n0 n2
   gone_then old mid new n0 n1 n2 a b =
       record {
         ready = b.ready;

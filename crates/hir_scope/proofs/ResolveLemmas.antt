@@ -5,7 +5,7 @@ use Rattle.std.specs.List.{slice_get, flat_map}
 use Rattle.std.proofs.lemmas.List.{append-nil}
 use Rattle.std.proofs.lemmas.List.Concat.{flat_map-append}
 use Rattle.hir_base.specs.declared.hygiene.SyntaxContext.{SyntaxContext}
-use Rattle.hir_faults.specs.Tested.{all_of}
+use Rattle.hir_faults.specs.TestedParts.{all_of}
 use Rattle.hir_scope.specs.declared.scope.ScopeEntry.{ScopeEntry}
 use Rattle.hir_scope.specs.Frames.{Frame, Chain}
 use Rattle.hir_scope.specs.Scopes.{Scope, IsBelow, IsIn, ParentsStandEarlier, frame_of, macro_def_of}
@@ -21,16 +21,16 @@ use Rattle.hir_scope.specs.Macros.{outward, resolve_through}
 -- 1. A name is looked for scope by scope, from one scope outward: what is found is what the name means along the chain.
 
 -- what a function tells of the scope that is there
-pub told : {X : Type 0} (f : Scope → X) (o : Option Scope) (x : X) → option_map f o ≡ Some x → (s : Scope) × (o ≡ Some s) × (f s ≡ x)
-told f None x e = absurd cc
-told f (Some s) x e = (s, refl, cc)
+pub of_some_scope : {X : Type 0} (f : Scope → X) (o : Option Scope) (x : X) → option_map f o ≡ Some x → (s : Scope) × (o ≡ Some s) × (f s ≡ x)
+of_some_scope f None x e = absurd cc
+of_some_scope f (Some s) x e = (s, refl, cc)
 
 -- The way outward
 
 -- the path of a scope by its parent
 pub path_of_parent : (scopes : List Scope) (s : ℕ) (parent : Option ℕ) → ParentsStandEarlier scopes → option_map (λ (x : Scope). x.parent) (slice_get scopes s) ≡ Some parent → path scopes (Some s) ≡ s ∷ path scopes parent
 path_of_parent scopes s parent earlier e =
-    let x = told (λ (x : Scope). x.parent) (slice_get scopes s) parent e in
+    let x = of_some_scope (λ (x : Scope). x.parent) (slice_get scopes s) parent e in
     path_step scopes s x.0 earlier x.1 ∙ ap (λ (p : Option ℕ). s ∷ path scopes p) x.2
 
 -- how far the way outward may still go
@@ -41,7 +41,7 @@ ways (Some s) = suc s
 -- a parent stands earlier
 pub parent_earlier : (scopes : List Scope) (s : ℕ) (parent : Option ℕ) → ParentsStandEarlier scopes → option_map (λ (x : Scope). x.parent) (slice_get scopes s) ≡ Some parent → IsBelow s parent
 parent_earlier scopes s parent earlier p =
-    let x = told (λ (x : Scope). x.parent) (slice_get scopes s) parent p in
+    let x = of_some_scope (λ (x : Scope). x.parent) (slice_get scopes s) parent p in
     subst (IsBelow s) x.2 (earlier s x.0 x.1)
 
 -- it is there
@@ -74,7 +74,7 @@ module _ (n : List ℕ) (h : SyntaxContext) where
   -- what the entries of a scope mean
   resolve_here : (scopes : List Scope) (s : ℕ) (es : List ScopeEntry) → option_map (λ (x : Scope). x.entries) (slice_get scopes s) ≡ Some es → resolve (frame_at scopes s) n h ≡ first_asked n h es
   resolve_here scopes s es e =
-      let x = told (λ (x : Scope). x.entries) (slice_get scopes s) es e in
+      let x = of_some_scope (λ (x : Scope). x.entries) (slice_get scopes s) es e in
       let here : frame_at scopes s ≡ frame_of x.0 ∷ [] = ap (all_of (λ (y : Scope). frame_of y ∷ [])) x.1 in
       ap (λ (c : Chain). resolve c n h) here ∙ ap (first_asked n h) (append-nil x.0.entries ∙ x.2)
 
@@ -141,7 +141,7 @@ pub through_outward : (from : SyntaxContext → Option Expansion) (scopes : List
     option_map (λ (x : Scope). macro_def_of x.kind) (slice_get scopes s) ≡ Some id → None ≡ first_asked n h es →
     resolve_through from (chain scopes parent) n (outward id (from h) h) ≡ resolve_through from (chain scopes (Some s)) n h
 through_outward from scopes s parent es id n h earlier p e m none =
-    let x = told (λ (x : Scope). x.entries) (slice_get scopes s) es e in
+    let x = of_some_scope (λ (x : Scope). x.entries) (slice_get scopes s) es e in
     let kind : Some (macro_def_of x.0.kind) ≡ Some id = ap (option_map (λ (y : Scope). macro_def_of y.kind)) (sym x.1) ∙ m in
     let same : macro_def_of x.0.kind ≡ id = cc in
     let outer : Option ℕ → Option ScopeEntry = λ k. resolve_through from (chain scopes parent) n (outward k (from h) h) in
@@ -154,7 +154,7 @@ pub through_found : (from : SyntaxContext → Option Expansion) (scopes : List S
     ParentsStandEarlier scopes → option_map (λ (x : Scope). x.parent) (slice_get scopes s) ≡ Some parent → option_map (λ (x : Scope). x.entries) (slice_get scopes s) ≡ Some es →
     Some found ≡ first_asked n h es → Some found ≡ resolve_through from (chain scopes (Some s)) n h
 through_found from scopes s parent es found n h earlier p e is =
-    let x = told (λ (x : Scope). x.entries) (slice_get scopes s) es e in
+    let x = of_some_scope (λ (x : Scope). x.entries) (slice_get scopes s) es e in
     let outer : Option ScopeEntry = resolve_through from (chain scopes parent) n (outward (macro_def_of x.0.kind) (from h) h) in
     ap (λ (o : Option ScopeEntry). option_or o outer) (is ∙ ap (first_asked n h) (sym x.2))
     ∙ ap (λ (c : Chain). resolve_through from c n h) (sym (chain_of_parent scopes s parent x.0 earlier p x.1))

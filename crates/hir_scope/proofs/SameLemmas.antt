@@ -60,11 +60,11 @@ pub length_in : (xs : List ScopeEntry) (row : ScopeData) → row.start ≤ row.e
 length_in xs row b w = length-take-le (row.end - row.start) (drop row.start xs) (omega (arith, b, w, length-drop row.start xs))
 
 -- all entries stand in the ranges
-pub counted : (xs : List ScopeEntry) (from : ℕ) (rows : List ScopeData) → FollowEachOther from rows (length xs) → entry_count (scopes_of xs rows) + from ≡ length xs
-counted xs from [] h = omega (arith, h)
-counted xs from (row ∷ rows) h =
+pub entries_are_counted : (xs : List ScopeEntry) (from : ℕ) (rows : List ScopeData) → FollowEachOther from rows (length xs) → entry_count (scopes_of xs rows) + from ≡ length xs
+entries_are_counted xs from [] h = omega (arith, h)
+entries_are_counted xs from (row ∷ rows) h =
     let l = length_in xs row (omega (arith, h.0, h.1)) (follow_rises row.end rows (length xs) h.2) in
-    let r = counted xs row.end rows h.2 in
+    let r = entries_are_counted xs row.end rows h.2 in
     let sum : entry_count (scopes_of xs (row ∷ rows)) ≡ entry_count (scope_of xs row ∷ []) + entry_count (scopes_of xs rows) =
     sum_by-append (λ (s : Scope). length s.entries) (scope_of xs row ∷ []) (scopes_of xs rows) in
     let one : entry_count (scope_of xs row ∷ []) ≡ 0 + length (entries_in xs row) = refl in
@@ -124,14 +124,14 @@ pub flat_set : (es : List ScopeEntry) (rows : List ScopeData) (m : finmap.FinMap
 flat_set es rows m e s f l =
     record { fill = f.fill; parents = f.parents; there = below_inserted m (length rows) e s f.there l; few_scopes = f.few_scopes; few_entries = f.few_entries }
 
-pushed : (rows : List ScopeData) (row : ScopeData) (n : ℕ) → ((i : ℕ) (x : ScopeData) → slice_get rows i ≡ Some x → IsBelow (n + i) x.parent) → IsBelow (n + length rows) row.parent → (i : ℕ) (x : ScopeData) → slice_get (rows ++ row ∷ []) i ≡ Some x → IsBelow (n + i) x.parent
-pushed [] row n h b zero x q = let k : row ≡ x = cc in subst (λ (y : ScopeData). IsBelow (n + 0) y.parent) k b
-pushed [] row n h b (suc i) x q = absurd cc
-pushed (first ∷ rows) row n h b zero x q = h zero x q
-pushed (first ∷ rows) row n h b (suc i) x q =
+below_with_one : (rows : List ScopeData) (row : ScopeData) (n : ℕ) → ((i : ℕ) (x : ScopeData) → slice_get rows i ≡ Some x → IsBelow (n + i) x.parent) → IsBelow (n + length rows) row.parent → (i : ℕ) (x : ScopeData) → slice_get (rows ++ row ∷ []) i ≡ Some x → IsBelow (n + i) x.parent
+below_with_one [] row n h b zero x q = let k : row ≡ x = cc in subst (λ (y : ScopeData). IsBelow (n + 0) y.parent) k b
+below_with_one [] row n h b (suc i) x q = absurd cc
+below_with_one (first ∷ rows) row n h b zero x q = h zero x q
+below_with_one (first ∷ rows) row n h b (suc i) x q =
     let shift : (j : ℕ) → suc n + j ≡ n + suc j = λ j. omega arith in
     subst (λ m. IsBelow m x.parent) (shift i)
-    (pushed rows row (suc n) (λ j y r. subst (λ m. IsBelow m y.parent) (sym (shift j)) (h (suc j) y r)) (subst (λ m. IsBelow m row.parent) (sym (shift (length rows))) b) i x q)
+    (below_with_one rows row (suc n) (λ j y r. subst (λ m. IsBelow m y.parent) (sym (shift j)) (h (suc j) y r)) (subst (λ m. IsBelow m row.parent) (sym (shift (length rows))) b) i x q)
 
 -- one scope more, of entries that are put last
 pub flat_push : (es more : List ScopeEntry) (rows : List ScopeData) (m : finmap.FinMap nat_cmp ℕ) (row : ScopeData) → IsFlat es rows m →
@@ -148,7 +148,7 @@ flat_push es more rows m row f s e b n k = record {
   parent_pushed i x q =
       let from_zero : (j : ℕ) → 0 + j ≡ j = λ j. omega arith in
       subst (λ m. IsBelow m x.parent) (from_zero i)
-      (pushed rows row 0 (λ j y r. subst (λ m. IsBelow m y.parent) (sym (from_zero j)) (f.parents j y r)) (subst (λ m. IsBelow m row.parent) (sym (from_zero (length rows))) b) i x q)
+      (below_with_one rows row 0 (λ j y r. subst (λ m. IsBelow m y.parent) (sym (from_zero j)) (f.parents j y r)) (subst (λ m. IsBelow m row.parent) (sym (from_zero (length rows))) b) i x q)
 
 pub seen_pushed : (es more : List ScopeEntry) (rows : List ScopeData) (row : ScopeData) → FollowEachOther 0 rows (length es) →
     row.start ≡ length es → row.end ≡ length es + length more →
@@ -166,11 +166,11 @@ pub scopes_too_many : (es : List ScopeEntry) (rows : List ScopeData) (n : ℕ) �
 scopes_too_many es rows n h = inl (omega (arith, h, length_seen es rows))
 
 pub entries_too_many : (es : List ScopeEntry) (rows : List ScopeData) (n : ℕ) → FollowEachOther 0 rows (length es) → 4294967295 < length es + n → TooMany (scopes_of es rows) n
-entries_too_many es rows n f h = inr (omega (arith, h, counted es 0 rows f))
+entries_too_many es rows n f h = inr (omega (arith, h, entries_are_counted es 0 rows f))
 
 pub not_too_many : (es : List ScopeEntry) (rows : List ScopeData) (n : ℕ) → FollowEachOther 0 rows (length es) → length rows < 4294967295 → length es + n ≤ 4294967295 → TooMany (scopes_of es rows) n → ⊥
 not_too_many es rows n f h k (inl w) = absurd (omega (arith, h, w, length_seen es rows))
-not_too_many es rows n f h k (inr w) = absurd (omega (arith, k, w, counted es 0 rows f))
+not_too_many es rows n f h k (inr w) = absurd (omega (arith, k, w, entries_are_counted es 0 rows f))
 
 -- 2. Scopes are the same exactly where what keeps them is.
 

@@ -17,10 +17,10 @@ use Rattle.hir_scope.specs.Forms as form
 use Rattle.hir_scope.specs.Leak.{leak, leaks, leak_of_form, leak_step}
 use Rattle.hir_scope.specs.Slots.{Slot, slots, slots_of_form}
 use Rattle.hir_scope.specs.Chains.{Place, place_kid, places_of_kids, Stands, top, kid}
-use Rattle.hir_scope.specs.Built.{is_expr}
+use Rattle.hir_scope.specs.BodyScopes.{is_expr}
 use Rattle.hir_scope.specs.walk.PlacesUnder.{place, places_under, under_step, exprs_under}
 use Rattle.hir_scope.proofs.KidLemmas.{met_kids, kids_of_form, kids_in, slots_kids}
-use Rattle.hir_expr_store.specs.Under.{Under, itself, below, Reached}
+use Rattle.hir_expr_store.specs.Under.{Under, itself, below, IsReached}
 use Rattle.hir_scope.proofs.MemberLemmas.{In, agree_in, in_contains, contains_in, in_flat_map, flat_map_in, in_map, map_in, in_filter, filter_in}
 
 -- 1. The leak of a node is told by the leaks of its kids, and what is under a place by what is under the places of the kids.
@@ -137,12 +137,12 @@ module _ (s : Nodes) where
         let p = place_of_kid at k (subst (λ m. Contains (kids_of s m) k) (sym e) c) in
         stands_under n k u p.0 p.2 (kid h p.1)
 
-    pub reached_stands : (n : NodeId) → Reached s (map (λ (at : Place). at.node) tops) n → (at : Place) × Stands s tops at × (at.node ≡ n)
+    pub reached_stands : (n : NodeId) → IsReached s (map (λ (at : Place). at.node) tops) n → (at : Place) × Stands s tops at × (at.node ≡ n)
     reached_stands n h =
         let t = unmapped (λ (at : Place). at.node) tops h.0 h.1 in
         stands_under n h.0 h.2 t.0 t.2 (top t.1)
 
-    pub stands_reached : (at : Place) → Stands s tops at → Reached s (map (λ (p : Place). p.node) tops) at.node
+    pub stands_reached : (at : Place) → Stands s tops at → IsReached s (map (λ (p : Place). p.node) tops) at.node
     stands_reached at (top c) = (at.node, mapped (λ (p : Place). p.node) tops at c, itself)
     stands_reached at (kid {parent = parent} h c) =
         let r = stands_reached parent h in

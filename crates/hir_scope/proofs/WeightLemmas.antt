@@ -17,7 +17,7 @@ use Rattle.hir_scope.specs.Slots.{slots}
 use Rattle.hir_scope.specs.walk.Pending.{form_tasks, task_kids, tasks_of, statement_tasks, leave, task_frames, opens_here, opens_constant}
 use Rattle.hir_scope.proofs.MemberLemmas.{agree_in, sum_flat, sum_same}
 use Rattle.hir_scope.proofs.KidLemmas.{kids_of_form, kids_in, slots_kids, about_form}
-use Rattle.hir_scope.specs.walk.Machine.{about, total_step, total, left, node_tasks, node_frames, weight_left, task_turns, node_turns, turns_left}
+use Rattle.hir_scope.specs.walk.Machine.{about, total_step, total, tasks_weight, node_tasks, node_frames, weight_left, task_turns, node_turns, turns_left}
 use Rattle.hir_scope.specs.declared.tasks.Task.TheVariants as task
 use Rattle.hir_scope.specs.Frames.{Frame}
 use Rattle.hir_scope.specs.Forms as form
@@ -37,7 +37,7 @@ module _ (s : Nodes) (fall : KidsFall s) (u : NodeId → ℕ) where
       ∙ sum_by-IsPermutation (total s u) (kids_of s n) (kids_in (slots s n)) (slots_kids s n)
 
   -- a node is met: its own weight goes, and what is inside it comes
-  pub left_met : (v : Task → ℕ) (a : Around) (n : NodeId) (ts : List Task) → Has s n → let inside = form_tasks a (form_of s n) in (total s u n + left s u v ts) + sum_by v inside ≡ u n + left s u v (inside ++ ts)
+  pub left_met : (v : Task → ℕ) (a : Around) (n : NodeId) (ts : List Task) → Has s n → let inside = form_tasks a (form_of s n) in (total s u n + tasks_weight s u v ts) + sum_by v inside ≡ u n + tasks_weight s u v (inside ++ ts)
   left_met v a n ts h =
       let inside = form_tasks a (form_of s n) in
       let at = total_at n h in
@@ -52,7 +52,7 @@ module _ (s : Nodes) (fall : KidsFall s) (u : NodeId → ℕ) where
 -- Sums over tasks
 
 module _ (s : Nodes) (u : NodeId → ℕ) (v : Task → ℕ) where
-  pub left_cons : (t : Task) (ts : List Task) → left s u v (t ∷ ts) ≡ v t + (sum_by (total s u) (task_kids t) + left s u v ts)
+  pub left_cons : (t : Task) (ts : List Task) → tasks_weight s u v (t ∷ ts) ≡ v t + (sum_by (total s u) (task_kids t) + tasks_weight s u v ts)
   left_cons t ts =
       let a = sum_by-cons v t ts in
       let b = sum_by-append (total s u) (task_kids t) (about ts) in

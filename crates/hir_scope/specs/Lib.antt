@@ -12,7 +12,7 @@ pub mod Counts
 pub mod Scopes
 pub mod Paths
 pub mod Flat
-pub mod Built
+pub mod BodyScopes
 pub mod Lookups
 pub mod walk
 pub mod same

@@ -6,11 +6,11 @@ use Rattle.hir_base.specs.declared.defs.ExpressionStoreOwnerId.{ExpressionStoreO
 use Rattle.hir_base.specs.declared.defs.ExpressionStoreOwnerId.TheVariants as owner
 use Rattle.hir_expr_store.specs.Contents.{Contents}
 use Rattle.hir_items.specs.Bodies.{BodyContents}
-use Rattle.hir_defs.specs.Lookups.{Tables, embodied, owned}
+use Rattle.hir_defs.specs.Lookups.{Tables, body_entry, owner_entry}
 use Rattle.hir_scope.specs.declared.fault.ScopesFault.{ScopesFault}
 use Rattle.hir_scope.specs.declared.fault.ScopesFault.TheVariants as fault
 use Rattle.hir_scope.specs.Scopes.{Scopes}
-use Rattle.hir_scope.specs.Built.{AreBodyScopes, BodyIsTooLarge, AreSignatureScopes, SignatureIsTooLarge}
+use Rattle.hir_scope.specs.BodyScopes.{AreBodyScopes, BodyIsTooLarge, AreSignatureScopes, SignatureIsTooLarge}
 
 -- what is answered for the scopes of what was looked up, of which these are scopes, and which may be too large
 abbrev pub Answers : {X : Type 0} → (X → Scopes → Type 0) → (X → Type 0) → Option X
@@ -28,10 +28,10 @@ AnswersStore found result = Answers AreSignatureScopes SignatureIsTooLarge found
 
 -- the body of a definition, and the store of an owner, where the tables have it
 abbrev pub body_in : Tables → DefWithBodyId → Option BodyContents
-body_in t def = option_map (λ e. e.0) (embodied t def)
+body_in t def = option_map (λ e. e.0) (body_entry t def)
 
 abbrev pub store_in : Tables → ExpressionStoreOwnerId → Option Contents
-store_in t id = option_map (λ e. e.0) (owned t id)
+store_in t id = option_map (λ e. e.0) (owner_entry t id)
 
 -- for the scopes of an owner: those of the body where it owns one
 abbrev pub AnswersOwner : Tables → ExpressionStoreOwnerId → Result Scopes ScopesFault → Type 0

@@ -3,7 +3,7 @@ use Rattle.std.specs.Prelude.{ℕ, List, [], ◌∷◌, ◌++◌, Option, map}
 use Rattle.std.specs.List.{flat_map}
 use Rattle.hir_node.specs.ChildCalls.{e, p, opt}
 use Rattle.hir_node.specs.declared.node_id.NodeId.TheVariants as node
-use Rattle.hir_faults.specs.Tested.{all_of}
+use Rattle.hir_faults.specs.TestedParts.{all_of}
 use Rattle.hir_faults.specs.Nodes.{Nodes}
 use Rattle.hir_scope.specs.Frames.{Frame, entry_at, binds, plain, empty}
 use Rattle.hir_scope.specs.Slots.{in_turn}

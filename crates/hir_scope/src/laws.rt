@@ -6,13 +6,13 @@ ghost use Rattle.std.specs.List.{All, flat_map};
 ghost use Rattle.hir_node.specs.declared.node_id.NodeId.{NodeId};
 ghost use Rattle.hir_faults.specs.Nodes.{Nodes, Has, kids_of};
 ghost use Rattle.hir_expr_store.specs.Contents.{Contents, contents_fault};
-ghost use Rattle.hir_expr_store.specs.Under.{Reached};
+ghost use Rattle.hir_expr_store.specs.Under.{IsReached};
 ghost use Rattle.hir_scope.specs.Leak.{leak, leak_step};
 ghost use Rattle.hir_scope.specs.Forms.{form_of};
 ghost use Rattle.hir_scope.specs.Order.{met_in_form};
 ghost use Rattle.hir_scope.specs.Slots.{call_kids, slot_kid, slots};
 ghost use Rattle.hir_scope.specs.Frames.{Chain};
-ghost use Rattle.hir_scope.specs.Built.{tops_of_body, tops_of_signature};
+ghost use Rattle.hir_scope.specs.BodyScopes.{tops_of_body, tops_of_signature};
 ghost use Rattle.hir_scope.specs.Chains.{Place, Stands, HasChain};
 ghost use Rattle.hir_items.specs.Bodies.{BodyContents, body_fault};
 ghost use Rattle.hir_scope.specs.Scopes.{Scope, IsIn, ParentsStandEarlier};
@@ -44,10 +44,10 @@ pub fn slots_follow_the_order()
 
 /// A node stands in a place exactly where it is reached.
 pub fn what_is_reached_stands()
-    ensures stands { (s : Nodes) (tops : List Place) (n : NodeId) → Reached s (map (λ at. at.node) tops) n
+    ensures stands { (s : Nodes) (tops : List Place) (n : NodeId) → IsReached s (map (λ at. at.node) tops) n
         → (at : Place) × Stands s tops at × (at.node ≡ n) }
     ensures reached { (s : Nodes) (tops : List Place) (at : Place) → Stands s tops at
-        → Reached s (map (λ at. at.node) tops) at.node }
+        → IsReached s (map (λ at. at.node) tops) at.node }
 {}
 
 /// The path of a scope has at most as many members as there are scopes.

@@ -1,9 +1,9 @@
 //! The scopes of a body or a signature, made by a walk over what it reaches; and where the walk begins.
 ghost use Rattle.std.specs.Prelude.{◌≡◌, ◌+◌, ◌<◌, ◌≤◌, ◌∷◌, ◌++◌, [], length, option_map, Err, IfOk, OnErr, OnOk};
 ghost use Rattle.std.specs.List.{All, flat_map};
-ghost use Rattle.hir_faults.specs.Tested.{all_of};
+ghost use Rattle.hir_faults.specs.TestedParts.{all_of};
 ghost use Rattle.hir_items.specs.Bodies.{AreBelow, body_nodes, formals_of};
-ghost use Rattle.hir_scope.specs.Built.{AreBodyScopes, AreSignatureScopes, BodyIsTooLarge, SignatureIsTooLarge, expr_count};
+ghost use Rattle.hir_scope.specs.BodyScopes.{AreBodyScopes, AreSignatureScopes, BodyIsTooLarge, SignatureIsTooLarge, expr_count};
 ghost use Rattle.hir_scope.specs.Frames.{entry_at, binds};
 ghost use Rattle.hir_scope.specs.walk.Begins.{IsSoundBody, IsSoundStore, at_first, for_none, root_entries, body_root, body_begins, formal_tasks, signature_begins};
 ghost use Rattle.hir_scope.specs.walk.Machine.{state};

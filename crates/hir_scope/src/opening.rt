@@ -6,7 +6,7 @@ ghost use Rattle.hir_scope.specs.Forms.{form_of};
 ghost use Rattle.hir_scope.specs.Frames.{frame_with, of_kind};
 ghost use Rattle.hir_scope.specs.Slots.{block_constants, loop_kind, own_frame};
 ghost use Rattle.hir_scope.specs.Scopes.{frame_of};
-ghost use Rattle.hir_scope.specs.walk.Machine.{state, AreThere, Opened, Over};
+ghost use Rattle.hir_scope.specs.walk.Machine.{state, AreThere, OpensScopes, Over};
 ghost use Rattle.hir_scope.specs.walk.Pending.{opens_here, opens_constant};
 
 use crate::entries::add_pats;
@@ -38,7 +38,7 @@ impl Walk {
         requires there { AreThere store.now.nodes (map node.Pat pats.now) }
         requires here { self.old.around.here < length self.old.scopes.scopes }
         requires constant { self.old.around.constant < length self.old.scopes.scopes }
-        ensures opened { IfOk result (λ _. Opened (state self.old) (state self.new)
+        ensures opened { IfOk result (λ _. OpensScopes (state self.old) (state self.new)
             (frame_with store.now.nodes kind pats.now ∷ []) []) }
         ensures full { result ≡ Err ScopesFault.Full → Over (map frame_of self.old.scopes.scopes
             ++ frame_with store.now.nodes kind pats.now ∷ []) }
@@ -61,7 +61,7 @@ impl Walk {
     ) -> Result<(), ScopesFault>
         requires here { self.old.around.here < length self.old.scopes.scopes }
         requires constant { self.old.around.constant < length self.old.scopes.scopes }
-        ensures opened { IfOk result (λ _. Opened (state self.old) (state self.new)
+        ensures opened { IfOk result (λ _. OpensScopes (state self.old) (state self.new)
             (of_kind here ∷ []) (of_kind constant ∷ [])) }
         ensures full { result ≡ Err ScopesFault.Full
             → Over (map frame_of self.old.scopes.scopes ++ of_kind here ∷ of_kind constant ∷ []) }
@@ -82,7 +82,7 @@ impl Walk {
     ) -> Result<(), ScopesFault>
         requires here { self.old.around.here < length self.old.scopes.scopes }
         requires constant { self.old.around.constant < length self.old.scopes.scopes }
-        ensures opened { IfOk result (λ _. Opened (state self.old) (state self.new)
+        ensures opened { IfOk result (λ _. OpensScopes (state self.old) (state self.new)
             (own_frame id label ∷ []) (block_constants id)) }
         ensures full { result ≡ Err ScopesFault.Full → Over (map frame_of self.old.scopes.scopes
             ++ own_frame id label ∷ block_constants id) }
@@ -108,7 +108,7 @@ impl Walk {
         requires there { expr < length store.now.nodes.exprs }
         requires here { self.old.around.here < length self.old.scopes.scopes }
         requires constant { self.old.around.constant < length self.old.scopes.scopes }
-        ensures opened { IfOk result (λ _. Opened (state self.old) (state self.new)
+        ensures opened { IfOk result (λ _. OpensScopes (state self.old) (state self.new)
             (opens_here store.now.nodes (form_of store.now.nodes (node.Expr expr)))
             (opens_constant (form_of store.now.nodes (node.Expr expr)))) }
         ensures full { result ≡ Err ScopesFault.Full → Over (map frame_of self.old.scopes.scopes

@@ -7,7 +7,7 @@ ghost use Rattle.hir_node.specs.ChildCalls.{e, opt, pat_calls};
 ghost use Rattle.hir_node.specs.Runs.{Runs};
 ghost use Rattle.hir_scope.specs.declared.tasks.Task.{Task};
 ghost use Rattle.hir_scope.specs.Forms.{expr_form, type_form};
-ghost use Rattle.hir_scope.specs.walk.Pending.{Put, task_of, tasks_of, form_tasks, leave};
+ghost use Rattle.hir_scope.specs.walk.Pending.{PutsTask, task_of, tasks_of, form_tasks, leave};
 
 use crate::fault::ScopesFault;
 use crate::order::visit_in_scope_order;
@@ -58,7 +58,7 @@ pub(crate) struct Tasks {
 
 /// Each child of a node becomes a task.
 impl StoreVisitor for Tasks {
-    ghost step = { λ v c w. Runs Put v.stack (task_of c) w.stack };
+    ghost step = { λ v c w. Runs PutsTask v.stack (task_of c) w.stack };
 
     fn on_expr(&mut self, expr: ExprId) {
         self.stack.put(Task::Expr(expr));
@@ -85,12 +85,12 @@ trait Brings {
     ghost tasks: { Self → List Task };
 
     fn put(&self, onto: &mut Tasks)
-        ensures { Runs Put onto.old.stack (tasks self.now) onto.new.stack };
+        ensures { Runs PutsTask onto.old.stack (tasks self.now) onto.new.stack };
 }
 
 /// Puts the tasks of each item, in order.
 fn put_each<T: Brings>(onto: &mut Tasks, items: &[T])
-    ensures { Runs Put onto.old.stack (flat_map T.tasks items.now) onto.new.stack }
+    ensures { Runs PutsTask onto.old.stack (flat_map T.tasks items.now) onto.new.stack }
 {
     for item in items {
         item.put(onto);
@@ -159,7 +159,7 @@ impl Tasks {
 
     /// Puts a task that restores these scopes.
     fn put_leave(&mut self, around: Around)
-        ensures { Runs Put self.old.stack (leave around ∷ []) self.new.stack }
+        ensures { Runs PutsTask self.old.stack (leave around ∷ []) self.new.stack }
     {
         self.stack.put(Task::Leave(around.here, around.constant));
     }
@@ -167,7 +167,7 @@ impl Tasks {
     /// Puts the tasks of what is inside an expression. Leaving the expression restores `around`.
     // One arm a form: split, the function would name variants twice.
     fn put_in_expr(&mut self, expr: &Expr, around: Around)
-        ensures { Runs Put self.old.stack (form_tasks around (expr_form expr.now)) self.new.stack }
+        ensures { Runs PutsTask self.old.stack (form_tasks around (expr_form expr.now)) self.new.stack }
     {
         match expr {
             Expr::If {
@@ -240,7 +240,7 @@ impl Tasks {
 
     /// Puts the tasks of what is inside a type. Leaving the type restores `around`.
     fn put_in_type(&mut self, type_ref: &TypeRef, around: Around)
-        ensures { Runs Put self.old.stack (form_tasks around (type_form type_ref.now)) self.new.stack }
+        ensures { Runs PutsTask self.old.stack (form_tasks around (type_form type_ref.now)) self.new.stack }
     {
         match type_ref {
             TypeRef::PatternType(inner, pat) => {

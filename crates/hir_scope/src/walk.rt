@@ -3,7 +3,7 @@ ghost use Rattle.std.specs.Prelude.{◌≡◌, ◌≤◌, ◌+◌, [], length, E
 ghost use Rattle.hir_faults.specs.Nodes.{Nodes};
 ghost use Rattle.hir_scope.specs.Forms.{InTurn, expr_form};
 ghost use Rattle.hir_scope.specs.walk.Pending.{guarded_task};
-ghost use Rattle.hir_scope.specs.walk.Machine.{doing, machine, state, future_of, scope_within, IsReady, Exceeds, Meets, Moves, Goes, Gone};
+ghost use Rattle.hir_scope.specs.walk.Machine.{doing, machine, state, future_of, scope_within, IsReady, Exceeds, Meets, Moves, Goes, Progress};
 
 use crate::expr_scopes::ExprScopes;
 use crate::fault::ScopesFault;
@@ -194,7 +194,8 @@ impl Walk {
         steps: &mut Steps,
     ) -> Result<(), ScopesFault>
         requires ready { IsReady store.now.nodes (machine self.old self.old.tasks.stack.items) }
-        ensures gone { IfOk result (λ _. Gone store.now.nodes (machine self.old self.old.tasks.stack.items)
+        ensures gone { IfOk result (λ _. Progress store.now.nodes
+            (machine self.old self.old.tasks.stack.items)
             (machine self.new []) steps.old steps.new) }
         ensures rises { steps.old ≤ steps.new }
         ensures few { OnErr result (steps.new ≤ steps.old

@@ -9,29 +9,29 @@ use Rattle.hir_source.specs.declared.sources.ExprSources.{ExprSources}
 use Rattle.hir_source.specs.declared.source_map.ExpressionStoreSourceMap.{ExpressionStoreSourceMap}
 use Rattle.hir_source.specs.Sources.{id_key}
 use Rattle.hir_source.specs.Lookups.{expr_source, pat_source, label_source, type_source, lifetime_source, expansions_of, diagnostics_of}
-use Rattle.hir_source.specs.Compared.{ComparedExprs, compared_exprs, compared}
+use Rattle.hir_source.specs.ComparedPart.{ComparedExprs, compared_exprs, compared_part}
 
 -- parts with one compared part give one, kept or not
 pub kept_alike : (p q : ExprSources) → compared_exprs p ≡ compared_exprs q → (b : Bool) → option_map compared_exprs (cond b (Some p) None) ≡ option_map compared_exprs (cond b (Some q) None)
 kept_alike p q same true = λ i. Some (same i)
 kept_alike p q same false = refl
 
-looked : {V : Type 0} → (ComparedExprs → map.FinMap by_code V) → Option ComparedExprs → List ℕ → Option V
-looked family None key = None
-looked family (Some part) key = map.get (family part) key
+source_in : {V : Type 0} → (ComparedExprs → map.FinMap by_code V) → Option ComparedExprs → List ℕ → Option V
+source_in family None key = None
+source_in family (Some part) key = map.get (family part) key
 
-expr_looked : (e : Option ExprSources) (t : ExpressionStoreSourceMap) (id : ℕ) → expr_source (record t { exprs = e }) id ≡ looked (λ p. p.exprs) (option_map compared_exprs e) (id_key id)
-unfolding looked
+expr_looked : (e : Option ExprSources) (t : ExpressionStoreSourceMap) (id : ℕ) → expr_source (record t { exprs = e }) id ≡ source_in (λ p. p.exprs) (option_map compared_exprs e) (id_key id)
+unfolding source_in
 expr_looked None t id = refl
 expr_looked (Some p) t id = refl
 
-pat_looked : (e : Option ExprSources) (t : ExpressionStoreSourceMap) (id : ℕ) → pat_source (record t { exprs = e }) id ≡ looked (λ p. p.pats) (option_map compared_exprs e) (id_key id)
-unfolding looked
+pat_looked : (e : Option ExprSources) (t : ExpressionStoreSourceMap) (id : ℕ) → pat_source (record t { exprs = e }) id ≡ source_in (λ p. p.pats) (option_map compared_exprs e) (id_key id)
+unfolding source_in
 pat_looked None t id = refl
 pat_looked (Some p) t id = refl
 
-label_looked : (e : Option ExprSources) (t : ExpressionStoreSourceMap) (id : ℕ) → label_source (record t { exprs = e }) id ≡ looked (λ p. p.labels) (option_map compared_exprs e) (id_key id)
-unfolding looked
+label_looked : (e : Option ExprSources) (t : ExpressionStoreSourceMap) (id : ℕ) → label_source (record t { exprs = e }) id ≡ source_in (λ p. p.labels) (option_map compared_exprs e) (id_key id)
+unfolding source_in
 label_looked None t id = refl
 label_looked (Some p) t id = refl
 
@@ -57,18 +57,18 @@ some_kept : (e : Option ExprSources) → is_some e ≡ is_some (option_map compa
 some_kept None = refl
 some_kept (Some p) = refl
 
-module _ (x y : ExpressionStoreSourceMap) (same : compared x ≡ compared y) where
+module _ (x y : ExpressionStoreSourceMap) (same : compared_part x ≡ compared_part y) where
   pub kept : is_some x.exprs ≡ is_some y.exprs
   kept = some_kept x.exprs ∙ ap (λ c. is_some c.kept) same ∙ sym (some_kept y.exprs)
 
   pub exprs : (id : ℕ) → expr_source x id ≡ expr_source y id
-  exprs id = expr_looked x.exprs x id ∙ ap (λ c. looked (λ p. p.exprs) c.kept (id_key id)) same ∙ sym (expr_looked y.exprs y id)
+  exprs id = expr_looked x.exprs x id ∙ ap (λ c. source_in (λ p. p.exprs) c.kept (id_key id)) same ∙ sym (expr_looked y.exprs y id)
 
   pub pats : (id : ℕ) → pat_source x id ≡ pat_source y id
-  pats id = pat_looked x.exprs x id ∙ ap (λ c. looked (λ p. p.pats) c.kept (id_key id)) same ∙ sym (pat_looked y.exprs y id)
+  pats id = pat_looked x.exprs x id ∙ ap (λ c. source_in (λ p. p.pats) c.kept (id_key id)) same ∙ sym (pat_looked y.exprs y id)
 
   pub labels : (id : ℕ) → label_source x id ≡ label_source y id
-  labels id = label_looked x.exprs x id ∙ ap (λ c. looked (λ p. p.labels) c.kept (id_key id)) same ∙ sym (label_looked y.exprs y id)
+  labels id = label_looked x.exprs x id ∙ ap (λ c. source_in (λ p. p.labels) c.kept (id_key id)) same ∙ sym (label_looked y.exprs y id)
 
   pub expansions : expansions_of x ≡ expansions_of y
   expansions = expansions_kept x.exprs x ∙ ap (λ c. calls_kept c.kept) same ∙ sym (expansions_kept y.exprs y)

@@ -101,6 +101,6 @@ with_diagnostic b diagnostic =
 
 -- the maps of a builder: the expression part exactly if nodes are kept or there is an expansion or a
 -- diagnostic
-abbrev pub finished : Bool → SourceMapBuilder → ExpressionStoreSourceMap
-finished keeps_nodes b =
+abbrev pub finish_sources : Bool → SourceMapBuilder → ExpressionStoreSourceMap
+finish_sources keeps_nodes b =
     record { exprs = cond (keeps_nodes || has_news b.exprs) (Some b.exprs) None; types = b.types }

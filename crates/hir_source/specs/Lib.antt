@@ -2,6 +2,6 @@ pub mod Sources
 pub mod Additions
 pub mod Lookups
 pub mod Calls
-pub mod Compared
+pub mod ComparedPart
 pub mod same
 pub mod NoSources

@@ -1,6 +1,6 @@
 -- Proofs alone: that each `==` of this crate decides whether two values are the same. A reader may pass over this
 -- folder.
 pub mod SameDiagnostics
-pub mod SameCompared
+pub mod SameComparedPart
 pub mod SameMaps
 pub mod SameBuilders

@@ -8,9 +8,9 @@ ghost use Rattle.hir_path.specs.declared.ids.ExprOrPatId.{ExprOrPatId};
 ghost use Rattle.hir_source.specs.declared.source_map.ExpressionStoreSourceMap.{ExpressionStoreSourceMap};
 ghost use Rattle.hir_source.specs.declared.source_map_builder.SourceMapBuilder.{SourceMapBuilder};
 ghost use Rattle.hir_source.specs.Sources.{Source};
-ghost use Rattle.hir_source.specs.Additions.{HasSameMaps, finished, with_expr, with_pat, with_label, with_type, with_lifetime};
+ghost use Rattle.hir_source.specs.Additions.{HasSameMaps, finish_sources, with_expr, with_pat, with_label, with_type, with_lifetime};
 ghost use Rattle.hir_source.specs.Lookups.{expr_source, pat_source, label_source, type_source, lifetime_source, expansions_of, diagnostics_of};
-ghost use Rattle.hir_source.specs.Compared.{compared};
+ghost use Rattle.hir_source.specs.ComparedPart.{compared_part};
 
 use crate::source_map::ExpressionStoreSourceMap;
 use crate::source_map_builder::SourceMapBuilder;
@@ -18,7 +18,7 @@ use crate::source_map_builder::SourceMapBuilder;
 /// Source maps are equal exactly if their compared parts are the same, and so equality is an equivalence.
 pub fn equality_is_of_the_compared_part()
     ensures decides { (x y : ExpressionStoreSourceMap)
-        → Decides (⟦<ExpressionStoreSourceMap as PartialEq>⟧.eq x y) (compared x ≡ compared y) }
+        → Decides (⟦<ExpressionStoreSourceMap as PartialEq>⟧.eq x y) (compared_part x ≡ compared_part y) }
     ensures equivalence { IsEquivalence ⟦<ExpressionStoreSourceMap as PartialEq>⟧.eq }
 {}
 
@@ -26,19 +26,19 @@ pub fn equality_is_of_the_compared_part()
 pub fn forward_maps_may_differ()
     ensures exprs { (b : SourceMapBuilder) (keeps_nodes : Bool) (source : Source) (id : ExprOrPatId)
         → IsTrue (⟦<ExpressionStoreSourceMap as PartialEq>⟧.eq
-        (finished keeps_nodes (with_expr b source id)) (finished keeps_nodes b)) }
+        (finish_sources keeps_nodes (with_expr b source id)) (finish_sources keeps_nodes b)) }
     ensures pats { (b : SourceMapBuilder) (keeps_nodes : Bool) (source : Source) (id : ExprOrPatId)
         → IsTrue (⟦<ExpressionStoreSourceMap as PartialEq>⟧.eq
-        (finished keeps_nodes (with_pat b source id)) (finished keeps_nodes b)) }
+        (finish_sources keeps_nodes (with_pat b source id)) (finish_sources keeps_nodes b)) }
     ensures labels { (b : SourceMapBuilder) (keeps_nodes : Bool) (source : Source) (id : ℕ)
         → IsTrue (⟦<ExpressionStoreSourceMap as PartialEq>⟧.eq
-        (finished keeps_nodes (with_label b source id)) (finished keeps_nodes b)) }
+        (finish_sources keeps_nodes (with_label b source id)) (finish_sources keeps_nodes b)) }
     ensures types { (b : SourceMapBuilder) (keeps_nodes : Bool) (source : Source) (id : ℕ)
         → IsTrue (⟦<ExpressionStoreSourceMap as PartialEq>⟧.eq
-        (finished keeps_nodes (with_type b source id)) (finished keeps_nodes b)) }
+        (finish_sources keeps_nodes (with_type b source id)) (finish_sources keeps_nodes b)) }
     ensures lifetimes { (b : SourceMapBuilder) (keeps_nodes : Bool) (source : Source) (id : ℕ)
         → IsTrue (⟦<ExpressionStoreSourceMap as PartialEq>⟧.eq
-        (finished keeps_nodes (with_lifetime b source id)) (finished keeps_nodes b)) }
+        (finish_sources keeps_nodes (with_lifetime b source id)) (finish_sources keeps_nodes b)) }
 {}
 
 /// Of equal source maps both keep their expression parts or neither does, and both have the same source of each node, the same

@@ -4,9 +4,9 @@ ghost use Rattle.std.specs.Prelude.{◌≡◌, ◌↔◌, IsTrue, IsSome, IfSome
 ghost use Rattle.std.specs.List.Sorted.{IsPermutation};
 ghost use Rattle.std.specs.FinMap as map;
 ghost use Rattle.hir_base.specs.Exact.{exact};
-ghost use Rattle.hir_base.specs.Table.{coded};
+ghost use Rattle.hir_base.specs.Table.{by_codes};
 ghost use Rattle.hir_source.specs.Sources.{source_key};
-ghost use Rattle.hir_source.specs.Compared.{same_exprs};
+ghost use Rattle.hir_source.specs.ComparedPart.{same_exprs};
 ghost use Rattle.hir_source.specs.same.SameDiagnostics.{diagnostics_decide};
 
 use crate::diagnostics::ExpressionStoreDiagnostics;
@@ -156,14 +156,14 @@ impl ExpressionStoreSourceMap {
 
     /// All macro calls with what they expanded to, in no promised order.
     pub fn macro_calls(&self) -> MacroCalls<'_>
-        ensures { IsPermutation (coded source_key result) (map.entries (expansions_of self.now)) }
+        ensures { IsPermutation (by_codes source_key result) (map.entries (expansions_of self.now)) }
     {
         MacroCalls::new(self.expansions())
     }
 
     /// All macro calls with what they expanded to, as references, in no promised order.
     pub fn expansions(&self) -> Expansions<'_>
-        ensures { IsPermutation (coded source_key result) (map.entries (expansions_of self.now)) }
+        ensures { IsPermutation (by_codes source_key result) (map.entries (expansions_of self.now)) }
     {
         match self.exprs() {
             Some(exprs) => Expansions::new(Some(exprs.expansions.iter())),
@@ -286,8 +286,8 @@ fn same_exprs(x: &ExprSources, y: &ExprSources) -> bool
 /// Source maps are equal if their compared parts are: whether the expression part is kept, where expressions, patterns, labels, types
 /// and lifetimes came from, the expansions and the diagnostics. The maps from sources to nodes follow from these, and may differ.
 impl PartialEq for ExpressionStoreSourceMap {
-    ghost use Rattle.hir_source.specs.Compared.{same_compared};
-    ghost use Rattle.hir_source.specs.same.SameCompared.{compared_per};
+    ghost use Rattle.hir_source.specs.ComparedPart.{same_compared};
+    ghost use Rattle.hir_source.specs.same.SameComparedPart.{compared_per};
 
     ghost eq = { same_compared ⟦<ExprOrPatSource as PartialEq>⟧.eq ⟦<MacroCallId as PartialEq>⟧.eq
         ⟦<ExpressionStoreDiagnostics as PartialEq>⟧.eq };
@@ -312,7 +312,7 @@ impl PartialEq for ExpressionStoreSourceMap {
 }
 
 impl Eq for ExpressionStoreSourceMap {
-    ghost use Rattle.hir_source.specs.same.SameCompared.{compared_equiv};
+    ghost use Rattle.hir_source.specs.same.SameComparedPart.{compared_equiv};
 
     ghost laws = { compared_equiv (Prim.search exact) (Prim.search exact) diagnostics_decide };
 }

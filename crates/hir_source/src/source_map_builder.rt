@@ -30,7 +30,7 @@ impl Drop for SourceMapBuilder {
 }
 
 impl SourceMapBuilder {
-    ghost use Rattle.hir_source.specs.Additions.{no_sources, finished};
+    ghost use Rattle.hir_source.specs.Additions.{no_sources, finish_sources};
 
     /// Maps without entries. They take their memory from `alloc`, and none yet.
     pub fn new(alloc: Global) -> SourceMapBuilder
@@ -48,7 +48,7 @@ impl SourceMapBuilder {
     /// The expression part, which is all but the maps of types and lifetimes, is kept exactly if the store keeps nodes of it, or if
     /// there is an expansion or a diagnostic. Otherwise it is dropped with its entries.
     pub fn finish(self, keeps_nodes: bool) -> ExpressionStoreSourceMap
-        ensures { result ≡ finished keeps_nodes self }
+        ensures { result ≡ finish_sources keeps_nodes self }
     {
         let SourceMapBuilder {
             exprs,

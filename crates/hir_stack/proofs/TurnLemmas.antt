@@ -3,7 +3,7 @@ use Rattle.std.proofs.Common.{◌≡◌, ℕ, List, [], ◌∷◌, ◌++◌, app
 use Rattle.std.specs.Prelude.{reverse}
 use Rattle.std.proofs.Math.Seq.{take-append_seam, drop-append_seam}
 use Rattle.std.proofs.lemmas.List.{reverse-append, length-reverse}
-use Rattle.hir_stack.specs.Stacks.{Stacked, Puts}
+use Rattle.hir_stack.specs.Stacks.{StackItems, Puts}
 
 module _ {X : Type 0} where
   reverse-twice : (xs : List X) → reverse (reverse xs) ≡ xs
@@ -25,10 +25,10 @@ module _ {X : Type 0} where
 
   -- what is put in two parts
 
-  pub puts_none : (v : Stacked X) → Puts v [] v
+  pub puts_none : (v : StackItems X) → Puts v [] v
   puts_none v h = (h, refl)
 
-  pub puts_two : (u v w : Stacked X) (xs ys : List X) → Puts u xs v → Puts v ys w → Puts u (xs ++ ys) w
+  pub puts_two : (u v w : StackItems X) (xs ys : List X) → Puts u xs v → Puts v ys w → Puts u (xs ++ ys) w
   puts_two u v w xs ys p q h =
       let second = q h in
       let first = p second.0 in (

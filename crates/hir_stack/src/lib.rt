@@ -2,7 +2,7 @@
 #![tactic(auto)]
 
 ghost use Rattle.std.specs.Prelude.{◌≡◌, ◌≤◌, List, [], ◌∷◌, ◌++◌, false, IfSome, None, OnErr, OnOk, drop, length, reverse, take};
-ghost use Rattle.hir_stack.specs.Stacks.{Stacked, Puts};
+ghost use Rattle.hir_stack.specs.Stacks.{StackItems, Puts};
 
 use std::alloc::{AllocError, Global};
 use std::marker::Model;
@@ -16,9 +16,9 @@ pub struct Stack<T> {
 
 impl<T> Model for Stack<T> {
     ghost use Rattle.std.specs.Prelude.{is_some, reverse};
-    ghost use Rattle.hir_stack.specs.Stacks.{Stacked};
+    ghost use Rattle.hir_stack.specs.Stacks.{StackItems};
 
-    ghost Value = { Stacked T };
+    ghost Value = { StackItems T };
 
     ghost view = { λ s. record { items = reverse s.items.items; refused = is_some s.refused } };
 }
@@ -78,7 +78,7 @@ impl<T> Stack<T> {
     ///
     /// Answers `AllocError` where memory for an item that was put was refused. The stack is of no use then.
     pub fn turn_over(&mut self, below: usize) -> Result<(), AllocError>
-        ensures { OnOk result ((before : Stacked T) (items : List T)
+        ensures { OnOk result ((before : StackItems T) (items : List T)
             → length before.items ≡ below → Puts before items self.old
             → self.new ≡ record { items = items ++ before.items; refused = false }) }
     {

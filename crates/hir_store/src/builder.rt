@@ -3,7 +3,7 @@
 ghost use Rattle.std.specs.Prelude.{◌≡◌, ◌≤◌, [], ◌∷◌, ◌++◌, length, Err, None, IfOk, IfErr, OnOk, OnErr};
 ghost use Rattle.std.specs.FinMap as map;
 ghost use Rattle.hir_path.specs.Keys.{expr_or_pat_code};
-ghost use Rattle.hir_source.specs.Additions.{finished};
+ghost use Rattle.hir_source.specs.Additions.{finish_sources};
 ghost use Rattle.hir_store.specs.Building.{nodes_of, building_of, empty_builder, contents_of, has_exprs, kept_side_tables, roots_or_none, finish_fault, and_root, some_roots};
 ghost use Rattle.hir_faults.specs.Faults.{nodes_in};
 ghost use Rattle.hir_faults.specs.Nodes.{graph, sizes_of};
@@ -12,7 +12,7 @@ ghost use Rattle.hir_expr_store.specs.PatLinks.{HasPatLinks};
 ghost use Rattle.hir_faults.specs.Sizes.{Few};
 
 use hir_base::{Arena, ArenaFault, BlockId, HygieneId, MOST_ITEMS, Seq, Table};
-use hir_expr_store::{ExpressionStore, Kept, RootList, SideTables, StoreParts};
+use hir_expr_store::{ExpressionStore, KeptParts, RootList, SideTables, StoreParts};
 use hir_faults::{FinishFault, NodeSlices};
 use hir_forest::Root;
 use hir_node::{
@@ -302,16 +302,16 @@ impl ExpressionStoreBuilder {
     }
 
     /// The store and the source map of a builder without a fault, with the owners of bindings and what follows from its nodes.
-    pub(crate) fn accepted(
+    pub(crate) fn into_store(
         self,
         owners: Rare<Table<BindingId, ExprId>>,
-        kept: Rare<Kept>,
+        kept: Rare<KeptParts>,
     ) -> (ExpressionStore, ExpressionStoreSourceMap)
         requires sound { finish_fault (building_of self) None }
         requires parents { HasParents (graph (nodes_of self)) kept.parents.parents }
         requires links { HasPatLinks (nodes_of self).pats kept.links }
         ensures store { result.0 ≡ contents_of (building_of (record self { binding_owners = owners })) }
-        ensures source_map { result.1 ≡ finished (has_exprs (nodes_of self)) self.source_map }
+        ensures source_map { result.1 ≡ finish_sources (has_exprs (nodes_of self)) self.source_map }
     {
         let keeps_exprs = self.has_exprs();
         let ExpressionStoreBuilder {

@@ -4,11 +4,11 @@ ghost use Rattle.std.specs.Prelude.{◌≡◌, ◌⊎◌, ◌↔◌, IsTrue, IfO
 ghost use Rattle.hir_forest.specs.Parents.{HasParents};
 ghost use Rattle.hir_faults.specs.Nodes.{graph};
 ghost use Rattle.hir_expr_store.specs.PatLinks.{HasPatLinks};
-ghost use Rattle.hir_source.specs.Additions.{finished};
+ghost use Rattle.hir_source.specs.Additions.{finish_sources};
 ghost use Rattle.hir_store.specs.Building.{nodes_of, building_of, contents_of, roots_or_none, HasRoots, has_exprs, finish_fault};
 
 use crate::builder::{ExpressionStoreBuilder, Refused};
-use hir_expr_store::{ExpressionStore, Kept, PatLinks};
+use hir_expr_store::{ExpressionStore, KeptParts, PatLinks};
 use hir_faults::{FinishFault, tested_parents};
 use hir_forest::{Parents, Root};
 use hir_rare::Rare;
@@ -27,7 +27,7 @@ impl ExpressionStoreBuilder {
     }
 
     /// The roots that were listed.
-    fn listed(&self) -> &[Root]
+    fn listed_roots(&self) -> &[Root]
         ensures { result.now ≡ roots_or_none self.now.roots }
     {
         match &self.roots {
@@ -46,11 +46,11 @@ impl ExpressionStoreBuilder {
         if !self.has_roots() {
             return Err(FinishFault::NoRoots);
         }
-        tested_parents(self.alloc, &self.nodes(), self.listed())
+        tested_parents(self.alloc, &self.nodes(), self.listed_roots())
     }
 
     /// What a store of the nodes keeps, where there is no fault. Else the first fault, or `Memory`.
-    fn tested(&self) -> Result<Rare<Kept>, FinishFault>
+    fn test_nodes(&self) -> Result<Rare<KeptParts>, FinishFault>
         ensures ok { IfOk result (λ kept. finish_fault (building_of self.now) None
             × HasParents (graph (nodes_of self.now)) kept.parents.parents
             × HasPatLinks (nodes_of self.now).pats kept.links) }
@@ -61,7 +61,7 @@ impl ExpressionStoreBuilder {
         let Ok(links) = PatLinks::of(self.alloc, self.pats.as_slice()) else {
             return Err(FinishFault::Memory);
         };
-        match Rare::of(self.alloc, Kept { parents, links }) {
+        match Rare::of(self.alloc, KeptParts { parents, links }) {
             Ok(kept) => Ok(kept),
             Err(_) => Err(FinishFault::Memory),
         }
@@ -79,17 +79,17 @@ impl ExpressionStoreBuilder {
         ensures ok { IfOk result (λ made. (made.0 ≡ contents_of (building_of self))
             × finish_fault (building_of self) None) }
         ensures source_map { IfOk result (λ made. made.1
-            ≡ finished (has_exprs (nodes_of self)) self.source_map) }
+            ≡ finish_sources (has_exprs (nodes_of self)) self.source_map) }
         ensures err { IfErr result (λ refused. (refused.builder ≡ self)
             × (refused.fault ≡ FinishFault.Memory ⊎ finish_fault (building_of self) (Some refused.fault))) }
     {
         let mut builder = self;
-        let kept = match builder.tested() {
+        let kept = match builder.test_nodes() {
             Ok(kept) => kept,
             Err(fault) => return Err(Refused { fault, builder }),
         };
         match builder.take_owners() {
-            Ok(owners) => Ok(builder.accepted(owners, kept)),
+            Ok(owners) => Ok(builder.into_store(owners, kept)),
             Err(_) => Err(Refused {
                 fault: FinishFault::Memory,
                 builder,

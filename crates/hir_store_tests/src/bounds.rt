@@ -1,6 +1,6 @@
 //! Whether what a bound names is there, and whether it is a path. Which path it is stands in rows.
 use crate::build::Step;
-use crate::made;
+use crate::outcomes;
 use hir_base::Idx;
 use hir_node::{PathId, TraitBoundModifier, TypeBound};
 use hir_store::ExpressionStore;
@@ -18,7 +18,7 @@ fn names(store: &ExpressionStore, number: u32) -> (bool, bool) {
 
 #[test]
 fn what_bounds_name(rt: HostRuntime) -> Result<(), Fail> {
-    let made = made::accepted(rt.alloc(), TYPES)?;
+    let made = outcomes::accept_steps(rt.alloc(), TYPES)?;
     let store = &made.0;
     let named = [names(store, 0), names(store, 1), names(store, 2)];
     std::mem::drop(made);

@@ -1,5 +1,5 @@
 //! Builders, made of steps. A tree is a list of steps, so that few functions are lent a builder: its type is laid out in each anew.
-use crate::say::Said;
+use crate::say::SourceStep;
 use crate::{nodes, say};
 use hir_base::{Arena, ArenaFault, Idx};
 use hir_node::{Expr, LifetimeRef, Pat, TypeRef};
@@ -34,11 +34,11 @@ pub enum Step {
     Replaced(u32),
     /// An arena of a path, and so many expressions each of which holds the one before, takes the place of the expressions.
     Chain(u32),
-    Said(Said),
+    SourceStep(SourceStep),
 }
 
 /// Whether the item was added: without the item, where it is handed back.
-fn added<I: Drop, T: Drop>(outcome: Result<I, (ArenaFault, T)>) -> Result<(), ArenaFault> {
+fn was_added<I: Drop, T: Drop>(outcome: Result<I, (ArenaFault, T)>) -> Result<(), ArenaFault> {
     match outcome {
         Ok(_) => Ok(()),
         Err((fault, _)) => Err(fault),
@@ -46,7 +46,7 @@ fn added<I: Drop, T: Drop>(outcome: Result<I, (ArenaFault, T)>) -> Result<(), Ar
 }
 
 /// Whether the value was taken: without the value, where it is handed back.
-pub fn taken<I: Drop, T: Drop>(outcome: Result<I, AllocFailed<T>>) -> Result<(), ArenaFault> {
+pub fn was_taken<I: Drop, T: Drop>(outcome: Result<I, AllocFailed<T>>) -> Result<(), ArenaFault> {
     match outcome {
         Ok(_) => Ok(()),
         Err(_) => Err(ArenaFault::Memory),
@@ -56,7 +56,7 @@ pub fn taken<I: Drop, T: Drop>(outcome: Result<I, AllocFailed<T>>) -> Result<(),
 /// Puts the item, if it could be made, into the arena.
 fn put<K, T: Drop>(arena: &mut Arena<K, T>, item: Result<T, AllocError>) -> Result<(), ArenaFault> {
     match item {
-        Ok(item) => added(arena.alloc(item)),
+        Ok(item) => was_added(arena.alloc(item)),
         Err(_) => Err(ArenaFault::Memory),
     }
 }
@@ -68,7 +68,7 @@ fn link(number: u32) -> Expr {
 }
 
 /// The expression of this number of a chain, or a path.
-fn chained(alloc: Global, number: u32, is_chain: bool) -> Result<Expr, AllocError> {
+fn chain_expr(alloc: Global, number: u32, is_chain: bool) -> Result<Expr, AllocError> {
     if is_chain && number > 0 {
         Ok(link(number))
     } else {
@@ -86,7 +86,7 @@ fn replace(
 ) -> Result<(), ArenaFault> {
     b.exprs = Arena::new(alloc);
     for number in 0..count {
-        put(&mut b.exprs, chained(alloc, number, is_chain))?;
+        put(&mut b.exprs, chain_expr(alloc, number, is_chain))?;
     }
     Ok(())
 }
@@ -98,37 +98,37 @@ fn add(b: &mut ExpressionStoreBuilder, alloc: Global, step: &Step) -> Result<(),
             b.begin_roots();
             Ok(())
         }
-        Step::Root(node) => taken(b.push_root(Idx::from_raw(*node))),
+        Step::Root(node) => was_taken(b.push_root(Idx::from_raw(*node))),
         Step::Path => match nodes::path(alloc) {
-            Ok(path) => added(b.alloc_expr(Expr::Path(path))),
+            Ok(path) => was_added(b.alloc_expr(Expr::Path(path))),
             Err(_) => Err(ArenaFault::Memory),
         },
         Step::Tuple(numbers) => match nodes::tuple(alloc, numbers) {
-            Ok(expr) => added(b.alloc_expr(expr)),
+            Ok(expr) => was_added(b.alloc_expr(expr)),
             Err(_) => Err(ArenaFault::Memory),
         },
-        Step::Let(pat, expr) => added(b.alloc_expr(Expr::Let {
+        Step::Let(pat, expr) => was_added(b.alloc_expr(Expr::Let {
             pat: Idx::from_raw(*pat),
             expr: Idx::from_raw(*expr),
         })),
-        Step::Wild => added(b.alloc_pat(Pat::Wild)),
-        Step::Never => added(b.alloc_type(TypeRef::Never)),
+        Step::Wild => was_added(b.alloc_pat(Pat::Wild)),
+        Step::Never => was_added(b.alloc_type(TypeRef::Never)),
         Step::TypePath => match nodes::path(alloc) {
-            Ok(path) => added(b.alloc_type(TypeRef::Path(path))),
+            Ok(path) => was_added(b.alloc_type(TypeRef::Path(path))),
             Err(_) => Err(ArenaFault::Memory),
         },
         Step::Binding(text) => match nodes::binding(alloc, text) {
-            Ok(binding) => added(b.alloc_binding(binding)),
+            Ok(binding) => was_added(b.alloc_binding(binding)),
             Err(_) => Err(ArenaFault::Memory),
         },
         Step::Label(text) => match nodes::label(alloc, text) {
-            Ok(label) => added(b.alloc_label(label)),
+            Ok(label) => was_added(b.alloc_label(label)),
             Err(_) => Err(ArenaFault::Memory),
         },
-        Step::Static => added(b.alloc_lifetime(LifetimeRef::Static)),
+        Step::Static => was_added(b.alloc_lifetime(LifetimeRef::Static)),
         Step::Replaced(count) => replace(b, alloc, *count, false),
         Step::Chain(count) => replace(b, alloc, *count, true),
-        Step::Said(said) => say::say(b, said),
+        Step::SourceStep(said) => say::say(b, said),
     }
 }
 
@@ -141,7 +141,10 @@ pub fn in_a_box<T: Drop>(alloc: Global, value: T) -> Result<Box<T>, ArenaFault> 
 }
 
 /// The builder that these steps make, in a box: what is dropped is then a pointer.
-pub fn built(alloc: Global, steps: &[Step]) -> Result<Box<ExpressionStoreBuilder>, ArenaFault> {
+pub fn build_steps(
+    alloc: Global,
+    steps: &[Step],
+) -> Result<Box<ExpressionStoreBuilder>, ArenaFault> {
     let mut builder = in_a_box(alloc, ExpressionStoreBuilder::new(alloc))?;
     for step in steps {
         add(&mut builder, alloc, step)?;

@@ -4,7 +4,7 @@
 #![tactic(auto)]
 
 #[cfg(test)]
-mod accepted;
+mod accepted_stores;
 #[cfg(test)]
 mod bounds;
 #[cfg(test)]
@@ -12,13 +12,13 @@ mod build;
 #[cfg(test)]
 mod laws;
 #[cfg(test)]
-mod made;
-#[cfg(test)]
 mod nodes;
+#[cfg(test)]
+mod outcomes;
 #[cfg(test)]
 mod rare;
 #[cfg(test)]
-mod refused;
+mod refused_stores;
 #[cfg(test)]
 mod say;
 #[cfg(test)]

@@ -25,7 +25,7 @@ fn add(list: &mut List, number: u32) -> Result<(), AllocError> {
 }
 
 /// The list 7, 8, whose items were written one by one.
-fn written(alloc: Global) -> Result<List, AllocError> {
+fn written_list(alloc: Global) -> Result<List, AllocError> {
     let mut list = Rare::new(alloc);
     add(&mut list, 7)?;
     add(&mut list, 8)?;
@@ -33,7 +33,7 @@ fn written(alloc: Global) -> Result<List, AllocError> {
 }
 
 /// The list 7, 8, which was a list of its own before.
-fn moved(alloc: Global) -> Result<List, AllocError> {
+fn moved_list(alloc: Global) -> Result<List, AllocError> {
     let mut items = Seq::new(alloc);
     items.push(7)?;
     items.push(8)?;
@@ -42,9 +42,9 @@ fn moved(alloc: Global) -> Result<List, AllocError> {
 
 #[test]
 fn what_is_written_is_read(rt: HostRuntime) -> Result<(), Fail> {
-    let list = written(rt.alloc())?;
+    let list = written_list(rt.alloc())?;
     let has_both = read(&list) == Some([7, 8].as_slice());
-    let is_same = moved(rt.alloc()).map(|other| other.is_same(&list));
+    let is_same = moved_list(rt.alloc()).map(|other| other.is_same(&list));
     let copy_is_same = list.try_clone().map(|copy| copy == list);
     drop(list);
     assert!(rt; has_both);

@@ -1,6 +1,6 @@
 //! What a builder is told besides its nodes.
 //! A source is named by its place in file 0, and nodes by their numbers.
-use crate::build::taken;
+use crate::build::was_taken;
 use hir_base::{
     ArenaFault, AstPtr, BlockId, HirFileId, HygieneId, Idx, InFile, MacroCallId, SyntaxContext,
     SyntaxNodePtr, TextRange,
@@ -9,7 +9,7 @@ use hir_node::ExprOrPatId;
 use hir_store::{ExpressionStoreBuilder, ExpressionStoreDiagnostics, MissingBodyItemKind};
 
 /// One thing that a builder is told besides its nodes.
-pub enum Said {
+pub enum SourceStep {
     /// The expression at this place became this expression.
     BecameExpr(u8, u32),
     /// This lifetime came from what stands at this place.
@@ -56,7 +56,7 @@ fn expr(number: u32) -> ExprOrPatId {
 }
 
 /// The hygiene of this expansion.
-fn expanded(expansion: u32) -> HygieneId {
+fn in_expansion(expansion: u32) -> HygieneId {
     HygieneId::new(SyntaxContext::Expansion(expansion))
 }
 
@@ -79,15 +79,21 @@ fn call(number: u32) -> MacroCallId {
 }
 
 /// Tells the builder this.
-pub fn say(b: &mut ExpressionStoreBuilder, said: &Said) -> Result<(), ArenaFault> {
+pub fn say(b: &mut ExpressionStoreBuilder, said: &SourceStep) -> Result<(), ArenaFault> {
     match *said {
-        Said::BecameExpr(place, to) => taken(b.map_expr(source(place), expr(to))),
-        Said::LifetimeFrom(of, place) => taken(b.map_lifetime_back(id(of), source(place))),
-        Said::Expansion(place, to) => taken(b.add_expansion(source(place), call(to))),
-        Said::Definition(of, by) => taken(b.add_definition(id(of), id(by))),
-        Said::MissingBody(place) => taken(b.push_diagnostic(missing_body(place))),
-        Said::ExprHygiene(of, expansion) => taken(b.set_hygiene(expr(of), expanded(expansion))),
-        Said::Block(block) => taken(b.add_block_scope(BlockId::from_raw(block))),
-        Said::Owner(of, by) => taken(b.binding_owners.insert(id(of), id(by))),
+        SourceStep::BecameExpr(place, to) => was_taken(b.map_expr(source(place), expr(to))),
+        SourceStep::LifetimeFrom(of, place) => was_taken(b.map_lifetime_back(
+            id(of),
+            source(place),
+        )),
+        SourceStep::Expansion(place, to) => was_taken(b.add_expansion(source(place), call(to))),
+        SourceStep::Definition(of, by) => was_taken(b.add_definition(id(of), id(by))),
+        SourceStep::MissingBody(place) => was_taken(b.push_diagnostic(missing_body(place))),
+        SourceStep::ExprHygiene(of, expansion) => was_taken(b.set_hygiene(
+            expr(of),
+            in_expansion(expansion),
+        )),
+        SourceStep::Block(block) => was_taken(b.add_block_scope(BlockId::from_raw(block))),
+        SourceStep::Owner(of, by) => was_taken(b.binding_owners.insert(id(of), id(by))),
     }
 }

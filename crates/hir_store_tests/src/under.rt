@@ -3,7 +3,7 @@ ghost use Rattle.std.specs.Prelude.{◌≡◌, IfOk};
 ghost use Rattle.hir_faults.specs.Nodes.{sizes_of};
 
 use crate::build::Step;
-use crate::made;
+use crate::outcomes;
 use hir_base::Idx;
 use hir_node::{ExprId, PatId};
 use hir_store::{ExpressionStore, NodeSet};
@@ -21,7 +21,7 @@ const LET_IN_TUPLE: &[Step] = &[
 ];
 
 /// The set of the `let` and of the pattern that lies apart.
-fn marked(alloc: Global, store: &ExpressionStore) -> Result<NodeSet, AllocError>
+fn mark_nodes(alloc: Global, store: &ExpressionStore) -> Result<NodeSet, AllocError>
     ensures { IfOk result (λ set. set.sizes ≡ sizes_of store.now.nodes) }
 {
     let mut tops = store.no_nodes(alloc)?;
@@ -38,7 +38,7 @@ fn marked(alloc: Global, store: &ExpressionStore) -> Result<NodeSet, AllocError>
 type Answer = (Option<bool>, Option<bool>);
 
 /// Whether the set has the expression and the pattern of this number.
-fn held(store: &ExpressionStore, set: &NodeSet, number: u32) -> Answer
+fn answer_of_set(store: &ExpressionStore, set: &NodeSet, number: u32) -> Answer
     requires { set.now.sizes ≡ sizes_of store.now.nodes }
 {
     let id = ExprId::from_raw(number);
@@ -59,19 +59,19 @@ fn held(store: &ExpressionStore, set: &NodeSet, number: u32) -> Answer
 /// What a set of no nodes and the set of the marked ones have of number 1, and the set of what lies under these of 0, 1 and 2.
 fn all_held(alloc: Global, store: &ExpressionStore) -> Result<[Answer; 5], AllocError> {
     let none = store.no_nodes(alloc)?;
-    let in_none = held(store, &none, 1);
+    let in_none = answer_of_set(store, &none, 1);
     std::mem::drop(none);
-    let tops = marked(alloc, store)?;
-    let in_tops = held(store, &tops, 1);
+    let tops = mark_nodes(alloc, store)?;
+    let in_tops = answer_of_set(store, &tops, 1);
     let under = store.under(alloc, &tops);
     std::mem::drop(tops);
     let under = under?;
     let all = [
         in_none,
         in_tops,
-        held(store, &under, 0),
-        held(store, &under, 1),
-        held(store, &under, 2),
+        answer_of_set(store, &under, 0),
+        answer_of_set(store, &under, 1),
+        answer_of_set(store, &under, 2),
     ];
     std::mem::drop(under);
     Ok(all)
@@ -80,7 +80,7 @@ fn all_held(alloc: Global, store: &ExpressionStore) -> Result<[Answer; 5], Alloc
 #[test]
 fn what_lies_under_marked_nodes(rt: HostRuntime) -> Result<(), Fail> {
     let a = rt.alloc();
-    let made = made::accepted(a, LET_IN_TUPLE)?;
+    let made = outcomes::accept_steps(a, LET_IN_TUPLE)?;
     let all_held = all_held(a, &made.0);
     std::mem::drop(made);
     let (both, neither) = ((Some(true), Some(true)), (Some(false), Some(false)));

@@ -19,75 +19,75 @@ pub(crate) enum Arena {
 }
 
 /// A node that a line makes.
-trait Made: Sized + Drop {
+trait NodeKind: Sized + Drop {
     /// What stands behind the first word of the line.
     fn read(alloc: Global, words: &mut Words<'_>) -> Result<Self, Stop>;
 
     fn add(self, builder: &mut ExpressionStoreBuilder) -> Result<(), Stop>;
 }
 
-impl Made for Expr {
+impl NodeKind for Expr {
     fn read(alloc: Global, words: &mut Words<'_>) -> Result<Expr, Stop> {
         read_expr(words, alloc)
     }
 
     fn add(self, builder: &mut ExpressionStoreBuilder) -> Result<(), Stop> {
-        done(builder.alloc_expr(self))
+        done_or_stop(builder.alloc_expr(self))
     }
 }
 
-impl Made for Pat {
+impl NodeKind for Pat {
     fn read(alloc: Global, words: &mut Words<'_>) -> Result<Pat, Stop> {
         read_pat(words, alloc)
     }
 
     fn add(self, builder: &mut ExpressionStoreBuilder) -> Result<(), Stop> {
-        done(builder.alloc_pat(self))
+        done_or_stop(builder.alloc_pat(self))
     }
 }
 
-impl Made for TypeRef {
+impl NodeKind for TypeRef {
     fn read(alloc: Global, words: &mut Words<'_>) -> Result<TypeRef, Stop> {
         read_type(words, alloc)
     }
 
     fn add(self, builder: &mut ExpressionStoreBuilder) -> Result<(), Stop> {
-        done(builder.alloc_type(self))
+        done_or_stop(builder.alloc_type(self))
     }
 }
 
-impl Made for Binding {
+impl NodeKind for Binding {
     fn read(alloc: Global, words: &mut Words<'_>) -> Result<Binding, Stop> {
         read_binding(words, alloc)
     }
 
     fn add(self, builder: &mut ExpressionStoreBuilder) -> Result<(), Stop> {
-        done(builder.alloc_binding(self))
+        done_or_stop(builder.alloc_binding(self))
     }
 }
 
-impl Made for Label {
+impl NodeKind for Label {
     fn read(alloc: Global, words: &mut Words<'_>) -> Result<Label, Stop> {
         read_label(words, alloc)
     }
 
     fn add(self, builder: &mut ExpressionStoreBuilder) -> Result<(), Stop> {
-        done(builder.alloc_label(self))
+        done_or_stop(builder.alloc_label(self))
     }
 }
 
-impl Made for LifetimeRef {
+impl NodeKind for LifetimeRef {
     fn read(alloc: Global, words: &mut Words<'_>) -> Result<LifetimeRef, Stop> {
         read_lifetime(words, alloc)
     }
 
     fn add(self, builder: &mut ExpressionStoreBuilder) -> Result<(), Stop> {
-        done(builder.alloc_lifetime(self))
+        done_or_stop(builder.alloc_lifetime(self))
     }
 }
 
 /// Whether there was memory for what was added.
-pub fn done<T: Drop, E>(outcome: Result<T, E>) -> Result<(), Stop>
+pub fn done_or_stop<T: Drop, E>(outcome: Result<T, E>) -> Result<(), Stop>
 where
     Stop: From<E>,
 {
@@ -98,7 +98,7 @@ where
 }
 
 /// Makes the node that stands behind the first word of a line.
-fn make_one<T: Made>(
+fn make_one<T: NodeKind>(
     alloc: Global,
     builder: &mut ExpressionStoreBuilder,
     words: &mut Words<'_>,

@@ -2,7 +2,7 @@
 #![tactic(auto, using(hir_node::proofs::RunLemmas::freely))]
 
 use crate::ends::last_node;
-use crate::missing::unknown;
+use crate::missing::answer_unknown;
 use crate::recorder::{Recorder, write_same};
 use hir_node::{GenericArgs, Path, StoreVisitorExt, TypeBound, visit_generic_args};
 use hir_notation::{Answer, Node, Stop, Words, next_args, next_bound, next_path};
@@ -115,7 +115,7 @@ fn of_node(
     let mut by_node = Recorder::new(alloc);
     let is_there = visit(store, node, &mut by_store, &mut by_node);
     if !is_there {
-        return Ok(unknown(answer)?);
+        return Ok(answer_unknown(answer)?);
     }
     Ok(write_same(&by_store, &by_node, answer)?)
 }

@@ -1,6 +1,6 @@
 //! Lines that add roots, and entries of the side tables of a store.
 
-use crate::building::done;
+use crate::building::done_or_stop;
 use hir_base::{BlockId, HygieneId, Id};
 use hir_node::{BindingId, ExprId, ExprOrPatId, PatId};
 use hir_notation::{Stop, Words, next_hygiene};
@@ -72,10 +72,10 @@ pub(crate) fn make(
             builder.begin_roots();
             Ok(())
         }
-        Entry::Root(id) => done(builder.push_root(id)),
-        Entry::Hygiene(id, hygiene) => done(builder.set_hygiene(id, hygiene)),
-        Entry::Owner(binding, owner) => done(builder.binding_owners.insert(binding, owner)),
-        Entry::BlockScope(block) => done(builder.add_block_scope(block)),
-        Entry::Definition(binding, pat) => done(builder.add_definition(binding, pat)),
+        Entry::Root(id) => done_or_stop(builder.push_root(id)),
+        Entry::Hygiene(id, hygiene) => done_or_stop(builder.set_hygiene(id, hygiene)),
+        Entry::Owner(binding, owner) => done_or_stop(builder.binding_owners.insert(binding, owner)),
+        Entry::BlockScope(block) => done_or_stop(builder.add_block_scope(block)),
+        Entry::Definition(binding, pat) => done_or_stop(builder.add_definition(binding, pat)),
     }
 }

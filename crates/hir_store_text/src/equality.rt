@@ -1,7 +1,7 @@
 //! Questions on equality and on copies, of nodes and of whole stores.
 
 use crate::ends::last_node;
-use crate::missing::{differs, unknown};
+use crate::missing::{answer_unknown, differs};
 use crate::nodes::has_node;
 use hir_base::{ArenaIter, ExactEq, TryClone};
 use hir_node::{Binding, Expr, Label, LabelId, LifetimeRef, Pat, TypeRef};
@@ -12,24 +12,27 @@ use std::alloc::AllocError;
 
 /// What is asked of the store that is kept beside the one that questions ask.
 #[derive(Clone, Copy)]
-enum Kept {
+enum StoreQuestion {
     Store,
     Sources,
 }
 
-const KEPT: [(&str, Kept); 2] = [("same-store", Kept::Store), ("same-sources", Kept::Sources)];
+const KEPT: [(&str, StoreQuestion); 2] = [
+    ("same-store", StoreQuestion::Store),
+    ("same-sources", StoreQuestion::Sources),
+];
 
 /// Writes whether what is kept is the same.
 fn write_kept(
     kept: &(ExpressionStore, ExpressionStoreSourceMap),
     store: &ExpressionStore,
     sources: &ExpressionStoreSourceMap,
-    question: Kept,
+    question: StoreQuestion,
     answer: &mut Answer,
 ) -> Result<(), AllocError> {
     match question {
-        Kept::Store => write_same(kept.0 == *store, kept.0.is_same(store), answer),
-        Kept::Sources => answer.yes_or_no(kept.1 == *sources),
+        StoreQuestion::Store => write_same(kept.0 == *store, kept.0.is_same(store), answer),
+        StoreQuestion::Sources => answer.yes_or_no(kept.1 == *sources),
     }
 }
 
@@ -48,7 +51,7 @@ pub fn ask_kept(
     words.end()?;
     match kept {
         Some(kept) => write_kept(kept, store, sources, question, answer)?,
-        None => unknown(answer)?,
+        None => answer_unknown(answer)?,
     }
     Ok(true)
 }
@@ -68,7 +71,7 @@ fn write_equal<T: ExactEq>(
     answer: &mut Answer,
 ) -> Result<(), AllocError> {
     let Some(first) = first else {
-        return unknown(answer);
+        return answer_unknown(answer);
     };
     match second {
         Some(second) => write_same(*first == *second, first.is_same(second), answer),
@@ -179,7 +182,7 @@ pub(crate) fn equal(
     if has_node(store, first) && has_node(store, second) {
         Ok(write_equal_nodes(store, first, second, answer)?)
     } else {
-        Ok(unknown(answer)?)
+        Ok(answer_unknown(answer)?)
     }
 }
 

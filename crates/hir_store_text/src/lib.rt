@@ -21,8 +21,8 @@ mod sources;
 mod try_walks;
 mod walks;
 
-pub use building::done;
+pub use building::done_or_stop;
 pub use equality::{ask_kept, write_same};
 pub use making::make;
-pub use missing::{differs, refuse, refuse_missing, unknown};
+pub use missing::{answer_unknown, differs, refuse, refuse_missing};
 pub use questions::ask;

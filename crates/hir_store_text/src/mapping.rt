@@ -1,6 +1,6 @@
 //! Lines that say where nodes come from, what macro calls expanded to, and what lowering found wrong.
 
-use crate::building::done;
+use crate::building::done_or_stop;
 use crate::ends::{last_either, last_number, last_source};
 use hir_base::{Id, Idx, InFile, SyntaxNodePtr};
 use hir_node::ExprOrPatId;
@@ -62,8 +62,8 @@ pub(crate) fn map_either(
 ) -> Result<(), Stop> {
     let (source, node) = read_either(words)?;
     match by {
-        Either::Expr => done(builder.map_expr(pointer(source), node)),
-        Either::Pat => done(builder.map_pat(pointer(source), node)),
+        Either::Expr => done_or_stop(builder.map_expr(pointer(source), node)),
+        Either::Pat => done_or_stop(builder.map_pat(pointer(source), node)),
     }
 }
 
@@ -75,10 +75,16 @@ pub(crate) fn map_numbered(
 ) -> Result<(), Stop> {
     let (source, number) = read_numbered(words)?;
     match kind {
-        Numbered::Label => done(builder.map_label(pointer(source), Idx::from_raw(number))),
-        Numbered::Type => done(builder.map_type(pointer(source), Idx::from_raw(number))),
-        Numbered::Lifetime => done(builder.map_lifetime(pointer(source), Idx::from_raw(number))),
-        Numbered::Expansion => done(builder.add_expansion(pointer(source), Id::from_raw(number))),
+        Numbered::Label => done_or_stop(builder.map_label(pointer(source), Idx::from_raw(number))),
+        Numbered::Type => done_or_stop(builder.map_type(pointer(source), Idx::from_raw(number))),
+        Numbered::Lifetime => done_or_stop(builder.map_lifetime(
+            pointer(source),
+            Idx::from_raw(number),
+        )),
+        Numbered::Expansion => done_or_stop(builder.add_expansion(
+            pointer(source),
+            Id::from_raw(number),
+        )),
     }
 }
 
@@ -90,14 +96,23 @@ pub(crate) fn map_back(
 ) -> Result<(), Stop> {
     let (number, source) = read_back(words)?;
     match place {
-        Place::Expr => done(builder.map_expr_back(Idx::from_raw(number), pointer(source))),
-        Place::Pat => done(builder.map_pat_back(Idx::from_raw(number), pointer(source))),
-        Place::Label => done(builder.map_label_back(Idx::from_raw(number), pointer(source))),
-        Place::Type => done(builder.map_type_back(Idx::from_raw(number), pointer(source))),
-        Place::Lifetime => done(builder.map_lifetime_back(Idx::from_raw(number), pointer(source))),
-        Place::Field => done(builder.map_field_back(Idx::from_raw(number), pointer(source))),
+        Place::Expr => done_or_stop(builder.map_expr_back(Idx::from_raw(number), pointer(source))),
+        Place::Pat => done_or_stop(builder.map_pat_back(Idx::from_raw(number), pointer(source))),
+        Place::Label => done_or_stop(builder.map_label_back(
+            Idx::from_raw(number),
+            pointer(source),
+        )),
+        Place::Type => done_or_stop(builder.map_type_back(Idx::from_raw(number), pointer(source))),
+        Place::Lifetime => done_or_stop(builder.map_lifetime_back(
+            Idx::from_raw(number),
+            pointer(source),
+        )),
+        Place::Field => done_or_stop(builder.map_field_back(
+            Idx::from_raw(number),
+            pointer(source),
+        )),
         Place::PatField => {
-            done(builder.map_pat_field_back(Idx::from_raw(number), pointer(source)))
+            done_or_stop(builder.map_pat_field_back(Idx::from_raw(number), pointer(source)))
         }
     }
 }
@@ -109,6 +124,6 @@ pub(crate) fn add_diagnostic(
     words: &mut Words<'_>,
 ) -> Result<(), Stop> {
     let diagnostic = read_diagnostic(words, alloc)?;
-    done(builder.push_diagnostic(diagnostic))?;
+    done_or_stop(builder.push_diagnostic(diagnostic))?;
     words.end()
 }

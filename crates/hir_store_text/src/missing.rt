@@ -69,7 +69,7 @@ pub fn refuse_missing(missing: Missing, answer: &mut Answer) -> Result<(), Alloc
 }
 
 /// The answer is that an id isn't there.
-pub fn unknown(answer: &mut Answer) -> Result<(), AllocError> {
+pub fn answer_unknown(answer: &mut Answer) -> Result<(), AllocError> {
     answer.refuse();
     answer.word("unknown")
 }

@@ -1,7 +1,7 @@
 //! Questions on the nodes of a store: which are there, and what is known of each.
 
 use crate::ends::last_either;
-use crate::missing::{differs, unknown};
+use crate::missing::{answer_unknown, differs};
 use hir_base::TryClone;
 use hir_node::{BindingId, Expr, ExprId, ExprOrPatId, LabelId, Literal, PathId, TypeRefId};
 use hir_notation::{
@@ -98,7 +98,7 @@ pub(crate) fn has_node(store: &ExpressionStore, node: Node) -> bool {
 /// `precedence E`
 fn precedence(store: &ExpressionStore, id: ExprId, answer: &mut Answer) -> Result<(), AllocError> {
     if !store.has_expr(id) {
-        return unknown(answer);
+        return answer_unknown(answer);
     }
     answer.word(precedence_text(store[id].precedence()))
 }
@@ -114,7 +114,7 @@ fn write_negative(literal: &Literal, answer: &mut Answer) -> Result<(), AllocErr
 /// `negate E`: a literal.
 fn negate(store: &ExpressionStore, id: ExprId, answer: &mut Answer) -> Result<(), AllocError> {
     if !store.has_expr(id) {
-        return unknown(answer);
+        return answer_unknown(answer);
     }
     let Expr::Literal(literal) = &store[id] else {
         return answer.word("none");

@@ -1,7 +1,7 @@
 //! Questions that no store is asked: on precedences, and on the numbers of closures and coroutines.
 
 use crate::ends::last_id;
-use crate::missing::unknown;
+use crate::missing::answer_unknown;
 use hir_node::ExprId;
 use hir_notation::{Answer, Stop, Words, next_precedence};
 use hir_store::ExpressionStore;
@@ -26,7 +26,7 @@ fn parens(words: &mut Words<'_>, answer: &mut Answer) -> Result<(), Stop> {
 /// `coroutine-for-closure E`: the first expression has none before it.
 fn coroutine_for_closure(id: ExprId, answer: &mut Answer) -> Result<(), AllocError> {
     if id.into_raw() == 0 {
-        return unknown(answer);
+        return answer_unknown(answer);
     }
     answer.id(ExpressionStore::coroutine_for_closure(id))
 }
@@ -34,7 +34,7 @@ fn coroutine_for_closure(id: ExprId, answer: &mut Answer) -> Result<(), AllocErr
 /// `closure-for-coroutine E`: the last number has none behind it.
 fn closure_for_coroutine(id: ExprId, answer: &mut Answer) -> Result<(), AllocError> {
     if id.into_raw() == u32::MAX {
-        return unknown(answer);
+        return answer_unknown(answer);
     }
     answer.id(ExpressionStore::closure_for_coroutine(id))
 }

@@ -1,6 +1,6 @@
 //! Questions on paths and bounds.
 
-use crate::missing::unknown;
+use crate::missing::answer_unknown;
 use hir_base::{ModPath, PathKind, Seq, TryClone};
 use hir_node::{
     GenericArgs, Path, PathSegment, PathSegments, TraitBoundModifier, TypeBound, TypeRefId,
@@ -116,7 +116,7 @@ fn write_segment(segment: Option<PathSegment<'_>>, answer: &mut Answer) -> Resul
     };
     let name = segment.name.as_str();
     if matches!(name, "self" | "super" | "crate") {
-        answer.quoted(name)?;
+        answer.quote(name)?;
     } else {
         answer.name(name)?;
     }
@@ -131,7 +131,7 @@ fn qualifier(alloc: Global, path: &Path, answer: &mut Answer) -> Result<(), Allo
     if let Path::Normal(normal) = path {
         let normal = normal.get();
         if normal.generic_args.len() != normal.mod_path.segments().len() {
-            return unknown(answer);
+            return answer_unknown(answer);
         }
     }
     match path.qualifier(alloc)? {
@@ -141,7 +141,7 @@ fn qualifier(alloc: Global, path: &Path, answer: &mut Answer) -> Result<(), Allo
 }
 
 /// A copy of the places.
-fn copied(
+fn copy_places(
     alloc: Global,
     lists: &[Option<GenericArgs>],
 ) -> Result<Seq<Option<GenericArgs>>, AllocError> {
@@ -162,7 +162,7 @@ fn with_places(
     names: &ModPath,
     lists: &[Option<GenericArgs>],
 ) -> Result<Option<Path>, AllocError> {
-    let lists = copied(alloc, lists)?;
+    let lists = copy_places(alloc, lists)?;
     if lists.len() != names.segments().len() {
         return Ok(None);
     }
@@ -178,12 +178,12 @@ fn without_places(names: &ModPath) -> Result<Option<Path>, AllocError> {
 fn write_made(path: Option<Path>, answer: &mut Answer) -> Result<(), AllocError> {
     match path {
         Some(path) => write_path(&path, answer),
-        None => unknown(answer),
+        None => answer_unknown(answer),
     }
 }
 
 /// `path PATH known`: a path of the names and the places, or of the names alone where there are none.
-fn known(alloc: Global, path: &Path, answer: &mut Answer) -> Result<(), AllocError> {
+fn answer_known(alloc: Global, path: &Path, answer: &mut Answer) -> Result<(), AllocError> {
     let Some(names) = path.mod_path() else {
         return answer.word("none");
     };
@@ -228,7 +228,7 @@ fn write_part(
         Part::StripLastTwo => write_segments(segments.strip_last_two(), answer),
         Part::Qualifier => qualifier(alloc, path, answer),
         Part::IsSelf => answer.yes_or_no(path.is_self_type()),
-        Part::Known => known(alloc, path, answer),
+        Part::Known => answer_known(alloc, path, answer),
         Part::Cut(cut, number) => write_cut(segments, cut, number, answer),
     }
 }
@@ -293,7 +293,7 @@ fn bound_path(
     answer: &mut Answer,
 ) -> Result<(), AllocError> {
     if !store.has_bound(bound) {
-        return unknown(answer);
+        return answer_unknown(answer);
     }
     if !store.bound_names_path(bound) {
         return answer.word("none");

@@ -1,7 +1,7 @@
 //! Questions on the walks that can stop.
 
 use crate::ends::last_number;
-use crate::missing::unknown;
+use crate::missing::answer_unknown;
 use crate::recorder::{Halt, Recorder};
 use hir_base::Idx;
 use hir_node::{BindingId, ExprId, PatId};
@@ -100,7 +100,7 @@ pub(crate) fn ask(
     let end = last_number(words)?;
     let mut found = Recorder::new(alloc);
     match walk_from(store, walk, number, end, &mut found) {
-        None => return Ok(unknown(answer)?),
+        None => return Ok(answer_unknown(answer)?),
         Some(Ok(())) => answer.join(found.as_str()?)?,
         Some(Err(Halt::Here)) => {
             answer.join(found.as_str()?)?;

@@ -1,7 +1,7 @@
 //! Questions on the walks over expressions and patterns.
 
 use crate::ends::last_number;
-use crate::missing::unknown;
+use crate::missing::answer_unknown;
 use crate::recorder::{Recorder, write_same};
 use hir_base::Idx;
 use hir_node::{BindingId, ExprId, PatId};
@@ -80,7 +80,7 @@ fn take_child_pats(
 /// Writes what was met from a node, where it is there.
 fn write_found(is_there: bool, found: &Recorder, answer: &mut Answer) -> Result<(), AllocError> {
     if !is_there {
-        return unknown(answer);
+        return answer_unknown(answer);
     }
     answer.join(found.as_str()?)
 }
@@ -123,7 +123,7 @@ pub(crate) fn ask_child_pats(
     let mut by_walk = Recorder::new(alloc);
     let is_there = take_child_pats(store, Idx::from_raw(number), &mut found, &mut by_walk);
     if !is_there {
-        return Ok(unknown(answer)?);
+        return Ok(answer_unknown(answer)?);
     }
     Ok(write_same(&found, &by_walk, answer)?)
 }

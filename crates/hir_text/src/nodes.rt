@@ -3,7 +3,7 @@
 use hir_defs_text::{Finished, Subject};
 use hir_notation::{Answer, Stop, Words};
 use hir_store::{ExpressionStoreBuilder, FinishFault};
-use hir_store_text::{refuse, unknown};
+use hir_store_text::{answer_unknown, refuse};
 use std::alloc::{AllocError, Global};
 use std::mem;
 
@@ -105,7 +105,7 @@ impl Nodes {
             Subject::Store(finished) => Ok(Some(finished)),
             other => {
                 self.subject = other;
-                unknown(answer)?;
+                answer_unknown(answer)?;
                 Ok(None)
             }
         }

@@ -10,18 +10,18 @@ use std::mem;
 
 /// Input that is read a line at a time, until the call that fails.
 #[derive(Drop)]
-struct Given<'a> {
+struct FailingReader<'a> {
     left: &'a [u8],
     /// How many calls come before the one that fails.
     good_calls: u64,
     has_failed: bool,
 }
 
-impl<'a> Given<'a> {
-    fn new(bytes: &'a [u8], good_calls: u64) -> Given<'a>
+impl<'a> FailingReader<'a> {
+    fn new(bytes: &'a [u8], good_calls: u64) -> FailingReader<'a>
         ensures { result.has_failed ≡ false }
     {
-        Given {
+        FailingReader {
             left: bytes,
             good_calls,
             has_failed: false,
@@ -37,17 +37,17 @@ impl<'a> Given<'a> {
     }
 }
 
-impl Source for Given<'_> {
+impl Source for FailingReader<'_> {
     ghost use Rattle.std.specs.Prelude.{Some, length, min, ◌-◌, ◌^◌};
     ghost use Rattle.std.proofs.Common.{arith};
 
     ghost remaining = { λ s. Some s.left.now };
 
-    ghost failed = { λ s. s.has_failed };
+    ghost is_failed = { λ s. s.has_failed };
 
     ghost allowance = { λ s. min (length s.left.now) (2 ^ 64 - 1) };
 
-    ghost bounded = { λ s. omega arith };
+    ghost allowance_fits = { λ s. omega arith };
 
     fn read(&mut self, buffer: &mut [u8]) -> Result<usize, EndFailed> {
         match self.good_calls.checked_sub(1) {
@@ -74,7 +74,7 @@ impl Source for Given<'_> {
 
 /// Output that is kept, until the call that fails.
 #[derive(Drop)]
-struct Kept {
+struct FailingWriter {
     bytes: Vec<u8>,
     /// How many calls come before the one that fails.
     good_calls: u64,
@@ -83,11 +83,11 @@ struct Kept {
     is_out_of_memory: bool,
 }
 
-impl Kept {
-    fn new(alloc: Global, good_calls: u64) -> Kept
+impl FailingWriter {
+    fn new(alloc: Global, good_calls: u64) -> FailingWriter
         ensures { result.has_failed ≡ false }
     {
-        Kept {
+        FailingWriter {
             bytes: Vec::new(alloc),
             good_calls,
             has_failed: false,
@@ -107,12 +107,12 @@ impl Kept {
     }
 }
 
-impl Sink for Kept {
+impl Sink for FailingWriter {
     ghost use Rattle.std.specs.Prelude.{Some};
 
     ghost contents = { λ s. Some s.bytes.items };
 
-    ghost failed = { λ s. s.has_failed };
+    ghost is_failed = { λ s. s.has_failed };
 
     fn write(&mut self, buffer: &[u8]) -> Result<usize, EndFailed> {
         match self.good_calls.checked_sub(1) {
@@ -204,8 +204,8 @@ fn write_lines(word: &str, bytes: &[u8], answer: &mut Answer) -> Result<(), Allo
 /// Writes the status of a run, and what each end was written.
 fn write_run(
     status: u8,
-    writer: &Kept,
-    errors: &Kept,
+    writer: &FailingWriter,
+    errors: &FailingWriter,
     answer: &mut Answer,
 ) -> Result<(), AllocError> {
     answer.word("status")?;
@@ -222,9 +222,9 @@ fn run_over(
     good_writes: u64,
     answer: &mut Answer,
 ) -> Result<(), Stop> {
-    let mut reader = Given::new(input, good_reads);
-    let mut writer = Kept::new(alloc, good_writes);
-    let mut errors = Kept::new(alloc, u64::MAX);
+    let mut reader = FailingReader::new(input, good_reads);
+    let mut writer = FailingWriter::new(alloc, good_writes);
+    let mut errors = FailingWriter::new(alloc, u64::MAX);
     let outcome = run_program(alloc, &mut reader, &mut writer);
     let status = report(&outcome, &mut errors);
     if status == 4 || writer.is_out_of_memory || errors.is_out_of_memory {

@@ -10,7 +10,7 @@ use hir_store::{ExpressionStore, ExpressionStoreSourceMap};
 use std::alloc::Global;
 
 /// A store and its source map.
-type Kept = (ExpressionStore, ExpressionStoreSourceMap);
+type StoreAndSources = (ExpressionStore, ExpressionStoreSourceMap);
 
 /// Answers a question on the tables or on the texts of faults, where the line is one.
 pub(crate) fn ask_tables(
@@ -28,7 +28,7 @@ pub(crate) fn ask_tables(
 }
 
 /// The store that is kept, where there is one.
-fn kept_store(kept: Option<&Kept>) -> Option<&ExpressionStore> {
+fn kept_store(kept: Option<&StoreAndSources>) -> Option<&ExpressionStore> {
     match kept {
         Some(kept) => Some(&kept.0),
         None => None,
@@ -39,7 +39,7 @@ fn kept_store(kept: Option<&Kept>) -> Option<&ExpressionStore> {
 fn ask_store(
     alloc: Global,
     tables: &Tables,
-    kept: Option<&Kept>,
+    kept: Option<&StoreAndSources>,
     owner: Option<ExpressionStoreOwnerId>,
     store: &ExpressionStore,
     sources: &ExpressionStoreSourceMap,
@@ -60,9 +60,9 @@ fn ask_store(
 }
 
 /// The store that questions ask, and its source map.
-fn asked<'a>(
+fn asked_store<'a>(
     tables: &'a Tables,
-    kept: Option<&'a Kept>,
+    kept: Option<&'a StoreAndSources>,
     subject: &'a Subject,
 ) -> Result<(&'a ExpressionStore, &'a ExpressionStoreSourceMap), Stop> {
     match subject {
@@ -90,13 +90,13 @@ fn owner_of(subject: &Subject) -> Option<ExpressionStoreOwnerId> {
 pub(crate) fn ask_subject(
     alloc: Global,
     tables: &Tables,
-    kept: Option<&Kept>,
+    kept: Option<&StoreAndSources>,
     subject: &Subject,
     word: &[u8],
     words: &mut Words<'_>,
     answer: &mut Answer,
 ) -> Result<bool, Stop> {
-    let (store, sources) = asked(tables, kept, subject)?;
+    let (store, sources) = asked_store(tables, kept, subject)?;
     let owner = owner_of(subject);
     ask_store(
         alloc, tables, kept, owner, store, sources, word, words, answer,
@@ -107,7 +107,7 @@ pub(crate) fn ask_subject(
 pub(crate) fn ask_empty(
     alloc: Global,
     tables: &Tables,
-    kept: Option<&Kept>,
+    kept: Option<&StoreAndSources>,
     word: &[u8],
     words: &mut Words<'_>,
 ) -> Result<bool, Stop> {

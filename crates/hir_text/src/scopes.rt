@@ -12,7 +12,7 @@ use hir_node::{BindingId, ExprId};
 use hir_notation::{Answer, Stop, Words, next_hygiene, next_owner, opt_hygiene};
 use hir_scope::{Expansion, ExprScopes, ScopeEntry, ScopeId, ScopesFault};
 use hir_store::ExpressionStore;
-use hir_store_text::{differs, refuse, unknown, write_same};
+use hir_store_text::{answer_unknown, differs, refuse, write_same};
 use hir_words::value_of;
 use std::alloc::{AllocError, Global};
 use std::collections::HashMap;
@@ -139,7 +139,7 @@ fn refuse_scopes(alloc: Global, fault: ScopesFault, answer: &mut Answer) -> Resu
 }
 
 /// The scopes that were made. Where there are none, the answer says why.
-fn opened(
+fn open_scopes(
     alloc: Global,
     outcome: Result<ExprScopes, ScopesFault>,
     answer: &mut Answer,
@@ -154,7 +154,7 @@ fn opened(
 }
 
 /// The scopes of a body, or else of a store.
-fn made(
+fn make_scopes(
     alloc: Global,
     store: &ExpressionStore,
     body: Option<&Body>,
@@ -179,7 +179,7 @@ fn made_by_kind(
 }
 
 /// The answer is that the expression has no scope.
-fn unreached(answer: &mut Answer) -> Result<(), AllocError> {
+fn answer_unreached(answer: &mut Answer) -> Result<(), AllocError> {
     answer.refuse();
     answer.word("unreached")
 }
@@ -197,7 +197,7 @@ fn write_names(scopes: &ExprScopes, scope: ScopeId, answer: &mut Answer) -> Resu
 /// Writes the names along the chain of an expression, innermost first.
 fn write_chain(scopes: &ExprScopes, expr: ExprId, answer: &mut Answer) -> Result<(), AllocError> {
     let Some(scope) = scopes.scope_for(expr) else {
-        return unreached(answer);
+        return answer_unreached(answer);
     };
     for around in scopes.scope_chain(Some(scope)) {
         write_names(scopes, around, answer)?;
@@ -252,7 +252,7 @@ fn write_scope(scopes: &ExprScopes, scope: ScopeId, answer: &mut Answer) -> Resu
 /// Writes the scopes along the chain of an expression, innermost first.
 fn write_frames(scopes: &ExprScopes, expr: ExprId, answer: &mut Answer) -> Result<(), AllocError> {
     let Some(scope) = scopes.scope_for(expr) else {
-        return unreached(answer);
+        return answer_unreached(answer);
     };
     let mut is_first = true;
     for around in scopes.scope_chain(Some(scope)) {
@@ -291,7 +291,7 @@ fn write_meaning(
 ) -> Result<(), AllocError> {
     match scopes.scope_for(expr) {
         Some(scope) => write_found(scopes.resolve_name_in_scope(scope, name, hygiene), answer),
-        None => unreached(answer),
+        None => answer_unreached(answer),
     }
 }
 
@@ -305,7 +305,7 @@ fn write_meaning_through(
     answer: &mut Answer,
 ) -> Result<(), AllocError> {
     let Some(scope) = scopes.scope_for(expr) else {
-        return unreached(answer);
+        return answer_unreached(answer);
     };
     let found = scopes.resolve_name_through_macros(scope, name.as_str(), hygiene, expansions);
     write_found(found, answer)
@@ -338,10 +338,10 @@ fn write(question: &OfScopes, scopes: &ExprScopes, answer: &mut Answer) -> Resul
 /// An owner that is lent to the call for whatever converts into one: at an owner itself the prover's borrow checker can't build the
 /// proof of the call.
 #[derive(Clone, Copy)]
-struct Lent<'a>(&'a ExpressionStoreOwnerId);
+struct OwnerRef<'a>(&'a ExpressionStoreOwnerId);
 
-impl From<Lent<'_>> for ExpressionStoreOwnerId {
-    fn from(owner: Lent<'_>) -> ExpressionStoreOwnerId {
+impl From<OwnerRef<'_>> for ExpressionStoreOwnerId {
+    fn from(owner: OwnerRef<'_>) -> ExpressionStoreOwnerId {
         *owner.0
     }
 }
@@ -352,7 +352,7 @@ fn made_of_owner(
     tables: &Tables,
     owner: &ExpressionStoreOwnerId,
 ) -> Result<ExprScopes, ScopesFault> {
-    ExprScopes::of(alloc, tables, Lent(owner))
+    ExprScopes::of(alloc, tables, OwnerRef(owner))
 }
 
 /// Whether scopes that were made are the same as these. Where there are none, the answer says why.
@@ -362,7 +362,7 @@ fn compared(
     scopes: &ExprScopes,
     answer: &mut Answer,
 ) -> Result<Option<bool>, Stop> {
-    match opened(alloc, outcome, answer)? {
+    match open_scopes(alloc, outcome, answer)? {
         Some(others) => Ok(Some(*scopes == *others)),
         None => Ok(None),
     }
@@ -406,10 +406,10 @@ fn ask_by_tables(
     answer: &mut Answer,
 ) -> Result<(), Stop> {
     let Some(owner) = owner else {
-        return Ok(unknown(answer)?);
+        return Ok(answer_unknown(answer)?);
     };
-    let scopes = made(alloc, store, asked_body(tables, Some(owner)));
-    match opened(alloc, scopes, answer)? {
+    let scopes = make_scopes(alloc, store, asked_body(tables, Some(owner)));
+    match open_scopes(alloc, scopes, answer)? {
         Some(scopes) => ask_looked_up(alloc, tables, &owner, &scopes, answer),
         None => Ok(()),
     }
@@ -455,10 +455,10 @@ fn ask_same(
     body: Option<&Body>,
     answer: &mut Answer,
 ) -> Result<(), Stop> {
-    let Some(first) = opened(alloc, ExprScopes::new_store(alloc, kept), answer)? else {
+    let Some(first) = open_scopes(alloc, ExprScopes::new_store(alloc, kept), answer)? else {
         return Ok(());
     };
-    match opened(alloc, made(alloc, store, body), answer)? {
+    match open_scopes(alloc, make_scopes(alloc, store, body), answer)? {
         Some(second) => Ok(write_equal(&first, &second, answer)?),
         None => Ok(()),
     }
@@ -468,7 +468,7 @@ fn ask_same(
 fn ask_counted(alloc: Global, body: &Body, answer: &mut Answer) -> Result<(), Stop> {
     let mut steps = Steps::new();
     let counted = ExprScopes::new_body_counted(alloc, body, &mut steps);
-    let Some(counted) = opened(alloc, counted, answer)? else {
+    let Some(counted) = open_scopes(alloc, counted, answer)? else {
         return Ok(());
     };
     let is_same = compared(alloc, ExprScopes::new_body(alloc, body), &counted, answer)?;
@@ -516,7 +516,7 @@ fn ask_scopes(
     question: &OfScopes,
     answer: &mut Answer,
 ) -> Result<(), Stop> {
-    match opened(alloc, made(alloc, store, body), answer)? {
+    match open_scopes(alloc, make_scopes(alloc, store, body), answer)? {
         Some(scopes) => Ok(write(question, &scopes, answer)?),
         None => Ok(()),
     }
@@ -535,15 +535,15 @@ fn write_asked(
         Question::Scopes(question) => ask_scopes(alloc, store, body, question, answer),
         Question::Captures(closure) => match body {
             Some(body) => ask_captures(alloc, body, *closure, answer),
-            None => Ok(unknown(answer)?),
+            None => Ok(answer_unknown(answer)?),
         },
         Question::Counted => match body {
             Some(body) => ask_counted(alloc, body, answer),
-            None => Ok(unknown(answer)?),
+            None => Ok(answer_unknown(answer)?),
         },
         Question::Same => match kept {
             Some(kept) => ask_same(alloc, kept, store, body, answer),
-            None => Ok(unknown(answer)?),
+            None => Ok(answer_unknown(answer)?),
         },
     }
 }

@@ -10,7 +10,7 @@ use hir_defs_text::{Definition, Finished, Pending, Subject};
 use hir_expr_store::Missing;
 use hir_notation::{Answer, Stop, Words, next_owner};
 use hir_store::ExpressionStore;
-use hir_store_text::{refuse_missing, unknown};
+use hir_store_text::{answer_unknown, refuse_missing};
 use hir_words::value_of;
 use std::alloc::{AllocError, Global};
 use std::mem;
@@ -210,7 +210,7 @@ fn keep(
         Subject::None => answer.word("kept"),
         Subject::Owner(owner) => {
             *subject = Subject::Owner(owner);
-            unknown(answer)
+            answer_unknown(answer)
         }
     }
 }

@@ -16,7 +16,7 @@ use hir_print_defs::{
     print_path, print_signature, print_struct, print_variant_body_hir,
 };
 use hir_store::ExpressionStore;
-use hir_store_text::{refuse_missing, unknown};
+use hir_store_text::{answer_unknown, refuse_missing};
 use hir_words::value_of;
 use std::alloc::Global;
 
@@ -44,7 +44,7 @@ fn write_opt_printed(
 ) -> Result<(), Stop> {
     match printed {
         Some(printed) => write_printed(printed, answer),
-        None => Ok(unknown(answer)?),
+        None => Ok(answer_unknown(answer)?),
     }
 }
 

@@ -7,7 +7,7 @@ use hir_node::{Expr, Mutability, Rawness};
 use hir_store::ExpressionStoreBuilder;
 use std::alloc::Global;
 
-pub fn built(alloc: Global) -> Result<Body, HirError> {
+pub fn build_body(alloc: Global) -> Result<Body, HirError> {
     let mut builder = ExpressionStoreBuilder::new(alloc);
     let param = bind(alloc, &mut builder, "x")?;
     let local_x = bind(alloc, &mut builder, "x")?;

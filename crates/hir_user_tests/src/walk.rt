@@ -1,5 +1,5 @@
 //! Walks over the body: the children of each expression, and what is visited below the root.
-use crate::body::built;
+use crate::body::build_body;
 use hir_items::Body;
 use hir_node::{ExprId, LifetimeRefId, PatId, TypeRefId};
 use hir_store::{ExpressionStore, StoreVisitor};
@@ -68,7 +68,7 @@ fn below_the_root(body: &Body) -> Counts {
 
 #[test]
 fn walks(rt: HostRuntime) -> Result<(), Fail> {
-    let body = built(rt.alloc())?;
+    let body = build_body(rt.alloc())?;
     let children = count_children(body.store());
     let bindings = count_bindings(body.store());
     let counts = below_the_root(&body);

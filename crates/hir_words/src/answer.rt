@@ -1,6 +1,6 @@
 //! The answer to a question, while it is written: words that are parted by a space, in lines.
 
-use crate::{names, quoted};
+use crate::{names, quotes};
 use hir_base::Idx;
 use itoa::Buffer;
 use std::alloc::{AllocError, Global};
@@ -139,26 +139,26 @@ impl Answer {
         if names::is_bare(name.as_bytes()) {
             self.text.push_str(name)
         } else {
-            quoted::write_quoted(name, &mut self.text)
+            quotes::write_quoted(name, &mut self.text)
         }
     }
 
     /// A text in quotes.
-    pub fn quoted(&mut self, text: &str) -> Result<(), AllocError> {
+    pub fn quote(&mut self, text: &str) -> Result<(), AllocError> {
         self.begin()?;
-        quoted::write_quoted(text, &mut self.text)
+        quotes::write_quoted(text, &mut self.text)
     }
 
     /// A text in quotes behind the last word without a space.
     pub fn join_quoted(&mut self, text: &str) -> Result<(), AllocError> {
         self.is_behind = true;
-        quoted::write_quoted(text, &mut self.text)
+        quotes::write_quoted(text, &mut self.text)
     }
 
     /// Bytes in quotes.
     pub fn bytes(&mut self, bytes: &[u8]) -> Result<(), AllocError> {
         self.begin()?;
-        quoted::write_bytes(bytes, &mut self.text)
+        quotes::write_bytes(bytes, &mut self.text)
     }
 
     /// Ends a line.

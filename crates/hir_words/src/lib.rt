@@ -5,7 +5,7 @@ mod answer;
 mod names;
 mod numbers;
 mod parts;
-mod quoted;
+mod quotes;
 mod stop;
 mod tables;
 mod words;

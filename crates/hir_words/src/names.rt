@@ -1,7 +1,7 @@
 //! Names and quoted texts in a line.
 
 use crate::parts::Part;
-use crate::quoted;
+use crate::quotes;
 use crate::stop::Stop;
 use crate::words::Words;
 use hir_base::{Name, Seq, Text};
@@ -38,7 +38,7 @@ impl<'a> Words<'a> {
     /// A name, bare or in quotes.
     pub fn string(&mut self, alloc: Global) -> Result<String, Stop> {
         if self.is_at(b"\"") {
-            return quoted::read_string(self, alloc);
+            return quotes::read_string(self, alloc);
         }
         let bare = self.bare_name();
         if bare.is_empty() {
@@ -62,7 +62,7 @@ impl<'a> Words<'a> {
     /// A text in quotes, behind a space.
     pub fn next_text(&mut self, alloc: Global) -> Result<Text, Stop> {
         self.expect(b" ")?;
-        Ok(Text::from_string(quoted::read_string(self, alloc)?))
+        Ok(Text::from_string(quotes::read_string(self, alloc)?))
     }
 
     /// A name or `-`, behind a space.
@@ -76,7 +76,7 @@ impl<'a> Words<'a> {
 
     /// Bytes in quotes.
     pub fn bytes(&mut self, alloc: Global) -> Result<Seq<u8>, Stop> {
-        Ok(Seq::from_vec(quoted::read_bytes(self, alloc)?))
+        Ok(Seq::from_vec(quotes::read_bytes(self, alloc)?))
     }
 
     /// The same behind a space.

@@ -5,8 +5,8 @@ use Rattle.hir_node.specs.ChildCalls.{Call, OnExpr, OnAnonConst, OnPat, OnType, 
 use Rattle.hir_node.specs.declared.node_id.NodeId.{NodeId}
 use Rattle.hir_node.specs.declared.node_id.NodeId.TheVariants as node
 use Rattle.hir_faults.specs.Nodes.{Nodes, Has}
-use Rattle.hir_captures.specs.declared.unread.Task.{Task}
-use Rattle.hir_captures.specs.declared.unread.Task.TheVariants as task
+use Rattle.hir_captures.specs.declared.to_read.Task.{Task}
+use Rattle.hir_captures.specs.declared.to_read.Task.TheVariants as task
 use Rattle.hir_captures.specs.Uses.{Spot, code_under}
 
 -- the task of a pattern, in the target of an assignment or in none

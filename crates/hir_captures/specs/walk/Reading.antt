@@ -6,7 +6,7 @@ use Rattle.hir_scope.specs.Frames.{Chain}
 use Rattle.hir_scope.specs.Paths.{chain}
 use Rattle.hir_scope.specs.Scopes.{Scopes}
 use Rattle.hir_captures.specs.declared.code.Code.{Code}
-use Rattle.hir_captures.specs.declared.unread.Task.{Task}
+use Rattle.hir_captures.specs.declared.to_read.Task.{Task}
 use Rattle.hir_captures.specs.Captures.{meaning_behind, with_new}
 use Rattle.hir_captures.specs.walk.Pending.{AreThere, code_of}
 use Rattle.hir_captures.specs.Uses.{Use, spot_uses}

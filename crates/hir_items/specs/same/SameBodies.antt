@@ -8,7 +8,7 @@ use Rattle.hir_base.specs.contracts.idx.IdxPartialEq.TheImpl as id
 use Rattle.hir_path.specs.same.Fields.{and_decides, both}
 use Rattle.hir_path.specs.contracts.ids.PatKind as pat
 use Rattle.hir_path.specs.contracts.ids.BindingKind as binding
-use Rattle.hir_source.specs.Compared.{compared}
+use Rattle.hir_source.specs.ComparedPart.{compared_part}
 use Rattle.hir_source.specs.same.SameMaps.{maps_decide}
 use Rattle.hir_expr_store.specs.same.SameStores.{stores_decide}
 use Rattle.hir_items.specs.declared.body_source_map.BodySourceMap.{BodySourceMap}
@@ -40,6 +40,6 @@ bodies_decide x y =
 
 -- source maps of stores are compared by a part
 pub body_maps_decide : (x y : BodySourceMap) → Decides (body_maps.ghosts.eq x y)
-    ((compared x.store ≡ compared y.store) × (x.self_param_syntax ≡ y.self_param_syntax))
+    ((compared_part x.store ≡ compared_part y.store) × (x.self_param_syntax ≡ y.self_param_syntax))
 body_maps_decide x y = both _ _ (maps_decide x.store y.store)
     (options_decide (λ p q. search exact) x.self_param_syntax y.self_param_syntax)

@@ -22,25 +22,25 @@ use Rattle.hir_path.specs.contracts.path.AssociatedTypeBindingPartialEq.TheImpl 
 use Rattle.hir_path.specs.contracts.path.AssociatedTypeBindingPartialEq.TheImpl.Laws as binding_laws
 
 -- x, with a test that decides for each y whether it is x
-abbrev Told : {X : Type 0} → (X → X → Bool) → Type 0
-Told {X} E = (x : X) × ((y : X) → Decides (E x y) (x ≡ y))
+abbrev WithTest : {X : Type 0} → (X → X → Bool) → Type 0
+WithTest {X} E = (x : X) × ((y : X) → Decides (E x y) (x ≡ y))
 
-abbrev told : {X : Type 0} {E : X → X → Bool} → List (Told E) → List X
-told xs = map (λ e. e.0) xs
+abbrev without_tests : {X : Type 0} {E : X → X → Bool} → List (WithTest E) → List X
+without_tests xs = map (λ e. e.0) xs
 
-list_decides : {X : Type 0} (E : X → X → Bool) (xs : List (Told E)) (ys : List X)
-    → Decides (pointwise E (told xs) ys) (told xs ≡ ys)
+list_decides : {X : Type 0} (E : X → X → Bool) (xs : List (WithTest E)) (ys : List X)
+    → Decides (pointwise E (without_tests xs) ys) (without_tests xs ≡ ys)
 list_decides E [] [] = (λ h. refl, λ e. refl)
 list_decides E [] (y ∷ ys) = (λ h. absurd (cc), λ e. absurd (cc))
 list_decides E (x ∷ xs) [] = (λ h. absurd (cc), λ e. absurd (cc))
 list_decides E (x ∷ xs) (y ∷ ys) =
     and_decides _ _ (x.1 y) (list_decides E xs ys) (λ p q i. p i ∷ q i) (λ e. cc) (λ e. cc)
 
-abbrev option_told : {X : Type 0} {E : X → X → Bool} → Option (Told E) → Option X
+abbrev option_told : {X : Type 0} {E : X → X → Bool} → Option (WithTest E) → Option X
 option_told None = None
 option_told (Some x) = Some x.0
 
-option_decides : {X : Type 0} (E : X → X → Bool) (o : Option (Told E)) (p : Option X)
+option_decides : {X : Type 0} (E : X → X → Bool) (o : Option (WithTest E)) (p : Option X)
     → Decides (option_eq E (option_told o) p) (option_told o ≡ p)
 option_decides E None None = (λ h. refl, λ e. refl)
 option_decides E None (Some y) = (λ h. absurd (cc), λ e. absurd (cc))
@@ -136,13 +136,13 @@ args_told x = (y : GenericArgs) → Decides (args.ghosts.eq x y) (x ≡ y)
 abbrev binding_told : AssociatedTypeBinding → Type 0
 binding_told x = (y : AssociatedTypeBinding) → Decides (binding.ghosts.eq x y) (x ≡ y)
 
-option_map_told : (o : Option (Told args.ghosts.eq))
-    → former-AssociatedTypeBinding-args.map (Told args.ghosts.eq) GenericArgs (λ e. e.0) o ≡ option_told o
+option_map_told : (o : Option (WithTest args.ghosts.eq))
+    → former-AssociatedTypeBinding-args.map (WithTest args.ghosts.eq) GenericArgs (λ e. e.0) o ≡ option_told o
 option_map_told None = refl
 option_map_told (Some x) = refl
 
 binding_made : (x : AssociatedTypeBinding-F AssociatedTypeBinding GenericArgs)
-    (inner : Option (Told args.ghosts.eq)) → option_told inner ≡ x.args
+    (inner : Option (WithTest args.ghosts.eq)) → option_told inner ≡ x.args
     → binding_told (roll-AssociatedTypeBinding x)
 binding_made x inner e z =
     let child = e ∙ sym (ap (λ u. u.args) (out-roll-AssociatedTypeBinding x)) in
@@ -151,8 +151,8 @@ binding_made x inner e z =
     (subst (λ o. Decides (option_eq args.ghosts.eq o at_z) (o ≡ at_z)) child
     (option_decides _ inner at_z))
 
-args_made : (x : GenericArgs-F AssociatedTypeBinding GenericArgs) (inner : List (Told binding.ghosts.eq))
-    → told inner ≡ x.bindings → args_told (roll-GenericArgs x)
+args_made : (x : GenericArgs-F AssociatedTypeBinding GenericArgs) (inner : List (WithTest binding.ghosts.eq))
+    → without_tests inner ≡ x.bindings → args_told (roll-GenericArgs x)
 args_made x inner e z =
     let children = e ∙ sym (ap (λ u. u.bindings) (out-roll-GenericArgs x)) in
     let zs = (out-GenericArgs z).bindings in

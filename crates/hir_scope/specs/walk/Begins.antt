@@ -9,7 +9,7 @@ use Rattle.hir_node.specs.declared.node_id.NodeId.{NodeId}
 use Rattle.hir_faults.specs.Down.{KidsFall}
 use Rattle.hir_faults.specs.Nodes.{Nodes, Has, kids_of}
 use Rattle.hir_faults.specs.Sound.{IsSoundNode}
-use Rattle.hir_faults.specs.Tested.{tested_pat}
+use Rattle.hir_faults.specs.TestedParts.{tested_pat}
 use Rattle.hir_expr_store.specs.PatLists.{bindings_at, bindings_in, child_pats_of}
 use Rattle.hir_expr_store.specs.Under.{nodes_under}
 use Rattle.hir_expr_store.specs.Contents.{Contents}

@@ -86,8 +86,8 @@ unfoldable pub total : Nodes → (NodeId → ℕ) → NodeId → ℕ
 total s u n = value s (total_step s u) 0 n
 
 -- what tasks weigh, with all nodes under those that they are about
-abbrev pub left : Nodes → (NodeId → ℕ) → (Task → ℕ) → List Task → ℕ
-left s u v tasks = sum_by v tasks + sum_by (total s u) (about tasks)
+abbrev pub tasks_weight : Nodes → (NodeId → ℕ) → (Task → ℕ) → List Task → ℕ
+tasks_weight s u v tasks = sum_by v tasks + sum_by (total s u) (about tasks)
 
 -- the tasks of a node, whatever it is left with
 abbrev pub node_tasks : Nodes → NodeId → List Task
@@ -100,7 +100,8 @@ node_frames s n =
 
 -- what frames weigh that are still to be opened
 abbrev pub weight_left : Nodes → (Frame → ℕ) → List Task → ℕ
-weight_left s w tasks = left s (λ n. sum_by w (node_frames s n)) (λ t. sum_by w (task_frames s t)) tasks
+weight_left s w tasks = tasks_weight s (λ n. sum_by w (node_frames s n))
+    (λ t. sum_by w (task_frames s t)) tasks
 
 -- with those of the scopes
 abbrev pub weight : Nodes → (Frame → ℕ) → Machine → ℕ
@@ -137,7 +138,7 @@ abbrev pub node_turns : Nodes → NodeId → ℕ
 node_turns s n = 2 + sum_by task_turns (node_tasks s n)
 
 abbrev pub turns_left : Nodes → List Task → ℕ
-turns_left s tasks = left s (node_turns s) task_turns tasks
+turns_left s tasks = tasks_weight s (node_turns s) task_turns tasks
 
 -- 3. How it goes on
 
@@ -147,7 +148,7 @@ pub record HasFrames (scopes : List Scope) (scope : ℕ) (frames : Chain) : Type
   pub is : chain_of scopes scope ≡ frames
 
 -- scopes were opened over the current scope, and over that of constants
-pub record Opened (old new : Machine) (heres constants : Chain) : Type 0 where
+pub record OpensScopes (old new : Machine) (heres constants : Chain) : Type 0 where
   pub more : List Scope
   pub grows : new.scopes.scopes ≡ old.scopes.scopes ++ more
   pub same : new.scopes.scope_by_expr ≡ old.scopes.scope_by_expr
@@ -174,21 +175,21 @@ pub record Meets (s : Nodes) (old : Walk) (expr : ℕ) (new : Walk) (scope : ℕ
       (within_own (form_of s (node.Expr expr)) (here_of (state old)))
 
 -- an expression that was given its scope, with the frames around it
-pub record Given : Type 0 where
+pub record ScopeGift : Type 0 where
   pub expr : ℕ
   pub here : Chain
   pub constant : Chain
   pub scope : ℕ
 
-abbrev pub place_given : Given → Place
+abbrev pub place_given : ScopeGift → Place
 place_given g = place (node.Expr g.expr) g.here g.constant
 
-abbrev pub write_all : finmap.FinMap nat_cmp ℕ → List Given → finmap.FinMap nat_cmp ℕ
+abbrev pub write_all : finmap.FinMap nat_cmp ℕ → List ScopeGift → finmap.FinMap nat_cmp ℕ
 write_all by_expr [] = by_expr
 write_all by_expr (g ∷ gs) = write_all (finmap.insert by_expr g.expr g.scope) gs
 
 -- the scope is that of the expression's chain
-abbrev pub IsRight : Nodes → List Scope → Given → Type 0
+abbrev pub IsRight : Nodes → List Scope → ScopeGift → Type 0
 IsRight s scopes g = HasFrames scopes g.scope (within_own (form_of s (node.Expr g.expr)) g.here)
 
 -- the scope of an expression: of a block the one inside it, of any other the one around it
@@ -197,9 +198,9 @@ scope_within (form.Block id label statements tail) inside outside = inside
 scope_within x inside outside = outside
 
 -- all that was done since a state
-pub record Gone (s : Nodes) (old new : Machine) (before after : ℕ) : Type 0 where
+pub record Progress (s : Nodes) (old new : Machine) (before after : ℕ) : Type 0 where
   pub ready : IsReady s new
-  pub given : List Given
+  pub given : List ScopeGift
   pub written : new.scopes.scope_by_expr ≡ write_all old.scopes.scope_by_expr given
   pub in_order : future_of s old ≡ map place_given given ++ future_of s new
   pub right : All (IsRight s new.scopes.scopes) given
@@ -212,5 +213,5 @@ pub record Gone (s : Nodes) (old new : Machine) (before after : ℕ) : Type 0 wh
 
 -- the same of one task
 pub record Goes (s : Nodes) (old new : Machine) (before after : ℕ) : Type 0 where
-  pub gone : Gone s old new before after
+  pub gone : Progress s old new before after
   pub shorter : turns_left s new.tasks < turns_left s old.tasks

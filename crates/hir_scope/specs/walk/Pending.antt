@@ -10,7 +10,7 @@ use Rattle.hir_node.specs.declared.expr_types.Statement.TheVariants as statement
 use Rattle.hir_node.specs.declared.node_id.NodeId.{NodeId}
 use Rattle.hir_node.specs.declared.node_id.NodeId.TheVariants as node
 use Rattle.hir_faults.specs.Nodes.{Nodes}
-use Rattle.hir_stack.specs.Stacks.{Stacked, Puts}
+use Rattle.hir_stack.specs.Stacks.{StackItems, Puts}
 use Rattle.hir_scope.specs.declared.scope.ScopeKind.TheVariants as kind
 use Rattle.hir_scope.specs.declared.tasks.Around.{Around}
 use Rattle.hir_scope.specs.declared.tasks.Task.{Task}
@@ -25,8 +25,8 @@ use Rattle.hir_scope.specs.Chains.{Place, place_kid}
 use Rattle.hir_scope.specs.walk.PlacesUnder.{exprs_at, exprs_under}
 
 -- a task is put onto others
-abbrev pub Put : Stacked Task → Task → Stacked Task → Type 0
-Put v task w = Puts v (task ∷ []) w
+abbrev pub PutsTask : StackItems Task → Task → StackItems Task → Type 0
+PutsTask v task w = Puts v (task ∷ []) w
 
 -- the task of a call: a lifetime has none
 abbrev pub task_of : Call → List Task

@@ -4,7 +4,7 @@ use Rattle.std.specs.List.{flat_map, filter}
 use Rattle.hir_node.specs.declared.node_id.NodeId.{NodeId}
 use Rattle.hir_faults.specs.Nodes.{Nodes}
 use Rattle.hir_faults.specs.Down.{value}
-use Rattle.hir_scope.specs.Built.{is_expr}
+use Rattle.hir_scope.specs.BodyScopes.{is_expr}
 use Rattle.hir_scope.specs.Frames.{Chain}
 use Rattle.hir_scope.specs.Chains.{Place, places_of_kids}
 

@@ -4,9 +4,10 @@ use Rattle.std.specs.Bool.{Decides}
 use Rattle.hir_base.specs.Exact.{exact}
 use Rattle.hir_source.specs.declared.source_map.ExpressionStoreSourceMap.{ExpressionStoreSourceMap}
 use Rattle.hir_source.specs.contracts.source_map.ExpressionStoreSourceMapPartialEq.TheImpl as maps
-use Rattle.hir_source.specs.Compared.{compared}
-use Rattle.hir_source.specs.same.SameCompared.{compared_decides}
+use Rattle.hir_source.specs.ComparedPart.{compared_part}
+use Rattle.hir_source.specs.same.SameComparedPart.{compared_decides}
 use Rattle.hir_source.specs.same.SameDiagnostics.{diagnostics_decide}
 
-pub maps_decide : (x y : ExpressionStoreSourceMap) → Decides (maps.ghosts.eq x y) (compared x ≡ compared y)
+pub maps_decide : (x y : ExpressionStoreSourceMap)
+    → Decides (maps.ghosts.eq x y) (compared_part x ≡ compared_part y)
 maps_decide = compared_decides (search exact) (search exact) diagnostics_decide

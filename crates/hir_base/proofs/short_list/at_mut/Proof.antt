@@ -57,9 +57,9 @@ use Rattle.hir_base.proofs.short_list.at_mut.Statement as stated
 use Rattle.hir_base.proofs.short_list.at_mut.Code as code
 
 -- where the product fits a word, the count is zero or the size fits too
-uncapped : (i k : ℕ) → i * k < 2 ^ 64 → i * capped k ≡ i * k
-uncapped zero k h = zero-mul (capped k) ∙ sym (zero-mul k)
-uncapped (suc i) k h =
+capped_times : (i k : ℕ) → i * k < 2 ^ 64 → i * capped k ≡ i * k
+capped_times zero k h = zero-mul (capped k) ∙ sym (zero-mul k)
+capped_times (suc i) k h =
     let step = suc-mul i k in ap (λ (j : ℕ). suc i * j) (capped_is k (omega arith))
 
 head : {X : Type 0} (xs : List X) → 0 < length xs → X
@@ -171,7 +171,7 @@ module _ (X : RattleType) (n : ℕ) (L : Laws X) {M : Type 1} {𝓤 : Ura M} (�
           qed 𝓛 ((‵ (flft κ q) ⊛ ‵ (flft κT qT) ⊛ ‵ (flft κN qN) ⊛ ‵ ftrue) ∷ ‵ (owns (MutRef (named 0) κ (S X n) ∷ usize ∷ []) (self, (m, tt)) (mut_vals self, (vint w64 m ∷ [], tt))) ∷ []) ∵
           enter ! C Λ (function X n) (vptr b o ∷ vint w64 m ∷ []) _ $
           alloc_all ! (λ l. pass_all ! refl ((tt, tt), ((tt, record { fits = fm }), tt)) $
-          sets ! (is ! (bin ! (get ! refl) (size_word !) (record { fits = subst (λ (k : ℕ). k < 2 ^ 64) (sym (uncapped m s fs)) fs })) (ap (vint w64) (uncapped m s fs))) refl (tt, record { fits = fs }) $
+          sets ! (is ! (bin ! (get ! refl) (size_word !) (record { fits = subst (λ (k : ℕ). k < 2 ^ 64) (sym (capped_times m s fs)) fs })) (ap (vint w64) (capped_times m s fs))) refl (tt, record { fits = fs }) $
           sets ! (addr ! (through ! refl (stop !))) refl (tt, tt) $
           sets ! (bin ! (get ! refl) (get ! refl) tt) refl (tt, tt) $
           sets ! (addr ! (through ! refl (stop !))) refl (tt, tt) $

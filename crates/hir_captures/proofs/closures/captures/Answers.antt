@@ -1,7 +1,7 @@
 use Rattle.std.proofs.Common.{◌∙◌, ap, List, ℕ, ◌∷◌, []}
 use Rattle.hir_captures.specs.declared.code.Code.{Code}
-use Rattle.hir_captures.specs.declared.unread.Task.{Task}
-use Rattle.hir_captures.specs.declared.unread.Task.TheVariants as task
+use Rattle.hir_captures.specs.declared.to_read.Task.{Task}
+use Rattle.hir_captures.specs.declared.to_read.Task.TheVariants as task
 use Rattle.hir_captures.specs.walk.Reading.{with_code}
 use Rattle.hir_captures.proofs.ReadLemmas.{are_captures}
 use Rattle.hir_captures.proofs.closures.captures.Goals as goal

@@ -1,6 +1,6 @@
 use Rattle.std.proofs.Common.{sym, ap, ◌∙◌, List, ℕ}
 use Rattle.hir_items.specs.Bodies.{tops}
-use Rattle.hir_scope.specs.Built.{tops_of_body}
+use Rattle.hir_scope.specs.BodyScopes.{tops_of_body}
 use Rattle.hir_captures.specs.Captures.{each_once}
 use Rattle.hir_captures.proofs.CodeLemmas.{one_list}
 use Rattle.hir_captures.proofs.laws.captures_are_one.Goals as goal

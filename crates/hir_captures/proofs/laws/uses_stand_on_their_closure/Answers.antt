@@ -1,6 +1,6 @@
 use Rattle.std.proofs.lemmas.List.Elements.{All-from_recursion}
 use Rattle.hir_items.specs.Bodies.{tops}
-use Rattle.hir_scope.specs.Built.{tops_of_body}
+use Rattle.hir_scope.specs.BodyScopes.{tops_of_body}
 use Rattle.hir_captures.specs.Captures.{IsOn}
 use Rattle.hir_captures.specs.Uses.{Use, uses_in}
 use Rattle.hir_captures.proofs.CodeLemmas.{uses_stand_on}

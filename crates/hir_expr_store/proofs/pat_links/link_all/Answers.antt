@@ -1,7 +1,7 @@
 use Rattle.std.proofs.Common.{◌≡◌, ℕ, suc, List, length, ap, sym, ◌∙◌, subst, arith, add-one}
 use Rattle.hir_node.specs.ChildCalls.{child_pats}
 use Rattle.hir_expr_store.specs.declared.pat_links.PatLink.{PatLink}
-use Rattle.hir_expr_store.specs.PatLinks.{kids_at, linked}
+use Rattle.hir_expr_store.specs.PatLinks.{kids_at, link_children}
 use Rattle.hir_expr_store.proofs.LinkLemmas.{LinkedBefore, kids_here, kids_low, linked-next}
 use Rattle.hir_expr_store.proofs.pat_links.link_all.Goals as goal
 
@@ -17,8 +17,8 @@ loop-id-preserved c =
     let kids = kids_here pats id c.index-pats-id.result c.loop-id-test.true c.index-pats-id.is in
     let len : length c.loop-id.links ≡ length pats = omega (arith, c.requires.each, c.loop-id.auto.links) in
     let next = linked-next pats c.requires.one_place c.loop-id.links id len c.loop-id.invariant in
-    let is : linked id (kids_at pats id) c.loop-id.links ≡ c.link_children.new.links =
-    ap (λ (ks : List ℕ). linked id ks c.loop-id.links) kids
-    ∙ ap (λ (m : ℕ). linked m (child_pats c.index-pats-id.result) c.loop-id.links) (sym c.from_raw.ensures)
+    let is : link_children id (kids_at pats id) c.loop-id.links ≡ c.link_children.new.links =
+    ap (λ (ks : List ℕ). link_children id ks c.loop-id.links) kids
+    ∙ ap (λ (m : ℕ). link_children m (child_pats c.index-pats-id.result) c.loop-id.links) (sym c.from_raw.ensures)
     ∙ sym c.link_children.ensures in
     rw add-one (subst (λ (links : List PatLink). LinkedBefore pats links (suc id)) is next)

@@ -1,7 +1,7 @@
 use Rattle.std.proofs.Common.{◌≡◌, ℕ, ◌<◌, List, ◌∷◌, length, ap, sym, ◌∙◌, subst}
 use Rattle.std.specs.List.{AllByRecursion}
 use Rattle.hir_node.specs.ChildCalls.{child_pats}
-use Rattle.hir_expr_store.specs.PatLinks.{linked}
+use Rattle.hir_expr_store.specs.PatLinks.{link_children}
 use Rattle.hir_expr_store.proofs.LinkLemmas.{all_from_contains}
 use Rattle.hir_expr_store.proofs.pat_links.link_children.Goals as goal
 
@@ -15,12 +15,12 @@ loop-next-init c =
       next = tt;
       finite = tt;
       low = subst (λ (ks : List ℕ). AllByRecursion (λ (k : ℕ). k < length links) ks) kids low;
-      is = ap (λ (ks : List ℕ). linked c.args.parent ks links) (sym kids);
+      is = ap (λ (ks : List ℕ). link_children c.args.parent ks links) (sym kids);
     }
 
 pub loop-next-preserved : goal.loop-next-preserved
 loop-next-preserved c =
-    let all = linked c.args.parent (child_pats c.args.pat.now) c.args.links.now in
+    let all = link_children c.args.parent (child_pats c.args.pat.now) c.args.links.now in
     let low = subst (λ (ks : List ℕ). AllByRecursion (λ (k : ℕ). k < length c.args.links.now) (c.loop-next.child ∷ ks)) c.in-Some-next.ensures.steps c.loop-next.invariant.low in
-    let is = subst (λ (ks : List ℕ). linked c.args.parent (c.loop-next.child ∷ ks) c.loop-next.links ≡ all) c.in-Some-next.ensures.steps c.loop-next.invariant.is in
+    let is = subst (λ (ks : List ℕ). link_children c.args.parent (c.loop-next.child ∷ ks) c.loop-next.links ≡ all) c.in-Some-next.ensures.steps c.loop-next.invariant.is in
     record { next = tt; finite = tt; low = low.1; is = rw c.into_raw.ensures is }

@@ -17,7 +17,7 @@ pub returns : goal.returns
 returns g c =
     let v = c.args.visitor.now in
     let begun : EdgeVisitor = record { sizes = v.sizes; parents = c.begin_row.new.self; all_there = v.all_there } in
-    let x = g.N.TestedNode.tested c.args.node.now in
+    let x = g.N.TestedNode.tested_parts c.args.node.now in
     let noted = noted_all c.visit.ensures in
     record {
       there = noted.there ∙ (rw c.requires.there refl);

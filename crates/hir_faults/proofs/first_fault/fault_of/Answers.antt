@@ -5,7 +5,7 @@ use Rattle.hir_faults.proofs.first_fault.fault_of.Goals as goal
 
 pub returns-then-not-names_there-clause-fault : goal.returns-then-not-names_there-clause-fault
 returns-then-not-names_there-clause-fault g c =
-    fault-ids c.args.visitor.now.sizes c.args.types.now c.args.id (g.N.TestedNode.tested c.args.node.now) (sym c.names_there.ensures.there ∙ c.if-not-names_there.true)
+    fault-ids c.args.visitor.now.sizes c.args.types.now c.args.id (g.N.TestedNode.tested_parts c.args.node.now) (sym c.names_there.ensures.there ∙ c.if-not-names_there.true)
 
 pub returns-clause-fault : goal.returns-clause-fault
 returns-clause-fault g c = c.other_fault.ensures c.args.visitor.now.sizes (sym c.names_there.ensures.there ∙ c.if-not-names_there.false)

@@ -1,8 +1,8 @@
 use Rattle.std.proofs.Common.{◌++◌, length, map, ◌∙◌, arith}
 use Rattle.std.proofs.lemmas.List.{length-append, length-map}
 use Rattle.hir_faults.specs.Faults.{nodes_in}
-use Rattle.hir_faults.specs.Tested.{tested_expr, tested_pat, tested_type}
-use Rattle.hir_faults.specs.Edges.{Visited, all_tested}
+use Rattle.hir_faults.specs.TestedParts.{tested_expr, tested_pat, tested_type}
+use Rattle.hir_faults.specs.Edges.{VisitsNodes, all_tested}
 use Rattle.hir_faults.proofs.EdgeLemmas.{all_count, can_visit_less, can_visit_on, visited_both, if_none_so}
 use Rattle.hir_faults.proofs.FirstFaultLemmas.{bad_expr, bad_pat, bad_type}
 use Rattle.hir_faults.proofs.first_fault.first_bad_node.Goals as goal
@@ -17,10 +17,10 @@ pub returns-in-Some-clause-fault : goal.returns-in-Some-clause-fault
 returns-in-Some-clause-fault c = bad_expr (nodes_in c.args.nodes.now) c.in-Some.fault (rw c.requires.sizes at c.in-Some.ensures.fault)
 
 -- after the expressions, and after the patterns
-after_exprs : (c : In_default) → Visited c.args.visitor.now (map tested_expr c.args.nodes.now.exprs.now) c.first_of.new.visitor
+after_exprs : (c : In_default) → VisitsNodes c.args.visitor.now (map tested_expr c.args.nodes.now.exprs.now) c.first_of.new.visitor
 after_exprs c = c.in_default.ensures.visited
 
-after_pats : (c : In_default-first_of) → Visited c.args.visitor.now (map tested_expr c.args.nodes.now.exprs.now ++ map tested_pat c.args.nodes.now.pats.now) c.first_of-2.new.visitor
+after_pats : (c : In_default-first_of) → VisitsNodes c.args.visitor.now (map tested_expr c.args.nodes.now.exprs.now ++ map tested_pat c.args.nodes.now.pats.now) c.first_of-2.new.visitor
 after_pats c = visited_both c.args.visitor.now c.first_of.new.visitor c.first_of-2.new.visitor (map tested_expr c.args.nodes.now.exprs.now) (map tested_pat c.args.nodes.now.pats.now) c.in_default.ensures.visited c.in_default-first_of.ensures.visited
 
 pub first_of-requires-2-clause-room : goal.first_of-requires-2-clause-room

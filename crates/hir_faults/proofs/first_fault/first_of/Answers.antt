@@ -1,7 +1,7 @@
 use Rattle.std.proofs.Common.{◌<◌, ◌∷◌, [], List, below_more, length, map, take, subst, arith}
 use Rattle.std.proofs.lemmas.List.{length-map, length-take-le, take_all}
-use Rattle.hir_faults.specs.Edges.{Visited}
-use Rattle.hir_faults.specs.Tested.{Tested}
+use Rattle.hir_faults.specs.Edges.{VisitsNodes}
+use Rattle.hir_faults.specs.TestedParts.{TestedParts}
 use Rattle.hir_faults.specs.Faults.{nothing_tested}
 use Rattle.hir_faults.proofs.EdgeLemmas.{visited_none, visited_both, can_visit_on, tested_more}
 use Rattle.hir_faults.proofs.FirstFaultLemmas.{row_of}
@@ -15,7 +15,7 @@ loop-i-init g c = record {
 
 pub fault_of-requires : goal.fault_of-requires
 fault_of-requires g c =
-    let parts = g.N.TestedNode.tested in
+    let parts = g.N.TestedNode.tested_parts in
     let nodes = c.args.nodes.now in
     let i = c.loop-i.i in
     let some = length-take-le i nodes (omega (arith, c.loop-i-test.true)) in
@@ -23,7 +23,7 @@ fault_of-requires g c =
 
 pub returns-in-Some-clause-fault : goal.returns-in-Some-clause-fault
 returns-in-Some-clause-fault g c =
-    let parts = g.N.TestedNode.tested in
+    let parts = g.N.TestedNode.tested_parts in
     let nodes = c.args.nodes.now in
     let row = row_of parts nothing_tested nodes c.loop-i.i c.index-nodes-i.result c.loop-i-test.true c.index-nodes-i.is in
     let lt : c.loop-i.i < length (map parts nodes) = rw (length-map nodes parts) c.loop-i-test.true in
@@ -31,20 +31,20 @@ returns-in-Some-clause-fault g c =
 
 pub loop-i-preserved : goal.loop-i-preserved
 loop-i-preserved g c =
-    let parts = g.N.TestedNode.tested in
+    let parts = g.N.TestedNode.tested_parts in
     let nodes = c.args.nodes.now in
     let i = c.loop-i.i in
     let row = row_of parts nothing_tested nodes i c.index-nodes-i.result c.loop-i-test.true c.index-nodes-i.is in
-    let now : Visited c.loop-i.visitor (parts c.index-nodes-i.result ∷ []) c.fault_of.new.visitor = rw c.in_default.is at c.fault_of.ensures.visited in
+    let now : VisitsNodes c.loop-i.visitor (parts c.index-nodes-i.result ∷ []) c.fault_of.new.visitor = rw c.in_default.is at c.fault_of.ensures.visited in
     record {
       fine = below_more _ _ c.loop-i.invariant.fine (rw (row, ← c.name.ensures, ← c.loop-i.invariant.visited.sizes, ← c.in_default.is) c.fault_of.ensures.fault);
-      visited = subst (λ (xs : List Tested). Visited c.args.visitor.now xs c.fault_of.new.visitor) (tested_more parts nodes i c.index-nodes-i.result c.loop-i-test.true c.index-nodes-i.is)
+      visited = subst (λ (xs : List TestedParts). VisitsNodes c.args.visitor.now xs c.fault_of.new.visitor) (tested_more parts nodes i c.index-nodes-i.result c.loop-i-test.true c.index-nodes-i.is)
           (visited_both c.args.visitor.now c.loop-i.visitor c.fault_of.new.visitor (map parts (take i nodes)) (parts c.index-nodes-i.result ∷ []) c.loop-i.invariant.visited now);
     }
 
 pub returns : goal.returns
 returns g c =
-    let parts = g.N.TestedNode.tested in
+    let parts = g.N.TestedNode.tested_parts in
     let nodes = c.args.nodes.now in
     record {
       fault = λ i h. c.loop-i.invariant.fine i (omega (arith, c.loop-i-test.false, length-map nodes parts));

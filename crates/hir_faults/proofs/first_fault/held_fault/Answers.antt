@@ -1,43 +1,43 @@
 use Rattle.std.proofs.Common.{sym, ap, ◌∙◌}
-use Rattle.hir_faults.specs.Tested.{names_paths, gives_self, lists_fit}
+use Rattle.hir_faults.specs.TestedParts.{names_paths, gives_self, lists_fit}
 use Rattle.hir_faults.proofs.FirstFaultLemmas.{fault-paths, fault-return, fault-self, fault-lists, fault-none}
 use Rattle.hir_faults.proofs.first_fault.held_fault.Goals as goal
 
 pub returns-then-not-names_paths : goal.returns-then-not-names_paths
 returns-then-not-names_paths g c = λ sizes there.
-    fault-paths sizes c.args.types.now c.args.id (g.N.TestedNode.tested c.args.node.now)
+    fault-paths sizes c.args.types.now c.args.id (g.N.TestedNode.tested_parts c.args.node.now)
     there
-    (sym (ap (names_paths c.args.types.now) c.held-held.ensures) ∙ sym c.names_paths.ensures ∙ c.if-not-names_paths.true)
+    (sym (ap (names_paths c.args.types.now) c.holds-held.ensures) ∙ sym c.names_paths.ensures ∙ c.if-not-names_paths.true)
 
 pub returns-then-not-returns : goal.returns-then-not-returns
 returns-then-not-returns g c = λ sizes there.
-    fault-return sizes c.args.types.now c.args.id (g.N.TestedNode.tested c.args.node.now)
+    fault-return sizes c.args.types.now c.args.id (g.N.TestedNode.tested_parts c.args.node.now)
     there
-    (sym (ap (names_paths c.args.types.now) c.held-held.ensures) ∙ sym c.names_paths.ensures ∙ c.if-not-names_paths.false)
+    (sym (ap (names_paths c.args.types.now) c.holds-held.ensures) ∙ sym c.names_paths.ensures ∙ c.if-not-names_paths.false)
     (sym c.returns.ensures ∙ c.if-not-returns.true)
 
 pub returns-then-not-gives_self : goal.returns-then-not-gives_self
 returns-then-not-gives_self g c = λ sizes there.
-    fault-self sizes c.args.types.now c.args.id (g.N.TestedNode.tested c.args.node.now)
+    fault-self sizes c.args.types.now c.args.id (g.N.TestedNode.tested_parts c.args.node.now)
     there
-    (sym (ap (names_paths c.args.types.now) c.held-held.ensures) ∙ sym c.names_paths.ensures ∙ c.if-not-names_paths.false)
+    (sym (ap (names_paths c.args.types.now) c.holds-held.ensures) ∙ sym c.names_paths.ensures ∙ c.if-not-names_paths.false)
     (sym c.returns.ensures ∙ c.if-not-returns.false)
-    (sym (ap gives_self c.held-held.ensures) ∙ sym c.gives_self.ensures ∙ c.if-not-gives_self.true)
+    (sym (ap gives_self c.holds-held.ensures) ∙ sym c.gives_self.ensures ∙ c.if-not-gives_self.true)
 
 pub returns-then-not-lists_fit : goal.returns-then-not-lists_fit
 returns-then-not-lists_fit g c = λ sizes there.
-    fault-lists sizes c.args.types.now c.args.id (g.N.TestedNode.tested c.args.node.now)
+    fault-lists sizes c.args.types.now c.args.id (g.N.TestedNode.tested_parts c.args.node.now)
     there
-    (sym (ap (names_paths c.args.types.now) c.held-held.ensures) ∙ sym c.names_paths.ensures ∙ c.if-not-names_paths.false)
+    (sym (ap (names_paths c.args.types.now) c.holds-held.ensures) ∙ sym c.names_paths.ensures ∙ c.if-not-names_paths.false)
     (sym c.returns.ensures ∙ c.if-not-returns.false)
-    (sym (ap gives_self c.held-held.ensures) ∙ sym c.gives_self.ensures ∙ c.if-not-gives_self.false)
-    (sym (ap lists_fit c.held-held.ensures) ∙ sym c.lists_fit.ensures ∙ c.if-not-lists_fit.true)
+    (sym (ap gives_self c.holds-held.ensures) ∙ sym c.gives_self.ensures ∙ c.if-not-gives_self.false)
+    (sym (ap lists_fit c.holds-held.ensures) ∙ sym c.lists_fit.ensures ∙ c.if-not-lists_fit.true)
 
 pub returns : goal.returns
 returns g c = λ sizes there.
-    fault-none sizes c.args.types.now c.args.id (g.N.TestedNode.tested c.args.node.now)
+    fault-none sizes c.args.types.now c.args.id (g.N.TestedNode.tested_parts c.args.node.now)
     there
-    (sym (ap (names_paths c.args.types.now) c.held-held.ensures) ∙ sym c.names_paths.ensures ∙ c.if-not-names_paths.false)
+    (sym (ap (names_paths c.args.types.now) c.holds-held.ensures) ∙ sym c.names_paths.ensures ∙ c.if-not-names_paths.false)
     (sym c.returns.ensures ∙ c.if-not-returns.false)
-    (sym (ap gives_self c.held-held.ensures) ∙ sym c.gives_self.ensures ∙ c.if-not-gives_self.false)
-    (sym (ap lists_fit c.held-held.ensures) ∙ sym c.lists_fit.ensures ∙ c.if-not-lists_fit.false)
+    (sym (ap gives_self c.holds-held.ensures) ∙ sym c.gives_self.ensures ∙ c.if-not-gives_self.false)
+    (sym (ap lists_fit c.holds-held.ensures) ∙ sym c.lists_fit.ensures ∙ c.if-not-lists_fit.false)

@@ -1,17 +1,17 @@
 use Rattle.std.proofs.Common.{sym, ap, ◌∙◌}
-use Rattle.hir_faults.specs.Tested.{names_paths, gives_self, lists_fit}
+use Rattle.hir_faults.specs.TestedParts.{names_paths, gives_self, lists_fit}
 use Rattle.hir_faults.proofs.FirstFaultLemmas.{fault-none}
 use Rattle.hir_faults.proofs.first_fault.other_fault.Goals as goal
 
 pub returns-then-returns : goal.returns-then-returns
 returns-then-returns g c = λ sizes there.
     let fine = c.is_plain.ensures c.if-is_plain.true in
-    fault-none sizes c.args.types.now c.args.id (g.N.TestedNode.tested c.args.node.now)
+    fault-none sizes c.args.types.now c.args.id (g.N.TestedNode.tested_parts c.args.node.now)
     there
-    (sym (ap (names_paths c.args.types.now) c.held.ensures) ∙ fine.paths c.args.types.now)
+    (sym (ap (names_paths c.args.types.now) c.holds.ensures) ∙ fine.paths c.args.types.now)
     (sym c.returns.ensures ∙ c.if-returns.true)
-    (sym (ap gives_self c.held.ensures) ∙ fine.gives_self)
-    (sym (ap lists_fit c.held.ensures) ∙ fine.lists_fit)
+    (sym (ap gives_self c.holds.ensures) ∙ fine.gives_self)
+    (sym (ap lists_fit c.holds.ensures) ∙ fine.lists_fit)
 
 pub returns : goal.returns
 returns g c = c.held_fault.ensures

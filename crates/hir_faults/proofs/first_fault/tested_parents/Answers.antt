@@ -1,6 +1,6 @@
 use Rattle.std.proofs.Common.{[], List, ℕ, Some, None, inr, refl, subst, arith}
 use Rattle.hir_forest.specs.Parents.{IsParentageOf}
-use Rattle.hir_faults.specs.Faults.{Rooted, nodes_in}
+use Rattle.hir_faults.specs.Faults.{RootedNodes, nodes_in}
 use Rattle.hir_faults.proofs.EdgeLemmas.{all_rows, all_count}
 use Rattle.hir_faults.proofs.FirstFaultLemmas.{bad_node, graph_last}
 use Rattle.hir_faults.proofs.first_fault.tested_parents.Goals as goal
@@ -34,10 +34,10 @@ first_graph_fault-requires-clause-rows c =
 
 pub returns-in-Ok-None-clause-ok : goal.returns-in-Ok-None-clause-ok
 returns-in-Ok-None-clause-ok c =
-    let s : Rooted = record { nodes = nodes_in c.args.nodes.now; roots = c.args.roots.now } in
+    let s : RootedNodes = record { nodes = nodes_in c.args.nodes.now; roots = c.args.roots.now } in
     (graph_last s None c.in_default-first_bad_node.ensures.fault (rw c.in-Ok-None.field-0-is at c.in-Ok-None.ensures.fault), rw c.in-Ok-None.field-0-is at c.in-Ok-None.ensures.parents)
 
 pub returns-in-Ok-Some-clause-err : goal.returns-in-Ok-Some-clause-err
 returns-in-Ok-Some-clause-err c =
-    let s : Rooted = record { nodes = nodes_in c.args.nodes.now; roots = c.args.roots.now } in
+    let s : RootedNodes = record { nodes = nodes_in c.args.nodes.now; roots = c.args.roots.now } in
     inr (graph_last s (Some c.in-Ok-Some.fault) c.in_default-first_bad_node.ensures.fault (rw c.in-Ok-Some.field-0-is at c.in-Ok-Some.ensures.fault))

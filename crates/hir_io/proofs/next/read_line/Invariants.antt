@@ -2,15 +2,15 @@ use Rattle.std.proofs.Common.{◌≡◌, ◌+◌, ◌≤◌, ◌⊎◌, [], fals
 use Rattle.std.specs.Io.KnownBytes.{Keeps}
 use Rattle.hir_io.specs.Ends.{IsWrittenUpTo}
 use Rattle.hir_io.specs.Text.{HasNoLineEnd}
-use Rattle.hir_io.specs.NextLine.{untaken}
+use Rattle.hir_io.specs.NextLine.{bytes_left}
 use Rattle.hir_io.proofs.next.read_line.Given as goal
 
 abbrev pub invariant-loop-output : goal.invariant-loop-output
 invariant-loop-output g l = record {
   same_count : l.lines.count ≡ l.fn.lines.count;
-  same_input_mark : g.R.Source.failed l.reader ≡ g.R.Source.failed l.fn.reader;
-  same_output_mark : g.W.Sink.failed l.writer ≡ g.W.Sink.failed l.fn.writer;
-  kept : Keeps (untaken l.fn.lines.pending l.fn.lines.at_end (g.R.Source.remaining l.fn.reader)) (untaken l.lines.pending l.lines.at_end (g.R.Source.remaining l.reader));
+  same_input_mark : g.R.Source.is_failed l.reader ≡ g.R.Source.is_failed l.fn.reader;
+  same_output_mark : g.W.Sink.is_failed l.writer ≡ g.W.Sink.is_failed l.fn.writer;
+  kept : Keeps (bytes_left l.fn.lines.pending l.fn.lines.at_end (g.R.Source.remaining l.fn.reader)) (bytes_left l.lines.pending l.lines.at_end (g.R.Source.remaining l.reader));
   written : IsWrittenUpTo (g.W.Sink.contents l.fn.writer) (g.W.Sink.contents l.writer) l.fn.output l.output;
   idle : l.fn.output ≡ [] → (l.output ≡ []) × (l.writer ≡ l.fn.writer);
   falls : length l.lines.pending + g.R.Source.allowance l.reader ≤ length l.fn.lines.pending + g.R.Source.allowance l.fn.reader;

@@ -4,7 +4,7 @@ use Rattle.std.proofs.lemmas.Result.{err_from_is_err_and}
 use Rattle.hir_lines.specs.Line.{question}
 use Rattle.hir_lines.specs.Readings.{parts_of, whole}
 use Rattle.hir_lines.proofs.Tables.{asks_by, empty_line, not_empty}
-use Rattle.hir_lines.proofs.Written.{asks_it}
+use Rattle.hir_lines.proofs.WrittenLines.{asks_it}
 use Rattle.hir_lines.proofs.asking.ask.Goals as goal
 
 pub returns-then-is_empty : goal.returns-then-is_empty

@@ -1,5 +1,5 @@
 use Rattle.std.proofs.Common.{sym, ◌∙◌}
-use Rattle.hir_lines.proofs.Written.{reads}
+use Rattle.hir_lines.proofs.WrittenLines.{reads}
 use Rattle.hir_lines.proofs.laws.line_is_one.Goals as goal
 
 pub returns : goal.returns

@@ -1,4 +1,4 @@
-use Rattle.hir_lines.proofs.Written.{is_written}
+use Rattle.hir_lines.proofs.WrittenLines.{is_written}
 use Rattle.hir_lines.proofs.laws.said_is_written.Goals as goal
 
 pub returns : goal.returns

@@ -1,4 +1,4 @@
-use Rattle.hir_lines.proofs.Written.{reads}
+use Rattle.hir_lines.proofs.WrittenLines.{reads}
 use Rattle.hir_lines.proofs.laws.written_is_said.Goals as goal
 
 pub returns : goal.returns

@@ -30,7 +30,7 @@ returns-then-skip g c =
     let some : length c.args.text.now ≡ 0 → ⊥ = λ none. grind (arith, nat_tests) in
     let mid = c.skip.new.self in
     let words : parts_of 32 text ≡ codes "expr" ∷ mid = sym c.new-words.ensures ∙ c.skip.ensures.yes c.if-skip.true in
-    record { makes = takes_by B.has_self B.has_name B.add c.args.builder.now c.expr.new.builder text (codes "expr") expr_maker mid (not_empty text some) refl refl words c.expr.result c.taken.result (inner_put B.has_self B.has_name B.add c.args.builder.now c.expr.new.builder make.Expr expr mid c.expr.result c.expr.ensures) c.taken.ensures }
+    record { makes = takes_by B.has_self B.has_name B.add c.args.builder.now c.expr.new.builder text (codes "expr") expr_maker mid (not_empty text some) refl refl words c.expr.result c.unless_refused.result (inner_put B.has_self B.has_name B.add c.args.builder.now c.expr.new.builder make.Expr expr mid c.expr.result c.expr.ensures) c.unless_refused.ensures }
 
 pub returns-then-skip-2 : goal.returns-then-skip-2
 returns-then-skip-2 g c =
@@ -39,7 +39,7 @@ returns-then-skip-2 g c =
     let some : length c.args.text.now ≡ 0 → ⊥ = λ none. grind (arith, nat_tests) in
     let mid = c.skip-else-skip.new.self in
     let words : parts_of 32 text ≡ codes "pat" ∷ mid = sym c.new-words.ensures ∙ sym (c.skip.ensures.no c.if-skip.false).0 ∙ c.skip-else-skip.ensures.yes c.if-skip-2.true in
-    record { makes = takes_by B.has_self B.has_name B.add c.args.builder.now c.pat.new.builder text (codes "pat") pat_maker mid (not_empty text some) refl refl words c.pat.result c.taken-then-skip-2.result (inner_put B.has_self B.has_name B.add c.args.builder.now c.pat.new.builder make.Pat pat mid c.pat.result c.pat.ensures) c.taken-then-skip-2.ensures }
+    record { makes = takes_by B.has_self B.has_name B.add c.args.builder.now c.pat.new.builder text (codes "pat") pat_maker mid (not_empty text some) refl refl words c.pat.result c.unless_refused-then-skip-2.result (inner_put B.has_self B.has_name B.add c.args.builder.now c.pat.new.builder make.Pat pat mid c.pat.result c.pat.ensures) c.unless_refused-then-skip-2.ensures }
 
 pub returns-then-skip-3 : goal.returns-then-skip-3
 returns-then-skip-3 g c =
@@ -48,7 +48,7 @@ returns-then-skip-3 g c =
     let some : length c.args.text.now ≡ 0 → ⊥ = λ none. grind (arith, nat_tests) in
     let mid = c.skip-else-skip-2.new.self in
     let words : parts_of 32 text ≡ codes "bind" ∷ mid = sym c.new-words.ensures ∙ sym (c.skip.ensures.no c.if-skip.false).0 ∙ sym (c.skip-else-skip.ensures.no c.if-skip-2.false).0 ∙ c.skip-else-skip-2.ensures.yes c.if-skip-3.true in
-    record { makes = takes_by B.has_self B.has_name B.add c.args.builder.now c.bind.new.builder text (codes "bind") bind mid (not_empty text some) refl refl words c.bind.result c.taken-then-skip-3.result c.bind.ensures c.taken-then-skip-3.ensures }
+    record { makes = takes_by B.has_self B.has_name B.add c.args.builder.now c.bind.new.builder text (codes "bind") bind mid (not_empty text some) refl refl words c.bind.result c.unless_refused-then-skip-3.result c.bind.ensures c.unless_refused-then-skip-3.ensures }
 
 pub returns-then-skip-4 : goal.returns-then-skip-4
 returns-then-skip-4 g c =
@@ -57,7 +57,7 @@ returns-then-skip-4 g c =
     let some : length c.args.text.now ≡ 0 → ⊥ = λ none. grind (arith, nat_tests) in
     let mid = c.skip-else-skip-3.new.self in
     let words : parts_of 32 text ≡ codes "type" ∷ mid = sym c.new-words.ensures ∙ sym (c.skip.ensures.no c.if-skip.false).0 ∙ sym (c.skip-else-skip.ensures.no c.if-skip-2.false).0 ∙ sym (c.skip-else-skip-2.ensures.no c.if-skip-3.false).0 ∙ c.skip-else-skip-3.ensures.yes c.if-skip-4.true in
-    record { makes = takes_by B.has_self B.has_name B.add c.args.builder.now c.make_type.new.builder text (codes "type") type_maker mid (not_empty text some) refl refl words c.make_type.result c.taken-then-skip-4.result (inner_put B.has_self B.has_name B.add c.args.builder.now c.make_type.new.builder make.TypeRef type_ref mid c.make_type.result c.make_type.ensures) c.taken-then-skip-4.ensures }
+    record { makes = takes_by B.has_self B.has_name B.add c.args.builder.now c.make_type.new.builder text (codes "type") type_maker mid (not_empty text some) refl refl words c.make_type.result c.unless_refused-then-skip-4.result (inner_put B.has_self B.has_name B.add c.args.builder.now c.make_type.new.builder make.TypeRef type_ref mid c.make_type.result c.make_type.ensures) c.unless_refused-then-skip-4.ensures }
 
 pub returns-then-skip-5 : goal.returns-then-skip-5
 returns-then-skip-5 g c =
@@ -66,7 +66,7 @@ returns-then-skip-5 g c =
     let some : length c.args.text.now ≡ 0 → ⊥ = λ none. grind (arith, nat_tests) in
     let mid = c.skip-else-skip-4.new.self in
     let words : parts_of 32 text ≡ codes "hygiene" ∷ mid = sym c.new-words.ensures ∙ sym (c.skip.ensures.no c.if-skip.false).0 ∙ sym (c.skip-else-skip.ensures.no c.if-skip-2.false).0 ∙ sym (c.skip-else-skip-2.ensures.no c.if-skip-3.false).0 ∙ sym (c.skip-else-skip-3.ensures.no c.if-skip-4.false).0 ∙ c.skip-else-skip-4.ensures.yes c.if-skip-5.true in
-    record { makes = takes_by B.has_self B.has_name B.add c.args.builder.now c.expr_hygiene.new.builder text (codes "hygiene") expr_hygiene mid (not_empty text some) refl refl words c.expr_hygiene.result c.taken-then-skip-5.result c.expr_hygiene.ensures c.taken-then-skip-5.ensures }
+    record { makes = takes_by B.has_self B.has_name B.add c.args.builder.now c.expr_hygiene.new.builder text (codes "hygiene") expr_hygiene mid (not_empty text some) refl refl words c.expr_hygiene.result c.unless_refused-then-skip-5.result c.expr_hygiene.ensures c.unless_refused-then-skip-5.ensures }
 
 pub returns-then-skip-6 : goal.returns-then-skip-6
 returns-then-skip-6 g c =
@@ -75,7 +75,7 @@ returns-then-skip-6 g c =
     let some : length c.args.text.now ≡ 0 → ⊥ = λ none. grind (arith, nat_tests) in
     let mid = c.skip-else-skip-5.new.self in
     let words : parts_of 32 text ≡ codes "pat-hygiene" ∷ mid = sym c.new-words.ensures ∙ sym (c.skip.ensures.no c.if-skip.false).0 ∙ sym (c.skip-else-skip.ensures.no c.if-skip-2.false).0 ∙ sym (c.skip-else-skip-2.ensures.no c.if-skip-3.false).0 ∙ sym (c.skip-else-skip-3.ensures.no c.if-skip-4.false).0 ∙ sym (c.skip-else-skip-4.ensures.no c.if-skip-5.false).0 ∙ c.skip-else-skip-5.ensures.yes c.if-skip-6.true in
-    record { makes = takes_by B.has_self B.has_name B.add c.args.builder.now c.pat_hygiene.new.builder text (codes "pat-hygiene") pat_hygiene mid (not_empty text some) refl refl words c.pat_hygiene.result c.taken-then-skip-6.result c.pat_hygiene.ensures c.taken-then-skip-6.ensures }
+    record { makes = takes_by B.has_self B.has_name B.add c.args.builder.now c.pat_hygiene.new.builder text (codes "pat-hygiene") pat_hygiene mid (not_empty text some) refl refl words c.pat_hygiene.result c.unless_refused-then-skip-6.result c.pat_hygiene.ensures c.unless_refused-then-skip-6.ensures }
 
 pub returns-then-skip-7 : goal.returns-then-skip-7
 returns-then-skip-7 g c =
@@ -84,7 +84,7 @@ returns-then-skip-7 g c =
     let some : length c.args.text.now ≡ 0 → ⊥ = λ none. grind (arith, nat_tests) in
     let mid = c.skip-else-skip-6.new.self in
     let words : parts_of 32 text ≡ codes "self" ∷ mid = sym c.new-words.ensures ∙ sym (c.skip.ensures.no c.if-skip.false).0 ∙ sym (c.skip-else-skip.ensures.no c.if-skip-2.false).0 ∙ sym (c.skip-else-skip-2.ensures.no c.if-skip-3.false).0 ∙ sym (c.skip-else-skip-3.ensures.no c.if-skip-4.false).0 ∙ sym (c.skip-else-skip-4.ensures.no c.if-skip-5.false).0 ∙ sym (c.skip-else-skip-5.ensures.no c.if-skip-6.false).0 ∙ c.skip-else-skip-6.ensures.yes c.if-skip-7.true in
-    record { makes = takes_by B.has_self B.has_name B.add c.args.builder.now c.self_param.new.builder text (codes "self") self_param mid (not_empty text some) refl refl words c.self_param.result c.taken-then-skip-7.result c.self_param.ensures c.taken-then-skip-7.ensures }
+    record { makes = takes_by B.has_self B.has_name B.add c.args.builder.now c.self_param.new.builder text (codes "self") self_param mid (not_empty text some) refl refl words c.self_param.result c.unless_refused-then-skip-7.result c.self_param.ensures c.unless_refused-then-skip-7.ensures }
 
 pub returns-then-skip-8 : goal.returns-then-skip-8
 returns-then-skip-8 g c =
@@ -93,7 +93,7 @@ returns-then-skip-8 g c =
     let some : length c.args.text.now ≡ 0 → ⊥ = λ none. grind (arith, nat_tests) in
     let mid = c.skip-else-skip-7.new.self in
     let words : parts_of 32 text ≡ codes "param" ∷ mid = sym c.new-words.ensures ∙ sym (c.skip.ensures.no c.if-skip.false).0 ∙ sym (c.skip-else-skip.ensures.no c.if-skip-2.false).0 ∙ sym (c.skip-else-skip-2.ensures.no c.if-skip-3.false).0 ∙ sym (c.skip-else-skip-3.ensures.no c.if-skip-4.false).0 ∙ sym (c.skip-else-skip-4.ensures.no c.if-skip-5.false).0 ∙ sym (c.skip-else-skip-5.ensures.no c.if-skip-6.false).0 ∙ sym (c.skip-else-skip-6.ensures.no c.if-skip-7.false).0 ∙ c.skip-else-skip-7.ensures.yes c.if-skip-8.true in
-    record { makes = takes_by B.has_self B.has_name B.add c.args.builder.now c.param.new.builder text (codes "param") param mid (not_empty text some) refl refl words c.param.result c.taken-then-skip-8.result c.param.ensures c.taken-then-skip-8.ensures }
+    record { makes = takes_by B.has_self B.has_name B.add c.args.builder.now c.param.new.builder text (codes "param") param mid (not_empty text some) refl refl words c.param.result c.unless_refused-then-skip-8.result c.param.ensures c.unless_refused-then-skip-8.ensures }
 
 pub returns-then-skip-9 : goal.returns-then-skip-9
 returns-then-skip-9 g c =
@@ -102,7 +102,7 @@ returns-then-skip-9 g c =
     let some : length c.args.text.now ≡ 0 → ⊥ = λ none. grind (arith, nat_tests) in
     let mid = c.skip-else-skip-8.new.self in
     let words : parts_of 32 text ≡ codes "fn" ∷ mid = sym c.new-words.ensures ∙ sym (c.skip.ensures.no c.if-skip.false).0 ∙ sym (c.skip-else-skip.ensures.no c.if-skip-2.false).0 ∙ sym (c.skip-else-skip-2.ensures.no c.if-skip-3.false).0 ∙ sym (c.skip-else-skip-3.ensures.no c.if-skip-4.false).0 ∙ sym (c.skip-else-skip-4.ensures.no c.if-skip-5.false).0 ∙ sym (c.skip-else-skip-5.ensures.no c.if-skip-6.false).0 ∙ sym (c.skip-else-skip-6.ensures.no c.if-skip-7.false).0 ∙ sym (c.skip-else-skip-7.ensures.no c.if-skip-8.false).0 ∙ c.skip-else-skip-8.ensures.yes c.if-skip-9.true in
-    record { makes = takes_by B.has_self B.has_name B.add c.args.builder.now c.fn_name.new.builder text (codes "fn") fn_name mid (not_empty text some) refl refl words c.fn_name.result c.taken-then-skip-9.result c.fn_name.ensures c.taken-then-skip-9.ensures }
+    record { makes = takes_by B.has_self B.has_name B.add c.args.builder.now c.fn_name.new.builder text (codes "fn") fn_name mid (not_empty text some) refl refl words c.fn_name.result c.unless_refused-then-skip-9.result c.fn_name.ensures c.unless_refused-then-skip-9.ensures }
 
 pub returns-then-skip-10 : goal.returns-then-skip-10
 returns-then-skip-10 g c =
@@ -111,7 +111,7 @@ returns-then-skip-10 g c =
     let some : length c.args.text.now ≡ 0 → ⊥ = λ none. grind (arith, nat_tests) in
     let mid = c.skip-else-skip-9.new.self in
     let words : parts_of 32 text ≡ codes "roots" ∷ mid = sym c.new-words.ensures ∙ sym (c.skip.ensures.no c.if-skip.false).0 ∙ sym (c.skip-else-skip.ensures.no c.if-skip-2.false).0 ∙ sym (c.skip-else-skip-2.ensures.no c.if-skip-3.false).0 ∙ sym (c.skip-else-skip-3.ensures.no c.if-skip-4.false).0 ∙ sym (c.skip-else-skip-4.ensures.no c.if-skip-5.false).0 ∙ sym (c.skip-else-skip-5.ensures.no c.if-skip-6.false).0 ∙ sym (c.skip-else-skip-6.ensures.no c.if-skip-7.false).0 ∙ sym (c.skip-else-skip-7.ensures.no c.if-skip-8.false).0 ∙ sym (c.skip-else-skip-8.ensures.no c.if-skip-9.false).0 ∙ c.skip-else-skip-9.ensures.yes c.if-skip-10.true in
-    record { makes = takes_by B.has_self B.has_name B.add c.args.builder.now c.roots.new.builder text (codes "roots") roots mid (not_empty text some) refl refl words c.roots.result c.taken-then-skip-10.result c.roots.ensures c.taken-then-skip-10.ensures }
+    record { makes = takes_by B.has_self B.has_name B.add c.args.builder.now c.roots.new.builder text (codes "roots") roots mid (not_empty text some) refl refl words c.roots.result c.unless_refused-then-skip-10.result c.roots.ensures c.unless_refused-then-skip-10.ensures }
 
 pub returns-then-skip-11 : goal.returns-then-skip-11
 returns-then-skip-11 g c =
@@ -120,7 +120,7 @@ returns-then-skip-11 g c =
     let some : length c.args.text.now ≡ 0 → ⊥ = λ none. grind (arith, nat_tests) in
     let mid = c.skip-else-skip-10.new.self in
     let words : parts_of 32 text ≡ codes "root" ∷ mid = sym c.new-words.ensures ∙ sym (c.skip.ensures.no c.if-skip.false).0 ∙ sym (c.skip-else-skip.ensures.no c.if-skip-2.false).0 ∙ sym (c.skip-else-skip-2.ensures.no c.if-skip-3.false).0 ∙ sym (c.skip-else-skip-3.ensures.no c.if-skip-4.false).0 ∙ sym (c.skip-else-skip-4.ensures.no c.if-skip-5.false).0 ∙ sym (c.skip-else-skip-5.ensures.no c.if-skip-6.false).0 ∙ sym (c.skip-else-skip-6.ensures.no c.if-skip-7.false).0 ∙ sym (c.skip-else-skip-7.ensures.no c.if-skip-8.false).0 ∙ sym (c.skip-else-skip-8.ensures.no c.if-skip-9.false).0 ∙ sym (c.skip-else-skip-9.ensures.no c.if-skip-10.false).0 ∙ c.skip-else-skip-10.ensures.yes c.if-skip-11.true in
-    record { makes = takes_by B.has_self B.has_name B.add c.args.builder.now c.root.new.builder text (codes "root") root mid (not_empty text some) refl refl words c.root.result c.taken-then-skip-11.result c.root.ensures c.taken-then-skip-11.ensures }
+    record { makes = takes_by B.has_self B.has_name B.add c.args.builder.now c.root.new.builder text (codes "root") root mid (not_empty text some) refl refl words c.root.result c.unless_refused-then-skip-11.result c.root.ensures c.unless_refused-then-skip-11.ensures }
 
 pub returns-else-skip-11 : goal.returns-else-skip-11
 returns-else-skip-11 g c =

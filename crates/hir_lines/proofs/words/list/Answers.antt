@@ -6,13 +6,13 @@ use Rattle.std.proofs.lemmas.Result.{err_from_is_err_and}
 use Rattle.hir_lines.specs.Numerals.{number_of}
 use Rattle.hir_lines.specs.Readings.{all_of, comma, parts_of}
 use Rattle.hir_lines.specs.Words.{list_of}
-use Rattle.hir_lines.proofs.Keeping.{all_read, begun, list_otherwise, none_read, read_more, some_left}
+use Rattle.hir_lines.proofs.Keeping.{all_read, all_of_itself, list_otherwise, none_read, read_more, some_left}
 use Rattle.hir_lines.proofs.words.list.Goals as goal
 
 pub loop-numbers-init : goal.loop-numbers-init
 loop-numbers-init g c = (
   [],
-  ap (λ (ws : List (List ℕ)). option_map {T = List ℕ} {U = List ℕ} (λ xs. [] ++ xs) (all_of number_of ws)) c.new-numbers.ensures ∙ begun number_of (parts_of comma c.args.word.now),
+  ap (λ (ws : List (List ℕ)). option_map {T = List ℕ} {U = List ℕ} (λ xs. [] ++ xs) (all_of number_of ws)) c.new-numbers.ensures ∙ all_of_itself number_of (parts_of comma c.args.word.now),
   c.new-kept.ensures,
 )
 

@@ -2,7 +2,7 @@ use Rattle.std.proofs.Common.{map, length}
 use Rattle.hir_items.specs.Bodies.{formals_of}
 use Rattle.hir_pretty.specs.Questions.{Setting}
 use Rattle.hir_pretty.specs.Items.{p, comma_joined}
-use Rattle.hir_print_defs.specs.Added.{listed, Left}
+use Rattle.hir_print_defs.specs.AddedItems.{listed, Left}
 use Rattle.hir_print_defs.proofs.bodies.add_formals.Given as goal
 
 abbrev pub invariant-loop-left : goal.invariant-loop-left

@@ -1,6 +1,6 @@
 use Rattle.std.proofs.Common.{length}
 use Rattle.hir_pretty.specs.Questions.{Setting}
-use Rattle.hir_print_defs.specs.Added.{listed, Left}
+use Rattle.hir_print_defs.specs.AddedItems.{listed, Left}
 use Rattle.hir_print_defs.specs.Signatures.{each_predicate}
 use Rattle.hir_print_defs.proofs.generics.add_each_predicate.Given as goal
 

@@ -2,7 +2,7 @@ use Rattle.std.proofs.Common.{◌∙◌, ap, codes, false}
 use Rattle.hir_generics.specs.declared.data.LifetimeParamData.{LifetimeParamData}
 use Rattle.hir_pretty.specs.Items.{text}
 use Rattle.hir_pretty.specs.Names.{name_items}
-use Rattle.hir_print_defs.specs.Added.{following}
+use Rattle.hir_print_defs.specs.AddedItems.{following}
 use Rattle.hir_print_defs.proofs.ListLemmas.{left_begins_as, map_second}
 use Rattle.hir_print_defs.proofs.generics.add_lifetimes.Goals as goal
 

@@ -3,7 +3,7 @@ use Rattle.hir_generics.specs.declared.data.LifetimeParamData.{LifetimeParamData
 use Rattle.hir_pretty.specs.Questions.{Setting}
 use Rattle.hir_pretty.specs.Items.{text}
 use Rattle.hir_pretty.specs.Names.{name_items}
-use Rattle.hir_print_defs.specs.Added.{listed, Left, following}
+use Rattle.hir_print_defs.specs.AddedItems.{listed, Left, following}
 use Rattle.hir_print_defs.specs.Signatures.{each_lifetime}
 use Rattle.hir_print_defs.proofs.generics.add_lifetimes.Given as goal
 

@@ -2,7 +2,7 @@ use Rattle.std.proofs.Common.{codes}
 use Rattle.std.specs.List.{enumerate_from}
 use Rattle.hir_pretty.specs.Questions.{Setting}
 use Rattle.hir_pretty.specs.Items.{text}
-use Rattle.hir_print_defs.specs.Added.{listed, Left, following}
+use Rattle.hir_print_defs.specs.AddedItems.{listed, Left, following}
 use Rattle.hir_print_defs.specs.Signatures.{each_type_or_const}
 use Rattle.hir_print_defs.proofs.generics.add_types_and_consts.Given as goal
 

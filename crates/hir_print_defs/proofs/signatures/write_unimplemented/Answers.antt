@@ -1,5 +1,5 @@
 use Rattle.hir_page.specs.Writes.{written, refused, all_written}
-use Rattle.hir_print_defs.proofs.OtherLemmas.{stopped, one_then, writes_err}
+use Rattle.hir_print_defs.proofs.OtherLemmas.{refusal_goes_on, one_then, writes_err}
 use Rattle.hir_print_defs.proofs.signatures.write_unimplemented.Goals as goal
 
 pub returns-in_err-text : goal.returns-in_err-text
@@ -13,7 +13,7 @@ returns-in_err-text-3 g c = writes_err _ c.from_residual-in_err-text-3.ensures.0
 
 pub returns-in_err-write_number : goal.returns-in_err-write_number
 returns-in_err-write_number g c =
-    writes_err _ c.from_residual-in_err-write_number.ensures.0 (written c.in_ok-text.ensures (written c.in_ok-text-2.ensures (written c.in_ok-text-3.ensures (stopped _ c.in_err-write_number.ensures))))
+    writes_err _ c.from_residual-in_err-write_number.ensures.0 (written c.in_ok-text.ensures (written c.in_ok-text-2.ensures (written c.in_ok-text-3.ensures (refusal_goes_on _ c.in_err-write_number.ensures))))
 
 pub returns-in_err-text-4 : goal.returns-in_err-text-4
 returns-in_err-text-4 g c =

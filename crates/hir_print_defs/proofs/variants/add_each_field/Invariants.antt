@@ -1,7 +1,7 @@
 use Rattle.std.proofs.Common.{length}
 use Rattle.std.specs.List.{flat_map}
 use Rattle.hir_pretty.specs.Questions.{Setting}
-use Rattle.hir_print_defs.specs.Added.{listed, Left}
+use Rattle.hir_print_defs.specs.AddedItems.{listed, Left}
 use Rattle.hir_print_defs.specs.Variants.{field_line}
 use Rattle.hir_print_defs.proofs.variants.add_each_field.Given as goal
 

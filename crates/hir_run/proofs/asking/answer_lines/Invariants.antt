@@ -7,8 +7,8 @@ abbrev pub invariant-loop-left : goal.invariant-loop-left
 invariant-loop-left g l = record {
   same_asked : l.asked ≡ l.fn.asked;
   same_sink : l.output.writer.ghost_name ≡ l.fn.output.writer.ghost_name;
-  same_read_mark : g.R.Source.failed l.reader ≡ g.R.Source.failed l.fn.reader;
-  unfailed : g.W.Sink.failed l.output.writer.now ≡ false;
+  same_read_mark : g.R.Source.is_failed l.reader ≡ g.R.Source.is_failed l.fn.reader;
+  unfailed : g.W.Sink.is_failed l.output.writer.now ≡ false;
   falls : length l.lines.pending + g.R.Source.allowance l.reader + l.lines.count
       ≤ length l.fn.lines.pending + g.R.Source.allowance l.fn.reader + l.fn.lines.count;
   stays_ended : l.fn.lines.at_end ≡ true → l.lines.at_end ≡ true;

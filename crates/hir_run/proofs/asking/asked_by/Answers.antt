@@ -1,6 +1,6 @@
 use Rattle.std.proofs.Common.{refl}
 use Rattle.hir_lines.specs.Line.{line_of}
-use Rattle.hir_run.proofs.Taken.{question_of}
+use Rattle.hir_run.proofs.TakingLemmas.{question_of}
 use Rattle.hir_run.proofs.asking.asked_by.Goals as goal
 
 pub returns-in-Ok : goal.returns-in-Ok

@@ -84,7 +84,7 @@ returns-then-not-branch-clause-builds g c =
 pub returns-then-not-branch-clause-failure : goal.returns-then-not-branch-clause-failure
 returns-then-not-branch-clause-failure g c =
     let told = c.in_ok-next_line.ensures {u = tt} in
-    told.input_failure ∙ c.loop-alloc.invariant.same_mark ∙ sym (ap (λ b. b || g.R.Source.failed c.args.reader.now) (asked_reads_none c.next_line.new.lines c.asked_by.result c.asked_by.ensures))
+    told.input_failure ∙ c.loop-alloc.invariant.same_mark ∙ sym (ap (λ b. b || g.R.Source.is_failed c.args.reader.now) (asked_reads_none c.next_line.new.lines c.asked_by.result c.asked_by.ensures))
 
 pub returns-clause-builds : goal.returns-clause-builds
 returns-clause-builds g c =

@@ -8,7 +8,7 @@ use Rattle.hir_run.proofs.building.build.Given as goal
 abbrev pub invariant-loop-alloc : goal.invariant-loop-alloc
 invariant-loop-alloc g l = record {
   same_sink : l.output.writer.ghost_name ≡ l.fn.output.writer.ghost_name;
-  same_mark : g.R.Source.failed l.reader ≡ g.R.Source.failed l.fn.reader;
+  same_mark : g.R.Source.is_failed l.reader ≡ g.R.Source.is_failed l.fn.reader;
   untouched : output_of g.W.Sink l.output ≡ output_of g.W.Sink l.fn.output;
   falls : length l.lines.pending + g.R.Source.allowance l.reader + l.lines.count
       ≤ length l.fn.lines.pending + g.R.Source.allowance l.fn.reader + l.fn.lines.count;

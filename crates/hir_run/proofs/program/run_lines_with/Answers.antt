@@ -13,7 +13,7 @@ returns-in_default g c =
 pub returns : goal.returns
 returns g c =
     let done = c.answer_script-outcome in
-    let start : Output = record { sink_name = c.args.writer.ghost_name; contents = g.W.Sink.contents c.args.writer.now; failed = g.W.Sink.failed c.args.writer.now; waiting = c.in-Ok.waiting } in
+    let start : Output = record { sink_name = c.args.writer.ghost_name; contents = g.W.Sink.contents c.args.writer.now; failed = g.W.Sink.is_failed c.args.writer.now; waiting = c.in-Ok.waiting } in
     let p = place_of g.R.Source g.W.Sink done.new.lines done.new.reader done.new.output in
     let new = output_of g.W.Sink c.close.new.self in (
       closes (g.R.Source.remaining c.args.reader.now) start p new done.result c.close.result c.in-Ok.ensures done.ensures.runs c.close.ensures.closes,

@@ -2,7 +2,7 @@ use Rattle.std.proofs.Common.{sym, subst}
 use Rattle.hir_expr_store.specs.Under.{LieApart}
 use Rattle.hir_items.specs.Bodies.{tops}
 use Rattle.hir_items.specs.Signatures.{root_tops}
-use Rattle.hir_scope.specs.Built.{tops_of_body, tops_of_signature}
+use Rattle.hir_scope.specs.BodyScopes.{tops_of_body, tops_of_signature}
 use Rattle.hir_scope.proofs.BeginLemmas.{body_same, signature_same, roots_there}
 use Rattle.hir_scope.proofs.UnderLemmas.{places_there}
 use Rattle.hir_scope.proofs.UniqueLemmas.{one_chain}

@@ -1,5 +1,5 @@
 use Rattle.hir_base.specs.Exact.{exact}
-use Rattle.hir_source.specs.same.SameCompared.{compared_equiv}
+use Rattle.hir_source.specs.same.SameComparedPart.{compared_equiv}
 use Rattle.hir_source.specs.same.SameDiagnostics.{diagnostics_decide}
 use Rattle.hir_source.specs.same.SameMaps.{maps_decide}
 use Rattle.hir_source.proofs.laws.equality_is_of_the_compared_part.Goals as goal

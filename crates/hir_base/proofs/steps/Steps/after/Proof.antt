@@ -33,8 +33,8 @@ use Rattle.hir_base.proofs.steps.Steps.after.Statement as stated
 use Rattle.hir_base.proofs.steps.Steps.after.Code as code
 use Rattle.hir_base.specs.contracts.steps.Steps as steps
 
-abbrev stayed : Stays (f.ended).signature.params (f.ended).kept
-stayed = (stay_none_ref (0 ∷ []) tt (plain (λ _. steps.the_row)) yes, tt)
+abbrev stays : Stays (f.ended).signature.params (f.ended).kept
+stays = (stay_none_ref (0 ∷ []) tt (plain (λ _. steps.the_row)) yes, tt)
 
 module _ {M : Type 1} {𝓤 : Ura M} (𝓛 : Logic 𝓤) (mem : Memory → SProp 𝓤) (run : Routine → Fun 𝓤) (C : Calls 𝓤 𝓛.H) (Λ : Loops 𝓤 𝓛.H) where
   open 𝓛 use {H}
@@ -43,32 +43,32 @@ module _ {M : Type 1} {𝓤 : Ura M} (𝓛 : Logic 𝓤) (mem : Memory → SProp
     abbrev before : Val
     before = vptr a.0.ref_ptr.0 a.0.ref_ptr.1
 
-    abbrev bound : (walk_of 𝓛 f.ended stayed (f.clauses 𝓛 mem run)).Ghost
+    abbrev bound : (walk_of 𝓛 f.ended stays (f.clauses 𝓛 mem run)).Ghost
     bound = ((κs, qs, tt, a, (before ∷ [], tt)), tt)
 
     abbrev passed : Fml
     passed = owns (types_at f.signature.params κs) a (before ∷ [], tt)
 
     walk : ent 𝓤 (on_entry 𝓛 f.signature κs qs a (before ∷ [], tt))
-        (WpFn 𝓤 H C Λ code.function (before ∷ []) ((walk_of 𝓛 f.ended stayed (f.clauses 𝓛 mem run)).post bound))
+        (WpFn 𝓤 H C Λ code.function (before ∷ []) ((walk_of 𝓛 f.ended stays (f.clauses 𝓛 mem run)).post bound))
     walk =
         qed 𝓛 (raw (alive 𝓛 f.signature κs qs) ∷ ‵ passed ∷ []) ∵ enter ! C Λ code.function (before ∷ []) _ $
         alloc_all ! (λ l. pass_all ! refl ((tt, tt), tt) $ sets ! (agg ! (no_more !)) refl (tt, tt) $
         returns ! (look_at ! 0 refl) $ free_all ! refl $
-        suffices ! _ (ends_at 𝓛 f.ended stayed (f.clauses 𝓛 mem run) bound (vstruct vnil) (a.0.now + 1) (tt, tt) (tt, tt)) $
+        suffices ! _ (ends_at 𝓛 f.ended stays (f.clauses 𝓛 mem run) bound (vstruct vnil) (a.0.now + 1) (tt, tt) (tt, tt)) $
         says ! refl $ pure_i ! (steps.the_row.own_val (a.0.now + 1) (vstruct vnil ∷ [])) (λ _. (((λ vss. (tt, tt)), tt), tt)) ((record { count = a.0.now + 1 }, (refl, tt)), (((tt, (refl, tt)), tt), tt)) $
         move ! (1 ∷ 2 ∷ 0 ∷ []) $ done !)
 
-  walks : Walks 𝓛 f.ended stayed (WpFn 𝓤 H C Λ code.function) (f.clauses 𝓛 mem run)
+  walks : Walks 𝓛 f.ended stays (WpFn 𝓤 H C Λ code.function) (f.clauses 𝓛 mem run)
   walks =
-      walked 𝓛 f.ended stayed (f.clauses 𝓛 mem run) (WpFn 𝓤 H C Λ code.function) (λ κs. (shr_vals, tt))
+      walked 𝓛 f.ended stays (f.clauses 𝓛 mem run) (WpFn 𝓤 H C Λ code.function) (λ κs. (shr_vals, tt))
       (λ κs. (shr_Tells (named 0) κs.0 steps.the_row, tt))
       (λ κs qs bounds a g are. via 𝓤 _ (fst∗ 𝓤 _ (emp 𝓤)) (walk κs qs a))
 
 meets : {M : Type 1} {𝓤 : Ura M} (𝓛 : Logic 𝓤) (mem : Memory → SProp 𝓤) (run : Routine → Fun 𝓤) (𝓣 : Tables 𝓤 𝓛.H)
     → Meets 𝓛 f.signature (WpFn 𝓤 𝓛.H 𝓣.C 𝓣.Λ code.function) (f.spec 𝓛 mem run)
 meets {𝓤 = 𝓤} 𝓛 mem run 𝓣 =
-    walk_Meets 𝓛 f.ended stayed (Goes-none_ref 𝓛 1 (0 ∷ []) tt (plain (λ _. steps.the_row)) yes, tt) (f.clauses 𝓛 mem run) (WpFn 𝓤 𝓛.H 𝓣.C 𝓣.Λ code.function)
+    walk_Meets 𝓛 f.ended stays (Goes-none_ref 𝓛 1 (0 ∷ []) tt (plain (λ _. steps.the_row)) yes, tt) (f.clauses 𝓛 mem run) (WpFn 𝓤 𝓛.H 𝓣.C 𝓣.Λ code.function)
     (WpFn-mono 𝓤 𝓛.H 𝓛.laws 𝓣 code.function) (walks 𝓛 mem run 𝓣.C 𝓣.Λ)
 
 pub after_spec : {M : Type 1} → stated.statement M

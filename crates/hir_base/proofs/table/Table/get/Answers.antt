@@ -6,5 +6,5 @@ use Rattle.hir_base.proofs.table.Table.get.Goals as goal
 pub returns : goal.returns
 returns g c =
     c.get.ensures.value
-    ∙ sym (get-table_of g.K.Keyed.code g.K.PartialEq.eq g.met.K.Keyed.code_tells c.args.key.now c.self.inside.entries.entries)
-    ∙ ap (λ m. map.get m (g.K.Keyed.code c.args.key.now)) c.self.view_is
+    ∙ sym (get-table_of g.K.HasCode.code g.K.PartialEq.eq g.met.K.HasCode.code_tells c.args.key.now c.self.inside.entries.entries)
+    ∙ ap (λ m. map.get m (g.K.HasCode.code c.args.key.now)) c.self.view_is

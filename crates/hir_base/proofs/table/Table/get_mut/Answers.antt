@@ -6,8 +6,8 @@ use Rattle.hir_base.proofs.table.Table.get_mut.Goals as goal
 
 pub returns : goal.returns
 returns g c =
-    let code = g.K.Keyed.code in
-    let tells = g.met.K.Keyed.code_tells in
+    let code = g.K.HasCode.code in
+    let tells = g.met.K.HasCode.code_tells in
     let entries = c.self.inside.entries.entries in (
       (
         refl,

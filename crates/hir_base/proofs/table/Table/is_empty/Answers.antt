@@ -5,8 +5,8 @@ use Rattle.hir_base.proofs.table.Table.is_empty.Goals as goal
 
 pub returns-clause-none : goal.returns-clause-none
 returns-clause-none g c =
-    let code = g.K.Keyed.code in
-    let tells = g.met.K.Keyed.code_tells in
+    let code = g.K.HasCode.code in
+    let tells = g.met.K.HasCode.code_tells in
     let entries = c.self.inside.entries.entries in (
       λ h. sym c.self.view_is ∙ none_left code g.K.PartialEq.eq tells entries (c.is_empty.ensures.0 h),
       λ e. c.is_empty.ensures.1 (none_there code g.K.PartialEq.eq tells entries (c.self.view_is ∙ e)),

@@ -5,7 +5,7 @@ use Rattle.hir_base.proofs.table.TableClone.clone.Goals as goal
 pub returns : goal.returns
 returns g c = record {
   cases =
-      table_of-clone g.K.Keyed.code g.K.Clone.is_clone g.V.Clone.is_clone g.met.K.TryClone.clone_is_same g.met.V.TryClone.clone_is_same
+      table_of-clone g.K.HasCode.code g.K.Clone.is_clone g.V.Clone.is_clone g.met.K.TryClone.clone_is_same g.met.V.TryClone.clone_is_same
       c.self.inside.entries.entries c.in_ok-clone.field-0.entries c.in_ok-clone.ensures.cases
       ∙ c.self.view_is;
 }

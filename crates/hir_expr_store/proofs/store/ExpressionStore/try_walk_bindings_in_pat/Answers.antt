@@ -3,7 +3,7 @@ use Rattle.std.specs.List.{flat_map}
 use Rattle.hir_faults.proofs.SoundLemmas.{sound_falls}
 use Rattle.hir_expr_store.specs.Contents.{rooted_of}
 use Rattle.hir_expr_store.specs.PatLists.{bindings_at}
-use Rattle.hir_expr_store.specs.Turns.{pat_of, turns, entered}
+use Rattle.hir_expr_store.specs.Turns.{pat_of, turns, entered_pat}
 use Rattle.hir_expr_store.proofs.TurnLemmas.{turns_there, bindings_of_turns}
 use Rattle.hir_expr_store.proofs.WalkLemmas.{may_those}
 use Rattle.hir_expr_store.proofs.TryLemmas.{turns_through, turns_keep, tries_to}
@@ -19,7 +19,7 @@ pub returns-clause-runs : goal.returns-clause-runs
 returns-clause-runs g c =
     let fall = sound_falls (rooted_of c.args.self.now) c.has_no_fault.ensures in
     let top = turns c.args.self.now.nodes c.args.id in
-    let all = turns_through (λ p x r q. goal.F-step g p x r q) (λ v. v.f.now) (λ t. flat_map (bindings_at c.args.self.now.nodes) (entered t)) (λ v. v.store ≡ c.args.self)
+    let all = turns_through (λ p x r q. goal.F-step g p x r q) (λ v. v.f.now) (λ t. flat_map (bindings_at c.args.self.now.nodes) (entered_pat t)) (λ v. v.store ≡ c.args.self)
     (λ v w t r h s. (rw h at s.0, s.2 ∙ h)) top c.walk_turns.result refl c.walk_turns.ensures in
     let same = sym (turns_keep (λ v. v.f.ghost_name) (λ v w t r s. s.3) top c.walk_turns.result c.walk_turns.ensures) in
     tries_to (search (rules, same)) (rw (bindings_of_turns c.args.self.now.nodes fall c.args.id c.requires.there) at all.0)
@@ -27,7 +27,7 @@ returns-clause-runs g c =
 pub returns-clause-callable : goal.returns-clause-callable
 returns-clause-callable g c =
     let top = turns c.args.self.now.nodes c.args.id in
-    let all = turns_through (λ p x r q. goal.F-step g p x r q) (λ v. v.f.now) (λ t. flat_map (bindings_at c.args.self.now.nodes) (entered t)) (λ v. goal.F-IsAlwaysCallable g v.f.now × (v.store ≡ c.args.self))
+    let all = turns_through (λ p x r q. goal.F-step g p x r q) (λ v. v.f.now) (λ t. flat_map (bindings_at c.args.self.now.nodes) (entered_pat t)) (λ v. goal.F-IsAlwaysCallable g v.f.now × (v.store ≡ c.args.self))
     (λ v w t r h s. (rw h.1 at s.0, (s.1, s.2 ∙ h.1))) top c.walk_turns.result (c.requires.callable, refl) c.walk_turns.ensures in
     let same = sym (turns_keep (λ v. v.f.ghost_name) (λ v w t r s. s.3) top c.walk_turns.result c.walk_turns.ensures) in
     let left = all.1.0 in

@@ -3,7 +3,7 @@ use Rattle.std.specs.Prelude.{slice_range}
 use Rattle.std.specs.Vec.{with_items}
 use Rattle.std.proofs.lemmas.List.{with_items_is, places}
 use borrow.Rule.Slice.PartMut.{put_mid}
-use Rattle.hir_io.proofs.Held.{moved_front, read_behind, is_with_bytes}
+use Rattle.hir_io.proofs.HeldBytes.{moved_front, read_behind, is_with_bytes}
 use Rattle.hir_io.proofs.Ranges.{range_none}
 use Rattle.hir_io.proofs.lines.LineReader.fill.Goals as goal
 

@@ -1,6 +1,6 @@
 use Rattle.std.proofs.Common.{◌≤◌, length, refl, arith, inl, inr}
 use Rattle.hir_io.proofs.Ranges.{length_range, range_none}
-use Rattle.hir_io.proofs.Held.{no_end_on, found_line, found_rest}
+use Rattle.hir_io.proofs.HeldBytes.{no_end_on, found_line, found_rest}
 use Rattle.hir_io.proofs.lines.LineReader.take_line.Goals as goal
 
 pub invariant_of-self-then-not-self : goal.invariant_of-self-then-not-self

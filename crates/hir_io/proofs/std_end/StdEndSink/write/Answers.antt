@@ -1,4 +1,4 @@
-use Rattle.hir_io.proofs.Told.{Appends-behind, write_done}
+use Rattle.hir_io.proofs.StdEndLemmas.{Appends-behind, write_done}
 use Rattle.hir_io.proofs.std_end.StdEndSink.write.Goals as goal
 
 pub returns-in-Done-clause-bytes : goal.returns-in-Done-clause-bytes

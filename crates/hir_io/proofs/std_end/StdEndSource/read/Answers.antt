@@ -1,5 +1,5 @@
 use Rattle.std.proofs.Common.{◌≡◌}
-use Rattle.hir_io.proofs.Told.{Consumes-told, IsAtEnd-told, read_done}
+use Rattle.hir_io.proofs.StdEndLemmas.{Consumes-told, IsAtEnd-told, read_done}
 use Rattle.hir_io.proofs.std_end.StdEndSource.read.Goals as goal
 
 pub returns-in-Done-clause-bytes : goal.returns-in-Done-clause-bytes

@@ -7,7 +7,7 @@ use Rattle.hir_lines.proofs.words.Words.each.Given as goal
 -- what was read so far: it is kept, if anything is
 abbrev pub invariant-loop-self : goal.invariant-loop-self
 invariant-loop-self g l =
-    (items : List g.row.T.Denot) × (option_map (λ xs. items ++ xs) (all_of g.T.Word.said l.self) ≡ all_of g.T.Word.said l.fn.self) × IfOk l.kept (λ v. v ≡ items)
+    (items : List g.row.T.Denot) × (option_map (λ xs. items ++ xs) (all_of g.T.Word.meaning l.self) ≡ all_of g.T.Word.meaning l.fn.self) × IfOk l.kept (λ v. v ≡ items)
 
 abbrev pub decreases-loop-self : goal.decreases-loop-self
 decreases-loop-self g l = length l.self

@@ -1,7 +1,7 @@
 use Rattle.std.proofs.Common.{◌<◌, ◌++◌, length, sym, ap, ◌∙◌, arith}
 use Rattle.std.proofs.lemmas.Bool.Decides.{nat_tests}
 use Rattle.hir_page.specs.declared.line_format.LineFormat.{LineFormat}
-use Rattle.hir_page.specs.Page.{Page, begun, format_in_line}
+use Rattle.hir_page.specs.Page.{Page, begin, format_in_line}
 use Rattle.hir_page.proofs.PageLemmas.{put_line, begun_format}
 use Rattle.hir_page.proofs.GrownLemmas.{grown_begun, grown_same, on_err}
 use Rattle.hir_page.proofs.buffer.PageBuffer.line.Goals as goal
@@ -15,7 +15,7 @@ returns-in_ok-add-clause-ok c =
     let set : LineFormat → Page → Page = λ f q. record q { format = f } in
     let added = c.self.view_is ∙ c.in_ok-add.ensures.ok ∙ ap with_line c.in_ok-begin.ensures.ok in
     let format = c.in_line-self-inside.ensures ∙ ap format_in_line (ap (λ (q : Page). q.format) added ∙ begun_format p) in
-    ap (set c.in_line-self-inside.result) added ∙ ap (λ f. set f (with_line (begun p))) format ∙ sym (put_line p line some c.requires)
+    ap (set c.in_line-self-inside.result) added ∙ ap (λ f. set f (with_line (begin p))) format ∙ sym (put_line p line some c.requires)
 
 pub returns-in_err-add-clause-err : goal.returns-in_err-add-clause-err
 returns-in_err-add-clause-err c = on_err _ (grown_same (grown_same (grown_begun c.args.self.now) c.in_ok-begin.ensures.ok) c.in_err-add.ensures.err)

@@ -7,8 +7,8 @@ use Rattle.hir_source.specs.Sources.{has_news}
 use Rattle.hir_source.proofs.source_map_builder.SourceMapBuilder.finish.Goals as goal
 use Rattle.hir_source.proofs.source_map_builder.SourceMapBuilder.finish.Goals.{then-keeps_nodes, else-keeps_nodes, then-has_news, else-has_news}
 
-abbrev made : Option ExprSources → TypeSources → ExpressionStoreSourceMap
-made exprs types = record { exprs = exprs; types = types }
+abbrev map_of_parts : Option ExprSources → TypeSources → ExpressionStoreSourceMap
+map_of_parts exprs types = record { exprs = exprs; types = types }
 
 pub returns : goal.returns
 returns c =
@@ -21,4 +21,4 @@ returns c =
       | then-has_news w ↦ w.exprs-is ∙ sym (ap (λ (b : Bool). cond b (Some part) None) (sym keeps ∙ w.if-has_news.true))
       | else-has_news w ↦ w.exprs-is ∙ sym (ap (λ (b : Bool). cond b (Some part) None) (sym keeps ∙ w.if-has_news.false))
     ] in
-    ap (λ (exprs : Option ExprSources). made exprs c.args.self.types) kept
+    ap (λ (exprs : Option ExprSources). map_of_parts exprs c.args.self.types) kept

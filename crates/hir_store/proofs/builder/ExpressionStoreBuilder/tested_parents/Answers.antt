@@ -14,7 +14,7 @@ pub returns-clause-ok : goal.returns-clause-ok
 returns-clause-ok c =
     let b = building_of c.args.self.now in
     IfOk-weaker c.tested_parents.result _ _ (λ parents h. (
-      has_roots b None (c.has_roots.ensures.0 c.if-not-has_roots.false) (rw (c.nodes.ensures.nodes, c.listed.ensures) at h.0),
+      has_roots b None (c.has_roots.ensures.0 c.if-not-has_roots.false) (rw (c.nodes.ensures.nodes, c.listed_roots.ensures) at h.0),
       subst (λ (s : Nodes). HasParents (graph s) parents.parents) c.nodes.ensures.nodes h.1,
     )) c.tested_parents.ensures.ok
 
@@ -22,4 +22,4 @@ pub returns-clause-err : goal.returns-clause-err
 returns-clause-err c =
     let b = building_of c.args.self.now in
     IfErr-weaker c.tested_parents.result _ _ (λ fault. ⊎_elim inl (λ h. inr (has_roots b (Some fault) (c.has_roots.ensures.0 c.if-not-has_roots.false) h)))
-    (rw (c.nodes.ensures.nodes, c.listed.ensures) at c.tested_parents.ensures.err)
+    (rw (c.nodes.ensures.nodes, c.listed_roots.ensures) at c.tested_parents.ensures.err)

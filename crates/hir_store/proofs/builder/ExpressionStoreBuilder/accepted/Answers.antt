@@ -1,6 +1,0 @@
-use Rattle.hir_store.specs.Building.{finish_fault}
-use Rattle.hir_store.proofs.builder.ExpressionStoreBuilder.accepted.Goals as goal
-
-pub new-store-requires : goal.new-store-requires
-unfolding finish_fault
-new-store-requires c = record { sound = rw c.roots_or_empty.ensures (c.requires.sound.1); parents = c.requires.parents; links = c.requires.links }
