@@ -17,7 +17,7 @@ abbrev pub output_of : {W : Type 0} → Ghosts W → code.Output W → Output
 output_of w o = record {
   sink_name = o.writer.ghost_name;
   contents = w.contents o.writer.now;
-  failed = w.failed o.writer.now;
+  failed = w.is_failed o.writer.now;
   waiting = o.waiting;
 }
 

@@ -22,7 +22,7 @@ place_of r w lines reader output = record {
   lines = lines;
   remaining = r.remaining reader;
   allowance = r.allowance reader;
-  failed = r.failed reader;
+  failed = r.is_failed reader;
   output = output_of w output;
 }
 

@@ -68,11 +68,11 @@ no_lines = record { line = []; pending = []; at_end = false; count = 0 }
 
 -- neither a read nor a write has failed
 abbrev pub Unfailed : {R W : Type 0} → source.Ghosts R → sink.Ghosts W → R → W → Type 0
-Unfailed r w reader writer = (r.failed reader ≡ false) × (w.failed writer ≡ false)
+Unfailed r w reader writer = (r.is_failed reader ≡ false) × (w.is_failed writer ≡ false)
 
 -- what a run does from one source and sink to another, where these lines were taken: one of them has failed where the outcome says so
 abbrev pub IsRun : {R W : Type 0} → source.Ghosts R → sink.Ghosts W → R → R → W → W → LineState
     → Outcome → Type 0
 IsRun r w reader reader' writer writer' taken outcome =
     RunsTo (r.remaining reader) (w.contents writer) (r.remaining reader') (w.contents writer') taken outcome
-    × (r.failed reader' ≡ is_input_failed outcome) × (w.failed writer' ≡ is_output_failed outcome)
+    × (r.is_failed reader' ≡ is_input_failed outcome) × (w.is_failed writer' ≡ is_output_failed outcome)

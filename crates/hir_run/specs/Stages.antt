@@ -134,12 +134,12 @@ module _ (may : Question → Bool) (Is : Question → List ℕ → Type 0) where
   -- all lines that are left were answered; or all before a question that may not be asked here, the first or a later one
   abbrev pub AsksUpTo : Place → Place → Question → Option Question → Type 0
   AsksUpTo old new first None =
-      (texts : List (List ℕ)) × Answered (asked first texts) old.output new.output
+      (texts : List (List ℕ)) × Answered (section_from first texts) old.output new.output
       × ReadsAll (unread old) texts × (new.lines.count ≡ old.lines.count + length texts)
   AsksUpTo old new first (Some question) =
       (may question ≡ false)
       × (((question ≡ first) × (new ≡ old))
-      ⊎ ((texts : List (List ℕ)) × (text : List ℕ) × Answered (asked first texts) old.output new.output
+      ⊎ ((texts : List (List ℕ)) × (text : List ℕ) × Answered (section_from first texts) old.output new.output
       × (text ≡ new.lines.line) × (line_of text ≡ Ask question)
       × Reads (unread old) (texts ++ text ∷ []) (unread new) new.lines.at_end
       × (old.lines.at_end ≡ true → new.lines.at_end ≡ true)
@@ -150,14 +150,14 @@ module _ (may : Question → Bool) (Is : Question → List ℕ → Type 0) where
   Asks old new first result =
       Ends (AsksUpTo old new first)
       (λ number. (texts : List (List ℕ)) × (text : List ℕ)
-      × Answered (asked first texts) old.output new.output × (asks (line_of text) ≡ false)
+      × Answered (section_from first texts) old.output new.output × (asks (line_of text) ≡ false)
       × ReadsFront (unread old) (texts ++ text ∷ []) × (number ≡ old.lines.count + length texts + 1))
       (λ fault. ⊥)
-      ((texts : List (List ℕ)) × Answered (asked first texts) old.output new.output
+      ((texts : List (List ℕ)) × Answered (section_from first texts) old.output new.output
       × (old.lines.at_end ≡ false) × ReadsUntilFailure (unread old) texts new.lines.pending new.remaining)
-      ((texts : List (List ℕ)) × (text : List ℕ) × HaveAnswers may Is (asked first texts) text
+      ((texts : List (List ℕ)) × (text : List ℕ) × HaveAnswers may Is (section_from first texts) text
       × ReadsFront (unread old) texts × WroteFront old.output new.output text)
-      (((texts : List (List ℕ)) × Answered (asked first texts) old.output new.output
+      (((texts : List (List ℕ)) × Answered (section_from first texts) old.output new.output
       × RefusesAt (λ text. asks (line_of text) ≡ true) old.lines.count (unread old) texts
       new.lines.line new.lines.count)
       ⊎ (new ≡ old))
