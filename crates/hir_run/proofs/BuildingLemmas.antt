@@ -1,31 +1,32 @@
 -- How the lines that make end: where no line can be had, at a line that makes nothing, or at a question.
-use Rattle.std.proofs.Common.{◌≡◌, ◌≢◌, ◌+◌, ◌++◌, ◌∷◌, [], ℕ, true, false, List, Option, None, Some, Result, Ok, Err, length, inl, inr, refl, sym, ap, ◌∙◌, if◌then◌else◌, arith}
-use Rattle.std.proofs.lemmas.Bool.{false≢true}
+use Rattle.std.proofs.Common.{◌≡◌, ◌≢◌, ◌+◌, ◌++◌, ◌∷◌, [], ℕ, true, false, List, Option, None, Some, Result, Ok, Err, length, inl, inr, refl, sym, ap, ◌∙◌, subst, if◌then◌else◌, arith, true≢false}
 use Rattle.hir_io.specs.declared.next.LineFault.{LineFault}
 use Rattle.hir_io.specs.declared.next.LineFault.TheVariants as line
 use Rattle.hir_io.specs.LineState.{LineState}
-use Rattle.hir_io.specs.NextLine.{is_failed_output}
+use Rattle.hir_io.specs.NextLine.{bytes_left, is_failed_output}
 use Rattle.hir_io.specs.Reads.{Reads, ReadsFront}
-use Rattle.hir_io.proofs.ReadLemmas.{Reads-more, ReadsFront-now, ReadsUntilFailure-now}
+use Rattle.hir_io.proofs.ReadLemmas.{Reads-none, Reads-more, ReadsFront-now, ReadsUntilFailure-now}
 use Rattle.hir_lines.specs.Line.{Line, Blank, Make, Ask, Bad, line_of, makes, asks}
 use Rattle.hir_lines.specs.Makers.{Maker}
-use Rattle.hir_lines.specs.Taking.{line_asked}
 use Rattle.hir_lines.specs.declared.question.Question.{Question}
 use Rattle.hir_run.specs.declared.fault.RunFault.{RunFault}
 use Rattle.hir_run.specs.declared.fault.RunFault.TheVariants.{BadLine, Refused, BodyRefused, InputFailed, OutputFailed, OutOfMemory}
 use Rattle.hir_run.specs.Faults.{fault_of_line}
 use Rattle.hir_run.specs.Outcomes.{is_input_failed}
-use Rattle.hir_run.specs.Parts.{Parts, is_second}
+use Rattle.hir_run.specs.Parts.{Parts, no_parts, is_second}
 use Rattle.hir_run.specs.Places.{Place, TakesNext, unread}
 use Rattle.hir_run.specs.Program.{line_behind}
+use Rattle.hir_run.specs.Run.{no_lines}
 use Rattle.hir_run.specs.Stages.{Makes, Builds, BuildsLine, IsAsked}
+use Rattle.hir_run.proofs.AskedLemmas.{asked_marks_none}
+use Rattle.hir_run.proofs.Making.{Makes-none}
 use Rattle.hir_run.proofs.Refusals.{behind_line, behind_none, some_text}
-use Rattle.hir_run.proofs.Scripts.{Tells, bad_is, behind_make, behind_question}
+use Rattle.hir_run.proofs.Scripts.{Tells, bad_is, behind_make, behind_question, tells_nothing}
 
 neither : (line : Line) → makes line ≡ false → asks line ≡ false → line ≡ Bad
-neither Blank m a = absurd (false≢true (sym m))
-neither (Make maker) m a = absurd (false≢true (sym m))
-neither (Ask question) m a = absurd (false≢true (sym a))
+neither Blank m a = absurd (true≢false m)
+neither (Make maker) m a = absurd (true≢false m)
+neither (Ask question) m a = absurd (true≢false a)
 neither Bad m a = refl
 
 -- so far these lines were read, and this is what they make
@@ -33,6 +34,16 @@ abbrev pub SoFar : Option (List ℕ) → Place → Parts → Type 0
 SoFar known now parts =
     (texts : List (List ℕ)) × Makes texts parts × Tells parts texts
     × Reads known texts (unread now) now.lines.at_end × (now.lines.count ≡ length texts)
+
+all_left : (known : Option (List ℕ)) → bytes_left [] false known ≡ known
+all_left None = refl
+all_left (Some rest) = refl
+
+-- a new reader of lines has taken nothing
+pub no_line_yet : (start : Place) (parts : Parts) → start.lines ≡ no_lines → parts ≡ no_parts → SoFar start.remaining start parts
+no_line_yet start parts fresh none =
+    let all = ap (λ (l : LineState). bytes_left l.pending l.at_end start.remaining) fresh ∙ all_left start.remaining in
+    ([], rw none Makes-none, rw none (tells_nothing no_parts refl refl), subst (λ (k : Option (List ℕ)). Reads k [] (unread start) start.lines.at_end) all (Reads-none (unread start) start.lines.at_end), ap (λ (l : LineState). l.count) fresh)
 
 module _ (known : Option (List ℕ)) (p : Place) (parts : Parts) (all : SoFar known p parts) where
   abbrev texts : List (List ℕ)
@@ -91,7 +102,7 @@ module _ (known : Option (List ℕ)) (p : Place) (parts : Parts) (all : SoFar kn
 
     -- it makes nothing: it is a question, or bad, or memory was refused to it
     pub asked_next : (result : Result (Option Question) RunFault) → makes (line_of q.lines.line) ≡ false → IsAsked q.lines result → Builds known q parts result
-    asked_next (Ok None) left says = absurd (false≢true (sym left ∙ ap makes says))
+    asked_next (Ok None) left says = absurd (true≢false (sym (ap makes says) ∙ left))
     asked_next (Ok (Some question)) left says = (texts, m, says, read_on, counted_on)
     asked_next (Err (BadLine number)) left (other, is) =
         (texts, q.lines.line, m.0, bad_is texts q.lines.line (neither (line_of q.lines.line) left other), front_on, is ∙ counted_on)
@@ -105,9 +116,4 @@ module _ (known : Option (List ℕ)) (p : Place) (parts : Parts) (all : SoFar kn
 -- what the line asks is no failed read
 pub asked_reads_none : (lines : LineState) (result : Result (Option Question) RunFault) → IsAsked lines result → is_input_failed result ≡ false
 asked_reads_none lines (Ok asked) a = refl
-asked_reads_none lines (Err (BadLine number)) a = refl
-asked_reads_none lines (Err OutOfMemory) a = refl
-asked_reads_none lines (Err InputFailed) a = absurd a
-asked_reads_none lines (Err OutputFailed) a = absurd a
-asked_reads_none lines (Err (Refused fault)) a = absurd a
-asked_reads_none lines (Err (BodyRefused fault)) a = absurd a
+asked_reads_none lines (Err fault) a = (asked_marks_none (Option Question) lines fault a).0

@@ -1,8 +1,5 @@
 -- What is known of an expression, by whether it is there; and of its root, by whether there is one.
-use Rattle.std.proofs.Common.{◌≡◌, ◌<◌, ◌≤◌, ◌++◌, ℕ, List, Option, Some, None, IsSome, length, if◌then◌else◌, refl, ap}
-use Rattle.std.specs.Prelude.{codes}
-use Rattle.std.specs.Fmt.{decimal}
-use Rattle.std.proofs.lemmas.Bool.{lt-ltb, le-ltb}
+use Rattle.std.proofs.Common.{◌≡◌, ◌<◌, ◌≤◌, ◌++◌, ℕ, List, Option, Some, None, IsSome, length, if◌then◌else◌, refl, ap, codes, decimal, lt-ltb, le-ltb}
 use Rattle.hir_forest.specs.declared.roots.Root.{Root}
 use Rattle.hir_faults.specs.Nodes.{Nodes}
 use Rattle.hir_expr_store.specs.PatLists.{children}

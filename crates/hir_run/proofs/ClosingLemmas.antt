@@ -1,13 +1,11 @@
 -- What a run comes to once what waits was written, or its write failed; and which end has failed.
-use Rattle.std.proofs.Common.{◌≡◌, ℕ, Bool, true, false, List, [], ◌++◌, Option, None, Some, Ok, Err, inl, inr, refl, sym, ap, ◌∙◌, subst, append_assoc}
-use Rattle.std.specs.Prelude.{◌||◌}
+use Rattle.std.proofs.Common.{◌≡◌, ℕ, Bool, true, false, List, [], ◌++◌, Option, None, Some, Ok, Err, inl, inr, refl, sym, ap, ◌∙◌, subst, append_assoc, ◌||◌}
 use Rattle.std.specs.Io.KnownBytes.{Appends}
 use Rattle.std.proofs.Math.Bool.{or-false}
 use Rattle.hir_io.specs.Ends.{GrowsByFront}
 use Rattle.hir_io.specs.declared.next.LineFault.{LineFault}
 use Rattle.hir_io.specs.declared.next.LineFault.TheVariants as line
 use Rattle.hir_io.specs.NextLine.{NextWrites}
-use Rattle.hir_lines.specs.Line.{Line}
 use Rattle.hir_io.specs.Text.{lines, IsCutShort}
 use Rattle.hir_io.proofs.EndLemmas.{Appends-twice, GrowsByFront-after}
 use Rattle.hir_io.proofs.TextLemmas.{lines-ended}
@@ -22,7 +20,7 @@ use Rattle.hir_run.specs.Parts.{Parts}
 use Rattle.hir_run.specs.Places.{Place}
 use Rattle.hir_run.specs.Program.{Outcome}
 use Rattle.hir_run.specs.Run.{EndsWith, RunsTo}
-use Rattle.hir_run.specs.Stages.{Builds, IsBodyOf, Accepts, AsksLine, RunsUpTo, Closes}
+use Rattle.hir_run.specs.Stages.{Builds, IsBodyOf, Accepts, RunsUpTo, Closes}
 
 -- what waited was written too, of a run that began where nothing waited
 then_all_waiting : (start p : Output) (new : Option (List ℕ)) (text : List ℕ) → start.waiting ≡ [] → Wrote start p text → Appends p.contents new p.waiting → Appends start.contents new text
@@ -127,15 +125,6 @@ closes_reads old new outcome result (inr c) quiet =
     by_mark : (b : Bool) → (b ≡ true → ⊥) → b ≡ false
     by_mark true h = absurd (h refl)
     by_mark false h = refl
-
--- no line of a section fails to be read
-pub line_reads_none : (X : Type 0) (may : Question → Bool) (Is : Question → List ℕ → Type 0) (line : Line) (number : ℕ) (old new : Output) (e : RunFault) → AsksLine may Is line number old new (Err e) → is_input_failed {X = X} (Err e) ≡ false
-line_reads_none X may Is line number old new InputFailed a = absurd a
-line_reads_none X may Is line number old new (BadLine n) a = refl
-line_reads_none X may Is line number old new (Refused fault) a = refl
-line_reads_none X may Is line number old new (BodyRefused fault) a = refl
-line_reads_none X may Is line number old new OutputFailed a = refl
-line_reads_none X may Is line number old new OutOfMemory a = refl
 
 -- where a read fails, nothing waits
 pub next_reads : (old new : Output) (fault : LineFault) → NextWrites old.contents new.contents old.waiting new.waiting (Err fault) → is_input_failed {X = Option Question} (Err (fault_of_line fault)) ≡ true → new.waiting ≡ []

@@ -1,9 +1,6 @@
 -- What the parts of a run come to.
-use Rattle.std.proofs.Common.{◌≡◌, ◌+◌, ℕ, true, false, List, [], ◌∷◌, ◌++◌, Option, None, Some, Result, Ok, Err, length, inr, refl, sym, ap, ◌∙◌, append_assoc, append-nil, arith, subst}
-use Rattle.std.specs.Prelude.{codes}
+use Rattle.std.proofs.Common.{◌≡◌, ◌+◌, ℕ, true, false, List, [], ◌∷◌, ◌++◌, Option, None, Some, Ok, Err, length, inr, refl, sym, ap, ◌∙◌, append_assoc, append-nil, arith, subst, codes}
 use Rattle.std.specs.List.{list_all}
-use Rattle.hir_io.specs.NextLine.{bytes_left}
-use Rattle.hir_io.specs.LineState.{LineState}
 use Rattle.hir_lines.specs.Line.{Line, Ask, Bad, makes, asks, any_question}
 use Rattle.hir_lines.specs.declared.question.Question.{Question}
 use Rattle.hir_store.specs.Building.{contents_of, finish_fault}
@@ -13,9 +10,9 @@ use Rattle.hir_run.specs.declared.fault.RunFault.TheVariants.{BadLine, Refused, 
 use Rattle.hir_run.specs.Parts.{Parts, body_parts}
 use Rattle.hir_run.specs.Answer.{IsStoreAnswer, IsAnswer}
 use Rattle.hir_run.specs.Output.{Output, Wrote, WroteFront}
-use Rattle.hir_run.specs.Places.{Place, unread}
+use Rattle.hir_run.specs.Places.{Place}
 use Rattle.hir_run.specs.Program.{is_of_store, Outcome, writes, section, stops, behind_store, on_body, on_store, accepts, built_by, IsMeaning, HasAnswers, script, script_of}
-use Rattle.hir_run.specs.Run.{EndsWith, IsRefusedBehind, no_lines}
+use Rattle.hir_run.specs.Run.{EndsWith, IsRefusedBehind}
 use Rattle.hir_run.specs.Stages.{Builds, Finishes, IsBodyOf, Accepts}
 use Rattle.hir_run.proofs.Scripts.{script-append, script-length, behind_texts, behind-cons}
 use Rattle.hir_run.proofs.CourseLemmas.{no_line, outside, runs_behind, means_behind}
@@ -38,15 +35,6 @@ meaning-alone : (ls : List Line) (text : List ℕ) (outcome : Outcome) → list_
 meaning-alone ls text outcome all course =
     let e : ls ++ [] ≡ ls = append-nil ls in
     rw e at (means_behind ls [] text outcome all no_line course)
-
-untaken_all : (known : Option (List ℕ)) → bytes_left [] false known ≡ known
-untaken_all None = refl
-untaken_all (Some rest) = refl
-
--- a new reader of lines has taken nothing
-pub from_the_start : (start now : Place) (parts : Parts) (r : Result (Option Question) RunFault) → start.lines ≡ no_lines → Builds (unread start) now parts r → Builds start.remaining now parts r
-from_the_start start now parts r e b =
-    subst (λ (v : Option (List ℕ)). Builds v now parts r) (ap (λ (l : LineState). bytes_left l.pending l.at_end start.remaining) e ∙ untaken_all start.remaining) b
 
 -- nothing was written so far
 module _ (input : List ℕ) (start : Output) (p : Place) (built : Parts) (nothing : Wrote start p.output []) where

@@ -1,6 +1,5 @@
 -- A script has one meaning at most, as each of its parts has.
 use Rattle.std.proofs.Common.{◌≡◌, ◌+◌, ℕ, Bool, true, false, List, [], ◌∷◌, ◌++◌, Option, None, Some, length, refl, sym, ap, ◌∙◌}
-use Rattle.std.specs.Prelude.{codes}
 use Rattle.hir_faults.specs.declared.fault.FinishFault.{FinishFault}
 use Rattle.hir_lines.specs.Line.{Line, Blank, Make, Ask, Bad, may_ask, any_question, asks}
 use Rattle.hir_lines.specs.declared.question.Question.{Question}

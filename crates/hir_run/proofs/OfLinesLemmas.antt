@@ -1,6 +1,5 @@
 -- What lines make are nodes of lines.
-use Rattle.std.proofs.Common.{◌≡◌, ℕ, zero, suc, Bool, true, false, ◌⊎◌, inl, inr, List, [], ◌∷◌, ◌++◌, if◌then◌else◌, ◌||◌, Option, Some, None, Ok, refl, sym, subst, fold}
-use Rattle.std.specs.Prelude.{slice_get, filter_map}
+use Rattle.std.proofs.Common.{◌≡◌, ℕ, zero, suc, Bool, true, false, ◌⊎◌, inl, inr, List, [], ◌∷◌, ◌++◌, if◌then◌else◌, ◌||◌, Option, Some, None, Ok, refl, sym, subst, fold, slice_get, filter_map}
 use Rattle.std.specs.List.{cons_option}
 use Rattle.hir_lines.specs.Line.{Line, Blank, Make, Ask, Bad, line_of}
 use Rattle.hir_lines.specs.Makers.{Maker}

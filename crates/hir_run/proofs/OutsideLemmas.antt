@@ -1,7 +1,5 @@
 -- What lines make names no definition outside, so none is missing from what is printed of it.
-use Rattle.std.proofs.Common.{◌≡◌, ℕ, zero, suc, Bool, true, false, List, [], ◌∷◌, ◌++◌, Option, Some, None, map, refl, sym, ap, subst}
-use Rattle.std.specs.Prelude.{codes, slice_get}
-use Rattle.std.specs.List.{flat_map}
+use Rattle.std.proofs.Common.{◌≡◌, ℕ, zero, suc, Bool, true, false, List, [], ◌∷◌, ◌++◌, Option, Some, None, map, refl, sym, ap, subst, codes, slice_get, flat_map, option_to_list, Result, Ok}
 use Rattle.hir_node.specs.declared.binding.Binding.{Binding}
 use Rattle.hir_node.specs.declared.expr.Expr.{Expr}
 use Rattle.hir_node.specs.declared.expr_types.MatchArm.{MatchArm}
@@ -31,8 +29,6 @@ use Rattle.hir_pretty.specs.Pieces.{NodePiece, Layout, Absent, items_of, item_pi
 use Rattle.hir_pretty.specs.Works.{printed}
 use Rattle.hir_lines.specs.Words.{plain}
 use Rattle.std.specs.FinMap as map
-use Rattle.std.specs.Option.{option_to_list}
-use Rattle.std.specs.Prelude.{Result, Ok}
 use Rattle.std.specs.Cmp.Lexicographic.{nat_list_cmp_total}
 use Rattle.hir_base.specs.Keys.{named_code}
 use Rattle.hir_base.specs.declared.defs.DefWithBodyId.TheVariants as body

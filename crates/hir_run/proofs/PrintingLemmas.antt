@@ -1,6 +1,5 @@
 -- What the printer answers of a body, over the tables that have the name of function 0.
-use Rattle.std.proofs.Common.{◌≡◌, ℕ, List, Option, Some, None, Result, Ok, Err, false, sym, subst, ◌∙◌}
-use Rattle.std.specs.Prelude.{IfOk, String, string_bytes}
+use Rattle.std.proofs.Common.{◌≡◌, ℕ, List, Option, Some, None, Result, Ok, Err, false, sym, subst, ◌∙◌, IfOk, String, string_bytes}
 use Rattle.hir_base.specs.RawWords.{words_of}
 use Rattle.hir_base.specs.declared.defs.DefWithBodyId.TheVariants as body
 use Rattle.hir_base.specs.declared.edition.Edition.TheVariants.{Edition2021}

@@ -1,7 +1,6 @@
 -- Scripts in parts: which lines are a second self parameter or a second name is told by the lines before.
-use Rattle.std.proofs.Common.{◌≡◌, Bool, true, false, ◌||◌, List, [], ◌∷◌, ◌++◌, None, is_some, ℕ, suc, if◌then◌else◌, refl, sym, ap, ◌∙◌, length, append-nil, append_assoc}
+use Rattle.std.proofs.Common.{◌≡◌, Bool, true, false, ◌||◌, List, [], ◌∷◌, ◌++◌, None, is_some, ℕ, suc, if◌then◌else◌, refl, sym, ap, ◌∙◌, length, append-nil, append_assoc, true≢false}
 use Rattle.std.specs.Cmp.{first_so, second_so}
-use Rattle.std.proofs.lemmas.Bool.{false≢true}
 use Rattle.hir_lines.specs.declared.question.Question.{Question}
 use Rattle.std.specs.List.{list_all, list_any}
 use Rattle.std.proofs.lemmas.List.{map-append, length-map}
@@ -59,9 +58,9 @@ behind-cons texts more text = rw (any-push gives_self texts text, any-push gives
 -- what asks is no second self parameter and no second name
 unless-asks : (s n : Bool) (line : Line) → asks line ≡ true → unless_second s n line ≡ line
 unless-asks s n Blank h = refl
-unless-asks s n (Make maker) h = absurd (false≢true h)
+unless-asks s n (Make maker) h = absurd (true≢false (sym h))
 unless-asks s n (Ask question) h = refl
-unless-asks s n Bad h = absurd (false≢true h)
+unless-asks s n Bad h = absurd (true≢false (sym h))
 
 pub behind_is : (texts : List (List ℕ)) (text : List ℕ) → asks (line_of text) ≡ true → line_behind texts text ≡ line_of text
 behind_is texts text h = unless-asks (list_any gives_self (says texts)) (list_any gives_name (says texts)) (line_of text) h
@@ -83,8 +82,8 @@ behind-asked texts (text ∷ questions) more h =
     ∙ ap (λ front. line_of text ∷ (says questions ++ behind_texts front more)) (append_assoc texts (text ∷ []) questions)
 
 asks-second : (s n : Bool) (line : Line) → asks line ≡ false → asks (unless_second s n line) ≡ false
-asks-second s n Blank h = absurd (false≢true (sym h))
-asks-second s n (Ask question) h = absurd (false≢true (sym h))
+asks-second s n Blank h = absurd (true≢false h)
+asks-second s n (Ask question) h = absurd (true≢false h)
 asks-second s n (Make maker) h = either (is_second_of s n maker)
   where
     either : (b : Bool) → asks (if b then Bad else Make maker) ≡ false

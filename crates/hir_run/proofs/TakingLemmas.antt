@@ -1,9 +1,5 @@
 -- What taking a line does: to the place of a run, and to what the code has made.
-use Rattle.std.proofs.Common.{◌≡◌, ◌≢◌, ◌+◌, Bool, true, false, Option, None, Some, Result, if◌then◌else◌, inl, inr, ◌⊎◌, refl, sym, ap, ◌∙◌}
-use Rattle.std.specs.Prelude.{cond, is_some}
-use Rattle.std.proofs.lemmas.Bool.{false≢true}
-use Rattle.hir_io.specs.declared.next.LineFault.{LineFault}
-use Rattle.hir_io.specs.NextLine.{NextTakes, NextWrites, is_found}
+use Rattle.std.proofs.Common.{◌≡◌, ◌≢◌, Bool, true, false, Option, None, Some, if◌then◌else◌, inl, inr, ◌⊎◌, refl, ap, ◌∙◌, is_some, true≢false}
 use Rattle.hir_lines.specs.Line.{Line, Blank, Make, Ask, Bad, asks, makes}
 use Rattle.hir_lines.specs.Makers.{Maker}
 use Rattle.hir_lines.specs.Makers as make
@@ -11,7 +7,6 @@ use Rattle.hir_lines.specs.Taking.{with_line as with_text}
 use Rattle.hir_lines.specs.declared.question.Question.{Question}
 use Rattle.hir_run.specs.declared.body_builder.BodyBuilder as code
 use Rattle.hir_run.specs.Parts.{parts_of, with_line, with_maker, is_second}
-use Rattle.hir_run.specs.Places.{Place, unread}
 use Rattle.hir_run.specs.Stages.{MakesOrLeaves}
 
 -- the code has what the line makes
@@ -55,7 +50,7 @@ pub no_line : (line : Line) (old : code.BodyBuilder) → asks line ≡ false →
     (line ≡ Bad) ⊎ ((maker : Maker) × (line ≡ Make maker) × (is_second (parts_of old) maker ≡ true))
 no_line Blank old asked e = cc
 no_line (Make maker) old asked e = inr (maker, refl, second_so old maker (is_second (parts_of old) maker) e)
-no_line (Ask question) old asked e = absurd (false≢true (sym asked))
+no_line (Ask question) old asked e = absurd (true≢false asked)
 no_line Bad old asked e = inl refl
 
 first_so : (old : code.BodyBuilder) (maker : Maker) (second : Bool) → ((if second then None else Some (with_maker old maker)) ≡ None → ⊥) → second ≡ false
@@ -65,9 +60,9 @@ first_so old maker false e = refl
 -- or memory was refused to it: it makes something, and isn't second
 pub no_memory : (line : Line) (old : code.BodyBuilder) → asks line ≡ false → (with_line_of old line ≡ None → ⊥) →
     (maker : Maker) × (line ≡ Make maker) × (is_second (parts_of old) maker ≡ false)
-no_memory Blank old asked e = absurd (false≢true (sym asked))
+no_memory Blank old asked e = absurd (true≢false asked)
 no_memory (Make maker) old asked e = (maker, refl, first_so old maker (is_second (parts_of old) maker) e)
-no_memory (Ask question) old asked e = absurd (false≢true (sym asked))
+no_memory (Ask question) old asked e = absurd (true≢false asked)
 no_memory Bad old asked e = absurd (e refl)
 
 -- a line that isn't empty and asks

@@ -1,6 +1,5 @@
 -- Texts that are written to a sink piece by piece.
-use Rattle.std.proofs.Common.{◌++◌, List, ℕ, Option, Result, Ok, Err}
-use Rattle.std.specs.Prelude.{OnOk, OnErr}
+use Rattle.std.proofs.Common.{◌++◌, List, ℕ, Option, Result, Ok, Err, OnOk, OnErr}
 use Rattle.std.specs.Io.KnownBytes.{Appends}
 use Rattle.hir_io.specs.Ends.{GrowsByFront}
 use Rattle.hir_io.proofs.EndLemmas.{Appends-twice, GrowsByFront-after, GrowsByFront-more}

@@ -1,10 +1,8 @@
 -- Text that is put piece by piece behind what waits.
-use Rattle.std.proofs.Common.{◌≡◌, ◌+◌, ◌<◌, [], ◌∷◌, ◌++◌, List, ℕ, Bool, true, false, Option, refl, sym, ap, ◌∙◌, subst, append_assoc, append-nil, get_or, take, length}
+use Rattle.std.proofs.Common.{◌≡◌, ◌+◌, ◌<◌, [], ◌∷◌, ◌++◌, List, ℕ, Bool, true, false, Option, refl, sym, ap, ◌∙◌, subst, append_assoc, append-nil, get_or, take, length, codes, flat_map, decimal}
 use Rattle.std.proofs.lemmas.Grind.{flat_map-append}
 use Rattle.std.proofs.lemmas.List.{take_more}
-use Rattle.std.specs.Fmt.{decimal}
 use Rattle.std.specs.Io.KnownBytes.{Appends}
-use Rattle.std.specs.List.{flat_map}
 use Rattle.hir_io.specs.declared.ends.Sink.{Ghosts}
 use Rattle.hir_io.specs.Ends.{GrowsByFront, IsWrittenUpTo}
 use Rattle.hir_io.proofs.EndLemmas.{Appends-twice, GrowsByFront-after, GrowsByFront-more, IsWrittenUpTo-start}
@@ -13,9 +11,9 @@ use Rattle.hir_scope.specs.Paths.{frame_at}
 use Rattle.hir_scope.specs.Scopes.{Scope}
 use Rattle.hir_scope.specs.Frames.{Frame}
 use Rattle.hir_scope.specs.Resolution.{entries_of}
-use Rattle.hir_run.specs.Answer.{after_spaces, entry_text, names_text}
+use Rattle.hir_run.specs.Answer.{answer_line, after_spaces, entry_text, names_text}
 use Rattle.hir_run.specs.declared.output.Output as code
-use Rattle.hir_run.specs.Output.{Output, Wrote, WroteFront, PutsBy, PutsText, Puts, output_of}
+use Rattle.hir_run.specs.Output.{Output, Wrote, WroteFront, PutsBy, Puts, output_of}
 
 pub Wrote-none : (a : Output) → Wrote a a []
 Wrote-none a = rw (append-nil a.waiting) (IsWrittenUpTo-start a.contents a.waiting)
@@ -65,6 +63,10 @@ put_then w old mid new text more p q =
         let grows = WroteFront-more (output_of w old) (output_of w mid) text more p in
         (subst (λ (v : Option (List ℕ)). GrowsByFront (output_of w old).contents v (old.waiting ++ (text ++ more))) (sym q.1) grows.0, q.2 ∙ grows.1)
     by false true false p q = cc
+
+-- the line of an answer
+pub put_line : {W : Type 0} (w : Ghosts W) (old front back new : code.Output W) (word : List ℕ) (expr : ℕ) (known : List ℕ) → Puts w old front (word ++ decimal expr) → Puts w front back known → Puts w back new (codes "\n") → Puts w old new (answer_line word expr known)
+put_line w old front back new word expr known p q r = put_then w old back new (word ++ decimal expr ++ known) (codes "\n") (put_then w old front back (word ++ decimal expr) known p q) r
 
 pub put_none : {W : Type 0} (w : Ghosts W) (old : code.Output W) → Puts w old old []
 put_none w old = (refl, by (output_of w old).failed)

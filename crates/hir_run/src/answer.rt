@@ -1,6 +1,6 @@
 //! The answers to questions on a store.
 
-ghost use Rattle.std.specs.Prelude.{◌≡◌, ◌∷◌, ◌<◌, length, codes};
+ghost use Rattle.std.specs.Prelude.{◌∷◌, ◌<◌, length, codes};
 ghost use Rattle.std.specs.Fmt.{decimal};
 ghost use Rattle.hir_expr_store.specs.PatLists.{children};
 ghost use Rattle.hir_run.specs.Answer.{store_answer, answer_line, children_text, root_text, after_spaces};

@@ -64,6 +64,7 @@ fn answer_question<A: Answers, W: Sink>(
     ensures asks { (number : ℕ) → AsksLine A.may (A.Is asked.old) (Ask question) number
         (output_of W.Sink output.old) (output_of W.Sink output.new) result }
     ensures failure { W.is_failed output.new.writer.now ≡ is_output_failed result }
+    ensures reads_none { is_input_failed result ≡ false }
     ensures same { (asked.new ≡ asked.old) × (output.new.writer.ghost_name ≡ output.old.writer.ghost_name) }
 {
     let left = asked.answer(alloc, question, output)?;
@@ -84,6 +85,7 @@ fn answer_next<A: Answers, W: Sink>(
     ensures asks { AsksLine A.may (A.Is asked.old) (line_of lines.now.line) lines.now.count
         (output_of W.Sink output.old) (output_of W.Sink output.new) result }
     ensures failure { W.is_failed output.new.writer.now ≡ is_output_failed result }
+    ensures reads_none { is_input_failed result ≡ false }
     ensures same { (asked.new ≡ asked.old) × (output.new.writer.ghost_name ≡ output.old.writer.ghost_name) }
 {
     match asked_by(alloc, lines)? {

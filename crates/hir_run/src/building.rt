@@ -1,10 +1,11 @@
 //! The first part of a run: lines that make something, up to the first question.
 
-ghost use Rattle.std.specs.Prelude.{◌≡◌, ◌||◌, [], false, OnOk};
+ghost use Rattle.std.specs.Prelude.{◌≡◌, ◌||◌, [], OnOk};
 ghost use Rattle.hir_run.specs.Outcomes.{is_input_failed};
 ghost use Rattle.hir_run.specs.Output.{Untouched};
 ghost use Rattle.hir_run.specs.Parts.{parts_of, no_parts};
-ghost use Rattle.hir_run.specs.Places.{HasRoom, place_of, unread};
+ghost use Rattle.hir_run.specs.Places.{HasRoom, place_of};
+ghost use Rattle.hir_run.specs.Run.{no_lines};
 ghost use Rattle.hir_run.specs.Stages.{Builds, BuildsLine};
 
 use crate::asking::asked_by;
@@ -39,11 +40,10 @@ pub(crate) fn build<R: Source, W: Sink>(
     output: &mut Output<'_, W>,
 ) -> Result<Option<Question>, RunFault>
     requires fits { HasRoom (place_of R.Source W.Sink lines.old reader.old output.old) }
-    requires fresh { (lines.old.count ≡ 0) × (lines.old.at_end ≡ false)
-        × (parts_of builder.old ≡ no_parts) }
+    requires fresh { (lines.old ≡ no_lines) × (parts_of builder.old ≡ no_parts) }
     requires quiet { output.old.waiting ≡ [] }
-    ensures builds { Builds (unread (place_of R.Source W.Sink lines.old reader.old output.old))
-        (place_of R.Source W.Sink lines.new reader.new output.new) (parts_of builder.new) result }
+    ensures builds { Builds (R.remaining reader.old) (place_of R.Source W.Sink lines.new reader.new output.new)
+        (parts_of builder.new) result }
     ensures still_quiet { Untouched W.Sink output.old output.new }
     ensures failure { R.is_failed reader.new ≡ (is_input_failed result || R.is_failed reader.old) }
     ensures still_fits { OnOk result (HasRoom (place_of R.Source W.Sink lines.new reader.new output.new)) }

@@ -1,13 +1,8 @@
-use Rattle.std.proofs.Common.{◌++◌}
-use Rattle.std.specs.Prelude.{codes}
-use Rattle.std.specs.Fmt.{decimal}
+use Rattle.std.proofs.Common.{codes}
 use Rattle.hir_run.specs.Answer.{root_text}
-use Rattle.hir_run.proofs.WritingLemmas.{put_then}
+use Rattle.hir_run.proofs.WritingLemmas.{put_line}
 use Rattle.hir_run.proofs.answer.answer_root.Goals as goal
 
 pub returns : goal.returns
 returns g c =
-    let asked = codes "root-of " ++ decimal c.args.id in
-    let known = root_text c.args.store.now.roots c.args.id in
-    put_then g.W.Sink c.args.output.now c.put_root.new.output c.put.new.self (asked ++ known) (codes "\n")
-    (put_then g.W.Sink c.args.output.now c.put_asked.new.self c.put_root.new.output asked known c.put_asked.ensures c.put_root.ensures) c.put.ensures
+    put_line g.W.Sink c.args.output.now c.put_asked.new.self c.put_root.new.output c.put.new.self (codes "root-of ") c.args.id (root_text c.args.store.now.roots c.args.id) c.put_asked.ensures c.put_root.ensures c.put.ensures

@@ -1,6 +1,5 @@
-use Rattle.std.proofs.Common.{◌<◌, ◌≤◌, length, sym, ◌∙◌, inl, inr}
-use Rattle.std.specs.Prelude.{codes}
-use Rattle.std.proofs.lemmas.Bool.{cases_lt, false≢true}
+use Rattle.std.proofs.Common.{◌<◌, ◌≤◌, length, sym, ◌∙◌, inl, inr, codes, true≢false}
+use Rattle.std.proofs.lemmas.Bool.{cases_lt}
 use Rattle.hir_expr_store.specs.PatLists.{children}
 use Rattle.hir_run.specs.Answer.{after_spaces}
 use Rattle.hir_run.proofs.WritingLemmas.{put_then}
@@ -9,7 +8,7 @@ use Rattle.hir_run.proofs.answer.put_known.Goals as goal
 
 pub returns-then-not-has_expr : goal.returns-then-not-has_expr
 returns-then-not-has_expr g c =
-    let past : length c.args.store.now.nodes.exprs ≤ c.args.id = elim (cases_lt c.args.id (length c.args.store.now.nodes.exprs)) [ inl there ↦ absurd (false≢true (sym c.if-not-has_expr.true ∙ c.has_expr.ensures.1 there)) | inr past ↦ past ] in
+    let past : length c.args.store.now.nodes.exprs ≤ c.args.id = elim (cases_lt c.args.id (length c.args.store.now.nodes.exprs)) [ inl there ↦ absurd (true≢false (sym (c.has_expr.ensures.1 there) ∙ c.if-not-has_expr.true)) | inr past ↦ past ] in
     rw (children_unknown c.args.store.now.nodes c.args.id past) c.put.ensures
 
 pub returns : goal.returns

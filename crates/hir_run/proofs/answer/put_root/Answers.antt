@@ -1,7 +1,4 @@
-use Rattle.std.proofs.Common.{sym, ◌∙◌}
-use Rattle.std.specs.Prelude.{codes}
-use Rattle.std.specs.Fmt.{decimal}
-use Rattle.std.proofs.lemmas.Bool.{false≢true}
+use Rattle.std.proofs.Common.{sym, ◌∙◌, codes, true≢false, decimal}
 use Rattle.hir_expr_store.specs.RootSearch.{root_for_expr}
 use Rattle.hir_run.proofs.WritingLemmas.{put_then}
 use Rattle.hir_run.proofs.Children.{root_found, root_none}
@@ -9,7 +6,7 @@ use Rattle.hir_run.proofs.answer.put_root.Goals as goal
 
 pub returns-then-not-covers_expr : goal.returns-then-not-covers_expr
 returns-then-not-covers_expr g c =
-    let none = root_none (root_for_expr c.args.store.now.roots c.args.id) (λ some. false≢true (sym c.if-not-covers_expr.true ∙ c.covers_expr.ensures.1 some)) in
+    let none = root_none (root_for_expr c.args.store.now.roots c.args.id) (λ some. true≢false (sym (c.covers_expr.ensures.1 some) ∙ c.if-not-covers_expr.true)) in
     rw none c.put.ensures
 
 pub returns : goal.returns

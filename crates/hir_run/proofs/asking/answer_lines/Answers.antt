@@ -1,14 +1,13 @@
-use Rattle.std.proofs.Common.{◌≡◌, ◌+◌, true, Option, Ok, Err, length, ◌++◌, ◌∷◌, [], subst, sym, ◌∙◌, arith, length-append, refl}
-use Rattle.std.proofs.lemmas.Bool.{false≢true}
+use Rattle.std.proofs.Common.{◌≡◌, ◌+◌, true, Ok, Err, length, ◌++◌, ◌∷◌, [], subst, sym, ◌∙◌, arith, length-append, refl}
 use Rattle.std.proofs.lemmas.Result.{err_from_is_err_and}
 use Rattle.hir_io.proofs.ReadLemmas.{Reads-none, ReadsAll-end}
-use Rattle.hir_lines.specs.Line.{Ask, line_of}
+use Rattle.hir_lines.specs.Line.{line_of}
 use Rattle.hir_lines.specs.declared.question.Question.{Question}
 use Rattle.hir_run.specs.Output.{output_of}
-use Rattle.hir_run.specs.Places.{TakesNext, place_of, unread}
+use Rattle.hir_run.specs.Places.{TakesNext, place_of}
 use Rattle.hir_run.specs.Stages.{AsksLine}
 use Rattle.hir_run.proofs.AskedLemmas.{first_answered, first_left, first_fails, answered_kept, fails_to_read, read_on, counted_on, line_answered, line_left, line_fails}
-use Rattle.hir_run.proofs.ClosingLemmas.{line_reads_none, next_reads}
+use Rattle.hir_run.proofs.ClosingLemmas.{next_reads}
 use Rattle.hir_run.proofs.asking.answer_lines.Goals as goal
 
 pub returns-in_err-left-clause-asks : goal.returns-in_err-left-clause-asks
@@ -119,28 +118,7 @@ returns-clause-asks g c =
     let next : TakesNext p q (Ok false) = rw c.if-branch.false at told.takes in
     (all.0, answered_kept g.A.Answers.may (g.A.Answers.Is c.args.asked.now) c.args.first start p all stays q next.writes, ReadsAll-end _ _ all.0 _ all.2 next.takes.0, omega (arith, all.3, next.count))
 
-pub returns-in_err-left-clause-read_failure : goal.returns-in_err-left-clause-read_failure
-returns-in_err-left-clause-read_failure g c =
-    let e = err_from_is_err_and c.from_residual.result c.from_residual.ensures.1 in
-    let number = c.args.lines.now.count in
-    let none = line_reads_none (Option Question) g.A.Answers.may (g.A.Answers.Is c.args.asked.now) (Ask c.args.first) number (output_of g.W.Sink c.args.output.now) (output_of g.W.Sink c.answer_question.new.output) c.in_err-left.field-0.0 (c.in_err-left.ensures.asks number) in
-    rw (e.1, e.2, none) refl
-
-pub returns-in_err-left-clause-quiet : goal.returns-in_err-left-clause-quiet
-returns-in_err-left-clause-quiet g c =
-    let e = err_from_is_err_and c.from_residual.result c.from_residual.ensures.1 in
-    let number = c.args.lines.now.count in
-    let none = line_reads_none (Option Question) g.A.Answers.may (g.A.Answers.Is c.args.asked.now) (Ask c.args.first) number (output_of g.W.Sink c.args.output.now) (output_of g.W.Sink c.answer_question.new.output) c.in_err-left.field-0.0 (c.in_err-left.ensures.asks number) in
-    rw (e.1, e.2) (λ failed. absurd (false≢true (sym none ∙ failed)))
-
 pub returns-in_err-next_line-clause-quiet : goal.returns-in_err-next_line-clause-quiet
 returns-in_err-next_line-clause-quiet g c =
     let e = err_from_is_err_and c.from_residual-in_err-next_line.result c.from_residual-in_err-next_line.ensures.1 in
     rw (e.1, e.2) (next_reads (output_of g.W.Sink c.loop-left.output) (output_of g.W.Sink c.next_line.new.self) c.in_err-next_line.field-0.0 (c.in_err-next_line.ensures {u = tt}).takes.writes)
-
-pub returns-in_err-later-clause-quiet : goal.returns-in_err-later-clause-quiet
-returns-in_err-later-clause-quiet g c =
-    let e = err_from_is_err_and c.from_residual-in_err-later.result c.from_residual-in_err-later.ensures.1 in
-    let q = place_of g.R.Source g.W.Sink c.next_line.new.lines c.next_line.new.reader c.next_line.new.self in
-    let none = line_reads_none (Option Question) g.A.Answers.may (g.A.Answers.Is c.loop-left.asked) (line_of q.lines.line) q.lines.count q.output (output_of g.W.Sink c.answer_next.new.output) c.in_err-later.field-0.0 (c.in_err-later.ensures {u = tt}).asks in
-    rw (e.1, e.2) (λ failed. absurd (false≢true (sym none ∙ failed)))

@@ -1,4 +1,4 @@
-use Rattle.std.proofs.Common.{◌≡◌, ◌+◌, ◌≤◌, ℕ, length, true, false}
+use Rattle.std.proofs.Common.{◌≡◌, ◌+◌, ◌≤◌, length, true, false}
 use Rattle.hir_run.specs.Places.{place_of}
 use Rattle.hir_run.proofs.AskedLemmas.{SoFar}
 use Rattle.hir_run.proofs.asking.answer_lines.Given as goal

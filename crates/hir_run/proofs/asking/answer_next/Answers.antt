@@ -17,6 +17,11 @@ returns-in_err-asked_by-clause-failure g c =
     let none = asked_marks_none (Option Question) c.args.lines.now c.in_err-asked_by.field-0.0 c.in_err-asked_by.ensures in
     rw (p.1, p.2, none.1) c.requires
 
+pub returns-in_err-asked_by-clause-reads_none : goal.returns-in_err-asked_by-clause-reads_none
+returns-in_err-asked_by-clause-reads_none g c =
+    let p = err_from_is_err_and c.from_residual.result c.from_residual.ensures.1 in
+    rw (p.1, p.2) (asked_marks_none (Option Question) c.args.lines.now c.in_err-asked_by.field-0.0 c.in_err-asked_by.ensures).0
+
 pub returns-in-Some-clause-asks : goal.returns-in-Some-clause-asks
 returns-in-Some-clause-asks g c =
     let says = rw c.in-Some.is at (c.in_ok-asked_by.ensures {u = tt}) in

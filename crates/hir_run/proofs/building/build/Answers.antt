@@ -1,41 +1,40 @@
-use Rattle.std.proofs.Common.{Bool, true, Ok, Err, ◌++◌, ◌∷◌, [], sym, ap, subst, ◌∙◌, arith, length-append, refl}
-use Rattle.std.specs.Prelude.{◌||◌}
+use Rattle.std.proofs.Common.{Bool, true, Ok, Err, ◌++◌, ◌∷◌, [], sym, ap, subst, ◌∙◌, arith, length-append, refl, ◌||◌}
 use Rattle.std.proofs.lemmas.Result.{err_from_is_err_and}
-use Rattle.hir_io.proofs.ReadLemmas.{Reads-none, ReadsAll-end}
+use Rattle.hir_io.proofs.ReadLemmas.{ReadsAll-end}
 use Rattle.hir_run.specs.Output.{Output}
-use Rattle.hir_run.specs.Parts.{Parts, parts_of, no_parts}
-use Rattle.hir_run.specs.Places.{TakesNext, place_of, unread}
+use Rattle.hir_run.specs.Parts.{Parts, parts_of}
+use Rattle.hir_run.specs.Places.{TakesNext, place_of}
 use Rattle.hir_run.specs.Stages.{Builds, BuildsLine}
-use Rattle.hir_run.proofs.BuildingLemmas.{build_fails, build_line_fails, asked_next, asked_reads_none, read_on, counted_on}
-use Rattle.hir_run.proofs.Scripts.{tells_nothing}
-use Rattle.hir_run.proofs.Making.{Makes-none, makes_line}
+use Rattle.hir_run.proofs.BuildingLemmas.{no_line_yet, build_fails, build_line_fails, asked_next, asked_reads_none, read_on, counted_on}
+use Rattle.hir_run.proofs.Making.{makes_line}
 use Rattle.hir_run.proofs.building.build.Goals as goal
 
 pub loop-alloc-init : goal.loop-alloc-init
 loop-alloc-init g c = record {
   same_sink = refl;
   same_mark = refl;
+  quiet = c.requires.quiet;
   untouched = refl;
   falls = omega arith;
-  so_far = ([], rw c.requires.fresh.2 Makes-none, rw c.requires.fresh.2 (tells_nothing no_parts refl refl), Reads-none _ _, c.requires.fresh.0);
+  so_far = no_line_yet (place_of g.R.Source g.W.Sink c.args.lines.now c.args.reader.now c.args.output.now) (parts_of c.args.builder.now) c.requires.fresh.0 c.requires.fresh.1;
 }
 
 pub returns-in_err-next_line-clause-builds : goal.returns-in_err-next_line-clause-builds
 returns-in_err-next_line-clause-builds g c =
     let e = err_from_is_err_and c.from_residual.result c.from_residual.ensures.1 in
-    let known = unread (place_of g.R.Source g.W.Sink c.args.lines.now c.args.reader.now c.args.output.now) in
+    let known = g.R.Source.remaining c.args.reader.now in
     let p = place_of g.R.Source g.W.Sink c.loop-alloc.lines c.loop-alloc.reader c.loop-alloc.output in
     let q = place_of g.R.Source g.W.Sink c.next_line.new.lines c.next_line.new.reader c.next_line.new.self in
     let old = parts_of c.loop-alloc.builder in
     let all = c.loop-alloc.invariant.so_far in
     let told = c.in_err-next_line.ensures {u = tt} in
-    let quiet = told.idle (ap (λ (o : Output). o.waiting) c.loop-alloc.invariant.untouched ∙ c.requires.quiet) in
+    let quiet = told.idle c.loop-alloc.invariant.quiet in
     let next : TakesNext p q (Err c.in_err-next_line.field-0.0) = told.takes in
     rw (e.1, e.2) (build_fails known p old all q c.in_err-next_line.field-0.0 next quiet.0)
 
 pub loop-alloc-preserved : goal.loop-alloc-preserved
 loop-alloc-preserved g c =
-    let known = unread (place_of g.R.Source g.W.Sink c.args.lines.now c.args.reader.now c.args.output.now) in
+    let known = g.R.Source.remaining c.args.reader.now in
     let p = place_of g.R.Source g.W.Sink c.loop-alloc.lines c.loop-alloc.reader c.loop-alloc.output in
     let q = place_of g.R.Source g.W.Sink c.next_line.new.lines c.next_line.new.reader c.next_line.new.self in
     let old = parts_of c.loop-alloc.builder in
@@ -44,13 +43,14 @@ loop-alloc-preserved g c =
     let told = c.in_ok-next_line.ensures {u = tt} in
     let next : TakesNext p q (Ok true) = rw c.if-branch.true at told.takes in
     let fell = rw c.if-branch.true at told.falls refl in
-    let quiet = told.idle (ap (λ (o : Output). o.waiting) c.loop-alloc.invariant.untouched ∙ c.requires.quiet) in
+    let quiet = told.idle c.loop-alloc.invariant.quiet in
     let does = subst (λ (taken : Bool). BuildsLine q.lines old new (Ok taken)) c.if-not-branch.false (c.in_ok-build_line.ensures {u = tt}) in
     let made = makes_line q.lines old new all.0 all.1 all.2 does in
     let count = counted_on known p old all q next in
     record {
       same_sink = told.same ∙ c.loop-alloc.invariant.same_sink;
       same_mark = told.input_failure ∙ c.loop-alloc.invariant.same_mark;
+      quiet = ap (λ (o : Output). o.waiting) quiet.1 ∙ c.loop-alloc.invariant.quiet;
       untouched = quiet.1 ∙ c.loop-alloc.invariant.untouched;
       falls = omega (arith, c.loop-alloc.invariant.falls, fell, next.count);
       so_far = (all.0 ++ q.lines.line ∷ [], made.0, made.1, read_on known p old all q next, omega (arith, count, length-append all.0 (q.lines.line ∷ [])));
@@ -59,7 +59,7 @@ loop-alloc-preserved g c =
 pub returns-in_err-build_line-clause-builds : goal.returns-in_err-build_line-clause-builds
 returns-in_err-build_line-clause-builds g c =
     let e = err_from_is_err_and c.from_residual-in_err-build_line.result c.from_residual-in_err-build_line.ensures.1 in
-    let known = unread (place_of g.R.Source g.W.Sink c.args.lines.now c.args.reader.now c.args.output.now) in
+    let known = g.R.Source.remaining c.args.reader.now in
     let p = place_of g.R.Source g.W.Sink c.loop-alloc.lines c.loop-alloc.reader c.loop-alloc.output in
     let q = place_of g.R.Source g.W.Sink c.next_line.new.lines c.next_line.new.reader c.next_line.new.self in
     let old = parts_of c.loop-alloc.builder in
@@ -71,7 +71,7 @@ returns-in_err-build_line-clause-builds g c =
 
 pub returns-then-not-branch-clause-builds : goal.returns-then-not-branch-clause-builds
 returns-then-not-branch-clause-builds g c =
-    let known = unread (place_of g.R.Source g.W.Sink c.args.lines.now c.args.reader.now c.args.output.now) in
+    let known = g.R.Source.remaining c.args.reader.now in
     let p = place_of g.R.Source g.W.Sink c.loop-alloc.lines c.loop-alloc.reader c.loop-alloc.output in
     let q = place_of g.R.Source g.W.Sink c.next_line.new.lines c.next_line.new.reader c.next_line.new.self in
     let old = parts_of c.loop-alloc.builder in
@@ -92,23 +92,3 @@ returns-clause-builds g c =
     let told = c.in_ok-next_line.ensures {u = tt} in
     let next : TakesNext p q (Ok false) = rw c.if-branch.false at told.takes in
     (all.0, all.1, ReadsAll-end _ _ all.0 _ all.3 next.takes.0, next.takes.2, omega (arith, all.4, next.count))
-
-pub returns-in_err-next_line-clause-still_quiet : goal.returns-in_err-next_line-clause-still_quiet
-returns-in_err-next_line-clause-still_quiet g c =
-    let told = c.in_err-next_line.ensures {u = tt} in
-    (told.idle (ap (λ (o : Output). o.waiting) c.loop-alloc.invariant.untouched ∙ c.requires.quiet)).1 ∙ c.loop-alloc.invariant.untouched
-
-pub returns-in_err-build_line-clause-still_quiet : goal.returns-in_err-build_line-clause-still_quiet
-returns-in_err-build_line-clause-still_quiet g c =
-    let told = c.in_ok-next_line.ensures {u = tt} in
-    (told.idle (ap (λ (o : Output). o.waiting) c.loop-alloc.invariant.untouched ∙ c.requires.quiet)).1 ∙ c.loop-alloc.invariant.untouched
-
-pub returns-then-not-branch-clause-still_quiet : goal.returns-then-not-branch-clause-still_quiet
-returns-then-not-branch-clause-still_quiet g c =
-    let told = c.in_ok-next_line.ensures {u = tt} in
-    (told.idle (ap (λ (o : Output). o.waiting) c.loop-alloc.invariant.untouched ∙ c.requires.quiet)).1 ∙ c.loop-alloc.invariant.untouched
-
-pub returns-clause-still_quiet : goal.returns-clause-still_quiet
-returns-clause-still_quiet g c =
-    let told = c.in_ok-next_line.ensures {u = tt} in
-    (told.idle (ap (λ (o : Output). o.waiting) c.loop-alloc.invariant.untouched ∙ c.requires.quiet)).1 ∙ c.loop-alloc.invariant.untouched

@@ -1,7 +1,7 @@
-use Rattle.std.proofs.Common.{◌≡◌, ◌+◌, ◌≤◌, ℕ, length}
+use Rattle.std.proofs.Common.{◌≡◌, ◌+◌, ◌≤◌, [], length}
 use Rattle.hir_run.specs.Output.{output_of}
 use Rattle.hir_run.specs.Parts.{parts_of}
-use Rattle.hir_run.specs.Places.{place_of, unread}
+use Rattle.hir_run.specs.Places.{place_of}
 use Rattle.hir_run.proofs.BuildingLemmas.{SoFar}
 use Rattle.hir_run.proofs.building.build.Given as goal
 
@@ -9,10 +9,11 @@ abbrev pub invariant-loop-alloc : goal.invariant-loop-alloc
 invariant-loop-alloc g l = record {
   same_sink : l.output.writer.ghost_name ≡ l.fn.output.writer.ghost_name;
   same_mark : g.R.Source.is_failed l.reader ≡ g.R.Source.is_failed l.fn.reader;
+  quiet : l.output.waiting ≡ [];
   untouched : output_of g.W.Sink l.output ≡ output_of g.W.Sink l.fn.output;
   falls : length l.lines.pending + g.R.Source.allowance l.reader + l.lines.count
       ≤ length l.fn.lines.pending + g.R.Source.allowance l.fn.reader + l.fn.lines.count;
-  so_far : SoFar (unread (place_of g.R.Source g.W.Sink l.fn.lines l.fn.reader l.fn.output)) (place_of g.R.Source g.W.Sink l.lines l.reader l.output) (parts_of l.builder);
+  so_far : SoFar (g.R.Source.remaining l.fn.reader) (place_of g.R.Source g.W.Sink l.lines l.reader l.output) (parts_of l.builder);
 }
 
 abbrev pub decreases-loop-alloc : goal.decreases-loop-alloc

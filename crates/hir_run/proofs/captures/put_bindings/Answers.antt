@@ -1,5 +1,4 @@
-use Rattle.std.proofs.Common.{◌≡◌, ◌∷◌, take, take_all}
-use Rattle.std.specs.Fmt.{decimal}
+use Rattle.std.proofs.Common.{◌≡◌, ◌∷◌, take, take_all, decimal}
 use Rattle.hir_run.specs.Answer.{after_spaces}
 use Rattle.hir_run.proofs.WritingLemmas.{put_none, put_then, numbers_more}
 use Rattle.hir_run.proofs.captures.put_bindings.Goals as goal

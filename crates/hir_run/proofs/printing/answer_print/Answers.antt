@@ -1,6 +1,4 @@
-use Rattle.std.proofs.Common.{◌≡◌, ◌∙◌}
-use Rattle.std.specs.Prelude.{codes, string_bytes}
-use Rattle.std.specs.Option.{option_copied}
+use Rattle.std.proofs.Common.{◌≡◌, ◌∙◌, codes, string_bytes, option_copied}
 use Rattle.hir_run.specs.Printing.{body_text}
 use Rattle.hir_run.proofs.WritingLemmas.{put_then}
 use Rattle.hir_run.proofs.printing.answer_print.Goals as goal

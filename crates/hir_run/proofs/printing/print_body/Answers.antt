@@ -1,5 +1,4 @@
-use Rattle.std.proofs.Common.{Err, ap, ◌∙◌}
-use Rattle.std.specs.Option.{option_copied}
+use Rattle.std.proofs.Common.{Err, ap, ◌∙◌, option_copied}
 use Rattle.hir_run.proofs.PrintingLemmas.{over_name, text_is, none_missing}
 use Rattle.hir_run.proofs.printing.print_body.Goals as goal
 

@@ -1,7 +1,5 @@
-use Rattle.std.proofs.Common.{◌≡◌, Option, Some, Ok, Err, sym, ap, ◌∙◌}
-use Rattle.std.proofs.lemmas.Bool.{false≢true}
+use Rattle.std.proofs.Common.{Option, Some, Ok, Err, sym, ap, ◌∙◌, true≢false}
 use Rattle.std.proofs.lemmas.Result.{err_from_is_err_and}
-use Rattle.hir_io.specs.LineState.{LineState}
 use Rattle.hir_items.specs.Bodies.{body_of}
 use Rattle.hir_lines.specs.declared.question.Question.{Question}
 use Rattle.hir_run.specs.Output.{Output, output_of}
@@ -9,13 +7,9 @@ use Rattle.hir_run.specs.Parts.{parts_of}
 use Rattle.hir_run.specs.Places.{place_of}
 use Rattle.hir_run.specs.Stages.{Builds, IsBodyOf}
 use Rattle.hir_run.proofs.ClosingLemmas.{accept_reads_none, body_reads_none, build_writes_none, reads_as, none_before}
-use Rattle.hir_run.proofs.EndingLemmas.{from_the_start}
 use Rattle.hir_run.proofs.OfLinesLemmas.{built_of_lines, of_built}
 use Rattle.hir_run.proofs.ScriptLemmas.{script_build, script_finish, script_accept, script_store_ends, script_store_done, script_body, script_body_ends, script_body_done}
 use Rattle.hir_run.proofs.program.answer_script.Goals as goal
-
-pub build-requires-clause-fresh : goal.build-requires-clause-fresh
-build-requires-clause-fresh g c = (ap (λ (l : LineState). l.count) c.requires.fresh, ap (λ (l : LineState). l.at_end) c.requires.fresh, c.new-parts.ensures)
 
 pub returns-in_err-first-clause-runs : goal.returns-in_err-first-clause-runs
 returns-in_err-first-clause-runs g c =
@@ -24,7 +18,7 @@ returns-in_err-first-clause-runs g c =
     let p = place_of g.R.Source g.W.Sink c.build.new.lines c.build.new.reader c.build.new.output in
     let parts = parts_of c.build.new.builder in
     let told = c.in_err-first.ensures {u = tt} in
-    rw (e.1, e.2) (script_build start.output p parts told.still_quiet start.remaining c.in_err-first.field-0.0 (from_the_start start p parts (Err c.in_err-first.field-0.0) c.requires.fresh told.builds))
+    rw (e.1, e.2) (script_build start.output p parts told.still_quiet start.remaining c.in_err-first.field-0.0 told.builds)
 
 pub returns-in_err-store-clause-runs : goal.returns-in_err-store-clause-runs
 returns-in_err-store-clause-runs g c =
@@ -33,8 +27,7 @@ returns-in_err-store-clause-runs g c =
     let p = place_of g.R.Source g.W.Sink c.build.new.lines c.build.new.reader c.build.new.output in
     let parts = parts_of c.build.new.builder in
     let told = c.in_ok-first.ensures {u = tt} in
-    let builds = from_the_start start p parts (Ok c.in_ok-first.first) c.requires.fresh told.builds in
-    rw (e.1, e.2) (script_finish start.output p parts told.still_quiet start.remaining c.in_ok-first.first c.in_err-store.field-0.0 builds c.in_err-store.ensures)
+    rw (e.1, e.2) (script_finish start.output p parts told.still_quiet start.remaining c.in_ok-first.first c.in_err-store.field-0.0 told.builds c.in_err-store.ensures)
 
 pub returns-in-None-clause-runs : goal.returns-in-None-clause-runs
 returns-in-None-clause-runs g c =
@@ -42,9 +35,8 @@ returns-in-None-clause-runs g c =
     let p = place_of g.R.Source g.W.Sink c.build.new.lines c.build.new.reader c.build.new.output in
     let parts = parts_of c.build.new.builder in
     let told = c.in_ok-first.ensures {u = tt} in
-    let builds = from_the_start start p parts (Ok c.in_ok-first.first) c.requires.fresh told.builds in
     let q = record p { output = output_of g.W.Sink c.accept.new.self } in
-    script_accept start.output p parts told.still_quiet c.in_ok-store.store (c.in_ok-store.ensures {u = tt}) start.remaining q c.accept.result (rw c.in-None.is at builds) c.accept.ensures.accepts
+    script_accept start.output p parts told.still_quiet c.in_ok-store.store (c.in_ok-store.ensures {u = tt}) start.remaining q c.accept.result (rw c.in-None.is at told.builds) c.accept.ensures.accepts
 
 pub returns-in_err-left-clause-runs : goal.returns-in_err-left-clause-runs
 returns-in_err-left-clause-runs g c =
@@ -53,8 +45,7 @@ returns-in_err-left-clause-runs g c =
     let p = place_of g.R.Source g.W.Sink c.build.new.lines c.build.new.reader c.build.new.output in
     let parts = parts_of c.build.new.builder in
     let told = c.in_ok-first.ensures {u = tt} in
-    let builds = from_the_start start p parts (Ok c.in_ok-first.first) c.requires.fresh told.builds in
-    let met : Builds start.remaining p parts (Ok (Some c.in-Some.on_store)) = rw c.in-Some.is at builds in
+    let met : Builds start.remaining p parts (Ok (Some c.in-Some.on_store)) = rw c.in-Some.is at told.builds in
     let store = c.in_ok-store.ensures {u = tt} in
     let q = place_of g.R.Source g.W.Sink c.answer_lines.new.lines c.answer_lines.new.reader c.answer_lines.new.output in
     rw (e.1, e.2) (script_store_ends start.output p parts told.still_quiet c.in_ok-store.store store c.in-Some.on_store start.remaining q c.in_err-left.field-0.0 met c.in_err-left.ensures.asks)
@@ -65,8 +56,7 @@ returns-in-None-left-clause-runs g c =
     let p = place_of g.R.Source g.W.Sink c.build.new.lines c.build.new.reader c.build.new.output in
     let parts = parts_of c.build.new.builder in
     let told = c.in_ok-first.ensures {u = tt} in
-    let builds = from_the_start start p parts (Ok c.in_ok-first.first) c.requires.fresh told.builds in
-    let met : Builds start.remaining p parts (Ok (Some c.in-Some.on_store)) = rw c.in-Some.is at builds in
+    let met : Builds start.remaining p parts (Ok (Some c.in-Some.on_store)) = rw c.in-Some.is at told.builds in
     let store = c.in_ok-store.ensures {u = tt} in
     let q = place_of g.R.Source g.W.Sink c.answer_lines.new.lines c.answer_lines.new.reader c.answer_lines.new.output in
     script_store_done start.output p parts told.still_quiet c.in_ok-store.store store c.in-Some.on_store start.remaining q met (rw c.in-None-left.is at (c.in_ok-left.ensures {u = tt}).asks)
@@ -78,8 +68,7 @@ returns-in_err-whole-clause-runs g c =
     let p = place_of g.R.Source g.W.Sink c.build.new.lines c.build.new.reader c.build.new.output in
     let parts = parts_of c.build.new.builder in
     let told = c.in_ok-first.ensures {u = tt} in
-    let builds = from_the_start start p parts (Ok c.in_ok-first.first) c.requires.fresh told.builds in
-    let met : Builds start.remaining p parts (Ok (Some c.in-Some.on_store)) = rw c.in-Some.is at builds in
+    let met : Builds start.remaining p parts (Ok (Some c.in-Some.on_store)) = rw c.in-Some.is at told.builds in
     let store = c.in_ok-store.ensures {u = tt} in
     let q = place_of g.R.Source g.W.Sink c.answer_lines.new.lines c.answer_lines.new.reader c.answer_lines.new.output in
     let left = rw c.in-Some-left.is at (c.in_ok-left.ensures {u = tt}).asks in
@@ -93,8 +82,7 @@ returns-in_err-unasked-clause-runs g c =
     let p = place_of g.R.Source g.W.Sink c.build.new.lines c.build.new.reader c.build.new.output in
     let parts = parts_of c.build.new.builder in
     let told = c.in_ok-first.ensures {u = tt} in
-    let builds = from_the_start start p parts (Ok c.in_ok-first.first) c.requires.fresh told.builds in
-    let met : Builds start.remaining p parts (Ok (Some c.in-Some.on_store)) = rw c.in-Some.is at builds in
+    let met : Builds start.remaining p parts (Ok (Some c.in-Some.on_store)) = rw c.in-Some.is at told.builds in
     let store = c.in_ok-store.ensures {u = tt} in
     let q = place_of g.R.Source g.W.Sink c.answer_lines.new.lines c.answer_lines.new.reader c.answer_lines.new.output in
     let left = rw c.in-Some-left.is at (c.in_ok-left.ensures {u = tt}).asks in
@@ -107,8 +95,7 @@ returns-clause-runs g c =
     let p = place_of g.R.Source g.W.Sink c.build.new.lines c.build.new.reader c.build.new.output in
     let parts = parts_of c.build.new.builder in
     let told = c.in_ok-first.ensures {u = tt} in
-    let builds = from_the_start start p parts (Ok c.in_ok-first.first) c.requires.fresh told.builds in
-    let met : Builds start.remaining p parts (Ok (Some c.in-Some.on_store)) = rw c.in-Some.is at builds in
+    let met : Builds start.remaining p parts (Ok (Some c.in-Some.on_store)) = rw c.in-Some.is at told.builds in
     let store = c.in_ok-store.ensures {u = tt} in
     let q = place_of g.R.Source g.W.Sink c.answer_lines.new.lines c.answer_lines.new.reader c.answer_lines.new.output in
     let left = rw c.in-Some-left.is at (c.in_ok-left.ensures {u = tt}).asks in
@@ -121,8 +108,7 @@ new-body-requires g c =
     let p = place_of g.R.Source g.W.Sink c.build.new.lines c.build.new.reader c.build.new.output in
     let parts = parts_of c.build.new.builder in
     let told = c.in_ok-first.ensures {u = tt} in
-    let builds = from_the_start start p parts (Ok c.in_ok-first.first) c.requires.fresh told.builds in
-    let of_lines = built_of_lines c.said_is_written.ensures start.remaining p parts c.in_ok-first.first builds in
+    let of_lines = built_of_lines c.said_is_written.ensures start.remaining p parts c.in_ok-first.first told.builds in
     rw ((c.in_ok-whole.ensures {u = tt}).0, (c.in_ok-left.ensures {u = tt}).same.0) (of_built parts.built c.in_ok-store.store (c.in_ok-store.ensures {u = tt}) of_lines)
 
 pub returns-in_err-whole-clause-input_failed : goal.returns-in_err-whole-clause-input_failed
@@ -157,7 +143,7 @@ pub returns-in_err-store-clause-quiet : goal.returns-in_err-store-clause-quiet
 returns-in_err-store-clause-quiet g c = λ failed. ap (λ (o : Output). o.waiting) (c.in_ok-first.ensures {u = tt}).still_quiet ∙ c.requires.quiet
 
 pub returns-in-None-clause-quiet : goal.returns-in-None-clause-quiet
-returns-in-None-clause-quiet g c = λ failed. absurd (false≢true (sym (accept_reads_none (output_of g.W.Sink c.build.new.output) (output_of g.W.Sink c.accept.new.self) c.accept.result c.accept.ensures.accepts) ∙ failed))
+returns-in-None-clause-quiet g c = λ failed. absurd (true≢false (sym failed ∙ accept_reads_none (output_of g.W.Sink c.build.new.output) (output_of g.W.Sink c.accept.new.self) c.accept.result c.accept.ensures.accepts))
 
 pub returns-in_err-left-clause-quiet : goal.returns-in_err-left-clause-quiet
 returns-in_err-left-clause-quiet g c =
@@ -168,7 +154,7 @@ pub returns-in_err-whole-clause-quiet : goal.returns-in_err-whole-clause-quiet
 returns-in_err-whole-clause-quiet g c =
     let e = err_from_is_err_and c.from_residual-in_err-whole.result c.from_residual-in_err-whole.ensures.1 in
     let none = body_reads_none (Unit {0}) (body_of c.answer_lines.new.asked c.build.new.builder.params c.build.new.builder.self_param) c.in_err-whole.field-0.0 c.in_err-whole.ensures in
-    rw (e.1, e.2) (λ failed. absurd (false≢true (sym none.0 ∙ failed)))
+    rw (e.1, e.2) (λ failed. absurd (true≢false (sym failed ∙ none.0)))
 
 pub returns-in_err-unasked-clause-quiet : goal.returns-in_err-unasked-clause-quiet
 returns-in_err-unasked-clause-quiet g c =

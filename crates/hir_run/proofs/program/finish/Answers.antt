@@ -7,26 +7,22 @@ use Rattle.hir_run.specs.Faults.{fault_of_finish}
 use Rattle.hir_run.specs.Stages.{Finishes}
 use Rattle.hir_run.proofs.program.finish.Goals as goal
 
--- a fault that isn't want of memory is the first of what was built
-not_memory : (fault : FinishFault) (built : Building) → (fault ≡ finish.Memory → ⊥) → fault ≡ finish.Memory ⊎ finish_fault built (Some fault) → finish_fault built (Some fault)
-not_memory fault built other (inl e) = absurd (other e)
-not_memory fault built other (inr p) = p
-
 -- how a run ends where what was built is refused
 fault_ends : (fault : FinishFault) (built : Building) → fault ≡ finish.Memory ⊎ finish_fault built (Some fault) → Finishes built (Err (fault_of_finish fault))
-fault_ends finish.Memory built p = tt
-fault_ends finish.NoRoots built p = (finish.NoRoots, refl, not_memory finish.NoRoots built (λ e. cc) p)
-fault_ends (finish.IdOutOfRange node) built p = (finish.IdOutOfRange node, refl, not_memory (finish.IdOutOfRange node) built (λ e. cc) p)
-fault_ends (finish.NotAPath node) built p = (finish.NotAPath node, refl, not_memory (finish.NotAPath node) built (λ e. cc) p)
-fault_ends (finish.NoReturnType node) built p = (finish.NoReturnType node, refl, not_memory (finish.NoReturnType node) built (λ e. cc) p)
-fault_ends (finish.NoSelfArgument node) built p = (finish.NoSelfArgument node, refl, not_memory (finish.NoSelfArgument node) built (λ e. cc) p)
-fault_ends (finish.ArgumentLists node) built p = (finish.ArgumentLists node, refl, not_memory (finish.ArgumentLists node) built (λ e. cc) p)
-fault_ends (finish.SharedChild node) built p = (finish.SharedChild node, refl, not_memory (finish.SharedChild node) built (λ e. cc) p)
-fault_ends (finish.Cycle node) built p = (finish.Cycle node, refl, not_memory (finish.Cycle node) built (λ e. cc) p)
-fault_ends (finish.RootOutOfRange index) built p = (finish.RootOutOfRange index, refl, not_memory (finish.RootOutOfRange index) built (λ e. cc) p)
-fault_ends (finish.RootRepeated index) built p = (finish.RootRepeated index, refl, not_memory (finish.RootRepeated index) built (λ e. cc) p)
-fault_ends (finish.RootUnderRoot index) built p = (finish.RootUnderRoot index, refl, not_memory (finish.RootUnderRoot index) built (λ e. cc) p)
-fault_ends (finish.RootEnds index) built p = (finish.RootEnds index, refl, not_memory (finish.RootEnds index) built (λ e. cc) p)
+fault_ends fault built (inl e) = rw e tt
+fault_ends finish.Memory built (inr p) = tt
+fault_ends finish.NoRoots built (inr p) = (finish.NoRoots, refl, p)
+fault_ends (finish.IdOutOfRange node) built (inr p) = (finish.IdOutOfRange node, refl, p)
+fault_ends (finish.NotAPath node) built (inr p) = (finish.NotAPath node, refl, p)
+fault_ends (finish.NoReturnType node) built (inr p) = (finish.NoReturnType node, refl, p)
+fault_ends (finish.NoSelfArgument node) built (inr p) = (finish.NoSelfArgument node, refl, p)
+fault_ends (finish.ArgumentLists node) built (inr p) = (finish.ArgumentLists node, refl, p)
+fault_ends (finish.SharedChild node) built (inr p) = (finish.SharedChild node, refl, p)
+fault_ends (finish.Cycle node) built (inr p) = (finish.Cycle node, refl, p)
+fault_ends (finish.RootOutOfRange index) built (inr p) = (finish.RootOutOfRange index, refl, p)
+fault_ends (finish.RootRepeated index) built (inr p) = (finish.RootRepeated index, refl, p)
+fault_ends (finish.RootUnderRoot index) built (inr p) = (finish.RootUnderRoot index, refl, p)
+fault_ends (finish.RootEnds index) built (inr p) = (finish.RootEnds index, refl, p)
 
 pub returns-in_err-store : goal.returns-in_err-store
 returns-in_err-store c =

@@ -1,5 +1,4 @@
-use Rattle.std.proofs.Common.{◌≡◌, ◌<◌, List, ℕ, Some, length, map-id, subst, sym, ◌∙◌, arith}
-use Rattle.std.specs.Prelude.{All}
+use Rattle.std.proofs.Common.{◌≡◌, ◌<◌, List, ℕ, Some, length, map-id, subst, sym, ◌∙◌, arith, All}
 use Rattle.std.proofs.lemmas.Iterator.Consumers.{YieldsList-end, YieldsList-from_first, YieldsList-turn}
 use Rattle.std.proofs.lemmas.List.Elements.{All-get_or}
 use Rattle.hir_scope.specs.Paths.{path, frame_at}

@@ -1,6 +1,4 @@
-use Rattle.std.proofs.Common.{ℕ, Option, Some, subst}
-use Rattle.std.specs.Prelude.{codes}
-use Rattle.std.specs.Option.{option_map}
+use Rattle.std.proofs.Common.{ℕ, Option, Some, subst, codes, option_map}
 use Rattle.hir_scope.specs.Paths.{chain}
 use Rattle.hir_scope.specs.Resolution.{entries_of}
 use Rattle.hir_run.specs.Answer.{chain_text, names_text}

@@ -1,5 +1,4 @@
-use Rattle.std.proofs.Common.{ℕ, Option, Some, subst}
-use Rattle.std.specs.Option.{option_map}
+use Rattle.std.proofs.Common.{ℕ, Option, Some, subst, option_map}
 use Rattle.hir_scope.specs.Paths.{chain}
 use Rattle.hir_run.specs.Answer.{resolve_text}
 use Rattle.hir_run.specs.Output.{Puts}

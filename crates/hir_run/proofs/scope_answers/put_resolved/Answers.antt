@@ -1,6 +1,4 @@
-use Rattle.std.proofs.Common.{◌≡◌, Option, ◌∙◌, subst}
-use Rattle.std.specs.Prelude.{codes}
-use Rattle.std.specs.Fmt.{decimal}
+use Rattle.std.proofs.Common.{◌≡◌, Option, ◌∙◌, subst, codes, decimal}
 use Rattle.hir_scope.specs.declared.scope.ScopeEntry.{ScopeEntry}
 use Rattle.hir_run.specs.Answer.{resolved_text}
 use Rattle.hir_run.specs.Output.{Puts}

@@ -1,5 +1,4 @@
-use Rattle.std.proofs.Common.{◌∷◌, []}
-use Rattle.std.specs.Fmt.{decimal}
+use Rattle.std.proofs.Common.{◌∷◌, [], decimal}
 use Rattle.hir_run.proofs.WritingLemmas.{put_then}
 use Rattle.hir_run.proofs.output.Output.put_spaced.Goals as goal
 
