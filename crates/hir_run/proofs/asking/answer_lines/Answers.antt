@@ -1,4 +1,4 @@
-use Rattle.std.proofs.Common.{◌≡◌, ◌+◌, true, Ok, Err, length, ◌++◌, ◌∷◌, [], subst, sym, ◌∙◌, arith, length-append, refl}
+use Rattle.std.proofs.Common.{◌≡◌, ◌+◌, true, false, Ok, Err, length, ◌++◌, ◌∷◌, [], subst, sym, ◌∙◌, arith, length-append, refl}
 use Rattle.std.proofs.lemmas.Result.{err_from_is_err_and}
 use Rattle.hir_io.proofs.ReadLemmas.{Reads-none, ReadsAll-end}
 use Rattle.hir_lines.specs.Line.{line_of}

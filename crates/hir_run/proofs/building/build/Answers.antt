@@ -1,4 +1,4 @@
-use Rattle.std.proofs.Common.{Bool, true, Ok, Err, ◌++◌, ◌∷◌, [], sym, ap, subst, ◌∙◌, arith, length-append, refl, ◌||◌}
+use Rattle.std.proofs.Common.{Bool, true, false, Ok, Err, ◌++◌, ◌∷◌, [], sym, ap, subst, ◌∙◌, arith, length-append, refl, ◌||◌}
 use Rattle.std.proofs.lemmas.Result.{err_from_is_err_and}
 use Rattle.hir_io.proofs.ReadLemmas.{ReadsAll-end}
 use Rattle.hir_run.specs.Output.{Output}
@@ -88,6 +88,8 @@ returns-then-not-branch-clause-failure g c =
 
 pub returns-clause-builds : goal.returns-clause-builds
 returns-clause-builds g c =
+    let p = place_of g.R.Source g.W.Sink c.loop-alloc.lines c.loop-alloc.reader c.loop-alloc.output in
+    let q = place_of g.R.Source g.W.Sink c.next_line.new.lines c.next_line.new.reader c.next_line.new.self in
     let all = c.loop-alloc.invariant.so_far in
     let told = c.in_ok-next_line.ensures {u = tt} in
     let next : TakesNext p q (Ok false) = rw c.if-branch.false at told.takes in
