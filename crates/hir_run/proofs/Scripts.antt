@@ -1,5 +1,6 @@
 -- Scripts in parts: which lines are a second self parameter or a second name is told by the lines before.
 use Rattle.std.proofs.Common.{◌≡◌, Bool, true, false, ◌||◌, List, [], ◌∷◌, ◌++◌, None, is_some, ℕ, suc, if◌then◌else◌, refl, sym, ap, ◌∙◌, length, append-nil, append_assoc, true≢false}
+use Rattle.std.proofs.Math.Bool.{or_assoc, or-false, or-true}
 use Rattle.std.specs.Cmp.{first_so, second_so}
 use Rattle.hir_lines.specs.declared.question.Question.{Question}
 use Rattle.std.specs.List.{list_all, list_any}
@@ -12,17 +13,9 @@ use Rattle.hir_lines.specs.Taking.{is_second as is_second_of}
 use Rattle.hir_run.specs.Parts.{Parts, with_line, is_second}
 use Rattle.hir_run.specs.Program.{gives_self, gives_name, unless_second, once_each, says, script, line_behind}
 
-or_assoc : (a b c : Bool) → ((a || b) || c) ≡ (a || (b || c))
-or_assoc true b c = refl
-or_assoc false b c = refl
-
-or_false : (a : Bool) → (a || false) ≡ a
-or_false true = refl
-or_false false = refl
-
 -- a script in two parts
 once_each-append : (s n : Bool) (xs ys : List Line) → once_each s n (xs ++ ys) ≡ once_each s n xs ++ once_each (s || list_any gives_self xs) (n || list_any gives_name xs) ys
-once_each-append s n [] ys = rw (or_false s, or_false n) refl
+once_each-append s n [] ys = rw (or-false s, or-false n) refl
 once_each-append s n (x ∷ xs) ys =
     ap (λ v. unless_second s n x ∷ v) (once_each-append (s || gives_self x) (n || gives_name x) xs ys
     ∙ (rw (or_assoc s (gives_self x) (list_any gives_self xs), or_assoc n (gives_name x) (list_any gives_name xs)) refl))
@@ -49,7 +42,7 @@ says-push texts text = map-append line_of texts (text ∷ [])
 
 any-push : (p : Line → Bool) (texts : List (List ℕ)) (text : List ℕ) → list_any p (says (texts ++ text ∷ [])) ≡ (list_any p (says texts) || p (line_of text))
 any-push p texts text =
-    ap (list_any p) (map-append line_of texts (text ∷ [])) ∙ list_any-append p (says texts) (line_of text ∷ []) ∙ ap (λ b. list_any p (says texts) || b) (or_false (p (line_of text)))
+    ap (list_any p) (map-append line_of texts (text ∷ [])) ∙ list_any-append p (says texts) (line_of text ∷ []) ∙ ap (λ b. list_any p (says texts) || b) (or-false (p (line_of text)))
 
 -- one text behind others, and then more
 pub behind-cons : (texts more : List (List ℕ)) (text : List ℕ) → behind_texts texts (text ∷ more) ≡ line_behind texts text ∷ behind_texts (texts ++ text ∷ []) more
@@ -118,35 +111,31 @@ tells-by parts parts' line h k texts text e t = record {
 }
 
 pub tells_blank : (parts : Parts) (texts : List (List ℕ)) (text : List ℕ) → line_of text ≡ Blank → Tells parts texts → Tells parts (texts ++ text ∷ [])
-tells_blank parts texts text e t = tells-by parts parts Blank (sym (or_false _)) (sym (or_false _)) texts text e t
-
-or_true : (a : Bool) → true ≡ (a || true)
-or_true true = refl
-or_true false = refl
+tells_blank parts texts text e t = tells-by parts parts Blank (sym (or-false _)) (sym (or-false _)) texts text e t
 
 pub tells_more : (parts : Parts) (maker : Maker) (texts : List (List ℕ)) (text : List ℕ) → line_of text ≡ Make maker → Tells parts texts → Tells (with_line parts maker) (texts ++ text ∷ [])
 tells_more parts maker texts text e t = tells-by parts (with_line parts maker) (Make maker) (self-is maker) (name-is maker) texts text e t
   where
     self-is : (maker : Maker) → is_some (with_line parts maker).self_param ≡ (is_some parts.self_param || is_second_of true false maker)
-    self-is (make.SelfParam id) = or_true _
-    self-is (make.FnName name) = sym (or_false _)
-    self-is (make.Binding binding) = sym (or_false _)
-    self-is (make.Pat pat) = sym (or_false _)
-    self-is (make.TypeRef type_ref) = sym (or_false _)
-    self-is (make.Expr expr) = sym (or_false _)
-    self-is (make.Hygiene id hygiene) = sym (or_false _)
-    self-is (make.Param id) = sym (or_false _)
-    self-is make.Roots = sym (or_false _)
-    self-is (make.Root id) = sym (or_false _)
+    self-is (make.SelfParam id) = sym (or-true _)
+    self-is (make.FnName name) = sym (or-false _)
+    self-is (make.Binding binding) = sym (or-false _)
+    self-is (make.Pat pat) = sym (or-false _)
+    self-is (make.TypeRef type_ref) = sym (or-false _)
+    self-is (make.Expr expr) = sym (or-false _)
+    self-is (make.Hygiene id hygiene) = sym (or-false _)
+    self-is (make.Param id) = sym (or-false _)
+    self-is make.Roots = sym (or-false _)
+    self-is (make.Root id) = sym (or-false _)
 
     name-is : (maker : Maker) → is_some (with_line parts maker).name ≡ (is_some parts.name || is_second_of false true maker)
-    name-is (make.FnName name) = or_true _
-    name-is (make.SelfParam id) = sym (or_false _)
-    name-is (make.Binding binding) = sym (or_false _)
-    name-is (make.Pat pat) = sym (or_false _)
-    name-is (make.TypeRef type_ref) = sym (or_false _)
-    name-is (make.Expr expr) = sym (or_false _)
-    name-is (make.Hygiene id hygiene) = sym (or_false _)
-    name-is (make.Param id) = sym (or_false _)
-    name-is make.Roots = sym (or_false _)
-    name-is (make.Root id) = sym (or_false _)
+    name-is (make.FnName name) = sym (or-true _)
+    name-is (make.SelfParam id) = sym (or-false _)
+    name-is (make.Binding binding) = sym (or-false _)
+    name-is (make.Pat pat) = sym (or-false _)
+    name-is (make.TypeRef type_ref) = sym (or-false _)
+    name-is (make.Expr expr) = sym (or-false _)
+    name-is (make.Hygiene id hygiene) = sym (or-false _)
+    name-is (make.Param id) = sym (or-false _)
+    name-is make.Roots = sym (or-false _)
+    name-is (make.Root id) = sym (or-false _)

@@ -83,7 +83,7 @@ impl BodyOfLines {
     /// Takes the scopes out, or makes them where none are there.
     fn take_scopes(&mut self, alloc: Global) -> Result<ExprScopes, MemoryRefused>
         ensures same { self.new ≡ self.old }
-        ensures scopes { IfOk result (AreBodyScopes self.old.body) }
+        ensures scopes { IfOk result (AreBodyScopes self.new.body) }
     {
         match self.scopes.take() {
             Some(scopes) => Ok(scopes),

@@ -11,6 +11,9 @@ use Rattle.hir_run.proofs.OfLinesLemmas.{built_of_lines, of_built}
 use Rattle.hir_run.proofs.ScriptLemmas.{script_build, script_finish, script_accept, script_store_ends, script_store_done, script_body, script_body_ends, script_body_done}
 use Rattle.hir_run.proofs.program.answer_script.Goals as goal
 
+pub answer_lines-requires-clause-unfailed : goal.answer_lines-requires-clause-unfailed
+answer_lines-requires-clause-unfailed g c = ap (λ (o : Output). o.failed) (c.in_ok-first.ensures {u = tt}).still_quiet ∙ c.requires.unfailed.1
+
 pub returns-in_err-first-clause-runs : goal.returns-in_err-first-clause-runs
 returns-in_err-first-clause-runs g c =
     let e = err_from_is_err_and c.from_residual.result c.from_residual.ensures.1 in
@@ -135,6 +138,9 @@ returns-in_err-first-clause-output_failed g c =
     let p = place_of g.R.Source g.W.Sink c.build.new.lines c.build.new.reader c.build.new.output in
     let told = c.in_err-first.ensures {u = tt} in
     rw (e.1, e.2) (ap (λ (o : Output). o.failed) told.still_quiet ∙ c.requires.unfailed.1 ∙ sym (build_writes_none (Unit {0}) _ p (parts_of c.build.new.builder) c.in_err-first.field-0.0 told.builds))
+
+pub returns-in-None-clause-output_failed : goal.returns-in-None-clause-output_failed
+returns-in-None-clause-output_failed g c = none_before _ _ _ c.accept.ensures.failure (ap (λ (o : Output). o.failed) (c.in_ok-first.ensures {u = tt}).still_quiet ∙ c.requires.unfailed.1)
 
 pub returns-in_err-first-clause-quiet : goal.returns-in_err-first-clause-quiet
 returns-in_err-first-clause-quiet g c = λ failed. ap (λ (o : Output). o.waiting) (c.in_err-first.ensures {u = tt}).still_quiet ∙ c.requires.quiet
