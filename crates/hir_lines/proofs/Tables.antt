@@ -120,8 +120,10 @@ unfolding line_of
 asks_by [] some = absurd (some refl)
 asks_by (b ∷ bs) some = (
   by_any (whole maker (parts_of 32 (b ∷ bs))) (whole question (parts_of 32 (b ∷ bs))),
-  λ e. by_question (whole question (parts_of 32 (b ∷ bs))) refl e,
-  λ e. ap (λ q. asks (by_words (whole maker (parts_of 32 (b ∷ bs))) q)) e ∙ no_question (whole maker (parts_of 32 (b ∷ bs))),
+  (
+    λ e. by_question (whole question (parts_of 32 (b ∷ bs))) refl e,
+    λ e. ap (λ q. asks (by_words (whole maker (parts_of 32 (b ∷ bs))) q)) e ∙ no_question (whole maker (parts_of 32 (b ∷ bs))),
+  ),
 ) where
   by_any : (made : Option Maker) (asked : Option Question) → by_words made asked ≡ Blank → ⊥
   by_any (Some made) asked e = cc

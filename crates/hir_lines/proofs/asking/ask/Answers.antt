@@ -22,8 +22,10 @@ returns-in_err-question c =
     record {
       asks = rw (p.1, p.2) (
         by.0,
-        λ bad. by.1.1 (ap (λ (ws : List (List ℕ)). whole question ws) words ∙ asked.0 bad),
-        λ no. asked.1 (ap (λ (ws : List (List ℕ)). whole question ws) (sym words) ∙ by.1.0 no),
+        (
+          λ bad. by.1.1 (ap (λ (ws : List (List ℕ)). whole question ws) words ∙ asked.0 bad),
+          λ no. asked.1 (ap (λ (ws : List (List ℕ)). whole question ws) (sym words) ∙ by.1.0 no),
+        ),
       );
     }
 
