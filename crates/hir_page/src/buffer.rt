@@ -64,7 +64,6 @@ impl PageBuffer {
     }
 
     /// Whether the last line holds only spaces.
-    #[tactic(auto, using(crate::proofs::BufferLemmas::blank_by_len))]
     fn ends_in_blank_line(&self) -> bool
         ensures { result ≡ is_blank self.now.last }
     {
