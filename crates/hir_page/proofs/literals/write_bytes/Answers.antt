@@ -3,7 +3,6 @@ use Rattle.std.proofs.Math.ListN.{drop_of_length-le}
 use Rattle.hir_page.proofs.PieceLemmas.{on_err, all_left, some_written, none_left, stops_in_rest}
 use Rattle.hir_page.proofs.literals.write_bytes.Goals as goal
 
-
 pub loop-byte-preserved : goal.loop-byte-preserved
 loop-byte-preserved c = some_written _ (rw (drop_more c.args.bytes.now c.loop-byte.byte-index 0 c.loop-byte-test.true) at c.loop-byte.invariant) c.in_ok-write_byte.ensures.ok
 
