@@ -94,3 +94,5 @@ pub grown_cut : (bs cs : List ℕ) {l m : ℕ} {f g : LineFormat} (n : ℕ) → 
 grown_cut bs cs n u v e le h =
     let b = IsCharBoundary-from_take cs n v le (subst IsUtf8 (sym (grown_back bs cs n e h)) u) in
     (b.0, λ some. b.1)
+
+pub ruleset grown = (grown_none, grown_then, grown_by, lines_of-plain, lines_of-end, no_end_in_spaces)

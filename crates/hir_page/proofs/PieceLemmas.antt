@@ -84,4 +84,4 @@ pub is_escape : (escape : List ℕ) (long : List Piece) → (length escape == 0)
 is_escape [] long e = absurd (cc)
 is_escape (c ∷ cs) long e = refl
 
-pub ruleset pieces = (all_rendered-append, all_left, stops_here, stops_next)
+pub ruleset pieces = (all_rendered-append, all_left, stops_here, stops_next, stops_inside, stops_at_last, is_escape, long_plain, hexadecimal_one)

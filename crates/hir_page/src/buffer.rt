@@ -1,4 +1,6 @@
 //! The one buffer of a printing: a text that is written at its end alone, and looks back over its last characters.
+#![tactic(auto, using(crate::proofs::BufferLemmas::grown))]
+
 ghost use Rattle.std.specs.Prelude.{◌≡◌, ◌∷◌, [], ◌++◌, ◌+◌, ◌-◌, ◌*◌, replicate, OnOk, OnErr, IsTrue, ◌↔◌, string_bytes};
 ghost use Rattle.hir_page.specs.Buffer.{HasNoEnd, IsTrimmedLen, IsCutText, EndsInLineEnd, IsGrown};
 ghost use Rattle.hir_page.specs.Pieces as piece;
@@ -35,6 +37,7 @@ impl Model for PageBuffer {
 
 impl PageBuffer {
     /// An empty page, in this format. It takes no memory.
+    #[tactic(auto, unfolding(crate::specs::Buffer::lines_of))]
     pub fn new(alloc: Global, format: LineFormat) -> PageBuffer
         ensures { result ≡ empty_page format }
     {
@@ -47,6 +50,7 @@ impl PageBuffer {
     }
 
     /// The text of the page: its lines, joined by line ends. It takes no memory.
+    #[tactic(auto, using(crate::proofs::PageLemmas::text_of_lines))]
     pub fn into_text(self) -> String
         ensures { string_bytes result ≡ page_text self }
     {
@@ -250,6 +254,7 @@ impl PageBuffer {
     }
 
     /// Whether the text is empty.
+    #[tactic(auto, using(crate::proofs::BufferLemmas::empty_by_len))]
     fn is_empty(&self) -> bool
         ensures { result ≡ is_empty_text self.now.above self.now.last }
     {
@@ -257,6 +262,7 @@ impl PageBuffer {
     }
 
     /// Whether the last line ends in a space.
+    #[tactic(auto, using(crate::proofs::BufferLemmas::space_by_len))]
     fn ends_in_space(&self) -> bool
         ensures { result ≡ ends_in_space self.now.last }
     {
@@ -304,6 +310,7 @@ impl PageBuffer {
     }
 
     /// Writes text.
+    #[tactic(auto, using(crate::proofs::PageLemmas::put_all_in_line))]
     pub fn text(&mut self, text: &str) -> Result<(), AllocError>
         ensures ok { OnOk result (self.new ≡ put_all text.now self.old) }
         ensures err { OnErr result (self.new ≡ self.old) }
@@ -315,7 +322,7 @@ impl PageBuffer {
     }
 
     /// Writes a soft space: a space, unless there is one or a line begins.
-    #[tactic(auto, using(crate::proofs::EndLemmas::unspaced_blank))]
+    #[tactic(auto, using(crate::proofs::EndLemmas::unspaced_blank, crate::proofs::EndLemmas::no_end_in_spaces))]
     pub fn soft_space(&mut self) -> Result<(), AllocError>
         ensures ok { OnOk result (self.new ≡ with_space self.old) }
         ensures err { OnErr result (self.new ≡ self.old) }

@@ -3,15 +3,9 @@ use Rattle.std.proofs.Math.ListN.{drop_of_length-le}
 use Rattle.hir_page.proofs.PieceLemmas.{on_err, all_left, some_written, none_left, stops_in_rest}
 use Rattle.hir_page.proofs.literals.write_bytes.Goals as goal
 
-pub loop-byte-init : goal.loop-byte-init
-loop-byte-init c = all_left
-
 pub loop-byte-preserved : goal.loop-byte-preserved
 loop-byte-preserved c = some_written _ (rw (drop_more c.args.bytes.now c.loop-byte.byte-index 0 c.loop-byte-test.true) at c.loop-byte.invariant) c.in_ok-write_byte.ensures.ok
 
 pub returns-in_err-write_byte-clause-err : goal.returns-in_err-write_byte-clause-err
 returns-in_err-write_byte-clause-err c =
     on_err _ (stops_in_rest _ (rw (drop_more c.args.bytes.now c.loop-byte.byte-index 0 c.loop-byte-test.true) at c.loop-byte.invariant) c.in_err-write_byte.ensures.err)
-
-pub returns-clause-ok : goal.returns-clause-ok
-returns-clause-ok c = none_left (rw (drop_of_length-le c.args.bytes.now {i = c.loop-byte.byte-index} c.loop-byte-test.false) at c.loop-byte.invariant)

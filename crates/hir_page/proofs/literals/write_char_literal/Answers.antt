@@ -2,8 +2,11 @@ use Rattle.std.proofs.Common.{codes}
 use Rattle.hir_page.specs.Pieces.{Text}
 use Rattle.hir_page.specs.Literals.{lone_char}
 use Rattle.std.proofs.lemmas.Result.{on_ok_weaker, on_err_weaker}
-use Rattle.hir_page.proofs.PieceLemmas.{on_err, stops_inside, stops_at_last, last_written}
+use Rattle.hir_page.proofs.PieceLemmas.{on_err, stops_here, stops_inside, stops_at_last, last_written}
 use Rattle.hir_page.proofs.literals.write_char_literal.Goals as goal
+
+pub returns-in_err-text-clause-err : goal.returns-in_err-text-clause-err
+returns-in_err-text-clause-err c = on_err _ (stops_here c.in_err-text.ensures.err)
 
 pub returns-in_err-write_escaped-clause-err : goal.returns-in_err-write_escaped-clause-err
 returns-in_err-write_escaped-clause-err c = on_err _ (stops_inside _ c.in_ok-text.ensures.ok (rw c.short_escape.ensures at c.in_err-write_escaped.ensures.err))

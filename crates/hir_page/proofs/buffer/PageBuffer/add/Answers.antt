@@ -24,22 +24,3 @@ invariant_of-self-else-of_part-gt0 c =
       kept = rw c.in_ok-push_str.ensures.bytes (kept_blank (string_bytes old.text) c.args.part.now old.kept c.self.invariant.kept t);
       spaces = c.self.invariant.spaces;
     }
-
-pub returns-then-of_part-gt0-clause-ok : goal.returns-then-of_part-gt0-clause-ok
-returns-then-of_part-gt0-clause-ok c =
-    let old = c.self.inside in
-    rw (← c.self.view_is, c.in_ok-push_str.ensures.bytes) (page_plain (string_bytes old.text) c.args.part.now (level_of (string_bytes old.indentation)) old.format c.requires)
-
-pub returns-else-of_part-gt0-clause-ok : goal.returns-else-of_part-gt0-clause-ok
-returns-else-of_part-gt0-clause-ok c =
-    let old = c.self.inside in
-    rw (← c.self.view_is, c.in_ok-push_str.ensures.bytes) (page_plain (string_bytes old.text) c.args.part.now (level_of (string_bytes old.indentation)) old.format c.requires)
-
-pub returns-in_err-push_str-clause-grown : goal.returns-in_err-push_str-clause-grown
-returns-in_err-push_str-clause-grown c = rw (← c.self.view_is, c.in_err-push_str.ensures.bytes) grown_none
-
-pub returns-then-of_part-gt0-clause-grown : goal.returns-then-of_part-gt0-clause-grown
-returns-then-of_part-gt0-clause-grown c = rw (← c.self.view_is, c.in_ok-push_str.ensures.bytes) (grown_by _ _ _ _)
-
-pub returns-else-of_part-gt0-clause-grown : goal.returns-else-of_part-gt0-clause-grown
-returns-else-of_part-gt0-clause-grown c = rw (← c.self.view_is, c.in_ok-push_str.ensures.bytes) (grown_by _ _ _ _)

@@ -12,17 +12,3 @@ invariant_of-self-2 c =
     let bytes : string_bytes c.push_str.new.self ≡ string_bytes old.text ++ replicate (4 * level) 32 =
     c.in_ok-push_str.ensures.bytes ∙ ap (λ e. string_bytes old.text ++ e) (c.as_str.ensures.value ∙ c.self.invariant.spaces) in
     record { kept = rw bytes (kept_spaces (string_bytes old.text) old.kept (4 * level) c.self.invariant.kept); spaces = c.self.invariant.spaces }
-
-pub returns-clause-ok : goal.returns-clause-ok
-returns-clause-ok c =
-    let old = c.self.inside in
-    let level = level_of (string_bytes old.indentation) in
-    let bytes : string_bytes c.push_str.new.self ≡ string_bytes old.text ++ replicate (4 * level) 32 =
-    c.in_ok-push_str.ensures.bytes ∙ ap (λ e. string_bytes old.text ++ e) (c.as_str.ensures.value ∙ c.self.invariant.spaces) in
-    rw (← c.self.view_is, bytes) (page_spaces (string_bytes old.text) (4 * level) level old.format)
-
-pub returns-in_err-push_str-clause-grown : goal.returns-in_err-push_str-clause-grown
-returns-in_err-push_str-clause-grown c = rw (← c.self.view_is, c.in_err-push_str.ensures.bytes) grown_none
-
-pub returns-clause-grown : goal.returns-clause-grown
-returns-clause-grown c = rw (← c.self.view_is, c.in_ok-push_str.ensures.bytes) (grown_by _ _ _ _)

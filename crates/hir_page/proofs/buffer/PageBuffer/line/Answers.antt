@@ -18,8 +18,5 @@ returns-in_ok-add-clause-ok c =
     let format = c.in_line-self-inside.ensures ∙ ap format_in_line (ap (λ (q : Page). q.format) added ∙ begun_format p) in
     ap (set c.in_line-self-inside.result) added ∙ ap (λ f. set f (with_line (begin p))) format ∙ sym (put_line p line some c.requires)
 
-pub returns-in_err-add-clause-grown : goal.returns-in_err-add-clause-grown
-returns-in_err-add-clause-grown c = grown_then c.in_ok-begin.ensures.grown c.in_err-add.ensures.grown
-
 pub returns-in_ok-add-clause-grown : goal.returns-in_ok-add-clause-grown
 returns-in_ok-add-clause-grown c = grown_format (page_of c.self.inside) _ (grown_then c.in_ok-begin.ensures.grown c.in_ok-add.ensures.grown) c.self.view_is

@@ -26,12 +26,3 @@ loop-line-preserved c =
 
 pub line-requires-2 : goal.line-requires-2
 line-requires-2 c = rw c.in_default.is at (split_parts 10 _ _ c.split_once.ensures.cases (omega arith))
-
-pub returns-in_err-line-clause-grown : goal.returns-in_err-line-clause-grown
-returns-in_err-line-clause-grown c = grown_then c.loop-line.invariant.grown c.in_err-line.ensures.grown
-
-pub returns-in_err-line_end-clause-grown : goal.returns-in_err-line_end-clause-grown
-returns-in_err-line_end-clause-grown c = grown_then c.loop-line.invariant.grown (grown_then c.in_ok-line.ensures.grown c.in_err-line_end.ensures.grown)
-
-pub returns-clause-grown : goal.returns-clause-grown
-returns-clause-grown c = grown_then c.loop-line.invariant.grown c.line-2.ensures.grown
