@@ -14,5 +14,5 @@ returns g c =
     (λ numbers old n new so_far called.
     let step = called.met in
     (step.1.0 ∙ so_far.0, spaced_then g.W.Sink c.args.output.now old.now new.now numbers n so_far.1 step.1.1))
-    _ _ _ (refl, put_none g.W.Sink c.args.output.now) c.walk_child_exprs.ensures.runs in
+    _ (record { ref_ptr = _; ghost_name = c.walk_child_exprs-arg-1.given; now = c.args.output.now }) _ (refl, put_none g.W.Sink c.args.output.now) c.walk_child_exprs.ensures.runs in
     rw (c.output-1.given.1 (sym kept.0)) kept.1
