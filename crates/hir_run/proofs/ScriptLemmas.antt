@@ -78,7 +78,7 @@ module _ (start : Output) (p : Place) (parts : Parts) (still : p.output ≡ star
         script_body None fault b m = tt
         script_body (Some input) fault b m =
             let stands = left_store input b in
-            body_ends input start q left parts stands.0 fault stands.1 (rw f.0 at m) stands.2
+            body_ends input start q left parts stands.0 fault stands.1 (subst (λ (s : Contents). IsBodyOf (body_of s parts.params parts.self_param) (Err fault)) f.0 m) stands.2
 
         module _ (named : NamedBody) (body : BodyContents) (m : IsBodyOf (body_of store parts.params parts.self_param) (Ok body)) (is : named ≡ record { body = body; name = parts.name }) where
           whole : IsBodyOf (body_parts parts) (Ok body)

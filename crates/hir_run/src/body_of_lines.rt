@@ -1,6 +1,6 @@
 //! A body that lines made, and the answers to questions on it. Its scopes are made where the first question comes that needs them.
 
-ghost use Rattle.std.specs.Prelude.{◌≡◌, List, ℕ, IfOk, OnOk, OnErr};
+ghost use Rattle.std.specs.Prelude.{◌≡◌, List, ℕ, IfOk, IfSome, OnOk, OnErr};
 ghost use Rattle.hir_scope.specs.BodyScopes.{AreBodyScopes};
 ghost use Rattle.hir_run.specs.Answer.{IsBodyAnswer};
 ghost use Rattle.hir_run.specs.Printing.{print_text};
@@ -47,12 +47,20 @@ impl Model for BodyOfLines {
     ghost invariant = { λ b. AreOfLines b.body.store.nodes × IfSome b.scopes (AreBodyScopes b.body) };
 }
 
-/// The scopes of a body.
+/// The scopes of a body: those that were kept, or new ones.
 ///
 /// Answers `MemoryRefused` where memory was refused, or where the body needs more scopes than there may be.
-fn scopes_of(alloc: Global, body: &Body) -> Result<ExprScopes, MemoryRefused>
+fn scopes_of(
+    alloc: Global,
+    body: &Body,
+    kept: Option<ExprScopes>,
+) -> Result<ExprScopes, MemoryRefused>
+    requires { IfSome kept (AreBodyScopes body.now) }
     ensures { IfOk result (AreBodyScopes body.now) }
 {
+    if let Some(scopes) = kept {
+        return Ok(scopes);
+    }
     match ExprScopes::new_body(alloc, body) {
         Ok(scopes) => Ok(scopes),
         Err(ScopesFault::Missing) => unreachable!(),
@@ -85,10 +93,8 @@ impl BodyOfLines {
         ensures same { self.new ≡ self.old }
         ensures scopes { IfOk result (AreBodyScopes self.new.body) }
     {
-        match self.scopes.take() {
-            Some(scopes) => Ok(scopes),
-            None => scopes_of(alloc, &self.body),
-        }
+        let kept = self.scopes.take();
+        scopes_of(alloc, &self.body, kept)
     }
 
     /// Keeps scopes for the questions to come.

@@ -1,5 +1,6 @@
-use Rattle.std.proofs.Common.{Option, Some, Ok, Err, sym, ap, ◌∙◌, true≢false}
+use Rattle.std.proofs.Common.{Option, Some, Ok, Err, subst, sym, ap, ◌∙◌, true≢false}
 use Rattle.std.proofs.lemmas.Result.{err_from_is_err_and}
+use Rattle.hir_expr_store.specs.Contents.{Contents}
 use Rattle.hir_items.specs.Bodies.{body_of}
 use Rattle.hir_lines.specs.declared.question.Question.{Question}
 use Rattle.hir_run.specs.Output.{Output, output_of}
@@ -75,7 +76,7 @@ returns-in_err-whole-clause-runs g c =
     let store = c.in_ok-store.ensures {u = tt} in
     let q = place_of g.R.Source g.W.Sink c.answer_lines.new.lines c.answer_lines.new.reader c.answer_lines.new.output in
     let left = rw c.in-Some-left.is at (c.in_ok-left.ensures {u = tt}).asks in
-    let refused : IsBodyOf (body_of c.in_ok-store.store parts.params parts.self_param) (Err c.in_err-whole.field-0.0) = rw (c.in_ok-left.ensures {u = tt}).same.0 at c.in_err-whole.ensures in
+    let refused : IsBodyOf (body_of c.in_ok-store.store parts.params parts.self_param) (Err c.in_err-whole.field-0.0) = subst (λ (s : Contents). IsBodyOf (body_of s parts.params parts.self_param) (Err c.in_err-whole.field-0.0)) (c.in_ok-left.ensures {u = tt}).same.0 c.in_err-whole.ensures in
     rw (e.1, e.2) (script_body start.output p parts told.still_quiet c.in_ok-store.store store c.in-Some.on_store q c.in-Some-left.on_body left start.remaining c.in_err-whole.field-0.0 met refused)
 
 pub returns-in_err-unasked-clause-runs : goal.returns-in_err-unasked-clause-runs
