@@ -87,18 +87,19 @@ impl<'a, const SEPARATOR: u8> Words<'a, SEPARATOR> {
 
     /// Takes the next word, if it is a number or a dash.
     pub fn optional(&mut self) -> Result<Option<u32>, Bad>
-        requires { Plain SEPARATOR (codes "-") }
         ensures { Reads optional self.old result self.new }
     {
-        if self.skip(b"-") {
-            return Ok(None);
+        let text = rest_from(self.text, self.start)?;
+        // A dash that separates is no word.
+        if SEPARATOR == b'-' || !begins_with(text, b"-", SEPARATOR) {
+            return Ok(Some(self.number()?));
         }
-        Ok(Some(self.number()?))
+        self.start += 2;
+        Ok(None)
     }
 
     /// Takes the next word, if it is the number of something or a dash.
     pub fn optional_id<K>(&mut self) -> Result<Option<Idx<K>>, Bad>
-        requires { Plain SEPARATOR (codes "-") }
         ensures { Reads optional self.old result self.new }
     {
         match self.optional()? {

@@ -4,9 +4,12 @@ use Rattle.std.specs.Option.{option_map}
 use Rattle.std.specs.Str.{bytes_eq}
 use Rattle.std.proofs.lemmas.Result.{err_from_is_err_and}
 use Rattle.hir_lines.specs.Numerals.{number_of}
-use Rattle.hir_lines.specs.Readings.{StartsOtherwise}
+use Rattle.hir_lines.specs.Readings.{StartsOtherwise, parts_of}
 use Rattle.hir_lines.specs.Words.{number, optional, optional_of}
 use Rattle.hir_lines.proofs.Forms.{same_bytes}
+use Rattle.hir_lines.proofs.Fronts.{Begins, begins_with}
+use Rattle.hir_lines.proofs.Splits.{rest_further, rest_words, words_past}
+use Rattle.hir_lines.proofs.words.Words.optional.Goals.{then-this-eq45-via-then-this-eq45, then-this-eq45-via-else-this-eq45+then-not-begins_with}
 use Rattle.hir_lines.proofs.words.Words.optional.Goals as goal
 
 as_number : (word : List ℕ) (words : List (List ℕ)) (dash : Bool) → bytes_eq word (codes "-") ≡ dash → (dash ≡ true → ⊥) →
@@ -31,18 +34,45 @@ dash_read : (words : List (List ℕ)) → optional (codes "-" ∷ words) ≡ Som
 unfolding optional_of
 dash_read words = refl
 
-pub returns-then-skip : goal.returns-then-skip
-returns-then-skip g c = ap optional (c.skip.ensures.yes c.if-skip.true) ∙ dash_read c.skip.new.self
+-- no dash is a word where dashes separate
+no_dash : (separator : ℕ) → separator ≡ 45 → (text : List ℕ) → StartsOtherwise (codes "-") (parts_of separator text)
+no_dash separator is text = λ others e.
+    let parts : parts_of 45 text ≡ codes "-" ∷ others = ap (λ c. parts_of c text) (sym is) ∙ e in
+    let front : Begins text (codes "-") = begins_with 45 text (codes "-") others parts in
+    let empty : parts_of 45 text ≡ [] ∷ parts_of 45 front.0 = ap (parts_of 45) front.1 in
+    let wrong : codes "-" ∷ others ≡ [] ∷ parts_of 45 front.0 = sym parts ∙ empty in
+    cc
+
+-- a number is read where no dash comes first
+by_number : {words parts : List (List ℕ)} {found : Option (ℕ × List (List ℕ))} → words ≡ parts → StartsOtherwise (codes "-") parts → number words ≡ found →
+    optional words ≡ option_map {U = Option ℕ × List (List ℕ)} (λ (f : ℕ × List (List ℕ)). (Some f.0, f.1)) found
+by_number {words} same other read =
+    optional_otherwise words (λ others e. other others (sym same ∙ e)) ∙ ap (option_map {U = Option ℕ × List (List ℕ)} (λ (f : ℕ × List (List ℕ)). (Some f.0, f.1))) read
+
+pub returns-in_err-text : goal.returns-in_err-text
+returns-in_err-text g c =
+    let p = err_from_is_err_and c.from_residual.result c.from_residual.ensures.1 in
+    rw p.1 (ap optional (sym c.self.view_is ∙ words_past g.row.SEPARATOR c.self.inside.start c.self.inside.text.now (c.in_err-text.ensures {u = tt})))
 
 pub returns-in_err-number : goal.returns-in_err-number
 returns-in_err-number g c =
-    let p = err_from_is_err_and c.from_residual.result c.from_residual.ensures.1 in
-    let other = c.skip.ensures.no c.if-skip.false in
-    rw p.1 (optional_otherwise c.args.self.now other.1
-    ∙ ap (option_map {U = Option ℕ × List (List ℕ)} (λ (f : ℕ × List (List ℕ)). (Some f.0, f.1))) (ap number (sym other.0) ∙ c.in_err-number.ensures {u = tt}))
+    let p = err_from_is_err_and c.from_residual-in_err-number.result c.from_residual-in_err-number.ensures.1 in
+    let other : StartsOtherwise (codes "-") (parts_of g.row.SEPARATOR c.in_ok-text.text.now) = elim c.then-this-eq45.branch [
+      | then-this-eq45-via-then-this-eq45 w ↦ no_dash g.row.SEPARATOR w.if-this-eq45.true c.in_ok-text.text.now
+      | then-this-eq45-via-else-this-eq45+then-not-begins_with w ↦ w.begins_with.ensures.no w.if-not-begins_with.true
+    ] in
+    rw p.1 (by_number (sym c.self.view_is ∙ rest_words g.row.SEPARATOR (c.in_ok-text.ensures {u = tt})) other (c.in_err-number.ensures {u = tt}))
+
+pub returns-then-this-eq45 : goal.returns-then-this-eq45
+returns-then-this-eq45 g c =
+    let other : StartsOtherwise (codes "-") (parts_of g.row.SEPARATOR c.in_ok-text.text.now) = elim c.then-this-eq45.branch [
+      | then-this-eq45-via-then-this-eq45 w ↦ no_dash g.row.SEPARATOR w.if-this-eq45.true c.in_ok-text.text.now
+      | then-this-eq45-via-else-this-eq45+then-not-begins_with w ↦ w.begins_with.ensures.no w.if-not-begins_with.true
+    ] in
+    by_number (sym c.self.view_is ∙ rest_words g.row.SEPARATOR (c.in_ok-text.ensures {u = tt})) other (c.in_ok-number.ensures {u = tt})
 
 pub returns : goal.returns
 returns g c =
-    let other = c.skip.ensures.no c.if-skip.false in
-    optional_otherwise c.args.self.now other.1
-    ∙ ap (option_map {U = Option ℕ × List (List ℕ)} (λ (f : ℕ × List (List ℕ)). (Some f.0, f.1))) (ap number (sym other.0) ∙ c.in_ok-number.ensures {u = tt})
+    let is = c.in_ok-text.ensures {u = tt} in
+    ap optional (sym c.self.view_is ∙ rest_words g.row.SEPARATOR is ∙ c.begins_with.ensures.yes c.if-not-begins_with.false ∙ ap (λ ws. codes "-" ∷ ws) (rest_further g.row.SEPARATOR 2 is))
+    ∙ dash_read _
