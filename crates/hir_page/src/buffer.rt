@@ -85,8 +85,6 @@ impl PageBuffer {
     }
 
     /// Adds characters to the last line, whatever the format.
-    // inlined, so that a text within a line, as four fifths are, calls nothing but the copy
-    #[inline(always)]
     fn add(&mut self, part: &str) -> Result<(), AllocError>
         requires { HasNoEnd part.now }
         ensures ok { OnOk result (self.new ≡ record self.old { last = self.old.last ++ part.now }) }
@@ -159,9 +157,6 @@ impl PageBuffer {
     }
 
     /// Writes text: all of it, or nothing where memory is refused.
-    // cold, so that the short way in `text` saves no registers for this one
-    #[cold]
-    #[inline(never)]
     fn all_or_none(&mut self, text: &str) -> Result<(), AllocError>
         ensures ok { OnOk result (self.new ≡ put_all text.now self.old) }
         ensures err { OnErr result (self.new ≡ self.old) }
