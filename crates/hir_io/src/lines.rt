@@ -150,7 +150,6 @@ impl LineReader {
     }
 
     /// Takes a line from the pending bytes, without a read. The last line may lack its end once the end of the input was met.
-    #[inline(always)]
     pub fn take_line(&mut self) -> LineTaken
         requires { self.old.count + length self.old.pending < 2 ^ 64 }
         ensures { Takes self.old self.new result }

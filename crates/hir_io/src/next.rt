@@ -42,8 +42,6 @@ impl fmt::Display for LineFault {
 /// `InputFailed` if a read failed: the pending bytes are the beginning of a line. `OutputFailed` if what waited couldn't be
 /// written: a prefix of it was. `OutOfMemory` if memory for a longer line was refused. After the first and the last what waited
 /// is written, after each nothing waits, and no byte that was read is lost.
-// Nearly every line is pending as a whole: that case stands where the caller does, and needs no call.
-#[inline(always)]
 pub fn next_line<R: Source, W: Sink>(
     lines: &mut LineReader,
     reader: &mut R,
@@ -76,6 +74,7 @@ pub fn next_line<R: Source, W: Sink>(
 }
 
 /// Does what `next_line` does, where no whole line is pending.
+// Nearly every line is pending as a whole. That this stands apart takes six hundredths of the instructions of making away.
 #[inline(never)]
 fn read_line<R: Source, W: Sink>(
     lines: &mut LineReader,
