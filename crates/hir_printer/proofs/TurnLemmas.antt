@@ -1,7 +1,7 @@
 -- A turn of the loop, by what its work is.
-use Rattle.std.proofs.Common.{◌≡◌, ℕ, ◌+◌, ◌<◌, ◌≤◌, true, List, [], ◌∷◌, ◌++◌, map, Option, Some, None, refl, sym, ap, ap₂, subst, ◌∙◌, arith, append_assoc, append-nil, Result, Ok, Err, String, string_bytes, slice_get}
+use Rattle.std.proofs.Common.{◌≡◌, ℕ, ◌<◌, ◌≤◌, List, [], ◌∷◌, ◌++◌, map, Option, Some, None, refl, sym, ap, ap₂, subst, ◌∙◌, arith, append_assoc, append-nil, Result, Ok, Err, String, string_bytes, slice_get}
 use Rattle.hir_base.specs.declared.prec.ExprPrecedence.{ExprPrecedence}
-use Rattle.hir_printer.specs.Prelude.{NodeId, Missing, Setting, Item, Under, text, PrintsPieces, Layout, first_missing, items_of, pieces, item_list_pieces, stands_in_parentheses, precedence_found, ItemsFall, heft, Printing, on_page, stands_for, items_of_works, printing, Leads, WroteWork, AddsItems, GaveWayTo, TurnedBy, enclose}
+use Rattle.hir_printer.specs.Prelude.{NodeId, Missing, Setting, Item, Under, PrintsPieces, Layout, first_missing, items_of, pieces, item_list_pieces, stands_in_parentheses, precedence_found, ItemsFall, heft, Printing, on_page, stands_for, items_of_works, printing, Leads, WroteWork, AddsItems, GaveWayTo, TurnedBy, enclose}
 use Rattle.hir_node.specs.declared.node_id.NodeId.TheVariants as node
 use Rattle.hir_page.specs.Page.{Page, all_rendered, page_text}
 use Rattle.hir_page.specs.Pieces.{Piece}

@@ -1,5 +1,5 @@
 -- What works stand for, and what becomes of them.
-use Rattle.std.specs.Prelude.{◌≡◌, ◌<◌, ◌≤◌, ℕ, Bool, true, false, List, [], ◌∷◌, ◌++◌, Option, Some, None, ⊤, codes, flat_map, decimal}
+use Rattle.std.specs.Prelude.{◌≡◌, ◌<◌, ◌≤◌, Bool, true, false, List, [], ◌∷◌, ◌++◌, Option, Some, None, codes, flat_map, decimal}
 use Rattle.hir_expr_store.specs.declared.missing.Missing.{Missing}
 use Rattle.hir_page.specs.Page.{Page, render}
 use Rattle.hir_printer.specs.declared.work.Work.{Work}

@@ -1,5 +1,4 @@
-use Rattle.hir_printer.proofs.Common.{arith, on_ok_weaker, pieces_put}
-use Rattle.std.proofs.lemmas.Int.{ints, to_z-of_z}
+use Rattle.hir_printer.proofs.Common.{pieces_put}
 use Rattle.hir_page.specs.Literals.{string_literal, bytes_literal, c_string_literal}
 use Rattle.hir_printer.proofs.literals.write_literal.Goals as goal
 

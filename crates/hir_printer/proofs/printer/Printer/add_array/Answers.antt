@@ -8,3 +8,6 @@ pub returns-in_ok-add_each-in-ElementList : goal.returns-in_ok-add_each-in-Eleme
 returns-in_ok-add_each-in-ElementList c = rw c.in-ElementList.is (on_ok_weaker c.add-in-ElementList-2.result
     (λ a. adds_as (adds_more (adds_then (adds c.in_ok-add-in-ElementList.ensures (λ s. refl)) (rw c.as_slice.ensures at c.in_ok-add_each-in-ElementList.ensures)) a)
     (λ s. some_elements c.in-ElementList.elements (λ e. let k = c.is_empty.ensures.1 e in let l = c.if-is_empty.false in cc))) c.add-in-ElementList-2.ensures)
+
+pub returns-in-Repeat : goal.returns-in-Repeat
+returns-in-Repeat c = rw c.in-Repeat.is (on_ok_weaker c.add-in-Repeat.result (λ a. adds a (λ s. refl)) c.add-in-Repeat.ensures)

@@ -12,3 +12,6 @@ returns-in-Err c =
     let s = (printing_of c.args.self.now).from in
     rw c.in-Param.is (on_ok_weaker c.add-in-Err.result
     (λ a. adds_here (adds {is = λ t. Lacks c.in-Err.missing ∷ []} a (λ t. refl)) (sym (ap (param_items s) c.in-Err.ensures.absent))) c.add-in-Err.ensures)
+
+pub returns-in-Error : goal.returns-in-Error
+returns-in-Error c = rw c.in-Error.is (on_ok_weaker c.add-in-Error.result (λ a. adds a (λ s. refl)) c.add-in-Error.ensures)
