@@ -71,10 +71,10 @@ module _ (input : List ℕ) (start : Output) (p : Place) (new : Option (List ℕ
   closes_ill (Err OutOfMemory) (texts, more, every, at, text, has, w) g some =
       (text, inl (texts, more, every, has), then_some_waiting start p.output new text fresh w g)
 
-pub closes : (known : Option (List ℕ)) (start : Output) (p : Place) (new : Output) (outcome result : Outcome) → start.waiting ≡ [] → RunsUpTo known start p outcome → Closes p.output new outcome result → RunsTo known start.contents p.remaining new.contents p.lines result
+pub closes : (known : Option (List ℕ)) (start : Output) (p : Place) (new : Option (List ℕ)) (outcome result : Outcome) → start.waiting ≡ [] → RunsUpTo known start p outcome → Closes p.output.contents new p.output.waiting outcome result → RunsTo known start.contents p.remaining new p.lines result
 closes None start p new outcome result fresh r c = tt
-closes (Some input) start p new outcome result fresh r (inl (same, a, idle)) = rw same (closes_well input start p new.contents fresh outcome r a idle)
-closes (Some input) start p new outcome result fresh r (inr (same, g, some)) = rw same (closes_ill input start p new.contents fresh outcome r g some)
+closes (Some input) start p new outcome result fresh r (inl (same, a, idle)) = rw same (closes_well input start p new fresh outcome r a idle)
+closes (Some input) start p new outcome result fresh r (inr (same, g, some)) = rw same (closes_ill input start p new fresh outcome r g some)
 
 -- a fault is told of a run as it is of a part
 pub reads_as : (X Y : Type 0) (e : RunFault) → is_input_failed {X = X} (Err e) ≡ is_input_failed {X = Y} (Err e)
@@ -117,9 +117,9 @@ pub none_before : (now old : Bool) (failed : Bool) → now ≡ (failed || old) �
 none_before now old failed is none = is ∙ ap (λ b. failed || b) none ∙ or-false failed
 
 -- what waits can't be lost behind a failed read
-pub closes_reads : (old new : Output) (outcome result : Outcome) → Closes old new outcome result → (is_input_failed outcome ≡ true → old.waiting ≡ []) → is_input_failed outcome ≡ is_input_failed result
-closes_reads old new outcome result (inl c) quiet = ap (λ (r : Outcome). is_input_failed r) (sym c.0)
-closes_reads old new outcome result (inr c) quiet =
+pub closes_reads : (old new : Option (List ℕ)) (waiting : List ℕ) (outcome result : Outcome) → Closes old new waiting outcome result → (is_input_failed outcome ≡ true → waiting ≡ []) → is_input_failed outcome ≡ is_input_failed result
+closes_reads old new waiting outcome result (inl c) quiet = ap (λ (r : Outcome). is_input_failed r) (sym c.0)
+closes_reads old new waiting outcome result (inr c) quiet =
     by_mark (is_input_failed outcome) (λ e. c.2 (quiet e)) ∙ ap (λ (r : Outcome). is_input_failed r) (sym c.0)
   where
     by_mark : (b : Bool) → (b ≡ true → ⊥) → b ≡ false

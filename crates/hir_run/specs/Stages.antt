@@ -176,10 +176,8 @@ RunsUpTo known old now outcome =
     (λ input. EndsWith input (Wrote old now.output)
     (WroteFront old now.output) now.remaining now.lines outcome)
 
--- what waited was written and the outcome stays, or a write of something failed
-abbrev pub Closes : Output → Output → Outcome → Outcome → Type 0
-Closes old new outcome result =
-    ((result ≡ outcome) × Appends old.contents new.contents old.waiting
-    × (old.waiting ≡ [] → new.contents ≡ old.contents))
-    ⊎ ((result ≡ Err OutputFailed) × GrowsByFront old.contents new.contents old.waiting
-    × (old.waiting ≡ [] → ⊥))
+-- what waited was written and the outcome stays, or its write failed
+abbrev pub Closes : Option (List ℕ) → Option (List ℕ) → List ℕ → Outcome → Outcome → Type 0
+Closes old new waiting outcome result =
+    ((result ≡ outcome) × Appends old new waiting × (waiting ≡ [] → new ≡ old))
+    ⊎ ((result ≡ Err OutputFailed) × GrowsByFront old new waiting × (waiting ≡ [] → ⊥))

@@ -89,18 +89,21 @@ impl<W: Sink> Output<'_, W> {
             Err(_) => Err(RunFault::OutputFailed),
         }
     }
+}
 
-    /// Writes what waits, before the outcome is answered.
-    pub(crate) fn close(&mut self, outcome: Result<(), RunFault>) -> Result<(), RunFault>
-        ensures closes { Closes (output_of W.Sink self.old) (output_of W.Sink self.new) outcome result }
-        ensures failure { W.is_failed self.old.writer.now ≡ is_output_failed outcome →
-            W.is_failed self.new.writer.now ≡ is_output_failed result }
-        ensures same { self.new.writer.ghost_name ≡ self.old.writer.ghost_name }
-    {
-        let flushed = self.waiting.flush(self.writer);
-        match flushed {
-            Ok(()) => outcome,
-            Err(_) => Err(RunFault::OutputFailed),
-        }
+/// Writes what waits to the sink, before the outcome is answered.
+pub(crate) fn close<W: Sink>(
+    waiting: &mut OutputBuffer,
+    writer: &mut W,
+    outcome: Result<(), RunFault>,
+) -> Result<(), RunFault>
+    ensures closes { Closes (W.contents writer.old) (W.contents writer.new) waiting.old outcome result }
+    ensures failure { W.is_failed writer.old ≡ is_output_failed outcome →
+        W.is_failed writer.new ≡ is_output_failed result }
+{
+    let flushed = waiting.flush(writer);
+    match flushed {
+        Ok(()) => outcome,
+        Err(_) => Err(RunFault::OutputFailed),
     }
 }

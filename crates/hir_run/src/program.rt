@@ -21,7 +21,7 @@ use crate::body_of_lines::BodyOfLines;
 use crate::building::build;
 use crate::disposal::Disposal;
 use crate::fault::RunFault;
-use crate::output::Output;
+use crate::output::{Output, close};
 use crate::reporting::report;
 use hir_base::Seq;
 use hir_io::{LineReader, OutputBuffer, Sink, Source};
@@ -122,7 +122,11 @@ fn run_lines_with<R: Source, W: Sink>(
     };
     let mut output = Output { waiting, writer };
     let outcome = answer_script(alloc, disposal, lines, reader, &mut output);
-    output.close(outcome)
+    let Output {
+        mut waiting,
+        writer,
+    } = output;
+    close(&mut waiting, writer, outcome)
 }
 
 /// Runs the program as `run_lines_with` does, on the lines that the source gives.

@@ -9,17 +9,14 @@ pub returns-in_default : goal.returns-in_default
 returns-in_default g c =
     (runs_out_first (g.R.Source.remaining c.args.reader.now) (g.W.Sink.contents c.args.writer.now) (g.R.Source.remaining c.args.reader.now) c.args.lines.now c.requires.fresh, c.requires.unfailed.0, c.requires.unfailed.1)
 
--- the sink is what the output leaves behind its reference, which is the same one
 pub returns : goal.returns
 returns g c =
     let done = c.answer_script-outcome in
     let start : Output = record { sink_name = c.args.writer.ghost_name; contents = g.W.Sink.contents c.args.writer.now; failed = g.W.Sink.is_failed c.args.writer.now; waiting = c.in-Ok.waiting } in
     let p = place_of g.R.Source g.W.Sink done.new.lines done.new.reader done.new.output in
-    let new = output_of g.W.Sink c.close.new.self in
-    let name = sym (c.close.ensures.same ∙ done.ensures.same) in
-    let left : c.writer-1.given ≡ c.close.new.self.writer.now = search (rules, name) in
-    rw left (
+    let new = g.W.Sink.contents c.close.new.writer in
+    rw (c.writer-1.given.1 (sym done.ensures.same)) (
       closes (g.R.Source.remaining c.args.reader.now) start p new done.result c.close.result c.in-Ok.ensures done.ensures.runs c.close.ensures.closes,
-      done.ensures.input_failed ∙ closes_reads p.output new done.result c.close.result c.close.ensures.closes done.ensures.quiet,
+      done.ensures.input_failed ∙ closes_reads p.output.contents new p.output.waiting done.result c.close.result c.close.ensures.closes done.ensures.quiet,
       c.close.ensures.failure done.ensures.output_failed,
     )
