@@ -94,11 +94,15 @@ fn a_table_tells_its_keys_apart(rt: HostRuntime) -> Result<(), Fail> {
     Ok(())
 }
 
-// Puts the two into the table, the function with 1 and then with 3.
-fn put_both(table: &mut Table<NamedDef, u32>) -> Result<(), AllocError> {
-    table.put(function(), 1)?;
-    table.put(structure(), 2)?;
-    table.put(function(), 3)?;
+// Puts the two keys into the table, the first with 1 and then with 3, and the second with 2.
+fn put_both<K: HasCode + Copy + Drop>(
+    table: &mut Table<K, u32>,
+    first: K,
+    second: K,
+) -> Result<(), AllocError> {
+    table.put(first, 1)?;
+    table.put(second, 2)?;
+    table.put(first, 3)?;
     Ok(())
 }
 
@@ -106,7 +110,7 @@ fn put_both(table: &mut Table<NamedDef, u32>) -> Result<(), AllocError> {
 #[test]
 fn a_value_is_put_in_place_of_the_one_before(rt: HostRuntime) -> Result<(), Fail> {
     let mut table = Table::new(rt.alloc());
-    put_both(&mut table)?;
+    put_both(&mut table, function(), structure())?;
     let holds = has(&table, Some(3), Some(2)) && lists_both(&table);
     drop(table);
     assert!(rt; holds);

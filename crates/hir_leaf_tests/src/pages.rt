@@ -185,7 +185,7 @@ fn write_in_place(page: &mut PageBuffer) -> Result<(), Fail> {
     page.indent()?;
     page.text("x\n")?;
     page.text("ExprId(")?;
-    write_number(&mut page, 3u32)?;
+    write_number(page, 3u32)?;
     page.text(")")?;
     Ok(())
 }
