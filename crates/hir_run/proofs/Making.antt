@@ -1,5 +1,5 @@
 -- What the lines make, line by line.
-use Rattle.std.proofs.Common.{◌≡◌, ◌+◌, true, List, [], ◌∷◌, ◌++◌, Option, None, Some, inl, inr, if◌then◌else◌, refl, sym, ap, ◌∙◌, ℕ, fold, filter_map}
+use Rattle.std.proofs.Common.{◌≡◌, true, List, [], ◌∷◌, ◌++◌, Option, None, Some, inl, inr, if◌then◌else◌, refl, sym, ap, ◌∙◌, ℕ, fold, filter_map}
 use Rattle.std.proofs.lemmas.List.Folds.{list_all-append}
 use Rattle.std.proofs.lemmas.List.Elements.{filter_map-append}
 use Rattle.std.proofs.lemmas.Grind.{fold-append}

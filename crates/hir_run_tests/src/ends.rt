@@ -26,17 +26,17 @@ fn answers_to(front: &[u8]) -> &'static [u8] {
     }
 }
 
-/// Fails where the read of this number, from 0, isn't the last one, and the one that failed.
-fn stops_at_read(rt: &impl Abort, seen: &Seen<'_>, call: usize) {
+/// Fails where there weren't so many reads, of which the last failed.
+fn stops_at_read(rt: &impl Abort, seen: &Seen<'_>, reads: usize) {
     assert!(rt; seen.reader.has_failed() && !seen.writer.has_failed());
-    assert_eq!(rt; seen.reader.calls, call as u64 + 1);
+    assert_eq!(rt; seen.reader.calls, reads as u64);
 }
 
 /// The same of a write.
-fn stops_at_write(rt: &impl Abort, seen: &Seen<'_>, call: usize) {
+fn stops_at_write(rt: &impl Abort, seen: &Seen<'_>, writes: usize) {
     assert!(rt; seen.writer.has_failed() && !seen.reader.has_failed());
     // After a failed write none is made.
-    assert_eq!(rt; seen.writer.calls, call as u64 + 1);
+    assert_eq!(rt; seen.writer.calls, writes as u64);
 }
 
 /// Fails where there were other numbers of reads and of writes.
@@ -51,7 +51,7 @@ fn stops_where_a_read_fails(rt: HostRuntime) {
         let seen = run_again(alloc, INPUT, until(1, call), by(1000));
         let wanted = answers_to(&INPUT[..call]);
         ends(&rt, &seen, Err(RunFault::InputFailed), wanted, call);
-        stops_at_read(&rt, &seen, call);
+        stops_at_read(&rt, &seen, call + 1);
     }
     // The read that would fail isn't made: the bad line is known by then.
     let seen = run_again(alloc, INPUT, until(1, READ), by(1000));
@@ -96,7 +96,7 @@ fn stops_where_a_write_fails(rt: HostRuntime) {
                 &OUTPUT[..call],
                 call,
             );
-            stops_at_write(&rt, &seen, call);
+            stops_at_write(&rt, &seen, call + 1);
         }
     }
     for call in 0..9 {

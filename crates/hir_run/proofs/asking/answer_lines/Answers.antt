@@ -2,7 +2,6 @@ use Rattle.std.proofs.Common.{◌≡◌, ◌+◌, true, false, Ok, Err, length, 
 use Rattle.std.proofs.lemmas.Result.{err_from_is_err_and}
 use Rattle.hir_io.proofs.ReadLemmas.{Reads-none, ReadsAll-end}
 use Rattle.hir_lines.specs.Line.{line_of}
-use Rattle.hir_lines.specs.declared.question.Question.{Question}
 use Rattle.hir_run.specs.Output.{output_of}
 use Rattle.hir_run.specs.Places.{TakesNext, place_of}
 use Rattle.hir_run.specs.Stages.{AsksLine}

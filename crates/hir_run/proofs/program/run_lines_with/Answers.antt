@@ -1,5 +1,5 @@
-use Rattle.std.proofs.Common.{◌≡◌, sym, ◌∙◌, rules}
-use Rattle.hir_run.specs.Output.{Output, output_of}
+use Rattle.std.proofs.Common.{sym, ◌∙◌}
+use Rattle.hir_run.specs.Output.{Output}
 use Rattle.hir_run.specs.Places.{place_of}
 use Rattle.hir_run.proofs.ClosingLemmas.{closes, closes_reads}
 use Rattle.hir_run.proofs.ScriptLemmas.{runs_out_first}
