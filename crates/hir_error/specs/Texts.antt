@@ -7,8 +7,8 @@ use Rattle.hir_expr_store.specs.declared.missing.Missing.TheVariants.{Name, Vari
 use Rattle.hir_faults.specs.contracts.fault.FinishFaultDisplay.TheImpl as finish
 use Rattle.hir_items.specs.FaultTexts.{body_fault_text, signature_fault_text}
 use Rattle.hir_scope.specs.contracts.fault.ScopesFaultDisplay.TheImpl as scopes
-use Rattle.hir_pretty.specs.contracts.fault.PrintFaultDisplay.TheImpl as print
-use Rattle.hir_pretty.specs.declared.fault.PrintFault.TheVariants as prints
+use Rattle.hir_printer.specs.contracts.fault.PrintFaultDisplay.TheImpl as print
+use Rattle.hir_printer.specs.declared.fault.PrintFault.TheVariants as prints
 use Rattle.hir_captures.specs.contracts.fault.CapturesFaultDisplay.TheImpl as captures
 use Rattle.hir_error.specs.declared.error.HirError.{HirError}
 use Rattle.hir_error.specs.declared.error.HirError.TheVariants as error
