@@ -180,7 +180,7 @@ fn each_shape_is_laid_out(rt: HostRuntime) -> Result<(), Fail> {
     Ok(())
 }
 
-/// The text `x`, a line end, and behind it, a level further in, what `Display` gives.
+/// The text `x`, a line end, and behind it, a level further in, `ExprId(3)`.
 fn write_in_place(page: &mut PageBuffer) -> Result<(), Fail> {
     page.indent()?;
     page.text("x\n")?;

@@ -181,7 +181,8 @@ fn write_bytes(page: &mut PageBuffer, bytes: &[u8]) -> Result<(), AllocError>
 
 /// Writes bytes behind a double quote, and this text behind them.
 fn write_quoted(page: &mut PageBuffer, bytes: &[u8], end: &str) -> Result<(), AllocError>
-    ensures ok { OnOk result (page.new ≡ all_rendered (quoted (flat_map byte_pieces bytes.now) end.now) page.old) }
+    ensures ok { OnOk result (page.new
+        ≡ all_rendered (quoted (flat_map byte_pieces bytes.now) end.now) page.old) }
     ensures err { OnErr result (StopsIn (quoted (flat_map byte_pieces bytes.now) end.now) page.old page.new) }
 {
     page.text("\"")?;

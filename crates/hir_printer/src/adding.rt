@@ -23,6 +23,7 @@ fn line_format(one_line: bool) -> LineFormat
     }
 }
 
+/// Pushes a copy of an item.
 fn push_copy<T: Copy>(onto: &mut Vec<T>, item: &T) -> Result<(), AllocError>
     ensures added { OnOk result (onto.new.items ≡ onto.old.items ++ (item.now ∷ [])) }
     ensures kept { length onto.old.items ≤ length onto.new.items }
@@ -31,6 +32,7 @@ fn push_copy<T: Copy>(onto: &mut Vec<T>, item: &T) -> Result<(), AllocError>
     Ok(())
 }
 
+/// A copy of an item.
 fn copy_of<T: Copy>(item: &T) -> T
     ensures { result ≡ item.now }
 {
@@ -89,9 +91,9 @@ impl<'a> Printer<'a> {
         push_copy(&mut self.works, work)
     }
 
+    /// Adds a work: text and layout are written at once where nothing was kept in this turn, all else is kept.
     // Inlined, as `add` is: what becomes of a work that is known when this is compiled is known then too, and a list of such works takes no
     // memory. That takes six hundredths of the instructions of a run that prints away, and five of one with all questions.
-    /// Adds a work.
     #[inline(always)]
     fn add_work(&mut self, work: &Work<'a>) -> Result<(), AllocError>
         ensures { OnOk result (Adds self.old (λ s. stands_for s work.now) self.new) }

@@ -10,13 +10,19 @@ use hir_node::{ExprId, GenericArgs, Literal, PatId, TypeRefId};
 /// What is still to be printed: a piece, a text of several pieces, a node, or a definition that is missing.
 #[derive(Clone, Copy)]
 pub enum Work<'a> {
+    /// A text, written as it is.
     Text(&'a str),
+    /// A soft space: one, unless there is one or a line begins.
     Space,
+    /// Ends the line, unless it is blank; in one line, a space, unless there is one.
     Break,
+    /// Raises the level and ends the line.
     Indent,
+    /// Lowers the level and removes empty last lines.
     Outdent,
     /// A number in decimal.
     Number(u64),
+    /// A literal, as source text writes it.
     Literal(&'a Literal),
     /// A name, with `r#` where the edition's words list it.
     Name(&'a str),
@@ -24,7 +30,9 @@ pub enum Work<'a> {
     Whole(ExprId),
     /// An expression under a precedence.
     Under(ExprId, ExprPrecedence),
+    /// A pattern.
     Pattern(PatId),
+    /// A type.
     Type(TypeRefId),
     /// Generic arguments in `::<` and `>`.
     Args(&'a GenericArgs),

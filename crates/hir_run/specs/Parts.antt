@@ -72,7 +72,7 @@ with_line m (make.Root id) = record m { built = record m.built { roots = and_roo
 abbrev pub is_second : Parts → Maker → Bool
 is_second m maker = is_second_of (is_some m.self_param) (is_some m.name) maker
 
--- what with_line says, of the fields of the code's Parts
+-- what with_line says, of the fields of the code's `BodyBuilder`
 abbrev pub with_maker : code.BodyBuilder → Maker → code.BodyBuilder
 with_maker m (make.Binding binding) =
     record m { builder = record m.builder { bindings = m.builder.bindings ++ binding ∷ [] } }

@@ -42,8 +42,8 @@ pub(crate) fn build<R: Source, W: Sink>(
     requires fits { HasRoom (place_of R.Source W.Sink lines.old reader.old output.old) }
     requires fresh { (lines.old ≡ no_lines) × (parts_of builder.old ≡ no_parts) }
     requires quiet { output.old.waiting ≡ [] }
-    ensures builds { Builds (R.remaining reader.old) (place_of R.Source W.Sink lines.new reader.new output.new)
-        (parts_of builder.new) result }
+    ensures builds { Builds (R.remaining reader.old)
+        (place_of R.Source W.Sink lines.new reader.new output.new) (parts_of builder.new) result }
     ensures still_quiet { Untouched W.Sink output.old output.new }
     ensures failure { R.is_failed reader.new ≡ (is_input_failed result || R.is_failed reader.old) }
     ensures still_fits { OnOk result (HasRoom (place_of R.Source W.Sink lines.new reader.new output.new)) }
