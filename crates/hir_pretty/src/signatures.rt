@@ -1,9 +1,11 @@
 //! Signatures of any definition as text.
 #![tactic(auto, using(crate::proofs::OtherLemmas::others))]
 
-ghost use Rattle.hir_printer.specs.Prelude.{words_of};
+ghost use Rattle.std.specs.Prelude.{OnOk};
+ghost use Rattle.hir_printer.specs.Prelude.{words_of, Adds};
 ghost use Rattle.hir_pretty.specs.FoundParts.{function_found, struct_found};
 ghost use Rattle.hir_pretty.specs.Owners.{PrintsFunction, PrintsStruct, PrintsOther, PrintsAdt, PrintsSignature};
+ghost use Rattle.hir_pretty.specs.Signatures.{unimplemented_items};
 
 use crate::functions::print_function;
 use crate::structs::print_struct;
@@ -11,13 +13,21 @@ use hir_base::{AdtId, Edition, FunctionId, GenericDefId, StructId};
 use hir_defs::Tables;
 use hir_expr_store::ExpressionStore;
 use hir_printer::{PrintFault, Printer, Work};
-use std::alloc::Global;
+use std::alloc::{AllocError, Global};
+
+/// Adds that the signature of a definition of this kind isn't printed.
+fn add_other<'a>(printer: &mut Printer<'a>, kind: &'a str, id: u32) -> Result<(), AllocError>
+    ensures { OnOk result (Adds printer.old (λ s. unimplemented_items kind.now id) printer.new) }
+{
+    printer.add(&[Work::Text("unimplemented ")])?;
+    printer.add_numbered(kind, id)
+}
 
 /// The text for a definition whose signature isn't printed.
-fn print_other(
+fn print_other<'a>(
     alloc: Global,
-    tables: &Tables,
-    kind: &str,
+    tables: &'a Tables,
+    kind: &'a str,
     id: u32,
     edition: Edition,
 ) -> Result<String, PrintFault>
@@ -25,8 +35,7 @@ fn print_other(
 {
     let store = ExpressionStore::empty(alloc);
     let mut printer = Printer::new(alloc, &store, tables, edition, false);
-    printer.add(&[Work::Text("unimplemented ")])?;
-    printer.add_numbered(kind, id)?;
+    add_other(&mut printer, kind, id)?;
     printer.print()
 }
 
