@@ -1,5 +1,5 @@
 -- Lists with separators, and places of arguments.
-use Rattle.std.proofs.Common.{◌≡◌, ℕ, ◌+◌, ◌-◌, ◌<◌, ◌≤◌, ◌==◌, Bool, true, false, List, [], ◌∷◌, ◌++◌, length, map, drop, get_or, Option, Some, None, refl, sym, ap, ap₂, subst, ◌∙◌, append_assoc, append-nil, arith, codes, is_some, nat_lt, Ok}
+use Rattle.std.proofs.Common.{◌≡◌, ℕ, ◌+◌, ◌<◌, ◌≤◌, ◌==◌, Bool, true, false, List, [], ◌∷◌, ◌++◌, length, map, drop, get_or, Option, Some, None, refl, sym, ap, ap₂, subst, ◌∙◌, append_assoc, append-nil, arith, codes, is_some, nat_lt, Ok}
 use Rattle.std.specs.List.{enumerate_from, list_any}
 use Rattle.std.proofs.lemmas.Bool.{lt-ltb, true≢false}
 use Rattle.std.proofs.lemmas.List.{drop_all}

@@ -1,5 +1,5 @@
 -- Worked bodies, fields and signatures, and the texts that their pieces give.
-use Rattle.std.proofs.Common.{◌≡◌, ℕ, Bool, true, false, List, [], ◌∷◌, Option, Some, None, refl, codes, pos, Result, Ok, Err}
+use Rattle.std.proofs.Common.{◌≡◌, ℕ, true, false, List, [], ◌∷◌, Option, Some, None, refl, codes, pos, Result, Ok, Err}
 use Rattle.std.specs.Fmt.{digits}
 use Rattle.hir_forest.specs.Height.{height}
 use Rattle.hir_forest.specs.declared.roots.Root.{Root}
@@ -16,7 +16,7 @@ use Rattle.hir_path.specs.declared.path.Path.{Path}
 use Rattle.hir_path.specs.declared.path.Path.TheVariants as path
 use Rattle.hir_path.specs.declared.bound.TypeBound.TheVariants as bound
 use Rattle.hir_path.specs.declared.bound.TraitBoundModifier.TheVariants as modifier
-use Rattle.hir_node.specs.declared.{binding.Binding.Binding, expr.Expr.Expr, pat.Pat.Pat, type_ref.TypeRef.TypeRef}
+use Rattle.hir_node.specs.declared.{binding.Binding.Binding, expr.Expr.Expr, type_ref.TypeRef.TypeRef}
 use Rattle.hir_node.specs.declared.binding.BindingAnnotation.TheVariants as mode
 use Rattle.hir_node.specs.declared.literal.Literal.TheVariants as literal
 use Rattle.hir_node.specs.declared.expr.Expr.TheVariants as expr
@@ -27,8 +27,7 @@ use Rattle.hir_generics.specs.declared.data.TypeParamProvenance.TheVariants as p
 use Rattle.hir_generics.specs.declared.param.TypeOrConstParamData.{TypeOrConstParamData}
 use Rattle.hir_generics.specs.declared.param.TypeOrConstParamData.TheVariants as param
 use Rattle.hir_generics.specs.declared.predicate.WherePredicate.TheVariants as predicate
-use Rattle.hir_faults.specs.Nodes.{Nodes}
-use Rattle.hir_faults.specs.Down.{value, rank, value_within}
+use Rattle.hir_faults.specs.Down.{value, rank}
 use Rattle.hir_expr_store.specs.{Contents.Contents, SideTables.no_side_tables}
 use Rattle.hir_printer.specs.Prelude.{Missing, Questions, Setting, Item, pieces, first_missing, text_of, item_list_pieces}
 use Rattle.hir_expr_store.specs.declared.missing.Missing.TheVariants as missing

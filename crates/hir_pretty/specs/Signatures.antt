@@ -1,11 +1,9 @@
 -- What the signatures of functions and structs are printed as.
-use Rattle.std.specs.Prelude.{ℕ, Bool, true, false, ◌||◌, ◌==◌, List, [], ◌∷◌, ◌++◌, map, Option, Some, None, codes, decimal}
+use Rattle.std.specs.Prelude.{ℕ, Bool, false, ◌==◌, List, [], ◌∷◌, ◌++◌, map, Option, Some, None, codes, decimal}
 use Rattle.std.specs.List.{enumerate_from, list_any}
 use Rattle.hir_base.specs.Abi.{abi_text}
-use Rattle.hir_base.specs.declared.{abi.ExternAbi.ExternAbi, defs.AdtId.AdtId, defs.GenericDefId.GenericDefId}
+use Rattle.hir_base.specs.declared.{abi.ExternAbi.ExternAbi}
 use Rattle.hir_base.specs.declared.abi.ExternAbi.TheVariants as abi
-use Rattle.hir_base.specs.declared.defs.AdtId.TheVariants as adt
-use Rattle.hir_base.specs.declared.defs.GenericDefId.TheVariants as generic
 use Rattle.hir_generics.specs.declared.{data.LifetimeParamData.LifetimeParamData, param.TypeOrConstParamData.TypeOrConstParamData, predicate.WherePredicate.WherePredicate}
 use Rattle.hir_generics.specs.declared.param.TypeOrConstParamData.TheVariants as param
 use Rattle.hir_generics.specs.declared.predicate.WherePredicate.TheVariants as predicate
