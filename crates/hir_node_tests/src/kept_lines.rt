@@ -1,4 +1,4 @@
-//! A builder that keeps what lines make, as it came, but for patterns and types, which rows see. Lines are compared by functions: a derived
+//! A builder that keeps what lines make, as it came, but for types, which rows see. Lines are compared by functions: a derived
 //! comparison is dear to prove, since it proves its laws.
 
 use hir_base::{HygieneId, Name, Seq};
@@ -10,6 +10,9 @@ use std::alloc::Global;
 #[derive(Drop)]
 pub enum Maker {
     Binding(Binding),
+    Pat(Pat),
+    /// A type, whichever.
+    SomeType,
     Expr(Expr),
     Hygiene(ExprOrPatId, HygieneId),
     SelfParam(BindingId),
@@ -24,6 +27,8 @@ pub enum Maker {
 pub enum Line {
     Blank,
     Make(Maker),
+    /// A question, whichever.
+    Ask,
     Bad,
 }
 
@@ -32,6 +37,14 @@ fn is_wanted(made: &Maker, wanted: &Maker) -> bool {
     match made {
         Maker::Binding(made) => match wanted {
             Maker::Binding(wanted) => *made == *wanted,
+            _ => false,
+        },
+        Maker::Pat(made) => match wanted {
+            Maker::Pat(wanted) => *made == *wanted,
+            _ => false,
+        },
+        Maker::SomeType => match wanted {
+            Maker::SomeType => true,
             _ => false,
         },
         Maker::Expr(made) => match wanted {
@@ -76,6 +89,10 @@ pub fn are_same(said: &Line, wanted: &Line) -> bool {
             Line::Make(wanted) => is_wanted(made, wanted),
             _ => false,
         },
+        Line::Ask => match wanted {
+            Line::Ask => true,
+            _ => false,
+        },
         Line::Bad => match wanted {
             Line::Bad => true,
             _ => false,
@@ -111,19 +128,21 @@ impl Builder for BuiltLines {
 
     ghost has_name = { λ before. false };
 
-    // What a line makes is kept as it came, but for a pattern and a type.
-    ghost add = { λ before maker. elim maker [
-      | make.Binding binding ↦ record before { makers = before.makers ++ kept.Binding binding ∷ [] }
-      | make.Pat pat ↦ before
-      | make.TypeRef type_ref ↦ before
-      | make.Expr expr ↦ record before { makers = before.makers ++ kept.Expr expr ∷ [] }
-      | make.Hygiene id hygiene ↦ record before { makers = before.makers ++ kept.Hygiene id hygiene ∷ [] }
-      | make.SelfParam id ↦ record before { makers = before.makers ++ kept.SelfParam id ∷ [] }
-      | make.Param id ↦ record before { makers = before.makers ++ kept.Param id ∷ [] }
-      | make.FnName name ↦ record before { makers = before.makers ++ kept.FnName name ∷ [] }
-      | make.Roots ↦ record before { makers = before.makers ++ kept.Roots ∷ [] }
-      | make.Root id ↦ record before { makers = before.makers ++ kept.Root id ∷ [] }
-    ] };
+    // What a line makes is kept as it came, but for a type.
+    ghost add = { λ before maker. record before {
+      makers = before.makers ++ elim maker [
+        | make.Binding binding ↦ kept.Binding binding
+        | make.Pat pat ↦ kept.Pat pat
+        | make.TypeRef type_ref ↦ kept.SomeType
+        | make.Expr expr ↦ kept.Expr expr
+        | make.Hygiene id hygiene ↦ kept.Hygiene id hygiene
+        | make.SelfParam id ↦ kept.SelfParam id
+        | make.Param id ↦ kept.Param id
+        | make.FnName name ↦ kept.FnName name
+        | make.Roots ↦ kept.Roots
+        | make.Root id ↦ kept.Root id
+      ] ∷ [];
+    } };
 
     fn has_self_param(&self) -> bool {
         false
@@ -137,12 +156,12 @@ impl Builder for BuiltLines {
         self.keep(Maker::Binding(binding))
     }
 
-    fn pat(&mut self, _pat: Pat) -> Result<(), Stop> {
-        Ok(())
+    fn pat(&mut self, pat: Pat) -> Result<(), Stop> {
+        self.keep(Maker::Pat(pat))
     }
 
     fn type_ref(&mut self, _type_ref: TypeRef) -> Result<(), Stop> {
-        Ok(())
+        self.keep(Maker::SomeType)
     }
 
     fn expr(&mut self, expr: Expr) -> Result<(), Stop> {
@@ -187,10 +206,11 @@ pub fn say_line(alloc: Global, text: &[u8]) -> Result<Line, Stop> {
     }
 }
 
-/// What a text says that makes nothing: a question is no line here.
+/// What a text says that makes nothing.
 fn ask_line(alloc: Global, text: &[u8]) -> Result<Line, Stop> {
     match ask(alloc, text) {
-        Ok(_) => Ok(Line::Blank),
+        Ok(Some(_)) => Ok(Line::Ask),
+        Ok(None) => Ok(Line::Blank),
         Err(Stop::Bad) => Ok(Line::Bad),
         Err(Stop::Memory) => Err(Stop::Memory),
     }

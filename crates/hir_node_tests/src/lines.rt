@@ -1,10 +1,12 @@
 //! What lines make, where no row can see it: the greatest number, numbers of each length, hygienes, what bindings have beside a name, ids of
-//! blocks and of macro definitions, and a text that ends in a line end.
+//! blocks and of macro definitions, what is printed alike, and a text that ends in a line end.
 
 use crate::kept_lines::{Line, Maker};
 use crate::says::{id, list, makes, says};
 use hir_base::{BlockId, HygieneId, MacroDefId, Name, Seq, ShortList, SyntaxContext};
-use hir_node::{Array, Binding, BindingAnnotation, Expr, ExprOrPatId, Item, Statement, Unsafe};
+use hir_node::{
+    Array, Binding, BindingAnnotation, Expr, ExprOrPatId, Item, LoopSource, Pat, Statement, Unsafe,
+};
 use std::alloc::{AllocError, Global};
 use std::test::Fail;
 
@@ -12,6 +14,7 @@ use std::test::Fail;
 fn lines_without_names(rt: HostRuntime) -> Result<(), Fail> {
     let alloc = rt.alloc();
     says(&rt, alloc, b"", Line::Blank)?;
+    says(&rt, alloc, b"print", Line::Ask)?;
     makes(&rt, alloc, b"roots", Maker::Roots)?;
     makes(&rt, alloc, b"root 0", Maker::Root(id(0)))?;
     makes(&rt, alloc, b"self 3", Maker::SelfParam(id(3)))?;
@@ -89,8 +92,17 @@ fn hygienes_of_paths(rt: HostRuntime) -> Result<(), Fail> {
     makes(&rt, alloc, b"pat-hygiene 7 0", of_pat)
 }
 
+// Both are printed alike, so that no row tells them apart.
+#[test]
+fn patterns_of_values(rt: HostRuntime) -> Result<(), Fail> {
+    let alloc = rt.alloc();
+    makes(&rt, alloc, b"pat lit 1", Maker::Pat(Pat::Lit(id(1))))?;
+    makes(&rt, alloc, b"pat expr 2", Maker::Pat(Pat::Expr(id(2))))
+}
+
 /// Texts of expressions, of which each is made by its place here: each function that holds expressions is dear to prove.
-const TEXTS: [&[u8]; 4] = [
+const TEXTS: [&[u8]; 5] = [
+    b"expr loop 1",
     b"expr const 4294967295",
     b"expr array 4294967295",
     b"expr block - -",
@@ -121,11 +133,16 @@ fn five_statements(alloc: Global) -> Result<Seq<Statement>, AllocError> {
 /// The expression that the text in this place makes.
 fn expr(alloc: Global, at: usize) -> Result<Expr, AllocError> {
     Ok(match at {
-        0 => Expr::Const(id(4294967295)),
-        1 => Expr::Array(Array::ElementList {
+        0 => Expr::Loop {
+            body: id(1),
+            label: None,
+            source: LoopSource::Loop,
+        },
+        1 => Expr::Const(id(4294967295)),
+        2 => Expr::Array(Array::ElementList {
             elements: ShortList::from_slice(alloc, &[id(4294967295)])?,
         }),
-        2 => Expr::Block {
+        3 => Expr::Block {
             id: None,
             statements: Seq::new(alloc),
             tail: None,
