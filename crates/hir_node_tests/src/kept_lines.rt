@@ -35,68 +35,28 @@ pub enum Line {
 /// Whether what a line makes is what is wanted.
 fn is_wanted(made: &Maker, wanted: &Maker) -> bool {
     match made {
-        Maker::Binding(made) => match wanted {
-            Maker::Binding(wanted) => *made == *wanted,
-            _ => false,
-        },
-        Maker::Pat(made) => match wanted {
-            Maker::Pat(wanted) => *made == *wanted,
-            _ => false,
-        },
-        Maker::SomeType => match wanted {
-            Maker::SomeType => true,
-            _ => false,
-        },
-        Maker::Expr(made) => match wanted {
-            Maker::Expr(wanted) => *made == *wanted,
-            _ => false,
-        },
-        Maker::Hygiene(id, hygiene) => match wanted {
-            Maker::Hygiene(wanted, of_wanted) => (*id == *wanted) & (*hygiene == *of_wanted),
-            _ => false,
-        },
-        Maker::SelfParam(made) => match wanted {
-            Maker::SelfParam(wanted) => *made == *wanted,
-            _ => false,
-        },
-        Maker::Param(made) => match wanted {
-            Maker::Param(wanted) => *made == *wanted,
-            _ => false,
-        },
-        Maker::FnName(made) => match wanted {
-            Maker::FnName(wanted) => *made == *wanted,
-            _ => false,
-        },
-        Maker::Roots => match wanted {
-            Maker::Roots => true,
-            _ => false,
-        },
-        Maker::Root(made) => match wanted {
-            Maker::Root(wanted) => *made == *wanted,
-            _ => false,
-        },
+        Maker::Binding(made) => matches!(wanted, Maker::Binding(wanted) if *made == *wanted),
+        Maker::Pat(made) => matches!(wanted, Maker::Pat(wanted) if *made == *wanted),
+        Maker::SomeType => matches!(wanted, Maker::SomeType),
+        Maker::Expr(made) => matches!(wanted, Maker::Expr(wanted) if *made == *wanted),
+        Maker::Hygiene(id, hygiene) => {
+            matches!(wanted, Maker::Hygiene(wanted, of_wanted) if (*id == *wanted) & (*hygiene == *of_wanted))
+        }
+        Maker::SelfParam(made) => matches!(wanted, Maker::SelfParam(wanted) if *made == *wanted),
+        Maker::Param(made) => matches!(wanted, Maker::Param(wanted) if *made == *wanted),
+        Maker::FnName(made) => matches!(wanted, Maker::FnName(wanted) if *made == *wanted),
+        Maker::Roots => matches!(wanted, Maker::Roots),
+        Maker::Root(made) => matches!(wanted, Maker::Root(wanted) if *made == *wanted),
     }
 }
 
 /// Whether the lines say the same.
 pub fn are_same(said: &Line, wanted: &Line) -> bool {
     match said {
-        Line::Blank => match wanted {
-            Line::Blank => true,
-            _ => false,
-        },
-        Line::Make(made) => match wanted {
-            Line::Make(wanted) => is_wanted(made, wanted),
-            _ => false,
-        },
-        Line::Ask => match wanted {
-            Line::Ask => true,
-            _ => false,
-        },
-        Line::Bad => match wanted {
-            Line::Bad => true,
-            _ => false,
-        },
+        Line::Blank => matches!(wanted, Line::Blank),
+        Line::Make(made) => matches!(wanted, Line::Make(wanted) if is_wanted(made, wanted)),
+        Line::Ask => matches!(wanted, Line::Ask),
+        Line::Bad => matches!(wanted, Line::Bad),
     }
 }
 
