@@ -71,6 +71,8 @@ impl<K, T> Arena<K, T> {
     ///
     /// `Memory` if room for it was refused, `Full` exactly if the arena holds `MOST_ITEMS` items, 4,294,967,295. Either hands the item back, and
     /// the arena is unchanged.
+    // Always inlined, so that a name goes into its arena without a copy on the way: see `with_zeros`.
+    #[inline(always)]
     pub fn alloc(&mut self, item: T) -> Result<Idx<K>, (ArenaFault, T)>
         ensures ok { IfOk result (λ id. (id ≡ length self.old) × (self.new ≡ self.old ++ item ∷ [])) }
         ensures err { IfErr result (λ refused. (refused.1 ≡ item) × (self.new ≡ self.old)) }

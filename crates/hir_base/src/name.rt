@@ -60,6 +60,8 @@ impl Name {
     /// The name with this text in ASCII, as `new` makes it. Only where there are more than 14 bytes are they tested again.
     ///
     /// Answers an error if memory was refused.
+    // Always inlined: see `with_zeros`.
+    #[inline(always)]
     pub fn from_ascii(alloc: Global, text: &[u8]) -> Result<Name, AllocError>
         requires { IsAscii text.now }
         ensures ok { IfOk result (λ name. name ≡ text.now) }

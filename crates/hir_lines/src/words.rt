@@ -200,6 +200,8 @@ pub trait Word: Sized {
 }
 
 /// The name that a word is.
+// Always inlined, as `path_of` is, so that the name goes into its arena without a copy on the way: see `with_zeros` of `hir_base`.
+#[inline(always)]
 pub fn name_of(alloc: Global, word: &[u8]) -> Result<Name, AllocError>
     requires { is_name word.now ≡ true }
     ensures { IfOk result (λ name. name ≡ word.now) }
@@ -208,6 +210,7 @@ pub fn name_of(alloc: Global, word: &[u8]) -> Result<Name, AllocError>
 }
 
 /// The plain path of the name that a word is.
+#[inline(always)]
 pub fn path_of(alloc: Global, word: &[u8]) -> Result<Path, AllocError>
     requires { is_name word.now ≡ true }
     ensures { IfOk result (λ path. path ≡ plain word.now) }

@@ -62,6 +62,8 @@ impl Builder for BodyBuilder {
     }
 
     // Each outcome is matched here: a function that takes it has the node that a refusal hands back copied.
+    // Always inlined, as those below are: see `with_zeros` of `hir_base`.
+    #[inline(always)]
     fn binding(&mut self, binding: Binding) -> Result<(), Stop> {
         match self.builder.alloc_binding(binding) {
             Ok(_) => Ok(()),

@@ -131,6 +131,8 @@ impl ExpressionStoreBuilder {
     }
 
     /// Adds a binding and answers its id, the number of bindings before it.
+    // Always inlined, so that its name goes into the arena without a copy on the way: see `with_zeros` of `hir_base`.
+    #[inline(always)]
     pub fn alloc_binding(&mut self, binding: Binding) -> Result<BindingId, (ArenaFault, Binding)>
         ensures ok { IfOk result (λ id. (id ≡ length self.old.bindings)
             × (self.new ≡ record self.old { bindings = self.old.bindings ++ binding ∷ [] })) }
