@@ -14,6 +14,6 @@ pub use Rattle.hir_printer.proofs.OrderLemmas.{none_is, no_statements, without_t
 pub use Rattle.hir_printer.proofs.PieceLemmas.{literal_pieces, name_printed, pieces_put}
 pub use Rattle.hir_printer.proofs.SignatureLemmas.{signature_is}
 pub use Rattle.hir_printer.proofs.StepLemmas.{pieces_at}
-pub use Rattle.hir_printer.proofs.TurnLemmas.{wrote_adds, kept_adds, wrote, whole_gives, under_gives, pattern_gives, type_gives, written_then, turned_wrote, turned_gave, turn_leads, turn_less, missing_next, all_is_written, prints_text, prints_fault, prints}
+pub use Rattle.hir_printer.proofs.TurnLemmas.{wrote_adds, kept_adds, wrote, whole_gives, first_gives, under_gives, pattern_gives, type_gives, written_then, turned_wrote, turned_gave, turn_leads, turn_less, missing_next, all_is_written, prints_text, prints_fault, prints}
 pub use Rattle.hir_printer.proofs.WeightLemmas.{literal_heft, name_heft}
 pub use Rattle.hir_printer.proofs.WorksLemmas.{kept_more, waiting_still}

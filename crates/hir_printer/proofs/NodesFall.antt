@@ -14,6 +14,8 @@ use Rattle.hir_node.specs.ChildCalls.{Call, args_calls, path_calls, spread_calls
 use Rattle.hir_node.specs.ChildCalls as calls
 use Rattle.hir_node.specs.Keywords.{ref_keyword}
 use Rattle.hir_node.specs.declared.{expr_types.RecordSpread.RecordSpread, expr_types.Unsafe.Unsafe, expr_types.ClosureKind.ClosureKind, expr_types.Array.Array, expr_types.MatchArm.MatchArm, expr_types.RecordLitField.RecordLitField, expr_types.Statement.Statement, literal.Literal.Literal, expr.Expr.Expr, pat.RecordFieldPat.RecordFieldPat, pat.Pat.Pat, type_ref.TypeRef.TypeRef, binding.Label.Label}
+use Rattle.hir_node.specs.declared.binding.BindingAnnotation.{BindingAnnotation}
+use Rattle.hir_node.specs.declared.binding.BindingAnnotation.TheVariants as annotation
 use Rattle.hir_node.specs.declared.expr_types.RecordSpread.TheVariants as spread
 use Rattle.hir_node.specs.declared.expr_types.Unsafe.TheVariants as unsafety
 use Rattle.hir_node.specs.declared.expr_types.ClosureKind.TheVariants as closure
@@ -23,7 +25,7 @@ use Rattle.hir_node.specs.declared.literal.Literal.TheVariants as literal
 use Rattle.hir_node.specs.declared.expr.Expr.TheVariants as expr
 use Rattle.hir_node.specs.declared.pat.Pat.TheVariants as pat
 use Rattle.hir_node.specs.declared.type_ref.TypeRef.TheVariants as type
-use Rattle.hir_printer.specs.Prelude.{NodeId, Missing, Setting, Item, text, sp, br, into, out, e, under, p, t, opt, when, join, comma_joined, name_items, label_items, binding_items, of_binding, l, found_name, target_items, supers, kind_items, colons_first, segments_from, start_items, turbofish, args_items, path_items, for_names, literal_items, label_before, to_label, operand, each_line, in_lines, arguments, arm_items, field_items, spread_items, statement_items, unsafe_items, inside_block, params, header, coroutine_body, of_coroutine, printed_body, array_items, expr_items, with_rest, in_parentheses, is_short, field_pattern, after_last, field_patterns, pat_items, type_param_items, extern_items, varargs_items, front, last, signature_items, type_items, AllNodes}
+use Rattle.hir_printer.specs.Prelude.{NodeId, Missing, Setting, Item, text, sp, br, into, out, e, under, p, t, opt, when, join, comma_joined, name_items, label_items, annotation_items, binding_items, of_binding, l, found_name, target_items, supers, kind_items, colons_first, segments_from, start_items, turbofish, args_items, path_items, for_names, literal_items, label_before, to_label, operand, each_line, in_lines, arguments, arm_items, field_items, spread_items, statement_items, unsafe_items, inside_block, params, header, coroutine_body, of_coroutine, printed_body, array_items, expr_items, with_rest, in_parentheses, is_short, field_pattern, after_last, field_patterns, pat_items, type_param_items, extern_items, varargs_items, front, last, signature_items, type_items, AllNodes}
 use Rattle.hir_node.specs.declared.node_id.NodeId.TheVariants as node
 use Rattle.hir_faults.specs.Nodes.{calls_of}
 use Rattle.hir_page.specs.Literals.{string_literal, char_literal, bytes_literal, c_string_literal}
@@ -314,8 +316,14 @@ module _ (P : NodeId → Type 0) (s : Setting) where
       let comma = text (codes ",") in
       nodes_append P ((field_pattern s f ++ comma) ++ br) (field_patterns s rest (g ∷ fs)) (nodes_append P (field_pattern s f ++ comma) br (nodes_append P (field_pattern s f) comma (field_pattern_falls f a.0) tt) tt) (field_patterns_fall rest (g ∷ fs) a.1)
 
+  bound_falls : (mode : BindingAnnotation) (items : List Item) → AllNodes P items → AllNodes P (annotation_items mode ++ items)
+  bound_falls annotation.Unannotated items h = h
+  bound_falls annotation.Mutable items h = h
+  bound_falls annotation.Ref items h = h
+  bound_falls annotation.RefMut items h = h
+
   binding_falls : (id : ℕ) → AllNodes P (binding_items s id)
-  binding_falls id = none_falls P (of_binding s) (λ b. name_falls P s b.name) (slice_get s.nodes.bindings id)
+  binding_falls id = none_falls P (of_binding s) (λ b. bound_falls b.mode (name_items s b.name) (name_falls P s b.name)) (slice_get s.nodes.bindings id)
 
   range_falls : (start end : Option ℕ) (dots : List ℕ) → AllCalls P (calls.opt calls.e start ++ calls.opt calls.e end) → AllNodes P (opt (under Shift) start ++ text dots ++ opt (under Shift) end)
   range_falls None None dots a = tt

@@ -1,7 +1,7 @@
 -- A turn of the loop, by what its work is.
 use Rattle.std.proofs.Common.{◌≡◌, ℕ, ◌<◌, ◌≤◌, List, [], ◌∷◌, ◌++◌, map, Option, Some, None, refl, sym, ap, ap₂, subst, ◌∙◌, arith, append_assoc, append-nil, Result, Ok, Err, String, string_bytes, slice_get}
 use Rattle.hir_base.specs.declared.prec.ExprPrecedence.{ExprPrecedence}
-use Rattle.hir_printer.specs.Prelude.{NodeId, Missing, Setting, Item, Under, PrintsPieces, Layout, first_missing, items_of, pieces, item_list_pieces, stands_in_parentheses, precedence_found, ItemsFall, heft, Printing, on_page, stands_for, items_of_works, printing, Leads, WroteWork, AddsItems, GaveWayTo, TurnedBy, enclose}
+use Rattle.hir_printer.specs.Prelude.{NodeId, Missing, Setting, Item, Whole, Under, PrintsPieces, Layout, first_missing, items_of, pieces, item_list_pieces, stands_in_parentheses, precedence_found, ItemsFall, heft, Printing, on_page, stands_for, items_of_works, printing, Leads, WroteWork, AddsItems, GaveWayTo, TurnedBy, enclose}
 use Rattle.hir_node.specs.declared.node_id.NodeId.TheVariants as node
 use Rattle.hir_page.specs.Page.{Page, all_rendered, page_text}
 use Rattle.hir_page.specs.Pieces.{Piece}
@@ -64,6 +64,14 @@ node_printed s fall n more = ap (λ ps. ps ++ item_list_pieces s more) (pieces_a
 module _ {old new : Printing} (fall : ItemsFall old.from) (none : old.kept ≡ []) where
   pub whole_gives : (id : ℕ) → AddsItems old (λ s. items_of s (node.Expr id)) new → GaveWayTo (work.Whole id) old new
   whole_gives id a = gives_way none a (node_printed old.from fall (node.Expr id)) (let k = weight_at old.from fall (node.Expr id) in omega arith)
+
+  -- the first of expressions, with what is behind it
+  pub first_gives : {w : Work} (id : ℕ) (behind : List Item) → stands_for old.from w ≡ Whole id ∷ behind → AddsItems old (λ s. items_of s (node.Expr id) ++ behind) new → GaveWayTo w old new
+  first_gives {w} id behind e a =
+      let s = old.from in
+      gives_way none a
+      (λ more. ap (λ is. item_list_pieces s (is ++ more)) e ∙ node_printed s fall (node.Expr id) (behind ++ more) ∙ ap (item_list_pieces s) (sym (append_assoc (items_of s (node.Expr id)) behind more)))
+      (let k = weight_at s fall (node.Expr id) in let m = ap (heft s) e in let l = heft-append s (items_of s (node.Expr id)) behind in omega arith)
 
   pub pattern_gives : (id : ℕ) → AddsItems old (λ s. items_of s (node.Pat id)) new → GaveWayTo (work.Pattern id) old new
   pattern_gives id a = gives_way none a (node_printed old.from fall (node.Pat id)) (let k = weight_at old.from fall (node.Pat id) in omega arith)

@@ -60,14 +60,14 @@ l s id = opt (lifetime_items s) (slice_get s.nodes.lifetimes id)
 abbrev pub label_items : Setting → ℕ → List Item
 label_items s id = opt (λ (label : Label). name_items s label.name) (slice_get s.nodes.labels id)
 
-abbrev pub annotation_text : BindingAnnotation → List ℕ
-annotation_text Unannotated = codes ""
-annotation_text Mutable = codes "mut "
-annotation_text Ref = codes "ref "
-annotation_text RefMut = codes "ref mut "
+abbrev pub annotation_items : BindingAnnotation → List Item
+annotation_items Unannotated = []
+annotation_items Mutable = text (codes "mut ")
+annotation_items Ref = text (codes "ref ")
+annotation_items RefMut = text (codes "ref mut ")
 
 abbrev pub of_binding : Setting → Binding → List Item
-of_binding s b = text (annotation_text b.mode) ++ name_items s b.name
+of_binding s b = annotation_items b.mode ++ name_items s b.name
 
 abbrev pub binding_items : Setting → ℕ → List Item
 binding_items s id = opt (of_binding s) (slice_get s.nodes.bindings id)

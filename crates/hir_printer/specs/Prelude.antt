@@ -4,7 +4,7 @@ pub use Rattle.hir_expr_store.specs.declared.missing.Missing.{Missing}
 pub use Rattle.hir_node.specs.declared.node_id.NodeId.{NodeId}
 pub use Rattle.hir_printer.specs.Questions.{Questions, Setting}
 pub use Rattle.hir_printer.specs.Items.{Item, Put, Lacks, Whole, Under, Pattern, TypeItem, text, sp, br, into, out, e, under, p, t, opt, when, join, comma_joined, with_number}
-pub use Rattle.hir_printer.specs.Names.{same_text, is_word, raw_parts, name_parts, behind, texts_of, printed_name, name_items, param_items, lifetime_items, l, label_items, annotation_text, of_binding, binding_items}
+pub use Rattle.hir_printer.specs.Names.{same_text, is_word, raw_parts, name_parts, behind, texts_of, printed_name, name_items, param_items, lifetime_items, l, label_items, annotation_items, of_binding, binding_items}
 pub use Rattle.hir_printer.specs.Paths.{for_names, modifier_items, use_items, bound_items, bounds_items, bounds_after, arg_items, each_arg, turbofish, type_after, binding_layer, args_layer, args_items, assoc_items, found_name, target_items, supers, kind_items, colons_first, segments_from, start_items, path_items}
 pub use Rattle.hir_printer.specs.Types.{type_param_items, extern_items, varargs_items, front, last, signature_items, fn_items, type_items}
 pub use Rattle.hir_printer.specs.Literals.{bool_text, literal_items, put_pieces}
@@ -18,6 +18,6 @@ pub use Rattle.hir_printer.specs.PrintAnswers.{PrintsPieces}
 pub use Rattle.hir_printer.specs.Weights.{total, item_weight, weight_step, heft}
 unfoldable pub use Rattle.hir_printer.specs.Weights.{weight}
 pub use Rattle.hir_printer.specs.Printing.{Printing, printing_of, on_page}
-pub use Rattle.hir_printer.specs.Printers.{stands_for, is_node, items_of_works, stood_after, items_one_by_one, following, enclose, Wrote, Adds, AddsWorks, GaveWay, Turns, AddsItems, AddsList, GaveWayTo, Leads, TurnedBy, WroteWork}
+pub use Rattle.hir_printer.specs.Printers.{ending_items, exprs_items, stands_for, is_node, items_of_works, stood_after, items_one_by_one, following, enclose, Wrote, Adds, AddsWorks, GaveWay, Turns, AddsItems, AddsList, GaveWayTo, Leads, TurnedBy, WroteWork}
 unfoldable pub use Rattle.hir_printer.specs.Printers.{printing}
 pub use Rattle.hir_printer.specs.Answers.{found_or, answers}

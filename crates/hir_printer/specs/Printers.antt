@@ -1,8 +1,10 @@
 -- What works stand for, and what becomes of them.
-use Rattle.std.specs.Prelude.{◌≡◌, ◌<◌, ◌≤◌, Bool, true, false, List, [], ◌∷◌, ◌++◌, Option, Some, None, codes, flat_map, decimal}
+use Rattle.std.specs.Prelude.{◌≡◌, ◌<◌, ◌≤◌, ℕ, Bool, true, false, List, [], ◌∷◌, ◌++◌, Option, Some, None, codes, flat_map, decimal}
 use Rattle.hir_expr_store.specs.declared.missing.Missing.{Missing}
 use Rattle.hir_page.specs.Page.{Page, render}
 use Rattle.hir_printer.specs.declared.work.Work.{Work}
+use Rattle.hir_printer.specs.declared.work.Ending.{Ending}
+use Rattle.hir_printer.specs.declared.work.Ending.TheVariants as ending
 use Rattle.hir_printer.specs.declared.work.Work.TheVariants as work
 use Rattle.hir_printer.specs.Questions.{Setting}
 use Rattle.hir_printer.specs.Items.{Item, Lacks, text, sp, br, into, out, e, under, p, t, when}
@@ -13,6 +15,15 @@ use Rattle.hir_printer.specs.Pieces.{NodePiece, Layout, Absent, item_list_pieces
 use Rattle.hir_printer.specs.Weights.{heft}
 use Rattle.hir_printer.specs.declared.printer.Printer.{Printer}
 use Rattle.hir_printer.specs.Printing.{Printing, printing_of}
+
+-- what stands behind each expression of a list
+abbrev pub ending_items : Ending → List Item
+ending_items ending.Comma = text (codes ", ")
+ending_items ending.Line = text (codes ",") ++ br
+
+-- expressions, each with its ending
+abbrev pub exprs_items : Ending → List ℕ → List Item
+exprs_items ending ids = flat_map (λ id. e id ++ ending_items ending) ids
 
 -- the items that a work stands for
 abbrev pub stands_for : Setting → Work → List Item
@@ -26,6 +37,7 @@ stands_for s (work.Literal x) = literal_items x.now
 stands_for s (work.Name name) = name_items s name.now
 stands_for s (work.Whole id) = e id
 stands_for s (work.Under id parent) = under parent id
+stands_for s (work.Exprs ending id others) = exprs_items ending (id ∷ others.now)
 stands_for s (work.Pattern id) = p id
 stands_for s (work.Type id) = t id
 stands_for s (work.Args x) = turbofish (args_items s x.now)
@@ -35,6 +47,7 @@ stands_for s (work.Lacks missing) = Lacks missing ∷ []
 abbrev pub is_node : Work → Bool
 is_node (work.Whole id) = true
 is_node (work.Under id parent) = true
+is_node (work.Exprs ending id others) = true
 is_node (work.Pattern id) = true
 is_node (work.Type id) = true
 is_node (work.Args x) = true

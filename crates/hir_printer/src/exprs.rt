@@ -3,9 +3,9 @@
 
 ghost use Rattle.std.specs.Prelude.{◌≡◌, ◌++◌, OnOk};
 ghost use Rattle.hir_node.specs.declared.expr.Expr.TheVariants as of_expr;
-ghost use Rattle.hir_printer.specs.Prelude.{text, opt, with_number, args_items, turbofish, operand, arguments, raw_keyword, operator_items, spread_items, array_items, unsafe_items, expr_items, Adds};
+ghost use Rattle.hir_printer.specs.Prelude.{text, opt, with_number, args_items, turbofish, operand, arguments, raw_keyword, ending_items, exprs_items, operator_items, spread_items, array_items, unsafe_items, expr_items, Adds};
 
-use crate::{Part, Printer, Work};
+use crate::{Ending, Part, Printer, Work};
 use hir_base::{BinaryOp, ExprPrecedence, Name};
 use hir_node::{
     Array, Boxed, Expr, ExprId, GenericArgs, LabelId, MatchArm, Path, Rawness, RecordLitField,
@@ -50,6 +50,38 @@ impl<'a> Printer<'a> {
         self.add_operand(expr)
     }
 
+    fn add_ending(&mut self, ending: Ending) -> Result<(), AllocError>
+        ensures { OnOk result (Adds self.old (λ s. ending_items ending) self.new) }
+    {
+        match ending {
+            Ending::Comma => self.add(&[Work::Text(", ")]),
+            Ending::Line => self.add(&[Work::Text(","), Work::Break]),
+        }
+    }
+
+    /// Adds expressions, each with its ending. They wait together, so that a list takes no more memory than one expression.
+    fn add_exprs(&mut self, ending: Ending, exprs: &'a [ExprId]) -> Result<(), AllocError>
+        ensures { OnOk result (Adds self.old (λ s. exprs_items ending exprs.now) self.new) }
+    {
+        match exprs {
+            [] => Ok(()),
+            [first, others @ ..] => self.add(&[Work::Exprs(ending, *first, others)]),
+        }
+    }
+
+    /// Adds the endings of the first of expressions, and the others.
+    pub(crate) fn add_behind(
+        &mut self,
+        ending: Ending,
+        others: &'a [ExprId],
+    ) -> Result<(), AllocError>
+        ensures { OnOk result (Adds self.old
+            (λ s. ending_items ending ++ exprs_items ending others.now) self.new) }
+    {
+        self.add_ending(ending)?;
+        self.add_exprs(ending, others)
+    }
+
     /// Adds arguments in parentheses, each on a line of its own.
     fn add_arguments(&mut self, args: &'a [ExprId]) -> Result<(), AllocError>
         ensures { OnOk result (Adds self.old (λ s. arguments args.now) self.new) }
@@ -58,7 +90,7 @@ impl<'a> Printer<'a> {
             return self.add(&[Work::Text("("), Work::Text(")")]);
         }
         self.add(&[Work::Text("("), Work::Indent])?;
-        self.add_each(args, &[Work::Text(","), Work::Break])?;
+        self.add_exprs(Ending::Line, args)?;
         self.add(&[Work::Outdent, Work::Text(")")])
     }
 
@@ -141,7 +173,7 @@ impl<'a> Printer<'a> {
                     return self.add(&[Work::Text("[]")]);
                 }
                 self.add(&[Work::Text("["), Work::Indent])?;
-                self.add_each(elements.as_slice(), &[Work::Text(", ")])?;
+                self.add_exprs(Ending::Comma, elements.as_slice())?;
                 self.add(&[Work::Outdent, Work::Break, Work::Text("]")])
             }
             Array::Repeat {
@@ -300,7 +332,7 @@ impl<'a> Printer<'a> {
             ]),
             Expr::Tuple { exprs } => {
                 self.add(&[Work::Text("(")])?;
-                self.add_each(exprs.as_slice(), &[Work::Text(", ")])?;
+                self.add_exprs(Ending::Comma, exprs.as_slice())?;
                 self.add(&[Work::Text(")")])
             }
             Expr::Array(array) => self.add_array(array),

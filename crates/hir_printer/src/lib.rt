@@ -22,4 +22,4 @@ pub use fault::PrintFault;
 pub use part::Part;
 pub use paths::colons_first;
 pub use printer::Printer;
-pub use work::Work;
+pub use work::{Ending, Work};

@@ -4,7 +4,7 @@
 ghost use Rattle.std.specs.Prelude.{◌≡◌, OnOk, map, slice_get, Some};
 ghost use Rattle.hir_node.specs.declared.pat.Pat.TheVariants as of_pat;
 ghost use Rattle.hir_base.specs.declared.prec.ExprPrecedence.TheVariants.{Shift};
-ghost use Rattle.hir_printer.specs.Prelude.{Setting, p, opt, under, comma_joined, annotation_text, binding_items, with_rest, in_parentheses, has_printed_name, is_short, field_pattern, after_last, field_patterns, pat_items, printing_of, Adds};
+ghost use Rattle.hir_printer.specs.Prelude.{Setting, p, opt, under, comma_joined, annotation_items, binding_items, with_rest, in_parentheses, has_printed_name, is_short, field_pattern, after_last, field_patterns, pat_items, printing_of, Adds};
 
 use crate::names::is_printed;
 use crate::{Printer, Work};
@@ -12,17 +12,6 @@ use hir_base::{ExprPrecedence, Text};
 use hir_expr_store::ExpressionStore;
 use hir_node::{Binding, BindingAnnotation, BindingId, ExprId, Pat, PatId, Path, RecordFieldPat};
 use std::alloc::AllocError;
-
-fn annotation_text(mode: BindingAnnotation) -> &'static str
-    ensures { result.now ≡ annotation_text mode }
-{
-    match mode {
-        BindingAnnotation::Unannotated => "",
-        BindingAnnotation::Mutable => "mut ",
-        BindingAnnotation::Ref => "ref ",
-        BindingAnnotation::RefMut => "ref mut ",
-    }
-}
 
 /// Whether the text of a binding is this name as it is printed.
 fn has_printed_name(words: &[Text], name: &str, binding: &Binding) -> bool
@@ -35,6 +24,17 @@ fn has_printed_name(words: &[Text], name: &str, binding: &Binding) -> bool
 }
 
 impl<'a> Printer<'a> {
+    fn add_annotation(&mut self, mode: BindingAnnotation) -> Result<(), AllocError>
+        ensures { OnOk result (Adds self.old (λ s. annotation_items mode) self.new) }
+    {
+        match mode {
+            BindingAnnotation::Unannotated => Ok(()),
+            BindingAnnotation::Mutable => self.add(&[Work::Text("mut ")]),
+            BindingAnnotation::Ref => self.add(&[Work::Text("ref ")]),
+            BindingAnnotation::RefMut => self.add(&[Work::Text("ref mut ")]),
+        }
+    }
+
     /// Adds a binding.
     pub fn add_binding(&mut self, id: BindingId) -> Result<(), AllocError>
         ensures { OnOk result (Adds self.old (λ s. binding_items s id) self.new) }
@@ -42,10 +42,8 @@ impl<'a> Printer<'a> {
         let store = self.store;
         if store.has_binding(id) {
             let binding = &store[id];
-            return self.add(&[
-                Work::Text(annotation_text(binding.mode)),
-                Work::Name(binding.name.as_str()),
-            ]);
+            self.add_annotation(binding.mode)?;
+            return self.add(&[Work::Name(binding.name.as_str())]);
         }
         Ok(())
     }

@@ -3,12 +3,12 @@
 
 ghost use Rattle.std.specs.Prelude.{◌≡◌, ◌++◌, [], true, List, Some, None, Err, OnOk, slice_get};
 ghost use Rattle.hir_node.specs.declared.node_id.NodeId.TheVariants as node;
-ghost use Rattle.hir_printer.specs.Prelude.{Missing, Item, items_of, item_list_pieces, is_chain, stands_in_parentheses, precedence_found, ItemsFall, is_node, PrintsPieces, on_page, printing_of, items_of_works, printing, Adds, AddsItems, GaveWay, Turns, enclose};
+ghost use Rattle.hir_printer.specs.Prelude.{Missing, Item, items_of, item_list_pieces, is_chain, stands_in_parentheses, precedence_found, ItemsFall, is_node, PrintsPieces, on_page, printing_of, items_of_works, printing, Adds, AddsItems, GaveWay, Turns, enclose, ending_items, exprs_items};
 ghost use Rattle.hir_printer.specs.declared.fault.PrintFault.TheVariants as fault;
 ghost use Rattle.hir_printer.specs.declared.work.Work.TheVariants as works;
 
 use crate::laws::items_fall;
-use crate::{PrintFault, Printer, Work};
+use crate::{Ending, PrintFault, Printer, Work};
 use hir_base::ExprPrecedence;
 use hir_expr_store::ExpressionStore;
 use hir_node::{ExprId, GenericArgs, PatId, TypeRefId};
@@ -83,6 +83,20 @@ impl<'a> Printer<'a> {
         self.add_if(is_enclosed, ")")
     }
 
+    /// Adds the first of expressions at once, its ending, and the others.
+    fn add_first(
+        &mut self,
+        ending: Ending,
+        first: ExprId,
+        others: &'a [ExprId],
+    ) -> Result<(), AllocError>
+        ensures { OnOk result (Adds self.old (λ s. items_of s (node.Expr first)
+            ++ (ending_items ending ++ exprs_items ending others.now)) self.new) }
+    {
+        self.add_expr_at(first)?;
+        self.add_behind(ending, others)
+    }
+
     /// Adds generic arguments in `::<` and `>`. The first text is written at once, so that less is kept than they are.
     fn add_fish(&mut self, args: &'a GenericArgs) -> Result<(), AllocError>
         requires none { (printing_of self.old).kept ≡ [] }
@@ -104,6 +118,7 @@ impl<'a> Printer<'a> {
         match work {
             Work::Whole(id) => Ok(self.add_expr_at(*id)?),
             Work::Under(id, parent) => Ok(self.add_under(*id, *parent)?),
+            Work::Exprs(ending, first, others) => Ok(self.add_first(*ending, *first, *others)?),
             Work::Pattern(id) => Ok(self.add_pat_at(*id)?),
             Work::Type(id) => Ok(self.add_type_at(*id)?),
             Work::Args(args) => Ok(self.add_fish(*args)?),

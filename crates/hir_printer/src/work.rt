@@ -7,6 +7,15 @@ use hir_base::ExprPrecedence;
 use hir_expr_store::Missing;
 use hir_node::{ExprId, GenericArgs, Literal, PatId, TypeRefId};
 
+/// What stands behind each expression of a list.
+#[derive(Clone, Copy)]
+pub enum Ending {
+    /// A comma and a space.
+    Comma,
+    /// A comma and the end of the line.
+    Line,
+}
+
 /// What is still to be printed: a piece, a text of several pieces, a node, or a definition that is missing.
 #[derive(Clone, Copy)]
 pub enum Work<'a> {
@@ -30,6 +39,8 @@ pub enum Work<'a> {
     Whole(ExprId),
     /// An expression under a precedence.
     Under(ExprId, ExprPrecedence),
+    /// Expressions without a parent, each with its ending: the first, and the others.
+    Exprs(Ending, ExprId, &'a [ExprId]),
     /// A pattern.
     Pattern(PatId),
     /// A type.
@@ -49,6 +60,7 @@ impl<'a> Work<'a> {
             self,
             Work::Whole(_)
                 | Work::Under(_, _)
+                | Work::Exprs(_, _, _)
                 | Work::Pattern(_)
                 | Work::Type(_)
                 | Work::Args(_)

@@ -1,6 +1,8 @@
 -- What lines make names no definition outside, so none is missing from what is printed of it.
 use Rattle.std.proofs.Common.{◌≡◌, ℕ, zero, suc, Bool, true, false, List, [], ◌∷◌, ◌++◌, Option, Some, None, map, refl, sym, ap, subst, codes, slice_get, flat_map, option_to_list, Result, Ok}
 use Rattle.hir_node.specs.declared.binding.Binding.{Binding}
+use Rattle.hir_node.specs.declared.binding.BindingAnnotation.{BindingAnnotation}
+use Rattle.hir_node.specs.declared.binding.BindingAnnotation.TheVariants as annotation
 use Rattle.hir_node.specs.declared.expr.Expr.{Expr}
 use Rattle.hir_node.specs.declared.expr_types.MatchArm.{MatchArm}
 use Rattle.hir_node.specs.declared.expr_types.Statement.{Statement}
@@ -20,7 +22,7 @@ use Rattle.hir_lines.specs.TypeGrammar.{IsType}
 use Rattle.hir_faults.specs.Down.{value, value_within, rank}
 use Rattle.hir_printer.specs.Questions.{Setting}
 use Rattle.hir_printer.specs.Items.{Item, Put, Lacks, Whole, Under, Pattern, TypeItem, text, sp, br, out, e, under, p, t, opt, join, comma_joined}
-use Rattle.hir_printer.specs.Names.{name_items, name_parts, of_binding, binding_items}
+use Rattle.hir_printer.specs.Names.{name_items, name_parts, annotation_items, of_binding, binding_items}
 use Rattle.hir_printer.specs.Paths.{path_items}
 use Rattle.hir_printer.specs.Exprs.{each_line, in_lines, arm_items, semicolon, statement_items, inside_block, params, expr_items}
 use Rattle.hir_printer.specs.Pats.{pat_items}
@@ -98,8 +100,14 @@ each_two (x ∷ xs) ys h k = (h.0, each_two xs ys h.1 k)
 name_none : (s : Setting) (name : List ℕ) → NoneLacks (name_items s name)
 name_none s name = of_all text (λ bytes. tt) (name_parts s.words name)
 
+bound_none : (mode : BindingAnnotation) (items : List Item) → NoneLacks items → NoneLacks (annotation_items mode ++ items)
+bound_none annotation.Unannotated items h = h
+bound_none annotation.Mutable items h = h
+bound_none annotation.Ref items h = h
+bound_none annotation.RefMut items h = h
+
 pub binding_none : (s : Setting) (id : ℕ) → NoneLacks (binding_items s id)
-binding_none s id = of_option (of_binding s) (λ (b : Binding). name_none s b.name) (slice_get s.nodes.bindings id)
+binding_none s id = of_option (of_binding s) (λ (b : Binding). bound_none b.mode (name_items s b.name) (name_none s b.name)) (slice_get s.nodes.bindings id)
 
 path_none : (s : Setting) (name : List ℕ) → NoneLacks (path_items s (plain name))
 path_none s name = two (name_items s name) [] (name_none s name) tt

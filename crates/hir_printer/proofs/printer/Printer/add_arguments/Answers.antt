@@ -6,5 +6,5 @@ returns-then-is_empty c = on_ok_weaker c.add.result (λ a. adds a (λ s. no_argu
 
 pub returns : goal.returns
 returns c = on_ok_weaker c.add-3.result
-    (λ a. adds_as (adds_more (adds_then (adds c.in_ok-add.ensures (λ s. refl)) c.in_ok-add_each.ensures) a) (λ s. some_arguments c.args.args.now (sym c.is_empty.ensures ∙ c.if-is_empty.false)))
+    (λ a. adds_as (adds_more (adds_then (adds c.in_ok-add.ensures (λ s. refl)) c.in_ok-add_exprs.ensures) a) (λ s. some_arguments c.args.args.now (sym c.is_empty.ensures ∙ c.if-is_empty.false)))
     c.add-3.ensures

@@ -46,9 +46,9 @@ returns-in_ok-add-in-Yeet c = rw c.in-Yeet.is (on_ok_weaker c.add_keyword-in-Yee
 pub returns-in-RecordLit : goal.returns-in-RecordLit
 returns-in-RecordLit c = rw c.in-RecordLit.is (rw (c.as_slice-in-RecordLit.ensures, c.get.ensures) at c.add_record_lit.ensures)
 
-pub returns-in_ok-add_each-in-Tuple : goal.returns-in_ok-add_each-in-Tuple
-returns-in_ok-add_each-in-Tuple c = rw c.in-Tuple.is (on_ok_weaker c.add-in-Tuple-2.result
-    (adds_more (adds_then (adds c.in_ok-add-in-Tuple.ensures (λ s. refl)) (rw c.as_slice-in-Tuple.ensures at c.in_ok-add_each-in-Tuple.ensures)))
+pub returns-in_ok-add_exprs-in-Tuple : goal.returns-in_ok-add_exprs-in-Tuple
+returns-in_ok-add_exprs-in-Tuple c = rw c.in-Tuple.is (on_ok_weaker c.add-in-Tuple-2.result
+    (adds_more (adds_then (adds c.in_ok-add-in-Tuple.ensures (λ s. refl)) (rw c.as_slice-in-Tuple.ensures at c.in_ok-add_exprs-in-Tuple.ensures)))
     c.add-in-Tuple-2.ensures)
 
 pub returns-in_ok-add_numbered-in-Const : goal.returns-in_ok-add_numbered-in-Const

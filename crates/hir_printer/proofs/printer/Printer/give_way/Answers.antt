@@ -1,4 +1,4 @@
-use Rattle.hir_printer.proofs.Common.{◌≡◌, ◌∙◌, ap, err_from_is_err_and, whole_gives, under_gives, pattern_gives, type_gives}
+use Rattle.hir_printer.proofs.Common.{◌≡◌, ◌∙◌, ap, err_from_is_err_and, refl, whole_gives, first_gives, under_gives, pattern_gives, type_gives}
 use Rattle.hir_printer.specs.declared.work.Work.TheVariants as work
 use Rattle.hir_printer.proofs.printer.Printer.give_way.Goals as goal
 
@@ -7,6 +7,12 @@ returns-in_ok-add_expr_at-in-Whole-clause-ok c = rw c.in-Whole.is (whole_gives c
 
 pub returns-in_ok-add_under-in-Under-clause-ok : goal.returns-in_ok-add_under-in-Under-clause-ok
 returns-in_ok-add_under-in-Under-clause-ok c = rw c.in-Under.is (under_gives c.requires.fall c.requires.none c.in-Under.id c.in-Under.parent c.in_ok-add_under-in-Under.ensures)
+
+pub returns-in_ok-add_first-in-Exprs-clause-ok : goal.returns-in_ok-add_first-in-Exprs-clause-ok
+returns-in_ok-add_first-in-Exprs-clause-ok c = rw c.in-Exprs.is (first_gives c.requires.fall c.requires.none c.in-Exprs.first _ refl c.in_ok-add_first-in-Exprs.ensures)
+
+pub returns-in_err-add_first-in-Exprs-clause-missing : goal.returns-in_err-add_first-in-Exprs-clause-missing
+returns-in_err-add_first-in-Exprs-clause-missing c = λ m e. let p = err_from_is_err_and c.from_residual-in_err-add_first-in-Exprs.result c.from_residual-in_err-add_first-in-Exprs.ensures.1 in let f = p.1 in let g = p.2 in absurd (cc)
 
 pub returns-in_ok-add_pat_at-in-Pattern-clause-ok : goal.returns-in_ok-add_pat_at-in-Pattern-clause-ok
 returns-in_ok-add_pat_at-in-Pattern-clause-ok c = rw c.in-Pattern.is (pattern_gives c.requires.fall c.requires.none c.in-Pattern.id c.in_ok-add_pat_at-in-Pattern.ensures)
