@@ -1,7 +1,7 @@
 //! What is added to a printer: it is written at once, or kept.
 
 ghost use Rattle.std.specs.Prelude.{◌≡◌, ◌≤◌, length, ◌∷◌, [], ◌++◌, false, IfSome, None, OnOk, string_bytes};
-ghost use Rattle.hir_printer.specs.Prelude.{words_of, text, when, setting, answers, format_of, on_page, printing_of, is_node, Adds, AddsWorks, Wrote, stands_for};
+ghost use Rattle.hir_printer.specs.Prelude.{words_of, text, when, with_number, setting, answers, format_of, on_page, printing_of, is_node, Adds, AddsWorks, Wrote, stands_for};
 ghost use Rattle.hir_page.specs.Page.{page_text};
 
 use crate::literals::write_literal;
@@ -133,6 +133,19 @@ impl<'a> Printer<'a> {
             return self.add(&[Work::Text(shown)]);
         }
         Ok(())
+    }
+
+    /// Adds the kind of an id and its number, as `ExprId(3)`.
+    #[tactic(auto, using(crate::proofs::AddLemmas::adding))]
+    pub fn add_numbered(&mut self, kind: &'a str, number: u32) -> Result<(), AllocError>
+        ensures { OnOk result (Adds self.old (λ s. with_number kind.now number) self.new) }
+    {
+        self.add(&[
+            Work::Text(kind),
+            Work::Text("("),
+            Work::Number(u64::from(number)),
+            Work::Text(")"),
+        ])
     }
 
     /// Lets what was kept in this turn wait, before all that waits.

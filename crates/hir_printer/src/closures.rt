@@ -137,9 +137,9 @@ impl<'a> Printer<'a> {
             (λ s. header kind (params args.now types.now) ret.now) self.new) }
     {
         match kind {
-            ClosureKind::Closure => self.add_bars(args, types, ret),
-            ClosureKind::OldCoroutine(_) => self.add_bars(args, types, ret),
-            ClosureKind::CoroutineClosure(_) => self.add_bars(args, types, ret),
+            ClosureKind::Closure
+            | ClosureKind::OldCoroutine(_)
+            | ClosureKind::CoroutineClosure(_) => self.add_bars(args, types, ret),
             ClosureKind::Coroutine { kind: _, source: _ } => Ok(()),
         }
     }

@@ -3,7 +3,7 @@
 
 ghost use Rattle.std.specs.Prelude.{◌≡◌, ◌++◌, OnOk};
 ghost use Rattle.hir_node.specs.declared.expr.Expr.TheVariants as of_expr;
-ghost use Rattle.hir_printer.specs.Prelude.{text, opt, with_number, args_items, turbofish, operand, arguments, raw_keyword, ending_items, exprs_items, operator_items, spread_items, array_items, unsafe_items, expr_items, Adds};
+ghost use Rattle.hir_printer.specs.Prelude.{text, opt, args_items, turbofish, operand, arguments, raw_keyword, ending_items, exprs_items, operator_items, spread_items, array_items, unsafe_items, expr_items, Adds};
 
 use crate::{Ending, Part, Printer, Work};
 use hir_base::{BinaryOp, ExprPrecedence, Name};
@@ -69,7 +69,7 @@ impl<'a> Printer<'a> {
         }
     }
 
-    /// Adds the endings of the first of expressions, and the others.
+    /// Adds the ending of the first of expressions, and the others.
     pub(crate) fn add_behind(
         &mut self,
         ending: Ending,
@@ -199,18 +199,6 @@ impl<'a> Printer<'a> {
             Unsafe::Yes => self.add(&[Work::Text("unsafe ")]),
             Unsafe::No => Ok(()),
         }
-    }
-
-    /// Adds the kind of an id and its number, as `ExprId(3)`.
-    pub fn add_numbered(&mut self, kind: &'a str, number: u32) -> Result<(), AllocError>
-        ensures { OnOk result (Adds self.old (λ s. with_number kind.now number) self.new) }
-    {
-        self.add(&[
-            Work::Text(kind),
-            Work::Text("("),
-            Work::Number(u64::from(number)),
-            Work::Text(")"),
-        ])
     }
 
     /// Adds what an expression is printed as.

@@ -163,8 +163,8 @@ impl<'a> Printer<'a> {
         self.add(&[Work::Text("]")])
     }
 
-    /// Adds an end of a range, where there is one.
-    fn add_range_end(&mut self, expr: Option<ExprId>) -> Result<(), AllocError>
+    /// Adds an expression in a pattern, where there is one.
+    fn add_in_pat(&mut self, expr: Option<ExprId>) -> Result<(), AllocError>
         ensures { OnOk result (Adds self.old (λ s. opt (under Shift) expr) self.new) }
     {
         match expr {
@@ -198,9 +198,9 @@ impl<'a> Printer<'a> {
                 end,
                 range_type,
             } => {
-                self.add_range_end(*start)?;
+                self.add_in_pat(*start)?;
                 self.add(&[Work::Text(range_type.as_str())])?;
-                self.add_range_end(*end)
+                self.add_in_pat(*end)
             }
             Pat::Slice {
                 prefix,
@@ -208,8 +208,8 @@ impl<'a> Printer<'a> {
                 suffix,
             } => self.add_slice(prefix.as_slice(), slice, suffix.as_slice()),
             Pat::Path(path) => self.add_path(path),
-            Pat::Lit(expr) => self.add_range_end(Some(*expr)),
-            Pat::Expr(expr) => self.add_range_end(Some(*expr)),
+            Pat::Lit(expr) => self.add_in_pat(Some(*expr)),
+            Pat::Expr(expr) => self.add_in_pat(Some(*expr)),
             Pat::Bind { id, subpat } => {
                 self.add_binding(*id)?;
                 match subpat {

@@ -7,9 +7,9 @@ returns-in_ok-add_joined-in-Or c = rw c.in-Or.is (on_ok_weaker c.add-in-Or-2.res
     c.add-in-Or-2.ensures)
 
 pub returns-in_ok-add-in-Range : goal.returns-in_ok-add-in-Range
-returns-in_ok-add-in-Range c = rw c.in-Range.is (on_ok_weaker c.add_range_end-in-Range.result
-    (adds_then (adds_more c.in_ok-add_range_end-in-Range.ensures (rw c.as_str.ensures at c.in_ok-add-in-Range.ensures)))
-    c.add_range_end-in-Range.ensures)
+returns-in_ok-add-in-Range c = rw c.in-Range.is (on_ok_weaker c.add_in_pat-in-Range.result
+    (adds_then (adds_more c.in_ok-add_in_pat-in-Range.ensures (rw c.as_str.ensures at c.in_ok-add-in-Range.ensures)))
+    c.add_in_pat-in-Range.ensures)
 
 pub returns-in-None : goal.returns-in-None
 returns-in-None c = rw (c.in-Bind.is, c.in-None.is) (adds_as c.in_ok-add_binding-in-Bind.ensures (λ s. sym (append-nil (binding_items s c.in-Bind.id))))
