@@ -265,13 +265,7 @@ fn and_item<T: Drop>(kept: Result<Seq<T>, AllocError>, item: T) -> Result<Seq<T>
 fn count(text: &[u8], byte: u8) -> usize
     ensures { result ≡ count_by (is_byte byte) text.now }
 {
-    let mut count = 0;
-    for b in text {
-        if *b == byte {
-            count += 1;
-        }
-    }
-    count
+    text.iter().filter(|b| **b == byte).count()
 }
 
 /// The rest of a text from a place on, unless that is past its end.
