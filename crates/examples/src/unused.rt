@@ -2,12 +2,7 @@
 
 use crate::assigned::targets;
 use crate::bodies::names;
-use hir_base::ArenaMap;
-use hir_error::HirError;
-use hir_items::Body;
-use hir_node::{BindingId, BindingKind};
-use hir_scope::ExprScopes;
-use hir_store::ExpressionStore;
+use hir::{ArenaMap, BindingId, BindingKind, Body, ExprScopes, ExpressionStore, HirError};
 use std::alloc::Global;
 
 /// A set of bindings.

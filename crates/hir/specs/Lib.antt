@@ -1,0 +1,142 @@
+-- The words that public contracts cite, for clauses of a user's own: one module for each file of definitions, under its own name where no
+-- two have one, and one for each type that clauses name, as `Rattle.hir.specs.NodeId.{NodeId}`.
+-- ids, names, hygiene, tables
+pub use Rattle.hir_base.specs.Abi
+pub use Rattle.hir_base.specs.Hygiene
+pub use Rattle.hir_base.specs.Keys
+pub use Rattle.hir_base.specs.Laws
+pub use Rattle.hir_base.specs.ModPath
+pub use Rattle.hir_base.specs.OpTexts
+pub use Rattle.hir_base.specs.Precedence
+pub use Rattle.hir_base.specs.RawWords
+pub use Rattle.hir_base.specs.Seq
+pub use Rattle.hir_base.specs.Table
+pub use Rattle.hir_base.specs.TableLends
+pub use Rattle.hir_base.specs.declared.arena.ArenaFault
+pub use Rattle.hir_base.specs.declared.arena.TheConstants as ArenaConstants
+pub use Rattle.hir_base.specs.declared.defs.AdtId
+pub use Rattle.hir_base.specs.declared.defs.DefWithBodyId
+pub use Rattle.hir_base.specs.declared.defs.ExpressionStoreOwnerId
+pub use Rattle.hir_base.specs.declared.defs.GenericDefId
+pub use Rattle.hir_base.specs.declared.hygiene.SyntaxContext
+pub use Rattle.hir_base.specs.declared.params.TypeOrConstParamId
+pub use Rattle.hir_base.specs.declared.ptr.SyntaxNodePtr
+-- paths
+pub use Rattle.hir_path.specs.Boxed
+pub use Rattle.hir_path.specs.Ids
+pub use Rattle.hir_path.specs.Keys as PathKeys
+pub use Rattle.hir_path.specs.Lists
+pub use Rattle.hir_path.specs.Paths
+pub use Rattle.hir_path.specs.Segments
+pub use Rattle.hir_path.specs.declared.bound.TraitBoundModifier
+pub use Rattle.hir_path.specs.declared.bound.TypeBound
+pub use Rattle.hir_path.specs.declared.ids.ExprOrPatId
+pub use Rattle.hir_path.specs.declared.path.AssociatedTypeBinding
+pub use Rattle.hir_path.specs.declared.path.GenericArg
+pub use Rattle.hir_path.specs.declared.path.GenericArgs
+pub use Rattle.hir_path.specs.declared.path.NormalPath
+pub use Rattle.hir_path.specs.declared.path.Path
+-- nodes and their child calls
+pub use Rattle.hir_node.specs.Annotations
+pub use Rattle.hir_node.specs.ChildCalls
+pub use Rattle.hir_node.specs.Keywords
+pub use Rattle.hir_node.specs.Literals
+pub use Rattle.hir_node.specs.Precedence as NodePrecedence
+pub use Rattle.hir_node.specs.Runs
+pub use Rattle.hir_node.specs.declared.expr.Expr
+pub use Rattle.hir_node.specs.declared.expr_types.RecordLitField
+pub use Rattle.hir_node.specs.declared.expr_types.RecordSpread
+pub use Rattle.hir_node.specs.declared.literal.Literal
+pub use Rattle.hir_node.specs.declared.node_id.NodeId
+pub use Rattle.hir_node.specs.declared.pat.Pat
+pub use Rattle.hir_node.specs.declared.pat.RecordFieldPat
+pub use Rattle.hir_node.specs.declared.type_ref.Rawness
+pub use Rattle.hir_node.specs.declared.type_ref.TypeRef
+-- source maps
+pub use Rattle.hir_source.specs.Additions
+pub use Rattle.hir_source.specs.ComparedPart
+pub use Rattle.hir_source.specs.Lookups
+pub use Rattle.hir_source.specs.Sources
+pub use Rattle.hir_source.specs.declared.source_map.ExpressionStoreSourceMap
+pub use Rattle.hir_source.specs.declared.source_map_builder.SourceMapBuilder
+-- forests
+pub use Rattle.hir_forest.specs.Faults
+pub use Rattle.hir_forest.specs.Forest
+pub use Rattle.hir_forest.specs.declared.roots.Root
+-- faults of nodes
+pub use Rattle.hir_faults.specs.Down
+pub use Rattle.hir_faults.specs.Faults as NodeFaults
+pub use Rattle.hir_faults.specs.Fits
+pub use Rattle.hir_faults.specs.Holds
+pub use Rattle.hir_faults.specs.Nodes
+pub use Rattle.hir_faults.specs.Sizes
+pub use Rattle.hir_faults.specs.Sound
+pub use Rattle.hir_faults.specs.TestedParts
+pub use Rattle.hir_faults.specs.declared.fault.FinishFault
+-- the store
+pub use Rattle.hir_expr_store.specs.Blocks
+pub use Rattle.hir_expr_store.specs.Bounds
+pub use Rattle.hir_expr_store.specs.Contents
+pub use Rattle.hir_expr_store.specs.NodeSets
+pub use Rattle.hir_expr_store.specs.PatLinks
+pub use Rattle.hir_expr_store.specs.PatLists
+pub use Rattle.hir_expr_store.specs.RootSearch
+pub use Rattle.hir_expr_store.specs.SideTables
+pub use Rattle.hir_expr_store.specs.StoreParts
+pub use Rattle.hir_expr_store.specs.Tries
+pub use Rattle.hir_expr_store.specs.Under
+pub use Rattle.hir_expr_store.specs.declared.missing.Missing
+-- the builder
+pub use Rattle.hir_store.specs.Building
+-- generic parameters
+pub use Rattle.hir_generics.specs.Params
+pub use Rattle.hir_generics.specs.declared.data.LifetimeBoundType
+pub use Rattle.hir_generics.specs.declared.data.LifetimeParamData
+pub use Rattle.hir_generics.specs.declared.param.TypeOrConstParamData
+-- bodies and signatures
+pub use Rattle.hir_items.specs.Bodies
+pub use Rattle.hir_items.specs.FirstOfName
+pub use Rattle.hir_items.specs.Generics
+pub use Rattle.hir_items.specs.Lookups as ItemLookups
+pub use Rattle.hir_items.specs.Signatures
+pub use Rattle.hir_items.specs.declared.body_fault.BodyFault
+pub use Rattle.hir_items.specs.declared.body_source_map.BodySourceMap
+pub use Rattle.hir_items.specs.declared.signatures.FunctionParts
+pub use Rattle.hir_items.specs.declared.signatures.PlainParts
+pub use Rattle.hir_items.specs.declared.signatures.StructParts
+pub use Rattle.hir_items.specs.declared.signatures.VariantParts
+-- tables of definitions
+pub use Rattle.hir_defs.specs.NoTables
+pub use Rattle.hir_defs.specs.Tables
+-- scopes and resolution
+pub use Rattle.hir_scope.specs.BodyScopes
+pub use Rattle.hir_scope.specs.Chains
+pub use Rattle.hir_scope.specs.Forms
+pub use Rattle.hir_scope.specs.Frames
+pub use Rattle.hir_scope.specs.Leak
+pub use Rattle.hir_scope.specs.Lookups as ScopeLookups
+pub use Rattle.hir_scope.specs.Macros
+pub use Rattle.hir_scope.specs.Meanings
+pub use Rattle.hir_scope.specs.Order
+pub use Rattle.hir_scope.specs.Paths as ScopePaths
+pub use Rattle.hir_scope.specs.Resolution
+pub use Rattle.hir_scope.specs.Scopes
+pub use Rattle.hir_scope.specs.Slots
+pub use Rattle.hir_scope.specs.declared.macros.Expansion
+-- captures
+pub use Rattle.hir_captures.specs.Captures
+pub use Rattle.hir_captures.specs.Uses
+-- what nodes are printed as
+pub use Rattle.hir_printer.specs.Prelude
+-- what bodies and signatures are printed as
+pub use Rattle.hir_pretty.specs.Bodies as PrintedBodies
+pub use Rattle.hir_pretty.specs.FoundParts
+pub use Rattle.hir_pretty.specs.Owners
+pub use Rattle.hir_pretty.specs.Signatures as PrintedSignatures
+pub use Rattle.hir_pretty.specs.Variants
+-- errors
+pub use Rattle.hir_error.specs.OutOfMemory
+pub use Rattle.hir_error.specs.declared.error.HirError
+-- helpers
+pub use Rattle.hir_make.specs.Adding
+pub use Rattle.hir_make.specs.Parts
