@@ -1,8 +1,9 @@
 //! A long chain, the empty store, roots from the back, and builders that are compared.
-use crate::build::Step;
+use crate::build::{BuildFault, NEVER, PATH, Step, WILD};
+use crate::entries::Entry;
+use crate::nodes::ExprStep;
 use crate::outcomes;
-use crate::say::SourceStep;
-use hir_base::{ArenaFault, Idx};
+use hir_base::Idx;
 use hir_store::ExprRoots;
 use std::alloc::Global;
 use std::test::Fail;
@@ -25,17 +26,17 @@ fn a_chain_and_nothing(rt: HostRuntime) -> Result<(), Fail> {
 
 /// The roots 2 and 4, with two patterns and a binding made between them, and an expression behind.
 const TWO_ROOTS: &[Step] = &[
-    Step::Path,
-    Step::Path,
-    Step::Tuple(&[0, 1]),
+    PATH,
+    PATH,
+    Step::Expr(ExprStep::Tuple(&[0, 1])),
     Step::Root(2),
-    Step::Wild,
-    Step::Wild,
+    WILD,
+    WILD,
     Step::Binding("x"),
-    Step::Path,
-    Step::Tuple(&[3]),
+    PATH,
+    Step::Expr(ExprStep::Tuple(&[3])),
     Step::Root(4),
-    Step::Path,
+    PATH,
 ];
 
 /// Whether the roots are 4 from the end, and then 2 from the front alone.
@@ -60,24 +61,34 @@ fn roots_from_the_back(rt: HostRuntime) -> Result<(), Fail> {
 const STEPS: &[Step] = &[
     Step::Begin,
     Step::Root(0),
-    Step::Path,
-    Step::Wild,
-    Step::Never,
+    PATH,
+    WILD,
+    NEVER,
     Step::Binding("x"),
     Step::Label("l"),
     Step::Static,
-    Step::SourceStep(SourceStep::BecameExpr(5, 0)),
-    Step::SourceStep(SourceStep::LifetimeFrom(0, 5)),
-    Step::SourceStep(SourceStep::Expansion(5, 3)),
-    Step::SourceStep(SourceStep::Definition(0, 0)),
-    Step::SourceStep(SourceStep::MissingBody(5)),
-    Step::SourceStep(SourceStep::ExprHygiene(0, 4)),
-    Step::SourceStep(SourceStep::Block(3)),
-    Step::SourceStep(SourceStep::Owner(0, 0)),
+    Step::Entry(Entry::Expr, 5),
+    Step::Entry(Entry::ExprBack, 5),
+    Step::Entry(Entry::Pat, 5),
+    Step::Entry(Entry::PatBack, 5),
+    Step::Entry(Entry::Label, 5),
+    Step::Entry(Entry::LabelBack, 5),
+    Step::Entry(Entry::Type, 5),
+    Step::Entry(Entry::TypeBack, 5),
+    Step::Entry(Entry::Lifetime, 5),
+    Step::Entry(Entry::LifetimeBack, 5),
+    Step::Entry(Entry::FieldBack, 5),
+    Step::Entry(Entry::PatFieldBack, 5),
+    Step::Entry(Entry::Expansion, 5),
+    Step::Entry(Entry::Definition, 5),
+    Step::Entry(Entry::Diagnostic, 5),
+    Step::Entry(Entry::Hygiene, 5),
+    Step::Entry(Entry::Block, 5),
+    Step::Entry(Entry::Owner, 5),
 ];
 
 /// Whether each of these steps makes another builder than none.
-fn each_changes(alloc: Global, steps: &[Step]) -> Result<bool, ArenaFault> {
+fn each_changes(alloc: Global, steps: &[Step]) -> Result<bool, BuildFault> {
     for step in steps.chunks(1) {
         match outcomes::differ(alloc, &[], step) {
             Ok(true) => {}

@@ -1,5 +1,6 @@
 //! Whether what a bound names is there, and whether it is a path. Which path it is stands in rows.
-use crate::build::Step;
+use crate::build::{NEVER, Step};
+use crate::nodes::TypeStep;
 use crate::outcomes;
 use hir_base::Idx;
 use hir_node::{PathId, TraitBoundModifier, TypeBound};
@@ -7,7 +8,7 @@ use hir_store::ExpressionStore;
 use std::test::Fail;
 
 /// The types `a` and `!`.
-const TYPES: &[Step] = &[Step::TypePath, Step::Never];
+const TYPES: &[Step] = &[Step::Type(TypeStep::Path), NEVER];
 
 /// Whether what the bound by the type of this number names is there, and whether it is a path.
 fn names(store: &ExpressionStore, number: u32) -> (bool, bool) {

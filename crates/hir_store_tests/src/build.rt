@@ -1,29 +1,22 @@
 //! Builders, made of steps. A tree is a list of steps, so that few functions are lent a builder: its type is laid out in each anew.
-use crate::say::SourceStep;
-use crate::{nodes, say};
+//! A call that is refused has to hand back what it was given and to leave the builder as it was; it is made again then.
+use crate::entries::{Entry, add_entry};
+use crate::nodes::{self, ExprStep, PatStep, TypeStep, Written};
 use hir_base::{Arena, ArenaFault, Idx};
-use hir_node::{Expr, LifetimeRef, Pat, TypeRef};
+use hir_node::{Expr, LifetimeRef};
 use hir_store::ExpressionStoreBuilder;
 use std::alloc::{AllocError, AllocFailed, Global};
 
 /// What a builder is told next. Nodes are named by their numbers.
+#[derive(Clone, Copy)]
 pub enum Step {
     /// A list of roots begins, where there is none.
     Begin,
     /// This expression is a root.
     Root(u32),
-    /// The path `a`.
-    Path,
-    /// The tuple of these expressions.
-    Tuple(&'static [u32]),
-    /// `let pattern = expression`
-    Let(u32, u32),
-    /// The pattern `_`.
-    Wild,
-    /// The type `!`.
-    Never,
-    /// The type `a`.
-    TypePath,
+    Expr(ExprStep),
+    Pat(PatStep),
+    Type(TypeStep),
     /// A binding of this name.
     Binding(&'static str),
     /// A label of this name.
@@ -34,30 +27,49 @@ pub enum Step {
     Replaced(u32),
     /// An arena of a path, and so many expressions each of which holds the one before, takes the place of the expressions.
     Chain(u32),
-    SourceStep(SourceStep),
+    /// The entry of this kind and this number.
+    Entry(Entry, u32),
 }
 
-/// Whether the item was added: without the item, where it is handed back.
-fn was_added<I: Drop, T: Drop>(outcome: Result<I, (ArenaFault, T)>) -> Result<(), ArenaFault> {
+/// The path `a`.
+pub const PATH: Step = Step::Expr(ExprStep::Path(Written::Name("a")));
+
+/// The pattern `_`.
+pub const WILD: Step = Step::Pat(PatStep::Wild);
+
+/// The type `!`.
+pub const NEVER: Step = Step::Type(TypeStep::Never);
+
+/// Why something isn't built.
+#[derive(Debug, Drop)]
+pub enum BuildFault {
+    /// Memory was refused: what the call was given came back, or couldn't be made.
+    Memory,
+    /// Memory was refused, and something else came back, or the builder is another one.
+    Changed,
+}
+
+/// Whether the item was added: `Memory` where it came back as it is.
+fn added<I: Drop, T: PartialEq + Drop>(
+    outcome: Result<I, (ArenaFault, T)>,
+    item: T,
+) -> Result<(), BuildFault> {
     match outcome {
         Ok(_) => Ok(()),
-        Err((fault, _)) => Err(fault),
+        Err((ArenaFault::Memory, value)) if value == item => Err(BuildFault::Memory),
+        Err(_) => Err(BuildFault::Changed),
     }
 }
 
-/// Whether the value was taken: without the value, where it is handed back.
-pub fn was_taken<I: Drop, T: Drop>(outcome: Result<I, AllocFailed<T>>) -> Result<(), ArenaFault> {
+/// Whether the value was taken: `Memory` where it came back as it is.
+pub fn taken<I: Drop, T: PartialEq + Drop>(
+    outcome: Result<I, AllocFailed<T>>,
+    value: T,
+) -> Result<(), BuildFault> {
     match outcome {
         Ok(_) => Ok(()),
-        Err(_) => Err(ArenaFault::Memory),
-    }
-}
-
-/// Puts the item, if it could be made, into the arena.
-fn put<K, T: Drop>(arena: &mut Arena<K, T>, item: Result<T, AllocError>) -> Result<(), ArenaFault> {
-    match item {
-        Ok(item) => was_added(arena.alloc(item)),
-        Err(_) => Err(ArenaFault::Memory),
+        Err(failed) if failed.value == value => Err(BuildFault::Memory),
+        Err(_) => Err(BuildFault::Changed),
     }
 }
 
@@ -72,7 +84,18 @@ fn chain_expr(alloc: Global, number: u32, is_chain: bool) -> Result<Expr, AllocE
     if is_chain && number > 0 {
         Ok(link(number))
     } else {
-        nodes::path(alloc).map(Expr::Path)
+        nodes::expr(alloc, &ExprStep::Path(Written::Name("a")))
+    }
+}
+
+/// Puts the item, if it could be made, into the arena.
+fn put<K, T: Drop>(arena: &mut Arena<K, T>, item: Result<T, AllocError>) -> Result<(), BuildFault> {
+    match item {
+        Ok(item) => match arena.alloc(item) {
+            Ok(_) => Ok(()),
+            Err(_) => Err(BuildFault::Memory),
+        },
+        Err(_) => Err(BuildFault::Memory),
     }
 }
 
@@ -83,7 +106,7 @@ fn replace(
     alloc: Global,
     count: u32,
     is_chain: bool,
-) -> Result<(), ArenaFault> {
+) -> Result<(), BuildFault> {
     b.exprs = Arena::new(alloc);
     for number in 0..count {
         put(&mut b.exprs, chain_expr(alloc, number, is_chain))?;
@@ -91,63 +114,97 @@ fn replace(
     Ok(())
 }
 
-/// Tells the builder what the step says.
-fn add(b: &mut ExpressionStoreBuilder, alloc: Global, step: &Step) -> Result<(), ArenaFault> {
+/// Tells the builder what the step says. Each node is made twice, to be compared where it comes back.
+fn add(b: &mut ExpressionStoreBuilder, alloc: Global, step: &Step) -> Result<(), BuildFault> {
     match step {
         Step::Begin => {
             b.begin_roots();
             Ok(())
         }
-        Step::Root(node) => was_taken(b.push_root(Idx::from_raw(*node))),
-        Step::Path => match nodes::path(alloc) {
-            Ok(path) => was_added(b.alloc_expr(Expr::Path(path))),
-            Err(_) => Err(ArenaFault::Memory),
+        Step::Root(node) => taken(b.push_root(Idx::from_raw(*node)), Idx::from_raw(*node)),
+        Step::Expr(step) => match nodes::both(nodes::expr(alloc, step), nodes::expr(alloc, step)) {
+            Ok((expr, same)) => added(b.alloc_expr(expr), same),
+            Err(fault) => Err(fault),
         },
-        Step::Tuple(numbers) => match nodes::tuple(alloc, numbers) {
-            Ok(expr) => was_added(b.alloc_expr(expr)),
-            Err(_) => Err(ArenaFault::Memory),
+        Step::Pat(step) => match nodes::both(nodes::pat(alloc, step), nodes::pat(alloc, step)) {
+            Ok((pat, same)) => added(b.alloc_pat(pat), same),
+            Err(fault) => Err(fault),
         },
-        Step::Let(pat, expr) => was_added(b.alloc_expr(Expr::Let {
-            pat: Idx::from_raw(*pat),
-            expr: Idx::from_raw(*expr),
-        })),
-        Step::Wild => was_added(b.alloc_pat(Pat::Wild)),
-        Step::Never => was_added(b.alloc_type(TypeRef::Never)),
-        Step::TypePath => match nodes::path(alloc) {
-            Ok(path) => was_added(b.alloc_type(TypeRef::Path(path))),
-            Err(_) => Err(ArenaFault::Memory),
+        Step::Type(step) => {
+            match nodes::both(nodes::type_ref(alloc, step), nodes::type_ref(alloc, step)) {
+                Ok((type_ref, same)) => added(b.alloc_type(type_ref), same),
+                Err(fault) => Err(fault),
+            }
+        }
+        Step::Binding(text) => {
+            match nodes::both(nodes::binding(alloc, text), nodes::binding(alloc, text)) {
+                Ok((binding, same)) => added(b.alloc_binding(binding), same),
+                Err(fault) => Err(fault),
+            }
+        }
+        Step::Label(text) => match nodes::both(
+            nodes::label(alloc, text),
+            nodes::label(alloc, text),
+        ) {
+            Ok((label, same)) => added(b.alloc_label(label), same),
+            Err(fault) => Err(fault),
         },
-        Step::Binding(text) => match nodes::binding(alloc, text) {
-            Ok(binding) => was_added(b.alloc_binding(binding)),
-            Err(_) => Err(ArenaFault::Memory),
-        },
-        Step::Label(text) => match nodes::label(alloc, text) {
-            Ok(label) => was_added(b.alloc_label(label)),
-            Err(_) => Err(ArenaFault::Memory),
-        },
-        Step::Static => was_added(b.alloc_lifetime(LifetimeRef::Static)),
+        Step::Static => added(b.alloc_lifetime(LifetimeRef::Static), LifetimeRef::Static),
         Step::Replaced(count) => replace(b, alloc, *count, false),
         Step::Chain(count) => replace(b, alloc, *count, true),
-        Step::SourceStep(said) => say::say(b, said),
+        Step::Entry(kind, number) => add_entry(b, *kind, *number),
     }
 }
 
 /// The value in a box. It is said of any type, so that no large one is laid out here.
-pub fn in_a_box<T: Drop>(alloc: Global, value: T) -> Result<Box<T>, ArenaFault> {
+pub fn in_a_box<T: Drop>(alloc: Global, value: T) -> Result<Box<T>, BuildFault> {
     match Box::new(alloc, value) {
         Ok(value) => Ok(value),
-        Err(_) => Err(ArenaFault::Memory),
+        Err(_) => Err(BuildFault::Memory),
     }
 }
 
-/// The builder that these steps make, in a box: what is dropped is then a pointer.
-pub fn build_steps(
+/// The builder that these steps make where no memory is refused, in a box: what is dropped is then a pointer.
+pub fn build_once(
     alloc: Global,
     steps: &[Step],
-) -> Result<Box<ExpressionStoreBuilder>, ArenaFault> {
+) -> Result<Box<ExpressionStoreBuilder>, BuildFault> {
     let mut builder = in_a_box(alloc, ExpressionStoreBuilder::new(alloc))?;
     for step in steps {
         add(&mut builder, alloc, step)?;
+    }
+    Ok(builder)
+}
+
+/// Fails unless the builder has what one has that is built by these steps.
+pub fn is_of_steps(
+    alloc: Global,
+    builder: &ExpressionStoreBuilder,
+    steps: &[Step],
+) -> Result<(), BuildFault> {
+    let wanted = build_once(alloc, steps)?;
+    if *wanted == *builder {
+        Ok(())
+    } else {
+        Err(BuildFault::Changed)
+    }
+}
+
+/// The builder that these steps make. A call that is refused leaves what the steps before it make, and is made again.
+pub fn build_steps(
+    alloc: Global,
+    steps: &[Step],
+) -> Result<Box<ExpressionStoreBuilder>, BuildFault> {
+    let mut builder = in_a_box(alloc, ExpressionStoreBuilder::new(alloc))?;
+    for (place, step) in steps.iter().enumerate() {
+        match add(&mut builder, alloc, step) {
+            Ok(()) => {}
+            Err(BuildFault::Memory) => {
+                is_of_steps(alloc, &builder, &steps[..place])?;
+                add(&mut builder, alloc, step)?;
+            }
+            Err(BuildFault::Changed) => return Err(BuildFault::Changed),
+        }
     }
     Ok(builder)
 }

@@ -10,6 +10,8 @@ mod bounds;
 #[cfg(test)]
 mod build;
 #[cfg(test)]
+mod entries;
+#[cfg(test)]
 mod laws;
 #[cfg(test)]
 mod nodes;
@@ -18,9 +20,9 @@ mod outcomes;
 #[cfg(test)]
 mod rare;
 #[cfg(test)]
-mod refused_stores;
+mod refused_memory;
 #[cfg(test)]
-mod say;
+mod refused_stores;
 #[cfg(test)]
 mod texts;
 #[cfg(test)]

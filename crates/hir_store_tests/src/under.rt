@@ -2,7 +2,8 @@
 ghost use Rattle.std.specs.Prelude.{◌≡◌, IfOk};
 ghost use Rattle.hir_faults.specs.Nodes.{sizes_of};
 
-use crate::build::Step;
+use crate::build::{PATH, Step, WILD};
+use crate::nodes::ExprStep;
 use crate::outcomes;
 use hir_base::Idx;
 use hir_node::{ExprId, PatId};
@@ -12,11 +13,11 @@ use std::test::Fail;
 
 /// A `let` in a tuple. Under the `let`, expression 1, lie expression 0 and pattern 0; pattern 1 lies apart; expression 2 is the root.
 const LET_IN_TUPLE: &[Step] = &[
-    Step::Wild,
-    Step::Wild,
-    Step::Path,
-    Step::Let(0, 0),
-    Step::Tuple(&[1]),
+    WILD,
+    WILD,
+    PATH,
+    Step::Expr(ExprStep::Let(0, 0)),
+    Step::Expr(ExprStep::Tuple(&[1])),
     Step::Root(2),
 ];
 
