@@ -1,6 +1,6 @@
 //! Builders, made of steps. A tree is a list of steps, so that few functions are lent a builder: its type is laid out in each anew.
 //! A call that is refused has to hand back what it was given and to leave the builder as it was; it is made again then.
-use crate::entries::{Entry, add_entry};
+use crate::entries::{ENTRIES, Entry, add_entry};
 use crate::nodes::{self, ExprStep, PatStep, TypeStep, Written};
 use hir_base::{Arena, ArenaFault, Idx};
 use hir_node::{Expr, LifetimeRef};
@@ -39,6 +39,14 @@ pub const WILD: Step = Step::Pat(PatStep::Wild);
 
 /// The type `!`.
 pub const NEVER: Step = Step::Type(TypeStep::Never);
+
+/// Puts an entry of each kind, of this number, behind the steps.
+pub fn push_entries(steps: &mut Vec<Step>, number: u32) -> Result<(), AllocError> {
+    for kind in ENTRIES {
+        steps.push(Step::Entry(kind, number))?;
+    }
+    Ok(())
+}
 
 /// Why something isn't built.
 #[derive(Debug, Drop)]
