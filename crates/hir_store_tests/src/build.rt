@@ -1,5 +1,6 @@
-//! Builders, made of steps. A tree is a list of steps, so that few functions are lent a builder: its type is laid out in each anew.
-//! A call that is refused has to hand back what it was given and to leave the builder as it was; it is made again then.
+//! Builders, made of steps. A tree is a list of steps, so that few functions are lent a builder: its type is
+//! laid out in each anew. A call that is refused has to hand back what it was given and to leave the builder
+//! as it was; it is made again then.
 use crate::entries::{ENTRIES, Entry, add_entry};
 use crate::nodes::{self, ExprStep, PatStep, TypeStep, Written};
 use hir_base::{Arena, ArenaFault, Idx};
@@ -25,7 +26,8 @@ pub enum Step {
     Static,
     /// An arena of so many paths takes the place of the expressions.
     Replaced(u32),
-    /// An arena of a path, and so many expressions each of which holds the one before, takes the place of the expressions.
+    /// An arena of a path, and so many expressions each of which holds the one before, takes the place of
+    /// the expressions.
     Chain(u32),
     /// The entry of this kind and this number.
     Entry(Entry, u32),
@@ -107,8 +109,8 @@ fn put<K, T: Drop>(arena: &mut Arena<K, T>, item: Result<T, AllocError>) -> Resu
     }
 }
 
-/// Puts an arena of so many expressions in the place of the expressions: the first is a path, and the others are too, or each holds
-/// the one before.
+/// Puts an arena of so many expressions in the place of the expressions: the first is a path, and the others
+/// are too, or each holds the one before.
 fn replace(
     b: &mut ExpressionStoreBuilder,
     alloc: Global,
@@ -172,7 +174,8 @@ pub fn in_a_box<T: Drop>(alloc: Global, value: T) -> Result<Box<T>, BuildFault> 
     }
 }
 
-/// The builder that these steps make where no memory is refused, in a box: what is dropped is then a pointer.
+/// The builder that these steps make where no memory is refused, in a box: what is dropped is then a
+/// pointer.
 pub fn build_once(
     alloc: Global,
     steps: &[Step],
@@ -198,7 +201,8 @@ pub fn is_of_steps(
     }
 }
 
-/// The builder that these steps make. A call that is refused leaves what the steps before it make, and is made again.
+/// The builder that these steps make. A call that is refused leaves what the steps before it make, and is
+/// made again.
 pub fn build_steps(
     alloc: Global,
     steps: &[Step],

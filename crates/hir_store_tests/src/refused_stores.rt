@@ -1,5 +1,6 @@
-//! Builders that are refused: each by its first fault, and the builder handed back has what a second one has that was built by the
-//! same calls. The faults of other nodes are in rows; arenas that are replaced stand here alone.
+//! Builders that are refused: each by its first fault, and the builder handed back has what a second one has
+//! that was built by the same calls. The faults of other nodes are in rows; arenas that are replaced stand
+//! here alone.
 use crate::build::{NEVER, PATH, Step, push_entries};
 use crate::nodes::{ExprStep, TypeStep, Written};
 use crate::outcomes;
@@ -74,7 +75,8 @@ const ENDS_PAST_THE_ARENA: &[Step] = &[PATH, PATH, PATH, Step::Root(0), Step::Re
 /// Three paths with the last as the root, and then an arena of one path.
 const ROOT_PAST_THE_ARENA: &[Step] = &[PATH, PATH, PATH, Step::Root(2), Step::Replaced(1)];
 
-/// Three paths with the first as the root; then there is an arena of two, the second as a root too, and one path more.
+/// Three paths with the first as the root; then there is an arena of two, the second as a root too, and one
+/// path more.
 const ENDS_THAT_FALL: &[Step] = &[
     PATH,
     PATH,
@@ -85,7 +87,8 @@ const ENDS_THAT_FALL: &[Step] = &[
     PATH,
 ];
 
-/// A fault that a refusal may name, of expression 0, of a type of this number, or of the root at this place of the list.
+/// A fault that a refusal may name, of expression 0, of a type of this number, or of the root at this place
+/// of the list.
 enum Fault {
     NoRoots,
     IdOutOfRange,
