@@ -1,63 +1,95 @@
 //! Scopes that are looked up in tables, by an owner of each of the three kinds as it is.
-use crate::memory::in_a_box;
-use hir_base::{DefWithBodyId, FunctionId, GenericDefId, Seq, StructId, TraitId, VariantId};
-use hir_defs::{PlainDef, Tables};
-use hir_error::HirError;
+use crate::memory::{first, in_a_box, was_taken};
+use crate::trees::{self, One, Tree};
+use hir_base::{AdtId, DefWithBodyId, FunctionId, GenericDefId, Name, Seq, StructId, VariantId};
+use hir_defs::Tables;
 use hir_items::{
-    Body, BodySourceMap, FieldsShape, GenericParams, PlainParts, PlainSignature, VariantFields,
+    Body, BodySourceMap, FieldsShape, GenericParams, StructParts, StructSignature, VariantFields,
     VariantParts,
 };
-use hir_make::local;
 use hir_scope::{ExprScopes, ScopesFault};
-use hir_store::{ExpressionStore, ExpressionStoreBuilder, ExpressionStoreSourceMap};
+use hir_store::{ExpressionStoreBuilder, ExpressionStoreSourceMap};
 use std::alloc::Global;
 use std::test::Fail;
 
-/// A store of so many paths, each of which is a root, and its source map.
-fn store_of_roots(
-    alloc: Global,
-    count: u32,
-) -> Result<(ExpressionStore, ExpressionStoreSourceMap), HirError> {
-    let mut builder = ExpressionStoreBuilder::new(alloc);
-    for _ in 0..count {
-        let path = local(alloc, &mut builder, "a")?;
-        builder.push_root(path)?;
+/// A literal, which is a root.
+const ONE_ROOT: Tree = Tree {
+    bindings: &[],
+    pats: &[],
+    exprs: &[One],
+    roots: Some(&[0]),
+};
+
+/// Two literals, each of which is a root.
+const TWO_ROOTS: Tree = Tree {
+    bindings: &[],
+    pats: &[],
+    exprs: &[One, One],
+    roots: Some(&[0, 1]),
+};
+
+/// Three literals, each of which is a root.
+const THREE_ROOTS: Tree = Tree {
+    bindings: &[],
+    pats: &[],
+    exprs: &[One, One, One],
+    roots: Some(&[0, 1, 2]),
+};
+
+/// A source map without entries.
+fn no_sources(alloc: Global) -> Result<Box<ExpressionStoreSourceMap>, Fail> {
+    first(alloc, swapped(ExpressionStoreBuilder::new(alloc).finish()))
+}
+
+/// The same with the second first.
+fn swapped<T: Drop, U: Drop, R: Drop>(outcome: Result<(T, U), R>) -> Result<(U, T), R> {
+    match outcome {
+        Ok((first, second)) => Ok((second, first)),
+        Err(refused) => Err(refused),
     }
-    Ok(builder.finish()?)
 }
 
-/// Adds the signature of trait 4, whose store has two roots.
-fn add_signature(alloc: Global, tables: &mut Tables) -> Result<(), HirError> {
-    let (store, sources) = store_of_roots(alloc, 2)?;
-    let generic_params = GenericParams::empty(alloc);
-    let signature = PlainSignature::new(PlainParts {
-        generic_params,
-        store,
+/// Adds the signature of struct 4, whose store has two roots.
+fn add_signature(alloc: Global, tables: &mut Tables) -> Result<(), Fail> {
+    let sources = no_sources(alloc)?;
+    let store = trees::store(alloc, &[], &TWO_ROOTS)?;
+    let name = Name::new(alloc, "S")?;
+    let signature = StructSignature::new(StructParts {
+        name,
+        generic_params: GenericParams::empty(alloc),
+        store: Box::into_inner(store),
+        is_fundamental: false,
+        shape: FieldsShape::Unit,
     })?;
-    Ok(tables.add_plain(PlainDef::Trait(TraitId::from_raw(4)), signature, sources)?)
+    was_taken(tables.add_struct(StructId::from_raw(4), signature, Box::into_inner(sources)))
 }
 
-/// Adds the fields of struct 5, whose store has three roots.
-fn add_fields(alloc: Global, tables: &mut Tables) -> Result<(), HirError> {
-    let (store, sources) = store_of_roots(alloc, 3)?;
+/// Adds the fields of struct 4, whose store has three roots.
+fn add_fields(alloc: Global, tables: &mut Tables) -> Result<(), Fail> {
+    let sources = no_sources(alloc)?;
+    let store = trees::store(alloc, &[], &THREE_ROOTS)?;
     let fields = VariantFields::new(VariantParts {
         shape: FieldsShape::Unit,
         fields: Seq::new(alloc),
-        store,
+        store: Box::into_inner(store),
     })?;
-    Ok(tables.add_fields(VariantId::StructId(StructId::from_raw(5)), fields, sources)?)
+    was_taken(tables.add_fields(
+        VariantId::StructId(StructId::from_raw(4)),
+        fields,
+        Box::into_inner(sources),
+    ))
 }
 
-/// Adds the body of function 6, whose store has one root.
-fn add_body(alloc: Global, tables: &mut Tables) -> Result<(), HirError> {
-    let (store, sources) = store_of_roots(alloc, 1)?;
-    let body = Body::new(alloc, store, Seq::new(alloc), None)?;
-    let sources = BodySourceMap::new(sources, None);
-    Ok(tables.add_body(
-        DefWithBodyId::FunctionId(FunctionId::from_raw(6)),
+/// Adds the body of function 4, whose store has one root.
+fn add_body(alloc: Global, tables: &mut Tables) -> Result<(), Fail> {
+    let sources = no_sources(alloc)?;
+    let store = trees::store(alloc, &[], &ONE_ROOT)?;
+    let body = Body::new(alloc, Box::into_inner(store), Seq::new(alloc), None)?;
+    was_taken(tables.add_body(
+        DefWithBodyId::FunctionId(FunctionId::from_raw(4)),
         body,
-        sources,
-    )?)
+        BodySourceMap::new(Box::into_inner(sources), None),
+    ))
 }
 
 /// Tables with one owner of each kind.
@@ -77,42 +109,41 @@ fn count(outcome: Result<ExprScopes, ScopesFault>) -> Result<usize, ScopesFault>
     }
 }
 
-/// How many scopes the store of the signature of this trait has.
+/// How many scopes the store of the signature of this struct has.
 fn of_signature(alloc: Global, tables: &Tables, id: u32) -> Result<usize, ScopesFault> {
-    count(ExprScopes::of(alloc, tables, GenericDefId::TraitId(TraitId::from_raw(id))))
+    let owner = GenericDefId::AdtId(AdtId::StructId(StructId::from_raw(id)));
+    count(ExprScopes::of(alloc, tables, owner))
 }
 
 /// How many scopes the body of this function has.
 fn of_body(alloc: Global, tables: &Tables, id: u32) -> Result<usize, ScopesFault> {
-    count(ExprScopes::of(
-        alloc,
-        tables,
-        DefWithBodyId::FunctionId(FunctionId::from_raw(id)),
-    ))
+    let owner = DefWithBodyId::FunctionId(FunctionId::from_raw(id));
+    count(ExprScopes::of(alloc, tables, owner))
 }
 
 /// How many scopes the store of the fields of this struct has.
 fn of_fields(alloc: Global, tables: &Tables, id: u32) -> Result<usize, ScopesFault> {
-    count(ExprScopes::of(alloc, tables, VariantId::StructId(StructId::from_raw(id))))
+    let owner = VariantId::StructId(StructId::from_raw(id));
+    count(ExprScopes::of(alloc, tables, owner))
 }
 
-/// A scope of its own is around each root of a store that is no body's, and one around all of them.
+/// A store that is no body's has a scope around all its roots, and one of each.
 #[test]
 fn each_kind_of_owner_is_looked_up(rt: HostRuntime) -> Result<(), Fail> {
     let a = rt.alloc();
     let tables = tables_of_owners(a)?;
     let found = [
-        of_signature(a, &tables, 4)?,
-        of_fields(a, &tables, 5)?,
-        of_body(a, &tables, 6)?,
+        of_signature(a, &tables, 4),
+        of_fields(a, &tables, 4),
+        of_body(a, &tables, 4),
     ];
     let absent = [
-        of_signature(a, &tables, 0),
-        of_fields(a, &tables, 0),
-        of_body(a, &tables, 0),
+        of_signature(a, &tables, 5),
+        of_fields(a, &tables, 5),
+        of_body(a, &tables, 5),
     ];
     std::mem::drop(tables);
-    assert!(&rt; found == [3, 4, 1]);
+    assert!(&rt; found == [Ok(3), Ok(4), Ok(1)]);
     assert!(&rt; absent == [Err(ScopesFault::Missing); 3]);
     Ok(())
 }

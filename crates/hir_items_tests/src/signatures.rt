@@ -1,5 +1,6 @@
-//! Signatures: parts that are refused come back as they were given, and what an accepted signature names is in its store. They are asked
-//! as soon as they are made, so that a test has small values alone and its proof is short.
+//! Signatures: parts that are refused come back as they were given, and what an accepted signature names is
+//! in its store. They are asked as soon as they are made, so that a test has small values alone and its
+//! proof is short.
 use crate::memory::{in_a_box, push};
 use crate::params::{self, Entry, ParamLists, Predicate};
 use crate::trees::{self, BARE, Never};
@@ -43,7 +44,8 @@ impl Parts<VariantFields> for VariantParts {
     }
 }
 
-/// What tests ask of a signature that is accepted. An id that it gives is in its store: nothing is tested first.
+/// What tests ask of a signature that is accepted. An id that it gives is in its store: nothing is tested
+/// first.
 trait Named {
     /// Whether each type that it names is `!`.
     fn names_never(&self) -> bool;
@@ -90,12 +92,12 @@ impl Named for VariantFields {
     }
 }
 
-/// Whether each type that is named is `!`, where the parts are accepted. Else why they are refused, and whether they come back as they
-/// were, twice: a refusal is asked for again.
+/// Whether each type that is named is `!`, where the parts are accepted. Else why they are refused, and
+/// whether they come back as they were, twice: a refusal is asked for again.
 type Outcome = Result<bool, (SignatureFault, bool)>;
 
-/// The answer where the parts were refused so, and where they came back as they were. Where memory was refused, the second answer is the
-/// one that ample memory gives.
+/// The answer where the parts were refused so, and where they came back as they were. Where memory was
+/// refused, the second answer is the one that ample memory gives.
 fn ask_again<S: Named + Drop, P: Parts<S>>(first: SignatureFault, parts: P, same: &P) -> Outcome {
     let came_back = parts == *same;
     match parts.sign() {
@@ -156,7 +158,8 @@ fn field_x(alloc: Global) -> Result<Seq<FieldData>, AllocError> {
     Ok(fields)
 }
 
-/// `const unsafe extern "C" fn f<T>(..) -> ..`, with one parameter of type 0, which it returns, over these types.
+/// `const unsafe extern "C" fn f<T>(..) -> ..`, with one parameter of type 0, which it returns, over these
+/// types.
 fn function(alloc: Global, types: &[Never]) -> Result<Box<FunctionParts>, Fail> {
     let generic_params = params::make_params(alloc, &T)?;
     let store = trees::store(alloc, types, &BARE)?;

@@ -1,5 +1,5 @@
-//! Whole runs in memory: how they end, and what is read and written. A run that was refused memory is made again, so that each
-//! test passes with any one allocation refused too.
+//! Whole runs in memory: how they end, and what is read and written. A run that was refused memory is made
+//! again, so that each test passes with any one allocation refused too.
 
 use crate::fakes::{FailingReader, FailingWriter};
 use hir_io::LineReader;
@@ -38,8 +38,8 @@ pub struct Seen<'a> {
     pub writer: FailingWriter,
 }
 
-/// Fails where the run of this case ended in another way, or wrote something else. What was seen is lent: an assert beside which something
-/// owned is alive is dear to prove.
+/// Fails where the run of this case ended in another way, or wrote something else. What was seen is lent: an
+/// assert beside which something owned is alive is dear to prove.
 pub fn ends(
     rt: &impl Abort,
     seen: &Seen<'_>,
@@ -63,7 +63,8 @@ pub fn run_once<'a>(alloc: Global, input: &'a [u8], reads: Calls, writes: Calls)
     }
 }
 
-/// How many lines were taken before the one at which the run ended: the line taken last is that one, unless the next was being read.
+/// How many lines were taken before the one at which the run ended: the line taken last is that one, unless
+/// the next was being read.
 fn lines_before(lines: &LineReader) -> u64 {
     if lines.line().is_empty() {
         lines.count()
@@ -72,8 +73,8 @@ fn lines_before(lines: &LineReader) -> u64 {
     }
 }
 
-/// Runs the program once over a reader of lines, and tells how many lines were taken before the one at which it ended. No line of the
-/// input is empty.
+/// Runs the program once over a reader of lines, and tells how many lines were taken before the one at which
+/// it ended. No line of the input is empty.
 pub fn run_lines_once<'a>(
     alloc: Global,
     input: &'a [u8],

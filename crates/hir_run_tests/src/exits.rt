@@ -1,4 +1,5 @@
-//! Runs for a process that ends behind them: they answer and end as runs that give their memory back, wherever they end.
+//! Runs for a process that ends behind them: they answer and end as runs that give their memory back,
+//! wherever they end.
 
 use crate::again::{Calls, Seen, by, run_again, run_to_exit_again, until};
 use crate::fakes::{FailingReader, FailingWriter};
@@ -123,19 +124,38 @@ fn answers(
     assert_eq!(rt; errors.bytes.as_slice(), *text, "{input:?}");
 }
 
-/// What the `main` of a process does, over these ends; and again where memory was refused, of which status and text tell.
-fn runs_and_reports(rt: &impl Abort, alloc: Global, case: &Case, reads: Calls, writes: Calls) {
-    for _ in 0..2 {
-        let mut reader = FailingReader::new(case.0, reads.step, reads.fail_from);
-        let mut writer = FailingWriter::new(alloc, writes.step, writes.fail_from);
-        let mut errors = FailingWriter::new(alloc, 7, u64::MAX);
-        let answered = run_and_report(alloc, &mut reader, &mut writer, &mut errors);
-        if answered != 4 {
-            return answers(rt, case, answered, &writer, &errors);
-        }
-        assert_eq!(rt; errors.bytes.as_slice(), b"out of memory\n".as_slice());
+/// Fails where something else was written to the sink of errors.
+fn has_said(rt: &impl Abort, errors: &FailingWriter, text: &[u8]) {
+    assert_eq!(rt; errors.bytes.as_slice(), text);
+}
+
+/// Does what the `main` of a process does, over these ends, and says whether memory was refused. Fails where
+/// a case is answered in another way.
+fn runs_and_reports_once(
+    rt: &impl Abort,
+    alloc: Global,
+    case: &Case,
+    reads: Calls,
+    writes: Calls,
+) -> bool {
+    let mut reader = FailingReader::new(case.0, reads.step, reads.fail_from);
+    let mut writer = FailingWriter::new(alloc, writes.step, writes.fail_from);
+    let mut errors = FailingWriter::new(alloc, 7, u64::MAX);
+    let answered = run_and_report(alloc, &mut reader, &mut writer, &mut errors);
+    if answered == 4 {
+        has_said(rt, &errors, b"out of memory\n");
+        return true;
     }
-    assert!(rt; false, "memory was refused twice");
+    answers(rt, case, answered, &writer, &errors);
+    false
+}
+
+/// The same, again where memory was refused.
+fn runs_and_reports(rt: &impl Abort, alloc: Global, case: &Case, reads: Calls, writes: Calls) {
+    if runs_and_reports_once(rt, alloc, case, reads, writes) {
+        let refused_again = runs_and_reports_once(rt, alloc, case, reads, writes);
+        assert!(rt; !refused_again);
+    }
 }
 
 /// Inputs and outputs are of `RUNS`.

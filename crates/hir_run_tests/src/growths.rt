@@ -1,5 +1,6 @@
-//! Refused growths. With ample memory each run is the whole one; with an allocation refused, the answers of all lines before are
-//! written, and the call is made again. The loop over the allocations is `scripts/refused-growths`.
+//! Refused growths. With ample memory each run is the whole one; with an allocation refused, the answers of
+//! all lines before are written, and the call is made again. The loop over the allocations is
+//! `scripts/refused-growths`.
 
 use crate::again::{Seen, by, ends, run_lines_once, run_once, run_to_exit_once};
 use hir_node::ExprId;
@@ -30,7 +31,8 @@ fn answers_to(answers: &Answers, lines: u64) -> &'static [u8] {
     text
 }
 
-/// Whether memory was refused at the line behind so many. Fails where something else than the answers to these is written.
+/// Whether memory was refused at the line behind so many. Fails where something else than the answers to
+/// these is written.
 fn is_refused(rt: &impl Abort, seen: &Seen<'_>, answers: &Answers, before: u64) -> bool {
     let refused = seen.ended == Err(RunFault::OutOfMemory);
     if refused {
@@ -39,7 +41,8 @@ fn is_refused(rt: &impl Abort, seen: &Seen<'_>, answers: &Answers, before: u64) 
     refused
 }
 
-/// Runs the program over input that is read at once, and again where memory was refused: the answers before that line waited.
+/// Runs the program over input that is read at once, and again where memory was refused: the answers before
+/// that line waited.
 fn run_at_once(
     rt: &impl Abort,
     alloc: Global,
@@ -55,7 +58,8 @@ fn run_at_once(
     Ok(())
 }
 
-/// How many lines of input are before the one that was being taken, where this is what was read, a byte at a time.
+/// How many lines of input are before the one that was being taken, where this is what was read, a byte at a
+/// time.
 fn lines_before(read: &[u8]) -> u64 {
     let mut lines = 0u64;
     let mut before = 0;
@@ -68,8 +72,8 @@ fn lines_before(read: &[u8]) -> u64 {
     before
 }
 
-/// Runs the program over input that is read by single bytes, so that what was read tells at which line memory was refused; and again
-/// where it was.
+/// Runs the program over input that is read by single bytes, so that what was read tells at which line
+/// memory was refused; and again where it was.
 fn run_by_bytes(
     rt: &impl Abort,
     alloc: Global,
@@ -89,7 +93,8 @@ fn run_by_bytes(
     ends(rt, &seen, ended, answers_to(answers, u64::MAX), 1);
 }
 
-/// Lines for which each buffer grows: a name, lists of arguments, the arena, the roots, the tables of `finish`.
+/// Lines for which each buffer grows: a name, lists of arguments, the arena, the roots, the tables of
+/// `finish`.
 const MAKERS: &[u8] =
     b"bind a_name_of_some_length\npat bind 0 -\npat tuple 0\nparam 1\nself 0\nfn a_name_of_some_length\ntype path T\ntype tuple 0\nexpr path a_name_of_some_length\nexpr path b\nexpr path c\nexpr call 0 1,2\nexpr missing\nexpr missing\nexpr missing\nexpr missing\nexpr missing\nexpr tuple 4,5,6,7,8\nroot 3\nroot 9\n";
 

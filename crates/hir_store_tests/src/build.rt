@@ -1,6 +1,7 @@
-//! Builders, made of steps. A tree is a list of steps, so that few functions are lent a builder: its type is laid out in each anew.
-//! A call that is refused has to hand back what it was given and to leave the builder as it was; it is made again then.
-use crate::entries::{Entry, add_entry};
+//! Builders, made of steps. A tree is a list of steps, so that few functions are lent a builder: its type is
+//! laid out in each anew. A call that is refused has to hand back what it was given and to leave the builder
+//! as it was; it is made again then.
+use crate::entries::{ENTRIES, Entry, add_entry};
 use crate::nodes::{self, ExprStep, PatStep, TypeStep, Written};
 use hir_base::{Arena, ArenaFault, Idx};
 use hir_node::{Expr, LifetimeRef};
@@ -25,7 +26,8 @@ pub enum Step {
     Static,
     /// An arena of so many paths takes the place of the expressions.
     Replaced(u32),
-    /// An arena of a path, and so many expressions each of which holds the one before, takes the place of the expressions.
+    /// An arena of a path, and so many expressions each of which holds the one before, takes the place of
+    /// the expressions.
     Chain(u32),
     /// The entry of this kind and this number.
     Entry(Entry, u32),
@@ -39,6 +41,14 @@ pub const WILD: Step = Step::Pat(PatStep::Wild);
 
 /// The type `!`.
 pub const NEVER: Step = Step::Type(TypeStep::Never);
+
+/// Puts an entry of each kind, of this number, behind the steps.
+pub fn push_entries(steps: &mut Vec<Step>, number: u32) -> Result<(), AllocError> {
+    for kind in ENTRIES {
+        steps.push(Step::Entry(kind, number))?;
+    }
+    Ok(())
+}
 
 /// Why something isn't built.
 #[derive(Debug, Drop)]
@@ -99,8 +109,8 @@ fn put<K, T: Drop>(arena: &mut Arena<K, T>, item: Result<T, AllocError>) -> Resu
     }
 }
 
-/// Puts an arena of so many expressions in the place of the expressions: the first is a path, and the others are too, or each holds
-/// the one before.
+/// Puts an arena of so many expressions in the place of the expressions: the first is a path, and the others
+/// are too, or each holds the one before.
 fn replace(
     b: &mut ExpressionStoreBuilder,
     alloc: Global,
@@ -164,7 +174,8 @@ pub fn in_a_box<T: Drop>(alloc: Global, value: T) -> Result<Box<T>, BuildFault> 
     }
 }
 
-/// The builder that these steps make where no memory is refused, in a box: what is dropped is then a pointer.
+/// The builder that these steps make where no memory is refused, in a box: what is dropped is then a
+/// pointer.
 pub fn build_once(
     alloc: Global,
     steps: &[Step],
@@ -190,7 +201,8 @@ pub fn is_of_steps(
     }
 }
 
-/// The builder that these steps make. A call that is refused leaves what the steps before it make, and is made again.
+/// The builder that these steps make. A call that is refused leaves what the steps before it make, and is
+/// made again.
 pub fn build_steps(
     alloc: Global,
     steps: &[Step],

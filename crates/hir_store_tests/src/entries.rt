@@ -1,5 +1,5 @@
-//! What a builder keeps beside nodes. An entry is made of a number: its source is at the place of that number in file 0, and the ids
-//! in it are those of that number.
+//! What a builder keeps beside nodes. An entry is made of a number: its source is at the place of that
+//! number in file 0, and the ids in it are those of that number.
 use crate::build::{BuildFault, taken};
 use hir_base::{
     AstPtr, BlockId, HirFileId, HygieneId, Idx, InFile, MacroCallId, SyntaxContext, SyntaxNodePtr,

@@ -20,7 +20,8 @@ pub enum Written {
     OneListForTwo,
     /// `a` with an empty list of lists, though it isn't a plain path.
     NoListForOne,
-    /// `a` with bindings nested so deep. The innermost list is said to begin with a self type, which is type 0, or missing.
+    /// `a` with bindings nested so deep. The innermost list is said to begin with a self type, which is type
+    /// 0, or missing.
     Nested(u32, bool),
 }
 

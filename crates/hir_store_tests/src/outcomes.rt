@@ -1,5 +1,5 @@
-//! Accepted stores, refused builders and builders that are compared, each made of steps and held in a box: what is dropped is then a
-//! pointer.
+//! Accepted stores, refused builders and builders that are compared, each made of steps and held in a box:
+//! what is dropped is then a pointer.
 use crate::build::{self, BuildFault, Step};
 use hir_store::{ExpressionStore, ExpressionStoreSourceMap, FinishFault, Refused};
 use std::alloc::Global;
@@ -29,8 +29,8 @@ fn finished_again(
     in_boxes(alloc, builder.finish())
 }
 
-/// What the builder of these steps makes, or its refusal. A builder that is refused has what the steps make, and is finished again: it
-/// has its fault again, and where memory was refused it is accepted.
+/// What the builder of these steps makes, or its refusal. A builder that is refused has what the steps make,
+/// and is finished again: it has its fault again, and where memory was refused it is accepted.
 fn finish_steps(
     alloc: Global,
     steps: &[Step],
@@ -47,7 +47,8 @@ fn finish_steps(
     }
 }
 
-/// What was made, or the refusal as a failed test. It is said of any type, so that no large one is laid out here.
+/// What was made, or the refusal as a failed test. It is said of any type, so that no large one is laid out
+/// here.
 fn open_outcome<T: Drop, E: Debug + Drop>(
     outcome: Result<Result<Box<T>, Box<E>>, BuildFault>,
 ) -> Result<Box<T>, Fail> {
@@ -76,8 +77,8 @@ fn both<T: Drop, U: Drop>(
     Ok((first?, second?))
 }
 
-/// Whether the builder of these steps is refused by this fault, and comes back as it was: as another one of the same steps.
-/// Where memory is refused, that is the error, and no wrong fault.
+/// Whether the builder of these steps is refused by this fault, and comes back as it was: as another one of
+/// the same steps. Where memory is refused, that is the error, and no wrong fault.
 pub fn is_refused(alloc: Global, steps: &[Step], fault: FinishFault) -> Result<bool, BuildFault> {
     match both(build::build_once(alloc, steps), finish_steps(alloc, steps)) {
         Ok((wanted, outcome)) => match outcome {

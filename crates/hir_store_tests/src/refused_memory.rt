@@ -1,7 +1,7 @@
-//! Builders of which memory is refused to one call after another, by `scripts/refused-growths`: each call to which it is refused hands
-//! its value back, leaves the builder as it was, and is made again, so that the store is that of a builder that was refused nothing.
-use crate::build::{NEVER, PATH, Step};
-use crate::entries::ENTRIES;
+//! Builders of which memory is refused to one call after another, by `scripts/refused-growths`: each call to
+//! which it is refused hands its value back, leaves the builder as it was, and is made again, so that the
+//! store is that of a builder that was refused nothing.
+use crate::build::{NEVER, PATH, Step, push_entries};
 use crate::nodes::{ExprStep, PatStep, Written};
 use crate::outcomes;
 use std::alloc::{AllocError, Global};
@@ -65,13 +65,11 @@ fn push_others(steps: &mut Vec<Step>, root: u32, number: u32) -> Result<(), Allo
     steps.push(NEVER)?;
     steps.push(Step::Label("l"))?;
     steps.push(Step::Static)?;
-    for kind in ENTRIES {
-        steps.push(Step::Entry(kind, number))?;
-    }
-    Ok(())
+    push_entries(steps, number)
 }
 
-/// The steps of a tree of so many expressions, and behind them the other calls of a builder, each so often that what it adds to grows.
+/// The steps of a tree of so many expressions, and behind them the other calls of a builder, each so often
+/// that what it adds to grows.
 fn with_other_calls(alloc: Global, tree: &[Step], exprs: u32) -> Result<Vec<Step>, AllocError> {
     let mut steps = Vec::with_capacity(alloc, 256)?;
     steps.extend_from_slice(tree)?;
@@ -81,7 +79,8 @@ fn with_other_calls(alloc: Global, tree: &[Step], exprs: u32) -> Result<Vec<Step
     Ok(steps)
 }
 
-/// Whether the store and the source map of a tree, with the other calls, are the same twice: a growth is refused once.
+/// Whether the store and the source map of a tree, with the other calls, are the same twice: a growth is
+/// refused once.
 fn is_made_again(alloc: Global, tree: &[Step], exprs: u32) -> Result<bool, Fail> {
     let steps = with_other_calls(alloc, tree, exprs)?;
     let first = outcomes::accept_steps(alloc, &steps)?;

@@ -1,10 +1,12 @@
-//! Builders that are refused: each by its first fault, and the builder handed back has what a second one has that was built by the
-//! same calls. The faults of other nodes are in rows; arenas that are replaced stand here alone.
-use crate::build::{NEVER, PATH, Step};
+//! Builders that are refused: each by its first fault, and the builder handed back has what a second one has
+//! that was built by the same calls. The faults of other nodes are in rows; arenas that are replaced stand
+//! here alone.
+use crate::build::{NEVER, PATH, Step, push_entries};
 use crate::nodes::{ExprStep, TypeStep, Written};
 use crate::outcomes;
 use hir_base::Idx;
 use hir_store::{FinishFault, NodeId};
+use std::alloc::{AllocError, Global};
 use std::test::Fail;
 
 /// A path without a list of roots.
@@ -73,7 +75,8 @@ const ENDS_PAST_THE_ARENA: &[Step] = &[PATH, PATH, PATH, Step::Root(0), Step::Re
 /// Three paths with the last as the root, and then an arena of one path.
 const ROOT_PAST_THE_ARENA: &[Step] = &[PATH, PATH, PATH, Step::Root(2), Step::Replaced(1)];
 
-/// Three paths with the first as the root; then there is an arena of two, the second as a root too, and one path more.
+/// Three paths with the first as the root; then there is an arena of two, the second as a root too, and one
+/// path more.
 const ENDS_THAT_FALL: &[Step] = &[
     PATH,
     PATH,
@@ -84,7 +87,8 @@ const ENDS_THAT_FALL: &[Step] = &[
     PATH,
 ];
 
-/// A fault that a refusal may name, of expression 0, of a type of this number, or of the root at this place of the list.
+/// A fault that a refusal may name, of expression 0, of a type of this number, or of the root at this place
+/// of the list.
 enum Fault {
     NoRoots,
     IdOutOfRange,
@@ -139,10 +143,22 @@ const REFUSED: &[(&[Step], Fault)] = &[
     (ENDS_THAT_FALL, Fault::RootEnds(1)),
 ];
 
+/// These steps, and entries of each kind in the tables beside the nodes.
+fn with_entries(alloc: Global, steps: &[Step]) -> Result<Vec<Step>, AllocError> {
+    let mut all = Vec::with_capacity(alloc, 32)?;
+    all.extend_from_slice(steps)?;
+    push_entries(&mut all, 5)?;
+    Ok(all)
+}
+
+/// The tables beside the nodes come back too.
 #[test]
 fn each_fault(rt: HostRuntime) -> Result<(), Fail> {
     for (steps, fault) in REFUSED {
-        assert!(&rt; outcomes::is_refused(rt.alloc(), steps, as_answered(fault))?);
+        let steps = with_entries(rt.alloc(), steps)?;
+        let is_refused = outcomes::is_refused(rt.alloc(), &steps, as_answered(fault));
+        std::mem::drop(steps);
+        assert!(&rt; is_refused?);
     }
     Ok(())
 }
