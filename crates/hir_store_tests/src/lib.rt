@@ -12,6 +12,8 @@ mod build;
 #[cfg(test)]
 mod laws;
 #[cfg(test)]
+mod lookups;
+#[cfg(test)]
 mod nodes;
 #[cfg(test)]
 mod outcomes;
