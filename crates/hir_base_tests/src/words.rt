@@ -130,6 +130,7 @@ const KNOWN: [(PathKind, &[&str], bool, bool); 8] = [
 #[test]
 fn one_plain_name_is_an_ident(rt: HostRuntime) -> Result<(), Fail> {
     assert!(rt; PathKind::SELF == PathKind::Super(0) && laws::kind_of_self() == PathKind::SELF);
+    assert!(rt; laws::hygiene_of_source_text() == HygieneId::ROOT);
     for (kind, names, ident, is_self) in &KNOWN {
         assert!(rt;
             is_kept(rt.alloc(), *kind, names, *ident, *is_self)?,

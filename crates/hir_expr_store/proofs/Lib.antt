@@ -10,3 +10,4 @@ pub mod ReachedLemmas
 pub mod RootLemmas
 pub mod GivenLemmas
 pub mod KeptLemmas
+pub mod ListLemmas

@@ -29,6 +29,8 @@ ghost use Rattle.hir_node.specs.ChildCalls.{arg_calls};
 ghost use Rattle.hir_faults.specs.TestedParts.{tested_expr, tested_pat, tested_type, is_path_at};
 ghost use Rattle.hir_faults.specs.Sizes.{is_there};
 ghost use Rattle.hir_faults.specs.Nodes.{Nodes, Has, sizes_of, calls_of, kids_of, graph};
+ghost use Rattle.hir_path.specs.Paths.{segments_of};
+ghost use Rattle.hir_path.specs.Segments.{OneListEach};
 ghost use Rattle.hir_expr_store.specs.Contents.{Contents, rooted_of, contents_fault};
 ghost use Rattle.hir_faults.specs.Fits.{path_fits, args_fit, bound_fits};
 ghost use Rattle.hir_faults.specs.Sound.{IsSoundNode, RootsStandApart};
@@ -195,6 +197,12 @@ pub fn bounds_and_args_of_nodes_fit()
         → (id : ℕ) (receiver : ℕ) (name : List ℕ) (args : List ℕ) (x : GenericArgs)
         → slice_get c.nodes.exprs id ≡ Some (expr.MethodCall receiver name args (Some x))
         → IsTrue (args_fit c.nodes x) }
+{}
+
+/// A path that fits has one list of generic arguments for each segment, or no lists, as `Path::qualifier` requires. By `paths_of_nodes_fit`
+/// each path that a node of an accepted store has is one. This holds of any nodes.
+pub fn paths_that_fit_have_one_list_each()
+    ensures { (s : Nodes) (path : Path) → IsTrue (path_fits s path) → OneListEach (segments_of path) }
 {}
 
 /// Of a path that fits, each list of generic arguments fits, and the anchor is there. This holds of any nodes.

@@ -75,6 +75,10 @@ pub struct Refused {
 
 /// The text of its fault.
 impl Display for Refused {
+    ghost use Rattle.hir_faults.specs.contracts.fault.FinishFaultDisplay.TheImpl as finish;
+
+    ghost output = { λ refused. finish.ghosts.output refused.fault };
+
     fn fmt<W: fmt::Write>(&self, f: &mut fmt::Formatter<W>) -> fmt::Result {
         Display::fmt(&self.fault, f)
     }

@@ -11,9 +11,10 @@ pub use hir_expr_store::laws::{
     ToldByKids, bindings_in_is, bounds_and_args_of_nodes_fit, contents_are_a_forest, exprs_in_is,
     kids_fall, kids_lie_apart, kids_of_reached_are_reached, nodes_are_sound, nodes_under_is,
     one_parent, parts_of_args_fit, parts_of_paths_fit, paths_of_bounds_are_there,
-    paths_of_nodes_fit, pats_is, ranks_are_bounded, reached_is_decided, reached_is_listed,
-    reached_is_listed_once, roots_lie_apart, roots_stand_apart, under_two_is_under_one, value_is,
-    what_is_reached_is_there, what_is_under_is_there, who_has_kids_is_there,
+    paths_of_nodes_fit, paths_that_fit_have_one_list_each, pats_is, ranks_are_bounded,
+    reached_is_decided, reached_is_listed, reached_is_listed_once, roots_lie_apart,
+    roots_stand_apart, under_two_is_under_one, value_is, what_is_reached_is_there,
+    what_is_under_is_there, who_has_kids_is_there,
 };
 
 /// A builder has one first fault at most: it is accepted exactly where there is none.

@@ -9,7 +9,12 @@ pub mod laws;
 
 pub use builder::{ExpressionStoreBuilder, Refused};
 pub use hir_base::SyntheticSyntax;
-pub use hir_expr_store::{Blocks, ExprRoots, ExpressionStore, Missing, NodeSet, TypeBoundExt};
+pub use hir_expr_store::{
+    Blocks, ExprRoots, ExpressionStore, Missing, NodeSet, Stored, TypeBoundExt,
+};
 pub use hir_faults::FinishFault;
 pub use hir_node::{NodeId, StoreVisitor, StoreVisitorExt, visit_generic_args};
-pub use hir_source::{ExpressionStoreDiagnostics, ExpressionStoreSourceMap, MissingBodyItemKind};
+pub use hir_source::{
+    Expansions, ExpressionStoreDiagnostics, ExpressionStoreSourceMap, MacroCalls,
+    MissingBodyItemKind,
+};

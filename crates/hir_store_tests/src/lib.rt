@@ -14,6 +14,8 @@ mod entries;
 #[cfg(test)]
 mod laws;
 #[cfg(test)]
+mod lookups;
+#[cfg(test)]
 mod nodes;
 #[cfg(test)]
 mod outcomes;
