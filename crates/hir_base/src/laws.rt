@@ -1,10 +1,10 @@
 //! Laws that a reader relies on, and that no call's contract states.
-//! Each but the last is a function with no body to run: its contract is the law, proved for every value.
+//! Each but the last two is a function with no body to run: its contract is the law, proved for every value.
 ghost use Rattle.std.specs.Prelude.{◌≡◌, ℕ};
 ghost use Rattle.std.specs.Ordering.{nat_cmp};
 ghost use Rattle.hir_base.specs.Laws.{OrderAgrees};
 
-use crate::{BlockId, Idx, MOST_ITEMS, PathKind};
+use crate::{BlockId, Edition, HygieneId, Idx, MOST_ITEMS, PathKind, SyntaxContext};
 use std::hash::Hash;
 
 /// Ids are ordered by their numbers, whatever their kind.
@@ -39,4 +39,11 @@ pub fn kind_of_self() -> PathKind
     ensures { result ≡ PathKind.Super 0 }
 {
     PathKind::SELF
+}
+
+/// The hygiene of source text is the context `Root` of edition 2015. (A clause can't name such a constant, so this function returns it.)
+pub fn hygiene_of_source_text() -> HygieneId
+    ensures { result ≡ SyntaxContext.Root Edition.Edition2015 }
+{
+    HygieneId::ROOT
 }
